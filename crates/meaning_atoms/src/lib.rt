@@ -1,6 +1,6 @@
-//! The meaning of abstract argumentation frameworks, over plain lists, and the laws that show it right.
+//! The meaning of abstract frameworks, over plain lists, and the laws that show it right.
 #![tactic(auto)]
 
-ghost use Rattle.meaning_atoms.specs.Framework.{Af, IsPreferred};
-
-pub fn placeholder() {}
+pub mod laws;
+#[cfg(test)]
+mod tests;

@@ -1,0 +1,92 @@
+//! Counts of faults, which never fall.
+
+ghost use Rattle.std.specs.Prelude.{◌≡◌, ℕ, ◌+◌, ◌<◌, ◌≤◌, length};
+ghost use Rattle.argue_outside.specs.Outside.{IsRole, Rose, CountsStandBut};
+ghost use Rattle.argue_outside.specs.Counted.{place_of, count_at};
+
+use crate::Role;
+use plain_lists::Items;
+
+/// The places of 16 frameworks and six other roles. The place of a framework without number stays free.
+const PLACES: usize = 23;
+
+/// The faults of reading, for each role apart.
+#[derive(Debug, Drop)]
+pub(crate) struct Counts {
+    pub(crate) counts: [u64; PLACES],
+}
+
+impl Counts {
+    /// No fault yet.
+    pub(crate) fn new() -> Counts {
+        Counts {
+            counts: [0; PLACES],
+        }
+    }
+
+    /// The faults of this role.
+    pub(crate) fn of(&self, role: Role) -> u64
+        ensures { result ≡ count_at self.now.counts role }
+    {
+        let place = place(role);
+        if place < PLACES {
+            self.counts[place]
+        } else {
+            0
+        }
+    }
+
+    /// Counts a fault of this role.
+    pub(crate) fn raise(&mut self, role: Role)
+        requires { IsRole role }
+        ensures later { count_at self.old.counts role ≤ count_at self.new.counts role }
+        ensures rose { Rose (count_at self.old.counts role) (count_at self.new.counts role) }
+        ensures others { CountsStandBut role (count_at self.old.counts) (count_at self.new.counts) }
+    {
+        let place = place(role);
+        self.counts[place] = raised(self.counts[place]);
+    }
+}
+
+/// The place of a role's count.
+fn place(role: Role) -> usize
+    ensures { result ≡ place_of role }
+{
+    match role {
+        Role::Script => 0,
+        Role::Answer => 1,
+        Role::Certificate => 2,
+        Role::List => 3,
+        Role::Cnf => 4,
+        Role::Lrat => 5,
+        Role::Framework(k) => 6 + k as usize,
+    }
+}
+
+/// One fault more, or the counter's last value.
+pub(crate) fn raised(count: u64) -> u64
+    ensures later { count ≤ result }
+    ensures rose { Rose count result }
+{
+    count.saturating_add(1)
+}
+
+/// The numbers of the calls that are to fail, and how many calls there were.
+#[derive(Debug, Drop)]
+pub(crate) struct Plan {
+    failing: Items<u64>,
+    calls: u64,
+}
+
+impl Plan {
+    /// The calls with these numbers fail, counted from 1.
+    pub(crate) fn new(failing: Items<u64>) -> Plan {
+        Plan { failing, calls: 0 }
+    }
+
+    /// Counts a call, and says whether it is to fail.
+    pub(crate) fn fails(&mut self) -> bool {
+        self.calls = raised(self.calls);
+        self.failing.as_slice().contains(&self.calls)
+    }
+}

@@ -1,0 +1,194 @@
+//! The outside of Burgaouez as traits: files by name, a sink of bytes and a gate for tests. Contracts
+//! mean files by what a name holds, where that is told, and count every fault. Two implementations
+//! stand here, one over memory and one over the real files and standard output.
+#![tactic(auto)]
+
+ghost use Rattle.std.specs.Prelude.{◌≡◌, ℕ, ◌+◌, ◌<◌, ◌≤◌, List, Option, length, take, IfOk, OnOk, OnErr};
+ghost use Rattle.std.specs.Io.KnownBytes.{WriteAppends};
+ghost use Rattle.argue_outside.specs.Outside.{IsRole, Rose, CountsStandBut, HoldsStandBut, Fetches, Clears, Adds};
+
+mod counts;
+pub mod mem_files;
+pub mod mem_sink;
+pub mod real_files;
+pub mod real_out;
+#[cfg(test)]
+mod tests;
+pub mod whole;
+
+pub use mem_files::MemFiles;
+pub use mem_sink::MemSink;
+use plain_lists::Memory;
+pub use real_files::RealFiles;
+pub use real_out::RealOut;
+use std::alloc::AllocError;
+pub use whole::{append_all, put_all, read_all};
+
+/// A call to the outside failed, and a count of faults rose.
+#[derive(Clone, Copy, Debug, PartialEq, Eq)]
+pub struct Failed;
+
+/// What a file is read for. Faults of reading are counted for each role apart.
+#[derive(Clone, Copy, Debug, PartialEq, Eq)]
+pub enum Role {
+    /// The framework with this number, from 1 to 16.
+    Framework(u32),
+    /// A script of edits and queries.
+    Script,
+    /// An answer that is to be checked.
+    Answer,
+    /// A certificate that is to be checked.
+    Certificate,
+    /// A list of files.
+    List,
+    /// A formula in the DIMACS form.
+    Cnf,
+    /// A proof in the LRAT form.
+    Lrat,
+}
+
+/// Why a whole file could not be read.
+#[derive(Clone, Copy, Debug, PartialEq, Eq)]
+pub enum ReadStop {
+    /// A read failed, and the count of its role rose.
+    Failed,
+    /// The file has more bytes than the limit.
+    TooLong,
+    /// There was no memory for the bytes.
+    Memory,
+}
+
+impl From<Failed> for ReadStop {
+    ghost use Rattle.std.specs.Prelude.{◌≡◌};
+    ghost use Rattle.argue_outside.specs.declared.ReadStop.TheVariants as stop;
+
+    ghost from_gives = { λ _ e. e ≡ stop.Failed };
+
+    fn from(_error: Failed) -> ReadStop {
+        ReadStop::Failed
+    }
+}
+
+impl From<Memory> for ReadStop {
+    ghost use Rattle.std.specs.Prelude.{◌≡◌};
+    ghost use Rattle.argue_outside.specs.declared.ReadStop.TheVariants as stop;
+
+    ghost from_gives = { λ _ e. e ≡ stop.Memory };
+
+    fn from(_error: Memory) -> ReadStop {
+        ReadStop::Memory
+    }
+}
+
+impl From<AllocError> for ReadStop {
+    ghost use Rattle.std.specs.Prelude.{◌≡◌};
+    ghost use Rattle.argue_outside.specs.declared.ReadStop.TheVariants as stop;
+
+    ghost from_gives = { λ _ e. e ≡ stop.Memory };
+
+    fn from(_error: AllocError) -> ReadStop {
+        ReadStop::Memory
+    }
+}
+
+/// A place in a session's life.
+#[derive(Clone, Copy, Debug, PartialEq, Eq)]
+pub enum Point {
+    BeforeEdit,
+    AfterEdit,
+    BeforeAsk,
+    InAsk,
+    AfterAsk,
+}
+
+/// Contents by name, where they are told, and a count of faults for each role and for writing.
+pub trait Files {
+    ghost use Rattle.std.specs.Prelude.{◌≡◌, ℕ, List, Option};
+    ghost use Rattle.argue_outside.specs.declared.Role.{Role};
+
+    /// What is told of each name.
+    ghost holds: { Self → List ℕ → Option (Option (List ℕ)) };
+
+    /// The faults of reading, for each role.
+    ghost read_count: { Self → Role → ℕ };
+
+    /// The faults of writing.
+    ghost write_count: { Self → ℕ };
+
+    /// Gives bytes of the name from place `at` on, and says how many; 0 for a buffer with room means
+    /// the end. A name that isn't there is `Failed`. All contents stay.
+    fn fetch(&mut self, role: Role, name: &str, at: u64, buf: &mut [u8]) -> Result<usize, Failed>
+        requires { IsRole role }
+        ensures bound { IfOk result (λ n. n ≤ length buf.new) }
+        ensures bytes { IfOk result (λ n. Fetches (holds self.old name.now) at n buf.new) }
+        ensures same { holds self.new ≡ holds self.old }
+        ensures later { read_count self.old role ≤ read_count self.new role }
+        ensures failed { OnErr result (Rose (read_count self.old role) (read_count self.new role)) }
+        ensures others { CountsStandBut role (read_count self.old) (read_count self.new) }
+        ensures writes { write_count self.new ≡ write_count self.old };
+
+    /// Makes the name be there without bytes. After `Failed` all contents are as before.
+    fn clear(&mut self, name: &str) -> Result<(), Failed>
+        ensures cleared { OnOk result (Clears (holds self.old name.now) (holds self.new name.now)) }
+        ensures others { HoldsStandBut name.now (holds self.old) (holds self.new) }
+        ensures err { OnErr result (holds self.new ≡ holds self.old) }
+        ensures later { write_count self.old ≤ write_count self.new }
+        ensures failed { OnErr result (Rose (write_count self.old) (write_count self.new)) }
+        ensures reads { read_count self.new ≡ read_count self.old };
+
+    /// Adds a prefix of the piece at the end of the name's bytes, and says how long it is: at least one
+    /// byte where the piece has any. After `Failed` all contents are as before.
+    fn append(&mut self, name: &str, bytes: &[u8]) -> Result<usize, Failed>
+        ensures bound { IfOk result (λ n. n ≤ length bytes.now) }
+        ensures some { IfOk result (λ n. 0 < length bytes.now → 0 < n) }
+        ensures added { IfOk result (λ n. Adds (holds self.old name.now) (holds self.new name.now) (take n bytes.now)) }
+        ensures others { HoldsStandBut name.now (holds self.old) (holds self.new) }
+        ensures err { OnErr result (holds self.new ≡ holds self.old) }
+        ensures later { write_count self.old ≤ write_count self.new }
+        ensures failed { OnErr result (Rose (write_count self.old) (write_count self.new)) }
+        ensures reads { read_count self.new ≡ read_count self.old };
+
+    /// The faults of reading in this role.
+    fn read_faults(&self, role: Role) -> u64
+        ensures { result ≡ read_count self.now role };
+
+    /// The faults of writing.
+    fn write_faults(&self) -> u64
+        ensures { result ≡ write_count self.now };
+}
+
+/// Takes bytes in order, and counts its faults.
+pub trait Sink {
+    /// The bytes that were taken, where they are told.
+    ghost contents: { Self → Option (List ℕ) };
+
+    /// The faults of writing.
+    ghost fault_count: { Self → ℕ };
+
+    /// Takes a prefix of the bytes and says how long it is: at least one byte where there is any.
+    /// After `Failed` nothing was taken.
+    fn put(&mut self, bytes: &[u8]) -> Result<usize, Failed>
+        ensures bound { IfOk result (λ n. n ≤ length bytes.now) }
+        ensures some { IfOk result (λ n. 0 < length bytes.now → 0 < n) }
+        ensures bytes { WriteAppends (contents self.old) (contents self.new) result bytes.now }
+        ensures later { fault_count self.old ≤ fault_count self.new }
+        ensures failed { OnErr result (Rose (fault_count self.old) (fault_count self.new)) };
+
+    /// The faults of writing.
+    fn faults(&self) -> u64
+        ensures { result ≡ fault_count self.now };
+}
+
+/// A gate that a test passes to hold a session at a point. It has no answer and no fault.
+pub trait Pace {
+    /// The session with this number is at this point.
+    fn at(&self, session: u32, point: Point);
+}
+
+/// A gate that holds nobody.
+#[derive(Clone, Copy, Debug)]
+pub struct NoPace;
+
+impl Pace for NoPace {
+    fn at(&self, _session: u32, _point: Point) {}
+}

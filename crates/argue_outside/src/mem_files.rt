@@ -1,0 +1,176 @@
+//! Files over memory, which tell their contents and fail where they are told to.
+
+ghost use Rattle.std.specs.Prelude.{◌≡◌, ℕ, ◌+◌, ◌<◌, ◌≤◌, [], ◌++◌, take, length, List, Option, None, Some, OnOk, OnErr, IfOk, MatchOption, string_bytes};
+ghost use Rattle.std.specs.BTreeMap.{get_by_text};
+ghost use Rattle.argue_outside.specs.Outside.{IsPieceAt, Told, Clears, Adds, HoldsStandBut};
+ghost use Rattle.argue_outside.specs.MemHeld.{held_by};
+
+use crate::counts::{Counts, Plan, raised};
+use crate::{Failed, Files, Role};
+use plain_lists::{Bytes, Items, Memory};
+use std::alloc::Global;
+use std::collections::BTreeMap;
+
+/// Files over memory. A fetch fails for a name that isn't there, and every call fails whose number is
+/// in the list of those that are to fail: fetches, clears and appends are counted together, from 1.
+#[derive(Drop)]
+pub struct MemFiles {
+    alloc: Global,
+    files: BTreeMap<String, Bytes>,
+    counts: Counts,
+    write_faults: u64,
+    plan: Plan,
+    most: usize,
+}
+
+impl MemFiles {
+    /// No file, and no call that is to fail.
+    pub fn new(alloc: Global) -> MemFiles
+        ensures { (name : List ℕ) → ⟦<MemFiles as Files>⟧.holds result name ≡ Some None }
+    {
+        MemFiles::failing(alloc, Items::new(alloc), usize::MAX)
+    }
+
+    /// No file. The calls with these numbers fail, and a fetch gives at most `most` bytes, and at
+    /// least one where there is any.
+    pub fn failing(alloc: Global, calls: Items<u64>, most: usize) -> MemFiles
+        ensures { (name : List ℕ) → ⟦<MemFiles as Files>⟧.holds result name ≡ Some None }
+    {
+        MemFiles {
+            files: BTreeMap::new(alloc),
+            alloc,
+            counts: Counts::new(),
+            write_faults: 0,
+            plan: Plan::new(calls),
+            most,
+        }
+    }
+
+    /// The bytes of a name, where it is there.
+    pub fn bytes_of(&self, name: &str) -> Option<&[u8]>
+        ensures { MatchOption result (⟦<MemFiles as Files>⟧.holds self.now name.now ≡ Some None) (λ bytes. ⟦<MemFiles as Files>⟧.holds self.now name.now ≡ Some (Some bytes.now)) }
+    {
+        match self.files.get(name) {
+            Some(bytes) => Some(bytes.as_slice()),
+            None => None,
+        }
+    }
+}
+
+impl Files for MemFiles {
+    ghost use Rattle.argue_outside.specs.MemHeld.{held_by};
+    ghost use Rattle.argue_outside.specs.Counted.{count_at};
+
+    ghost holds = { λ s. held_by s.files };
+
+    ghost read_count = { λ s. count_at s.counts.counts };
+
+    ghost write_count = { λ s. s.write_faults };
+
+    fn fetch(&mut self, role: Role, name: &str, at: u64, buf: &mut [u8]) -> Result<usize, Failed> {
+        if self.plan.fails() {
+            self.counts.raise(role);
+            return Err(Failed);
+        }
+        match self.files.get(name) {
+            Some(bytes) => Ok(copy_piece(bytes.as_slice(), at, self.most, buf)),
+            None => {
+                self.counts.raise(role);
+                Err(Failed)
+            }
+        }
+    }
+
+    fn clear(&mut self, name: &str) -> Result<(), Failed> {
+        if self.plan.fails()
+            || replace(self.alloc, &mut self.files, name, Bytes::new(self.alloc)).is_err()
+        {
+            self.write_faults = raised(self.write_faults);
+            return Err(Failed);
+        }
+        Ok(())
+    }
+
+    fn append(&mut self, name: &str, bytes: &[u8]) -> Result<usize, Failed> {
+        if self.plan.fails() || extend(self.alloc, &mut self.files, name, bytes).is_err() {
+            self.write_faults = raised(self.write_faults);
+            return Err(Failed);
+        }
+        Ok(bytes.len())
+    }
+
+    fn read_faults(&self, role: Role) -> u64 {
+        self.counts.of(role)
+    }
+
+    fn write_faults(&self) -> u64 {
+        self.write_faults
+    }
+}
+
+/// Copies bytes from this place on to the buffer's front, at most `most` and at least one where there
+/// is any and the buffer has room.
+fn copy_piece(bytes: &[u8], at: u64, most: usize, buf: &mut [u8]) -> usize
+    ensures bound { result ≤ length buf.new }
+    ensures piece { IsPieceAt bytes.now at result buf.new }
+{
+    if at >= bytes.len() as u64 {
+        return 0;
+    }
+    let rest = &bytes[at as usize..];
+    let count = rest.len().min(buf.len()).min(most.max(1));
+    buf[..count].copy_from_slice(&rest[..count]);
+    count
+}
+
+/// Gives the name these bytes.
+fn replace(
+    alloc: Global,
+    files: &mut BTreeMap<String, Bytes>,
+    name: &str,
+    bytes: Bytes,
+) -> Result<(), Memory>
+    ensures ok { OnOk result (held_by files.new name.now ≡ Some (Some bytes)) }
+    ensures others { HoldsStandBut name.now (held_by files.old) (held_by files.new) }
+    ensures err { OnErr result (held_by files.new ≡ held_by files.old) }
+{
+    let key = String::from_str(alloc, name)?;
+    let Ok(_) = files.insert(key, bytes) else {
+        return Err(Memory);
+    };
+    Ok(())
+}
+
+/// The bytes of the name, and then the piece.
+fn extended(
+    alloc: Global,
+    files: &BTreeMap<String, Bytes>,
+    name: &str,
+    piece: &[u8],
+) -> Result<Bytes, Memory>
+    ensures { IfOk result (λ bytes. Adds (held_by files.now name.now) (Some (Some bytes)) piece.now) }
+{
+    let mut bytes = Bytes::new(alloc);
+    if let Some(held) = files.get(name) {
+        bytes.extend(held.as_slice())?;
+        bytes.extend(piece)?;
+        return Ok(bytes);
+    }
+    bytes.extend(piece)?;
+    Ok(bytes)
+}
+
+/// Adds a piece at the end of the name's bytes.
+fn extend(
+    alloc: Global,
+    files: &mut BTreeMap<String, Bytes>,
+    name: &str,
+    piece: &[u8],
+) -> Result<(), Memory>
+    ensures ok { OnOk result (Adds (held_by files.old name.now) (held_by files.new name.now) piece.now) }
+    ensures others { HoldsStandBut name.now (held_by files.old) (held_by files.new) }
+    ensures err { OnErr result (held_by files.new ≡ held_by files.old) }
+{
+    let bytes = extended(alloc, files, name, piece)?;
+    replace(alloc, files, name, bytes)
+}

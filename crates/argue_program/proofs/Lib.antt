@@ -1,0 +1,2 @@
+pub mod AfTextLemmas
+pub mod RunLemmas

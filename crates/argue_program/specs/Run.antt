@@ -1,0 +1,121 @@
+-- What a run may write, and how it may end.
+use Rattle.std.specs.Prelude.{◌≡◌, ℕ, ◌<◌, ◌⊎◌, Bool, List, [], ◌∷◌, codes, Option, None, Some, ◌++◌}
+use Rattle.std.specs.List.Sorted.{IsStrictlyIncreasing}
+use Rattle.meaning_atoms.specs.Framework.{Af, IsGrounded}
+use Rattle.argue_outside.specs.Outside.{AppendsPart, HoldsWhole, IsLonger, Rose, Told}
+use Rattle.argue_outside.specs.declared.Role.{Role}
+use Rattle.argue_outside.specs.declared.Role.TheVariants.{Framework}
+use Rattle.argue_program.specs.AfText.{IsPlain, ReadsAs}
+use Rattle.argue_program.specs.AnswerText.{set_text}
+use Rattle.argue_program.specs.Words.{AreWords, IsGroundedQuery}
+use Rattle.argue_program.specs.declared.words.Command.{Command}
+use Rattle.argue_program.specs.declared.words.Command.TheVariants.{Version, Grounded, Unknown}
+use Rattle.argue_program.specs.declared.ended.Status.{Status}
+use Rattle.argue_program.specs.declared.ended.Status.TheVariants.{Done, Usage, InputRefused, ReadFault, WriteFault, WantOfMemory, Limit}
+
+-- the most bytes that an input may have
+abbrev pub input_limit : ℕ
+input_limit = 268435456
+
+-- a read of the framework's file was counted as a fault
+abbrev pub ReadRose : (Role → ℕ) → (Role → ℕ) → Type 0
+ReadRose old new = Rose (old (Framework 1)) (new (Framework 1))
+
+-- the right answer to the query for the grounded set: it is that set, as a rising list
+pub record IsRightAnswer (framework : Af) (set : List ℕ) : Type 0 where
+  pub rises : IsStrictlyIncreasing set
+  pub grounded : IsGrounded framework set
+
+-- the set is the right answer on the framework that the file's bytes read as
+pub record AnswersFile (told : Told) (set : List ℕ) : Type 0 where
+  pub bytes : List ℕ
+  pub held : HoldsWhole told bytes
+  pub framework : Af
+  pub reads : ReadsAs bytes framework
+  pub right : IsRightAnswer framework set
+
+-- the file's bytes aren't in the plain form
+pub record IsNotPlain (told : Told) : Type 0 where
+  pub bytes : List ℕ
+  pub held : HoldsWhole told bytes
+  pub refused : ¬ IsPlain bytes
+
+-- there are no words: the run has only the version to write
+pub record AsksNothing (words : List (List ℕ)) (kept : Option (List ℕ)) : Type 0 where
+  pub no_words : words ≡ []
+  pub nothing_kept : kept ≡ None
+
+-- the words ask for the grounded set of a file, and this set is the right answer
+pub record IsRightFor (words : List (List ℕ)) (holds : List ℕ → Told) (set : List ℕ) : Type 0 where
+  pub file : List ℕ
+  pub query : IsGroundedQuery words file
+  pub answers : AnswersFile (holds file) set
+
+-- the words ask for the grounded set of a file, and the set that is kept is the right answer
+pub record AnswersQuery (words : List (List ℕ)) (holds : List ℕ → Told) (kept : Option (List ℕ)) : Type 0 where
+  pub set : List ℕ
+  pub kept_set : kept ≡ Some set
+  pub right : IsRightFor words holds set
+
+-- the words ask for the grounded set of a file of which a fault holds, and no set is kept
+pub record AsksInVain (words : List (List ℕ)) (holds : List ℕ → Told) (fault : Told → Type 0) (kept : Option (List ℕ)) : Type 0 where
+  pub file : List ℕ
+  pub query : IsGroundedQuery words file
+  pub has_fault : fault (holds file)
+  pub nothing_kept : kept ≡ None
+
+-- why a run may end with a status, and what it then keeps, where its text is taken whole; `failed` says that a read of the
+-- file was counted as a fault
+abbrev pub HasCause : List (List ℕ) → (List ℕ → Told) → Type 0 → Option (List ℕ) → Status → Type 0
+HasCause words holds failed kept Done = AsksNothing words kept ⊎ AnswersQuery words holds kept
+HasCause words holds failed kept Usage = (¬ AreWords words) × (kept ≡ None)
+HasCause words holds failed kept InputRefused = AsksInVain words holds IsNotPlain kept
+HasCause words holds failed kept ReadFault = AsksInVain words holds (λ _. failed) kept
+HasCause words holds failed kept WriteFault = ⊥
+HasCause words holds failed kept WantOfMemory = AsksInVain words holds (λ _. Unit {0}) kept
+HasCause words holds failed kept Limit = AsksInVain words holds (λ told. IsLonger told input_limit) kept
+
+-- the same for a query on a file that holds what is told
+abbrev pub HasFileCause : Told → Type 0 → Option (List ℕ) → Status → Type 0
+HasFileCause told failed kept Done = (set : List ℕ) × (kept ≡ Some set) × AnswersFile told set
+HasFileCause told failed kept Usage = ⊥
+HasFileCause told failed kept InputRefused = (kept ≡ None) × IsNotPlain told
+HasFileCause told failed kept ReadFault = (kept ≡ None) × failed
+HasFileCause told failed kept WriteFault = ⊥
+HasFileCause told failed kept WantOfMemory = kept ≡ None
+HasFileCause told failed kept Limit = (kept ≡ None) × IsLonger told input_limit
+
+-- the same for the command that the words ask for
+abbrev pub HasCommandCause : Command → (List ℕ → Told) → Type 0 → Option (List ℕ) → Status → Type 0
+HasCommandCause Version holds failed kept status = (status ≡ Done) × (kept ≡ None)
+HasCommandCause (Grounded file) holds failed kept status = HasFileCause (holds file.now) failed kept status
+HasCommandCause Unknown holds failed kept status = (status ≡ Usage) × (kept ≡ None)
+
+-- the text that a run has to write, by its status and the set that it keeps
+abbrev pub text_of : Status → Option (List ℕ) → List ℕ
+text_of Done None = codes "argue 1.0\n"
+text_of Done (Some set) = set_text set
+text_of Usage kept = codes "error: usage\n"
+text_of InputRefused kept = codes "error: framework NotPlain\n"
+text_of ReadFault kept = codes "error: read framework\n"
+text_of WriteFault kept = []
+text_of WantOfMemory kept = []
+text_of Limit kept = codes "error: limit input\n"
+
+-- the output of a query on a file broke off: a part was written of the text of a run that had its cause
+pub record FileBreaksOff (told : Told) (failed : Type 0) (kept : Option (List ℕ)) (old new : Option (List ℕ)) : Type 0 where
+  pub status : Status
+  pub cause : HasFileCause told failed kept status
+  pub part : AppendsPart old new (text_of status kept)
+
+-- the output broke off: a part was written of the text of a run that had its cause
+pub record BreaksOff (words : List (List ℕ)) (holds : List ℕ → Told) (failed : Type 0) (kept : Option (List ℕ)) (old new : Option (List ℕ)) : Type 0 where
+  pub status : Status
+  pub cause : HasCause words holds failed kept status
+  pub part : AppendsPart old new (text_of status kept)
+
+-- the same for the command that the words ask for
+pub record CommandBreaksOff (command : Command) (holds : List ℕ → Told) (failed : Type 0) (kept : Option (List ℕ)) (old new : Option (List ℕ)) : Type 0 where
+  pub status : Status
+  pub cause : HasCommandCause command holds failed kept status
+  pub part : AppendsPart old new (text_of status kept)

@@ -1,0 +1,14 @@
+-- The exit status of each way to end.
+use Rattle.std.specs.Prelude.{ℕ}
+use Rattle.argue_program.specs.declared.ended.Status.{Status}
+use Rattle.argue_program.specs.declared.ended.Status.TheVariants.{Done, Usage, InputRefused, ReadFault, WriteFault, WantOfMemory, Limit}
+
+-- the number with which the process ends
+abbrev pub code_of : Status → ℕ
+code_of Done = 0
+code_of Usage = 1
+code_of InputRefused = 2
+code_of ReadFault = 3
+code_of WriteFault = 4
+code_of WantOfMemory = 5
+code_of Limit = 7

@@ -1,0 +1,6 @@
+pub mod Pairs
+pub mod Cuts
+pub mod Storage
+pub mod Orders
+pub mod Tallies
+pub mod Kept

@@ -1,0 +1,169 @@
+-- Counts over a list of attacks.
+use Rattle.std.proofs.Common.{
+  ◌≡◌,
+  ℕ,
+  ◌+◌,
+  ◌-◌,
+  ◌<◌,
+  ◌≤◌,
+  List,
+  [],
+  ◌∷◌,
+  ◌++◌,
+  length,
+  get_or,
+  set,
+  take,
+  replicate,
+  arith,
+  ap,
+  sym,
+  ◌∙◌,
+  refl,
+  cond,
+  eqb,
+  not,
+  ◌&&◌,
+  Bool,
+  true,
+  false,
+  ⊎_elim,
+}
+use Rattle.std.specs.Prelude.{Contains, filter, All, count_by, sum, sum_by}
+use Rattle.std.proofs.lemmas.Bool.{
+  eq-eqb,
+  ne_eqb,
+  eqb-true,
+  eqb-false,
+  cases_eq,
+  cases_Bool,
+  cond-true,
+  cond-false,
+  both_ways,
+  not-false,
+  and_parts,
+}
+use Rattle.std.proofs.lemmas.Grind.{common_steps}
+use Rattle.std.proofs.lemmas.List.{get_or-set_same, get_or-set_other, get_or-replicate}
+use Rattle.std.proofs.lemmas.List.Elements.{All-head, All-tail}
+use Rattle.std.proofs.lemmas.List.Sums.{sum_by-cons, get_or-le-sum_by, count_by_more_yes, count_by_more_no}
+use Rattle.dung_notions.specs.Search.{is_out, open_attackers, reaching}
+
+-- one more element in front
+pub count_by-cons : {X : Type 0} (p : X → Bool) (x : X) (xs : List X)
+    → count_by p (x ∷ xs) ≡ cond (p x) 1 0 + count_by p xs
+count_by-cons p x xs = sum_by-cons (λ y. cond (p y) 1 0) x xs
+
+pub count_yes : {X : Type 0} (p : X → Bool) (x : X) (xs : List X) → p x ≡ true
+    → count_by p (x ∷ xs) ≡ 1 + count_by p xs
+count_yes p x xs pass = count_by-cons p x xs ∙ rw pass refl
+
+pub count_no : {X : Type 0} (p : X → Bool) (x : X) (xs : List X) → p x ≡ false
+    → count_by p (x ∷ xs) ≡ count_by p xs
+count_no p x xs fail = count_by-cons p x xs ∙ rw fail (omega arith)
+
+-- where none is counted, no member passes
+pub none_passes : {X : Type 0} (p : X → Bool) (xs : List X) (x : X) → count_by p xs ≡ 0 → Contains xs x
+    → p x ≡ false
+none_passes p xs x none h =
+    let le : cond (p (get_or xs h.0 x)) 1 0 ≤ count_by p xs = get_or-le-sum_by
+    (λ y. cond (p y) 1 0) xs h.0 x h.1 in
+    let le' : cond (p x) 1 0 ≤ count_by p xs = rw h.2 at le in
+    ⊎_elim (λ yes. absurd (omega (arith, rw yes at le', none))) (λ not. not) (cases_Bool (p x))
+
+-- where no element passes, none is counted
+pub none_counted : {X : Type 0} (p : X → Bool) (xs : List X) → All (λ x. p x ≡ false) xs → count_by p xs ≡ 0
+none_counted p [] h = refl
+none_counted p (x ∷ xs) h =
+    count_no p x xs (All-head (λ x. p x ≡ false) x xs h)
+    ∙ none_counted p xs (All-tail (λ x. p x ≡ false) x xs h)
+
+-- tests that agree at each element count alike
+pub count_agree : {X : Type 0} (p q : X → Bool) (xs : List X) → All (λ x. p x ≡ q x) xs
+    → count_by p xs ≡ count_by q xs
+count_agree p q [] h = refl
+count_agree p q (x ∷ xs) h =
+    count_by-cons p x xs ∙ rw
+    (All-head (λ x. p x ≡ q x) x xs h, count_agree p q xs (All-tail (λ x. p x ≡ q x) x xs h))
+    (sym (count_by-cons q x xs))
+
+and_true : (b : Bool) → (b && true) ≡ b
+and_true true = refl
+and_true false = refl
+
+pub and_false : (b : Bool) → (b && false) ≡ false
+and_false true = refl
+and_false false = refl
+
+-- with nothing out, each attack that reaches an argument is open
+pub open_at_first : (n a : ℕ) (attacks : List (ℕ × ℕ)) → All (λ p. p.0 < n) attacks
+    → open_attackers (replicate n false) a attacks ≡ reaching a attacks
+open_at_first n a attacks below = count_agree _ _ attacks (λ k d lt.
+    rw (get_or-replicate n (get_or attacks k d).0 false true (below k d lt))
+    (and_true (eqb (get_or attacks k d).1 a)))
+
+-- the test of an open attack on a, once b is out
+marked_here : (out : List Bool) (b a : ℕ) (p : ℕ × ℕ) → b < length out → p.0 ≡ b
+    → ((eqb p.1 a) && not (is_out (set out b true) p.0)) ≡ false
+marked_here out b a p lt e = rw (e, get_or-set_same out b true true lt) (and_false (eqb p.1 a))
+
+-- one argument put out closes the attacks that leave it
+pub open_when_marked : (out : List Bool) (b a : ℕ) (attacks : List (ℕ × ℕ)) → b < length out
+    → is_out out b ≡ false
+    → open_attackers out a attacks
+    ≡ open_attackers (set out b true) a attacks + reaching a (filter (λ p. eqb p.0 b) attacks)
+open_when_marked out b a [] lt fresh = refl
+open_when_marked out b a (p ∷ ps) lt fresh =
+    let ih : open_attackers out a ps
+    ≡ open_attackers (set out b true) a ps + reaching a
+    (filter (λ p. eqb p.0 b) ps) = open_when_marked out b a ps lt fresh in
+    let old : open_attackers out a (p ∷ ps)
+    ≡ cond ((eqb p.1 a) && not (is_out out p.0)) 1 0 + open_attackers out a ps = count_by-cons
+    (λ p. (eqb p.1 a) && not (is_out out p.0)) p ps in
+    let new : open_attackers (set out b true) a (p ∷ ps)
+    ≡ cond ((eqb p.1 a) && not (is_out (set out b true) p.0)) 1 0 + open_attackers
+    (set out b true) a ps = count_by-cons (λ p. (eqb p.1 a) && not (is_out (set out b true) p.0)) p ps in
+    ⊎_elim
+    (λ (e : p.0 ≡ b).
+    let kept : filter (λ p. eqb p.0 b) (p ∷ ps) ≡ p ∷ filter (λ p. eqb p.0 b) ps = rw (eq-eqb p.0 b e) refl in
+    let gone : open_attackers (set out b true) a (p ∷ ps)
+    ≡ open_attackers (set out b true) a ps = count_no _ p ps (marked_here out b a p lt e) in
+    let fresh_here : not (is_out out p.0) ≡ true = rw (e, fresh) refl in
+    let here : open_attackers out a (p ∷ ps) ≡ cond (eqb p.1 a) 1 0 + open_attackers out a ps = old
+    ∙ rw (fresh_here, and_true (eqb p.1 a)) refl in
+    let more : reaching a (p ∷ filter (λ p. eqb p.0 b) ps)
+    ≡ cond (eqb p.1 a) 1 0 + reaching a (filter (λ p. eqb p.0 b) ps) = count_by-cons (λ p. eqb p.1 a) p
+    (filter (λ p. eqb p.0 b) ps) in
+    rw (kept, gone, more, here) (omega (arith, ih)))
+    (λ ne.
+    let kept : filter (λ p. eqb p.0 b) (p ∷ ps) ≡ filter (λ p. eqb p.0 b) ps = rw (ne_eqb p.0 b ne) refl in
+    let same : is_out (set out b true) p.0 ≡ is_out out p.0 = get_or-set_other out b p.0 true true ne in
+    let new' : open_attackers (set out b true) a (p ∷ ps)
+    ≡ cond ((eqb p.1 a) && not (is_out out p.0)) 1 0 + open_attackers (set out b true) a ps = new
+    ∙ rw same refl in
+    rw (kept, new', old) (omega (arith, ih)))
+    (cases_eq p.0 b)
+
+-- one attack more counts at its target alone
+pub reaching_here : (p : ℕ × ℕ) (ps : List (ℕ × ℕ)) → reaching p.1 (p ∷ ps) ≡ 1 + reaching p.1 ps
+reaching_here p ps = count_yes (λ (q : ℕ × ℕ). eqb q.1 p.1) p ps (eq-eqb p.1 p.1 refl)
+
+pub reaching_else : (p : ℕ × ℕ) (ps : List (ℕ × ℕ)) (a : ℕ) → (a ≡ p.1 → ⊥)
+    → reaching a (p ∷ ps) ≡ reaching a ps
+reaching_else p ps a ne = count_no (λ (q : ℕ × ℕ). eqb q.1 a) p ps (ne_eqb p.1 a (λ e. ne (sym e)))
+
+-- one attack more is counted at its target
+pub tally_more : (attacks : List (ℕ × ℕ)) (counts : List ℕ) (i : ℕ) → i < length attacks
+    → (get_or attacks i (0, 0)).1 < length counts
+    → ((a : ℕ) → get_or counts a 0 ≡ reaching a (take i attacks))
+    → (a : ℕ) → get_or (set counts (get_or attacks i (0, 0)).1
+    (get_or counts (get_or attacks i (0, 0)).1 0 + 1)) a 0 ≡ reaching a (take (i + 1) attacks)
+tally_more attacks counts i lt small h a = ⊎_elim
+    (λ (e : a ≡ (get_or attacks i (0, 0)).1).
+    rw e (get_or-set_same counts _ _ 0 small ∙ ap (λ n. n + 1) (h (get_or attacks i (0, 0)).1)
+    ∙ sym (count_by_more_yes (λ (p : ℕ × ℕ). eqb p.1 (get_or attacks i (0, 0)).1) attacks i (0, 0) lt
+    (eq-eqb _ _ refl))))
+    (λ ne. get_or-set_other counts _ a _ 0 ne ∙ h a
+    ∙ sym (count_by_more_no (λ (p : ℕ × ℕ). eqb p.1 a) attacks i (0, 0) lt
+    (ne_eqb _ _ (λ e. ne (sym e)))))
+    (cases_eq a (get_or attacks i (0, 0)).1)

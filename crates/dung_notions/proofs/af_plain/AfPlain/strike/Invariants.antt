@@ -1,0 +1,9 @@
+use Rattle.std.proofs.Common.{◌≡◌, ◌≤◌, ◌<◌, ℕ, length, get_or}
+use Rattle.dung_notions.specs.Search.{PutsOut}
+use Rattle.dung_notions.proofs.af_plain.AfPlain.strike.Given as goal
+
+abbrev pub invariant-loop-pair : goal.invariant-loop-pair
+invariant-loop-pair l = PutsOut l.self (λ b. (k : ℕ) × (k < l.pair-index)
+    × ((get_or l.leaving k (0, 0)).1 ≡ b))
+    l.initial.search.order.items l.initial.search.out.items l.initial.search.counts.items l.search.order.items
+    l.search.out.items l.search.counts.items

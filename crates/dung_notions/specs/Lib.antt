@@ -1,0 +1,4 @@
+pub mod Places
+pub mod Neighbours
+pub mod Grounding
+pub mod Search

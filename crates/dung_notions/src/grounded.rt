@@ -1,0 +1,165 @@
+//! The grounded set, by a search that meets each attack once.
+
+ghost use Rattle.std.specs.Prelude.{◌≡◌, ◌↔◌, ℕ, ◌+◌, ◌<◌, ◌≤◌, ◌==◌, []};
+ghost use Rattle.std.specs.Prelude.{Contains, IfOk, OnOk, length, filter, slice_index, slice_index_or, true};
+ghost use Rattle.meaning_atoms.specs.Framework.{Attacks, IsAttackedBy};
+ghost use Rattle.dung_notions.specs.Grounding.{GroundsInOrder};
+ghost use Rattle.dung_notions.specs.Search.{IsKept, ClosesAttack, PutsOut, IsFinished, reaching};
+
+use crate::af_plain::AfPlain;
+use plain_lists::{Items, Memory};
+use set_lists::NumSet;
+use std::alloc::Global;
+
+/// The grounded set, and its members in an order in which each is defended by those before it.
+#[derive(Drop)]
+pub struct Grounded {
+    pub set: NumSet,
+    pub order: Items<u32>,
+}
+
+/// What a search has found so far.
+#[derive(Drop)]
+struct Search {
+    /// Whether an argument, by its number, is attacked by the set.
+    out: Vec<bool>,
+    /// How many attackers of an argument are not out.
+    counts: Vec<usize>,
+    /// The members found, as they entered.
+    order: Vec<u32>,
+}
+
+impl AfPlain {
+    /// The grounded set, in time linear in arguments and attacks. `Memory` says that an allocation was
+    /// refused.
+    pub fn grounded(&self, alloc: Global) -> Result<Grounded, Memory>
+        ensures { IfOk result (λ g. GroundsInOrder self.now g.set g.order) }
+    {
+        let Search {
+            out: _,
+            counts,
+            order,
+        } = self.searched(alloc)?;
+        let members = unopposed(alloc, self.live(), &counts)?;
+        let set = NumSet::from_rising(alloc, &members)?;
+        Ok(Grounded {
+            set,
+            order: Items::from_vec(order),
+        })
+    }
+
+    /// The end of the search.
+    fn searched(&self, alloc: Global) -> Result<Search, Memory>
+        ensures { IfOk result (λ s. IsFinished self.now s.order.items s.counts.items) }
+    {
+        let mut search = self.begin(alloc)?;
+        let mut head = 0;
+        while head < search.order.len() {
+            let order = search.order.as_slice();
+            let member = order[head];
+            self.strike(&mut search, member)?;
+            head += 1;
+        }
+        Ok(search)
+    }
+
+    /// The beginning: nothing is out, and what nothing attacks is in.
+    fn begin(&self, alloc: Global) -> Result<Search, Memory>
+        ensures { IfOk result (λ s. IsKept self.now s.order.items s.out.items s.counts.items []) }
+    {
+        let slots = self.slots();
+        let out = vec![in alloc; false; slots]?;
+        let counts = attacker_counts(alloc, self.attacks(), slots)?;
+        let order = unopposed(alloc, self.live(), &counts)?;
+        Ok(Search { out, counts, order })
+    }
+
+    /// Puts out each argument that a member attacks.
+    fn strike(&self, search: &mut Search, member: u32) -> Result<(), Memory>
+        requires kept { IsKept self.now search.old.order.items search.old.out.items
+            search.old.counts.items [] }
+        requires member { Contains search.old.order.items member }
+        ensures { OnOk result (PutsOut self.now (Attacks self.now member)
+            search.old.order.items search.old.out.items search.old.counts.items
+            search.new.order.items search.new.out.items search.new.counts.items) }
+    {
+        let leaving = self.leaving(member);
+        for pair in leaving {
+            self.put_out(search, pair.1)?;
+        }
+        Ok(())
+    }
+
+    /// Puts out an argument that the set attacks: its attacks are taken off the counts of what they reach.
+    fn put_out(&self, search: &mut Search, argument: u32) -> Result<(), Memory>
+        requires kept { IsKept self.now search.old.order.items search.old.out.items
+            search.old.counts.items [] }
+        requires attacked { IsAttackedBy self.now search.old.order.items argument }
+        ensures { OnOk result (PutsOut self.now (λ b. b ≡ argument)
+            search.old.order.items search.old.out.items search.old.counts.items
+            search.new.order.items search.new.out.items search.new.counts.items) }
+    {
+        let at = argument as usize;
+        let leaving = self.leaving(argument);
+        if search.out[at] {
+            return Ok(());
+        }
+        search.out[at] = true;
+        for pair in leaving {
+            close_attack(search, pair.1)?;
+        }
+        Ok(())
+    }
+}
+
+/// Takes one open attacker off the count of an argument, which enters where that was the last one.
+fn close_attack(search: &mut Search, argument: u32) -> Result<(), Memory>
+    requires within { argument < length search.old.counts.items }
+    requires counted { 0 < slice_index search.old.counts.items argument }
+    ensures same { search.new.out.items ≡ search.old.out.items }
+    ensures closes { OnOk result (ClosesAttack argument
+        search.old.order.items search.old.counts.items
+        search.new.order.items search.new.counts.items) }
+{
+    let at = argument as usize;
+    let left = search.counts.as_slice()[at] - 1;
+    search.counts[at] = left;
+    if left > 0 {
+        return Ok(());
+    }
+    search.order.push(argument)?;
+    Ok(())
+}
+
+/// How many of the attacks reach each argument.
+fn attacker_counts(
+    alloc: Global,
+    attacks: &[(u32, u32)],
+    slots: usize,
+) -> Result<Vec<usize>, Memory>
+    requires { (b a : ℕ) → Contains attacks.now (b, a) → a < slots }
+    ensures long { IfOk result (λ counts. length counts.items ≡ slots) }
+    ensures counted { IfOk result (λ counts. (a : ℕ) → slice_index counts.items a ≡ reaching a attacks.now) }
+{
+    let mut counts = vec![in alloc; 0usize; slots]?;
+    for pair in attacks {
+        let at = pair.1 as usize;
+        let had = counts.as_slice()[at];
+        counts[at] = had + 1;
+    }
+    Ok(counts)
+}
+
+/// The live arguments whose count is 0.
+fn unopposed(alloc: Global, live: &[u32], counts: &[usize]) -> Result<Vec<u32>, Memory>
+    requires { (a : ℕ) → Contains live.now a → a < length counts.now }
+    ensures { IfOk result (λ v. v.items ≡ filter (λ a. slice_index counts.now a == 0) live.now) }
+{
+    let mut members = Vec::new(alloc);
+    for argument in live {
+        if counts[*argument as usize] == 0 {
+            members.push(*argument)?;
+        }
+    }
+    Ok(members)
+}

@@ -1,0 +1,12 @@
+//! The notions of abstract argumentation over one framework that is held in memory: its attacks from
+//! either end, and its grounded set, found in linear time.
+#![tactic(auto)]
+
+mod af_plain;
+mod arrows;
+mod grounded;
+#[cfg(test)]
+mod tests;
+
+pub use af_plain::AfPlain;
+pub use grounded::Grounded;

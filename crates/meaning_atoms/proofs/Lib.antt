@@ -1,0 +1,4 @@
+pub mod Decided
+pub mod Sets
+pub mod Grounded
+pub mod Extensions

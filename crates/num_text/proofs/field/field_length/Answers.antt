@@ -1,0 +1,11 @@
+use Rattle.std.proofs.Common.{◌∙◌, ap, length}
+use Rattle.std.specs.Prelude.{unwrap_or}
+use Rattle.num_text.specs.Cuts.{is_blank}
+use Rattle.num_text.proofs.CutLemmas.{unwrap_or-position, position_or_len-le}
+use Rattle.num_text.proofs.field.field_length.Goals as goal
+
+pub returns : goal.returns
+returns c =
+    let place = c.unwrap_or.ensures ∙ ap (λ r. unwrap_or r (length c.args.bytes.now)) c.field_end.ensures
+    ∙ unwrap_or-position is_blank c.args.bytes.now in
+    record { place = place; within = rw place (position_or_len-le is_blank c.args.bytes.now) }

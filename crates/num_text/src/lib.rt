@@ -1,0 +1,21 @@
+//! Texts of lines, fields and numbers. Bytes are cut into lines and a line into fields without a copy:
+//! each text is a part of the bytes that were given, and has its span beside it.
+//!
+//! A line ends at LF; a last piece that isn't empty is a line too. Space, tab and CR are blanks, and
+//! fields are the longest pieces without blanks. A number is one or more ASCII digits.
+#![tactic(auto)]
+
+pub mod cuts;
+pub mod field;
+pub mod line;
+pub mod number;
+pub mod span;
+
+pub use cuts::{fields, lines};
+pub use field::{Field, Fields};
+pub use line::{Line, Lines};
+pub use number::decimal;
+pub use span::Span;
+
+#[cfg(test)]
+mod tests;

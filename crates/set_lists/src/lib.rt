@@ -1,0 +1,9 @@
+//! Sets of numbers, which contracts see as rising lists.
+#![tactic(auto)]
+
+mod merge;
+pub mod num_set;
+#[cfg(test)]
+mod tests;
+
+pub use num_set::NumSet;
