@@ -10,9 +10,9 @@ usage: bench/grounded.py [--arguments N] [--attacks M] [--runs K]
 import argparse
 import os
 import random
+import subprocess
 import sys
 import tempfile
-import time
 from pathlib import Path
 
 TOP = Path(__file__).resolve().parent.parent
@@ -53,13 +53,23 @@ def grounded(count, attacks):
     return sorted(members)
 
 
+# Runs a program with its output going to a file, and prints the seconds, the peak memory in KB and the status. It is a process
+# of its own: a child's peak begins with that of the process that started it, which here has to be a small one.
+MEASURE = """
+import os, sys, time
+begin = time.perf_counter()
+child = os.posix_spawn(sys.argv[2], sys.argv[2:], os.environ, file_actions=[
+    (os.POSIX_SPAWN_OPEN, 1, sys.argv[1], os.O_WRONLY | os.O_CREAT | os.O_TRUNC, 0o600)])
+_, status, used = os.wait4(child, 0)
+print(time.perf_counter() - begin, used.ru_maxrss, os.waitstatus_to_exitcode(status))
+"""
+
+
 def timed(program, words, answer):
     """Runs the program with its output going to a file; seconds, peak memory in MB, and the status."""
-    begin = time.perf_counter()
-    child = os.posix_spawn(program, [program] + words, os.environ, file_actions=[
-        (os.POSIX_SPAWN_OPEN, 1, answer, os.O_WRONLY | os.O_CREAT | os.O_TRUNC, 0o600)])
-    _, status, used = os.wait4(child, 0)
-    return time.perf_counter() - begin, used.ru_maxrss / 1024, os.waitstatus_to_exitcode(status)
+    told = subprocess.run([sys.executable, "-I", "-S", "-c", MEASURE, answer, program] + words,
+                          stdout=subprocess.PIPE, text=True, check=True).stdout.split()
+    return float(told[0]), int(told[1]) / 1024, int(told[2])
 
 
 def main():

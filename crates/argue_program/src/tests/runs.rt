@@ -73,6 +73,7 @@ fn expect_run<R: Abort + Threads + Wait + Sync + AllocGlobal>(
     status: Status,
 ) -> Result<(), Fail> {
     let mut files = MemFiles::new(rt.alloc());
+    files.clear("a")?;
     append_all(&mut files, "a", text.as_bytes())?;
     let mut out = MemSink::new(rt.alloc());
     let words = words_of(rt.alloc(), words)?;
