@@ -4,3 +4,5 @@ pub mod Storage
 pub mod Orders
 pub mod Tallies
 pub mod Kept
+pub mod NotionLemmas
+pub mod Numbering

@@ -2,3 +2,5 @@ pub mod Places
 pub mod Neighbours
 pub mod Grounding
 pub mod Search
+pub mod Solid
+pub mod Notions

@@ -5,6 +5,7 @@
 mod af_plain;
 mod arrows;
 mod grounded;
+mod notions;
 #[cfg(test)]
 mod tests;
 

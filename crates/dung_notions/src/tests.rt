@@ -36,7 +36,11 @@ fn between(alloc: Global, live: &NumSet, attacks: &[(u32, u32)]) -> Result<Vec<(
 }
 
 /// A framework, of the attacks between its live arguments.
-fn framework(alloc: Global, numbers: &[u32], attacks: &[(u32, u32)]) -> Result<AfPlain, Memory> {
+pub(crate) fn framework(
+    alloc: Global,
+    numbers: &[u32],
+    attacks: &[(u32, u32)],
+) -> Result<AfPlain, Memory> {
     let live = NumSet::from_slice(alloc, numbers)?;
     let attacks = between(alloc, &live, attacks)?;
     AfPlain::new(alloc, live, attacks)

@@ -1,0 +1,6 @@
+pub mod KeptLines
+pub mod LineCauses
+pub mod Zips
+pub mod FirstFaults
+pub mod Reading
+pub mod RoundTrip

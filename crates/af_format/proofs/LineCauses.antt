@@ -1,0 +1,144 @@
+-- Which causes stand on a header, and on an attack line.
+use Rattle.std.proofs.Common.{◌≡◌, ℕ, zero, suc, ◌+◌, ◌<◌, ◌≤◌, List, [], ◌∷◌, length, get_or, refl, sym, ap, subst, ◌∙◌, ◌⊎◌, inl, inr, arith}
+use Rattle.std.specs.Prelude.{Contains, codes, All}
+use Rattle.std.proofs.lemmas.List.Elements.{All-head}
+use Rattle.num_text.specs.Cuts.{field_texts}
+use Rattle.num_text.specs.Number.{IsNumber, IsDigit}
+use Rattle.af_format.specs.declared.fault.LineCause.{LineCause}
+use Rattle.af_format.specs.declared.fault.LineCause.TheVariants.{NoHeader, WrongKind, BadHeader, SecondHeader, BadLine, BadNumber, OutOfRange, TooManyLines}
+use Rattle.af_format.specs.AfText.{IsHeader, IsArgument, IsAttackLine}
+use Rattle.af_format.specs.Causes.{rank, IsFirstCause}
+use Rattle.af_format.specs.Faults.{BeginWithP, HaveKindAba, AreHeaderOf, HaveNoNumber, HaveOutsider, StandsOnHeader, StandsOnAttack}
+
+-- bytes spell one number
+pub IsNumber-same : (text : List ℕ) (m n : ℕ) → IsNumber text m → IsNumber text n → m ≡ n
+IsNumber-same text m n a b = sym a.value ∙ b.value
+
+-- `p` is no number
+p_is_no_number : (text : List ℕ) (n : ℕ) → text ≡ codes "p" → IsNumber text n → ⊥
+p_is_no_number text n e number =
+    let digits = subst (λ t. All IsDigit t) e number.digits in
+    let digit = All-head IsDigit 112 [] digits in
+    absurd (omega (arith, digit.high))
+
+-- two kinds of header differ
+kinds_differ : (fields more : List (List ℕ)) (first number : List ℕ) → fields ≡ first ∷ codes "aba" ∷ more
+    → fields ≡ codes "p" ∷ codes "af" ∷ number ∷ [] → ⊥
+kinds_differ fields more first number e h =
+    let same : codes "aba" ≡ codes "af" = ap (λ xs. get_or xs 1 []) (sym e ∙ h) in
+    three_not_two (length (codes "aba")) (length (codes "af")) (ap length same) refl refl
+  where
+    three_not_two : (m n : ℕ) → m ≡ n → m ≡ 3 → n ≡ 2 → ⊥
+    three_not_two m n e three two = absurd (omega arith)
+
+same_number : (fields : List (List ℕ)) (x y : List ℕ) → fields ≡ codes "p" ∷ codes "af" ∷ x ∷ []
+    → fields ≡ codes "p" ∷ codes "af" ∷ y ∷ [] → x ≡ y
+same_number fields x y e h = ap (λ xs. get_or xs 2 []) (sym e ∙ h)
+
+-- the number of a header is one
+pub AreHeaderOf-same : (fields : List (List ℕ)) (m n : ℕ) → AreHeaderOf fields m → AreHeaderOf fields n → m ≡ n
+AreHeaderOf-same fields m n a b = IsNumber-same b.number m n
+    (subst (λ t. IsNumber t m) (same_number fields a.number b.number a.fields_are b.fields_are) a.number_is)
+    b.number_is
+
+pub header_fields : (line : List ℕ) (count : ℕ) → IsHeader line count → AreHeaderOf (field_texts line) count
+header_fields line count h = record { number = h.number; fields_are = h.fields; number_is = h.number_is }
+
+pub IsHeader-same : (line : List ℕ) (m n : ℕ) → IsHeader line m → IsHeader line n → m ≡ n
+IsHeader-same line m n a b = AreHeaderOf-same (field_texts line) m n (header_fields line m a) (header_fields line n b)
+
+-- where the fields are a header's, only its number can be wrong
+over_only : (fields : List (List ℕ)) (n : ℕ) → AreHeaderOf fields n → (other : LineCause)
+    → StandsOnHeader fields other → (1000000 < n) × (7 ≤ rank other)
+over_only fields n h NoHeader stands = absurd (stands (codes "af" ∷ h.number ∷ [], h.fields_are))
+over_only fields n h WrongKind stands =
+    absurd (kinds_differ fields stands.more stands.first h.number stands.fields_are h.fields_are)
+over_only fields n h BadHeader stands = absurd (stands n h)
+over_only fields n h SecondHeader stands = absurd stands
+over_only fields n h BadLine stands = absurd stands
+over_only fields n h BadNumber stands = absurd stands
+over_only fields n h OutOfRange stands =
+    (subst (λ m. 1000000 < m) (AreHeaderOf-same fields stands.0 n stands.1 h) stands.2, omega arith)
+over_only fields n h TooManyLines stands = absurd stands
+
+-- a header whose number is too large
+pub header_over : (fields : List (List ℕ)) (number : List ℕ) (n : ℕ)
+    → fields ≡ codes "p" ∷ codes "af" ∷ number ∷ [] → IsNumber number n → 1000000 < n
+    → IsFirstCause (StandsOnHeader fields) OutOfRange
+header_over fields number n e number_is over =
+    let h : AreHeaderOf fields n = record { number = number; fields_are = e; number_is = number_is } in
+    record { stands = (n, h, over); first = λ other stands. (over_only fields n h other stands).1 }
+
+-- no cause stands on a header
+pub header_is_good : (line : List ℕ) (count : ℕ) → IsHeader line count → (cause : LineCause)
+    → StandsOnHeader (field_texts line) cause → ⊥
+header_is_good line count h cause stands =
+    let over = over_only (field_texts line) count (header_fields line count h) cause stands in
+    absurd (omega (arith, over.0, h.few))
+
+-- the members of two fields
+two_members : (fields : List (List ℕ)) (a b field : List ℕ) → fields ≡ a ∷ b ∷ [] → Contains fields field
+    → (field ≡ a) ⊎ (field ≡ b)
+two_members fields a b field e member = two_members_of a b field (subst (λ xs. Contains xs field) e member)
+  where
+    two_members_of : (a b field : List ℕ) → Contains (a ∷ b ∷ []) field → (field ≡ a) ⊎ (field ≡ b)
+    two_members_of a b field (zero, within, e) = inl (sym e)
+    two_members_of a b field (suc zero, within, e) = inr (sym e)
+    two_members_of a b field (suc (suc k), within, e) = absurd (omega arith)
+
+-- only the limit on lines can be broken at an attack line
+pub limit_only : (count place : ℕ) (line : List ℕ) (attack : ℕ × ℕ) → IsAttackLine count line attack
+    → (other : LineCause) → StandsOnAttack count place (field_texts line) other → (10000000 ≤ place) × (8 ≤ rank other)
+limit_only count place line attack h NoHeader stands = absurd stands
+limit_only count place line attack h WrongKind stands = absurd stands
+limit_only count place line attack h BadHeader stands = absurd stands
+limit_only count place line attack h SecondHeader stands =
+    absurd (p_is_no_number h.attacker attack.0 (ap (λ xs. get_or xs 0 []) (sym h.fields ∙ stands.1)) h.attacker_is.number)
+limit_only count place line attack h BadLine stands = absurd (stands h.attacker h.target h.fields)
+limit_only count place line attack h BadNumber stands =
+    elim (two_members (field_texts line) h.attacker h.target stands.field h.fields stands.member) [
+      | inl e ↦ absurd (stands.none attack.0 (subst (λ t. IsNumber t attack.0) (sym e) h.attacker_is.number))
+      | inr e ↦ absurd (stands.none attack.1 (subst (λ t. IsNumber t attack.1) (sym e) h.target_is.number))
+    ]
+limit_only count place line attack h OutOfRange stands =
+    elim (two_members (field_texts line) h.attacker h.target stands.field h.fields stands.member) [
+      | inl e ↦
+          let same = IsNumber-same h.attacker stands.n attack.0 (subst (λ t. IsNumber t stands.n) e stands.number_is) h.attacker_is.number in
+          absurd (outside_not_inside count stands.n attack.0 same h.attacker_is.low h.attacker_is.high stands.outside)
+      | inr e ↦
+          let same = IsNumber-same h.target stands.n attack.1 (subst (λ t. IsNumber t stands.n) e stands.number_is) h.target_is.number in
+          absurd (outside_not_inside count stands.n attack.1 same h.target_is.low h.target_is.high stands.outside)
+    ]
+  where
+    outside_not_inside : (count m n : ℕ) → m ≡ n → 1 ≤ n → n ≤ count → (m < 1) ⊎ (count < m) → ⊥
+    outside_not_inside count m n e low high (inl under) = absurd (omega arith)
+    outside_not_inside count m n e low high (inr over) = absurd (omega arith)
+limit_only count place line attack h TooManyLines stands = (stands, omega arith)
+
+-- the two members of two fields
+pub first_member : (fields : List (List ℕ)) (a b : List ℕ) → fields ≡ a ∷ b ∷ [] → Contains fields a
+first_member fields a b e = subst (λ xs. Contains xs a) (sym e) (0, omega arith, refl)
+
+pub second_member : (fields : List (List ℕ)) (a b : List ℕ) → fields ≡ a ∷ b ∷ [] → Contains fields b
+second_member fields a b e = subst (λ xs. Contains xs b) (sym e) (1, omega arith, refl)
+
+-- two fields of which one is no number
+pub bad_number : (count place : ℕ) (fields : List (List ℕ)) (a b field : List ℕ) → fields ≡ a ∷ b ∷ []
+    → (a ≡ codes "p" → ⊥) → Contains fields field → ((n : ℕ) → IsNumber field n → ⊥)
+    → IsFirstCause (StandsOnAttack count place fields) BadNumber
+bad_number count place fields a b field e not_p member none = record {
+  stands = record { field = field; member = member; none = none };
+  first = rank_at_least count place fields a b e not_p;
+}
+  where
+    rank_at_least : (count place : ℕ) (fields : List (List ℕ)) (a b : List ℕ) → fields ≡ a ∷ b ∷ []
+        → (a ≡ codes "p" → ⊥) → (other : LineCause) → StandsOnAttack count place fields other → 6 ≤ rank other
+    rank_at_least count place fields a b e not_p NoHeader stands = absurd stands
+    rank_at_least count place fields a b e not_p WrongKind stands = absurd stands
+    rank_at_least count place fields a b e not_p BadHeader stands = absurd stands
+    rank_at_least count place fields a b e not_p SecondHeader stands =
+        absurd (not_p (ap (λ xs. get_or xs 0 []) (sym e ∙ stands.1)))
+    rank_at_least count place fields a b e not_p BadLine stands = absurd (stands a b e)
+    rank_at_least count place fields a b e not_p BadNumber stands = omega arith
+    rank_at_least count place fields a b e not_p OutOfRange stands = omega arith
+    rank_at_least count place fields a b e not_p TooManyLines stands = omega arith

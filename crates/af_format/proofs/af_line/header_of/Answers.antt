@@ -1,0 +1,6 @@
+use Rattle.std.proofs.Common.{rules, arith}
+use Rattle.af_format.proofs.LineCauses.{header_over}
+use Rattle.af_format.proofs.af_line.header_of.Goals as goal
+
+pub returns-then-count-gt-MOST_ARGUMENTS-clause-err : goal.returns-then-count-gt-MOST_ARGUMENTS-clause-err
+returns-then-count-gt-MOST_ARGUMENTS-clause-err c = header_over _ c.in_ok-text.text.now c.in_ok-count.count (search rules) (search rules) (search rules)

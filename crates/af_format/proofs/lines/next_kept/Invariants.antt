@@ -1,0 +1,7 @@
+use Rattle.std.proofs.Common.{◌≡◌, length}
+use Rattle.af_format.specs.Lines.{kept}
+use Rattle.af_format.proofs.lines.next_kept.Given as goal
+
+-- the lines that were passed are skipped
+abbrev pub invariant-loop-line : goal.invariant-loop-line
+invariant-loop-line l = kept l.lines ≡ kept l.initial.lines

@@ -1,0 +1,10 @@
+use Rattle.std.proofs.Common.{sym, ap, ◌∙◌, subst}
+use Rattle.af_format.specs.AfText.{ReadsAs}
+use Rattle.af_format.proofs.RoundTrip.{reads_back}
+use Rattle.af_format.proofs.write.write_af.Goals as goal
+
+pub returns-clause-back : goal.returns-clause-back
+returns-clause-back c = λ few.
+    subst (λ text. ReadsAs text c.args.framework.now)
+    (sym (c.from_vec.ensures ∙ ap (λ v. v.items) c.into_bytes.ensures.value ∙ c.in_ok-text.ensures.text))
+    (reads_back c.args.framework.now c.text_of.ensures.form c.requires few)

@@ -1,0 +1,25 @@
+-- How far a text is read, line by line.
+use Rattle.std.specs.Prelude.{◌≡◌, ℕ, List, ◌∷◌, ◌++◌, length}
+use Rattle.num_text.specs.Cuts.{LineText, field_texts}
+use Rattle.af_format.specs.declared.fault.LineCause.{LineCause}
+use Rattle.af_format.specs.Lines.{kept, kept_lines}
+use Rattle.af_format.specs.AfText.{IsHeader, AreAttackLines}
+use Rattle.af_format.specs.Causes.{IsFirstCause}
+use Rattle.af_format.specs.Faults.{StandsOnAttack}
+
+-- the bytes begin with a header of this number of arguments, and these lines stand behind it
+pub record BeginWithHeader (bytes : List ℕ) (count : ℕ) (left : List LineText) : Type 0 where
+  pub header : LineText
+  pub lines : kept_lines bytes ≡ header ∷ kept left
+  pub header_is : IsHeader header.text count
+
+-- the first line that is no attack line has this number, and the cause is told of it
+pub record IsFirstBadLine (count : ℕ) (lines : List LineText) (number : ℕ) (cause : LineCause) : Type 0 where
+  pub before : List LineText
+  pub bad : LineText
+  pub after : List LineText
+  pub lines_are : lines ≡ before ++ bad ∷ after
+  pub attacks : List (ℕ × ℕ)
+  pub before_are : AreAttackLines count before attacks
+  pub number_is : number ≡ bad.number
+  pub told : IsFirstCause (StandsOnAttack count (length before) (field_texts bad.text)) cause

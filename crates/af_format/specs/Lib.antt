@@ -1,0 +1,6 @@
+pub mod Lines
+pub mod AfText
+pub mod Causes
+pub mod Faults
+pub mod FirstBadLine
+pub mod Written

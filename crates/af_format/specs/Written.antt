@@ -1,0 +1,22 @@
+-- The text that is written of a framework.
+use Rattle.std.specs.Prelude.{◌≡◌, ℕ, ◌≤◌, List, [], ◌∷◌, ◌++◌, length, codes}
+use Rattle.std.specs.List.{flat_map, range_with_len}
+use Rattle.std.specs.Fmt.{decimal}
+use Rattle.meaning_atoms.specs.Framework.{Af}
+
+-- the live arguments are 1 to n, with n at most 1,000,000
+pub record IsSolid (f : Af) : Type 0 where
+  pub live : f.live ≡ range_with_len 1 (length f.live)
+  pub few : length f.live ≤ 1000000
+
+-- the header's line, its LF included
+abbrev pub header_line : ℕ → List ℕ
+header_line count = codes "p af " ++ (decimal count ++ 10 ∷ [])
+
+-- the line of an attack: attacker and target in decimal, one blank between, and LF
+abbrev pub attack_line : ℕ × ℕ → List ℕ
+attack_line p = decimal p.0 ++ (32 ∷ (decimal p.1 ++ 10 ∷ []))
+
+-- the header's line, and the line of each attack in order
+abbrev pub af_text : Af → List ℕ
+af_text f = header_line (length f.live) ++ flat_map attack_line f.attacks

@@ -1,0 +1,105 @@
+//! What a single line says.
+
+ghost use Rattle.std.specs.Prelude.{◌≡◌, ℕ, ◌≤◌, ◌<◌, ◌∷◌, [], List, IfOk, IfErr, IfSome, IfNone, codes, ◌⊎◌};
+ghost use Rattle.std.specs.Bool.{OnTrue, OnFalse};
+ghost use Rattle.num_text.specs.Cuts.{field_texts};
+ghost use Rattle.af_format.specs.AfText.{IsHeader, IsArgument, IsAttackLine};
+ghost use Rattle.af_format.specs.Causes.{IsFirstCause};
+ghost use Rattle.af_format.specs.Faults.{StandsOnHeader, StandsOnAttack};
+
+use crate::fault::LineCause;
+use num_text::{Line, decimal, fields};
+
+const MOST_ARGUMENTS: u32 = 1_000_000;
+
+const MOST_ATTACKS: usize = 10_000_000;
+
+/// The number of arguments that a header tells.
+pub(crate) fn header_of(line: &Line<'_>) -> Result<u32, LineCause>
+    ensures ok { IfOk result (IsHeader line.now.text.now) }
+    ensures err { IfErr result (IsFirstCause (StandsOnHeader (field_texts line.now.text.now))) }
+{
+    let text = header_number(line)?;
+    let count = decimal(text).ok_or(LineCause::BadHeader)?;
+    if count > MOST_ARGUMENTS {
+        return Err(LineCause::OutOfRange);
+    }
+    Ok(count)
+}
+
+// The third field of a header that has no other after it.
+fn header_number<'a>(line: &Line<'a>) -> Result<&'a [u8], LineCause>
+    ensures ok { IfOk result (λ text. field_texts line.now.text.now
+        ≡ codes "p" ∷ codes "af" ∷ text.now ∷ []) }
+    ensures err { IfErr result (IsFirstCause (StandsOnHeader (field_texts line.now.text.now))) }
+{
+    let mut parts = fields(line);
+    let first = parts.next().ok_or(LineCause::NoHeader)?;
+    if first.text != "p".as_bytes() {
+        return Err(LineCause::NoHeader);
+    }
+    let kind = parts.next().ok_or(LineCause::BadHeader)?;
+    if kind.text == "aba".as_bytes() {
+        return Err(LineCause::WrongKind);
+    }
+    if kind.text != "af".as_bytes() {
+        return Err(LineCause::BadHeader);
+    }
+    let number = parts.next().ok_or(LineCause::BadHeader)?;
+    if parts.next().is_some() {
+        return Err(LineCause::BadHeader);
+    }
+    Ok(number.text)
+}
+
+/// The attack that a line tells, where place attack lines stand before it.
+pub(crate) fn attack_of(line: &Line<'_>, count: u32, place: usize) -> Result<(u32, u32), LineCause>
+    ensures ok { IfOk result (IsAttackLine count line.now.text.now) }
+    ensures few { IfOk result (λ _. place < 10000000) }
+    ensures err { IfErr result (IsFirstCause (StandsOnAttack count place (field_texts line.now.text.now))) }
+{
+    let (first, second) = two_fields(line, count, place)?;
+    let Some(attacker) = decimal(first) else {
+        return Err(LineCause::BadNumber);
+    };
+    let Some(target) = decimal(second) else {
+        return Err(LineCause::BadNumber);
+    };
+    if !is_argument(attacker, count) || !is_argument(target, count) {
+        return Err(LineCause::OutOfRange);
+    }
+    if place >= MOST_ATTACKS {
+        return Err(LineCause::TooManyLines);
+    }
+    Ok((attacker, target))
+}
+
+// Whether the number is from 1 to n.
+fn is_argument(number: u32, count: u32) -> bool
+    ensures inside { OnTrue result ((1 ≤ number) × (number ≤ count)) }
+    ensures outside { OnFalse result ((number < 1) ⊎ (count < number)) }
+{
+    1 <= number && number <= count
+}
+
+// The two fields of an attack line.
+fn two_fields<'a>(
+    line: &Line<'a>,
+    count: u32,
+    place: usize,
+) -> Result<(&'a [u8], &'a [u8]), LineCause>
+    ensures ok { IfOk result (λ p. field_texts line.now.text.now ≡ p.0.now ∷ p.1.now ∷ []) }
+    ensures not_p { IfOk result (λ p. ¬ (p.0.now ≡ codes "p")) }
+    ensures err { IfErr result (IsFirstCause (StandsOnAttack count place (field_texts line.now.text.now))) }
+{
+    let mut parts = fields(line);
+    let first = parts.next().ok_or(LineCause::BadLine)?;
+    if first.text == "p".as_bytes() {
+        return Err(LineCause::SecondHeader);
+    }
+    let second = parts.next().ok_or(LineCause::BadLine)?;
+    if parts.next().is_some() {
+        return Err(LineCause::BadLine);
+    }
+    Ok((first.text, second.text))
+}

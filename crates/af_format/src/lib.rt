@@ -1,0 +1,19 @@
+//! The text of an abstract framework, read and written: a header `p af n`, and a line `b a` for each
+//! attack of b on a.
+//!
+//! Space, tab and CR are blanks between fields. A line without fields, or whose first field begins with
+//! `#`, is skipped; lines are numbered from 1, skipped ones included.
+#![tactic(auto)]
+
+mod af_line;
+mod fault;
+mod lines;
+mod read;
+mod write;
+
+pub use fault::{LineCause, LineFault, ReadFault};
+pub use read::read_af;
+pub use write::write_af;
+
+#[cfg(test)]
+mod tests;

@@ -1,0 +1,108 @@
+//! Reading a framework.
+
+ghost use Rattle.std.specs.Prelude.{◌≡◌, ℕ, ◌≤◌, ◌^◌, length, Contains, IfOk, IfErr, OnOk};
+ghost use Rattle.std.specs.List.{range_with_len};
+ghost use Rattle.num_text.specs.Cuts.{lines_of};
+ghost use Rattle.af_format.specs.Lines.{kept};
+ghost use Rattle.af_format.specs.AfText.{AreAttackLines, IsFrameworkOf, ReadsAs};
+ghost use Rattle.af_format.specs.Faults.{IsFirstFault, IsFaultless, IfLine};
+ghost use Rattle.af_format.specs.Written.{IsSolid};
+ghost use Rattle.af_format.specs.FirstBadLine.{BeginWithHeader, IsFirstBadLine};
+
+use crate::af_line::{attack_of, header_of};
+use crate::fault::{LineCause, LineFault, ReadFault};
+use crate::lines::{line_count, next_kept};
+use dung_notions::AfPlain;
+use num_text::{Lines, lines};
+use plain_lists::{Items, Memory};
+use set_lists::NumSet;
+use std::alloc::Global;
+
+/// The framework that the bytes describe. The first line that is not skipped is `p af n` with n up to
+/// 1,000,000; each further one is `b a`, both from 1 to n, which says that b attacks a. A repeated attack
+/// counts once. At most 10,000,000 attack lines are read.
+///
+/// `Line` tells the first line at which a cause stands, and of the causes that stand there the first in
+/// the order of [`LineCause`]. `Memory` says that an allocation was refused.
+#[tactic(auto, using(crate::proofs::Reading::header_few, crate::proofs::Reading::reads_as, crate::proofs::Reading::bad_line_told, crate::proofs::Reading::ends_are_arguments, crate::proofs::Reading::faultless,))]
+pub fn read_af(alloc: Global, bytes: &[u8]) -> Result<AfPlain, ReadFault>
+    requires { length bytes.now ≤ 268435456 }
+    ensures ok { IfOk result (ReadsAs bytes.now) }
+    ensures solid { IfOk result IsSolid }
+    ensures faultless { OnOk result (IsFaultless bytes.now) }
+    ensures fault { IfErr result (λ e. IfLine e (λ fault. IsFirstFault bytes.now fault.line fault.cause)) }
+{
+    let mut left = lines(bytes);
+    let count = read_header(bytes, &mut left)?;
+    let attacks = read_attacks(alloc, left, count)?;
+    Ok(framework_of(alloc, count, attacks)?)
+}
+
+// The number of arguments that the text's header tells. The lines behind the header are left.
+fn read_header(bytes: &[u8], left: &mut Lines<'_>) -> Result<u32, LineFault>
+    requires size { length bytes.now ≤ 268435456 }
+    requires all { left.old ≡ lines_of bytes.now }
+    ensures ok { IfOk result (λ count. BeginWithHeader bytes.now count left.new) }
+    ensures fault { IfErr result (λ fault. IsFirstFault bytes.now fault.line fault.cause) }
+{
+    let Some(header) = next_kept(left) else {
+        return Err(LineFault {
+            line: line_count(bytes) + 1,
+            cause: LineCause::NoHeader,
+        });
+    };
+    match header_of(&header) {
+        Ok(count) => Ok(count),
+        Err(cause) => Err(LineFault {
+            line: header.number,
+            cause,
+        }),
+    }
+}
+
+#[tactic(auto, using(crate::proofs::Reading::read_none, crate::proofs::Reading::read_more, crate::proofs::Reading::read_all, crate::proofs::Reading::read_bad,))]
+// The attacks of all lines that are left and not skipped, in their order.
+fn read_attacks(
+    alloc: Global,
+    mut left: Lines<'_>,
+    count: u32,
+) -> Result<Items<(u32, u32)>, ReadFault>
+    ensures ok { IfOk result (AreAttackLines count (kept left.entry)) }
+    ensures fault { IfErr result
+        (λ e. IfLine e (λ fault. IsFirstBadLine count (kept left.entry) fault.line fault.cause)) }
+{
+    let mut attacks = Items::new(alloc);
+    while let Some(line) = next_kept(&mut left) {
+        match attack_of(&line, count, attacks.len()) {
+            Ok(attack) => attacks.push(attack)?,
+            Err(cause) => {
+                let fault = LineFault {
+                    line: line.number,
+                    cause,
+                };
+                return Err(ReadFault::Line(fault));
+            }
+        }
+    }
+    Ok(attacks)
+}
+
+// The framework of the arguments 1 to n and the attacks.
+fn framework_of(alloc: Global, count: u32, attacks: Items<(u32, u32)>) -> Result<AfPlain, Memory>
+    requires few { count ≤ 1000000 }
+    requires ends { (b a : ℕ) → Contains attacks (b, a)
+        → Contains (range_with_len 1 count) b × Contains (range_with_len 1 count) a }
+    ensures { IfOk result (IsFrameworkOf count attacks) }
+{
+    let live = arguments(alloc, count)?;
+    AfPlain::new(alloc, live, attacks.into_vec())
+}
+
+// The arguments 1 to n.
+fn arguments(alloc: Global, count: u32) -> Result<NumSet, Memory>
+    requires { count ≤ 1000000 }
+    ensures { IfOk result (λ s. s ≡ range_with_len 1 count) }
+{
+    let numbers: Vec<u32> = (1..count + 1).collect(alloc)?;
+    NumSet::from_rising(alloc, &numbers)
+}

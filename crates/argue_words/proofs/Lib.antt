@@ -1,0 +1,6 @@
+mod NoFault
+mod FileGiven
+mod SolveLaws
+mod ValueWords
+pub mod CommandLaws
+pub mod TakenWords

@@ -1,0 +1,84 @@
+-- What a parse of the command of solve tells, and words that it takes.
+use Rattle.std.proofs.Common.{◌≡◌, ◌≢◌, ◌∙◌, ◌==◌, true, false, true≢false, length, map, refl, sym, ap}
+use Rattle.std.proofs.Common.{subst, List, [], ◌∷◌, Result, Ok, Err, IfOk, IfErr, IsSome, codes}
+use Rattle.std.proofs.lemmas.Result.{IfOk-weaker}
+use Rattle.clap.specs.Words.{App, FailsBy, HasMatchesOf, IsParsedFrom, Text, app_of, fault_of, first_value}
+use Rattle.clap.specs.Words.{first_of, found_of, is_simple, is_simple_and_free, matches_of, rule_of, takes}
+use Rattle.clap.specs.declared.builder.command.Command.{Command}
+use Rattle.clap.specs.declared.error.Error.{Error}
+use Rattle.clap.specs.declared.parser.matches.ArgMatches.{ArgMatches}
+use Rattle.clap.proofs.WalkLemmas.{first_value-rows}
+use Rattle.argue_words.specs.declared.words.Command.{Command as Query}
+use Rattle.argue_words.specs.declared.words.Command.TheVariants.{Unknown}
+use Rattle.argue_words.specs.Words.{IsCommandOf, solve_app, value_of, value_option}
+use Rattle.argue_words.proofs.NoFault.{takes_if}
+use Rattle.argue_words.proofs.FileGiven.{file_given, two_of}
+
+-- ---- the command
+
+solve_is_simple : is_simple solve_app ≡ true
+unfolding solve_app
+solve_is_simple = refl
+
+solve_is_free : is_simple_and_free solve_app ≡ true
+unfolding solve_app
+solve_is_free = refl
+
+solve_takes_if : (words : List Text) → fault_of solve_app words ≡ [] → takes solve_app words ≡ true
+unfolding solve_app
+solve_takes_if words e = takes_if solve_app words refl refl refl refl e
+
+-- ---- what a parse tells
+
+pub taken_at : {T : Type 0} (app : App) (words : List Text) (r : Result T Error) → app ≡ solve_app
+    → (is_simple_and_free app ≡ true → FailsBy (fault_of app words) r)
+    → IfOk r (λ _. takes solve_app words ≡ true)
+taken_at app words (Err e) is h = tt
+taken_at app words (Ok m) is h =
+    solve_takes_if words (ap (λ (a : App). fault_of a words) (sym is)
+    ∙ h (ap is_simple_and_free is ∙ solve_is_free))
+
+pub values_at : (app : App) (words : List Text) (r : Result ArgMatches Error) → app ≡ solve_app
+    → IfOk r (HasMatchesOf app words)
+    → IfOk r (λ m. (id : Text) → first_value (found_of m) id ≡ value_of words id)
+values_at app words r is = IfOk-weaker r _ _ (λ m h id.
+    first_value-rows (found_of m) id
+    ∙ ap (first_of id) ((h (ap is_simple is ∙ solve_is_simple)).0
+    ∙ ap (λ (a : App). matches_of a words) is))
+
+pub refused_at : {T : Type 0} (K : Error → Type 0) (app : App) (words : List Text) (r : Result T Error)
+    → app ≡ solve_app
+    → IfErr r (λ e. takes app words ≡ true → K e) → IfErr r (λ e. takes solve_app words ≡ true → K e)
+refused_at K app words (Ok m) is h = tt
+refused_at K app words (Err e) is h = λ taken. h (ap (λ (a : App). takes a words) is ∙ taken)
+
+solve_rules : (app : App) → app ≡ solve_app
+    → app.top.rules ≡ value_option (codes "task") 112 ∷ value_option (codes "file") 102 ∷ []
+unfolding solve_app
+solve_rules app is = ap (λ (a : App). a.top.rules) is
+
+solve_is_plain : (app : App) → app ≡ solve_app
+    → (app.top.is_plain ≡ true) × (app.top.subcommand_negates_reqs ≡ false)
+unfolding solve_app
+solve_is_plain app is =
+    (ap (λ (a : App). a.top.is_plain) is, ap (λ (a : App). a.top.subcommand_negates_reqs) is)
+
+pub file_at : (c : Command) (r : Result ArgMatches Error) → app_of c ≡ solve_app → IfOk r (IsParsedFrom c)
+    → IfOk r (λ m. IsSome (first_value (found_of m) (codes "file")))
+file_at c r is = IfOk-weaker r _ _ (λ m p.
+    let args = two_of rule_of _ _ _ (solve_rules (app_of c) is) in
+    let fields = solve_is_plain (app_of c) is in
+    file_given args.0 args.1 args.3 args.4 c m args.2 fields.0 fields.1 p)
+
+-- words that clap refuses for another cause than want of memory are unknown
+pub unknown_at : {E : Type 0} (K : Type 0) (words : List Text) (r : Result Query E) → words ≢ []
+    → (takes solve_app words ≡ true → K)
+    → IfOk r (λ c. (c ≡ Unknown) × (K → ⊥)) → IfOk r (IsCommandOf words)
+unknown_at K words r some cause = IfOk-weaker r _ _ (λ c h.
+    subst (IsCommandOf words) (sym h.0)
+    (record { some_words = some; other_task = λ taken. absurd (h.1 (cause taken)) }))
+
+pub some_texts : {X : Type 0} (text : X → Text) (words : List X) → false ≡ (length words == 0)
+    → map text words ≢ []
+some_texts text [] e none = absurd (true≢false (sym e))
+some_texts text (w ∷ ws) e none = cc

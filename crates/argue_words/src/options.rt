@@ -1,0 +1,41 @@
+//! The command line of solve, as clap takes it.
+
+ghost use Rattle.std.specs.Prelude.{◌≡◌, IfOk, codes, false};
+ghost use Rattle.clap.specs.Words.{app_of, rule_of, with_rule};
+ghost use Rattle.argue_words.specs.Words.{bare_app, solve_app, value_option};
+
+use clap::{Arg, ArgAction, Command};
+use std::alloc::{AllocError, Global};
+
+// A required option of one value, written `-s VALUE`.
+fn value_arg<'a>(alloc: Global, id: &'a str, short: char) -> Arg<'a>
+    ensures rule { rule_of result ≡ value_option id.entry.now short }
+    ensures local { result.global ≡ false }
+{
+    Arg::new(alloc, id)
+        .short(short)
+        .action(ArgAction::Set)
+        .required(true)
+}
+
+fn with_arg<'a>(command: Command<'a>, arg: Arg<'a>) -> Result<Command<'a>, AllocError>
+    requires { arg.global ≡ false }
+    ensures { IfOk result (λ c. app_of c ≡ with_rule (app_of command.entry) (rule_of arg.entry)) }
+{
+    command.arg(arg)
+}
+
+fn bare_command<'a>(alloc: Global) -> Command<'a>
+    ensures { app_of result ≡ bare_app }
+{
+    Command::new(alloc, "argue").no_binary_name(true)
+}
+
+#[tactic(auto, unfolding(crate::specs::Words::solve_app))]
+/// The command of `-p TASK` and `-f FILE`, whose words begin after the program's name.
+pub(crate) fn solve_command<'a>(alloc: Global) -> Result<Command<'a>, AllocError>
+    ensures { IfOk result (λ c. app_of c ≡ solve_app) }
+{
+    let command = with_arg(bare_command(alloc), value_arg(alloc, "task", 'p'))?;
+    with_arg(command, value_arg(alloc, "file", 'f'))
+}

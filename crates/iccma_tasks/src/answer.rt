@@ -1,0 +1,15 @@
+//! Answers.
+
+use plain_lists::Items;
+use set_lists::NumSet;
+
+/// The answer to a query.
+#[derive(Debug, Drop)]
+pub enum Answer {
+    /// `YES`, and a set that shows it where there is one.
+    Yes(Option<NumSet>),
+    /// `NO`, and a set that shows it where there is one.
+    No(Option<NumSet>),
+    /// Extensions, in order.
+    Sets(Items<NumSet>),
+}
