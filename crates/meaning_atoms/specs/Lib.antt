@@ -1,2 +1,5 @@
 pub mod Framework
 pub mod Laws
+pub mod Atoms
+pub mod Axioms
+pub mod Worlds

@@ -1,6 +1,12 @@
-//! The meaning of abstract frameworks, over plain lists, and the laws that show it right.
+//! The meaning of abstract frameworks, over plain lists, and the laws that show it right; the atoms of which
+//! clauses about them are made, and what these say.
 #![tactic(auto)]
 
+pub mod atom;
+pub mod axiom;
 pub mod laws;
 #[cfg(test)]
 mod tests;
+
+pub use atom::{Atom, AtomLit, END};
+pub use axiom::AfAxiom;

@@ -1,0 +1,34 @@
+-- The numbers that an atom may speak of.
+use Rattle.std.specs.Prelude.{ℕ, ◌≤◌}
+use Rattle.meaning_atoms.specs.declared.atom.Atom.{Atom}
+use Rattle.meaning_atoms.specs.declared.atom.Atom.TheVariants.{Member, Live, Attack, Gap, Tail, Unmet, Range, Cf, Ad, Co, St, Ask}
+use Rattle.meaning_atoms.specs.declared.atom.AtomLit.{AtomLit}
+
+-- the number of an argument, from 1 to 1,000,000
+pub record IsArgument (a : ℕ) : Type 0 where
+  pub low : 1 ≤ a
+  pub high : a ≤ 1000000
+
+-- a place in the order of argument numbers, from 1 to just past the last
+pub record IsPlace (i : ℕ) : Type 0 where
+  pub low : 1 ≤ i
+  pub high : i ≤ 1000001
+
+-- the atom's numbers are within their bounds
+abbrev pub IsAtom : Atom → Type 0
+IsAtom (Member a) = IsArgument a
+IsAtom (Live a) = IsArgument a
+IsAtom (Attack b a) = IsArgument b × IsArgument a
+IsAtom (Gap a i j) = IsArgument a × IsPlace i × IsPlace j × (i ≤ j)
+IsAtom (Tail a i) = IsArgument a × IsPlace i
+IsAtom (Unmet a i) = IsArgument a × IsPlace i
+IsAtom (Range a) = IsArgument a
+IsAtom Cf = Unit {0}
+IsAtom Ad = Unit {0}
+IsAtom Co = Unit {0}
+IsAtom St = Unit {0}
+IsAtom (Ask n) = 1 ≤ n
+
+-- the literal's atom is within its bounds
+abbrev pub IsLit : AtomLit → Type 0
+IsLit l = IsAtom l.atom
