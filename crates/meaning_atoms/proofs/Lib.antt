@@ -2,3 +2,4 @@ pub mod Decided
 pub mod Sets
 pub mod Grounded
 pub mod Extensions
+pub mod Readings
