@@ -27,7 +27,7 @@ IsAtom Cf = Unit {0}
 IsAtom Ad = Unit {0}
 IsAtom Co = Unit {0}
 IsAtom St = Unit {0}
-IsAtom (Ask n) = 1 ≤ n
+IsAtom (Ask n) = (1 ≤ n) × (n ≤ 4294967295)
 
 -- the literal's atom is within its bounds
 abbrev pub IsLit : AtomLit → Type 0

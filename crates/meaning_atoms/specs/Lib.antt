@@ -1,5 +1,7 @@
 pub mod Framework
 pub mod Laws
 pub mod Atoms
+pub mod AtomText
 pub mod Axioms
+pub mod Pieces
 pub mod Worlds

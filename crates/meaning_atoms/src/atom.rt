@@ -1,5 +1,9 @@
 //! The words of clauses: atoms about a framework and a set of arguments, and literals.
 
+ghost use Rattle.std.specs.Prelude.{◌≡◌, ◌↔◌, IsTrue};
+ghost use Rattle.meaning_atoms.specs.Atoms.{IsArgument, IsAtom, IsPlace};
+ghost use Rattle.meaning_atoms.specs.AtomText.{name_of};
+
 /// The number just past the largest argument, 1,000,000: the end of every range of argument numbers.
 pub const END: u32 = 1_000_001;
 
@@ -39,4 +43,55 @@ pub struct AtomLit {
     pub atom: Atom,
     /// Whether the literal is the atom itself, not its negation.
     pub positive: bool,
+}
+
+impl Atom {
+    /// Whether the numbers are within their bounds: arguments from 1 to 1,000,000, places from 1 to `END`, of
+    /// a gap the first no more than the second, and the number of a side clause from 1.
+    pub fn is_within(&self) -> bool
+        ensures { IsTrue result ↔ IsAtom self.now }
+    {
+        match *self {
+            Atom::Member(a) | Atom::Live(a) | Atom::Range(a) => is_argument(a),
+            Atom::Attack(b, a) => is_argument(b) && is_argument(a),
+            Atom::Gap(a, i, j) => is_argument(a) && is_place(i) && is_place(j) && i <= j,
+            Atom::Tail(a, i) | Atom::Unmet(a, i) => is_argument(a) && is_place(i),
+            Atom::Cf | Atom::Ad | Atom::Co | Atom::St => true,
+            Atom::Ask(n) => 1 <= n,
+        }
+    }
+
+    /// The name before the numbers in the atom's text.
+    pub fn name(&self) -> &'static str
+        ensures { result.now ≡ name_of self.now }
+    {
+        match *self {
+            Atom::Member(_) => "Member",
+            Atom::Live(_) => "Live",
+            Atom::Attack(..) => "Attack",
+            Atom::Gap(..) => "Gap",
+            Atom::Tail(..) => "Tail",
+            Atom::Unmet(..) => "Unmet",
+            Atom::Range(_) => "Range",
+            Atom::Cf => "Cf",
+            Atom::Ad => "Ad",
+            Atom::Co => "Co",
+            Atom::St => "St",
+            Atom::Ask(_) => "Ask",
+        }
+    }
+}
+
+/// Whether the number is that of an argument, from 1 to 1,000,000.
+pub fn is_argument(number: u32) -> bool
+    ensures { IsTrue result ↔ IsArgument number }
+{
+    1 <= number && number < END
+}
+
+/// Whether the number is a place in the order of arguments, from 1 to `END`.
+pub fn is_place(number: u32) -> bool
+    ensures { IsTrue result ↔ IsPlace number }
+{
+    1 <= number && number <= END
 }

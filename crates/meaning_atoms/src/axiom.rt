@@ -1,10 +1,9 @@
 //! The names of the clauses that always hold of abstract frameworks.
 
 ghost use Rattle.std.specs.Prelude.{◌↔◌, IsTrue};
-ghost use Rattle.meaning_atoms.specs.Atoms.{IsArgument};
 ghost use Rattle.meaning_atoms.specs.Axioms.{IsAfAxiom};
 
-use crate::atom::END;
+use crate::atom::{END, is_argument, is_place};
 
 /// The name of an axiom with its arguments, in the order of the table of axioms. A value whose arguments are
 /// out of the bounds of its row is no axiom name.
@@ -33,15 +32,8 @@ impl AfAxiom {
             AfAxiom::A1(a) | AfAxiom::A7(a) | AfAxiom::A10(a) => is_argument(a),
             AfAxiom::A2(b, a) | AfAxiom::A3(b, a) | AfAxiom::A4(b, a) => is_argument(b) && is_argument(a),
             AfAxiom::A5(a, i, j) | AfAxiom::A8(a, i, j) => is_argument(a) && 1 <= i && i <= j && j < END,
-            AfAxiom::A6(a, i) | AfAxiom::A9(a, i) => is_argument(a) && 1 <= i && i <= END,
+            AfAxiom::A6(a, i) | AfAxiom::A9(a, i) => is_argument(a) && is_place(i),
             AfAxiom::A14(part) => 1 <= part && part <= 3,
         }
     }
-}
-
-// The number of an argument.
-fn is_argument(number: u32) -> bool
-    ensures { IsTrue result ↔ IsArgument number }
-{
-    1 <= number && number < END
 }

@@ -5,8 +5,10 @@
 pub mod atom;
 pub mod axiom;
 pub mod laws;
+pub mod text;
 #[cfg(test)]
 mod tests;
 
-pub use atom::{Atom, AtomLit, END};
+pub use atom::{Atom, AtomLit, END, is_argument, is_place};
 pub use axiom::AfAxiom;
+pub use text::{atom_text, read_lit};

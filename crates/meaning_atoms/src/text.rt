@@ -1,0 +1,206 @@
+//! The text of a literal, written and read.
+
+ghost use Rattle.std.specs.Prelude.{◌≡◌, ◌↔◌, ℕ, ◌≤◌, false, ◌++◌, List, [], ◌∷◌, length, IsTrue, IfOk, OnOk, IfSome, IsSome, Some, position};
+ghost use Rattle.std.specs.List.{AllZip, flat_map, slice_split};
+ghost use Rattle.std.specs.Option.{option_map};
+ghost use Rattle.std.specs.String.{string_bytes};
+ghost use Rattle.std.specs.Fmt.{decimal as decimal_text};
+ghost use Rattle.num_text.specs.Number.{IsNumber};
+ghost use Rattle.meaning_atoms.specs.declared.atom.Atom.{Atom as AnAtom};
+ghost use Rattle.meaning_atoms.specs.declared.atom.AtomLit.{AtomLit as ALit};
+ghost use Rattle.meaning_atoms.specs.Atoms.{IsLit};
+ghost use Rattle.meaning_atoms.specs.AtomText.{IsLitText, is_colon, lit_text, name_of, numbers_of, signed};
+ghost use Rattle.meaning_atoms.specs.Pieces.{HasFound, IsAtomOf, IsFirstNumber, pieces_left, values_of};
+
+use crate::atom::{Atom, AtomLit};
+use num_text::decimal;
+use plain_lists::{Bytes, Memory};
+use std::alloc::Global;
+use std::fmt::Write;
+
+// The numbers behind the name of an atom.
+#[derive(Clone, Copy)]
+enum Numbers {
+    Zero,
+    One(u32),
+    Two(u32, u32),
+    Three(u32, u32, u32),
+}
+
+/// The text of a literal: its atom's name, with a hyphen before it where the literal is negative, and each
+/// number of the atom in decimal behind a colon, as `-Gap:1:3:1000001`. Where the numbers are within their
+/// bounds, this text reads as the literal again.
+pub fn atom_text(alloc: Global, lit: &AtomLit) -> Result<Bytes, Memory>
+    ensures text { IfOk result (λ text. text ≡ lit_text lit.now) }
+    ensures reads { IfOk result (λ text. IsLit lit.now → IsLitText text lit.now) }
+{
+    let text = text_of(alloc, lit)?;
+    Ok(Bytes::from_vec(text.into_bytes()))
+}
+
+// The same text, as a string.
+fn text_of(alloc: Global, lit: &AtomLit) -> Result<String, Memory>
+    ensures { IfOk result (λ text. string_bytes text ≡ lit_text lit.now) }
+{
+    let mut text = String::new(alloc);
+    if !lit.positive {
+        text.push('-')?;
+    }
+    text.push_str(lit.atom.name())?;
+    push_numbers(&mut text, &lit.atom)?;
+    Ok(text)
+}
+
+// Adds each number of the atom behind a colon.
+fn push_numbers(text: &mut String, atom: &Atom) -> Result<(), Memory>
+    ensures text { OnOk result (string_bytes text.new
+        ≡ string_bytes text.old ++ flat_map (λ n. 58 ∷ decimal_text n) (numbers_of atom.now)) }
+{
+    match *atom {
+        Atom::Member(a) | Atom::Live(a) | Atom::Range(a) | Atom::Ask(a) => write!(text, ":{a}")?,
+        Atom::Attack(a, b) | Atom::Tail(a, b) | Atom::Unmet(a, b) => write!(text, ":{a}:{b}")?,
+        Atom::Gap(a, i, j) => write!(text, ":{a}:{i}:{j}")?,
+        Atom::Cf | Atom::Ad | Atom::Co | Atom::St => {}
+    }
+    Ok(())
+}
+
+/// The literal that the bytes are the text of. Numbers may have leading zeros. `None` where the bytes are the
+/// text of no literal whose numbers are within their bounds.
+pub fn read_lit(bytes: &[u8]) -> Option<AtomLit>
+    ensures spells { IfSome result (IsLitText bytes.now) }
+    ensures read { (lit : ALit) → IsLitText bytes.now lit → result ≡ Some lit }
+{
+    let (name, rest) = first_piece(bytes);
+    let numbers = numbers_in(rest)?;
+    let (positive, name) = without_sign(name);
+    let atom = atom_of(name, numbers)?;
+    if !atom.is_within() {
+        return None;
+    }
+    Some(AtomLit { atom, positive })
+}
+
+// What stands before the first colon, and what stands behind it.
+fn first_piece<'a>(text: &'a [u8]) -> (&'a [u8], Option<&'a [u8]>)
+    ensures { slice_split is_colon text.entry.now
+        ≡ result.0.now ∷ pieces_left (option_map (λ rest. rest.now) result.1) }
+{
+    match first_colon(text) {
+        Some(place) => (&text[..place], Some(&text[place + 1..])),
+        None => (text, None),
+    }
+}
+
+fn first_colon(text: &[u8]) -> Option<usize>
+    ensures { result ≡ position is_colon text.now }
+{
+    text.iter().position(|byte| *byte == b':')
+}
+
+// The numbers that the pieces of the text spell, where there are at most three pieces.
+fn numbers_in<'a>(text: Option<&'a [u8]>) -> Option<Numbers>
+    ensures spelled { IfSome result (λ numbers. AllZip IsNumber (pieces_left (option_map (λ rest. rest.now) text.entry)) (values_of numbers)) }
+    ensures read { (numbers : List ℕ) → AllZip IsNumber (pieces_left (option_map (λ rest. rest.now) text.entry)) numbers
+        → length numbers ≤ 3 → HasFound result numbers }
+{
+    let Some(text) = text else {
+        return Some(Numbers::Zero);
+    };
+    let (first, rest) = first_number(text)?;
+    let Some(rest) = rest else {
+        return Some(Numbers::One(first));
+    };
+    let (second, rest) = first_number(rest)?;
+    let Some(rest) = rest else {
+        return Some(Numbers::Two(first, second));
+    };
+    let (third, rest) = first_number(rest)?;
+    match rest {
+        Some(_) => None,
+        None => Some(Numbers::Three(first, second, third)),
+    }
+}
+
+// The number that the first piece spells, and what is left behind it.
+fn first_number<'a>(text: &'a [u8]) -> Option<(u32, Option<&'a [u8]>)>
+    ensures spelled { IfSome result (λ found. IsFirstNumber (slice_split is_colon text.entry.now) found.0
+        (pieces_left (option_map (λ rest. rest.now) found.1))) }
+    ensures read { (n : ℕ) (more : List (List ℕ)) → IsFirstNumber (slice_split is_colon text.entry.now) n more → IsSome result }
+{
+    let (piece, rest) = first_piece(text);
+    let number = decimal(piece)?;
+    Some((number, rest))
+}
+
+// The name without its sign, and whether there was none.
+fn without_sign<'a>(name: &'a [u8]) -> (bool, &'a [u8])
+    ensures cut { name.entry.now ≡ signed result.0 result.1.now }
+    ensures positive { (plain : List ℕ) → name.entry.now ≡ 45 ∷ plain → result.0 ≡ false }
+{
+    match name {
+        [b'-', plain @ ..] => (false, plain),
+        _ => (true, name),
+    }
+}
+
+// The atom of this name and these numbers.
+fn atom_of(name: &[u8], numbers: Numbers) -> Option<Atom>
+    ensures named { IfSome result (IsAtomOf name.now (values_of numbers)) }
+    ensures read { (atom : AnAtom) → IsAtomOf name.now (values_of numbers) atom → result ≡ Some atom }
+{
+    match numbers {
+        Numbers::Zero => notion_of(name),
+        Numbers::One(a) => atom_of_one(name, a),
+        Numbers::Two(a, b) => atom_of_two(name, a, b),
+        Numbers::Three(a, i, j) => gap_of(name, a, i, j),
+    }
+}
+
+fn notion_of(name: &[u8]) -> Option<Atom>
+    ensures named { IfSome result (IsAtomOf name.now []) }
+    ensures read { (atom : AnAtom) → IsAtomOf name.now [] atom → result ≡ Some atom }
+{
+    match name {
+        b"Cf" => Some(Atom::Cf),
+        b"Ad" => Some(Atom::Ad),
+        b"Co" => Some(Atom::Co),
+        b"St" => Some(Atom::St),
+        _ => None,
+    }
+}
+
+fn atom_of_one(name: &[u8], a: u32) -> Option<Atom>
+    ensures named { IfSome result (IsAtomOf name.now (a ∷ [])) }
+    ensures read { (atom : AnAtom) → IsAtomOf name.now (a ∷ []) atom → result ≡ Some atom }
+{
+    match name {
+        b"Member" => Some(Atom::Member(a)),
+        b"Live" => Some(Atom::Live(a)),
+        b"Range" => Some(Atom::Range(a)),
+        b"Ask" => Some(Atom::Ask(a)),
+        _ => None,
+    }
+}
+
+fn atom_of_two(name: &[u8], a: u32, b: u32) -> Option<Atom>
+    ensures named { IfSome result (IsAtomOf name.now (a ∷ b ∷ [])) }
+    ensures read { (atom : AnAtom) → IsAtomOf name.now (a ∷ b ∷ []) atom → result ≡ Some atom }
+{
+    match name {
+        b"Attack" => Some(Atom::Attack(a, b)),
+        b"Tail" => Some(Atom::Tail(a, b)),
+        b"Unmet" => Some(Atom::Unmet(a, b)),
+        _ => None,
+    }
+}
+
+fn gap_of(name: &[u8], a: u32, i: u32, j: u32) -> Option<Atom>
+    ensures named { IfSome result (IsAtomOf name.now (a ∷ i ∷ j ∷ [])) }
+    ensures read { (atom : AnAtom) → IsAtomOf name.now (a ∷ i ∷ j ∷ []) atom → result ≡ Some atom }
+{
+    match name {
+        b"Gap" => Some(Atom::Gap(a, i, j)),
+        _ => None,
+    }
+}
