@@ -1,12 +1,13 @@
 -- Every atom is so in a world or is not, and which of the two can be found out.
 use Rattle.std.proofs.Common.{◌≡◌, ◌⊎◌, inl, inr, ⊎_elim, ℕ, ◌≤◌, ◌<◌, ◌-◌, Bool, true, false, List, [], length, refl, ap, sym, subst, arith}
-use Rattle.std.specs.Prelude.{Contains, slice_index_or}
+use Rattle.std.specs.Prelude.{◌↔◌, Contains, slice_index_or}
 use Rattle.std.proofs.lemmas.Bool.{cases_eq, cases_lt}
 use Rattle.meaning_atoms.specs.declared.atom.Atom.{Atom}
 use Rattle.meaning_atoms.specs.declared.atom.Atom.TheVariants.{Member, Live, Attack, Gap, Tail, Unmet, Range, Cf, Ad, Co, St, Ask}
 use Rattle.meaning_atoms.specs.declared.atom.AtomLit.{AtomLit}
 use Rattle.meaning_atoms.specs.Framework.{Af, Attacks, IsAttackedBy, Defends, IsConflictFree, IsAdmissible, IsComplete, IsStable, IsInRange}
 use Rattle.meaning_atoms.specs.Worlds.{World, HasGap, HasTail, HasUnmet, HoldsAlone, Says, IsTrueAlone, IsSideTrue, Holds, HoldsLit, IsTrueBeside}
+use Rattle.meaning_atoms.specs.Readings.{HasReading}
 use Rattle.meaning_atoms.proofs.Decided.{Decided, search_list, found_in, decide_member, decide_attacks, decide_attacked, decide_defends}
 
 pub decide_both : {P Q : Type 0} → Decided P → Decided Q → Decided (P × Q)
@@ -141,3 +142,13 @@ decide_true_beside w sides clause =
     ⊎_elim (λ h. inl (record { literal = h.0; member = h.1; says = h.2 })) (λ no. inr (λ h. no (h.literal, h.member, h.says)))
     (decide_some (HoldsLit w sides) (decide_lit w sides) clause)
 
+-- the answer as a test
+abbrev test_of : {P : Type 0} → Decided P → Bool
+test_of p = ⊎_elim (λ h. true) (λ no. false) p
+
+test_says : {P : Type 0} (p : Decided P) → (test_of p ≡ true) ↔ P
+test_says (inl h) = (λ e. h, λ x. refl)
+test_says (inr none) = (λ e. absurd (cc), λ h. absurd (none h))
+
+pub world_reading : HasReading
+world_reading w sides = (λ atom. test_of (decide_atom w sides atom), λ atom. test_says (decide_atom w sides atom))

@@ -30,8 +30,12 @@ impl AfAxiom {
     {
         match *self {
             AfAxiom::A1(a) | AfAxiom::A7(a) | AfAxiom::A10(a) => is_argument(a),
-            AfAxiom::A2(b, a) | AfAxiom::A3(b, a) | AfAxiom::A4(b, a) => is_argument(b) && is_argument(a),
-            AfAxiom::A5(a, i, j) | AfAxiom::A8(a, i, j) => is_argument(a) && 1 <= i && i <= j && j < END,
+            AfAxiom::A2(b, a) | AfAxiom::A3(b, a) | AfAxiom::A4(b, a) => is_argument(b)
+                && is_argument(a),
+            AfAxiom::A5(a, i, j) | AfAxiom::A8(a, i, j) => is_argument(a)
+                && 1 <= i
+                && i <= j
+                && j < END,
             AfAxiom::A6(a, i) | AfAxiom::A9(a, i) => is_argument(a) && is_place(i),
             AfAxiom::A14(part) => 1 <= part && part <= 3,
         }

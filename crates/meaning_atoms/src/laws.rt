@@ -1,7 +1,8 @@
-//! The laws that show the notions of frameworks to be the literature's. Each function does nothing; its
+//! The laws that show the notions of frameworks to be the literature's, and worlds to be valuations. Each function does nothing; its
 //! contract is the law.
 
 ghost use Rattle.meaning_atoms.specs.Framework.{Af, IsAf};
+ghost use Rattle.meaning_atoms.specs.Readings.{HasReading};
 ghost use Rattle.meaning_atoms.specs.Laws.{GroundedIsUnique, StableIsLargest, PreferredIsComplete, UnionIsAdmissible, UnattackedIsInAll, IdealIsUnique};
 
 /// A framework has one grounded set alone, which is admissible and lies in every complete set.
@@ -32,4 +33,9 @@ pub fn unattacked_is_in_all_preferred()
 /// There is at most one ideal set, and it is admissible.
 pub fn ideal_is_unique()
     ensures { (f : Af) → IdealIsUnique f }
+{}
+
+/// A world, beside any side clauses, is a valuation of atoms: each atom is true in it or not.
+pub fn a_world_is_a_valuation()
+    ensures { HasReading }
 {}

@@ -5,9 +5,9 @@
 pub mod atom;
 pub mod axiom;
 pub mod laws;
-pub mod text;
 #[cfg(test)]
 mod tests;
+pub mod text;
 
 pub use atom::{Atom, AtomLit, END, is_argument, is_place};
 pub use axiom::AfAxiom;

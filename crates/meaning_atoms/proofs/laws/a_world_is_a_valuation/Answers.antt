@@ -1,0 +1,5 @@
+use Rattle.meaning_atoms.proofs.Readings.{world_reading}
+use Rattle.meaning_atoms.proofs.laws.a_world_is_a_valuation.Goals as goal
+
+pub returns : goal.returns
+returns c = world_reading
