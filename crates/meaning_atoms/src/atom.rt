@@ -38,7 +38,7 @@ pub enum Atom {
 }
 
 /// An atom, or its negation.
-#[derive(Clone, Copy, Debug, Drop, PartialEq, Eq, PartialOrd, Ord, Hash)]
+#[derive(Clone, Copy, Debug, Drop, Hash, PartialEq, Eq, PartialOrd, Ord)]
 pub struct AtomLit {
     pub atom: Atom,
     /// Whether the literal is the atom itself, not its negation.
