@@ -1,7 +1,7 @@
 -- The pieces of a text between colons, and the numbers that they spell.
-use Rattle.std.proofs.Common.{◌≡◌, ◌⊎◌, inl, inr, ⊎_elim, ℕ, ◌+◌, ◌-◌, ◌≤◌, ◌<◌, Bool, true, false, cond, List, [], ◌∷◌, ◌++◌, length, take, drop, get_or, refl, ap, sym, subst, ◌∙◌, arith, Some, None, nat_lt, take-append-drop, length-drop, add-one}
-use Rattle.std.specs.Prelude.{Option, Contains, IsSome, position}
-use Rattle.std.specs.List.{All, AllZip, slice_split, position_or_len, count_by}
+use Rattle.std.proofs.Common.{◌≡◌, ℕ, ◌+◌, ◌-◌, ◌≤◌, ◌<◌, Bool, true, false, cond, List, [], ◌∷◌, ◌++◌, length, take, drop, get_or, refl, ap, sym, subst, ◌∙◌, arith, Some, None, take-append-drop, length-drop, add-one}
+use Rattle.std.specs.Prelude.{position}
+use Rattle.std.specs.List.{All, AllZip, slice_split, position_or_len}
 use Rattle.std.proofs.Math.Seq.{drop-cons, take-length}
 use Rattle.std.proofs.lemmas.List.{get_or-take, length-take}
 use Rattle.std.proofs.lemmas.List.Elements.{All-from_get_or}

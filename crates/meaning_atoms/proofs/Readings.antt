@@ -1,11 +1,11 @@
 -- Every atom is so in a world or is not, and which of the two can be found out.
-use Rattle.std.proofs.Common.{◌≡◌, ◌⊎◌, inl, inr, ⊎_elim, ℕ, ◌≤◌, ◌<◌, ◌-◌, Bool, true, false, List, [], length, refl, ap, sym, subst, arith}
+use Rattle.std.proofs.Common.{◌≡◌, ◌⊎◌, inl, inr, ⊎_elim, ℕ, ◌≤◌, ◌<◌, ◌-◌, Bool, true, false, List, [], length, refl, subst, arith}
 use Rattle.std.specs.Prelude.{◌↔◌, Contains, slice_index_or}
 use Rattle.std.proofs.lemmas.Bool.{cases_eq, cases_lt}
 use Rattle.meaning_atoms.specs.declared.atom.Atom.{Atom}
 use Rattle.meaning_atoms.specs.declared.atom.Atom.TheVariants.{Member, Live, Attack, Gap, Tail, Unmet, Range, Cf, Ad, Co, St, Ask}
 use Rattle.meaning_atoms.specs.declared.atom.AtomLit.{AtomLit}
-use Rattle.meaning_atoms.specs.Framework.{Af, Attacks, IsAttackedBy, Defends, IsConflictFree, IsAdmissible, IsComplete, IsStable, IsInRange}
+use Rattle.meaning_atoms.specs.Framework.{Af, Attacks, IsAttackedBy, Defends, IsConflictFree, IsAdmissible, IsComplete, IsStable}
 use Rattle.meaning_atoms.specs.Worlds.{World, HasGap, HasTail, HasUnmet, HoldsAlone, Says, IsTrueAlone, IsSideTrue, Holds, HoldsLit, IsTrueBeside}
 use Rattle.meaning_atoms.specs.Readings.{HasReading}
 use Rattle.meaning_atoms.proofs.Decided.{Decided, search_list, found_in, decide_member, decide_attacks, decide_attacked, decide_defends}

@@ -1,6 +1,4 @@
-use Rattle.std.proofs.Common.{◌≡◌, ◌+◌, ◌∷◌, ◌∙◌, ap, length, take, drop, sym}
-use Rattle.std.specs.List.{slice_split}
-use Rattle.meaning_atoms.specs.AtomText.{is_colon}
+use Rattle.std.proofs.Common.{◌+◌, ◌∙◌, sym}
 use Rattle.meaning_atoms.proofs.PieceLemmas.{split_at_colon, split_nowhere, rest_whole}
 use Rattle.meaning_atoms.proofs.text.first_piece.Goals as goal
 
