@@ -18,6 +18,10 @@ IsRole _ = Unit {0}
 abbrev pub Rose : ℕ → ℕ → Type 0
 Rose before now = min (before + 1) (2 ^ 64 - 1) ≤ now
 
+-- the number of the call after so many, or the counter's last value
+abbrev pub next_call : ℕ → ℕ
+next_call calls = min (calls + 1) (2 ^ 64 - 1)
+
 -- every role but this one has the count that it had
 abbrev pub CountsStandBut : Role → (Role → ℕ) → (Role → ℕ) → Type 0
 CountsStandBut role old new = (other : Role) → (other ≡ role → ⊥) → new other ≡ old other

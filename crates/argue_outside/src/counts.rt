@@ -1,7 +1,8 @@
 //! Counts of faults, which never fall.
 
-ghost use Rattle.std.specs.Prelude.{◌≡◌, ℕ, ◌+◌, ◌<◌, ◌≤◌, length};
-ghost use Rattle.argue_outside.specs.Outside.{IsRole, Rose, CountsStandBut};
+ghost use Rattle.std.specs.Prelude.{◌≡◌, ℕ, ◌+◌, ◌<◌, ◌≤◌, ◌↔◌, length, Contains, IsTrue};
+ghost use Rattle.argue_outside.specs.declared.Role.{Role as ARole};
+ghost use Rattle.argue_outside.specs.Outside.{IsRole, Rose, CountsStandBut, next_call};
 ghost use Rattle.argue_outside.specs.Counted.{place_of, count_at};
 
 use crate::Role;
@@ -18,7 +19,9 @@ pub(crate) struct Counts {
 
 impl Counts {
     /// No fault yet.
-    pub(crate) fn new() -> Counts {
+    pub(crate) fn new() -> Counts
+        ensures { (role : ARole) → count_at result.counts role ≡ 0 }
+    {
         Counts {
             counts: [0; PLACES],
         }
@@ -65,6 +68,7 @@ fn place(role: Role) -> usize
 
 /// One fault more, or the counter's last value.
 pub(crate) fn raised(count: u64) -> u64
+    ensures value { result ≡ next_call count }
     ensures later { count ≤ result }
     ensures rose { Rose count result }
 {
@@ -74,19 +78,32 @@ pub(crate) fn raised(count: u64) -> u64
 /// The numbers of the calls that are to fail, and how many calls there were.
 #[derive(Debug, Drop)]
 pub(crate) struct Plan {
-    failing: Items<u64>,
-    calls: u64,
+    pub(crate) failing: Items<u64>,
+    pub(crate) calls: u64,
 }
 
 impl Plan {
     /// The calls with these numbers fail, counted from 1.
-    pub(crate) fn new(failing: Items<u64>) -> Plan {
+    pub(crate) fn new(failing: Items<u64>) -> Plan
+        ensures failing { result.failing ≡ failing }
+        ensures calls { result.calls ≡ 0 }
+    {
         Plan { failing, calls: 0 }
     }
 
     /// Counts a call, and says whether it is to fail.
-    pub(crate) fn fails(&mut self) -> bool {
+    pub(crate) fn fails(&mut self) -> bool
+        ensures says { IsTrue result ↔ Contains self.old.failing (next_call self.old.calls) }
+        ensures counted { self.new.calls ≡ next_call self.old.calls }
+        ensures same { self.new.failing ≡ self.old.failing }
+    {
         self.calls = raised(self.calls);
-        self.failing.as_slice().contains(&self.calls)
+        is_listed(self.failing.as_slice(), self.calls)
     }
+}
+
+fn is_listed(numbers: &[u64], number: u64) -> bool
+    ensures { IsTrue result ↔ Contains numbers.now number }
+{
+    numbers.contains(&number)
 }

@@ -179,6 +179,25 @@ pub trait Sink {
         ensures { result ≡ fault_count self.now };
 }
 
+/// Files or a sink of which some calls are to fail, as a test asks it. Calls that move bytes move so many
+/// at most, and at least one where there is any.
+pub trait Planned {
+    ghost use Rattle.std.specs.Prelude.{ℕ, List};
+
+    /// The numbers of the calls that are to fail, counted from 1.
+    ghost to_fail: { Self → List ℕ };
+
+    /// How many calls there were.
+    ghost call_count: { Self → ℕ };
+
+    /// The most bytes that a call moves.
+    ghost most: { Self → ℕ };
+
+    /// How many calls there were.
+    fn calls(&self) -> u64
+        ensures { result ≡ call_count self.now };
+}
+
 /// A gate that a test passes to hold a session at a point. It has no answer and no fault.
 pub trait Pace {
     /// The session with this number is at this point.

@@ -1,12 +1,13 @@
 //! Files over memory, which tell their contents and fail where they are told to.
 
-ghost use Rattle.std.specs.Prelude.{◌≡◌, ℕ, ◌+◌, ◌<◌, ◌≤◌, [], ◌++◌, take, length, List, Option, None, Some, OnOk, OnErr, IfOk, MatchOption, string_bytes};
+ghost use Rattle.std.specs.Prelude.{◌≡◌, ℕ, ◌+◌, ◌<◌, ◌≤◌, ◌⊎◌, max, [], ◌++◌, take, length, Contains, List, Option, None, Some, OnOk, OnErr, IfOk, IsErr, MatchOption, string_bytes};
 ghost use Rattle.std.specs.BTreeMap.{get_by_text};
-ghost use Rattle.argue_outside.specs.Outside.{IsPieceAt, Told, Clears, Adds, HoldsStandBut};
+ghost use Rattle.argue_outside.specs.Outside.{IsRole, Rose, IsPieceAt, Told, Fetches, Clears, Adds, CountsStandBut, HoldsStandBut, next_call};
+ghost use Rattle.argue_outside.specs.declared.Role.{Role as ARole};
 ghost use Rattle.argue_outside.specs.MemHeld.{held_by};
 
 use crate::counts::{Counts, Plan, raised};
-use crate::{Failed, Files, Role};
+use crate::{Failed, Files, Planned, Role};
 use plain_lists::{Bytes, Items, Memory};
 use std::alloc::Global;
 use std::collections::BTreeMap;
@@ -26,7 +27,10 @@ pub struct MemFiles {
 impl MemFiles {
     /// No file, and no call that is to fail.
     pub fn new(alloc: Global) -> MemFiles
-        ensures { (name : List ℕ) → ⟦<MemFiles as Files>⟧.holds result name ≡ Some None }
+        ensures empty { (name : List ℕ) → ⟦<MemFiles as Files>⟧.holds result name ≡ Some None }
+        ensures reads { (role : ARole) → ⟦<MemFiles as Files>⟧.read_count result role ≡ 0 }
+        ensures writes { ⟦<MemFiles as Files>⟧.write_count result ≡ 0 }
+        ensures to_fail { ⟦<MemFiles as Planned>⟧.to_fail result ≡ [] }
     {
         MemFiles::failing(alloc, Items::new(alloc), usize::MAX)
     }
@@ -34,7 +38,12 @@ impl MemFiles {
     /// No file. The calls with these numbers fail, and a fetch gives at most `most` bytes, and at
     /// least one where there is any.
     pub fn failing(alloc: Global, calls: Items<u64>, most: usize) -> MemFiles
-        ensures { (name : List ℕ) → ⟦<MemFiles as Files>⟧.holds result name ≡ Some None }
+        ensures empty { (name : List ℕ) → ⟦<MemFiles as Files>⟧.holds result name ≡ Some None }
+        ensures reads { (role : ARole) → ⟦<MemFiles as Files>⟧.read_count result role ≡ 0 }
+        ensures writes { ⟦<MemFiles as Files>⟧.write_count result ≡ 0 }
+        ensures to_fail { ⟦<MemFiles as Planned>⟧.to_fail result ≡ calls }
+        ensures calls { ⟦<MemFiles as Planned>⟧.call_count result ≡ 0 }
+        ensures most { ⟦<MemFiles as Planned>⟧.most result ≡ most }
     {
         MemFiles {
             files: BTreeMap::new(alloc),
@@ -67,7 +76,22 @@ impl Files for MemFiles {
 
     ghost write_count = { λ s. s.write_faults };
 
-    fn fetch(&mut self, role: Role, name: &str, at: u64, buf: &mut [u8]) -> Result<usize, Failed> {
+    /// Fails exactly where this call is one of those that are to fail, or the name isn't there.
+    fn fetch(&mut self, role: Role, name: &str, at: u64, buf: &mut [u8]) -> Result<usize, Failed>
+        requires { IsRole role }
+        ensures bound { IfOk result (λ n. n ≤ length buf.new) }
+        ensures bytes { IfOk result (λ n. Fetches (⟦<MemFiles as Files>⟧.holds self.old name.now) at n buf.new) }
+        ensures same { ⟦<MemFiles as Files>⟧.holds self.new ≡ ⟦<MemFiles as Files>⟧.holds self.old }
+        ensures later { ⟦<MemFiles as Files>⟧.read_count self.old role ≤ ⟦<MemFiles as Files>⟧.read_count self.new role }
+        ensures failed { OnErr result (Rose (⟦<MemFiles as Files>⟧.read_count self.old role) (⟦<MemFiles as Files>⟧.read_count self.new role)) }
+        ensures others { CountsStandBut role (⟦<MemFiles as Files>⟧.read_count self.old) (⟦<MemFiles as Files>⟧.read_count self.new) }
+        ensures writes { ⟦<MemFiles as Files>⟧.write_count self.new ≡ ⟦<MemFiles as Files>⟧.write_count self.old }
+        ensures piece { IfOk result (λ n. n ≤ max (⟦<MemFiles as Planned>⟧.most self.old) 1) }
+        ensures planned { Contains (⟦<MemFiles as Planned>⟧.to_fail self.old) (next_call (⟦<MemFiles as Planned>⟧.call_count self.old)) → IsErr result }
+        ensures unplanned { OnErr result (Contains (⟦<MemFiles as Planned>⟧.to_fail self.old) (next_call (⟦<MemFiles as Planned>⟧.call_count self.old)) ⊎ (⟦<MemFiles as Files>⟧.holds self.old name.now ≡ Some None)) }
+        ensures counted { ⟦<MemFiles as Planned>⟧.call_count self.new ≡ next_call (⟦<MemFiles as Planned>⟧.call_count self.old) }
+        ensures to_fail { ⟦<MemFiles as Planned>⟧.to_fail self.new ≡ ⟦<MemFiles as Planned>⟧.to_fail self.old }
+    {
         if self.plan.fails() {
             self.counts.raise(role);
             return Err(Failed);
@@ -81,7 +105,18 @@ impl Files for MemFiles {
         }
     }
 
-    fn clear(&mut self, name: &str) -> Result<(), Failed> {
+    /// Fails where this call is one of those that are to fail, and otherwise only for want of memory.
+    fn clear(&mut self, name: &str) -> Result<(), Failed>
+        ensures cleared { OnOk result (Clears (⟦<MemFiles as Files>⟧.holds self.old name.now) (⟦<MemFiles as Files>⟧.holds self.new name.now)) }
+        ensures others { HoldsStandBut name.now (⟦<MemFiles as Files>⟧.holds self.old) (⟦<MemFiles as Files>⟧.holds self.new) }
+        ensures err { OnErr result (⟦<MemFiles as Files>⟧.holds self.new ≡ ⟦<MemFiles as Files>⟧.holds self.old) }
+        ensures later { ⟦<MemFiles as Files>⟧.write_count self.old ≤ ⟦<MemFiles as Files>⟧.write_count self.new }
+        ensures failed { OnErr result (Rose (⟦<MemFiles as Files>⟧.write_count self.old) (⟦<MemFiles as Files>⟧.write_count self.new)) }
+        ensures reads { ⟦<MemFiles as Files>⟧.read_count self.new ≡ ⟦<MemFiles as Files>⟧.read_count self.old }
+        ensures planned { Contains (⟦<MemFiles as Planned>⟧.to_fail self.old) (next_call (⟦<MemFiles as Planned>⟧.call_count self.old)) → IsErr result }
+        ensures counted { ⟦<MemFiles as Planned>⟧.call_count self.new ≡ next_call (⟦<MemFiles as Planned>⟧.call_count self.old) }
+        ensures to_fail { ⟦<MemFiles as Planned>⟧.to_fail self.new ≡ ⟦<MemFiles as Planned>⟧.to_fail self.old }
+    {
         if self.plan.fails()
             || replace(self.alloc, &mut self.files, name, Bytes::new(self.alloc)).is_err()
         {
@@ -91,7 +126,20 @@ impl Files for MemFiles {
         Ok(())
     }
 
-    fn append(&mut self, name: &str, bytes: &[u8]) -> Result<usize, Failed> {
+    /// Fails where this call is one of those that are to fail, and otherwise only for want of memory.
+    fn append(&mut self, name: &str, bytes: &[u8]) -> Result<usize, Failed>
+        ensures bound { IfOk result (λ n. n ≤ length bytes.now) }
+        ensures some { IfOk result (λ n. 0 < length bytes.now → 0 < n) }
+        ensures added { IfOk result (λ n. Adds (⟦<MemFiles as Files>⟧.holds self.old name.now) (⟦<MemFiles as Files>⟧.holds self.new name.now) (take n bytes.now)) }
+        ensures others { HoldsStandBut name.now (⟦<MemFiles as Files>⟧.holds self.old) (⟦<MemFiles as Files>⟧.holds self.new) }
+        ensures err { OnErr result (⟦<MemFiles as Files>⟧.holds self.new ≡ ⟦<MemFiles as Files>⟧.holds self.old) }
+        ensures later { ⟦<MemFiles as Files>⟧.write_count self.old ≤ ⟦<MemFiles as Files>⟧.write_count self.new }
+        ensures failed { OnErr result (Rose (⟦<MemFiles as Files>⟧.write_count self.old) (⟦<MemFiles as Files>⟧.write_count self.new)) }
+        ensures reads { ⟦<MemFiles as Files>⟧.read_count self.new ≡ ⟦<MemFiles as Files>⟧.read_count self.old }
+        ensures planned { Contains (⟦<MemFiles as Planned>⟧.to_fail self.old) (next_call (⟦<MemFiles as Planned>⟧.call_count self.old)) → IsErr result }
+        ensures counted { ⟦<MemFiles as Planned>⟧.call_count self.new ≡ next_call (⟦<MemFiles as Planned>⟧.call_count self.old) }
+        ensures to_fail { ⟦<MemFiles as Planned>⟧.to_fail self.new ≡ ⟦<MemFiles as Planned>⟧.to_fail self.old }
+    {
         if self.plan.fails() || extend(self.alloc, &mut self.files, name, bytes).is_err() {
             self.write_faults = raised(self.write_faults);
             return Err(Failed);
@@ -108,10 +156,23 @@ impl Files for MemFiles {
     }
 }
 
+impl Planned for MemFiles {
+    ghost to_fail = { λ s. s.plan.failing };
+
+    ghost call_count = { λ s. s.plan.calls };
+
+    ghost most = { λ s. s.most };
+
+    fn calls(&self) -> u64 {
+        self.plan.calls
+    }
+}
+
 /// Copies bytes from this place on to the buffer's front, at most `most` and at least one where there
 /// is any and the buffer has room.
 fn copy_piece(bytes: &[u8], at: u64, most: usize, buf: &mut [u8]) -> usize
     ensures bound { result ≤ length buf.new }
+    ensures few { result ≤ max most 1 }
     ensures piece { IsPieceAt bytes.now at result buf.new }
 {
     if at >= bytes.len() as u64 {

@@ -1,9 +1,11 @@
 //! A sink over memory, which tells its bytes and fails where it is told to.
 
-ghost use Rattle.std.specs.Prelude.{◌≡◌, ℕ, ◌+◌, ◌<◌, ◌≤◌, [], length, Some};
+ghost use Rattle.std.specs.Prelude.{◌≡◌, ℕ, ◌+◌, ◌<◌, ◌≤◌, max, [], length, Contains, Some, IfOk, IsErr, OnErr};
+ghost use Rattle.std.specs.Io.KnownBytes.{WriteAppends};
+ghost use Rattle.argue_outside.specs.Outside.{Rose, next_call};
 
 use crate::counts::{Plan, raised};
-use crate::{Failed, Sink};
+use crate::{Failed, Planned, Sink};
 use plain_lists::{Bytes, Items};
 use std::alloc::Global;
 
@@ -20,7 +22,9 @@ pub struct MemSink {
 impl MemSink {
     /// An empty sink, of which no put is to fail.
     pub fn new(alloc: Global) -> MemSink
-        ensures { ⟦<MemSink as Sink>⟧.contents result ≡ Some [] }
+        ensures empty { ⟦<MemSink as Sink>⟧.contents result ≡ Some [] }
+        ensures faults { ⟦<MemSink as Sink>⟧.fault_count result ≡ 0 }
+        ensures to_fail { ⟦<MemSink as Planned>⟧.to_fail result ≡ [] }
     {
         MemSink::failing(alloc, Items::new(alloc), usize::MAX)
     }
@@ -28,7 +32,11 @@ impl MemSink {
     /// An empty sink. The puts with these numbers fail, and a put takes at most `most` bytes, and at
     /// least one where there is any.
     pub fn failing(alloc: Global, puts: Items<u64>, most: usize) -> MemSink
-        ensures { ⟦<MemSink as Sink>⟧.contents result ≡ Some [] }
+        ensures empty { ⟦<MemSink as Sink>⟧.contents result ≡ Some [] }
+        ensures faults { ⟦<MemSink as Sink>⟧.fault_count result ≡ 0 }
+        ensures to_fail { ⟦<MemSink as Planned>⟧.to_fail result ≡ puts }
+        ensures calls { ⟦<MemSink as Planned>⟧.call_count result ≡ 0 }
+        ensures most { ⟦<MemSink as Planned>⟧.most result ≡ most }
     {
         MemSink {
             bytes: Bytes::new(alloc),
@@ -53,7 +61,18 @@ impl Sink for MemSink {
 
     ghost fault_count = { λ s. s.faults };
 
-    fn put(&mut self, bytes: &[u8]) -> Result<usize, Failed> {
+    /// Fails where this put is one of those that are to fail, and otherwise only for want of memory.
+    fn put(&mut self, bytes: &[u8]) -> Result<usize, Failed>
+        ensures bound { IfOk result (λ n. n ≤ length bytes.now) }
+        ensures some { IfOk result (λ n. 0 < length bytes.now → 0 < n) }
+        ensures bytes { WriteAppends (⟦<MemSink as Sink>⟧.contents self.old) (⟦<MemSink as Sink>⟧.contents self.new) result bytes.now }
+        ensures later { ⟦<MemSink as Sink>⟧.fault_count self.old ≤ ⟦<MemSink as Sink>⟧.fault_count self.new }
+        ensures failed { OnErr result (Rose (⟦<MemSink as Sink>⟧.fault_count self.old) (⟦<MemSink as Sink>⟧.fault_count self.new)) }
+        ensures piece { IfOk result (λ n. n ≤ max (⟦<MemSink as Planned>⟧.most self.old) 1) }
+        ensures planned { Contains (⟦<MemSink as Planned>⟧.to_fail self.old) (next_call (⟦<MemSink as Planned>⟧.call_count self.old)) → IsErr result }
+        ensures counted { ⟦<MemSink as Planned>⟧.call_count self.new ≡ next_call (⟦<MemSink as Planned>⟧.call_count self.old) }
+        ensures to_fail { ⟦<MemSink as Planned>⟧.to_fail self.new ≡ ⟦<MemSink as Planned>⟧.to_fail self.old }
+    {
         let count = bytes.len().min(self.most.max(1));
         if self.plan.fails() || self.bytes.extend(&bytes[..count]).is_err() {
             self.faults = raised(self.faults);
@@ -64,5 +83,17 @@ impl Sink for MemSink {
 
     fn faults(&self) -> u64 {
         self.faults
+    }
+}
+
+impl Planned for MemSink {
+    ghost to_fail = { λ s. s.plan.failing };
+
+    ghost call_count = { λ s. s.plan.calls };
+
+    ghost most = { λ s. s.most };
+
+    fn calls(&self) -> u64 {
+        self.plan.calls
     }
 }

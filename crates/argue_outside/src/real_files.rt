@@ -1,6 +1,7 @@
 //! The real files of a runtime, which tell nothing of their contents.
 
 ghost use Rattle.std.specs.Prelude.{◌≡◌, ℕ, ◌<◌, ◌≤◌, length, IfOk, IfSome, None};
+ghost use Rattle.argue_outside.specs.declared.Role.{Role as ARole};
 
 use crate::counts::{Counts, raised};
 use crate::real_out::write_some;
@@ -32,8 +33,11 @@ struct Opened<F> {
 }
 
 impl<R: rt::Files + Drop> RealFiles<R> {
-    /// The files of this runtime.
-    pub fn new(alloc: Global, rt: R) -> RealFiles<R> {
+    /// The files of this runtime, with no fault yet.
+    pub fn new(alloc: Global, rt: R) -> RealFiles<R>
+        ensures reads { (role : ARole) → ⟦<RealFiles<R> as Files>⟧.read_count result role ≡ 0 }
+        ensures writes { ⟦<RealFiles<R> as Files>⟧.write_count result ≡ 0 }
+    {
         RealFiles {
             rt,
             alloc,

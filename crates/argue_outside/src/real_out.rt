@@ -16,8 +16,10 @@ pub struct RealOut<R: Print + Drop> {
 }
 
 impl<R: Print + Drop> RealOut<R> {
-    /// The standard output of this runtime.
-    pub fn new(rt: R) -> RealOut<R> {
+    /// The standard output of this runtime, with no fault yet.
+    pub fn new(rt: R) -> RealOut<R>
+        ensures { ⟦<RealOut<R> as Sink>⟧.fault_count result ≡ 0 }
+    {
         RealOut { rt, faults: 0 }
     }
 }
