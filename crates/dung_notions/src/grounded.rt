@@ -4,10 +4,9 @@ ghost use Rattle.std.specs.Prelude.{◌≡◌, ◌↔◌, ℕ, ◌+◌, ◌<◌,
 ghost use Rattle.std.specs.Prelude.{Contains, IfOk, OnOk, length, filter, slice_index, slice_index_or, true};
 ghost use Rattle.meaning_atoms.specs.Framework.{Attacks, IsAttackedBy};
 ghost use Rattle.dung_notions.specs.Grounding.{GroundsInOrder};
-ghost use Rattle.dung_notions.specs.Search.{IsKept, ClosesAttack, PutsOut, IsFinished};
+ghost use Rattle.dung_notions.specs.Search.{IsKept, ClosesAttack, PutsOut, IsFinished, reaching};
 
 use crate::af_plain::AfPlain;
-use crate::arrows::end_counts;
 use plain_lists::{Items, Memory};
 use set_lists::NumSet;
 use std::alloc::Global;
@@ -70,7 +69,7 @@ impl AfPlain {
     {
         let slots = self.slots();
         let out = vec![in alloc; false; slots]?;
-        let counts = end_counts(alloc, self.attacks(), slots)?;
+        let counts = attacker_counts(alloc, self.attacks(), slots)?;
         let order = unopposed(alloc, self.live(), &counts)?;
         Ok(Search { out, counts, order })
     }
@@ -130,6 +129,25 @@ fn close_attack(search: &mut Search, argument: u32) -> Result<(), Memory>
     }
     search.order.push(argument)?;
     Ok(())
+}
+
+/// How many of the attacks reach each argument.
+fn attacker_counts(
+    alloc: Global,
+    attacks: &[(u32, u32)],
+    slots: usize,
+) -> Result<Vec<usize>, Memory>
+    requires { (b a : ℕ) → Contains attacks.now (b, a) → a < slots }
+    ensures long { IfOk result (λ counts. length counts.items ≡ slots) }
+    ensures counted { IfOk result (λ counts. (a : ℕ) → slice_index counts.items a ≡ reaching a attacks.now) }
+{
+    let mut counts = vec![in alloc; 0usize; slots]?;
+    for pair in attacks {
+        let at = pair.1 as usize;
+        let had = counts.as_slice()[at];
+        counts[at] = had + 1;
+    }
+    Ok(counts)
 }
 
 /// The live arguments whose count is 0.

@@ -2,8 +2,8 @@ use Rattle.std.proofs.Common.{◌≡◌, ◌<◌, ℕ, List, Bool, length, arith
 use Rattle.dung_notions.proofs.Kept.{begins}
 use Rattle.dung_notions.proofs.af_plain.AfPlain.begin.Goals as goal
 
-pub end_counts-requires : goal.end_counts-requires
-end_counts-requires c = rw c.attacks.ensures.value
+pub attacker_counts-requires : goal.attacker_counts-requires
+attacker_counts-requires c = rw c.attacks.ensures.value
     (λ b a h. c.slots-slots.ensures a ((c.attacks.ensures.form.ends b a h).1))
 
 pub unopposed-requires : goal.unopposed-requires
