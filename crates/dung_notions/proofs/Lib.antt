@@ -6,3 +6,4 @@ pub mod Tallies
 pub mod Kept
 pub mod NotionLemmas
 pub mod Numbering
+pub mod Placing

@@ -50,7 +50,7 @@ pub stores : (live : List ℕ) (given attacks back : List (ℕ × ℕ)) (starts 
     → IsStrictlyIncreasing live → ((a : ℕ) → Contains live a → a < size) → length starts ≡ size + 1
     → ((b a : ℕ) → Contains given (b, a) → Contains live b × Contains live a)
     → AreArrows attacks starts → ((p : ℕ × ℕ) → Contains attacks p ↔ Contains given p)
-    → AreArrows back ends → ((p : ℕ × ℕ) → Contains back p ↔ Contains (map turned given) p)
+    → AreArrows back ends → ((p : ℕ × ℕ) → Contains back (turned p) ↔ Contains attacks p)
     → IsStored (framework_of live attacks) starts back ends
 stores live given attacks back starts ends size up below long between out out_same inward in_same = record {
   form = record {
@@ -60,10 +60,7 @@ stores live given attacks back starts ends size up below long between out out_sa
   };
   forth_arrows = out;
   back_arrows = inward;
-  same = λ p. (
-    λ c. (out_same p).1 ((Contains-turned given p).0 ((in_same (turned p)).0 c)),
-    λ c. (in_same (turned p)).1 ((Contains-turned given p).1 ((out_same p).0 c)),
-  );
+  same = in_same;
   live_reach = λ a c. omega (arith, below a c);
 }
 

@@ -1,4 +1,5 @@
 pub mod Places
+pub mod Placing
 pub mod Neighbours
 pub mod Grounding
 pub mod Search

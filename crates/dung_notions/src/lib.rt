@@ -6,6 +6,7 @@ mod af_plain;
 mod arrows;
 mod grounded;
 mod notions;
+mod stable_order;
 #[cfg(test)]
 mod tests;
 
