@@ -1,5 +1,8 @@
 //! What no clause says: whole runs over memory, each compared with what was worked out by hand.
 
+ghost use Rattle.std.specs.Prelude.{◌≤◌, length, replicate};
+ghost use Rattle.argue_outside.specs.Outside.{IsPieceAt};
+
 use crate::command::run;
 use argue_outside::{Failed, Files, MemFiles, MemSink, NoPace, Role, append_all};
 use plain_lists::Items;
@@ -46,10 +49,30 @@ fn rows(rt: HostRuntime) -> Result<(), Fail> {
         (QUERY, "p af 3\n1 2\n2 3\n3 1\n", "w\n", 0),
         (QUERY, "p af 4\n1 2\n2 1\n1 3\n2 3\n3 4\n", "w\n", 0),
         (QUERY, "p af 2\n1 1\n1 2\n2 1\n", "w\n", 0),
-        (QUERY, "p af 7\n1 2\n3 1\n4 3\n5 6\n6 5\n5 7\n6 7\n", "w 1 4\n", 0),
-        (QUERY, "# x\n\n\tp af  3\r\n2 3\n \t\n01\t2\r\n #\n1 2", "w 1 3\n", 0),
-        (QUERY, "p af 2\n1 3\n", "error: framework line 2 OutOfRange\n", 2),
-        (QUERY, "p af 2\n1 x\n", "error: framework line 2 BadNumber\n", 2),
+        (
+            QUERY,
+            "p af 7\n1 2\n3 1\n4 3\n5 6\n6 5\n5 7\n6 7\n",
+            "w 1 4\n",
+            0,
+        ),
+        (
+            QUERY,
+            "# x\n\n\tp af  3\r\n2 3\n \t\n01\t2\r\n #\n1 2",
+            "w 1 3\n",
+            0,
+        ),
+        (
+            QUERY,
+            "p af 2\n1 3\n",
+            "error: framework line 2 OutOfRange\n",
+            2,
+        ),
+        (
+            QUERY,
+            "p af 2\n1 x\n",
+            "error: framework line 2 BadNumber\n",
+            2,
+        ),
         (QUERY, "1 2\n", "error: framework line 1 NoHeader\n", 2),
         (QUERY, "", "error: framework line 1 NoHeader\n", 2),
         (QUERY, "p aba 2\n", "error: framework line 1 WrongKind\n", 2),
@@ -106,6 +129,18 @@ fn faults(rt: HostRuntime) -> Result<(), Fail> {
     Ok(())
 }
 
+/// Gives some of the zeros that are left from this place on, and says how many.
+fn give_zeros(size: u64, at: u64, buf: &mut [u8]) -> usize
+    ensures bound { result ≤ length buf.new }
+    ensures zeros { IsPieceAt (replicate size 0) at result buf.new }
+{
+    let zeros = [0u8; 4096];
+    let left = size.saturating_sub(at).min(4096);
+    let count = buf.len().min(left as usize);
+    buf[..count].copy_from_slice(&zeros[..count]);
+    count
+}
+
 /// Files of one content: so many zeros under every name. Their count of faults of writing stands at its last value.
 #[derive(Drop)]
 struct Zeros {
@@ -128,14 +163,7 @@ impl Files for Zeros {
         at: u64,
         buf: &mut [u8],
     ) -> Result<usize, Failed> {
-        let left = self.size.saturating_sub(at);
-        let count = if left < buf.len() as u64 {
-            left as usize
-        } else {
-            buf.len()
-        };
-        buf[..count].fill(0);
-        Ok(count)
+        Ok(give_zeros(self.size, at, buf))
     }
 
     fn clear(&mut self, _name: &str) -> Result<(), Failed> {
