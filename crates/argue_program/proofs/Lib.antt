@@ -1,2 +1,1 @@
-pub mod AfTextLemmas
 pub mod RunLemmas

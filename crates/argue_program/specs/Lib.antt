@@ -1,6 +1,5 @@
-pub mod AfText
 pub mod AnswerText
+pub mod RefusalText
 pub mod Run
 pub mod Statuses
 pub mod Stops
-pub mod Words

@@ -1,15 +1,19 @@
 -- What a run may write, and how it may end.
-use Rattle.std.specs.Prelude.{◌≡◌, ℕ, ◌<◌, ◌⊎◌, Bool, List, [], ◌∷◌, codes, Option, None, Some, ◌++◌}
+use Rattle.std.specs.Prelude.{◌≡◌, ◌≢◌, ℕ, ◌⊎◌, List, [], codes, Option, None, Some}
 use Rattle.std.specs.List.Sorted.{IsStrictlyIncreasing}
 use Rattle.meaning_atoms.specs.Framework.{Af, IsGrounded}
 use Rattle.argue_outside.specs.Outside.{AppendsPart, HoldsWhole, IsLonger, Rose, Told}
 use Rattle.argue_outside.specs.declared.Role.{Role}
 use Rattle.argue_outside.specs.declared.Role.TheVariants.{Framework}
-use Rattle.argue_program.specs.AfText.{IsPlain, ReadsAs}
+use Rattle.argue_words.specs.Words.{AreWords, IsGroundedQuery}
+use Rattle.argue_words.specs.declared.words.Command.{Command}
+use Rattle.argue_words.specs.declared.words.Command.TheVariants.{Version, Grounded, Unknown}
+use Rattle.af_format.specs.AfText.{ReadsAs}
+use Rattle.af_format.specs.Faults.{HasFault, IsFirstFault}
+use Rattle.af_format.specs.declared.fault.LineCause.{LineCause}
+use Rattle.af_format.specs.declared.fault.LineFault.{LineFault}
 use Rattle.argue_program.specs.AnswerText.{set_text}
-use Rattle.argue_program.specs.Words.{AreWords, IsGroundedQuery}
-use Rattle.argue_program.specs.declared.words.Command.{Command}
-use Rattle.argue_program.specs.declared.words.Command.TheVariants.{Version, Grounded, Unknown}
+use Rattle.argue_program.specs.RefusalText.{fault_text}
 use Rattle.argue_program.specs.declared.ended.Status.{Status}
 use Rattle.argue_program.specs.declared.ended.Status.TheVariants.{Done, Usage, InputRefused, ReadFault, WriteFault, WantOfMemory, Limit}
 
@@ -34,11 +38,19 @@ pub record AnswersFile (told : Told) (set : List ℕ) : Type 0 where
   pub reads : ReadsAs bytes framework
   pub right : IsRightAnswer framework set
 
--- the file's bytes aren't in the plain form
-pub record IsNotPlain (told : Told) : Type 0 where
+-- this is the first fault of the file's bytes
+pub record HasFirstFault (told : Told) (fault : LineFault) : Type 0 where
   pub bytes : List ℕ
   pub held : HoldsWhole told bytes
-  pub refused : ¬ IsPlain bytes
+  pub first : IsFirstFault bytes fault.line fault.cause
+
+-- the bytes are the text of a framework
+abbrev pub IsReadable : List ℕ → Type 0
+IsReadable bytes = (framework : Af) × ReadsAs bytes framework
+
+-- some line of the bytes has a fault
+abbrev pub IsFaulty : List ℕ → Type 0
+IsFaulty bytes = (line : ℕ) × (cause : LineCause) × HasFault bytes line cause
 
 -- there are no words: the run has only the version to write
 pub record AsksNothing (words : List (List ℕ)) (kept : Option (List ℕ)) : Type 0 where
@@ -64,22 +76,27 @@ pub record AsksInVain (words : List (List ℕ)) (holds : List ℕ → Told) (fau
   pub has_fault : fault (holds file)
   pub nothing_kept : kept ≡ None
 
+-- there are words, and no set is kept
+pub record HasWordsInVain (words : List (List ℕ)) (kept : Option (List ℕ)) : Type 0 where
+  pub some_words : words ≢ []
+  pub nothing_kept : kept ≡ None
+
 -- why a run may end with a status, and what it then keeps, where its text is taken whole; `failed` says that a read of the
 -- file was counted as a fault
 abbrev pub HasCause : List (List ℕ) → (List ℕ → Told) → Type 0 → Option (List ℕ) → Status → Type 0
 HasCause words holds failed kept Done = AsksNothing words kept ⊎ AnswersQuery words holds kept
 HasCause words holds failed kept Usage = (¬ AreWords words) × (kept ≡ None)
-HasCause words holds failed kept InputRefused = AsksInVain words holds IsNotPlain kept
+HasCause words holds failed kept (InputRefused fault) = AsksInVain words holds (λ told. HasFirstFault told fault) kept
 HasCause words holds failed kept ReadFault = AsksInVain words holds (λ _. failed) kept
 HasCause words holds failed kept WriteFault = ⊥
-HasCause words holds failed kept WantOfMemory = AsksInVain words holds (λ _. Unit {0}) kept
+HasCause words holds failed kept WantOfMemory = HasWordsInVain words kept
 HasCause words holds failed kept Limit = AsksInVain words holds (λ told. IsLonger told input_limit) kept
 
 -- the same for a query on a file that holds what is told
 abbrev pub HasFileCause : Told → Type 0 → Option (List ℕ) → Status → Type 0
 HasFileCause told failed kept Done = (set : List ℕ) × (kept ≡ Some set) × AnswersFile told set
 HasFileCause told failed kept Usage = ⊥
-HasFileCause told failed kept InputRefused = (kept ≡ None) × IsNotPlain told
+HasFileCause told failed kept (InputRefused fault) = (kept ≡ None) × HasFirstFault told fault
 HasFileCause told failed kept ReadFault = (kept ≡ None) × failed
 HasFileCause told failed kept WriteFault = ⊥
 HasFileCause told failed kept WantOfMemory = kept ≡ None
@@ -96,11 +113,21 @@ abbrev pub text_of : Status → Option (List ℕ) → List ℕ
 text_of Done None = codes "argue 1.0\n"
 text_of Done (Some set) = set_text set
 text_of Usage kept = codes "error: usage\n"
-text_of InputRefused kept = codes "error: framework NotPlain\n"
+text_of (InputRefused fault) kept = fault_text fault
 text_of ReadFault kept = codes "error: read framework\n"
 text_of WriteFault kept = []
 text_of WantOfMemory kept = []
 text_of Limit kept = codes "error: limit input\n"
+
+-- how a query on faulty bytes may end: they are refused by their first fault, memory was refused, or the output broke off
+abbrev pub IsRefusalOf : List ℕ → Status → Type 0
+IsRefusalOf bytes Done = ⊥
+IsRefusalOf bytes Usage = ⊥
+IsRefusalOf bytes (InputRefused fault) = IsFirstFault bytes fault.line fault.cause
+IsRefusalOf bytes ReadFault = ⊥
+IsRefusalOf bytes WriteFault = Unit {0}
+IsRefusalOf bytes WantOfMemory = Unit {0}
+IsRefusalOf bytes Limit = ⊥
 
 -- the output of a query on a file broke off: a part was written of the text of a run that had its cause
 pub record FileBreaksOff (told : Told) (failed : Type 0) (kept : Option (List ℕ)) (old new : Option (List ℕ)) : Type 0 where

@@ -7,7 +7,7 @@ use Rattle.argue_program.specs.declared.ended.Status.TheVariants.{Done, Usage, I
 abbrev pub code_of : Status → ℕ
 code_of Done = 0
 code_of Usage = 1
-code_of InputRefused = 2
+code_of (InputRefused fault) = 2
 code_of ReadFault = 3
 code_of WriteFault = 4
 code_of WantOfMemory = 5

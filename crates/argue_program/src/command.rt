@@ -1,21 +1,21 @@
 //! The top call.
 
-ghost use Rattle.std.specs.Prelude.{◌≡◌, ◌≢◌, ℕ, ◌≤◌, ◌⊎◌, List, [], Option, None, Some, length, map, IfOk, IsErrOf};
-ghost use Rattle.std.specs.Option.{option_map};
+ghost use Rattle.std.specs.Prelude.{◌≡◌, ◌≢◌, ℕ, ◌≤◌, ◌⊎◌, List, [], Option, None, Some, length, map, IfErr, IfOk, IsErrOf};
 ghost use Rattle.std.specs.String.{string_bytes};
 ghost use Rattle.std.specs.Io.KnownBytes.{Appends};
 ghost use Rattle.argue_outside.specs.Outside.{AppendsPart, CountsStandBut, Rose, IsLonger};
-ghost use Rattle.argue_program.specs.AfText.{IsPlain};
+ghost use Rattle.argue_words.specs.Words.{AreWords, IsGroundedQuery};
 ghost use Rattle.argue_program.specs.AnswerText.{set_text};
-ghost use Rattle.argue_program.specs.Run.{AnswersFile, BreaksOff, CommandBreaksOff, FileBreaksOff, HasCause, HasCommandCause, HasFileCause, IsNotPlain, IsRightFor, ReadRose, input_limit, text_of};
-ghost use Rattle.argue_program.specs.Stops.{status_of};
-ghost use Rattle.argue_program.specs.Words.{AreWords, IsGroundedQuery};
+ghost use Rattle.argue_program.specs.RefusalText.{fault_text};
+ghost use Rattle.argue_program.specs.Run.{AnswersFile, BreaksOff, CommandBreaksOff, FileBreaksOff, HasCause, HasCommandCause, HasFileCause, HasFirstFault, IsFaulty, IsReadable, IsRefusalOf, IsRightFor, ReadRose, input_limit, text_of};
+ghost use Rattle.argue_program.specs.Stops.{IfRefused, status_of};
 
-use crate::af_text::{PlainFault, read_af};
 use crate::answer_text::set_line;
 use crate::ended::{Ended, Status, Transcript};
-use crate::words::{Command, command_of};
+use crate::refusal_text::fault_line;
+use af_format::{LineFault, ReadFault, read_af};
 use argue_outside::{Files, Pace, ReadStop, Role, Sink, put_all, read_all};
+use argue_words::{Command, read_words};
 use plain_lists::Memory;
 use set_lists::NumSet;
 use std::alloc::Global;
@@ -30,7 +30,7 @@ pub const INPUT_LIMIT: u64 = 268_435_456;
 enum Stop {
     Failed,
     TooLong,
-    NotPlain,
+    Refused(LineFault),
     Memory,
 }
 
@@ -49,16 +49,16 @@ impl From<ReadStop> for Stop {
     }
 }
 
-impl From<PlainFault> for Stop {
+impl From<ReadFault> for Stop {
     ghost use Rattle.std.specs.Prelude.{◌≡◌};
-    ghost use Rattle.argue_program.specs.Stops.{stop_of_plain};
+    ghost use Rattle.argue_program.specs.Stops.{stop_of_text};
 
-    ghost from_gives = { λ fault e. e ≡ stop_of_plain fault };
+    ghost from_gives = { λ fault e. e ≡ stop_of_text fault };
 
-    fn from(fault: PlainFault) -> Stop {
+    fn from(fault: ReadFault) -> Stop {
         match fault {
-            PlainFault::NotPlain => Stop::NotPlain,
-            PlainFault::Memory => Stop::Memory,
+            ReadFault::Line(line) => Stop::Refused(line),
+            ReadFault::Memory => Stop::Memory,
         }
     }
 }
@@ -88,7 +88,7 @@ fn answer_of<F: Files>(alloc: Global, files: &mut F, name: &str) -> Result<Answe
     ensures failed { IsErrOf result Stop.Failed
         → ReadRose (F.read_count files.old) (F.read_count files.new) }
     ensures too_long { IsErrOf result Stop.TooLong → IsLonger (F.holds files.old name.now) input_limit }
-    ensures not_plain { IsErrOf result Stop.NotPlain → IsNotPlain (F.holds files.old name.now) }
+    ensures refused { IfErr result (λ stop. IfRefused stop (HasFirstFault (F.holds files.old name.now))) }
     ensures same { F.holds files.new ≡ F.holds files.old }
     ensures writes { F.write_count files.new ≡ F.write_count files.old }
     ensures others { CountsStandBut (Role.Framework 1) (F.read_count files.old) (F.read_count files.new) }
@@ -125,11 +125,41 @@ fn end_with<O: Sink>(out: &mut O, line: &str, status: Status, set: Option<NumSet
     }
 }
 
-/// Writes the line of a refusal and ends. Want of memory writes nothing.
-fn refuse<O: Sink>(out: &mut O, stop: Stop) -> Ended
-    ensures status { result.status ≢ Status.WriteFault → result.status ≡ status_of stop }
+/// Ends for want of memory, with nothing written.
+fn end_without_memory() -> Ended
+    ensures status { result.status ≡ Status.WantOfMemory }
+    ensures kept { result.kept.set ≡ None }
+{
+    Ended {
+        status: Status::WantOfMemory,
+        kept: Transcript { set: None },
+    }
+}
+
+/// Writes the line of a fault of the file and ends. The line is made first, so that want of memory writes nothing.
+fn refuse_file<O: Sink>(alloc: Global, out: &mut O, fault: LineFault) -> Ended
+    ensures status { result.status ≢ Status.WriteFault
+        → (result.status ≡ Status.InputRefused fault) ⊎ (result.status ≡ Status.WantOfMemory) }
     ensures whole { result.status ≢ Status.WriteFault
-        → Appends (O.contents out.old) (O.contents out.new) (text_of (status_of stop) None) }
+        → Appends (O.contents out.old) (O.contents out.new) (text_of result.status None) }
+    ensures part { result.status ≡ Status.WriteFault
+        → AppendsPart (O.contents out.old) (O.contents out.new) (fault_text fault) }
+    ensures fault { result.status ≡ Status.WriteFault
+        → Rose (O.fault_count out.old) (O.fault_count out.new) }
+    ensures kept { result.kept.set ≡ None }
+{
+    match fault_line(alloc, fault) {
+        Ok(line) => end_with(out, line.as_str(), Status::InputRefused(fault), None),
+        Err(_) => end_without_memory(),
+    }
+}
+
+/// Writes the line of a refusal and ends. Want of memory writes nothing.
+fn refuse<O: Sink>(alloc: Global, out: &mut O, stop: Stop) -> Ended
+    ensures status { result.status ≢ Status.WriteFault
+        → (result.status ≡ status_of stop) ⊎ (result.status ≡ Status.WantOfMemory) }
+    ensures whole { result.status ≢ Status.WriteFault
+        → Appends (O.contents out.old) (O.contents out.new) (text_of result.status None) }
     ensures part { result.status ≡ Status.WriteFault
         → AppendsPart (O.contents out.old) (O.contents out.new) (text_of (status_of stop) None) }
     ensures fault { result.status ≡ Status.WriteFault
@@ -139,16 +169,8 @@ fn refuse<O: Sink>(out: &mut O, stop: Stop) -> Ended
     match stop {
         Stop::Failed => end_with(out, "error: read framework\n", Status::ReadFault, None),
         Stop::TooLong => end_with(out, "error: limit input\n", Status::Limit, None),
-        Stop::NotPlain => end_with(
-            out,
-            "error: framework NotPlain\n",
-            Status::InputRefused,
-            None,
-        ),
-        Stop::Memory => Ended {
-            status: Status::WantOfMemory,
-            kept: Transcript { set: None },
-        },
+        Stop::Refused(fault) => refuse_file(alloc, out, fault),
+        Stop::Memory => end_without_memory(),
     }
 }
 
@@ -170,7 +192,7 @@ fn solve<F: Files, O: Sink>(alloc: Global, name: &str, files: &mut F, out: &mut 
 {
     match answer_of(alloc, files, name) {
         Ok(Answer { set, line }) => end_with(out, line.as_str(), Status::Done, Some(set)),
-        Err(stop) => refuse(out, stop),
+        Err(stop) => refuse(alloc, out, stop),
     }
 }
 
@@ -225,17 +247,27 @@ pub fn run<F: Files, O: Sink, P: Pace + Sync, R: Threads + Wait + Sync>(
     ensures version { map string_bytes words.now ≡ []
         → ¬ Rose (O.fault_count out.old) (O.fault_count out.new) → result.status ≡ Status.Done }
     ensures complete { (file bytes : List ℕ) → IsGroundedQuery (map string_bytes words.now) file → F.holds files.old file ≡ Some (Some bytes)
-        → IsPlain bytes → length bytes ≤ input_limit
+        → IsReadable bytes → length bytes ≤ input_limit
         → ¬ ReadRose (F.read_count files.old) (F.read_count files.new)
         → ¬ Rose (O.fault_count out.old) (O.fault_count out.new)
         → (result.status ≡ Status.Done) ⊎ (result.status ≡ Status.WantOfMemory) }
+
+    // The converses: words that aren't well-formed are refused, and so is a file with a fault.
+    ensures usage { ¬ AreWords (map string_bytes words.now)
+        → (result.status ≡ Status.Usage) ⊎ ((result.status ≡ Status.WantOfMemory) ⊎ (result.status ≡ Status.WriteFault)) }
+    ensures faulty { (file bytes : List ℕ) → IsGroundedQuery (map string_bytes words.now) file → F.holds files.old file ≡ Some (Some bytes)
+        → IsFaulty bytes → length bytes ≤ input_limit
+        → ¬ ReadRose (F.read_count files.old) (F.read_count files.new) → IsRefusalOf bytes result.status }
 
     // No file changes, and no other count of faults does.
     ensures contents_stay { F.holds files.new ≡ F.holds files.old }
     ensures no_write { F.write_count files.new ≡ F.write_count files.old }
     ensures no_other_read { CountsStandBut (Role.Framework 1) (F.read_count files.old) (F.read_count files.new) }
 {
-    obey(alloc, command_of(words), files, out)
+    match read_words(alloc, words) {
+        Ok(command) => obey(alloc, command, files, out),
+        Err(Memory) => end_without_memory(),
+    }
 }
 
 /// Refuses words that couldn't be had at all, as faulty words are refused.

@@ -3,6 +3,7 @@
 ghost use Rattle.std.specs.Prelude.{◌≡◌};
 ghost use Rattle.argue_program.specs.Statuses.{code_of};
 
+use af_format::LineFault;
 use set_lists::NumSet;
 
 /// How a run ended, as its exit status says it.
@@ -12,8 +13,8 @@ pub enum Status {
     Done,
     /// The words aren't well-formed.
     Usage,
-    /// The file isn't a framework.
-    InputRefused,
+    /// The file isn't a framework. This is the first fault of its text.
+    InputRefused(LineFault),
     /// The file couldn't be read.
     ReadFault,
     /// The output wasn't taken whole.
@@ -32,7 +33,7 @@ impl Status {
         match self {
             Status::Done => 0,
             Status::Usage => 1,
-            Status::InputRefused => 2,
+            Status::InputRefused(_) => 2,
             Status::ReadFault => 3,
             Status::WriteFault => 4,
             Status::WantOfMemory => 5,

@@ -4,13 +4,11 @@
 //! every other way to end has its cause.
 #![tactic(auto)]
 
-pub mod af_text;
 pub mod answer_text;
 pub mod command;
 pub mod ended;
-pub mod words;
+pub mod refusal_text;
 
-pub use af_text::{PlainFault, read_af};
 pub use command::{INPUT_LIMIT, refuse_words, run};
 pub use ended::{Ended, Status, Transcript};
 

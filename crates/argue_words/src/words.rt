@@ -1,6 +1,6 @@
 //! What the words ask for.
 
-ghost use Rattle.std.specs.Prelude.{◌≡◌, ◌≢◌, IfErr, IfOk, IsErr, IsSome, List, ℕ, codes, map};
+ghost use Rattle.std.specs.Prelude.{◌≡◌, ◌≢◌, IfErr, IfOk, IsErr, IsSome, List, [], ℕ, codes, map};
 ghost use Rattle.std.specs.Prelude.{string_bytes, true};
 ghost use Rattle.clap.specs.Words.{first_value, found_of, kind_of, takes};
 ghost use Rattle.argue_words.specs.Words.{IsCommandOf, IsQueryOf, solve_app, value_of};
@@ -26,9 +26,10 @@ pub enum Command<'a> {
 /// clap as the options `-p TASK` and `-f FILE`, both required, each with one value, in any order:
 /// `Grounded` comes exactly where clap takes them and the task is `SE-GR`, with the value of `-f`,
 /// and `Unknown` for all other words, also for those that ask for help. `Memory` is want of memory
-/// and no fault of the words.
+/// and no fault of the words; it comes only where there are words.
 pub fn read_words<'a>(alloc: Global, words: &'a [String]) -> Result<Command<'a>, Memory>
-    ensures { IfOk result (IsCommandOf (map string_bytes words.now)) }
+    ensures command { IfOk result (IsCommandOf (map string_bytes words.now)) }
+    ensures memory { IsErr result → map string_bytes words.now ≢ [] }
 {
     if words.is_empty() {
         return Ok(Command::Version);
