@@ -1,0 +1,14 @@
+//! Literals, clauses and assignments over plain variables, numbers of log steps, and the budget of units.
+#![tactic(auto)]
+
+pub mod budget;
+pub mod clause;
+pub mod halt;
+pub mod lit;
+pub mod step_id;
+
+pub use budget::Budget;
+pub use clause::Clause;
+pub use halt::Halt;
+pub use lit::Lit;
+pub use step_id::StepId;
