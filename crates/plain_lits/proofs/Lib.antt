@@ -1,1 +1,2 @@
 pub mod LitOrder
+pub mod Marking

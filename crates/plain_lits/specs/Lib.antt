@@ -1,2 +1,4 @@
 pub mod Literals
 pub mod Units
+pub mod Values
+pub mod Trails

@@ -5,10 +5,17 @@ pub mod budget;
 pub mod clause;
 pub mod halt;
 pub mod lit;
+mod marks;
 pub mod step_id;
+#[cfg(test)]
+mod tests;
+pub mod trail;
+pub mod value;
 
 pub use budget::Budget;
 pub use clause::Clause;
 pub use halt::Halt;
 pub use lit::Lit;
 pub use step_id::StepId;
+pub use trail::Trail;
+pub use value::Value;
