@@ -1,2 +1,3 @@
 pub mod LitOrder
 pub mod Marking
+pub mod RowLemmas

@@ -6,6 +6,8 @@ pub mod clause;
 pub mod halt;
 pub mod lit;
 mod marks;
+pub mod packed_lit;
+pub mod rows;
 pub mod step_id;
 #[cfg(test)]
 mod tests;
@@ -16,6 +18,8 @@ pub use budget::Budget;
 pub use clause::Clause;
 pub use halt::Halt;
 pub use lit::Lit;
+pub use packed_lit::PackedLit;
+pub use rows::Rows;
 pub use step_id::StepId;
 pub use trail::Trail;
 pub use value::Value;

@@ -14,13 +14,15 @@ pub struct PackedLit {
 
 impl Model for PackedLit {
     ghost use Rattle.plain_lits.specs.declared.lit.Lit.{Lit};
-    ghost use Rattle.plain_lits.specs.Packed.{unpacked, packed, packed-unpacked};
+    ghost use Rattle.plain_lits.specs.Packed.{unpacked, packed};
 
     ghost Value = { Lit };
 
     ghost view = { λ p. unpacked p.code };
 
     ghost inverse = { λ l. record { code = packed l } };
+
+    ghost use Rattle.plain_lits.specs.PackedInside.{packed-unpacked};
 
     ghost inverse_ok = { λ p h. packed-unpacked p };
 }

@@ -1,6 +1,7 @@
 //! Lists of items in one flat list.
 
-ghost use Rattle.std.specs.Prelude.{◌≡◌, ◌<◌, ◌-◌, [], ◌∷◌, ◌++◌, length, take, OnOk, OnErr, slice_index_or};
+ghost use Rattle.std.specs.Prelude.{◌≡◌, ◌<◌, ◌≤◌, ◌-◌, [], ◌∷◌, ◌++◌, length, take, OnOk, OnErr, slice_index, slice_index_or, slice_range};
+ghost use Rattle.plain_lits.specs.RowCuts.{rows_from, AreEnds};
 
 use plain_lists::Memory;
 use std::alloc::Global;
@@ -23,6 +24,35 @@ impl<T> Model for Rows<T> {
     ghost view = { λ r. rows_from r.items.items 0 r.ends.items };
 
     ghost invariant = { λ r. AreEnds r.ends.items (length r.items.items) };
+}
+
+/// Where the rows before a place end.
+fn end_before(ends: &[usize], place: usize) -> usize
+    requires { place ≤ length ends.now }
+    ensures { result ≡ slice_index (0 ∷ ends.now) place }
+{
+    if place == 0 {
+        return 0;
+    }
+    ends[place - 1]
+}
+
+/// The items from one place to another.
+fn part<T>(items: &[T], begin: usize, end: usize) -> &[T]
+    requires order { begin ≤ end }
+    requires within { end ≤ length items.now }
+    ensures { result.now ≡ slice_range items.now begin end }
+{
+    &items[begin..end]
+}
+
+/// The row at a place.
+fn row_in<'a, T>(items: &'a [T], ends: &[usize], place: usize) -> &'a [T]
+    requires ends { AreEnds ends.now (length items.now) }
+    requires within { place < length ends.now }
+    ensures { result.now ≡ slice_index_or (rows_from items.now 0 ends.now) place [] }
+{
+    part(items, end_before(ends, place), ends[place])
 }
 
 impl<T: Copy> Rows<T> {
@@ -48,10 +78,7 @@ impl<T: Copy> Rows<T> {
         requires { place < length self.now }
         ensures { result.now ≡ slice_index_or self.now place [] }
     {
-        let ends = self.ends.as_slice();
-        let begin = if place == 0 { 0 } else { ends[place - 1] };
-        let end = ends[place];
-        &self.items.as_slice()[begin..end]
+        row_in(self.items.as_slice(), self.ends.as_slice(), place)
     }
 
     /// Adds a row at the end. After `Memory` the rows are as before.
@@ -66,15 +93,14 @@ impl<T: Copy> Rows<T> {
         Ok(())
     }
 
-    /// Takes the last row away, where there is one.
+    /// Takes the last row away.
     pub fn pop(&mut self)
+        requires { 0 < length self.old }
         ensures { self.new ≡ take (length self.old - 1) self.old }
     {
-        let _ = self.ends.pop();
-        let kept = match self.ends.as_slice().last() {
-            Some(end) => *end,
-            None => 0,
-        };
-        self.items.truncate(kept);
+        if let Some(_) = self.ends.pop() {
+            let kept = end_before(self.ends.as_slice(), self.ends.len());
+            self.items.truncate(kept);
+        }
     }
 }
