@@ -1,3 +1,4 @@
+pub mod CheckLemmas
 pub mod LitOrder
 pub mod Marking
 pub mod RowLemmas

@@ -1,3 +1,5 @@
+pub mod CheckLaws
+pub mod HintCheck
 pub mod Literals
 pub mod Packed
 pub mod PackedInside

@@ -4,6 +4,7 @@
 pub mod budget;
 pub mod clause;
 pub mod halt;
+pub mod laws;
 pub mod lit;
 mod marks;
 pub mod packed_lit;
