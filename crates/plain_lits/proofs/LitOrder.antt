@@ -84,3 +84,10 @@ LitsRise-dedup xs h =
 
 pub Contains-dedup_lits : (xs : List Lit) (l : Lit) → Contains xs l → Contains (dedup lit_eq xs) l
 Contains-dedup_lits xs l h = Contains-dedup lit_eq_equiv same_from_eq xs l h
+
+sign_eq : (p : Bool) → beq p p ≡ true
+sign_eq false = refl
+sign_eq true = refl
+
+pub lit_eq_itself : (a : Lit) → lit_eq a a ≡ true
+lit_eq_itself a = grind (arith, nat_tests, sign_eq)
