@@ -1,0 +1,5 @@
+pub mod CheckLemmas
+pub mod LitOrder
+pub mod Marking
+pub mod OneOutcome
+pub mod RowLemmas

@@ -1,0 +1,5 @@
+use Rattle.plain_lits.proofs.CheckLemmas.{taken_sound}
+use Rattle.plain_lits.proofs.laws.taken_clauses_follow.Goals as goal
+
+pub returns : goal.returns
+returns g c = taken_sound

@@ -1,0 +1,9 @@
+pub mod CheckLaws
+pub mod HintCheck
+pub mod Literals
+pub mod Packed
+pub mod PackedInside
+pub mod RowCuts
+pub mod Trails
+pub mod Units
+pub mod Values

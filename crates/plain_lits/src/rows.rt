@@ -1,0 +1,106 @@
+//! Lists of items in one flat list.
+
+ghost use Rattle.std.specs.Prelude.{◌≡◌, ◌<◌, ◌≤◌, ◌-◌, [], ◌∷◌, ◌++◌, length, take, OnOk, OnErr, slice_index, slice_index_or, slice_range};
+ghost use Rattle.plain_lits.specs.RowCuts.{rows_from, AreEnds};
+
+use plain_lists::Memory;
+use std::alloc::Global;
+use std::marker::Model;
+
+/// A list of rows, each a list of items, which lie one after another in one array. Contracts see it as the list
+/// of the rows.
+#[derive(Debug, Drop)]
+pub struct Rows<T> {
+    items: Vec<T>,
+    ends: Vec<usize>,
+}
+
+impl<T> Model for Rows<T> {
+    ghost use Rattle.std.specs.Prelude.{List, length};
+    ghost use Rattle.plain_lits.specs.RowCuts.{rows_from, AreEnds};
+
+    ghost Value = { List (List T) };
+
+    ghost view = { λ r. rows_from r.items.items 0 r.ends.items };
+
+    ghost invariant = { λ r. AreEnds r.ends.items (length r.items.items) };
+}
+
+/// Where the rows before a place end.
+fn end_before(ends: &[usize], place: usize) -> usize
+    requires { place ≤ length ends.now }
+    ensures { result ≡ slice_index (0 ∷ ends.now) place }
+{
+    if place == 0 {
+        return 0;
+    }
+    ends[place - 1]
+}
+
+/// The items from one place to another.
+fn part<T>(items: &[T], begin: usize, end: usize) -> &[T]
+    requires order { begin ≤ end }
+    requires within { end ≤ length items.now }
+    ensures { result.now ≡ slice_range items.now begin end }
+{
+    &items[begin..end]
+}
+
+/// The row at a place.
+fn row_in<'a, T>(items: &'a [T], ends: &[usize], place: usize) -> &'a [T]
+    requires ends { AreEnds ends.now (length items.now) }
+    requires within { place < length ends.now }
+    ensures { result.now ≡ slice_index_or (rows_from items.now 0 ends.now) place [] }
+{
+    part(items, end_before(ends, place), ends[place])
+}
+
+impl<T: Copy> Rows<T> {
+    /// No row, which takes no memory.
+    pub fn new(alloc: Global) -> Rows<T>
+        ensures { result ≡ [] }
+    {
+        Rows {
+            items: Vec::new(alloc),
+            ends: Vec::new(alloc),
+        }
+    }
+
+    /// The number of rows.
+    pub fn len(&self) -> usize
+        ensures { result ≡ length self.now }
+    {
+        self.ends.len()
+    }
+
+    /// The row at a place, counted from 0.
+    pub fn row(&self, place: usize) -> &[T]
+        requires { place < length self.now }
+        ensures { result.now ≡ slice_index_or self.now place [] }
+    {
+        row_in(self.items.as_slice(), self.ends.as_slice(), place)
+    }
+
+    /// Adds a row at the end. After `Memory` the rows are as before.
+    pub fn push(&mut self, row: &[T]) -> Result<(), Memory>
+        ensures ok { OnOk result (self.new ≡ self.old ++ row.now ∷ []) }
+        ensures err { OnErr result (self.new ≡ self.old) }
+    {
+        self.ends.reserve(1)?;
+        self.items.extend_from_slice(row)?;
+        let end = self.items.len();
+        let _ = self.ends.push(end);
+        Ok(())
+    }
+
+    /// Takes the last row away.
+    pub fn pop(&mut self)
+        requires { 0 < length self.old }
+        ensures { self.new ≡ take (length self.old - 1) self.old }
+    {
+        if let Some(_) = self.ends.pop() {
+            let kept = end_before(self.ends.as_slice(), self.ends.len());
+            self.items.truncate(kept);
+        }
+    }
+}

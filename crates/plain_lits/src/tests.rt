@@ -1,0 +1,97 @@
+use crate::{Budget, Clause, Halt, Lit, StepId, Trail, Value};
+use plain_lists::Memory;
+use std::test::Fail;
+
+fn lit(var: usize, positive: bool) -> Lit {
+    Lit { var, positive }
+}
+
+#[test]
+fn clauses_and_literals(rt: HostRuntime) -> Result<(), Fail> {
+    let alloc = rt.alloc();
+    let given = [
+        lit(2, true),
+        lit(1, true),
+        lit(2, false),
+        lit(1, true),
+        lit(0, false),
+        lit(5, true),
+    ];
+    let clause = Clause::of_lits(alloc, &given)?;
+    let sorted = [
+        lit(0, false),
+        lit(1, true),
+        lit(2, false),
+        lit(2, true),
+        lit(5, true),
+    ];
+    assert_eq!(rt; clause.as_slice(), sorted.as_slice());
+    assert_eq!(rt; clause.len(), 5);
+    assert_eq!(rt; clause.copy(alloc)?.as_slice(), sorted.as_slice());
+    let mut learned = Clause::from_slice(alloc, &[lit(3, true)])?;
+    learned.push(lit(1, false))?;
+    assert_eq!(rt;
+        learned.as_slice(),
+        [lit(3, true), lit(1, false)].as_slice()
+    );
+    assert!(rt; Clause::new(alloc).is_empty());
+    assert!(rt; !learned.is_empty());
+    assert_eq!(rt; lit(4, true).opposite(), lit(4, false));
+    assert_eq!(rt; Lit::default(), lit(0, false));
+    assert!(rt; lit(4, true) < lit(5, false));
+    Ok(())
+}
+
+#[test]
+fn budget_and_numbers(rt: HostRuntime) {
+    let mut budget = Budget::new(2);
+    assert!(rt; budget.spend());
+    assert!(rt; budget.spend());
+    assert!(rt; !budget.spend());
+    assert_eq!(rt; budget.used(), 2);
+    assert_eq!(rt; budget.limit(), 2);
+    assert_eq!(rt; StepId::new(7).number(), 7);
+    assert!(rt; StepId::new(7) < StepId::new(8));
+    assert_eq!(rt; Halt::from(Memory), Halt::Memory);
+}
+
+/// Makes a literal true where it has room and no value, at a new level or at the present one.
+fn set(trail: &mut Trail, lit: Lit, decided: bool) -> bool {
+    if lit.var >= trail.vars() {
+        return false;
+    }
+    match trail.value(lit) {
+        Value::Unset => {
+            if decided {
+                trail.decide(lit);
+            } else {
+                trail.push(lit);
+            }
+            true
+        }
+        _ => false,
+    }
+}
+
+#[test]
+fn trail_there_and_back(rt: HostRuntime) -> Result<(), Fail> {
+    let mut trail = Trail::new(rt.alloc());
+    trail.make_room(4)?;
+    assert!(rt; set(&mut trail, lit(2, false), false));
+    trail.begin_level()?;
+    assert!(rt; set(&mut trail, lit(0, true), true));
+    assert!(rt; set(&mut trail, lit(3, true), false));
+    assert!(rt; !set(&mut trail, lit(3, false), false));
+    assert_eq!(rt;
+        trail.lits(),
+        [lit(2, false), lit(0, true), lit(3, true)].as_slice()
+    );
+    assert_eq!(rt; trail.level(), 2);
+    assert_eq!(rt; trail.starts(), [1, 1].as_slice());
+    trail.back_to(1);
+    assert_eq!(rt; trail.lits(), [lit(2, false)].as_slice());
+    assert_eq!(rt; trail.value(lit(2, true)), Value::False);
+    assert_eq!(rt; trail.value(lit(0, true)), Value::Unset);
+    assert_eq!(rt; trail.value(lit(9, true)), Value::Unset);
+    Ok(())
+}
