@@ -1,6 +1,6 @@
 -- From the fault of a line to the first fault of the text.
-use Rattle.std.proofs.Common.{◌≡◌, ℕ, zero, suc, ◌+◌, ◌-◌, ◌<◌, ◌≤◌, List, [], ◌∷◌, ◌++◌, length, get_or, refl, sym, ap, subst, ◌∙◌, ◌⊎◌, inl, inr, arith}
-use Rattle.std.specs.Prelude.{AllPairs, slice_index_or}
+use Rattle.std.proofs.Common.{◌≡◌, ℕ, suc, ◌+◌, ◌<◌, ◌≤◌, List, [], ◌∷◌, length, get_or, refl, sym, ap, subst, ◌∙◌, ◌⊎◌, inl, inr, arith}
+use Rattle.std.specs.Prelude.{AllPairs}
 use Rattle.std.proofs.lemmas.List.{get_or_append_left, length-append}
 use Rattle.std.proofs.Math.Seq.{get_or-append_seam}
 use Rattle.std.proofs.lemmas.Bool.{cases_lt}
@@ -8,9 +8,9 @@ use Rattle.num_text.specs.Cuts.{LineText, field_texts, lines_of}
 use Rattle.af_format.specs.declared.fault.LineCause.{LineCause}
 use Rattle.af_format.specs.declared.fault.LineCause.TheVariants.{NoHeader, WrongKind, BadHeader, SecondHeader, BadLine, BadNumber, OutOfRange, TooManyLines}
 use Rattle.af_format.specs.Lines.{kept_lines}
-use Rattle.af_format.specs.AfText.{IsHeader, IsAttackLine, AreAttackLines, IsAfText}
+use Rattle.af_format.specs.AfText.{IsHeader, IsAttackLine, AreAttackLines}
 use Rattle.af_format.specs.Causes.{rank, IsFirstCause}
-use Rattle.af_format.specs.Faults.{StandsOnHeader, StandsOnAttack, IsHeaderFault, IsAttackFault, StandsIn, HasFault, IsFirstFault}
+use Rattle.af_format.specs.Faults.{StandsOnHeader, StandsOnAttack, IsHeaderFault, IsAttackFault, StandsIn, IsFirstFault}
 use Rattle.af_format.specs.FirstBadLine.{IsFirstBadLine}
 use Rattle.af_format.proofs.KeptLines.{kept_lines-rise}
 use Rattle.af_format.proofs.LineCauses.{header_is_good, limit_only, IsHeader-same}

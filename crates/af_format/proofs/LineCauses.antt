@@ -1,14 +1,14 @@
 -- Which causes stand on a header, and on an attack line.
-use Rattle.std.proofs.Common.{◌≡◌, ℕ, zero, suc, ◌+◌, ◌<◌, ◌≤◌, List, [], ◌∷◌, length, get_or, refl, sym, ap, subst, ◌∙◌, ◌⊎◌, inl, inr, arith}
+use Rattle.std.proofs.Common.{◌≡◌, ℕ, zero, suc, ◌<◌, ◌≤◌, List, [], ◌∷◌, length, get_or, refl, sym, ap, subst, ◌∙◌, ◌⊎◌, inl, inr, arith}
 use Rattle.std.specs.Prelude.{Contains, codes, All}
 use Rattle.std.proofs.lemmas.List.Elements.{All-head}
 use Rattle.num_text.specs.Cuts.{field_texts}
 use Rattle.num_text.specs.Number.{IsNumber, IsDigit}
 use Rattle.af_format.specs.declared.fault.LineCause.{LineCause}
 use Rattle.af_format.specs.declared.fault.LineCause.TheVariants.{NoHeader, WrongKind, BadHeader, SecondHeader, BadLine, BadNumber, OutOfRange, TooManyLines}
-use Rattle.af_format.specs.AfText.{IsHeader, IsArgument, IsAttackLine}
+use Rattle.af_format.specs.AfText.{IsHeader, IsAttackLine}
 use Rattle.af_format.specs.Causes.{rank, IsFirstCause}
-use Rattle.af_format.specs.Faults.{BeginWithP, HaveKindAba, AreHeaderOf, HaveNoNumber, HaveOutsider, StandsOnHeader, StandsOnAttack}
+use Rattle.af_format.specs.Faults.{AreHeaderOf, StandsOnHeader, StandsOnAttack}
 
 -- bytes spell one number
 pub IsNumber-same : (text : List ℕ) (m n : ℕ) → IsNumber text m → IsNumber text n → m ≡ n

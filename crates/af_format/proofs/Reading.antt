@@ -1,21 +1,20 @@
 -- The lines that were read, and those that are left.
 use Rattle.std.proofs.Common.{◌≡◌, ℕ, zero, suc, ◌+◌, ◌<◌, ◌≤◌, List, [], ◌∷◌, ◌++◌, length, get_or, ◌⊎◌, inl, inr, refl, sym, ap, subst, ◌∙◌, arith}
 use Rattle.std.specs.Prelude.{Contains, Result, Ok, Err, IfOk, ◌↔◌}
-use Rattle.std.specs.List.{AllZip, range_with_len}
+use Rattle.std.specs.List.{range_with_len}
 use Rattle.std.specs.List.Sorted.{IsStrictlyIncreasing}
 use Rattle.std.proofs.lemmas.List.{length-append, append_assoc, append-nil}
 use Rattle.std.proofs.lemmas.Slice.Zip.{all_zipped_more, AllZip-long}
 use Rattle.std.proofs.lemmas.List.FromFn.{length-range_with_len, get_or-range_with_len}
 use Rattle.num_text.specs.Cuts.{LineText, field_texts, lines_of}
 use Rattle.af_format.specs.declared.fault.LineCause.{LineCause}
-use Rattle.af_format.specs.AfText.{IsHeader, IsArgument, IsAttackLine, AreAttackLines, IsFrameworkOf, ReadsAs}
+use Rattle.af_format.specs.AfText.{IsHeader, IsAttackLine, AreAttackLines, IsFrameworkOf, ReadsAs}
 use Rattle.af_format.specs.Lines.{kept}
 use Rattle.meaning_atoms.specs.Framework.{Af, IsAf}
 use Rattle.af_format.specs.Causes.{IsFirstCause}
 use Rattle.af_format.specs.Faults.{StandsOnAttack, IsHeaderFault, IsAttackFault, StandsIn, IsFaultless, IsFirstFault, IfLine}
-use Rattle.af_format.specs.Written.{IsSolid}
+use Rattle.dung_notions.specs.Solid.{IsSolid}
 use Rattle.af_format.proofs.LineCauses.{header_is_good, limit_only, IsHeader-same}
-use Rattle.af_format.specs.declared.fault.LineFault.{LineFault}
 use Rattle.af_format.specs.declared.fault.ReadFault.{ReadFault}
 use Rattle.af_format.specs.declared.fault.ReadFault.TheVariants.{Line, Memory}
 use Rattle.af_format.specs.FirstBadLine.{BeginWithHeader, IsFirstBadLine}
@@ -143,7 +142,7 @@ bad_text_told bytes count left (Line fault) h bad = bad_line_told bytes count le
 bad_text_told bytes count left Memory h bad = bad
 
 -- no cause stands in a text that was read
-no_fault_in : (size count : ℕ) (header : LineText) (others : List LineText) (attacks : List (ℕ × ℕ)) (line : ℕ)
+pub no_fault_in : (size count : ℕ) (header : LineText) (others : List LineText) (attacks : List (ℕ × ℕ)) (line : ℕ)
     (cause : LineCause) → IsHeader header.text count → AreAttackLines count others attacks
     → IsHeaderFault header line cause ⊎ IsAttackFault header others line cause → ⊥
 no_fault_in size count header others attacks line cause is are (inl h) = header_is_good header.text count is cause h.stands
@@ -169,4 +168,4 @@ pub read_is_solid : (count : ℕ) (attacks : List (ℕ × ℕ)) (f : Af) → cou
     → IsSolid f
 read_is_solid count attacks f few h =
     let long : length f.live ≡ count = ap length h.live ∙ length-range_with_len 1 count in
-    record { live = h.live ∙ ap (λ n. range_with_len 1 n) (sym long); few = omega arith }
+    record { live_is = h.live ∙ ap (λ n. range_with_len 1 n) (sym long); small = omega arith }

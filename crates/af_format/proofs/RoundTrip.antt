@@ -1,9 +1,9 @@
 -- A text that was written reads as the framework that it was written of.
-use Rattle.std.proofs.Common.{◌≡◌, ℕ, zero, suc, ◌+◌, ◌-◌, ◌*◌, ◌/◌, ◌%◌, ◌^◌, ◌<◌, ◌≤◌, ◌==◌, Bool, true, false, not, List, [], ◌∷◌, ◌++◌, length, take, drop, get_or, filter, refl, sym, ap, subst, ◌∙◌, arith}
-use Rattle.std.specs.Prelude.{Contains, codes, All, fold}
-use Rattle.std.specs.List.{AllZip, flat_map, slice_split, position_or_len, range_with_len}
+use Rattle.std.proofs.Common.{◌≡◌, ℕ, ◌+◌, ◌-◌, ◌*◌, ◌/◌, ◌%◌, ◌^◌, ◌<◌, ◌≤◌, ◌==◌, true, false, not, List, [], ◌∷◌, ◌++◌, length, take, drop, get_or, filter, refl, sym, ap, subst, ◌∙◌, arith}
+use Rattle.std.specs.Prelude.{Contains, codes, All}
+use Rattle.std.specs.List.{AllZip, flat_map, position_or_len, range_with_len}
 use Rattle.std.specs.Fmt.{decimal}
-use Rattle.std.proofs.lemmas.Fmt.{decimal_by_steps}
+use Rattle.std.proofs.lemmas.Fmt.{decimal_by_steps, length-decimal-le}
 use Rattle.std.proofs.lemmas.List.{length-append, append_assoc, flat_map_more, take_more}
 use Rattle.std.proofs.lemmas.List.Elements.{All-nil, All-cons, All-head, All-tail, All-append, Contains-get_or}
 use Rattle.std.proofs.lemmas.List.Sums.{fold-append}
@@ -17,8 +17,9 @@ use Rattle.num_text.specs.Number.{IsNumber, IsDigit, digits_value}
 use Rattle.num_text.proofs.CutLemmas.{lines_from-nil, lines_from-first}
 use Rattle.meaning_atoms.specs.Framework.{Af, IsAf}
 use Rattle.af_format.specs.Lines.{are_skipped, kept}
-use Rattle.af_format.specs.AfText.{IsHeader, IsArgument, IsAttackLine, AreAttackLines, IsAfText, IsFrameworkOf, ReadsAs}
-use Rattle.af_format.specs.Written.{IsSolid, header_line, attack_line, af_text}
+use Rattle.af_format.specs.AfText.{IsAttackLine, ReadsAs}
+use Rattle.dung_notions.specs.Solid.{IsSolid}
+use Rattle.af_format.specs.Written.{header_line, attack_line, af_text}
 use Rattle.af_format.proofs.KeptLines.{kept-nil, kept-keeps}
 
 -- ---- numbers
@@ -212,9 +213,9 @@ attacks_are_pairs : (f : Af) → IsAf f → IsSolid f → All (IsPair (length f.
 attacks_are_pairs f form solid = λ k d within.
     let p = get_or f.attacks k d in
     let ends = form.ends p.0 p.1 (Contains-get_or f.attacks k d within) in
-    let b = argument_bounds (length f.live) p.0 (subst (λ xs. Contains xs p.0) solid.live ends.0) in
-    let a = argument_bounds (length f.live) p.1 (subst (λ xs. Contains xs p.1) solid.live ends.1) in
-    record { few = solid.few; low = b.0; high = b.1; target_low = a.0; target_high = a.1 }
+    let b = argument_bounds (length f.live) p.0 (subst (λ xs. Contains xs p.0) solid.live_is ends.0) in
+    let a = argument_bounds (length f.live) p.1 (subst (λ xs. Contains xs p.1) solid.live_is ends.1) in
+    record { few = solid.small; low = b.0; high = b.1; target_low = a.0; target_high = a.1 }
 
 header_free : All (λ byte. is_line_end byte ≡ false) (codes "p af ")
 header_free =
@@ -228,7 +229,7 @@ header_free =
 pub reads_back : (f : Af) → IsAf f → IsSolid f → length f.attacks ≤ 10000000 → ReadsAs (af_text f) f
 unfolding lines_of line_at
 reads_back f form solid few =
-    let n = decimal_number (length f.live) solid.few in
+    let n = decimal_number (length f.live) solid.small in
     let fields : field_texts (codes "p af " ++ decimal (length f.live)) ≡ codes "p" ∷ codes "af" ∷ decimal (length f.live) ∷ []
     = header_texts (decimal (length f.live)) n.digits n.not_empty in
     let free : All (λ byte. is_line_end byte ≡ false) (codes "p af " ++ decimal (length f.live))
@@ -247,10 +248,10 @@ reads_back f form solid few =
         lines = ap (λ line. kept (lines_from 1 0 (line ++ flat_map attack_line f.attacks))) (header_line-piece (length f.live))
             ∙ ap kept (first_line_is 1 0 (codes "p af " ++ decimal (length f.live)) (flat_map attack_line f.attacks) free)
             ∙ kept-keeps (line_at 1 0 (codes "p af " ++ decimal (length f.live))) after (ap are_skipped fields);
-        header_is = record { number = decimal (length f.live); fields = fields; number_is = n; few = solid.few };
+        header_is = record { number = decimal (length f.live); fields = fields; number_is = n; few = solid.small };
         others_are = record { each = each; few = omega (arith, long) };
       };
-      framework = record { live = solid.live; attacks_are = λ p. (λ has. has, λ has. has); form = form };
+      framework = record { live = solid.live_is; attacks_are = λ p. (λ has. has, λ has. has); form = form };
     }
 
 -- the text with the line of one more attack
@@ -265,3 +266,38 @@ text_more head old now items attacks i d before same line within =
     line ∙ ap (λ text. text ++ attack_line (get_or items i d)) before
     ∙ flat_map_more attack_line head (take i attacks) (get_or items i d)
     ∙ ap (λ ps. head ++ flat_map attack_line ps) (sym next)
+
+-- ---- how long the text is
+
+short : (n : ℕ) → n ≤ 1000000 → length (decimal n) ≤ 7
+short n h = length-decimal-le 7 n (omega arith) (omega arith) (omega arith)
+
+lines_within : (count : ℕ) (attacks : List (ℕ × ℕ)) → All (IsPair count) attacks
+    → length (flat_map attack_line attacks) ≤ length attacks * 16
+lines_within count [] all = omega arith
+lines_within count (p ∷ ps) all =
+    let pair = All-head (IsPair count) p ps all in
+    let few = pair.few in
+    let high = pair.high in
+    let target_high = pair.target_high in
+    omega (
+      arith,
+      lines_within count ps (All-tail (IsPair count) p ps all),
+      short p.0 (omega arith),
+      short p.1 (omega arith),
+      length-append (attack_line p) (flat_map attack_line ps),
+      length-append (decimal p.0) (32 ∷ (decimal p.1 ++ 10 ∷ [])),
+      length-append (decimal p.1) (10 ∷ []),
+    )
+
+-- a text of at most 10,000,000 attacks keeps the reader's limit
+pub text_within : (f : Af) → IsAf f → IsSolid f → length f.attacks ≤ 10000000 → length (af_text f) ≤ 268435456
+text_within f form solid few =
+    omega (
+      arith,
+      lines_within (length f.live) f.attacks (attacks_are_pairs f form solid),
+      short (length f.live) solid.small,
+      length-append (header_line (length f.live)) (flat_map attack_line f.attacks),
+      length-append (codes "p af ") (decimal (length f.live) ++ 10 ∷ []),
+      length-append (decimal (length f.live)) (10 ∷ []),
+    )

@@ -53,3 +53,7 @@ pub record ReadsAs (bytes : List ℕ) (f : Af) : Type 0 where
   pub attacks : List (ℕ × ℕ)
   pub text : IsAfText bytes count attacks
   pub framework : IsFrameworkOf count attacks f
+
+-- the bytes are the text of some framework
+abbrev pub IsReadable : List ℕ → Type 0
+IsReadable bytes = (f : Af) × ReadsAs bytes f

@@ -9,7 +9,7 @@ use Rattle.af_format.specs.declared.fault.ReadFault.{ReadFault}
 use Rattle.af_format.specs.declared.fault.ReadFault.TheVariants.{Line, Memory}
 use Rattle.af_format.specs.Lines.{kept_lines}
 use Rattle.af_format.specs.AfText.{IsHeader}
-use Rattle.af_format.specs.Causes.{rank, IsFirstCause}
+use Rattle.af_format.specs.Causes.{rank}
 
 -- the first field is `p`
 abbrev pub BeginWithP : List (List ℕ) → Type 0

@@ -23,3 +23,7 @@ pub record IsFirstBadLine (count : ℕ) (lines : List LineText) (number : ℕ) (
   pub before_are : AreAttackLines count before attacks
   pub number_is : number ≡ bad.number
   pub told : IsFirstCause (StandsOnAttack count (length before) (field_texts bad.text)) cause
+
+-- the lines are attack lines, of some attacks
+abbrev pub AreSomeAttacks : ℕ → List LineText → Type 0
+AreSomeAttacks count lines = (attacks : List (ℕ × ℕ)) × AreAttackLines count lines attacks

@@ -1,13 +1,8 @@
 -- The text that is written of a framework.
-use Rattle.std.specs.Prelude.{◌≡◌, ℕ, ◌≤◌, List, [], ◌∷◌, ◌++◌, length, codes}
-use Rattle.std.specs.List.{flat_map, range_with_len}
+use Rattle.std.specs.Prelude.{ℕ, List, [], ◌∷◌, ◌++◌, length, codes}
+use Rattle.std.specs.List.{flat_map}
 use Rattle.std.specs.Fmt.{decimal}
 use Rattle.meaning_atoms.specs.Framework.{Af}
-
--- the live arguments are 1 to n, with n at most 1,000,000
-pub record IsSolid (f : Af) : Type 0 where
-  pub live : f.live ≡ range_with_len 1 (length f.live)
-  pub few : length f.live ≤ 1000000
 
 -- the header's line, its LF included
 abbrev pub header_line : ℕ → List ℕ

@@ -7,11 +7,13 @@
 
 mod af_line;
 mod fault;
+mod laws;
 mod lines;
 mod read;
 mod write;
 
 pub use fault::{LineCause, LineFault, ReadFault};
+pub use laws::{one_reading, read_back, readable_or_faulty};
 pub use read::read_af;
 pub use write::write_af;
 

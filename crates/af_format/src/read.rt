@@ -6,7 +6,8 @@ ghost use Rattle.num_text.specs.Cuts.{lines_of};
 ghost use Rattle.af_format.specs.Lines.{kept};
 ghost use Rattle.af_format.specs.AfText.{AreAttackLines, IsFrameworkOf, ReadsAs};
 ghost use Rattle.af_format.specs.Faults.{IsFirstFault, IsFaultless, IfLine};
-ghost use Rattle.af_format.specs.Written.{IsSolid};
+ghost use Rattle.dung_notions.specs.Solid.{IsSolid};
+ghost use Rattle.meaning_atoms.specs.Framework.{Af};
 ghost use Rattle.af_format.specs.FirstBadLine.{BeginWithHeader, IsFirstBadLine};
 
 use crate::af_line::{attack_of, header_of};
@@ -28,6 +29,7 @@ use std::alloc::Global;
 pub fn read_af(alloc: Global, bytes: &[u8]) -> Result<AfPlain, ReadFault>
     requires { length bytes.now ≤ 268435456 }
     ensures ok { IfOk result (ReadsAs bytes.now) }
+    ensures no_other { IfOk result (λ f. (g : Af) → ReadsAs bytes.now g → g ≡ f) }
     ensures solid { IfOk result IsSolid }
     ensures faultless { OnOk result (IsFaultless bytes.now) }
     ensures fault { IfErr result (λ e. IfLine e (λ fault. IsFirstFault bytes.now fault.line fault.cause)) }
@@ -38,8 +40,8 @@ pub fn read_af(alloc: Global, bytes: &[u8]) -> Result<AfPlain, ReadFault>
     Ok(framework_of(alloc, count, attacks)?)
 }
 
-// The number of arguments that the text's header tells. The lines behind the header are left.
-fn read_header(bytes: &[u8], left: &mut Lines<'_>) -> Result<u32, LineFault>
+/// The number of arguments that the text's header tells. The lines behind the header are left.
+pub(crate) fn read_header(bytes: &[u8], left: &mut Lines<'_>) -> Result<u32, LineFault>
     requires size { length bytes.now ≤ 268435456 }
     requires all { left.old ≡ lines_of bytes.now }
     ensures ok { IfOk result (λ count. BeginWithHeader bytes.now count left.new) }

@@ -1,6 +1,8 @@
 //! The reader and the writer, compared with answers that were worked out by hand.
 
-use crate::{ReadFault, read_af, write_af};
+use crate::{
+    LineCause, LineFault, ReadFault, one_reading, read_af, read_back, readable_or_faulty, write_af,
+};
 use std::alloc::{AllocError, Global};
 use std::test::Fail;
 
@@ -117,4 +119,32 @@ fn written(rt: HostRuntime) {
         return;
     };
     assert!(rt; text.as_slice() == "p af 3\n1 2\n2 1\n2 3\n".as_bytes());
+}
+
+#[test]
+fn laws(rt: HostRuntime) {
+    one_reading();
+    assert_eq!(rt; readable_or_faulty("p af 2\n1 2\n".as_bytes()), Ok(()));
+    let fault = LineFault {
+        line: 3,
+        cause: LineCause::OutOfRange,
+    };
+    assert_eq!(rt;
+        readable_or_faulty("p af 2\n#\n1 3\n1 x".as_bytes()),
+        Err(fault)
+    );
+    let Ok(framework) = read_af(rt.alloc(), "p af 3\n2 3\n1 1".as_bytes()) else {
+        assert!(rt; false, "not read");
+        return;
+    };
+    if !framework.is_solid() || framework.attacks().len() > 2 {
+        assert!(rt; false, "not solid");
+        return;
+    }
+    let Ok(same) = read_back(rt.alloc(), &framework) else {
+        assert!(rt; false, "not read back");
+        return;
+    };
+    assert!(rt; same.live() == [1, 2, 3].as_slice());
+    assert!(rt; same.attacks() == [(1, 1), (2, 3)].as_slice());
 }

@@ -4,20 +4,23 @@ ghost use Rattle.std.specs.Prelude.{◌≡◌, ◌≤◌, length, IfOk};
 ghost use Rattle.std.specs.String.{string_bytes};
 ghost use Rattle.meaning_atoms.specs.Framework.{IsAf};
 ghost use Rattle.af_format.specs.AfText.{ReadsAs};
-ghost use Rattle.af_format.specs.Written.{IsSolid, af_text};
+ghost use Rattle.dung_notions.specs.Solid.{IsSolid};
+ghost use Rattle.af_format.specs.Written.{af_text};
 
 use dung_notions::AfPlain;
 use plain_lists::{Bytes, Memory};
 use std::alloc::Global;
 use std::fmt::Write;
 
-/// The text of a framework whose live arguments are 1 to n: the header, and a line for each attack, by
-/// rising attacker and then target. `Memory` says that an allocation was refused.
+/// The text of a framework whose live arguments are 1 to n ([`AfPlain::is_solid`] is the test): the header,
+/// and a line for each attack, by rising attacker and then target. With up to 10,000,000 attacks it is a
+/// text that [`read_af`](crate::read_af) reads. `Memory` says that an allocation was refused.
 pub fn write_af(alloc: Global, framework: &AfPlain) -> Result<Bytes, Memory>
     requires { IsSolid framework.now }
     ensures text { IfOk result (λ text. text ≡ af_text framework.now) }
     ensures back { length framework.now.attacks ≤ 10000000
         → IfOk result (λ text. ReadsAs text framework.now) }
+    ensures within { length framework.now.attacks ≤ 10000000 → IfOk result (λ text. length text ≤ 268435456) }
 {
     let text = text_of(alloc, framework)?;
     Ok(Bytes::from_vec(text.into_bytes()))

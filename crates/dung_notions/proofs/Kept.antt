@@ -1,86 +1,14 @@
 -- The steps of a search for the grounded set, over plain lists.
-use Rattle.std.proofs.Common.{
-  ◌≡◌,
-  ℕ,
-  ◌+◌,
-  ◌-◌,
-  ◌<◌,
-  ◌≤◌,
-  List,
-  [],
-  ◌∷◌,
-  ◌++◌,
-  length,
-  get_or,
-  set,
-  take,
-  drop,
-  replicate,
-  arith,
-  ap,
-  subst,
-  sym,
-  ◌∙◌,
-  refl,
-  cond,
-  eqb,
-  not,
-  ◌&&◌,
-  Bool,
-  true,
-  false,
-  inl,
-  inr,
-  ⊎_elim,
-}
-use Rattle.std.specs.Prelude.{◌≢◌, ◌⊎◌, ◌↔◌, Contains, filter, All, count_by, sum, sum_by}
+use Rattle.std.proofs.Common.{◌≡◌, ℕ, ◌+◌, ◌-◌, ◌<◌, ◌≤◌, List, [], ◌∷◌, ◌++◌, length, get_or, set, replicate, arith, ap, subst, sym, ◌∙◌, refl, eqb, not, ◌&&◌, Bool, true, false, inl, inr, ⊎_elim}
+use Rattle.std.specs.Prelude.{◌⊎◌, ◌↔◌, Contains, filter, All, sum}
 use Rattle.std.specs.List.Sorted.{IsStrictlyIncreasing}
-use Rattle.std.proofs.lemmas.Bool.{
-  eq-eqb,
-  ne_eqb,
-  eqb-true,
-  eqb-false,
-  cases_eq,
-  cases_lt,
-  cases_Bool,
-  cond-true,
-  cond-false,
-  both_ways,
-  not-false,
-  false≢true,
-  and_cases,
-}
-use Rattle.std.proofs.lemmas.List.{
-  length-set,
-  length-replicate,
-  length-append,
-  length_push,
-  get_or-set_same,
-  get_or-set_other,
-  get_or-replicate,
-  get_or_push,
-  get_or_append_left,
-  get_or_past,
-  get_or_default,
-  take_at,
-  take-append-le,
-  take_all,
-  append_assoc,
-  append-nil,
-  drop_more,
-  drop_all,
-}
-use Rattle.std.proofs.lemmas.List.Elements.{
-  Contains-append_left,
-  Contains-append_cases,
-  Contains-push,
-  Contains-push_cases,
-  Contains-get_or,
-}
+use Rattle.std.proofs.lemmas.Bool.{eq-eqb, ne_eqb, eqb-true, cases_eq, cases_lt, both_ways, not-false, and_cases}
+use Rattle.std.proofs.lemmas.List.{length-set, length-replicate, length-append, length_push, get_or-set_same, get_or-set_other, get_or-replicate, get_or_push, get_or_append_left, get_or_default, take_at, take-append-le, append_assoc, append-nil}
+use Rattle.std.proofs.lemmas.List.Elements.{Contains-append_left, Contains-push, Contains-push_cases, Contains-get_or}
 use Rattle.std.proofs.lemmas.List.Kept.{AllPairs-from_increasing, IsStrictlyIncreasing-filter}
 use Rattle.std.proofs.lemmas.List.Sums.{sum_by-set}
-use Rattle.plain_lists.specs.Members.{IsWithin, IsSetOf}
-use Rattle.meaning_atoms.specs.Framework.{Af, IsAf, Attacks, IsAttackedBy, Defends, IsGrounded}
+use Rattle.plain_lists.specs.Members.{IsWithin}
+use Rattle.meaning_atoms.specs.Framework.{Af, IsAf, Attacks, IsAttackedBy, Defends}
 use Rattle.dung_notions.specs.Grounding.{EntersAfterDefenders, GroundsInOrder}
 use Rattle.dung_notions.specs.Search.{
   IsOnce,
@@ -94,15 +22,7 @@ use Rattle.dung_notions.specs.Search.{
   IsFinished,
 }
 use Rattle.dung_notions.proofs.Cuts.{Contains-filter}
-use Rattle.dung_notions.proofs.Orders.{
-  IsDone,
-  member_at,
-  at_member,
-  defends_more,
-  front_within,
-  IsGrounded-order,
-  IsGrounded-same,
-}
+use Rattle.dung_notions.proofs.Orders.{member_at, at_member, IsGrounded-order, IsGrounded-same}
 use Rattle.dung_notions.proofs.Tallies.{
   none_passes,
   none_counted,

@@ -1,36 +1,9 @@
 -- A closed order of defended arguments is the grounded set. No word here is of how the order was found.
-use Rattle.std.proofs.Common.{
-  ◌≡◌,
-  ℕ,
-  ◌+◌,
-  ◌<◌,
-  ◌≤◌,
-  List,
-  length,
-  get_or,
-  take,
-  arith,
-  ap,
-  subst,
-  sym,
-  ◌∙◌,
-  refl,
-  zero,
-  suc,
-}
+use Rattle.std.proofs.Common.{◌≡◌, ℕ, ◌+◌, ◌<◌, List, length, get_or, take, arith, sym, ◌∙◌, zero, suc}
 use Rattle.std.specs.Prelude.{Contains}
 use Rattle.std.proofs.lemmas.List.{length-take, get_or-take, get_or_default}
 use Rattle.plain_lists.specs.Members.{IsWithin}
-use Rattle.meaning_atoms.specs.Framework.{
-  Af,
-  Attacks,
-  IsAttackedBy,
-  Defends,
-  IsConflictFree,
-  IsAdmissible,
-  IsComplete,
-  IsGrounded,
-}
+use Rattle.meaning_atoms.specs.Framework.{Af, Attacks, Defends, IsComplete, IsGrounded}
 use Rattle.dung_notions.specs.Grounding.{EntersAfterDefenders}
 
 -- an order whose arguments are defended by those before them, and which holds all that it defends

@@ -1,28 +1,8 @@
 -- A framework's two directions, made from one list of attacks.
-use Rattle.std.proofs.Common.{
-  ◌≡◌,
-  ℕ,
-  ◌+◌,
-  ◌<◌,
-  List,
-  length,
-  get_or,
-  map,
-  arith,
-  ap,
-  sym,
-  ◌∙◌,
-  refl,
-  subst,
-  ⊎_elim,
-  [],
-  ◌∷◌,
-  ◌++◌,
-}
+use Rattle.std.proofs.Common.{◌≡◌, ℕ, ◌+◌, ◌<◌, List, length, get_or, map, arith, ap, sym, ◌∙◌, subst, ⊎_elim, [], ◌∷◌, ◌++◌}
 use Rattle.std.specs.Prelude.{Contains, ◌↔◌}
 use Rattle.std.specs.List.Sorted.{IsStrictlyIncreasing}
 use Rattle.std.proofs.lemmas.List.{length-map, get_or-map}
-use Rattle.meaning_atoms.specs.Framework.{Af, IsAf}
 use Rattle.std.proofs.lemmas.List.Elements.{Contains-push_cases}
 use Rattle.dung_notions.specs.Neighbours.{AreBetween}
 use Rattle.dung_notions.specs.Places.{AreArrows, IsStored, framework_of, turned}

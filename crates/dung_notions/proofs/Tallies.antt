@@ -1,49 +1,7 @@
 -- Counts over a list of attacks.
-use Rattle.std.proofs.Common.{
-  ◌≡◌,
-  ℕ,
-  ◌+◌,
-  ◌-◌,
-  ◌<◌,
-  ◌≤◌,
-  List,
-  [],
-  ◌∷◌,
-  ◌++◌,
-  length,
-  get_or,
-  set,
-  take,
-  replicate,
-  arith,
-  ap,
-  sym,
-  ◌∙◌,
-  refl,
-  cond,
-  eqb,
-  not,
-  ◌&&◌,
-  Bool,
-  true,
-  false,
-  ⊎_elim,
-}
-use Rattle.std.specs.Prelude.{Contains, filter, All, count_by, sum, sum_by}
-use Rattle.std.proofs.lemmas.Bool.{
-  eq-eqb,
-  ne_eqb,
-  eqb-true,
-  eqb-false,
-  cases_eq,
-  cases_Bool,
-  cond-true,
-  cond-false,
-  both_ways,
-  not-false,
-  and_parts,
-}
-use Rattle.std.proofs.lemmas.Grind.{common_steps}
+use Rattle.std.proofs.Common.{◌≡◌, ℕ, ◌+◌, ◌<◌, ◌≤◌, List, [], ◌∷◌, length, get_or, set, take, replicate, arith, ap, sym, ◌∙◌, refl, cond, eqb, not, ◌&&◌, Bool, true, false, ⊎_elim}
+use Rattle.std.specs.Prelude.{Contains, filter, All, count_by}
+use Rattle.std.proofs.lemmas.Bool.{eq-eqb, ne_eqb, cases_eq, cases_Bool}
 use Rattle.std.proofs.lemmas.List.{get_or-set_same, get_or-set_other, get_or-replicate}
 use Rattle.std.proofs.lemmas.List.Elements.{All-head, All-tail}
 use Rattle.std.proofs.lemmas.List.Sums.{sum_by-cons, get_or-le-sum_by, count_by_more_yes, count_by_more_no}

@@ -1,6 +1,5 @@
 -- The grounded set, and an order in which its arguments enter.
 use Rattle.std.specs.Prelude.{◌≢◌, ℕ, ◌<◌, List, Contains, length, slice_index, take}
-use Rattle.std.specs.List.Sorted.{IsStrictlyIncreasing}
 use Rattle.plain_lists.specs.Members.{IsSetOf}
 use Rattle.meaning_atoms.specs.Framework.{Af, Defends, IsGrounded}
 

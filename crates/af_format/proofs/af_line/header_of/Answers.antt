@@ -1,4 +1,4 @@
-use Rattle.std.proofs.Common.{rules, arith}
+use Rattle.std.proofs.Common.{rules}
 use Rattle.af_format.proofs.LineCauses.{header_over}
 use Rattle.af_format.proofs.af_line.header_of.Goals as goal
 

@@ -1,4 +1,4 @@
-use Rattle.std.proofs.Common.{◌≡◌, sym, ap, ◌∙◌}
+use Rattle.std.proofs.Common.{sym, ap, ◌∙◌}
 use Rattle.af_format.specs.Lines.{kept}
 use Rattle.af_format.proofs.KeptLines.{kept-nil, kept-skips, kept-keeps}
 use Rattle.af_format.proofs.lines.next_kept.Goals as goal

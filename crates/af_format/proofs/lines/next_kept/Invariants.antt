@@ -1,4 +1,4 @@
-use Rattle.std.proofs.Common.{◌≡◌, length}
+use Rattle.std.proofs.Common.{◌≡◌}
 use Rattle.af_format.specs.Lines.{kept}
 use Rattle.af_format.proofs.lines.next_kept.Given as goal
 

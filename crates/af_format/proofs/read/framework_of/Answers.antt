@@ -1,4 +1,4 @@
-use Rattle.std.proofs.Common.{◌≡◌, sym, subst}
+use Rattle.std.proofs.Common.{sym, subst}
 use Rattle.std.specs.Prelude.{Contains}
 use Rattle.af_format.proofs.Reading.{framework_made}
 use Rattle.af_format.proofs.read.framework_of.Goals as goal

@@ -1,5 +1,6 @@
 use Rattle.std.proofs.Common.{rules}
-use Rattle.af_format.proofs.Reading.{ends_are_arguments, bad_text_told, header_few, read_is_solid}
+use Rattle.af_format.proofs.Reading.{ends_are_arguments, bad_text_told, header_few, read_is_solid, reads_as}
+use Rattle.af_format.proofs.Readings.{ReadsAs-same}
 use Rattle.af_format.proofs.read.read_af.Goals as goal
 
 pub framework_of-requires-clause-ends : goal.framework_of-requires-clause-ends
@@ -12,6 +13,11 @@ returns-in_err-attacks-clause-fault c = search (
   bad_text_told c.args.bytes.now c.in_ok-count.count c.read_header.new.left c.in_err-attacks.field-0.0
       c.in_ok-count.ensures.ok c.in_err-attacks.ensures.fault,
 )
+
+pub returns-clause-no_other : goal.returns-clause-no_other
+returns-clause-no_other c = λ g read. ReadsAs-same c.args.bytes.now g c.in_ok-framework_of.field-0 read
+    (reads_as c.args.bytes.now c.in_ok-count.count c.read_header.new.left c.in_ok-attacks.attacks
+    c.in_ok-framework_of.field-0 c.in_ok-count.ensures.ok c.in_ok-attacks.ensures.ok c.in_ok-framework_of.ensures)
 
 pub returns-clause-solid : goal.returns-clause-solid
 returns-clause-solid c =

@@ -1,5 +1,5 @@
 use Rattle.std.specs.Prelude.{Contains}
-use Rattle.std.proofs.Common.{rules, arith}
+use Rattle.std.proofs.Common.{rules}
 use Rattle.dung_notions.proofs.Storage.{between_push}
 use Rattle.dung_notions.proofs.tests.add_between.Goals as goal
 

@@ -1,4 +1,4 @@
-use Rattle.std.proofs.Common.{◌≡◌, ◌<◌, ℕ, List, Bool, length, arith, replicate, false}
+use Rattle.std.proofs.Common.{◌≡◌, replicate, false}
 use Rattle.dung_notions.proofs.Kept.{begins}
 use Rattle.dung_notions.proofs.af_plain.AfPlain.begin.Goals as goal
 

@@ -1,8 +1,6 @@
 use Rattle.std.proofs.Common.{ℕ, rules}
 use Rattle.std.specs.Prelude.{Contains}
 use Rattle.std.proofs.lemmas.Iterator.{cases_from_any, YieldsList-from_slice}
-use Rattle.meaning_atoms.specs.Framework.{IsAttackedBy, Defends}
-use Rattle.dung_notions.specs.Notions.{AttacksInto}
 use Rattle.dung_notions.proofs.NotionLemmas.{attacked_by_walk}
 use Rattle.dung_notions.proofs.af_plain.AfPlain.is_attacked_by.Goals as goal
 

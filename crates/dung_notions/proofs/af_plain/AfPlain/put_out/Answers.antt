@@ -1,23 +1,6 @@
-use Rattle.std.proofs.Common.{
-  ◌≡◌,
-  ◌∙◌,
-  ◌+◌,
-  ◌<◌,
-  ℕ,
-  ◌∷◌,
-  length,
-  get_or,
-  drop,
-  set,
-  arith,
-  sym,
-  refl,
-  true,
-  false,
-}
+use Rattle.std.proofs.Common.{◌≡◌, ◌∙◌, arith, sym, refl, true, false}
 use Rattle.std.proofs.lemmas.List.{get_or_default, drop_more}
-use Rattle.std.specs.Prelude.{Contains}
-use Rattle.dung_notions.specs.Search.{IsKept, is_out}
+use Rattle.dung_notions.specs.Search.{is_out}
 use Rattle.dung_notions.proofs.Kept.{marks, closes, counts_it, grows_not, grows_twice, grows_closed, leaves}
 use Rattle.dung_notions.proofs.af_plain.AfPlain.put_out.Goals as goal
 

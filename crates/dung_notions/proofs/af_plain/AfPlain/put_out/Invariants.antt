@@ -1,4 +1,4 @@
-use Rattle.std.proofs.Common.{◌≡◌, ◌≤◌, ◌<◌, ℕ, length, get_or, drop}
+use Rattle.std.proofs.Common.{◌≡◌, drop}
 use Rattle.dung_notions.specs.Search.{IsKept, Grows}
 use Rattle.dung_notions.proofs.af_plain.AfPlain.put_out.Given as goal
 

@@ -1,5 +1,4 @@
 use Rattle.std.proofs.Common.{◌<◌, length, arith}
-use Rattle.dung_notions.specs.Search.{PutsOut}
 use Rattle.dung_notions.proofs.Kept.{finishes, head_on}
 use Rattle.dung_notions.proofs.af_plain.AfPlain.searched.Goals as goal
 

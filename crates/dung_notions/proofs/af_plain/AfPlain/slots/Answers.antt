@@ -1,4 +1,4 @@
-use Rattle.std.proofs.Common.{◌≡◌, ◌<◌, arith, length}
+use Rattle.std.proofs.Common.{arith}
 use Rattle.dung_notions.proofs.af_plain.AfPlain.slots.Goals as goal
 
 pub returns : goal.returns

@@ -1,4 +1,4 @@
-use Rattle.std.proofs.Common.{◌≡◌, ◌≤◌, ◌<◌, ℕ, length, get_or}
+use Rattle.std.proofs.Common.{◌≡◌, ◌<◌, ℕ, get_or}
 use Rattle.dung_notions.specs.Search.{PutsOut}
 use Rattle.dung_notions.proofs.af_plain.AfPlain.strike.Given as goal
 
