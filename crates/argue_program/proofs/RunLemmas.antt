@@ -11,12 +11,11 @@ use Rattle.argue_words.specs.declared.words.Command.TheVariants.{Version, Ground
 use Rattle.argue_words.proofs.CommandLaws.{known_words, one_file, query_words}
 use Rattle.af_format.specs.AfText.{AreAttackLines, ReadsAs}
 use Rattle.af_format.specs.Faults.{IsFaultless, IsFirstFault}
-use Rattle.af_format.specs.Lines.{are_skipped, kept, kept_lines}
+use Rattle.af_format.specs.Lines.{are_skipped, kept}
 use Rattle.af_format.specs.declared.fault.LineFault.{LineFault}
 use Rattle.af_format.proofs.KeptLines.{kept-keeps, kept-nil, kept-skips}
 use Rattle.af_format.proofs.Reading.{faultless}
 use Rattle.argue_program.specs.AnswerText.{set_text}
-use Rattle.argue_program.specs.RefusalText.{fault_text}
 use Rattle.argue_program.specs.Run.{AnswersFile, AnswersQuery, AsksInVain, AsksNothing, BreaksOff, CommandBreaksOff, FileBreaksOff, HasCause, HasCommandCause, HasFileCause, HasFirstFault, HasWordsInVain, IsFaulty, IsReadable, IsRefusalOf, IsRightFor, input_limit, text_of}
 use Rattle.argue_program.specs.Stops.{IfRefused, status_of}
 use Rattle.argue_program.specs.declared.command.Stop.{Stop}

@@ -119,7 +119,8 @@ text_of WriteFault kept = []
 text_of WantOfMemory kept = []
 text_of Limit kept = codes "error: limit input\n"
 
--- how a query on faulty bytes may end: they are refused by their first fault, memory was refused, or the output broke off
+-- how a query on faulty bytes may end: they are refused by their first fault, memory was refused, or the
+-- output broke off
 abbrev pub IsRefusalOf : List ℕ → Status → Type 0
 IsRefusalOf bytes Done = ⊥
 IsRefusalOf bytes Usage = ⊥

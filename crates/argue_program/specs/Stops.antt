@@ -1,5 +1,4 @@
 -- Why no grounded set was found.
-use Rattle.std.specs.Prelude.{◌≡◌, Option, None}
 use Rattle.argue_program.specs.declared.command.Stop.{Stop}
 use Rattle.argue_program.specs.declared.command.Stop.TheVariants as stop
 use Rattle.argue_program.specs.declared.ended.Status.{Status}

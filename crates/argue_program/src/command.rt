@@ -136,7 +136,8 @@ fn end_without_memory() -> Ended
     }
 }
 
-/// Writes the line of a fault of the file and ends. The line is made first, so that want of memory writes nothing.
+/// Writes the line of a fault of the file and ends. The line is made first, so that want of memory writes
+/// nothing.
 fn refuse_file<O: Sink>(alloc: Global, out: &mut O, fault: LineFault) -> Ended
     ensures status { result.status ≢ Status.WriteFault
         → (result.status ≡ Status.InputRefused fault) ⊎ (result.status ≡ Status.WantOfMemory) }
