@@ -1,0 +1,5 @@
+pub mod Clauses
+pub mod Rows
+pub mod Literals
+pub mod Gaps
+pub mod Values

@@ -1,0 +1,35 @@
+//! The atoms whose value the framework alone fixes.
+
+ghost use Rattle.std.specs.Prelude.{◌↔◌, IfNone, IfSome, IsTrue};
+ghost use Rattle.meaning_atoms.specs.Worlds.{HasGap, IsFact};
+ghost use Rattle.af_axioms.specs.Facts.{IsFactValue};
+
+use dung_notions::AfPlain;
+use meaning_atoms::Atom;
+
+/// Whether an atom is true, where the framework alone fixes it: `Live`, `Attack` and `Gap`. None at each other
+/// atom, a side clause's number among them. It takes no memory, and time logarithmic in the arguments and
+/// attacks.
+pub fn fact_value(plain: &AfPlain, atom: &Atom) -> Option<bool>
+    ensures some { IfSome result (IsFactValue plain.now atom.now) }
+    ensures none { IfNone result (¬ IsFact atom.now) }
+{
+    match *atom {
+        Atom::Live(a) => Some(plain.is_live(a)),
+        Atom::Attack(b, a) => Some(plain.has_attack(b, a)),
+        Atom::Gap(a, i, j) => Some(has_gap(plain, a, i, j)),
+        _ => None,
+    }
+}
+
+/// Whether no attacker of an argument has a number from `begin` to just before `end`.
+fn has_gap(plain: &AfPlain, argument: u32, begin: u32, end: u32) -> bool
+    ensures { IsTrue result ↔ HasGap plain.now argument begin end }
+{
+    let attackers = plain.attackers_of(argument);
+    let first = attackers.partition_point(|pair| pair.1 < begin);
+    match attackers.get(first) {
+        Some(attacker) => end <= attacker.1,
+        None => true,
+    }
+}
