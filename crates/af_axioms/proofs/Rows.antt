@@ -1,18 +1,17 @@
 -- Each row of the table of axioms is true in every world.
-use Rattle.std.proofs.Common.{◌≡◌, ◌≤◌, ◌<◌, ◌+◌, ◌==◌, ℕ, List, [], ◌∷◌, arith, subst, sym, ⊎_elim}
+use Rattle.std.proofs.Common.{◌≤◌, ◌<◌, ◌+◌, ◌==◌, ℕ, [], ◌∷◌, arith, subst, sym, ⊎_elim}
 use Rattle.std.specs.Prelude.{Contains}
 use Rattle.std.proofs.lemmas.Bool.{cases_eq, cases_lt, cond_both}
-use Rattle.meaning_atoms.specs.declared.atom.Atom.{Atom}
-use Rattle.meaning_atoms.specs.declared.atom.Atom.TheVariants.{Member, Live, Attack, Gap, Tail, Unmet, Cf, Ad, Co, St}
-use Rattle.meaning_atoms.specs.declared.atom.AtomLit.{AtomLit}
+use Rattle.meaning_atoms.specs.declared.atom.Atom.TheVariants.{Member, Live, Attack, Gap, Tail, Unmet}
+use Rattle.meaning_atoms.specs.declared.atom.Atom.TheVariants.{Cf, Ad, Co, St}
 use Rattle.meaning_atoms.specs.declared.axiom.AfAxiom.{AfAxiom}
 use Rattle.meaning_atoms.specs.declared.axiom.AfAxiom.TheVariants.{A1, A2, A3, A4, A5, A6, A7, A8, A9, A10, A14}
-use Rattle.meaning_atoms.specs.Framework.{Af, IsAf, Attacks, IsAttackedBy, Defends, IsConflictFree, IsAdmissible, IsComplete, IsStable}
-use Rattle.meaning_atoms.specs.Worlds.{World, IsWorld, HasGap, HasTail, HasUnmet, Holds, IsTrueBeside, IsValid}
+use Rattle.meaning_atoms.specs.Framework.{Af, Attacks, IsAttackedBy, Defends}
+use Rattle.meaning_atoms.specs.Worlds.{World, IsWorld, HasGap, HasTail, HasUnmet, IsValid}
 use Rattle.meaning_atoms.proofs.Decided.{decide_attacked}
 use Rattle.meaning_atoms.proofs.Readings.{decide_unmet}
 use Rattle.meaning_atoms.proofs.Extensions.{stable_largest, preferred_complete}
-use Rattle.af_axioms.specs.Table.{affirmed, denied, end, table_clause, notion_clause}
+use Rattle.af_axioms.specs.Table.{affirmed, denied, table_clause, notion_clause}
 use Rattle.af_axioms.proofs.Clauses.{so, or_else, given}
 
 -- the number of an attacker lies before the end of all places
@@ -20,20 +19,30 @@ before_end : (w : World) → IsWorld w → (b a : ℕ) → Attacks w.framework b
 before_end w ok b a at = let high = (ok.live b (ok.form.ends b a at).0).high in omega arith
 
 -- a set that attacks an argument does so by a member of number 1 or more
-tail_from : (w : World) → IsWorld w → (a : ℕ) → IsAttackedBy w.framework w.set a → HasTail w.framework w.set a 1
-tail_from w ok a hit = record { attacker = hit.0; late = (ok.members hit.0 hit.1).low; member = hit.1; attack = hit.2 }
+tail_from : (w : World) → IsWorld w → (a : ℕ) → IsAttackedBy w.framework w.set a
+    → HasTail w.framework w.set a 1
+tail_from w ok a hit =
+    record { attacker = hit.0; late = (ok.members hit.0 hit.1).low; member = hit.1; attack = hit.2 }
 
--- a number from i on that is not in the gap from i to j is j or larger
+-- what has no unmet attacker is defended
+met_is_defended : (w : World) → IsWorld w → (a : ℕ) → (HasUnmet w.framework w.set a 1 → ⊥)
+    → Defends w.framework w.set a
+met_is_defended w ok a none b at =
+    let low = (ok.live b (ok.form.ends b a at).0).low in
+    ⊎_elim (λ hit. hit) (λ unmet. absurd (none (record { attacker = b; late = low; attack = at; unmet = unmet })))
+    (decide_attacked w.framework w.set b)
+
+-- an attacker from i on, where there is none from i to just before j, is j or a later one
 past_gap : (f : Af) (a b i j : ℕ) → HasGap f a i j → Attacks f b a → i ≤ b → j ≤ b
 past_gap f a b i j gap at late = ⊎_elim (λ lt. absurd (gap b at late lt)) (λ ge. ge) (cases_lt b j)
 
-conflict_free_is_live : (a : ℕ) → IsValid (table_clause (A1 a))
-conflict_free_is_live a w ok sides =
+members_are_live : (a : ℕ) → IsValid (table_clause (A1 a))
+members_are_live a w ok sides =
     given w sides Cf _ (λ free. given w sides (Member a) _ (λ member.
     so w sides (Live a) [] (free.live a member)))
 
-no_attack_within : (b a : ℕ) → IsValid (table_clause (A2 b a))
-no_attack_within b a w ok sides =
+members_are_apart : (b a : ℕ) → IsValid (table_clause (A2 b a))
+members_are_apart b a w ok sides =
     given w sides Cf _ (λ free. given w sides (Attack b a) _ (λ at. given w sides (Member a) _ (λ target.
     given w sides (Member b) _ (λ attacker. absurd (free.apart b a attacker target at)))))
 
@@ -61,13 +70,6 @@ tail_ends a i w ok sides =
     given w sides (Tail a i) _ (λ tail. given w sides (Gap a i 1000001) _ (λ gap.
     absurd (gap tail.attacker tail.attack tail.late (before_end w ok tail.attacker a tail.attack))))
 
--- what has no unmet attacker is defended
-met_is_defended : (w : World) → IsWorld w → (a : ℕ) → (HasUnmet w.framework w.set a 1 → ⊥) → Defends w.framework w.set a
-met_is_defended w ok a none b at =
-    ⊎_elim (λ hit. hit)
-    (λ unmet. absurd (none (record { attacker = b; late = (ok.live b (ok.form.ends b a at).0).low; attack = at; unmet = unmet })))
-    (decide_attacked w.framework w.set b)
-
 outsiders_have_unmet : (a : ℕ) → IsValid (table_clause (A7 a))
 outsiders_have_unmet a w ok sides =
     given w sides Co _ (λ co. given w sides (Live a) _ (λ live. or_else w sides (Member a) _ (λ out.
@@ -77,21 +79,28 @@ outsiders_have_unmet a w ok sides =
 
 unmet_steps : (a i j : ℕ) → IsValid (table_clause (A8 a i j))
 unmet_steps a i j w ok sides =
-    given w sides (Unmet a i) _ (λ unmet. given w sides (Gap a i j) _ (λ gap.
-    let past = past_gap w.framework a unmet.attacker i j gap unmet.attack unmet.late in
+    given w sides (Unmet a i) _ (λ open_one. given w sides (Gap a i j) _ (λ gap.
+    let past = past_gap w.framework a open_one.attacker i j gap open_one.attack open_one.late in
+    let attacked : ℕ → Type 0 = λ b. IsAttackedBy w.framework w.set b in
     given w sides (Tail j 1) _ (λ tail. so w sides (Unmet a (j + 1)) []
     (⊎_elim
-    (λ same. absurd (unmet.unmet (subst (λ (b : ℕ). IsAttackedBy w.framework w.set b) (sym same) (tail.attacker, tail.member, tail.attack))))
-    (λ other. record { attacker = unmet.attacker; late = omega arith; attack = unmet.attack; unmet = unmet.unmet })
-    (cases_eq unmet.attacker j)))))
+    (λ same. absurd (open_one.unmet (subst attacked (sym same) (tail.attacker, tail.member, tail.attack))))
+    (λ other. record {
+      attacker = open_one.attacker;
+      late = omega arith;
+      attack = open_one.attack;
+      unmet = open_one.unmet;
+    })
+    (cases_eq open_one.attacker j)))))
 
 unmet_ends : (a i : ℕ) → IsValid (table_clause (A9 a i))
 unmet_ends a i w ok sides =
-    given w sides (Unmet a i) _ (λ unmet. given w sides (Gap a i 1000001) _ (λ gap.
-    absurd (gap unmet.attacker unmet.attack unmet.late (before_end w ok unmet.attacker a unmet.attack))))
+    given w sides (Unmet a i) _ (λ open_one. given w sides (Gap a i 1000001) _ (λ gap.
+    let early = before_end w ok open_one.attacker a open_one.attack in
+    absurd (gap open_one.attacker open_one.attack open_one.late early)))
 
-stable_attacks_outsiders : (a : ℕ) → IsValid (table_clause (A10 a))
-stable_attacks_outsiders a w ok sides =
+outsiders_are_attacked : (a : ℕ) → IsValid (table_clause (A10 a))
+outsiders_are_attacked a w ok sides =
     given w sides St _ (λ st. given w sides (Live a) _ (λ live. or_else w sides (Member a) _ (λ out.
     so w sides (Tail a 1) [] (tail_from w ok a (st.attacks_outside a live out)))))
 
@@ -113,8 +122,8 @@ notions_imply part =
 
 -- every row of the table
 pub rows_are_valid : (name : AfAxiom) → IsValid (table_clause name)
-rows_are_valid (A1 a) = conflict_free_is_live a
-rows_are_valid (A2 b a) = no_attack_within b a
+rows_are_valid (A1 a) = members_are_live a
+rows_are_valid (A2 b a) = members_are_apart b a
 rows_are_valid (A3 b a) = attackers_are_attacked b a
 rows_are_valid (A4 b a) = members_attack b a
 rows_are_valid (A5 a i j) = tail_steps a i j
@@ -122,5 +131,5 @@ rows_are_valid (A6 a i) = tail_ends a i
 rows_are_valid (A7 a) = outsiders_have_unmet a
 rows_are_valid (A8 a i j) = unmet_steps a i j
 rows_are_valid (A9 a i) = unmet_ends a i
-rows_are_valid (A10 a) = stable_attacks_outsiders a
+rows_are_valid (A10 a) = outsiders_are_attacked a
 rows_are_valid (A14 part) = notions_imply part

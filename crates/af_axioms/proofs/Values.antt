@@ -7,5 +7,6 @@ use Rattle.meaning_atoms.specs.Framework.{Af}
 use Rattle.meaning_atoms.specs.Worlds.{HasGap}
 use Rattle.af_axioms.specs.Facts.{IsFactValue}
 
-pub gap_value : (f : Af) (atom : Atom) (a i j : ℕ) (value : Bool) → atom ≡ Gap a i j → (IsTrue value ↔ HasGap f a i j) → IsFactValue f atom value
+pub gap_value : (f : Af) (atom : Atom) (a i j : ℕ) (value : Bool)
+    → atom ≡ Gap a i j → (IsTrue value ↔ HasGap f a i j) → IsFactValue f atom value
 gap_value f atom a i j value e h = rw e (record { fact = tt; reading = λ w sides same. rw same h })

@@ -5,7 +5,8 @@ use Rattle.meaning_atoms.specs.declared.atom.AtomLit.{AtomLit}
 use Rattle.meaning_atoms.specs.Framework.{Af}
 use Rattle.meaning_atoms.specs.Worlds.{World, Holds, IsFact}
 
--- a framework alone fixes the atom, and the value says whether it is so: with every set, beside all side clauses
+-- the framework alone fixes whether the atom is so, and the value says it, whatever the set and the side clauses
 pub record IsFactValue (f : Af) (atom : Atom) (value : Bool) : Type 0 where
   pub fact : IsFact atom
-  pub reading : (w : World) (sides : List (List AtomLit)) → w.framework ≡ f → (IsTrue value ↔ Holds w sides atom)
+  pub reading : (w : World) (sides : List (List AtomLit)) → w.framework ≡ f
+      → (IsTrue value ↔ Holds w sides atom)

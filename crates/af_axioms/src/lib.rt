@@ -1,10 +1,12 @@
-//! The clauses that hold of every abstract framework and every set of its arguments, by their names, and the
-//! atoms whose value the framework alone fixes.
+//! The clauses that are true of every abstract framework and every set of numbers, by their names, and the
+//! values of the atoms that a framework alone fixes.
 #![tactic(auto)]
 
 mod clause;
 mod fact;
 pub mod laws;
+#[cfg(test)]
+mod tests;
 
 pub use clause::clause_of;
 pub use fact::fact_value;

@@ -1,23 +1,19 @@
 use Rattle.std.proofs.Common.{ℕ, ltb, rules, refl}
-use Rattle.std.proofs.lemmas.List.Sorted.{IsPartitionPoint-from_clause, IsPartitionedBy-ltb}
-use Rattle.af_axioms.proofs.Gaps.{attackers_rise, gap_past_all, gap_at}
+use Rattle.std.proofs.lemmas.List.Sorted.{IsPartitionPoint-from_clause}
+use Rattle.af_axioms.proofs.Gaps.{attackers_parted, gap_past_all, gap_at}
 use Rattle.af_axioms.proofs.fact.has_gap.Goals as goal
 
 pub returns-in-Some : goal.returns-in-Some
 returns-in-Some c =
-    let pairs = c.attackers_of-attackers.result.now in
     let lists = c.attackers_of-attackers.ensures in
-    let rise = attackers_rise _ _ _ lists in
-    let parted = IsPartitionedBy-ltb (λ (p : ℕ × ℕ). p.1) pairs c.args.begin rise in
-    let cut = IsPartitionPoint-from_clause (λ (p : ℕ × ℕ). ltb p.1 c.args.begin) _ _ c.partition_point-first.ensures.partitioned parted (λ a r q k. search rules) in
+    let cut = IsPartitionPoint-from_clause (λ (p : ℕ × ℕ). ltb p.1 c.args.begin) _ _
+    c.partition_point-first.ensures.partitioned (attackers_parted _ _ _ _ lists) (λ a r q k. search rules) in
     let lookup = c.in-Some.ensures.lookup in
     gap_at _ _ _ _ _ _ _ lists cut lookup.3.0 lookup.1
 
 pub returns-in-None : goal.returns-in-None
 returns-in-None c =
-    let pairs = c.attackers_of-attackers.result.now in
     let lists = c.attackers_of-attackers.ensures in
-    let rise = attackers_rise _ _ _ lists in
-    let parted = IsPartitionedBy-ltb (λ (p : ℕ × ℕ). p.1) pairs c.args.begin rise in
-    let cut = IsPartitionPoint-from_clause (λ (p : ℕ × ℕ). ltb p.1 c.args.begin) _ _ c.partition_point-first.ensures.partitioned parted (λ a r q k. search rules) in
-    (λ t. gap_past_all _ _ _ _ _ _ lists cut c.in-None.ensures.lookup.3, λ gap. refl)
+    let cut = IsPartitionPoint-from_clause (λ (p : ℕ × ℕ). ltb p.1 c.args.begin) _ _
+    c.partition_point-first.ensures.partitioned (attackers_parted _ _ _ _ lists) (λ a r q k. search rules) in
+    (λ always. gap_past_all _ _ _ _ _ _ lists cut c.in-None.ensures.lookup.3, λ gap. refl)

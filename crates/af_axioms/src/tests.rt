@@ -1,0 +1,199 @@
+//! The table of axioms row by row, and the values of facts in one framework.
+
+ghost use Rattle.std.specs.Prelude.{IfOk, OnOk};
+ghost use Rattle.dung_notions.specs.Neighbours.{AreBetween};
+
+use crate::{clause_of, fact_value};
+use dung_notions::AfPlain;
+use meaning_atoms::Atom::{Ad, Ask, Attack, Cf, Co, Gap, Live, Member, Range, St, Tail, Unmet};
+use meaning_atoms::{AfAxiom, Atom, AtomLit, END};
+use plain_lists::Memory;
+use set_lists::NumSet;
+use std::alloc::Global;
+use std::process::Abort;
+use std::test::Fail;
+
+fn is(atom: Atom) -> AtomLit {
+    AtomLit {
+        atom,
+        positive: true,
+    }
+}
+
+fn not(atom: Atom) -> AtomLit {
+    AtomLit {
+        atom,
+        positive: false,
+    }
+}
+
+/// An axiom's name and its clause.
+#[derive(Drop)]
+struct Row<'a> {
+    name: AfAxiom,
+    clause: &'a [AtomLit],
+}
+
+fn check(rt: &impl Abort, alloc: Global, rows: &[Row]) -> Result<(), Fail> {
+    for row in rows {
+        assert!(rt; row.name.is_name(), "{:?}", row.name);
+        let clause = clause_of(alloc, &row.name)?;
+        assert_eq!(rt; clause.as_slice(), row.clause, "{:?}", row.name);
+    }
+    Ok(())
+}
+
+#[test]
+fn first_rows(rt: HostRuntime) -> Result<(), Fail> {
+    let rows = [
+        Row {
+            name: AfAxiom::A1(7),
+            clause: &[not(Cf), not(Member(7)), is(Live(7))],
+        },
+        Row {
+            name: AfAxiom::A2(1, 2),
+            clause: &[not(Cf), not(Attack(1, 2)), not(Member(2)), not(Member(1))],
+        },
+        Row {
+            name: AfAxiom::A2(3, 3),
+            clause: &[not(Cf), not(Attack(3, 3)), not(Member(3)), not(Member(3))],
+        },
+        Row {
+            name: AfAxiom::A3(4, 5),
+            clause: &[not(Ad), not(Attack(4, 5)), not(Member(5)), is(Tail(4, 1))],
+        },
+        Row {
+            name: AfAxiom::A3(6, 6),
+            clause: &[not(Ad), not(Attack(6, 6)), not(Member(6)), is(Tail(6, 1))],
+        },
+        Row {
+            name: AfAxiom::A4(8, 9),
+            clause: &[not(Attack(8, 9)), not(Member(8)), is(Tail(9, 1))],
+        },
+        Row {
+            name: AfAxiom::A14(1),
+            clause: &[not(Ad), is(Cf)],
+        },
+        Row {
+            name: AfAxiom::A14(2),
+            clause: &[not(Co), is(Ad)],
+        },
+        Row {
+            name: AfAxiom::A14(3),
+            clause: &[not(St), is(Co)],
+        },
+    ];
+    check(&rt, rt.alloc(), &rows)
+}
+
+#[test]
+fn rows_of_walks(rt: HostRuntime) -> Result<(), Fail> {
+    let rows = [
+        Row {
+            name: AfAxiom::A5(2, 3, 4),
+            clause: &[
+                not(Tail(2, 3)),
+                not(Gap(2, 3, 4)),
+                is(Member(4)),
+                is(Tail(2, 5)),
+            ],
+        },
+        Row {
+            name: AfAxiom::A5(2, 1, 1_000_000),
+            clause: &[
+                not(Tail(2, 1)),
+                not(Gap(2, 1, 1_000_000)),
+                is(Member(1_000_000)),
+                is(Tail(2, END)),
+            ],
+        },
+        Row {
+            name: AfAxiom::A6(2, END),
+            clause: &[not(Tail(2, END)), not(Gap(2, END, END))],
+        },
+        Row {
+            name: AfAxiom::A7(5),
+            clause: &[not(Co), not(Live(5)), is(Member(5)), is(Unmet(5, 1))],
+        },
+        Row {
+            name: AfAxiom::A8(2, 3, 4),
+            clause: &[
+                not(Unmet(2, 3)),
+                not(Gap(2, 3, 4)),
+                not(Tail(4, 1)),
+                is(Unmet(2, 5)),
+            ],
+        },
+        Row {
+            name: AfAxiom::A9(2, 3),
+            clause: &[not(Unmet(2, 3)), not(Gap(2, 3, 1_000_001))],
+        },
+        Row {
+            name: AfAxiom::A10(5),
+            clause: &[not(St), not(Live(5)), is(Member(5)), is(Tail(5, 1))],
+        },
+    ];
+    check(&rt, rt.alloc(), &rows)
+}
+
+/// Adds an attack where both its ends are live.
+fn add_between(live: &NumSet, between: &mut Vec<(u32, u32)>, pair: (u32, u32)) -> Result<(), Memory>
+    requires { AreBetween live.now between.old.items }
+    ensures { OnOk result (AreBetween live.now between.new.items) }
+{
+    if !live.contains(pair.0) {
+        return Ok(());
+    }
+    if !live.contains(pair.1) {
+        return Ok(());
+    }
+    between.push(pair)?;
+    Ok(())
+}
+
+/// The attacks whose ends are live.
+fn between(alloc: Global, live: &NumSet, attacks: &[(u32, u32)]) -> Result<Vec<(u32, u32)>, Memory>
+    ensures { IfOk result (λ v. AreBetween live.now v.items) }
+{
+    let mut found = Vec::new(alloc);
+    for pair in attacks {
+        add_between(live, &mut found, *pair)?;
+    }
+    Ok(found)
+}
+
+/// Three arguments, of which 1 and 2 attack each other, and 2 attacks 3.
+fn two_rivals(alloc: Global) -> Result<AfPlain, Memory> {
+    let live = NumSet::from_slice(alloc, &[1, 2, 3])?;
+    let attacks = between(alloc, &live, &[(1, 2), (2, 1), (2, 3)])?;
+    AfPlain::new(alloc, live, attacks)
+}
+
+#[test]
+fn values_of_facts(rt: HostRuntime) -> Result<(), Fail> {
+    let plain = two_rivals(rt.alloc())?;
+    let rows = [
+        (Live(3), Some(true)),
+        (Live(4), Some(false)),
+        (Attack(2, 3), Some(true)),
+        (Attack(3, 2), Some(false)),
+        (Gap(1, 1, 2), Some(true)),
+        (Gap(1, 1, 3), Some(false)),
+        (Gap(1, 2, 3), Some(false)),
+        (Gap(1, 2, 2), Some(true)),
+        (Gap(1, 3, END), Some(true)),
+        (Gap(1, END, END), Some(true)),
+        (Gap(3, 1, END), Some(false)),
+        (Gap(1_000_000, 1, END), Some(true)),
+        (Member(1), None),
+        (Tail(1, 1), None),
+        (Unmet(1, 1), None),
+        (Range(1), None),
+        (Cf, None),
+        (Ask(1), None),
+    ];
+    for (atom, value) in &rows {
+        assert_eq!(rt; fact_value(&plain, atom), *value, "{atom:?}");
+    }
+    Ok(())
+}
