@@ -111,8 +111,8 @@ fn only(alloc: Global, number: u64) -> Result<Items<u64>, Fail> {
 #[test]
 fn faults(rt: HostRuntime) -> Result<(), Fail> {
     let alloc = rt.alloc();
-    // The call of the files that fails, the most bytes of a fetch, and the same of the sink. The first call writes the
-    // file, so that the first fetch is the second. Calls count from 1.
+    // The call of the files that fails, the most bytes of a fetch, and the same of the sink. Calls count from
+    // 1. The first call writes the file, so that the first fetch is the second.
     let rows = [
         (2, usize::MAX, 0, usize::MAX, "error: read framework\n", 3),
         (4, 3, 0, usize::MAX, "error: read framework\n", 3),
@@ -141,7 +141,8 @@ fn give_zeros(size: u64, at: u64, buf: &mut [u8]) -> usize
     count
 }
 
-/// Files of one content: so many zeros under every name. Their count of faults of writing stands at its last value.
+/// Files of one content: so many zeros under every name. Their count of faults of writing stands at its last
+/// value.
 #[derive(Drop)]
 struct Zeros {
     size: u64,
