@@ -7,12 +7,12 @@ use Rattle.std.proofs.lemmas.Bool.{cases_lt}
 use Rattle.num_text.specs.Cuts.{LineText, field_texts, lines_of}
 use Rattle.af_format.specs.declared.fault.LineCause.{LineCause}
 use Rattle.af_format.specs.declared.fault.LineCause.TheVariants.{NoHeader, WrongKind, BadHeader, SecondHeader, BadLine, BadNumber, OutOfRange, TooManyLines}
-use Rattle.af_format.specs.Lines.{kept_lines}
+use Rattle.num_text.specs.Lines.{kept_lines}
 use Rattle.af_format.specs.AfText.{IsHeader, IsAttackLine, AreAttackLines}
 use Rattle.af_format.specs.Causes.{rank, IsFirstCause}
 use Rattle.af_format.specs.Faults.{StandsOnHeader, StandsOnAttack, IsHeaderFault, IsAttackFault, StandsIn, IsFirstFault}
 use Rattle.af_format.specs.FirstBadLine.{IsFirstBadLine}
-use Rattle.af_format.proofs.KeptLines.{kept_lines-rise}
+use Rattle.num_text.proofs.KeptLines.{kept_lines-rise}
 use Rattle.af_format.proofs.LineCauses.{header_is_good, limit_only, IsHeader-same}
 use Rattle.af_format.proofs.Zips.{AllZip-at}
 

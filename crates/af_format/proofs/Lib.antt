@@ -1,4 +1,3 @@
-pub mod KeptLines
 pub mod LineCauses
 pub mod Zips
 pub mod FirstFaults

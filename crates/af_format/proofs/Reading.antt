@@ -9,7 +9,7 @@ use Rattle.std.proofs.lemmas.List.FromFn.{length-range_with_len, get_or-range_wi
 use Rattle.num_text.specs.Cuts.{LineText, field_texts, lines_of}
 use Rattle.af_format.specs.declared.fault.LineCause.{LineCause}
 use Rattle.af_format.specs.AfText.{IsHeader, IsAttackLine, AreAttackLines, IsFrameworkOf, ReadsAs}
-use Rattle.af_format.specs.Lines.{kept}
+use Rattle.num_text.specs.Lines.{kept}
 use Rattle.meaning_atoms.specs.Framework.{Af, IsAf}
 use Rattle.af_format.specs.Causes.{IsFirstCause}
 use Rattle.af_format.specs.Faults.{StandsOnAttack, IsHeaderFault, IsAttackFault, StandsIn, IsFaultless, IsFirstFault, IfLine}

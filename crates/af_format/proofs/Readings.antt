@@ -12,7 +12,7 @@ use Rattle.meaning_atoms.specs.Framework.{Af, IsPairBefore}
 use Rattle.af_format.specs.declared.fault.LineCause.{LineCause}
 use Rattle.af_format.specs.declared.fault.ReadFault.{ReadFault}
 use Rattle.af_format.specs.declared.fault.ReadFault.TheVariants.{Line, Memory}
-use Rattle.af_format.specs.Lines.{kept}
+use Rattle.num_text.specs.Lines.{kept}
 use Rattle.af_format.specs.AfText.{IsHeader, IsAttackLine, IsAfText, ReadsAs, IsReadable}
 use Rattle.af_format.specs.Causes.{IsFirstCause}
 use Rattle.af_format.specs.Faults.{StandsOnAttack, StandsIn, IsFirstFault, IsFaultless, IfLine}

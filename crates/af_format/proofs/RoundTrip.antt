@@ -16,11 +16,11 @@ use Rattle.num_text.specs.Cuts.{LineText, is_line_end, is_blank, field_texts, li
 use Rattle.num_text.specs.Number.{IsNumber, IsDigit, digits_value}
 use Rattle.num_text.proofs.CutLemmas.{lines_from-nil, lines_from-first}
 use Rattle.meaning_atoms.specs.Framework.{Af, IsAf}
-use Rattle.af_format.specs.Lines.{are_skipped, kept}
+use Rattle.num_text.specs.Lines.{are_skipped, kept}
 use Rattle.af_format.specs.AfText.{IsAttackLine, ReadsAs}
 use Rattle.dung_notions.specs.Solid.{IsSolid}
 use Rattle.af_format.specs.Written.{header_line, attack_line, af_text}
-use Rattle.af_format.proofs.KeptLines.{kept-nil, kept-keeps}
+use Rattle.num_text.proofs.KeptLines.{kept-nil, kept-keeps}
 
 -- ---- numbers
 

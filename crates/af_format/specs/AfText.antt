@@ -4,7 +4,7 @@ use Rattle.std.specs.List.{AllZip, range_with_len}
 use Rattle.num_text.specs.Cuts.{LineText, field_texts}
 use Rattle.num_text.specs.Number.{IsNumber}
 use Rattle.meaning_atoms.specs.Framework.{Af, IsAf}
-use Rattle.af_format.specs.Lines.{kept_lines}
+use Rattle.num_text.specs.Lines.{kept_lines}
 
 -- the line is `p af n`, where n is the number of arguments
 pub record IsHeader (line : List ℕ) (count : ℕ) : Type 0 where

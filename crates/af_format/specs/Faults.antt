@@ -7,7 +7,7 @@ use Rattle.af_format.specs.declared.fault.LineCause.TheVariants.{NoHeader, Wrong
 use Rattle.af_format.specs.declared.fault.LineFault.{LineFault}
 use Rattle.af_format.specs.declared.fault.ReadFault.{ReadFault}
 use Rattle.af_format.specs.declared.fault.ReadFault.TheVariants.{Line, Memory}
-use Rattle.af_format.specs.Lines.{kept_lines}
+use Rattle.num_text.specs.Lines.{kept_lines}
 use Rattle.af_format.specs.AfText.{IsHeader}
 use Rattle.af_format.specs.Causes.{rank}
 

@@ -2,7 +2,7 @@
 use Rattle.std.specs.Prelude.{◌≡◌, ℕ, List, ◌∷◌, ◌++◌, length}
 use Rattle.num_text.specs.Cuts.{LineText, field_texts}
 use Rattle.af_format.specs.declared.fault.LineCause.{LineCause}
-use Rattle.af_format.specs.Lines.{kept, kept_lines}
+use Rattle.num_text.specs.Lines.{kept, kept_lines}
 use Rattle.af_format.specs.AfText.{IsHeader, AreAttackLines}
 use Rattle.af_format.specs.Causes.{IsFirstCause}
 use Rattle.af_format.specs.Faults.{StandsOnAttack}

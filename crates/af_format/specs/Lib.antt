@@ -1,4 +1,3 @@
-pub mod Lines
 pub mod AfText
 pub mod Causes
 pub mod Faults

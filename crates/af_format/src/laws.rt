@@ -5,7 +5,7 @@ ghost use Rattle.std.specs.Prelude.{◌≡◌, ℕ, ◌≤◌, List, length, IfO
 ghost use Rattle.meaning_atoms.specs.Framework.{Af};
 ghost use Rattle.dung_notions.specs.Solid.{IsSolid};
 ghost use Rattle.num_text.specs.Cuts.{lines_of};
-ghost use Rattle.af_format.specs.Lines.{kept};
+ghost use Rattle.num_text.specs.Lines.{kept};
 ghost use Rattle.af_format.specs.AfText.{ReadsAs, IsReadable};
 ghost use Rattle.af_format.specs.Faults.{IsFirstFault, IsFaultless};
 ghost use Rattle.af_format.specs.FirstBadLine.{AreSomeAttacks, IsFirstBadLine};
@@ -13,11 +13,10 @@ ghost use Rattle.af_format.specs.declared.fault.ReadFault.TheVariants.{Memory as
 
 use crate::af_line::attack_of;
 use crate::fault::{LineFault, ReadFault};
-use crate::lines::next_kept;
 use crate::read::{read_af, read_header};
 use crate::write::write_af;
 use dung_notions::AfPlain;
-use num_text::{Lines, lines};
+use num_text::{Lines, lines, next_kept};
 use std::alloc::Global;
 
 /// A text reads as one framework alone, and then has no fault. It does nothing; its contract is the law.

@@ -1,24 +1,9 @@
-//! The lines of a text that are not skipped.
+//! The number of lines of a text.
 
-ghost use Rattle.std.specs.Prelude.{◌≡◌, [], ◌∷◌, IfSome, IfNone, IsTrue, length, ◌≤◌};
-ghost use Rattle.num_text.specs.Cuts.{field_texts, lines_of};
-ghost use Rattle.num_text.specs.Views.{line_text};
-ghost use Rattle.af_format.specs.Lines.{are_skipped, kept};
+ghost use Rattle.std.specs.Prelude.{◌≡◌, length, ◌≤◌};
+ghost use Rattle.num_text.specs.Cuts.{lines_of};
 
-use num_text::{Line, Lines, fields, lines};
-
-/// The next line that is not skipped.
-pub(crate) fn next_kept<'a>(lines: &mut Lines<'a>) -> Option<Line<'a>>
-    ensures some { IfSome result (λ line. kept lines.old ≡ line_text line ∷ kept lines.new) }
-    ensures none { IfNone result (kept lines.old ≡ []) }
-{
-    while let Some(line) = lines.next() {
-        if !is_skipped(&line) {
-            return Some(line);
-        }
-    }
-    None
-}
+use num_text::lines;
 
 /// The number of all lines.
 pub(crate) fn line_count(bytes: &[u8]) -> usize
@@ -32,14 +17,4 @@ pub(crate) fn line_count(bytes: &[u8]) -> usize
         count += 1;
     }
     count
-}
-
-// Whether a line is skipped.
-fn is_skipped(line: &Line<'_>) -> bool
-    ensures { result ≡ are_skipped (field_texts line.now.text.now) }
-{
-    match fields(line).next() {
-        Some(first) => matches!(first.text, [b'#', ..]),
-        None => true,
-    }
 }

@@ -3,7 +3,7 @@
 ghost use Rattle.std.specs.Prelude.{◌≡◌, ℕ, ◌≤◌, ◌^◌, length, Contains, IfOk, IfErr, OnOk};
 ghost use Rattle.std.specs.List.{range_with_len};
 ghost use Rattle.num_text.specs.Cuts.{lines_of};
-ghost use Rattle.af_format.specs.Lines.{kept};
+ghost use Rattle.num_text.specs.Lines.{kept};
 ghost use Rattle.af_format.specs.AfText.{AreAttackLines, IsFrameworkOf, ReadsAs};
 ghost use Rattle.af_format.specs.Faults.{IsFirstFault, IsFaultless, IfLine};
 ghost use Rattle.dung_notions.specs.Solid.{IsSolid};
@@ -12,9 +12,9 @@ ghost use Rattle.af_format.specs.FirstBadLine.{BeginWithHeader, IsFirstBadLine};
 
 use crate::af_line::{attack_of, header_of};
 use crate::fault::{LineCause, LineFault, ReadFault};
-use crate::lines::{line_count, next_kept};
+use crate::lines::line_count;
 use dung_notions::AfPlain;
-use num_text::{Lines, lines};
+use num_text::{Lines, lines, next_kept};
 use plain_lists::{Items, Memory};
 use set_lists::NumSet;
 use std::alloc::Global;

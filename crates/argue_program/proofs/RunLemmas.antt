@@ -1,22 +1,18 @@
 -- How the parts of a run's contract fit together, over plain variables.
 use Rattle.std.proofs.Common.{◌≡◌, ◌≢◌, ◌<◌, ◌≤◌, ◌⊎◌, ℕ, List, [], ◌∷◌, length, refl, sym, ap, ◌∙◌, subst, inl, inr, arith, Option, None, Some, Err}
 use Rattle.std.specs.Prelude.{IsErrOf}
-use Rattle.std.proofs.lemmas.Bool.{cases_Bool}
-use Rattle.num_text.specs.Cuts.{LineText, field_texts, lines_of}
 use Rattle.meaning_atoms.specs.Framework.{Af}
 use Rattle.argue_outside.specs.Outside.{AppendsPart, IsLonger, Told}
 use Rattle.argue_words.specs.Words.{AreWords, IsCommandOf, IsGroundedQuery}
 use Rattle.argue_words.specs.declared.words.Command.{Command}
 use Rattle.argue_words.specs.declared.words.Command.TheVariants.{Version, Grounded, Unknown}
 use Rattle.argue_words.proofs.CommandLaws.{known_words, one_file, query_words}
-use Rattle.af_format.specs.AfText.{AreAttackLines, ReadsAs}
-use Rattle.af_format.specs.Faults.{IsFaultless, IsFirstFault}
-use Rattle.af_format.specs.Lines.{are_skipped, kept}
+use Rattle.af_format.specs.AfText.{IsReadable, ReadsAs}
+use Rattle.af_format.specs.Faults.{IsFirstFault}
 use Rattle.af_format.specs.declared.fault.LineFault.{LineFault}
-use Rattle.af_format.proofs.KeptLines.{kept-keeps, kept-nil, kept-skips}
-use Rattle.af_format.proofs.Reading.{faultless}
+use Rattle.af_format.proofs.Readings.{ReadsAs-faultless}
 use Rattle.argue_program.specs.AnswerText.{set_text}
-use Rattle.argue_program.specs.Run.{AnswersFile, AnswersQuery, AsksInVain, AsksNothing, BreaksOff, CommandBreaksOff, FileBreaksOff, HasCause, HasCommandCause, HasFileCause, HasFirstFault, HasWordsInVain, IsFaulty, IsReadable, IsRefusalOf, IsRightFor, input_limit, text_of}
+use Rattle.argue_program.specs.Run.{AnswersFile, AnswersQuery, AsksInVain, AsksNothing, BreaksOff, CommandBreaksOff, FileBreaksOff, HasCause, HasCommandCause, HasFileCause, HasFirstFault, HasWordsInVain, IsFaulty, IsRefusalOf, IsRightFor, input_limit, text_of}
 use Rattle.argue_program.specs.Stops.{IfRefused, status_of}
 use Rattle.argue_program.specs.declared.command.Stop.{Stop}
 use Rattle.argue_program.specs.declared.command.Stop.TheVariants as stop
@@ -25,29 +21,10 @@ use Rattle.argue_program.specs.declared.ended.Status.TheVariants.{Done, Usage, I
 
 -- ---- a text that is read has no fault
 
--- behind the first line that is kept, those are kept that are among some lines
-rest_kept : (lines : List LineText) (header : LineText) (others : List LineText) → kept lines ≡ header ∷ others
-    → (left : List LineText) × (others ≡ kept left)
-rest_kept [] header others e = absurd (let none : [] ≡ header ∷ others = sym kept-nil ∙ e in cc)
-rest_kept (line ∷ more) header others e = elim (cases_Bool (are_skipped (field_texts line.text))) [
-  | inl skipped ↦ rest_kept more header others (sym (kept-skips line more skipped) ∙ e)
-  | inr says ↦
-      let same : line ∷ kept more ≡ header ∷ others = sym (kept-keeps line more says) ∙ e in
-      (more, cc)
-]
-
-readable_faultless : (bytes : List ℕ) (framework : Af) → ReadsAs bytes framework → IsFaultless bytes
-readable_faultless bytes framework reads =
-    let text = reads.text in
-    let left = rest_kept (lines_of bytes) text.header text.others text.lines in
-    faultless bytes reads.count left.0 reads.attacks
-    (record { header = text.header; lines = text.lines ∙ ap (λ ls. text.header ∷ ls) left.1; header_is = text.header_is })
-    (subst (λ ls. AreAttackLines reads.count ls reads.attacks) left.1 text.others_are)
-
 -- bytes aren't both the text of a framework and faulty
 readable_or_faulty : (bytes : List ℕ) → IsReadable bytes → ¬ IsFaulty bytes
 readable_or_faulty bytes reads faulty =
-    (readable_faultless bytes reads.0 reads.1).none faulty.0 faulty.1 faulty.2
+    (ReadsAs-faultless bytes reads.0 reads.1).none faulty.0 faulty.1 faulty.2
 
 first_is_faulty : (bytes : List ℕ) (fault : LineFault) → IsFirstFault bytes fault.line fault.cause → IsFaulty bytes
 first_is_faulty bytes fault first = (fault.line, fault.cause, first.stands)

@@ -44,10 +44,6 @@ pub record HasFirstFault (told : Told) (fault : LineFault) : Type 0 where
   pub held : HoldsWhole told bytes
   pub first : IsFirstFault bytes fault.line fault.cause
 
--- the bytes are the text of a framework
-abbrev pub IsReadable : List ℕ → Type 0
-IsReadable bytes = (framework : Af) × ReadsAs bytes framework
-
 -- some line of the bytes has a fault
 abbrev pub IsFaulty : List ℕ → Type 0
 IsFaulty bytes = (line : ℕ) × (cause : LineCause) × HasFault bytes line cause

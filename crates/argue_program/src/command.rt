@@ -7,7 +7,8 @@ ghost use Rattle.argue_outside.specs.Outside.{AppendsPart, CountsStandBut, Rose,
 ghost use Rattle.argue_words.specs.Words.{AreWords, IsGroundedQuery};
 ghost use Rattle.argue_program.specs.AnswerText.{set_text};
 ghost use Rattle.argue_program.specs.RefusalText.{fault_text};
-ghost use Rattle.argue_program.specs.Run.{AnswersFile, BreaksOff, CommandBreaksOff, FileBreaksOff, HasCause, HasCommandCause, HasFileCause, HasFirstFault, IsFaulty, IsReadable, IsRefusalOf, IsRightFor, ReadRose, input_limit, text_of};
+ghost use Rattle.af_format.specs.AfText.{IsReadable};
+ghost use Rattle.argue_program.specs.Run.{AnswersFile, BreaksOff, CommandBreaksOff, FileBreaksOff, HasCause, HasCommandCause, HasFileCause, HasFirstFault, IsFaulty, IsRefusalOf, IsRightFor, ReadRose, input_limit, text_of};
 ghost use Rattle.argue_program.specs.Stops.{IfRefused, status_of};
 
 use crate::answer_text::set_line;

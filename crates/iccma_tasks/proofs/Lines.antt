@@ -39,6 +39,8 @@ use Rattle.std.proofs.lemmas.List.Elements.{filter-append}
 use Rattle.std.proofs.Math.Seq.{get_or-append_seam}
 use Rattle.std.specs.List.{position_or_len}
 use Rattle.num_text.specs.Cuts.{is_line_end, LineText, lines_of, lines_from, field_texts}
+use Rattle.num_text.specs.Lines.{are_skipped, kept}
+use Rattle.num_text.proofs.KeptLines.{kept-nil, kept-skips, kept-keeps, kept-append}
 use Rattle.num_text.proofs.CutLemmas.{lines_from-first, lines_from-nil}
 use Rattle.iccma_tasks.specs.declared.answer.Answer.{Answer}
 use Rattle.iccma_tasks.specs.declared.fault.AnswerCause.{AnswerCause}
@@ -51,7 +53,6 @@ use Rattle.iccma_tasks.specs.AnswerText.{
   filled_line,
   filled_of,
   is_open,
-  is_skipped,
   ReadsAs,
   Stands,
   LineStands,
@@ -65,23 +66,22 @@ fields_of_filled lines = map (λ line. line.fields) (filled_of lines)
 
 filled-append : (lines more : List LineText) → filled_of (lines ++ more) ≡ filled_of lines ++ filled_of more
 unfolding filled_of
-filled-append lines more = ap (λ ls. filter (λ line. not (is_skipped line.fields)) ls)
-    (map-append filled_line lines more)
-    ∙ filter-append (λ line. not (is_skipped line.fields)) (map filled_line lines) (map filled_line more)
+filled-append lines more = ap (map filled_line) (kept-append lines more)
+    ∙ map-append filled_line (kept lines) (kept more)
 
-filled-skipped : (line : LineText) (more : List LineText) → is_skipped (field_texts line.text) ≡ true
+filled-skipped : (line : LineText) (more : List LineText) → are_skipped (field_texts line.text) ≡ true
     → filled_of (line ∷ more) ≡ filled_of more
 unfolding filled_of
-filled-skipped line more e = cond-false _ _ _ (not_from_true _ e)
+filled-skipped line more e = ap (map filled_line) (kept-skips line more e)
 
-pub filled-told : (line : LineText) (more : List LineText) → is_skipped (field_texts line.text) ≡ false
+pub filled-told : (line : LineText) (more : List LineText) → are_skipped (field_texts line.text) ≡ false
     → filled_of (line ∷ more) ≡ filled_line line ∷ filled_of more
 unfolding filled_of
-filled-told line more e = cond-true _ _ _ (not_from_false _ e)
+filled-told line more e = ap (map filled_line) (kept-keeps line more e)
 
 pub filled-nil : filled_of [] ≡ []
 unfolding filled_of
-filled-nil = refl
+filled-nil = ap (map filled_line) kept-nil
 
 -- ---- the lines read so far
 
@@ -114,12 +114,12 @@ number_next all left more line front numbered whole e =
     ∙ numbered (length front) line (omega (arith, ap length parts, length-append front (line ∷ more)))
 
 -- one line more, skipped or not
-skipped_more : (front : List LineText) (line : LineText) → is_skipped (field_texts line.text) ≡ true
+skipped_more : (front : List LineText) (line : LineText) → are_skipped (field_texts line.text) ≡ true
     → fields_of_filled (front ++ line ∷ []) ≡ fields_of_filled front
 skipped_more front line e = ap (map (λ l. l.fields)) (filled-append front (line ∷ [])
     ∙ ap (λ ls. filled_of front ++ ls) (filled-skipped line [] e ∙ filled-nil) ∙ append-nil (filled_of front))
 
-told_more : (front : List LineText) (line : LineText) → is_skipped (field_texts line.text) ≡ false
+told_more : (front : List LineText) (line : LineText) → are_skipped (field_texts line.text) ≡ false
     → fields_of_filled (front ++ line ∷ []) ≡ fields_of_filled front ++ field_texts line.text ∷ []
 told_more front line e = ap (map (λ l. l.fields)) (filled-append front (line ∷ [])
     ∙ ap (λ ls. filled_of front ++ ls) (filled-told line [] e ∙ ap (λ ls. filled_line line ∷ ls) filled-nil))
@@ -207,7 +207,7 @@ first_fault front more line before cause read stands =
 
 pub read_fault : (all left more : List LineText) (line : LineText) (count : ℕ) (before : Option Answer)
     (cause : AnswerCause)
-    → ReadTo all left count before → left ≡ line ∷ more → is_skipped (field_texts line.text) ≡ false
+    → ReadTo all left count before → left ≡ line ∷ more → are_skipped (field_texts line.text) ≡ false
     → LineStands (is_open_behind before (field_texts line.text)) (field_texts line.text) cause
     → IsFirstAt (filled_of all) line.number cause
 read_fault all left more line count before cause at e told stands =
@@ -238,7 +238,7 @@ lines_of-few bytes = lines_from-few (length bytes) 1 0 bytes (omega arith)
 pub read_told : (bytes : List ℕ) (left more : List LineText) (line : LineText) (count : ℕ)
     (before : Option Answer)
     (fault : AnswerFault) → ReadTo (lines_of bytes) left count before → left ≡ line ∷ more
-    → FaultsAt line.number (λ cause. (is_skipped (field_texts line.text) ≡ false)
+    → FaultsAt line.number (λ cause. (are_skipped (field_texts line.text) ≡ false)
     × LineStands (is_open_behind before (field_texts line.text)) (field_texts line.text) cause) fault
     → IsToldOf bytes fault
 read_told bytes left more line count before Memory at e faults = tt

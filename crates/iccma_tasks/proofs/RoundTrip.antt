@@ -65,9 +65,9 @@ use Rattle.iccma_tasks.specs.AnswerText.{
   ReadsAsSets,
   ReadsAs,
   filled_fields,
-  is_skipped,
 }
 use Rattle.iccma_tasks.specs.WrittenText.{set_line, text_of, HasArguments, IsWritable, HasRisingSets}
+use Rattle.num_text.specs.Lines.{are_skipped}
 use Rattle.iccma_tasks.proofs.Lines.{fields_of_filled, filled-told, filled-nil}
 
 -- ---- a number's text
@@ -215,7 +215,7 @@ left-nil number start = ap fields_of_filled (lines_from-nil number start)
     ∙ ap (map (λ l. l.fields)) filled-nil
 
 left-more : (number start : ℕ) (piece rest : List ℕ) → All (λ b. is_line_end b ≡ false) piece
-    → is_skipped (field_texts piece) ≡ false
+    → are_skipped (field_texts piece) ≡ false
     → left_fields number start (piece ++ 10 ∷ rest)
     ≡ field_texts piece ∷ left_fields (number + 1) (start + length piece + 1) rest
 left-more number start piece rest none told =
@@ -241,7 +241,7 @@ set_left number start set rest all =
     left-more number start (set_piece set) rest
     (All-append (λ b. is_line_end b ≡ false) (codes "w") (numbers_text set)
     (All-cons (λ b. is_line_end b ≡ false) 119 [] refl (All-nil _)) (numbers_in_line set all))
-    (ap is_skipped (set_fields set all))
+    (ap are_skipped (set_fields set all))
     ∙ ap (λ fs. fs ∷ left_fields (number + 1) (start + length (set_piece set) + 1) rest) (set_fields set all)
 
 sets_left : (number start : ℕ) (sets : List (List ℕ)) → All HasArguments sets
@@ -269,7 +269,7 @@ sets_are (set ∷ sets) all rise (suc k) h =
 record IsWord (word : List ℕ) : Type 0 where
   pub in_line : All (λ b. is_line_end b ≡ false) word
   pub one_field : field_texts word ≡ word ∷ []
-  pub told : is_skipped (word ∷ []) ≡ false
+  pub told : are_skipped (word ∷ []) ≡ false
 
 yes_is_word : IsWord (codes "YES")
 unfolding field_texts
@@ -292,7 +292,7 @@ no_is_word = record {
 
 word_left : (word rest : List ℕ) → IsWord word
     → left_fields 1 0 (word ++ 10 ∷ rest) ≡ (word ∷ []) ∷ left_fields 2 (0 + length word + 1) rest
-word_left word rest is = left-more 1 0 word rest is.in_line (ap is_skipped is.one_field ∙ is.told)
+word_left word rest is = left-more 1 0 word rest is.in_line (ap are_skipped is.one_field ∙ is.told)
     ∙ ap (λ f. f ∷ left_fields 2 (0 + length word + 1) rest) is.one_field
 
 word_alone : (word : List ℕ) → IsWord word → left_fields 1 0 (word ++ codes "\n") ≡ (word ∷ []) ∷ []

@@ -23,8 +23,8 @@ use Rattle.iccma_tasks.specs.declared.fault.AnswerCause.{AnswerCause}
 use Rattle.iccma_tasks.specs.declared.fault.AnswerCause.TheVariants.{Empty, BadLine, BadNumber, NotRising}
 use Rattle.iccma_tasks.specs.declared.fault.AnswerFault.{AnswerFault}
 use Rattle.iccma_tasks.specs.declared.fault.AnswerFault.TheVariants.{At, Memory}
+use Rattle.num_text.specs.Lines.{are_skipped}
 use Rattle.iccma_tasks.specs.AnswerText.{
-  is_skipped,
   is_word_line,
   is_w_line,
   IsSetLine,
@@ -86,7 +86,7 @@ HasRead lines (Some answer) = ReadsAs lines answer
 
 -- the answer, or nothing, goes on by any line: a skipped one leaves it as it is
 abbrev pub GoesOn : Option Answer → List (List ℕ) → Option Answer → Type 0
-GoesOn before line None = (is_skipped line ≡ true) × (before ≡ None)
+GoesOn before line None = (are_skipped line ≡ true) × (before ≡ None)
 GoesOn before line (Some after) =
-    ((is_skipped line ≡ true) × (before ≡ Some after)) ⊎
-    ((is_skipped line ≡ false) × Continues before line after)
+    ((are_skipped line ≡ true) × (before ≡ Some after)) ⊎
+    ((are_skipped line ≡ false) × Continues before line after)

@@ -11,13 +11,11 @@ use Rattle.std.specs.Prelude.{
   Bool,
   true,
   false,
-  not,
   List,
   [],
   ◌∷◌,
   length,
   map,
-  filter,
   codes,
   Option,
   Some,
@@ -26,9 +24,9 @@ use Rattle.std.specs.Prelude.{
   nat_eq,
 }
 use Rattle.std.specs.Cmp.Lexicographic.{pointwise}
-use Rattle.std.specs.List.{starts_with}
 use Rattle.std.specs.List.Sorted.{IsStrictlyIncreasing}
 use Rattle.num_text.specs.Cuts.{LineText, lines_of, field_texts}
+use Rattle.num_text.specs.Lines.{kept}
 use Rattle.num_text.specs.Number.{IsNumber}
 use Rattle.iccma_tasks.specs.declared.answer.Answer.{Answer}
 use Rattle.iccma_tasks.specs.declared.answer.Answer.TheVariants.{Yes, No, Sets}
@@ -45,14 +43,9 @@ pub record FilledLine : Type 0 where
 abbrev pub filled_line : LineText → FilledLine
 filled_line line = record { number = line.number; fields = field_texts line.text }
 
--- a line without fields, or whose first field begins with #
-abbrev pub is_skipped : List (List ℕ) → Bool
-is_skipped [] = true
-is_skipped (first ∷ more) = starts_with nat_eq first (codes "#")
-
 -- those of the lines that aren't skipped, in order
 unfoldable pub filled_of : List LineText → List FilledLine
-filled_of lines = filter (λ line. not (is_skipped line.fields)) (map filled_line lines)
+filled_of lines = map filled_line (kept lines)
 
 -- the lines of a text that aren't skipped
 abbrev pub filled_lines : List ℕ → List FilledLine

@@ -4,15 +4,16 @@ ghost use Rattle.std.specs.Prelude.{◌≡◌, ◌↔◌, ◌⊎◌, ℕ, false,
 ghost use Rattle.std.specs.Prelude.{IfNone, IsTrue};
 ghost use Rattle.std.specs.List.Sorted.{IsStrictlyIncreasing};
 ghost use Rattle.iccma_tasks.specs.AnswerText.{ReadsAs, IsFaultOf, filled_fields, IsToldOf, IsArgument};
-ghost use Rattle.iccma_tasks.specs.AnswerText.{AreArguments, AreRisingArguments, LineStands, is_skipped};
+ghost use Rattle.iccma_tasks.specs.AnswerText.{AreArguments, AreRisingArguments, LineStands};
 ghost use Rattle.iccma_tasks.specs.AnswerText.{is_w_line, is_word_line};
 ghost use Rattle.num_text.specs.Cuts.{field_texts};
+ghost use Rattle.num_text.specs.Lines.{are_skipped};
 ghost use Rattle.iccma_tasks.specs.AnswerSteps.{FaultsAt, NumbersStand, Continues, GoesOn};
 ghost use Rattle.iccma_tasks.specs.AnswerSteps.{is_open_behind, takes_set};
 
 use crate::answer::Answer;
 use crate::fault::{AnswerCause, AnswerFault};
-use num_text::{Fields, Line, decimal, fields, lines};
+use num_text::{Fields, Line, decimal, fields, is_skipped, lines};
 use plain_lists::Items;
 use set_lists::NumSet;
 use std::alloc::Global;
@@ -162,7 +163,7 @@ fn with_any_line(
 ) -> Result<Option<Answer>, AnswerFault>
     ensures answer { IfOk result (GoesOn before (field_texts line.now.text.now)) }
     ensures fault { IfErr result (FaultsAt line.now.number (λ cause.
-        (is_skipped (field_texts line.now.text.now) ≡ false)
+        (are_skipped (field_texts line.now.text.now) ≡ false)
         × LineStands (is_open_behind before (field_texts line.now.text.now))
         (field_texts line.now.text.now) cause)) }
 {
@@ -170,7 +171,7 @@ fn with_any_line(
     let Some(first) = rest.next() else {
         return Ok(before);
     };
-    if first.text.starts_with(b"#".as_slice()) {
+    if is_skipped(line) {
         return Ok(before);
     }
     Ok(Some(with_line(alloc, line.number, before, first.text, rest)?))

@@ -54,6 +54,15 @@ fn reads(rt: HostRuntime) -> Result<(), Fail> {
         ("w 1\nYES", "2 BadLine"),
         ("\n\nx 1\nw 2 1", "3 BadLine"),
         ("w1", "1 BadLine"),
+        ("#\0 \u{e4}\nw 1", "w 1\n"),
+        ("\0", "1 BadLine"),
+        ("\0# YES", "1 BadLine"),
+        ("YES\0", "1 BadLine"),
+        ("\u{e4} 1", "1 BadLine"),
+        ("w\u{a0}1", "1 BadLine"),
+        ("w 1\0", "1 BadNumber"),
+        ("w 1\0 2", "1 BadNumber"),
+        ("\nw \u{661}", "2 BadNumber"),
     ];
     for (text, expected) in table {
         let found = shown(rt.alloc(), text)?;

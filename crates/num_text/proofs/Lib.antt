@@ -1,3 +1,4 @@
 pub mod CutLemmas
 pub mod NumberLemmas
 pub mod Decimals
+pub mod KeptLines

@@ -1,3 +1,4 @@
 pub mod Cuts
 pub mod Number
 pub mod Views
+pub mod Lines

@@ -1,6 +1,6 @@
 //! Cuts and numbers, compared with values that were worked out by hand.
 
-use crate::{decimal, fields, lines};
+use crate::{decimal, fields, is_skipped, lines, next_kept};
 use std::alloc::{AllocError, Global};
 use std::test::Fail;
 
@@ -70,6 +70,15 @@ fn texts(rt: HostRuntime) {
     assert!(rt; parts.next().is_none());
     assert!(rt; all.next().is_some_and(|line| line.text == "7 1".as_bytes()));
     assert!(rt; all.next().is_none());
+}
+
+#[test]
+fn skips(rt: HostRuntime) {
+    let mut left = lines("# 1 2\n \t\r\n 1 #\n#\n\n2\n #2".as_bytes());
+    assert!(rt; next_kept(&mut left).is_some_and(|line| line.number == 3));
+    assert!(rt; left.next().is_some_and(|line| is_skipped(&line)));
+    assert!(rt; next_kept(&mut left).is_some_and(|line| line.number == 6));
+    assert!(rt; next_kept(&mut left).is_none());
 }
 
 #[test]

@@ -1,5 +1,5 @@
 use Rattle.num_text.specs.Views.{line_text}
-use Rattle.af_format.specs.Lines.{kept}
+use Rattle.num_text.specs.Lines.{kept}
 use Rattle.af_format.proofs.Readings.{passed_more, passed_bad}
 use Rattle.af_format.proofs.laws.attacks_or_fault.Goals as goal
 

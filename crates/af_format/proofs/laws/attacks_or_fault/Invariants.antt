@@ -1,5 +1,5 @@
 use Rattle.std.proofs.Common.{length}
-use Rattle.af_format.specs.Lines.{kept}
+use Rattle.num_text.specs.Lines.{kept}
 use Rattle.af_format.proofs.Readings.{HasPassed}
 use Rattle.af_format.proofs.laws.attacks_or_fault.Given as goal
 

@@ -1,5 +1,5 @@
 use Rattle.std.proofs.Common.{length, ap, arith}
-use Rattle.af_format.proofs.KeptLines.{length-lines_of-le}
+use Rattle.num_text.proofs.KeptLines.{length-lines_of-le}
 use Rattle.af_format.proofs.lines.line_count.Goals as goal
 
 pub loop-line-init : goal.loop-line-init

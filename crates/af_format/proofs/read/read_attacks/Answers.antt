@@ -1,6 +1,6 @@
 use Rattle.std.proofs.Common.{◌<◌, sym, subst}
 use Rattle.num_text.specs.Views.{line_text}
-use Rattle.af_format.specs.Lines.{kept}
+use Rattle.num_text.specs.Lines.{kept}
 use Rattle.af_format.specs.Causes.{IsFirstCause}
 use Rattle.af_format.specs.Faults.{StandsOnAttack}
 use Rattle.num_text.specs.Cuts.{field_texts}

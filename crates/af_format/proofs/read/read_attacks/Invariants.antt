@@ -1,5 +1,5 @@
 use Rattle.std.proofs.Common.{length}
-use Rattle.af_format.specs.Lines.{kept}
+use Rattle.num_text.specs.Lines.{kept}
 use Rattle.af_format.proofs.Reading.{HasRead}
 use Rattle.af_format.proofs.read.read_attacks.Given as goal
 

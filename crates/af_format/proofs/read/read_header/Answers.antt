@@ -1,6 +1,6 @@
 use Rattle.std.proofs.Common.{◌+◌, sym, ap, ◌∙◌}
 use Rattle.num_text.specs.Views.{line_text}
-use Rattle.af_format.specs.Lines.{kept}
+use Rattle.num_text.specs.Lines.{kept}
 use Rattle.af_format.proofs.FirstFaults.{no_header_told, header_told}
 use Rattle.af_format.proofs.read.read_header.Goals as goal
 

@@ -1,6 +1,6 @@
 use Rattle.std.proofs.Common.{◌≡◌}
-use Rattle.af_format.specs.Lines.{kept}
-use Rattle.af_format.proofs.lines.next_kept.Given as goal
+use Rattle.num_text.specs.Lines.{kept}
+use Rattle.num_text.proofs.skips.next_kept.Given as goal
 
 -- the lines that were passed are skipped
 abbrev pub invariant-loop-line : goal.invariant-loop-line

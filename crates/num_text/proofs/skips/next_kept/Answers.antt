@@ -1,7 +1,7 @@
 use Rattle.std.proofs.Common.{sym, ap, ◌∙◌}
-use Rattle.af_format.specs.Lines.{kept}
-use Rattle.af_format.proofs.KeptLines.{kept-nil, kept-skips, kept-keeps}
-use Rattle.af_format.proofs.lines.next_kept.Goals as goal
+use Rattle.num_text.specs.Lines.{kept}
+use Rattle.num_text.proofs.KeptLines.{kept-nil, kept-skips, kept-keeps}
+use Rattle.num_text.proofs.skips.next_kept.Goals as goal
 
 pub returns-then-not-is_skipped-clause-some : goal.returns-then-not-is_skipped-clause-some
 returns-then-not-is_skipped-clause-some c = sym c.loop-line.invariant ∙ ap kept c.in-Some.ensures.steps

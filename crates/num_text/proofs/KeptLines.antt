@@ -1,6 +1,7 @@
 -- The lines that are not skipped, taken off one by one.
-use Rattle.std.proofs.Common.{◌≡◌, refl, ap, ℕ, ◌+◌, ◌<◌, ◌≤◌, ◌==◌, inl, inr, length, true, false, not, List, [], ◌∷◌, arith}
+use Rattle.std.proofs.Common.{◌≡◌, refl, ap, ℕ, ◌+◌, ◌<◌, ◌≤◌, ◌==◌, inl, inr, length, true, false, not, List, [], ◌∷◌, ◌++◌, arith}
 use Rattle.std.specs.Prelude.{AllPairs}
+use Rattle.std.proofs.lemmas.List.Elements.{filter-append}
 use Rattle.std.proofs.lemmas.List.Kept.{AllPairs-filter}
 use Rattle.std.proofs.lemmas.Bool.{cases_Bool, cond-true, cond-false, not_from_true, not_from_false}
 use Rattle.num_text.specs.Cuts.{LineText, field_texts, lines_of, line_texts, is_line_end, without_empty_last}
@@ -9,7 +10,7 @@ use Rattle.std.proofs.lemmas.List.Splits.{length-slice_split}
 use Rattle.std.proofs.lemmas.List.Sums.{count_by-le-length}
 use Rattle.std.proofs.lemmas.List.{length-map}
 use Rattle.num_text.proofs.CutLemmas.{numbers-lines_of, line_texts-lines_of}
-use Rattle.af_format.specs.Lines.{are_skipped, kept, kept_lines}
+use Rattle.num_text.specs.Lines.{are_skipped, kept, kept_lines}
 
 pub kept-nil : kept [] ≡ []
 unfolding kept
@@ -24,6 +25,10 @@ pub kept-keeps : (line : LineText) (more : List LineText) → are_skipped (field
     → kept (line ∷ more) ≡ line ∷ kept more
 unfolding kept
 kept-keeps line more says = cond-true _ _ _ (not_from_false _ says)
+
+pub kept-append : (lines more : List LineText) → kept (lines ++ more) ≡ kept lines ++ kept more
+unfolding kept
+kept-append lines more = filter-append (λ line. not (are_skipped (field_texts line.text))) lines more
 
 -- the numbers of the lines that are not skipped rise
 pub kept_lines-rise : (bytes : List ℕ) → AllPairs (λ l m. l.number < m.number) (kept_lines bytes)
