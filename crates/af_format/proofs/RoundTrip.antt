@@ -1,19 +1,19 @@
 -- A text that was written reads as the framework that it was written of.
-use Rattle.std.proofs.Common.{◌≡◌, ℕ, ◌+◌, ◌-◌, ◌*◌, ◌/◌, ◌%◌, ◌^◌, ◌<◌, ◌≤◌, ◌==◌, true, false, not, List, [], ◌∷◌, ◌++◌, length, take, drop, get_or, filter, refl, sym, ap, subst, ◌∙◌, arith}
+use Rattle.std.proofs.Common.{◌≡◌, ℕ, ◌+◌, ◌*◌, ◌<◌, ◌≤◌, ◌==◌, true, false, not, List, [], ◌∷◌, ◌++◌, length, take, drop, get_or, filter, refl, sym, ap, subst, ◌∙◌, arith}
 use Rattle.std.specs.Prelude.{Contains, codes, All}
 use Rattle.std.specs.List.{AllZip, flat_map, position_or_len, range_with_len}
 use Rattle.std.specs.Fmt.{decimal}
-use Rattle.std.proofs.lemmas.Fmt.{decimal_by_steps, length-decimal-le}
+use Rattle.std.proofs.lemmas.Fmt.{length-decimal-le}
 use Rattle.std.proofs.lemmas.List.{length-append, append_assoc, flat_map_more, take_more}
 use Rattle.std.proofs.lemmas.List.Elements.{All-nil, All-cons, All-head, All-tail, All-append, Contains-get_or}
-use Rattle.std.proofs.lemmas.List.Sums.{fold-append}
 use Rattle.std.proofs.lemmas.List.Splits.{slice_split_none, slice_split_at}
 use Rattle.std.proofs.lemmas.List.FromFn.{length-range_with_len, get_or-range_with_len}
 use Rattle.std.proofs.lemmas.Slice.Zip.{AllZip-long}
 use Rattle.std.proofs.lemmas.Bool.{cond-true, ne_eqb, not_from_false}
 use Rattle.std.proofs.Math.Seq.{take-append_seam, drop-append-add}
 use Rattle.num_text.specs.Cuts.{LineText, is_line_end, is_blank, field_texts, lines_from, lines_of}
-use Rattle.num_text.specs.Number.{IsNumber, IsDigit, digits_value}
+use Rattle.num_text.specs.Number.{IsDigit}
+use Rattle.num_text.proofs.Decimals.{decimal_number}
 use Rattle.num_text.proofs.CutLemmas.{lines_from-nil, lines_from-first}
 use Rattle.meaning_atoms.specs.Framework.{Af, IsAf}
 use Rattle.num_text.specs.Lines.{are_skipped, kept}
@@ -22,40 +22,7 @@ use Rattle.dung_notions.specs.Solid.{IsSolid}
 use Rattle.af_format.specs.Written.{header_line, attack_line, af_text}
 use Rattle.num_text.proofs.KeptLines.{kept-nil, kept-keeps}
 
--- ---- numbers
-
--- digits of which a number is the value
-record IsDecimalOf (n : ℕ) (ds : List ℕ) : Type 0 where
-  some : 0 < length ds
-  digits : All IsDigit ds
-  value : digits_value ds ≡ n
-
-digit : (d : ℕ) → d < 10 → IsDigit (48 + d)
-digit d h = record { low = omega arith; high = omega arith }
-
-one_digit : (n : ℕ) → n < 10 → IsDecimalOf n ((48 + n) ∷ [])
-one_digit n h = record {
-  some = omega arith;
-  digits = All-cons IsDigit (48 + n) [] (digit n h) (All-nil IsDigit);
-  value = omega arith;
-}
-
-more_digits : (n : ℕ) (ds : List ℕ) → 10 ≤ n → IsDecimalOf (n / 10) ds → IsDecimalOf n (ds ++ ((48 + n % 10) ∷ []))
-more_digits n ds h p = record {
-  some = omega (arith, length-append ds ((48 + n % 10) ∷ []));
-  digits = All-append IsDigit ds ((48 + n % 10) ∷ []) p.digits
-      (All-cons IsDigit (48 + n % 10) [] (digit (n % 10) (omega arith)) (All-nil IsDigit));
-  value = fold-append (λ value byte. value * 10 + (byte - 48)) 0 ds ((48 + n % 10) ∷ [])
-      ∙ (let v = p.value in omega (arith, v));
-}
-
-decimal_is : (n : ℕ) → n < 2 ^ 64 → IsDecimalOf n (decimal n)
-decimal_is n h = decimal_by_steps IsDecimalOf one_digit more_digits n h
-
-decimal_number : (n : ℕ) → n ≤ 1000000 → IsNumber (decimal n) n
-decimal_number n h =
-    let d = decimal_is n (omega arith) in
-    record { not_empty = d.some; digits = d.digits; value = d.value; fits = omega arith }
+-- ---- digits
 
 digit_no_blank : (byte : ℕ) → IsDigit byte → is_blank byte ≡ false
 digit_no_blank byte h =
@@ -229,7 +196,7 @@ header_free =
 pub reads_back : (f : Af) → IsAf f → IsSolid f → length f.attacks ≤ 10000000 → ReadsAs (af_text f) f
 unfolding lines_of line_at
 reads_back f form solid few =
-    let n = decimal_number (length f.live) solid.small in
+    let n = decimal_number (length f.live) (let few = solid.small in omega arith) in
     let fields : field_texts (codes "p af " ++ decimal (length f.live)) ≡ codes "p" ∷ codes "af" ∷ decimal (length f.live) ∷ []
     = header_texts (decimal (length f.live)) n.digits n.not_empty in
     let free : All (λ byte. is_line_end byte ≡ false) (codes "p af " ++ decimal (length f.live))

@@ -1,10 +1,10 @@
 -- What a loop over parts keeps, and how the parts add up.
-use Rattle.std.proofs.Common.{◌≡◌, ℕ, ◌+◌, ◌-◌, ◌<◌, ◌≤◌, List, [], ◌++◌, length, take, drop, Option, None, Some, sym, ap, arith, append_assoc}
+use Rattle.std.proofs.Common.{◌≡◌, ℕ, ◌+◌, ◌-◌, ◌≤◌, List, [], ◌++◌, length, take, drop, Option, None, Some, ap, arith, append_assoc}
 use Rattle.std.proofs.KnownBytes.{Appends-trans}
 use Rattle.std.proofs.Math.Seq.{take-add}
 use Rattle.std.proofs.lemmas.Grind.{common_steps}
 use Rattle.std.specs.Io.KnownBytes.{Appends}
-use Rattle.argue_outside.specs.Outside.{Told, Adds, Fetches, HoldsWhole, IsLonger, IsPieceAt}
+use Rattle.argue_outside.specs.Outside.{Told, Adds, Fetches}
 
 -- these are the first bytes of the name, as far as it is told
 abbrev pub HoldsFirst : Told → List ℕ → Type 0

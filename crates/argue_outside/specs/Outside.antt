@@ -2,7 +2,7 @@
 use Rattle.std.specs.Prelude.{◌≡◌, ℕ, ◌+◌, ◌-◌, ◌^◌, ◌<◌, ◌≤◌, min, List, [], ◌++◌, length, take, drop, Option, None, Some}
 use Rattle.std.specs.Io.KnownBytes.{Appends}
 use Rattle.argue_outside.specs.declared.Role.{Role}
-use Rattle.argue_outside.specs.declared.Role.TheVariants.{Framework, Script, Answer, Certificate, List as AnswerList, Cnf, Lrat}
+use Rattle.argue_outside.specs.declared.Role.TheVariants.{Framework}
 
 -- what is told of a name: `None` where nothing is told, `Some None` where the name isn't there, and
 -- `Some (Some bytes)` where the name has these bytes

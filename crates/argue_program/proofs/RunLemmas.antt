@@ -1,7 +1,6 @@
 -- How the parts of a run's contract fit together, over plain variables.
-use Rattle.std.proofs.Common.{◌≡◌, ◌≢◌, ◌<◌, ◌≤◌, ◌⊎◌, ℕ, List, [], ◌∷◌, length, refl, sym, ap, ◌∙◌, subst, inl, inr, arith, Option, None, Some, Err}
+use Rattle.std.proofs.Common.{◌≡◌, ◌≢◌, ◌<◌, ◌≤◌, ◌⊎◌, ℕ, List, [], length, refl, sym, ap, ◌∙◌, subst, inl, inr, arith, Option, None, Some, Err}
 use Rattle.std.specs.Prelude.{IsErrOf}
-use Rattle.meaning_atoms.specs.Framework.{Af}
 use Rattle.argue_outside.specs.Outside.{AppendsPart, IsLonger, Told}
 use Rattle.argue_words.specs.Words.{AreWords, IsCommandOf, IsGroundedQuery}
 use Rattle.argue_words.specs.declared.words.Command.{Command}

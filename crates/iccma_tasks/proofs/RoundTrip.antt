@@ -1,49 +1,13 @@
 -- What is written of an answer reads as that answer.
-use Rattle.std.proofs.Common.{
-  ◌≡◌,
-  ℕ,
-  zero,
-  suc,
-  ◌+◌,
-  ◌-◌,
-  ◌*◌,
-  ◌/◌,
-  ◌%◌,
-  ◌<◌,
-  ◌≤◌,
-  ◌==◌,
-  ◌||◌,
-  Bool,
-  false,
-  not,
-  List,
-  [],
-  ◌∷◌,
-  ◌++◌,
-  length,
-  get_or,
-  refl,
-  sym,
-  ap,
-  subst,
-  ◌∙◌,
-  arith,
-  length-append,
-  append_assoc,
-  map,
-  codes,
-  filter,
-}
+use Rattle.std.proofs.Common.{◌≡◌, ℕ, zero, suc, ◌+◌, ◌<◌, ◌≤◌, ◌==◌, ◌||◌, Bool, false, not, List, [], ◌∷◌, ◌++◌, length, get_or, refl, sym, ap, subst, ◌∙◌, arith, append_assoc, map, codes, filter}
 use Rattle.std.specs.Prelude.{Some, None, All}
 use Rattle.std.specs.List.{flat_map, slice_split}
 use Rattle.std.specs.List.Sorted.{IsStrictlyIncreasing}
 use Rattle.std.specs.Fmt.{decimal}
-use Rattle.std.proofs.lemmas.Fmt.{decimal_by_steps}
 use Rattle.std.proofs.lemmas.Bool.{cond-true, ne_eqb, not_from_false}
 use Rattle.std.proofs.lemmas.List.{append-nil, length-map}
 use Rattle.std.proofs.lemmas.List.Elements.{All-append, All-cons, All-nil, All-head, All-tail}
 use Rattle.std.proofs.lemmas.List.Splits.{slice_split_at, slice_split_none, length-slice_split}
-use Rattle.std.proofs.lemmas.List.Sums.{fold-append}
 use Rattle.num_text.specs.Cuts.{
   is_line_end,
   is_blank,
@@ -55,7 +19,7 @@ use Rattle.num_text.specs.Cuts.{
   numbered,
   field_texts,
 }
-use Rattle.num_text.specs.Number.{IsDigit, digits_value}
+use Rattle.num_text.specs.Number.{IsDigit}
 use Rattle.num_text.proofs.CutLemmas.{lines_from-nil}
 use Rattle.iccma_tasks.specs.declared.answer.Answer.{Answer}
 use Rattle.iccma_tasks.specs.declared.answer.Answer.TheVariants.{Yes, No, Sets}
@@ -68,39 +32,14 @@ use Rattle.iccma_tasks.specs.AnswerText.{
 }
 use Rattle.iccma_tasks.specs.WrittenText.{set_line, text_of, HasArguments, IsWritable, HasRisingSets}
 use Rattle.num_text.specs.Lines.{are_skipped}
+use Rattle.num_text.proofs.Decimals.{decimal_number}
 use Rattle.iccma_tasks.proofs.Lines.{fields_of_filled, filled-told, filled-nil}
 
 -- ---- a number's text
 
-record IsDecimal (n : ℕ) (bytes : List ℕ) : Type 0 where
-  pub some : 0 < length bytes
-  pub digits : All IsDigit bytes
-  pub value : digits_value bytes ≡ n
-
-one_digit : (n : ℕ) → n < 10 → IsDecimal n ((48 + n) ∷ [])
-one_digit n h = record {
-  some = omega arith;
-  digits = All-cons IsDigit (48 + n) [] (record { low = omega arith; high = omega arith }) (All-nil IsDigit);
-  value = omega arith;
-}
-
-more_digits : (n : ℕ) (ds : List ℕ) → 10 ≤ n → IsDecimal (n / 10) ds
-    → IsDecimal n (ds ++ ((48 + n % 10) ∷ []))
-more_digits n ds h is = record {
-  some = omega (arith, length-append ds ((48 + n % 10) ∷ []));
-  digits = All-append IsDigit ds ((48 + n % 10) ∷ []) is.digits
-      (All-cons IsDigit (48 + n % 10) [] (record { low = omega arith; high = omega arith })
-      (All-nil IsDigit));
-  value = fold-append (λ value byte. value * 10 + (byte - 48)) 0 ds ((48 + n % 10) ∷ [])
-      ∙ ap (λ v. v * 10 + (48 + n % 10 - 48)) is.value ∙ (omega arith);
-}
-
-decimal_is : (n : ℕ) → n ≤ 1000000 → IsDecimal n (decimal n)
-decimal_is n h = decimal_by_steps IsDecimal one_digit more_digits n (omega arith)
-
 decimal_is_argument : (n : ℕ) → 1 ≤ n → n ≤ 1000000 → IsArgument (decimal n) n
-decimal_is_argument n low high = let is = decimal_is n high in record {
-  number = record { not_empty = is.some; digits = is.digits; value = is.value; fits = omega arith };
+decimal_is_argument n low high = record {
+  number = decimal_number n (omega arith);
   low = low;
   high = high;
 }
@@ -152,9 +91,10 @@ numbers_fields : (piece : List ℕ) (set : List ℕ) → 0 < length piece → Al
 numbers_fields piece [] some none all = ap field_texts (append-nil piece) ∙ field_texts-one piece some none
 numbers_fields piece (n ∷ ns) some none all =
     let bounds = All-head (λ m. (1 ≤ m) × (m ≤ 1000000)) n ns all in
-    let is = decimal_is n bounds.1 in
+    let high = bounds.1 in
+    let is = decimal_number n (omega arith) in
     field_texts-more piece (decimal n ++ numbers_text ns) some none
-    ∙ ap (λ fs. piece ∷ fs) (numbers_fields (decimal n) ns is.some
+    ∙ ap (λ fs. piece ∷ fs) (numbers_fields (decimal n) ns is.not_empty
     (weaken_digits (λ b. is_blank b ≡ false) digit_is_no_blank (decimal n) is.digits)
     (All-tail (λ m. (1 ≤ m) × (m ≤ 1000000)) n ns all))
 
@@ -228,7 +168,8 @@ numbers_in_line : (set : List ℕ) → HasArguments set → All (λ b. is_line_e
 numbers_in_line [] all = All-nil _
 numbers_in_line (n ∷ ns) all =
     let bounds = All-head (λ m. (1 ≤ m) × (m ≤ 1000000)) n ns all in
-    let is = decimal_is n bounds.1 in
+    let high = bounds.1 in
+    let is = decimal_number n (omega arith) in
     All-append (λ b. is_line_end b ≡ false) (32 ∷ decimal n) (numbers_text ns)
     (All-cons (λ b. is_line_end b ≡ false) 32 (decimal n) refl
     (weaken_digits (λ b. is_line_end b ≡ false) digit_is_no_end (decimal n) is.digits))

@@ -1,4 +1,4 @@
-use Rattle.std.proofs.Common.{length, take, ◌-◌, ◌≡◌, ℕ, ◌≤◌}
+use Rattle.std.proofs.Common.{length, take, ◌-◌, ◌≡◌, ◌≤◌}
 use Rattle.argue_outside.proofs.whole.append_all.Given as goal
 use Rattle.argue_outside.specs.Outside.{Adds, HoldsStandBut}
 

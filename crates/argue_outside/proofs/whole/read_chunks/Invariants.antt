@@ -1,4 +1,4 @@
-use Rattle.std.proofs.Common.{length, take, ◌-◌, ◌+◌, ◌≡◌, ℕ, ◌≤◌}
+use Rattle.std.proofs.Common.{length, ◌-◌, ◌+◌, ◌≡◌, ◌≤◌}
 use Rattle.argue_outside.specs.Outside.{CountsStandBut}
 use Rattle.argue_outside.proofs.Parts.{HoldsFirst}
 use Rattle.argue_outside.proofs.whole.read_chunks.Given as goal
