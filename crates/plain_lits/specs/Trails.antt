@@ -54,6 +54,7 @@ pub record IsMarked (order : List Lit) (values : List Value) (places : List ℕ)
 -- there is room for a further level wherever there is room for its first literal, now and after each return to
 -- an earlier level
 pub record HasLevelRoom (starts : List ℕ) (count vars capacity : ℕ) : Type 0 where
+  pub first : vars ≤ capacity
   pub now : length starts + vars ≤ capacity + count
   pub then : (k : ℕ) → k < length starts → k + vars ≤ capacity + slice_index starts k
 

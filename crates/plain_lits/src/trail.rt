@@ -144,6 +144,16 @@ impl Trail {
         Ok(())
     }
 
+    /// Takes back every literal and every level.
+    pub fn clear(&mut self)
+        ensures lits { self.new.lits ≡ [] }
+        ensures starts { self.new.starts ≡ [] }
+        ensures vars { self.new.vars ≡ self.old.vars }
+    {
+        self.marks.keep(0);
+        self.starts.truncate(0);
+    }
+
     /// Takes back each level above `level`, with its literals.
     pub fn back_to(&mut self, level: usize)
         ensures lits { self.new.lits ≡ take (level_start self.old level) self.old.lits }

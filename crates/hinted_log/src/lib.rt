@@ -1,0 +1,10 @@
+//! A log of clauses: axioms, sides, and clauses that follow from earlier ones by a check of hints.
+#![tactic(auto)]
+
+mod check;
+pub mod fault;
+pub mod kind;
+mod store;
+
+pub use fault::LogFault;
+pub use kind::Kind;
