@@ -1,5 +1,5 @@
 -- What the parts of the check say of a clause under an assignment.
-use Rattle.std.specs.Prelude.{◌<◌, ℕ, List, map, Contains}
+use Rattle.std.specs.Prelude.{◌≡◌, ◌⊎◌, ◌<◌, ℕ, List, [], ◌∷◌, ◌++◌, map, Contains}
 use Rattle.plain_lits.specs.declared.lit.Lit.{Lit}
 use Rattle.plain_lits.specs.Literals.{opposite}
 use Rattle.plain_lits.specs.HintCheck.{IsAllFalse, IsUnit, IsTautology}
@@ -30,3 +30,7 @@ pub record AssumesFalse (clause truths : List Lit) : Type 0 where
   pub plain : IsTautology opposite clause → ⊥
   pub there : (l : Lit) → Contains truths l → Contains (map opposite clause) l
   pub back : (l : Lit) → Contains (map opposite clause) l → Contains truths l
+
+-- a literal was false already, or it became so, being neither true nor false
+abbrev pub BecomesFalse : List Lit → List Lit → Lit → Type 0
+BecomesFalse old new l = (Contains old (opposite l) × (new ≡ old)) ⊎ ((Contains old l → ⊥) × (new ≡ old ++ opposite l ∷ []))

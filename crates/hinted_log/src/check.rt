@@ -4,7 +4,7 @@ ghost use Rattle.std.specs.Prelude.{◌≡◌, ◌↔◌, ℕ, ◌+◌, ◌<◌,
 ghost use Rattle.std.specs.Bool.{OnTrue, OnFalse};
 ghost use Rattle.plain_lits.specs.Literals.{opposite};
 ghost use Rattle.plain_lits.specs.HintCheck.{IsTautology, Looks, Checks};
-ghost use Rattle.hinted_log.specs.Checking.{IsLook, HasRoomFor, HaveRoomFor, AssumesFalse};
+ghost use Rattle.hinted_log.specs.Checking.{IsLook, HasRoomFor, HaveRoomFor, AssumesFalse, BecomesFalse};
 
 use plain_lits::{Lit, PackedLit, Rows, StepId, Trail, Value};
 
@@ -43,6 +43,23 @@ fn look_at(trail: &Trail, clause: &[PackedLit]) -> Look
     }
 }
 
+/// Takes a literal to be false, and answers whether it can be: one that is true can't.
+fn assume_one(trail: &mut Trail, lit: Lit) -> bool
+    requires { lit.var < trail.old.vars }
+    ensures now { OnTrue result (BecomesFalse trail.old.lits trail.new.lits lit) }
+    ensures before { OnFalse result (Contains trail.old.lits lit) }
+    ensures vars { trail.new.vars ≡ trail.old.vars }
+{
+    match trail.value(lit) {
+        Value::False => true,
+        Value::True => false,
+        Value::Unset => {
+            trail.push(lit.opposite());
+            true
+        }
+    }
+}
+
 /// Takes each literal of a clause to be false. It stops with false at a literal whose negation it has met.
 fn assume_false(trail: &mut Trail, clause: &[Lit]) -> bool
     requires empty { trail.old.lits ≡ [] }
@@ -52,11 +69,9 @@ fn assume_false(trail: &mut Trail, clause: &[Lit]) -> bool
     ensures vars { trail.new.vars ≡ trail.old.vars }
 {
     for lit in clause {
-        let negation = lit.opposite();
-        match trail.value(negation) {
-            Value::True => {}
-            Value::False => return false,
-            Value::Unset => trail.push(negation),
+        let plain = assume_one(trail, *lit);
+        if !plain {
+            return false;
         }
     }
     true
@@ -98,7 +113,11 @@ pub(crate) fn check(
     ensures vars { trail.new.vars ≡ trail.old.vars }
 {
     let plain = assume_false(trail, clause);
-    let outcome = if plain { look_along(trail, clauses, hints) } else { Err(0) };
+    if !plain {
+        trail.clear();
+        return Err(0);
+    }
+    let outcome = look_along(trail, clauses, hints);
     trail.clear();
     outcome
 }
