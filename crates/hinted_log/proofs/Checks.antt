@@ -1,5 +1,5 @@
 -- The steps of the check: what one more literal or hint makes of what was found so far.
-use Rattle.std.proofs.Common.{◌≡◌, ◌≢◌, ℕ, ◌<◌, ◌≤◌, ◌+◌, ◌-◌, List, [], ◌∷◌, ◌++◌, length, get_or, arith, ap, sym, ◌∙◌, refl, inl, inr, ⊎_elim, map, Ok, Err, Result, Bool, true, false, not, take, drop, drop-cons, add-one}
+use Rattle.std.proofs.Common.{◌≡◌, ◌≢◌, ℕ, ◌<◌, ◌≤◌, ◌+◌, ◌-◌, List, [], ◌∷◌, ◌++◌, length, get_or, arith, ap, sym, ◌∙◌, refl, inl, inr, ⊎_elim, map, Ok, Err, Result, Bool, true, false, not, take, drop, drop-cons, add-one, subst}
 use Rattle.std.specs.Prelude.{Contains, ◌⊎◌, Option, Some, None}
 use Rattle.std.proofs.lemmas.List.{take-append-drop, take_more, get_or_default}
 use Rattle.std.proofs.lemmas.List.Elements.{Contains-append_left, Contains-append_cases, Contains-push_cases, Contains-get_or}
@@ -235,3 +235,9 @@ along_unnamed steps truths hints at r lt e bad =
 -- a member of a list of clauses, by its place
 pub clause_member : (steps : List (List Lit)) (k : ℕ) (row : List Lit) → k < length steps → row ≡ get_or steps k [] → Contains steps row
 clause_member steps k row lt e = (k, lt, get_or_default steps k row [] lt ∙ sym e)
+
+-- what holds of a clause's first literals, with one more
+pub front_all : (P : Lit → Type 0) (clause : List Lit) (i : ℕ) (d : Lit) → i < length clause → ((l : Lit) → Contains (take i clause) l → P l) → P (get_or clause i d) → (l : Lit) → Contains (take (i + 1) clause) l → P l
+front_all P clause i d lt all here l c =
+    ⊎_elim (λ old. all l old) (λ (e : get_or clause i d ≡ l). subst P e here)
+    (Contains-push_cases (take i clause) (get_or clause i d) l (rw (take_more clause i d lt) at c))

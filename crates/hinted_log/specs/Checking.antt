@@ -1,5 +1,5 @@
 -- What the parts of the check say of a clause under an assignment.
-use Rattle.std.specs.Prelude.{◌≡◌, ◌⊎◌, ◌<◌, ℕ, List, [], ◌∷◌, ◌++◌, map, Contains}
+use Rattle.std.specs.Prelude.{◌≡◌, ◌⊎◌, ◌<◌, ◌^◌, ℕ, List, [], ◌∷◌, ◌++◌, map, Contains}
 use Rattle.plain_lits.specs.declared.lit.Lit.{Lit}
 use Rattle.plain_lits.specs.Literals.{opposite}
 use Rattle.plain_lits.specs.HintCheck.{IsAllFalse, IsUnit, IsTautology}
@@ -34,3 +34,7 @@ pub record AssumesFalse (clause truths : List Lit) : Type 0 where
 -- a literal was false already, or it became so, being neither true nor false
 abbrev pub BecomesFalse : List Lit → List Lit → Lit → Type 0
 BecomesFalse old new l = (Contains old (opposite l) × (new ≡ old)) ⊎ ((Contains old l → ⊥) × (new ≡ old ++ opposite l ∷ []))
+
+-- each literal of a clause can be packed
+abbrev pub IsPackable : List Lit → Type 0
+IsPackable clause = (l : Lit) → Contains clause l → l.var < 2 ^ 63

@@ -3,6 +3,7 @@ use Rattle.std.specs.Prelude.{◌≡◌, ◌≢◌, ℕ, ◌+◌, ◌-◌, ◌<�
 use Rattle.plain_lits.specs.declared.lit.Lit.{Lit}
 use Rattle.plain_lits.specs.Literals.{opposite}
 use Rattle.plain_lits.specs.HintCheck.{Checks, IsTrueClause, IsNamed}
+use Rattle.hinted_log.specs.Checking.{HaveRoomFor}
 use Rattle.hinted_log.specs.declared.kind.Kind.{Kind}
 use Rattle.hinted_log.specs.declared.kind.Kind.TheVariants.{Axiom, Side, Derived}
 
@@ -51,6 +52,17 @@ IsGiven before step Derived = Checks opposite (clauses_of before) step.clause st
 pub record IsProof (steps : List Step) : Type 0 where
   pub each : (k : ℕ) → k < length steps → IsGiven (take k steps) (slice_index_or steps k no_step) (slice_index_or steps k no_step).kind
 
+-- a step is added at the end, and gets the next number
+pub record AddsStep (old new : LogState) (step : Step) (number : ℕ) : Type 0 where
+  pub new_log : new ≡ with_step old step
+  pub next : number ≡ length old.steps + 1
+
+-- a clause is taken with its hints, and the step keeps those that were looked at
+pub record AddsDerived (old new : LogState) (clause : List Lit) (hints : List ℕ) (number : ℕ) : Type 0 where
+  pub used : ℕ
+  pub taken : Checks opposite (clauses_of old.steps) clause hints (Ok used)
+  pub added : AddsStep old new (derived_step clause (take used hints)) number
+
 -- the form of a log: a proof, within the limit
 pub record IsLog (log : LogState) : Type 0 where
   pub proof : IsProof log.steps
@@ -85,3 +97,13 @@ steps_of (clause ∷ clauses) (kind ∷ kinds) (hint ∷ hints) = record { claus
 pub record AreParts (clauses : List (List Lit)) (kinds : List Kind) (hints : List (List ℕ)) : Type 0 where
   pub kinds_long : length kinds ≡ length clauses
   pub hints_long : length hints ≡ length clauses
+
+-- the parts of a log: no literal is assumed between two calls, and each variable of a clause has room
+pub record IsStored (log : LogState) (truths : List Lit) (vars : ℕ) : Type 0 where
+  pub form : IsLog log
+  pub clear : truths ≡ []
+  pub room : HaveRoomFor vars (clauses_of log.steps)
+
+-- the log of a limit and steps
+abbrev pub log_of : ℕ → List Step → LogState
+log_of limit steps = record { limit = limit; steps = steps }

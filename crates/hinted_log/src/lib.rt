@@ -4,7 +4,9 @@
 mod check;
 pub mod fault;
 pub mod kind;
+pub mod log;
 mod store;
 
 pub use fault::LogFault;
 pub use kind::Kind;
+pub use log::Log;
