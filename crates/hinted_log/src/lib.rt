@@ -4,6 +4,7 @@
 mod check;
 pub mod fault;
 pub mod kind;
+pub mod laws;
 pub mod log;
 mod store;
 
