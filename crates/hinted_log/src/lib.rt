@@ -7,6 +7,7 @@ pub mod kind;
 pub mod laws;
 pub mod log;
 mod store;
+mod trim;
 
 pub use fault::LogFault;
 pub use kind::Kind;
