@@ -11,7 +11,8 @@ use Rattle.plain_lits.proofs.CheckLemmas.{taken_sound}
 use Rattle.hinted_log.specs.declared.kind.Kind.{Kind}
 use Rattle.hinted_log.specs.declared.kind.Kind.TheVariants.{Axiom, Side, Derived}
 use Rattle.hinted_log.specs.Logs.{Step, no_step, clauses_of, step_at, IsGiven, IsProof, Reaches, itself, by_hint, reading_of, IsTrueUnder}
-use Rattle.hinted_log.specs.Follows.{IsStepOf, FollowsFromReached, FollowsFromHints, StepsFollow}
+use Rattle.hinted_log.specs.Logs.{IsStepOf}
+use Rattle.hinted_log.specs.Follows.{FollowsFromReached, FollowsFromHints, StepsFollow}
 
 double : (p : Bool) → not (not p) ≡ p
 double true = refl

@@ -10,7 +10,7 @@ use Rattle.std.proofs.lemmas.List.Elements.{Contains-append_left, Contains-push_
 use Rattle.plain_lists.proofs.Membership.{Contains-nil, Contains-head, Contains-cons_cases, Contains-pushed}
 use Rattle.hinted_log.specs.Logs.{Step, step_at, Reaches, itself, by_hint}
 use Rattle.hinted_log.specs.Logs.{IsProof}
-use Rattle.hinted_log.specs.Follows.{IsStepOf}
+use Rattle.hinted_log.specs.Logs.{IsStepOf}
 use Rattle.hinted_log.specs.Trimming.{AreMarked, FindsHints, IsWalk, unmarked}
 use Rattle.hinted_log.proofs.Following.{all_follow, hint_before}
 

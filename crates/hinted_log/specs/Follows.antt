@@ -2,12 +2,7 @@
 use Rattle.std.specs.Prelude.{◌≡◌, ◌≢◌, ℕ, ◌<◌, ◌≤◌, Bool, List, length, Contains}
 use Rattle.plain_lits.specs.declared.lit.Lit.{Lit}
 use Rattle.hinted_log.specs.declared.kind.Kind.TheVariants.{Derived}
-use Rattle.hinted_log.specs.Logs.{Step, Reaches, IsTrueUnder, step_at, IsProof}
-
--- a number names one of the steps
-pub record IsStepOf (steps : List Step) (number : ℕ) : Type 0 where
-  pub from_one : 0 < number
-  pub within : number ≤ length steps
+use Rattle.hinted_log.specs.Logs.{Step, IsStepOf, Reaches, IsTrueUnder, step_at}
 
 -- where the axioms and sides that a step reaches are true, so is its clause
 abbrev pub FollowsFromReached : List Step → ℕ → Type 0

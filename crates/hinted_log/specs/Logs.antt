@@ -69,9 +69,10 @@ pub record IsLog (log : LogState) : Type 0 where
   pub within : length log.steps ≤ log.limit
   pub small : log.limit ≤ 50000000
 
--- a number names a step of the log
-abbrev pub HasStep : LogState → ℕ → Type 0
-HasStep log number = (0 < number) × (number ≤ length log.steps)
+-- a number names one of the steps
+pub record IsStepOf (steps : List Step) (number : ℕ) : Type 0 where
+  pub from_one : 0 < number
+  pub within : number ≤ length steps
 
 -- a step reaches itself, and what its hints reach
 pub data Reaches (steps : List Step) : ℕ → ℕ → Type 0 where

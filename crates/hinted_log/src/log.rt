@@ -1,16 +1,19 @@
 //! A log of clauses, of which each follows from earlier ones or is given.
 
 ghost use Rattle.std.specs.Prelude.{◌≡◌, ◌≢◌, ◌↔◌, ℕ, ◌+◌, ◌-◌, ◌<◌, ◌≤◌, ◌^◌, [], ◌∷◌, ◌++◌, length, map, take, Contains, IfOk, OnOk, OnErr, IsTrue};
+ghost use Rattle.plain_lists.specs.Members.{IsSetOf};
 ghost use Rattle.plain_lits.specs.Literals.{opposite};
 ghost use Rattle.plain_lits.specs.HintCheck.{Checks};
-ghost use Rattle.hinted_log.specs.Logs.{IsLog, IsGiven, HasStep, AddsStep, AddsDerived, clauses_of, step_at, given_step, derived_step};
+ghost use Rattle.hinted_log.specs.Logs.{IsLog, IsGiven, IsStepOf, AddsStep, Reaches, AddsDerived, clauses_of, step_at, given_step, derived_step};
+ghost use Rattle.hinted_log.specs.Follows.{FollowsFromHints, FollowsFromReached};
 ghost use Rattle.hinted_log.specs.Checking.{HasRoomFor, IsPackable};
 
 use crate::check::check;
 use crate::fault::LogFault;
 use crate::kind::Kind;
 use crate::store::Store;
-use plain_lists::Memory;
+use crate::trim::trimmed;
+use plain_lists::{Items, Memory};
 use plain_lits::{Clause, Lit, PackedLit, StepId, Trail};
 use std::alloc::Global;
 use std::marker::Model;
@@ -120,6 +123,7 @@ impl Log {
     pub fn derive(&mut self, clause: Clause, hints: &[StepId]) -> Result<StepId, LogFault>
         ensures ok { IfOk result (AddsDerived self.old self.new clause hints.now) }
         ensures full { (result ≡ Err LogFault.LogFull) ↔ (length self.old.steps ≡ self.old.limit) }
+        ensures follows { IfOk result (λ step. FollowsFromHints self.old.steps hints.now clause) }
         ensures rejected { (place : ℕ) → result ≡ Err (LogFault.Rejected place) → Checks opposite (clauses_of self.old.steps) clause hints.now (Err place) }
         ensures err { OnErr result (self.new ≡ self.old) }
     {
@@ -139,8 +143,9 @@ impl Log {
 
     /// The clause of a step.
     pub fn clause(&self, step: StepId) -> &[PackedLit]
-        requires { HasStep self.now step }
+        requires { IsStepOf self.now.steps step }
         ensures clause { result.now ≡ (step_at self.now.steps step).clause }
+        ensures follows { FollowsFromReached self.now.steps step }
         ensures form { IsLog self.now }
     {
         self.steps.clause(step.number() as usize - 1)
@@ -148,7 +153,7 @@ impl Log {
 
     /// Where a step comes from.
     pub fn kind(&self, step: StepId) -> Kind
-        requires { HasStep self.now step }
+        requires { IsStepOf self.now.steps step }
         ensures kind { result ≡ (step_at self.now.steps step).kind }
         ensures form { IsLog self.now }
     {
@@ -157,11 +162,20 @@ impl Log {
 
     /// The hints that a derived step follows from. A step that is given has none.
     pub fn hints(&self, step: StepId) -> &[StepId]
-        requires { HasStep self.now step }
+        requires { IsStepOf self.now.steps step }
         ensures hints { result.now ≡ (step_at self.now.steps step).hints }
         ensures form { IsLog self.now }
     {
         self.steps.hints(step.number() as usize - 1)
+    }
+
+    /// The steps that a step reaches through hints, itself included, in rising order.
+    pub fn trim(&self, alloc: Global, step: StepId) -> Result<Items<StepId>, Memory>
+        requires { IsStepOf self.now.steps step }
+        ensures { IfOk result (IsSetOf (Reaches self.now.steps step)) }
+    {
+        let found = trimmed(alloc, &self.steps, step)?;
+        Ok(Items::from_vec(found))
     }
 
     /// Adds a step that needs no hints.

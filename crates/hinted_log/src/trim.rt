@@ -2,8 +2,7 @@
 
 ghost use Rattle.std.specs.Prelude.{◌≡◌, ◌↔◌, ℕ, ◌+◌, ◌<◌, ◌≤◌, [], ◌∷◌, length, Contains, IfOk, OnOk};
 ghost use Rattle.plain_lists.specs.Members.{IsSetOf};
-ghost use Rattle.hinted_log.specs.Logs.{Reaches, IsProof};
-ghost use Rattle.hinted_log.specs.Follows.{IsStepOf};
+ghost use Rattle.hinted_log.specs.Logs.{IsStepOf, Reaches, IsProof};
 ghost use Rattle.hinted_log.specs.Trimming.{AreMarked, FindsHints};
 
 use crate::store::Store;

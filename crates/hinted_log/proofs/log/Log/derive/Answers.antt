@@ -1,6 +1,7 @@
 use Rattle.std.proofs.Common.{take, ◌∙◌, sym}
 use Rattle.hinted_log.specs.Logs.{log_of, derived_step}
 use Rattle.hinted_log.proofs.Proofs.{stored_kept, stored_more, IsGiven-derived, not_so, used_hints}
+use Rattle.hinted_log.proofs.Following.{taken_from_hints}
 use Rattle.hinted_log.proofs.log.Log.derive.Goals as goal
 
 pub invariant_of-self : goal.invariant_of-self
@@ -51,3 +52,10 @@ invariant_of-self-in-Ok c =
     (IsGiven-derived s.steps c.clauses.result.now c.args.clause c.args.hints.now c.in-Ok.used c.clauses.ensures (rw c.as_slice-2.ensures at c.in-Ok.ensures.outcome))
     (rw (c.check.ensures.vars, ← c.as_slice.ensures) c.in_ok-make_room.ensures.ok)
     (rw (c.as_slice-in-Ok-2.ensures.value, c.in_ok-pack_into-in-Ok.ensures, c.as_slice-in-Ok.ensures) at c.in_ok-push-in-Ok.ensures.ok)
+
+pub returns-clause-follows : goal.returns-clause-follows
+returns-clause-follows c =
+    rw (← c.self.view_is) (
+      taken_from_hints c.self.inside.steps c.args.clause c.args.hints.now c.in-Ok.used
+      (rw (c.as_slice-2.ensures, c.clauses.ensures) at c.in-Ok.ensures.outcome)
+    )
