@@ -220,10 +220,13 @@ along_unit steps truths hints at number clause u outcome h f w =
 pub along_other : (steps : List (List Lit)) (truths : List Lit) (hints : List ℕ) (at number : ℕ) (clause : List Lit) → IsHintAt steps hints at number clause → IsNeither truths clause → Looks opposite steps truths (at + 1) (drop at hints) (Err (at + 1))
 along_other steps truths hints at number clause h f =
     let n : IsNeither truths (clause_at steps number) = rw h.is_clause at f in
-    rw (opened hints at h.within, h.is_number) (inr (inr (record {
-      not_false = λ g. n.not_false g.all_false;
-      not_unit = λ u g. n.not_unit u g.unit;
-    }, refl)))
+    rw (opened hints at h.within, h.is_number) (inr (inr (
+      record {
+        not_false = λ g. n.not_false g.all_false;
+        not_unit = λ u g. n.not_unit u g.unit;
+      },
+      refl,
+    )))
 
 -- a hint that names no step
 pub along_unnamed : (steps : List (List Lit)) (truths : List Lit) (hints : List ℕ) (at r : ℕ) → at < length hints → r ≡ get_or hints at r → (r ≡ 0) ⊎ (length steps < r) → Looks opposite steps truths (at + 1) (drop at hints) (Err (at + 1))

@@ -131,11 +131,17 @@ impl Log {
             return Err(LogFault::LogFull);
         }
         make_room(&mut self.trail, clause.as_slice())?;
-        match check(&mut self.trail, self.steps.clauses(), clause.as_slice(), hints) {
+        match check(
+            &mut self.trail,
+            self.steps.clauses(),
+            clause.as_slice(),
+            hints,
+        ) {
             Err(place) => Err(LogFault::Rejected(place)),
             Ok(used) => {
                 pack_into(&mut self.packed, clause.as_slice())?;
-                self.steps.push(self.packed.as_slice(), Kind::Derived, &hints[..used])?;
+                self.steps
+                    .push(self.packed.as_slice(), Kind::Derived, &hints[..used])?;
                 Ok(StepId::new(self.steps.len() as u32))
             }
         }

@@ -81,7 +81,12 @@ impl Store {
     }
 
     /// Adds a step at the end. After `Memory` the steps are as before.
-    pub(crate) fn push(&mut self, clause: &[PackedLit], kind: Kind, hints: &[StepId]) -> Result<(), Memory>
+    pub(crate) fn push(
+        &mut self,
+        clause: &[PackedLit],
+        kind: Kind,
+        hints: &[StepId],
+    ) -> Result<(), Memory>
         ensures ok { OnOk result (self.new ≡ self.old ++ record { clause = clause.now; kind = kind; hints = hints.now } ∷ []) }
         ensures err { OnErr result (self.new ≡ self.old) }
     {

@@ -29,7 +29,11 @@ fn find_one(found: &mut Vec<StepId>, marks: &mut Vec<bool>, hint: StepId) -> Res
 }
 
 /// Adds each hint that wasn't found before.
-fn find_hints(found: &mut Vec<StepId>, marks: &mut Vec<bool>, hints: &[StepId]) -> Result<(), Memory>
+fn find_hints(
+    found: &mut Vec<StepId>,
+    marks: &mut Vec<bool>,
+    hints: &[StepId],
+) -> Result<(), Memory>
     requires marked { AreMarked marks.old.items found.old.items }
     requires within { (hint : ℕ) → Contains hints.now hint → hint < length marks.old.items }
     ensures marked { OnOk result (AreMarked marks.new.items found.new.items) }

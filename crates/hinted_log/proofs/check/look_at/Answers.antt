@@ -20,7 +20,7 @@ pub loop-packed-preserved : goal.loop-packed-preserved
 loop-packed-preserved c =
     let item = item_from c.args.clause.now c.loop-packed.packed-index c.lit-lit.result c.packed-item.result c.loop-packed-test.true c.packed-item.is c.lit-lit.ensures in
     elim c.match-value.branch [
-      in-False w ↦ look_false c.args.trail.now.lits c.args.clause.now c.loop-packed.packed-index c.loop-packed.unset c.match-value.unset c.lit-lit.result item w.unset-is w.in-False.ensures.value c.loop-packed.invariant
+      | in-False w ↦ look_false c.args.trail.now.lits c.args.clause.now c.loop-packed.packed-index c.loop-packed.unset c.match-value.unset c.lit-lit.result item w.unset-is w.in-False.ensures.value c.loop-packed.invariant
       | in-Unset+in-None w ↦ look_unset c.args.trail.now.lits c.args.clause.now c.loop-packed.packed-index c.loop-packed.unset c.match-value.unset c.lit-lit.result item w.in-None.is w.unset-is w.in-Unset.ensures.value c.loop-packed.invariant
       | in-Unset+in-Some+else-not-same w ↦ look_again c.args.trail.now.lits c.args.clause.now c.loop-packed.packed-index c.loop-packed.unset c.match-value.unset c.lit-lit.result w.in-Some.first item w.in-Some.is (w.unset-is ∙ sym w.in-Some.is) (sym w.eq-same.ensures ∙ w.if-not-same.false) c.loop-packed.invariant
     ]

@@ -56,6 +56,6 @@ invariant_of-self-in-Ok c =
 pub returns-clause-follows : goal.returns-clause-follows
 returns-clause-follows c =
     rw (← c.self.view_is) (
-      taken_from_hints c.self.inside.steps c.args.clause c.args.hints.now c.in-Ok.used
-      (rw (c.as_slice-2.ensures, c.clauses.ensures) at c.in-Ok.ensures.outcome)
+    taken_from_hints c.self.inside.steps c.args.clause c.args.hints.now c.in-Ok.used
+    (rw (c.as_slice-2.ensures, c.clauses.ensures) at c.in-Ok.ensures.outcome)
     )

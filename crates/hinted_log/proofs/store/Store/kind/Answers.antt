@@ -14,5 +14,5 @@ bounds-kinds-place c =
 pub returns : goal.returns
 returns c =
     let within : c.args.place < length c.self.inside.clauses =
-        (let long = length-steps_of _ _ _ c.self.invariant in let same = ap length c.self.view_is in omega (arith, long, same, c.requires)) in
+    (let long = length-steps_of _ _ _ c.self.invariant in let same = ap length c.self.view_is in omega (arith, long, same, c.requires)) in
     rw (← c.self.view_is, c.as_slice-kinds.ensures.value) (sym (ap (λ (s : Step). s.kind) (steps_of-at _ _ _ c.args.place c.self.invariant within)))
