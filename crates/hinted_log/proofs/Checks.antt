@@ -2,18 +2,17 @@
 use Rattle.std.proofs.Common.{◌≡◌, ◌≢◌, ℕ, ◌<◌, ◌≤◌, ◌+◌, ◌-◌, List, [], ◌∷◌, ◌++◌, length, get_or, arith, ap, sym, ◌∙◌, refl, inl, inr, ⊎_elim, map, Ok, Err, Result, Bool, true, false, not, take, drop, drop-cons, add-one, subst}
 use Rattle.std.specs.Prelude.{Contains, ◌⊎◌, Option, Some, None}
 use Rattle.std.proofs.lemmas.List.{take-append-drop, take_more, get_or_default}
-use Rattle.std.proofs.lemmas.List.Elements.{Contains-append_left, Contains-append_cases, Contains-push_cases, Contains-get_or}
-use Rattle.plain_lists.proofs.Membership.{Contains-nil, Contains-head, Contains-tail, Contains-cons_cases, Contains-pushed}
+use Rattle.std.proofs.lemmas.List.Elements.{Contains-append_left, Contains-push_cases}
+use Rattle.plain_lists.proofs.Membership.{Contains-nil, Contains-pushed}
 use Rattle.plain_lits.specs.declared.lit.Lit.{Lit}
-use Rattle.plain_lits.specs.declared.value.Value.{Value}
 use Rattle.plain_lits.specs.declared.value.Value.TheVariants.{True, False, Unset}
 use Rattle.plain_lits.specs.Literals.{opposite}
 use Rattle.plain_lits.specs.Values.{IsValueIn}
-use Rattle.plain_lits.specs.HintCheck.{clause_at, IsNamed, IsAllFalse, IsUnit, IsFalseHint, IsUnitHint, IsOtherHint, Looks, IsTautology, Checks}
+use Rattle.plain_lits.specs.HintCheck.{clause_at, IsNamed, IsAllFalse, IsUnit, Looks, IsTautology, Checks}
 use Rattle.plain_lits.proofs.OneOutcome.{cases_lit}
 use Rattle.plain_lits.proofs.LitOrder.{lit_eq, lit_eq_itself, same_from_eq}
 use Rattle.std.proofs.lemmas.Bool.{false≢true}
-use Rattle.plain_lits.proofs.CheckLemmas.{Contains-mapped, Contains-from_mapped, IsSameSet, looks_along}
+use Rattle.plain_lits.proofs.CheckLemmas.{Contains-mapped, Contains-from_mapped, looks_along}
 use Rattle.hinted_log.specs.Checking.{IsNeither, AssumesFalse, BecomesFalse}
 
 -- what a look at a clause's first literals found: all are false, or all but an unset one

@@ -1,18 +1,18 @@
 -- Each step of a proof follows from what it reaches.
-use Rattle.std.proofs.Common.{◌≡◌, ◌≢◌, ℕ, zero, suc, ◌<◌, ◌≤◌, ◌+◌, ◌-◌, List, [], ◌∷◌, ◌++◌, length, length-take, get_or, arith, ap, sym, ◌∙◌, refl, inl, inr, ⊎_elim, map, Ok, Err, Result, take, drop, Bool, true, false, not, subst, min}
+use Rattle.std.proofs.Common.{◌≡◌, ◌≢◌, ℕ, zero, suc, ◌<◌, ◌≤◌, ◌-◌, List, [], ◌∷◌, length, length-take, get_or, arith, ap, sym, ◌∙◌, refl, inl, inr, ⊎_elim, Ok, take, drop, Bool, true, false, not}
 use Rattle.std.specs.Prelude.{Contains, ◌⊎◌}
 use Rattle.std.proofs.lemmas.List.{get_or-take, take_all, take-append-drop}
 use Rattle.std.proofs.lemmas.List.Elements.{Contains-append_left}
 use Rattle.plain_lists.proofs.Membership.{Contains-nil}
 use Rattle.plain_lits.specs.declared.lit.Lit.{Lit}
 use Rattle.plain_lits.specs.Literals.{opposite}
-use Rattle.plain_lits.specs.HintCheck.{Checks, clause_at, IsNamed, IsTrueClause, IsReading}
+use Rattle.plain_lits.specs.HintCheck.{Checks, clause_at, IsReading}
 use Rattle.plain_lits.proofs.CheckLemmas.{taken_sound}
 use Rattle.hinted_log.specs.declared.kind.Kind.{Kind}
 use Rattle.hinted_log.specs.declared.kind.Kind.TheVariants.{Axiom, Side, Derived}
 use Rattle.hinted_log.specs.Logs.{Step, no_step, clauses_of, step_at, IsGiven, IsProof, Reaches, itself, by_hint, reading_of, IsTrueUnder}
 use Rattle.hinted_log.specs.Logs.{IsStepOf}
-use Rattle.hinted_log.specs.Follows.{FollowsFromReached, FollowsFromHints, StepsFollow}
+use Rattle.hinted_log.specs.Follows.{FollowsFromHints, StepsFollow}
 
 double : (p : Bool) → not (not p) ≡ p
 double true = refl

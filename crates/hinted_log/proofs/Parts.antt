@@ -1,11 +1,11 @@
 -- Steps by their parts, side by side.
-use Rattle.std.proofs.Common.{◌≡◌, ℕ, zero, suc, ◌<◌, ◌≤◌, ◌+◌, List, [], ◌∷◌, ◌++◌, length, get_or, arith, ap, sym, ◌∙◌, refl, map, false}
+use Rattle.std.proofs.Common.{◌≡◌, ℕ, zero, suc, ◌<◌, List, [], ◌∷◌, ◌++◌, length, get_or, arith, ap, refl, false}
 use Rattle.std.specs.Prelude.{Result, Ok, Err, OnOk}
 use Rattle.std.specs.Result.{is_err}
 use Rattle.std.proofs.lemmas.Bool.{false≢true}
 use Rattle.plain_lits.specs.declared.lit.Lit.{Lit}
 use Rattle.hinted_log.specs.declared.kind.Kind.{Kind}
-use Rattle.hinted_log.specs.declared.kind.Kind.TheVariants.{Axiom, Side, Derived}
+use Rattle.hinted_log.specs.declared.kind.Kind.TheVariants.{Axiom}
 use Rattle.hinted_log.specs.Logs.{Step, no_step, clauses_of, steps_of, AreParts}
 
 abbrev pub step_of : List Lit → Kind → List ℕ → Step

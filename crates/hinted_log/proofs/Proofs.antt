@@ -1,6 +1,6 @@
 -- Logs as proofs, as steps are added.
-use Rattle.std.proofs.Common.{◌≡◌, ◌≢◌, ℕ, ◌<◌, ◌≤◌, ◌+◌, ◌-◌, List, [], ◌∷◌, ◌++◌, length, length-append, length-take, get_or, arith, ap, sym, ◌∙◌, refl, inl, inr, ⊎_elim, map, Ok, Err, Result, take, Bool, false}
-use Rattle.std.specs.Prelude.{Contains, ◌⊎◌, ◌↔◌, IsTrue}
+use Rattle.std.proofs.Common.{◌≡◌, ◌≢◌, ℕ, ◌≤◌, ◌-◌, List, [], ◌∷◌, ◌++◌, length, length-append, get_or, arith, ap, sym, ◌∙◌, refl, ⊎_elim, Ok, take, Bool, false}
+use Rattle.std.specs.Prelude.{◌↔◌, IsTrue}
 use Rattle.std.proofs.lemmas.Bool.{cases_lt, false≢true}
 use Rattle.std.proofs.lemmas.List.{get_or_append_left, get_or-append_right, take-append-le, length-take-le}
 use Rattle.std.proofs.Math.Seq.{take-append_seam}
@@ -11,8 +11,8 @@ use Rattle.plain_lits.specs.HintCheck.{Checks}
 use Rattle.plain_lits.proofs.CheckLemmas.{taken_sound}
 use Rattle.hinted_log.specs.declared.kind.Kind.{Kind}
 use Rattle.hinted_log.specs.declared.kind.Kind.TheVariants.{Axiom, Side, Derived}
-use Rattle.hinted_log.specs.Checking.{HasRoomFor, HaveRoomFor}
-use Rattle.hinted_log.specs.Logs.{Step, LogState, log_of, no_step, clauses_of, given_step, derived_step, IsGiven, IsProof, IsLog, IsStored}
+use Rattle.hinted_log.specs.Checking.{HasRoomFor}
+use Rattle.hinted_log.specs.Logs.{Step, LogState, log_of, no_step, clauses_of, given_step, derived_step, IsGiven, IsProof, IsStored}
 
 -- the step at a place of a longer log
 after_push : (steps : List Step) (step : Step) → get_or (steps ++ step ∷ []) (length steps) no_step ≡ step

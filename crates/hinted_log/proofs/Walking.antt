@@ -1,8 +1,8 @@
 -- A walk along hints: what it has found, and that it finds just what a step reaches.
 use Rattle.std.proofs.Common.{◌≡◌, ◌≢◌, ℕ, zero, suc, ◌<◌, ◌≤◌, ◌+◌, ◌-◌, ◌*◌, List, [], ◌∷◌, ◌++◌, length, length-append, get_or, arith, ap, sym, ◌∙◌, refl, inl, inr, ⊎_elim, take, Bool, true, false}
-use Rattle.std.specs.Prelude.{Contains, ◌⊎◌, ◌↔◌, sum_by, replicate}
+use Rattle.std.specs.Prelude.{Contains, ◌↔◌, sum_by, replicate}
 use Rattle.std.proofs.Math.ListN.{set, length-set, length-replicate}
-use Rattle.std.proofs.lemmas.Bool.{cases_lt, cases_eq, false≢true}
+use Rattle.std.proofs.lemmas.Bool.{cases_eq, false≢true}
 use Rattle.std.proofs.lemmas.List.{get_or_default, get_or_append_left, get_or-set_same, get_or-set_other, get_or-replicate, take_more}
 use Rattle.std.proofs.lemmas.List.Sums.{sum_by-set}
 use Rattle.std.proofs.lemmas.List.Folds.{sum_by-replicate}

@@ -1,5 +1,5 @@
 -- What the steps of a log follow from.
-use Rattle.std.specs.Prelude.{◌≡◌, ◌≢◌, ℕ, ◌<◌, ◌≤◌, Bool, List, length, Contains}
+use Rattle.std.specs.Prelude.{◌≢◌, ℕ, ◌≤◌, Bool, List, Contains}
 use Rattle.plain_lits.specs.declared.lit.Lit.{Lit}
 use Rattle.hinted_log.specs.declared.kind.Kind.TheVariants.{Derived}
 use Rattle.hinted_log.specs.Logs.{Step, IsStepOf, Reaches, IsTrueUnder, step_at}

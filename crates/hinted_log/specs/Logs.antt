@@ -1,8 +1,8 @@
 -- What a contract sees of a log: steps that are numbered from 1, each with its clause and where it comes from.
-use Rattle.std.specs.Prelude.{◌≡◌, ◌≢◌, ℕ, ◌+◌, ◌-◌, ◌<◌, ◌≤◌, ◌*◌, Bool, not, List, [], ◌∷◌, ◌++◌, length, map, take, Contains, slice_index_or, Ok, if◌then◌else◌}
+use Rattle.std.specs.Prelude.{◌≡◌, ℕ, ◌+◌, ◌-◌, ◌<◌, ◌≤◌, Bool, not, List, [], ◌∷◌, ◌++◌, length, map, take, Contains, slice_index_or, Ok, if◌then◌else◌}
 use Rattle.plain_lits.specs.declared.lit.Lit.{Lit}
 use Rattle.plain_lits.specs.Literals.{opposite}
-use Rattle.plain_lits.specs.HintCheck.{Checks, IsTrueClause, IsNamed}
+use Rattle.plain_lits.specs.HintCheck.{Checks, IsTrueClause}
 use Rattle.hinted_log.specs.Checking.{HaveRoomFor}
 use Rattle.hinted_log.specs.declared.kind.Kind.{Kind}
 use Rattle.hinted_log.specs.declared.kind.Kind.TheVariants.{Axiom, Side, Derived}

@@ -1,5 +1,5 @@
 -- What a walk along hints has found, with a mark for each number.
-use Rattle.std.specs.Prelude.{◌≡◌, ◌⊎◌, ◌↔◌, ℕ, ◌+◌, ◌<◌, ◌≤◌, Bool, true, false, List, length, Contains, sum_by, slice_index, slice_index_or}
+use Rattle.std.specs.Prelude.{◌≡◌, ◌⊎◌, ℕ, ◌+◌, ◌<◌, ◌≤◌, Bool, true, false, List, length, Contains, sum_by, slice_index, slice_index_or}
 use Rattle.hinted_log.specs.Logs.{Step, step_at, Reaches}
 
 -- 1 where there is no mark

@@ -1,13 +1,13 @@
 -- The check of a clause with its hints: what it takes follows, and it depends on members alone.
-use Rattle.std.proofs.Common.{◌≡◌, ◌≢◌, ℕ, zero, suc, ◌<◌, ◌≤◌, ◌+◌, ◌-◌, List, [], ◌∷◌, ◌++◌, length, length-take, get_or, arith, ap, sym, ◌∙◌, refl, inl, inr, ⊎_elim, Bool, true, false, not, take, map, Ok, Err, Result}
-use Rattle.std.specs.Prelude.{Contains, ◌⊎◌}
+use Rattle.std.proofs.Common.{◌≡◌, ◌≢◌, ℕ, zero, suc, ◌<◌, ◌≤◌, ◌+◌, List, [], ◌∷◌, ◌++◌, length, length-take, get_or, arith, ap, sym, ◌∙◌, refl, inl, inr, ⊎_elim, Bool, true, false, not, take, map, Ok, Result}
+use Rattle.std.specs.Prelude.{Contains}
 use Rattle.std.proofs.lemmas.List.{get_or_default, get_or-take}
 use Rattle.std.specs.List.{list_any}
 use Rattle.std.proofs.lemmas.Bool.{cases_Bool, false≢true}
-use Rattle.std.proofs.lemmas.List.Elements.{Contains-append_left, Contains-append_cases, Contains-push_cases}
+use Rattle.std.proofs.lemmas.List.Elements.{Contains-append_left, Contains-push_cases}
 use Rattle.plain_lists.proofs.Membership.{Contains-nil, Contains-head, Contains-tail, Contains-cons_cases, Contains-pushed}
 use Rattle.plain_lists.proofs.ListTests.{any_gives, any_from}
-use Rattle.plain_lits.specs.HintCheck.{clause_at, IsNamed, IsAllFalse, IsUnit, IsFalseHint, IsUnitHint, IsOtherHint, Looks, IsTautology, Checks, IsReading, IsTrueClause, Follows}
+use Rattle.plain_lits.specs.HintCheck.{clause_at, IsNamed, IsUnit, IsFalseHint, IsUnitHint, IsOtherHint, Looks, Checks, IsReading, IsTrueClause, Follows}
 use Rattle.plain_lits.specs.CheckLaws.{IsSound}
 
 -- members of a mapped list
@@ -137,9 +137,9 @@ taken_follows neg steps clause hints n w reading h true_hints =
     ⊎_elim (λ some_. any_gives reading clause some_)
     (λ none_.
     let all = λ (l : _) (c : Contains (map neg clause) l).
-        let m = Contains-from_mapped neg clause l c in
-        let low : reading m.0 ≡ false = ⊎_elim (λ t. absurd (false≢true (sym none_ ∙ any_from reading clause m.0 m.1 t))) (λ f. f) (cases_Bool (reading m.0)) in
-        let e : reading l ≡ true = ap reading (sym m.2) ∙ (h m.0 ∙ ap not low) in e in
+    let m = Contains-from_mapped neg clause l c in
+    let low : reading m.0 ≡ false = ⊎_elim (λ t. absurd (false≢true (sym none_ ∙ any_from reading clause m.0 m.1 t))) (λ f. f) (cases_Bool (reading m.0)) in
+    let e : reading l ≡ true = ap reading (sym m.2) ∙ (h m.0 ∙ ap not low) in e in
     absurd (refuted neg steps reading (map neg clause) 1 hints n h all w (λ k le. true_hints (get_or hints k 0) (in_front hints n k (omega arith) (omega arith)))))
     (cases_Bool (list_any reading clause))
 

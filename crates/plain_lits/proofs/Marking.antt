@@ -1,13 +1,11 @@
 -- The marks of the true literals, as literals come and go.
-use Rattle.std.proofs.Common.{◌≡◌, ◌≢◌, ℕ, ◌<◌, ◌≤◌, ◌+◌, ◌-◌, ◌*◌, List, [], ◌∷◌, ◌++◌, length, length-append, length-take, min, get_or, arith, ap, sym, ◌∙◌, refl, inl, inr, ⊎_elim, Bool, true, false, not, take}
-use Rattle.std.specs.Prelude.{Contains, ◌⊎◌, sum_by, replicate, slice_get, Some, Result, Ok, Err, OnErr, is_ok, if◌then◌else◌}
+use Rattle.std.proofs.Common.{◌≡◌, ◌≢◌, ℕ, ◌<◌, ◌≤◌, ◌+◌, ◌-◌, ◌*◌, List, [], ◌∷◌, ◌++◌, length, length-append, length-take, min, get_or, arith, ap, sym, ◌∙◌, refl, ⊎_elim, Bool, true, false, take}
+use Rattle.std.specs.Prelude.{Contains, sum_by, replicate, Result, Ok, Err, OnErr, is_ok, if◌then◌else◌}
 use Rattle.std.proofs.Math.ListN.{set, length-set, length-replicate}
 use Rattle.std.proofs.lemmas.Bool.{cases_lt, cases_eq}
-use Rattle.std.proofs.lemmas.List.{get_or_default, get_or_append_left, get_or-append_right, get_or-append-add, get_or-set_same, get_or-set_other, get_or-replicate, get_or-take, take_all}
+use Rattle.std.proofs.lemmas.List.{get_or_default, get_or_append_left, get_or-append_right, get_or-set_same, get_or-set_other, get_or-replicate, get_or-take, take_all}
 use Rattle.std.proofs.lemmas.List.Sums.{sum_by-set, sum_by-append}
-use Rattle.std.proofs.lemmas.Option.{slice_get-get_or}
 use Rattle.std.proofs.lemmas.List.Folds.{sum_by-replicate}
-use Rattle.plain_lists.proofs.Membership.{Contains-nil}
 use Rattle.plain_lits.specs.declared.lit.Lit.{Lit}
 use Rattle.plain_lits.specs.declared.value.Value.{Value}
 use Rattle.plain_lits.specs.declared.value.Value.TheVariants.{True, False, Unset}

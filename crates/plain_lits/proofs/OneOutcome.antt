@@ -1,11 +1,11 @@
 -- The check of literals over numbered variables has exactly one outcome.
-use Rattle.std.proofs.Common.{◌≡◌, ◌≢◌, ℕ, ◌<◌, ◌≤◌, ◌+◌, ◌-◌, List, [], ◌∷◌, ◌++◌, length, arith, ap, sym, ◌∙◌, refl, inl, inr, ⊎_elim, map, Ok, Err, Result, Bool, true, false}
+use Rattle.std.proofs.Common.{◌≡◌, ◌≢◌, ℕ, ◌+◌, List, [], ◌∷◌, ◌++◌, length, arith, ap, sym, ◌∙◌, refl, inl, inr, ⊎_elim, map, Ok, Err, Result}
 use Rattle.std.specs.Prelude.{Contains, ◌⊎◌}
 use Rattle.std.proofs.lemmas.Bool.{cases_Bool, cases_lt, false≢true}
 use Rattle.plain_lists.proofs.Membership.{Contains-nil, Contains-head, Contains-tail, Contains-cons_cases}
 use Rattle.plain_lits.specs.declared.lit.Lit.{Lit}
 use Rattle.plain_lits.specs.Literals.{opposite}
-use Rattle.plain_lits.specs.HintCheck.{clause_at, IsNamed, IsAllFalse, IsUnit, IsFalseHint, IsUnitHint, IsOtherHint, Looks, IsTautology, Checks}
+use Rattle.plain_lits.specs.HintCheck.{clause_at, IsNamed, IsAllFalse, IsUnit, IsFalseHint, IsUnitHint, IsOtherHint, Looks}
 use Rattle.plain_lits.specs.CheckLaws.{HasOneOutcome}
 use Rattle.plain_lits.proofs.LitOrder.{lit_eq, same_from_eq, lit_eq_itself}
 

@@ -23,7 +23,7 @@ last_above from (end ∷ ends) up = let le = up.0 in let h = last_above end ends
 pub rows-push : {T : Type 0} (xs row : List T) (from : ℕ) (ends : List ℕ) → EndsRise from ends → last_end from ends ≡ length xs → rows_from (xs ++ row) from (ends ++ length (xs ++ row) ∷ []) ≡ rows_from xs from ends ++ row ∷ []
 rows-push xs row from [] up e =
     let whole : slice_range (xs ++ row) from (length (xs ++ row)) ≡ row =
-        ap (λ k. slice_range (xs ++ row) k (length (xs ++ row))) e ∙ (ap (λ t. take (length (xs ++ row) - length xs) t) (drop-append_seam xs row) ∙ (ap (λ k. take k row) (let z : length (xs ++ row) - length xs ≡ length row = omega (arith, length-append xs row) in z) ∙ take-length row)) in
+    ap (λ k. slice_range (xs ++ row) k (length (xs ++ row))) e ∙ (ap (λ t. take (length (xs ++ row) - length xs) t) (drop-append_seam xs row) ∙ (ap (λ k. take k row) (let z : length (xs ++ row) - length xs ≡ length row = omega (arith, length-append xs row) in z) ∙ take-length row)) in
     ap (λ r. r ∷ []) whole
 rows-push xs row from (end ∷ ends) up e =
     let le = last_above end ends up.1 in

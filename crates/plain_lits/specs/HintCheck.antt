@@ -2,7 +2,7 @@
 -- literals, of which only the members count; an assignment is the list of the literals that are true; a step is
 -- named by its number, from 1 on. An outcome is `Ok n` where the clause is taken at the n-th hint, and `Err place`
 -- where it is rejected at a place.
-use Rattle.std.specs.Prelude.{◌≡◌, ◌≢◌, ◌⊎◌, ℕ, ◌+◌, ◌-◌, ◌<◌, ◌≤◌, Bool, true, not, List, [], ◌∷◌, ◌++◌, length, map, take, Contains, slice_index_or, Result, Ok, Err}
+use Rattle.std.specs.Prelude.{◌≡◌, ◌≢◌, ◌⊎◌, ℕ, ◌+◌, ◌-◌, ◌<◌, ◌≤◌, Bool, true, not, List, [], ◌∷◌, ◌++◌, length, map, Contains, slice_index_or, Result, Ok, Err}
 
 -- the clause of a step
 abbrev pub clause_at : {L : Type 0} → List (List L) → ℕ → List L

@@ -2,7 +2,7 @@
 use Rattle.std.specs.Prelude.{◌≡◌, ◌≢◌, ℕ, ◌+◌, ◌<◌, ◌≤◌, List, length, Contains, slice_index, slice_index_or, sum_by}
 use Rattle.plain_lits.specs.declared.lit.Lit.{Lit}
 use Rattle.plain_lits.specs.declared.value.Value.{Value}
-use Rattle.plain_lits.specs.declared.value.Value.TheVariants.{True, False, Unset}
+use Rattle.plain_lits.specs.declared.value.Value.TheVariants.{Unset}
 use Rattle.plain_lits.specs.Values.{value_of}
 
 -- the true literals in the order in which they came, how many there were before each level began, and the

@@ -1,6 +1,6 @@
 use Rattle.std.proofs.Common.{◌∙◌, false}
 use Rattle.plain_lits.specs.declared.lit.Lit.{Lit}
-use Rattle.hinted_log.proofs.Checks.{item_read, item_member, assume_more, assume_clash, assumes_none}
+use Rattle.hinted_log.proofs.Checks.{item_read, item_member, assume_more, assume_clash}
 use Rattle.hinted_log.proofs.check.assume_false.Goals as goal
 
 abbrev blank : Lit

@@ -1,5 +1,5 @@
-use Rattle.std.proofs.Common.{◌∙◌, ◌≡◌, arith, inl, inr}
-use Rattle.hinted_log.proofs.Checks.{hint_from, along_false, along_unit, along_other, along_unnamed, clause_member}
+use Rattle.std.proofs.Common.{◌∙◌, arith}
+use Rattle.hinted_log.proofs.Checks.{hint_from, along_unit, along_other, clause_member}
 use Rattle.hinted_log.proofs.check.look_along.Goals as goal
 
 pub returns-in-Other-clause-outcome : goal.returns-in-Other-clause-outcome

@@ -1,5 +1,5 @@
 use Rattle.std.proofs.Common.{sym, ◌∙◌}
-use Rattle.hinted_log.proofs.Checks.{so_far_none, item_from, item_member, neither_true, look_false, look_unset, look_again, look_two, IsItem}
+use Rattle.hinted_log.proofs.Checks.{so_far_none, item_from, item_member, neither_true, look_false, look_unset, look_again, look_two}
 use Rattle.hinted_log.proofs.check.look_at.Goals as goal
 use Rattle.hinted_log.proofs.check.look_at.Goals.{in-False, in-Unset+in-None, in-Unset+in-Some+else-not-same}
 

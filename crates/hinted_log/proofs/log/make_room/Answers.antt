@@ -1,7 +1,7 @@
-use Rattle.std.proofs.Common.{ℕ, ◌<◌, ◌≤◌, ◌^◌, ◌∙◌, arith, false}
+use Rattle.std.proofs.Common.{◌<◌, ◌^◌, ◌∙◌, arith, false}
 use Rattle.std.proofs.lemmas.List.{take_all}
 use Rattle.plain_lits.specs.declared.lit.Lit.{Lit}
-use Rattle.hinted_log.proofs.Checks.{front_all, Contains-from_front}
+use Rattle.hinted_log.proofs.Checks.{front_all}
 use Rattle.hinted_log.proofs.log.make_room.Goals as goal
 
 abbrev blank : Lit

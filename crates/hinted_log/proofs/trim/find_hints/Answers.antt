@@ -1,4 +1,4 @@
-use Rattle.std.proofs.Common.{◌<◌, length, refl, ◌∙◌, sym, arith}
+use Rattle.std.proofs.Common.{refl, ◌∙◌, sym}
 use Rattle.hinted_log.proofs.Walking.{finds_none, finds_more}
 use Rattle.hinted_log.proofs.trim.find_hints.Goals as goal
 

@@ -1,4 +1,4 @@
-use Rattle.std.proofs.Common.{◌≡◌, ◌<◌, length, get_or, false, true, sym, refl, ap, ◌∙◌}
+use Rattle.std.proofs.Common.{true, refl, ap}
 use Rattle.std.proofs.Math.ListN.{set}
 use Rattle.hinted_log.proofs.Walking.{finds_known, marks_new, finds_new}
 use Rattle.hinted_log.proofs.trim.find_one.Goals as goal

@@ -1,6 +1,4 @@
-use Rattle.std.proofs.Common.{◌≡◌, ◌<◌, ◌+◌, length, get_or, refl, ◌∙◌, sym, ap, arith}
-use Rattle.std.specs.Prelude.{Contains}
-use Rattle.hinted_log.specs.Logs.{step_at, Step}
+use Rattle.std.proofs.Common.{◌≡◌, ◌<◌, ◌+◌, length, ◌∙◌, arith}
 use Rattle.hinted_log.proofs.Walking.{marks_made, read_place, walk_place, walk_hint, walk_short, walk_begins, walk_more, walk_done}
 use Rattle.hinted_log.proofs.trim.reached_from.Goals as goal
 

@@ -1,4 +1,4 @@
-use Rattle.std.proofs.Common.{◌≡◌, ℕ, ◌+◌, ◌-◌}
+use Rattle.std.proofs.Common.{◌+◌, ◌-◌}
 use Rattle.hinted_log.specs.Trimming.{IsWalk}
 use Rattle.hinted_log.proofs.trim.reached_from.Given as goal
 

@@ -1,4 +1,3 @@
-use Rattle.std.proofs.Common.{refl, arith}
 use Rattle.hinted_log.specs.Logs.{log_of, given_step}
 use Rattle.hinted_log.proofs.Proofs.{stored_kept, stored_more, IsGiven-given, not_so}
 use Rattle.hinted_log.proofs.log.Log.add_given.Goals as goal

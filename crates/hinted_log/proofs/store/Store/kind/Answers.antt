@@ -1,4 +1,4 @@
-use Rattle.std.proofs.Common.{◌<◌, length, arith, ap, sym, ◌∙◌}
+use Rattle.std.proofs.Common.{◌<◌, length, arith, ap, sym}
 use Rattle.hinted_log.specs.Logs.{Step}
 use Rattle.hinted_log.proofs.Parts.{length-steps_of, steps_of-at}
 use Rattle.hinted_log.proofs.store.Store.kind.Goals as goal

@@ -1,4 +1,4 @@
-use Rattle.std.proofs.Common.{◌≡◌, ◌∷◌, [], ◌++◌, length, arith}
+use Rattle.std.proofs.Common.{arith}
 use Rattle.plain_lits.proofs.Marking.{pushed_in_room}
 use Rattle.hinted_log.proofs.Parts.{pushed_step, given_ok}
 use Rattle.hinted_log.proofs.store.Store.push.Goals as goal
