@@ -33,7 +33,8 @@ pub record AssumesFalse (clause truths : List Lit) : Type 0 where
 
 -- a literal was false already, or it became so, being neither true nor false
 abbrev pub BecomesFalse : List Lit → List Lit → Lit → Type 0
-BecomesFalse old new l = (Contains old (opposite l) × (new ≡ old)) ⊎ ((Contains old l → ⊥) × (new ≡ old ++ opposite l ∷ []))
+BecomesFalse old new l =
+    (Contains old (opposite l) × (new ≡ old)) ⊎ ((Contains old l → ⊥) × (new ≡ old ++ opposite l ∷ []))
 
 -- each literal of a clause can be packed
 abbrev pub IsPackable : List Lit → Type 0

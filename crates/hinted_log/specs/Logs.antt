@@ -1,5 +1,6 @@
 -- What a contract sees of a log: steps that are numbered from 1, each with its clause and where it comes from.
-use Rattle.std.specs.Prelude.{◌≡◌, ℕ, ◌+◌, ◌-◌, ◌<◌, ◌≤◌, Bool, not, List, [], ◌∷◌, ◌++◌, length, map, take, Contains, slice_index_or, Ok, if◌then◌else◌}
+use Rattle.std.specs.Prelude.{◌≡◌, ℕ, ◌+◌, ◌-◌, ◌<◌, ◌≤◌, Bool, not, List, [], ◌∷◌, ◌++◌, length, map, take}
+use Rattle.std.specs.Prelude.{Contains, slice_index_or, Ok, if◌then◌else◌}
 use Rattle.plain_lits.specs.declared.lit.Lit.{Lit}
 use Rattle.plain_lits.specs.Literals.{opposite}
 use Rattle.plain_lits.specs.HintCheck.{Checks, IsTrueClause}
@@ -46,11 +47,13 @@ with_step log step = record { limit = log.limit; steps = log.steps ++ step ∷ [
 abbrev pub IsGiven : List Step → Step → Kind → Type 0
 IsGiven before step Axiom = step.hints ≡ []
 IsGiven before step Side = step.hints ≡ []
-IsGiven before step Derived = Checks opposite (clauses_of before) step.clause step.hints (Ok (length step.hints))
+IsGiven before step Derived =
+    Checks opposite (clauses_of before) step.clause step.hints (Ok (length step.hints))
 
 -- each step meets this beside those before it
 pub record IsProof (steps : List Step) : Type 0 where
-  pub each : (k : ℕ) → k < length steps → IsGiven (take k steps) (slice_index_or steps k no_step) (slice_index_or steps k no_step).kind
+  pub each : (k : ℕ) → k < length steps
+      → IsGiven (take k steps) (slice_index_or steps k no_step) (slice_index_or steps k no_step).kind
 
 -- a step is added at the end, and gets the next number
 pub record AddsStep (old new : LogState) (step : Step) (number : ℕ) : Type 0 where
@@ -77,7 +80,8 @@ pub record IsStepOf (steps : List Step) (number : ℕ) : Type 0 where
 -- a step reaches itself, and what its hints reach
 pub data Reaches (steps : List Step) : ℕ → ℕ → Type 0 where
   itself : (number : ℕ) → Reaches steps number number
-  by_hint : (number hint reached : ℕ) → Contains (step_at steps number).hints hint → Reaches steps hint reached → Reaches steps number reached
+  by_hint : (number hint reached : ℕ) → Contains (step_at steps number).hints hint
+      → Reaches steps hint reached → Reaches steps number reached
 
 -- what a literal reads as where each variable has a truth value
 abbrev pub reading_of : (ℕ → Bool) → Lit → Bool
@@ -92,7 +96,8 @@ abbrev pub steps_of : List (List Lit) → List Kind → List (List ℕ) → List
 steps_of [] kinds hints = []
 steps_of (clause ∷ clauses) [] hints = []
 steps_of (clause ∷ clauses) (kind ∷ kinds) [] = []
-steps_of (clause ∷ clauses) (kind ∷ kinds) (hint ∷ hints) = record { clause = clause; kind = kind; hints = hint } ∷ steps_of clauses kinds hints
+steps_of (clause ∷ clauses) (kind ∷ kinds) (hint ∷ hints) =
+    record { clause = clause; kind = kind; hints = hint } ∷ steps_of clauses kinds hints
 
 -- lists of parts for the same number of steps
 pub record AreParts (clauses : List (List Lit)) (kinds : List Kind) (hints : List (List ℕ)) : Type 0 where

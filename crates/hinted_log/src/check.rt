@@ -1,6 +1,7 @@
 //! The check of a clause with its hints.
 
-ghost use Rattle.std.specs.Prelude.{◌≡◌, ◌↔◌, ℕ, ◌+◌, ◌<◌, ◌≤◌, true, false, [], ◌∷◌, ◌++◌, length, map, Contains, slice_index_or};
+ghost use Rattle.std.specs.Prelude.{◌≡◌, ◌↔◌, ℕ, ◌+◌, ◌<◌, ◌≤◌, true, false, [], ◌∷◌, ◌++◌, length, map};
+ghost use Rattle.std.specs.Prelude.{Contains, slice_index_or};
 ghost use Rattle.std.specs.Bool.{OnTrue, OnFalse};
 ghost use Rattle.plain_lits.specs.Literals.{opposite};
 ghost use Rattle.plain_lits.specs.HintCheck.{IsTautology, Looks, Checks};
@@ -77,8 +78,8 @@ fn assume_false(trail: &mut Trail, clause: &[Lit]) -> bool
     true
 }
 
-/// Looks at hints in turn, until a clause is false or a hint is no help: how many hints were looked at, or the place
-/// at which the clause is rejected.
+/// Looks at hints in turn, until a clause is false or a hint is no help: how many hints were looked at, or the
+/// place at which the clause is rejected.
 fn look_along(trail: &mut Trail, clauses: &Rows<PackedLit>, hints: &[StepId]) -> Result<usize, u64>
     requires room { HaveRoomFor trail.old.vars clauses.now }
     ensures outcome { Looks opposite clauses.now trail.old.lits 1 hints.now result }

@@ -2,8 +2,8 @@
 
 use plain_lists::Memory as OutOfMemory;
 
-/// Why a step wasn't added: the log is full, the check of the hints failed at a place, or memory was refused. The
-/// log is as before then.
+/// Why a step wasn't added: the log is full, the check of the hints failed at a place, or memory was refused.
+/// The log is as before then.
 #[derive(Clone, Copy, Debug, PartialEq, Eq)]
 pub enum LogFault {
     LogFull,

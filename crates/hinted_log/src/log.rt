@@ -1,10 +1,12 @@
 //! A log of clauses, of which each follows from earlier ones or is given.
 
-ghost use Rattle.std.specs.Prelude.{◌≡◌, ◌≢◌, ◌↔◌, ℕ, ◌+◌, ◌-◌, ◌<◌, ◌≤◌, ◌^◌, [], ◌∷◌, ◌++◌, length, map, take, Contains, IfOk, OnOk, OnErr, IsTrue};
+ghost use Rattle.std.specs.Prelude.{◌≡◌, ◌≢◌, ◌↔◌, ℕ, ◌+◌, ◌-◌, ◌<◌, ◌≤◌, ◌^◌, [], ◌∷◌, ◌++◌, length, map};
+ghost use Rattle.std.specs.Prelude.{take, Contains, IfOk, OnOk, OnErr, IsTrue};
 ghost use Rattle.plain_lists.specs.Members.{IsSetOf};
 ghost use Rattle.plain_lits.specs.Literals.{opposite};
 ghost use Rattle.plain_lits.specs.HintCheck.{Checks};
-ghost use Rattle.hinted_log.specs.Logs.{IsLog, IsGiven, IsStepOf, AddsStep, Reaches, AddsDerived, clauses_of, step_at, given_step, derived_step};
+ghost use Rattle.hinted_log.specs.Logs.{IsLog, IsGiven, IsStepOf, AddsStep, Reaches, AddsDerived, clauses_of};
+ghost use Rattle.hinted_log.specs.Logs.{step_at, given_step, derived_step};
 ghost use Rattle.hinted_log.specs.Follows.{FollowsFromHints, FollowsFromReached};
 ghost use Rattle.hinted_log.specs.Checking.{HasRoomFor, IsPackable};
 
@@ -124,7 +126,8 @@ impl Log {
         ensures ok { IfOk result (AddsDerived self.old self.new clause hints.now) }
         ensures full { (result ≡ Err LogFault.LogFull) ↔ (length self.old.steps ≡ self.old.limit) }
         ensures follows { IfOk result (λ step. FollowsFromHints self.old.steps hints.now clause) }
-        ensures rejected { (place : ℕ) → result ≡ Err (LogFault.Rejected place) → Checks opposite (clauses_of self.old.steps) clause hints.now (Err place) }
+        ensures rejected { (place : ℕ) → result ≡ Err (LogFault.Rejected place)
+            → Checks opposite (clauses_of self.old.steps) clause hints.now (Err place) }
         ensures err { OnErr result (self.new ≡ self.old) }
     {
         if self.is_full() {

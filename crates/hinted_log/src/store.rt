@@ -87,7 +87,8 @@ impl Store {
         kind: Kind,
         hints: &[StepId],
     ) -> Result<(), Memory>
-        ensures ok { OnOk result (self.new ≡ self.old ++ record { clause = clause.now; kind = kind; hints = hints.now } ∷ []) }
+        ensures ok { OnOk result (self.new ≡ self.old
+            ++ record { clause = clause.now; kind = kind; hints = hints.now } ∷ []) }
         ensures err { OnErr result (self.new ≡ self.old) }
     {
         self.kinds.reserve(1)?;

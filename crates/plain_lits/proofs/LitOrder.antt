@@ -1,5 +1,6 @@
 -- Literals in order, and what a sort and `dedup` leave of a list of them.
-use Rattle.std.proofs.Common.{◌≡◌, ℕ, ◌<◌, List, arith, ap, ◌∙◌, refl, inl, inr, ⊎_elim, eqb, ◌&&◌, Bool, true, false}
+use Rattle.std.proofs.Common.{◌≡◌, ℕ, ◌<◌, List, arith, ap, ◌∙◌, refl, inl, inr, ⊎_elim, eqb, ◌&&◌, Bool}
+use Rattle.std.proofs.Common.{true, false}
 use Rattle.std.specs.Prelude.{Contains}
 use Rattle.std.specs.List.{dedup}
 use Rattle.std.proofs.Math.Bool.{beq}
