@@ -1,20 +1,21 @@
 -- Literals in order, and what a sort and `dedup` leave of a list of them.
-use Rattle.std.proofs.Common.{◌≡◌, ◌≢◌, ℕ, ◌<◌, ◌≤◌, ◌+◌, List, length, get_or, arith, ap, sym, ◌∙◌, refl, inl, inr, ⊎_elim, eqb, ◌&&◌, Bool, true, false, not}
-use Rattle.std.specs.Prelude.{Contains, ◌⊎◌}
+use Rattle.std.proofs.Common.{◌≡◌, ℕ, ◌<◌, List, arith, ap, ◌∙◌, refl, inl, inr, ⊎_elim, eqb, ◌&&◌, Bool}
+use Rattle.std.proofs.Common.{true, false}
+use Rattle.std.specs.Prelude.{Contains}
 use Rattle.std.specs.List.{dedup}
 use Rattle.std.proofs.Math.Bool.{beq}
-use Rattle.std.specs.List.Sorted.{IsSorted, IsStrictlySortedBy}
+use Rattle.std.specs.List.Sorted.{IsSorted}
 use Rattle.std.specs.declared.cmp.Ordering.{Ordering}
-use Rattle.std.specs.declared.cmp.Ordering.TheVariants.{Less, Equal, Greater}
+use Rattle.std.specs.declared.cmp.Ordering.TheVariants.{Less}
 use Rattle.std.specs.Cmp.{IsTotalOrder, IsEquivalence, bool_cmp_total, bool_eq_equiv}
 use Rattle.std.specs.Ordering.{nat_cmp, bool_cmp, ordering_then, eq_by_cmp}
-use Rattle.std.proofs.lemmas.Bool.{false≢true, cases_eq, cases_order, and_parts, eqb-true}
+use Rattle.std.proofs.lemmas.Bool.{false≢true, cases_order, and_parts, eqb-true}
 use Rattle.std.proofs.lemmas.Bool.Decides.{nat_tests}
 use Rattle.std.proofs.lemmas.Cmp.{nat_cmp_total, on_total, then_total, nat_eq_equiv, on_equiv, and_equiv}
 use Rattle.std.proofs.lemmas.List.Kept.{IsStrictlySortedBy-dedup, Contains-dedup}
 use Rattle.std.proofs.lemmas.Map.Keys.{Less-from_sorted}
 use Rattle.plain_lits.specs.declared.lit.Lit.{Lit}
-use Rattle.plain_lits.specs.Literals.{IsLitBefore, LitsRise, opposite}
+use Rattle.plain_lits.specs.Literals.{IsLitBefore, LitsRise}
 
 -- the order of literals, as std compares them
 abbrev pub lit_cmp : Lit → Lit → Ordering

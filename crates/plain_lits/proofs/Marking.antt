@@ -1,13 +1,14 @@
 -- The marks of the true literals, as literals come and go.
-use Rattle.std.proofs.Common.{◌≡◌, ◌≢◌, ℕ, ◌<◌, ◌≤◌, ◌+◌, ◌-◌, ◌*◌, List, [], ◌∷◌, ◌++◌, length, length-append, length-take, min, get_or, arith, ap, sym, ◌∙◌, refl, inl, inr, ⊎_elim, Bool, true, false, not, take}
-use Rattle.std.specs.Prelude.{Contains, ◌⊎◌, sum_by, replicate, slice_get, Some, Result, Ok, Err, OnErr, is_ok, if◌then◌else◌}
+use Rattle.std.proofs.Common.{◌≡◌, ◌≢◌, ℕ, ◌<◌, ◌≤◌, ◌+◌, ◌-◌, ◌*◌, List, [], ◌∷◌, ◌++◌, length}
+use Rattle.std.proofs.Common.{length-append, length-take, min, get_or, arith, ap, sym, ◌∙◌, refl, ⊎_elim}
+use Rattle.std.proofs.Common.{Bool, true, false, take}
+use Rattle.std.specs.Prelude.{Contains, sum_by, replicate, Result, Ok, Err, OnErr, is_ok, if◌then◌else◌}
 use Rattle.std.proofs.Math.ListN.{set, length-set, length-replicate}
 use Rattle.std.proofs.lemmas.Bool.{cases_lt, cases_eq}
-use Rattle.std.proofs.lemmas.List.{get_or_default, get_or_append_left, get_or-append_right, get_or-append-add, get_or-set_same, get_or-set_other, get_or-replicate, get_or-take, take_all}
+use Rattle.std.proofs.lemmas.List.{get_or_default, get_or_append_left, get_or-append_right, get_or-set_same}
+use Rattle.std.proofs.lemmas.List.{get_or-set_other, get_or-replicate, get_or-take, take_all}
 use Rattle.std.proofs.lemmas.List.Sums.{sum_by-set, sum_by-append}
-use Rattle.std.proofs.lemmas.Option.{slice_get-get_or}
 use Rattle.std.proofs.lemmas.List.Folds.{sum_by-replicate}
-use Rattle.plain_lists.proofs.Membership.{Contains-nil}
 use Rattle.plain_lits.specs.declared.lit.Lit.{Lit}
 use Rattle.plain_lits.specs.declared.value.Value.{Value}
 use Rattle.plain_lits.specs.declared.value.Value.TheVariants.{True, False, Unset}
@@ -27,12 +28,15 @@ not_unset false e = cc
 not_unset true e = cc
 
 -- a true literal's variable has its value
-pub reads_there : (order : List Lit) (values : List Value) (places : List ℕ) → IsMarked order values places → (l : Lit) → Contains order l → (l.var < length values) × (get_or values l.var Unset ≡ value_of l.positive)
+pub reads_there : (order : List Lit) (values : List Value) (places : List ℕ) → IsMarked order values places
+    → (l : Lit) → Contains order l
+    → (l.var < length values) × (get_or values l.var Unset ≡ value_of l.positive)
 reads_there order values places h l c =
     let m : IsMarkedAt l values places c.0 = rw c.2 at (h.marked c.0 l c.1) in (m.within, m.value)
 
 -- and a variable's value is that of a true literal
-pub reads_back : (order : List Lit) (values : List Value) (places : List ℕ) → IsMarked order values places → (l : Lit) → l.var < length values → get_or values l.var Unset ≡ value_of l.positive → Contains order l
+pub reads_back : (order : List Lit) (values : List Value) (places : List ℕ) → IsMarked order values places
+    → (l : Lit) → l.var < length values → get_or values l.var Unset ≡ value_of l.positive → Contains order l
 reads_back order values places h l lt e =
     let b = h.backed l.var l lt (λ none. not_unset l.positive (sym e ∙ none)) in
     let m = h.marked (get_or places l.var 0) l b.0 in
@@ -43,7 +47,9 @@ reads_back order values places h l lt e =
 abbrev lit_of : ℕ → Bool → Lit
 lit_of v p = record { var = v; positive = p }
 
-signed_value : (order : List Lit) (values : List Value) (places : List ℕ) → IsMarked order values places → (n : ℕ) (p : Bool) (v : Value) → n < length values → get_or values n Unset ≡ v → IsValueIn order (lit_of n p) (seen v p)
+signed_value : (order : List Lit) (values : List Value) (places : List ℕ) → IsMarked order values places
+    → (n : ℕ) (p : Bool) (v : Value) → n < length values → get_or values n Unset ≡ v
+    → IsValueIn order (lit_of n p) (seen v p)
 signed_value order values places h n true True lt e = (
   reads_back order values places h (lit_of n true) lt e,
   λ c. let t = reads_there order values places h (lit_of n false) c in let e2 = t.1 in cc,
@@ -70,17 +76,22 @@ signed_value order values places h n false Unset lt e = (
 )
 
 -- the value that the arrays give is the literal's
-pub value_is : (order : List Lit) (values : List Value) (places : List ℕ) → IsMarked order values places → (l : Lit) (v : Value) → l.var < length values → get_or values l.var Unset ≡ v → IsValueIn order l (seen v l.positive)
+pub value_is : (order : List Lit) (values : List Value) (places : List ℕ) → IsMarked order values places
+    → (l : Lit) (v : Value) → l.var < length values → get_or values l.var Unset ≡ v
+    → IsValueIn order l (seen v l.positive)
 value_is order values places h l v lt e = signed_value order values places h l.var l.positive v lt e
 
 -- a variable without room has no value
-pub value_beyond : (order : List Lit) (values : List Value) (places : List ℕ) → IsMarked order values places → (l : Lit) → length values ≤ l.var → IsValueIn order l Unset
+pub value_beyond : (order : List Lit) (values : List Value) (places : List ℕ) → IsMarked order values places
+    → (l : Lit) → length values ≤ l.var → IsValueIn order l Unset
 value_beyond order values places h l le = (
   λ c. let t = reads_there order values places h l c in let lt = t.0 in absurd (omega arith),
   λ c. let t = reads_there order values places h (opposite l) c in let lt = t.0 in absurd (omega arith),
 )
 
-unset_signs : (order : List Lit) (values : List Value) (places : List ℕ) → IsMarked order values places → (n : ℕ) (p : Bool) (v : Value) → n < length values → get_or values n Unset ≡ v → IsValueIn order (lit_of n p) Unset → v ≡ Unset
+unset_signs : (order : List Lit) (values : List Value) (places : List ℕ) → IsMarked order values places
+    → (n : ℕ) (p : Bool) (v : Value) → n < length values → get_or values n Unset ≡ v
+    → IsValueIn order (lit_of n p) Unset → v ≡ Unset
 unset_signs order values places h n p Unset lt e none = refl
 unset_signs order values places h n true True lt e none = absurd (none.0 (reads_back order values places h (lit_of n true) lt e))
 unset_signs order values places h n false True lt e none = absurd (none.1 (reads_back order values places h (lit_of n true) lt e))
@@ -88,11 +99,13 @@ unset_signs order values places h n true False lt e none = absurd (none.1 (reads
 unset_signs order values places h n false False lt e none = absurd (none.0 (reads_back order values places h (lit_of n false) lt e))
 
 -- a literal without value has a variable without value
-pub unset_value : (order : List Lit) (values : List Value) (places : List ℕ) → IsMarked order values places → (l : Lit) → l.var < length values → IsValueIn order l Unset → get_or values l.var Unset ≡ Unset
+pub unset_value : (order : List Lit) (values : List Value) (places : List ℕ) → IsMarked order values places
+    → (l : Lit) → l.var < length values → IsValueIn order l Unset → get_or values l.var Unset ≡ Unset
 unset_value order values places h l lt none = unset_signs order values places h l.var l.positive _ lt refl none
 
 -- so not every variable has a literal yet
-pub gap_left : (order : List Lit) (values : List Value) (places : List ℕ) → IsMarked order values places → (v : ℕ) → v < length values → get_or values v Unset ≡ Unset → length order < length values
+pub gap_left : (order : List Lit) (values : List Value) (places : List ℕ) → IsMarked order values places
+    → (v : ℕ) → v < length values → get_or values v Unset ≡ Unset → length order < length values
 gap_left order values places h v lt none =
     let moved = sum_by-set gap values v True Unset lt in
     let one : gap (get_or values v Unset) ≡ 1 = ap gap none in
@@ -104,7 +117,9 @@ gap_of true = refl
 gap_of false = refl
 
 -- a literal without value comes at the end
-pub marks_push : (order : List Lit) (values : List Value) (places : List ℕ) (l : Lit) → IsMarked order values places → l.var < length values → get_or values l.var Unset ≡ Unset → IsMarked (order ++ l ∷ []) (set values l.var (value_of l.positive)) (set places l.var (length order))
+pub marks_push : (order : List Lit) (values : List Value) (places : List ℕ) (l : Lit)
+    → IsMarked order values places → l.var < length values → get_or values l.var Unset ≡ Unset
+    → IsMarked (order ++ l ∷ []) (set values l.var (value_of l.positive)) (set places l.var (length order))
 marks_push order values places l h lt none =
     let placed = h.placed in
     record {
@@ -150,7 +165,8 @@ marks_push order values places l h lt none =
     }
 
 -- the last literal goes
-pub marks_pop : (order : List Lit) (values : List Value) (places : List ℕ) (l : Lit) → IsMarked (order ++ l ∷ []) values places → IsMarked order (set values l.var Unset) places
+pub marks_pop : (order : List Lit) (values : List Value) (places : List ℕ) (l : Lit)
+    → IsMarked (order ++ l ∷ []) values places → IsMarked order (set values l.var Unset) places
 marks_pop order values places l h =
     let long = length-append order (l ∷ []) in
     let here : (d : Lit) → get_or (order ++ l ∷ []) (length order) d ≡ l = λ d. get_or-append_right order (l ∷ []) (length order) (length order) d refl (omega arith) ∙ ap (λ k. get_or (l ∷ []) k d) (let z : length order - length order ≡ 0 = omega arith in z) in
@@ -183,7 +199,9 @@ marks_pop order values places l h =
     }
 
 -- more places
-pub marks_places : (order : List Lit) (values : List Value) (places longer : List ℕ) → IsMarked order values places → length values ≤ length longer → ((k : ℕ) → k < length values → get_or longer k 0 ≡ get_or places k 0) → IsMarked order values longer
+pub marks_places : (order : List Lit) (values : List Value) (places longer : List ℕ)
+    → IsMarked order values places → length values ≤ length longer
+    → ((k : ℕ) → k < length values → get_or longer k 0 ≡ get_or places k 0) → IsMarked order values longer
 marks_places order values places longer h le same = record {
   placed = le;
   marked = λ i d lt. let m = h.marked i d lt in record {
@@ -196,7 +214,9 @@ marks_places order values places longer h le same = record {
 }
 
 -- more variables, without values
-pub marks_values : (order : List Lit) (values longer : List Value) (places : List ℕ) (n : ℕ) → IsMarked order values places → length values ≤ n → n ≤ length places → longer ≡ take n values ++ replicate (n - length values) Unset → IsMarked order longer places
+pub marks_values : (order : List Lit) (values longer : List Value) (places : List ℕ) (n : ℕ)
+    → IsMarked order values places → length values ≤ n → n ≤ length places
+    → longer ≡ take n values ++ replicate (n - length values) Unset → IsMarked order longer places
 marks_values order values longer places n h le in_places e =
     let gaps : List Value = replicate (n - length values) Unset in
     let same : longer ≡ values ++ gaps = rw (take_all n values le) at e in
@@ -222,28 +242,38 @@ marks_values order values longer places n h le in_places e =
     }
 
 -- a literal that comes, by what the arrays become
-pub marks_pushed : (order new_order : List Lit) (values new_values : List Value) (places new_places : List ℕ) (l : Lit) → IsMarked order values places → l.var < length values → IsValueIn order l Unset → new_order ≡ order ++ l ∷ [] → new_values ≡ set values l.var (value_of l.positive) → new_places ≡ set places l.var (length order) → IsMarked new_order new_values new_places
+pub marks_pushed : (order new_order : List Lit) (values new_values : List Value) (places new_places : List ℕ) (l : Lit)
+    → IsMarked order values places → l.var < length values → IsValueIn order l Unset
+    → new_order ≡ order ++ l ∷ [] → new_values ≡ set values l.var (value_of l.positive)
+    → new_places ≡ set places l.var (length order) → IsMarked new_order new_values new_places
 marks_pushed order new_order values new_values places new_places l h lt none eo ev ep =
     rw (eo, ev, ep) (marks_push order values places l h lt (unset_value order values places h l lt none))
 
 -- a push where there was room
-pub pushed_in_room : {E T : Type 0} (r : Result (Unit {0}) E) (xs new : List T) (x : T) (P : Type 0) → OnErr r P → ¬ P → new ≡ (if is_ok r then xs ++ x ∷ [] else xs) → new ≡ xs ++ x ∷ []
+pub pushed_in_room : {E T : Type 0} (r : Result (Unit {0}) E) (xs new : List T) (x : T) (P : Type 0)
+    → OnErr r P → ¬ P → new ≡ (if is_ok r then xs ++ x ∷ [] else xs) → new ≡ xs ++ x ∷ []
 pushed_in_room (Ok u) xs new x P full free e = e
 pushed_in_room (Err f) xs new x P full free e = absurd (free full)
 
 -- the value that an array read gives
-pub value_read : (order : List Lit) (values read : List Value) (places : List ℕ) (l : Lit) (d v : Value) → IsMarked order values places → read ≡ values → l.var < length values → v ≡ seen (get_or read l.var d) l.positive → IsValueIn order l v
+pub value_read : (order : List Lit) (values read : List Value) (places : List ℕ) (l : Lit) (d v : Value)
+    → IsMarked order values places → read ≡ values → l.var < length values
+    → v ≡ seen (get_or read l.var d) l.positive → IsValueIn order l v
 value_read order values read places l d v h same lt e =
     let at : get_or read l.var d ≡ get_or values l.var Unset = ap (λ (xs : List Value). get_or xs l.var d) same ∙ get_or_default values l.var d Unset lt in
     rw (e, at) (value_is order values places h l (get_or values l.var Unset) lt refl)
 
 -- the last literal goes, by what the arrays become
-pub marks_popped : (order new_order : List Lit) (values new_values : List Value) (places : List ℕ) (l : Lit) → IsMarked order values places → order ≡ new_order ++ l ∷ [] → new_values ≡ set values l.var Unset → IsMarked new_order new_values places
+pub marks_popped : (order new_order : List Lit) (values new_values : List Value) (places : List ℕ) (l : Lit)
+    → IsMarked order values places → order ≡ new_order ++ l ∷ [] → new_values ≡ set values l.var Unset
+    → IsMarked new_order new_values places
 marks_popped order new_order values new_values places l h e ev =
     rw ev (marks_pop new_order values places l (rw e at h))
 
 -- the same marks with longer arrays, by what the arrays become
-pub marks_longer_places : (order : List Lit) (values : List Value) (places longer : List ℕ) (n m : ℕ) → IsMarked order values places → length values ≤ n → m ≡ length places → longer ≡ take n places ++ replicate (n - m) 0 → IsMarked order values longer
+pub marks_longer_places : (order : List Lit) (values : List Value) (places longer : List ℕ) (n m : ℕ)
+    → IsMarked order values places → length values ≤ n → m ≡ length places
+    → longer ≡ take n places ++ replicate (n - m) 0 → IsMarked order values longer
 marks_longer_places order values places longer n m h le em e =
     let placed = h.placed in
     let gaps : List ℕ = replicate (n - m) 0 in
@@ -253,5 +283,7 @@ marks_longer_places order values places longer n m h le em e =
     marks_places order values places longer h (omega (arith, long, count, front, em, placed))
     (λ k lt. ap (λ (xs : List ℕ). get_or xs k 0) e ∙ (get_or_append_left (take n places) gaps 0 k (omega (arith, front, placed)) ∙ get_or-take n places k 0 (omega arith)))
 
-pub marks_longer_values : (order : List Lit) (values longer : List Value) (places : List ℕ) (n m : ℕ) → IsMarked order values places → length values ≤ n → n ≤ length places → m ≡ length values → longer ≡ take n values ++ replicate (n - m) Unset → IsMarked order longer places
+pub marks_longer_values : (order : List Lit) (values longer : List Value) (places : List ℕ) (n m : ℕ)
+    → IsMarked order values places → length values ≤ n → n ≤ length places → m ≡ length values
+    → longer ≡ take n values ++ replicate (n - m) Unset → IsMarked order longer places
 marks_longer_values order values longer places n m h le in_places em e = marks_values order values longer places n h le in_places (rw em at e)

@@ -1,11 +1,13 @@
 -- The check of literals over numbered variables has exactly one outcome.
-use Rattle.std.proofs.Common.{◌≡◌, ◌≢◌, ℕ, ◌<◌, ◌≤◌, ◌+◌, ◌-◌, List, [], ◌∷◌, ◌++◌, length, arith, ap, sym, ◌∙◌, refl, inl, inr, ⊎_elim, map, Ok, Err, Result, Bool, true, false}
+use Rattle.std.proofs.Common.{◌≡◌, ◌≢◌, ℕ, ◌+◌, List, [], ◌∷◌, ◌++◌, length, arith, ap, sym, ◌∙◌, refl, inl}
+use Rattle.std.proofs.Common.{inr, ⊎_elim, map, Ok, Err, Result}
 use Rattle.std.specs.Prelude.{Contains, ◌⊎◌}
 use Rattle.std.proofs.lemmas.Bool.{cases_Bool, cases_lt, false≢true}
 use Rattle.plain_lists.proofs.Membership.{Contains-nil, Contains-head, Contains-tail, Contains-cons_cases}
 use Rattle.plain_lits.specs.declared.lit.Lit.{Lit}
 use Rattle.plain_lits.specs.Literals.{opposite}
-use Rattle.plain_lits.specs.HintCheck.{clause_at, IsNamed, IsAllFalse, IsUnit, IsFalseHint, IsUnitHint, IsOtherHint, Looks, IsTautology, Checks}
+use Rattle.plain_lits.specs.HintCheck.{clause_at, IsNamed, IsAllFalse, IsUnit, IsFalseHint, IsUnitHint}
+use Rattle.plain_lits.specs.HintCheck.{IsOtherHint, Looks}
 use Rattle.plain_lits.specs.CheckLaws.{HasOneOutcome}
 use Rattle.plain_lits.proofs.LitOrder.{lit_eq, same_from_eq, lit_eq_itself}
 
@@ -25,7 +27,8 @@ cases_member (x ∷ xs) l =
     (cases_lit x l)
 
 -- each literal of a clause is false, or one isn't
-cases_all_false : (truths clause : List Lit) → IsAllFalse opposite truths clause ⊎ ((l : Lit) × Contains clause l × (Contains truths (opposite l) → ⊥))
+cases_all_false : (truths clause : List Lit)
+    → IsAllFalse opposite truths clause ⊎ ((l : Lit) × Contains clause l × (Contains truths (opposite l) → ⊥))
 cases_all_false truths [] = inl (record { each = λ l c. absurd (Contains-nil l c) })
 cases_all_false truths (x ∷ xs) =
     ⊎_elim
@@ -37,7 +40,8 @@ cases_all_false truths (x ∷ xs) =
     (cases_member truths (opposite x))
 
 -- each literal of a clause but one is false, or a further one isn't
-cases_others_false : (truths clause : List Lit) (u : Lit) → ((l : Lit) → Contains clause l → l ≢ u → Contains truths (opposite l)) ⊎ ((l : Lit) × Contains clause l × (l ≢ u) × (Contains truths (opposite l) → ⊥))
+cases_others_false : (truths clause : List Lit) (u : Lit)
+    → ((l : Lit) → Contains clause l → l ≢ u → Contains truths (opposite l)) ⊎ ((l : Lit) × Contains clause l × (l ≢ u) × (Contains truths (opposite l) → ⊥))
 cases_others_false truths [] u = inl (λ l c ne. absurd (Contains-nil l c))
 cases_others_false truths (x ∷ xs) u =
     ⊎_elim
@@ -62,11 +66,13 @@ cases_named steps hint =
     (cases_lt 0 hint)
 
 -- a literal that isn't false is the one of a unit clause
-is_the_one : (truths clause : List Lit) (u l : Lit) → IsUnit opposite truths clause u → Contains clause l → (Contains truths (opposite l) → ⊥) → l ≡ u
+is_the_one : (truths clause : List Lit) (u l : Lit) → IsUnit opposite truths clause u → Contains clause l
+    → (Contains truths (opposite l) → ⊥) → l ≡ u
 is_the_one truths clause u l f c high = ⊎_elim (λ e. e) (λ ne. absurd (high (f.others l c ne))) (cases_lit l u)
 
 -- each hint is of one of the three kinds
-cases_hint : (steps : List (List Lit)) (truths : List Lit) (hint : ℕ) → IsFalseHint opposite steps truths hint ⊎ (((u : Lit) × IsUnitHint opposite steps truths hint u) ⊎ IsOtherHint opposite steps truths hint)
+cases_hint : (steps : List (List Lit)) (truths : List Lit) (hint : ℕ)
+    → IsFalseHint opposite steps truths hint ⊎ (((u : Lit) × IsUnitHint opposite steps truths hint u) ⊎ IsOtherHint opposite steps truths hint)
 cases_hint steps truths hint =
     ⊎_elim
     (λ named. ⊎_elim
@@ -88,7 +94,8 @@ cases_hint steps truths hint =
     (λ out_. inr (inr (record { not_false = λ f. out_ f.named; not_unit = λ u f. out_ f.named })))
     (cases_named steps hint)
 
-some_look : (steps : List (List Lit)) (truths : List Lit) (place : ℕ) (hints : List ℕ) → (outcome : Result ℕ ℕ) × Looks opposite steps truths place hints outcome
+some_look : (steps : List (List Lit)) (truths : List Lit) (place : ℕ) (hints : List ℕ)
+    → (outcome : Result ℕ ℕ) × Looks opposite steps truths place hints outcome
 some_look steps truths place [] = (Err place, refl)
 some_look steps truths place (hint ∷ hints) =
     ⊎_elim (λ f. (Ok place, inl (f, refl)))
@@ -97,7 +104,8 @@ some_look steps truths place (hint ∷ hints) =
     (λ f. (Err place, inr (inr (f, refl)))) r)
     (cases_hint steps truths hint)
 
-one_look : (steps : List (List Lit)) (truths : List Lit) (place : ℕ) (hints : List ℕ) (a b : Result ℕ ℕ) → Looks opposite steps truths place hints a → Looks opposite steps truths place hints b → a ≡ b
+one_look : (steps : List (List Lit)) (truths : List Lit) (place : ℕ) (hints : List ℕ) (a b : Result ℕ ℕ)
+    → Looks opposite steps truths place hints a → Looks opposite steps truths place hints b → a ≡ b
 one_look steps truths place [] a b v w = v ∙ sym w
 one_look steps truths place (hint ∷ hints) a b v w =
     ⊎_elim
@@ -122,7 +130,8 @@ one_look steps truths place (hint ∷ hints) a b v w =
     (λ g. f.1 ∙ sym g.1) r) w) q) v
 
 -- a clause holds a literal and its negation, or it doesn't
-cases_tautology : (whole clause : List Lit) → ((l : Lit) × Contains clause l × Contains whole (opposite l)) ⊎ ((l : Lit) × Contains clause l × Contains whole (opposite l) → ⊥)
+cases_tautology : (whole clause : List Lit)
+    → ((l : Lit) × Contains clause l × Contains whole (opposite l)) ⊎ ((l : Lit) × Contains clause l × Contains whole (opposite l) → ⊥)
 cases_tautology whole [] = inr (λ t. Contains-nil t.0 t.1)
 cases_tautology whole (x ∷ xs) =
     ⊎_elim (λ c. inl (x, Contains-head x xs x refl, c))
@@ -131,7 +140,8 @@ cases_tautology whole (x ∷ xs) =
     (cases_tautology whole xs))
     (cases_member whole (opposite x))
 
-pub one_outcome : (steps : List (List Lit)) (clause : List Lit) (hints : List ℕ) → HasOneOutcome steps clause hints
+pub one_outcome : (steps : List (List Lit)) (clause : List Lit) (hints : List ℕ)
+    → HasOneOutcome steps clause hints
 one_outcome steps clause hints = record {
   some = ⊎_elim (λ t. (Err 0, inl (t, refl)))
       (λ none. let next = some_look steps (map opposite clause) 1 hints in (next.0, inr (none, next.1)))

@@ -1,8 +1,9 @@
--- The check of a clause with its hints. A literal is of any type L with its negation `neg`; a clause is a list of
--- literals, of which only the members count; an assignment is the list of the literals that are true; a step is
--- named by its number, from 1 on. An outcome is `Ok n` where the clause is taken at the n-th hint, and `Err place`
--- where it is rejected at a place.
-use Rattle.std.specs.Prelude.{◌≡◌, ◌≢◌, ◌⊎◌, ℕ, ◌+◌, ◌-◌, ◌<◌, ◌≤◌, Bool, true, not, List, [], ◌∷◌, ◌++◌, length, map, take, Contains, slice_index_or, Result, Ok, Err}
+-- The check of a clause with its hints. A literal is of any type L with its negation `neg`; a clause is a list
+-- of literals, of which only the members count; an assignment is the list of the literals that are true; a step
+-- is named by its number, from 1 on. An outcome is `Ok n` where the clause is taken at the n-th hint, and
+-- `Err place` where it is rejected at a place.
+use Rattle.std.specs.Prelude.{◌≡◌, ◌≢◌, ◌⊎◌, ℕ, ◌+◌, ◌-◌, ◌<◌, ◌≤◌, Bool, true, not, List, [], ◌∷◌, ◌++◌}
+use Rattle.std.specs.Prelude.{length, map, Contains, slice_index_or, Result, Ok, Err}
 
 -- the clause of a step
 abbrev pub clause_at : {L : Type 0} → List (List L) → ℕ → List L
@@ -25,27 +26,32 @@ pub record IsUnit {L : Type 0} (neg : L → L) (truths clause : List L) (unset :
   pub others : (l : L) → Contains clause l → l ≢ unset → Contains truths (neg l)
 
 -- a hint names a step whose clause is false
-pub record IsFalseHint {L : Type 0} (neg : L → L) (steps : List (List L)) (truths : List L) (hint : ℕ) : Type 0 where
+pub record IsFalseHint {L : Type 0} (neg : L → L) (steps : List (List L)) (truths : List L)
+    (hint : ℕ) : Type 0 where
   pub named : IsNamed steps hint
   pub all_false : IsAllFalse neg truths (clause_at steps hint)
 
 -- a hint names a step whose clause is unit
-pub record IsUnitHint {L : Type 0} (neg : L → L) (steps : List (List L)) (truths : List L) (hint : ℕ) (unset : L) : Type 0 where
+pub record IsUnitHint {L : Type 0} (neg : L → L) (steps : List (List L)) (truths : List L) (hint : ℕ)
+    (unset : L) : Type 0 where
   pub named : IsNamed steps hint
   pub unit : IsUnit neg truths (clause_at steps hint) unset
 
 -- every other case, and a hint that names no step
-pub record IsOtherHint {L : Type 0} (neg : L → L) (steps : List (List L)) (truths : List L) (hint : ℕ) : Type 0 where
+pub record IsOtherHint {L : Type 0} (neg : L → L) (steps : List (List L)) (truths : List L)
+    (hint : ℕ) : Type 0 where
   pub not_false : IsFalseHint neg steps truths hint → ⊥
   pub not_unit : (unset : L) → IsUnitHint neg steps truths hint unset → ⊥
 
--- what comes of looking at hints in turn, the first of which has this place: at a false clause the check succeeds,
--- a unit clause makes its literal true, and every other case is rejected there; so is the place after the last hint
+-- what comes of looking at hints in turn, the first of which has this place: at a false clause the check
+-- succeeds, a unit clause makes its literal true, and every other case is rejected there; where the hints end
+-- without a false clause, the place after the last is rejected
 abbrev pub Looks : {L : Type 0} → (L → L) → List (List L) → List L → ℕ → List ℕ → Result ℕ ℕ → Type 0
 Looks neg steps truths place [] outcome = outcome ≡ Err place
 Looks {L} neg steps truths place (hint ∷ hints) outcome =
     (IsFalseHint neg steps truths hint × (outcome ≡ Ok place))
-    ⊎ (((unset : L) × IsUnitHint neg steps truths hint unset × Looks neg steps (truths ++ unset ∷ []) (place + 1) hints outcome)
+    ⊎ (((unset : L) × IsUnitHint neg steps truths hint unset
+    × Looks neg steps (truths ++ unset ∷ []) (place + 1) hints outcome)
     ⊎ (IsOtherHint neg steps truths hint × (outcome ≡ Err place)))
 
 -- a clause holds a literal and its negation
@@ -53,8 +59,8 @@ abbrev pub IsTautology : {L : Type 0} → (L → L) → List L → Type 0
 IsTautology {L} neg clause = (l : L) × Contains clause l × Contains clause (neg l)
 
 -- what the check says of a clause with its hints beside the steps before it: a clause with a literal and its
--- negation is rejected at place 0; otherwise every literal of the clause is taken to be false, and the hints are
--- looked at from place 1 on
+-- negation is rejected at place 0; otherwise every literal of the clause is taken to be false, and the hints
+-- are looked at from place 1 on
 abbrev pub Checks : {L : Type 0} → (L → L) → List (List L) → List L → List ℕ → Result ℕ ℕ → Type 0
 Checks neg steps clause hints outcome =
     (IsTautology neg clause × (outcome ≡ Err 0))
@@ -71,4 +77,5 @@ IsTrueClause {L} reading clause = (l : L) × Contains clause l × (reading l ≡
 -- a clause that the check takes is true under each reading that makes the clauses of the hints true
 abbrev pub Follows : {L : Type 0} → (L → L) → List (List L) → List L → List ℕ → Type 0
 Follows {L} neg steps clause hints = (reading : L → Bool) → IsReading neg reading
-    → ((hint : ℕ) → Contains hints hint → IsTrueClause reading (clause_at steps hint)) → IsTrueClause reading clause
+    → ((hint : ℕ) → Contains hints hint → IsTrueClause reading (clause_at steps hint))
+    → IsTrueClause reading clause

@@ -1,5 +1,5 @@
 -- Literals as numbers, and lists of lists in one list.
-use Rattle.std.specs.Prelude.{◌≡◌, ℕ, ◌+◌, ◌-◌, ◌*◌, ◌/◌, ◌%◌, ◌==◌, Bool, true, false, if◌then◌else◌, List, [], ◌∷◌, refl}
+use Rattle.std.specs.Prelude.{ℕ, ◌+◌, ◌*◌, ◌/◌, ◌%◌, ◌==◌, if◌then◌else◌}
 use Rattle.plain_lits.specs.declared.lit.Lit.{Lit}
 
 -- the literal of a number: its half is the variable, and an odd number is positive

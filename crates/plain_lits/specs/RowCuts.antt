@@ -1,5 +1,5 @@
 -- A list cut into rows at the places where they end.
-use Rattle.std.specs.Prelude.{◌≡◌, ℕ, ◌≤◌, List, [], ◌∷◌, length, slice_index, slice_range}
+use Rattle.std.specs.Prelude.{◌≡◌, ℕ, ◌≤◌, List, [], ◌∷◌, slice_range}
 
 -- the rows of a list from a place on, by the places where they end
 abbrev pub rows_from : {T : Type 0} → List T → ℕ → List ℕ → List (List T)

@@ -1,8 +1,9 @@
 -- What a contract sees of a trail, and how its arrays keep it.
-use Rattle.std.specs.Prelude.{◌≡◌, ◌≢◌, ℕ, ◌+◌, ◌<◌, ◌≤◌, List, length, Contains, slice_index, slice_index_or, sum_by}
+use Rattle.std.specs.Prelude.{◌≡◌, ◌≢◌, ℕ, ◌+◌, ◌<◌, ◌≤◌, List, length, Contains, slice_index, slice_index_or}
+use Rattle.std.specs.Prelude.{sum_by}
 use Rattle.plain_lits.specs.declared.lit.Lit.{Lit}
 use Rattle.plain_lits.specs.declared.value.Value.{Value}
-use Rattle.plain_lits.specs.declared.value.Value.TheVariants.{True, False, Unset}
+use Rattle.plain_lits.specs.declared.value.Value.TheVariants.{Unset}
 use Rattle.plain_lits.specs.Values.{value_of}
 
 -- the true literals in the order in which they came, how many there were before each level began, and the
@@ -54,11 +55,13 @@ pub record IsMarked (order : List Lit) (values : List Value) (places : List ℕ)
 -- there is room for a further level wherever there is room for its first literal, now and after each return to
 -- an earlier level
 pub record HasLevelRoom (starts : List ℕ) (count vars capacity : ℕ) : Type 0 where
+  pub first : vars ≤ capacity
   pub now : length starts + vars ≤ capacity + count
   pub then : (k : ℕ) → k < length starts → k + vars ≤ capacity + slice_index starts k
 
 -- the arrays of a trail: marks, levels, and room for each variable's literal and for a level before it
-pub record IsTrail (order : List Lit) (values : List Value) (places starts : List ℕ) (room level_room : ℕ) : Type 0 where
+pub record IsTrail (order : List Lit) (values : List Value) (places starts : List ℕ)
+    (room level_room : ℕ) : Type 0 where
   pub marks : IsMarked order values places
   pub fits : length values ≤ room
   pub levels : AreLevels starts (length order)

@@ -1,5 +1,5 @@
 -- Values of literals under an assignment, which is a list of the literals that are true.
-use Rattle.std.specs.Prelude.{ℕ, List, Contains, Bool, true, false}
+use Rattle.std.specs.Prelude.{List, Contains, Bool, true, false}
 use Rattle.plain_lits.specs.declared.lit.Lit.{Lit}
 use Rattle.plain_lits.specs.declared.value.Value.{Value}
 use Rattle.plain_lits.specs.declared.value.Value.TheVariants.{True, False, Unset}

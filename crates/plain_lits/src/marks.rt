@@ -1,6 +1,7 @@
 //! The true literals in order, and each variable's value and place in flat arrays.
 
-ghost use Rattle.std.specs.Prelude.{◌≡◌, ℕ, ◌+◌, ◌-◌, ◌<◌, ◌≤◌, [], ◌∷◌, ◌++◌, length, take, max, Contains, OnOk, OnErr, vec_capacity, slice_get};
+ghost use Rattle.std.specs.Prelude.{◌≡◌, ℕ, ◌+◌, ◌-◌, ◌<◌, ◌≤◌, [], ◌∷◌, ◌++◌, length, take, max, Contains};
+ghost use Rattle.std.specs.Prelude.{OnOk, OnErr, vec_capacity, slice_get};
 ghost use Rattle.plain_lits.specs.Literals.{opposite};
 ghost use Rattle.plain_lits.specs.Values.{IsValueIn};
 ghost use Rattle.plain_lits.specs.Trails.{IsMarked};

@@ -1,4 +1,5 @@
-use crate::{Budget, Clause, Halt, Lit, StepId, Trail, Value};
+use crate::laws::taken_clauses_follow;
+use crate::{Budget, Clause, Halt, Lit, PackedLit, Rows, StepId, Trail, Value};
 use plain_lists::Memory;
 use std::test::Fail;
 
@@ -93,5 +94,24 @@ fn trail_there_and_back(rt: HostRuntime) -> Result<(), Fail> {
     assert_eq!(rt; trail.value(lit(2, true)), Value::False);
     assert_eq!(rt; trail.value(lit(0, true)), Value::Unset);
     assert_eq!(rt; trail.value(lit(9, true)), Value::Unset);
+    Ok(())
+}
+
+#[test]
+fn rows_in_one_list(rt: HostRuntime) -> Result<(), Fail> {
+    taken_clauses_follow::<Lit>();
+    let packed = PackedLit::pack(Lit {
+        var: 2,
+        positive: false,
+    });
+    assert_eq!(rt; packed.lit(), lit(2, false));
+    let mut rows = Rows::new(rt.alloc());
+    rows.push(&[1u32, 2])?;
+    rows.push(&[])?;
+    rows.push(&[3])?;
+    rows.pop();
+    assert!(rt; rows.len() == 2);
+    assert_eq!(rt; rows.row(0), [1, 2].as_slice());
+    assert!(rt; rows.row(1).is_empty());
     Ok(())
 }

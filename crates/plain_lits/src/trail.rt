@@ -1,6 +1,7 @@
 //! An assignment of variables by levels, as propagation builds it up and takes it back.
 
-ghost use Rattle.std.specs.Prelude.{◌≡◌, ◌<◌, [], ◌∷◌, ◌++◌, length, take, max, Contains, OnOk, OnErr, slice_get};
+ghost use Rattle.std.specs.Prelude.{◌≡◌, ◌<◌, [], ◌∷◌, ◌++◌, length, take, max, Contains, OnOk, OnErr};
+ghost use Rattle.std.specs.Prelude.{slice_get};
 ghost use Rattle.plain_lits.specs.Values.{IsValueIn};
 ghost use Rattle.plain_lits.specs.Trails.{IsAssignment, level_start};
 
@@ -27,10 +28,14 @@ impl Model for Trail {
 
     ghost Value = { Assignment };
 
-    ghost view = { λ t. record { lits = t.marks.order.items; starts = t.starts.items; vars = length t.marks.values.items } };
+    ghost view = { λ t. record {
+      lits = t.marks.order.items;
+      starts = t.starts.items;
+      vars = length t.marks.values.items;
+    } };
 
-    ghost invariant = { λ t. IsTrail t.marks.order.items t.marks.values.items t.marks.places.items t.starts.items
-        (vec_capacity t.marks.order) (vec_capacity t.starts) };
+    ghost invariant = { λ t. IsTrail t.marks.order.items t.marks.values.items t.marks.places.items
+        t.starts.items (vec_capacity t.marks.order) (vec_capacity t.starts) };
 }
 
 impl Trail {
@@ -142,6 +147,16 @@ impl Trail {
         let count = self.marks.order.len();
         self.starts.push(count)?;
         Ok(())
+    }
+
+    /// Takes back every literal and every level.
+    pub fn clear(&mut self)
+        ensures lits { self.new.lits ≡ [] }
+        ensures starts { self.new.starts ≡ [] }
+        ensures vars { self.new.vars ≡ self.old.vars }
+    {
+        self.marks.keep(0);
+        self.starts.truncate(0);
     }
 
     /// Takes back each level above `level`, with its literals.

@@ -1,4 +1,4 @@
-use Rattle.std.proofs.Common.{◌≡◌, ◌≤◌, length, arith}
+use Rattle.std.proofs.Common.{◌≤◌, length, arith}
 use Rattle.plain_lits.specs.Trails.{IsMarked}
 use Rattle.plain_lits.proofs.Marking.{marks_longer_places, marks_longer_values}
 use Rattle.plain_lits.proofs.marks.Marks.make_room.Goals as goal

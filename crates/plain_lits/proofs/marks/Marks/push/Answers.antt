@@ -1,4 +1,4 @@
-use Rattle.std.proofs.Common.{◌≡◌, length, ◌∷◌, [], ◌++◌, ap, arith}
+use Rattle.std.proofs.Common.{◌≡◌, length, ap, arith}
 use Rattle.std.proofs.Math.ListN.{set}
 use Rattle.plain_lits.proofs.Marking.{marks_pushed, gap_left, unset_value, pushed_in_room}
 use Rattle.plain_lits.proofs.marks.Marks.push.Goals as goal

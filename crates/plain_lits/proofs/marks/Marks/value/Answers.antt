@@ -1,5 +1,5 @@
 use Rattle.std.proofs.Common.{◌<◌, length, arith}
-use Rattle.plain_lits.proofs.Marking.{value_read, value_beyond}
+use Rattle.plain_lits.proofs.Marking.{value_read}
 use Rattle.plain_lits.proofs.marks.Marks.value.Goals as goal
 
 pub returns : goal.returns

@@ -1,4 +1,4 @@
-use Rattle.std.proofs.Common.{◌≡◌, length, arith}
+use Rattle.std.proofs.Common.{arith}
 use Rattle.plain_lits.proofs.RowLemmas.{length-rows}
 use Rattle.plain_lits.proofs.rows.Rows.len.Goals as goal
 

@@ -15,7 +15,7 @@ returns-in-Some g c =
     let inside = c.self.inside in
     let count : c.len.result ≡ length c.pop.new.self.items = omega arith in
     rw (← c.self.view_is) (
-      popped_rows inside.items.items c.truncate.new.self.items inside.ends.items c.pop.new.self.items c.in-Some.field-0
-      c.end_before-kept.result c.self.invariant c.in-Some.ensures.items
-      (rw (c.as_slice.ensures.value, count) at c.end_before-kept.ensures) c.truncate.ensures.items
+    popped_rows inside.items.items c.truncate.new.self.items inside.ends.items c.pop.new.self.items c.in-Some.field-0
+    c.end_before-kept.result c.self.invariant c.in-Some.ensures.items
+    (rw (c.as_slice.ensures.value, count) at c.end_before-kept.ensures) c.truncate.ensures.items
     )

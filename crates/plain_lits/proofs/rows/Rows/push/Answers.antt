@@ -1,4 +1,4 @@
-use Rattle.std.proofs.Common.{◌≡◌, ◌∷◌, [], ◌++◌, length, arith}
+use Rattle.std.proofs.Common.{arith}
 use Rattle.plain_lits.proofs.Marking.{pushed_in_room}
 use Rattle.plain_lits.proofs.RowLemmas.{pushed_rows, pushed_ends}
 use Rattle.plain_lits.proofs.rows.Rows.push.Goals as goal
@@ -18,7 +18,7 @@ returns-clause-ok g c =
     let ends = pushed_in_room c.push.result _ _ c.len-end.result _ c.push.ensures.full
     (λ full. omega (arith, c.in_ok-reserve.ensures.ok)) c.push.ensures.items in
     rw (← c.self.view_is) (
-      pushed_rows inside.items.items c.args.row.now c.extend_from_slice.new.self.items inside.ends.items
-      c.push.new.self.items c.len-end.result c.self.invariant c.in_ok-extend_from_slice.ensures.items (omega arith)
-      (rw c.reserve.ensures.items at ends)
+    pushed_rows inside.items.items c.args.row.now c.extend_from_slice.new.self.items inside.ends.items
+    c.push.new.self.items c.len-end.result c.self.invariant c.in_ok-extend_from_slice.ensures.items (omega arith)
+    (rw c.reserve.ensures.items at ends)
     )

@@ -1,0 +1,4 @@
+pub mod Logs
+pub mod Checking
+pub mod Follows
+pub mod Trimming

@@ -1,0 +1,16 @@
+//! A log of clauses: axioms, sides, and clauses that follow from earlier ones by a check of hints.
+#![tactic(auto)]
+
+mod check;
+pub mod fault;
+pub mod kind;
+pub mod laws;
+pub mod log;
+mod store;
+#[cfg(test)]
+mod tests;
+mod trim;
+
+pub use fault::LogFault;
+pub use kind::Kind;
+pub use log::Log;

@@ -1,0 +1,103 @@
+//! Steps in flat storage.
+
+ghost use Rattle.std.specs.Prelude.{◌≡◌, ◌<◌, [], ◌∷◌, ◌++◌, length, OnOk, OnErr, slice_index_or};
+ghost use Rattle.hinted_log.specs.Logs.{no_step, clauses_of};
+
+use crate::kind::Kind;
+use plain_lists::Memory;
+use plain_lits::{PackedLit, Rows, StepId};
+use std::alloc::Global;
+use std::marker::Model;
+
+/// Steps, each with its clause, its kind and its hints. The literals of all clauses lie in one array, and so do
+/// all hints. Contracts see it as the list of the steps.
+#[derive(Debug, Drop)]
+pub(crate) struct Store {
+    clauses: Rows<PackedLit>,
+    kinds: Vec<Kind>,
+    hints: Rows<StepId>,
+}
+
+impl Model for Store {
+    ghost use Rattle.std.specs.Prelude.{List};
+    ghost use Rattle.hinted_log.specs.Logs.{Step, steps_of, AreParts};
+
+    ghost Value = { List Step };
+
+    ghost view = { λ s. steps_of s.clauses s.kinds.items s.hints };
+
+    ghost invariant = { λ s. AreParts s.clauses s.kinds.items s.hints };
+}
+
+impl Store {
+    /// No step, which takes no memory.
+    pub(crate) fn new(alloc: Global) -> Store
+        ensures { result ≡ [] }
+    {
+        Store {
+            clauses: Rows::new(alloc),
+            kinds: Vec::new(alloc),
+            hints: Rows::new(alloc),
+        }
+    }
+
+    /// The number of steps.
+    pub(crate) fn len(&self) -> usize
+        ensures { result ≡ length self.now }
+    {
+        self.clauses.len()
+    }
+
+    /// The clauses of all steps.
+    pub(crate) fn clauses(&self) -> &Rows<PackedLit>
+        ensures { result.now ≡ clauses_of self.now }
+    {
+        &self.clauses
+    }
+
+    /// The clause of the step at a place, counted from 0.
+    pub(crate) fn clause(&self, place: usize) -> &[PackedLit]
+        requires { place < length self.now }
+        ensures { result.now ≡ (slice_index_or self.now place no_step).clause }
+    {
+        self.clauses.row(place)
+    }
+
+    /// The kind of the step at a place.
+    pub(crate) fn kind(&self, place: usize) -> Kind
+        requires { place < length self.now }
+        ensures { result ≡ (slice_index_or self.now place no_step).kind }
+    {
+        let kinds = self.kinds.as_slice();
+        kinds[place]
+    }
+
+    /// The hints of the step at a place.
+    pub(crate) fn hints(&self, place: usize) -> &[StepId]
+        requires { place < length self.now }
+        ensures { result.now ≡ (slice_index_or self.now place no_step).hints }
+    {
+        self.hints.row(place)
+    }
+
+    /// Adds a step at the end. After `Memory` the steps are as before.
+    pub(crate) fn push(
+        &mut self,
+        clause: &[PackedLit],
+        kind: Kind,
+        hints: &[StepId],
+    ) -> Result<(), Memory>
+        ensures ok { OnOk result (self.new ≡ self.old
+            ++ record { clause = clause.now; kind = kind; hints = hints.now } ∷ []) }
+        ensures err { OnErr result (self.new ≡ self.old) }
+    {
+        self.kinds.reserve(1)?;
+        self.hints.push(hints)?;
+        if self.clauses.push(clause).is_err() {
+            self.hints.pop();
+            return Err(Memory);
+        }
+        let _ = self.kinds.push(kind);
+        Ok(())
+    }
+}

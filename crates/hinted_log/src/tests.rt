@@ -1,0 +1,175 @@
+//! What no clause says: that calls succeed, and worked rows of the check.
+
+use crate::{Kind, Log, LogFault};
+use plain_lits::{Clause, Lit, StepId};
+use std::alloc::Global;
+use std::test::Fail;
+
+const P1: Lit = Lit {
+    var: 1,
+    positive: true,
+};
+
+const N1: Lit = Lit {
+    var: 1,
+    positive: false,
+};
+
+const P2: Lit = Lit {
+    var: 2,
+    positive: true,
+};
+
+const N2: Lit = Lit {
+    var: 2,
+    positive: false,
+};
+
+const P3: Lit = Lit {
+    var: 3,
+    positive: true,
+};
+
+const N3: Lit = Lit {
+    var: 3,
+    positive: false,
+};
+
+const LARGEST: Lit = Lit {
+    var: usize::MAX,
+    positive: true,
+};
+
+/// A step to add: its kind, clause and hints, and the number that it gets.
+type Row<'a> = (Kind, &'a [Lit], &'a [u32], Result<u32, LogFault>);
+
+/// The steps of these numbers.
+fn steps_of(alloc: Global, numbers: &[u32]) -> Result<Vec<StepId>, LogFault> {
+    match numbers
+        .iter()
+        .map(|number| StepId::new(*number))
+        .collect(alloc)
+    {
+        Ok(steps) => Ok(steps),
+        Err(_) => Err(LogFault::Memory),
+    }
+}
+
+/// Adds a step to a log: its number, or why it wasn't added.
+fn added(alloc: Global, log: &mut Log, row: &Row) -> Result<u32, LogFault> {
+    let clause = Clause::from_slice(alloc, row.1)?;
+    let step = match row.0 {
+        Kind::Axiom => log.axiom(clause)?,
+        Kind::Side => log.side(clause)?,
+        Kind::Derived => log.derive(clause, steps_of(alloc, row.2)?.as_slice())?,
+    };
+    Ok(step.number())
+}
+
+/// Whether a log has a row's step, and it reaches just these steps.
+fn is_kept(alloc: Global, log: &Log, row: &Row, reached: &[u32]) -> Result<bool, LogFault> {
+    let number = row.3?;
+    if number == 0 || number as usize > log.len() {
+        return Ok(false);
+    }
+    let step = StepId::new(number);
+    let hints = steps_of(alloc, row.2)?;
+    let steps = steps_of(alloc, reached)?;
+    let clause = log.clause(step);
+    let same = clause
+        .iter()
+        .zip(row.1)
+        .all(|(packed, lit)| packed.lit() == *lit);
+    Ok(
+        same && clause.len() == row.1.len()
+            && log.kind(step) == row.0
+            && log.hints(step) == hints.as_slice()
+            && log.trim(alloc, step)?.as_slice() == steps.as_slice(),
+    )
+}
+
+#[test]
+fn small_log(rt: HostRuntime) -> Result<(), Fail> {
+    let alloc = rt.alloc();
+    let mut log = Log::open(alloc, 3)?;
+    let rows: [Row; 5] = [
+        (Kind::Axiom, &[P1, P2], &[], Ok(1)),
+        (Kind::Axiom, &[N1, P2], &[], Ok(2)),
+        (Kind::Derived, &[P1], &[1, 2], Err(LogFault::Rejected(2))),
+        (Kind::Derived, &[P2], &[1, 2], Ok(3)),
+        (Kind::Side, &[P1], &[], Err(LogFault::LogFull)),
+    ];
+    for row in &rows {
+        assert!(rt; added(alloc, &mut log, row) == row.3);
+    }
+    assert!(rt; log.is_full());
+    assert!(rt; matches!(is_kept(alloc, &log, &rows[3], &[1, 2, 3]), Ok(true)));
+    Ok(())
+}
+
+#[test]
+fn hints_of_every_kind(rt: HostRuntime) -> Result<(), Fail> {
+    let alloc = rt.alloc();
+    let mut log = Log::open(alloc, 50)?;
+    let rows: [Row; 17] = [
+        (Kind::Axiom, &[P1, P2], &[], Ok(1)),
+        (Kind::Axiom, &[N1, P2], &[], Ok(2)),
+        (Kind::Axiom, &[N2, N2, P3], &[], Ok(3)),
+        (Kind::Derived, &[P1], &[], Err(LogFault::Rejected(1))),
+        (Kind::Derived, &[P2], &[4], Err(LogFault::Rejected(1))),
+        (Kind::Derived, &[P2], &[0], Err(LogFault::Rejected(1))),
+        (Kind::Derived, &[P2], &[1, 9], Err(LogFault::Rejected(2))),
+        (Kind::Derived, &[P2], &[1, 1, 2], Err(LogFault::Rejected(2))),
+        (Kind::Derived, &[P2], &[1], Err(LogFault::Rejected(2))),
+        (
+            Kind::Derived,
+            &[P1, P2, N1],
+            &[1],
+            Err(LogFault::Rejected(0)),
+        ),
+        (Kind::Derived, &[], &[1], Err(LogFault::Rejected(1))),
+        (Kind::Derived, &[P2, P2], &[1, 2], Ok(4)),
+        (Kind::Derived, &[P3], &[4, 3], Ok(5)),
+        (Kind::Side, &[N3], &[], Ok(6)),
+        (Kind::Derived, &[], &[5, 6], Ok(7)),
+        (Kind::Axiom, &[LARGEST], &[], Err(LogFault::Memory)),
+        (Kind::Derived, &[P2], &[1, 2, 99], Ok(8)),
+    ];
+    for row in &rows {
+        assert!(rt; added(alloc, &mut log, row) == row.3);
+    }
+    let last: Row = (Kind::Derived, &[P2], &[1, 2], Ok(8));
+    assert!(rt; matches!(is_kept(alloc, &log, &rows[13], &[6]), Ok(true)));
+    assert!(rt;
+        matches!(
+            is_kept(alloc, &log, &rows[14], &[1, 2, 3, 4, 5, 6, 7]),
+            Ok(true)
+        )
+    );
+    assert!(rt; matches!(is_kept(alloc, &log, &last, &[1, 2, 8]), Ok(true)));
+    Ok(())
+}
+
+/// A chain of this many derived steps, each from the one before it and an axiom.
+fn chain(alloc: Global, count: u32) -> Result<Log, LogFault> {
+    let mut log = Log::open(alloc, 50_000_000)?;
+    let mut last = log.axiom(Clause::from_slice(alloc, &[P1])?)?;
+    for var in 1..count {
+        let old = Lit {
+            var: var as usize,
+            positive: false,
+        };
+        let new = Lit {
+            var: var as usize + 1,
+            positive: true,
+        };
+        let link = log.axiom(Clause::from_slice(alloc, &[old, new])?)?;
+        last = log.derive(Clause::from_slice(alloc, &[new])?, &[last, link])?;
+    }
+    Ok(log)
+}
+
+#[test]
+fn long_chain(rt: HostRuntime) {
+    assert!(rt; matches!(&chain(rt.alloc(), 50_000), Ok(log) if log.len() == 99_999));
+}
