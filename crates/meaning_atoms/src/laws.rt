@@ -1,5 +1,5 @@
-//! The laws that show the notions of frameworks to be the literature's, and worlds to be valuations. Each function does nothing; its
-//! contract is the law.
+//! The laws that show the notions of frameworks to be the literature's, and worlds to be valuations. Each
+//! function does nothing; its contract is the law.
 
 ghost use Rattle.meaning_atoms.specs.Framework.{Af, IsAf};
 ghost use Rattle.meaning_atoms.specs.Readings.{HasReading};
