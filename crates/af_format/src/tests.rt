@@ -3,6 +3,7 @@
 use crate::{
     LineCause, LineFault, ReadFault, one_reading, read_af, read_back, readable_or_faulty, write_af,
 };
+use plain_lists::{Bytes, Memory};
 use std::alloc::{AllocError, Global};
 use std::test::Fail;
 
@@ -119,6 +120,32 @@ fn written(rt: HostRuntime) {
         return;
     };
     assert!(rt; text.as_slice() == "p af 3\n1 2\n2 1\n2 3\n".as_bytes());
+}
+
+// The text of one argument that attacks itself, in so many lines.
+fn repeated(alloc: Global, count: u32) -> Result<Bytes, Memory> {
+    let mut text = Bytes::new(alloc);
+    text.extend("p af 1\n".as_bytes())?;
+    for _ in 0..count {
+        text.extend("1 1\n".as_bytes())?;
+    }
+    Ok(text)
+}
+
+#[test]
+fn too_many_lines(rt: HostRuntime) -> Result<(), Fail> {
+    let text = repeated(rt.alloc(), 10_000_001)?;
+    if text.len() != 40_000_011 {
+        assert!(rt; false, "another length");
+        return Ok(());
+    }
+    let fault = LineFault {
+        line: 10_000_002,
+        cause: LineCause::TooManyLines,
+    };
+    let read = read_af(rt.alloc(), text.as_slice());
+    assert!(rt; matches!(&read, Err(ReadFault::Line(told)) if *told == fault));
+    Ok(())
 }
 
 #[test]
