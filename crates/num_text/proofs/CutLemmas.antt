@@ -197,7 +197,7 @@ fields_from-first start text n some e = elim (cases_lt n (length text)) [
 
 -- ---- what `next` needs, where the rest is `&bytes[start..]`
 
-rest_whole : (start : ℕ) (bytes : List ℕ) → take (length bytes - start) (drop start bytes) ≡ drop start bytes
+pub rest_whole : (start : ℕ) (bytes : List ℕ) → take (length bytes - start) (drop start bytes) ≡ drop start bytes
 rest_whole start bytes = take_all (length bytes - start) (drop start bytes)
     (omega (arith, length-drop start bytes))
 

@@ -2,3 +2,4 @@ pub mod CutLemmas
 pub mod NumberLemmas
 pub mod Decimals
 pub mod KeptLines
+pub mod PairLemmas

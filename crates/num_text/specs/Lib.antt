@@ -1,4 +1,5 @@
 pub mod Cuts
 pub mod Number
+pub mod Pairs
 pub mod Views
 pub mod Lines
