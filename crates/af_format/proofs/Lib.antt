@@ -4,3 +4,4 @@ pub mod FirstFaults
 pub mod Reading
 pub mod RoundTrip
 pub mod Readings
+pub mod NextAttack

@@ -17,7 +17,7 @@ use Rattle.dung_notions.specs.Solid.{IsSolid}
 use Rattle.af_format.proofs.LineCauses.{header_is_good, limit_only, IsHeader-same}
 use Rattle.af_format.specs.declared.fault.ReadFault.{ReadFault}
 use Rattle.af_format.specs.declared.fault.ReadFault.TheVariants.{Line, Memory}
-use Rattle.af_format.specs.FirstBadLine.{BeginWithHeader, IsFirstBadLine}
+use Rattle.af_format.specs.FirstBadLine.{BeginWithHeader, TellsNext, IsNextFault, IsFirstBadLine}
 use Rattle.af_format.proofs.FirstFaults.{attack_told}
 use Rattle.af_format.proofs.Zips.{AllZip-member, AllZip-at}
 
@@ -72,6 +72,22 @@ read_bad count lines left rest line attacks cause h e told =
       number_is = refl;
       told = subst (λ n. IsFirstCause (StandsOnAttack count n (field_texts line.text)) cause) long told;
     }
+
+pub read_next : (count place : ℕ) (lines left rest : List LineText) (attacks : List (ℕ × ℕ)) (attack : ℕ × ℕ)
+    → HasRead count lines left attacks → place ≡ length attacks → TellsNext count place left rest attack
+    → HasRead count lines rest (attacks ++ attack ∷ [])
+read_next count place lines left rest attacks attack h e next =
+    let few = next.few in
+    read_more count lines left rest next.line attacks attack h next.lines_are next.attack_is (omega arith)
+
+pub next_bad : (count place : ℕ) (lines left : List LineText) (attacks : List (ℕ × ℕ)) (number : ℕ) (cause : LineCause)
+    → HasRead count lines left attacks → place ≡ length attacks → IsNextFault count place left number cause
+    → IsFirstBadLine count lines number cause
+next_bad count place lines left attacks number cause h e bad =
+    let told : IsFirstCause (StandsOnAttack count (length attacks) (field_texts bad.line.text)) cause
+    = subst (λ n. IsFirstCause (StandsOnAttack count n (field_texts bad.line.text)) cause) e bad.told in
+    subst (λ n. IsFirstBadLine count lines n cause) (sym bad.number_is)
+    (read_bad count lines left bad.others bad.line attacks cause h bad.lines_are told)
 
 -- ---- the arguments
 

@@ -1,12 +1,12 @@
 -- A text has one reading, and no fault beside it.
-use Rattle.std.proofs.Common.{◌≡◌, ℕ, zero, suc, ◌+◌, ◌<◌, List, [], ◌∷◌, ◌++◌, length, get_or, refl, sym, ap, subst, ◌∙◌, ◌⊎◌, inl, inr, ⊎_elim, arith}
+use Rattle.std.proofs.Common.{◌≡◌, ℕ, zero, suc, ◌+◌, List, [], ◌∷◌, ◌++◌, length, get_or, refl, sym, ap, subst, ◌∙◌, ◌⊎◌, inl, inr, ⊎_elim, arith}
 use Rattle.std.specs.Prelude.{Contains, ◌↔◌}
 use Rattle.std.specs.List.{AllPairs, AllZip, range_with_len}
 use Rattle.std.proofs.lemmas.Bool.{cases_order}
 use Rattle.std.proofs.lemmas.List.{length-append}
 use Rattle.std.proofs.lemmas.List.Elements.{Contains-get_or}
 use Rattle.std.proofs.lemmas.List.Kept.{AllPairs-cons}
-use Rattle.num_text.specs.Cuts.{LineText, field_texts, lines_of}
+use Rattle.num_text.specs.Cuts.{LineText, lines_of}
 use Rattle.num_text.specs.Number.{IsNumber}
 use Rattle.meaning_atoms.specs.Framework.{Af, IsPairBefore}
 use Rattle.af_format.specs.declared.fault.LineCause.{LineCause}
@@ -14,9 +14,8 @@ use Rattle.af_format.specs.declared.fault.ReadFault.{ReadFault}
 use Rattle.af_format.specs.declared.fault.ReadFault.TheVariants.{Line, Memory}
 use Rattle.num_text.specs.Lines.{kept}
 use Rattle.af_format.specs.AfText.{IsHeader, IsAttackLine, IsAfText, ReadsAs, IsReadable}
-use Rattle.af_format.specs.Causes.{IsFirstCause}
-use Rattle.af_format.specs.Faults.{StandsOnAttack, StandsIn, IsFirstFault, IsFaultless, IfLine}
-use Rattle.af_format.specs.FirstBadLine.{BeginWithHeader, AreSomeAttacks, IsFirstBadLine}
+use Rattle.af_format.specs.Faults.{StandsIn, IsFirstFault, IsFaultless, IfLine}
+use Rattle.af_format.specs.FirstBadLine.{BeginWithHeader, AreSomeAttacks, TellsNext, IsNextFault, IsFirstBadLine}
 use Rattle.af_format.proofs.LineCauses.{IsNumber-same, IsHeader-same}
 use Rattle.af_format.proofs.Reading.{
   no_fault_in,
@@ -25,9 +24,9 @@ use Rattle.af_format.proofs.Reading.{
   reads_as,
   HasRead,
   read_none,
-  read_more,
+  read_next,
   read_all,
-  read_bad,
+  next_bad,
 }
 use Rattle.af_format.proofs.Zips.{AllZip-same}
 
@@ -280,14 +279,14 @@ pub record HasPassed (count : ℕ) (lines left : List LineText) (place : ℕ) : 
 pub passed_none : (count : ℕ) (lines : List LineText) → HasPassed count lines lines 0
 passed_none count lines = record { attacks = []; read = read_none count lines; long = refl }
 
-pub passed_more : (count : ℕ) (lines left rest : List LineText) (line : LineText) (place : ℕ) (attack : ℕ × ℕ)
-    → HasPassed count lines left place → left ≡ line ∷ rest → IsAttackLine count line.text attack
-    → place < 10000000 → HasPassed count lines rest (place + 1)
-passed_more count lines left rest line place attack h e is few =
+pub passed_next : (count : ℕ) (lines left rest : List LineText) (place : ℕ) (attack : ℕ × ℕ)
+    → HasPassed count lines left place → TellsNext count place left rest attack
+    → HasPassed count lines rest (place + 1)
+passed_next count lines left rest place attack h next =
     let long = h.long in
     record {
       attacks = h.attacks ++ attack ∷ [];
-      read = read_more count lines left rest line h.attacks attack h.read e is (omega arith);
+      read = read_next count place lines left rest h.attacks attack h.read h.long next;
       long = omega (arith, length-append h.attacks (attack ∷ []));
     }
 
@@ -295,10 +294,8 @@ pub passed_all : (count : ℕ) (lines left : List LineText) (place : ℕ) → Ha
     → AreSomeAttacks count lines
 passed_all count lines left place h e = (h.attacks, read_all count lines left h.attacks h.read e)
 
-pub passed_bad : (count : ℕ) (lines left rest : List LineText) (line : LineText) (place : ℕ) (cause : LineCause)
-    → HasPassed count lines left place → left ≡ line ∷ rest
-    → IsFirstCause (StandsOnAttack count place (field_texts line.text)) cause
-    → IsFirstBadLine count lines line.number cause
-passed_bad count lines left rest line place cause h e told =
-    read_bad count lines left rest line h.attacks cause h.read e
-    (subst (λ n. IsFirstCause (StandsOnAttack count n (field_texts line.text)) cause) h.long told)
+pub passed_bad : (count : ℕ) (lines left : List LineText) (place number : ℕ) (cause : LineCause)
+    → HasPassed count lines left place → IsNextFault count place left number cause
+    → IsFirstBadLine count lines number cause
+passed_bad count lines left place number cause h bad =
+    next_bad count place lines left h.attacks number cause h.read h.long bad

@@ -1,5 +1,5 @@
 -- A text that was written reads as the framework that it was written of.
-use Rattle.std.proofs.Common.{◌≡◌, ℕ, ◌+◌, ◌*◌, ◌<◌, ◌≤◌, ◌==◌, true, false, not, List, [], ◌∷◌, ◌++◌, length, take, drop, get_or, filter, refl, sym, ap, subst, ◌∙◌, arith}
+use Rattle.std.proofs.Common.{◌≡◌, ℕ, ◌+◌, ◌*◌, ◌<◌, ◌≤◌, ◌==◌, false, not, List, [], ◌∷◌, ◌++◌, length, take, drop, get_or, filter, refl, sym, ap, subst, ◌∙◌, arith}
 use Rattle.std.specs.Prelude.{Contains, codes, All}
 use Rattle.std.specs.List.{AllZip, flat_map, position_or_len, range_with_len}
 use Rattle.std.specs.Fmt.{decimal}
@@ -9,11 +9,12 @@ use Rattle.std.proofs.lemmas.List.Elements.{All-nil, All-cons, All-head, All-tai
 use Rattle.std.proofs.lemmas.List.Splits.{slice_split_none, slice_split_at}
 use Rattle.std.proofs.lemmas.List.FromFn.{length-range_with_len, get_or-range_with_len}
 use Rattle.std.proofs.lemmas.Slice.Zip.{AllZip-long}
-use Rattle.std.proofs.lemmas.Bool.{cond-true, ne_eqb, not_from_false}
+use Rattle.std.proofs.lemmas.Bool.{cond-true, not_from_false}
 use Rattle.std.proofs.Math.Seq.{take-append_seam, drop-append-add}
 use Rattle.num_text.specs.Cuts.{LineText, is_line_end, is_blank, field_texts, lines_from, lines_of}
 use Rattle.num_text.specs.Number.{IsDigit}
 use Rattle.num_text.proofs.Decimals.{decimal_number}
+use Rattle.num_text.proofs.PairLemmas.{digit_no_end, no_blanks, not_empty, two_texts, digits_say}
 use Rattle.num_text.proofs.CutLemmas.{lines_from-nil, lines_from-first}
 use Rattle.meaning_atoms.specs.Framework.{Af, IsAf}
 use Rattle.num_text.specs.Lines.{are_skipped, kept}
@@ -24,36 +25,10 @@ use Rattle.num_text.proofs.KeptLines.{kept-nil, kept-keeps}
 
 -- ---- digits
 
-digit_no_blank : (byte : ℕ) → IsDigit byte → is_blank byte ≡ false
-digit_no_blank byte h =
-    let low = h.low in
-    let space = ne_eqb byte 32 (λ e. omega arith) in
-    let tab = ne_eqb byte 9 (λ e. omega arith) in
-    let cr = ne_eqb byte 13 (λ e. omega arith) in
-    rw (space, tab, cr) refl
-
-no_blanks : (ds : List ℕ) → All IsDigit ds → All (λ byte. is_blank byte ≡ false) ds
-no_blanks ds all = λ k d within. digit_no_blank (get_or ds k d) (all k d within)
-
-digit_no_end : (byte : ℕ) → IsDigit byte → is_line_end byte ≡ false
-digit_no_end byte h = let low = h.low in ne_eqb byte 10 (λ e. omega arith)
-
 no_ends : (ds : List ℕ) → All IsDigit ds → All (λ byte. is_line_end byte ≡ false) ds
 no_ends ds all = λ k d within. digit_no_end (get_or ds k d) (all k d within)
 
 -- ---- fields
-
-not_empty : (piece : List ℕ) → 0 < length piece → not (length piece == 0) ≡ true
-not_empty piece some = not_from_false _ (ne_eqb (length piece) 0 (λ z. omega arith))
-
-two_texts : (a b : List ℕ) → All IsDigit a → All IsDigit b → 0 < length a → 0 < length b
-    → field_texts (a ++ 32 ∷ b) ≡ a ∷ b ∷ []
-unfolding field_texts
-two_texts a b da db some_a some_b =
-    ap (λ pieces. filter (λ piece. not (length piece == 0)) pieces)
-    (slice_split_at is_blank a 32 b (no_blanks a da) refl
-    ∙ ap (λ left. a ∷ left) (slice_split_none is_blank b (no_blanks b db)))
-    ∙ cond-true _ _ _ (not_empty a some_a) ∙ ap (λ left. a ∷ left) (cond-true _ _ _ (not_empty b some_b))
 
 header_texts : (d : List ℕ) → All IsDigit d → 0 < length d
     → field_texts (codes "p af " ++ d) ≡ codes "p" ∷ codes "af" ∷ d ∷ []
@@ -123,12 +98,6 @@ record IsPair (count : ℕ) (p : ℕ × ℕ) : Type 0 where
   high : p.0 ≤ count
   target_low : 1 ≤ p.1
   target_high : p.1 ≤ count
-
-digits_say : (a : List ℕ) (more : List (List ℕ)) → All IsDigit a → 0 < length a → are_skipped (a ∷ more) ≡ false
-digits_say a more digits some =
-    let first = digits 0 0 some in
-    let low = first.low in
-    ne_eqb (get_or a 0 0) 35 (λ e. omega arith)
 
 attack_lines : (count number start : ℕ) (attacks : List (ℕ × ℕ)) → All (IsPair count) attacks
     → AllZip (λ line attack. IsAttackLine count line.text attack)

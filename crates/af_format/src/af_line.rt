@@ -3,7 +3,7 @@
 ghost use Rattle.std.specs.Prelude.{◌≡◌, ℕ, ◌≤◌, ◌<◌, ◌∷◌, [], List, IfOk, IfErr, IfSome, IfNone, codes, ◌⊎◌};
 ghost use Rattle.std.specs.Bool.{OnTrue, OnFalse};
 ghost use Rattle.num_text.specs.Cuts.{field_texts};
-ghost use Rattle.af_format.specs.AfText.{IsHeader, IsArgument, IsAttackLine};
+ghost use Rattle.af_format.specs.AfText.{IsHeader, IsArgument, IsAttackLine, TellsNumbers};
 ghost use Rattle.af_format.specs.Causes.{IsFirstCause};
 ghost use Rattle.af_format.specs.Faults.{StandsOnHeader, StandsOnAttack};
 
@@ -65,13 +65,27 @@ pub(crate) fn attack_of(line: &Line<'_>, count: u32, place: usize) -> Result<(u3
     let Some(target) = decimal(second) else {
         return Err(LineCause::BadNumber);
     };
-    if !is_argument(attacker, count) || !is_argument(target, count) {
+    within_limits((attacker, target), count, place)
+}
+
+/// The attack of two numbers that a line tells, where place attack lines stand before it.
+pub(crate) fn within_limits(
+    attack: (u32, u32),
+    count: u32,
+    place: usize,
+) -> Result<(u32, u32), LineCause>
+    ensures ok { IfOk result (λ r. (line : List ℕ) → TellsNumbers line attack → IsAttackLine count line r) }
+    ensures few { IfOk result (λ _. place < 10000000) }
+    ensures err { IfErr result (λ e. (line : List ℕ) → TellsNumbers line attack
+        → IsFirstCause (StandsOnAttack count place (field_texts line)) e) }
+{
+    if !is_argument(attack.0, count) || !is_argument(attack.1, count) {
         return Err(LineCause::OutOfRange);
     }
     if place >= MOST_ATTACKS {
         return Err(LineCause::TooManyLines);
     }
-    Ok((attacker, target))
+    Ok(attack)
 }
 
 // Whether the number is from 1 to n.

@@ -11,12 +11,12 @@ ghost use Rattle.af_format.specs.Faults.{IsFirstFault, IsFaultless};
 ghost use Rattle.af_format.specs.FirstBadLine.{AreSomeAttacks, IsFirstBadLine};
 ghost use Rattle.af_format.specs.declared.fault.ReadFault.TheVariants.{Memory as refused};
 
-use crate::af_line::attack_of;
 use crate::fault::{LineFault, ReadFault};
+use crate::next_attack::next_attack;
 use crate::read::{read_af, read_header};
 use crate::write::write_af;
 use dung_notions::AfPlain;
-use num_text::{Lines, lines, next_kept};
+use num_text::{Lines, lines};
 use std::alloc::Global;
 
 /// A text reads as one framework alone, and then has no fault. It does nothing; its contract is the law.
@@ -54,16 +54,8 @@ fn attacks_or_fault(mut left: Lines<'_>, count: u32) -> Result<(), LineFault>
     ensures fault { IfErr result (λ fault. IsFirstBadLine count (kept left.entry) fault.line fault.cause) }
 {
     let mut place = 0;
-    while let Some(line) = next_kept(&mut left) {
-        match attack_of(&line, count, place) {
-            Ok(_attack) => place += 1,
-            Err(cause) => {
-                return Err(LineFault {
-                    line: line.number,
-                    cause,
-                });
-            }
-        }
+    while let Some(_attack) = next_attack(&mut left, count, place)? {
+        place += 1;
     }
     Ok(())
 }

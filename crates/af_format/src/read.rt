@@ -10,9 +10,10 @@ ghost use Rattle.dung_notions.specs.Solid.{IsSolid};
 ghost use Rattle.meaning_atoms.specs.Framework.{Af};
 ghost use Rattle.af_format.specs.FirstBadLine.{BeginWithHeader, IsFirstBadLine};
 
-use crate::af_line::{attack_of, header_of};
+use crate::af_line::header_of;
 use crate::fault::{LineCause, LineFault, ReadFault};
 use crate::lines::line_count;
+use crate::next_attack::next_attack;
 use dung_notions::AfPlain;
 use num_text::{Lines, lines, next_kept};
 use plain_lists::{Items, Memory};
@@ -62,7 +63,7 @@ pub(crate) fn read_header(bytes: &[u8], left: &mut Lines<'_>) -> Result<u32, Lin
     }
 }
 
-#[tactic(auto, using(crate::proofs::Reading::read_none, crate::proofs::Reading::read_more, crate::proofs::Reading::read_all, crate::proofs::Reading::read_bad,))]
+#[tactic(auto, using(crate::proofs::Reading::read_none, crate::proofs::Reading::read_all,))]
 // The attacks of all lines that are left and not skipped, in their order.
 fn read_attacks(
     alloc: Global,
@@ -74,17 +75,8 @@ fn read_attacks(
         (λ e. IfLine e (λ fault. IsFirstBadLine count (kept left.entry) fault.line fault.cause)) }
 {
     let mut attacks = Items::new(alloc);
-    while let Some(line) = next_kept(&mut left) {
-        match attack_of(&line, count, attacks.len()) {
-            Ok(attack) => attacks.push(attack)?,
-            Err(cause) => {
-                let fault = LineFault {
-                    line: line.number,
-                    cause,
-                };
-                return Err(ReadFault::Line(fault));
-            }
-        }
+    while let Some(attack) = next_attack(&mut left, count, attacks.len())? {
+        attacks.push(attack)?;
     }
     Ok(attacks)
 }

@@ -19,7 +19,7 @@ use Rattle.num_text.proofs.NumberLemmas.{digits_value-take-le, digits_value_more
 not_digit : (byte : ℕ) → byte < 48 → IsDigit byte → ⊥
 not_digit byte low digit = absurd (omega (arith, digit.low))
 
-pub digit_no_blank : (byte : ℕ) → IsDigit byte → is_blank byte ≡ false
+digit_no_blank : (byte : ℕ) → IsDigit byte → is_blank byte ≡ false
 digit_no_blank byte h =
     let low = h.low in
     let space = ne_eqb byte 32 (λ e. omega arith) in
@@ -30,7 +30,7 @@ digit_no_blank byte h =
 pub no_blanks : (ds : List ℕ) → All IsDigit ds → All (λ byte. is_blank byte ≡ false) ds
 no_blanks ds all = λ k d within. digit_no_blank (get_or ds k d) (all k d within)
 
-digit_no_end : (byte : ℕ) → IsDigit byte → is_line_end byte ≡ false
+pub digit_no_end : (byte : ℕ) → IsDigit byte → is_line_end byte ≡ false
 digit_no_end byte h = let low = h.low in ne_eqb byte 10 (λ e. omega arith)
 
 -- ---- leading numbers

@@ -1,16 +1,19 @@
-use Rattle.num_text.specs.Views.{line_text}
+use Rattle.std.proofs.Common.{subst, rules}
+use Rattle.std.specs.Prelude.{IfSome}
 use Rattle.num_text.specs.Lines.{kept}
-use Rattle.af_format.proofs.Readings.{passed_more, passed_bad}
+use Rattle.af_format.specs.FirstBadLine.{TellsNext}
+use Rattle.af_format.proofs.Readings.{passed_next, passed_bad}
 use Rattle.af_format.proofs.laws.attacks_or_fault.Goals as goal
 
-pub loop-line-preserved : goal.loop-line-preserved
-loop-line-preserved c =
-    passed_more c.args.count (kept c.args.left) (kept c.loop-line.left) (kept c.next_kept.new.lines)
-    (line_text c.in-Some.line) c.loop-line.place _ c.loop-line.invariant c.in-Some.ensures.some
-    c.in-Ok.ensures.ok c.in-Ok.ensures.few
+pub loop-attack-preserved : goal.loop-attack-preserved
+loop-attack-preserved c =
+    let next = subst (λ o. IfSome o (TellsNext c.args.count c.loop-attack.place (kept c.loop-attack.left)
+    (kept c.next_attack.new.left))) c.in-Some.is c.in_ok-_attack.ensures.next in
+    passed_next c.args.count (kept c.args.left) (kept c.loop-attack.left) (kept c.next_attack.new.left)
+    c.loop-attack.place c.in-Some._attack c.loop-attack.invariant next
 
-pub returns-in-Err-clause-fault : goal.returns-in-Err-clause-fault
-returns-in-Err-clause-fault c =
-    passed_bad c.args.count (kept c.args.left) (kept c.loop-line.left) (kept c.next_kept.new.lines)
-    (line_text c.in-Some.line) c.loop-line.place c.in-Err.cause c.loop-line.invariant c.in-Some.ensures.some
-    c.in-Err.ensures.err
+pub returns-in_err-_attack-clause-fault : goal.returns-in_err-_attack-clause-fault
+returns-in_err-_attack-clause-fault c =
+    let bad = passed_bad c.args.count (kept c.args.left) (kept c.loop-attack.left) c.loop-attack.place _ _
+    c.loop-attack.invariant c.in_err-_attack.ensures.fault in
+    search (rules, bad)

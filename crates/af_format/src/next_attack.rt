@@ -1,0 +1,46 @@
+//! The attack lines of a text, one after the other.
+
+ghost use Rattle.std.specs.Prelude.{◌≡◌, ℕ, [], IfOk, IfErr, IfSome, IfNone, Ok, Err, Some};
+ghost use Rattle.num_text.specs.Lines.{kept};
+ghost use Rattle.af_format.specs.FirstBadLine.{TellsNext, IsNextFault};
+
+use crate::af_line::{attack_of, within_limits};
+use crate::fault::{LineCause, LineFault};
+use num_text::{Lines, next_kept, next_pair};
+
+/// The attack of the next line that is not skipped, where place attack lines stand before it; `None` where no
+/// such line is left. A line of two numbers with one space between them is read in one pass over its bytes.
+pub(crate) fn next_attack(
+    left: &mut Lines<'_>,
+    count: u32,
+    place: usize,
+) -> Result<Option<(u32, u32)>, LineFault>
+    ensures next { IfOk result (λ next. IfSome next (TellsNext count place (kept left.old) (kept left.new))) }
+    ensures end { IfOk result (λ next. IfNone next (kept left.old ≡ [])) }
+    ensures fault { IfErr result (λ fault. IsNextFault count place (kept left.old) fault.line fault.cause) }
+{
+    if let Some(pair) = next_pair(left) {
+        return at_line(
+            pair.line,
+            within_limits((pair.first, pair.second), count, place),
+        );
+    }
+    match next_kept(left) {
+        Some(line) => at_line(line.number, attack_of(&line, count, place)),
+        None => Ok(None),
+    }
+}
+
+// What a line of that number tells.
+fn at_line(
+    line: usize,
+    told: Result<(u32, u32), LineCause>,
+) -> Result<Option<(u32, u32)>, LineFault>
+    ensures ok { IfOk told (λ attack. result ≡ Ok (Some attack)) }
+    ensures err { IfErr told (λ cause. result ≡ Err (record { line = line; cause = cause })) }
+{
+    match told {
+        Ok(attack) => Ok(Some(attack)),
+        Err(cause) => Err(LineFault { line, cause }),
+    }
+}
