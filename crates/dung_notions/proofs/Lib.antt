@@ -7,3 +7,4 @@ pub mod Kept
 pub mod NotionLemmas
 pub mod Numbering
 pub mod Placing
+pub mod Tables

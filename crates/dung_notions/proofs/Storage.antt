@@ -27,7 +27,7 @@ pub turned_below : (xs : List (ℕ × ℕ)) (P : ℕ → Type 0) → ((b a : ℕ
 turned_below xs P h p c = h p.1 p.0 ((Contains-turned xs (turned p)).0 c)
 
 pub stores : (live : List ℕ) (given attacks back : List (ℕ × ℕ)) (starts ends : List ℕ) (size : ℕ)
-    → IsStrictlyIncreasing live → ((a : ℕ) → Contains live a → a < size) → length starts ≡ size + 1
+    → IsStrictlyIncreasing live → ((a : ℕ) → Contains live a → a < size) → length ends ≡ size + 1
     → ((b a : ℕ) → Contains given (b, a) → Contains live b × Contains live a)
     → AreArrows attacks starts → ((p : ℕ × ℕ) → Contains attacks p ↔ Contains given p)
     → AreArrows back ends → ((p : ℕ × ℕ) → Contains back (turned p) ↔ Contains attacks p)

@@ -1,10 +1,10 @@
 -- Counts over a list of attacks.
-use Rattle.std.proofs.Common.{◌≡◌, ℕ, ◌+◌, ◌<◌, ◌≤◌, List, [], ◌∷◌, length, get_or, set, take, replicate, arith, ap, sym, ◌∙◌, refl, cond, eqb, not, ◌&&◌, Bool, true, false, ⊎_elim}
+use Rattle.std.proofs.Common.{◌≡◌, ℕ, ◌+◌, ◌<◌, ◌≤◌, List, [], ◌∷◌, length, get_or, set, replicate, arith, sym, ◌∙◌, refl, cond, eqb, not, ◌&&◌, Bool, true, false, ⊎_elim}
 use Rattle.std.specs.Prelude.{Contains, filter, All, count_by}
 use Rattle.std.proofs.lemmas.Bool.{eq-eqb, ne_eqb, cases_eq, cases_Bool}
 use Rattle.std.proofs.lemmas.List.{get_or-set_same, get_or-set_other, get_or-replicate}
 use Rattle.std.proofs.lemmas.List.Elements.{All-head, All-tail}
-use Rattle.std.proofs.lemmas.List.Sums.{sum_by-cons, get_or-le-sum_by, count_by_more_yes, count_by_more_no}
+use Rattle.std.proofs.lemmas.List.Sums.{sum_by-cons, get_or-le-sum_by}
 use Rattle.dung_notions.specs.Search.{is_out, open_attackers, reaching}
 
 -- one more element in front
@@ -109,19 +109,3 @@ reaching_here p ps = count_yes (λ (q : ℕ × ℕ). eqb q.1 p.1) p ps (eq-eqb p
 pub reaching_else : (p : ℕ × ℕ) (ps : List (ℕ × ℕ)) (a : ℕ) → (a ≡ p.1 → ⊥)
     → reaching a (p ∷ ps) ≡ reaching a ps
 reaching_else p ps a ne = count_no (λ (q : ℕ × ℕ). eqb q.1 a) p ps (ne_eqb p.1 a (λ e. ne (sym e)))
-
--- one attack more is counted at its target
-pub tally_more : (attacks : List (ℕ × ℕ)) (counts : List ℕ) (i : ℕ) → i < length attacks
-    → (get_or attacks i (0, 0)).1 < length counts
-    → ((a : ℕ) → get_or counts a 0 ≡ reaching a (take i attacks))
-    → (a : ℕ) → get_or (set counts (get_or attacks i (0, 0)).1
-    (get_or counts (get_or attacks i (0, 0)).1 0 + 1)) a 0 ≡ reaching a (take (i + 1) attacks)
-tally_more attacks counts i lt small h a = ⊎_elim
-    (λ (e : a ≡ (get_or attacks i (0, 0)).1).
-    rw e (get_or-set_same counts _ _ 0 small ∙ ap (λ n. n + 1) (h (get_or attacks i (0, 0)).1)
-    ∙ sym (count_by_more_yes (λ (p : ℕ × ℕ). eqb p.1 (get_or attacks i (0, 0)).1) attacks i (0, 0) lt
-    (eq-eqb _ _ refl))))
-    (λ ne. get_or-set_other counts _ a _ 0 ne ∙ h a
-    ∙ sym (count_by_more_no (λ (p : ℕ × ℕ). eqb p.1 a) attacks i (0, 0) lt
-    (ne_eqb _ _ (λ e. ne (sym e)))))
-    (cases_eq a (get_or attacks i (0, 0)).1)

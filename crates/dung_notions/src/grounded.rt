@@ -1,10 +1,10 @@
 //! The grounded set, by a search that meets each attack once.
 
-ghost use Rattle.std.specs.Prelude.{◌≡◌, ◌↔◌, ℕ, ◌+◌, ◌<◌, ◌≤◌, ◌==◌, []};
-ghost use Rattle.std.specs.Prelude.{Contains, IfOk, OnOk, length, filter, slice_index, slice_index_or, true};
+ghost use Rattle.std.specs.Prelude.{◌≡◌, ℕ, ◌<◌, ◌==◌, []};
+ghost use Rattle.std.specs.Prelude.{Contains, IfOk, OnOk, length, filter, slice_index};
 ghost use Rattle.meaning_atoms.specs.Framework.{Attacks, IsAttackedBy};
 ghost use Rattle.dung_notions.specs.Grounding.{GroundsInOrder};
-ghost use Rattle.dung_notions.specs.Search.{IsKept, ClosesAttack, PutsOut, IsFinished, reaching};
+ghost use Rattle.dung_notions.specs.Search.{IsKept, ClosesAttack, PutsOut, IsFinished};
 
 use crate::af_plain::AfPlain;
 use plain_lists::{Items, Memory};
@@ -67,9 +67,8 @@ impl AfPlain {
     fn begin(&self, alloc: Global) -> Result<Search, Memory>
         ensures { IfOk result (λ s. IsKept self.now s.order.items s.out.items s.counts.items []) }
     {
-        let slots = self.slots();
-        let out = vec![in alloc; false; slots]?;
-        let counts = attacker_counts(alloc, self.attacks(), slots)?;
+        let counts = self.attacker_counts(alloc)?;
+        let out = vec![in alloc; false; counts.len()]?;
         let order = unopposed(alloc, self.live(), &counts)?;
         Ok(Search { out, counts, order })
     }
@@ -129,25 +128,6 @@ fn close_attack(search: &mut Search, argument: u32) -> Result<(), Memory>
     }
     search.order.push(argument)?;
     Ok(())
-}
-
-/// How many of the attacks reach each argument.
-fn attacker_counts(
-    alloc: Global,
-    attacks: &[(u32, u32)],
-    slots: usize,
-) -> Result<Vec<usize>, Memory>
-    requires { (b a : ℕ) → Contains attacks.now (b, a) → a < slots }
-    ensures long { IfOk result (λ counts. length counts.items ≡ slots) }
-    ensures counted { IfOk result (λ counts. (a : ℕ) → slice_index counts.items a ≡ reaching a attacks.now) }
-{
-    let mut counts = vec![in alloc; 0usize; slots]?;
-    for pair in attacks {
-        let at = pair.1 as usize;
-        let had = counts.as_slice()[at];
-        counts[at] = had + 1;
-    }
-    Ok(counts)
 }
 
 /// The live arguments whose count is 0.
