@@ -1,13 +1,14 @@
 -- The steps of a search for the grounded set, over plain lists.
-use Rattle.std.proofs.Common.{◌≡◌, ℕ, ◌+◌, ◌-◌, ◌<◌, ◌≤◌, List, [], ◌∷◌, ◌++◌, length, get_or, set, replicate, arith, ap, subst, sym, ◌∙◌, refl, eqb, not, ◌&&◌, Bool, true, false, inl, inr, ⊎_elim}
+use Rattle.std.proofs.Common.{◌≡◌, ℕ, ◌+◌, ◌-◌, ◌<◌, ◌≤◌, List, [], ◌∷◌, ◌++◌, length, drop, get_or, set, replicate, arith, ap, subst, sym, ◌∙◌, refl, eqb, not, ◌&&◌, Bool, true, false, inl, inr, ⊎_elim}
 use Rattle.std.specs.Prelude.{◌⊎◌, ◌↔◌, Contains, filter, All, sum}
 use Rattle.std.specs.List.Sorted.{IsStrictlyIncreasing}
 use Rattle.std.proofs.lemmas.Bool.{eq-eqb, ne_eqb, eqb-true, cases_eq, cases_lt, both_ways, not-false, and_cases}
-use Rattle.std.proofs.lemmas.List.{length-set, length-replicate, length-append, length_push, get_or-set_same, get_or-set_other, get_or-replicate, get_or_push, get_or_append_left, get_or_default, take_at, take-append-le, append_assoc, append-nil}
-use Rattle.std.proofs.lemmas.List.Elements.{Contains-append_left, Contains-push, Contains-push_cases, Contains-get_or}
+use Rattle.std.proofs.lemmas.List.{length-set, length-replicate, length-append, length_push, get_or-set_same, get_or-set_other, get_or-replicate, get_or_push, get_or_append_left, get_or_default, take_at, take-append-le, append_assoc, append-nil, drop_more}
+use Rattle.std.proofs.lemmas.List.Elements.{Contains-append_cases, Contains-append_left, Contains-push, Contains-push_cases, Contains-get_or}
 use Rattle.std.proofs.lemmas.List.Kept.{AllPairs-from_increasing, IsStrictlyIncreasing-filter}
 use Rattle.std.proofs.lemmas.List.Sums.{sum_by-set}
 use Rattle.plain_lists.specs.Members.{IsWithin}
+use Rattle.plain_lists.proofs.Membership.{Contains-head, Contains-tail}
 use Rattle.meaning_atoms.specs.Framework.{Af, IsAf, Attacks, IsAttackedBy, Defends}
 use Rattle.dung_notions.specs.Grounding.{EntersAfterDefenders, GroundsInOrder}
 use Rattle.dung_notions.specs.Search.{
@@ -18,6 +19,7 @@ use Rattle.dung_notions.specs.Search.{
   IsKept,
   ClosesAttack,
   Grows,
+  IsAttackedFrom,
   PutsOut,
   IsFinished,
 }
@@ -30,6 +32,7 @@ use Rattle.dung_notions.proofs.Tallies.{
   open_when_marked,
   reaching_here,
   reaching_else,
+  reaching_both,
   and_false,
 }
 
@@ -99,26 +102,34 @@ begins f n counts order af below long counted e =
             within in omega (arith, up, same);
       };
       members = in_order;
+      pending = λ p c. absurd (omega (arith, c.1));
     }
 
 -- an argument that the set attacks is put out, and the attacks that leave it are to be taken off
-pub marks : (f : Af) (order : List ℕ) (out : List Bool) (counts : List ℕ) (b : ℕ)
-    → IsKept f order out counts [] → b < length out
+pub marks : (f : Af) (order : List ℕ) (out : List Bool) (counts : List ℕ) (rest : List (ℕ × ℕ)) (b : ℕ)
+    → IsKept f order out counts rest → b < length out
     → is_out out b ≡ false → IsAttackedBy f order b
-    → IsKept f order (set out b true) counts (filter (λ p. eqb p.0 b) f.attacks)
-marks f order out counts b h lt fresh att =
+    → IsKept f order (set out b true) counts (rest ++ filter (λ p. eqb p.0 b) f.attacks)
+marks f order out counts rest b h lt fresh att =
     let wide : length (set out b true) ≡ length out = length-set out b true in
     record {
       wide = λ a c. rw wide (h.wide a c);
       long = rw wide h.long;
-      counted = λ a small. omega
-          (arith, h.counted a (omega (arith, wide, small)), open_when_marked out b a f.attacks lt fresh);
+      counted = λ a small. omega (
+        arith,
+        h.counted a (omega (arith, wide, small)),
+        open_when_marked out b a f.attacks lt fresh,
+        reaching_both a rest (filter (λ p. eqb p.0 b) f.attacks),
+      );
       attacked = λ x small yes'. ⊎_elim (λ (e : x ≡ b). rw e att)
           (λ ne. h.attacked x (omega (arith, wide, small)) (sym (get_or-set_other out b x true true ne)
           ∙ yes')) (cases_eq x b);
       entered = h.entered;
       once = h.once;
       members = h.members;
+      pending = λ p c. ⊎_elim (λ old. h.pending p old)
+          (λ new. ((Contains-filter (λ (p : ℕ × ℕ). eqb p.0 b) f.attacks p).0 new).0)
+          (Contains-append_cases rest (filter (λ p. eqb p.0 b) f.attacks) p c);
     }
 
 -- one more member, which the set defends
@@ -219,6 +230,7 @@ closes_last f af order out counts p rest h live last =
             λ w. more x ((h.members x).1 (w.0, sym same ∙ w.1)),
           ))
           (cases_eq x p.1);
+      pending = λ q c. h.pending q (Contains-tail p rest q c);
     }
 
 -- another open attack on the argument is left
@@ -249,6 +261,7 @@ closes_other f order out counts p rest h live left =
           (λ ne. let same = other_count counts p.1 (get_or counts p.1 0 - 1) x ne in
           (λ c. let w = (h.members x).0 c in (w.0, same ∙ w.1), λ w. (h.members x).1 (w.0, sym same ∙ w.1)))
           (cases_eq x p.1);
+      pending = λ q c. h.pending q (Contains-tail p rest q c);
     }
 
 pub closes : (f : Af) → IsAf f
@@ -263,6 +276,27 @@ closes f af order order' out counts counts' p rest h live step = ⊎_elim
     ∙ rw (ne_eqb (get_or counts p.1 0) 1 left) refl in rw (is, step.counts_is)
     (closes_other f order out counts p rest h live left))
     (cases_eq (get_or counts p.1 0) 1)
+
+-- the next of the attacks that are to be taken off
+next_live : (f : Af) → IsAf f → (order : List ℕ) (out : List Bool) (counts : List ℕ) (p : ℕ × ℕ) (rest : List (ℕ × ℕ))
+    → IsKept f order out counts (p ∷ rest) → Contains f.live p.1
+next_live f af order out counts p rest h = (af.ends p.0 p.1 (h.pending p (Contains-head p rest p refl))).1
+
+pub next_counts : (f : Af) → IsAf f → (order : List ℕ) (out : List Bool) (counts : List ℕ) (rest : List (ℕ × ℕ)) (i : ℕ)
+    → IsKept f order out counts (drop i rest) → i < length rest
+    → ((get_or rest i (0, 0)).1 < length counts) × (0 < get_or counts (get_or rest i (0, 0)).1 0)
+next_counts f af order out counts rest i h lt =
+    let kept = rw (drop_more rest i (0, 0) lt) at h in
+    let wide = kept.wide _ (next_live f af order out counts _ _ kept) in
+    (omega (arith, wide, kept.long), counts_it f order out counts _ _ kept wide)
+
+pub next_closes : (f : Af) → IsAf f → (order : List ℕ) (out : List Bool) (counts : List ℕ) (rest : List (ℕ × ℕ)) (i : ℕ)
+    (order' counts' : List ℕ) → IsKept f order out counts (drop i rest) → i < length rest
+    → ClosesAttack (get_or rest i (0, 0)).1 order counts order' counts'
+    → IsKept f order' out counts' (drop (i + 1) rest)
+next_closes f af order out counts rest i order' counts' h lt step =
+    let kept = rw (drop_more rest i (0, 0) lt) at h in
+    closes f af order order' out counts counts' _ _ kept (next_live f af order out counts _ _ kept) step
 
 -- an order grows from itself, in two steps, and by one attack taken off
 pub grows_not : (order counts : List ℕ) → Grows order counts order counts
@@ -302,59 +336,48 @@ pub grown : (o c o' c' : List ℕ) → Grows o c o' c' → IsWithin o o'
 grown o c o' c' g x h = rw g.is (Contains-append_left o g.more x h)
 
 -- an argument that is out already
-pub puts_nothing : (f : Af) (order : List ℕ) (out : List Bool) (counts : List ℕ) (a : ℕ)
-    → IsKept f order out counts [] → is_out out a ≡ true
-    → PutsOut f (λ b. b ≡ a) order out counts order out counts
-puts_nothing f order out counts a h gone = record {
+pub puts_nothing : (f : Af) (order : List ℕ) (out : List Bool) (counts : List ℕ) (rest : List (ℕ × ℕ)) (a : ℕ)
+    → IsKept f order out counts rest → is_out out a ≡ true
+    → PutsOut f (λ b. b ≡ a) order out counts out rest
+puts_nothing f order out counts rest a h gone = record {
   kept = h;
-  grows = grows_not order counts;
   stays = λ b was. was;
   struck = λ b e. rw e gone;
 }
 
--- an argument that is put out, with all its attacks taken off
-pub puts_one : (f : Af) (order : List ℕ) (out : List Bool) (counts : List ℕ) (order' : List ℕ)
-    (out' : List Bool) (counts' : List ℕ) (a : ℕ)
-    → a < length out → out' ≡ set out a true → IsKept f order' out' counts' []
-    → Grows order counts order' counts'
-    → PutsOut f (λ b. b ≡ a) order out counts order' out' counts'
-puts_one f order out counts order' out' counts' a lt is h g = record {
-  kept = h;
-  grows = g;
-  stays = λ b was. rw is
-      (⊎_elim (λ (e : b ≡ a). rw e (get_or-set_same out a true true lt))
-      (λ ne. get_or-set_other out a b true true ne ∙ was) (cases_eq b a));
-  struck = λ b e. rw (is, e) (get_or-set_same out a true true lt);
+-- an argument that is put out
+pub puts_one : (f : Af) (order : List ℕ) (out : List Bool) (counts : List ℕ) (rest : List (ℕ × ℕ)) (a : ℕ)
+    → a < length out → IsKept f order out counts rest → is_out out a ≡ false → IsAttackedBy f order a
+    → PutsOut f (λ b. b ≡ a) order out counts (set out a true) (rest ++ filter (λ p. eqb p.0 a) f.attacks)
+puts_one f order out counts rest a lt h fresh att = record {
+  kept = marks f order out counts rest a h lt fresh att;
+  stays = λ b was. ⊎_elim (λ (e : b ≡ a). rw e (get_or-set_same out a true true lt))
+      (λ ne. get_or-set_other out a b true true ne ∙ was) (cases_eq b a);
+  struck = λ b e. rw e (get_or-set_same out a true true lt);
 }
 
-pub puts_none : (f : Af) (P : ℕ → Type 0) (order : List ℕ) (out : List Bool) (counts : List ℕ)
-    → IsKept f order out counts [] → ((b : ℕ) → P b → ⊥)
-    → PutsOut f P order out counts order out counts
-puts_none f P order out counts h none = record {
+pub puts_none : (f : Af) (P : ℕ → Type 0) (order : List ℕ) (out : List Bool) (counts : List ℕ) (rest : List (ℕ × ℕ))
+    → IsKept f order out counts rest → ((b : ℕ) → P b → ⊥)
+    → PutsOut f P order out counts out rest
+puts_none f P order out counts rest h none = record {
   kept = h;
-  grows = grows_not order counts;
   stays = λ b was. was;
   struck = λ b p. absurd (none b p);
 }
 
-pub puts_then : (f : Af) (P Q : ℕ
-    → Type 0) (a : ℕ) (o : List ℕ) (t : List Bool) (c o' : List ℕ) (t' : List Bool) (c' o'' : List ℕ)
-    (t'' : List Bool) (c'' : List ℕ)
-    → PutsOut f P o t c o' t' c' → PutsOut f (λ b. b ≡ a) o' t' c' o'' t'' c''
-    → ((b : ℕ) → Q b → P b ⊎ (b ≡ a)) → PutsOut f Q o t c o'' t'' c''
-puts_then f P Q a o t c o' t' c' o'' t'' c'' g h q = record {
+pub puts_then : (f : Af) (P Q R : ℕ → Type 0) (o : List ℕ) (c : List ℕ) (t t' t'' : List Bool) (r r' : List (ℕ × ℕ))
+    → PutsOut f P o t c t' r → PutsOut f R o t' c t'' r'
+    → ((b : ℕ) → Q b → P b ⊎ R b) → PutsOut f Q o t c t'' r'
+puts_then f P Q R o c t t' t'' r r' g h q = record {
   kept = h.kept;
-  grows = grows_twice o c o' c' o'' c'' g.grows h.grows;
   stays = λ b was. h.stays b (g.stays b was);
   struck = λ b at. ⊎_elim (λ p. h.stays b (g.struck b p)) (λ e. h.struck b e) (q b at);
 }
 
-pub puts_weaker : (f : Af) (P Q : ℕ → Type 0) (o : List ℕ) (t : List Bool) (c o' : List ℕ) (t' : List Bool)
-    (c' : List ℕ)
-    → PutsOut f P o t c o' t' c' → ((b : ℕ) → Q b → P b) → PutsOut f Q o t c o' t' c'
-puts_weaker f P Q o t c o' t' c' g q = record {
+pub puts_weaker : (f : Af) (P Q : ℕ → Type 0) (o : List ℕ) (t : List Bool) (c : List ℕ) (t' : List Bool)
+    (r : List (ℕ × ℕ)) → PutsOut f P o t c t' r → ((b : ℕ) → Q b → P b) → PutsOut f Q o t c t' r
+puts_weaker f P Q o t c t' r g q = record {
   kept = g.kept;
-  grows = g.grows;
   stays = g.stays;
   struck = λ b at. g.struck b (q b at);
 }
@@ -433,22 +456,29 @@ targets_more leaving i b w = ⊎_elim
     (λ (e : w.0 ≡ i). inr (sym w.2 ∙ ap (λ (k : ℕ). (get_or leaving k (0, 0)).1) e))
     (λ ne. inl (w.0, omega (arith, w.1), w.2)) (cases_eq w.0 i)
 
--- one more member of the order has had its targets put out
-pub head_on : (f : Af) (order : List ℕ) (out : List Bool) (counts order' : List ℕ) (out' : List Bool)
-    (counts' : List ℕ) (head : ℕ) → head < length order
+-- one more place of the order
+pub places_more : (f : Af) (order : List ℕ) (head i b : ℕ) → head + i < length order
+    → ((k : ℕ) × (head ≤ k) × (k < head + (i + 1)) × Attacks f (get_or order k 0) b)
+    → ((k : ℕ) × (head ≤ k) × (k < head + i) × Attacks f (get_or order k 0) b) ⊎ Attacks f (get_or order (head + i) 0) b
+places_more f order head i b lt w = ⊎_elim
+    (λ (e : w.0 ≡ head + i). inr (subst (λ (k : ℕ). Attacks f (get_or order k 0) b) e w.3))
+    (λ ne. inl (w.0, w.1, omega (arith, w.2, ne), w.3)) (cases_eq w.0 (head + i))
+
+-- one wave more: the members that stood in the order have had their targets put out
+pub wave_on : (f : Af) (order : List ℕ) (out out' : List Bool) (counts order' counts' : List ℕ) (head : ℕ)
+    (rest : List (ℕ × ℕ))
     → ((k b : ℕ) → k < head → Attacks f (get_or order k 0) b → is_out out b ≡ true)
-    → PutsOut f (Attacks f (get_or order head 0)) order out counts order' out' counts'
-    → (head + 1 ≤ length order') × ((k b : ℕ) → k < head + 1 → Attacks f (get_or order' k 0) b
+    → PutsOut f (IsAttackedFrom f order head) order out counts out' rest → Grows order counts order' counts'
+    → (length order ≤ length order') × ((k b : ℕ) → k < length order → Attacks f (get_or order' k 0) b
     → is_out out' b ≡ true)
-head_on f order out counts order' out' counts' head lt before step =
-    let long : length order' ≡ length order + length step.grows.more = ap length step.grows.is
-    ∙ length-append order step.grows.more in (
+wave_on f order out out' counts order' counts' head rest before step grows =
+    let long : length order' ≡ length order + length grows.more = ap length grows.is
+    ∙ length-append order grows.more in (
       omega (arith, long),
       λ k b near att.
-          let same : get_or order' k 0 ≡ get_or order k 0 = ap (λ (xs : List ℕ). get_or xs k 0) step.grows.is
-          ∙ get_or_append_left order step.grows.more 0 k (omega arith) in
+          let same : get_or order' k 0 ≡ get_or order k 0 = ap (λ (xs : List ℕ). get_or xs k 0) grows.is
+          ∙ get_or_append_left order grows.more 0 k near in
           let here : Attacks f (get_or order k 0) b = subst (λ (x : ℕ). Contains f.attacks (x, b)) same att in
-          ⊎_elim (λ (e : k ≡ head). step.struck b
-          (subst (λ (j : ℕ). Contains f.attacks (get_or order j 0, b)) e here))
-          (λ ne. step.stays b (before k b (omega arith) here)) (cases_eq k head),
+          ⊎_elim (λ early. step.stays b (before k b early here))
+          (λ late. step.struck b (k, late, near, here)) (cases_lt k head),
     )

@@ -1,10 +1,10 @@
 -- Counts over a list of attacks.
-use Rattle.std.proofs.Common.{◌≡◌, ℕ, ◌+◌, ◌<◌, ◌≤◌, List, [], ◌∷◌, length, get_or, set, replicate, arith, sym, ◌∙◌, refl, cond, eqb, not, ◌&&◌, Bool, true, false, ⊎_elim}
+use Rattle.std.proofs.Common.{◌≡◌, ℕ, ◌+◌, ◌<◌, ◌≤◌, List, [], ◌∷◌, ◌++◌, length, get_or, set, replicate, arith, sym, ◌∙◌, refl, cond, eqb, not, ◌&&◌, Bool, true, false, ⊎_elim}
 use Rattle.std.specs.Prelude.{Contains, filter, All, count_by}
 use Rattle.std.proofs.lemmas.Bool.{eq-eqb, ne_eqb, cases_eq, cases_Bool}
 use Rattle.std.proofs.lemmas.List.{get_or-set_same, get_or-set_other, get_or-replicate}
 use Rattle.std.proofs.lemmas.List.Elements.{All-head, All-tail}
-use Rattle.std.proofs.lemmas.List.Sums.{sum_by-cons, get_or-le-sum_by}
+use Rattle.std.proofs.lemmas.List.Sums.{sum_by-cons, sum_by-append, get_or-le-sum_by}
 use Rattle.dung_notions.specs.Search.{is_out, open_attackers, reaching}
 
 -- one more element in front
@@ -109,3 +109,7 @@ reaching_here p ps = count_yes (λ (q : ℕ × ℕ). eqb q.1 p.1) p ps (eq-eqb p
 pub reaching_else : (p : ℕ × ℕ) (ps : List (ℕ × ℕ)) (a : ℕ) → (a ≡ p.1 → ⊥)
     → reaching a (p ∷ ps) ≡ reaching a ps
 reaching_else p ps a ne = count_no (λ (q : ℕ × ℕ). eqb q.1 a) p ps (ne_eqb p.1 a (λ e. ne (sym e)))
+
+-- attacks of two lists
+pub reaching_both : (a : ℕ) (ps qs : List (ℕ × ℕ)) → reaching a (ps ++ qs) ≡ reaching a ps + reaching a qs
+reaching_both a ps qs = sum_by-append (λ (p : ℕ × ℕ). cond (eqb p.1 a) 1 0) ps qs

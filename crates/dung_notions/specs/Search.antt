@@ -28,7 +28,7 @@ use Rattle.std.specs.Prelude.{
   count_by,
   sum,
 }
-use Rattle.meaning_atoms.specs.Framework.{Af, IsAttackedBy, Defends}
+use Rattle.meaning_atoms.specs.Framework.{Af, Attacks, IsAttackedBy, Defends}
 use Rattle.dung_notions.specs.Grounding.{EntersAfterDefenders}
 
 -- no number stands twice in the order
@@ -59,6 +59,7 @@ pub record IsKept (f : Af) (order : List ℕ) (out : List Bool) (counts : List �
   pub entered : EntersAfterDefenders f order
   pub once : IsOnce order
   pub members : (a : ℕ) → Contains order a ↔ (Contains f.live a × (slice_index counts a ≡ 0))
+  pub pending : (p : ℕ × ℕ) → Contains rest p → Contains f.attacks p
 
 -- one attack on `a` is taken off, and `a` enters where that was the last one
 pub record ClosesAttack (a : ℕ) (order counts order' counts' : List ℕ) : Type 0 where
@@ -71,11 +72,14 @@ pub record Grows (order counts order' counts' : List ℕ) : Type 0 where
   pub is : order' ≡ order ++ more
   pub spent : sum counts' + length order' ≤ sum counts + length order
 
--- a search after it has put arguments out, `b` for one
-pub record PutsOut (f : Af) (P : ℕ → Type 0) (order : List ℕ) (out : List Bool) (counts order' : List ℕ)
-    (out' : List Bool) (counts' : List ℕ) : Type 0 where
-  pub kept : IsKept f order' out' counts' []
-  pub grows : Grows order counts order' counts'
+-- an argument is attacked by a member that entered at a place from `head` on
+abbrev pub IsAttackedFrom : Af → List ℕ → ℕ → ℕ → Type 0
+IsAttackedFrom f order head b = (k : ℕ) × (head ≤ k) × (k < length order) × Attacks f (slice_index order k) b
+
+-- a search after it has put out the arguments of which P holds; the attacks of `rest` are still to be taken off
+pub record PutsOut (f : Af) (P : ℕ → Type 0) (order : List ℕ) (out : List Bool) (counts : List ℕ)
+    (out' : List Bool) (rest : List (ℕ × ℕ)) : Type 0 where
+  pub kept : IsKept f order out' counts rest
   pub stays : (b : ℕ) → is_out out b ≡ true → is_out out' b ≡ true
   pub struck : (b : ℕ) → P b → is_out out' b ≡ true
 

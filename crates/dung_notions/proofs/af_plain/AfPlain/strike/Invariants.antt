@@ -5,5 +5,6 @@ use Rattle.dung_notions.proofs.af_plain.AfPlain.strike.Given as goal
 abbrev pub invariant-loop-pair : goal.invariant-loop-pair
 invariant-loop-pair l = PutsOut l.self (λ b. (k : ℕ) × (k < l.pair-index)
     × ((get_or l.leaving k (0, 0)).1 ≡ b))
-    l.initial.search.order.items l.initial.search.out.items l.initial.search.counts.items l.search.order.items
-    l.search.out.items l.search.counts.items
+    l.initial.search.order.items l.initial.search.out.items l.initial.search.counts.items
+    l.search.out.items l.search.pending.items
+    × (l.search.order.items ≡ l.initial.search.order.items) × (l.search.counts.items ≡ l.initial.search.counts.items)
