@@ -1,7 +1,7 @@
 #!/usr/bin/env python3
 """Measures how a log fills: 1,000,000 derived steps of ten literals and five hints each.
 
-It copies the crates to a temporary folder, puts bench/filled_log.rt in place of the tests of hinted_log there, has
+It copies the crates to a temporary folder, puts the filling below in place of the tests of hinted_log there, has
 `rt test` prove and build it (some minutes), runs it, and prints seconds, peak memory and bytes a step.
 
 usage: bench/log.py [--runs K]
@@ -19,6 +19,61 @@ TOP = Path(__file__).resolve().parent.parent
 STEPS = 1_000_000
 NEEDED = ("plain_lists", "plain_lits", "hinted_log")
 
+# It stands here, and not in a file of its own, since `rt ci` refuses a source outside the crates.
+FILLING = """\
+//! A log that is filled with derived steps of ten literals and five hints each.
+
+use crate::{Log, LogFault};
+use plain_lits::{Clause, Lit};
+use std::alloc::Global;
+
+fn yes(var: usize) -> Lit {
+    Lit {
+        var,
+        positive: true,
+    }
+}
+
+fn no(var: usize) -> Lit {
+    Lit {
+        var,
+        positive: false,
+    }
+}
+
+/// A log of five axioms, and so many derived steps that each follow from all five.
+fn filled(alloc: Global, count: u32) -> Result<Log, LogFault> {
+    let mut log = Log::open(alloc, 50_000_000)?;
+    let one = log.axiom(Clause::from_slice(alloc, &[yes(1), yes(11)])?)?;
+    let two = log.axiom(Clause::from_slice(alloc, &[no(11), yes(12)])?)?;
+    let three = log.axiom(Clause::from_slice(alloc, &[no(12), yes(13)])?)?;
+    let four = log.axiom(Clause::from_slice(alloc, &[no(13), yes(14)])?)?;
+    let five = log.axiom(Clause::from_slice(alloc, &[yes(2), no(14)])?)?;
+    let lits = [
+        yes(1),
+        yes(2),
+        yes(3),
+        yes(4),
+        yes(5),
+        yes(6),
+        yes(7),
+        yes(8),
+        yes(9),
+        yes(10),
+    ];
+    let hints = [one, two, three, four, five];
+    for _ in 0..count {
+        log.derive(Clause::from_slice(alloc, &lits)?, &hints)?;
+    }
+    Ok(log)
+}
+
+#[test]
+fn filling(rt: HostRuntime) {
+    assert!(rt; matches!(&filled(rt.alloc(), 1_000_000), Ok(log) if log.len() == 1_000_005));
+}
+"""
+
 
 def copied(folder):
     """A copy of the crates that the log stands on, with the filling in place of the log's tests."""
@@ -30,7 +85,7 @@ def copied(folder):
     (folder / "crates.txt").write_text("\n".join(wanted) + "\n", encoding="utf-8")
     shutil.copy(TOP / "HANDLES", folder / "HANDLES")
     crate = folder / "crates" / "hinted_log"
-    shutil.copy(TOP / "bench" / "filled_log.rt", crate / "src" / "tests.rt")
+    (crate / "src" / "tests.rt").write_text(FILLING, encoding="utf-8")
     shutil.rmtree(crate / "proofs" / "tests", ignore_errors=True)
     return crate
 
