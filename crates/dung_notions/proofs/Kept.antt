@@ -23,7 +23,7 @@ use Rattle.dung_notions.specs.Search.{
   PutsOut,
   IsFinished,
 }
-use Rattle.dung_notions.proofs.Cuts.{Contains-filter}
+use Rattle.plain_lists.proofs.Filters.{Contains-filter}
 use Rattle.dung_notions.proofs.Orders.{member_at, at_member, IsGrounded-order, IsGrounded-same}
 use Rattle.dung_notions.proofs.Tallies.{
   none_passes,
