@@ -60,6 +60,7 @@ impl<'a> Iterator for Lines<'a> {
 
     ghost remaining = { item_count (λ lines. lines) };
 
+    #[inline(always)]
     fn next(&mut self) -> Option<Line<'a>> {
         if self.start >= self.bytes.len() {
             return None;
