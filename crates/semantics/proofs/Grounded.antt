@@ -4,9 +4,9 @@ use Rattle.std.specs.Prelude.{Contains}
 use Rattle.std.proofs.lemmas.List.Elements.{Contains-append_left, Contains-append_right, Contains-append_cases, Contains-push_cases}
 use Rattle.plain_lists.specs.Members.{IsWithin}
 use Rattle.plain_lists.proofs.Membership.{Contains-nil, Contains-cons_cases, Contains-pushed}
-use Rattle.meaning_atoms.specs.Framework.{Af, Defends, IsAdmissible, IsComplete, IsGrounded}
-use Rattle.meaning_atoms.proofs.Decided.{Decided, Found, search_list, decide_member, decide_defends}
-use Rattle.meaning_atoms.proofs.Sets.{defends_more, added_admissible}
+use Rattle.semantics.specs.Framework.{Af, Defends, IsAdmissible, IsComplete, IsGrounded}
+use Rattle.semantics.proofs.Decided.{Decided, Found, search_list, decide_member, decide_defends}
+use Rattle.semantics.proofs.Sets.{defends_more, added_admissible}
 
 -- an admissible set that lies in every complete one, and the live arguments that may still be added
 pub record IsGrowing (f : Af) (s rest : List ℕ) : Type 0 where

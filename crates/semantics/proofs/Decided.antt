@@ -1,10 +1,10 @@
 -- Which notions can be decided: a list can be searched for an item of a decided kind.
-use Rattle.std.proofs.Common.{◌≡◌, ◌⊎◌, inl, inr, ⊎_elim, ℕ, List, [], ◌∷◌, ◌++◌, refl, ap, sym, subst, ◌∙◌}
+use Rattle.std.proofs.Common.{◌≡◌, ◌≤◌, ◌<◌, ◌⊎◌, arith, inl, inr, ⊎_elim, ℕ, List, [], ◌∷◌, ◌++◌, refl, ap, sym, subst, ◌∙◌}
 use Rattle.std.specs.Prelude.{Contains}
-use Rattle.std.proofs.lemmas.Bool.{cases_eq}
+use Rattle.std.proofs.lemmas.Bool.{cases_eq, cases_lt}
 use Rattle.std.proofs.lemmas.List.Elements.{Contains-append_right}
 use Rattle.plain_lists.proofs.Membership.{Contains-nil, Contains-head, Contains-cons_cases}
-use Rattle.meaning_atoms.specs.Framework.{Af, Attacks, IsAttackedBy, Defends}
+use Rattle.semantics.specs.Framework.{Af, Attacks, IsAttackedBy, Defends}
 
 -- it holds, or it does not
 abbrev pub Decided : Type 0 → Type 0
@@ -31,6 +31,35 @@ search_list P decide (y ∷ ys) =
 -- what is found is a member
 pub found_in : {X : Type 0} (P : X → Type 0) (xs : List X) (w : Found P xs) → Contains xs w.item
 found_in P xs w = rw w.parts (Contains-append_right w.before (w.item ∷ w.after) w.item (Contains-head w.item w.after w.item refl))
+
+pub decide_both : {P Q : Type 0} → Decided P → Decided Q → Decided (P × Q)
+decide_both p q = ⊎_elim (λ a. ⊎_elim (λ b. inl (a, b)) (λ no. inr (λ h. no h.1)) q) (λ no. inr (λ h. no h.0)) p
+
+pub decide_either : {P Q : Type 0} → Decided P → Decided Q → Decided (P ⊎ Q)
+decide_either p q = ⊎_elim (λ a. inl (inl a)) (λ no. ⊎_elim (λ b. inl (inr b)) (λ none. inr (λ h. ⊎_elim no none h)) q) p
+
+pub decide_not : {P : Type 0} → Decided P → Decided (P → ⊥)
+decide_not p = ⊎_elim (λ a. inr (λ no. no a)) (λ no. inl no) p
+
+pub decide_some : {X : Type 0} (P : X → Type 0) → ((x : X) → Decided (P x)) → (xs : List X) → Decided ((x : X) × Contains xs x × P x)
+decide_some P decide xs =
+    ⊎_elim (λ w. inl (w.item, found_in P xs w, w.holds)) (λ none. inr (λ h. none h.0 h.1 h.2)) (search_list P decide xs)
+
+pub decide_each : {X : Type 0} (P : X → Type 0) → ((x : X) → Decided (P x)) → (xs : List X) → Decided ((x : X) → Contains xs x → P x)
+decide_each P decide xs =
+    ⊎_elim
+    (λ w. inr (λ h. w.holds (h w.item (found_in (λ x. P x → ⊥) xs w))))
+    (λ none. inl (λ x c. ⊎_elim (λ p. p) (λ no. absurd (none x c no)) (decide x)))
+    (search_list (λ x. P x → ⊥) (λ x. decide_not (decide x)) xs)
+
+pub decide_at_most : (m n : ℕ) → Decided (m ≤ n)
+decide_at_most m n = ⊎_elim (λ less. inr (λ h. omega arith)) (λ h. inl h) (cases_lt n m)
+
+pub decide_below : (m n : ℕ) → Decided (m < n)
+decide_below m n = ⊎_elim (λ h. inl h) (λ no. inr (λ h. omega arith)) (cases_lt m n)
+
+pub decide_implied : {P Q : Type 0} → Decided P → Decided Q → Decided (P → Q)
+decide_implied p q = ⊎_elim (λ h. inl (λ a. h)) (λ no. ⊎_elim (λ a. inr (λ h. no (h a))) (λ none. inl (λ a. absurd (none a))) p) q
 
 pub decide_contains : {X : Type 0} → ((x y : X) → Decided (x ≡ y)) → (xs : List X) (x : X) → Decided (Contains xs x)
 decide_contains same xs x =

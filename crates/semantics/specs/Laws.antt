@@ -1,7 +1,7 @@
 -- Laws that show the notions of Framework to be the literature's.
 use Rattle.std.specs.Prelude.{List, ℕ, Contains, ◌++◌}
 use Rattle.plain_lists.specs.Members.{IsWithin}
-use Rattle.meaning_atoms.specs.Framework.{Af, IsAttackedBy, IsAdmissible, IsComplete, IsGrounded, IsPreferred, IsStable, IsSemiStable, IsInAllPreferred, IsIdeal}
+use Rattle.semantics.specs.Framework.{Af, IsAttackedBy, IsAdmissible, IsComplete, IsGrounded, IsPreferred, IsStable, IsSemiStable, IsInAllPreferred, IsIdeal}
 
 -- the two lists have the same members
 pub record HasSameMembers (s t : List ℕ) : Type 0 where

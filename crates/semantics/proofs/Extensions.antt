@@ -2,11 +2,11 @@
 use Rattle.std.proofs.Common.{inl, inr, ⊎_elim, ℕ, List, [], ◌∷◌, ◌++◌, refl}
 use Rattle.std.specs.Prelude.{Contains}
 use Rattle.plain_lists.proofs.Membership.{Contains-pushed}
-use Rattle.meaning_atoms.specs.Framework.{Af, IsAf, IsInRange, IsAdmissible, IsStable}
-use Rattle.meaning_atoms.specs.Laws.{GroundedIsUnique, StableIsLargest, PreferredIsComplete, UnattackedIsInAll, AttacksMember, IdealIsUnique}
-use Rattle.meaning_atoms.proofs.Decided.{decide_member}
-use Rattle.meaning_atoms.proofs.Sets.{added_admissible, union_admissible, within_left, within_right}
-use Rattle.meaning_atoms.proofs.Grounded.{grounded_exists}
+use Rattle.semantics.specs.Framework.{Af, IsAf, IsInRange, IsAdmissible, IsStable}
+use Rattle.semantics.specs.Laws.{GroundedIsUnique, StableIsLargest, PreferredIsComplete, UnattackedIsInAll, AttacksMember, IdealIsUnique}
+use Rattle.semantics.proofs.Decided.{decide_member}
+use Rattle.semantics.proofs.Sets.{added_admissible, union_admissible, within_left, within_right}
+use Rattle.semantics.proofs.Grounded.{grounded_exists}
 
 pub grounded_unique : (f : Af) → GroundedIsUnique f
 grounded_unique f = record {

@@ -3,8 +3,8 @@ use Rattle.std.proofs.Common.{⊎_elim, ℕ, List, [], ◌∷◌, ◌++◌, sym,
 use Rattle.std.specs.Prelude.{Contains}
 use Rattle.std.proofs.lemmas.List.Elements.{Contains-append_left, Contains-append_right, Contains-append_cases, Contains-push_cases}
 use Rattle.plain_lists.specs.Members.{IsWithin}
-use Rattle.meaning_atoms.specs.Framework.{Af, Attacks, IsAttackedBy, Defends, IsConflictFree, IsAdmissible}
-use Rattle.meaning_atoms.specs.Laws.{AttacksMember}
+use Rattle.semantics.specs.Framework.{Af, Attacks, IsAttackedBy, Defends, IsConflictFree, IsAdmissible}
+use Rattle.semantics.specs.Laws.{AttacksMember}
 
 -- what a set attacks, and so what it defends, a larger one does too
 pub attacked_more : (f : Af) (s t : List ℕ) (a : ℕ) → IsWithin s t → IsAttackedBy f s a → IsAttackedBy f t a
