@@ -1,8 +1,8 @@
 -- Pairs that are found by their first numbers, through a table of the offsets at which each number's pairs begin.
-use Rattle.std.specs.Prelude.{◌≡◌, ◌≢◌, ℕ, ◌+◌, ◌-◌, ◌<◌, ◌≤◌, List, length, slice_index, slice_index_or}
+use Rattle.std.specs.Prelude.{◌≡◌, ◌≢◌, ℕ, ◌+◌, ◌-◌, ◌<◌, ◌≤◌, ◌^◌, Contains, List, length, slice_index, slice_index_or}
 use Rattle.attack_index.specs.PairOrder.{PairsRise}
 
--- the pairs, and a bound that lies above each first number
+-- the pairs, and a bound that lies above their numbers
 pub record IndexedPairs : Type 0 where
   pub pairs : List (ℕ × ℕ)
   pub bound : ℕ
@@ -23,12 +23,17 @@ pub record IsEndOf (k : ℕ) (pairs : List (ℕ × ℕ)) (m n : ℕ) : Type 0 wh
 abbrev pub AreOffsets : List (ℕ × ℕ) → List ℕ → Type 0
 AreOffsets pairs offsets = (k : ℕ) → k < length offsets → IsOffsetOf k pairs (slice_index offsets k)
 
--- rising pairs and the table of their offsets, which reaches one past each first number
+-- both numbers of each pair are below a bound
+abbrev pub AreBelow : ℕ → List (ℕ × ℕ) → Type 0
+AreBelow bound pairs = (p : ℕ × ℕ) → Contains pairs p → (p.0 < bound) × (p.1 < bound)
+
+-- rising pairs of numbers below a bound and the table of their offsets, which reaches up to the bound
 pub record IsIndex (pairs : List (ℕ × ℕ)) (offsets : List ℕ) : Type 0 where
   pub rise : PairsRise pairs
   pub begins : AreOffsets pairs offsets
   pub some : 0 < length offsets
-  pub reach : (i : ℕ) (d : ℕ × ℕ) → i < length pairs → (slice_index_or pairs i d).0 + 1 < length offsets
+  pub fits : length offsets ≤ 2 ^ 32 + 1
+  pub below : AreBelow (length offsets - 1) pairs
 
 -- what an index of pairs with such a table means
 abbrev pub indexed : List (ℕ × ℕ) → List ℕ → IndexedPairs

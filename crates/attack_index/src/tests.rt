@@ -16,7 +16,7 @@ fn pairs_by_their_first_number(rt: HostRuntime) -> Result<(), Fail> {
     assert!(rt; !index.has(1, 7));
     let counts = index.counts(alloc)?;
     assert_eq!(rt; counts.as_slice(), [0, 0, 2, 0, 0, 0, 0, 1].as_slice());
-    let back = index.reversed(alloc, &mut spare, 8)?;
+    let back = index.reversed(alloc, &mut spare)?;
     assert_eq!(rt; back.pairs(), [(1, 2), (1, 7), (7, 2)].as_slice());
     Ok(())
 }

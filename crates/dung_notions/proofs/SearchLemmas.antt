@@ -24,7 +24,7 @@ use Rattle.dung_notions.specs.Search.{
   IsFinished,
 }
 use Rattle.plain_lists.proofs.Filters.{Contains-filter}
-use Rattle.dung_notions.proofs.Orders.{member_at, at_member, IsGrounded-members, IsGrounded-same}
+use Rattle.dung_notions.proofs.Orders.{member_at, at_member, IsGrounded-order, IsGrounded-same}
 use Rattle.plain_lists.proofs.Counts.{none_passes, none_counted}
 use Rattle.dung_notions.proofs.UndefeatedLemmas.{
   open_at_first,
@@ -368,7 +368,7 @@ pub defeats_then : (f : Af) (P Q R : ℕ → Type 0) (o : List ℕ) (c : List �
     → PutsOut f P o t c t' r → PutsOut f R o t' c t'' r'
     → ((b : ℕ) → Q b → P b ⊎ R b) → PutsOut f Q o t c t'' r'
 defeats_then f P Q R o c t t' t'' r r' g h q = record {
-  state = h.kept;
+  state = h.state;
   stays = λ b was. h.stays b (g.stays b was);
   defeated = λ b at. ⊎_elim (λ p. h.stays b (g.defeated b p)) (λ e. h.defeated b e) (q b at);
 }
@@ -376,7 +376,7 @@ defeats_then f P Q R o c t t' t'' r r' g h q = record {
 pub defeats_weaker : (f : Af) (P Q : ℕ → Type 0) (o : List ℕ) (t : List Bool) (c : List ℕ) (t' : List Bool)
     (r : List (ℕ × ℕ)) → PutsOut f P o t c t' r → ((b : ℕ) → Q b → P b) → PutsOut f Q o t c t' r
 defeats_weaker f P Q o t c t' r g q = record {
-  state = g.kept;
+  state = g.state;
   stays = g.stays;
   defeated = λ b at. g.defeated b (q b at);
 }
@@ -415,8 +415,8 @@ grounds f members read open_attackers found set e g is af same' =
     let back : IsWithin set members = λ x c. (h.exact x).1 ((same x).0 c) in
     record {
       grounded = IsGrounded-same f members set there back
-          (IsGrounded-members f members (record { entered = h.entered; closed = h.closed }));
-      members = record { rises = rises_still f open_attackers set af from_live; exact = λ x. (back x, there x) };
+          (IsGrounded-order f members (record { entered = h.entered; closed = h.closed }));
+      members = record { rises = rises_still f open_attackers set af from_live; members = λ x. (back x, there x) };
       once = h.once.apart;
       entered = h.entered;
     }

@@ -6,3 +6,6 @@ returns c = (
   λ e. solid c.args.self.now c.live.ensures.form (rw c.live.ensures.value at (c.is_numbered.ensures.0 e)),
   λ s. c.is_numbered.ensures.1 (rw c.live.ensures.value s.live_is),
 )
+
+pub is_numbered-requires-clause-arguments : goal.is_numbered-requires-clause-arguments
+is_numbered-requires-clause-arguments c = rw c.live.ensures.value c.live.ensures.form.live
