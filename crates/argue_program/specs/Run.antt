@@ -1,7 +1,7 @@
 -- What a run may write, and how it may end.
 use Rattle.std.specs.Prelude.{◌≡◌, ◌≢◌, ℕ, ◌⊎◌, List, [], codes, Option, None, Some}
 use Rattle.std.specs.List.Sorted.{IsStrictlyIncreasing}
-use Rattle.meaning_atoms.specs.Framework.{Af, IsGrounded}
+use Rattle.semantics.specs.Framework.{Af, IsGrounded}
 use Rattle.argue_outside.specs.Outside.{AppendsPart, HoldsWhole, IsLonger, Rose, Told}
 use Rattle.argue_outside.specs.declared.Role.{Role}
 use Rattle.argue_outside.specs.declared.Role.TheVariants.{Framework}

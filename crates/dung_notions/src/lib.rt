@@ -3,10 +3,8 @@
 #![tactic(auto)]
 
 mod af_plain;
-mod arrows;
 mod grounded;
 mod notions;
-mod stable_order;
 #[cfg(test)]
 mod tests;
 

@@ -1,13 +1,36 @@
 //! Grounded sets of small frameworks, and attacks from either end.
 
 ghost use Rattle.std.specs.Prelude.{IfOk, OnOk};
-ghost use Rattle.dung_notions.specs.Neighbours.{AreBetween};
+ghost use Rattle.dung_notions.specs.Neighbours.{AreArguments, AreBetween};
 
 use crate::AfPlain;
 use plain_lists::Memory;
+use semantics::is_argument;
 use set_lists::NumSet;
 use std::alloc::Global;
 use std::test::Fail;
+
+/// Adds a number that an argument may have.
+fn add_argument(arguments: &mut Vec<u32>, number: u32) -> Result<(), Memory>
+    requires { AreArguments arguments.old.items }
+    ensures { OnOk result (AreArguments arguments.new.items) }
+{
+    if is_argument(number) {
+        arguments.push(number)?;
+    }
+    Ok(())
+}
+
+/// The numbers that an argument may have, as a set.
+fn arguments(alloc: Global, numbers: &[u32]) -> Result<NumSet, Memory>
+    ensures { IfOk result AreArguments }
+{
+    let mut found = Vec::new(alloc);
+    for number in numbers {
+        add_argument(&mut found, *number)?;
+    }
+    NumSet::from_slice(alloc, &found)
+}
 
 /// Adds an attack where both its ends are live.
 fn add_between(live: &NumSet, between: &mut Vec<(u32, u32)>, pair: (u32, u32)) -> Result<(), Memory>
@@ -41,7 +64,7 @@ pub(crate) fn framework(
     numbers: &[u32],
     attacks: &[(u32, u32)],
 ) -> Result<AfPlain, Memory> {
-    let live = NumSet::from_slice(alloc, numbers)?;
+    let live = arguments(alloc, numbers)?;
     let attacks = between(alloc, &live, attacks)?;
     AfPlain::new(alloc, live, attacks)
 }

@@ -1,6 +1,6 @@
 use Rattle.std.specs.Prelude.{Contains}
 use Rattle.std.proofs.Common.{rules}
-use Rattle.dung_notions.proofs.Storage.{between_push}
+use Rattle.dung_notions.proofs.StorageLemmas.{between_push}
 use Rattle.dung_notions.proofs.tests.add_between.Goals as goal
 
 pub returns : goal.returns
