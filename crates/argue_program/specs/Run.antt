@@ -2,7 +2,7 @@
 use Rattle.std.specs.Prelude.{◌≡◌, ◌≢◌, ℕ, ◌⊎◌, List, [], codes, Option, None, Some}
 use Rattle.std.specs.List.Sorted.{IsStrictlyIncreasing}
 use Rattle.semantics.specs.Framework.{Af, IsGrounded}
-use Rattle.argue_outside.specs.Outside.{AppendsPart, HoldsWhole, IsLonger, Rose, Told}
+use Rattle.argue_outside.specs.Outside.{AppendsPart, HoldsWhole, IsLonger, FaultCounted, KnownFile}
 use Rattle.argue_outside.specs.declared.Role.{Role}
 use Rattle.argue_outside.specs.declared.Role.TheVariants.{Framework}
 use Rattle.argue_words.specs.Words.{AreWords, IsGroundedQuery}
@@ -23,7 +23,7 @@ input_limit = 268435456
 
 -- a read of the framework's file was counted as a fault
 abbrev pub ReadRose : (Role → ℕ) → (Role → ℕ) → Type 0
-ReadRose old new = Rose (old (Framework 1)) (new (Framework 1))
+ReadRose old new = FaultCounted (old (Framework 1)) (new (Framework 1))
 
 -- the right answer to the query for the grounded set: it is that set, as a rising list
 pub record IsRightAnswer (framework : Af) (set : List ℕ) : Type 0 where
@@ -31,17 +31,17 @@ pub record IsRightAnswer (framework : Af) (set : List ℕ) : Type 0 where
   pub grounded : IsGrounded framework set
 
 -- the set is the right answer on the framework that the file's bytes read as
-pub record AnswersFile (told : Told) (set : List ℕ) : Type 0 where
+pub record AnswersFile (known : KnownFile) (set : List ℕ) : Type 0 where
   pub bytes : List ℕ
-  pub held : HoldsWhole told bytes
+  pub held : HoldsWhole known bytes
   pub framework : Af
   pub reads : ReadsAs bytes framework
   pub right : IsRightAnswer framework set
 
 -- this is the first fault of the file's bytes
-pub record HasFirstFault (told : Told) (fault : LineFault) : Type 0 where
+pub record HasFirstFault (known : KnownFile) (fault : LineFault) : Type 0 where
   pub bytes : List ℕ
-  pub held : HoldsWhole told bytes
+  pub held : HoldsWhole known bytes
   pub first : IsFirstFault bytes fault.line fault.cause
 
 -- some line of the bytes has a fault
@@ -54,19 +54,19 @@ pub record AsksNothing (words : List (List ℕ)) (kept : Option (List ℕ)) : Ty
   pub nothing_kept : kept ≡ None
 
 -- the words ask for the grounded set of a file, and this set is the right answer
-pub record IsRightFor (words : List (List ℕ)) (holds : List ℕ → Told) (set : List ℕ) : Type 0 where
+pub record IsRightFor (words : List (List ℕ)) (holds : List ℕ → KnownFile) (set : List ℕ) : Type 0 where
   pub file : List ℕ
   pub query : IsGroundedQuery words file
   pub answers : AnswersFile (holds file) set
 
 -- the words ask for the grounded set of a file, and the set that is kept is the right answer
-pub record AnswersQuery (words : List (List ℕ)) (holds : List ℕ → Told) (kept : Option (List ℕ)) : Type 0 where
+pub record AnswersQuery (words : List (List ℕ)) (holds : List ℕ → KnownFile) (kept : Option (List ℕ)) : Type 0 where
   pub set : List ℕ
   pub kept_set : kept ≡ Some set
   pub right : IsRightFor words holds set
 
 -- the words ask for the grounded set of a file of which a fault holds, and no set is kept
-pub record AsksInVain (words : List (List ℕ)) (holds : List ℕ → Told) (fault : Told → Type 0) (kept : Option (List ℕ)) : Type 0 where
+pub record AsksInVain (words : List (List ℕ)) (holds : List ℕ → KnownFile) (fault : KnownFile → Type 0) (kept : Option (List ℕ)) : Type 0 where
   pub file : List ℕ
   pub query : IsGroundedQuery words file
   pub has_fault : fault (holds file)
@@ -79,27 +79,27 @@ pub record HasWordsInVain (words : List (List ℕ)) (kept : Option (List ℕ)) :
 
 -- why a run may end with a status, and what it then keeps, where its text is taken whole; `failed` says that a read of the
 -- file was counted as a fault
-abbrev pub HasCause : List (List ℕ) → (List ℕ → Told) → Type 0 → Option (List ℕ) → Status → Type 0
+abbrev pub HasCause : List (List ℕ) → (List ℕ → KnownFile) → Type 0 → Option (List ℕ) → Status → Type 0
 HasCause words holds failed kept Done = AsksNothing words kept ⊎ AnswersQuery words holds kept
 HasCause words holds failed kept Usage = (¬ AreWords words) × (kept ≡ None)
-HasCause words holds failed kept (InputRefused fault) = AsksInVain words holds (λ told. HasFirstFault told fault) kept
+HasCause words holds failed kept (InputRefused fault) = AsksInVain words holds (λ known. HasFirstFault known fault) kept
 HasCause words holds failed kept ReadFault = AsksInVain words holds (λ _. failed) kept
 HasCause words holds failed kept WriteFault = ⊥
 HasCause words holds failed kept WantOfMemory = HasWordsInVain words kept
-HasCause words holds failed kept Limit = AsksInVain words holds (λ told. IsLonger told input_limit) kept
+HasCause words holds failed kept Limit = AsksInVain words holds (λ known. IsLonger known input_limit) kept
 
 -- the same for a query on a file that holds what is told
-abbrev pub HasFileCause : Told → Type 0 → Option (List ℕ) → Status → Type 0
-HasFileCause told failed kept Done = (set : List ℕ) × (kept ≡ Some set) × AnswersFile told set
-HasFileCause told failed kept Usage = ⊥
-HasFileCause told failed kept (InputRefused fault) = (kept ≡ None) × HasFirstFault told fault
-HasFileCause told failed kept ReadFault = (kept ≡ None) × failed
-HasFileCause told failed kept WriteFault = ⊥
-HasFileCause told failed kept WantOfMemory = kept ≡ None
-HasFileCause told failed kept Limit = (kept ≡ None) × IsLonger told input_limit
+abbrev pub HasFileCause : KnownFile → Type 0 → Option (List ℕ) → Status → Type 0
+HasFileCause known failed kept Done = (set : List ℕ) × (kept ≡ Some set) × AnswersFile known set
+HasFileCause known failed kept Usage = ⊥
+HasFileCause known failed kept (InputRefused fault) = (kept ≡ None) × HasFirstFault known fault
+HasFileCause known failed kept ReadFault = (kept ≡ None) × failed
+HasFileCause known failed kept WriteFault = ⊥
+HasFileCause known failed kept WantOfMemory = kept ≡ None
+HasFileCause known failed kept Limit = (kept ≡ None) × IsLonger known input_limit
 
 -- the same for the command that the words ask for
-abbrev pub HasCommandCause : Command → (List ℕ → Told) → Type 0 → Option (List ℕ) → Status → Type 0
+abbrev pub HasCommandCause : Command → (List ℕ → KnownFile) → Type 0 → Option (List ℕ) → Status → Type 0
 HasCommandCause Version holds failed kept status = (status ≡ Done) × (kept ≡ None)
 HasCommandCause (Grounded file) holds failed kept status = HasFileCause (holds file.now) failed kept status
 HasCommandCause Unknown holds failed kept status = (status ≡ Usage) × (kept ≡ None)
@@ -127,19 +127,19 @@ IsRefusalOf bytes WantOfMemory = Unit {0}
 IsRefusalOf bytes Limit = ⊥
 
 -- the output of a query on a file broke off: a part was written of the text of a run that had its cause
-pub record FileBreaksOff (told : Told) (failed : Type 0) (kept : Option (List ℕ)) (old new : Option (List ℕ)) : Type 0 where
+pub record FileBreaksOff (known : KnownFile) (failed : Type 0) (kept : Option (List ℕ)) (old new : Option (List ℕ)) : Type 0 where
   pub status : Status
-  pub cause : HasFileCause told failed kept status
+  pub cause : HasFileCause known failed kept status
   pub part : AppendsPart old new (text_of status kept)
 
 -- the output broke off: a part was written of the text of a run that had its cause
-pub record BreaksOff (words : List (List ℕ)) (holds : List ℕ → Told) (failed : Type 0) (kept : Option (List ℕ)) (old new : Option (List ℕ)) : Type 0 where
+pub record BreaksOff (words : List (List ℕ)) (holds : List ℕ → KnownFile) (failed : Type 0) (kept : Option (List ℕ)) (old new : Option (List ℕ)) : Type 0 where
   pub status : Status
   pub cause : HasCause words holds failed kept status
   pub part : AppendsPart old new (text_of status kept)
 
 -- the same for the command that the words ask for
-pub record CommandBreaksOff (command : Command) (holds : List ℕ → Told) (failed : Type 0) (kept : Option (List ℕ)) (old new : Option (List ℕ)) : Type 0 where
+pub record CommandBreaksOff (command : Command) (holds : List ℕ → KnownFile) (failed : Type 0) (kept : Option (List ℕ)) (old new : Option (List ℕ)) : Type 0 where
   pub status : Status
   pub cause : HasCommandCause command holds failed kept status
   pub part : AppendsPart old new (text_of status kept)

@@ -3,7 +3,7 @@
 ghost use Rattle.std.specs.Prelude.{◌≡◌, ◌≢◌, ℕ, ◌≤◌, ◌⊎◌, List, [], Option, None, Some, length, map, IfErr, IfOk, IsErrOf};
 ghost use Rattle.std.specs.String.{string_bytes};
 ghost use Rattle.std.specs.Io.KnownBytes.{Appends};
-ghost use Rattle.argue_outside.specs.Outside.{AppendsPart, CountsStandBut, Rose, IsLonger};
+ghost use Rattle.argue_outside.specs.Outside.{AppendsPart, OtherCountsKept, FaultCounted, IsLonger};
 ghost use Rattle.argue_words.specs.Words.{AreWords, IsGroundedQuery};
 ghost use Rattle.argue_program.specs.AnswerText.{set_text};
 ghost use Rattle.argue_program.specs.RefusalText.{fault_text};
@@ -92,7 +92,7 @@ fn answer_of<F: Files>(alloc: Global, files: &mut F, name: &str) -> Result<Answe
     ensures refused { IfErr result (λ stop. IfRefused stop (HasFirstFault (F.holds files.old name.now))) }
     ensures same { F.holds files.new ≡ F.holds files.old }
     ensures writes { F.write_count files.new ≡ F.write_count files.old }
-    ensures others { CountsStandBut (Role.Framework 1) (F.read_count files.old) (F.read_count files.new) }
+    ensures others { OtherCountsKept (Role.Framework 1) (F.read_count files.old) (F.read_count files.new) }
 {
     let bytes = read_all(alloc, files, Role::Framework(1), name, INPUT_LIMIT)?;
     let framework = read_af(alloc, bytes.as_slice())?;
@@ -113,7 +113,7 @@ fn end_with<O: Sink>(out: &mut O, line: &str, status: Status, set: Option<NumSet
     ensures part { result.status ≡ Status.WriteFault
         → AppendsPart (O.contents out.old) (O.contents out.new) line.now }
     ensures fault { result.status ≡ Status.WriteFault
-        → Rose (O.fault_count out.old) (O.fault_count out.new) }
+        → FaultCounted (O.fault_count out.old) (O.fault_count out.new) }
     ensures kept { result.kept.set ≡ set }
 {
     let kept = Transcript { set };
@@ -147,7 +147,7 @@ fn refuse_file<O: Sink>(alloc: Global, out: &mut O, fault: LineFault) -> Ended
     ensures part { result.status ≡ Status.WriteFault
         → AppendsPart (O.contents out.old) (O.contents out.new) (fault_text fault) }
     ensures fault { result.status ≡ Status.WriteFault
-        → Rose (O.fault_count out.old) (O.fault_count out.new) }
+        → FaultCounted (O.fault_count out.old) (O.fault_count out.new) }
     ensures kept { result.kept.set ≡ None }
 {
     match fault_line(alloc, fault) {
@@ -165,7 +165,7 @@ fn refuse<O: Sink>(alloc: Global, out: &mut O, stop: Stop) -> Ended
     ensures part { result.status ≡ Status.WriteFault
         → AppendsPart (O.contents out.old) (O.contents out.new) (text_of (status_of stop) None) }
     ensures fault { result.status ≡ Status.WriteFault
-        → Rose (O.fault_count out.old) (O.fault_count out.new) }
+        → FaultCounted (O.fault_count out.old) (O.fault_count out.new) }
     ensures kept { result.kept.set ≡ None }
 {
     match stop {
@@ -187,10 +187,10 @@ fn solve<F: Files, O: Sink>(alloc: Global, name: &str, files: &mut F, out: &mut 
         → FileBreaksOff (F.holds files.old name.now) (ReadRose (F.read_count files.old)
         (F.read_count files.new)) result.kept.set (O.contents out.old) (O.contents out.new) }
     ensures fault { result.status ≡ Status.WriteFault
-        → Rose (O.fault_count out.old) (O.fault_count out.new) }
+        → FaultCounted (O.fault_count out.old) (O.fault_count out.new) }
     ensures same { F.holds files.new ≡ F.holds files.old }
     ensures writes { F.write_count files.new ≡ F.write_count files.old }
-    ensures others { CountsStandBut (Role.Framework 1) (F.read_count files.old) (F.read_count files.new) }
+    ensures others { OtherCountsKept (Role.Framework 1) (F.read_count files.old) (F.read_count files.new) }
 {
     match answer_of(alloc, files, name) {
         Ok(Answer { set, line }) => end_with(out, line.as_str(), Status::Done, Some(set)),
@@ -209,10 +209,10 @@ fn obey<F: Files, O: Sink>(alloc: Global, command: Command, files: &mut F, out: 
         → CommandBreaksOff command.entry (F.holds files.old) (ReadRose (F.read_count files.old)
         (F.read_count files.new)) result.kept.set (O.contents out.old) (O.contents out.new) }
     ensures fault { result.status ≡ Status.WriteFault
-        → Rose (O.fault_count out.old) (O.fault_count out.new) }
+        → FaultCounted (O.fault_count out.old) (O.fault_count out.new) }
     ensures same { F.holds files.new ≡ F.holds files.old }
     ensures writes { F.write_count files.new ≡ F.write_count files.old }
-    ensures others { CountsStandBut (Role.Framework 1) (F.read_count files.old) (F.read_count files.new) }
+    ensures others { OtherCountsKept (Role.Framework 1) (F.read_count files.old) (F.read_count files.new) }
 {
     match command {
         Command::Version => end_with(out, "argue 1.0\n", Status::Done, None),
@@ -243,15 +243,15 @@ pub fn run<F: Files, O: Sink, P: Pace + Sync, R: Threads + Wait + Sync>(
         → BreaksOff (map string_bytes words.now) (F.holds files.old) (ReadRose (F.read_count files.old)
         (F.read_count files.new)) result.kept.set (O.contents out.old) (O.contents out.new) }
     ensures write_fault { result.status ≡ Status.WriteFault
-        → Rose (O.fault_count out.old) (O.fault_count out.new) }
+        → FaultCounted (O.fault_count out.old) (O.fault_count out.new) }
 
     // Completeness: with well-formed words and input and no fault, the run does what was asked, or wants memory.
     ensures version { map string_bytes words.now ≡ []
-        → ¬ Rose (O.fault_count out.old) (O.fault_count out.new) → result.status ≡ Status.Done }
+        → ¬ FaultCounted (O.fault_count out.old) (O.fault_count out.new) → result.status ≡ Status.Done }
     ensures complete { (file bytes : List ℕ) → IsGroundedQuery (map string_bytes words.now) file → F.holds files.old file ≡ Some (Some bytes)
         → IsReadable bytes → length bytes ≤ input_limit
         → ¬ ReadRose (F.read_count files.old) (F.read_count files.new)
-        → ¬ Rose (O.fault_count out.old) (O.fault_count out.new)
+        → ¬ FaultCounted (O.fault_count out.old) (O.fault_count out.new)
         → (result.status ≡ Status.Done) ⊎ (result.status ≡ Status.WantOfMemory) }
 
     // The converses: words that aren't well-formed are refused, and so is a file with a fault.
@@ -264,7 +264,7 @@ pub fn run<F: Files, O: Sink, P: Pace + Sync, R: Threads + Wait + Sync>(
     // No file changes, and no other count of faults does.
     ensures contents_stay { F.holds files.new ≡ F.holds files.old }
     ensures no_write { F.write_count files.new ≡ F.write_count files.old }
-    ensures no_other_read { CountsStandBut (Role.Framework 1) (F.read_count files.old) (F.read_count files.new) }
+    ensures no_other_read { OtherCountsKept (Role.Framework 1) (F.read_count files.old) (F.read_count files.new) }
 {
     match read_words(alloc, words) {
         Ok(command) => obey(alloc, command, files, out),
@@ -280,7 +280,7 @@ pub fn refuse_words<O: Sink>(out: &mut O) -> Ended
     ensures part { result.status ≡ Status.WriteFault
         → AppendsPart (O.contents out.old) (O.contents out.new) (text_of Status.Usage None) }
     ensures write_fault { result.status ≡ Status.WriteFault
-        → Rose (O.fault_count out.old) (O.fault_count out.new) }
+        → FaultCounted (O.fault_count out.old) (O.fault_count out.new) }
     ensures kept { result.kept.set ≡ None }
 {
     end_with(out, "error: usage\n", Status::Usage, None)

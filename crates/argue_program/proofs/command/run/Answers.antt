@@ -8,12 +8,12 @@ pub returns-in-Ok-clause-part : goal.returns-in-Ok-clause-part
 returns-in-Ok-clause-part g c = λ broken. BreaksOff-command _ _ _ _ _ _ _ c.in-Ok.ensures.command (c.obey.ensures.part broken)
 
 pub returns-in-Ok-clause-complete : goal.returns-in-Ok-clause-complete
-returns-in-Ok-clause-complete g c = λ file bytes query told readable short reads writes.
-    done_or_memory _ _ _ _ _ _ file bytes (λ whole. HasCause-command _ _ _ _ _ _ c.in-Ok.ensures.command (c.obey.ensures.cause whole)) c.obey.ensures.fault query told readable short reads writes
+returns-in-Ok-clause-complete g c = λ file bytes query known readable short reads writes.
+    done_or_memory _ _ _ _ _ _ file bytes (λ whole. HasCause-command _ _ _ _ _ _ c.in-Ok.ensures.command (c.obey.ensures.cause whole)) c.obey.ensures.fault query known readable short reads writes
 
 pub returns-in-Ok-clause-faulty : goal.returns-in-Ok-clause-faulty
-returns-in-Ok-clause-faulty g c = λ file bytes query told faulty short reads.
-    refused_file _ _ _ _ _ file bytes (λ whole. HasCause-command _ _ _ _ _ _ c.in-Ok.ensures.command (c.obey.ensures.cause whole)) query told faulty short reads
+returns-in-Ok-clause-faulty g c = λ file bytes query known faulty short reads.
+    refused_file _ _ _ _ _ file bytes (λ whole. HasCause-command _ _ _ _ _ _ c.in-Ok.ensures.command (c.obey.ensures.cause whole)) query known faulty short reads
 
 pub returns-in-Ok-clause-usage : goal.returns-in-Ok-clause-usage
 returns-in-Ok-clause-usage g c = λ other. refused_words _ _ _ _ _ (λ whole. HasCause-command _ _ _ _ _ _ c.in-Ok.ensures.command (c.obey.ensures.cause whole)) other
