@@ -5,3 +5,4 @@ pub mod Orders
 pub mod SearchLemmas
 pub mod StorageLemmas
 pub mod UndefeatedLemmas
+pub mod WrittenOutLemmas

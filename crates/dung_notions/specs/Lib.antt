@@ -4,3 +4,4 @@ pub mod Notions
 pub mod Search
 pub mod Solid
 pub mod Storage
+pub mod WrittenOut

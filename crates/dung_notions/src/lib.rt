@@ -7,6 +7,7 @@ mod grounded;
 mod notions;
 #[cfg(test)]
 mod tests;
+mod written_out;
 
 pub use af_plain::AfPlain;
 pub use grounded::Grounded;
