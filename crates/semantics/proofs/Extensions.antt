@@ -5,7 +5,7 @@ use Rattle.plain_lists.proofs.Membership.{Contains-pushed}
 use Rattle.semantics.specs.Framework.{Af, IsAf, IsInRange, IsAdmissible, IsStable}
 use Rattle.semantics.specs.Laws.{GroundedIsUnique, StableIsLargest, PreferredIsComplete, UnattackedIsInAll, AttacksMember, IdealIsUnique}
 use Rattle.semantics.proofs.Decided.{decide_member}
-use Rattle.semantics.proofs.Sets.{added_admissible, union_admissible, within_left, within_right}
+use Rattle.semantics.proofs.AdmissibleSets.{added_admissible, union_admissible, within_left, within_right}
 use Rattle.semantics.proofs.Grounded.{grounded_exists}
 
 pub grounded_unique : (f : Af) → GroundedIsUnique f

@@ -1,5 +1,9 @@
 pub mod Decided
 pub mod DecidedNotions
-pub mod Sets
+pub mod AdmissibleSets
 pub mod Grounded
 pub mod Extensions
+pub mod Walks
+pub mod SameMembers
+pub mod ListedSets
+pub mod SetsLemmas
