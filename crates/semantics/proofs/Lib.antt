@@ -2,8 +2,9 @@ pub mod Decided
 pub mod DecidedNotions
 pub mod AdmissibleSets
 pub mod Grounded
-pub mod Extensions
 pub mod Walks
 pub mod SameMembers
 pub mod ListedSets
 pub mod SetsLemmas
+pub mod Existence
+pub mod Extensions
