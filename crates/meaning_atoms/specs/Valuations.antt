@@ -5,9 +5,9 @@ use Rattle.meaning_atoms.specs.declared.atom.AtomLit.{AtomLit}
 use Rattle.meaning_atoms.specs.Worlds.{World, Holds}
 
 -- the valuation makes true exactly the atoms that hold in the world, beside these side clauses
-abbrev pub IsReading : World → List (List AtomLit) → (Atom → Bool) → Type 0
-IsReading w sides value = (atom : Atom) → (value atom ≡ true) ↔ Holds w sides atom
+abbrev pub IsValuation : World → List (List AtomLit) → (Atom → Bool) → Type 0
+IsValuation w sides value = (atom : Atom) → (value atom ≡ true) ↔ Holds w sides atom
 
 -- each world has such a valuation
-abbrev pub HasReading : Type 0
-HasReading = (w : World) (sides : List (List AtomLit)) → (value : Atom → Bool) × IsReading w sides value
+abbrev pub HasValuation : Type 0
+HasValuation = (w : World) (sides : List (List AtomLit)) → (value : Atom → Bool) × IsValuation w sides value

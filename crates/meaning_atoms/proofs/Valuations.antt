@@ -5,9 +5,10 @@ use Rattle.std.proofs.lemmas.Bool.{cases_eq}
 use Rattle.meaning_atoms.specs.declared.atom.Atom.{Atom}
 use Rattle.meaning_atoms.specs.declared.atom.Atom.TheVariants.{Member, Live, Attack, Gap, Tail, Unmet, Range, Cf, Ad, Co, St, Ask}
 use Rattle.meaning_atoms.specs.declared.atom.AtomLit.{AtomLit}
+use Rattle.semantics.specs.Frameworks.{Framework, af}
 use Rattle.semantics.specs.Framework.{Af, Attacks, IsAttackedBy}
-use Rattle.meaning_atoms.specs.Worlds.{World, HasGap, HasTail, HasUnmet, HoldsAlone, Says, IsTrueAlone, IsSideTrue, Holds, HoldsLit, IsTrueBeside}
-use Rattle.meaning_atoms.specs.Readings.{HasReading}
+use Rattle.meaning_atoms.specs.Worlds.{World, HasGap, HasTail, HasUnmet, HoldsOfAf, HoldsOf, HoldsAlone, Says, IsTrueAlone, IsSideTrue, Holds, HoldsLit, IsTrueBeside}
+use Rattle.meaning_atoms.specs.Valuations.{HasValuation}
 use Rattle.semantics.proofs.Decided.{Decided, decide_both, decide_either, decide_not, decide_some, decide_at_most, decide_below}
 use Rattle.semantics.proofs.Decided.{decide_member, decide_attacks, decide_attacked}
 use Rattle.semantics.proofs.DecidedNotions.{decide_conflict_free, decide_admissible, decide_complete, decide_stable}
@@ -37,25 +38,31 @@ decide_unmet f s a i =
     (λ none. inr (λ u. none ((u.attacker, a), u.attack, (refl, (u.late, u.unmet)))))
     (decide_some Late (λ p. decide_both (cases_eq p.1 a) (decide_both (decide_at_most i p.0) (decide_not (decide_attacked f s p.0)))) f.attacks)
 
+decide_of_af : (f : Af) (s : List ℕ) (atom : Atom) → Decided (HoldsOfAf f s atom)
+decide_of_af f s (Member a) = decide_member s a
+decide_of_af f s (Live a) = decide_member f.live a
+decide_of_af f s (Attack b a) = decide_attacks f b a
+decide_of_af f s (Gap a i j) = decide_gap f a i j
+decide_of_af f s (Tail a i) = decide_tail f s a i
+decide_of_af f s (Unmet a i) = decide_unmet f s a i
+decide_of_af f s (Range a) = decide_either (decide_member s a) (decide_attacked f s a)
+decide_of_af f s Cf = decide_conflict_free f s
+decide_of_af f s Ad = decide_admissible f s
+decide_of_af f s Co = decide_complete f s
+decide_of_af f s St = decide_stable f s
+decide_of_af f s _ = inr (λ h. h)
+
+pub decide_of : (f : Framework) (s : List ℕ) (atom : Atom) → Decided (HoldsOf f s atom)
+decide_of (af f) s atom = decide_of_af f s atom
+
 pub decide_alone : (w : World) (atom : Atom) → Decided (HoldsAlone w atom)
-decide_alone w (Member a) = decide_member w.set a
-decide_alone w (Live a) = decide_member w.framework.live a
-decide_alone w (Attack b a) = decide_attacks w.framework b a
-decide_alone w (Gap a i j) = decide_gap w.framework a i j
-decide_alone w (Tail a i) = decide_tail w.framework w.set a i
-decide_alone w (Unmet a i) = decide_unmet w.framework w.set a i
-decide_alone w (Range a) = decide_either (decide_member w.set a) (decide_attacked w.framework w.set a)
-decide_alone w Cf = decide_conflict_free w.framework w.set
-decide_alone w Ad = decide_admissible w.framework w.set
-decide_alone w Co = decide_complete w.framework w.set
-decide_alone w St = decide_stable w.framework w.set
-decide_alone w (Ask n) = inr (λ h. h)
+decide_alone w atom = decide_of w.framework w.set atom
 
 decide_says : (positive : Bool) {P : Type 0} → Decided P → Decided (Says positive P)
 decide_says true p = p
 decide_says false p = decide_not p
 
-decide_true_alone : (w : World) (clause : List AtomLit) → Decided (IsTrueAlone w clause)
+pub decide_true_alone : (w : World) (clause : List AtomLit) → Decided (IsTrueAlone w clause)
 decide_true_alone w clause =
     ⊎_elim (λ h. inl (record { literal = h.0; member = h.1; says = h.2 })) (λ no. inr (λ h. no (h.literal, h.member, h.says)))
     (decide_some (λ l. Says l.positive (HoldsAlone w l.atom)) (λ l. decide_says l.positive (decide_alone w l.atom)) clause)
@@ -67,18 +74,8 @@ decide_side w sides n =
 
 -- what the atom says is so in the world, beside the side clauses, or is not
 pub decide_atom : (w : World) (sides : List (List AtomLit)) (atom : Atom) → Decided (Holds w sides atom)
-decide_atom w sides (Member a) = decide_alone w (Member a)
-decide_atom w sides (Live a) = decide_alone w (Live a)
-decide_atom w sides (Attack b a) = decide_alone w (Attack b a)
-decide_atom w sides (Gap a i j) = decide_alone w (Gap a i j)
-decide_atom w sides (Tail a i) = decide_alone w (Tail a i)
-decide_atom w sides (Unmet a i) = decide_alone w (Unmet a i)
-decide_atom w sides (Range a) = decide_alone w (Range a)
-decide_atom w sides Cf = decide_alone w Cf
-decide_atom w sides Ad = decide_alone w Ad
-decide_atom w sides Co = decide_alone w Co
-decide_atom w sides St = decide_alone w St
 decide_atom w sides (Ask n) = decide_side w sides n
+decide_atom w sides atom = decide_alone w atom
 
 pub decide_lit : (w : World) (sides : List (List AtomLit)) (l : AtomLit) → Decided (HoldsLit w sides l)
 decide_lit w sides l = decide_says l.positive (decide_atom w sides l.atom)
@@ -96,5 +93,5 @@ test_says : {P : Type 0} (p : Decided P) → (test_of p ≡ true) ↔ P
 test_says (inl h) = (λ e. h, λ x. refl)
 test_says (inr none) = (λ e. absurd (cc), λ h. absurd (none h))
 
-pub world_reading : HasReading
-world_reading w sides = (λ atom. test_of (decide_atom w sides atom), λ atom. test_says (decide_atom w sides atom))
+pub world_valuation : HasValuation
+world_valuation w sides = (λ atom. test_of (decide_atom w sides atom), λ atom. test_says (decide_atom w sides atom))
