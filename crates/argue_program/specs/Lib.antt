@@ -1,5 +1,3 @@
 pub mod AnswerText
-pub mod RefusalText
-pub mod Run
 pub mod Statuses
-pub mod Stops
+pub mod Texts

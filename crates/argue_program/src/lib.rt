@@ -1,16 +1,23 @@
 //! The program from words and bytes to bytes.
 //!
 //! `run` is the top call. Its contract is the headline: an answer is right on the framework that the file's bytes read as, and
-//! every other way to end has its cause.
+//! every other way to end has its cause. It decides first and writes then: `decide` makes the ending, `write_ending` writes it.
 #![tactic(auto)]
 
+// pub mod command;
+// pub mod decide;
 pub mod answer_text;
-pub mod command;
 pub mod ended;
-pub mod refusal_text;
+// pub mod input;
+pub mod texts;
+// pub mod writing;
 
-pub use command::{INPUT_LIMIT, refuse_words, run};
-pub use ended::{Ended, Status, Transcript};
+// pub use command::{execute, refuse_words, run};
+// pub use decide::{Ending, decide};
+pub use ended::{Cause, Ended, Limit, Refusal, Status, Transcript};
+// pub use input::INPUT_LIMIT;
+pub use texts::Text;
+// pub use writing::{Written, write_ending};
 
 #[cfg(test)]
 mod tests;
