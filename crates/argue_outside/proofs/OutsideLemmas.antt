@@ -4,10 +4,10 @@ use Rattle.std.proofs.KnownBytes.{Appends-trans}
 use Rattle.std.proofs.Math.Seq.{take-add}
 use Rattle.std.proofs.lemmas.Grind.{common_steps}
 use Rattle.std.specs.Io.KnownBytes.{Appends}
-use Rattle.argue_outside.specs.Outside.{Told, Adds, Fetches}
+use Rattle.argue_outside.specs.Outside.{KnownFile, Adds, Fetches}
 
--- these are the first bytes of the name, as far as it is told
-abbrev pub HoldsFirst : Told → List ℕ → Type 0
+-- these are the first bytes of the name, as far as that is known
+abbrev pub HoldsFirst : KnownFile → List ℕ → Type 0
 HoldsFirst None bytes = Unit {0}
 HoldsFirst (Some None) bytes = bytes ≡ []
 HoldsFirst (Some (Some held)) bytes = (bytes ≡ take (length bytes) held) × (length bytes ≤ length held)
@@ -19,7 +19,7 @@ take_rest xs t n = grind (arith, common_steps)
 pub stays_within : (xs : List ℕ) (t n : ℕ) → t ≤ length xs → n ≤ length (take (length xs - t) (drop t xs)) → t + n ≤ length xs
 stays_within xs t n h k = grind (arith, common_steps)
 
-pub Adds-trans : (a b d : Told) (x y : List ℕ) → Adds a b x → Adds b d y → Adds a d (x ++ y)
+pub Adds-trans : (a b d : KnownFile) (x y : List ℕ) → Adds a b x → Adds b d y → Adds a d (x ++ y)
 Adds-trans None b d x y p q = tt
 Adds-trans (Some a) None d x y p q = absurd p
 Adds-trans (Some None) (Some None) None x y p q = absurd q
@@ -38,11 +38,11 @@ pub Appends-more : (a b d : Option (List ℕ)) (xs : List ℕ) (t n : ℕ) → A
 Appends-more a b d xs t n p q = rw (take-add, ← take_rest xs t n) (Appends-trans a b d _ _ p q)
 
 -- one more part of the bytes that a name is given
-pub Adds-more : (a b d : Told) (xs : List ℕ) (t n : ℕ) → Adds a b (take t xs) → Adds b d (take n (take (length xs - t) (drop t xs))) → Adds a d (take (t + n) xs)
+pub Adds-more : (a b d : KnownFile) (xs : List ℕ) (t n : ℕ) → Adds a b (take t xs) → Adds b d (take n (take (length xs - t) (drop t xs))) → Adds a d (take (t + n) xs)
 Adds-more a b d xs t n p q = rw (take-add, ← take_rest xs t n) (Adds-trans a b d _ _ p q)
 
 -- one more piece of a name that is read from its front
-pub HoldsFirst-more : (told : Told) (bytes buf : List ℕ) (n : ℕ) → n ≤ length buf → HoldsFirst told bytes → Fetches told (length bytes) n buf → HoldsFirst told (bytes ++ take n buf)
+pub HoldsFirst-more : (known : KnownFile) (bytes buf : List ℕ) (n : ℕ) → n ≤ length buf → HoldsFirst known bytes → Fetches known (length bytes) n buf → HoldsFirst known (bytes ++ take n buf)
 HoldsFirst-more None bytes buf n bound p q = tt
 HoldsFirst-more (Some None) bytes buf n bound p q = absurd q
 HoldsFirst-more (Some (Some held)) bytes buf n bound p q =
@@ -52,7 +52,7 @@ HoldsFirst-more (Some (Some held)) bytes buf n bound p q =
     (rw (len, take-add) joined, rw len (omega arith))
 
 -- the same where the bytes and their length are kept by other names
-pub HoldsFirst-next : (told now : Told) (bytes buf next : List ℕ) (at n : ℕ) → now ≡ told → at ≡ length bytes → next ≡ bytes ++ take n buf → n ≤ length buf → HoldsFirst told bytes → Fetches now at n buf → HoldsFirst told next
-HoldsFirst-next told now bytes buf next at n same place e bound p q =
-    let r : Fetches told (length bytes) n buf = rw (← same, ← place) q in
-    rw e (HoldsFirst-more told bytes buf n bound p r)
+pub HoldsFirst-next : (known now : KnownFile) (bytes buf next : List ℕ) (at n : ℕ) → now ≡ known → at ≡ length bytes → next ≡ bytes ++ take n buf → n ≤ length buf → HoldsFirst known bytes → Fetches now at n buf → HoldsFirst known next
+HoldsFirst-next known now bytes buf next at n same position e bound p q =
+    let r : Fetches known (length bytes) n buf = rw (← same, ← position) q in
+    rw e (HoldsFirst-more known bytes buf n bound p r)
