@@ -1,3 +1,6 @@
 pub mod AnswerText
+pub mod Inputs
+pub mod Rows
 pub mod Statuses
 pub mod Texts
+pub mod Writing

@@ -53,3 +53,8 @@ common_text (status.ReadFault role) = Some (codes "error: read " ++ role_text ro
 common_text status.WriteFault = Some []
 common_text status.WantOfMemory = Some []
 common_text (status.Limit limit) = Some (limit_text limit)
+
+-- the status is that of a refused input, whose text takes memory
+abbrev pub IsRefusal : Status → Type 0
+IsRefusal (status.InputRefused refusal) = Unit {0}
+IsRefusal _ = ⊥

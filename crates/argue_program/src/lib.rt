@@ -5,17 +5,17 @@
 #![tactic(auto)]
 
 // pub mod command;
-// pub mod decide;
+pub mod decide;
 pub mod answer_text;
 pub mod ended;
-// pub mod input;
+pub mod input;
 pub mod texts;
-// pub mod writing;
+pub mod writing;
 
 // pub use command::{execute, refuse_words, run};
 // pub use decide::{Ending, decide};
 pub use ended::{Cause, Ended, Limit, Refusal, Status, Transcript};
-// pub use input::INPUT_LIMIT;
+pub use input::INPUT_LIMIT;
 pub use texts::Text;
 // pub use writing::{Written, write_ending};
 

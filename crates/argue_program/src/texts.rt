@@ -1,8 +1,8 @@
 //! The texts that a run writes.
 
-ghost use Rattle.std.specs.Prelude.{◌≡◌, ◌++◌, IfOk, IsSome, Some, codes};
+ghost use Rattle.std.specs.Prelude.{◌≡◌, ◌++◌, IfOk, IsErr, IsSome, Some, codes};
 ghost use Rattle.std.specs.String.{string_bytes};
-ghost use Rattle.argue_program.specs.Texts.{cause_text, common_text, limit_text, refusal_text, role_text, text_bytes};
+ghost use Rattle.argue_program.specs.Texts.{IsRefusal, cause_text, common_text, limit_text, refusal_text, role_text, text_bytes};
 
 use crate::ended::{Cause, Limit, Refusal, Status};
 use argue_outside::Role;
@@ -89,7 +89,8 @@ fn refusal_line(alloc: Global, refusal: Refusal) -> Result<String, Memory>
 
 /// The text of a status that has one of its own. Memory is taken for a refusal alone.
 pub fn status_text(alloc: Global, status: Status) -> Result<Text, Memory>
-    ensures { IsSome (common_text status) → IfOk result (λ text. Some (text_bytes text) ≡ common_text status) }
+    ensures memory { IsErr result → IsRefusal status }
+    ensures text { IsSome (common_text status) → IfOk result (λ text. Some (text_bytes text) ≡ common_text status) }
 {
     match status {
         Status::Usage => Ok(Text::Fixed("error: usage\n")),

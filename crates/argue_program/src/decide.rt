@@ -1,0 +1,89 @@
+//! What a run ends with: decided here, and written elsewhere.
+
+ghost use Rattle.std.specs.Prelude.{◌≡◌, ◌⊎◌, ℕ, List, [], IfErr, IfOk, IsErrOf, IsSome, Some, map};
+ghost use Rattle.std.specs.String.{string_bytes};
+ghost use Rattle.argue_outside.specs.Outside.{OtherCountsKept};
+ghost use Rattle.argue_words.specs.Words.{request_of, requested};
+ghost use Rattle.argue_program.specs.Inputs.{EndsReading, input, reading};
+ghost use Rattle.argue_program.specs.Rows.{AnswersQuery, IsEndingOf, nothing_kept, row_of};
+ghost use Rattle.argue_program.specs.Texts.{IsRefusal, common_text, text_bytes};
+
+use crate::answer_text::set_line;
+use crate::ended::{Status, Transcript};
+use crate::input::read_framework;
+use crate::texts::{Text, status_text};
+use crate::writing::Written;
+use argue_outside::{Files, Role};
+use argue_words::{Command, read_words};
+use plain_lists::{Items, Memory};
+use std::alloc::Global;
+
+/// How a run ends, what it keeps, and what it has to write: its files first, each cleared before, and then its
+/// text.
+#[derive(Debug, Drop)]
+pub struct Ending {
+    pub status: Status,
+    pub kept: Transcript,
+    pub text: Text,
+    pub files: Items<Written>,
+}
+
+/// Ends with a status that says itself what is written, and keeps nothing.
+fn stopped(alloc: Global, status: Status) -> Ending
+    requires { IsSome (common_text status) }
+    ensures status { (result.status ≡ status) ⊎ ((result.status ≡ Status.WantOfMemory) × IsRefusal status) }
+    ensures kept { result.kept ≡ nothing_kept }
+    ensures text { Some (text_bytes result.text) ≡ common_text result.status }
+    ensures files { result.files ≡ [] }
+{
+    let kept = Transcript { set: None };
+    let files = Items::new(alloc);
+    match status_text(alloc, status) {
+        Ok(text) => Ending {
+            status,
+            kept,
+            text,
+            files,
+        },
+        Err(Memory) => Ending {
+            status: Status::WantOfMemory,
+            kept,
+            text: Text::Fixed(""),
+            files,
+        },
+    }
+}
+
+/// Ends done with this text.
+fn done(alloc: Global, kept: Transcript, text: Text) -> Ending
+    ensures status { result.status ≡ Status.Done }
+    ensures kept { result.kept ≡ kept }
+    ensures text { text_bytes result.text ≡ text_bytes text }
+    ensures files { result.files ≡ [] }
+{
+    Ending {
+        status: Status::Done,
+        kept,
+        text,
+        files: Items::new(alloc),
+    }
+}
+
+/// The answer to the query for the grounded set of a file's framework, or the status of the run that stops.
+fn answer_grounded<F: Files>(alloc: Global, files: &mut F, name: &str) -> Result<Ending, Status>
+    ensures ok { IfOk result (AnswersQuery (F.holds files.old) name.now) }
+    ensures err { IfErr result (EndsReading (reading (F.holds files.old) (F.serves files.old) (F.read_count files.old)
+        (F.read_count files.new)) (input (Role.Framework 1) name.now)) }
+    ensures quiet { (IsErrOf result (Status.ReadFault (Role.Framework 1)) → ⊥) → F.read_count files.new ≡ F.read_count files.old }
+    ensures others { OtherCountsKept (Role.Framework 1) (F.read_count files.old) (F.read_count files.new) }
+    ensures same { F.holds files.new ≡ F.holds files.old }
+    ensures writes { F.write_count files.new ≡ F.write_count files.old }
+{
+    let framework = read_framework(alloc, files, 1, name)?;
+    let grounded = framework.grounded(alloc)?;
+    let line = set_line(alloc, grounded.set.as_slice())?;
+    let kept = Transcript {
+        set: Some(grounded.set),
+    };
+    Ok(done(alloc, kept, Text::Made(line)))
+}
