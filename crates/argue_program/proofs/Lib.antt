@@ -1,0 +1,3 @@
+pub mod RowsLemmas
+pub mod RunsLemmas
+pub mod WritingLemmas

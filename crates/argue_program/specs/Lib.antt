@@ -1,6 +1,7 @@
 pub mod AnswerText
 pub mod Inputs
 pub mod Rows
+pub mod Runs
 pub mod Statuses
 pub mod Texts
 pub mod Writing

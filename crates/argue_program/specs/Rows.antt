@@ -1,5 +1,5 @@
 -- The table of commands: what each reads, how it may end, and what it then writes.
-use Rattle.std.specs.Prelude.{◌≡◌, ℕ, ◌⊎◌, Bool, true, false, List, [], ◌∷◌, Option, None, Some, IsTrue, codes, map}
+use Rattle.std.specs.Prelude.{◌≡◌, ◌≢◌, Contains, ℕ, ◌⊎◌, Bool, true, false, List, [], ◌∷◌, Option, None, Some, IsTrue, codes, map}
 use Rattle.std.specs.Option.{unwrap_or}
 use Rattle.std.specs.List.Sorted.{IsStrictlyIncreasing}
 use Rattle.std.specs.String.{string_bytes}
@@ -12,7 +12,7 @@ use Rattle.af_format.specs.AfText.{ReadsAs}
 use Rattle.argue_program.specs.AnswerText.{set_text}
 use Rattle.argue_program.specs.Inputs.{HasBytes, Input, Reading, StopsAtFirst}
 use Rattle.argue_program.specs.Texts.{common_text, text_bytes}
-use Rattle.argue_program.specs.declared.decide.Ending.{Ending}
+use Rattle.argue_program.specs.declared.decision.Ending.{Ending}
 use Rattle.argue_program.specs.declared.ended.Status.{Status}
 use Rattle.argue_program.specs.declared.ended.Status.TheVariants.{Done, Usage, ReadFault, WantOfMemory}
 use Rattle.argue_program.specs.declared.ended.Transcript.{Transcript}
@@ -127,17 +127,21 @@ files_beside (Some text) files = []
 abbrev pub file_text : Written → FileText
 file_text file = record { name = string_bytes file.name; bytes = file.bytes }
 
--- no fault of reading is counted but where the run ends by it, and then it is counted in its role alone
-pub record CountsReads (found : Reading) (end : Status) : Type 0 where
-  pub quiet : ((role : Role) → end ≡ ReadFault role → ⊥) → found.new_count ≡ found.old_count
-  pub others : (role other : Role) → end ≡ ReadFault role → (other ≡ role → ⊥) → found.new_count other ≡ found.old_count other
+-- a role in which the row reads no input
+abbrev pub HasNoInput : Row → Role → Type 0
+HasNoInput row role = (input : Input) → Contains row.inputs input → role ≢ input.role
+
+-- no fault of reading is counted but where the run ends by one, and none ever in a role without input
+pub record CountsReads (found : Reading) (row : Row) (end : Status) : Type 0 where
+  pub quiet : ((role : Role) → end ≢ ReadFault role) → found.new_count ≡ found.old_count
+  pub others : (role : Role) → HasNoInput row role → found.new_count role ≡ found.old_count role
 
 -- the ending is one that the row has
 pub record IsEndingOf (found : Reading) (row : Row) (ending : Ending) : Type 0 where
   pub cause : EndsCommand found row ending.kept ending.status
   pub text : text_bytes ending.text ≡ text_of row ending.kept ending.status
   pub files : map file_text ending.files ≡ files_beside (common_text ending.status) (row.files ending.kept ending.status)
-  pub counts : CountsReads found ending.status
+  pub counts : CountsReads found row ending.status
 
 -- the ending of a query for the grounded set of a file that was answered
 pub record AnswersQuery (holds : List ℕ → KnownFile) (file : List ℕ) (ending : Ending) : Type 0 where

@@ -4,7 +4,7 @@ use Rattle.std.specs.Io.KnownBytes.{Appends}
 use Rattle.argue_outside.specs.Outside.{Adds, AddsPart, AppendsPart, Clears, FaultCounted, KnownFile, OtherFilesKept}
 use Rattle.argue_program.specs.Rows.{FileText, file_text}
 use Rattle.argue_program.specs.Texts.{text_bytes}
-use Rattle.argue_program.specs.declared.decide.Ending.{Ending}
+use Rattle.argue_program.specs.declared.decision.Ending.{Ending}
 
 -- what can be written, at one moment
 pub record Output : Type 0 where

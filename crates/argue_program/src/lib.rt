@@ -5,7 +5,7 @@
 #![tactic(auto)]
 
 // pub mod command;
-pub mod decide;
+pub mod decision;
 pub mod answer_text;
 pub mod ended;
 pub mod input;
@@ -13,11 +13,11 @@ pub mod texts;
 pub mod writing;
 
 // pub use command::{execute, refuse_words, run};
-// pub use decide::{Ending, decide};
+pub use decision::{Ending, decide};
 pub use ended::{Cause, Ended, Limit, Refusal, Status, Transcript};
 pub use input::INPUT_LIMIT;
 pub use texts::Text;
-// pub use writing::{Written, write_ending};
+pub use writing::{Written, write_ending};
 
 #[cfg(test)]
 mod tests;

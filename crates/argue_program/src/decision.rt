@@ -5,7 +5,7 @@ ghost use Rattle.std.specs.String.{string_bytes};
 ghost use Rattle.argue_outside.specs.Outside.{OtherCountsKept};
 ghost use Rattle.argue_words.specs.Words.{request_of, requested};
 ghost use Rattle.argue_program.specs.Inputs.{EndsReading, input, reading};
-ghost use Rattle.argue_program.specs.Rows.{AnswersQuery, IsEndingOf, nothing_kept, row_of};
+ghost use Rattle.argue_program.specs.Rows.{AnswersQuery, IsEndingOf, grounded_row, nothing_kept, row_of};
 ghost use Rattle.argue_program.specs.Texts.{IsRefusal, common_text, text_bytes};
 
 use crate::answer_text::set_line;
@@ -86,4 +86,45 @@ fn answer_grounded<F: Files>(alloc: Global, files: &mut F, name: &str) -> Result
         set: Some(grounded.set),
     };
     Ok(done(alloc, kept, Text::Made(line)))
+}
+
+/// The ending of a query for the grounded set of a file's framework.
+fn solve<F: Files>(alloc: Global, files: &mut F, name: &str) -> Ending
+    ensures ending { IsEndingOf (reading (F.holds files.old) (F.serves files.old) (F.read_count files.old)
+        (F.read_count files.new)) (grounded_row (F.holds files.old) name.now) result }
+    ensures same { F.holds files.new ≡ F.holds files.old }
+    ensures writes { F.write_count files.new ≡ F.write_count files.old }
+{
+    match answer_grounded(alloc, files, name) {
+        Ok(ending) => ending,
+        Err(status) => stopped(alloc, status),
+    }
+}
+
+/// The ending of a command.
+fn decide_command<F: Files>(alloc: Global, command: Command, files: &mut F) -> Ending
+    ensures ending { IsEndingOf (reading (F.holds files.old) (F.serves files.old) (F.read_count files.old)
+        (F.read_count files.new)) (row_of (F.holds files.old) (request_of command.entry)) result }
+    ensures same { F.holds files.new ≡ F.holds files.old }
+    ensures writes { F.write_count files.new ≡ F.write_count files.old }
+{
+    match command {
+        Command::Version => done(alloc, Transcript { set: None }, Text::Fixed("argue 1.0\n")),
+        Command::Grounded(file) => solve(alloc, files, file),
+        Command::Unknown => stopped(alloc, Status::Usage),
+    }
+}
+
+/// Decides how a run on these words ends: what it keeps, and what it has to write. Files are read, and nothing is
+/// written. All memory of a run is taken here.
+pub fn decide<F: Files>(alloc: Global, words: &[String], files: &mut F) -> Ending
+    ensures ending { IsEndingOf (reading (F.holds files.old) (F.serves files.old) (F.read_count files.old)
+        (F.read_count files.new)) (row_of (F.holds files.old) (requested (map string_bytes words.now))) result }
+    ensures same { F.holds files.new ≡ F.holds files.old }
+    ensures writes { F.write_count files.new ≡ F.write_count files.old }
+{
+    match read_words(alloc, words) {
+        Ok(command) => decide_command(alloc, command, files),
+        Err(Memory) => stopped(alloc, Status::WantOfMemory),
+    }
 }
