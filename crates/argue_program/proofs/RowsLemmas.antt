@@ -1,17 +1,15 @@
 -- Endings that a row of the table has.
-use Rattle.std.proofs.Common.{◌≡◌, ◌≢◌, ◌<◌, ◌∙◌, ◌⊎◌, ℕ, List, [], ◌∷◌, length, refl, sym, ap, subst, inl, inr, arith, Option, None, Some, Err, IfErr, map}
-use Rattle.std.specs.Prelude.{Contains, IsErrOf, IsSome, IsTrue}
+use Rattle.std.proofs.Common.{◌≡◌, ◌≢◌, ◌<◌, ◌∙◌, ◌⊎◌, ℕ, List, [], ◌∷◌, refl, sym, ap, subst, inl, inr, arith, Some}
+use Rattle.std.specs.Prelude.{Contains, IsSome, IsTrue}
 use Rattle.argue_outside.specs.Outside.{KnownFile, OtherCountsKept}
 use Rattle.argue_outside.specs.declared.Role.{Role}
 use Rattle.argue_outside.specs.declared.Role.TheVariants as role
 use Rattle.argue_words.specs.Words.{Request, version, grounded, unknown, requested}
 use Rattle.argue_words.proofs.RequestLaws.{none_requested}
-use Rattle.argue_program.specs.Inputs.{EndsReading, Follow, Input, Reading, StopsAt, StopsAtFirst, input}
-use Rattle.argue_program.specs.Rows.{CountsReads, EndsCommand, IsEndingOf, Row, file_text, files_beside, grounded_row, nothing_kept, row_of, text_of}
+use Rattle.argue_program.specs.Inputs.{EndsReading, Follow, Input, Reading, input}
+use Rattle.argue_program.specs.Rows.{CountsReads, EndsCommand, IsEndingOf, Row, grounded_row, nothing_kept, row_of}
 use Rattle.argue_program.specs.Texts.{IsRefusal, common_text, text_bytes}
 use Rattle.argue_program.specs.declared.decision.Ending.{Ending}
-use Rattle.argue_program.specs.declared.ended.Limit.TheVariants as limit
-use Rattle.argue_program.specs.declared.ended.Refusal.TheVariants.{Line}
 use Rattle.argue_program.specs.declared.ended.Status.{Status}
 use Rattle.argue_program.specs.declared.ended.Status.TheVariants.{Done, Usage, InputRefused, ReadFault, WriteFault, WantOfMemory, Limit}
 use Rattle.argue_program.specs.declared.ended.Transcript.{Transcript}

@@ -1,7 +1,6 @@
 -- What a run does, and what follows of it in the words of its query.
-use Rattle.std.specs.Prelude.{◌≡◌, ◌≢◌, ℕ, ◌⊎◌, List, [], Some}
+use Rattle.std.specs.Prelude.{◌≡◌, ◌≢◌, ℕ, ◌⊎◌, List, Some}
 use Rattle.argue_outside.specs.Outside.{FaultCounted, KnownFile}
-use Rattle.argue_outside.specs.declared.Role.{Role}
 use Rattle.argue_outside.specs.declared.Role.TheVariants as role
 use Rattle.argue_words.specs.Words.{IsGroundedQuery}
 use Rattle.af_format.specs.Faults.{HasFault}
@@ -14,7 +13,7 @@ use Rattle.argue_program.specs.declared.ended.Ended.{Ended}
 use Rattle.argue_program.specs.declared.ended.Limit.TheVariants as limit
 use Rattle.argue_program.specs.declared.ended.Refusal.TheVariants.{Line}
 use Rattle.argue_program.specs.declared.ended.Status.{Status}
-use Rattle.argue_program.specs.declared.ended.Status.TheVariants.{Done, Usage, InputRefused, ReadFault, WriteFault, WantOfMemory, Limit}
+use Rattle.argue_program.specs.declared.ended.Status.TheVariants.{Done, Usage, InputRefused, WriteFault, WantOfMemory, Limit}
 
 -- the run comes to an ending that its row has, and writes it whole, or ends with a write fault in the midst of it
 pub record IsRunOf (found : Reading) (row : Row) (ended : Ended) (old new : Output) : Type 0 where

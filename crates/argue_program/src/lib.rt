@@ -4,7 +4,7 @@
 //! every other way to end has its cause. It decides first and writes then: `decide` makes the ending, `write_ending` writes it.
 #![tactic(auto)]
 
-// pub mod command;
+pub mod command;
 pub mod decision;
 pub mod answer_text;
 pub mod ended;
@@ -12,7 +12,7 @@ pub mod input;
 pub mod texts;
 pub mod writing;
 
-// pub use command::{execute, refuse_words, run};
+pub use command::{execute, run};
 pub use decision::{Ending, decide};
 pub use ended::{Cause, Ended, Limit, Refusal, Status, Transcript};
 pub use input::INPUT_LIMIT;

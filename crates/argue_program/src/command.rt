@@ -1,0 +1,110 @@
+//! The top call.
+
+ghost use Rattle.std.specs.Prelude.{◌≡◌, ◌≢◌, ℕ, ◌<◌, ◌≤◌, List, [], Some, length, map};
+ghost use Rattle.std.specs.String.{string_bytes};
+ghost use Rattle.argue_outside.specs.Outside.{FaultCounted, OtherCountsKept};
+ghost use Rattle.argue_words.specs.Words.{AreWords, requested};
+ghost use Rattle.af_format.specs.AfText.{IsReadable};
+ghost use Rattle.argue_program.specs.Inputs.{reading};
+ghost use Rattle.argue_program.specs.Rows.{row_of};
+ghost use Rattle.argue_program.specs.Runs.{IsDoneOrMemory, IsFaulty, IsRightFor, IsRunOf, QueriesBytes, RefusesBytes, RefusesLength, RefusesWords};
+ghost use Rattle.argue_program.specs.Writing.{output};
+ghost use Rattle.argue_program.specs.declared.input.TheConstants.{INPUT_LIMIT};
+
+use crate::decision::decide;
+use crate::ended::{Ended, Status};
+use crate::writing::write_ending;
+use argue_outside::{Files, Pace, Role, Sink};
+use std::alloc::Global;
+use std::sync::Wait;
+use std::thread::Threads;
+
+/// Runs the program on the words after its name: decides the ending, and writes it. It waits for nobody, so it
+/// is proved to return.
+pub fn execute<F: Files, O: Sink>(alloc: Global, words: &[String], files: &mut F, out: &mut O) -> Ended
+    // What the run does, by the row of what its words ask for. The rest follows.
+    ensures run { IsRunOf
+        (reading (F.holds files.old) (F.serves files.old) (F.read_count files.old) (F.read_count files.new))
+        (row_of (F.holds files.old) (requested (map string_bytes words.now))) result
+        (output (F.holds files.old) (F.write_count files.old) (O.contents out.old) (O.fault_count out.old))
+        (output (F.holds files.new) (F.write_count files.new) (O.contents out.new) (O.fault_count out.new)) }
+
+    // The headline, for the one query there is: a set that the run keeps is the right answer.
+    ensures right { (set : List ℕ) → result.kept.set ≡ Some set
+        → IsRightFor (map string_bytes words.now) (F.holds files.old) set }
+
+    // Completeness: with well-formed words and input and no fault, the run does what was asked, or wants memory.
+    ensures version { map string_bytes words.now ≡ [] → result.status ≢ Status.WriteFault → result.status ≡ Status.Done }
+    ensures complete { (file bytes : List ℕ) → QueriesBytes
+        (reading (F.holds files.old) (F.serves files.old) (F.read_count files.old) (F.read_count files.new))
+        (map string_bytes words.now) file bytes
+        → IsReadable bytes → length bytes ≤ INPUT_LIMIT → result.status ≢ Status.WriteFault → IsDoneOrMemory result.status }
+
+    // The converses: words that aren't well-formed are refused, and so is a file with a fault and one over the limit.
+    ensures usage { ¬ AreWords (map string_bytes words.now) → RefusesWords result.status }
+    ensures faulty { (file bytes : List ℕ) → QueriesBytes
+        (reading (F.holds files.old) (F.serves files.old) (F.read_count files.old) (F.read_count files.new))
+        (map string_bytes words.now) file bytes
+        → IsFaulty bytes → length bytes ≤ INPUT_LIMIT → RefusesBytes bytes result.status }
+    ensures too_long { (file bytes : List ℕ) → QueriesBytes
+        (reading (F.holds files.old) (F.serves files.old) (F.read_count files.old) (F.read_count files.new))
+        (map string_bytes words.now) file bytes
+        → INPUT_LIMIT < length bytes → RefusesLength result.status }
+
+    // A write fault was counted. No file changes, and no other count of faults does.
+    ensures write_fault { result.status ≡ Status.WriteFault → FaultCounted (O.fault_count out.old) (O.fault_count out.new) }
+    ensures contents_stay { F.holds files.new ≡ F.holds files.old }
+    ensures no_write { F.write_count files.new ≡ F.write_count files.old }
+    ensures no_other_read { OtherCountsKept (Role.Framework 1) (F.read_count files.old) (F.read_count files.new) }
+{
+    let ending = decide(alloc, words, files);
+    write_ending(files, out, ending)
+}
+
+/// Runs the program on the words after its name, with what its sessions need beside files and output: a runtime,
+/// and a gate for tests. No command has sessions yet, so all is done by `execute`.
+pub fn run<F: Files, O: Sink, P: Pace + Sync, R: Threads + Wait + Sync>(
+    _rt: &R,
+    alloc: Global,
+    words: &[String],
+    files: &mut F,
+    out: &mut O,
+    _pace: &P,
+) -> Ended
+    // What the run does, by the row of what its words ask for. The rest follows.
+    ensures run { IsRunOf
+        (reading (F.holds files.old) (F.serves files.old) (F.read_count files.old) (F.read_count files.new))
+        (row_of (F.holds files.old) (requested (map string_bytes words.now))) result
+        (output (F.holds files.old) (F.write_count files.old) (O.contents out.old) (O.fault_count out.old))
+        (output (F.holds files.new) (F.write_count files.new) (O.contents out.new) (O.fault_count out.new)) }
+
+    // The headline, for the one query there is: a set that the run keeps is the right answer.
+    ensures right { (set : List ℕ) → result.kept.set ≡ Some set
+        → IsRightFor (map string_bytes words.now) (F.holds files.old) set }
+
+    // Completeness: with well-formed words and input and no fault, the run does what was asked, or wants memory.
+    ensures version { map string_bytes words.now ≡ [] → result.status ≢ Status.WriteFault → result.status ≡ Status.Done }
+    ensures complete { (file bytes : List ℕ) → QueriesBytes
+        (reading (F.holds files.old) (F.serves files.old) (F.read_count files.old) (F.read_count files.new))
+        (map string_bytes words.now) file bytes
+        → IsReadable bytes → length bytes ≤ INPUT_LIMIT → result.status ≢ Status.WriteFault → IsDoneOrMemory result.status }
+
+    // The converses: words that aren't well-formed are refused, and so is a file with a fault and one over the limit.
+    ensures usage { ¬ AreWords (map string_bytes words.now) → RefusesWords result.status }
+    ensures faulty { (file bytes : List ℕ) → QueriesBytes
+        (reading (F.holds files.old) (F.serves files.old) (F.read_count files.old) (F.read_count files.new))
+        (map string_bytes words.now) file bytes
+        → IsFaulty bytes → length bytes ≤ INPUT_LIMIT → RefusesBytes bytes result.status }
+    ensures too_long { (file bytes : List ℕ) → QueriesBytes
+        (reading (F.holds files.old) (F.serves files.old) (F.read_count files.old) (F.read_count files.new))
+        (map string_bytes words.now) file bytes
+        → INPUT_LIMIT < length bytes → RefusesLength result.status }
+
+    // A write fault was counted. No file changes, and no other count of faults does.
+    ensures write_fault { result.status ≡ Status.WriteFault → FaultCounted (O.fault_count out.old) (O.fault_count out.new) }
+    ensures contents_stay { F.holds files.new ≡ F.holds files.old }
+    ensures no_write { F.write_count files.new ≡ F.write_count files.old }
+    ensures no_other_read { OtherCountsKept (Role.Framework 1) (F.read_count files.old) (F.read_count files.new) }
+{
+    execute(alloc, words, files, out)
+}
