@@ -6,11 +6,11 @@ use Rattle.meaning_atoms.specs.declared.atom.Atom.TheVariants.{Member, Live, Att
 use Rattle.meaning_atoms.specs.declared.atom.Atom.TheVariants.{Cf, Ad, Co, St}
 use Rattle.meaning_atoms.specs.declared.axiom.AfAxiom.{AfAxiom}
 use Rattle.meaning_atoms.specs.declared.axiom.AfAxiom.TheVariants.{A1, A2, A3, A4, A5, A6, A7, A8, A9, A10, A14}
-use Rattle.meaning_atoms.specs.Framework.{Af, Attacks, IsAttackedBy, Defends}
+use Rattle.semantics.specs.Framework.{Af, Attacks, IsAttackedBy, Defends}
 use Rattle.meaning_atoms.specs.Worlds.{World, IsWorld, HasGap, HasTail, HasUnmet, IsValid}
-use Rattle.meaning_atoms.proofs.Decided.{decide_attacked}
+use Rattle.semantics.proofs.Decided.{decide_attacked}
 use Rattle.meaning_atoms.proofs.Readings.{decide_unmet}
-use Rattle.meaning_atoms.proofs.Extensions.{stable_largest, preferred_complete}
+use Rattle.semantics.proofs.Extensions.{stable_largest, preferred_complete}
 use Rattle.af_axioms.specs.Table.{affirmed, denied, table_clause, notion_clause}
 use Rattle.af_axioms.proofs.Clauses.{so, or_else, given}
 

@@ -3,7 +3,7 @@ use Rattle.std.proofs.Common.{◌≡◌, ℕ, Bool}
 use Rattle.std.specs.Prelude.{◌↔◌, IsTrue}
 use Rattle.meaning_atoms.specs.declared.atom.Atom.{Atom}
 use Rattle.meaning_atoms.specs.declared.atom.Atom.TheVariants.{Gap}
-use Rattle.meaning_atoms.specs.Framework.{Af}
+use Rattle.semantics.specs.Framework.{Af}
 use Rattle.meaning_atoms.specs.Worlds.{HasGap}
 use Rattle.af_axioms.specs.Facts.{IsFactValue}
 

@@ -2,7 +2,7 @@
 use Rattle.std.specs.Prelude.{◌≡◌, ◌↔◌, Bool, IsTrue, List}
 use Rattle.meaning_atoms.specs.declared.atom.Atom.{Atom}
 use Rattle.meaning_atoms.specs.declared.atom.AtomLit.{AtomLit}
-use Rattle.meaning_atoms.specs.Framework.{Af}
+use Rattle.semantics.specs.Framework.{Af}
 use Rattle.meaning_atoms.specs.Worlds.{World, Holds, IsFact}
 
 -- the framework alone fixes whether the atom is so, and the value says it, whatever the set and the side clauses

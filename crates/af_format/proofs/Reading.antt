@@ -10,7 +10,7 @@ use Rattle.num_text.specs.Cuts.{LineText, field_texts, lines_of}
 use Rattle.af_format.specs.declared.fault.LineCause.{LineCause}
 use Rattle.af_format.specs.AfText.{IsHeader, IsAttackLine, AreAttackLines, IsFrameworkOf, ReadsAs}
 use Rattle.num_text.specs.Lines.{kept}
-use Rattle.meaning_atoms.specs.Framework.{Af, IsAf}
+use Rattle.semantics.specs.Framework.{Af, IsAf}
 use Rattle.af_format.specs.Causes.{IsFirstCause}
 use Rattle.af_format.specs.Faults.{StandsOnAttack, IsHeaderFault, IsAttackFault, StandsIn, IsFaultless, IsFirstFault, IfLine}
 use Rattle.dung_notions.specs.Solid.{IsSolid}

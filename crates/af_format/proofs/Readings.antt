@@ -8,7 +8,7 @@ use Rattle.std.proofs.lemmas.List.Elements.{Contains-get_or}
 use Rattle.std.proofs.lemmas.List.Kept.{AllPairs-cons}
 use Rattle.num_text.specs.Cuts.{LineText, lines_of}
 use Rattle.num_text.specs.Number.{IsNumber}
-use Rattle.meaning_atoms.specs.Framework.{Af, IsPairBefore}
+use Rattle.semantics.specs.Framework.{Af, IsPairBefore}
 use Rattle.af_format.specs.declared.fault.LineCause.{LineCause}
 use Rattle.af_format.specs.declared.fault.ReadFault.{ReadFault}
 use Rattle.af_format.specs.declared.fault.ReadFault.TheVariants.{Line, Memory}

@@ -16,7 +16,7 @@ use Rattle.num_text.specs.Number.{IsDigit}
 use Rattle.num_text.proofs.Decimals.{decimal_number}
 use Rattle.num_text.proofs.PairLemmas.{digit_no_end, no_blanks, not_empty, two_texts, digits_say}
 use Rattle.num_text.proofs.CutLemmas.{lines_from-nil, lines_from-first}
-use Rattle.meaning_atoms.specs.Framework.{Af, IsAf}
+use Rattle.semantics.specs.Framework.{Af, IsAf}
 use Rattle.num_text.specs.Lines.{are_skipped, kept}
 use Rattle.af_format.specs.AfText.{IsAttackLine, ReadsAs}
 use Rattle.dung_notions.specs.Solid.{IsSolid}

@@ -3,7 +3,7 @@ use Rattle.std.specs.Prelude.{◌≡◌, ◌↔◌, ℕ, ◌≤◌, List, [], �
 use Rattle.std.specs.List.{AllZip, range_with_len}
 use Rattle.num_text.specs.Cuts.{LineText, field_texts}
 use Rattle.num_text.specs.Number.{IsNumber}
-use Rattle.meaning_atoms.specs.Framework.{Af, IsAf}
+use Rattle.semantics.specs.Framework.{Af, IsAf}
 use Rattle.num_text.specs.Lines.{kept_lines}
 
 -- the line is `p af n`, where n is the number of arguments

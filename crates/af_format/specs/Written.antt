@@ -2,7 +2,7 @@
 use Rattle.std.specs.Prelude.{ℕ, List, [], ◌∷◌, ◌++◌, length, codes}
 use Rattle.std.specs.List.{flat_map}
 use Rattle.std.specs.Fmt.{decimal}
-use Rattle.meaning_atoms.specs.Framework.{Af}
+use Rattle.semantics.specs.Framework.{Af}
 
 -- the header's line, its LF included
 abbrev pub header_line : ℕ → List ℕ

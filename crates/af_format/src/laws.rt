@@ -2,7 +2,7 @@
 //! and each text is either readable or faulty.
 
 ghost use Rattle.std.specs.Prelude.{◌≡◌, ℕ, ◌≤◌, List, length, IfOk, IfErr, OnOk};
-ghost use Rattle.meaning_atoms.specs.Framework.{Af};
+ghost use Rattle.semantics.specs.Framework.{Af};
 ghost use Rattle.dung_notions.specs.Solid.{IsSolid};
 ghost use Rattle.num_text.specs.Cuts.{lines_of};
 ghost use Rattle.num_text.specs.Lines.{kept};

@@ -7,7 +7,7 @@ ghost use Rattle.num_text.specs.Lines.{kept};
 ghost use Rattle.af_format.specs.AfText.{AreAttackLines, IsFrameworkOf, ReadsAs};
 ghost use Rattle.af_format.specs.Faults.{IsFirstFault, IsFaultless, IfLine};
 ghost use Rattle.dung_notions.specs.Solid.{IsSolid};
-ghost use Rattle.meaning_atoms.specs.Framework.{Af};
+ghost use Rattle.semantics.specs.Framework.{Af};
 ghost use Rattle.af_format.specs.FirstBadLine.{BeginWithHeader, IsFirstBadLine};
 
 use crate::af_line::header_of;

@@ -2,7 +2,7 @@
 
 ghost use Rattle.std.specs.Prelude.{◌≡◌, ◌≤◌, length, IfOk};
 ghost use Rattle.std.specs.String.{string_bytes};
-ghost use Rattle.meaning_atoms.specs.Framework.{IsAf};
+ghost use Rattle.semantics.specs.Framework.{IsAf};
 ghost use Rattle.af_format.specs.AfText.{ReadsAs};
 ghost use Rattle.dung_notions.specs.Solid.{IsSolid};
 ghost use Rattle.af_format.specs.Written.{af_text};

@@ -3,7 +3,7 @@ use Rattle.std.specs.Prelude.{◌≡◌, ℕ, ◌≤◌, ◌⊎◌, List, [], �
 use Rattle.argue_outside.specs.Outside.{FaultCounted, HoldsWhole, IsLonger, KnownFile}
 use Rattle.argue_outside.specs.declared.Role.{Role}
 use Rattle.argue_outside.specs.declared.Role.TheVariants.{Framework}
-use Rattle.meaning_atoms.specs.Framework.{Af}
+use Rattle.semantics.specs.Framework.{Af}
 use Rattle.af_format.specs.AfText.{ReadsAs}
 use Rattle.af_format.specs.Faults.{IsFirstFault}
 use Rattle.af_format.specs.declared.fault.ReadFault.{ReadFault as AfFault}

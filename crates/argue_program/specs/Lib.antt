@@ -1,4 +1,3 @@
-pub mod AnswerText
 pub mod Inputs
 pub mod Rows
 pub mod Runs

@@ -3,13 +3,13 @@ use Rattle.std.specs.Prelude.{◌≡◌, ◌≢◌, Contains, ℕ, ◌⊎◌, Bo
 use Rattle.std.specs.Option.{unwrap_or}
 use Rattle.std.specs.List.Sorted.{IsStrictlyIncreasing}
 use Rattle.std.specs.String.{string_bytes}
-use Rattle.meaning_atoms.specs.Framework.{Af, IsGrounded}
+use Rattle.semantics.specs.Framework.{Af, IsGrounded}
 use Rattle.argue_outside.specs.Outside.{KnownFile}
+use Rattle.iccma_tasks.specs.WrittenText.{set_line}
 use Rattle.argue_outside.specs.declared.Role.{Role}
 use Rattle.argue_outside.specs.declared.Role.TheVariants.{Framework}
 use Rattle.argue_words.specs.Words.{Request, version, grounded, unknown}
 use Rattle.af_format.specs.AfText.{ReadsAs}
-use Rattle.argue_program.specs.AnswerText.{set_text}
 use Rattle.argue_program.specs.Inputs.{HasBytes, Input, Reading, StopsAtFirst}
 use Rattle.argue_program.specs.Texts.{common_text, text_bytes}
 use Rattle.argue_program.specs.declared.decision.Ending.{Ending}
@@ -71,7 +71,7 @@ EndsAnswered known kept end = KeepsAnswer known kept × (end ≡ Done)
 -- the line of the set that is kept
 abbrev pub kept_text : Option (List ℕ) → List ℕ
 kept_text None = []
-kept_text (Some set) = set_text set
+kept_text (Some set) = set_line set
 
 abbrev pub version_row : Row
 version_row = record {

@@ -8,13 +8,13 @@ ghost use Rattle.argue_program.specs.Inputs.{EndsReading, input, reading};
 ghost use Rattle.argue_program.specs.Rows.{AnswersQuery, IsEndingOf, grounded_row, nothing_kept, row_of};
 ghost use Rattle.argue_program.specs.Texts.{IsRefusal, common_text, text_bytes};
 
-use crate::answer_text::set_line;
 use crate::ended::{Status, Transcript};
 use crate::input::read_framework;
 use crate::texts::{Text, status_text};
 use crate::writing::Written;
 use argue_outside::{Files, Role};
 use argue_words::{Command, read_words};
+use iccma_tasks::push_set;
 use plain_lists::{Items, Memory};
 use std::alloc::Global;
 
@@ -81,7 +81,8 @@ fn answer_grounded<F: Files>(alloc: Global, files: &mut F, name: &str) -> Result
 {
     let framework = read_framework(alloc, files, 1, name)?;
     let grounded = framework.grounded(alloc)?;
-    let line = set_line(alloc, grounded.set.as_slice())?;
+    let mut line = String::new(alloc);
+    push_set(&mut line, &grounded.set)?;
     let kept = Transcript {
         set: Some(grounded.set),
     };

@@ -6,7 +6,6 @@
 
 pub mod command;
 pub mod decision;
-pub mod answer_text;
 pub mod ended;
 pub mod input;
 pub mod texts;

@@ -111,11 +111,11 @@ fn only(alloc: Global, number: u64) -> Result<Items<u64>, Fail> {
 #[test]
 fn faults(rt: HostRuntime) -> Result<(), Fail> {
     let alloc = rt.alloc();
-    // The call of the files that fails, the most bytes of a fetch, and the same of the sink. Calls count from
-    // 1. The first call writes the file, so that the first fetch is the second.
+    // The call of the files that fails, the most bytes of a fetch and of an append, and the same of the sink. Calls
+    // count from 1. The first calls write the file's 15 bytes: one call, or five of three bytes.
     let rows = [
         (2, usize::MAX, 0, usize::MAX, "error: read framework\n", 3),
-        (4, 3, 0, usize::MAX, "error: read framework\n", 3),
+        (8, 3, 0, usize::MAX, "error: read framework\n", 3),
         (0, 3, 0, 1, "w 1 3\n", 0),
         (0, usize::MAX, 1, usize::MAX, "", 4),
         (0, usize::MAX, 3, 1, "w ", 4),
@@ -152,6 +152,10 @@ impl Files for Zeros {
     ghost use Rattle.std.specs.Prelude.{Some, replicate};
 
     ghost holds = { λ s _. Some (Some (replicate s.size 0)) };
+
+    ghost serves = { λ _ _. Unit {0} };
+
+    ghost accepts = { λ _ _. ⊥ };
 
     ghost read_count = { λ _ _. 0 };
 

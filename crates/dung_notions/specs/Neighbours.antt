@@ -1,6 +1,6 @@
 -- The attacks that leave an argument, and those that reach it.
 use Rattle.std.specs.Prelude.{◌≡◌, ◌↔◌, ℕ, List, Contains}
-use Rattle.meaning_atoms.specs.Framework.{Af, Attacks}
+use Rattle.semantics.specs.Framework.{Af, Attacks}
 use Rattle.dung_notions.specs.Places.{PairsRise}
 
 -- the pairs (argument, target) of exactly the attacks that leave the argument, by rising target

@@ -28,7 +28,7 @@ use Rattle.std.specs.Prelude.{
   count_by,
   sum,
 }
-use Rattle.meaning_atoms.specs.Framework.{Af, Attacks, IsAttackedBy, Defends}
+use Rattle.semantics.specs.Framework.{Af, Attacks, IsAttackedBy, Defends}
 use Rattle.dung_notions.specs.Grounding.{EntersAfterDefenders}
 
 -- no number stands twice in the order

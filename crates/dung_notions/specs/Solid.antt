@@ -1,7 +1,7 @@
 -- Frameworks whose arguments are numbered without a gap.
 use Rattle.std.specs.Prelude.{◌≡◌, ◌≤◌, length}
 use Rattle.std.specs.List.{range_with_len}
-use Rattle.meaning_atoms.specs.Framework.{Af}
+use Rattle.semantics.specs.Framework.{Af}
 
 -- the live arguments are the numbers from 1 to n, for some n of at most a million
 pub record IsSolid (f : Af) : Type 0 where

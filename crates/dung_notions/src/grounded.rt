@@ -2,7 +2,7 @@
 
 ghost use Rattle.std.specs.Prelude.{◌≡◌, ℕ, ◌<◌, ◌==◌, []};
 ghost use Rattle.std.specs.Prelude.{Contains, IfOk, OnOk, length, filter, slice_index};
-ghost use Rattle.meaning_atoms.specs.Framework.{IsAf, Attacks, IsAttackedBy};
+ghost use Rattle.semantics.specs.Framework.{IsAf, Attacks, IsAttackedBy};
 ghost use Rattle.dung_notions.specs.Grounding.{GroundsInOrder};
 ghost use Rattle.dung_notions.specs.Search.{IsKept, ClosesAttack, Grows, IsAttackedFrom, PutsOut, IsFinished};
 

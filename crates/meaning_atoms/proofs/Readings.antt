@@ -1,40 +1,16 @@
 -- Every atom is so in a world or is not, and which of the two can be found out.
-use Rattle.std.proofs.Common.{◌≡◌, ◌⊎◌, inl, inr, ⊎_elim, ℕ, ◌≤◌, ◌<◌, ◌-◌, Bool, true, false, List, [], length, refl, subst, arith}
-use Rattle.std.specs.Prelude.{◌↔◌, Contains, slice_index_or}
-use Rattle.std.proofs.lemmas.Bool.{cases_eq, cases_lt}
+use Rattle.std.proofs.Common.{◌≡◌, inl, inr, ⊎_elim, ℕ, ◌≤◌, ◌<◌, ◌-◌, Bool, true, false, List, [], length, refl, subst}
+use Rattle.std.specs.Prelude.{◌↔◌, slice_index_or}
+use Rattle.std.proofs.lemmas.Bool.{cases_eq}
 use Rattle.meaning_atoms.specs.declared.atom.Atom.{Atom}
 use Rattle.meaning_atoms.specs.declared.atom.Atom.TheVariants.{Member, Live, Attack, Gap, Tail, Unmet, Range, Cf, Ad, Co, St, Ask}
 use Rattle.meaning_atoms.specs.declared.atom.AtomLit.{AtomLit}
-use Rattle.meaning_atoms.specs.Framework.{Af, Attacks, IsAttackedBy, Defends, IsConflictFree, IsAdmissible, IsComplete, IsStable}
+use Rattle.semantics.specs.Framework.{Af, Attacks, IsAttackedBy}
 use Rattle.meaning_atoms.specs.Worlds.{World, HasGap, HasTail, HasUnmet, HoldsAlone, Says, IsTrueAlone, IsSideTrue, Holds, HoldsLit, IsTrueBeside}
 use Rattle.meaning_atoms.specs.Readings.{HasReading}
-use Rattle.meaning_atoms.proofs.Decided.{Decided, search_list, found_in, decide_member, decide_attacks, decide_attacked, decide_defends}
-
-pub decide_both : {P Q : Type 0} → Decided P → Decided Q → Decided (P × Q)
-decide_both p q = ⊎_elim (λ a. ⊎_elim (λ b. inl (a, b)) (λ no. inr (λ h. no h.1)) q) (λ no. inr (λ h. no h.0)) p
-
-pub decide_either : {P Q : Type 0} → Decided P → Decided Q → Decided (P ⊎ Q)
-decide_either p q = ⊎_elim (λ a. inl (inl a)) (λ no. ⊎_elim (λ b. inl (inr b)) (λ none. inr (λ h. ⊎_elim no none h)) q) p
-
-pub decide_not : {P : Type 0} → Decided P → Decided (P → ⊥)
-decide_not p = ⊎_elim (λ a. inr (λ no. no a)) (λ no. inl no) p
-
-pub decide_some : {X : Type 0} (P : X → Type 0) → ((x : X) → Decided (P x)) → (xs : List X) → Decided ((x : X) × Contains xs x × P x)
-decide_some P decide xs =
-    ⊎_elim (λ w. inl (w.item, found_in P xs w, w.holds)) (λ none. inr (λ h. none h.0 h.1 h.2)) (search_list P decide xs)
-
-pub decide_each : {X : Type 0} (P : X → Type 0) → ((x : X) → Decided (P x)) → (xs : List X) → Decided ((x : X) → Contains xs x → P x)
-decide_each P decide xs =
-    ⊎_elim
-    (λ w. inr (λ h. w.holds (h w.item (found_in (λ x. P x → ⊥) xs w))))
-    (λ none. inl (λ x c. ⊎_elim (λ p. p) (λ no. absurd (none x c no)) (decide x)))
-    (search_list (λ x. P x → ⊥) (λ x. decide_not (decide x)) xs)
-
-pub decide_at_most : (m n : ℕ) → Decided (m ≤ n)
-decide_at_most m n = ⊎_elim (λ less. inr (λ h. omega arith)) (λ h. inl h) (cases_lt n m)
-
-pub decide_below : (m n : ℕ) → Decided (m < n)
-decide_below m n = ⊎_elim (λ h. inl h) (λ no. inr (λ h. omega arith)) (cases_lt m n)
+use Rattle.semantics.proofs.Decided.{Decided, decide_both, decide_either, decide_not, decide_some, decide_at_most, decide_below}
+use Rattle.semantics.proofs.Decided.{decide_member, decide_attacks, decide_attacked}
+use Rattle.semantics.proofs.DecidedNotions.{decide_conflict_free, decide_admissible, decide_complete, decide_stable}
 
 -- no attacker of a that stands from i to just before j
 pub decide_gap : (f : Af) (a i j : ℕ) → Decided (HasGap f a i j)
@@ -60,36 +36,6 @@ decide_unmet f s a i =
     (λ h. inl (record { attacker = h.0.0; late = h.2.1.0; attack = subst (λ x. Attacks f h.0.0 x) h.2.0 h.1; unmet = h.2.1.1 }))
     (λ none. inr (λ u. none ((u.attacker, a), u.attack, (refl, (u.late, u.unmet)))))
     (decide_some Late (λ p. decide_both (cases_eq p.1 a) (decide_both (decide_at_most i p.0) (decide_not (decide_attacked f s p.0)))) f.attacks)
-
-pub decide_conflict_free : (f : Af) (s : List ℕ) → Decided (IsConflictFree f s)
-decide_conflict_free f s =
-    let Inside : ℕ × ℕ → Type 0 = λ p. Contains s p.0 × Contains s p.1 in
-    ⊎_elim
-    (λ live. ⊎_elim
-    (λ apart. inl (record { live = live; apart = λ b a cb ca at. apart (b, a) at (cb, ca) }))
-    (λ no. inr (λ h. no (λ p c both. h.apart p.0 p.1 both.0 both.1 c)))
-    (decide_each (λ p. Inside p → ⊥) (λ p. decide_not (decide_both (decide_member s p.0) (decide_member s p.1))) f.attacks))
-    (λ no. inr (λ h. no h.live))
-    (decide_each (λ x. Contains f.live x) (λ x. decide_member f.live x) s)
-
-pub decide_admissible : (f : Af) (s : List ℕ) → Decided (IsAdmissible f s)
-decide_admissible f s =
-    ⊎_elim (λ h. inl (record { conflict_free = h.0; defended = h.1 })) (λ no. inr (λ h. no (h.conflict_free, h.defended)))
-    (decide_both (decide_conflict_free f s) (decide_each (λ a. Defends f s a) (λ a. decide_defends f s a) s))
-
-decide_implied : {P Q : Type 0} → Decided P → Decided Q → Decided (P → Q)
-decide_implied p q = ⊎_elim (λ h. inl (λ a. h)) (λ no. ⊎_elim (λ a. inr (λ h. no (h a))) (λ none. inl (λ a. absurd (none a))) p) q
-
-pub decide_complete : (f : Af) (s : List ℕ) → Decided (IsComplete f s)
-decide_complete f s =
-    ⊎_elim (λ h. inl (record { admissible = h.0; closed = h.1 })) (λ no. inr (λ h. no (h.admissible, h.closed)))
-    (decide_both (decide_admissible f s) (decide_each (λ a. Defends f s a → Contains s a) (λ a. decide_implied (decide_defends f s a) (decide_member s a)) f.live))
-
-pub decide_stable : (f : Af) (s : List ℕ) → Decided (IsStable f s)
-decide_stable f s =
-    ⊎_elim (λ h. inl (record { conflict_free = h.0; attacks_outside = h.1 })) (λ no. inr (λ h. no (h.conflict_free, h.attacks_outside)))
-    (decide_both (decide_conflict_free f s)
-    (decide_each (λ a. (Contains s a → ⊥) → IsAttackedBy f s a) (λ a. decide_implied (decide_not (decide_member s a)) (decide_attacked f s a)) f.live))
 
 pub decide_alone : (w : World) (atom : Atom) → Decided (HoldsAlone w atom)
 decide_alone w (Member a) = decide_member w.set a

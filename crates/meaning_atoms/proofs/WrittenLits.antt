@@ -11,7 +11,8 @@ use Rattle.num_text.proofs.Decimals.{decimal_number}
 use Rattle.meaning_atoms.specs.declared.atom.Atom.{Atom}
 use Rattle.meaning_atoms.specs.declared.atom.Atom.TheVariants.{Member, Live, Attack, Gap, Tail, Unmet, Range, Cf, Ad, Co, St, Ask}
 use Rattle.meaning_atoms.specs.declared.atom.AtomLit.{AtomLit}
-use Rattle.meaning_atoms.specs.Atoms.{IsArgument, IsPlace, IsAtom, IsLit}
+use Rattle.semantics.specs.Arguments.{IsArgument}
+use Rattle.meaning_atoms.specs.Atoms.{IsPlace, IsAtom, IsLit}
 use Rattle.meaning_atoms.specs.AtomText.{is_colon, lit_text, name_of, numbers_of, signed, IsLitText}
 
 -- no byte of the text is a colon

@@ -1,18 +1,15 @@
 -- The numbers that an atom may speak of.
 use Rattle.std.specs.Prelude.{ℕ, ◌≤◌}
+use Rattle.semantics.specs.Arguments.{IsArgument}
+use Rattle.meaning_atoms.specs.declared.atom.TheConstants.{END}
 use Rattle.meaning_atoms.specs.declared.atom.Atom.{Atom}
 use Rattle.meaning_atoms.specs.declared.atom.Atom.TheVariants.{Member, Live, Attack, Gap, Tail, Unmet, Range, Cf, Ad, Co, St, Ask}
 use Rattle.meaning_atoms.specs.declared.atom.AtomLit.{AtomLit}
 
--- the number of an argument, from 1 to 1,000,000
-pub record IsArgument (a : ℕ) : Type 0 where
-  pub low : 1 ≤ a
-  pub high : a ≤ 1000000
-
 -- a place in the order of argument numbers, from 1 to just past the last
 pub record IsPlace (i : ℕ) : Type 0 where
   pub low : 1 ≤ i
-  pub high : i ≤ 1000001
+  pub high : i ≤ END
 
 -- the atom's numbers are within their bounds
 abbrev pub IsAtom : Atom → Type 0

@@ -2,14 +2,16 @@
 use Rattle.std.specs.Prelude.{ℕ, ◌≤◌, ◌<◌}
 use Rattle.meaning_atoms.specs.declared.axiom.AfAxiom.{AfAxiom}
 use Rattle.meaning_atoms.specs.declared.axiom.AfAxiom.TheVariants.{A1, A2, A3, A4, A5, A6, A7, A8, A9, A10, A14}
-use Rattle.meaning_atoms.specs.Atoms.{IsArgument, IsPlace}
+use Rattle.semantics.specs.Arguments.{IsArgument}
+use Rattle.meaning_atoms.specs.declared.atom.TheConstants.{END}
+use Rattle.meaning_atoms.specs.Atoms.{IsPlace}
 
 -- an argument, a place to begin at and an argument to end at
 pub record IsStretch (a i j : ℕ) : Type 0 where
   pub argument : IsArgument a
   pub from : 1 ≤ i
   pub order : i ≤ j
-  pub before_end : j < 1000001
+  pub before_end : j < END
 
 -- the arguments fit the name's row in the table of axioms
 abbrev pub IsAfAxiom : AfAxiom → Type 0

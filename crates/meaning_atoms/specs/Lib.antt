@@ -1,5 +1,3 @@
-pub mod Framework
-pub mod Laws
 pub mod Atoms
 pub mod AtomText
 pub mod Axioms

@@ -5,8 +5,8 @@ use Rattle.std.specs.Prelude.{ℕ, ◌≤◌, ◌<◌, ◌-◌, Bool, true, fals
 use Rattle.meaning_atoms.specs.declared.atom.Atom.{Atom}
 use Rattle.meaning_atoms.specs.declared.atom.Atom.TheVariants.{Member, Live, Attack, Gap, Tail, Unmet, Range, Cf, Ad, Co, St, Ask}
 use Rattle.meaning_atoms.specs.declared.atom.AtomLit.{AtomLit}
-use Rattle.meaning_atoms.specs.Atoms.{IsArgument}
-use Rattle.meaning_atoms.specs.Framework.{Af, IsAf, Attacks, IsAttackedBy, IsConflictFree, IsAdmissible, IsComplete, IsStable, IsInRange}
+use Rattle.semantics.specs.Arguments.{IsArgument}
+use Rattle.semantics.specs.Framework.{Af, IsAf, Attacks, IsAttackedBy, IsConflictFree, IsAdmissible, IsComplete, IsStable, IsInRange}
 
 -- a framework and a set of numbers, of which only the members count
 pub record World : Type 0 where

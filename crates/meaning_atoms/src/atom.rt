@@ -1,11 +1,13 @@
 //! The words of clauses: atoms about a framework and a set of arguments, and literals.
 
 ghost use Rattle.std.specs.Prelude.{◌≡◌, ◌↔◌, IsTrue};
-ghost use Rattle.meaning_atoms.specs.Atoms.{IsArgument, IsAtom, IsPlace};
+ghost use Rattle.meaning_atoms.specs.Atoms.{IsAtom, IsPlace};
 ghost use Rattle.meaning_atoms.specs.AtomText.{name_of};
 
-/// The number just past the largest argument, 1,000,000: the end of every range of argument numbers.
-pub const END: u32 = 1_000_001;
+use semantics::{LAST_ARGUMENT, is_argument};
+
+/// The number just past the largest argument, 1,000,001: the end of every range of argument numbers.
+pub const END: u32 = LAST_ARGUMENT + 1;
 
 /// A statement about a framework and a set of its arguments. Argument numbers are 1 to 1,000,000, a place
 /// to begin at is 1 to `END`. What each atom says in a world is the definition `Holds` of the specs.
@@ -80,13 +82,6 @@ impl Atom {
             Atom::Ask(_) => "Ask",
         }
     }
-}
-
-/// Whether the number is that of an argument, from 1 to 1,000,000.
-pub fn is_argument(number: u32) -> bool
-    ensures { IsTrue result ↔ IsArgument number }
-{
-    1 <= number && number < END
 }
 
 /// Whether the number is a place in the order of arguments, from 1 to `END`.

@@ -3,7 +3,8 @@
 ghost use Rattle.std.specs.Prelude.{◌↔◌, IsTrue};
 ghost use Rattle.meaning_atoms.specs.Axioms.{IsAfAxiom};
 
-use crate::atom::{END, is_argument, is_place};
+use crate::atom::{END, is_place};
+use semantics::is_argument;
 
 /// The name of an axiom with its arguments, in the order of the table of axioms. A value whose arguments are
 /// out of the bounds of its row is no axiom name.

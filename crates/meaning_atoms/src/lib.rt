@@ -1,5 +1,5 @@
-//! The meaning of abstract frameworks, over plain lists, and the laws that show it right; the atoms of which
-//! clauses about them are made, and what these say.
+//! The atoms of which clauses about frameworks are made, what these say, their texts, and the names of the
+//! clauses that always hold.
 #![tactic(auto)]
 
 pub mod atom;
@@ -9,6 +9,6 @@ pub mod laws;
 mod tests;
 pub mod text;
 
-pub use atom::{Atom, AtomLit, END, is_argument, is_place};
+pub use atom::{Atom, AtomLit, END, is_place};
 pub use axiom::AfAxiom;
 pub use text::{atom_text, read_lit};

@@ -1,4 +1,3 @@
-//! What no clause says: the definitions against sets worked out by hand, and texts with their literals.
+//! What no clause says: texts with their literals.
 
 mod literals;
-mod notions;

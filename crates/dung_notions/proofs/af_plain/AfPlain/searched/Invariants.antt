@@ -1,5 +1,5 @@
 use Rattle.std.proofs.Common.{◌≡◌, ◌≤◌, ◌<◌, ◌+◌, ◌-◌, ℕ, [], length, get_or, sum, true}
-use Rattle.meaning_atoms.specs.Framework.{Attacks}
+use Rattle.semantics.specs.Framework.{Attacks}
 use Rattle.dung_notions.specs.Search.{IsKept, is_out}
 use Rattle.dung_notions.proofs.af_plain.AfPlain.searched.Given as goal
 

@@ -1,7 +1,7 @@
 use Rattle.std.proofs.Common.{arith, sym, subst}
 use Rattle.std.specs.Prelude.{Contains}
 use Rattle.dung_notions.proofs.Kept.{puts_weaker, leaves, left_at}
-use Rattle.meaning_atoms.specs.Framework.{Attacks}
+use Rattle.semantics.specs.Framework.{Attacks}
 use Rattle.dung_notions.proofs.af_plain.AfPlain.strike.Goals as goal
 
 pub put_out-requires-clause-attacked : goal.put_out-requires-clause-attacked

@@ -1,5 +1,5 @@
 use Rattle.std.proofs.Common.{◌≡◌, ◌≤◌, ◌<◌, ℕ, get_or}
-use Rattle.meaning_atoms.specs.Framework.{Attacks}
+use Rattle.semantics.specs.Framework.{Attacks}
 use Rattle.dung_notions.specs.Search.{PutsOut}
 use Rattle.dung_notions.proofs.af_plain.AfPlain.strike_from.Given as goal
 

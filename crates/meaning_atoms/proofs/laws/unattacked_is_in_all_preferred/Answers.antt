@@ -1,5 +1,0 @@
-use Rattle.meaning_atoms.proofs.Extensions.{unattacked_in_all}
-use Rattle.meaning_atoms.proofs.laws.unattacked_is_in_all_preferred.Goals as goal
-
-pub returns : goal.returns
-returns c = unattacked_in_all

@@ -1,0 +1,65 @@
+-- The laws of specs/Laws.
+use Rattle.std.proofs.Common.{inl, inr, ⊎_elim, ℕ, List, [], ◌∷◌, ◌++◌, refl}
+use Rattle.std.specs.Prelude.{Contains}
+use Rattle.plain_lists.proofs.Membership.{Contains-pushed}
+use Rattle.semantics.specs.Framework.{Af, IsAf, IsInRange, IsAdmissible, IsStable}
+use Rattle.semantics.specs.Laws.{GroundedIsUnique, StableIsLargest, PreferredIsComplete, UnattackedIsInAll, AttacksMember, IdealIsUnique}
+use Rattle.semantics.proofs.Decided.{decide_member}
+use Rattle.semantics.proofs.Sets.{added_admissible, union_admissible, within_left, within_right}
+use Rattle.semantics.proofs.Grounded.{grounded_exists}
+
+pub grounded_unique : (f : Af) → GroundedIsUnique f
+grounded_unique f = record {
+  exists = grounded_exists f;
+  one = λ s t gs gt. record { there = gs.least t gt.complete; back = gt.least s gs.complete };
+  admissible = λ s g. g.complete.admissible;
+  in_complete = λ s t g c. g.least t c;
+}
+
+stable_admissible : (f : Af) → IsAf f → (s : List ℕ) → IsStable f s → IsAdmissible f s
+stable_admissible f form s st = record {
+  conflict_free = st.conflict_free;
+  defended = λ a c b at. st.attacks_outside b (form.ends b a at).0 (λ in_s. st.conflict_free.apart b a in_s c at);
+}
+
+-- each live argument is in a stable set's range
+covers : (f : Af) (s : List ℕ) → IsStable f s → (a : ℕ) → Contains f.live a → IsInRange f s a
+covers f s st a live = ⊎_elim (λ c. inl c) (λ no. inr (st.attacks_outside a live no)) (decide_member s a)
+
+pub stable_largest : (f : Af) → IsAf f → StableIsLargest f
+stable_largest f form = record {
+  preferred = λ s st. record {
+    admissible = stable_admissible f form s st;
+    maximal = λ t ok sub x c. ⊎_elim (λ k. k)
+        (λ h. absurd (ok.conflict_free.apart h.0 x (sub h.0 h.1) c h.2))
+        (covers f s st x (ok.conflict_free.live x c));
+  };
+  semi_stable = λ s st. record {
+    admissible = stable_admissible f form s st;
+    widest = λ t ok wider a h. ⊎_elim
+        (λ c. covers f s st a (ok.conflict_free.live a c))
+        (λ hit. covers f s st a (form.ends hit.0 a hit.2).1) h;
+  };
+}
+
+pub preferred_complete : (f : Af) → PreferredIsComplete f
+preferred_complete f s p = record {
+  admissible = p.admissible;
+  closed = λ a live d.
+      p.maximal (s ++ a ∷ []) (added_admissible f s a p.admissible live d) (within_left s (a ∷ [])) a (Contains-pushed s a a refl);
+}
+
+pub unattacked_in_all : (f : Af) → UnattackedIsInAll f
+unattacked_in_all f s ok none = record {
+  admissible = ok;
+  within = λ p pref.
+      let quiet = none p pref.admissible in
+      let back = λ (h : AttacksMember f s p). let hit = pref.admissible.defended h.0 h.1 h.2.0 h.2.2 in quiet (h.2.0, h.2.1, hit) in
+      λ x c. pref.maximal (p ++ s) (union_admissible f p s pref.admissible ok quiet back) (within_left p s) x (within_right p s x c);
+}
+
+pub ideal_unique : (f : Af) → IdealIsUnique f
+ideal_unique f = record {
+  one = λ s t is it. record { there = it.largest s is.in_all; back = is.largest t it.in_all };
+  admissible = λ s i. i.in_all.admissible;
+}

@@ -1,0 +1,5 @@
+pub mod Decided
+pub mod DecidedNotions
+pub mod Sets
+pub mod Grounded
+pub mod Extensions

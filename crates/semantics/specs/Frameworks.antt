@@ -1,0 +1,17 @@
+-- Frameworks of each kind, and their numbers.
+use Rattle.std.specs.Prelude.{ℕ, Contains}
+use Rattle.semantics.specs.Arguments.{IsArgument}
+use Rattle.semantics.specs.Framework.{Af, IsAf}
+
+-- a framework of one of the kinds
+pub data Framework : Type 0 where
+  af : Af → Framework
+
+-- an abstract framework in its form, whose live arguments have numbers from 1 to 1,000,000
+pub record IsNumberedAf (f : Af) : Type 0 where
+  pub form : IsAf f
+  pub live : (a : ℕ) → Contains f.live a → IsArgument a
+
+-- the framework is in the form of its kind, with numbers within their bounds
+abbrev pub IsNumbered : Framework → Type 0
+IsNumbered (af f) = IsNumberedAf f

@@ -1,0 +1,43 @@
+-- Laws that show the notions of Framework to be the literature's.
+use Rattle.std.specs.Prelude.{List, ℕ, Contains, ◌++◌}
+use Rattle.plain_lists.specs.Members.{IsWithin}
+use Rattle.semantics.specs.Framework.{Af, IsAttackedBy, IsAdmissible, IsComplete, IsGrounded, IsPreferred, IsStable, IsSemiStable, IsInAllPreferred, IsIdeal}
+
+-- the two lists have the same members
+pub record HasSameMembers (s t : List ℕ) : Type 0 where
+  pub there : IsWithin s t
+  pub back : IsWithin t s
+
+-- each framework has a grounded set, it has one alone, it is admissible, and it lies in every complete set
+-- (Dung 1995, theorem 25)
+pub record GroundedIsUnique (f : Af) : Type 0 where
+  pub exists : (s : List ℕ) × IsGrounded f s
+  pub one : (s t : List ℕ) → IsGrounded f s → IsGrounded f t → HasSameMembers s t
+  pub admissible : (s : List ℕ) → IsGrounded f s → IsAdmissible f s
+  pub in_complete : (s t : List ℕ) → IsGrounded f s → IsComplete f t → IsWithin s t
+
+-- each stable set is preferred, and no admissible set has a larger range (Dung 1995, lemma 15; Caminada 2006)
+pub record StableIsLargest (f : Af) : Type 0 where
+  pub preferred : (s : List ℕ) → IsStable f s → IsPreferred f s
+  pub semi_stable : (s : List ℕ) → IsStable f s → IsSemiStable f s
+
+-- each preferred set is complete (Dung 1995, theorem 25)
+abbrev pub PreferredIsComplete : Af → Type 0
+PreferredIsComplete f = (s : List ℕ) → IsPreferred f s → IsComplete f s
+
+-- a member of the one set attacks a member of the other
+abbrev pub AttacksMember : Af → List ℕ → List ℕ → Type 0
+AttacksMember f s t = (a : ℕ) × Contains t a × IsAttackedBy f s a
+
+-- two admissible sets of which neither attacks the other make an admissible set together
+abbrev pub UnionIsAdmissible : Af → Type 0
+UnionIsAdmissible f = (s t : List ℕ) → IsAdmissible f s → IsAdmissible f t → (AttacksMember f s t → ⊥) → (AttacksMember f t s → ⊥) → IsAdmissible f (s ++ t)
+
+-- an admissible set that no admissible set attacks is part of every preferred set (Dung, Mancarella, Toni 2007)
+abbrev pub UnattackedIsInAll : Af → Type 0
+UnattackedIsInAll f = (s : List ℕ) → IsAdmissible f s → ((t : List ℕ) → IsAdmissible f t → AttacksMember f t s → ⊥) → IsInAllPreferred f s
+
+-- there is at most one ideal set, and it is admissible
+pub record IdealIsUnique (f : Af) : Type 0 where
+  pub one : (s t : List ℕ) → IsIdeal f s → IsIdeal f t → HasSameMembers s t
+  pub admissible : (s : List ℕ) → IsIdeal f s → IsAdmissible f s

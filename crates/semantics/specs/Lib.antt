@@ -1,0 +1,4 @@
+pub mod Arguments
+pub mod Framework
+pub mod Frameworks
+pub mod Laws

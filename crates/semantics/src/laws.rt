@@ -1,0 +1,35 @@
+//! The laws that show the notions of frameworks to be the literature's. Each function does nothing; its contract
+//! is the law.
+
+ghost use Rattle.semantics.specs.Framework.{Af, IsAf};
+ghost use Rattle.semantics.specs.Laws.{GroundedIsUnique, StableIsLargest, PreferredIsComplete, UnionIsAdmissible, UnattackedIsInAll, IdealIsUnique};
+
+/// A framework has one grounded set alone, which is admissible and lies in every complete set.
+pub fn grounded_is_unique()
+    ensures { (f : Af) → GroundedIsUnique f }
+{}
+
+/// A stable set of a well-formed framework is preferred and semi-stable.
+pub fn stable_is_largest()
+    ensures { (f : Af) → IsAf f → StableIsLargest f }
+{}
+
+/// A preferred set is complete.
+pub fn preferred_is_complete()
+    ensures { (f : Af) → PreferredIsComplete f }
+{}
+
+/// Two admissible sets that do not attack each other make an admissible set together.
+pub fn union_is_admissible()
+    ensures { (f : Af) → UnionIsAdmissible f }
+{}
+
+/// An admissible set that no admissible set attacks is part of every preferred set.
+pub fn unattacked_is_in_all_preferred()
+    ensures { (f : Af) → UnattackedIsInAll f }
+{}
+
+/// There is at most one ideal set, and it is admissible.
+pub fn ideal_is_unique()
+    ensures { (f : Af) → IdealIsUnique f }
+{}
