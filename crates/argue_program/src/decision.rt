@@ -29,7 +29,7 @@ pub struct Ending {
 }
 
 /// Ends with a status that says itself what is written, and keeps nothing.
-fn stopped(alloc: Global, status: Status) -> Ending
+pub(crate) fn stopped(alloc: Global, status: Status) -> Ending
     requires { IsSome (common_text status) }
     ensures status { (result.status ≡ status) ⊎ ((result.status ≡ Status.WantOfMemory) × IsRefusal status) }
     ensures kept { result.kept ≡ nothing_kept }

@@ -8,6 +8,7 @@ pub mod command;
 pub mod decision;
 pub mod ended;
 pub mod input;
+pub mod process;
 pub mod texts;
 pub mod writing;
 
@@ -15,6 +16,7 @@ pub use command::{execute, run};
 pub use decision::{Ending, decide};
 pub use ended::{Cause, Ended, Limit, Refusal, Status, Transcript};
 pub use input::INPUT_LIMIT;
+pub use process::run_process;
 pub use texts::Text;
 pub use writing::{Written, write_ending};
 
