@@ -2,19 +2,19 @@
 
 ghost use Rattle.std.specs.Prelude.{◌≡◌, ℕ, ◌+◌, ◌<◌, ◌≤◌, ◌↔◌, length, Contains, IsTrue};
 ghost use Rattle.argue_outside.specs.declared.Role.{Role as ARole};
-ghost use Rattle.argue_outside.specs.Outside.{IsRole, Rose, CountsStandBut, next_call};
-ghost use Rattle.argue_outside.specs.Counted.{place_of, count_at};
+ghost use Rattle.argue_outside.specs.Outside.{IsRole, FaultCounted, OtherCountsKept, next_call};
+ghost use Rattle.argue_outside.specs.Counted.{index_of, count_at};
 
 use crate::Role;
 use plain_lists::Items;
 
-/// The places of 16 frameworks and six other roles. The place of a framework without number stays free.
-const PLACES: usize = 23;
+/// The counters of 16 frameworks and six other roles. That of a framework without number stays unused.
+const COUNTERS: usize = 23;
 
 /// The faults of reading, for each role apart.
 #[derive(Debug, Drop)]
 pub(crate) struct Counts {
-    pub(crate) counts: [u64; PLACES],
+    pub(crate) counts: [u64; COUNTERS],
 }
 
 impl Counts {
@@ -23,7 +23,7 @@ impl Counts {
         ensures { (role : ARole) → count_at result.counts role ≡ 0 }
     {
         Counts {
-            counts: [0; PLACES],
+            counts: [0; COUNTERS],
         }
     }
 
@@ -31,9 +31,9 @@ impl Counts {
     pub(crate) fn of(&self, role: Role) -> u64
         ensures { result ≡ count_at self.now.counts role }
     {
-        let place = place(role);
-        if place < PLACES {
-            self.counts[place]
+        let index = index_of_role(role);
+        if index < COUNTERS {
+            self.counts[index]
         } else {
             0
         }
@@ -43,17 +43,17 @@ impl Counts {
     pub(crate) fn raise(&mut self, role: Role)
         requires { IsRole role }
         ensures later { count_at self.old.counts role ≤ count_at self.new.counts role }
-        ensures rose { Rose (count_at self.old.counts role) (count_at self.new.counts role) }
-        ensures others { CountsStandBut role (count_at self.old.counts) (count_at self.new.counts) }
+        ensures counted { FaultCounted (count_at self.old.counts role) (count_at self.new.counts role) }
+        ensures others { OtherCountsKept role (count_at self.old.counts) (count_at self.new.counts) }
     {
-        let place = place(role);
-        self.counts[place] = raised(self.counts[place]);
+        let index = index_of_role(role);
+        self.counts[index] = raised(self.counts[index]);
     }
 }
 
-/// The place of a role's count.
-fn place(role: Role) -> usize
-    ensures { result ≡ place_of role }
+/// The index of a role's count.
+fn index_of_role(role: Role) -> usize
+    ensures { result ≡ index_of role }
 {
     match role {
         Role::Script => 0,
@@ -70,7 +70,7 @@ fn place(role: Role) -> usize
 pub(crate) fn raised(count: u64) -> u64
     ensures value { result ≡ next_call count }
     ensures later { count ≤ result }
-    ensures rose { Rose count result }
+    ensures counted { FaultCounted count result }
 {
     count.saturating_add(1)
 }

@@ -1,11 +1,12 @@
 //! The outside of Burgaouez as traits: files by name, a sink of bytes and a gate for tests. Contracts
-//! mean files by what a name holds, where that is told, and count every fault. Two implementations
-//! stand here, one over memory and one over the real files and standard output.
+//! speak of what a name holds, as far as that is known, of the names that are served, and of counts of
+//! faults. Two implementations stand here, one over memory and one over the real files and standard
+//! output.
 #![tactic(auto)]
 
 ghost use Rattle.std.specs.Prelude.{◌≡◌, ℕ, ◌+◌, ◌<◌, ◌≤◌, List, Option, length, take, IfOk, OnOk, OnErr};
 ghost use Rattle.std.specs.Io.KnownBytes.{WriteAppends};
-ghost use Rattle.argue_outside.specs.Outside.{IsRole, Rose, CountsStandBut, HoldsStandBut, Fetches, Clears, Adds};
+ghost use Rattle.argue_outside.specs.Outside.{IsRole, FaultCounted, OtherCountsKept, OtherFilesKept, HoldsStill, Fetches, Clears, Adds};
 
 mod counts;
 pub mod mem_files;
@@ -24,7 +25,7 @@ pub use real_out::RealOut;
 use std::alloc::AllocError;
 pub use whole::{append_all, put_all, read_all};
 
-/// A call to the outside failed, and a count of faults rose.
+/// A call to the outside failed, and the fault was counted.
 #[derive(Clone, Copy, Debug, PartialEq, Eq)]
 pub struct Failed;
 
@@ -50,7 +51,7 @@ pub enum Role {
 /// Why a whole file could not be read.
 #[derive(Clone, Copy, Debug, PartialEq, Eq)]
 pub enum ReadStop {
-    /// A read failed, and the count of its role rose.
+    /// A read failed, and the fault was counted in its role.
     Failed,
     /// The file has more bytes than the limit.
     TooLong,
@@ -101,13 +102,24 @@ pub enum Point {
     AfterAsk,
 }
 
-/// Contents by name, where they are told, and a count of faults for each role and for writing.
+/// Contents by name, as far as they are known, and a count of faults for each role and for writing. A count
+/// stands in a call that succeeds.
+///
+/// Two facts of a name say that its calls succeed, so that a fault has a cause besides its count. That a name
+/// is served is known beforehand. Whether writes have room is not: a failed write shows that its name
+/// wasn't accepted.
 pub trait Files {
     ghost use Rattle.std.specs.Prelude.{◌≡◌, ℕ, List, Option};
     ghost use Rattle.argue_outside.specs.declared.Role.{Role};
 
-    /// What is told of each name.
+    /// What is known of each name.
     ghost holds: { Self → List ℕ → Option (Option (List ℕ)) };
+
+    /// Each fetch of this name succeeds, as far as that is known.
+    ghost serves: { Self → List ℕ → Type 0 };
+
+    /// Each clear and append of this name has succeeded, and will as far as that is known.
+    ghost accepts: { Self → List ℕ → Type 0 };
 
     /// The faults of reading, for each role.
     ghost read_count: { Self → Role → ℕ };
@@ -115,37 +127,53 @@ pub trait Files {
     /// The faults of writing.
     ghost write_count: { Self → ℕ };
 
-    /// Gives bytes of the name from place `at` on, and says how many; 0 for a buffer with room means
-    /// the end. A name that isn't there is `Failed`. All contents stay.
+    /// Gives bytes of the name from position `at` on, and says how many; 0 for a buffer with room means
+    /// the end. A name that isn't there is `Failed`, and one that is served never is. All contents stay.
     fn fetch(&mut self, role: Role, name: &str, at: u64, buf: &mut [u8]) -> Result<usize, Failed>
         requires { IsRole role }
         ensures bound { IfOk result (λ n. n ≤ length buf.new) }
         ensures bytes { IfOk result (λ n. Fetches (holds self.old name.now) at n buf.new) }
         ensures same { holds self.new ≡ holds self.old }
+        ensures served { OnErr result (¬ serves self.old name.now) }
+        ensures serving { HoldsStill (serves self.old) (serves self.new) }
+        ensures accepting { HoldsStill (accepts self.old) (accepts self.new) }
+        ensures refusing { HoldsStill (accepts self.new) (accepts self.old) }
         ensures later { read_count self.old role ≤ read_count self.new role }
-        ensures failed { OnErr result (Rose (read_count self.old role) (read_count self.new role)) }
-        ensures others { CountsStandBut role (read_count self.old) (read_count self.new) }
+        ensures quiet { OnOk result (read_count self.new ≡ read_count self.old) }
+        ensures failed { OnErr result (FaultCounted (read_count self.old role) (read_count self.new role)) }
+        ensures others { OtherCountsKept role (read_count self.old) (read_count self.new) }
         ensures writes { write_count self.new ≡ write_count self.old };
 
-    /// Makes the name be there without bytes. After `Failed` all contents are as before.
+    /// Makes the name be there without bytes. After `Failed` all contents are as before, and the name isn't
+    /// accepted.
     fn clear(&mut self, name: &str) -> Result<(), Failed>
         ensures cleared { OnOk result (Clears (holds self.old name.now) (holds self.new name.now)) }
-        ensures others { HoldsStandBut name.now (holds self.old) (holds self.new) }
+        ensures others { OtherFilesKept name.now (holds self.old) (holds self.new) }
         ensures err { OnErr result (holds self.new ≡ holds self.old) }
+        ensures serving { HoldsStill (serves self.old) (serves self.new) }
+        ensures accepted { OnErr result (¬ accepts self.new name.now) }
+        ensures accepting { OnOk result (HoldsStill (accepts self.old) (accepts self.new)) }
+        ensures refusing { HoldsStill (accepts self.new) (accepts self.old) }
         ensures later { write_count self.old ≤ write_count self.new }
-        ensures failed { OnErr result (Rose (write_count self.old) (write_count self.new)) }
+        ensures quiet { OnOk result (write_count self.new ≡ write_count self.old) }
+        ensures failed { OnErr result (FaultCounted (write_count self.old) (write_count self.new)) }
         ensures reads { read_count self.new ≡ read_count self.old };
 
     /// Adds a prefix of the piece at the end of the name's bytes, and says how long it is: at least one
-    /// byte where the piece has any. After `Failed` all contents are as before.
+    /// byte where the piece has any. After `Failed` all contents are as before, and the name isn't accepted.
     fn append(&mut self, name: &str, bytes: &[u8]) -> Result<usize, Failed>
         ensures bound { IfOk result (λ n. n ≤ length bytes.now) }
         ensures some { IfOk result (λ n. 0 < length bytes.now → 0 < n) }
         ensures added { IfOk result (λ n. Adds (holds self.old name.now) (holds self.new name.now) (take n bytes.now)) }
-        ensures others { HoldsStandBut name.now (holds self.old) (holds self.new) }
+        ensures others { OtherFilesKept name.now (holds self.old) (holds self.new) }
         ensures err { OnErr result (holds self.new ≡ holds self.old) }
+        ensures serving { HoldsStill (serves self.old) (serves self.new) }
+        ensures accepted { OnErr result (¬ accepts self.new name.now) }
+        ensures accepting { OnOk result (HoldsStill (accepts self.old) (accepts self.new)) }
+        ensures refusing { HoldsStill (accepts self.new) (accepts self.old) }
         ensures later { write_count self.old ≤ write_count self.new }
-        ensures failed { OnErr result (Rose (write_count self.old) (write_count self.new)) }
+        ensures quiet { OnOk result (write_count self.new ≡ write_count self.old) }
+        ensures failed { OnErr result (FaultCounted (write_count self.old) (write_count self.new)) }
         ensures reads { read_count self.new ≡ read_count self.old };
 
     /// The faults of reading in this role.
@@ -157,9 +185,9 @@ pub trait Files {
         ensures { result ≡ write_count self.now };
 }
 
-/// Takes bytes in order, and counts its faults.
+/// Takes bytes in order, and counts its faults. The count stands in a call that succeeds.
 pub trait Sink {
-    /// The bytes that were taken, where they are told.
+    /// The bytes that were taken, where they are known.
     ghost contents: { Self → Option (List ℕ) };
 
     /// The faults of writing.
@@ -172,7 +200,8 @@ pub trait Sink {
         ensures some { IfOk result (λ n. 0 < length bytes.now → 0 < n) }
         ensures bytes { WriteAppends (contents self.old) (contents self.new) result bytes.now }
         ensures later { fault_count self.old ≤ fault_count self.new }
-        ensures failed { OnErr result (Rose (fault_count self.old) (fault_count self.new)) };
+        ensures quiet { OnOk result (fault_count self.new ≡ fault_count self.old) }
+        ensures failed { OnErr result (FaultCounted (fault_count self.old) (fault_count self.new)) };
 
     /// The faults of writing.
     fn faults(&self) -> u64

@@ -1,8 +1,8 @@
-//! A sink over memory, which tells its bytes and fails where it is told to.
+//! A sink over memory, whose bytes are known, and of which a test names the puts that are to fail.
 
-ghost use Rattle.std.specs.Prelude.{◌≡◌, ℕ, ◌+◌, ◌<◌, ◌≤◌, max, [], length, Contains, Some, IfOk, IsErr, OnErr};
+ghost use Rattle.std.specs.Prelude.{◌≡◌, ℕ, ◌+◌, ◌<◌, ◌≤◌, max, [], length, Contains, Some, IfOk, IsErr, OnOk, OnErr};
 ghost use Rattle.std.specs.Io.KnownBytes.{WriteAppends};
-ghost use Rattle.argue_outside.specs.Outside.{Rose, next_call};
+ghost use Rattle.argue_outside.specs.Outside.{FaultCounted, next_call};
 
 use crate::counts::{Plan, raised};
 use crate::{Failed, Planned, Sink};
@@ -25,6 +25,8 @@ impl MemSink {
         ensures empty { ⟦<MemSink as Sink>⟧.contents result ≡ Some [] }
         ensures faults { ⟦<MemSink as Sink>⟧.fault_count result ≡ 0 }
         ensures to_fail { ⟦<MemSink as Planned>⟧.to_fail result ≡ [] }
+        ensures calls { ⟦<MemSink as Planned>⟧.call_count result ≡ 0 }
+        ensures most { ⟦<MemSink as Planned>⟧.most result ≡ usize.MAX }
     {
         MemSink::failing(alloc, Items::new(alloc), usize::MAX)
     }
@@ -67,11 +69,13 @@ impl Sink for MemSink {
         ensures some { IfOk result (λ n. 0 < length bytes.now → 0 < n) }
         ensures bytes { WriteAppends (⟦<MemSink as Sink>⟧.contents self.old) (⟦<MemSink as Sink>⟧.contents self.new) result bytes.now }
         ensures later { ⟦<MemSink as Sink>⟧.fault_count self.old ≤ ⟦<MemSink as Sink>⟧.fault_count self.new }
-        ensures failed { OnErr result (Rose (⟦<MemSink as Sink>⟧.fault_count self.old) (⟦<MemSink as Sink>⟧.fault_count self.new)) }
+        ensures quiet { OnOk result (⟦<MemSink as Sink>⟧.fault_count self.new ≡ ⟦<MemSink as Sink>⟧.fault_count self.old) }
+        ensures failed { OnErr result (FaultCounted (⟦<MemSink as Sink>⟧.fault_count self.old) (⟦<MemSink as Sink>⟧.fault_count self.new)) }
         ensures piece { IfOk result (λ n. n ≤ max (⟦<MemSink as Planned>⟧.most self.old) 1) }
         ensures planned { Contains (⟦<MemSink as Planned>⟧.to_fail self.old) (next_call (⟦<MemSink as Planned>⟧.call_count self.old)) → IsErr result }
         ensures counted { ⟦<MemSink as Planned>⟧.call_count self.new ≡ next_call (⟦<MemSink as Planned>⟧.call_count self.old) }
         ensures to_fail { ⟦<MemSink as Planned>⟧.to_fail self.new ≡ ⟦<MemSink as Planned>⟧.to_fail self.old }
+        ensures most { ⟦<MemSink as Planned>⟧.most self.new ≡ ⟦<MemSink as Planned>⟧.most self.old }
     {
         let count = bytes.len().min(self.most.max(1));
         if self.plan.fails() || self.bytes.extend(&bytes[..count]).is_err() {

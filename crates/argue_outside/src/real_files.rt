@@ -1,4 +1,4 @@
-//! The real files of a runtime, which tell nothing of their contents.
+//! The real files of a runtime, of whose contents nothing is known.
 
 ghost use Rattle.std.specs.Prelude.{◌≡◌, ℕ, ◌<◌, ◌≤◌, length, IfOk, IfSome, None};
 ghost use Rattle.argue_outside.specs.declared.Role.{Role as ARole};
@@ -24,7 +24,7 @@ pub struct RealFiles<R: rt::Files + Drop> {
     write_faults: u64,
 }
 
-/// An open file, with its name and the place of the next call.
+/// An open file, with its name and the position of the next call.
 #[derive(Drop)]
 struct Opened<F> {
     name: String,
@@ -54,6 +54,10 @@ impl<R: rt::Files + Drop> Files for RealFiles<R> {
     ghost use Rattle.argue_outside.specs.Counted.{count_at};
 
     ghost holds = { λ s name. None };
+
+    ghost serves = { λ s name. ⊥ };
+
+    ghost accepts = { λ s name. ⊥ };
 
     ghost read_count = { λ s. count_at s.counts.counts };
 
@@ -100,7 +104,7 @@ impl<R: rt::Files + Drop> Files for RealFiles<R> {
     }
 }
 
-/// Reads from this place of the name, through the file that is open where it is the right one.
+/// Reads from this position of the name, through the file that is open where it is the right one.
 fn read_at<R: rt::Files>(
     rt: &R,
     alloc: Global,

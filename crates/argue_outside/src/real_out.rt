@@ -1,4 +1,4 @@
-//! Standard output as a sink, which tells nothing of its bytes.
+//! Standard output as a sink, of whose bytes nothing is known.
 
 ghost use Rattle.std.specs.Prelude.{◌≡◌, ℕ, ◌<◌, ◌≤◌, length, None, IfSome};
 

@@ -1,20 +1,38 @@
-//! What no clause says: that calls succeed, and that they fail where they are told to.
+//! What no clause says: that calls succeed where memory is there, and what real files hold.
+
+ghost use Rattle.std.specs.Prelude.{◌≡◌, [], IsTrue};
 
 use crate::{
-    Files, MemFiles, MemSink, NoPace, Pace, Point, ReadStop, RealFiles, Role, Sink, append_all,
-    put_all, read_all,
+    Files, MemFiles, MemSink, NoPace, Pace, Planned, Point, ReadStop, RealFiles, Role, Sink,
+    append_all, put_all, read_all,
 };
 use plain_lists::Items;
 use std::alloc::{AllocError, Global};
+use std::process::Abort;
 
 fn listed(alloc: Global, numbers: &[u64]) -> Result<Items<u64>, AllocError> {
     Ok(Items::from_vec(Vec::from_slice(alloc, numbers)?))
 }
 
+/// Reads a name unless it isn't there. That no read fails is proved.
+fn reads_what_is_there(alloc: Global, files: &mut MemFiles, name: &str) -> bool
+    requires { ⟦<MemFiles as Planned>⟧.to_fail files.old ≡ [] }
+    ensures { IsTrue result }
+{
+    if files.bytes_of(name).is_none() {
+        return true;
+    }
+    match read_all(alloc, files, Role::Script, name, 9) {
+        Err(ReadStop::Failed) => false,
+        _ => true,
+    }
+}
+
 #[test]
 fn limits_the_length(rt: HostRuntime) -> Result<(), AllocError> {
     let alloc = rt.alloc();
-    let mut files = MemFiles::failing(alloc, listed(alloc, &[])?, 2);
+    let mut files = MemFiles::failing(alloc, Items::new(alloc), 2);
+    assert!(rt; reads_what_is_there(alloc, &mut files, "framework"));
     assert!(rt; append_all(&mut files, "framework", b"12345").is_ok());
     let long = read_all(alloc, &mut files, Role::Framework(1), "framework", 4);
     assert!(rt; matches!(&long, Err(ReadStop::TooLong)));
@@ -55,6 +73,12 @@ fn keeps_a_prefix_where_a_put_fails(rt: HostRuntime) -> Result<(), AllocError> {
     Ok(())
 }
 
+/// Reads a name whole and compares its bytes.
+fn expect<F: Files, R: Abort>(rt: &R, alloc: Global, files: &mut F, name: &str, bytes: &[u8]) {
+    let read = read_all(alloc, files, Role::Framework(1), name, 99);
+    assert!(rt; matches!(&read, Ok(read) if read.as_slice() == bytes));
+}
+
 #[test]
 fn writes_and_reads_real_files(rt: HostRuntime) -> Result<(), AllocError> {
     let alloc = rt.alloc();
@@ -63,8 +87,22 @@ fn writes_and_reads_real_files(rt: HostRuntime) -> Result<(), AllocError> {
     assert!(rt; files.clear(name).is_ok());
     assert!(rt; append_all(&mut files, name, b"p af 2\n").is_ok());
     assert!(rt; append_all(&mut files, name, b"1 2\n").is_ok());
-    let read = read_all(alloc, &mut files, Role::Framework(1), name, 11);
-    assert!(rt; matches!(&read, Ok(bytes) if bytes.as_slice() == b"p af 2\n1 2\n".as_slice()));
+    expect(&rt, alloc, &mut files, name, b"p af 2\n1 2\n");
+    // The file is still open at its end: the next read goes back to its begin.
+    expect(&rt, alloc, &mut files, name, b"p af 2\n1 2\n");
+    let mut piece = [0u8; 3];
+    assert!(rt; files.fetch(Role::Framework(1), name, 7, &mut piece) == Ok(3));
+    assert!(rt; piece == *b"1 2");
+    assert!(rt; files.fetch(Role::Framework(1), name, 2, &mut piece) == Ok(3));
+    assert!(rt; piece == *b"af ");
+    assert!(rt; append_all(&mut files, name, b"2 1\n").is_ok());
+    expect(&rt, alloc, &mut files, name, b"p af 2\n1 2\n2 1\n");
+    assert!(rt; files.clear(name).is_ok());
+    expect(&rt, alloc, &mut files, name, b"");
+    assert!(rt; append_all(&mut files, name, b"p af 1\n").is_ok());
+    assert!(rt; files.clear(name).is_ok());
+    assert!(rt; append_all(&mut files, name, b"p af 0\n").is_ok());
+    expect(&rt, alloc, &mut files, name, b"p af 0\n");
     let absent = read_all(alloc, &mut files, Role::Cnf, "no_such_file.tmp", 11);
     assert!(rt; matches!(&absent, Err(ReadStop::Failed)));
     assert_eq!(rt; files.read_faults(Role::Cnf), 1);

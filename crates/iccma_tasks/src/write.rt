@@ -13,8 +13,9 @@ use set_lists::NumSet;
 use std::alloc::Global;
 use std::fmt::Write;
 
-// Adds the line of a set.
-fn push_set(text: &mut String, set: &NumSet) -> Result<(), Memory>
+/// Adds the line of a set at the end of a text: `w`, each number in decimal behind one blank, and LF. After
+/// `Memory` a part of the line may have been added.
+pub fn push_set(text: &mut String, set: &NumSet) -> Result<(), Memory>
     ensures text { OnOk result (string_bytes text.new ≡ string_bytes text.old ++ set_line set.now) }
     ensures rises { OnOk result (IsStrictlyIncreasing set.now) }
 {
