@@ -1,1 +1,3 @@
-pub mod RunLemmas
+pub mod RowsLemmas
+pub mod RunsLemmas
+pub mod WritingLemmas

@@ -1,5 +1,6 @@
-pub mod AnswerText
-pub mod RefusalText
-pub mod Run
+pub mod Inputs
+pub mod Rows
+pub mod Runs
 pub mod Statuses
-pub mod Stops
+pub mod Texts
+pub mod Writing

@@ -7,8 +7,8 @@ use Rattle.argue_program.specs.declared.ended.Status.TheVariants.{Done, Usage, I
 abbrev pub code_of : Status → ℕ
 code_of Done = 0
 code_of Usage = 1
-code_of (InputRefused fault) = 2
-code_of ReadFault = 3
+code_of (InputRefused refusal) = 2
+code_of (ReadFault role) = 3
 code_of WriteFault = 4
 code_of WantOfMemory = 5
-code_of Limit = 7
+code_of (Limit limit) = 7

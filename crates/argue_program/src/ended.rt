@@ -3,8 +3,30 @@
 ghost use Rattle.std.specs.Prelude.{◌≡◌};
 ghost use Rattle.argue_program.specs.Statuses.{code_of};
 
-use af_format::LineFault;
+use af_format::LineCause;
+use argue_outside::Role;
 use set_lists::NumSet;
+
+/// What is wrong with a line of an input: a variant for each kind of text.
+#[derive(Clone, Copy, Debug, PartialEq, Eq)]
+pub enum Cause {
+    /// A line of a framework.
+    Framework(LineCause),
+}
+
+/// Why an input is refused.
+#[derive(Clone, Copy, Debug, PartialEq, Eq)]
+pub enum Refusal {
+    /// The text read in this role has its first fault at this line, counted from 1.
+    Line(Role, usize, Cause),
+}
+
+/// Which bound was met.
+#[derive(Clone, Copy, Debug, PartialEq, Eq)]
+pub enum Limit {
+    /// An input has more than `INPUT_LIMIT` bytes.
+    Input,
+}
 
 /// How a run ended, as its exit status says it.
 #[derive(Clone, Copy, Debug, PartialEq, Eq)]
@@ -13,16 +35,16 @@ pub enum Status {
     Done,
     /// The words aren't well-formed.
     Usage,
-    /// The file isn't a framework. This is the first fault of its text.
-    InputRefused(LineFault),
-    /// The file couldn't be read.
-    ReadFault,
+    /// An input is refused.
+    InputRefused(Refusal),
+    /// The file that is read in this role couldn't be read.
+    ReadFault(Role),
     /// The output wasn't taken whole.
     WriteFault,
     /// Memory was refused.
     WantOfMemory,
-    /// The file is too long.
-    Limit,
+    /// A bound was met.
+    Limit(Limit),
 }
 
 impl Status {
@@ -34,10 +56,10 @@ impl Status {
             Status::Done => 0,
             Status::Usage => 1,
             Status::InputRefused(_) => 2,
-            Status::ReadFault => 3,
+            Status::ReadFault(_) => 3,
             Status::WriteFault => 4,
             Status::WantOfMemory => 5,
-            Status::Limit => 7,
+            Status::Limit(_) => 7,
         }
     }
 }

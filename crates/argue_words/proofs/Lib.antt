@@ -2,5 +2,5 @@ mod NoFault
 mod FileGiven
 mod SolveLaws
 mod ValueWords
-pub mod CommandLaws
 pub mod TakenWords
+pub mod RequestLaws

@@ -1,6 +1,6 @@
 -- What a parse of the command of solve tells, and words that it takes.
 use Rattle.std.proofs.Common.{◌≡◌, ◌≢◌, ◌∙◌, ◌==◌, true, false, true≢false, length, map, refl, sym, ap}
-use Rattle.std.proofs.Common.{subst, List, [], ◌∷◌, Result, Ok, Err, IfOk, IfErr, IsSome, codes}
+use Rattle.std.proofs.Common.{List, [], ◌∷◌, Result, Ok, Err, IfOk, IfErr, IsSome, codes}
 use Rattle.std.proofs.lemmas.Result.{IfOk-weaker}
 use Rattle.clap.specs.Words.{App, FailsBy, HasMatchesOf, IsParsedFrom, Text, app_of, fault_of, first_value}
 use Rattle.clap.specs.Words.{first_of, found_of, is_simple, is_simple_and_free, matches_of, rule_of, takes}
@@ -8,9 +8,7 @@ use Rattle.clap.specs.declared.builder.command.Command.{Command}
 use Rattle.clap.specs.declared.error.Error.{Error}
 use Rattle.clap.specs.declared.parser.matches.ArgMatches.{ArgMatches}
 use Rattle.clap.proofs.WalkLemmas.{first_value-rows}
-use Rattle.argue_words.specs.declared.words.Command.{Command as Query}
-use Rattle.argue_words.specs.declared.words.Command.TheVariants.{Unknown}
-use Rattle.argue_words.specs.Words.{IsCommandOf, solve_app, value_of, value_option}
+use Rattle.argue_words.specs.Words.{solve_app, value_of, value_option}
 use Rattle.argue_words.proofs.NoFault.{takes_if}
 use Rattle.argue_words.proofs.FileGiven.{file_given, two_of}
 
@@ -69,14 +67,6 @@ file_at c r is = IfOk-weaker r _ _ (λ m p.
     let args = two_of rule_of _ _ _ (solve_rules (app_of c) is) in
     let fields = solve_is_plain (app_of c) is in
     file_given args.0 args.1 args.3 args.4 c m args.2 fields.0 fields.1 p)
-
--- words that clap refuses for another cause than want of memory are unknown
-pub unknown_at : {E : Type 0} (K : Type 0) (words : List Text) (r : Result Query E) → words ≢ []
-    → (takes solve_app words ≡ true → K)
-    → IfOk r (λ c. (c ≡ Unknown) × (K → ⊥)) → IfOk r (IsCommandOf words)
-unknown_at K words r some cause = IfOk-weaker r _ _ (λ c h.
-    subst (IsCommandOf words) (sym h.0)
-    (record { some_words = some; other_task = λ taken. absurd (h.1 (cause taken)) }))
 
 pub some_texts : {X : Type 0} (text : X → Text) (words : List X) → false ≡ (length words == 0)
     → map text words ≢ []

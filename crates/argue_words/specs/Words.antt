@@ -1,5 +1,6 @@
 -- What the words after the program's name ask for.
-use Rattle.std.specs.Prelude.{◌≡◌, ◌≢◌, ◌⊎◌, ℕ, List, [], Option, Some, None, true, codes}
+use Rattle.std.specs.Prelude.{◌≡◌, ◌≢◌, ◌⊎◌, ℕ, List, [], ◌∷◌, Option, Some, None, true, codes, if◌then◌else◌}
+use Rattle.std.specs.Str.{bytes_eq}
 use Rattle.clap.specs.Words.{App, Rule, Text, first_of, matches_of, new_app, new_rule, takes}
 use Rattle.clap.specs.Words.{with_rule}
 use Rattle.clap.specs.declared.builder.ArgAction.TheVariants.{Set}
@@ -50,11 +51,28 @@ pub record AreUnknown (words : List Text) : Type 0 where
   pub some_words : words ≢ []
   pub other_task : takes solve_app words ≡ true → task_of words ≢ Some (codes "SE-GR")
 
--- the command is the one that the words ask for
-abbrev pub IsCommandOf : List Text → Command → Type 0
-IsCommandOf words Version = words ≡ []
-IsCommandOf words (Grounded file) = IsGroundedQuery words file.now
-IsCommandOf words Unknown = AreUnknown words
+-- what words ask for: a row for each command
+pub data Request : Type 0 where
+  version : Request
+  grounded : Text → Request
+  unknown : Request
+
+-- what a task and a file's name ask for
+abbrev pub task_request : Option Text → Option Text → Request
+task_request (Some task) (Some file) = if bytes_eq task (codes "SE-GR") then grounded file else unknown
+task_request _ _ = unknown
+
+-- what the words ask for: the version where there is none, and what their task says where clap takes them
+abbrev pub requested : List Text → Request
+requested [] = version
+requested (word ∷ more) =
+    if takes solve_app (word ∷ more) then task_request (task_of (word ∷ more)) (file_of (word ∷ more)) else unknown
+
+-- what a command asks for
+abbrev pub request_of : Command → Request
+request_of Version = version
+request_of (Grounded file) = grounded file.now
+request_of Unknown = unknown
 
 -- the command that a task and a file's name make, where clap has taken the words
 abbrev pub IsQueryOf : Option Text → Option Text → Command → Type 0

@@ -3,7 +3,7 @@
 ghost use Rattle.std.specs.Prelude.{◌≡◌, ◌≢◌, IfErr, IfOk, IsErr, IsSome, List, [], ℕ, codes, map};
 ghost use Rattle.std.specs.Prelude.{string_bytes, true};
 ghost use Rattle.clap.specs.Words.{first_value, found_of, kind_of, takes};
-ghost use Rattle.argue_words.specs.Words.{IsCommandOf, IsQueryOf, solve_app, value_of};
+ghost use Rattle.argue_words.specs.Words.{AreUnknown, IsQueryOf, request_of, requested, solve_app, value_of};
 
 use crate::options::solve_command;
 use clap::ArgMatches;
@@ -28,7 +28,8 @@ pub enum Command<'a> {
 /// and `Unknown` for all other words, also for those that ask for help. `Memory` is want of memory
 /// and no fault of the words; it comes only where there are words.
 pub fn read_words<'a>(alloc: Global, words: &'a [String]) -> Result<Command<'a>, Memory>
-    ensures command { IfOk result (IsCommandOf (map string_bytes words.now)) }
+    ensures request { IfOk result (λ c. request_of c ≡ requested (map string_bytes words.now)) }
+    ensures unknown { IfOk result (λ c. c ≡ Command.Unknown → AreUnknown (map string_bytes words.now)) }
     ensures memory { IsErr result → map string_bytes words.now ≢ [] }
 {
     if words.is_empty() {

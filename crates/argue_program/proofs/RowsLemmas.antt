@@ -1,0 +1,114 @@
+-- Endings that a row of the table has.
+use Rattle.std.proofs.Common.{◌≡◌, ◌≢◌, ◌<◌, ◌∙◌, ◌⊎◌, ℕ, List, [], ◌∷◌, refl, sym, ap, subst, inl, inr, arith, Some}
+use Rattle.std.specs.Prelude.{Contains, IsSome, IsTrue}
+use Rattle.argue_outside.specs.Outside.{KnownFile, OtherCountsKept}
+use Rattle.argue_outside.specs.declared.Role.{Role}
+use Rattle.argue_outside.specs.declared.Role.TheVariants as role
+use Rattle.argue_words.specs.Words.{Request, version, grounded, unknown, requested}
+use Rattle.argue_words.proofs.RequestLaws.{none_requested}
+use Rattle.argue_program.specs.Inputs.{EndsReading, Follow, Input, Reading, input}
+use Rattle.argue_program.specs.Rows.{CountsReads, EndsCommand, IsEndingOf, Row, grounded_row, nothing_kept, row_of}
+use Rattle.argue_program.specs.Texts.{IsRefusal, common_text, text_bytes}
+use Rattle.argue_program.specs.declared.decision.Ending.{Ending}
+use Rattle.argue_program.specs.declared.ended.Status.{Status}
+use Rattle.argue_program.specs.declared.ended.Status.TheVariants.{Done, Usage, InputRefused, ReadFault, WriteFault, WantOfMemory, Limit}
+use Rattle.argue_program.specs.declared.ended.Transcript.{Transcript}
+
+-- ---- a run with one input
+
+none_in : (x : Input) → Contains [] x → ⊥
+none_in x c = let lt : c.0 < 0 = c.1 in absurd (omega arith)
+
+follow_none : (found : Reading) (end : Status) → Follow found end []
+follow_none found (InputRefused refusal) = λ other c. absurd (none_in other c)
+follow_none found Done = tt
+follow_none found Usage = tt
+follow_none found (ReadFault role) = tt
+follow_none found WriteFault = tt
+follow_none found WantOfMemory = tt
+follow_none found (Limit limit) = tt
+
+-- the status of a run that its one input ends is one of its row
+pub EndsCommand-reading : (found : Reading) (holds : List ℕ → KnownFile) (file : List ℕ) (end : Status)
+    → EndsReading found (input (role.Framework 1) file) end → EndsCommand found (grounded_row holds file) nothing_kept end
+EndsCommand-reading found holds file end (inl stops) = inl (refl, inl (inl (stops, follow_none found end)))
+EndsCommand-reading found holds file end (inr memory) = inl (refl, inr (memory, refl))
+
+one_in : (x : Input) → Contains (x ∷ []) x
+one_in x = (0, omega arith, refl)
+
+-- faults are counted in the role of the one input, and only where it ends the run by one
+pub CountsReads-reading : (found : Reading) (holds : List ℕ → KnownFile) (file : List ℕ) (end : Status)
+    → (end ≢ ReadFault (role.Framework 1) → found.new_count ≡ found.old_count)
+    → OtherCountsKept (role.Framework 1) found.old_count found.new_count → CountsReads found (grounded_row holds file) end
+CountsReads-reading found holds file end quiet others = record {
+  quiet = λ none. quiet (none (role.Framework 1));
+  others = λ other none. others other (none (input (role.Framework 1) file) (one_in (input (role.Framework 1) file)));
+}
+
+-- an input ends a run with a status that has a text of its own
+pub common_text-reading : (found : Reading) (one : Input) (end : Status) → EndsReading found one end → IsSome (common_text end)
+common_text-reading found one Usage h = refl
+common_text-reading found one (InputRefused refusal) h = refl
+common_text-reading found one (ReadFault role) h = refl
+common_text-reading found one WantOfMemory h = refl
+common_text-reading found one (Limit limit) h = refl
+common_text-reading found one Done (inl stops) = absurd stops
+common_text-reading found one Done (inr memory) = cc
+common_text-reading found one WriteFault h = refl
+
+-- ---- a run that stopped
+
+-- a status beside that of a refusal is no read fault
+no_read_fault : (end : Status) → IsRefusal end → (role : Role) → end ≢ ReadFault role
+no_read_fault (InputRefused refusal) h role = λ e. cc
+no_read_fault Done h role = absurd h
+no_read_fault Usage h role = absurd h
+no_read_fault (ReadFault other) h role = absurd h
+no_read_fault WriteFault h role = absurd h
+no_read_fault WantOfMemory h role = absurd h
+no_read_fault (Limit limit) h role = absurd h
+
+module _ (found : Reading) (row : Row) (ending : Ending) (end : Status) where
+  stopped_cause : EndsCommand found row nothing_kept end → IsTrue row.takes_memory
+      → (ending.status ≡ end) ⊎ ((ending.status ≡ WantOfMemory) × IsRefusal end) → EndsCommand found row nothing_kept ending.status
+  stopped_cause cause takes (inl is) = let P : Status → Type 0 = EndsCommand found row nothing_kept in subst P (sym is) cause
+  stopped_cause cause takes (inr memory) = inl (refl, inr (memory.0, takes))
+
+  stopped_quiet : (((role : Role) → end ≢ ReadFault role) → found.new_count ≡ found.old_count)
+      → (ending.status ≡ end) ⊎ ((ending.status ≡ WantOfMemory) × IsRefusal end)
+      → ((role : Role) → ending.status ≢ ReadFault role) → found.new_count ≡ found.old_count
+  stopped_quiet quiet (inl is) none = quiet (λ role e. none role (is ∙ e))
+  stopped_quiet quiet (inr memory) none = quiet (no_read_fault end memory.1)
+
+  -- a run that stopped with a status of its row, or wanted memory for the line that says so, ends as its row says
+  pub IsEndingOf-stopped : EndsCommand found row nothing_kept end → IsTrue row.takes_memory
+      → (ending.status ≡ end) ⊎ ((ending.status ≡ WantOfMemory) × IsRefusal end) → ending.kept ≡ nothing_kept
+      → Some (text_bytes ending.text) ≡ common_text ending.status → ending.files ≡ [] → CountsReads found row end
+      → IsEndingOf found row ending
+  IsEndingOf-stopped cause takes is kept text none counts = record {
+    cause = let P : Transcript → Type 0 = λ k. EndsCommand found row k ending.status in subst P (sym kept) (stopped_cause cause takes is);
+    text = rw (sym text) refl;
+    files = rw none (rw (sym text) refl);
+    counts = record { quiet = stopped_quiet counts.quiet is; others = counts.others };
+  }
+
+-- ---- want of memory before the command is known
+
+takes_unless : (holds : List ℕ → KnownFile) (words : List (List ℕ)) (request : Request) → requested words ≡ request → words ≢ []
+    → IsTrue (row_of holds request).takes_memory
+takes_unless holds words version is some = absurd (some (none_requested words is))
+takes_unless holds words (grounded file) is some = refl
+takes_unless holds words unknown is some = refl
+
+-- where there are words, the command that they ask for takes memory
+pub takes_memory : (holds : List ℕ → KnownFile) (words : List (List ℕ)) → words ≢ [] → IsTrue (row_of holds (requested words)).takes_memory
+takes_memory holds words some = takes_unless holds words (requested words) refl some
+
+-- the cause of want of memory in a row that takes any
+pub EndsCommand-memory : (found : Reading) (row : Row) → IsTrue row.takes_memory → EndsCommand found row nothing_kept WantOfMemory
+EndsCommand-memory found row takes = inl (refl, inr (refl, takes))
+
+-- no count rose
+pub CountsReads-none : (found : Reading) (row : Row) (end : Status) → found.new_count ≡ found.old_count → CountsReads found row end
+CountsReads-none found row end same = record { quiet = λ none. same; others = λ role none. ap (λ count. count role) same }

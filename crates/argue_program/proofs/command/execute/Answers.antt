@@ -1,0 +1,26 @@
+use Rattle.argue_program.proofs.RunsLemmas.{IsRunOf-written, complete, faulty, other_counts, right_set, too_long, usage}
+use Rattle.argue_program.proofs.command.execute.Goals as goal
+
+pub returns-clause-run : goal.returns-clause-run
+returns-clause-run g c =
+    IsRunOf-written _ _ _ _ _ _ _ _ c.decide-ending.result c.decide-ending.ensures.ending c.write_ending.ensures.reads
+    c.write_ending.ensures.kept c.write_ending.ensures.whole c.write_ending.ensures.broken c.decide-ending.ensures.same
+    c.decide-ending.ensures.writes
+
+pub returns-clause-right : goal.returns-clause-right
+returns-clause-right g c = right_set _ _ _ _ _ (returns-clause-run g c)
+
+pub returns-clause-complete : goal.returns-clause-complete
+returns-clause-complete g c = complete _ _ _ _ _ (returns-clause-run g c)
+
+pub returns-clause-usage : goal.returns-clause-usage
+returns-clause-usage g c = usage _ _ _ _ _ (returns-clause-run g c)
+
+pub returns-clause-faulty : goal.returns-clause-faulty
+returns-clause-faulty g c = faulty _ _ _ _ _ (returns-clause-run g c)
+
+pub returns-clause-too_long : goal.returns-clause-too_long
+returns-clause-too_long g c = too_long _ _ _ _ _ (returns-clause-run g c)
+
+pub returns-clause-no_other_read : goal.returns-clause-no_other_read
+returns-clause-no_other_read g c = other_counts _ _ _ _ _ (returns-clause-run g c)

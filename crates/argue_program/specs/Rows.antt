@@ -1,0 +1,151 @@
+-- The table of commands: what each reads, how it may end, and what it then writes.
+use Rattle.std.specs.Prelude.{◌≡◌, ◌≢◌, Contains, ℕ, ◌⊎◌, Bool, true, false, List, [], ◌∷◌, Option, None, Some, IsTrue, codes, map}
+use Rattle.std.specs.Option.{unwrap_or}
+use Rattle.std.specs.List.Sorted.{IsStrictlyIncreasing}
+use Rattle.std.specs.String.{string_bytes}
+use Rattle.semantics.specs.Framework.{Af, IsGrounded}
+use Rattle.argue_outside.specs.Outside.{KnownFile}
+use Rattle.iccma_tasks.specs.WrittenText.{set_line}
+use Rattle.argue_outside.specs.declared.Role.{Role}
+use Rattle.argue_outside.specs.declared.Role.TheVariants.{Framework}
+use Rattle.argue_words.specs.Words.{Request, version, grounded, unknown}
+use Rattle.af_format.specs.AfText.{ReadsAs}
+use Rattle.argue_program.specs.Inputs.{HasBytes, Input, Reading, StopsAtFirst}
+use Rattle.argue_program.specs.Texts.{common_text, text_bytes}
+use Rattle.argue_program.specs.declared.decision.Ending.{Ending}
+use Rattle.argue_program.specs.declared.ended.Status.{Status}
+use Rattle.argue_program.specs.declared.ended.Status.TheVariants.{Done, Usage, ReadFault, WantOfMemory}
+use Rattle.argue_program.specs.declared.ended.Transcript.{Transcript}
+use Rattle.argue_program.specs.declared.writing.Written.{Written}
+
+-- a name and the bytes that it is to have
+pub record FileText : Type 0 where
+  pub name : List ℕ
+  pub bytes : List ℕ
+
+-- one row of the table of commands
+pub record Row : Type 1 where
+  pub inputs : List Input  -- in the order of reading
+  pub takes_memory : Bool  -- it may end for want of memory
+  pub Ends : Transcript → Status → Type 0  -- how it may end, and what it keeps, once its inputs are read and sound
+  pub text : Transcript → Status → List ℕ  -- what it then writes, where the status has no text of its own
+  pub files : Transcript → Status → List FileText  -- the files that it then writes, before the text and in this order
+
+-- a run that keeps nothing
+abbrev pub nothing_kept : Transcript
+nothing_kept = record { set = None }
+
+-- ---- the rows
+
+-- the right answer to the query for the grounded set: it is that set, as a rising list
+pub record IsRightAnswer (framework : Af) (set : List ℕ) : Type 0 where
+  pub rises : IsStrictlyIncreasing set
+  pub grounded : IsGrounded framework set
+
+-- the set is the right answer on the framework that the file's bytes read as
+pub record AnswersFile (known : KnownFile) (set : List ℕ) : Type 0 where
+  pub bytes : List ℕ
+  pub has : HasBytes known bytes
+  pub framework : Af
+  pub reads : ReadsAs bytes framework
+  pub right : IsRightAnswer framework set
+
+-- a set that answers the query for the grounded set of the file is kept
+pub record KeepsAnswer (known : KnownFile) (kept : Transcript) : Type 0 where
+  pub set : List ℕ
+  pub kept_set : kept.set ≡ Some set
+  pub answers : AnswersFile known set
+
+-- it is done, and keeps nothing
+abbrev pub EndsDone : Transcript → Status → Type 0
+EndsDone kept end = (kept ≡ nothing_kept) × (end ≡ Done)
+
+-- it asks for nothing that there is, and keeps nothing
+abbrev pub EndsUnasked : Transcript → Status → Type 0
+EndsUnasked kept end = (kept ≡ nothing_kept) × (end ≡ Usage)
+
+-- it is done, and keeps the answer
+abbrev pub EndsAnswered : KnownFile → Transcript → Status → Type 0
+EndsAnswered known kept end = KeepsAnswer known kept × (end ≡ Done)
+
+-- the line of the set that is kept
+abbrev pub kept_text : Option (List ℕ) → List ℕ
+kept_text None = []
+kept_text (Some set) = set_line set
+
+abbrev pub version_row : Row
+version_row = record {
+  inputs = [];
+  takes_memory = false;
+  Ends = EndsDone;
+  text = λ kept end. codes "argue 1.0\n";
+  files = λ kept end. [];
+}
+
+abbrev pub unknown_row : Row
+unknown_row = record {
+  inputs = [];
+  takes_memory = true;
+  Ends = EndsUnasked;
+  text = λ kept end. [];
+  files = λ kept end. [];
+}
+
+abbrev pub grounded_row : (List ℕ → KnownFile) → List ℕ → Row
+grounded_row holds file = record {
+  inputs = record { role = Framework 1; file = file } ∷ [];
+  takes_memory = true;
+  Ends = EndsAnswered (holds file);
+  text = λ kept end. kept_text kept.set;
+  files = λ kept end. [];
+}
+
+-- the table: what is known of the files matters to some rows
+abbrev pub row_of : (List ℕ → KnownFile) → Request → Row
+row_of holds version = version_row
+row_of holds (grounded file) = grounded_row holds file
+row_of holds unknown = unknown_row
+
+-- ---- the cause of an ending
+
+-- why a run of this row may end so, and what it then keeps: by its inputs, for want of memory, or as the row says
+abbrev pub EndsCommand : Reading → Row → Transcript → Status → Type 0
+EndsCommand found row kept end =
+    ((kept ≡ nothing_kept) × (StopsAtFirst found end row.inputs ⊎ ((end ≡ WantOfMemory) × IsTrue row.takes_memory)))
+    ⊎ row.Ends kept end
+
+-- the text that the ending has to write
+abbrev pub text_of : Row → Transcript → Status → List ℕ
+text_of row kept end = unwrap_or (common_text end) (row.text kept end)
+
+-- the files that an ending has to write: none where its status says the same in every command
+abbrev pub files_beside : Option (List ℕ) → List FileText → List FileText
+files_beside None files = files
+files_beside (Some text) files = []
+
+-- a file's name and bytes
+abbrev pub file_text : Written → FileText
+file_text file = record { name = string_bytes file.name; bytes = file.bytes }
+
+-- a role in which the row reads no input
+abbrev pub HasNoInput : Row → Role → Type 0
+HasNoInput row role = (input : Input) → Contains row.inputs input → role ≢ input.role
+
+-- no fault of reading is counted but where the run ends by one, and none ever in a role without input
+pub record CountsReads (found : Reading) (row : Row) (end : Status) : Type 0 where
+  pub quiet : ((role : Role) → end ≢ ReadFault role) → found.new_count ≡ found.old_count
+  pub others : (role : Role) → HasNoInput row role → found.new_count role ≡ found.old_count role
+
+-- the ending is one that the row has
+pub record IsEndingOf (found : Reading) (row : Row) (ending : Ending) : Type 0 where
+  pub cause : EndsCommand found row ending.kept ending.status
+  pub text : text_bytes ending.text ≡ text_of row ending.kept ending.status
+  pub files : map file_text ending.files ≡ files_beside (common_text ending.status) (row.files ending.kept ending.status)
+  pub counts : CountsReads found row ending.status
+
+-- the ending of a query for the grounded set of a file that was answered
+pub record AnswersQuery (holds : List ℕ → KnownFile) (file : List ℕ) (ending : Ending) : Type 0 where
+  pub done : ending.status ≡ Done
+  pub keeps : KeepsAnswer (holds file) ending.kept
+  pub text : text_bytes ending.text ≡ kept_text ending.kept.set
+  pub no_file : ending.files ≡ []

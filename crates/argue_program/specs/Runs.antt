@@ -1,0 +1,70 @@
+-- What a run does, and what follows of it in the words of its query.
+use Rattle.std.specs.Prelude.{◌≡◌, ◌≢◌, ℕ, ◌⊎◌, List, Some}
+use Rattle.argue_outside.specs.Outside.{FaultCounted, KnownFile}
+use Rattle.argue_outside.specs.declared.Role.TheVariants as role
+use Rattle.argue_words.specs.Words.{IsGroundedQuery}
+use Rattle.af_format.specs.Faults.{HasFault}
+use Rattle.af_format.specs.declared.fault.LineCause.{LineCause}
+use Rattle.argue_program.specs.Inputs.{IsFirstFaultIn, Reading}
+use Rattle.argue_program.specs.Rows.{AnswersFile, IsEndingOf, Row}
+use Rattle.argue_program.specs.Writing.{BreaksOff, IsWritten, Output}
+use Rattle.argue_program.specs.declared.decision.Ending.{Ending}
+use Rattle.argue_program.specs.declared.ended.Ended.{Ended}
+use Rattle.argue_program.specs.declared.ended.Limit.TheVariants as limit
+use Rattle.argue_program.specs.declared.ended.Refusal.TheVariants.{Line}
+use Rattle.argue_program.specs.declared.ended.Status.{Status}
+use Rattle.argue_program.specs.declared.ended.Status.TheVariants.{Done, Usage, InputRefused, WriteFault, WantOfMemory, Limit}
+
+-- the run comes to an ending that its row has, and writes it whole, or ends with a write fault in the midst of it
+pub record IsRunOf (found : Reading) (row : Row) (ended : Ended) (old new : Output) : Type 0 where
+  pub ending : Ending
+  pub decided : IsEndingOf found row ending
+  pub kept : ended.kept ≡ ending.kept
+  pub whole : ended.status ≢ WriteFault → (ended.status ≡ ending.status) × IsWritten ending old new
+  pub broken : ended.status ≡ WriteFault → BreaksOff ending old new
+
+-- ---- what follows
+
+-- the words ask for the grounded set of a file, and this set is the right answer
+pub record IsRightFor (words : List (List ℕ)) (holds : List ℕ → KnownFile) (set : List ℕ) : Type 0 where
+  pub file : List ℕ
+  pub query : IsGroundedQuery words file
+  pub answers : AnswersFile (holds file) set
+
+-- the words ask for the grounded set of a file with these bytes, of which no read fails: it is served, or no fault is counted
+pub record QueriesBytes (found : Reading) (words : List (List ℕ)) (file bytes : List ℕ) : Type 0 where
+  pub query : IsGroundedQuery words file
+  pub known : found.holds file ≡ Some (Some bytes)
+  pub no_fault : found.Serves file ⊎ ¬ FaultCounted (found.old_count (role.Framework 1)) (found.new_count (role.Framework 1))
+
+-- some line of the bytes has a fault
+abbrev pub IsFaulty : List ℕ → Type 0
+IsFaulty bytes = (line : ℕ) × (cause : LineCause) × HasFault bytes line cause
+
+-- the run is done, or wanted memory
+abbrev pub IsDoneOrMemory : Status → Type 0
+IsDoneOrMemory Done = Unit {0}
+IsDoneOrMemory WantOfMemory = Unit {0}
+IsDoneOrMemory _ = ⊥
+
+-- words that aren't well-formed are refused, but for want of memory or a write fault
+abbrev pub RefusesWords : Status → Type 0
+RefusesWords Usage = Unit {0}
+RefusesWords WriteFault = Unit {0}
+RefusesWords WantOfMemory = Unit {0}
+RefusesWords _ = ⊥
+
+-- faulty bytes are refused by their first fault, but for want of memory or a write fault
+abbrev pub RefusesBytes : List ℕ → Status → Type 0
+RefusesBytes bytes (InputRefused (Line of line cause)) =
+    (of ≡ role.Framework 1) × IsFirstFaultIn (role.Framework 1) bytes line cause
+RefusesBytes bytes WriteFault = Unit {0}
+RefusesBytes bytes WantOfMemory = Unit {0}
+RefusesBytes bytes _ = ⊥
+
+-- bytes over the limit are refused for their length, but for want of memory or a write fault
+abbrev pub RefusesLength : Status → Type 0
+RefusesLength (Limit limit.Input) = Unit {0}
+RefusesLength WriteFault = Unit {0}
+RefusesLength WantOfMemory = Unit {0}
+RefusesLength _ = ⊥

@@ -1,0 +1,60 @@
+-- The texts that a run writes where its status alone says them, by status, role and cause.
+use Rattle.std.specs.Prelude.{ℕ, List, [], ◌∷◌, ◌++◌, Option, Some, None, codes}
+use Rattle.std.specs.String.{string_bytes}
+use Rattle.std.specs.Fmt.{decimal}
+use Rattle.argue_outside.specs.declared.Role.{Role}
+use Rattle.argue_outside.specs.declared.Role.TheVariants as role
+use Rattle.af_format.specs.Causes.{cause_name}
+use Rattle.argue_program.specs.declared.ended.Cause.{Cause}
+use Rattle.argue_program.specs.declared.ended.Cause.TheVariants as cause
+use Rattle.argue_program.specs.declared.ended.Limit.{Limit}
+use Rattle.argue_program.specs.declared.ended.Limit.TheVariants as limit
+use Rattle.argue_program.specs.declared.ended.Refusal.{Refusal}
+use Rattle.argue_program.specs.declared.ended.Refusal.TheVariants.{Line}
+use Rattle.argue_program.specs.declared.ended.Status.{Status}
+use Rattle.argue_program.specs.declared.ended.Status.TheVariants as status
+use Rattle.argue_program.specs.declared.texts.Text.{Text}
+use Rattle.argue_program.specs.declared.texts.Text.TheVariants.{Fixed, Made}
+
+-- the bytes of a text
+abbrev pub text_bytes : Text → List ℕ
+text_bytes (Fixed text) = text.now
+text_bytes (Made text) = string_bytes text
+
+-- the name of a role
+abbrev pub role_text : Role → List ℕ
+role_text (role.Framework k) = codes "framework"
+role_text role.Script = codes "script"
+role_text role.Answer = codes "answer"
+role_text role.Certificate = codes "certificate"
+role_text role.List = codes "list"
+role_text role.Cnf = codes "cnf"
+role_text role.Lrat = codes "lrat"
+
+-- the name of a cause
+abbrev pub cause_text : Cause → List ℕ
+cause_text (cause.Framework cause) = cause_name cause
+
+-- the line of a refusal: the role, the number of the faulty line in decimal, and the cause
+abbrev pub refusal_text : Refusal → List ℕ
+refusal_text (Line role line cause) =
+    codes "error: " ++ (role_text role ++ (codes " line " ++ (decimal line ++ (32 ∷ (cause_text cause ++ 10 ∷ [])))))
+
+-- the line of a bound that was met
+abbrev pub limit_text : Limit → List ℕ
+limit_text limit.Input = codes "error: limit input\n"
+
+-- the text of a status that says the same in every command; a run that is done writes what its command says
+abbrev pub common_text : Status → Option (List ℕ)
+common_text status.Done = None
+common_text status.Usage = Some (codes "error: usage\n")
+common_text (status.InputRefused refusal) = Some (refusal_text refusal)
+common_text (status.ReadFault role) = Some (codes "error: read " ++ role_text role ++ codes "\n")
+common_text status.WriteFault = Some []
+common_text status.WantOfMemory = Some []
+common_text (status.Limit limit) = Some (limit_text limit)
+
+-- the status is that of a refused input, whose text takes memory
+abbrev pub IsRefusal : Status → Type 0
+IsRefusal (status.InputRefused refusal) = Unit {0}
+IsRefusal _ = ⊥
