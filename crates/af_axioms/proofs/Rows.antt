@@ -1,5 +1,5 @@
 -- Each row of the table of axioms is true in every world.
-use Rattle.std.proofs.Common.{◌≤◌, ◌<◌, ◌+◌, ◌==◌, ℕ, [], ◌∷◌, arith, subst, sym, ⊎_elim}
+use Rattle.std.proofs.Common.{◌≤◌, ◌<◌, ◌+◌, ◌==◌, ℕ, List, [], ◌∷◌, arith, subst, sym, ⊎_elim}
 use Rattle.std.specs.Prelude.{Contains}
 use Rattle.std.proofs.lemmas.Bool.{cases_eq, cases_lt, cond_both}
 use Rattle.meaning_atoms.specs.declared.atom.Atom.TheVariants.{Member, Live, Attack, Gap, Tail, Unmet}
@@ -7,81 +7,97 @@ use Rattle.meaning_atoms.specs.declared.atom.Atom.TheVariants.{Cf, Ad, Co, St}
 use Rattle.meaning_atoms.specs.declared.axiom.AfAxiom.{AfAxiom}
 use Rattle.meaning_atoms.specs.declared.axiom.AfAxiom.TheVariants.{A1, A2, A3, A4, A5, A6, A7, A8, A9, A10, A14}
 use Rattle.semantics.specs.Framework.{Af, Attacks, IsAttackedBy, Defends}
-use Rattle.meaning_atoms.specs.Worlds.{World, IsWorld, HasGap, HasTail, HasUnmet, IsValid}
+use Rattle.semantics.specs.Frameworks.{Framework, af}
+use Rattle.meaning_atoms.specs.declared.atom.AtomLit.{AtomLit}
+use Rattle.meaning_atoms.specs.Literals.{affirmed, denied}
+use Rattle.meaning_atoms.specs.Worlds.{world_of, IsWorldOf, IsAfWorld, HasGap, HasTail, HasUnmet, IsTrueBeside, IsValid}
 use Rattle.semantics.proofs.Decided.{decide_attacked}
-use Rattle.meaning_atoms.proofs.Readings.{decide_unmet}
+use Rattle.meaning_atoms.proofs.Valuations.{decide_unmet}
 use Rattle.semantics.proofs.Extensions.{stable_largest, preferred_complete}
-use Rattle.af_axioms.specs.Table.{affirmed, denied, table_clause, notion_clause}
-use Rattle.af_axioms.proofs.Clauses.{so, or_else, given}
+use Rattle.meaning_atoms.proofs.Clauses.{so, or_else, given}
+use Rattle.af_axioms.specs.Table.{table_clause, notion_clause}
 
 -- the number of an attacker lies before the end of all places
-before_end : (w : World) → IsWorld w → (b a : ℕ) → Attacks w.framework b a → b < 1000001
-before_end w ok b a at = let high = (ok.live b (ok.form.ends b a at).0).high in omega arith
+before_end : (f : Af) (s : List ℕ) → IsAfWorld f s → (b a : ℕ) → Attacks f b a → b < 1000001
+before_end f s ok b a at = let high = (ok.framework.live b (ok.framework.form.ends b a at).0).high in omega arith
 
 -- a set that attacks an argument does so by a member of number 1 or more
-tail_from : (w : World) → IsWorld w → (a : ℕ) → IsAttackedBy w.framework w.set a
-    → HasTail w.framework w.set a 1
-tail_from w ok a hit =
+tail_from : (f : Af) (s : List ℕ) → IsAfWorld f s → (a : ℕ) → IsAttackedBy f s a
+    → HasTail f s a 1
+tail_from f s ok a hit =
     record { attacker = hit.0; late = (ok.members hit.0 hit.1).low; member = hit.1; attack = hit.2 }
 
 -- what has no unmet attacker is defended
-met_is_defended : (w : World) → IsWorld w → (a : ℕ) → (HasUnmet w.framework w.set a 1 → ⊥)
-    → Defends w.framework w.set a
-met_is_defended w ok a none b at =
-    let low = (ok.live b (ok.form.ends b a at).0).low in
+met_is_defended : (f : Af) (s : List ℕ) → IsAfWorld f s → (a : ℕ) → (HasUnmet f s a 1 → ⊥)
+    → Defends f s a
+met_is_defended f s ok a none b at =
+    let low = (ok.framework.live b (ok.framework.form.ends b a at).0).low in
     ⊎_elim (λ hit. hit) (λ unmet. absurd (none (record { attacker = b; late = low; attack = at; unmet = unmet })))
-    (decide_attacked w.framework w.set b)
+    (decide_attacked f s b)
 
 -- an attacker from i on, where there is none from i to just before j, is j or a later one
 past_gap : (f : Af) (a b i j : ℕ) → HasGap f a i j → Attacks f b a → i ≤ b → j ≤ b
 past_gap f a b i j gap at late = ⊎_elim (λ lt. absurd (gap b at late lt)) (λ ge. ge) (cases_lt b j)
 
-members_are_live : (a : ℕ) → IsValid (table_clause (A1 a))
-members_are_live a w ok sides =
+-- the clause is true in every world of an abstract framework
+abbrev IsValidOfAf : List AtomLit → Type 0
+IsValidOfAf clause = (f : Af) (s : List ℕ) → IsAfWorld f s → (sides : List (List AtomLit))
+    → IsTrueBeside (world_of (af f) s) sides clause
+
+members_are_live : (a : ℕ) → IsValidOfAf (table_clause (A1 a))
+members_are_live a f s ok sides =
+    let w = world_of (af f) s in
     given w sides Cf _ (λ free. given w sides (Member a) _ (λ member.
     so w sides (Live a) [] (free.live a member)))
 
-members_are_apart : (b a : ℕ) → IsValid (table_clause (A2 b a))
-members_are_apart b a w ok sides =
+members_are_apart : (b a : ℕ) → IsValidOfAf (table_clause (A2 b a))
+members_are_apart b a f s ok sides =
+    let w = world_of (af f) s in
     given w sides Cf _ (λ free. given w sides (Attack b a) _ (λ at. given w sides (Member a) _ (λ target.
     given w sides (Member b) _ (λ attacker. absurd (free.apart b a attacker target at)))))
 
-attackers_are_attacked : (b a : ℕ) → IsValid (table_clause (A3 b a))
-attackers_are_attacked b a w ok sides =
+attackers_are_attacked : (b a : ℕ) → IsValidOfAf (table_clause (A3 b a))
+attackers_are_attacked b a f s ok sides =
+    let w = world_of (af f) s in
     given w sides Ad _ (λ ad. given w sides (Attack b a) _ (λ at. given w sides (Member a) _ (λ member.
-    so w sides (Tail b 1) [] (tail_from w ok b (ad.defended a member b at)))))
+    so w sides (Tail b 1) [] (tail_from f s ok b (ad.defended a member b at)))))
 
-members_attack : (b a : ℕ) → IsValid (table_clause (A4 b a))
-members_attack b a w ok sides =
+members_attack : (b a : ℕ) → IsValidOfAf (table_clause (A4 b a))
+members_attack b a f s ok sides =
+    let w = world_of (af f) s in
     given w sides (Attack b a) _ (λ at. given w sides (Member b) _ (λ member.
-    so w sides (Tail a 1) [] (tail_from w ok a (b, member, at))))
+    so w sides (Tail a 1) [] (tail_from f s ok a (b, member, at))))
 
-tail_steps : (a i j : ℕ) → IsValid (table_clause (A5 a i j))
-tail_steps a i j w ok sides =
+tail_steps : (a i j : ℕ) → IsValidOfAf (table_clause (A5 a i j))
+tail_steps a i j f s ok sides =
+    let w = world_of (af f) s in
     given w sides (Tail a i) _ (λ tail. given w sides (Gap a i j) _ (λ gap.
-    let past = past_gap w.framework a tail.attacker i j gap tail.attack tail.late in
+    let past = past_gap f a tail.attacker i j gap tail.attack tail.late in
     or_else w sides (Member j) _ (λ out. so w sides (Tail a (j + 1)) []
-    (⊎_elim (λ same. absurd (out (subst (λ (b : ℕ). Contains w.set b) same tail.member)))
+    (⊎_elim (λ same. absurd (out (subst (λ (b : ℕ). Contains s b) same tail.member)))
     (λ other. record { attacker = tail.attacker; late = omega arith; member = tail.member; attack = tail.attack })
     (cases_eq tail.attacker j)))))
 
-tail_ends : (a i : ℕ) → IsValid (table_clause (A6 a i))
-tail_ends a i w ok sides =
+tail_ends : (a i : ℕ) → IsValidOfAf (table_clause (A6 a i))
+tail_ends a i f s ok sides =
+    let w = world_of (af f) s in
     given w sides (Tail a i) _ (λ tail. given w sides (Gap a i 1000001) _ (λ gap.
-    absurd (gap tail.attacker tail.attack tail.late (before_end w ok tail.attacker a tail.attack))))
+    absurd (gap tail.attacker tail.attack tail.late (before_end f s ok tail.attacker a tail.attack))))
 
-outsiders_have_unmet : (a : ℕ) → IsValid (table_clause (A7 a))
-outsiders_have_unmet a w ok sides =
+outsiders_have_unmet : (a : ℕ) → IsValidOfAf (table_clause (A7 a))
+outsiders_have_unmet a f s ok sides =
+    let w = world_of (af f) s in
     given w sides Co _ (λ co. given w sides (Live a) _ (λ live. or_else w sides (Member a) _ (λ out.
     ⊎_elim (λ unmet. so w sides (Unmet a 1) [] unmet)
-    (λ none. absurd (out (co.closed a live (met_is_defended w ok a none))))
-    (decide_unmet w.framework w.set a 1))))
+    (λ none. absurd (out (co.closed a live (met_is_defended f s ok a none))))
+    (decide_unmet f s a 1))))
 
-unmet_steps : (a i j : ℕ) → IsValid (table_clause (A8 a i j))
-unmet_steps a i j w ok sides =
+unmet_steps : (a i j : ℕ) → IsValidOfAf (table_clause (A8 a i j))
+unmet_steps a i j f s ok sides =
+    let w = world_of (af f) s in
     given w sides (Unmet a i) _ (λ open_one. given w sides (Gap a i j) _ (λ gap.
-    let past = past_gap w.framework a open_one.attacker i j gap open_one.attack open_one.late in
-    let attacked : ℕ → Type 0 = λ b. IsAttackedBy w.framework w.set b in
+    let past = past_gap f a open_one.attacker i j gap open_one.attack open_one.late in
+    let attacked : ℕ → Type 0 = λ b. IsAttackedBy f s b in
     given w sides (Tail j 1) _ (λ tail. so w sides (Unmet a (j + 1)) []
     (⊎_elim
     (λ same. absurd (open_one.unmet (subst attacked (sym same) (tail.attacker, tail.member, tail.attack))))
@@ -93,43 +109,56 @@ unmet_steps a i j w ok sides =
     })
     (cases_eq open_one.attacker j)))))
 
-unmet_ends : (a i : ℕ) → IsValid (table_clause (A9 a i))
-unmet_ends a i w ok sides =
+unmet_ends : (a i : ℕ) → IsValidOfAf (table_clause (A9 a i))
+unmet_ends a i f s ok sides =
+    let w = world_of (af f) s in
     given w sides (Unmet a i) _ (λ open_one. given w sides (Gap a i 1000001) _ (λ gap.
-    let early = before_end w ok open_one.attacker a open_one.attack in
+    let early = before_end f s ok open_one.attacker a open_one.attack in
     absurd (gap open_one.attacker open_one.attack open_one.late early)))
 
-outsiders_are_attacked : (a : ℕ) → IsValid (table_clause (A10 a))
-outsiders_are_attacked a w ok sides =
+outsiders_are_attacked : (a : ℕ) → IsValidOfAf (table_clause (A10 a))
+outsiders_are_attacked a f s ok sides =
+    let w = world_of (af f) s in
     given w sides St _ (λ st. given w sides (Live a) _ (λ live. or_else w sides (Member a) _ (λ out.
-    so w sides (Tail a 1) [] (tail_from w ok a (st.attacks_outside a live out)))))
+    so w sides (Tail a 1) [] (tail_from f s ok a (st.attacks_outside a live out)))))
 
-admissible_is_conflict_free : IsValid (denied Ad ∷ affirmed Cf ∷ [])
-admissible_is_conflict_free w ok sides = given w sides Ad _ (λ ad. so w sides Cf [] ad.conflict_free)
+admissible_is_conflict_free : IsValidOfAf (denied Ad ∷ affirmed Cf ∷ [])
+admissible_is_conflict_free f s ok sides =
+    let w = world_of (af f) s in given w sides Ad _ (λ ad. so w sides Cf [] ad.conflict_free)
 
-complete_is_admissible : IsValid (denied Co ∷ affirmed Ad ∷ [])
-complete_is_admissible w ok sides = given w sides Co _ (λ co. so w sides Ad [] co.admissible)
+complete_is_admissible : IsValidOfAf (denied Co ∷ affirmed Ad ∷ [])
+complete_is_admissible f s ok sides =
+    let w = world_of (af f) s in given w sides Co _ (λ co. so w sides Ad [] co.admissible)
 
-stable_is_complete : IsValid (denied St ∷ affirmed Co ∷ [])
-stable_is_complete w ok sides =
+stable_is_complete : IsValidOfAf (denied St ∷ affirmed Co ∷ [])
+stable_is_complete f s ok sides =
+    let w = world_of (af f) s in
     given w sides St _ (λ st. so w sides Co []
-    (preferred_complete w.framework w.set ((stable_largest w.framework ok.form).preferred w.set st)))
+    (preferred_complete f s ((stable_largest f ok.framework.form).preferred s st)))
 
-notions_imply : (part : ℕ) → IsValid (notion_clause part)
+notions_imply : (part : ℕ) → IsValidOfAf (notion_clause part)
 notions_imply part =
-    cond_both (part == 1) _ _ IsValid (λ _. admissible_is_conflict_free)
-    (λ _. cond_both (part == 2) _ _ IsValid (λ _. complete_is_admissible) (λ _. stable_is_complete))
+    cond_both (part == 1) _ _ IsValidOfAf (λ _. admissible_is_conflict_free)
+    (λ _. cond_both (part == 2) _ _ IsValidOfAf (λ _. complete_is_admissible) (λ _. stable_is_complete))
 
 -- every row of the table
+rows_of_af : (name : AfAxiom) → IsValidOfAf (table_clause name)
+rows_of_af (A1 a) = members_are_live a
+rows_of_af (A2 b a) = members_are_apart b a
+rows_of_af (A3 b a) = attackers_are_attacked b a
+rows_of_af (A4 b a) = members_attack b a
+rows_of_af (A5 a i j) = tail_steps a i j
+rows_of_af (A6 a i) = tail_ends a i
+rows_of_af (A7 a) = outsiders_have_unmet a
+rows_of_af (A8 a i j) = unmet_steps a i j
+rows_of_af (A9 a i) = unmet_ends a i
+rows_of_af (A10 a) = outsiders_are_attacked a
+rows_of_af (A14 part) = notions_imply part
+
+-- in worlds of each kind
+rows_of : (name : AfAxiom) (f : Framework) (s : List ℕ) → IsWorldOf f s → (sides : List (List AtomLit))
+    → IsTrueBeside (world_of f s) sides (table_clause name)
+rows_of name (af f) s ok sides = rows_of_af name f s ok sides
+
 pub rows_are_valid : (name : AfAxiom) → IsValid (table_clause name)
-rows_are_valid (A1 a) = members_are_live a
-rows_are_valid (A2 b a) = members_are_apart b a
-rows_are_valid (A3 b a) = attackers_are_attacked b a
-rows_are_valid (A4 b a) = members_attack b a
-rows_are_valid (A5 a i j) = tail_steps a i j
-rows_are_valid (A6 a i) = tail_ends a i
-rows_are_valid (A7 a) = outsiders_have_unmet a
-rows_are_valid (A8 a i j) = unmet_steps a i j
-rows_are_valid (A9 a i) = unmet_ends a i
-rows_are_valid (A10 a) = outsiders_are_attacked a
-rows_are_valid (A14 part) = notions_imply part
+rows_are_valid name w ok sides = rows_of name w.framework w.set ok sides

@@ -10,14 +10,7 @@ use Rattle.meaning_atoms.specs.declared.atom.Atom.TheVariants.{Member, Live, Att
 use Rattle.meaning_atoms.specs.declared.atom.AtomLit.{AtomLit}
 use Rattle.meaning_atoms.specs.declared.axiom.AfAxiom.{AfAxiom}
 use Rattle.meaning_atoms.specs.declared.axiom.AfAxiom.TheVariants.{A1, A2, A3, A4, A5, A6, A7, A8, A9, A10, A14}
-
--- the literal that says the atom
-abbrev pub affirmed : Atom → AtomLit
-affirmed a = record { atom = a; positive = true }
-
--- the literal that says that the atom is not so
-abbrev pub denied : Atom → AtomLit
-denied a = record { atom = a; positive = false }
+use Rattle.meaning_atoms.specs.Literals.{affirmed, denied}
 
 -- the three clauses of A14, by their number: which notion has another within it
 abbrev pub notion_clause : ℕ → List AtomLit

@@ -4,8 +4,9 @@ ghost use Rattle.std.specs.Prelude.{◌≡◌, ◌<◌, All, IfOk};
 ghost use Rattle.meaning_atoms.specs.declared.axiom.AfAxiom.TheVariants.{A5, A8};
 ghost use Rattle.meaning_atoms.specs.Atoms.{IsLit};
 ghost use Rattle.meaning_atoms.specs.Axioms.{IsAfAxiom};
+ghost use Rattle.meaning_atoms.specs.Literals.{affirmed, denied};
 ghost use Rattle.meaning_atoms.specs.Worlds.{IsAsk, IsValid};
-ghost use Rattle.af_axioms.specs.Table.{affirmed, denied, table_clause};
+ghost use Rattle.af_axioms.specs.Table.{table_clause};
 
 use meaning_atoms::Atom::{Ad, Attack, Cf, Co, Gap, Live, Member, St, Tail, Unmet};
 use meaning_atoms::{AfAxiom, Atom, AtomLit, END};

@@ -1,6 +1,7 @@
 //! The atoms whose value the framework alone fixes.
 
 ghost use Rattle.std.specs.Prelude.{◌↔◌, IfNone, IfSome, IsTrue};
+ghost use Rattle.semantics.specs.Frameworks.{af};
 ghost use Rattle.meaning_atoms.specs.Worlds.{HasGap, IsFact};
 ghost use Rattle.af_axioms.specs.Facts.{IsFactValue};
 
@@ -11,8 +12,8 @@ use meaning_atoms::Atom;
 /// atom, a side clause's number among them. It takes no memory, and time logarithmic in the arguments and
 /// attacks.
 pub fn fact_value(plain: &AfPlain, atom: &Atom) -> Option<bool>
-    ensures some { IfSome result (IsFactValue plain.now atom.now) }
-    ensures none { IfNone result (¬ IsFact atom.now) }
+    ensures some { IfSome result (IsFactValue (af plain.now) atom.now) }
+    ensures none { IfNone result (¬ IsFact (af plain.now) atom.now) }
 {
     match *atom {
         Atom::Live(a) => Some(plain.is_live(a)),

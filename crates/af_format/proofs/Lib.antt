@@ -4,4 +4,3 @@ pub mod FirstFaults
 pub mod Reading
 pub mod RoundTrip
 pub mod Readings
-pub mod NextAttack

@@ -10,7 +10,9 @@ use Rattle.num_text.specs.Cuts.{LineText, field_texts, lines_of}
 use Rattle.af_format.specs.declared.fault.LineCause.{LineCause}
 use Rattle.af_format.specs.AfText.{IsHeader, IsAttackLine, AreAttackLines, IsFrameworkOf, ReadsAs}
 use Rattle.num_text.specs.Lines.{kept}
-use Rattle.semantics.specs.Framework.{Af, IsAf}
+use Rattle.semantics.specs.Framework.{Af}
+use Rattle.semantics.specs.Frameworks.{IsNumberedAf}
+use Rattle.dung_notions.specs.Neighbours.{AreArguments}
 use Rattle.af_format.specs.Causes.{IsFirstCause}
 use Rattle.af_format.specs.Faults.{StandsOnAttack, IsHeaderFault, IsAttackFault, StandsIn, IsFaultless, IsFirstFault, IfLine}
 use Rattle.dung_notions.specs.Solid.{IsSolid}
@@ -105,6 +107,14 @@ arguments_rise count = λ k within.
     let next = get_or-range_with_len 1 count (k + 1) 0 (omega arith) in
     omega arith
 
+-- they are numbers that arguments may have
+pub arguments_numbered : (count : ℕ) → count ≤ 1000000 → AreArguments (range_with_len 1 count)
+arguments_numbered count few a h =
+    let n = length-range_with_len 1 count in
+    let lt : h.0 < count = omega (arith, h.1) in
+    let here = get_or-range_with_len 1 count h.0 a lt in
+    record { low = omega (arith, here, h.2); high = omega (arith, here, h.2, few) }
+
 -- both ends of an attack are arguments
 pub ends_are_arguments : (count : ℕ) (lines : List LineText) (attacks : List (ℕ × ℕ)) → AreAttackLines count lines attacks
     → (b a : ℕ) → Contains attacks (b, a) → Contains (range_with_len 1 count) b × Contains (range_with_len 1 count) a
@@ -118,12 +128,12 @@ ends_are_arguments count lines attacks are b a c =
 
 pub framework_made : {E : Type 0} (r : Result Af E) (count : ℕ) (attacks : List (ℕ × ℕ)) (live : List ℕ)
     (items : List (ℕ × ℕ)) → live ≡ range_with_len 1 count → items ≡ attacks → IfOk r (λ f. f.live ≡ live)
-    → IfOk r (λ f. (p : ℕ × ℕ) → Contains f.attacks p ↔ Contains items p) → IfOk r IsAf
+    → IfOk r (λ f. (p : ℕ × ℕ) → Contains f.attacks p ↔ Contains items p) → IfOk r IsNumberedAf
     → IfOk r (IsFrameworkOf count attacks)
 framework_made (Ok f) count attacks live items range same is_live are form = record {
   live = is_live ∙ range;
   attacks_are = λ p. subst (λ xs. Contains f.attacks p ↔ Contains xs p) same (are p);
-  form = form;
+  form = form.form;
 }
 framework_made (Err e) count attacks live items range same is_live are form = form
 

@@ -14,7 +14,7 @@ use Rattle.std.proofs.Math.Seq.{take-append_seam, drop-append-add}
 use Rattle.num_text.specs.Cuts.{LineText, is_line_end, is_blank, field_texts, lines_from, lines_of}
 use Rattle.num_text.specs.Number.{IsDigit}
 use Rattle.num_text.proofs.Decimals.{decimal_number}
-use Rattle.num_text.proofs.PairLemmas.{digit_no_end, no_blanks, not_empty, two_texts, digits_say}
+use Rattle.num_text.proofs.DigitFields.{digit_no_end, no_blanks, not_empty, two_texts, digits_say}
 use Rattle.num_text.proofs.CutLemmas.{lines_from-nil, lines_from-first}
 use Rattle.semantics.specs.Framework.{Af, IsAf}
 use Rattle.num_text.specs.Lines.{are_skipped, kept}

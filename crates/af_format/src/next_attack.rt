@@ -4,12 +4,12 @@ ghost use Rattle.std.specs.Prelude.{◌≡◌, ℕ, [], IfOk, IfErr, IfSome, IfN
 ghost use Rattle.num_text.specs.Lines.{kept};
 ghost use Rattle.af_format.specs.FirstBadLine.{TellsNext, IsNextFault};
 
-use crate::af_line::{attack_of, within_limits};
+use crate::af_line::attack_of;
 use crate::fault::{LineCause, LineFault};
-use num_text::{Lines, next_kept, next_pair};
+use num_text::{Lines, next_kept};
 
-/// The attack of the next line that is not skipped, where place attack lines stand before it; `None` where no
-/// such line is left. A line of two numbers with one space between them is read in one pass over its bytes.
+/// The attack of the next line that is not skipped, where so many attack lines stand before it; `None` where no
+/// such line is left.
 pub(crate) fn next_attack(
     left: &mut Lines<'_>,
     count: u32,
@@ -19,12 +19,6 @@ pub(crate) fn next_attack(
     ensures end { IfOk result (λ next. IfNone next (kept left.old ≡ [])) }
     ensures fault { IfErr result (λ fault. IsNextFault count place (kept left.old) fault.line fault.cause) }
 {
-    if let Some(pair) = next_pair(left) {
-        return at_line(
-            pair.line,
-            within_limits((pair.first, pair.second), count, place),
-        );
-    }
     match next_kept(left) {
         Some(line) => at_line(line.number, attack_of(&line, count, place)),
         None => Ok(None),

@@ -2,7 +2,7 @@
 
 ghost use Rattle.std.specs.Prelude.{◌≡◌, ◌≤◌, length, IfOk};
 ghost use Rattle.std.specs.String.{string_bytes};
-ghost use Rattle.semantics.specs.Framework.{IsAf};
+ghost use Rattle.semantics.specs.Frameworks.{IsNumberedAf};
 ghost use Rattle.af_format.specs.AfText.{ReadsAs};
 ghost use Rattle.dung_notions.specs.Solid.{IsSolid};
 ghost use Rattle.af_format.specs.Written.{af_text};
@@ -29,7 +29,7 @@ pub fn write_af(alloc: Global, framework: &AfPlain) -> Result<Bytes, Memory>
 // The same text, as a string.
 fn text_of(alloc: Global, framework: &AfPlain) -> Result<String, Memory>
     ensures text { IfOk result (λ text. string_bytes text ≡ af_text framework.now) }
-    ensures form { IsAf framework.now }
+    ensures form { IsNumberedAf framework.now }
 {
     let count = framework.live().len();
     let mut text = format!(in alloc; "p af {count}\n")?;

@@ -1,10 +1,8 @@
-pub mod Pairs
-pub mod Cuts
-pub mod Storage
-pub mod Orders
-pub mod Tallies
-pub mod Kept
+pub mod NeighbourLemmas
 pub mod NotionLemmas
 pub mod Numbering
-pub mod Placing
-pub mod Tables
+pub mod Orders
+pub mod SearchLemmas
+pub mod StorageLemmas
+pub mod UndefeatedLemmas
+pub mod WrittenOutLemmas

@@ -55,9 +55,9 @@ defends_walk f s a pairs r lists walk =
     )
 
 -- the set attacks each attacker of a member where it attacks each live argument that attacks a member
-pub strikes_back_walk : (f : Af) (s : List ℕ) (r : Bool) → IsAf f
+pub defends_itself_walk : (f : Af) (s : List ℕ) (r : Bool) → IsAf f
     → WalkedAll (λ b. AttacksInto f b s → IsAttackedBy f s b) f.live r → IsTrue r ↔ ((a : ℕ) → Contains s a → Defends f s a)
-strikes_back_walk f s r form walk =
+defends_itself_walk f s r form walk =
     let each = all_members (λ b. AttacksInto f b s → IsAttackedBy f s b) f.live r walk in (
       λ e a m b h. each.0 e b (form.ends b a h).0 (a, m, h),
       λ d. each.1 (λ b _ into. d into.0 into.1 b into.2),

@@ -1,7 +1,7 @@
-pub mod Places
-pub mod Placing
-pub mod Neighbours
 pub mod Grounding
+pub mod Neighbours
+pub mod Notions
 pub mod Search
 pub mod Solid
-pub mod Notions
+pub mod Storage
+pub mod WrittenOut

@@ -1,7 +1,8 @@
 -- The attacks that leave an argument, and those that reach it.
 use Rattle.std.specs.Prelude.{◌≡◌, ◌↔◌, ℕ, List, Contains}
 use Rattle.semantics.specs.Framework.{Af, Attacks}
-use Rattle.dung_notions.specs.Places.{PairsRise}
+use Rattle.semantics.specs.Arguments.{IsArgument}
+use Rattle.attack_index.specs.PairOrder.{PairsRise}
 
 -- the pairs (argument, target) of exactly the attacks that leave the argument, by rising target
 pub record ListsTargets (f : Af) (argument : ℕ) (pairs : List (ℕ × ℕ)) : Type 0 where
@@ -16,3 +17,7 @@ pub record ListsAttackers (f : Af) (argument : ℕ) (pairs : List (ℕ × ℕ)) 
 -- both ends of each attack are live
 abbrev pub AreBetween : List ℕ → List (ℕ × ℕ) → Type 0
 AreBetween live attacks = (b a : ℕ) → Contains attacks (b, a) → Contains live b × Contains live a
+
+-- each number is one that an argument may have
+abbrev pub AreArguments : List ℕ → Type 0
+AreArguments live = (a : ℕ) → Contains live a → IsArgument a

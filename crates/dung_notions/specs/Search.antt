@@ -1,93 +1,92 @@
--- What a search for the grounded set keeps true. `out` tells of each argument, by its number, whether the
--- set is known to attack it, `counts` how many of its attackers are not known to be out, and `order` has the
--- arguments that are known to be members, as they entered.
-use Rattle.std.specs.Prelude.{
-  ◌≡◌,
-  ◌≢◌,
-  ◌↔◌,
-  ℕ,
-  ◌+◌,
-  ◌-◌,
-  ◌<◌,
-  ◌≤◌,
-  Bool,
-  true,
-  not,
-  ◌&&◌,
-  ◌==◌,
-  if◌then◌else◌,
-  List,
-  [],
-  ◌∷◌,
-  ◌++◌,
-  Contains,
-  length,
-  slice_index,
-  slice_index_or,
-  slice_set,
-  count_by,
-  sum,
-}
+-- The inner state of the search for the grounded set. `out` tells of each argument, by its number, whether the set is
+-- known to attack it, `open_attackers` how many of its attackers are not known to be out, `members` has the arguments
+-- that are known to be members, as they entered, and `pending` the attacks of arguments that are out, as far as the
+-- counts of open attackers still hold them.
+use Rattle.std.specs.Prelude.{◌≡◌, ◌≢◌, ◌↔◌, ℕ, ◌+◌, ◌-◌, ◌<◌, ◌≤◌, Bool, true, not, ◌&&◌, ◌==◌, if◌then◌else◌}
+use Rattle.std.specs.Prelude.{List, [], ◌∷◌, ◌++◌, Contains, length, slice_index, slice_index_or, slice_set, count_by, sum}
 use Rattle.semantics.specs.Framework.{Af, Attacks, IsAttackedBy, Defends}
 use Rattle.dung_notions.specs.Grounding.{EntersAfterDefenders}
+use Rattle.dung_notions.specs.declared.grounded.Search.{Search}
 
--- no number stands twice in the order
-pub record IsOnce (order : List ℕ) : Type 0 where
-  pub apart : (i j : ℕ) → i < j → j < length order → slice_index order i ≢ slice_index order j
+-- no number stands twice in the list
+pub record IsOnce (numbers : List ℕ) : Type 0 where
+  pub apart : (i j : ℕ) → i < j → j < length numbers → slice_index numbers i ≢ slice_index numbers j
 
 -- whether an argument is known to be out; a number past the table is
 abbrev pub is_out : List Bool → ℕ → Bool
 is_out out b = slice_index_or out b true
 
--- how many attackers of an argument are not out
-abbrev pub open_attackers : List Bool → ℕ → List (ℕ × ℕ) → ℕ
-open_attackers out a attacks = count_by (λ p. (p.1 == a) && not (is_out out p.0)) attacks
+-- how many of the attacks on an argument come from an attacker that is not out
+abbrev pub count_undefeated : List Bool → ℕ → List (ℕ × ℕ) → ℕ
+count_undefeated out a attacks = count_by (λ p. (p.1 == a) && not (is_out out p.0)) attacks
 
 -- how many of the attacks reach an argument
 abbrev pub reaching : ℕ → List (ℕ × ℕ) → ℕ
 reaching a attacks = count_by (λ p. p.1 == a) attacks
 
--- the state of a search in which the attacks of `rest`, whose attacker is out already, are still to be
--- taken off
-pub record IsKept (f : Af) (order : List ℕ) (out : List Bool) (counts : List ℕ)
+-- a state in which the attacks of `rest`, whose attacker is out already, are still to be taken off the counts
+pub record IsSearchState (f : Af) (members : List ℕ) (out : List Bool) (open_attackers : List ℕ)
     (rest : List (ℕ × ℕ)) : Type 0 where
   pub wide : (a : ℕ) → Contains f.live a → a < length out
-  pub long : length counts ≡ length out
+  pub long : length open_attackers ≡ length out
   pub counted : (a : ℕ) → a < length out
-      → slice_index counts a ≡ open_attackers out a f.attacks + reaching a rest
-  pub attacked : (b : ℕ) → b < length out → is_out out b ≡ true → IsAttackedBy f order b
-  pub entered : EntersAfterDefenders f order
-  pub once : IsOnce order
-  pub members : (a : ℕ) → Contains order a ↔ (Contains f.live a × (slice_index counts a ≡ 0))
+      → slice_index open_attackers a ≡ count_undefeated out a f.attacks + reaching a rest
+  pub attacked : (b : ℕ) → b < length out → is_out out b ≡ true → IsAttackedBy f members b
+  pub entered : EntersAfterDefenders f members
+  pub once : IsOnce members
+  pub exact : (a : ℕ) → Contains members a ↔ (Contains f.live a × (slice_index open_attackers a ≡ 0))
   pub pending : (p : ℕ × ℕ) → Contains rest p → Contains f.attacks p
 
+-- what a search has found is such a state
+abbrev pub IsSearchOf : Af → Search → Type 0
+IsSearchOf f s = IsSearchState f s.members.items s.out.items s.open_attackers.items s.pending.items
+
 -- one attack on `a` is taken off, and `a` enters where that was the last one
-pub record ClosesAttack (a : ℕ) (order counts order' counts' : List ℕ) : Type 0 where
-  pub counts_is : counts' ≡ slice_set counts a (slice_index counts a - 1)
-  pub order_is : order' ≡ (if slice_index counts a == 1 then order ++ a ∷ [] else order)
+pub record ReleasesOne (a : ℕ) (members open_attackers members' open_attackers' : List ℕ) : Type 0 where
+  pub counts_are : open_attackers' ≡ slice_set open_attackers a (slice_index open_attackers a - 1)
+  pub members_are : members' ≡ (if slice_index open_attackers a == 1 then members ++ a ∷ [] else members)
 
--- the order has grown at its end, by no more than the counts have fallen
-pub record Grows (order counts order' counts' : List ℕ) : Type 0 where
+-- one attack on `a` is taken off, and nothing else changes
+pub record ReleasesTarget (a : ℕ) (old new : Search) : Type 0 where
+  pub out : new.out.items ≡ old.out.items
+  pub pending : new.pending.items ≡ old.pending.items
+  pub released : ReleasesOne a old.members.items old.open_attackers.items
+      new.members.items new.open_attackers.items
+
+-- the members have grown at their end, by no more than the counts have fallen
+pub record Grows (members open_attackers members' open_attackers' : List ℕ) : Type 0 where
   pub more : List ℕ
-  pub is : order' ≡ order ++ more
-  pub spent : sum counts' + length order' ≤ sum counts + length order
+  pub is : members' ≡ members ++ more
+  pub spent : sum open_attackers' + length members' ≤ sum open_attackers + length members
 
--- an argument is attacked by a member that entered at a place from `head` on
+-- all pending attacks are taken off, and who has no open attacker left is a member
+pub record ReleasesTargets (f : Af) (old new : Search) : Type 0 where
+  pub state : IsSearchOf f new
+  pub pending : new.pending.items ≡ []
+  pub out : new.out.items ≡ old.out.items
+  pub grows : Grows old.members.items old.open_attackers.items new.members.items new.open_attackers.items
+
+-- an argument is attacked by a member that entered at an index from `head` on
 abbrev pub IsAttackedFrom : Af → List ℕ → ℕ → ℕ → Type 0
-IsAttackedFrom f order head b = (k : ℕ) × (head ≤ k) × (k < length order) × Attacks f (slice_index order k) b
+IsAttackedFrom f members head b = (k : ℕ) × (head ≤ k) × (k < length members) × Attacks f (slice_index members k) b
 
--- a search after it has put out the arguments of which P holds; the attacks of `rest` are still to be taken off
-pub record PutsOut (f : Af) (P : ℕ → Type 0) (order : List ℕ) (out : List Bool) (counts : List ℕ)
+-- the state after the arguments of which P holds are out as well
+pub record PutsOut (f : Af) (P : ℕ → Type 0) (members : List ℕ) (out : List Bool) (open_attackers : List ℕ)
     (out' : List Bool) (rest : List (ℕ × ℕ)) : Type 0 where
-  pub kept : IsKept f order out' counts rest
+  pub state : IsSearchState f members out' open_attackers rest
   pub stays : (b : ℕ) → is_out out b ≡ true → is_out out' b ≡ true
-  pub struck : (b : ℕ) → P b → is_out out' b ≡ true
+  pub defeated : (b : ℕ) → P b → is_out out' b ≡ true
 
--- the end of a search: the order holds all that it defends, and its members are the live arguments with
--- no open attacker
-pub record IsFinished (f : Af) (order counts : List ℕ) : Type 0 where
-  pub wide : (a : ℕ) → Contains f.live a → a < length counts
-  pub entered : EntersAfterDefenders f order
-  pub once : IsOnce order
-  pub closed : (a : ℕ) → Contains f.live a → Defends f order a → Contains order a
-  pub members : (a : ℕ) → Contains order a ↔ (Contains f.live a × (slice_index counts a ≡ 0))
+-- the arguments of which P holds are out, and the members and the counts are as they were
+pub record Defeats (f : Af) (P : ℕ → Type 0) (old new : Search) : Type 0 where
+  pub members : new.members.items ≡ old.members.items
+  pub counts : new.open_attackers.items ≡ old.open_attackers.items
+  pub out : PutsOut f P old.members.items old.out.items old.open_attackers.items new.out.items new.pending.items
+
+-- the end of a search: the members are all that they defend, and exactly the live arguments with no open attacker
+pub record IsFinished (f : Af) (members open_attackers : List ℕ) : Type 0 where
+  pub wide : (a : ℕ) → Contains f.live a → a < length open_attackers
+  pub entered : EntersAfterDefenders f members
+  pub once : IsOnce members
+  pub closed : (a : ℕ) → Contains f.live a → Defends f members a → Contains members a
+  pub exact : (a : ℕ) → Contains members a ↔ (Contains f.live a × (slice_index open_attackers a ≡ 0))

@@ -2,9 +2,10 @@
 
 ghost use Rattle.std.specs.Prelude.{◌≡◌, ℕ, ◌<◌, ◌==◌, []};
 ghost use Rattle.std.specs.Prelude.{Contains, IfOk, OnOk, length, filter, slice_index};
-ghost use Rattle.semantics.specs.Framework.{IsAf, Attacks, IsAttackedBy};
+ghost use Rattle.semantics.specs.Framework.{Attacks, IsAttackedBy};
+ghost use Rattle.semantics.specs.Frameworks.{IsNumberedAf};
 ghost use Rattle.dung_notions.specs.Grounding.{GroundsInOrder};
-ghost use Rattle.dung_notions.specs.Search.{IsKept, ClosesAttack, Grows, IsAttackedFrom, PutsOut, IsFinished};
+ghost use Rattle.dung_notions.specs.Search.{Defeats, IsAttackedFrom, IsFinished, IsSearchOf, ReleasesTarget, ReleasesTargets};
 
 use crate::af_plain::AfPlain;
 use plain_lists::{Items, Memory};
@@ -21,12 +22,12 @@ pub struct Grounded {
 /// What a search has found so far.
 #[derive(Drop)]
 struct Search {
-    /// Whether an argument, by its number, is attacked by the set.
+    /// Whether an argument, by its number, is attacked by a member.
     out: Vec<bool>,
     /// How many attackers of an argument are not out.
-    counts: Vec<usize>,
+    open_attackers: Vec<usize>,
     /// The members found, as they entered.
-    order: Vec<u32>,
+    members: Vec<u32>,
     /// The attacks of arguments that are out, as far as the counts still hold them.
     pending: Vec<(u32, u32)>,
 }
@@ -39,30 +40,31 @@ impl AfPlain {
     {
         let Search {
             out: _,
-            counts,
-            order,
+            open_attackers,
+            members,
             pending: _,
-        } = self.searched(alloc)?;
-        let members = unopposed(alloc, self.live(), &counts)?;
-        let set = NumSet::from_rising(alloc, &members)?;
+        } = self.run_rounds(alloc)?;
+        let rising = unattacked(alloc, self.live(), &open_attackers)?;
+        let set = NumSet::from_rising(alloc, &rising)?;
         Ok(Grounded {
             set,
-            order: Items::from_vec(order),
+            order: Items::from_vec(members),
         })
     }
 
-    /// The end of the search. It goes in waves: first all that the members of a wave attack is put out, then the
-    /// attacks of those are taken off the counts, which lets the members of the next wave enter. So the
-    /// attacks of a wave are fetched one beside the other, and none waits for another.
-    fn searched(&self, alloc: Global) -> Result<Search, Memory>
-        ensures { IfOk result (λ s. IsFinished self.now s.order.items s.counts.items) }
+    /// The end of the search. It goes in rounds: first all that the members of a round attack is defeated, then the
+    /// attacks of the defeated are taken off the counts, which lets the members of the next round enter. So
+    /// the attacks of a round are fetched one beside the other: one argument after the other took nearly twice
+    /// as long on 3,000,000 random attacks.
+    fn run_rounds(&self, alloc: Global) -> Result<Search, Memory>
+        ensures { IfOk result (λ s. IsFinished self.now s.members.items s.open_attackers.items) }
     {
         let mut search = self.begin(alloc)?;
         let mut head = 0;
-        while head < search.order.len() {
-            let end = search.order.len();
-            self.strike_from(&mut search, head)?;
-            self.close_pending(&mut search)?;
+        while head < search.members.len() {
+            let end = search.members.len();
+            self.defeat_targets_from(&mut search, head)?;
+            self.release_targets(&mut search)?;
             head = end;
         }
         Ok(search)
@@ -70,68 +72,54 @@ impl AfPlain {
 
     /// The beginning: nothing is out, and what nothing attacks is in.
     fn begin(&self, alloc: Global) -> Result<Search, Memory>
-        ensures kept { IfOk result (λ s. IsKept self.now s.order.items s.out.items s.counts.items s.pending.items) }
+        ensures state { IfOk result (IsSearchOf self.now) }
         ensures pending { IfOk result (λ s. s.pending.items ≡ []) }
-        ensures form { IfOk result (λ s. IsAf self.now) }
+        ensures form { IfOk result (λ s. IsNumberedAf self.now) }
     {
-        let counts = self.attacker_counts(alloc)?;
-        let out = vec![in alloc; false; counts.len()]?;
-        let order = unopposed(alloc, self.live(), &counts)?;
+        let open_attackers = self.attacker_counts(alloc)?;
+        let out = vec![in alloc; false; open_attackers.len()]?;
+        let members = unattacked(alloc, self.live(), &open_attackers)?;
         let pending = Vec::new(alloc);
         Ok(Search {
             out,
-            counts,
-            order,
+            open_attackers,
+            members,
             pending,
         })
     }
 
-    /// Puts out each argument that a member attacks which entered at a place from `head` on.
-    fn strike_from(&self, search: &mut Search, head: usize) -> Result<(), Memory>
-        requires kept { IsKept self.now search.old.order.items search.old.out.items
-            search.old.counts.items search.old.pending.items }
-        ensures order { search.new.order.items ≡ search.old.order.items }
-        ensures counts { search.new.counts.items ≡ search.old.counts.items }
-        ensures puts { OnOk result (PutsOut self.now (IsAttackedFrom self.now search.old.order.items head)
-            search.old.order.items search.old.out.items search.old.counts.items
-            search.new.out.items search.new.pending.items) }
+    /// Defeats each argument that a member attacks which entered at an index from `head` on.
+    fn defeat_targets_from(&self, search: &mut Search, head: usize) -> Result<(), Memory>
+        requires { IsSearchOf self.now search.old }
+        ensures { OnOk result (Defeats self.now (IsAttackedFrom self.now search.old.members.items head)
+            search.old search.new) }
     {
-        for place in head..search.order.len() {
-            let member = search.order.as_slice()[place];
-            self.strike(search, member)?;
+        for index in head..search.members.len() {
+            let member = search.members.as_slice()[index];
+            self.defeat_targets(search, member)?;
         }
         Ok(())
     }
 
-    /// Puts out each argument that a member attacks.
-    fn strike(&self, search: &mut Search, member: u32) -> Result<(), Memory>
-        requires kept { IsKept self.now search.old.order.items search.old.out.items
-            search.old.counts.items search.old.pending.items }
-        requires member { Contains search.old.order.items member }
-        ensures order { search.new.order.items ≡ search.old.order.items }
-        ensures counts { search.new.counts.items ≡ search.old.counts.items }
-        ensures puts { OnOk result (PutsOut self.now (Attacks self.now member)
-            search.old.order.items search.old.out.items search.old.counts.items
-            search.new.out.items search.new.pending.items) }
+    /// Defeats each argument that a member attacks.
+    fn defeat_targets(&self, search: &mut Search, member: u32) -> Result<(), Memory>
+        requires state { IsSearchOf self.now search.old }
+        requires member { Contains search.old.members.items member }
+        ensures { OnOk result (Defeats self.now (Attacks self.now member) search.old search.new) }
     {
         let leaving = self.leaving(member);
         for pair in leaving {
-            self.put_out(search, pair.1)?;
+            self.defeat(search, pair.1)?;
         }
         Ok(())
     }
 
-    /// Puts out an argument that the set attacks, unless it is out: its attacks are to be taken off the counts.
-    fn put_out(&self, search: &mut Search, argument: u32) -> Result<(), Memory>
-        requires form { IsAf self.now }
-        requires kept { IsKept self.now search.old.order.items search.old.out.items
-            search.old.counts.items search.old.pending.items }
-        requires attacked { IsAttackedBy self.now search.old.order.items argument }
-        ensures order { search.new.order.items ≡ search.old.order.items }
-        ensures counts { search.new.counts.items ≡ search.old.counts.items }
-        ensures puts { OnOk result (PutsOut self.now (λ b. b ≡ argument)
-            search.old.order.items search.old.out.items search.old.counts.items
-            search.new.out.items search.new.pending.items) }
+    /// Puts out an argument that a member attacks, unless it is out: its attacks are to be taken off the counts.
+    fn defeat(&self, search: &mut Search, argument: u32) -> Result<(), Memory>
+        requires form { IsNumberedAf self.now }
+        requires state { IsSearchOf self.now search.old }
+        requires attacked { IsAttackedBy self.now search.old.members.items argument }
+        ensures { OnOk result (Defeats self.now (λ b. b ≡ argument) search.old search.new) }
     {
         let at = argument as usize;
         if search.out[at] {
@@ -143,20 +131,14 @@ impl AfPlain {
     }
 
     /// Takes the pending attacks off the counts of what they reach.
-    fn close_pending(&self, search: &mut Search) -> Result<(), Memory>
-        requires form { IsAf self.now }
-        requires kept { IsKept self.now search.old.order.items search.old.out.items
-            search.old.counts.items search.old.pending.items }
-        ensures out { search.new.out.items ≡ search.old.out.items }
-        ensures kept { OnOk result (IsKept self.now search.new.order.items search.new.out.items
-            search.new.counts.items search.new.pending.items) }
-        ensures pending { OnOk result (search.new.pending.items ≡ []) }
-        ensures grows { OnOk result (Grows search.old.order.items search.old.counts.items
-            search.new.order.items search.new.counts.items) }
+    fn release_targets(&self, search: &mut Search) -> Result<(), Memory>
+        requires form { IsNumberedAf self.now }
+        requires state { IsSearchOf self.now search.old }
+        ensures { OnOk result (ReleasesTargets self.now search.old search.new) }
     {
-        for place in 0..search.pending.len() {
-            let target = search.pending.as_slice()[place].1;
-            close_attack(search, target)?;
+        for index in 0..search.pending.len() {
+            let target = search.pending.as_slice()[index].1;
+            release(search, target)?;
         }
         search.pending.clear();
         Ok(())
@@ -164,33 +146,29 @@ impl AfPlain {
 }
 
 /// Takes one open attacker off the count of an argument, which enters where that was the last one.
-fn close_attack(search: &mut Search, argument: u32) -> Result<(), Memory>
-    requires within { argument < length search.old.counts.items }
-    requires counted { 0 < slice_index search.old.counts.items argument }
-    ensures same { search.new.out.items ≡ search.old.out.items }
-    ensures pending { search.new.pending.items ≡ search.old.pending.items }
-    ensures closes { OnOk result (ClosesAttack argument
-        search.old.order.items search.old.counts.items
-        search.new.order.items search.new.counts.items) }
+fn release(search: &mut Search, argument: u32) -> Result<(), Memory>
+    requires within { argument < length search.old.open_attackers.items }
+    requires counted { 0 < slice_index search.old.open_attackers.items argument }
+    ensures { OnOk result (ReleasesTarget argument search.old search.new) }
 {
     let at = argument as usize;
-    let left = search.counts.as_slice()[at] - 1;
-    search.counts[at] = left;
+    let left = search.open_attackers.as_slice()[at] - 1;
+    search.open_attackers[at] = left;
     if left > 0 {
         return Ok(());
     }
-    search.order.push(argument)?;
+    search.members.push(argument)?;
     Ok(())
 }
 
-/// The live arguments whose count is 0.
-fn unopposed(alloc: Global, live: &[u32], counts: &[usize]) -> Result<Vec<u32>, Memory>
-    requires { (a : ℕ) → Contains live.now a → a < length counts.now }
-    ensures { IfOk result (λ v. v.items ≡ filter (λ a. slice_index counts.now a == 0) live.now) }
+/// The live arguments with no open attacker.
+fn unattacked(alloc: Global, live: &[u32], open_attackers: &[usize]) -> Result<Vec<u32>, Memory>
+    requires { (a : ℕ) → Contains live.now a → a < length open_attackers.now }
+    ensures { IfOk result (λ v. v.items ≡ filter (λ a. slice_index open_attackers.now a == 0) live.now) }
 {
     let mut members = Vec::new(alloc);
     for argument in live {
-        if counts[*argument as usize] == 0 {
+        if open_attackers[*argument as usize] == 0 {
             members.push(*argument)?;
         }
     }

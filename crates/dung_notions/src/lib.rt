@@ -3,12 +3,11 @@
 #![tactic(auto)]
 
 mod af_plain;
-mod arrows;
 mod grounded;
 mod notions;
-mod stable_order;
 #[cfg(test)]
 mod tests;
+mod written_out;
 
 pub use af_plain::AfPlain;
 pub use grounded::Grounded;

@@ -11,6 +11,7 @@ ghost use Rattle.std.specs.Prelude.{◌≡◌, ◌↔◌, ℕ, Contains, IsTrue,
 ghost use Rattle.std.specs.List.{range_with_len};
 ghost use Rattle.std.specs.List.Sorted.{IsStrictlyIncreasing};
 ghost use Rattle.semantics.specs.Framework.{IsAttackedBy, Defends, IsConflictFree, IsAdmissible, IsComplete, IsStable};
+ghost use Rattle.dung_notions.specs.Neighbours.{AreArguments};
 ghost use Rattle.dung_notions.specs.Notions.{AttacksInto};
 ghost use Rattle.dung_notions.specs.Solid.{IsSolid};
 
@@ -20,9 +21,6 @@ mod tests;
 use crate::af_plain::AfPlain;
 use set_lists::NumSet;
 
-/// The largest number of arguments that a solid framework may have.
-const MAX_ARGUMENTS: usize = 1_000_000;
-
 impl AfPlain {
     /// Whether the members are live, and none attacks another or itself.
     pub fn is_conflict_free(&self, set: &NumSet) -> bool
@@ -30,14 +28,14 @@ impl AfPlain {
     {
         set.as_slice()
             .iter()
-            .all(|member| self.stands_apart(set, *member))
+            .all(|member| self.is_unconflicted(set, *member))
     }
 
     /// Whether the set is conflict-free, and attacks each attacker of a member.
     pub fn is_admissible(&self, set: &NumSet) -> bool
         ensures { IsTrue result ↔ IsAdmissible self.now set.now }
     {
-        self.is_conflict_free(set) && self.strikes_back(set)
+        self.is_conflict_free(set) && self.defends_itself(set)
     }
 
     /// Whether the set is admissible, and holds each live argument that it defends. This test may take more
@@ -60,8 +58,7 @@ impl AfPlain {
     pub fn is_solid(&self) -> bool
         ensures { IsTrue result ↔ IsSolid self.now }
     {
-        let live = self.live();
-        live.len() <= MAX_ARGUMENTS && is_numbered(live)
+        is_numbered(self.live())
     }
 
     /// Whether a member attacks an argument.
@@ -92,14 +89,14 @@ impl AfPlain {
     }
 
     /// Whether an argument is live, and attacks no member.
-    fn stands_apart(&self, set: &NumSet, argument: u32) -> bool
+    fn is_unconflicted(&self, set: &NumSet, argument: u32) -> bool
         ensures { IsTrue result ↔ (Contains self.now.live argument × ¬ AttacksInto self.now argument set.now) }
     {
         self.is_live(argument) && !self.attacks_into(set, argument)
     }
 
     /// Whether the set attacks each attacker of a member.
-    fn strikes_back(&self, set: &NumSet) -> bool
+    fn defends_itself(&self, set: &NumSet) -> bool
         ensures { IsTrue result ↔ ((a : ℕ) → Contains set.now a → Defends self.now set.now a) }
     {
         self.live()
@@ -147,17 +144,14 @@ impl AfPlain {
     }
 }
 
-/// Whether rising numbers are those from 1 up without a gap: the largest is as large as they are many, and the
-/// smallest is not 0.
+/// Whether rising numbers of arguments are those from 1 up without a gap: the largest is as large as they are many.
 fn is_numbered(rising: &[u32]) -> bool
-    requires { IsStrictlyIncreasing rising.now }
+    requires rises { IsStrictlyIncreasing rising.now }
+    requires arguments { AreArguments rising.now }
     ensures { IsTrue result ↔ (rising.now ≡ range_with_len 1 (length rising.now)) }
 {
     match rising.last() {
         None => true,
-        Some(largest) => {
-            let full = *largest as usize == rising.len();
-            full && rising[0] > 0
-        }
+        Some(largest) => *largest as usize == rising.len(),
     }
 }

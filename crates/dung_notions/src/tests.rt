@@ -1,50 +1,7 @@
 //! Grounded sets of small frameworks, and attacks from either end.
 
-ghost use Rattle.std.specs.Prelude.{IfOk, OnOk};
-ghost use Rattle.dung_notions.specs.Neighbours.{AreBetween};
-
 use crate::AfPlain;
-use plain_lists::Memory;
-use set_lists::NumSet;
-use std::alloc::Global;
 use std::test::Fail;
-
-/// Adds an attack where both its ends are live.
-fn add_between(live: &NumSet, between: &mut Vec<(u32, u32)>, pair: (u32, u32)) -> Result<(), Memory>
-    requires { AreBetween live.now between.old.items }
-    ensures { OnOk result (AreBetween live.now between.new.items) }
-{
-    if !live.contains(pair.0) {
-        return Ok(());
-    }
-    if !live.contains(pair.1) {
-        return Ok(());
-    }
-    between.push(pair)?;
-    Ok(())
-}
-
-/// The attacks whose ends are live.
-fn between(alloc: Global, live: &NumSet, attacks: &[(u32, u32)]) -> Result<Vec<(u32, u32)>, Memory>
-    ensures { IfOk result (λ v. AreBetween live.now v.items) }
-{
-    let mut found = Vec::new(alloc);
-    for pair in attacks {
-        add_between(live, &mut found, *pair)?;
-    }
-    Ok(found)
-}
-
-/// A framework, of the attacks between its live arguments.
-pub(crate) fn framework(
-    alloc: Global,
-    numbers: &[u32],
-    attacks: &[(u32, u32)],
-) -> Result<AfPlain, Memory> {
-    let live = NumSet::from_slice(alloc, numbers)?;
-    let attacks = between(alloc, &live, attacks)?;
-    AfPlain::new(alloc, live, attacks)
-}
 
 /// Live arguments, attacks and the grounded set.
 #[derive(Drop)]
@@ -95,7 +52,7 @@ fn grounded_sets(rt: HostRuntime) -> Result<(), Fail> {
         },
     ];
     for (number, row) in rows.iter().enumerate() {
-        let plain = framework(alloc, row.live, row.attacks)?;
+        let plain = AfPlain::of_lists(alloc, row.live, row.attacks)?;
         let found = plain.grounded(alloc)?;
         assert_eq!(rt; found.set.as_slice(), row.grounded, "at {number}");
         assert_eq!(rt; found.order.len(), found.set.len(), "at {number}");
@@ -107,7 +64,11 @@ fn grounded_sets(rt: HostRuntime) -> Result<(), Fail> {
 #[test]
 fn attacks_from_either_end(rt: HostRuntime) -> Result<(), Fail> {
     let alloc = rt.alloc();
-    let plain = framework(alloc, &[1, 2, 7], &[(7, 1), (2, 1), (2, 7), (7, 1)])?;
+    let plain = AfPlain::of_lists(
+        alloc,
+        &[1, 2, 7, 0, 1_000_001],
+        &[(7, 1), (2, 1), (2, 7), (3, 1), (7, 1)],
+    )?;
     assert_eq!(rt; plain.attacks(), [(2, 1), (2, 7), (7, 1)].as_slice());
     assert_eq!(rt; plain.targets_of(2), [(2, 1), (2, 7)].as_slice());
     assert!(rt; plain.targets_of(8).is_empty());

@@ -1,5 +1,5 @@
 -- Logs whose variables stand for atoms.
-use Rattle.std.specs.Prelude.{◌≡◌, ◌↔◌, ◌⊎◌, ℕ, ◌≤◌, ◌-◌, false, List, [], length, map, Contains, slice_index_or}
+use Rattle.std.specs.Prelude.{◌≡◌, ◌↔◌, ◌⊎◌, ℕ, ◌≤◌, ◌-◌, List, [], length, map, Contains, slice_index_or}
 use Rattle.plain_lits.specs.declared.lit.Lit.{Lit}
 use Rattle.hinted_log.specs.declared.kind.Kind.{Kind}
 use Rattle.hinted_log.specs.declared.kind.Kind.TheVariants.{Axiom, Side, Derived}
@@ -7,7 +7,8 @@ use Rattle.hinted_log.specs.Logs.{Step, IsProof, IsStepOf, step_at}
 use Rattle.meaning_atoms.specs.declared.atom.Atom.{Atom}
 use Rattle.meaning_atoms.specs.declared.atom.Atom.TheVariants.{Ask}
 use Rattle.meaning_atoms.specs.declared.atom.AtomLit.{AtomLit}
-use Rattle.meaning_atoms.specs.Worlds.{World, IsWorld, IsAsk, IsTrueBeside, IsValid}
+use Rattle.meaning_atoms.specs.Literals.{denied, AsksNothing}
+use Rattle.meaning_atoms.specs.Worlds.{World, IsWorld, IsTrueBeside, IsValid}
 
 -- the literal that a literal of a log stands for
 abbrev pub lit_of : (ℕ → Atom) → Lit → AtomLit
@@ -21,21 +22,13 @@ atoms_of atom_of clause = map (lit_of atom_of) clause
 abbrev pub step_clause : (ℕ → Atom) → Step → List AtomLit
 step_clause atom_of step = atoms_of atom_of step.clause
 
--- no literal speaks of a side clause
-abbrev pub AsksNothing : List AtomLit → Type 0
-AsksNothing clause = (l : AtomLit) → Contains clause l → IsAsk l.atom → ⊥
-
--- the literal that says that the n-th side clause is not true
-abbrev pub not_asked : ℕ → AtomLit
-not_asked number = record { atom = Ask number; positive = false }
-
 -- the clause has just the literals of the n-th side clause, and that this side clause is not true
 pub record IsSideStep (sides : List (List AtomLit)) (clause : List AtomLit) : Type 0 where
   pub number : ℕ
   pub low : 1 ≤ number
   pub high : number ≤ length sides
   pub literals : (l : AtomLit) → Contains clause l
-      ↔ ((not_asked number ≡ l) ⊎ Contains (slice_index_or sides (number - 1) []) l)
+      ↔ ((denied (Ask number) ≡ l) ⊎ Contains (slice_index_or sides (number - 1) []) l)
 
 -- what a step stands for, by its kind: an axiom is valid, a side step is a side clause of the list
 abbrev pub IsGivenOf : (ℕ → Atom) → List (List AtomLit) → Step → Kind → Type 0

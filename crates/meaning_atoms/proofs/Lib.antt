@@ -1,3 +1,4 @@
-pub mod Readings
+pub mod Valuations
+pub mod Clauses
 pub mod PieceLemmas
 pub mod WrittenLits

@@ -1,6 +1,7 @@
 pub mod Atoms
 pub mod AtomText
 pub mod Axioms
+pub mod Literals
 pub mod Pieces
-pub mod Readings
+pub mod Valuations
 pub mod Worlds

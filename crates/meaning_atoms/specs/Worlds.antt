@@ -6,18 +6,28 @@ use Rattle.meaning_atoms.specs.declared.atom.Atom.{Atom}
 use Rattle.meaning_atoms.specs.declared.atom.Atom.TheVariants.{Member, Live, Attack, Gap, Tail, Unmet, Range, Cf, Ad, Co, St, Ask}
 use Rattle.meaning_atoms.specs.declared.atom.AtomLit.{AtomLit}
 use Rattle.semantics.specs.Arguments.{IsArgument}
-use Rattle.semantics.specs.Framework.{Af, IsAf, Attacks, IsAttackedBy, IsConflictFree, IsAdmissible, IsComplete, IsStable, IsInRange}
+use Rattle.semantics.specs.Frameworks.{Framework, af, IsNumberedAf}
+use Rattle.semantics.specs.Framework.{Af, Attacks, IsAttackedBy, IsConflictFree, IsAdmissible, IsComplete, IsStable, IsInRange}
 
--- a framework and a set of numbers, of which only the members count
+-- a framework of any kind and a set of numbers, of which only the members count
 pub record World : Type 0 where
-  pub framework : Af
+  pub framework : Framework
   pub set : List ℕ
 
--- any framework and any set, both of numbers from 1 to 1,000,000
-pub record IsWorld (w : World) : Type 0 where
-  pub form : IsAf w.framework
-  pub live : (a : ℕ) → Contains w.framework.live a → IsArgument a
-  pub members : (a : ℕ) → Contains w.set a → IsArgument a
+abbrev pub world_of : Framework → List ℕ → World
+world_of f s = record { framework = f; set = s }
+
+-- any abstract framework and any set, both of numbers from 1 to 1,000,000
+pub record IsAfWorld (f : Af) (s : List ℕ) : Type 0 where
+  pub framework : IsNumberedAf f
+  pub members : (a : ℕ) → Contains s a → IsArgument a
+
+-- any framework and any set of its kind
+abbrev pub IsWorldOf : Framework → List ℕ → Type 0
+IsWorldOf (af f) s = IsAfWorld f s
+
+abbrev pub IsWorld : World → Type 0
+IsWorld w = IsWorldOf w.framework w.set
 
 -- no attacker of a has a number from i to just before j
 abbrev pub HasGap : Af → ℕ → ℕ → ℕ → Type 0
@@ -37,20 +47,28 @@ pub record HasUnmet (f : Af) (s : List ℕ) (a i : ℕ) : Type 0 where
   pub attack : Attacks f attacker a
   pub unmet : ¬ IsAttackedBy f s attacker
 
+-- what the atom says is so of an abstract framework and a set; a side clause is not asked
+abbrev pub HoldsOfAf : Af → List ℕ → Atom → Type 0
+HoldsOfAf f s (Member a) = Contains s a
+HoldsOfAf f s (Live a) = Contains f.live a
+HoldsOfAf f s (Attack b a) = Attacks f b a
+HoldsOfAf f s (Gap a i j) = HasGap f a i j
+HoldsOfAf f s (Tail a i) = HasTail f s a i
+HoldsOfAf f s (Unmet a i) = HasUnmet f s a i
+HoldsOfAf f s (Range a) = IsInRange f s a
+HoldsOfAf f s Cf = IsConflictFree f s
+HoldsOfAf f s Ad = IsAdmissible f s
+HoldsOfAf f s Co = IsComplete f s
+HoldsOfAf f s St = IsStable f s
+HoldsOfAf f s _ = ⊥
+
+-- the same of a framework of any kind
+abbrev pub HoldsOf : Framework → List ℕ → Atom → Type 0
+HoldsOf (af f) s atom = HoldsOfAf f s atom
+
 -- what the atom says is so in the world; no side clause is asked
 abbrev pub HoldsAlone : World → Atom → Type 0
-HoldsAlone w (Member a) = Contains w.set a
-HoldsAlone w (Live a) = Contains w.framework.live a
-HoldsAlone w (Attack b a) = Attacks w.framework b a
-HoldsAlone w (Gap a i j) = HasGap w.framework a i j
-HoldsAlone w (Tail a i) = HasTail w.framework w.set a i
-HoldsAlone w (Unmet a i) = HasUnmet w.framework w.set a i
-HoldsAlone w (Range a) = IsInRange w.framework w.set a
-HoldsAlone w Cf = IsConflictFree w.framework w.set
-HoldsAlone w Ad = IsAdmissible w.framework w.set
-HoldsAlone w Co = IsComplete w.framework w.set
-HoldsAlone w St = IsStable w.framework w.set
-HoldsAlone w (Ask n) = ⊥
+HoldsAlone w atom = HoldsOf w.framework w.set atom
 
 -- a literal says its atom, or that its atom is not so
 abbrev pub Says : Bool → Type 0 → Type 0
@@ -71,18 +89,8 @@ pub record IsSideTrue (w : World) (sides : List (List AtomLit)) (n : ℕ) : Type
 
 -- what the atom says is so in the world, beside these side clauses; side clauses ask for none themselves
 abbrev pub Holds : World → List (List AtomLit) → Atom → Type 0
-Holds w sides (Member a) = HoldsAlone w (Member a)
-Holds w sides (Live a) = HoldsAlone w (Live a)
-Holds w sides (Attack b a) = HoldsAlone w (Attack b a)
-Holds w sides (Gap a i j) = HoldsAlone w (Gap a i j)
-Holds w sides (Tail a i) = HoldsAlone w (Tail a i)
-Holds w sides (Unmet a i) = HoldsAlone w (Unmet a i)
-Holds w sides (Range a) = HoldsAlone w (Range a)
-Holds w sides Cf = HoldsAlone w Cf
-Holds w sides Ad = HoldsAlone w Ad
-Holds w sides Co = HoldsAlone w Co
-Holds w sides St = HoldsAlone w St
 Holds w sides (Ask n) = IsSideTrue w sides n
+Holds w sides atom = HoldsAlone w atom
 
 -- the literal is true in the world, beside the side clauses
 abbrev pub HoldsLit : World → List (List AtomLit) → AtomLit → Type 0
@@ -98,32 +106,18 @@ pub record IsTrueBeside (w : World) (sides : List (List AtomLit)) (clause : List
 abbrev pub IsValid : List AtomLit → Type 0
 IsValid clause = (w : World) → IsWorld w → (sides : List (List AtomLit)) → IsTrueBeside w sides clause
 
--- the framework alone fixes whether the atom is true
-abbrev pub IsFact : Atom → Type 0
-IsFact (Member a) = ⊥
-IsFact (Live a) = Unit {0}
-IsFact (Attack b a) = Unit {0}
-IsFact (Gap a i j) = Unit {0}
-IsFact (Tail a i) = ⊥
-IsFact (Unmet a i) = ⊥
-IsFact (Range a) = ⊥
-IsFact Cf = ⊥
-IsFact Ad = ⊥
-IsFact Co = ⊥
-IsFact St = ⊥
-IsFact (Ask n) = ⊥
+-- an abstract framework alone fixes whether the atom is true
+abbrev pub IsAfFact : Atom → Type 0
+IsAfFact (Live a) = Unit {0}
+IsAfFact (Attack b a) = Unit {0}
+IsAfFact (Gap a i j) = Unit {0}
+IsAfFact _ = ⊥
+
+-- the framework alone fixes whether the atom is true, by its kind
+abbrev pub IsFact : Framework → Atom → Type 0
+IsFact (af f) atom = IsAfFact atom
 
 -- the atom is the number of a side clause
 abbrev pub IsAsk : Atom → Type 0
-IsAsk (Member a) = ⊥
-IsAsk (Live a) = ⊥
-IsAsk (Attack b a) = ⊥
-IsAsk (Gap a i j) = ⊥
-IsAsk (Tail a i) = ⊥
-IsAsk (Unmet a i) = ⊥
-IsAsk (Range a) = ⊥
-IsAsk Cf = ⊥
-IsAsk Ad = ⊥
-IsAsk Co = ⊥
-IsAsk St = ⊥
 IsAsk (Ask n) = Unit {0}
+IsAsk _ = ⊥

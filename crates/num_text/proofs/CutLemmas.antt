@@ -269,7 +269,7 @@ pub no_field : (start : ℕ) (text : List ℕ) (k : ℕ)
 no_field start text k e h = after_blanks start text k e
     ∙ ap (λ left. fields_from (start + k) left) (drop_all (start + k) text h) ∙ fields_from-nil (start + k)
 
-begins_with_field : (text : List ℕ) → 0 < length text → is_blank (get_or text 0 0) ≡ false
+pub begins_with_field : (text : List ℕ) → 0 < length text → is_blank (get_or text 0 0) ≡ false
     → 0 < position_or_len is_blank text
 begins_with_field [] some none = absurd (omega arith)
 begins_with_field (byte ∷ text) some none = let e : position_or_len is_blank (byte ∷ text)

@@ -2,4 +2,6 @@ pub mod CutLemmas
 pub mod NumberLemmas
 pub mod Decimals
 pub mod KeptLines
-pub mod PairLemmas
+pub mod LineEnds
+pub mod SkippedLines
+pub mod DigitFields

@@ -72,8 +72,8 @@ impl<'a> Iterator for Fields<'a> {
 }
 
 // The number of blanks that the bytes begin with.
-fn blanks_length(bytes: &[u8]) -> usize
-    ensures place { result ≡ position_or_len (λ byte. not (is_blank byte)) bytes.now }
+pub(crate) fn blanks_length(bytes: &[u8]) -> usize
+    ensures index { result ≡ position_or_len (λ byte. not (is_blank byte)) bytes.now }
     ensures within { result ≤ length bytes.now }
 {
     field_start(bytes).unwrap_or(bytes.len())
@@ -81,20 +81,20 @@ fn blanks_length(bytes: &[u8]) -> usize
 
 // The number of bytes before the first blank, or of all bytes where there is none.
 fn field_length(bytes: &[u8]) -> usize
-    ensures place { result ≡ position_or_len is_blank bytes.now }
+    ensures index { result ≡ position_or_len is_blank bytes.now }
     ensures within { result ≤ length bytes.now }
 {
     field_end(bytes).unwrap_or(bytes.len())
 }
 
-// The place of the first byte that is no blank.
+// The index of the first byte that is no blank.
 fn field_start(bytes: &[u8]) -> Option<usize>
     ensures { result ≡ position (λ byte. not (is_blank byte)) bytes.now }
 {
     bytes.iter().position(|byte| !is_blank(*byte))
 }
 
-// The place of the first blank.
+// The index of the first blank.
 fn field_end(bytes: &[u8]) -> Option<usize>
     ensures { result ≡ position is_blank bytes.now }
 {

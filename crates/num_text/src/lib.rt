@@ -10,7 +10,6 @@ pub mod cuts;
 pub mod field;
 pub mod line;
 pub mod number;
-mod pair;
 pub mod skips;
 pub mod span;
 
@@ -18,7 +17,6 @@ pub use cuts::{fields, lines};
 pub use field::{Field, Fields};
 pub use line::{Line, Lines};
 pub use number::decimal;
-pub use pair::{NumberPair, next_pair};
 pub use skips::{is_skipped, next_kept};
 pub use span::Span;
 

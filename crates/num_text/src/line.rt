@@ -1,12 +1,11 @@
 //! The lines of bytes.
 
-ghost use Rattle.std.specs.Prelude.{◌≡◌, IfSome, IfNone};
-ghost use Rattle.std.specs.List.{position, position_or_len};
+ghost use Rattle.std.specs.Prelude.{◌≡◌};
+ghost use Rattle.std.specs.List.{position_or_len};
 ghost use Rattle.num_text.specs.Cuts.{is_line_end, lines_of};
-ghost use Rattle.num_text.specs.Pairs.{TakesPair, BeginsWithNoPair};
 
-use crate::pair::{NumberPair, pair_ahead};
 use crate::span::Span;
+use memchr::memchr;
 use std::marker::Model;
 
 /// A line of a text.
@@ -49,26 +48,6 @@ impl<'a> Lines<'a> {
             number: 1,
         }
     }
-
-    /// The next line, where it is a pair of numbers.
-    pub(crate) fn take_pair(&mut self) -> Option<NumberPair>
-        ensures some { IfSome result (TakesPair self.old self.new) }
-        ensures none { IfNone result (BeginsWithNoPair self.old) }
-        ensures same { IfNone result (self.new ≡ self.old) }
-    {
-        if self.start >= self.bytes.len() {
-            return None;
-        }
-        let pair = pair_ahead(&self.bytes[self.start..])?;
-        let line = self.number;
-        self.start += pair.length + 1;
-        self.number = line + 1;
-        Some(NumberPair {
-            line,
-            first: pair.first,
-            second: pair.second,
-        })
-    }
 }
 
 impl<'a> Iterator for Lines<'a> {
@@ -105,12 +84,5 @@ impl<'a> Iterator for Lines<'a> {
 fn line_length(bytes: &[u8]) -> usize
     ensures { result ≡ position_or_len is_line_end bytes.now }
 {
-    line_end(bytes).unwrap_or(bytes.len())
-}
-
-// The place of the first LF.
-fn line_end(bytes: &[u8]) -> Option<usize>
-    ensures { result ≡ position is_line_end bytes.now }
-{
-    bytes.iter().position(|byte| *byte == b'\n')
+    memchr(b'\n', bytes).unwrap_or(bytes.len())
 }

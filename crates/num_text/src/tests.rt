@@ -1,6 +1,6 @@
 //! Cuts and numbers, compared with values that were worked out by hand.
 
-use crate::{decimal, fields, is_skipped, lines, next_kept, next_pair};
+use crate::{decimal, fields, is_skipped, lines, next_kept};
 use std::alloc::{AllocError, Global};
 use std::test::Fail;
 
@@ -79,39 +79,6 @@ fn skips(rt: HostRuntime) {
     assert!(rt; left.next().is_some_and(|line| is_skipped(&line)));
     assert!(rt; next_kept(&mut left).is_some_and(|line| line.number == 6));
     assert!(rt; next_kept(&mut left).is_none());
-}
-
-#[test]
-fn pairs(rt: HostRuntime) {
-    let table = [
-        ("", None),
-        ("\n1 2\n", None),
-        ("12 305\n1 2\n", Some((12, 305))),
-        ("12 305", Some((12, 305))),
-        ("007 4294967295\n", Some((7, 4_294_967_295))),
-        ("7 4294967296\n", None),
-        ("1 2\r\n", None),
-        ("1  2\n", None),
-        ("1\t2\n", None),
-        (" 1 2\n", None),
-        ("1 2 \n", None),
-        ("1 2 3\n", None),
-        ("1\n2\n", None),
-        ("1 \n", None),
-        ("1", None),
-        ("# 1 2\n", None),
-        ("1 2#\n", None),
-    ];
-    for (text, expected) in table {
-        let mut left = lines(text.as_bytes());
-        let found = next_pair(&mut left).map(|pair| (pair.first, pair.second));
-        assert_eq!(rt; found, expected, "at {text:?}");
-    }
-    let mut left = lines("5 6\n7 8\n9\n".as_bytes());
-    assert!(rt; next_pair(&mut left).is_some_and(|pair| pair.line == 1));
-    assert!(rt; next_pair(&mut left).is_some_and(|pair| pair.line == 2));
-    assert!(rt; next_pair(&mut left).is_none());
-    assert!(rt; left.next().is_some_and(|line| line.number == 3));
 }
 
 #[test]

@@ -1,3 +1,4 @@
+pub mod Counts
 pub mod Filters
 pub mod ListTests
 pub mod Membership

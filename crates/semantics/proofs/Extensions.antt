@@ -2,11 +2,13 @@
 use Rattle.std.proofs.Common.{inl, inr, ⊎_elim, ℕ, List, [], ◌∷◌, ◌++◌, refl}
 use Rattle.std.specs.Prelude.{Contains}
 use Rattle.plain_lists.proofs.Membership.{Contains-pushed}
-use Rattle.semantics.specs.Framework.{Af, IsAf, IsInRange, IsAdmissible, IsStable}
-use Rattle.semantics.specs.Laws.{GroundedIsUnique, StableIsLargest, PreferredIsComplete, UnattackedIsInAll, AttacksMember, IdealIsUnique}
+use Rattle.semantics.specs.Framework.{Af, IsAf, IsInRange, IsAdmissible, IsPreferred, IsStable, IsSemiStable}
+use Rattle.semantics.specs.Laws.{GroundedIsUnique, StableIsLargest, PreferredIsComplete, SemiStableIsPreferred, UnattackedIsInAll, AttacksMember, IdealIsUnique}
 use Rattle.semantics.proofs.Decided.{decide_member}
-use Rattle.semantics.proofs.Sets.{added_admissible, union_admissible, within_left, within_right}
+use Rattle.semantics.proofs.AdmissibleSets.{added_admissible, union_admissible, within_left, within_right}
 use Rattle.semantics.proofs.Grounded.{grounded_exists}
+use Rattle.semantics.proofs.SameMembers.{range_more}
+use Rattle.semantics.proofs.Existence.{ideal_exists}
 
 pub grounded_unique : (f : Af) → GroundedIsUnique f
 grounded_unique f = record {
@@ -49,6 +51,20 @@ preferred_complete f s p = record {
       p.maximal (s ++ a ∷ []) (added_admissible f s a p.admissible live d) (within_left s (a ∷ [])) a (Contains-pushed s a a refl);
 }
 
+-- where no admissible set has a larger range, none is larger
+widest_preferred : (f : Af) (s : List ℕ) → IsSemiStable f s → IsPreferred f s
+widest_preferred f s w = record {
+  admissible = w.admissible;
+  maximal = λ t ok sub x c. ⊎_elim (λ k. k) (λ hit. absurd (ok.conflict_free.apart hit.0 x (sub hit.0 hit.1) c hit.2))
+      (w.widest t ok (range_more f s t sub) x (inl c));
+}
+
+pub semi_stable_preferred : (f : Af) → SemiStableIsPreferred f
+semi_stable_preferred f = record {
+  preferred = widest_preferred f;
+  complete = λ s w. preferred_complete f s (widest_preferred f s w);
+}
+
 pub unattacked_in_all : (f : Af) → UnattackedIsInAll f
 unattacked_in_all f s ok none = record {
   admissible = ok;
@@ -60,6 +76,7 @@ unattacked_in_all f s ok none = record {
 
 pub ideal_unique : (f : Af) → IdealIsUnique f
 ideal_unique f = record {
+  exists = ideal_exists f;
   one = λ s t is it. record { there = it.largest s is.in_all; back = is.largest t it.in_all };
   admissible = λ s i. i.in_all.admissible;
 }

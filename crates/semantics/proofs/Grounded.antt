@@ -6,7 +6,7 @@ use Rattle.plain_lists.specs.Members.{IsWithin}
 use Rattle.plain_lists.proofs.Membership.{Contains-nil, Contains-cons_cases, Contains-pushed}
 use Rattle.semantics.specs.Framework.{Af, Defends, IsAdmissible, IsComplete, IsGrounded}
 use Rattle.semantics.proofs.Decided.{Decided, Found, search_list, decide_member, decide_defends}
-use Rattle.semantics.proofs.Sets.{defends_more, added_admissible}
+use Rattle.semantics.proofs.AdmissibleSets.{defends_more, added_admissible}
 
 -- an admissible set that lies in every complete one, and the live arguments that may still be added
 pub record IsGrowing (f : Af) (s rest : List ℕ) : Type 0 where

@@ -1,5 +1,10 @@
 pub mod Decided
 pub mod DecidedNotions
-pub mod Sets
+pub mod AdmissibleSets
 pub mod Grounded
+pub mod Walks
+pub mod SameMembers
+pub mod ListedSets
+pub mod SetsLemmas
+pub mod Existence
 pub mod Extensions

@@ -29,6 +29,15 @@ PreferredIsComplete f = (s : List ℕ) → IsPreferred f s → IsComplete f s
 abbrev pub AttacksMember : Af → List ℕ → List ℕ → Type 0
 AttacksMember f s t = (a : ℕ) × Contains t a × IsAttackedBy f s a
 
+-- each admissible set is part of a preferred one (Dung 1995, theorem 11)
+abbrev pub AdmissibleIsInPreferred : Af → Type 0
+AdmissibleIsInPreferred f = (s : List ℕ) → IsAdmissible f s → (p : List ℕ) × IsPreferred f p × IsWithin s p
+
+-- each semi-stable set is preferred, and so complete (Caminada 2006)
+pub record SemiStableIsPreferred (f : Af) : Type 0 where
+  pub preferred : (s : List ℕ) → IsSemiStable f s → IsPreferred f s
+  pub complete : (s : List ℕ) → IsSemiStable f s → IsComplete f s
+
 -- two admissible sets of which neither attacks the other make an admissible set together
 abbrev pub UnionIsAdmissible : Af → Type 0
 UnionIsAdmissible f = (s t : List ℕ) → IsAdmissible f s → IsAdmissible f t → (AttacksMember f s t → ⊥) → (AttacksMember f t s → ⊥) → IsAdmissible f (s ++ t)
@@ -37,7 +46,8 @@ UnionIsAdmissible f = (s t : List ℕ) → IsAdmissible f s → IsAdmissible f t
 abbrev pub UnattackedIsInAll : Af → Type 0
 UnattackedIsInAll f = (s : List ℕ) → IsAdmissible f s → ((t : List ℕ) → IsAdmissible f t → AttacksMember f t s → ⊥) → IsInAllPreferred f s
 
--- there is at most one ideal set, and it is admissible
+-- each framework has an ideal set, it has one alone, and it is admissible (Dung, Mancarella, Toni 2007)
 pub record IdealIsUnique (f : Af) : Type 0 where
+  pub exists : (s : List ℕ) × IsIdeal f s
   pub one : (s t : List ℕ) → IsIdeal f s → IsIdeal f t → HasSameMembers s t
   pub admissible : (s : List ℕ) → IsIdeal f s → IsAdmissible f s

@@ -1,4 +1,7 @@
 pub mod Arguments
+pub mod Compared
 pub mod Framework
 pub mod Frameworks
 pub mod Laws
+pub mod Notions
+pub mod Sets

@@ -2,7 +2,7 @@
 //! is the law.
 
 ghost use Rattle.semantics.specs.Framework.{Af, IsAf};
-ghost use Rattle.semantics.specs.Laws.{GroundedIsUnique, StableIsLargest, PreferredIsComplete, UnionIsAdmissible, UnattackedIsInAll, IdealIsUnique};
+ghost use Rattle.semantics.specs.Laws.{GroundedIsUnique, StableIsLargest, PreferredIsComplete, SemiStableIsPreferred, AdmissibleIsInPreferred, UnionIsAdmissible, UnattackedIsInAll, IdealIsUnique};
 
 /// A framework has one grounded set alone, which is admissible and lies in every complete set.
 pub fn grounded_is_unique()
@@ -19,6 +19,16 @@ pub fn preferred_is_complete()
     ensures { (f : Af) → PreferredIsComplete f }
 {}
 
+/// A semi-stable set is preferred and complete.
+pub fn semi_stable_is_preferred()
+    ensures { (f : Af) → SemiStableIsPreferred f }
+{}
+
+/// An admissible set is part of a preferred one, which may be the set itself.
+pub fn admissible_is_in_preferred()
+    ensures { (f : Af) → AdmissibleIsInPreferred f }
+{}
+
 /// Two admissible sets that do not attack each other make an admissible set together.
 pub fn union_is_admissible()
     ensures { (f : Af) → UnionIsAdmissible f }
@@ -29,7 +39,7 @@ pub fn unattacked_is_in_all_preferred()
     ensures { (f : Af) → UnattackedIsInAll f }
 {}
 
-/// There is at most one ideal set, and it is admissible.
+/// A framework has one ideal set alone, and it is admissible.
 pub fn ideal_is_unique()
     ensures { (f : Af) → IdealIsUnique f }
 {}

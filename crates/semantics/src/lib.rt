@@ -2,9 +2,14 @@
 //! that decides each notion from its words.
 #![tactic(auto)]
 
+pub mod af_lists;
 pub mod argument;
+pub mod deciding;
 pub mod laws;
+mod sets;
 #[cfg(test)]
 mod tests;
 
+pub use af_lists::AfLists;
 pub use argument::{LAST_ARGUMENT, is_argument};
+pub use deciding::{Notion, decide};

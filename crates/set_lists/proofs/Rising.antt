@@ -14,7 +14,7 @@ rises_along xs up i j le lt =
     (λ ne. let h = AllPairs-from_increasing xs up i j 0 (omega arith) lt in omega arith)
     (cases_eq i j)
 
--- a binary search's answer: the place, or where the number would stand
+-- a binary search's answer: the index, or where the number would stand
 abbrev pub IsPlaceOf : List ℕ → ℕ → Result ℕ ℕ → Type 0
 IsPlaceOf xs x r =
     MatchResult r (λ i. (i < length xs) × (get_or xs i 0 ≡ x))

@@ -86,8 +86,8 @@ impl NumSet {
         ensures ok { OnOk result (IsSetOf (λ x. Contains self.old x ⊎ (x ≡ number)) self.new) }
         ensures err { OnErr result (self.new ≡ self.old) }
     {
-        if let Err(place) = self.numbers.binary_search(&number) {
-            self.numbers.insert(place, number)?;
+        if let Err(index) = self.numbers.binary_search(&number) {
+            self.numbers.insert(index, number)?;
         }
         Ok(())
     }
@@ -115,7 +115,7 @@ impl NumSet {
         self.numbers.iter().all(|number| other.contains(*number))
     }
 
-    /// The order of the two sets' rising lists: by the first place where they differ, and a list that
+    /// The order of the two sets' rising lists: by the first index at which they differ, and a list that
     /// the other continues comes before it.
     pub fn cmp(&self, other: &NumSet) -> Ordering
         ensures { result ≡ slice_cmp nat_cmp self.now other.now }
@@ -138,12 +138,12 @@ impl NumSet {
         self.numbers.is_empty()
     }
 
-    /// The member at a place of the rising order, counted from 0, where there is one.
-    pub fn get(&self, place: usize) -> Option<u32>
-        ensures member { result ≡ slice_get self.now place }
+    /// The member at an index of the rising order, counted from 0, where there is one.
+    pub fn get(&self, index: usize) -> Option<u32>
+        ensures member { result ≡ slice_get self.now index }
         ensures rises { IsStrictlyIncreasing self.now }
     {
-        self.numbers.get(place).copied()
+        self.numbers.get(index).copied()
     }
 
     /// The members in rising order.

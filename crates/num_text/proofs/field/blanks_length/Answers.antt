@@ -6,9 +6,9 @@ use Rattle.num_text.proofs.field.blanks_length.Goals as goal
 
 pub returns : goal.returns
 returns c =
-    let place = c.unwrap_or.ensures ∙ ap (λ r. unwrap_or r (length c.args.bytes.now)) c.field_start.ensures
+    let index = c.unwrap_or.ensures ∙ ap (λ r. unwrap_or r (length c.args.bytes.now)) c.field_start.ensures
     ∙ unwrap_or-position (λ byte. not (is_blank byte)) c.args.bytes.now in
     record {
-      place = place;
-      within = rw place (position_or_len-le (λ byte. not (is_blank byte)) c.args.bytes.now);
+      index = index;
+      within = rw index (position_or_len-le (λ byte. not (is_blank byte)) c.args.bytes.now);
     }

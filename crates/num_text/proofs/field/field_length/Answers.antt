@@ -6,6 +6,6 @@ use Rattle.num_text.proofs.field.field_length.Goals as goal
 
 pub returns : goal.returns
 returns c =
-    let place = c.unwrap_or.ensures ∙ ap (λ r. unwrap_or r (length c.args.bytes.now)) c.field_end.ensures
+    let index = c.unwrap_or.ensures ∙ ap (λ r. unwrap_or r (length c.args.bytes.now)) c.field_end.ensures
     ∙ unwrap_or-position is_blank c.args.bytes.now in
-    record { place = place; within = rw place (position_or_len-le is_blank c.args.bytes.now) }
+    record { index = index; within = rw index (position_or_len-le is_blank c.args.bytes.now) }

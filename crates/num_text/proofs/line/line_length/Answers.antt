@@ -1,9 +1,6 @@
-use Rattle.std.proofs.Common.{◌∙◌, ap, length}
-use Rattle.std.specs.Prelude.{unwrap_or}
-use Rattle.num_text.specs.Cuts.{is_line_end}
-use Rattle.num_text.proofs.CutLemmas.{unwrap_or-position}
+use Rattle.std.proofs.Common.{◌∙◌}
+use Rattle.num_text.proofs.LineEnds.{line_end_of}
 use Rattle.num_text.proofs.line.line_length.Goals as goal
 
 pub returns : goal.returns
-returns c = c.unwrap_or.ensures ∙ ap (λ r. unwrap_or r (length c.args.bytes.now)) c.line_end.ensures
-    ∙ unwrap_or-position is_line_end c.args.bytes.now
+returns c = c.unwrap_or.ensures ∙ line_end_of c.args.bytes.now c.memchr.result c.memchr.ensures

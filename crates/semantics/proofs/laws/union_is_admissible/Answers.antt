@@ -1,4 +1,4 @@
-use Rattle.semantics.proofs.Sets.{union_admissible}
+use Rattle.semantics.proofs.AdmissibleSets.{union_admissible}
 use Rattle.semantics.proofs.laws.union_is_admissible.Goals as goal
 
 pub returns : goal.returns

@@ -8,7 +8,7 @@ returns-then-is_empty-clause-steps c =
     let empty = eqb-true _ _ (sym c.if-is_empty.ensures) in
     let n = rest_length (c.self.inside.start + c.blanks_length.result) c.self.inside.text.now in
     let none = sym c.self.view_is
-    ∙ no_field c.self.inside.start c.self.inside.text.now _ c.blanks_length.ensures.place (omega arith) in
+    ∙ no_field c.self.inside.start c.self.inside.text.now _ c.blanks_length.ensures.index (omega arith) in
     (none, none)
 
 pub returns-clause-steps : goal.returns-clause-steps
@@ -16,8 +16,8 @@ returns-clause-steps c =
     let some = eqb-false _ _ (sym c.if-is_empty.ensures) in
     let n = rest_length (c.self.inside.start + c.blanks_length.result) c.self.inside.text.now in
     sym c.self.view_is ∙ first_field c.self.inside.start c.self.inside.text.now c.blanks_length.result
-    c.field_length-length.result c.blanks_length.ensures.place
-    (omega arith) c.field_length-length.ensures.place
+    c.field_length-length.result c.blanks_length.ensures.index
+    (omega arith) c.field_length-length.ensures.index
 
 pub returns-clause-goes : goal.returns-clause-goes
 returns-clause-goes c =
@@ -26,6 +26,6 @@ returns-clause-goes c =
     let within : c.self.inside.start + c.blanks_length.result < length c.self.inside.text.now = omega arith in
     let steps = sym c.self.view_is
     ∙ first_field c.self.inside.start c.self.inside.text.now c.blanks_length.result
-    c.field_length-length.result c.blanks_length.ensures.place within c.field_length-length.ensures.place
+    c.field_length-length.result c.blanks_length.ensures.index within c.field_length-length.ensures.index
     in
     record { on = λ _. (tt, tt, omega (arith, ap length steps)); keeps = tt; rests = λ _. tt }

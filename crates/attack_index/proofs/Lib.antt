@@ -1,0 +1,3 @@
+pub mod OffsetLemmas
+pub mod PairOrderLemmas
+pub mod StableSortLemmas

@@ -1,0 +1,3 @@
+pub mod Offsets
+pub mod PairOrder
+pub mod StableSort

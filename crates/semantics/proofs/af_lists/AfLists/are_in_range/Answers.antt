@@ -1,0 +1,14 @@
+use Rattle.std.proofs.Common.{◌≡◌, ℕ, List, rules}
+use Rattle.std.specs.Prelude.{Contains}
+use Rattle.std.proofs.lemmas.Iterator.{cases_from_all, YieldsList-from_slice}
+use Rattle.plain_lists.specs.Members.{IsWithin}
+use Rattle.semantics.specs.Framework.{Attacks, IsAttackedBy, Defends, IsInRange, IsAdmissible, IsComplete, IsPreferred, IsRangeWithin, IsInAllPreferred}
+use Rattle.semantics.specs.Notions.{AfOf}
+use Rattle.semantics.proofs.Walks.{all_members}
+use Rattle.semantics.proofs.af_lists.AfLists.are_in_range.Goals as goal
+
+pub returns : goal.returns
+returns c =
+    let P : ℕ → Type 0 = λ a. IsInRange (AfOf c.args.self.now) c.args.set.now a in
+    (all_members P c.args.arguments.now _
+    (cases_from_all _ _ _ P (λ x. P x → ⊥) c.all.ensures.ran (YieldsList-from_slice c.args.arguments.now cc) (λ x q k. search rules) (λ x q k. search rules)))

@@ -1,0 +1,8 @@
+use Rattle.std.proofs.Common.{refl}
+use Rattle.semantics.proofs.deciding.has_no_larger.Goals as goal
+
+pub returns : goal.returns
+returns c = (
+  λ e. record { back = λ ok sub. c.is_within-2.ensures.0 e },
+  λ h. c.is_within-2.ensures.1 (h.back (c.if-not-is_admissible.ensures.0 refl) (c.if-not-is_within.ensures.0 refl)),
+)
