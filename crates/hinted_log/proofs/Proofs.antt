@@ -16,7 +16,7 @@ use Rattle.plain_lits.specs.Checking.{HasRoomFor}
 use Rattle.hinted_log.specs.Logs.{Step, LogState, log_of, no_step, clauses_of, given_step, derived_step}
 use Rattle.hinted_log.specs.Logs.{IsGiven, IsProof, IsStored}
 
--- the step at a place of a longer log
+-- the step at an index of a longer log
 after_push : (steps : List Step) (step : Step) → get_or (steps ++ step ∷ []) (length steps) no_step ≡ step
 after_push steps step = get_or-append_right steps (step ∷ []) (length steps) (length steps) no_step refl (omega arith)
     ∙ ap (λ k. get_or (step ∷ []) k no_step) (let z : length steps - length steps ≡ 0 = omega arith in z)

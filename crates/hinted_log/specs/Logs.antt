@@ -5,6 +5,7 @@ use Rattle.plain_lits.specs.declared.lit.Lit.{Lit}
 use Rattle.plain_lits.specs.Literals.{negation}
 use Rattle.plain_lits.specs.HintCheck.{Checks, IsTrueClause}
 use Rattle.plain_lits.specs.Checking.{HaveRoomFor}
+use Rattle.hinted_log.specs.declared.log.TheConstants.{MOST_STEPS}
 use Rattle.hinted_log.specs.declared.kind.Kind.{Kind}
 use Rattle.hinted_log.specs.declared.kind.Kind.TheVariants.{Axiom, Side, Derived}
 
@@ -70,7 +71,7 @@ pub record AddsDerived (old new : LogState) (clause : List Lit) (hints : List �
 pub record IsLog (log : LogState) : Type 0 where
   pub proof : IsProof log.steps
   pub within : length log.steps ≤ log.limit
-  pub small : log.limit ≤ 50000000
+  pub small : log.limit ≤ MOST_STEPS
 
 -- a number names one of the steps
 pub record IsStepOf (steps : List Step) (number : ℕ) : Type 0 where

@@ -12,4 +12,4 @@ mod trim;
 
 pub use fault::LogFault;
 pub use kind::Kind;
-pub use log::Log;
+pub use log::{Log, MOST_STEPS};

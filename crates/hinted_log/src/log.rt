@@ -9,6 +9,7 @@ ghost use Rattle.hinted_log.specs.Logs.{IsLog, IsGiven, IsStepOf, AddsStep, Reac
 ghost use Rattle.hinted_log.specs.Logs.{step_at, given_step, derived_step};
 ghost use Rattle.hinted_log.specs.Follows.{FollowsFromHints, FollowsFromReached};
 ghost use Rattle.plain_lits.specs.Checking.{HasRoomFor, IsPackable};
+ghost use Rattle.hinted_log.specs.declared.log.TheConstants.{MOST_STEPS};
 
 use crate::fault::LogFault;
 use crate::kind::Kind;
@@ -19,6 +20,9 @@ use plain_lits::check::check;
 use plain_lits::{Clause, Lit, PackedLit, StepId, Trail};
 use std::alloc::Global;
 use std::marker::Model;
+
+/// The most steps that a log may be opened for.
+pub const MOST_STEPS: u64 = 50_000_000;
 
 /// Clauses as steps that are numbered from 1: axioms and sides, which are given, and clauses that the check of
 /// their hints takes. What the check assumes is taken back after each call, so that a step costs the
@@ -72,7 +76,7 @@ fn pack_into(packed: &mut Vec<PackedLit>, clause: &[Lit]) -> Result<(), Memory>
 impl Log {
     /// The empty log that takes at most this many steps.
     pub fn open(alloc: Global, limit: u64) -> Result<Log, Memory>
-        requires { limit ≤ 50000000 }
+        requires { limit ≤ MOST_STEPS }
         ensures limit { IfOk result (λ log. log.limit ≡ limit) }
         ensures steps { IfOk result (λ log. log.steps ≡ []) }
     {

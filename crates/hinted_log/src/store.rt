@@ -55,29 +55,29 @@ impl Store {
         &self.clauses
     }
 
-    /// The clause of the step at a place, counted from 0.
-    pub(crate) fn clause(&self, place: usize) -> &[PackedLit]
-        requires { place < length self.now }
-        ensures { result.now ≡ (slice_index_or self.now place no_step).clause }
+    /// The clause of the step at an index.
+    pub(crate) fn clause(&self, index: usize) -> &[PackedLit]
+        requires { index < length self.now }
+        ensures { result.now ≡ (slice_index_or self.now index no_step).clause }
     {
-        self.clauses.row(place)
+        self.clauses.row(index)
     }
 
-    /// The kind of the step at a place.
-    pub(crate) fn kind(&self, place: usize) -> Kind
-        requires { place < length self.now }
-        ensures { result ≡ (slice_index_or self.now place no_step).kind }
+    /// The kind of the step at an index.
+    pub(crate) fn kind(&self, index: usize) -> Kind
+        requires { index < length self.now }
+        ensures { result ≡ (slice_index_or self.now index no_step).kind }
     {
         let kinds = self.kinds.as_slice();
-        kinds[place]
+        kinds[index]
     }
 
-    /// The hints of the step at a place.
-    pub(crate) fn hints(&self, place: usize) -> &[StepId]
-        requires { place < length self.now }
-        ensures { result.now ≡ (slice_index_or self.now place no_step).hints }
+    /// The hints of the step at an index.
+    pub(crate) fn hints(&self, index: usize) -> &[StepId]
+        requires { index < length self.now }
+        ensures { result.now ≡ (slice_index_or self.now index no_step).hints }
     {
-        self.hints.row(place)
+        self.hints.row(index)
     }
 
     /// Adds a step at the end. After `Memory` the steps are as before.
