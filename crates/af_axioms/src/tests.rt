@@ -127,6 +127,18 @@ fn rows_of_walks(rt: HostRuntime) -> Result<(), Fail> {
             name: AfAxiom::A10(5),
             clause: &[not(St), not(Live(5)), is(Member(5)), is(Tail(5, 1))],
         },
+        Row {
+            name: AfAxiom::A11(5),
+            clause: &[not(Range(5)), is(Member(5)), is(Tail(5, 1))],
+        },
+        Row {
+            name: AfAxiom::A12(5),
+            clause: &[not(Member(5)), is(Range(5))],
+        },
+        Row {
+            name: AfAxiom::A13(5),
+            clause: &[not(Tail(5, 1)), is(Range(5))],
+        },
     ];
     check(&rt, rt.alloc(), &rows)
 }
