@@ -82,9 +82,10 @@ first_at found file bytes line c is h =
     subst (λ bs. IsFirstFaultIn (Framework 1) bs line c) (bytes_at (found.holds file) bytes h.bytes is h.has) h.first
 
 answer_reads : (known : KnownFile) (bytes : List ℕ) (kept : Transcript) → known ≡ Some (Some bytes) → KeepsAnswer known kept → IsReadable bytes
-answer_reads known bytes kept is keeps =
-    (keeps.answers.framework,
-     subst (λ bs. ReadsAs bs keeps.answers.framework) (bytes_at known bytes keeps.answers.bytes is keeps.answers.has) keeps.answers.reads)
+answer_reads known bytes kept is keeps = (
+  keeps.answers.framework,
+  subst (λ bs. ReadsAs bs keeps.answers.framework) (bytes_at known bytes keeps.answers.bytes is keeps.answers.has) keeps.answers.reads,
+)
 
 no_read_fault : (found : Reading) (words : List (List ℕ)) (file bytes : List ℕ) → QueriesBytes found words file bytes
     → ¬ HasReadFault found (input (Framework 1) file)

@@ -25,10 +25,10 @@ pub record FileText : Type 0 where
 
 -- one row of the table of commands
 pub record Row : Type 1 where
-  pub inputs : List Input                          -- in the order of reading
-  pub takes_memory : Bool                          -- it may end for want of memory
-  pub Ends : Transcript → Status → Type 0          -- how it may end, and what it keeps, once its inputs are read and sound
-  pub text : Transcript → Status → List ℕ          -- what it then writes, where the status has no text of its own
+  pub inputs : List Input  -- in the order of reading
+  pub takes_memory : Bool  -- it may end for want of memory
+  pub Ends : Transcript → Status → Type 0  -- how it may end, and what it keeps, once its inputs are read and sound
+  pub text : Transcript → Status → List ℕ  -- what it then writes, where the status has no text of its own
   pub files : Transcript → Status → List FileText  -- the files that it then writes, before the text and in this order
 
 -- a run that keeps nothing

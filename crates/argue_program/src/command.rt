@@ -21,7 +21,12 @@ use std::thread::Threads;
 
 /// Runs the program on the words after its name: decides the ending, and writes it. It waits for nobody, so it
 /// is proved to return.
-pub fn execute<F: Files, O: Sink>(alloc: Global, words: &[String], files: &mut F, out: &mut O) -> Ended
+pub fn execute<F: Files, O: Sink>(
+    alloc: Global,
+    words: &[String],
+    files: &mut F,
+    out: &mut O,
+) -> Ended
     // What the run does, by the row of what its words ask for. The rest follows.
     ensures run { IsRunOf
         (reading (F.holds files.old) (F.serves files.old) (F.read_count files.old) (F.read_count files.new))

@@ -26,7 +26,12 @@ impl From<Memory> for Status {
 }
 
 /// The whole bytes of an input, or the status of the run that it ends.
-fn read_input<F: Files>(alloc: Global, files: &mut F, role: Role, name: &str) -> Result<Bytes, Status>
+fn read_input<F: Files>(
+    alloc: Global,
+    files: &mut F,
+    role: Role,
+    name: &str,
+) -> Result<Bytes, Status>
     requires { IsRole role }
     ensures ok { IfOk result (HasBytes (F.holds files.old name.now)) }
     ensures err { IfErr result (EndsReading (reading (F.holds files.old) (F.serves files.old) (F.read_count files.old)
@@ -49,7 +54,11 @@ fn refused(role: Role, fault: ReadFault) -> Status
     ensures { result ≡ status_of_fault role fault }
 {
     match fault {
-        ReadFault::Line(fault) => Status::InputRefused(Refusal::Line(role, fault.line, Cause::Framework(fault.cause))),
+        ReadFault::Line(fault) => Status::InputRefused(Refusal::Line(
+            role,
+            fault.line,
+            Cause::Framework(fault.cause),
+        )),
         ReadFault::Memory => Status::WantOfMemory,
     }
 }

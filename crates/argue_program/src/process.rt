@@ -58,7 +58,12 @@ fn words_status(error: &io::Error) -> Status
 }
 
 /// Ends a run whose words couldn't be had.
-fn refuse_words<F: Files, O: Sink>(alloc: Global, status: Status, files: &mut F, out: &mut O) -> Ended
+fn refuse_words<F: Files, O: Sink>(
+    alloc: Global,
+    status: Status,
+    files: &mut F,
+    out: &mut O,
+) -> Ended
     requires { (status ≡ Status.Usage) ⊎ (status ≡ Status.WantOfMemory) }
 {
     let ending = stopped(alloc, status);

@@ -1,4 +1,137 @@
-//! What no clause says: whole runs over memory, each compared with what was worked out by hand.
+//! What no clause says: that memory suffices. Whole runs over memory, each compared with what was worked out by hand.
 
-use crate::command::run;
-use argue_outside::{Failed, Files, MemFiles, MemSink, NoPace, Role, append_all};
+use crate::command::{execute, run};
+use argue_outside::{Files, MemFiles, MemSink, NoPace, append_all};
+use plain_lists::Items;
+use std::alloc::{AllocError, Global};
+use std::test::Fail;
+
+const QUERY: &str = "-p SE-GR -f a";
+
+/// The words of a line.
+fn words_of(alloc: Global, line: &str) -> Result<Vec<String>, AllocError> {
+    let mut words = Vec::new(alloc);
+    for word in line.split_whitespace() {
+        words.push(String::from_str(alloc, word)?)?;
+    }
+    Ok(words)
+}
+
+/// The exit status of a run.
+fn code_of(
+    alloc: Global,
+    line: &str,
+    files: &mut MemFiles,
+    out: &mut MemSink,
+) -> Result<u8, AllocError> {
+    let words = words_of(alloc, line)?;
+    Ok(execute(alloc, words.as_slice(), files, out).status.code())
+}
+
+#[test]
+fn rows(rt: HostRuntime) -> Result<(), Fail> {
+    let rows = [
+        (QUERY, "p af 2\n1 2\n", "w 1\n", 0),
+        ("-f a -p SE-GR", "p af 3\n1 2\n2 3\n", "w 1 3\n", 0),
+        (QUERY, "p af 0\n", "w\n", 0),
+        (QUERY, "p af 4\n1 2\n2 1\n1 3\n2 3\n3 4\n", "w\n", 0),
+        (
+            QUERY,
+            "p af 7\n1 2\n3 1\n4 3\n5 6\n6 5\n5 7\n6 7\n",
+            "w 1 4\n",
+            0,
+        ),
+        (
+            QUERY,
+            "# x\n\n\tp af  3\r\n2 3\n \t\n01\t2\r\n #\n1 2",
+            "w 1 3\n",
+            0,
+        ),
+        (
+            QUERY,
+            "\n# x\n\np af 2\n1 2\n\n1\n0 1\n",
+            "error: framework line 7 BadLine\n",
+            2,
+        ),
+        (QUERY, "", "error: framework line 1 NoHeader\n", 2),
+        ("-p SE-GR -f b", "p af 1\n", "error: read framework\n", 3),
+        ("-p SE-XX -f a", "p af 1\n", "error: usage\n", 1),
+        ("-p SE-GR", "p af 1\n", "error: usage\n", 1),
+        ("--help", "p af 1\n", "error: usage\n", 1),
+        ("", "", "argue 1.0\n", 0),
+    ];
+    for (line, text, output, code) in rows {
+        let mut files = MemFiles::new(rt.alloc());
+        let mut out = MemSink::new(rt.alloc());
+        files.clear("a")?;
+        append_all(&mut files, "a", text.as_bytes())?;
+        let ended = code_of(rt.alloc(), line, &mut files, &mut out)?;
+        assert!(rt; ended == code, "status at {output:?}");
+        assert!(rt; out.bytes() == output.as_bytes(), "output at {output:?}");
+    }
+    Ok(())
+}
+
+/// The list of one number.
+fn only(alloc: Global, number: u64) -> Result<Items<u64>, Fail> {
+    let mut numbers = Items::new(alloc);
+    numbers.push(number)?;
+    Ok(numbers)
+}
+
+#[test]
+fn faults(rt: HostRuntime) -> Result<(), Fail> {
+    let alloc = rt.alloc();
+    // The call of the files that fails, the call of the sink that fails, and the most bytes that each call moves. Calls
+    // count from 1. The first three calls of the files write the file, so that the first fetch is the fourth.
+    let rows = [
+        (5, 0, 7, "error: read framework\n", 3),
+        (0, 0, 7, "w 1 3\n", 0),
+        (0, 1, 7, "", 4),
+        (0, 2, 2, "w ", 4),
+    ];
+    for (fetch, put, most, output, code) in rows {
+        let mut files = MemFiles::failing(alloc, only(alloc, fetch)?, most);
+        let mut out = MemSink::failing(alloc, only(alloc, put)?, most);
+        append_all(&mut files, "a", b"p af 3\n1 2\n2 3\n")?;
+        let ended = code_of(alloc, QUERY, &mut files, &mut out)?;
+        assert!(rt; ended == code, "status at {output:?}");
+        assert!(rt; out.bytes() == output.as_bytes(), "output at {output:?}");
+    }
+    Ok(())
+}
+
+#[test]
+fn greatest_framework(rt: HostRuntime) -> Result<(), Fail> {
+    let mut files = MemFiles::new(rt.alloc());
+    let mut out = MemSink::new(rt.alloc());
+    append_all(&mut files, "a", b"p af 1000000\n1000000 1000000\n")?;
+    let words = words_of(rt.alloc(), QUERY)?;
+    let ended = run(
+        &rt,
+        rt.alloc(),
+        words.as_slice(),
+        &mut files,
+        &mut out,
+        &NoPace,
+    );
+    assert!(rt; ended.status.code() == 0);
+    // The numbers from 1 to 999,999 have 5,888,889 digits.
+    assert!(rt; out.bytes().len() == 1 + 999_999 + 5_888_889 + 1);
+    Ok(())
+}
+
+#[test]
+fn too_long(rt: HostRuntime) -> Result<(), Fail> {
+    let mut files = MemFiles::new(rt.alloc());
+    let mut out = MemSink::new(rt.alloc());
+    append_all(
+        &mut files,
+        "a",
+        vec![in rt.alloc(); 0u8; 268_435_457]?.as_slice(),
+    )?;
+    let ended = code_of(rt.alloc(), QUERY, &mut files, &mut out)?;
+    assert!(rt; ended == 7);
+    assert!(rt; out.bytes() == b"error: limit input\n".as_slice());
+    Ok(())
+}

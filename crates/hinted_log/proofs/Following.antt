@@ -7,13 +7,13 @@ use Rattle.std.proofs.lemmas.List.{get_or-take, take_all, take-append-drop}
 use Rattle.std.proofs.lemmas.List.Elements.{Contains-append_left}
 use Rattle.plain_lists.proofs.Membership.{Contains-nil}
 use Rattle.plain_lits.specs.declared.lit.Lit.{Lit}
-use Rattle.plain_lits.specs.Literals.{opposite}
-use Rattle.plain_lits.specs.HintCheck.{Checks, clause_at, IsReading}
-use Rattle.plain_lits.proofs.CheckLemmas.{taken_sound}
+use Rattle.plain_lits.specs.Literals.{negation}
+use Rattle.plain_lits.specs.HintCheck.{Checks, clause_at, IsValuation}
+use Rattle.plain_lits.proofs.HintCheckLemmas.{taken_sound}
 use Rattle.hinted_log.specs.declared.kind.Kind.{Kind}
 use Rattle.hinted_log.specs.declared.kind.Kind.TheVariants.{Axiom, Side, Derived}
 use Rattle.hinted_log.specs.Logs.{Step, no_step, clauses_of, step_at, IsGiven, IsProof, Reaches, itself}
-use Rattle.hinted_log.specs.Logs.{by_hint, reading_of, IsTrueUnder}
+use Rattle.hinted_log.specs.Logs.{by_hint, valuation_of, IsTrueUnder}
 use Rattle.hinted_log.specs.Logs.{IsStepOf}
 use Rattle.hinted_log.specs.Follows.{FollowsFromHints, StepsFollow}
 
@@ -22,12 +22,12 @@ double true = refl
 double false = refl
 
 signed_reading : (truth : ℕ → Bool) (v : ℕ) (p : Bool)
-    → reading_of truth (opposite (record { var = v; positive = p })) ≡ not (reading_of truth (record { var = v; positive = p }))
+    → valuation_of truth (negation (record { var = v; positive = p })) ≡ not (valuation_of truth (record { var = v; positive = p }))
 signed_reading truth v true = refl
 signed_reading truth v false = sym (double (truth v))
 
 -- a truth value for each variable reads a literal and its negation as one of each
-pub reads_both : (truth : ℕ → Bool) → IsReading opposite (reading_of truth)
+pub reads_both : (truth : ℕ → Bool) → IsValuation negation (valuation_of truth)
 reads_both truth l = signed_reading truth l.var l.positive
 
 -- a clause by its step
@@ -54,15 +54,15 @@ given_follows : (before : List Step) (step : Step) (kind : Kind) → kind ≡ De
 given_follows before step Axiom e h truth all = cc
 given_follows before step Side e h truth all = cc
 given_follows before step Derived e h truth all =
-    let sound = taken_sound opposite (clauses_of before) step.clause step.hints (length step.hints) h in
-    sound.follows (reading_of truth) (reads_both truth) (λ hint c. all hint (rw (take_all (length step.hints) step.hints (omega arith)) at c))
+    let sound = taken_sound negation (clauses_of before) step.clause step.hints (length step.hints) h in
+    sound.follows (valuation_of truth) (reads_both truth) (λ hint c. all hint (rw (take_all (length step.hints) step.hints (omega arith)) at c))
 
 given_hints : (before : List Step) (step : Step) (kind : Kind) → IsGiven before step kind → (hint : ℕ)
     → Contains step.hints hint → (0 < hint) × (hint ≤ length before)
 given_hints before step Axiom h hint c = absurd (Contains-nil hint (rw h at c))
 given_hints before step Side h hint c = absurd (Contains-nil hint (rw h at c))
 given_hints before step Derived h hint c =
-    let sound = taken_sound opposite (clauses_of before) step.clause step.hints (length step.hints) h in
+    let sound = taken_sound negation (clauses_of before) step.clause step.hints (length step.hints) h in
     let named = sound.named hint (rw (take_all (length step.hints) step.hints (omega arith)) c) in
     let low = named.from_one in
     let high = named.within in
@@ -125,8 +125,8 @@ all_follow steps h = record {
 
 -- a clause that the check takes follows from the clauses of its hints
 pub taken_from_hints : (steps : List Step) (clause : List Lit) (hints : List ℕ) (used : ℕ)
-    → Checks opposite (clauses_of steps) clause hints (Ok used) → FollowsFromHints steps hints clause
+    → Checks negation (clauses_of steps) clause hints (Ok used) → FollowsFromHints steps hints clause
 taken_from_hints steps clause hints used w truth all =
-    let sound = taken_sound opposite (clauses_of steps) clause hints used w in
-    sound.follows (reading_of truth) (reads_both truth)
+    let sound = taken_sound negation (clauses_of steps) clause hints used w in
+    sound.follows (valuation_of truth) (reads_both truth)
     (λ hint c. rw (clause_of_step steps (hint - 1)) (all hint (rw (take-append-drop used hints) at (Contains-append_left (take used hints) (drop used hints) hint c))))

@@ -7,12 +7,12 @@ use Rattle.std.proofs.lemmas.List.{get_or_append_left, get_or-append_right, take
 use Rattle.std.proofs.Math.Seq.{take-append_seam}
 use Rattle.std.proofs.lemmas.List.Elements.{Contains-push_cases}
 use Rattle.plain_lits.specs.declared.lit.Lit.{Lit}
-use Rattle.plain_lits.specs.Literals.{opposite}
+use Rattle.plain_lits.specs.Literals.{negation}
 use Rattle.plain_lits.specs.HintCheck.{Checks}
-use Rattle.plain_lits.proofs.CheckLemmas.{taken_sound}
+use Rattle.plain_lits.proofs.HintCheckLemmas.{taken_sound}
 use Rattle.hinted_log.specs.declared.kind.Kind.{Kind}
 use Rattle.hinted_log.specs.declared.kind.Kind.TheVariants.{Axiom, Side, Derived}
-use Rattle.hinted_log.specs.Checking.{HasRoomFor}
+use Rattle.plain_lits.specs.Checking.{HasRoomFor}
 use Rattle.hinted_log.specs.Logs.{Step, LogState, log_of, no_step, clauses_of, given_step, derived_step}
 use Rattle.hinted_log.specs.Logs.{IsGiven, IsProof, IsStored}
 
@@ -46,10 +46,10 @@ IsGiven-given before clause Derived ne = absurd (ne refl)
 
 -- a derived step keeps the hints that were looked at
 pub IsGiven-derived : (before : List Step) (clauses : List (List Lit)) (clause : List Lit) (hints : List ℕ) (used : ℕ)
-    → clauses ≡ clauses_of before → Checks opposite clauses clause hints (Ok used)
+    → clauses ≡ clauses_of before → Checks negation clauses clause hints (Ok used)
     → IsGiven before (derived_step clause (take used hints)) Derived
 IsGiven-derived before clauses clause hints used e w =
-    let sound = taken_sound opposite clauses clause hints used w in
+    let sound = taken_sound negation clauses clause hints used w in
     rw (length-take-le used hints sound.within, ← e) sound.alone
 
 -- the parts of a log, with more room
@@ -87,5 +87,5 @@ not_so b P h e p = false≢true (sym e ∙ h.1 p)
 
 -- as many hints are kept as were looked at
 pub used_hints : (clauses : List (List Lit)) (clause : List Lit) (hints : List ℕ) (used : ℕ)
-    → Checks opposite clauses clause hints (Ok used) → used ≡ length (take used hints)
-used_hints clauses clause hints used w = sym (length-take-le used hints ((taken_sound opposite clauses clause hints used w).within))
+    → Checks negation clauses clause hints (Ok used) → used ≡ length (take used hints)
+used_hints clauses clause hints used w = sym (length-take-le used hints ((taken_sound negation clauses clause hints used w).within))

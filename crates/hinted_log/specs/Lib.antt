@@ -1,4 +1,3 @@
 pub mod Logs
-pub mod Checking
 pub mod Follows
 pub mod Trimming

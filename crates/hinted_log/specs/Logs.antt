@@ -2,9 +2,9 @@
 use Rattle.std.specs.Prelude.{◌≡◌, ℕ, ◌+◌, ◌-◌, ◌<◌, ◌≤◌, Bool, not, List, [], ◌∷◌, ◌++◌, length, map, take}
 use Rattle.std.specs.Prelude.{Contains, slice_index_or, Ok, if◌then◌else◌}
 use Rattle.plain_lits.specs.declared.lit.Lit.{Lit}
-use Rattle.plain_lits.specs.Literals.{opposite}
+use Rattle.plain_lits.specs.Literals.{negation}
 use Rattle.plain_lits.specs.HintCheck.{Checks, IsTrueClause}
-use Rattle.hinted_log.specs.Checking.{HaveRoomFor}
+use Rattle.plain_lits.specs.Checking.{HaveRoomFor}
 use Rattle.hinted_log.specs.declared.kind.Kind.{Kind}
 use Rattle.hinted_log.specs.declared.kind.Kind.TheVariants.{Axiom, Side, Derived}
 
@@ -48,7 +48,7 @@ abbrev pub IsGiven : List Step → Step → Kind → Type 0
 IsGiven before step Axiom = step.hints ≡ []
 IsGiven before step Side = step.hints ≡ []
 IsGiven before step Derived =
-    Checks opposite (clauses_of before) step.clause step.hints (Ok (length step.hints))
+    Checks negation (clauses_of before) step.clause step.hints (Ok (length step.hints))
 
 -- each step meets this beside those before it
 pub record IsProof (steps : List Step) : Type 0 where
@@ -63,7 +63,7 @@ pub record AddsStep (old new : LogState) (step : Step) (number : ℕ) : Type 0 w
 -- a clause is taken with its hints, and the step keeps those that were looked at
 pub record AddsDerived (old new : LogState) (clause : List Lit) (hints : List ℕ) (number : ℕ) : Type 0 where
   pub used : ℕ
-  pub taken : Checks opposite (clauses_of old.steps) clause hints (Ok used)
+  pub taken : Checks negation (clauses_of old.steps) clause hints (Ok used)
   pub added : AddsStep old new (derived_step clause (take used hints)) number
 
 -- the form of a log: a proof, within the limit
@@ -84,12 +84,12 @@ pub data Reaches (steps : List Step) : ℕ → ℕ → Type 0 where
       → Reaches steps hint reached → Reaches steps number reached
 
 -- what a literal reads as where each variable has a truth value
-abbrev pub reading_of : (ℕ → Bool) → Lit → Bool
-reading_of truth l = if l.positive then truth l.var else not (truth l.var)
+abbrev pub valuation_of : (ℕ → Bool) → Lit → Bool
+valuation_of truth l = if l.positive then truth l.var else not (truth l.var)
 
 -- a clause has a literal that is true
 abbrev pub IsTrueUnder : (ℕ → Bool) → List Lit → Type 0
-IsTrueUnder truth clause = IsTrueClause (reading_of truth) clause
+IsTrueUnder truth clause = IsTrueClause (valuation_of truth) clause
 
 -- steps by their parts, side by side
 abbrev pub steps_of : List (List Lit) → List Kind → List (List ℕ) → List Step

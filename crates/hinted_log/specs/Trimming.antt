@@ -1,33 +1,25 @@
--- What a walk along hints has found, with a mark for each number.
-use Rattle.std.specs.Prelude.{◌≡◌, ◌⊎◌, ℕ, ◌+◌, ◌<◌, ◌≤◌, Bool, true, false, List, length, Contains, sum_by}
-use Rattle.std.specs.Prelude.{slice_index, slice_index_or}
+-- The inner state of trimming, which no caller sees: a mark for each number of a step.
+use Rattle.std.specs.Prelude.{◌≡◌, ◌⊎◌, ℕ, ◌+◌, ◌<◌, ◌≤◌, Bool, true, false, List, length, Contains}
+use Rattle.std.specs.Prelude.{slice_index_or}
 use Rattle.hinted_log.specs.Logs.{Step, step_at, Reaches}
 
--- 1 where there is no mark
-abbrev pub unmarked : Bool → ℕ
-unmarked true = 0
-unmarked false = 1
+-- a number has a mark
+abbrev pub IsMarked : List Bool → ℕ → Type 0
+IsMarked marks j = slice_index_or marks j false ≡ true
 
--- a number has a mark just where it was found, and no number was found twice
-pub record AreMarked (marks : List Bool) (found : List ℕ) : Type 0 where
-  pub marked : (j : ℕ) → Contains found j → (j < length marks) × (slice_index_or marks j false ≡ true)
-  pub back : (j : ℕ) → j < length marks → slice_index_or marks j false ≡ true → Contains found j
-  pub counted : length found + sum_by unmarked marks ≡ length marks
+-- each of the hints is marked, and what was marked before
+pub record MarksHints (hints : List ℕ) (old new : List Bool) : Type 0 where
+  pub long : length new ≡ length old
+  pub there : (j : ℕ) → IsMarked new j → IsMarked old j ⊎ Contains hints j
+  pub kept : (j : ℕ) → IsMarked old j → IsMarked new j
+  pub back : (j : ℕ) → Contains hints j → IsMarked new j
 
--- what was found stays, and the hints are found now
-pub record FindsHints (old new hints : List ℕ) : Type 0 where
-  pub longer : length old ≤ length new
-  pub kept : (i : ℕ) → i < length old → slice_index new i ≡ slice_index old i
-  pub there : (j : ℕ) → Contains new j → Contains old j ⊎ Contains hints j
-  pub back : (j : ℕ) → Contains old j ⊎ Contains hints j → Contains new j
-
--- a walk from a step: each number that was found is reached, the step is found, and so are the hints of the
--- first numbers that were found
-pub record IsWalk (steps : List Step) (step head : ℕ) (marks : List Bool) (found : List ℕ) : Type 0 where
-  pub marked : AreMarked marks found
+-- a walk down from a step: the step is marked, each marked number is reached, and so are marked the hints of each
+-- marked step above a number
+pub record IsWalk (steps : List Step) (step number : ℕ) (marks : List Bool) : Type 0 where
   pub long : length marks ≡ step + 1
-  pub sound : (j : ℕ) → Contains found j → Reaches steps step j
-  pub start : Contains found step
-  pub closed : (i h : ℕ) → i < head → Contains (step_at steps (slice_index found i)).hints h
-      → Contains found h
-  pub within : head ≤ length found
+  pub within : number ≤ step
+  pub start : IsMarked marks step
+  pub sound : (j : ℕ) → IsMarked marks j → Reaches steps step j
+  pub closed : (j hint : ℕ) → number < j → IsMarked marks j → Contains (step_at steps j).hints hint
+      → IsMarked marks hint

@@ -1,7 +1,6 @@
 //! A log of clauses: axioms, sides, and clauses that follow from earlier ones by a check of hints.
 #![tactic(auto)]
 
-mod check;
 pub mod fault;
 pub mod kind;
 pub mod laws;

@@ -3,19 +3,19 @@
 ghost use Rattle.std.specs.Prelude.{◌≡◌, ◌≢◌, ◌↔◌, ℕ, ◌+◌, ◌-◌, ◌<◌, ◌≤◌, ◌^◌, [], ◌∷◌, ◌++◌, length, map};
 ghost use Rattle.std.specs.Prelude.{take, Contains, IfOk, OnOk, OnErr, IsTrue};
 ghost use Rattle.plain_lists.specs.Members.{IsSetOf};
-ghost use Rattle.plain_lits.specs.Literals.{opposite};
+ghost use Rattle.plain_lits.specs.Literals.{negation};
 ghost use Rattle.plain_lits.specs.HintCheck.{Checks};
 ghost use Rattle.hinted_log.specs.Logs.{IsLog, IsGiven, IsStepOf, AddsStep, Reaches, AddsDerived, clauses_of};
 ghost use Rattle.hinted_log.specs.Logs.{step_at, given_step, derived_step};
 ghost use Rattle.hinted_log.specs.Follows.{FollowsFromHints, FollowsFromReached};
-ghost use Rattle.hinted_log.specs.Checking.{HasRoomFor, IsPackable};
+ghost use Rattle.plain_lits.specs.Checking.{HasRoomFor, IsPackable};
 
-use crate::check::check;
 use crate::fault::LogFault;
 use crate::kind::Kind;
 use crate::store::Store;
 use crate::trim::trimmed;
 use plain_lists::{Items, Memory};
+use plain_lits::check::check;
 use plain_lits::{Clause, Lit, PackedLit, StepId, Trail};
 use std::alloc::Global;
 use std::marker::Model;
@@ -127,7 +127,7 @@ impl Log {
         ensures full { (result ≡ Err LogFault.LogFull) ↔ (length self.old.steps ≡ self.old.limit) }
         ensures follows { IfOk result (λ step. FollowsFromHints self.old.steps hints.now clause) }
         ensures rejected { (place : ℕ) → result ≡ Err (LogFault.Rejected place)
-            → Checks opposite (clauses_of self.old.steps) clause hints.now (Err place) }
+            → Checks negation (clauses_of self.old.steps) clause hints.now (Err place) }
         ensures err { OnErr result (self.new ≡ self.old) }
     {
         if self.is_full() {

@@ -1,78 +1,58 @@
 //! The steps that a step reaches.
 
-ghost use Rattle.std.specs.Prelude.{◌≡◌, ◌↔◌, ℕ, ◌+◌, ◌<◌, ◌≤◌, [], ◌∷◌, length, Contains, IfOk, OnOk};
+ghost use Rattle.std.specs.Prelude.{◌≡◌, ◌↔◌, ℕ, ◌+◌, ◌<◌, ◌≤◌, ◌^◌, [], ◌∷◌, length, Contains, IfOk, OnOk};
 ghost use Rattle.plain_lists.specs.Members.{IsSetOf};
 ghost use Rattle.hinted_log.specs.Logs.{IsStepOf, Reaches, IsProof};
-ghost use Rattle.hinted_log.specs.Trimming.{AreMarked, FindsHints};
+ghost use Rattle.hinted_log.specs.Trimming.{IsMarked, MarksHints};
 
 use crate::store::Store;
 use plain_lists::Memory;
 use plain_lits::StepId;
 use std::alloc::Global;
 
-/// Adds a hint, if it wasn't found before.
-fn find_one(found: &mut Vec<StepId>, marks: &mut Vec<bool>, hint: StepId) -> Result<(), Memory>
-    requires marked { AreMarked marks.old.items found.old.items }
-    requires within { hint < length marks.old.items }
-    ensures marked { OnOk result (AreMarked marks.new.items found.new.items) }
-    ensures finds { OnOk result (FindsHints found.old.items found.new.items (hint ∷ [])) }
-    ensures long { length marks.new.items ≡ length marks.old.items }
-{
-    let place = hint.number() as usize;
-    let known = marks.as_slice()[place];
-    if known {
-        return Ok(());
-    }
-    found.push(hint)?;
-    marks[place] = true;
-    Ok(())
-}
-
-/// Adds each hint that wasn't found before.
-fn find_hints(
-    found: &mut Vec<StepId>,
-    marks: &mut Vec<bool>,
-    hints: &[StepId],
-) -> Result<(), Memory>
-    requires marked { AreMarked marks.old.items found.old.items }
+/// Marks each hint.
+fn mark_hints(marks: &mut Vec<bool>, hints: &[StepId])
     requires within { (hint : ℕ) → Contains hints.now hint → hint < length marks.old.items }
-    ensures marked { OnOk result (AreMarked marks.new.items found.new.items) }
-    ensures finds { OnOk result (FindsHints found.old.items found.new.items hints.now) }
-    ensures long { length marks.new.items ≡ length marks.old.items }
+    ensures marked { MarksHints hints.now marks.old.items marks.new.items }
 {
-    for at in 0..hints.len() {
-        find_one(found, marks, hints[at])?;
+    for hint in hints {
+        marks[hint.number() as usize] = true;
     }
-    Ok(())
 }
 
-/// The steps that a step reaches, each once.
-fn reached_from(alloc: Global, steps: &Store, step: StepId) -> Result<Vec<StepId>, Memory>
+/// Marks the steps that a step reaches. Hints name earlier steps, so that one walk down the numbers finds all.
+fn mark_reached(alloc: Global, steps: &Store, step: StepId) -> Result<Vec<bool>, Memory>
     requires proof { IsProof steps.now }
     requires step { IsStepOf steps.now step }
-    ensures { IfOk result (λ found. (j : ℕ) → Contains found.items j ↔ Reaches steps.now step j) }
+    ensures marked { IfOk result (λ marks. (j : ℕ) → IsMarked marks.items j ↔ Reaches steps.now step j) }
+    ensures long { IfOk result (λ marks. length marks.items ≤ 2 ^ 32) }
 {
     let last = step.number() as usize;
     let mut marks = Vec::new(alloc);
     marks.resize(last + 1, false)?;
-    let mut found = Vec::new(alloc);
-    find_one(&mut found, &mut marks, step)?;
-    let mut head = 0;
-    while head < found.len() {
-        let place = found.as_slice()[head].number() as usize;
-        find_hints(&mut found, &mut marks, steps.hints(place - 1))?;
-        head += 1;
+    marks[last] = true;
+    for down in 0..last {
+        let number = last - down;
+        let reached = marks.as_slice()[number];
+        if reached {
+            mark_hints(&mut marks, steps.hints(number - 1));
+        }
     }
-    Ok(found)
+    Ok(marks)
 }
 
-/// The numbers in rising order, each once.
-fn in_order(mut found: Vec<StepId>) -> Vec<StepId>
-    ensures { IsSetOf (Contains found.items) result.items }
+/// The numbers that are marked, in rising order.
+fn marked_numbers(alloc: Global, marks: &[bool]) -> Result<Vec<StepId>, Memory>
+    requires { length marks.now ≤ 2 ^ 32 }
+    ensures { IfOk result (λ found. IsSetOf (IsMarked marks.now) found.items) }
 {
-    found.sort_unstable();
-    found.dedup();
-    found
+    let mut found = Vec::new(alloc);
+    for number in 0..marks.len() {
+        if marks[number] {
+            found.push(StepId::new(number as u32))?;
+        }
+    }
+    Ok(found)
 }
 
 /// The steps that a step reaches, in rising order.
@@ -81,6 +61,7 @@ pub(crate) fn trimmed(alloc: Global, steps: &Store, step: StepId) -> Result<Vec<
     requires step { IsStepOf steps.now step }
     ensures { IfOk result (λ found. IsSetOf (Reaches steps.now step) found.items) }
 {
-    let found = reached_from(alloc, steps, step)?;
-    Ok(in_order(found))
+    let marks = mark_reached(alloc, steps, step)?;
+    let found = marked_numbers(alloc, marks.as_slice())?;
+    Ok(found)
 }

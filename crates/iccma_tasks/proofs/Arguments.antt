@@ -1,30 +1,10 @@
 -- Fields that spell numbers, one after the other.
-use Rattle.std.proofs.Common.{
-  ◌≡◌,
-  ℕ,
-  ◌<◌,
-  List,
-  [],
-  ◌∷◌,
-  ◌++◌,
-  length,
-  get_or,
-  refl,
-  sym,
-  ap,
-  subst,
-  ◌∙◌,
-  inl,
-  inr,
-  arith,
-  length-append,
-  append_assoc,
-}
+use Rattle.std.proofs.Common.{◌≡◌, ℕ, ◌<◌, List, [], ◌∷◌, ◌++◌, length, get_or, refl, sym, ap, subst, ◌∙◌, inl, inr, arith, length-append, append_assoc}
 use Rattle.std.proofs.Math.ListN.{get_or-append}
 use Rattle.std.proofs.Math.Seq.{get_or-append_seam}
 use Rattle.std.proofs.lemmas.List.{append-nil}
 use Rattle.std.proofs.lemmas.Bool.{cases_lt}
-use Rattle.iccma_tasks.specs.AnswerText.{IsArgument, AreArguments, HasBadNumber}
+use Rattle.iccma_tasks.specs.AnswerText.{SpellsArgument, AreArguments, HasBadNumber}
 
 -- a front of the fields spells the numbers, and these fields are left
 pub record ArgumentsTo (all left : List (List ℕ)) (numbers : List ℕ) : Type 0 where
@@ -48,28 +28,28 @@ to_end all left numbers at e =
 
 pub to_bad : (all left more : List (List ℕ)) (field : List ℕ) (numbers : List ℕ)
     → ArgumentsTo all left numbers
-    → left ≡ field ∷ more → ((n : ℕ) → IsArgument field n → ⊥) → HasBadNumber all
+    → left ≡ field ∷ more → ((n : ℕ) → SpellsArgument field n → ⊥) → HasBadNumber all
 to_bad all left more field numbers at e bad =
     let whole : at.front ++ field ∷ more ≡ all = ap (λ rest. at.front ++ rest) (sym e) ∙ sym at.whole in
     subst HasBadNumber whole (record {
-      place = length at.front;
+      index = length at.front;
       within = omega (arith, length-append at.front (field ∷ more));
-      bad = λ n is. bad n (subst (λ f. IsArgument f n) (get_or-append_seam at.front field more []) is);
+      bad = λ n is. bad n (subst (λ f. SpellsArgument f n) (get_or-append_seam at.front field more []) is);
     })
 
 more_below : (front : List (List ℕ)) (numbers : List ℕ) (field : List ℕ) (n : ℕ) → AreArguments front numbers
     → (k : ℕ) → k < length front
-    → IsArgument (get_or (front ++ field ∷ []) k []) (get_or (numbers ++ n ∷ []) k 0)
+    → SpellsArgument (get_or (front ++ field ∷ []) k []) (get_or (numbers ++ n ∷ []) k 0)
 more_below front numbers field n are k below =
-    subst (λ f. IsArgument f (get_or (numbers ++ n ∷ []) k 0))
+    subst (λ f. SpellsArgument f (get_or (numbers ++ n ∷ []) k 0))
     (sym (get_or-append front (field ∷ []) [] k below))
-    (subst (λ m. IsArgument (get_or front k []) m)
+    (subst (λ m. SpellsArgument (get_or front k []) m)
     (sym (get_or-append numbers (n ∷ []) 0 k (omega (arith, are.same_length)))) (are.each k below))
 
 -- one more field and its number
 arguments_more : (front : List (List ℕ)) (numbers : List ℕ) (field : List ℕ) (n : ℕ)
     → AreArguments front numbers
-    → IsArgument field n → AreArguments (front ++ field ∷ []) (numbers ++ n ∷ [])
+    → SpellsArgument field n → AreArguments (front ++ field ∷ []) (numbers ++ n ∷ [])
 arguments_more front numbers field n are is = record {
   same_length = omega (
     arith,
@@ -82,16 +62,16 @@ arguments_more front numbers field n are is = record {
     | inl below ↦ more_below front numbers field n are k below
     | inr above ↦
         let here : length front ≡ k = omega (arith, length-append front (field ∷ [])) in
-        subst (λ j. IsArgument (get_or (front ++ field ∷ []) j []) (get_or (numbers ++ n ∷ []) j 0)) here
-        (subst (λ f. IsArgument f (get_or (numbers ++ n ∷ []) (length front) 0))
+        subst (λ j. SpellsArgument (get_or (front ++ field ∷ []) j []) (get_or (numbers ++ n ∷ []) j 0)) here
+        (subst (λ f. SpellsArgument f (get_or (numbers ++ n ∷ []) (length front) 0))
         (sym (get_or-append_seam front field [] []))
-        (subst (λ m. IsArgument field (get_or (numbers ++ n ∷ []) m 0)) (sym are.same_length)
-        (subst (λ m. IsArgument field m) (sym (get_or-append_seam numbers n [] 0)) is)))
+        (subst (λ m. SpellsArgument field (get_or (numbers ++ n ∷ []) m 0)) (sym are.same_length)
+        (subst (λ m. SpellsArgument field m) (sym (get_or-append_seam numbers n [] 0)) is)))
   ];
 }
 
 pub to_next : (all left more : List (List ℕ)) (field : List ℕ) (numbers : List ℕ) (n : ℕ)
-    → ArgumentsTo all left numbers → left ≡ field ∷ more → IsArgument field n
+    → ArgumentsTo all left numbers → left ≡ field ∷ more → SpellsArgument field n
     → ArgumentsTo all more (numbers ++ n ∷ [])
 to_next all left more field numbers n at e is = record {
   front = at.front ++ field ∷ [];

@@ -1,26 +1,5 @@
 -- A text reads as one answer, or has one fault, and not both.
-use Rattle.std.proofs.Common.{
-  ◌≡◌,
-  ℕ,
-  ◌<◌,
-  Bool,
-  List,
-  [],
-  ◌∷◌,
-  length,
-  get_or,
-  refl,
-  sym,
-  ap,
-  subst,
-  ◌∙◌,
-  inl,
-  inr,
-  ◌⊎◌,
-  arith,
-  map,
-  codes,
-}
+use Rattle.std.proofs.Common.{◌≡◌, ℕ, ◌<◌, Bool, List, [], ◌∷◌, length, get_or, refl, sym, ap, subst, ◌∙◌, inl, inr, ◌⊎◌, arith, map, codes}
 use Rattle.std.specs.Prelude.{Option, Some, None, Result, Ok, Err, IfOk, IfErr}
 use Rattle.std.proofs.lemmas.Bool.{cases_lt}
 use Rattle.std.proofs.lemmas.List.{length-map, same_lists, get_or_default}
@@ -30,25 +9,7 @@ use Rattle.iccma_tasks.specs.declared.fault.AnswerCause.{AnswerCause}
 use Rattle.iccma_tasks.specs.declared.fault.AnswerCause.TheVariants.{Empty, BadLine, BadNumber, NotRising}
 use Rattle.iccma_tasks.specs.declared.fault.AnswerFault.{AnswerFault}
 use Rattle.iccma_tasks.specs.declared.fault.AnswerFault.TheVariants.{At, Memory}
-use Rattle.iccma_tasks.specs.AnswerText.{
-  FilledLine,
-  IsSetLine,
-  ReadsAsWord,
-  ReadsAsSets,
-  ReadsAs,
-  LineStands,
-  Stands,
-  IsFirstAt,
-  IsFaultOf,
-  IsToldOf,
-  AreArguments,
-  HasBadNumber,
-  HasFallingNumbers,
-  filled_fields,
-  filled_lines,
-  is_open,
-  behind_first,
-}
+use Rattle.iccma_tasks.specs.AnswerText.{FilledLine, IsSetLine, ReadsAsWord, ReadsAsSets, ReadsAs, LineStands, Stands, IsFirstAt, IsFaultOf, IsToldOf, AreArguments, HasBadNumber, HasFallingNumbers, filled_fields, filled_lines, is_open, behind_first}
 use Rattle.iccma_tasks.proofs.Reading.{AreArguments-unique, all_fine, fine_none}
 
 -- ---- one answer
@@ -122,7 +83,7 @@ ReadsAs-unique lines (Sets ss) (Sets ts) a b = ap Sets (ReadsAsSets-unique lines
 
 bad_or_falling : (fields : List (List ℕ)) → HasBadNumber fields → HasFallingNumbers fields → ⊥
 bad_or_falling fields bad falling =
-    bad.bad (get_or falling.numbers bad.place 0) (falling.arguments.each bad.place bad.within)
+    bad.bad (get_or falling.numbers bad.index 0) (falling.arguments.each bad.index bad.within)
 
 cause-unique : (fits : Bool) (fields : List (List ℕ)) (c d : AnswerCause) → LineStands fits fields c
     → LineStands fits fields d → c ≡ d
@@ -140,13 +101,13 @@ cause-unique fits fields NotRising BadLine a b = absurd (cc (sym b ∙ a.0))
 cause-unique fits fields NotRising BadNumber a b = absurd (bad_or_falling (behind_first fields) b.1 a.1)
 cause-unique fits fields NotRising NotRising a b = refl
 
-first_place : (lines : List FilledLine) (m n : ℕ) (c d : AnswerCause) → (a : IsFirstAt lines m c)
+first_index : (lines : List FilledLine) (m n : ℕ) (c d : AnswerCause) → (a : IsFirstAt lines m c)
     → (b : IsFirstAt lines n d)
-    → a.place ≡ b.place
-first_place lines m n c d a b = elim (cases_lt a.place b.place) [
-  | inl below ↦ absurd (b.before a.place below c a.stands)
-  | inr above ↦ elim (cases_lt b.place a.place) [
-    | inl under ↦ absurd (a.before b.place under d b.stands)
+    → a.index ≡ b.index
+first_index lines m n c d a b = elim (cases_lt a.index b.index) [
+  | inl below ↦ absurd (b.before a.index below c a.stands)
+  | inr above ↦ elim (cases_lt b.index a.index) [
+    | inl under ↦ absurd (a.before b.index under d b.stands)
     | inr over ↦ omega arith
   ]
 ]
@@ -155,15 +116,15 @@ first_number : (lines : List FilledLine) (m n : ℕ) (c d : AnswerCause) → IsF
     → IsFirstAt lines n d → m ≡ n
 first_number [] m n c d a b = absurd (omega (arith, a.within))
 first_number (l ∷ ls) m n c d a b =
-    sym (a.numbered l) ∙ ap (λ k. (get_or (l ∷ ls) k l).number) (first_place (l ∷ ls) m n c d a b)
+    sym (a.numbered l) ∙ ap (λ k. (get_or (l ∷ ls) k l).number) (first_index (l ∷ ls) m n c d a b)
     ∙ b.numbered l
 
 first_cause : (lines : List FilledLine) (m n : ℕ) (c d : AnswerCause) → IsFirstAt lines m c
     → IsFirstAt lines n d → c ≡ d
 first_cause lines m n c d a b =
     let fs = map (λ l. l.fields) lines in
-    cause-unique (is_open fs b.place) (get_or fs b.place []) c d
-    (subst (λ k. Stands fs k c) (first_place lines m n c d a b) a.stands) b.stands
+    cause-unique (is_open fs b.index) (get_or fs b.index []) c d
+    (subst (λ k. Stands fs k c) (first_index lines m n c d a b) a.stands) b.stands
 
 -- a fault with a line has a line
 first_some : (lines : List FilledLine) (n : ℕ) (c : AnswerCause) → IsFirstAt lines n c → lines ≡ [] → ⊥
@@ -174,8 +135,8 @@ first_unread : (lines : List FilledLine) (n : ℕ) (c : AnswerCause) (answer : A
     → ReadsAs (map (λ l. l.fields) lines) answer → ⊥
 first_unread lines n c answer a read =
     let fs = map (λ l. l.fields) lines in
-    fine_none fs a.place c
-    (all_fine fs answer read a.place (omega (arith, a.within, length-map lines (λ l. l.fields)))) a.stands
+    fine_none fs a.index c
+    (all_fine fs answer read a.index (omega (arith, a.within, length-map lines (λ l. l.fields)))) a.stands
 
 -- no line reads as nothing
 none_unread : (lines : List (List (List ℕ))) (answer : Answer) → ReadsAs lines answer → lines ≡ [] → ⊥

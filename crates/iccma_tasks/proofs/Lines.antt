@@ -13,17 +13,7 @@ use Rattle.iccma_tasks.specs.declared.fault.AnswerCause.{AnswerCause}
 use Rattle.iccma_tasks.specs.declared.fault.AnswerCause.TheVariants.{Empty, BadLine, BadNumber, NotRising}
 use Rattle.iccma_tasks.specs.declared.fault.AnswerFault.{AnswerFault}
 use Rattle.iccma_tasks.specs.declared.fault.AnswerFault.TheVariants.{At, Memory}
-use Rattle.iccma_tasks.specs.AnswerText.{
-  IsToldOf,
-  FilledLine,
-  filled_line,
-  filled_of,
-  is_open,
-  ReadsAs,
-  Stands,
-  LineStands,
-  IsFirstAt,
-}
+use Rattle.iccma_tasks.specs.AnswerText.{IsToldOf, FilledLine, filled_line, filled_of, is_open, ReadsAs, Stands, LineStands, IsFirstAt}
 use Rattle.iccma_tasks.specs.AnswerSteps.{FaultsAt, HasRead, GoesOn, is_open_behind}
 use Rattle.iccma_tasks.proofs.Reading.{open_behind, continues_reads, so_far_fine, fine_none, stands_within}
 
@@ -66,7 +56,7 @@ read_start all = record {
   has_read = ap (map (λ line. line.fields)) filled-nil;
 }
 
--- each line has its place's number
+-- each line has its index's number
 abbrev pub AreNumbered : List LineText → Type 0
 AreNumbered all = (k : ℕ) (d : LineText) → k < length all → (slice_index_or all k d).number ≡ k + 1
 
@@ -155,7 +145,7 @@ first_fault front more line before cause read stands =
     sym (map-append (λ l. l.fields) front (line ∷ more)) in
     let here : length lines ≡ length front = length-map front (λ l. l.fields) in
     record {
-      place = length front;
+      index = length front;
       within = omega (arith, length-append front (line ∷ more));
       numbered = λ d. ap (λ l. l.number) (get_or-append_seam front line more d);
       stands = subst (λ ls. Stands ls (length front) cause) parts

@@ -1,32 +1,5 @@
 -- What stands at the lines of an answer that was read, and what may follow.
-use Rattle.std.proofs.Common.{
-  ◌≡◌,
-  ℕ,
-  zero,
-  ◌<◌,
-  ◌==◌,
-  ◌&&◌,
-  ◌||◌,
-  Bool,
-  true,
-  false,
-  List,
-  [],
-  ◌∷◌,
-  ◌++◌,
-  length,
-  get_or,
-  refl,
-  sym,
-  ap,
-  subst,
-  ◌∙◌,
-  inl,
-  inr,
-  arith,
-  length-append,
-  codes,
-}
+use Rattle.std.proofs.Common.{◌≡◌, ℕ, zero, ◌<◌, ◌==◌, ◌&&◌, ◌||◌, Bool, true, false, List, [], ◌∷◌, ◌++◌, length, get_or, refl, sym, ap, subst, ◌∙◌, inl, inr, arith, length-append, codes}
 use Rattle.std.specs.Prelude.{Option, Some, None}
 use Rattle.std.specs.List.Sorted.{IsStrictlyIncreasing}
 use Rattle.std.proofs.lemmas.Bool.{cases_lt, ne_eqb}
@@ -37,34 +10,20 @@ use Rattle.iccma_tasks.specs.declared.answer.Answer.{Answer}
 use Rattle.iccma_tasks.specs.declared.answer.Answer.TheVariants.{Yes, No, Sets}
 use Rattle.iccma_tasks.specs.declared.fault.AnswerCause.{AnswerCause}
 use Rattle.iccma_tasks.specs.declared.fault.AnswerCause.TheVariants.{Empty, BadLine, BadNumber, NotRising}
-use Rattle.iccma_tasks.specs.AnswerText.{
-  IsArgument,
-  AreArguments,
-  AreRisingArguments,
-  IsSetLine,
-  ReadsAsWord,
-  ReadsAsSets,
-  ReadsAs,
-  is_w_line,
-  is_word_line,
-  is_open,
-  behind_first,
-  LineStands,
-  Stands,
-}
+use Rattle.iccma_tasks.specs.AnswerText.{SpellsArgument, AreArguments, AreRisingArguments, IsSetLine, ReadsAsWord, ReadsAsSets, ReadsAs, is_w_line, is_word_line, is_open, behind_first, LineStands, Stands}
 use Rattle.iccma_tasks.specs.AnswerSteps.{HasRead, Continues, is_open_behind}
 
 -- ---- numbers
 
-IsArgument-unique : (field : List ℕ) (m n : ℕ) → IsArgument field m → IsArgument field n → m ≡ n
-IsArgument-unique field m n a b = sym a.number.value ∙ b.number.value
+SpellsArgument-unique : (field : List ℕ) (m n : ℕ) → SpellsArgument field m → SpellsArgument field n → m ≡ n
+SpellsArgument-unique field m n a b = sym a.number.value ∙ b.number.value
 
 -- fields spell one list of numbers
 pub AreArguments-unique : (fields : List (List ℕ)) (ms ns : List ℕ) → AreArguments fields ms
     → AreArguments fields ns
     → ms ≡ ns
 AreArguments-unique fields ms ns a b = same_number_lists ms ns (omega (arith, a.same_length, b.same_length))
-    (λ k h. IsArgument-unique (get_or fields k []) (get_or ms k 0) (get_or ns k 0)
+    (λ k h. SpellsArgument-unique (get_or fields k []) (get_or ms k 0) (get_or ns k 0)
     (a.each k (omega (arith, a.same_length))) (b.each k (omega (arith, a.same_length))))
 
 -- ---- lines without a fault
@@ -80,7 +39,7 @@ good_none fits fields Empty e good stands = stands
 good_none fits fields BadLine e good stands = cc
 good_none fits fields BadNumber e good stands =
     let are = good.rising.arguments in
-    stands.1.bad (get_or good.numbers stands.1.place 0) (are.each stands.1.place stands.1.within)
+    stands.1.bad (get_or good.numbers stands.1.index 0) (are.each stands.1.index stands.1.within)
 good_none fits fields NotRising e good stands =
     stands.1.falls (subst IsStrictlyIncreasing
     (AreArguments-unique _ _ _ good.rising.arguments stands.1.arguments) good.rising.rises)
@@ -101,7 +60,7 @@ word_line_is_good word = record {
   };
 }
 
--- a line that is open at its place and good
+-- a line that is open at its index and good
 pub record IsFine (lines : List (List (List ℕ))) (k : ℕ) : Type 0 where
   pub fits : is_open lines k ≡ true
   pub good : IsGoodLine (get_or lines k [])
@@ -111,7 +70,7 @@ pub fine_none : (lines : List (List (List ℕ))) (k : ℕ) (cause : AnswerCause)
 fine_none lines k cause fine stands = good_none (is_open lines k)
     (get_or lines k []) cause fine.fits fine.good stands
 
--- a set line is open where the place is one of the first two, or the first line is a set line
+-- a set line is open where the index is 0 or 1, or the first line is a set line
 open_w : (lines : List (List (List ℕ))) (k : ℕ) → is_w_line (get_or lines k []) ≡ true
     → (((k == 0) || (k == 1)) || is_w_line (get_or lines 0 [])) ≡ true → is_open lines k ≡ true
 open_w lines k w here = ap (λ b. b && (((k == 0) || (k == 1)) || is_w_line (get_or lines 0 []))
@@ -176,7 +135,7 @@ so_far_fine lines (Some answer) read k h = all_fine lines answer read k h
 
 -- ---- one line more
 
--- what is open at a place depends on the lines up to it alone
+-- what is open at an index depends on the lines up to it alone
 pub open_within : (lines more : List (List (List ℕ))) (k : ℕ) → k < length lines
     → is_open (lines ++ more) k ≡ is_open lines k
 open_within lines more k h =

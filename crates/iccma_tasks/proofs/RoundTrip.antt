@@ -8,41 +8,22 @@ use Rattle.std.proofs.lemmas.Bool.{cond-true, ne_eqb, not_from_false}
 use Rattle.std.proofs.lemmas.List.{append-nil, length-map}
 use Rattle.std.proofs.lemmas.List.Elements.{All-append, All-cons, All-nil, All-head, All-tail}
 use Rattle.std.proofs.lemmas.List.Splits.{slice_split_at, slice_split_none, length-slice_split}
-use Rattle.num_text.specs.Cuts.{
-  is_line_end,
-  is_blank,
-  lines_of,
-  lines_from,
-  line_texts,
-  without_empty_last,
-  placed,
-  numbered,
-  field_texts,
-}
+use Rattle.num_text.specs.Cuts.{is_line_end, is_blank, lines_of, lines_from, line_texts, without_empty_last, placed, numbered, field_texts}
 use Rattle.num_text.specs.Number.{IsDigit}
 use Rattle.num_text.proofs.CutLemmas.{lines_from-nil}
 use Rattle.iccma_tasks.specs.declared.answer.Answer.{Answer}
 use Rattle.iccma_tasks.specs.declared.answer.Answer.TheVariants.{Yes, No, Sets}
-use Rattle.iccma_tasks.specs.AnswerText.{
-  IsArgument,
-  IsSetLine,
-  ReadsAsSets,
-  ReadsAs,
-  filled_fields,
-}
+use Rattle.iccma_tasks.specs.AnswerText.{SpellsArgument, IsSetLine, ReadsAsSets, ReadsAs, filled_fields}
 use Rattle.iccma_tasks.specs.WrittenText.{set_line, text_of, HasArguments, IsWritable, HasRisingSets}
+use Rattle.semantics.specs.Arguments.{IsArgument}
 use Rattle.num_text.specs.Lines.{are_skipped}
 use Rattle.num_text.proofs.Decimals.{decimal_number}
 use Rattle.iccma_tasks.proofs.Lines.{fields_of_filled, filled-told, filled-nil}
 
 -- ---- a number's text
 
-decimal_is_argument : (n : ℕ) → 1 ≤ n → n ≤ 1000000 → IsArgument (decimal n) n
-decimal_is_argument n low high = record {
-  number = decimal_number n (omega arith);
-  low = low;
-  high = high;
-}
+decimal_is_argument : (n : ℕ) → IsArgument n → SpellsArgument (decimal n) n
+decimal_is_argument n is = let high = is.high in record { number = decimal_number n (omega arith); argument = is }
 
 -- ---- bytes that end no field and no line
 
@@ -90,24 +71,24 @@ numbers_fields : (piece : List ℕ) (set : List ℕ) → 0 < length piece → Al
     → HasArguments set → field_texts (piece ++ numbers_text set) ≡ piece ∷ map decimal set
 numbers_fields piece [] some none all = ap field_texts (append-nil piece) ∙ field_texts-one piece some none
 numbers_fields piece (n ∷ ns) some none all =
-    let bounds = All-head (λ m. (1 ≤ m) × (m ≤ 1000000)) n ns all in
-    let high = bounds.1 in
+    let bounds = All-head IsArgument n ns all in
+    let high = bounds.high in
     let is = decimal_number n (omega arith) in
     field_texts-more piece (decimal n ++ numbers_text ns) some none
     ∙ ap (λ fs. piece ∷ fs) (numbers_fields (decimal n) ns is.not_empty
     (weaken_digits (λ b. is_blank b ≡ false) digit_is_no_blank (decimal n) is.digits)
-    (All-tail (λ m. (1 ≤ m) × (m ≤ 1000000)) n ns all))
+    (All-tail IsArgument n ns all))
 
 set_fields : (set : List ℕ) → HasArguments set → field_texts (set_piece set) ≡ codes "w" ∷ map decimal set
 set_fields set all = numbers_fields (codes "w") set (omega arith)
     (All-cons (λ b. is_blank b ≡ false) 119 [] refl (All-nil _)) all
 
 numbers_are : (set : List ℕ) → HasArguments set → (k : ℕ) → k < length set
-    → IsArgument (get_or (map decimal set) k []) (get_or set k 0)
+    → SpellsArgument (get_or (map decimal set) k []) (get_or set k 0)
 numbers_are [] all k h = absurd (omega arith)
 numbers_are (n ∷ ns) all zero h =
-    let bounds = All-head (λ m. (1 ≤ m) × (m ≤ 1000000)) n ns all in decimal_is_argument n bounds.0 bounds.1
-numbers_are (n ∷ ns) all (suc k) h = numbers_are ns (All-tail (λ m. (1 ≤ m) × (m ≤ 1000000)) n ns all) k
+    let bounds = All-head IsArgument n ns all in decimal_is_argument n bounds
+numbers_are (n ∷ ns) all (suc k) h = numbers_are ns (All-tail IsArgument n ns all) k
     (omega arith)
 
 written_set : (set : List ℕ) → HasArguments set → IsStrictlyIncreasing set
@@ -167,13 +148,13 @@ left-more number start piece rest none told =
 numbers_in_line : (set : List ℕ) → HasArguments set → All (λ b. is_line_end b ≡ false) (numbers_text set)
 numbers_in_line [] all = All-nil _
 numbers_in_line (n ∷ ns) all =
-    let bounds = All-head (λ m. (1 ≤ m) × (m ≤ 1000000)) n ns all in
-    let high = bounds.1 in
+    let bounds = All-head IsArgument n ns all in
+    let high = bounds.high in
     let is = decimal_number n (omega arith) in
     All-append (λ b. is_line_end b ≡ false) (32 ∷ decimal n) (numbers_text ns)
     (All-cons (λ b. is_line_end b ≡ false) 32 (decimal n) refl
     (weaken_digits (λ b. is_line_end b ≡ false) digit_is_no_end (decimal n) is.digits))
-    (numbers_in_line ns (All-tail (λ m. (1 ≤ m) × (m ≤ 1000000)) n ns all))
+    (numbers_in_line ns (All-tail IsArgument n ns all))
 
 set_left : (number start : ℕ) (set rest : List ℕ) → HasArguments set
     → left_fields number start (set_piece set ++ 10 ∷ rest)

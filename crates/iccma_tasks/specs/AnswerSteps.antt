@@ -1,22 +1,5 @@
 -- How reading goes on from line to line.
-use Rattle.std.specs.Prelude.{
-  ◌≡◌,
-  ℕ,
-  ◌&&◌,
-  ◌||◌,
-  Bool,
-  true,
-  false,
-  List,
-  [],
-  ◌∷◌,
-  ◌++◌,
-  codes,
-  Option,
-  Some,
-  None,
-  ◌⊎◌,
-}
+use Rattle.std.specs.Prelude.{◌≡◌, ℕ, ◌&&◌, ◌||◌, Bool, true, false, List, [], ◌∷◌, ◌++◌, codes, Option, Some, None, ◌⊎◌}
 use Rattle.iccma_tasks.specs.declared.answer.Answer.{Answer}
 use Rattle.iccma_tasks.specs.declared.answer.Answer.TheVariants.{Yes, No, Sets}
 use Rattle.iccma_tasks.specs.declared.fault.AnswerCause.{AnswerCause}
@@ -24,14 +7,7 @@ use Rattle.iccma_tasks.specs.declared.fault.AnswerCause.TheVariants.{Empty, BadL
 use Rattle.iccma_tasks.specs.declared.fault.AnswerFault.{AnswerFault}
 use Rattle.iccma_tasks.specs.declared.fault.AnswerFault.TheVariants.{At, Memory}
 use Rattle.num_text.specs.Lines.{are_skipped}
-use Rattle.iccma_tasks.specs.AnswerText.{
-  is_word_line,
-  is_w_line,
-  IsSetLine,
-  ReadsAs,
-  HasBadNumber,
-  HasFallingNumbers,
-}
+use Rattle.iccma_tasks.specs.AnswerText.{is_word_line, is_w_line, IsSetLine, ReadsAs, HasBadNumber, HasFallingNumbers}
 
 -- a fault of the line of this number, with a cause of which P holds; or want of memory
 abbrev pub FaultsAt : ℕ → (AnswerCause → Type 0) → AnswerFault → Type 0

@@ -1,32 +1,10 @@
 -- What the text of an answer means, and where it has which fault.
-use Rattle.std.specs.Prelude.{
-  ◌≡◌,
-  ℕ,
-  ◌+◌,
-  ◌<◌,
-  ◌≤◌,
-  ◌&&◌,
-  ◌||◌,
-  ◌==◌,
-  Bool,
-  true,
-  false,
-  List,
-  [],
-  ◌∷◌,
-  length,
-  map,
-  codes,
-  Option,
-  Some,
-  None,
-  slice_index_or,
-  nat_eq,
-}
+use Rattle.std.specs.Prelude.{◌≡◌, ℕ, ◌+◌, ◌<◌, ◌≤◌, ◌&&◌, ◌||◌, ◌==◌, Bool, true, false, List, [], ◌∷◌, length, map, codes, Option, Some, None, slice_index_or, nat_eq}
 use Rattle.std.specs.Cmp.Lexicographic.{pointwise}
 use Rattle.std.specs.List.Sorted.{IsStrictlyIncreasing}
 use Rattle.num_text.specs.Cuts.{LineText, lines_of, field_texts}
 use Rattle.num_text.specs.Lines.{kept}
+use Rattle.semantics.specs.Arguments.{IsArgument}
 use Rattle.num_text.specs.Number.{IsNumber}
 use Rattle.iccma_tasks.specs.declared.answer.Answer.{Answer}
 use Rattle.iccma_tasks.specs.declared.answer.Answer.TheVariants.{Yes, No, Sets}
@@ -55,17 +33,16 @@ filled_lines bytes = filled_of (lines_of bytes)
 abbrev pub filled_fields : List ℕ → List (List (List ℕ))
 filled_fields bytes = map (λ line. line.fields) (filled_lines bytes)
 
--- the field spells n, which is from 1 to 1,000,000
-pub record IsArgument (field : List ℕ) (n : ℕ) : Type 0 where
+-- the field spells n, which is the number of an argument
+pub record SpellsArgument (field : List ℕ) (n : ℕ) : Type 0 where
   pub number : IsNumber field n
-  pub low : 1 ≤ n
-  pub high : n ≤ 1000000
+  pub argument : IsArgument n
 
--- the fields spell these numbers, each from 1 to 1,000,000, in the same order
+-- the fields spell these numbers of arguments, in the same order
 pub record AreArguments (fields : List (List ℕ)) (numbers : List ℕ) : Type 0 where
   pub same_length : length fields ≡ length numbers
   pub each : (k : ℕ) → k < length fields
-      → IsArgument (slice_index_or fields k []) (slice_index_or numbers k 0)
+      → SpellsArgument (slice_index_or fields k []) (slice_index_or numbers k 0)
 
 -- the fields spell these numbers, and the numbers rise
 pub record AreRisingArguments (fields : List (List ℕ)) (set : List ℕ) : Type 0 where
@@ -84,7 +61,7 @@ ReadsAsWord word lines None = lines ≡ (word ∷ []) ∷ []
 ReadsAsWord word lines (Some set) =
     (line : List (List ℕ)) × (lines ≡ (word ∷ []) ∷ line ∷ []) × IsSetLine line set
 
--- one line or more, each the line of the set at its place
+-- one line or more, each the line of the set at its index
 pub record ReadsAsSets (lines : List (List (List ℕ))) (sets : List (List ℕ)) : Type 0 where
   pub some : 0 < length sets
   pub same_length : length lines ≡ length sets
@@ -111,7 +88,7 @@ abbrev pub is_w_line : List (List ℕ) → Bool
 is_w_line [] = false
 is_w_line (first ∷ more) = is_field (codes "w") first
 
--- the line at a place, counted from 0, has a form that is open there: the first line may be a word or
+-- the line at an index has a form that is open there: the first line may be a word or
 -- begin with `w`, the second may begin with `w`, and a later one where the first begins with it
 abbrev pub is_open : List (List (List ℕ)) → ℕ → Bool
 is_open lines k = is_w_line (slice_index_or lines k []) &&
@@ -125,9 +102,9 @@ behind_first (first ∷ more) = more
 
 -- some field is no number from 1 to 1,000,000
 pub record HasBadNumber (fields : List (List ℕ)) : Type 0 where
-  pub place : ℕ
-  pub within : place < length fields
-  pub bad : (n : ℕ) → ¬ IsArgument (slice_index_or fields place []) n
+  pub index : ℕ
+  pub within : index < length fields
+  pub bad : (n : ℕ) → ¬ SpellsArgument (slice_index_or fields index []) n
 
 -- the fields are such numbers, and they don't rise
 pub record HasFallingNumbers (fields : List (List ℕ)) : Type 0 where
@@ -142,17 +119,17 @@ LineStands fits fields BadLine = fits ≡ false
 LineStands fits fields BadNumber = (fits ≡ true) × HasBadNumber (behind_first fields)
 LineStands fits fields NotRising = (fits ≡ true) × HasFallingNumbers (behind_first fields)
 
--- the cause stands at the line of this place
+-- the cause stands at the line of this index
 abbrev pub Stands : List (List (List ℕ)) → ℕ → AnswerCause → Type 0
 Stands lines k cause = LineStands (is_open lines k) (slice_index_or lines k []) cause
 
 -- the cause stands at the line of this number, and at no line before it stands any
 pub record IsFirstAt (lines : List FilledLine) (number : ℕ) (cause : AnswerCause) : Type 0 where
-  pub place : ℕ
-  pub within : place < length lines
-  pub numbered : (d : FilledLine) → (slice_index_or lines place d).number ≡ number
-  pub stands : Stands (map (λ line. line.fields) lines) place cause
-  pub before : (j : ℕ) → j < place → (other : AnswerCause)
+  pub index : ℕ
+  pub within : index < length lines
+  pub numbered : (d : FilledLine) → (slice_index_or lines index d).number ≡ number
+  pub stands : Stands (map (λ line. line.fields) lines) index cause
+  pub before : (j : ℕ) → j < index → (other : AnswerCause)
       → ¬ Stands (map (λ line. line.fields) lines) j other
 
 -- the fault of a text: where all lines are skipped Empty, at the number of lines plus one

@@ -3,6 +3,7 @@ use Rattle.std.specs.Prelude.{ℕ, ◌<◌, ◌≤◌, List, ◌∷◌, ◌++◌
 use Rattle.std.specs.List.{flat_map}
 use Rattle.std.specs.List.Sorted.{IsStrictlyIncreasing}
 use Rattle.std.specs.Fmt.{decimal}
+use Rattle.semantics.specs.Arguments.{IsArgument}
 use Rattle.iccma_tasks.specs.declared.answer.Answer.{Answer}
 use Rattle.iccma_tasks.specs.declared.answer.Answer.TheVariants.{Yes, No, Sets}
 
@@ -21,9 +22,9 @@ text_of (Yes set) = word_text (codes "YES") set
 text_of (No set) = word_text (codes "NO") set
 text_of (Sets sets) = flat_map set_line sets
 
--- each number is from 1 to 1,000,000
+-- each number is an argument's
 abbrev pub HasArguments : List ℕ → Type 0
-HasArguments set = All (λ n. (1 ≤ n) × (n ≤ 1000000)) set
+HasArguments set = All IsArgument set
 
 -- the answers that a text can hold: with one set at least where they are sets, and of arguments alone
 abbrev pub IsWritable : Answer → Type 0

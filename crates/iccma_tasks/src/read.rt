@@ -3,7 +3,7 @@
 ghost use Rattle.std.specs.Prelude.{◌≡◌, ◌↔◌, ◌⊎◌, ℕ, false, ◌∷◌, codes, map, IfOk, IfErr, IfSome};
 ghost use Rattle.std.specs.Prelude.{IfNone, IsTrue};
 ghost use Rattle.std.specs.List.Sorted.{IsStrictlyIncreasing};
-ghost use Rattle.iccma_tasks.specs.AnswerText.{ReadsAs, IsFaultOf, filled_fields, IsToldOf, IsArgument};
+ghost use Rattle.iccma_tasks.specs.AnswerText.{ReadsAs, IsFaultOf, filled_fields, IsToldOf, SpellsArgument};
 ghost use Rattle.iccma_tasks.specs.AnswerText.{AreArguments, AreRisingArguments, LineStands};
 ghost use Rattle.iccma_tasks.specs.AnswerText.{is_w_line, is_word_line};
 ghost use Rattle.num_text.specs.Cuts.{field_texts};
@@ -15,19 +15,17 @@ use crate::answer::Answer;
 use crate::fault::{AnswerCause, AnswerFault};
 use num_text::{Fields, Line, decimal, fields, is_skipped, lines};
 use plain_lists::Items;
+use semantics::is_argument;
 use set_lists::NumSet;
 use std::alloc::Global;
 
-// The greatest number of an argument.
-const LAST_ARGUMENT: u32 = 1_000_000;
-
-// The number from 1 to 1,000,000 that the bytes spell.
+// The number of an argument that the bytes spell.
 fn argument(bytes: &[u8]) -> Option<u32>
-    ensures number { IfSome result (IsArgument bytes.now) }
-    ensures none { IfNone result ((n : ℕ) → ¬ IsArgument bytes.now n) }
+    ensures number { IfSome result (SpellsArgument bytes.now) }
+    ensures none { IfNone result ((n : ℕ) → ¬ SpellsArgument bytes.now n) }
 {
     let number = decimal(bytes)?;
-    if number < 1 || number > LAST_ARGUMENT {
+    if !is_argument(number) {
         return None;
     }
     Some(number)
@@ -37,8 +35,8 @@ fn argument(bytes: &[u8]) -> Option<u32>
 fn rises(numbers: &[u32]) -> bool
     ensures { IsTrue result ↔ IsStrictlyIncreasing numbers.now }
 {
-    for place in 1..numbers.len() {
-        if numbers[place] <= numbers[place - 1] {
+    for index in 1..numbers.len() {
+        if numbers[index] <= numbers[index - 1] {
             return false;
         }
     }

@@ -1,5 +1,7 @@
-pub mod CheckLemmas
+pub mod CheckingLemmas
+pub mod HintCheckLemmas
 pub mod LitOrder
-pub mod Marking
+pub mod TrailLemmas
 pub mod OneOutcome
+pub mod Renaming
 pub mod RowLemmas

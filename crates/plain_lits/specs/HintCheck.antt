@@ -15,7 +15,7 @@ pub record IsNamed {L : Type 0} (steps : List (List L)) (number : ℕ) : Type 0 
   pub within : number ≤ length steps
 
 -- all literals are false
-pub record IsAllFalse {L : Type 0} (neg : L → L) (truths clause : List L) : Type 0 where
+pub record IsFalsified {L : Type 0} (neg : L → L) (truths clause : List L) : Type 0 where
   pub each : (l : L) → Contains clause l → Contains truths (neg l)
 
 -- all literals are false but one, and that one is unset
@@ -29,7 +29,7 @@ pub record IsUnit {L : Type 0} (neg : L → L) (truths clause : List L) (unset :
 pub record IsFalseHint {L : Type 0} (neg : L → L) (steps : List (List L)) (truths : List L)
     (hint : ℕ) : Type 0 where
   pub named : IsNamed steps hint
-  pub all_false : IsAllFalse neg truths (clause_at steps hint)
+  pub all_false : IsFalsified neg truths (clause_at steps hint)
 
 -- a hint names a step whose clause is unit
 pub record IsUnitHint {L : Type 0} (neg : L → L) (steps : List (List L)) (truths : List L) (hint : ℕ)
@@ -46,12 +46,12 @@ pub record IsOtherHint {L : Type 0} (neg : L → L) (steps : List (List L)) (tru
 -- what comes of looking at hints in turn, the first of which has this place: at a false clause the check
 -- succeeds, a unit clause makes its literal true, and every other case is rejected there; where the hints end
 -- without a false clause, the place after the last is rejected
-abbrev pub Looks : {L : Type 0} → (L → L) → List (List L) → List L → ℕ → List ℕ → Result ℕ ℕ → Type 0
-Looks neg steps truths place [] outcome = outcome ≡ Err place
-Looks {L} neg steps truths place (hint ∷ hints) outcome =
+abbrev pub Propagates : {L : Type 0} → (L → L) → List (List L) → List L → ℕ → List ℕ → Result ℕ ℕ → Type 0
+Propagates neg steps truths place [] outcome = outcome ≡ Err place
+Propagates {L} neg steps truths place (hint ∷ hints) outcome =
     (IsFalseHint neg steps truths hint × (outcome ≡ Ok place))
     ⊎ (((unset : L) × IsUnitHint neg steps truths hint unset
-    × Looks neg steps (truths ++ unset ∷ []) (place + 1) hints outcome)
+    × Propagates neg steps (truths ++ unset ∷ []) (place + 1) hints outcome)
     ⊎ (IsOtherHint neg steps truths hint × (outcome ≡ Err place)))
 
 -- a clause holds a literal and its negation
@@ -64,11 +64,11 @@ IsTautology {L} neg clause = (l : L) × Contains clause l × Contains clause (ne
 abbrev pub Checks : {L : Type 0} → (L → L) → List (List L) → List L → List ℕ → Result ℕ ℕ → Type 0
 Checks neg steps clause hints outcome =
     (IsTautology neg clause × (outcome ≡ Err 0))
-    ⊎ ((IsTautology neg clause → ⊥) × Looks neg steps (map neg clause) 1 hints outcome)
+    ⊎ ((IsTautology neg clause → ⊥) × Propagates neg steps (map neg clause) 1 hints outcome)
 
 -- a reading says of each literal whether it is true, and of a literal and its negation it says one of each
-abbrev pub IsReading : {L : Type 0} → (L → L) → (L → Bool) → Type 0
-IsReading {L} neg reading = (l : L) → reading (neg l) ≡ not (reading l)
+abbrev pub IsValuation : {L : Type 0} → (L → L) → (L → Bool) → Type 0
+IsValuation {L} neg reading = (l : L) → reading (neg l) ≡ not (reading l)
 
 -- a clause is true where one of its literals is
 abbrev pub IsTrueClause : {L : Type 0} → (L → Bool) → List L → Type 0
@@ -76,6 +76,6 @@ IsTrueClause {L} reading clause = (l : L) × Contains clause l × (reading l ≡
 
 -- a clause that the check takes is true under each reading that makes the clauses of the hints true
 abbrev pub Follows : {L : Type 0} → (L → L) → List (List L) → List L → List ℕ → Type 0
-Follows {L} neg steps clause hints = (reading : L → Bool) → IsReading neg reading
+Follows {L} neg steps clause hints = (reading : L → Bool) → IsValuation neg reading
     → ((hint : ℕ) → Contains hints hint → IsTrueClause reading (clause_at steps hint))
     → IsTrueClause reading clause

@@ -1,9 +1,11 @@
 pub mod CheckLaws
+pub mod Checking
 pub mod HintCheck
 pub mod Literals
 pub mod Packed
 pub mod PackedInside
 pub mod RowCuts
+pub mod TrailArrays
 pub mod Trails
 pub mod Units
 pub mod Values

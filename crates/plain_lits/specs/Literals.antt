@@ -3,8 +3,8 @@ use Rattle.std.specs.Prelude.{◌≡◌, ℕ, ◌<◌, ◌↔◌, ◌⊎◌, Lis
 use Rattle.plain_lits.specs.declared.lit.Lit.{Lit}
 
 -- the negation of a literal
-abbrev pub opposite : Lit → Lit
-opposite l = record { var = l.var; positive = not l.positive }
+abbrev pub negation : Lit → Lit
+negation l = record { var = l.var; positive = not l.positive }
 
 -- the one comes before the other: by the variable, and of one variable the negation first
 abbrev pub IsLitBefore : Lit → Lit → Type 0

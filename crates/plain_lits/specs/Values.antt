@@ -3,22 +3,22 @@ use Rattle.std.specs.Prelude.{List, Contains, Bool, true, false}
 use Rattle.plain_lits.specs.declared.lit.Lit.{Lit}
 use Rattle.plain_lits.specs.declared.value.Value.{Value}
 use Rattle.plain_lits.specs.declared.value.Value.TheVariants.{True, False, Unset}
-use Rattle.plain_lits.specs.Literals.{opposite}
+use Rattle.plain_lits.specs.Literals.{negation}
 
 -- the value of a variable whose literal of this sign is true
-abbrev pub value_of : Bool → Value
-value_of true = True
-value_of false = False
+abbrev pub from_sign : Bool → Value
+from_sign true = True
+from_sign false = False
 
 -- the value of a variable's literal of this sign
-abbrev pub seen : Value → Bool → Value
-seen Unset positive = Unset
-seen True positive = value_of positive
-seen False true = False
-seen False false = True
+abbrev pub for_sign : Value → Bool → Value
+for_sign Unset positive = Unset
+for_sign True positive = from_sign positive
+for_sign False true = False
+for_sign False false = True
 
 -- the value of a literal where just these literals are true
 abbrev pub IsValueIn : List Lit → Lit → Value → Type 0
-IsValueIn lits l True = Contains lits l × ¬ Contains lits (opposite l)
-IsValueIn lits l False = Contains lits (opposite l) × ¬ Contains lits l
-IsValueIn lits l Unset = ¬ Contains lits l × ¬ Contains lits (opposite l)
+IsValueIn lits l True = Contains lits l × ¬ Contains lits (negation l)
+IsValueIn lits l False = Contains lits (negation l) × ¬ Contains lits l
+IsValueIn lits l Unset = ¬ Contains lits l × ¬ Contains lits (negation l)

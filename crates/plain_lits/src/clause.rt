@@ -1,7 +1,7 @@
-//! A clause: a list of literals, of which one has to be true.
+//! A clause: literals of which one has to be true.
 
-ghost use Rattle.std.specs.Prelude.{◌≡◌, ◌↔◌, ◌<◌, [], ◌∷◌, ◌++◌, length, IsTrue, IfOk, OnOk, OnErr};
-ghost use Rattle.plain_lits.specs.Literals.{IsClauseOf};
+ghost use Rattle.std.specs.Prelude.{◌≡◌, ◌↔◌, ◌<◌, [], ◌∷◌, ◌++◌, length, IsTrue, IfOk};
+ghost use Rattle.plain_lits.specs.Literals.{LitsRise, IsClauseOf};
 
 use crate::lit::Lit;
 use plain_lists::Memory;
@@ -9,8 +9,8 @@ use smallvec::SmallVec;
 use std::alloc::Global;
 use std::marker::Model;
 
-/// The literals of a clause, in order. Four of them take no allocation. It keeps the allocator that it was
-/// made with.
+/// The literals of a clause in rising order, each once, so that clauses with the same literals are equal. Four of
+/// them take no allocation. It keeps the allocator that it was made with.
 #[derive(Debug, Drop)]
 pub struct Clause {
     lits: SmallVec<Lit, 4>,
@@ -19,10 +19,13 @@ pub struct Clause {
 impl Model for Clause {
     ghost use Rattle.std.specs.Prelude.{List};
     ghost use Rattle.plain_lits.specs.declared.lit.Lit.{Lit};
+    ghost use Rattle.plain_lits.specs.Literals.{LitsRise};
 
     ghost Value = { List Lit };
 
     ghost view = { λ c. c.lits.items };
+
+    ghost invariant = { λ c. LitsRise c.lits.items };
 }
 
 impl Clause {
@@ -35,42 +38,28 @@ impl Clause {
         }
     }
 
-    /// The clause of just these literals, in this order.
+    /// The clause that has these literals, in any order and with any repeats.
     pub fn from_slice(alloc: Global, lits: &[Lit]) -> Result<Clause, Memory>
-        ensures { IfOk result (λ c. c ≡ lits.now) }
-    {
-        let lits = SmallVec::from_slice(alloc, lits)?;
-        Ok(Clause { lits })
-    }
-
-    /// The clause that has these literals, each once, in rising order.
-    pub fn of_lits(alloc: Global, lits: &[Lit]) -> Result<Clause, Memory>
         ensures { IfOk result (IsClauseOf lits.now) }
     {
         let mut sorted = Vec::from_slice(alloc, lits)?;
         put_in_order(&mut sorted);
-        Clause::from_slice(alloc, sorted.as_slice())
-    }
-
-    /// Adds a literal at the end. After `Memory` the clause is as before.
-    pub fn push(&mut self, lit: Lit) -> Result<(), Memory>
-        ensures ok { OnOk result (self.new ≡ self.old ++ lit ∷ []) }
-        ensures err { OnErr result (self.new ≡ self.old) }
-    {
-        self.lits.push(lit)?;
-        Ok(())
+        let lits = SmallVec::from_slice(alloc, sorted.as_slice())?;
+        Ok(Clause { lits })
     }
 
     /// The same clause again.
     pub fn copy(&self, alloc: Global) -> Result<Clause, Memory>
         ensures { IfOk result (λ c. c ≡ self.now) }
     {
-        Clause::from_slice(alloc, self.lits.as_slice())
+        let lits = SmallVec::from_slice(alloc, self.lits.as_slice())?;
+        Ok(Clause { lits })
     }
 
     /// The number of literals.
     pub fn len(&self) -> usize
-        ensures { result ≡ length self.now }
+        ensures length { result ≡ length self.now }
+        ensures rises { LitsRise self.now }
     {
         self.lits.len()
     }
@@ -84,13 +73,14 @@ impl Clause {
 
     /// The literals as a slice.
     pub fn as_slice(&self) -> &[Lit]
-        ensures { result.now ≡ self.now }
+        ensures lits { result.now ≡ self.now }
+        ensures rises { LitsRise self.now }
     {
         self.lits.as_slice()
     }
 }
 
-/// Sorts literals and drops repetitions.
+/// Sorts literals and drops repeats.
 fn put_in_order(lits: &mut Vec<Lit>)
     ensures { IsClauseOf lits.old.items lits.new.items }
 {

@@ -1,12 +1,13 @@
 //! Literals, clauses and assignments over plain variables, numbers of log steps, and the budget of units.
 #![tactic(auto)]
 
+mod assignment;
 pub mod budget;
+pub mod check;
 pub mod clause;
 pub mod halt;
 pub mod laws;
 pub mod lit;
-mod marks;
 pub mod packed_lit;
 pub mod rows;
 pub mod step_id;

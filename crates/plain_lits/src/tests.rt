@@ -1,6 +1,10 @@
 use crate::laws::taken_clauses_follow;
 use crate::{Budget, Clause, Halt, Lit, PackedLit, Rows, StepId, Trail, Value};
 use plain_lists::Memory;
+use std::alloc::Global;
+use std::cmp::Ordering;
+use std::collections::HashSet;
+use std::hash::Hash;
 use std::test::Fail;
 
 fn lit(var: usize, positive: bool) -> Lit {
@@ -18,7 +22,7 @@ fn clauses_and_literals(rt: HostRuntime) -> Result<(), Fail> {
         lit(0, false),
         lit(5, true),
     ];
-    let clause = Clause::of_lits(alloc, &given)?;
+    let clause = Clause::from_slice(alloc, &given)?;
     let sorted = [
         lit(0, false),
         lit(1, true),
@@ -29,17 +33,27 @@ fn clauses_and_literals(rt: HostRuntime) -> Result<(), Fail> {
     assert_eq!(rt; clause.as_slice(), sorted.as_slice());
     assert_eq!(rt; clause.len(), 5);
     assert_eq!(rt; clause.copy(alloc)?.as_slice(), sorted.as_slice());
-    let mut learned = Clause::from_slice(alloc, &[lit(3, true)])?;
-    learned.push(lit(1, false))?;
-    assert_eq!(rt;
-        learned.as_slice(),
-        [lit(3, true), lit(1, false)].as_slice()
-    );
     assert!(rt; Clause::new(alloc).is_empty());
-    assert!(rt; !learned.is_empty());
-    assert_eq!(rt; lit(4, true).opposite(), lit(4, false));
+    assert!(rt; !clause.is_empty());
+    assert_eq!(rt; !lit(4, true), lit(4, false));
     assert_eq!(rt; Lit::default(), lit(0, false));
     assert!(rt; lit(4, true) < lit(5, false));
+    Ok(())
+}
+
+/// Whether two values are one, by each of the bounds that keep values apart.
+fn are_one<T: Ord + Hash + Copy>(alloc: Global, a: T, b: T) -> Result<bool, Memory> {
+    let mut found = HashSet::new(alloc);
+    let _ = found.insert(a)?;
+    Ok(a == b && a.cmp(&b) == Ordering::Equal && found.contains(&b))
+}
+
+#[test]
+fn literals_by_value(rt: HostRuntime) -> Result<(), Fail> {
+    let alloc = rt.alloc();
+    assert!(rt; are_one(alloc, lit(3, true), lit(3, true))?);
+    assert!(rt; !are_one(alloc, lit(3, true), lit(3, false))?);
+    assert!(rt; !are_one(alloc, lit(3, true), lit(4, true))?);
     Ok(())
 }
 
@@ -88,6 +102,7 @@ fn trail_there_and_back(rt: HostRuntime) -> Result<(), Fail> {
         [lit(2, false), lit(0, true), lit(3, true)].as_slice()
     );
     assert_eq!(rt; trail.level(), 2);
+    assert_eq!(rt; trail.len(), 3);
     assert_eq!(rt; trail.starts(), [1, 1].as_slice());
     trail.back_to(1);
     assert_eq!(rt; trail.lits(), [lit(2, false)].as_slice());
@@ -100,11 +115,13 @@ fn trail_there_and_back(rt: HostRuntime) -> Result<(), Fail> {
 #[test]
 fn rows_in_one_list(rt: HostRuntime) -> Result<(), Fail> {
     taken_clauses_follow::<Lit>();
-    let packed = PackedLit::pack(Lit {
-        var: 2,
-        positive: false,
-    });
-    assert_eq!(rt; packed.lit(), lit(2, false));
+    let last = Lit {
+        var: PackedLit::VARS - 1,
+        positive: true,
+    };
+    let packed = PackedLit::pack(last);
+    assert_eq!(rt; packed.lit(), last);
+    assert_eq!(rt; packed.code(), 4_294_967_295);
     let mut rows = Rows::new(rt.alloc());
     rows.push(&[1u32, 2])?;
     rows.push(&[])?;

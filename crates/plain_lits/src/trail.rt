@@ -3,39 +3,39 @@
 ghost use Rattle.std.specs.Prelude.{◌≡◌, ◌<◌, [], ◌∷◌, ◌++◌, length, take, max, Contains, OnOk, OnErr};
 ghost use Rattle.std.specs.Prelude.{slice_get};
 ghost use Rattle.plain_lits.specs.Values.{IsValueIn};
-ghost use Rattle.plain_lits.specs.Trails.{IsAssignment, level_start};
+ghost use Rattle.plain_lits.specs.Trails.{IsTrailState, level_start};
 
+use crate::assignment::Assignment;
 use crate::lit::Lit;
-use crate::marks::Marks;
 use crate::value::Value;
 use plain_lists::Memory;
 use std::alloc::Global;
 use std::marker::Model;
 
 /// The literals that are true, in the order in which they came, and the levels that they came at. A
-/// literal's value and its place take constant time, and so does each literal that is taken back. Room is
+/// literal's value and its position take constant time, and so does each literal that is taken back. Room is
 /// made for variables beforehand; then `push` and `decide` take no memory. What goes along with the literals,
-/// as the reason for each, can be kept in a list beside it, by their places.
+/// as the reason for each, can be kept in a list beside it, by their positions.
 #[derive(Debug, Drop)]
 pub struct Trail {
-    marks: Marks,
+    assignment: Assignment,
     starts: Vec<usize>,
 }
 
 impl Model for Trail {
     ghost use Rattle.std.specs.Prelude.{length, vec_capacity};
-    ghost use Rattle.plain_lits.specs.Trails.{Assignment, IsTrail};
+    ghost use Rattle.plain_lits.specs.Trails.{TrailState};
+    ghost use Rattle.plain_lits.specs.TrailArrays.{IsTrail};
 
-    ghost Value = { Assignment };
+    ghost Value = { TrailState };
 
     ghost view = { λ t. record {
-      lits = t.marks.order.items;
+      lits = t.assignment.lits;
       starts = t.starts.items;
-      vars = length t.marks.values.items;
+      vars = t.assignment.vars;
     } };
 
-    ghost invariant = { λ t. IsTrail t.marks.order.items t.marks.values.items t.marks.places.items
-        t.starts.items (vec_capacity t.marks.order) (vec_capacity t.starts) };
+    ghost invariant = { λ t. IsTrail t.starts.items (length t.assignment.lits) t.assignment.vars (vec_capacity t.starts) };
 }
 
 impl Trail {
@@ -46,7 +46,7 @@ impl Trail {
         ensures vars { result.vars ≡ 0 }
     {
         Trail {
-            marks: Marks::new(alloc),
+            assignment: Assignment::new(alloc),
             starts: Vec::new(alloc),
         }
     }
@@ -59,55 +59,66 @@ impl Trail {
         ensures err { OnErr result (self.new.vars ≡ self.old.vars) }
     {
         self.starts.reserve(vars)?;
-        self.marks.make_room(vars)?;
+        self.assignment.make_room(vars)?;
         Ok(())
     }
 
     /// The number below which each variable has room.
     pub fn vars(&self) -> usize
         ensures vars { result ≡ self.now.vars }
-        ensures form { IsAssignment self.now }
+        ensures form { IsTrailState self.now }
     {
-        self.marks.values.len()
+        self.assignment.vars()
     }
 
     /// The value of a literal.
     pub fn value(&self, lit: Lit) -> Value
         ensures value { IsValueIn self.now.lits lit result }
-        ensures form { IsAssignment self.now }
+        ensures form { IsTrailState self.now }
     {
-        self.marks.value(lit)
+        self.assignment.value(lit)
     }
 
     /// The true literals, in the order in which they came.
     pub fn lits(&self) -> &[Lit]
-        ensures value { result.now ≡ self.now.lits }
-        ensures form { IsAssignment self.now }
+        ensures lits { result.now ≡ self.now.lits }
+        ensures form { IsTrailState self.now }
     {
-        self.marks.order.as_slice()
+        self.assignment.lits()
     }
 
-    /// Where a true literal stands among them.
-    pub fn place(&self, lit: Lit) -> usize
-        requires { Contains self.now.lits lit }
-        ensures { slice_get self.now.lits result ≡ Some lit }
+    /// The number of true literals.
+    pub fn len(&self) -> usize
+        ensures length { result ≡ length self.now.lits }
+        ensures form { IsTrailState self.now }
     {
-        self.marks.place(lit)
+        self.assignment.lits().len()
+    }
+
+    /// The index of a true literal among them.
+    pub fn position(&self, lit: Lit) -> usize
+        requires { Contains self.now.lits lit }
+        ensures position { slice_get self.now.lits result ≡ Some lit }
+        ensures form { IsTrailState self.now }
+    {
+        self.assignment.position(lit)
     }
 
     /// The present level, which is 0 before the first begins.
     pub fn level(&self) -> usize
-        ensures value { result ≡ length self.now.starts }
-        ensures form { IsAssignment self.now }
+        ensures level { result ≡ length self.now.starts }
+        ensures form { IsTrailState self.now }
     {
+        let _count = self.assignment.vars();
         self.starts.len()
     }
 
     /// For each level from 1 on, how many literals had come before it.
     pub fn starts(&self) -> &[usize]
-        ensures value { result.now ≡ self.now.starts }
-        ensures form { IsAssignment self.now }
+        ensures starts { result.now ≡ self.now.starts }
+        ensures form { IsTrailState self.now }
     {
+        let _count = self.assignment.vars();
         self.starts.as_slice()
     }
 
@@ -119,7 +130,7 @@ impl Trail {
         ensures starts { self.new.starts ≡ self.old.starts }
         ensures vars { self.new.vars ≡ self.old.vars }
     {
-        self.marks.push(lit);
+        self.assignment.push(lit);
     }
 
     /// Begins a level with a literal, whose variable has room and no value.
@@ -130,8 +141,8 @@ impl Trail {
         ensures starts { self.new.starts ≡ self.old.starts ++ length self.old.lits ∷ [] }
         ensures vars { self.new.vars ≡ self.old.vars }
     {
-        let count = self.marks.order.len();
-        self.marks.push(lit);
+        let count = self.assignment.lits().len();
+        self.assignment.push(lit);
         let _ = self.starts.push(count);
     }
 
@@ -142,9 +153,9 @@ impl Trail {
         ensures ok { OnOk result (self.new.starts ≡ self.old.starts ++ length self.old.lits ∷ []) }
         ensures err { OnErr result (self.new.starts ≡ self.old.starts) }
     {
-        let more = self.marks.values.len() + 1;
+        let more = self.assignment.vars() + 1;
         self.starts.reserve(more)?;
-        let count = self.marks.order.len();
+        let count = self.assignment.lits().len();
         self.starts.push(count)?;
         Ok(())
     }
@@ -155,7 +166,7 @@ impl Trail {
         ensures starts { self.new.starts ≡ [] }
         ensures vars { self.new.vars ≡ self.old.vars }
     {
-        self.marks.keep(0);
+        self.assignment.keep(0);
         self.starts.truncate(0);
     }
 
@@ -170,7 +181,7 @@ impl Trail {
             return;
         }
         let count = starts[level];
-        self.marks.keep(count);
+        self.assignment.keep(count);
         self.starts.truncate(level);
     }
 }

@@ -1,7 +1,7 @@
 //! The value of a literal under an assignment.
 
 ghost use Rattle.std.specs.Prelude.{◌≡◌};
-ghost use Rattle.plain_lits.specs.Values.{seen, value_of};
+ghost use Rattle.plain_lits.specs.Values.{for_sign, from_sign};
 
 /// True, false, or no value yet.
 #[derive(Clone, Copy, Debug, PartialEq, Eq)]
@@ -13,15 +13,15 @@ pub enum Value {
 
 impl Value {
     /// The value of a variable whose literal of this sign is true.
-    pub fn of_sign(positive: bool) -> Value
-        ensures { result ≡ value_of positive }
+    pub fn from_sign(positive: bool) -> Value
+        ensures { result ≡ from_sign positive }
     {
         if positive { Value::True } else { Value::False }
     }
 
     /// The value of a variable's literal of this sign, where the variable has the value.
-    pub fn seen(self, positive: bool) -> Value
-        ensures { result ≡ seen self positive }
+    pub fn for_sign(self, positive: bool) -> Value
+        ensures { result ≡ for_sign self positive }
     {
         match (self, positive) {
             (Value::Unset, _) => Value::Unset,

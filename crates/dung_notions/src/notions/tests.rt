@@ -1,130 +1,89 @@
-//! The four tests of a set on small frameworks, and whether a framework is solid.
+//! The grounded set and the four tests of a set against a slow program that decides each notion from its words,
+//! on every framework of three arguments; and whether a framework is solid.
 
 use crate::AfPlain;
+use plain_lists::Memory;
+use semantics::{AfLists, Notion, decide};
 use set_lists::NumSet;
 use std::alloc::Global;
 use std::process::Abort;
 use std::test::Fail;
 
-/// A set, and whether it is conflict-free, admissible, complete and stable.
-#[derive(Drop)]
-struct Row<'a> {
-    set: &'a [u32],
-    wanted: [bool; 4],
+/// The arguments of each framework.
+const LIVE: &[u32] = &[1, 2, 3];
+
+/// The numbers from 1 to 4 whose bit is set, 1 being the lowest. The last of them is no argument.
+fn set_of(alloc: Global, bits: u32) -> Result<NumSet, Memory> {
+    let mut members = Vec::new(alloc);
+    for number in 1..5u32 {
+        if bits >> (number - 1) & 1 == 1 {
+            members.push(number)?;
+        }
+    }
+    NumSet::from_slice(alloc, &members)
 }
 
-/// Asserts what the tests say of each set.
-fn assert_rows(
+/// The attacks between three arguments whose bit is set.
+fn attacks_of(alloc: Global, bits: u32) -> Result<Vec<(u32, u32)>, Memory> {
+    let mut attacks = Vec::new(alloc);
+    for index in 0..9u32 {
+        if bits >> index & 1 == 1 {
+            attacks.push((index / 3 + 1, index % 3 + 1))?;
+        }
+    }
+    Ok(attacks)
+}
+
+/// Asserts that the four tests say of a set what the slow program says.
+fn compare_set(
     rt: &impl Abort,
     alloc: Global,
-    framework: &AfPlain,
-    rows: &[Row],
+    plain: &AfPlain,
+    lists: &AfLists<'_>,
+    set: &NumSet,
 ) -> Result<(), Fail> {
-    for (index, row) in rows.iter().enumerate() {
-        let set = NumSet::from_slice(alloc, row.set)?;
-        let wanted = row.wanted;
+    let found = [
+        (Notion::ConflictFree, plain.is_conflict_free(set)),
+        (Notion::Admissible, plain.is_admissible(set)),
+        (Notion::Complete, plain.is_complete(set)),
+        (Notion::Stable, plain.is_stable(set)),
+    ];
+    for (notion, meets) in found {
+        let wanted = decide(alloc, lists, set.as_slice(), notion)?;
         assert_eq!(rt;
-            framework.is_conflict_free(&set),
-            wanted[0],
-            "conflict-free, row {index}"
+            meets,
+            wanted,
+            "{notion:?} of {set:?} under {:?}",
+            lists.attacks
         );
-        assert_eq!(rt;
-            framework.is_admissible(&set),
-            wanted[1],
-            "admissible, row {index}"
-        );
-        assert_eq!(rt;
-            framework.is_complete(&set),
-            wanted[2],
-            "complete, row {index}"
-        );
-        assert_eq!(rt; framework.is_stable(&set), wanted[3], "stable, row {index}");
+    }
+    Ok(())
+}
+
+/// Asserts the same of each set, and that the grounded set is one.
+fn compare(rt: &impl Abort, alloc: Global, attacks: &[(u32, u32)]) -> Result<(), Fail> {
+    let plain = AfPlain::of_lists(alloc, LIVE, attacks)?;
+    let lists = AfLists {
+        live: LIVE,
+        attacks,
+    };
+    let grounded = plain.grounded(alloc)?;
+    let meets = decide(alloc, &lists, grounded.set.as_slice(), Notion::Grounded)?;
+    assert!(rt; meets, "grounded under {attacks:?}");
+    for bits in 0..16 {
+        let set = set_of(alloc, bits)?;
+        compare_set(rt, alloc, &plain, &lists, &set)?;
     }
     Ok(())
 }
 
 #[test]
-fn two_that_attack_each_other(rt: HostRuntime) -> Result<(), Fail> {
-    let framework = AfPlain::of_lists(rt.alloc(), &[1, 2, 3], &[(1, 2), (2, 1), (2, 3)])?;
-    let rows = [
-        Row {
-            set: &[],
-            wanted: [true, true, true, false],
-        },
-        Row {
-            set: &[1],
-            wanted: [true, true, false, false],
-        },
-        Row {
-            set: &[2],
-            wanted: [true, true, true, true],
-        },
-        Row {
-            set: &[3],
-            wanted: [true, false, false, false],
-        },
-        Row {
-            set: &[1, 2],
-            wanted: [false, false, false, false],
-        },
-        Row {
-            set: &[1, 3],
-            wanted: [true, true, true, true],
-        },
-        Row {
-            set: &[2, 3],
-            wanted: [false, false, false, false],
-        },
-        Row {
-            set: &[1, 2, 3],
-            wanted: [false, false, false, false],
-        },
-        Row {
-            set: &[4],
-            wanted: [false, false, false, false],
-        },
-    ];
-    assert_rows(&rt, rt.alloc(), &framework, &rows)
-}
-
-#[test]
-fn one_that_attacks_itself(rt: HostRuntime) -> Result<(), Fail> {
-    let framework = AfPlain::of_lists(rt.alloc(), &[1, 2], &[(1, 1), (1, 2), (2, 1)])?;
-    let rows = [
-        Row {
-            set: &[],
-            wanted: [true, true, true, false],
-        },
-        Row {
-            set: &[1],
-            wanted: [false, false, false, false],
-        },
-        Row {
-            set: &[2],
-            wanted: [true, true, true, true],
-        },
-        Row {
-            set: &[1, 2],
-            wanted: [false, false, false, false],
-        },
-    ];
-    assert_rows(&rt, rt.alloc(), &framework, &rows)
-}
-
-#[test]
-fn no_arguments(rt: HostRuntime) -> Result<(), Fail> {
-    let framework = AfPlain::of_lists(rt.alloc(), &[], &[])?;
-    let rows = [
-        Row {
-            set: &[],
-            wanted: [true, true, true, true],
-        },
-        Row {
-            set: &[1],
-            wanted: [false, false, false, false],
-        },
-    ];
-    assert_rows(&rt, rt.alloc(), &framework, &rows)
+fn every_framework_of_three_arguments(rt: HostRuntime) -> Result<(), Fail> {
+    for bits in 0..512 {
+        let attacks = attacks_of(rt.alloc(), bits)?;
+        compare(&rt, rt.alloc(), &attacks)?;
+    }
+    Ok(())
 }
 
 #[test]

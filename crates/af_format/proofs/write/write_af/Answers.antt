@@ -7,10 +7,10 @@ pub returns-clause-back : goal.returns-clause-back
 returns-clause-back c = λ few.
     subst (λ text. ReadsAs text c.args.framework.now)
     (sym (c.from_vec.ensures ∙ ap (λ v. v.items) c.into_bytes.ensures.value ∙ c.in_ok-text.ensures.text))
-    (reads_back c.args.framework.now c.text_of.ensures.form c.requires few)
+    (reads_back c.args.framework.now c.text_of.ensures.form.form c.requires few)
 
 pub returns-clause-within : goal.returns-clause-within
 returns-clause-within c = λ few.
     subst (λ text. length text ≤ 268435456)
     (sym (c.from_vec.ensures ∙ ap (λ v. v.items) c.into_bytes.ensures.value ∙ c.in_ok-text.ensures.text))
-    (text_within c.args.framework.now c.text_of.ensures.form c.requires few)
+    (text_within c.args.framework.now c.text_of.ensures.form.form c.requires few)

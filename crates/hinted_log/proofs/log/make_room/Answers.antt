@@ -1,7 +1,7 @@
 use Rattle.std.proofs.Common.{◌<◌, ◌^◌, ◌∙◌, arith, false}
 use Rattle.std.proofs.lemmas.List.{take_all}
 use Rattle.plain_lits.specs.declared.lit.Lit.{Lit}
-use Rattle.hinted_log.proofs.Checks.{front_all}
+use Rattle.plain_lits.proofs.CheckingLemmas.{front_all}
 use Rattle.hinted_log.proofs.log.make_room.Goals as goal
 
 abbrev blank : Lit
@@ -22,7 +22,7 @@ loop-lit-preserved c = record {
   room = front_all (λ l. l.var < c.make_room.new.self.vars) c.args.clause.now c.loop-lit.lit-index blank c.loop-lit-test.true
       (λ l h. let lt = c.loop-lit.invariant.room l h in omega (arith, c.in_ok-make_room.ensures.ok))
       (omega (arith, c.in_ok-make_room.ensures.ok));
-  packable = front_all (λ l. l.var < 2 ^ 63) c.args.clause.now c.loop-lit.lit-index blank c.loop-lit-test.true
+  packable = front_all (λ l. l.var < 2 ^ 31) c.args.clause.now c.loop-lit.lit-index blank c.loop-lit-test.true
       c.loop-lit.invariant.packable (omega arith);
   more = omega (arith, c.in_ok-make_room.ensures.ok, c.loop-lit.invariant.more);
   lits = c.make_room.ensures.lits ∙ c.loop-lit.invariant.lits;

@@ -1,5 +1,5 @@
 use Rattle.std.proofs.Common.{◌≡◌, ◌≤◌, take}
-use Rattle.hinted_log.specs.Checking.{HasRoomFor, IsPackable}
+use Rattle.plain_lits.specs.Checking.{HasRoomFor, IsPackable}
 use Rattle.hinted_log.proofs.log.make_room.Given as goal
 
 abbrev pub invariant-loop-lit : goal.invariant-loop-lit

@@ -1,6 +1,6 @@
 use Rattle.std.proofs.Common.{false}
 use Rattle.plain_lits.specs.declared.lit.Lit.{Lit}
-use Rattle.hinted_log.proofs.Checks.{item_read, item_member}
+use Rattle.plain_lits.proofs.CheckingLemmas.{item_read, item_member}
 use Rattle.hinted_log.proofs.log.pack_into.Goals as goal
 
 abbrev blank : Lit

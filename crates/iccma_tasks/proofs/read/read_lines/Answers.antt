@@ -1,15 +1,7 @@
 use Rattle.std.proofs.Common.{sym, ◌∙◌, subst, arith}
 use Rattle.std.specs.Prelude.{None}
 use Rattle.num_text.specs.Cuts.{lines_of}
-use Rattle.iccma_tasks.proofs.Lines.{
-  ReadTo,
-  AreNumbered,
-  read_start,
-  read_next,
-  read_told,
-  read_nothing,
-  counted-le,
-}
+use Rattle.iccma_tasks.proofs.Lines.{ReadTo, AreNumbered, read_start, read_next, read_told, read_nothing, counted-le}
 use Rattle.iccma_tasks.proofs.read.read_lines.Goals as goal
 
 pub loop-line-init : goal.loop-line-init

@@ -2,4 +2,4 @@ use Rattle.plain_lits.proofs.OneOutcome.{one_outcome}
 use Rattle.plain_lits.proofs.laws.check_has_one_outcome.Goals as goal
 
 pub returns : goal.returns
-returns c = one_outcome
+returns g c = one_outcome

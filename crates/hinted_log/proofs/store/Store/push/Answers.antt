@@ -1,5 +1,5 @@
 use Rattle.std.proofs.Common.{arith}
-use Rattle.plain_lits.proofs.Marking.{pushed_in_room}
+use Rattle.plain_lits.proofs.TrailLemmas.{pushed_in_room}
 use Rattle.hinted_log.proofs.Parts.{pushed_step, given_ok}
 use Rattle.hinted_log.proofs.store.Store.push.Goals as goal
 

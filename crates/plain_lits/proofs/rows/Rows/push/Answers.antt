@@ -1,5 +1,5 @@
 use Rattle.std.proofs.Common.{arith}
-use Rattle.plain_lits.proofs.Marking.{pushed_in_room}
+use Rattle.plain_lits.proofs.TrailLemmas.{pushed_in_room}
 use Rattle.plain_lits.proofs.RowLemmas.{pushed_rows, pushed_ends}
 use Rattle.plain_lits.proofs.rows.Rows.push.Goals as goal
 

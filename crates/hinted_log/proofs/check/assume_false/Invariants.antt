@@ -1,9 +1,0 @@
-use Rattle.std.proofs.Common.{◌≡◌, take}
-use Rattle.hinted_log.specs.Checking.{AssumesFalse}
-use Rattle.hinted_log.proofs.check.assume_false.Given as goal
-
-abbrev pub invariant-loop-lit : goal.invariant-loop-lit
-invariant-loop-lit l = record {
-  so_far : AssumesFalse (take l.lit-index l.clause) l.trail.lits;
-  vars : l.trail.vars ≡ l.initial.trail.vars;
-}
