@@ -6,7 +6,7 @@ use Rattle.std.proofs.lemmas.Bool.{cond_both}
 use Rattle.std.proofs.lemmas.List.Elements.{All-from_recursion}
 use Rattle.meaning_atoms.specs.declared.atom.Atom.TheVariants.{Gap}
 use Rattle.meaning_atoms.specs.declared.axiom.AfAxiom.{AfAxiom}
-use Rattle.meaning_atoms.specs.declared.axiom.AfAxiom.TheVariants.{A1, A2, A3, A4, A5, A6, A7, A8, A9, A10, A14}
+use Rattle.meaning_atoms.specs.declared.axiom.AfAxiom.TheVariants.{A1, A2, A3, A4, A5, A6, A7, A8, A9, A10, A11, A12, A13, A14}
 use Rattle.semantics.specs.Arguments.{IsArgument}
 use Rattle.meaning_atoms.specs.Atoms.{IsPlace, IsAtom, IsLit}
 use Rattle.meaning_atoms.specs.Axioms.{IsStretch, IsAfAxiom}
@@ -59,6 +59,9 @@ fits (A8 a i j) h =
     ((s.argument, stretch_begin a i j s), (stretch_gap a i j s, (hit, (past, tt))))
 fits (A9 a i) h = (h, ((h.0, h.1, last_place, h.1.high), tt))
 fits (A10 a) h = (tt, (h, (h, ((h, first_place), tt))))
+fits (A11 a) h = (h, (h, ((h, first_place), tt)))
+fits (A12 a) h = (h, (h, tt))
+fits (A13 a) h = ((h, first_place), (h, tt))
 fits (A14 part) h = notions_fit part
 
 pub rows_fit : (name : AfAxiom) → IsAfAxiom name → All IsLit (table_clause name)

@@ -1,11 +1,11 @@
 -- Each row of the table of axioms is true in every world.
-use Rattle.std.proofs.Common.{◌≤◌, ◌<◌, ◌+◌, ◌==◌, ℕ, List, [], ◌∷◌, arith, subst, sym, ⊎_elim}
+use Rattle.std.proofs.Common.{◌≤◌, ◌<◌, ◌+◌, ◌==◌, ℕ, List, [], ◌∷◌, arith, subst, sym, inl, inr, ⊎_elim}
 use Rattle.std.specs.Prelude.{Contains}
 use Rattle.std.proofs.lemmas.Bool.{cases_eq, cases_lt, cond_both}
-use Rattle.meaning_atoms.specs.declared.atom.Atom.TheVariants.{Member, Live, Attack, Gap, Tail, Unmet}
+use Rattle.meaning_atoms.specs.declared.atom.Atom.TheVariants.{Member, Live, Attack, Gap, Tail, Unmet, Range}
 use Rattle.meaning_atoms.specs.declared.atom.Atom.TheVariants.{Cf, Ad, Co, St}
 use Rattle.meaning_atoms.specs.declared.axiom.AfAxiom.{AfAxiom}
-use Rattle.meaning_atoms.specs.declared.axiom.AfAxiom.TheVariants.{A1, A2, A3, A4, A5, A6, A7, A8, A9, A10, A14}
+use Rattle.meaning_atoms.specs.declared.axiom.AfAxiom.TheVariants.{A1, A2, A3, A4, A5, A6, A7, A8, A9, A10, A11, A12, A13, A14}
 use Rattle.semantics.specs.Framework.{Af, Attacks, IsAttackedBy, Defends}
 use Rattle.semantics.specs.Frameworks.{Framework, af}
 use Rattle.meaning_atoms.specs.declared.atom.AtomLit.{AtomLit}
@@ -122,6 +122,22 @@ outsiders_are_attacked a f s ok sides =
     given w sides St _ (λ st. given w sides (Live a) _ (λ live. or_else w sides (Member a) _ (λ out.
     so w sides (Tail a 1) [] (tail_from f s ok a (st.attacks_outside a live out)))))
 
+range_is_told : (a : ℕ) → IsValidOfAf (table_clause (A11 a))
+range_is_told a f s ok sides =
+    let w = world_of (af f) s in
+    given w sides (Range a) _ (λ range. or_else w sides (Member a) _ (λ out. so w sides (Tail a 1) []
+    (⊎_elim (λ member. absurd (out member)) (λ hit. tail_from f s ok a hit) range)))
+
+members_are_in_range : (a : ℕ) → IsValidOfAf (table_clause (A12 a))
+members_are_in_range a f s ok sides =
+    let w = world_of (af f) s in
+    given w sides (Member a) _ (λ member. so w sides (Range a) [] (inl member))
+
+attacked_are_in_range : (a : ℕ) → IsValidOfAf (table_clause (A13 a))
+attacked_are_in_range a f s ok sides =
+    let w = world_of (af f) s in
+    given w sides (Tail a 1) _ (λ tail. so w sides (Range a) [] (inr (tail.attacker, tail.member, tail.attack)))
+
 admissible_is_conflict_free : IsValidOfAf (denied Ad ∷ affirmed Cf ∷ [])
 admissible_is_conflict_free f s ok sides =
     let w = world_of (af f) s in given w sides Ad _ (λ ad. so w sides Cf [] ad.conflict_free)
@@ -153,6 +169,9 @@ rows_of_af (A7 a) = outsiders_have_unmet a
 rows_of_af (A8 a i j) = unmet_steps a i j
 rows_of_af (A9 a i) = unmet_ends a i
 rows_of_af (A10 a) = outsiders_are_attacked a
+rows_of_af (A11 a) = range_is_told a
+rows_of_af (A12 a) = members_are_in_range a
+rows_of_af (A13 a) = attacked_are_in_range a
 rows_of_af (A14 part) = notions_imply part
 
 -- in worlds of each kind

@@ -6,10 +6,10 @@
 use Rattle.std.specs.Prelude.{ℕ, ◌+◌, ◌==◌, if◌then◌else◌, true, false, List, [], ◌∷◌}
 use Rattle.meaning_atoms.specs.declared.atom.TheConstants.{END}
 use Rattle.meaning_atoms.specs.declared.atom.Atom.{Atom}
-use Rattle.meaning_atoms.specs.declared.atom.Atom.TheVariants.{Member, Live, Attack, Gap, Tail, Unmet, Cf, Ad, Co, St}
+use Rattle.meaning_atoms.specs.declared.atom.Atom.TheVariants.{Member, Live, Attack, Gap, Tail, Unmet, Range, Cf, Ad, Co, St}
 use Rattle.meaning_atoms.specs.declared.atom.AtomLit.{AtomLit}
 use Rattle.meaning_atoms.specs.declared.axiom.AfAxiom.{AfAxiom}
-use Rattle.meaning_atoms.specs.declared.axiom.AfAxiom.TheVariants.{A1, A2, A3, A4, A5, A6, A7, A8, A9, A10, A14}
+use Rattle.meaning_atoms.specs.declared.axiom.AfAxiom.TheVariants.{A1, A2, A3, A4, A5, A6, A7, A8, A9, A10, A11, A12, A13, A14}
 use Rattle.meaning_atoms.specs.Literals.{affirmed, denied}
 
 -- the three clauses of A14, by their number: which notion has another within it
@@ -33,4 +33,7 @@ table_clause (A8 a i j) =
     denied (Unmet a i) ∷ denied (Gap a i j) ∷ denied (Tail j 1) ∷ affirmed (Unmet a (j + 1)) ∷ []
 table_clause (A9 a i) = denied (Unmet a i) ∷ denied (Gap a i END) ∷ []
 table_clause (A10 a) = denied St ∷ denied (Live a) ∷ affirmed (Member a) ∷ affirmed (Tail a 1) ∷ []
+table_clause (A11 a) = denied (Range a) ∷ affirmed (Member a) ∷ affirmed (Tail a 1) ∷ []
+table_clause (A12 a) = denied (Member a) ∷ affirmed (Range a) ∷ []
+table_clause (A13 a) = denied (Tail a 1) ∷ affirmed (Range a) ∷ []
 table_clause (A14 part) = notion_clause part

@@ -8,7 +8,7 @@ ghost use Rattle.meaning_atoms.specs.Literals.{affirmed, denied};
 ghost use Rattle.meaning_atoms.specs.Worlds.{IsAsk, IsValid};
 ghost use Rattle.af_axioms.specs.Table.{table_clause};
 
-use meaning_atoms::Atom::{Ad, Attack, Cf, Co, Gap, Live, Member, St, Tail, Unmet};
+use meaning_atoms::Atom::{Ad, Attack, Cf, Co, Gap, Live, Member, Range, St, Tail, Unmet};
 use meaning_atoms::{AfAxiom, Atom, AtomLit, END};
 use plain_lists::{Items, Memory};
 use std::alloc::Global;
@@ -54,6 +54,9 @@ fn row(alloc: Global, name: &AfAxiom) -> Result<Items<AtomLit>, Memory>
             alloc,
             [no(St), no(Live(a)), yes(Member(a)), yes(Tail(a, 1))],
         ),
+        AfAxiom::A11(a) => list(alloc, [no(Range(a)), yes(Member(a)), yes(Tail(a, 1))]),
+        AfAxiom::A12(a) => list(alloc, [no(Member(a)), yes(Range(a))]),
+        AfAxiom::A13(a) => list(alloc, [no(Tail(a, 1)), yes(Range(a))]),
         AfAxiom::A14(1) => list(alloc, [no(Ad), yes(Cf)]),
         AfAxiom::A14(2) => list(alloc, [no(Co), yes(Ad)]),
         AfAxiom::A14(_) => list(alloc, [no(St), yes(Co)]),

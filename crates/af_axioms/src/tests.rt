@@ -1,14 +1,9 @@
 //! The table of axioms row by row, and the values of facts in one framework.
 
-ghost use Rattle.std.specs.Prelude.{IfOk, OnOk};
-ghost use Rattle.dung_notions.specs.Neighbours.{AreBetween};
-
 use crate::{clause_of, fact_value};
 use dung_notions::AfPlain;
 use meaning_atoms::Atom::{Ad, Ask, Attack, Cf, Co, Gap, Live, Member, Range, St, Tail, Unmet};
 use meaning_atoms::{AfAxiom, Atom, AtomLit, END};
-use plain_lists::Memory;
-use set_lists::NumSet;
 use std::alloc::Global;
 use std::process::Abort;
 use std::test::Fail;
@@ -132,46 +127,26 @@ fn rows_of_walks(rt: HostRuntime) -> Result<(), Fail> {
             name: AfAxiom::A10(5),
             clause: &[not(St), not(Live(5)), is(Member(5)), is(Tail(5, 1))],
         },
+        Row {
+            name: AfAxiom::A11(5),
+            clause: &[not(Range(5)), is(Member(5)), is(Tail(5, 1))],
+        },
+        Row {
+            name: AfAxiom::A12(5),
+            clause: &[not(Member(5)), is(Range(5))],
+        },
+        Row {
+            name: AfAxiom::A13(5),
+            clause: &[not(Tail(5, 1)), is(Range(5))],
+        },
     ];
     check(&rt, rt.alloc(), &rows)
 }
 
-/// Adds an attack where both its ends are live.
-fn add_between(live: &NumSet, between: &mut Vec<(u32, u32)>, pair: (u32, u32)) -> Result<(), Memory>
-    requires { AreBetween live.now between.old.items }
-    ensures { OnOk result (AreBetween live.now between.new.items) }
-{
-    if !live.contains(pair.0) {
-        return Ok(());
-    }
-    if !live.contains(pair.1) {
-        return Ok(());
-    }
-    between.push(pair)?;
-    Ok(())
-}
-
-/// The attacks whose ends are live.
-fn between(alloc: Global, live: &NumSet, attacks: &[(u32, u32)]) -> Result<Vec<(u32, u32)>, Memory>
-    ensures { IfOk result (λ v. AreBetween live.now v.items) }
-{
-    let mut found = Vec::new(alloc);
-    for pair in attacks {
-        add_between(live, &mut found, *pair)?;
-    }
-    Ok(found)
-}
-
-/// Three arguments, of which 1 and 2 attack each other, and 2 attacks 3.
-fn two_rivals(alloc: Global) -> Result<AfPlain, Memory> {
-    let live = NumSet::from_slice(alloc, &[1, 2, 3])?;
-    let attacks = between(alloc, &live, &[(1, 2), (2, 1), (2, 3)])?;
-    AfPlain::new(alloc, live, attacks)
-}
-
 #[test]
 fn values_of_facts(rt: HostRuntime) -> Result<(), Fail> {
-    let plain = two_rivals(rt.alloc())?;
+    // 1 and 2 attack each other, and 2 attacks 3.
+    let plain = AfPlain::of_lists(rt.alloc(), &[1, 2, 3], &[(1, 2), (2, 1), (2, 3)])?;
     let rows = [
         (Live(3), Some(true)),
         (Live(4), Some(false)),

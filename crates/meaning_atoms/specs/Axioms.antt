@@ -1,7 +1,7 @@
 -- Which values name an axiom of abstract frameworks.
 use Rattle.std.specs.Prelude.{ℕ, ◌≤◌, ◌<◌}
 use Rattle.meaning_atoms.specs.declared.axiom.AfAxiom.{AfAxiom}
-use Rattle.meaning_atoms.specs.declared.axiom.AfAxiom.TheVariants.{A1, A2, A3, A4, A5, A6, A7, A8, A9, A10, A14}
+use Rattle.meaning_atoms.specs.declared.axiom.AfAxiom.TheVariants.{A1, A2, A3, A4, A5, A6, A7, A8, A9, A10, A11, A12, A13, A14}
 use Rattle.semantics.specs.Arguments.{IsArgument}
 use Rattle.meaning_atoms.specs.declared.atom.TheConstants.{END}
 use Rattle.meaning_atoms.specs.Atoms.{IsPlace}
@@ -25,4 +25,7 @@ IsAfAxiom (A7 a) = IsArgument a
 IsAfAxiom (A8 a i j) = IsStretch a i j
 IsAfAxiom (A9 a i) = IsArgument a × IsPlace i
 IsAfAxiom (A10 a) = IsArgument a
+IsAfAxiom (A11 a) = IsArgument a
+IsAfAxiom (A12 a) = IsArgument a
+IsAfAxiom (A13 a) = IsArgument a
 IsAfAxiom (A14 part) = (1 ≤ part) × (part ≤ 3)

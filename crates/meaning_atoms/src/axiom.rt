@@ -1,7 +1,8 @@
 //! The names of the clauses that always hold of abstract frameworks.
 
-ghost use Rattle.std.specs.Prelude.{◌↔◌, IsTrue};
+ghost use Rattle.std.specs.Prelude.{◌≡◌, ◌↔◌, IsTrue};
 ghost use Rattle.meaning_atoms.specs.Axioms.{IsAfAxiom};
+ghost use Rattle.meaning_atoms.specs.AxiomText.{axiom_name};
 
 use crate::atom::{END, is_place};
 use semantics::is_argument;
@@ -20,7 +21,17 @@ pub enum AfAxiom {
     A8(u32, u32, u32),
     A9(u32, u32),
     A10(u32),
+    A11(u32),
+    A12(u32),
+    A13(u32),
     A14(u32),
+}
+
+/// The name of an axiom with its arguments, of the kind of framework that it holds of.
+#[derive(Clone, Copy, Debug, Drop, PartialEq, Eq, PartialOrd, Ord, Hash)]
+pub enum AxiomName {
+    /// Of abstract frameworks.
+    Af(AfAxiom),
 }
 
 impl AfAxiom {
@@ -30,7 +41,12 @@ impl AfAxiom {
         ensures { IsTrue result ↔ IsAfAxiom self.now }
     {
         match *self {
-            AfAxiom::A1(a) | AfAxiom::A7(a) | AfAxiom::A10(a) => is_argument(a),
+            AfAxiom::A1(a)
+            | AfAxiom::A7(a)
+            | AfAxiom::A10(a)
+            | AfAxiom::A11(a)
+            | AfAxiom::A12(a)
+            | AfAxiom::A13(a) => is_argument(a),
             AfAxiom::A2(b, a) | AfAxiom::A3(b, a) | AfAxiom::A4(b, a) => is_argument(b)
                 && is_argument(a),
             AfAxiom::A5(a, i, j) | AfAxiom::A8(a, i, j) => is_argument(a)
@@ -39,6 +55,28 @@ impl AfAxiom {
                 && j < END,
             AfAxiom::A6(a, i) | AfAxiom::A9(a, i) => is_argument(a) && is_place(i),
             AfAxiom::A14(part) => 1 <= part && part <= 3,
+        }
+    }
+
+    /// The name before the arguments in the axiom's text.
+    pub fn name(&self) -> &'static str
+        ensures { result.now ≡ axiom_name self.now }
+    {
+        match *self {
+            AfAxiom::A1(_) => "A1",
+            AfAxiom::A2(..) => "A2",
+            AfAxiom::A3(..) => "A3",
+            AfAxiom::A4(..) => "A4",
+            AfAxiom::A5(..) => "A5",
+            AfAxiom::A6(..) => "A6",
+            AfAxiom::A7(_) => "A7",
+            AfAxiom::A8(..) => "A8",
+            AfAxiom::A9(..) => "A9",
+            AfAxiom::A10(_) => "A10",
+            AfAxiom::A11(_) => "A11",
+            AfAxiom::A12(_) => "A12",
+            AfAxiom::A13(_) => "A13",
+            AfAxiom::A14(_) => "A14",
         }
     }
 }

@@ -4,11 +4,13 @@
 
 pub mod atom;
 pub mod axiom;
+pub mod axiom_text;
 pub mod laws;
 #[cfg(test)]
 mod tests;
 pub mod text;
 
 pub use atom::{Atom, AtomLit, END, is_place};
-pub use axiom::AfAxiom;
+pub use axiom::{AfAxiom, AxiomName};
+pub use axiom_text::{axiom_of, write_axiom};
 pub use text::{atom_text, read_lit};

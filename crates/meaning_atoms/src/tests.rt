@@ -1,3 +1,4 @@
-//! What no clause says: texts with their literals.
+//! What no clause says: texts with their literals, and comparisons through their bounds.
 
+mod comparisons;
 mod literals;

@@ -1,6 +1,6 @@
 //! Literals and their texts, and which values name an axiom.
 
-use crate::{AfAxiom, Atom, AtomLit, END, atom_text, read_lit};
+use crate::{AfAxiom, Atom, AtomLit, END, atom_text, axiom_of, read_lit, write_axiom};
 use plain_lists::{Bytes, Memory};
 use std::alloc::Global;
 use std::test::Fail;
@@ -104,6 +104,9 @@ fn names_of_axioms(rt: HostRuntime) {
         (AfAxiom::A8(1, 1, 1000000), true),
         (AfAxiom::A9(1, 1000002), false),
         (AfAxiom::A10(9), true),
+        (AfAxiom::A11(1000000), true),
+        (AfAxiom::A12(0), false),
+        (AfAxiom::A13(1000001), false),
         (AfAxiom::A14(0), false),
         (AfAxiom::A14(1), true),
         (AfAxiom::A14(3), true),
@@ -112,4 +115,25 @@ fn names_of_axioms(rt: HostRuntime) {
     for (name, expected) in table {
         assert_eq!(rt; name.is_name(), expected, "at {name:?}");
     }
+}
+
+#[test]
+fn texts_of_axioms(rt: HostRuntime) -> Result<(), Fail> {
+    let table: [(&str, &[u32], &str); 7] = [
+        ("A1", &[7], "A1 7"),
+        ("A5", &[1, 3, 1000000], "A5 1 3 1000000"),
+        ("A6", &[2, 1000001], "A6 2 1000001"),
+        ("A14", &[3], "A14 3"),
+        ("A14", &[4], ""),
+        ("A5", &[1, 4, 3], ""),
+        ("A1", &[1, 2], ""),
+    ];
+    for (name, arguments, text) in &table {
+        let found = match axiom_of(name.as_bytes(), arguments) {
+            Some(axiom) => write_axiom(rt.alloc(), &axiom)?,
+            None => Bytes::new(rt.alloc()),
+        };
+        assert_eq!(rt; found.as_slice(), text.as_bytes(), "{name} {arguments:?}");
+    }
+    Ok(())
 }
