@@ -47,11 +47,11 @@ unfolding IsFirstIn
 no_header_told bytes line none e = first_fault bytes [] line NoHeader none
     ((e, refl), λ l c stands. inr (e ∙ sym stands.0, lowest c))
 
--- a place behind the header
-shifted : (header : LineText) (others : List LineText) (place : ℕ)
-    → get_or (header ∷ others) (place + 1) header ≡ get_or others place header
-shifted header others place =
-    let one : place + 1 ≡ suc place = omega arith in
+-- an index behind the header
+shifted : (header : LineText) (others : List LineText) (index : ℕ)
+    → get_or (header ∷ others) (index + 1) header ≡ get_or others index header
+shifted header others index =
+    let one : index + 1 ≡ suc index = omega arith in
     ap (λ k. get_or (header ∷ others) k header) one
 
 -- the fault of a header
@@ -71,12 +71,12 @@ header_told bytes header others cause e told =
         → StandsIn (length (lines_of bytes)) (header ∷ others) l c → (header.number < l) ⊎ ((header.number ≡ l) × (rank cause ≤ rank c))
     header_first rises l c (inl h) = inr (sym h.line_is, told.first c h.stands)
     header_first rises l c (inr h) =
-        let later = rises 0 (h.place + 1) header (omega arith) (omega (arith, h.within)) in
-        inl (subst (λ n. header.number < n) (ap (λ l. l.number) (shifted header others h.place) ∙ sym h.line_is) later)
+        let later = rises 0 (h.index + 1) header (omega arith) (omega (arith, h.within)) in
+        inl (subst (λ n. header.number < n) (ap (λ l. l.number) (shifted header others h.index) ∙ sym h.line_is) later)
 
 -- where the fault stands before, at or behind the first bad line
-place_cases : (k n : ℕ) → (k < n) ⊎ ((k ≡ n) ⊎ (n < k))
-place_cases k n = elim (cases_lt k n) [
+index_cases : (k n : ℕ) → (k < n) ⊎ ((k ≡ n) ⊎ (n < k))
+index_cases k n = elim (cases_lt k n) [
   | inl below ↦ inl below
   | inr upper ↦ elim (cases_lt n k) [
     | inl behind ↦ inr (inr behind)
@@ -85,12 +85,12 @@ place_cases k n = elim (cases_lt k n) [
 ]
 
 -- no cause stands at the lines that were read
-before_good : (count place k : ℕ) (before : List LineText) (attacks : List (ℕ × ℕ)) (d : LineText) (c : LineCause)
-    → AreAttackLines count before attacks → k < length before → k ≡ place
-    → StandsOnAttack count place (field_texts (get_or before k d).text) c → ⊥
-before_good count place k before attacks d c are within e stands =
+before_good : (count index k : ℕ) (before : List LineText) (attacks : List (ℕ × ℕ)) (d : LineText) (c : LineCause)
+    → AreAttackLines count before attacks → k < length before → k ≡ index
+    → StandsOnAttack count index (field_texts (get_or before k d).text) c → ⊥
+before_good count index k before attacks d c are within e stands =
     let line = AllZip-at (λ line attack. IsAttackLine count line.text attack) before attacks k d are.each within in
-    let limit = limit_only count place (get_or before k d).text line.0 line.1 c stands in
+    let limit = limit_only count index (get_or before k d).text line.0 line.1 c stands in
     let few = are.few in
     absurd (omega (arith, limit.0))
 
@@ -104,30 +104,30 @@ attack_first : (header : LineText) (others : List LineText) (count line : ℕ) (
 attack_first header others count line cause header_is b rises seam room l c (inl h) =
     absurd (header_is_good header.text count header_is c h.stands)
 attack_first header others count line cause header_is b rises seam room l c (inr h) =
-    let stands : StandsOnAttack count h.place (field_texts (get_or others h.place header).text) c
-    = subst (λ n. StandsOnAttack n h.place (field_texts (get_or others h.place header).text) c)
+    let stands : StandsOnAttack count h.index (field_texts (get_or others h.index header).text) c
+    = subst (λ n. StandsOnAttack n h.index (field_texts (get_or others h.index header).text) c)
     (IsHeader-same header.text h.count count h.header_is header_is) h.stands in
-    elim (place_cases h.place (length b.before)) [
+    elim (index_cases h.index (length b.before)) [
       | inl earlier ↦
-          let same : get_or others h.place header ≡ get_or b.before h.place header
-          = ap (λ ls. get_or ls h.place header) b.lines_are
-          ∙ get_or_append_left b.before (b.bad ∷ b.after) header h.place earlier in
-          absurd (before_good count h.place h.place b.before b.attacks header c b.before_are earlier refl
-          (subst (λ x. StandsOnAttack count h.place (field_texts x.text) c) same stands))
+          let same : get_or others h.index header ≡ get_or b.before h.index header
+          = ap (λ ls. get_or ls h.index header) b.lines_are
+          ∙ get_or_append_left b.before (b.bad ∷ b.after) header h.index earlier in
+          absurd (before_good count h.index h.index b.before b.attacks header c b.before_are earlier refl
+          (subst (λ x. StandsOnAttack count h.index (field_texts x.text) c) same stands))
       | inr (inl here) ↦
-          let same : get_or others h.place header ≡ b.bad
+          let same : get_or others h.index header ≡ b.bad
           = ap (λ k. get_or others k header) here ∙ seam in
           inr (
             b.number_is ∙ sym (ap (λ x. x.number) same) ∙ sym h.line_is,
             b.told.first c (subst (λ k. StandsOnAttack count k (field_texts b.bad.text) c) here
-                (subst (λ x. StandsOnAttack count h.place (field_texts x.text) c) same stands)),
+                (subst (λ x. StandsOnAttack count h.index (field_texts x.text) c) same stands)),
           )
       | inr (inr behind) ↦
           let within = h.within in
-          let later = rises (length b.before + 1) (h.place + 1) header (omega arith) (omega arith) in
+          let later = rises (length b.before + 1) (h.index + 1) header (omega arith) (omega arith) in
           let bad_is = b.number_is ∙ sym (ap (λ x. x.number) seam)
           ∙ sym (ap (λ x. x.number) (shifted header others (length b.before))) in
-          let there = h.line_is ∙ sym (ap (λ x. x.number) (shifted header others h.place)) in
+          let there = h.line_is ∙ sym (ap (λ x. x.number) (shifted header others h.index)) in
           inl (subst (λ n. n < l) (sym bad_is)
           (subst (λ n. (get_or (header ∷ others) (length b.before + 1) header).number < n) (sym there) later))
     ]
@@ -148,7 +148,7 @@ attack_told bytes header others count line cause e header_is b =
       inr (record {
         count = count;
         header_is = header_is;
-        place = length b.before;
+        index = length b.before;
         within = room;
         line_is = b.number_is ∙ sym (ap (λ l. l.number) seam);
         stands = subst (λ l. StandsOnAttack count (length b.before) (field_texts l.text) cause) (sym seam) b.told.stands;

@@ -4,6 +4,8 @@ use Rattle.std.specs.Prelude.{Contains, codes, All}
 use Rattle.std.proofs.lemmas.List.Elements.{All-head}
 use Rattle.num_text.specs.Cuts.{field_texts}
 use Rattle.num_text.specs.Number.{IsNumber, IsDigit}
+use Rattle.semantics.specs.declared.argument.TheConstants.{LAST_ARGUMENT}
+use Rattle.af_format.specs.declared.af_line.TheConstants.{MOST_ATTACK_LINES}
 use Rattle.af_format.specs.declared.fault.LineCause.{LineCause}
 use Rattle.af_format.specs.declared.fault.LineCause.TheVariants.{NoHeader, WrongKind, BadHeader, SecondHeader, BadLine, BadNumber, OutOfRange, TooManyLines}
 use Rattle.af_format.specs.AfText.{IsHeader, IsAttackLine}
@@ -49,7 +51,7 @@ IsHeader-same line m n a b = AreHeaderOf-same (field_texts line) m n (header_fie
 
 -- where the fields are a header's, only its number can be wrong
 over_only : (fields : List (List ℕ)) (n : ℕ) → AreHeaderOf fields n → (other : LineCause)
-    → StandsOnHeader fields other → (1000000 < n) × (7 ≤ rank other)
+    → StandsOnHeader fields other → (LAST_ARGUMENT < n) × (7 ≤ rank other)
 over_only fields n h NoHeader stands = absurd (stands (codes "af" ∷ h.number ∷ [], h.fields_are))
 over_only fields n h WrongKind stands =
     absurd (kinds_differ fields stands.more stands.first h.number stands.fields_are h.fields_are)
@@ -58,12 +60,12 @@ over_only fields n h SecondHeader stands = absurd stands
 over_only fields n h BadLine stands = absurd stands
 over_only fields n h BadNumber stands = absurd stands
 over_only fields n h OutOfRange stands =
-    (subst (λ m. 1000000 < m) (AreHeaderOf-same fields stands.0 n stands.1 h) stands.2, omega arith)
+    (subst (λ m. LAST_ARGUMENT < m) (AreHeaderOf-same fields stands.0 n stands.1 h) stands.2, omega arith)
 over_only fields n h TooManyLines stands = absurd stands
 
 -- a header whose number is too large
 pub header_over : (fields : List (List ℕ)) (number : List ℕ) (n : ℕ)
-    → fields ≡ codes "p" ∷ codes "af" ∷ number ∷ [] → IsNumber number n → 1000000 < n
+    → fields ≡ codes "p" ∷ codes "af" ∷ number ∷ [] → IsNumber number n → LAST_ARGUMENT < n
     → IsFirstCause (StandsOnHeader fields) OutOfRange
 header_over fields number n e number_is over =
     let h : AreHeaderOf fields n = record { number = number; fields_are = e; number_is = number_is } in
@@ -87,20 +89,20 @@ two_members fields a b field e member = two_members_of a b field (subst (λ xs. 
     two_members_of a b field (suc (suc k), within, e) = absurd (omega arith)
 
 -- only the limit on lines can be broken at an attack line
-pub limit_only : (count place : ℕ) (line : List ℕ) (attack : ℕ × ℕ) → IsAttackLine count line attack
-    → (other : LineCause) → StandsOnAttack count place (field_texts line) other → (10000000 ≤ place) × (8 ≤ rank other)
-limit_only count place line attack h NoHeader stands = absurd stands
-limit_only count place line attack h WrongKind stands = absurd stands
-limit_only count place line attack h BadHeader stands = absurd stands
-limit_only count place line attack h SecondHeader stands =
+pub limit_only : (count index : ℕ) (line : List ℕ) (attack : ℕ × ℕ) → IsAttackLine count line attack
+    → (other : LineCause) → StandsOnAttack count index (field_texts line) other → (MOST_ATTACK_LINES ≤ index) × (8 ≤ rank other)
+limit_only count index line attack h NoHeader stands = absurd stands
+limit_only count index line attack h WrongKind stands = absurd stands
+limit_only count index line attack h BadHeader stands = absurd stands
+limit_only count index line attack h SecondHeader stands =
     absurd (p_is_no_number h.attacker attack.0 (ap (λ xs. get_or xs 0 []) (sym h.fields ∙ stands.1)) h.attacker_is.number)
-limit_only count place line attack h BadLine stands = absurd (stands h.attacker h.target h.fields)
-limit_only count place line attack h BadNumber stands =
+limit_only count index line attack h BadLine stands = absurd (stands h.attacker h.target h.fields)
+limit_only count index line attack h BadNumber stands =
     elim (two_members (field_texts line) h.attacker h.target stands.field h.fields stands.member) [
       | inl e ↦ absurd (stands.none attack.0 (subst (λ t. IsNumber t attack.0) (sym e) h.attacker_is.number))
       | inr e ↦ absurd (stands.none attack.1 (subst (λ t. IsNumber t attack.1) (sym e) h.target_is.number))
     ]
-limit_only count place line attack h OutOfRange stands =
+limit_only count index line attack h OutOfRange stands =
     elim (two_members (field_texts line) h.attacker h.target stands.field h.fields stands.member) [
       | inl e ↦
           let same = IsNumber-same h.attacker stands.n attack.0 (subst (λ t. IsNumber t stands.n) e stands.number_is) h.attacker_is.number in
@@ -113,7 +115,7 @@ limit_only count place line attack h OutOfRange stands =
     outside_not_inside : (count m n : ℕ) → m ≡ n → 1 ≤ n → n ≤ count → (m < 1) ⊎ (count < m) → ⊥
     outside_not_inside count m n e low high (inl under) = absurd (omega arith)
     outside_not_inside count m n e low high (inr over) = absurd (omega arith)
-limit_only count place line attack h TooManyLines stands = (stands, omega arith)
+limit_only count index line attack h TooManyLines stands = (stands, omega arith)
 
 -- the two members of two fields
 pub first_member : (fields : List (List ℕ)) (a b : List ℕ) → fields ≡ a ∷ b ∷ [] → Contains fields a
@@ -123,22 +125,22 @@ pub second_member : (fields : List (List ℕ)) (a b : List ℕ) → fields ≡ a
 second_member fields a b e = subst (λ xs. Contains xs b) (sym e) (1, omega arith, refl)
 
 -- two fields of which one is no number
-pub bad_number : (count place : ℕ) (fields : List (List ℕ)) (a b field : List ℕ) → fields ≡ a ∷ b ∷ []
+pub bad_number : (count index : ℕ) (fields : List (List ℕ)) (a b field : List ℕ) → fields ≡ a ∷ b ∷ []
     → (a ≡ codes "p" → ⊥) → Contains fields field → ((n : ℕ) → IsNumber field n → ⊥)
-    → IsFirstCause (StandsOnAttack count place fields) BadNumber
-bad_number count place fields a b field e not_p member none = record {
+    → IsFirstCause (StandsOnAttack count index fields) BadNumber
+bad_number count index fields a b field e not_p member none = record {
   stands = record { field = field; member = member; none = none };
-  first = rank_at_least count place fields a b e not_p;
+  first = rank_at_least count index fields a b e not_p;
 }
   where
-    rank_at_least : (count place : ℕ) (fields : List (List ℕ)) (a b : List ℕ) → fields ≡ a ∷ b ∷ []
-        → (a ≡ codes "p" → ⊥) → (other : LineCause) → StandsOnAttack count place fields other → 6 ≤ rank other
-    rank_at_least count place fields a b e not_p NoHeader stands = absurd stands
-    rank_at_least count place fields a b e not_p WrongKind stands = absurd stands
-    rank_at_least count place fields a b e not_p BadHeader stands = absurd stands
-    rank_at_least count place fields a b e not_p SecondHeader stands =
+    rank_at_least : (count index : ℕ) (fields : List (List ℕ)) (a b : List ℕ) → fields ≡ a ∷ b ∷ []
+        → (a ≡ codes "p" → ⊥) → (other : LineCause) → StandsOnAttack count index fields other → 6 ≤ rank other
+    rank_at_least count index fields a b e not_p NoHeader stands = absurd stands
+    rank_at_least count index fields a b e not_p WrongKind stands = absurd stands
+    rank_at_least count index fields a b e not_p BadHeader stands = absurd stands
+    rank_at_least count index fields a b e not_p SecondHeader stands =
         absurd (not_p (ap (λ xs. get_or xs 0 []) (sym e ∙ stands.1)))
-    rank_at_least count place fields a b e not_p BadLine stands = absurd (stands a b e)
-    rank_at_least count place fields a b e not_p BadNumber stands = omega arith
-    rank_at_least count place fields a b e not_p OutOfRange stands = omega arith
-    rank_at_least count place fields a b e not_p TooManyLines stands = omega arith
+    rank_at_least count index fields a b e not_p BadLine stands = absurd (stands a b e)
+    rank_at_least count index fields a b e not_p BadNumber stands = omega arith
+    rank_at_least count index fields a b e not_p OutOfRange stands = omega arith
+    rank_at_least count index fields a b e not_p TooManyLines stands = omega arith

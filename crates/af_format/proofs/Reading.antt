@@ -7,6 +7,8 @@ use Rattle.std.proofs.lemmas.List.{length-append, append_assoc, append-nil}
 use Rattle.std.proofs.lemmas.Slice.Zip.{all_zipped_more, AllZip-long}
 use Rattle.std.proofs.lemmas.List.FromFn.{length-range_with_len, get_or-range_with_len}
 use Rattle.num_text.specs.Cuts.{LineText, field_texts, lines_of}
+use Rattle.semantics.specs.declared.argument.TheConstants.{LAST_ARGUMENT}
+use Rattle.af_format.specs.declared.af_line.TheConstants.{MOST_ATTACK_LINES}
 use Rattle.af_format.specs.declared.fault.LineCause.{LineCause}
 use Rattle.af_format.specs.AfText.{IsHeader, IsAttackLine, AreAttackLines, IsFrameworkOf, ReadsAs}
 use Rattle.num_text.specs.Lines.{kept}
@@ -38,7 +40,7 @@ read_none count lines = record {
 
 pub read_more : (count : ℕ) (lines left rest : List LineText) (line : LineText) (attacks : List (ℕ × ℕ)) (attack : ℕ × ℕ)
     → HasRead count lines left attacks → left ≡ line ∷ rest → IsAttackLine count line.text attack
-    → length attacks < 10000000 → HasRead count lines rest (attacks ++ attack ∷ [])
+    → length attacks < MOST_ATTACK_LINES → HasRead count lines rest (attacks ++ attack ∷ [])
 read_more count lines left rest line attacks attack h e is few =
     let R : LineText → ℕ × ℕ → Type 0 = λ line attack. IsAttackLine count line.text attack in
     let long = AllZip-long R h.before attacks h.before_are.each in
@@ -75,17 +77,17 @@ read_bad count lines left rest line attacks cause h e told =
       told = subst (λ n. IsFirstCause (StandsOnAttack count n (field_texts line.text)) cause) long told;
     }
 
-pub read_next : (count place : ℕ) (lines left rest : List LineText) (attacks : List (ℕ × ℕ)) (attack : ℕ × ℕ)
-    → HasRead count lines left attacks → place ≡ length attacks → TellsNext count place left rest attack
+pub read_next : (count index : ℕ) (lines left rest : List LineText) (attacks : List (ℕ × ℕ)) (attack : ℕ × ℕ)
+    → HasRead count lines left attacks → index ≡ length attacks → TellsNext count index left rest attack
     → HasRead count lines rest (attacks ++ attack ∷ [])
-read_next count place lines left rest attacks attack h e next =
+read_next count index lines left rest attacks attack h e next =
     let few = next.few in
     read_more count lines left rest next.line attacks attack h next.lines_are next.attack_is (omega arith)
 
-pub next_bad : (count place : ℕ) (lines left : List LineText) (attacks : List (ℕ × ℕ)) (number : ℕ) (cause : LineCause)
-    → HasRead count lines left attacks → place ≡ length attacks → IsNextFault count place left number cause
+pub next_bad : (count index : ℕ) (lines left : List LineText) (attacks : List (ℕ × ℕ)) (number : ℕ) (cause : LineCause)
+    → HasRead count lines left attacks → index ≡ length attacks → IsNextFault count index left number cause
     → IsFirstBadLine count lines number cause
-next_bad count place lines left attacks number cause h e bad =
+next_bad count index lines left attacks number cause h e bad =
     let told : IsFirstCause (StandsOnAttack count (length attacks) (field_texts bad.line.text)) cause
     = subst (λ n. IsFirstCause (StandsOnAttack count n (field_texts bad.line.text)) cause) e bad.told in
     subst (λ n. IsFirstBadLine count lines n cause) (sym bad.number_is)
@@ -97,8 +99,8 @@ next_bad count place lines left attacks number cause h e bad =
 pub Contains-arguments : (count a : ℕ) → 1 ≤ a → a ≤ count → Contains (range_with_len 1 count) a
 Contains-arguments count zero low high = absurd (omega arith)
 Contains-arguments count (suc a) low high =
-    let place : 1 + a ≡ suc a = omega arith in
-    (a, omega (arith, length-range_with_len 1 count), get_or-range_with_len 1 count a (suc a) (omega arith) ∙ place)
+    let index : 1 + a ≡ suc a = omega arith in
+    (a, omega (arith, length-range_with_len 1 count), get_or-range_with_len 1 count a (suc a) (omega arith) ∙ index)
 
 pub arguments_rise : (count : ℕ) → IsStrictlyIncreasing (range_with_len 1 count)
 arguments_rise count = λ k within.
@@ -137,7 +139,7 @@ framework_made (Ok f) count attacks live items range same is_live are form = rec
 }
 framework_made (Err e) count attacks live items range same is_live are form = form
 
-pub header_few : (bytes : List ℕ) (count : ℕ) (left : List LineText) → BeginWithHeader bytes count left → count ≤ 1000000
+pub header_few : (bytes : List ℕ) (count : ℕ) (left : List LineText) → BeginWithHeader bytes count left → count ≤ LAST_ARGUMENT
 header_few bytes count left h = h.header_is.few
 
 pub reads_as : (bytes : List ℕ) (count : ℕ) (left : List LineText) (attacks : List (ℕ × ℕ)) (f : Af)
@@ -173,11 +175,11 @@ pub no_fault_in : (size count : ℕ) (header : LineText) (others : List LineText
     → IsHeaderFault header line cause ⊎ IsAttackFault header others line cause → ⊥
 no_fault_in size count header others attacks line cause is are (inl h) = header_is_good header.text count is cause h.stands
 no_fault_in size count header others attacks line cause is are (inr h) =
-    let stands : StandsOnAttack count h.place (field_texts (get_or others h.place header).text) cause
-    = subst (λ n. StandsOnAttack n h.place (field_texts (get_or others h.place header).text) cause)
+    let stands : StandsOnAttack count h.index (field_texts (get_or others h.index header).text) cause
+    = subst (λ n. StandsOnAttack n h.index (field_texts (get_or others h.index header).text) cause)
     (IsHeader-same header.text h.count count h.header_is is) h.stands in
-    let good = AllZip-at (λ line attack. IsAttackLine count line.text attack) others attacks h.place header are.each h.within in
-    let limit = limit_only count h.place (get_or others h.place header).text good.0 good.1 cause stands in
+    let good = AllZip-at (λ line attack. IsAttackLine count line.text attack) others attacks h.index header are.each h.within in
+    let limit = limit_only count h.index (get_or others h.index header).text good.0 good.1 cause stands in
     let few = are.few in
     let within = h.within in
     absurd (omega (arith, limit.0))
@@ -190,7 +192,7 @@ faultless bytes count left attacks h are = record {
 }
 
 -- what is read has the arguments 1 to n
-pub read_is_solid : (count : ℕ) (attacks : List (ℕ × ℕ)) (f : Af) → count ≤ 1000000 → IsFrameworkOf count attacks f
+pub read_is_solid : (count : ℕ) (attacks : List (ℕ × ℕ)) (f : Af) → count ≤ LAST_ARGUMENT → IsFrameworkOf count attacks f
     → IsSolid f
 read_is_solid count attacks f few h =
     let long : length f.live ≡ count = ap length h.live ∙ length-range_with_len 1 count in

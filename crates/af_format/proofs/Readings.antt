@@ -271,31 +271,31 @@ readable_from bytes count left h are =
 -- ---- lines read, their attacks forgotten
 
 -- the lines are so many attack lines, and those that are left
-pub record HasPassed (count : ℕ) (lines left : List LineText) (place : ℕ) : Type 0 where
+pub record HasPassed (count : ℕ) (lines left : List LineText) (index : ℕ) : Type 0 where
   pub attacks : List (ℕ × ℕ)
   pub read : HasRead count lines left attacks
-  pub long : place ≡ length attacks
+  pub long : index ≡ length attacks
 
 pub passed_none : (count : ℕ) (lines : List LineText) → HasPassed count lines lines 0
 passed_none count lines = record { attacks = []; read = read_none count lines; long = refl }
 
-pub passed_next : (count : ℕ) (lines left rest : List LineText) (place : ℕ) (attack : ℕ × ℕ)
-    → HasPassed count lines left place → TellsNext count place left rest attack
-    → HasPassed count lines rest (place + 1)
-passed_next count lines left rest place attack h next =
+pub passed_next : (count : ℕ) (lines left rest : List LineText) (index : ℕ) (attack : ℕ × ℕ)
+    → HasPassed count lines left index → TellsNext count index left rest attack
+    → HasPassed count lines rest (index + 1)
+passed_next count lines left rest index attack h next =
     let long = h.long in
     record {
       attacks = h.attacks ++ attack ∷ [];
-      read = read_next count place lines left rest h.attacks attack h.read h.long next;
+      read = read_next count index lines left rest h.attacks attack h.read h.long next;
       long = omega (arith, length-append h.attacks (attack ∷ []));
     }
 
-pub passed_all : (count : ℕ) (lines left : List LineText) (place : ℕ) → HasPassed count lines left place → left ≡ []
+pub passed_all : (count : ℕ) (lines left : List LineText) (index : ℕ) → HasPassed count lines left index → left ≡ []
     → AreSomeAttacks count lines
-passed_all count lines left place h e = (h.attacks, read_all count lines left h.attacks h.read e)
+passed_all count lines left index h e = (h.attacks, read_all count lines left h.attacks h.read e)
 
-pub passed_bad : (count : ℕ) (lines left : List LineText) (place number : ℕ) (cause : LineCause)
-    → HasPassed count lines left place → IsNextFault count place left number cause
+pub passed_bad : (count : ℕ) (lines left : List LineText) (index number : ℕ) (cause : LineCause)
+    → HasPassed count lines left index → IsNextFault count index left number cause
     → IsFirstBadLine count lines number cause
-passed_bad count lines left place number cause h bad =
-    next_bad count place lines left h.attacks number cause h.read h.long bad
+passed_bad count lines left index number cause h bad =
+    next_bad count index lines left h.attacks number cause h.read h.long bad

@@ -18,6 +18,8 @@ use Rattle.num_text.proofs.DigitFields.{digit_no_end, no_blanks, not_empty, two_
 use Rattle.num_text.proofs.CutLemmas.{lines_from-nil, lines_from-first}
 use Rattle.semantics.specs.Framework.{Af, IsAf}
 use Rattle.num_text.specs.Lines.{are_skipped, kept}
+use Rattle.semantics.specs.declared.argument.TheConstants.{LAST_ARGUMENT}
+use Rattle.af_format.specs.declared.af_line.TheConstants.{MOST_ATTACK_LINES}
 use Rattle.af_format.specs.AfText.{IsAttackLine, ReadsAs}
 use Rattle.dung_notions.specs.Solid.{IsSolid}
 use Rattle.af_format.specs.Written.{header_line, attack_line, af_text}
@@ -93,7 +95,7 @@ header_line-piece count = sym (append_assoc (codes "p af ") (decimal count) (10 
 
 -- both numbers of the pair are arguments
 record IsPair (count : ℕ) (p : ℕ × ℕ) : Type 0 where
-  few : count ≤ 1000000
+  few : count ≤ LAST_ARGUMENT
   low : 1 ≤ p.0
   high : p.0 ≤ count
   target_low : 1 ≤ p.1
@@ -162,7 +164,7 @@ header_free =
     (All-cons P 102 (32 ∷ []) refl
     (All-cons P 32 [] refl (All-nil P)))))
 
-pub reads_back : (f : Af) → IsAf f → IsSolid f → length f.attacks ≤ 10000000 → ReadsAs (af_text f) f
+pub reads_back : (f : Af) → IsAf f → IsSolid f → length f.attacks ≤ MOST_ATTACK_LINES → ReadsAs (af_text f) f
 unfolding lines_of line_at
 reads_back f form solid few =
     let n = decimal_number (length f.live) (let few = solid.small in omega arith) in
@@ -205,7 +207,7 @@ text_more head old now items attacks i d before same line within =
 
 -- ---- how long the text is
 
-short : (n : ℕ) → n ≤ 1000000 → length (decimal n) ≤ 7
+short : (n : ℕ) → n ≤ LAST_ARGUMENT → length (decimal n) ≤ 7
 short n h = length-decimal-le 7 n (omega arith) (omega arith) (omega arith)
 
 lines_within : (count : ℕ) (attacks : List (ℕ × ℕ)) → All (IsPair count) attacks
@@ -227,7 +229,7 @@ lines_within count (p ∷ ps) all =
     )
 
 -- a text of at most 10,000,000 attacks keeps the reader's limit
-pub text_within : (f : Af) → IsAf f → IsSolid f → length f.attacks ≤ 10000000 → length (af_text f) ≤ 268435456
+pub text_within : (f : Af) → IsAf f → IsSolid f → length f.attacks ≤ MOST_ATTACK_LINES → length (af_text f) ≤ 268435456
 text_within f form solid few =
     omega (
       arith,

@@ -1,9 +1,9 @@
--- Two lists related place by place.
+-- Two lists related index by index.
 use Rattle.std.proofs.Common.{◌≡◌, ℕ, zero, suc, ◌<◌, List, [], ◌∷◌, length, get_or, refl, subst, ap, ◌∙◌, arith}
 use Rattle.std.specs.Prelude.{Contains}
 use Rattle.std.specs.List.{AllZip}
 
--- what stands at a place of the first list has a partner
+-- what stands at an index of the first list has a partner
 pub AllZip-at : {A B : Type 0} (R : A → B → Type 0) (xs : List A) (ys : List B) (k : ℕ) (d : A) → AllZip R xs ys
     → k < length xs → (y : B) × R (get_or xs k d) y
 AllZip-at R [] ys k d h within = absurd (omega arith)

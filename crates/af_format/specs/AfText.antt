@@ -5,16 +5,18 @@ use Rattle.num_text.specs.Cuts.{LineText, field_texts}
 use Rattle.num_text.specs.Number.{IsNumber}
 use Rattle.semantics.specs.Framework.{Af, IsAf}
 use Rattle.num_text.specs.Lines.{kept_lines}
+use Rattle.semantics.specs.declared.argument.TheConstants.{LAST_ARGUMENT}
+use Rattle.af_format.specs.declared.af_line.TheConstants.{MOST_ATTACK_LINES}
 
 -- the line is `p af n`, where n is the number of arguments
 pub record IsHeader (line : List ℕ) (count : ℕ) : Type 0 where
   pub number : List ℕ
   pub fields : field_texts line ≡ codes "p" ∷ codes "af" ∷ number ∷ []
   pub number_is : IsNumber number count
-  pub few : count ≤ 1000000
+  pub few : count ≤ LAST_ARGUMENT
 
 -- the text is the number of one of the arguments, 1 to n
-pub record IsArgument (count : ℕ) (text : List ℕ) (argument : ℕ) : Type 0 where
+pub record SpellsArgument (count : ℕ) (text : List ℕ) (argument : ℕ) : Type 0 where
   pub number : IsNumber text argument
   pub low : 1 ≤ argument
   pub high : argument ≤ count
@@ -24,8 +26,8 @@ pub record IsAttackLine (count : ℕ) (line : List ℕ) (attack : ℕ × ℕ) : 
   pub attacker : List ℕ
   pub target : List ℕ
   pub fields : field_texts line ≡ attacker ∷ target ∷ []
-  pub attacker_is : IsArgument count attacker attack.0
-  pub target_is : IsArgument count target attack.1
+  pub attacker_is : SpellsArgument count attacker attack.0
+  pub target_is : SpellsArgument count target attack.1
 
 -- the line is two numbers, be they arguments or not
 pub record TellsNumbers (line : List ℕ) (numbers : ℕ × ℕ) : Type 0 where
@@ -35,10 +37,10 @@ pub record TellsNumbers (line : List ℕ) (numbers : ℕ × ℕ) : Type 0 where
   pub one_is : IsNumber one numbers.0
   pub two_is : IsNumber two numbers.1
 
--- each line is an attack line, of the attack at its place, and there aren't too many
+-- each line is an attack line, of the attack at its index, and there aren't too many
 pub record AreAttackLines (count : ℕ) (lines : List LineText) (attacks : List (ℕ × ℕ)) : Type 0 where
   pub each : AllZip (λ line attack. IsAttackLine count line.text attack) lines attacks
-  pub few : length lines ≤ 10000000
+  pub few : length lines ≤ MOST_ATTACK_LINES
 
 -- but for skipped lines, the bytes are a header with this number of arguments, followed by these attacks
 -- line by line

@@ -2,6 +2,8 @@
 use Rattle.std.specs.Prelude.{◌≡◌, ℕ, ◌+◌, ◌<◌, ◌≤◌, ◌⊎◌, List, [], ◌∷◌, length, Contains, codes, slice_index_or}
 use Rattle.num_text.specs.Cuts.{LineText, field_texts, lines_of}
 use Rattle.num_text.specs.Number.{IsNumber}
+use Rattle.semantics.specs.declared.argument.TheConstants.{LAST_ARGUMENT}
+use Rattle.af_format.specs.declared.af_line.TheConstants.{MOST_ATTACK_LINES}
 use Rattle.af_format.specs.declared.fault.LineCause.{LineCause}
 use Rattle.af_format.specs.declared.fault.LineCause.TheVariants.{NoHeader, WrongKind, BadHeader, SecondHeader, BadLine, BadNumber, OutOfRange, TooManyLines}
 use Rattle.af_format.specs.declared.fault.LineFault.{LineFault}
@@ -35,7 +37,7 @@ StandsOnHeader fields BadHeader = (n : ℕ) → ¬ AreHeaderOf fields n
 StandsOnHeader fields SecondHeader = ⊥
 StandsOnHeader fields BadLine = ⊥
 StandsOnHeader fields BadNumber = ⊥
-StandsOnHeader fields OutOfRange = (n : ℕ) × AreHeaderOf fields n × (1000000 < n)
+StandsOnHeader fields OutOfRange = (n : ℕ) × AreHeaderOf fields n × (LAST_ARGUMENT < n)
 StandsOnHeader fields TooManyLines = ⊥
 
 -- some field is no number
@@ -52,17 +54,17 @@ pub record HaveOutsider (count : ℕ) (fields : List (List ℕ)) : Type 0 where
   pub number_is : IsNumber field n
   pub outside : (n < 1) ⊎ (count < n)
 
--- the cause stands on the fields of a line behind a header with this number of arguments, where place
+-- the cause stands on the fields of a line behind a header with this number of arguments, where so many
 -- lines that are not skipped stand between the two
 abbrev pub StandsOnAttack : ℕ → ℕ → List (List ℕ) → LineCause → Type 0
-StandsOnAttack count place fields NoHeader = ⊥
-StandsOnAttack count place fields WrongKind = ⊥
-StandsOnAttack count place fields BadHeader = ⊥
-StandsOnAttack count place fields SecondHeader = BeginWithP fields
-StandsOnAttack count place fields BadLine = (b a : List ℕ) → ¬ (fields ≡ b ∷ a ∷ [])
-StandsOnAttack count place fields BadNumber = HaveNoNumber fields
-StandsOnAttack count place fields OutOfRange = HaveOutsider count fields
-StandsOnAttack count place fields TooManyLines = 10000000 ≤ place
+StandsOnAttack count index fields NoHeader = ⊥
+StandsOnAttack count index fields WrongKind = ⊥
+StandsOnAttack count index fields BadHeader = ⊥
+StandsOnAttack count index fields SecondHeader = BeginWithP fields
+StandsOnAttack count index fields BadLine = (b a : List ℕ) → ¬ (fields ≡ b ∷ a ∷ [])
+StandsOnAttack count index fields BadNumber = HaveNoNumber fields
+StandsOnAttack count index fields OutOfRange = HaveOutsider count fields
+StandsOnAttack count index fields TooManyLines = MOST_ATTACK_LINES ≤ index
 
 -- the cause stands at the header's line
 pub record IsHeaderFault (header : LineText) (line : ℕ) (cause : LineCause) : Type 0 where
@@ -73,10 +75,10 @@ pub record IsHeaderFault (header : LineText) (line : ℕ) (cause : LineCause) : 
 pub record IsAttackFault (header : LineText) (others : List LineText) (line : ℕ) (cause : LineCause) : Type 0 where
   pub count : ℕ
   pub header_is : IsHeader header.text count
-  pub place : ℕ
-  pub within : place < length others
-  pub line_is : line ≡ (slice_index_or others place header).number
-  pub stands : StandsOnAttack count place (field_texts (slice_index_or others place header).text) cause
+  pub index : ℕ
+  pub within : index < length others
+  pub line_is : line ≡ (slice_index_or others index header).number
+  pub stands : StandsOnAttack count index (field_texts (slice_index_or others index header).text) cause
 
 -- the cause stands at the line, in a text of so many lines of which these are not skipped
 abbrev pub StandsIn : ℕ → List LineText → ℕ → LineCause → Type 0

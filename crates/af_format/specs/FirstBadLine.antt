@@ -1,6 +1,7 @@
 -- How far a text is read, line by line.
 use Rattle.std.specs.Prelude.{◌≡◌, ℕ, ◌<◌, List, ◌∷◌, ◌++◌, length}
 use Rattle.num_text.specs.Cuts.{LineText, field_texts}
+use Rattle.af_format.specs.declared.af_line.TheConstants.{MOST_ATTACK_LINES}
 use Rattle.af_format.specs.declared.fault.LineCause.{LineCause}
 use Rattle.num_text.specs.Lines.{kept, kept_lines}
 use Rattle.af_format.specs.AfText.{IsHeader, IsAttackLine, AreAttackLines}
@@ -13,21 +14,21 @@ pub record BeginWithHeader (bytes : List ℕ) (count : ℕ) (left : List LineTex
   pub lines : kept_lines bytes ≡ header ∷ kept left
   pub header_is : IsHeader header.text count
 
--- the next line tells this attack, place attack lines standing before it, and the others are left
-pub record TellsNext (count place : ℕ) (before after : List LineText) (attack : ℕ × ℕ) : Type 0 where
+-- the next line tells this attack, so many attack lines standing before it, and the others are left
+pub record TellsNext (count index : ℕ) (before after : List LineText) (attack : ℕ × ℕ) : Type 0 where
   pub line : LineText
   pub lines_are : before ≡ line ∷ after
   pub attack_is : IsAttackLine count line.text attack
-  pub few : place < 10000000
+  pub few : index < MOST_ATTACK_LINES
 
--- the next line has this number and is no attack line, place attack lines standing before it, and the cause is
+-- the next line has this number and is no attack line, so many attack lines standing before it, and the cause is
 -- told of it
-pub record IsNextFault (count place : ℕ) (lines : List LineText) (number : ℕ) (cause : LineCause) : Type 0 where
+pub record IsNextFault (count index : ℕ) (lines : List LineText) (number : ℕ) (cause : LineCause) : Type 0 where
   pub line : LineText
   pub others : List LineText
   pub lines_are : lines ≡ line ∷ others
   pub number_is : number ≡ line.number
-  pub told : IsFirstCause (StandsOnAttack count place (field_texts line.text)) cause
+  pub told : IsFirstCause (StandsOnAttack count index (field_texts line.text)) cause
 
 -- the first line that is no attack line has this number, and the cause is told of it
 pub record IsFirstBadLine (count : ℕ) (lines : List LineText) (number : ℕ) (cause : LineCause) : Type 0 where

@@ -11,6 +11,7 @@ ghost use Rattle.af_format.specs.Faults.{IsFirstFault, IsFaultless};
 ghost use Rattle.af_format.specs.FirstBadLine.{AreSomeAttacks, IsFirstBadLine};
 ghost use Rattle.af_format.specs.declared.fault.ReadFault.TheVariants.{Memory as refused};
 
+use crate::af_line::MOST_ATTACK_LINES;
 use crate::fault::{LineFault, ReadFault};
 use crate::next_attack::next_attack;
 use crate::read::{read_af, read_header};
@@ -28,7 +29,7 @@ pub fn one_reading()
 /// The framework that is read from its own text: the same one. Nothing but want of memory comes between.
 pub fn read_back(alloc: Global, framework: &AfPlain) -> Result<AfPlain, ReadFault>
     requires solid { IsSolid framework.now }
-    requires few { length framework.now.attacks ≤ 10000000 }
+    requires few { length framework.now.attacks ≤ MOST_ATTACK_LINES }
     ensures same { IfOk result (λ f. f ≡ framework.now) }
     ensures fault { IfErr result (λ e. e ≡ refused) }
 {
@@ -53,9 +54,9 @@ fn attacks_or_fault(mut left: Lines<'_>, count: u32) -> Result<(), LineFault>
     ensures ok { OnOk result (AreSomeAttacks count (kept left.entry)) }
     ensures fault { IfErr result (λ fault. IsFirstBadLine count (kept left.entry) fault.line fault.cause) }
 {
-    let mut place = 0;
-    while let Some(_attack) = next_attack(&mut left, count, place)? {
-        place += 1;
+    let mut index = 0;
+    while let Some(_attack) = next_attack(&mut left, count, index)? {
+        index += 1;
     }
     Ok(())
 }

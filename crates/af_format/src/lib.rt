@@ -13,6 +13,7 @@ mod next_attack;
 mod read;
 mod write;
 
+pub use af_line::MOST_ATTACK_LINES;
 pub use fault::{LineCause, LineFault, ReadFault};
 pub use laws::{one_reading, read_back, readable_or_faulty};
 pub use read::read_af;

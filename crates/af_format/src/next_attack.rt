@@ -13,14 +13,14 @@ use num_text::{Lines, next_kept};
 pub(crate) fn next_attack(
     left: &mut Lines<'_>,
     count: u32,
-    place: usize,
+    index: usize,
 ) -> Result<Option<(u32, u32)>, LineFault>
-    ensures next { IfOk result (λ next. IfSome next (TellsNext count place (kept left.old) (kept left.new))) }
+    ensures next { IfOk result (λ next. IfSome next (TellsNext count index (kept left.old) (kept left.new))) }
     ensures end { IfOk result (λ next. IfNone next (kept left.old ≡ [])) }
-    ensures fault { IfErr result (λ fault. IsNextFault count place (kept left.old) fault.line fault.cause) }
+    ensures fault { IfErr result (λ fault. IsNextFault count index (kept left.old) fault.line fault.cause) }
 {
     match next_kept(left) {
-        Some(line) => at_line(line.number, attack_of(&line, count, place)),
+        Some(line) => at_line(line.number, attack_of(&line, count, index)),
         None => Ok(None),
     }
 }

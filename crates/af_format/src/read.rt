@@ -17,6 +17,7 @@ use crate::next_attack::next_attack;
 use dung_notions::AfPlain;
 use num_text::{Lines, lines, next_kept};
 use plain_lists::{Items, Memory};
+use semantics::LAST_ARGUMENT;
 use set_lists::NumSet;
 use std::alloc::Global;
 
@@ -83,7 +84,7 @@ fn read_attacks(
 
 // The framework of the arguments 1 to n and the attacks.
 fn framework_of(alloc: Global, count: u32, attacks: Items<(u32, u32)>) -> Result<AfPlain, Memory>
-    requires few { count ≤ 1000000 }
+    requires few { count ≤ LAST_ARGUMENT }
     requires ends { (b a : ℕ) → Contains attacks (b, a)
         → Contains (range_with_len 1 count) b × Contains (range_with_len 1 count) a }
     ensures { IfOk result (IsFrameworkOf count attacks) }
@@ -94,7 +95,7 @@ fn framework_of(alloc: Global, count: u32, attacks: Items<(u32, u32)>) -> Result
 
 // The arguments 1 to n.
 fn arguments(alloc: Global, count: u32) -> Result<NumSet, Memory>
-    requires { count ≤ 1000000 }
+    requires { count ≤ LAST_ARGUMENT }
     ensures { IfOk result (λ s. s ≡ range_with_len 1 count) }
 {
     let numbers: Vec<u32> = (1..count + 1).collect(alloc)?;

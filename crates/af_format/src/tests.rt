@@ -1,9 +1,11 @@
 //! The reader and the writer, compared with answers that were worked out by hand.
 
+use crate::af_line::MOST_ATTACK_LINES;
+use crate::next_attack::next_attack;
 use crate::{
     LineCause, LineFault, ReadFault, one_reading, read_af, read_back, readable_or_faulty, write_af,
 };
-use plain_lists::{Bytes, Memory};
+use num_text::lines;
 use std::alloc::{AllocError, Global};
 use std::test::Fail;
 
@@ -122,30 +124,18 @@ fn written(rt: HostRuntime) {
     assert!(rt; text.as_slice() == "p af 3\n1 2\n2 1\n2 3\n".as_bytes());
 }
 
-// The text of one argument that attacks itself, in so many lines.
-fn repeated(alloc: Global, count: u32) -> Result<Bytes, Memory> {
-    let mut text = Bytes::new(alloc);
-    text.extend("p af 1\n".as_bytes())?;
-    for _ in 0..count {
-        text.extend("1 1\n".as_bytes())?;
-    }
-    Ok(text)
-}
-
+// The count of attack lines before a line is given here, as the reader gives it: ten million lines would take long.
 #[test]
-fn too_many_lines(rt: HostRuntime) -> Result<(), Fail> {
-    let text = repeated(rt.alloc(), 10_000_001)?;
-    if text.len() != 40_000_011 {
-        assert!(rt; false, "another length");
-        return Ok(());
-    }
+fn too_many_lines(rt: HostRuntime) {
+    let mut left = lines("1 2\n#\n2 1\n".as_bytes());
+    let last = next_attack(&mut left, 2, MOST_ATTACK_LINES - 1);
+    assert!(rt; last == Ok(Some((1, 2))));
+    let one_more = next_attack(&mut left, 2, MOST_ATTACK_LINES);
     let fault = LineFault {
-        line: 10_000_002,
+        line: 3,
         cause: LineCause::TooManyLines,
     };
-    let read = read_af(rt.alloc(), text.as_slice());
-    assert!(rt; matches!(&read, Err(ReadFault::Line(told)) if *told == fault));
-    Ok(())
+    assert!(rt; one_more == Err(fault));
 }
 
 #[test]

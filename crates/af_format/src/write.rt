@@ -7,6 +7,7 @@ ghost use Rattle.af_format.specs.AfText.{ReadsAs};
 ghost use Rattle.dung_notions.specs.Solid.{IsSolid};
 ghost use Rattle.af_format.specs.Written.{af_text};
 
+use crate::af_line::MOST_ATTACK_LINES;
 use dung_notions::AfPlain;
 use plain_lists::{Bytes, Memory};
 use std::alloc::Global;
@@ -18,9 +19,9 @@ use std::fmt::Write;
 pub fn write_af(alloc: Global, framework: &AfPlain) -> Result<Bytes, Memory>
     requires { IsSolid framework.now }
     ensures text { IfOk result (λ text. text ≡ af_text framework.now) }
-    ensures back { length framework.now.attacks ≤ 10000000
+    ensures back { length framework.now.attacks ≤ MOST_ATTACK_LINES
         → IfOk result (λ text. ReadsAs text framework.now) }
-    ensures within { length framework.now.attacks ≤ 10000000 → IfOk result (λ text. length text ≤ 268435456) }
+    ensures within { length framework.now.attacks ≤ MOST_ATTACK_LINES → IfOk result (λ text. length text ≤ 268435456) }
 {
     let text = text_of(alloc, framework)?;
     Ok(Bytes::from_vec(text.into_bytes()))

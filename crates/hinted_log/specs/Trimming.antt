@@ -1,5 +1,5 @@
 -- The inner state of trimming, which no caller sees: a mark for each number of a step.
-use Rattle.std.specs.Prelude.{◌≡◌, ◌⊎◌, ◌↔◌, ℕ, ◌+◌, ◌<◌, ◌≤◌, Bool, true, false, List, length, Contains}
+use Rattle.std.specs.Prelude.{◌≡◌, ◌⊎◌, ℕ, ◌+◌, ◌<◌, ◌≤◌, Bool, true, false, List, length, Contains}
 use Rattle.std.specs.Prelude.{slice_index_or}
 use Rattle.hinted_log.specs.Logs.{Step, step_at, Reaches}
 

@@ -20,7 +20,7 @@ pub skipped_blanks : (text : List ℕ) (start : ℕ) → start ≡ position_or_l
     → length text ≤ start → are_skipped (field_texts text) ≡ true
 skipped_blanks text start is behind =
     let none : fields_of text ≡ [] = fields_behind_blanks text start is
-        ∙ ap (fields_from (0 + start)) (drop_all start text behind) ∙ fields_from-nil (0 + start) in
+    ∙ ap (fields_from (0 + start)) (drop_all start text behind) ∙ fields_from-nil (0 + start) in
     ap are_skipped (sym (field_texts-fields_of text) ∙ ap (λ fields. map (λ f. f.text) fields) none)
 
 -- the first byte of the first field says whether a text is skipped
@@ -31,8 +31,8 @@ skipped_byte text start is within =
     let n = position_or_len is_blank rest in
     let at : get_or rest 0 0 ≡ get_or text start 0 = get_or-drop start text 0 0 ∙ ap (λ i. get_or text i 0) (omega arith) in
     let passes : not (is_blank (get_or text start 0)) ≡ true =
-        ap (λ m. not (is_blank (get_or text m 0))) is
-        ∙ passes_at_first (λ byte. not (is_blank byte)) text 0 (subst (λ m. m < length text) is within) in
+    ap (λ m. not (is_blank (get_or text m 0))) is
+    ∙ passes_at_first (λ byte. not (is_blank byte)) text 0 (subst (λ m. m < length text) is within) in
     let none : is_blank (get_or rest 0 0) ≡ false = ap is_blank at ∙ not-true _ passes in
     let some : 0 < n = begins_with_field rest (omega (arith, length-drop start text)) none in
     let cut = fields_behind_blanks text start is ∙ fields_from-first (0 + start) rest n some refl in

@@ -1,6 +1,11 @@
 -- Rows in a flat list, as rows come and go.
 use Rattle.std.proofs.Common.{◌≡◌, ℕ, zero, suc, ◌<◌, ◌≤◌, ◌+◌, ◌-◌, List, [], ◌∷◌, ◌++◌, length}
-use Rattle.std.proofs.Common.{length-append, get_or, arith, ap, sym, ◌∙◌, refl, take, drop}
+use Rattle.std.proofs.Common.{length-append, get_or, arith, ap, sym, ◌∙◌, refl, take, drop, length-take}
+use Rattle.std.proofs.Common.{inl, inr, ⊎_elim}
+use Rattle.std.specs.Prelude.{◌⊎◌}
+use Rattle.std.proofs.Math.ListN.{set}
+use Rattle.std.proofs.lemmas.List.{drop-set-lt, drop-set-add, take-set-le}
+use Rattle.std.proofs.Math.Seq.{take-set-lt}
 use Rattle.std.specs.Prelude.{slice_range}
 use Rattle.std.proofs.Math.Seq.{drop-append_seam, take-append_seam, take-length}
 use Rattle.std.proofs.lemmas.List.{take-append-le, drop-append-le, take-take, drop-take, get_or_append_left}
@@ -51,7 +56,7 @@ pub length-rows : {T : Type 0} (xs : List T) (from : ℕ) (ends : List ℕ)
 length-rows xs from [] = refl
 length-rows xs from (end ∷ ends) = ap suc (length-rows xs end ends)
 
--- the row at a place lies between its end and the end before it
+-- the row at an index lies between its end and the end before it
 pub get_or-rows : {T : Type 0} (xs : List T) (from : ℕ) (ends : List ℕ) (k : ℕ) → k < length ends
     → get_or (rows_from xs from ends) k [] ≡ slice_range xs (get_or (from ∷ ends) k 0) (get_or ends k 0)
 get_or-rows xs from [] k lt = absurd (omega arith)
@@ -81,7 +86,7 @@ pub rows-init : {T : Type 0} (xs : List T) (from : ℕ) (ends : List ℕ) (end :
 rows-init xs from [] end = refl
 rows-init xs from (e ∷ ends) end = ap (λ rs. slice_range xs from e ∷ rs) (rows-init xs e ends end)
 
--- the last end, by its place
+-- the last end, by its index
 pub last_end-get_or : (from : ℕ) (ends : List ℕ) → last_end from ends ≡ get_or (from ∷ ends) (length ends) 0
 last_end-get_or from [] = refl
 last_end-get_or from (end ∷ ends) = last_end-get_or end ends
@@ -136,3 +141,56 @@ pub row_at : {T : Type 0} (xs : List T) (ends : List ℕ) (k begin end : ℕ) �
     → begin ≡ get_or (0 ∷ ends) k 0 → end ≡ get_or ends k 0
     → slice_range xs begin end ≡ get_or (rows_from xs 0 ends) k []
 row_at xs ends k begin end lt e1 e2 = rw (e1, e2) (sym (get_or-rows xs 0 ends k lt))
+
+at_least : (from : ℕ) (ends : List ℕ) (k : ℕ) → EndsRise from ends → from ≤ get_or (from ∷ ends) k 0 ⊎ (length ends < k)
+at_least from ends zero up = inl (omega arith)
+at_least from [] (suc k) up = inr (omega arith)
+at_least from (end ∷ ends) (suc k) up = let le = up.0 in ⊎_elim (λ h. inl (omega arith)) (λ h. inr (omega arith)) (at_least end ends k up.1)
+
+-- an item that is replaced before the rows
+set_before : {T : Type 0} (xs : List T) (from p : ℕ) (ends : List ℕ) (x : T) → EndsRise from ends → p < from
+    → rows_from (set xs p x) from ends ≡ rows_from xs from ends
+set_before xs from p [] x up lt = refl
+set_before xs from p (end ∷ ends) x up lt =
+    let le = up.0 in
+    let first : slice_range (set xs p x) from end ≡ slice_range xs from end = ap (λ t. take (end - from) t) (drop-set-lt from xs p x lt) in
+    ap (λ r. r ∷ rows_from (set xs p x) end ends) first ∙ ap (λ rs. slice_range xs from end ∷ rs) (set_before xs end p ends x up.1 (omega arith))
+
+-- and in a row
+set_row : {T : Type 0} (xs : List T) (from : ℕ) (ends : List ℕ) (k at : ℕ) (x : T) → EndsRise from ends
+    → k < length ends → at < length (get_or (rows_from xs from ends) k [])
+    → rows_from (set xs (get_or (from ∷ ends) k 0 + at) x) from ends ≡ set (rows_from xs from ends) k (set (get_or (rows_from xs from ends) k []) at x)
+set_row xs from [] k at x up lt within = absurd (omega arith)
+set_row xs from (end ∷ ends) zero at x up lt within =
+    let short : at < end - from = omega (arith, within, length-take (end - from) (drop from xs)) in
+    let first : slice_range (set xs (from + at) x) from end ≡ set (slice_range xs from end) at x =
+    ap (λ t. take (end - from) t) (drop-set-add from xs at x) ∙ take-set-lt (end - from) (drop from xs) at x short in
+    ap (λ r. r ∷ rows_from (set xs (from + at) x) end ends) first ∙ ap (λ rs. set (slice_range xs from end) at x ∷ rs) (set_before xs end (from + at) ends x up.1 (omega arith))
+set_row xs from (end ∷ ends) (suc k) at x up lt within =
+    let p = get_or (end ∷ ends) k 0 + at in
+    let above = row_ends end ends k up.1 (omega arith) in
+    let low = up.0 in
+    let after : end ≤ get_or (end ∷ ends) k 0 = ⊎_elim (λ h. h) (λ h. absurd (omega arith)) (at_least end ends k up.1) in
+    let split : p ≡ from + (p - from) = omega arith in
+    let moved : drop from (set xs p x) ≡ set (drop from xs) (p - from) x = ap (λ n. drop from (set xs n x)) split ∙ drop-set-add from xs (p - from) x in
+    let first : slice_range (set xs p x) from end ≡ slice_range xs from end =
+    ap (λ t. take (end - from) t) moved ∙ take-set-le (end - from) (drop from xs) (p - from) x (omega arith) in
+    ap (λ r. r ∷ rows_from (set xs p x) end ends) first ∙ ap (λ rs. slice_range xs from end ∷ rs) (set_row xs end ends k at x up.1 (omega arith) within)
+
+-- a row after an item is replaced, by what the array becomes
+pub replaced_rows : {T : Type 0} (xs : List T) (ends : List ℕ) (k at begin : ℕ) (x : T) → AreEnds ends (length xs)
+    → k < length ends → at < length (get_or (rows_from xs 0 ends) k []) → begin ≡ get_or (0 ∷ ends) k 0
+    → rows_from (set xs (begin + at) x) 0 ends ≡ set (rows_from xs 0 ends) k (set (get_or (rows_from xs 0 ends) k []) at x)
+replaced_rows xs ends k at begin x h lt within e = rw e (set_row xs 0 ends k at x h.rise lt within)
+
+-- an item of a row lies within the list
+pub item_within : {T : Type 0} (xs : List T) (ends : List ℕ) (k at begin : ℕ) → AreEnds ends (length xs) → k < length ends
+    → at < length (get_or (rows_from xs 0 ends) k []) → begin ≡ get_or (0 ∷ ends) k 0 → begin + at < length xs
+item_within xs ends k at begin h lt within e =
+    let row = get_or-rows xs 0 ends k lt in
+    let b = row_ends 0 ends k h.rise lt in
+    let low = b.0 in
+    let high = b.1 in
+    let last = h.last in
+    let short : at < get_or ends k 0 - get_or (0 ∷ ends) k 0 = omega (arith, rw row at within, length-take (get_or ends k 0 - get_or (0 ∷ ends) k 0) (drop (get_or (0 ∷ ends) k 0) xs)) in
+    omega (arith, e)

@@ -1,7 +1,7 @@
 //! Lists of items in one flat list.
 
 ghost use Rattle.std.specs.Prelude.{◌≡◌, ◌<◌, ◌≤◌, ◌-◌, [], ◌∷◌, ◌++◌, length, take, OnOk, OnErr};
-ghost use Rattle.std.specs.Prelude.{slice_index, slice_index_or, slice_range};
+ghost use Rattle.std.specs.Prelude.{slice_index, slice_index_or, slice_range, slice_set};
 ghost use Rattle.plain_lits.specs.RowCuts.{rows_from, AreEnds};
 
 use plain_lists::Memory;
@@ -27,18 +27,18 @@ impl<T> Model for Rows<T> {
     ghost invariant = { λ r. AreEnds r.ends.items (length r.items.items) };
 }
 
-/// Where the rows before a place end.
-fn end_before(ends: &[usize], place: usize) -> usize
-    requires { place ≤ length ends.now }
-    ensures { result ≡ slice_index (0 ∷ ends.now) place }
+/// Where the rows before an index end.
+fn end_before(ends: &[usize], index: usize) -> usize
+    requires { index ≤ length ends.now }
+    ensures { result ≡ slice_index (0 ∷ ends.now) index }
 {
-    if place == 0 {
+    if index == 0 {
         return 0;
     }
-    ends[place - 1]
+    ends[index - 1]
 }
 
-/// The items from one place to another.
+/// The items from one index to another.
 fn part<T>(items: &[T], begin: usize, end: usize) -> &[T]
     requires order { begin ≤ end }
     requires within { end ≤ length items.now }
@@ -47,13 +47,13 @@ fn part<T>(items: &[T], begin: usize, end: usize) -> &[T]
     &items[begin..end]
 }
 
-/// The row at a place.
-fn row_in<'a, T>(items: &'a [T], ends: &[usize], place: usize) -> &'a [T]
+/// The row at an index.
+fn row_in<'a, T>(items: &'a [T], ends: &[usize], index: usize) -> &'a [T]
     requires ends { AreEnds ends.now (length items.now) }
-    requires within { place < length ends.now }
-    ensures { result.now ≡ slice_index_or (rows_from items.now 0 ends.now) place [] }
+    requires within { index < length ends.now }
+    ensures { result.now ≡ slice_index_or (rows_from items.now 0 ends.now) index [] }
 {
-    part(items, end_before(ends, place), ends[place])
+    part(items, end_before(ends, index), ends[index])
 }
 
 impl<T: Copy> Rows<T> {
@@ -74,12 +74,12 @@ impl<T: Copy> Rows<T> {
         self.ends.len()
     }
 
-    /// The row at a place, counted from 0.
-    pub fn row(&self, place: usize) -> &[T]
-        requires { place < length self.now }
-        ensures { result.now ≡ slice_index_or self.now place [] }
+    /// The row at an index.
+    pub fn row(&self, index: usize) -> &[T]
+        requires { index < length self.now }
+        ensures { result.now ≡ slice_index_or self.now index [] }
     {
-        row_in(self.items.as_slice(), self.ends.as_slice(), place)
+        row_in(self.items.as_slice(), self.ends.as_slice(), index)
     }
 
     /// Adds a row at the end. After `Memory` the rows are as before.
@@ -92,6 +92,16 @@ impl<T: Copy> Rows<T> {
         let end = self.items.len();
         let _ = self.ends.push(end);
         Ok(())
+    }
+
+    /// Replaces an item of the row at an index.
+    pub fn set(&mut self, index: usize, at: usize, item: T)
+        requires row { index < length self.old }
+        requires item { at < length (slice_index_or self.old index []) }
+        ensures { self.new ≡ slice_set self.old index (slice_set (slice_index_or self.old index []) at item) }
+    {
+        let begin = end_before(self.ends.as_slice(), index);
+        self.items[begin + at] = item;
     }
 
     /// Takes the last row away.

@@ -1,4 +1,4 @@
-use Rattle.std.proofs.Common.{◌<◌, length, ◌∙◌, sym, refl, arith}
+use Rattle.std.proofs.Common.{sym, refl, arith}
 use Rattle.hinted_log.proofs.TrimmingLemmas.{hints_more, hints_none}
 use Rattle.hinted_log.proofs.trim.mark_hints.Goals as goal
 
