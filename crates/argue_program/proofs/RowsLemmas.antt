@@ -30,7 +30,8 @@ follow_none found (Limit limit) = tt
 
 -- the status of a run that its one input ends is one of its row
 pub EndsCommand-reading : (found : Reading) (holds : List ℕ → KnownFile) (file : List ℕ) (end : Status)
-    → EndsReading found (input (role.Framework 1) file) end → EndsCommand found (grounded_row holds file) nothing_kept end
+    → EndsReading found (input (role.Framework 1) file) end
+    → EndsCommand found (grounded_row holds file) nothing_kept end
 EndsCommand-reading found holds file end (inl stops) = inl (refl, inl (inl (stops, follow_none found end)))
 EndsCommand-reading found holds file end (inr memory) = inl (refl, inr (memory, refl))
 
@@ -40,14 +41,16 @@ one_in x = (0, omega arith, refl)
 -- faults are counted in the role of the one input, and only where it ends the run by one
 pub CountsReads-reading : (found : Reading) (holds : List ℕ → KnownFile) (file : List ℕ) (end : Status)
     → (end ≢ ReadFault (role.Framework 1) → found.new_count ≡ found.old_count)
-    → OtherCountsKept (role.Framework 1) found.old_count found.new_count → CountsReads found (grounded_row holds file) end
+    → OtherCountsKept (role.Framework 1) found.old_count found.new_count
+    → CountsReads found (grounded_row holds file) end
 CountsReads-reading found holds file end quiet others = record {
   quiet = λ none. quiet (none (role.Framework 1));
   others = λ other none. others other (none (input (role.Framework 1) file) (one_in (input (role.Framework 1) file)));
 }
 
 -- an input ends a run with a status that has a text of its own
-pub common_text-reading : (found : Reading) (one : Input) (end : Status) → EndsReading found one end → IsSome (common_text end)
+pub common_text-reading : (found : Reading) (one : Input) (end : Status) → EndsReading found one end
+    → IsSome (common_text end)
 common_text-reading found one Usage h = refl
 common_text-reading found one (InputRefused refusal) h = refl
 common_text-reading found one (ReadFault role) h = refl
@@ -71,8 +74,10 @@ no_read_fault (Limit limit) h role = absurd h
 
 module _ (found : Reading) (row : Row) (ending : Ending) (end : Status) where
   stopped_cause : EndsCommand found row nothing_kept end → IsTrue row.takes_memory
-      → (ending.status ≡ end) ⊎ ((ending.status ≡ WantOfMemory) × IsRefusal end) → EndsCommand found row nothing_kept ending.status
-  stopped_cause cause takes (inl is) = let P : Status → Type 0 = EndsCommand found row nothing_kept in subst P (sym is) cause
+      → (ending.status ≡ end) ⊎ ((ending.status ≡ WantOfMemory) × IsRefusal end)
+      → EndsCommand found row nothing_kept ending.status
+  stopped_cause cause takes (inl is) =
+      let P : Status → Type 0 = EndsCommand found row nothing_kept in subst P (sym is) cause
   stopped_cause cause takes (inr memory) = inl (refl, inr (memory.0, takes))
 
   stopped_quiet : (((role : Role) → end ≢ ReadFault role) → found.new_count ≡ found.old_count)
@@ -87,7 +92,9 @@ module _ (found : Reading) (row : Row) (ending : Ending) (end : Status) where
       → Some (text_bytes ending.text) ≡ common_text ending.status → ending.files ≡ [] → CountsReads found row end
       → IsEndingOf found row ending
   IsEndingOf-stopped cause takes is kept text none counts = record {
-    cause = let P : Transcript → Type 0 = λ k. EndsCommand found row k ending.status in subst P (sym kept) (stopped_cause cause takes is);
+    cause =
+        let P : Transcript → Type 0 = λ k. EndsCommand found row k ending.status in
+        subst P (sym kept) (stopped_cause cause takes is);
     text = rw (sym text) refl;
     files = rw none (rw (sym text) refl);
     counts = record { quiet = stopped_quiet counts.quiet is; others = counts.others };
@@ -95,20 +102,25 @@ module _ (found : Reading) (row : Row) (ending : Ending) (end : Status) where
 
 -- ---- want of memory before the command is known
 
-takes_unless : (holds : List ℕ → KnownFile) (words : List (List ℕ)) (request : Request) → requested words ≡ request → words ≢ []
+takes_unless : (holds : List ℕ → KnownFile) (words : List (List ℕ)) (request : Request) → requested words ≡ request
+    → words ≢ []
     → IsTrue (row_of holds request).takes_memory
 takes_unless holds words version is some = absurd (some (none_requested words is))
 takes_unless holds words (grounded file) is some = refl
 takes_unless holds words unknown is some = refl
 
 -- where there are words, the command that they ask for takes memory
-pub takes_memory : (holds : List ℕ → KnownFile) (words : List (List ℕ)) → words ≢ [] → IsTrue (row_of holds (requested words)).takes_memory
+pub takes_memory : (holds : List ℕ → KnownFile) (words : List (List ℕ)) → words ≢ []
+    → IsTrue (row_of holds (requested words)).takes_memory
 takes_memory holds words some = takes_unless holds words (requested words) refl some
 
 -- the cause of want of memory in a row that takes any
-pub EndsCommand-memory : (found : Reading) (row : Row) → IsTrue row.takes_memory → EndsCommand found row nothing_kept WantOfMemory
+pub EndsCommand-memory : (found : Reading) (row : Row) → IsTrue row.takes_memory
+    → EndsCommand found row nothing_kept WantOfMemory
 EndsCommand-memory found row takes = inl (refl, inr (refl, takes))
 
 -- no count rose
-pub CountsReads-none : (found : Reading) (row : Row) (end : Status) → found.new_count ≡ found.old_count → CountsReads found row end
-CountsReads-none found row end same = record { quiet = λ none. same; others = λ role none. ap (λ count. count role) same }
+pub CountsReads-none : (found : Reading) (row : Row) (end : Status) → found.new_count ≡ found.old_count
+    → CountsReads found row end
+CountsReads-none found row end same =
+    record { quiet = λ none. same; others = λ role none. ap (λ count. count role) same }

@@ -29,7 +29,8 @@ use Rattle.argue_program.specs.declared.input.TheConstants.{INPUT_LIMIT}
 -- why a query for the grounded set of a file may end so
 abbrev pub EndsQuery : Reading → List ℕ → Transcript → Status → Type 0
 EndsQuery found file kept end =
-    StopsAt found end (input (Framework 1) file) ⊎ ((end ≡ WantOfMemory) ⊎ (KeepsAnswer (found.holds file) kept × (end ≡ Done)))
+    StopsAt found end (input (Framework 1) file) ⊎ ((end ≡ WantOfMemory) ⊎ (KeepsAnswer (found.holds file) kept ×
+    (end ≡ Done)))
 
 ends_query : (found : Reading) (file : List ℕ) (kept : Transcript) (end : Status)
     → EndsCommand found (grounded_row found.holds file) kept end → EndsQuery found file kept end
@@ -49,7 +50,8 @@ done_no_memory : Done ≢ WantOfMemory
 done_no_memory e = cc
 
 -- a query that is done answers on the file's bytes
-answer_query : (found : Reading) (file : List ℕ) (kept : Transcript) → EndsQuery found file kept Done → KeepsAnswer (found.holds file) kept
+answer_query : (found : Reading) (file : List ℕ) (kept : Transcript) → EndsQuery found file kept Done
+    → KeepsAnswer (found.holds file) kept
 answer_query found file kept (inl stops) = absurd stops
 answer_query found file kept (inr (inl is)) = absurd (done_no_memory is)
 answer_query found file kept (inr (inr answered)) = answered.0
@@ -59,18 +61,25 @@ answer_query found file kept (inr (inr answered)) = answered.0
 -- the bytes that a known file has are its own
 bytes_at : (known : KnownFile) (bytes other : List ℕ) → known ≡ Some (Some bytes) → HasBytes known other → other ≡ bytes
 bytes_at known bytes other is has =
-    let P : KnownFile → Type 0 = λ k. HoldsWhole k other in let held : HoldsWhole (Some (Some bytes)) other = subst P is has.held in held
+    let P : KnownFile → Type 0 = λ k. HoldsWhole k other in
+    let held : HoldsWhole (Some (Some bytes)) other = subst P is has.held in held
 
-within_at : (known : KnownFile) (bytes other : List ℕ) → known ≡ Some (Some bytes) → HasBytes known other → length bytes ≤ INPUT_LIMIT
-within_at known bytes other is has = subst (λ bs. length bs ≤ INPUT_LIMIT) (bytes_at known bytes other is has) has.within
+within_at : (known : KnownFile) (bytes other : List ℕ) → known ≡ Some (Some bytes) → HasBytes known other
+    → length bytes ≤ INPUT_LIMIT
+within_at known bytes other is has =
+    subst (λ bs. length bs ≤ INPUT_LIMIT) (bytes_at known bytes other is has) has.within
 
-longer_at : (known : KnownFile) (bytes : List ℕ) → known ≡ Some (Some bytes) → IsLonger known INPUT_LIMIT → INPUT_LIMIT < length bytes
+longer_at : (known : KnownFile) (bytes : List ℕ) → known ≡ Some (Some bytes) → IsLonger known INPUT_LIMIT
+    → INPUT_LIMIT < length bytes
 longer_at known bytes is long =
-    let P : KnownFile → Type 0 = λ k. IsLonger k INPUT_LIMIT in let longer : INPUT_LIMIT < length bytes = subst P is long in longer
+    let P : KnownFile → Type 0 = λ k. IsLonger k INPUT_LIMIT in
+    let longer : INPUT_LIMIT < length bytes = subst P is long in longer
 
 -- bytes that read as a framework have no first fault
-readable_sound : (bytes : List ℕ) (line : ℕ) (c : Cause) → IsReadable bytes → ¬ IsFirstFaultIn (Framework 1) bytes line c
-readable_sound bytes line (cause.Framework c) reads first = (ReadsAs-faultless bytes reads.0 reads.1).none line c first.stands
+readable_sound : (bytes : List ℕ) (line : ℕ) (c : Cause) → IsReadable bytes
+    → ¬ IsFirstFaultIn (Framework 1) bytes line c
+readable_sound bytes line (cause.Framework c) reads first =
+    (ReadsAs-faultless bytes reads.0 reads.1).none line c first.stands
 
 -- and no fault
 readable_or_faulty : (bytes : List ℕ) → IsReadable bytes → ¬ IsFaulty bytes
@@ -81,26 +90,32 @@ first_at : (found : Reading) (file bytes : List ℕ) (line : ℕ) (c : Cause) �
 first_at found file bytes line c is h =
     subst (λ bs. IsFirstFaultIn (Framework 1) bs line c) (bytes_at (found.holds file) bytes h.bytes is h.has) h.first
 
-answer_reads : (known : KnownFile) (bytes : List ℕ) (kept : Transcript) → known ≡ Some (Some bytes) → KeepsAnswer known kept → IsReadable bytes
+answer_reads : (known : KnownFile) (bytes : List ℕ) (kept : Transcript) → known ≡ Some (Some bytes)
+    → KeepsAnswer known kept → IsReadable bytes
 answer_reads known bytes kept is keeps = (
   keeps.answers.framework,
-  subst (λ bs. ReadsAs bs keeps.answers.framework) (bytes_at known bytes keeps.answers.bytes is keeps.answers.has) keeps.answers.reads,
+  subst (λ bs. ReadsAs bs keeps.answers.framework)
+      (bytes_at known bytes keeps.answers.bytes is keeps.answers.has) keeps.answers.reads,
 )
 
 no_read_fault : (found : Reading) (words : List (List ℕ)) (file bytes : List ℕ) → QueriesBytes found words file bytes
     → ¬ HasReadFault found (input (Framework 1) file)
-no_read_fault found words file bytes query h = ⊎_elim (λ served. h.unserved served) (λ uncounted. uncounted h.counted) query.no_fault
+no_read_fault found words file bytes query h =
+    ⊎_elim (λ served. h.unserved served) (λ uncounted. uncounted h.counted) query.no_fault
 
 -- a query is no row of other words
-at_query : (holds : List ℕ → KnownFile) (found : Reading) (words : List (List ℕ)) (file : List ℕ) (kept : Transcript) (end : Status)
+at_query : (holds : List ℕ → KnownFile) (found : Reading) (words : List (List ℕ)) (file : List ℕ) (kept : Transcript)
+    (end : Status)
     → IsGroundedQuery words file → EndsCommand found (row_of holds (requested words)) kept end
     → EndsCommand found (grounded_row holds file) kept end
 at_query holds found words file kept end query cause =
-    let P : Request → Type 0 = λ r. EndsCommand found (row_of holds r) kept end in subst P (requested_query words file query) cause
+    let P : Request → Type 0 = λ r. EndsCommand found (row_of holds r) kept end in
+    subst P (requested_query words file query) cause
 
 -- ---- the laws of a query
 
-module _ (found : Reading) (words : List (List ℕ)) (file bytes : List ℕ) (kept : Transcript) (query : QueriesBytes found words file bytes) where
+module _ (found : Reading) (words : List (List ℕ)) (file bytes : List ℕ) (kept : Transcript)
+    (query : QueriesBytes found words file bytes) where
   -- a query that was refused for a line has the first fault of its bytes
   refused_first : (r : Role) (line : ℕ) (c : Cause) → EndsQuery found file kept (InputRefused (Line r line c))
       → (r ≡ Framework 1) × IsFirstFaultIn (Framework 1) bytes line c
@@ -108,7 +123,8 @@ module _ (found : Reading) (words : List (List ℕ)) (file bytes : List ℕ) (ke
       let stops = stops_query found file kept (InputRefused (Line r line c)) (λ e. cc) (λ e. cc) ends in
       (stops.0, first_at found file bytes line c query.known stops.1)
 
-  refused_within : (r : Role) (line : ℕ) (c : Cause) → EndsQuery found file kept (InputRefused (Line r line c)) → length bytes ≤ INPUT_LIMIT
+  refused_within : (r : Role) (line : ℕ) (c : Cause) → EndsQuery found file kept (InputRefused (Line r line c))
+      → length bytes ≤ INPUT_LIMIT
   refused_within r line c ends =
       let stops = stops_query found file kept (InputRefused (Line r line c)) (λ e. cc) (λ e. cc) ends in
       within_at (found.holds file) bytes stops.1.bytes query.known stops.1.has
@@ -119,7 +135,8 @@ module _ (found : Reading) (words : List (List ℕ)) (file bytes : List ℕ) (ke
 
   longer_query : EndsQuery found file kept (Limit limit.Input) → INPUT_LIMIT < length bytes
   longer_query ends =
-      longer_at (found.holds file) bytes query.known (stops_query found file kept (Limit limit.Input) (λ e. cc) (λ e. cc) ends)
+      longer_at (found.holds file) bytes query.known (stops_query found file kept (Limit limit.Input) (λ e. cc)
+      (λ e. cc) ends)
 
   never_usage : ¬ EndsQuery found file kept Usage
   never_usage ends = stops_query found file kept Usage (λ e. cc) (λ e. cc) ends
@@ -137,10 +154,12 @@ module _ (found : Reading) (words : List (List ℕ)) (file bytes : List ℕ) (ke
   done_or_memory (Limit limit.Input) reads short whole ends = let long = longer_query ends in absurd (omega arith)
 
   -- faulty bytes within the limit are refused
-  pub refuses_bytes : (end : Status) → IsFaulty bytes → length bytes ≤ INPUT_LIMIT → (end ≢ WriteFault → EndsQuery found file kept end)
+  pub refuses_bytes : (end : Status) → IsFaulty bytes → length bytes ≤ INPUT_LIMIT → (end ≢ WriteFault
+      → EndsQuery found file kept end)
       → RefusesBytes bytes end
   refuses_bytes Done faulty short ends =
-      absurd (readable_or_faulty bytes (answer_reads (found.holds file) bytes kept query.known (answer_query found file kept (ends (λ e. cc)))) faulty)
+      absurd (readable_or_faulty bytes (answer_reads (found.holds file) bytes kept query.known
+      (answer_query found file kept (ends (λ e. cc)))) faulty)
   refuses_bytes Usage faulty short ends = absurd (never_usage (ends (λ e. cc)))
   refuses_bytes (InputRefused (Line r line c)) faulty short ends = refused_first r line c (ends (λ e. cc))
   refuses_bytes (ReadFault r) faulty short ends = absurd (never_unread r (ends (λ e. cc)))
@@ -149,10 +168,12 @@ module _ (found : Reading) (words : List (List ℕ)) (file bytes : List ℕ) (ke
   refuses_bytes (Limit limit.Input) faulty short ends = let long = longer_query (ends (λ e. cc)) in absurd (omega arith)
 
   -- bytes over the limit are refused
-  pub refuses_length : (end : Status) → INPUT_LIMIT < length bytes → (end ≢ WriteFault → EndsQuery found file kept end) → RefusesLength end
+  pub refuses_length : (end : Status) → INPUT_LIMIT < length bytes → (end ≢ WriteFault
+      → EndsQuery found file kept end) → RefusesLength end
   refuses_length Done long ends =
       let keeps = answer_query found file kept (ends (λ e. cc)) in
-      let short = within_at (found.holds file) bytes keeps.answers.bytes query.known keeps.answers.has in absurd (omega arith)
+      let short = within_at (found.holds file) bytes keeps.answers.bytes query.known keeps.answers.has in
+      absurd (omega arith)
   refuses_length Usage long ends = absurd (never_usage (ends (λ e. cc)))
   refuses_length (InputRefused (Line r line c)) long ends =
       let short = refused_within r line c (ends (λ e. cc)) in absurd (omega arith)
@@ -164,25 +185,30 @@ module _ (found : Reading) (words : List (List ℕ)) (file bytes : List ℕ) (ke
 -- ---- the laws of other words
 
 -- without words the run is done
-version_done : (found : Reading) (kept : Transcript) (end : Status) → EndsCommand found version_row kept end → end ≡ Done
+version_done : (found : Reading) (kept : Transcript) (end : Status) → EndsCommand found version_row kept end
+    → end ≡ Done
 version_done found kept end (inl (nothing, inl stops)) = absurd stops
 version_done found kept end (inl (nothing, inr (is, takes))) = absurd (let e : false ≡ true = takes in cc)
 version_done found kept end (inr done) = done.1
 
-ends_unknown : (found : Reading) (kept : Transcript) (end : Status) → EndsCommand found unknown_row kept end → (end ≡ Usage) ⊎ (end ≡ WantOfMemory)
-ends_unknown found kept end (inl (nothing, inl stops)) = absurd stops
-ends_unknown found kept end (inl (nothing, inr memory)) = inr memory.0
-ends_unknown found kept end (inr unasked) = inl unasked.1
+ends_unknown : (found : Reading) (kept : Transcript) (end : Status) → end ≢ Usage → end ≢ WantOfMemory
+    → ¬ EndsCommand found unknown_row kept end
+ends_unknown found kept end usage wants (inl (nothing, inl stops)) = stops
+ends_unknown found kept end usage wants (inl (nothing, inr memory)) = wants memory.0
+ends_unknown found kept end usage wants (inr unasked) = usage unasked.1
 
 -- words that ask for nothing are refused
-refuses_words : (found : Reading) (kept : Transcript) (end : Status) → (end ≢ WriteFault → EndsCommand found unknown_row kept end) → RefusesWords end
-refuses_words found kept Done ends = absurd (⊎_elim (λ e. let P : Done ≡ Usage = e in cc) (λ e. let P : Done ≡ WantOfMemory = e in cc) (ends_unknown found kept Done (ends (λ e. cc))))
+refuses_words : (found : Reading) (kept : Transcript) (end : Status)
+    → (end ≢ WriteFault → EndsCommand found unknown_row kept end) → RefusesWords end
+refuses_words found kept Done ends = absurd (ends_unknown found kept Done (λ e. cc) (λ e. cc) (ends (λ e. cc)))
 refuses_words found kept Usage ends = tt
-refuses_words found kept (InputRefused refusal) ends = absurd (⊎_elim (λ e. let P : InputRefused refusal ≡ Usage = e in cc) (λ e. let P : InputRefused refusal ≡ WantOfMemory = e in cc) (ends_unknown found kept (InputRefused refusal) (ends (λ e. cc))))
-refuses_words found kept (ReadFault r) ends = absurd (⊎_elim (λ e. let P : ReadFault r ≡ Usage = e in cc) (λ e. let P : ReadFault r ≡ WantOfMemory = e in cc) (ends_unknown found kept (ReadFault r) (ends (λ e. cc))))
+refuses_words found kept (InputRefused refusal) ends =
+    absurd (ends_unknown found kept (InputRefused refusal) (λ e. cc) (λ e. cc) (ends (λ e. cc)))
+refuses_words found kept (ReadFault r) ends =
+    absurd (ends_unknown found kept (ReadFault r) (λ e. cc) (λ e. cc) (ends (λ e. cc)))
 refuses_words found kept WriteFault ends = tt
 refuses_words found kept WantOfMemory ends = tt
-refuses_words found kept (Limit l) ends = absurd (⊎_elim (λ e. let P : Limit l ≡ Usage = e in cc) (λ e. let P : Limit l ≡ WantOfMemory = e in cc) (ends_unknown found kept (Limit l) (ends (λ e. cc))))
+refuses_words found kept (Limit l) ends = absurd (ends_unknown found kept (Limit l) (λ e. cc) (λ e. cc) (ends (λ e. cc)))
 
 -- ---- runs
 
@@ -207,7 +233,8 @@ no_files holds unknown kept end None = refl
 no_files holds unknown kept end (Some text) = refl
 
 -- the one role in which inputs are read today
-other_role : (holds : List ℕ → KnownFile) (request : Request) (other : Role) → other ≢ Framework 1 → HasNoInput (row_of holds request) other
+other_role : (holds : List ℕ → KnownFile) (request : Request) (other : Role) → other ≢ Framework 1
+    → HasNoInput (row_of holds request) other
 other_role holds version other apart = λ x c. absurd (none_in x c)
 other_role holds (grounded file) other apart =
     λ x c e. apart (e ∙ ap (λ (i : Input). i.role) (only_in x (input (Framework 1) file) c))
@@ -223,10 +250,15 @@ write_fault_or WantOfMemory = inr (λ e. cc)
 write_fault_or (Limit l) = inr (λ e. cc)
 
 -- what is decided and then written is a run
-pub IsRunOf-written : (found : Reading) (holds : List ℕ → KnownFile) (count : Role → ℕ) (row : Row) (ended : Ended) (writes : ℕ)
-    (old new : Output) (ending : Ending) → IsEndingOf (record found { new_count = count }) row ending → found.new_count ≡ count
+pub IsRunOf-written : (found : Reading) (holds : List ℕ → KnownFile) (count : Role
+    → ℕ) (row : Row) (ended : Ended) (writes : ℕ)
+    (old new : Output) (ending : Ending) → IsEndingOf (record found {
+      new_count =
+          count;
+    }) row ending → found.new_count ≡ count
     → ended.kept ≡ ending.kept
-    → (ended.status ≢ WriteFault → (ended.status ≡ ending.status) × IsWritten ending (record old { holds = holds; write_count = writes }) new)
+    → (ended.status ≢ WriteFault
+    → (ended.status ≡ ending.status) × IsWritten ending (record old { holds = holds; write_count = writes }) new)
     → (ended.status ≡ WriteFault → BreaksOff ending (record old { holds = holds; write_count = writes }) new)
     → holds ≡ old.holds → writes ≡ old.write_count → IsRunOf found row ended old new
 IsRunOf-written found holds count row ended writes old new ending decided reads kept whole broken same none =
@@ -242,20 +274,25 @@ IsRunOf-written found holds count row ended writes old new ending decided reads 
     }
 
 -- nothing is kept, and so no set
-none_kept : (found : Reading) (words : List (List ℕ)) (kept : Transcript) (set : List ℕ) → kept ≡ nothing_kept → kept.set ≡ Some set
+none_kept : (found : Reading) (words : List (List ℕ)) (kept : Transcript) (set : List ℕ) → kept ≡ nothing_kept
+    → kept.set ≡ Some set
     → IsRightFor words found.holds set
 none_kept found words kept set nothing is =
     absurd (let e : None ≡ Some set = sym (ap (λ (k : Transcript). k.set) nothing) ∙ is in cc)
 
-right_at : (found : Reading) (words : List (List ℕ)) (request : Request) (kept : Transcript) (end : Status) (set : List ℕ)
-    → requested words ≡ request → EndsCommand found (row_of found.holds request) kept end → kept.set ≡ Some set → IsRightFor words found.holds set
+right_at : (found : Reading) (words : List (List ℕ)) (request : Request) (kept : Transcript) (end : Status)
+    (set : List ℕ)
+    → requested words ≡ request → EndsCommand found (row_of found.holds request) kept end → kept.set ≡ Some set
+    → IsRightFor words found.holds set
 right_at found words request kept end set asked (inl (nothing, why)) is = none_kept found words kept set nothing is
 right_at found words version kept end set asked (inr done) is = none_kept found words kept set done.0 is
 right_at found words unknown kept end set asked (inr unasked) is = none_kept found words kept set unasked.0 is
 right_at found words (grounded file) kept end set asked (inr answered) is = record {
   file = file;
   query = query_requested words file asked;
-  answers = let e : answered.0.set ≡ set = some_is (sym answered.0.kept_set ∙ is) in subst (AnswersFile (found.holds file)) e answered.0.answers;
+  answers =
+      let e : answered.0.set ≡ set = some_is (sym answered.0.kept_set ∙ is) in
+      subst (AnswersFile (found.holds file)) e answered.0.answers;
 }
 
 module _ (found : Reading) (words : List (List ℕ)) (ended : Ended) (old new : Output)
@@ -266,36 +303,50 @@ module _ (found : Reading) (words : List (List ℕ)) (ended : Ended) (old new : 
       let Q : Status → Type 0 = EndsCommand found (row_of found.holds (requested words)) ended.kept in
       subst Q (sym (run.whole whole).0) (subst P (sym run.kept) run.decided.cause)
 
-  ends_on : (file : List ℕ) → IsGroundedQuery words file → ended.status ≢ WriteFault → EndsQuery found file ended.kept ended.status
-  ends_on file query whole = ends_query found file ended.kept ended.status (at_query found.holds found words file ended.kept ended.status query (ends whole))
+  ends_on : (file : List ℕ) → IsGroundedQuery words file → ended.status ≢ WriteFault
+      → EndsQuery found file ended.kept ended.status
+  ends_on file query whole =
+      ends_query found file ended.kept ended.status
+      (at_query found.holds found words file ended.kept ended.status query (ends whole))
 
   none_written : map file_text run.ending.files ≡ []
-  none_written = run.decided.files ∙ no_files found.holds (requested words) run.ending.kept run.ending.status (common_text run.ending.status)
+  none_written =
+      run.decided.files ∙ no_files found.holds (requested words) run.ending.kept run.ending.status
+      (common_text run.ending.status)
 
   same_files : WritesFiles (map file_text run.ending.files) old.holds new.holds → new.holds ≡ old.holds
-  same_files written = let P : List FileText → Type 0 = λ files. WritesFiles files old.holds new.holds in subst P none_written written
+  same_files written =
+      let P : List FileText → Type 0 = λ files. WritesFiles files old.holds new.holds in subst P none_written written
 
   in_text : BreaksOff run.ending old new → BreaksInText run.ending old new
-  in_text (inl broken) = let P : List FileText → Type 0 = λ files. BreaksFiles files old.holds new.holds in absurd (subst P none_written broken.files)
+  in_text (inl broken) =
+      let P : List FileText → Type 0 = λ files. BreaksFiles files old.holds new.holds in
+      absurd (subst P none_written broken.files)
   in_text (inr broken) = broken
 
   -- a set that the run keeps is right
   pub right_set : (set : List ℕ) → ended.kept.set ≡ Some set → IsRightFor words found.holds set
   right_set set is =
       let P : Transcript → Type 0 = λ k. EndsCommand found (row_of found.holds (requested words)) k run.ending.status in
-      right_at found words (requested words) ended.kept run.ending.status set refl (subst P (sym run.kept) run.decided.cause) is
+      right_at found words (requested words) ended.kept run.ending.status set refl (subst P
+      (sym run.kept) run.decided.cause) is
 
-  pub complete : (file bytes : List ℕ) → QueriesBytes found words file bytes → IsReadable bytes → length bytes ≤ INPUT_LIMIT
+  pub complete : (file bytes : List ℕ) → QueriesBytes found words file bytes → IsReadable bytes
+      → length bytes ≤ INPUT_LIMIT
       → ended.status ≢ WriteFault → IsDoneOrMemory ended.status
   complete file bytes query reads short whole =
-      done_or_memory found words file bytes ended.kept query ended.status reads short whole (ends_on file query.query whole)
+      done_or_memory found words file bytes ended.kept query ended.status reads short whole
+      (ends_on file query.query whole)
 
   pub faulty : (file bytes : List ℕ) → QueriesBytes found words file bytes → IsFaulty bytes → length bytes ≤ INPUT_LIMIT
       → RefusesBytes bytes ended.status
-  faulty file bytes query bad short = refuses_bytes found words file bytes ended.kept query ended.status bad short (ends_on file query.query)
+  faulty file bytes query bad short =
+      refuses_bytes found words file bytes ended.kept query ended.status bad short (ends_on file query.query)
 
-  pub too_long : (file bytes : List ℕ) → QueriesBytes found words file bytes → INPUT_LIMIT < length bytes → RefusesLength ended.status
-  too_long file bytes query long = refuses_length found words file bytes ended.kept query ended.status long (ends_on file query.query)
+  pub too_long : (file bytes : List ℕ) → QueriesBytes found words file bytes → INPUT_LIMIT < length bytes
+      → RefusesLength ended.status
+  too_long file bytes query long =
+      refuses_length found words file bytes ended.kept query ended.status long (ends_on file query.query)
 
   pub usage : ¬ AreWords words → RefusesWords ended.status
   usage other =

@@ -34,7 +34,8 @@ written_more list i file old mid new lt is written step =
 
 -- the next file of the list can't be written
 pub broken_next : (list : List Written) (i : ℕ) (file : Written) (old mid new : List ℕ → KnownFile) → i < length list
-    → file ≡ get_or list i file → WritesFiles (map file_text (take i list)) old mid → BreaksReplacing (file_text file) mid new
+    → file ≡ get_or list i file → WritesFiles (map file_text (take i list)) old mid
+    → BreaksReplacing (file_text file) mid new
     → BreaksFiles (map file_text list) old new
 broken_next [] i file old mid new lt is written broken = absurd (omega arith)
 broken_next (first ∷ list) zero file old mid new lt is written broken =
@@ -48,4 +49,5 @@ broken_next (first ∷ list) (suc i) file old mid new lt is written broken =
 pub written_all : (list : List Written) (i : ℕ) (old new : List ℕ → KnownFile) → length list ≤ i
     → WritesFiles (map file_text (take i list)) old new → WritesFiles (map file_text list) old new
 written_all list i old new all written =
-    let P : List Written → Type 0 = λ files. WritesFiles (map file_text files) old new in subst P (take_all i list all) written
+    let P : List Written → Type 0 = λ files. WritesFiles (map file_text files) old new in
+    subst P (take_all i list all) written

@@ -1,5 +1,5 @@
 -- The inputs of a run, and how one of them ends it.
-use Rattle.std.specs.Prelude.{◌≡◌, ℕ, ◌≤◌, ◌⊎◌, List, [], ◌∷◌, length, Contains, Some}
+use Rattle.std.specs.Prelude.{◌≡◌, ℕ, ◌≤◌, ◌⊎◌, List, [], ◌∷◌, length, Contains}
 use Rattle.argue_outside.specs.Outside.{FaultCounted, HoldsWhole, IsLonger, KnownFile}
 use Rattle.argue_outside.specs.declared.Role.{Role}
 use Rattle.argue_outside.specs.declared.Role.TheVariants.{Framework}
@@ -88,15 +88,6 @@ abbrev pub StopsAtFirst : Reading → Status → List Input → Type 0
 StopsAtFirst found end [] = ⊥
 StopsAtFirst found end (input ∷ more) =
     (StopsAt found end input × Follow found end more) ⊎ (Passes found end input × StopsAtFirst found end more)
-
--- the input's bytes are known, within the limit and without a fault, and no read of the input failed: so it is where the
--- file is served, and where no fault is counted
-pub record IsGood (found : Reading) (input : Input) : Type 0 where
-  pub bytes : List ℕ
-  pub known : found.holds input.file ≡ Some (Some bytes)
-  pub within : length bytes ≤ INPUT_LIMIT
-  pub faultless : (line : ℕ) (cause : Cause) → ¬ IsFirstFaultIn input.role bytes line cause
-  pub no_fault : ¬ HasReadFault found input
 
 -- ---- reading one input
 

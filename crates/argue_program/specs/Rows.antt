@@ -140,7 +140,8 @@ pub record CountsReads (found : Reading) (row : Row) (end : Status) : Type 0 whe
 pub record IsEndingOf (found : Reading) (row : Row) (ending : Ending) : Type 0 where
   pub cause : EndsCommand found row ending.kept ending.status
   pub text : text_bytes ending.text ≡ text_of row ending.kept ending.status
-  pub files : map file_text ending.files ≡ files_beside (common_text ending.status) (row.files ending.kept ending.status)
+  pub files :
+      map file_text ending.files ≡ files_beside (common_text ending.status) (row.files ending.kept ending.status)
   pub counts : CountsReads found row ending.status
 
 -- the ending of a query for the grounded set of a file that was answered

@@ -31,11 +31,13 @@ pub record IsRightFor (words : List (List ℕ)) (holds : List ℕ → KnownFile)
   pub query : IsGroundedQuery words file
   pub answers : AnswersFile (holds file) set
 
--- the words ask for the grounded set of a file with these bytes, of which no read fails: it is served, or no fault is counted
+-- the words ask for the grounded set of a file with these bytes, of which no read fails: it is served, or no fault is
+-- counted
 pub record QueriesBytes (found : Reading) (words : List (List ℕ)) (file bytes : List ℕ) : Type 0 where
   pub query : IsGroundedQuery words file
   pub known : found.holds file ≡ Some (Some bytes)
-  pub no_fault : found.Serves file ⊎ ¬ FaultCounted (found.old_count (role.Framework 1)) (found.new_count (role.Framework 1))
+  pub no_fault :
+      found.Serves file ⊎ ¬ FaultCounted (found.old_count (role.Framework 1)) (found.new_count (role.Framework 1))
 
 -- some line of the bytes has a fault
 abbrev pub IsFaulty : List ℕ → Type 0

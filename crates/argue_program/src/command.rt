@@ -39,11 +39,13 @@ pub fn execute<F: Files, O: Sink>(
         → IsRightFor (map string_bytes words.now) (F.holds files.old) set }
 
     // Completeness: with well-formed words and input and no fault, the run does what was asked, or wants memory.
-    ensures version { map string_bytes words.now ≡ [] → result.status ≢ Status.WriteFault → result.status ≡ Status.Done }
+    ensures version { map string_bytes words.now ≡ [] → result.status ≢ Status.WriteFault
+        → result.status ≡ Status.Done }
     ensures complete { (file bytes : List ℕ) → QueriesBytes
         (reading (F.holds files.old) (F.serves files.old) (F.read_count files.old) (F.read_count files.new))
         (map string_bytes words.now) file bytes
-        → IsReadable bytes → length bytes ≤ INPUT_LIMIT → result.status ≢ Status.WriteFault → IsDoneOrMemory result.status }
+        → IsReadable bytes → length bytes ≤ INPUT_LIMIT → result.status ≢ Status.WriteFault
+        → IsDoneOrMemory result.status }
 
     // The converses: words that aren't well-formed are refused, and so is a file with a fault and one over the limit.
     ensures usage { ¬ AreWords (map string_bytes words.now) → RefusesWords result.status }
@@ -57,7 +59,8 @@ pub fn execute<F: Files, O: Sink>(
         → INPUT_LIMIT < length bytes → RefusesLength result.status }
 
     // A write fault was counted. No file changes, and no other count of faults does.
-    ensures write_fault { result.status ≡ Status.WriteFault → FaultCounted (O.fault_count out.old) (O.fault_count out.new) }
+    ensures write_fault { result.status ≡ Status.WriteFault
+        → FaultCounted (O.fault_count out.old) (O.fault_count out.new) }
     ensures contents_stay { F.holds files.new ≡ F.holds files.old }
     ensures no_write { F.write_count files.new ≡ F.write_count files.old }
     ensures no_other_read { OtherCountsKept (Role.Framework 1) (F.read_count files.old) (F.read_count files.new) }
@@ -88,11 +91,13 @@ pub fn run<F: Files, O: Sink, P: Pace + Sync, R: Threads + Wait + Sync>(
         → IsRightFor (map string_bytes words.now) (F.holds files.old) set }
 
     // Completeness: with well-formed words and input and no fault, the run does what was asked, or wants memory.
-    ensures version { map string_bytes words.now ≡ [] → result.status ≢ Status.WriteFault → result.status ≡ Status.Done }
+    ensures version { map string_bytes words.now ≡ [] → result.status ≢ Status.WriteFault
+        → result.status ≡ Status.Done }
     ensures complete { (file bytes : List ℕ) → QueriesBytes
         (reading (F.holds files.old) (F.serves files.old) (F.read_count files.old) (F.read_count files.new))
         (map string_bytes words.now) file bytes
-        → IsReadable bytes → length bytes ≤ INPUT_LIMIT → result.status ≢ Status.WriteFault → IsDoneOrMemory result.status }
+        → IsReadable bytes → length bytes ≤ INPUT_LIMIT → result.status ≢ Status.WriteFault
+        → IsDoneOrMemory result.status }
 
     // The converses: words that aren't well-formed are refused, and so is a file with a fault and one over the limit.
     ensures usage { ¬ AreWords (map string_bytes words.now) → RefusesWords result.status }
@@ -106,7 +111,8 @@ pub fn run<F: Files, O: Sink, P: Pace + Sync, R: Threads + Wait + Sync>(
         → INPUT_LIMIT < length bytes → RefusesLength result.status }
 
     // A write fault was counted. No file changes, and no other count of faults does.
-    ensures write_fault { result.status ≡ Status.WriteFault → FaultCounted (O.fault_count out.old) (O.fault_count out.new) }
+    ensures write_fault { result.status ≡ Status.WriteFault
+        → FaultCounted (O.fault_count out.old) (O.fault_count out.new) }
     ensures contents_stay { F.holds files.new ≡ F.holds files.old }
     ensures no_write { F.write_count files.new ≡ F.write_count files.old }
     ensures no_other_read { OtherCountsKept (Role.Framework 1) (F.read_count files.old) (F.read_count files.new) }

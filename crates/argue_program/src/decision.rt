@@ -74,7 +74,8 @@ fn answer_grounded<F: Files>(alloc: Global, files: &mut F, name: &str) -> Result
     ensures ok { IfOk result (AnswersQuery (F.holds files.old) name.now) }
     ensures err { IfErr result (EndsReading (reading (F.holds files.old) (F.serves files.old) (F.read_count files.old)
         (F.read_count files.new)) (input (Role.Framework 1) name.now)) }
-    ensures quiet { (IsErrOf result (Status.ReadFault (Role.Framework 1)) → ⊥) → F.read_count files.new ≡ F.read_count files.old }
+    ensures quiet { (IsErrOf result (Status.ReadFault (Role.Framework 1)) → ⊥)
+        → F.read_count files.new ≡ F.read_count files.old }
     ensures others { OtherCountsKept (Role.Framework 1) (F.read_count files.old) (F.read_count files.new) }
     ensures same { F.holds files.new ≡ F.holds files.old }
     ensures writes { F.write_count files.new ≡ F.write_count files.old }

@@ -1,7 +1,8 @@
 //! The program from words and bytes to bytes.
 //!
-//! `run` is the top call. Its contract is the headline: an answer is right on the framework that the file's bytes read as, and
-//! every other way to end has its cause. It decides first and writes then: `decide` makes the ending, `write_ending` writes it.
+//! `run` is the top call. Its contract is the headline: an answer is right on the framework that the file's bytes
+//! read as, and every other way to end has its cause. It decides first and writes then: `decide` makes the ending, and
+//! `write_ending` writes it.
 #![tactic(auto)]
 
 pub mod command;

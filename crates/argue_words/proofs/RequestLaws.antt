@@ -20,14 +20,16 @@ when_other : (b : Bool) (task file : Text) → bytes_eq task (codes "SE-GR") ≡
 when_other true task file e other = absurd (other (ap Some ((bytes_eq-Decides task (codes "SE-GR")).0 e)))
 when_other false task file e other = refl
 
-task_unknown : (task file : Option Text) → (file ≡ None) ⊎ (task ≢ Some (codes "SE-GR")) → task_request task file ≡ unknown
+task_unknown : (task file : Option Text) → (file ≡ None) ⊎ (task ≢ Some (codes "SE-GR"))
+    → task_request task file ≡ unknown
 task_unknown None file h = refl
 task_unknown (Some task) None h = refl
 task_unknown (Some task) (Some file) (inl none) = cc
 task_unknown (Some task) (Some file) (inr other) = when_other (bytes_eq task (codes "SE-GR")) task file refl other
 
 -- a command of a task and a file's name asks for what these ask for
-pub query_request : (task file : Option Text) (c : Command) → IsQueryOf task file c → request_of c ≡ task_request task file
+pub query_request : (task file : Option Text) (c : Command) → IsQueryOf task file c
+    → request_of c ≡ task_request task file
 query_request task file Version is = absurd is
 query_request task file (Grounded name) is = sym (task_grounded task file name.now is.0 is.1)
 query_request task file Unknown is = sym (task_unknown task file is)
@@ -83,7 +85,8 @@ requested_query words file query =
 is_query : (words : List Text) (file : Text) (b : Bool) → takes solve_app words ≡ b → request_if b words ≡ grounded file
     → IsGroundedQuery words file
 is_query words file true taken is =
-    let both = asked_task (task_of words) (file_of words) file is in record { taken = taken; asks = both.0; names = both.1 }
+    let both = asked_task (task_of words) (file_of words) file is in
+        record { taken = taken; asks = both.0; names = both.1 }
 is_query words file false taken is = cc
 
 -- only a query asks for a grounded set
@@ -94,7 +97,8 @@ query_requested (word ∷ more) file is = is_query (word ∷ more) file (takes s
 -- words that ask for nothing are not well-formed
 pub unknown_requested : (words : List Text) → requested words ≡ unknown → ¬ AreWords words
 unknown_requested words is (inl none) = let e : version ≡ unknown = sym (requested_none words none) ∙ is in cc
-unknown_requested words is (inr (file, query)) = let e : grounded file ≡ unknown = sym (requested_query words file query) ∙ is in cc
+unknown_requested words is (inr (file, query)) =
+    let e : grounded file ≡ unknown = sym (requested_query words file query) ∙ is in cc
 
 when_version : (b : Bool) (file : Text) → (if b then grounded file else unknown) ≢ version
 when_version true file is = cc
@@ -114,7 +118,8 @@ pub none_requested : (words : List Text) → requested words ≡ version → wor
 none_requested [] is = refl
 none_requested (word ∷ more) is = absurd (no_version_if (takes solve_app (word ∷ more)) (word ∷ more) is)
 
-unless_words : (words : List Text) (request : Request) → requested words ≡ request → ¬ AreWords words → request ≡ unknown
+unless_words : (words : List Text) (request : Request) → requested words ≡ request → ¬ AreWords words
+    → request ≡ unknown
 unless_words words version is other = absurd (other (inl (none_requested words is)))
 unless_words words (grounded file) is other = absurd (other (inr (file, query_requested words file is)))
 unless_words words unknown is other = refl
@@ -126,11 +131,13 @@ requested_unknown words other = unless_words words (requested words) refl other
 -- ---- what clap finds
 
 -- a command of what clap matches on the words asks for what the words do
-pub requested_matches : (words : List Text) (task file : Option Text) (c : Command) → words ≢ [] → takes solve_app words ≡ true
+pub requested_matches : (words : List Text) (task file : Option Text) (c : Command) → words ≢ []
+    → takes solve_app words ≡ true
     → task ≡ task_of words → file ≡ file_of words → IsQueryOf task file c → request_of c ≡ requested words
 requested_matches words task file c some taken asks names is =
     query_request task file c is
-    ∙ (ap (λ t. task_request t file) asks ∙ (ap (λ f. task_request (task_of words) f) names ∙ sym (requested_taken words some taken)))
+    ∙ (ap (λ t. task_request t file) asks ∙ (ap (λ f. task_request (task_of words) f) names ∙ sym
+    (requested_taken words some taken)))
 
 other_or : (task : Option Text) (file : Text) → IsQueryOf task (Some file) Unknown → task ≢ Some (codes "SE-GR")
 other_or task file (inl none) = cc
@@ -144,19 +151,24 @@ other_matches words task (Some file) c some asks given is unknown_is =
     let h : IsQueryOf task (Some file) Unknown = subst (IsQueryOf task (Some file)) unknown_is is in
     record { some_words = some; other_task = λ taken e. other_or task file h (asks ∙ e) }
 
-refused_if : (words : List Text) (b : Bool) → takes solve_app words ≡ b → (takes solve_app words ≡ true → ⊥) → takes solve_app words ≡ false
+refused_if : (words : List Text) (b : Bool) → takes solve_app words ≡ b → (takes solve_app words ≡ true → ⊥)
+    → takes solve_app words ≡ false
 refused_if words true is other = absurd (other is)
 refused_if words false is other = is
 
 -- words that clap refuses for another cause than want of memory ask for nothing
 pub requested_at : {E : Type 0} (K : Type 0) (words : List Text) (r : Result Command E) → words ≢ []
-    → (takes solve_app words ≡ true → K) → IfOk r (λ c. (c ≡ Unknown) × (K → ⊥)) → IfOk r (λ c. request_of c ≡ requested words)
+    → (takes solve_app words ≡ true → K) → IfOk r (λ c. (c ≡ Unknown) × (K → ⊥))
+    → IfOk r (λ c. request_of c ≡ requested words)
 requested_at K words (Err e) some cause h = tt
 requested_at K words (Ok c) some cause h =
-    ap request_of h.0 ∙ sym (requested_refused words some (refused_if words (takes solve_app words) refl (λ taken. h.1 (cause taken))))
+    ap request_of h.0 ∙ sym (requested_refused words some (refused_if words (takes solve_app words) refl
+    (λ taken. h.1 (cause taken))))
 
 -- and their task doesn't matter
 pub unknown_at : {E : Type 0} (K : Type 0) (words : List Text) (r : Result Command E) → words ≢ []
-    → (takes solve_app words ≡ true → K) → IfOk r (λ c. (c ≡ Unknown) × (K → ⊥)) → IfOk r (λ c. c ≡ Unknown → AreUnknown words)
+    → (takes solve_app words ≡ true → K) → IfOk r (λ c. (c ≡ Unknown) × (K → ⊥)) → IfOk r (λ c. c ≡ Unknown
+    → AreUnknown words)
 unknown_at K words (Err e) some cause h = tt
-unknown_at K words (Ok c) some cause h = λ _. record { some_words = some; other_task = λ taken. absurd (h.1 (cause taken)) }
+unknown_at K words (Ok c) some cause h =
+    λ _. record { some_words = some; other_task = λ taken. absurd (h.1 (cause taken)) }

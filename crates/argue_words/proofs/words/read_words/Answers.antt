@@ -9,7 +9,8 @@ returns-in-Ok-clause-request c =
 
 pub returns-in-Ok-clause-unknown : goal.returns-in-Ok-clause-unknown
 returns-in-Ok-clause-unknown c =
-    other_matches _ _ _ _ (some_texts _ _ c.if-is_empty.ensures) (c.in-Ok.ensures.values _) c.in-Ok.ensures.file c.query_of.ensures
+    other_matches _ _ _ _ (some_texts _ _ c.if-is_empty.ensures) (c.in-Ok.ensures.values _)
+    c.in-Ok.ensures.file c.query_of.ensures
 
 pub returns-in-Err-clause-request : goal.returns-in-Err-clause-request
 returns-in-Err-clause-request c =
