@@ -1,4 +1,5 @@
 -- A text that was written reads as the framework that it was written of.
+use Rattle.num_text.specs.declared.limit.TheConstants.{INPUT_LIMIT}
 use Rattle.std.proofs.Common.{◌≡◌, ℕ, ◌+◌, ◌*◌, ◌<◌, ◌≤◌, ◌==◌, false, not, List, [], ◌∷◌, ◌++◌, length, take, drop, get_or, filter, refl, sym, ap, subst, ◌∙◌, arith}
 use Rattle.std.specs.Prelude.{Contains, codes, All}
 use Rattle.std.specs.List.{AllZip, flat_map, position_or_len, range_with_len}
@@ -229,7 +230,7 @@ lines_within count (p ∷ ps) all =
     )
 
 -- a text of at most 10,000,000 attacks keeps the reader's limit
-pub text_within : (f : Af) → IsAf f → IsSolid f → length f.attacks ≤ MOST_ATTACK_LINES → length (af_text f) ≤ 268435456
+pub text_within : (f : Af) → IsAf f → IsSolid f → length f.attacks ≤ MOST_ATTACK_LINES → length (af_text f) ≤ INPUT_LIMIT
 text_within f form solid few =
     omega (
       arith,

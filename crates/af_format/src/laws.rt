@@ -10,6 +10,7 @@ ghost use Rattle.af_format.specs.AfText.{ReadsAs, IsReadable};
 ghost use Rattle.af_format.specs.Faults.{IsFirstFault, IsFaultless};
 ghost use Rattle.af_format.specs.FirstBadLine.{AreSomeAttacks, IsFirstBadLine};
 ghost use Rattle.af_format.specs.declared.fault.ReadFault.TheVariants.{Memory as refused};
+ghost use Rattle.num_text.specs.declared.limit.TheConstants.{INPUT_LIMIT};
 
 use crate::af_line::MOST_ATTACK_LINES;
 use crate::fault::{LineFault, ReadFault};
@@ -40,7 +41,7 @@ pub fn read_back(alloc: Global, framework: &AfPlain) -> Result<AfPlain, ReadFaul
 /// That a text is the text of a framework, or else its first fault. No memory is needed, so each text
 /// has an answer.
 pub fn readable_or_faulty(bytes: &[u8]) -> Result<(), LineFault>
-    requires { length bytes.now ≤ 268435456 }
+    requires { length bytes.now ≤ INPUT_LIMIT }
     ensures readable { OnOk result (IsReadable bytes.now) }
     ensures faulty { IfErr result (λ fault. IsFirstFault bytes.now fault.line fault.cause) }
 {

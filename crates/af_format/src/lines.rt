@@ -2,12 +2,13 @@
 
 ghost use Rattle.std.specs.Prelude.{◌≡◌, length, ◌≤◌};
 ghost use Rattle.num_text.specs.Cuts.{lines_of};
+ghost use Rattle.num_text.specs.declared.limit.TheConstants.{INPUT_LIMIT};
 
 use num_text::lines;
 
 /// The number of all lines.
 pub(crate) fn line_count(bytes: &[u8]) -> usize
-    requires { length bytes.now ≤ 268435456 }
+    requires { length bytes.now ≤ INPUT_LIMIT }
     ensures count { result ≡ length (lines_of bytes.now) }
     ensures within { result ≤ 268435457 }
 {

@@ -9,6 +9,7 @@ ghost use Rattle.af_format.specs.Faults.{IsFirstFault, IsFaultless, IfLine};
 ghost use Rattle.dung_notions.specs.Solid.{IsSolid};
 ghost use Rattle.semantics.specs.Framework.{Af};
 ghost use Rattle.af_format.specs.FirstBadLine.{BeginWithHeader, IsFirstBadLine};
+ghost use Rattle.num_text.specs.declared.limit.TheConstants.{INPUT_LIMIT};
 
 use crate::af_line::header_of;
 use crate::fault::{LineCause, LineFault, ReadFault};
@@ -29,7 +30,7 @@ use std::alloc::Global;
 /// the order of [`LineCause`]. `Memory` says that an allocation was refused.
 #[tactic(auto, using(crate::proofs::Reading::header_few, crate::proofs::Reading::reads_as, crate::proofs::Reading::bad_line_told, crate::proofs::Reading::ends_are_arguments, crate::proofs::Reading::faultless,))]
 pub fn read_af(alloc: Global, bytes: &[u8]) -> Result<AfPlain, ReadFault>
-    requires { length bytes.now ≤ 268435456 }
+    requires { length bytes.now ≤ INPUT_LIMIT }
     ensures ok { IfOk result (ReadsAs bytes.now) }
     ensures no_other { IfOk result (λ f. (g : Af) → ReadsAs bytes.now g → g ≡ f) }
     ensures solid { IfOk result IsSolid }
@@ -44,7 +45,7 @@ pub fn read_af(alloc: Global, bytes: &[u8]) -> Result<AfPlain, ReadFault>
 
 /// The number of arguments that the text's header tells. The lines behind the header are left.
 pub(crate) fn read_header(bytes: &[u8], left: &mut Lines<'_>) -> Result<u32, LineFault>
-    requires size { length bytes.now ≤ 268435456 }
+    requires size { length bytes.now ≤ INPUT_LIMIT }
     requires all { left.old ≡ lines_of bytes.now }
     ensures ok { IfOk result (λ count. BeginWithHeader bytes.now count left.new) }
     ensures fault { IfErr result (λ fault. IsFirstFault bytes.now fault.line fault.cause) }

@@ -6,6 +6,7 @@ ghost use Rattle.semantics.specs.Frameworks.{IsNumberedAf};
 ghost use Rattle.af_format.specs.AfText.{ReadsAs};
 ghost use Rattle.dung_notions.specs.Solid.{IsSolid};
 ghost use Rattle.af_format.specs.Written.{af_text};
+ghost use Rattle.num_text.specs.declared.limit.TheConstants.{INPUT_LIMIT};
 
 use crate::af_line::MOST_ATTACK_LINES;
 use dung_notions::AfPlain;
@@ -21,7 +22,7 @@ pub fn write_af(alloc: Global, framework: &AfPlain) -> Result<Bytes, Memory>
     ensures text { IfOk result (λ text. text ≡ af_text framework.now) }
     ensures back { length framework.now.attacks ≤ MOST_ATTACK_LINES
         → IfOk result (λ text. ReadsAs text framework.now) }
-    ensures within { length framework.now.attacks ≤ MOST_ATTACK_LINES → IfOk result (λ text. length text ≤ 268435456) }
+    ensures within { length framework.now.attacks ≤ MOST_ATTACK_LINES → IfOk result (λ text. length text ≤ INPUT_LIMIT) }
 {
     let text = text_of(alloc, framework)?;
     Ok(Bytes::from_vec(text.into_bytes()))

@@ -22,7 +22,7 @@ use Rattle.argue_program.specs.declared.ended.Refusal.TheVariants.{Line}
 use Rattle.argue_program.specs.declared.ended.Status.{Status}
 use Rattle.argue_program.specs.declared.ended.Status.TheVariants.{Done, Usage, InputRefused, ReadFault, WriteFault, WantOfMemory, Limit}
 use Rattle.argue_program.specs.declared.ended.Transcript.{Transcript}
-use Rattle.argue_program.specs.declared.input.TheConstants.{INPUT_LIMIT}
+use Rattle.num_text.specs.declared.limit.TheConstants.{INPUT_LIMIT}
 
 -- ---- the row of a query
 

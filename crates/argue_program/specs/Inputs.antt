@@ -14,7 +14,7 @@ use Rattle.argue_program.specs.declared.ended.Limit.TheVariants as limit
 use Rattle.argue_program.specs.declared.ended.Refusal.TheVariants.{Line}
 use Rattle.argue_program.specs.declared.ended.Status.{Status}
 use Rattle.argue_program.specs.declared.ended.Status.TheVariants.{InputRefused, ReadFault, WantOfMemory, Limit}
-use Rattle.argue_program.specs.declared.input.TheConstants.{INPUT_LIMIT}
+use Rattle.num_text.specs.declared.limit.TheConstants.{INPUT_LIMIT}
 
 -- what is known of the files before a run, and the faults of reading before and after it
 pub record Reading : Type 1 where

@@ -9,7 +9,7 @@ ghost use Rattle.argue_program.specs.Inputs.{reading};
 ghost use Rattle.argue_program.specs.Rows.{row_of};
 ghost use Rattle.argue_program.specs.Runs.{IsDoneOrMemory, IsFaulty, IsRightFor, IsRunOf, QueriesBytes, RefusesBytes, RefusesLength, RefusesWords};
 ghost use Rattle.argue_program.specs.Writing.{output};
-ghost use Rattle.argue_program.specs.declared.input.TheConstants.{INPUT_LIMIT};
+ghost use Rattle.num_text.specs.declared.limit.TheConstants.{INPUT_LIMIT};
 
 use crate::decision::decide;
 use crate::ended::{Ended, Status};

@@ -8,11 +8,9 @@ use crate::ended::{Cause, Limit, Refusal, Status};
 use af_format::{ReadFault, read_af};
 use argue_outside::{Files, ReadStop, Role, read_all};
 use dung_notions::AfPlain;
+use num_text::INPUT_LIMIT;
 use plain_lists::{Bytes, Memory};
 use std::alloc::Global;
-
-/// The most bytes that an input may have.
-pub const INPUT_LIMIT: u64 = 268_435_456;
 
 impl From<Memory> for Status {
     ghost use Rattle.std.specs.Prelude.{◌≡◌};

@@ -16,7 +16,6 @@ pub mod writing;
 pub use command::{execute, run};
 pub use decision::{Ending, decide};
 pub use ended::{Cause, Ended, Limit, Refusal, Status, Transcript};
-pub use input::INPUT_LIMIT;
 pub use process::run_process;
 pub use texts::Text;
 pub use writing::{Written, write_ending};

@@ -8,6 +8,7 @@
 
 pub mod cuts;
 pub mod field;
+pub mod limit;
 pub mod line;
 pub mod number;
 pub mod skips;
@@ -15,6 +16,7 @@ pub mod span;
 
 pub use cuts::{fields, lines};
 pub use field::{Field, Fields};
+pub use limit::INPUT_LIMIT;
 pub use line::{Line, Lines};
 pub use number::decimal;
 pub use skips::{is_skipped, next_kept};
