@@ -1,6 +1,10 @@
 //! What `main` does: the words, the real files and standard output of a process, and its exit status.
 
-ghost use Rattle.std.specs.Prelude.{◌≡◌, ◌≢◌, ◌⊎◌};
+ghost use Rattle.std.specs.Prelude.{◌≡◌, ◌≢◌, ◌⊎◌, [], None};
+ghost use Rattle.std.specs.Option.{unwrap_or};
+ghost use Rattle.std.specs.Io.KnownBytes.{Appends};
+ghost use Rattle.argue_outside.specs.Outside.{AppendsPart, FaultCounted};
+ghost use Rattle.argue_program.specs.Texts.{common_text};
 
 use crate::command::run;
 use crate::decision::stopped;
@@ -37,7 +41,7 @@ pub fn run_process<R: Runtime + AllocGlobal + Threads + Wait + Sync>(rt: &R) -> 
             &mut out,
             &NoPace,
         ),
-        Err(error) => refuse_words(rt.alloc(), words_status(&error), &mut files, &mut out),
+        Err(error) => refuse_words(rt.alloc(), words_status(error.kind()), &mut files, &mut out),
     };
     ExitCode::from(ended.status.code())
 }
@@ -47,11 +51,13 @@ fn words<R: Env + AllocGlobal>(rt: &R) -> io::Result<Vec<String>> {
     Ok(env::args(rt)?.skip(1).collect(rt.alloc())?)
 }
 
-/// The status of a run whose words couldn't be had.
-fn words_status(error: &io::Error) -> Status
-    ensures { (result ≡ Status.Usage) ⊎ (result ≡ Status.WantOfMemory) }
+/// The status of a run whose words couldn't be had for this reason.
+fn words_status(reason: ErrorKind) -> Status
+    ensures memory { reason ≡ ErrorKind.OutOfMemory → result ≡ Status.WantOfMemory }
+    ensures usage { reason ≢ ErrorKind.OutOfMemory → result ≡ Status.Usage }
+    ensures either { (result ≡ Status.Usage) ⊎ (result ≡ Status.WantOfMemory) }
 {
-    match error.kind() {
+    match reason {
         ErrorKind::OutOfMemory => Status::WantOfMemory,
         _ => Status::Usage,
     }
@@ -65,6 +71,13 @@ fn refuse_words<F: Files, O: Sink>(
     out: &mut O,
 ) -> Ended
     requires { (status ≡ Status.Usage) ⊎ (status ≡ Status.WantOfMemory) }
+    ensures kept { result.kept.set ≡ None }
+    ensures status { result.status ≢ Status.WriteFault → result.status ≡ status }
+    ensures text { result.status ≢ Status.WriteFault
+        → Appends (O.contents out.old) (O.contents out.new) (unwrap_or (common_text status) []) }
+    ensures part { result.status ≡ Status.WriteFault
+        → AppendsPart (O.contents out.old) (O.contents out.new) (unwrap_or (common_text status) []) }
+    ensures write_fault { result.status ≡ Status.WriteFault → FaultCounted (O.fault_count out.old) (O.fault_count out.new) }
 {
     let ending = stopped(alloc, status);
     write_ending(files, out, ending)
