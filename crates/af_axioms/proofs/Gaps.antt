@@ -27,11 +27,11 @@ pub attackers_parted : (f : Af) (a i : ℕ) (pairs : List (ℕ × ℕ)) → List
     → IsPartitionedBy (λ p. ltb p.1 i) pairs
 attackers_parted f a i pairs h = IsPartitionedBy-ltb (λ (p : ℕ × ℕ). p.1) pairs i (attackers_rise f a pairs h)
 
--- the place n is that of the first attacker from i on
+-- the index n is that of the first attacker from i on
 abbrev pub IsCutAt : ℕ → List (ℕ × ℕ) → ℕ → Type 0
 IsCutAt i pairs n = IsPartitionPoint (λ p. ltb p.1 i ≡ true) (λ p. ltb p.1 i ≡ false) pairs n
 
--- the place k has the attacker b, and is the cut or later
+-- the index k has the attacker b, and is the cut or later
 record IsLaterPlace (pairs : List (ℕ × ℕ)) (n b k : ℕ) : Type 0 where
   late : n ≤ k
   within : k < length pairs

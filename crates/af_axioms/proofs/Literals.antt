@@ -8,28 +8,28 @@ use Rattle.meaning_atoms.specs.declared.atom.Atom.TheVariants.{Gap}
 use Rattle.meaning_atoms.specs.declared.axiom.AfAxiom.{AfAxiom}
 use Rattle.meaning_atoms.specs.declared.axiom.AfAxiom.TheVariants.{A1, A2, A3, A4, A5, A6, A7, A8, A9, A10, A11, A12, A13, A14}
 use Rattle.semantics.specs.Arguments.{IsArgument}
-use Rattle.meaning_atoms.specs.Atoms.{IsPlace, IsAtom, IsLit}
+use Rattle.meaning_atoms.specs.Atoms.{IsPosition, IsAtom, IsLit}
 use Rattle.meaning_atoms.specs.Axioms.{IsStretch, IsAfAxiom}
 use Rattle.af_axioms.specs.Table.{table_clause, notion_clause}
 
--- the place of the first argument, and that past the last
-first_place : IsPlace 1
+-- the position of the first argument, and that past the last
+first_place : IsPosition 1
 first_place = record { low = omega arith; high = omega arith }
 
-last_place : IsPlace 1000001
+last_place : IsPosition 1000001
 last_place = record { low = omega arith; high = omega arith }
 
--- the ends of a stretch, as an argument and as places, and the place past it
-stretch_begin : (a i j : ℕ) → IsStretch a i j → IsPlace i
+-- the ends of a stretch, as an argument and as positions, and the position past it
+stretch_begin : (a i j : ℕ) → IsStretch a i j → IsPosition i
 stretch_begin a i j s = record { low = s.from; high = omega arith }
 
-stretch_end : (a i j : ℕ) → IsStretch a i j → IsPlace j
+stretch_end : (a i j : ℕ) → IsStretch a i j → IsPosition j
 stretch_end a i j s = record { low = omega arith; high = omega arith }
 
 stretch_argument : (a i j : ℕ) → IsStretch a i j → IsArgument j
 stretch_argument a i j s = record { low = omega arith; high = omega arith }
 
-stretch_past : (a i j : ℕ) → IsStretch a i j → IsPlace (j + 1)
+stretch_past : (a i j : ℕ) → IsStretch a i j → IsPosition (j + 1)
 stretch_past a i j s = record { low = omega arith; high = omega arith }
 
 -- the gap of a stretch
@@ -48,14 +48,14 @@ fits (A3 b a) h = (tt, (h, (h.1, ((h.0, first_place), tt))))
 fits (A4 b a) h = (h, (h.0, ((h.1, first_place), tt)))
 fits (A5 a i j) h =
     let s : IsStretch a i j = h in
-    let past : IsArgument a × IsPlace (j + 1) = (s.argument, stretch_past a i j s) in
+    let past : IsArgument a × IsPosition (j + 1) = (s.argument, stretch_past a i j s) in
     ((s.argument, stretch_begin a i j s), (stretch_gap a i j s, (stretch_argument a i j s, (past, tt))))
 fits (A6 a i) h = (h, ((h.0, h.1, last_place, h.1.high), tt))
 fits (A7 a) h = (tt, (h, (h, ((h, first_place), tt))))
 fits (A8 a i j) h =
     let s : IsStretch a i j = h in
-    let past : IsArgument a × IsPlace (j + 1) = (s.argument, stretch_past a i j s) in
-    let hit : IsArgument j × IsPlace 1 = (stretch_argument a i j s, first_place) in
+    let past : IsArgument a × IsPosition (j + 1) = (s.argument, stretch_past a i j s) in
+    let hit : IsArgument j × IsPosition 1 = (stretch_argument a i j s, first_place) in
     ((s.argument, stretch_begin a i j s), (stretch_gap a i j s, (hit, (past, tt))))
 fits (A9 a i) h = (h, ((h.0, h.1, last_place, h.1.high), tt))
 fits (A10 a) h = (tt, (h, (h, ((h, first_place), tt))))

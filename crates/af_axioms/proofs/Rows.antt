@@ -17,7 +17,7 @@ use Rattle.semantics.proofs.Extensions.{stable_largest, preferred_complete}
 use Rattle.meaning_atoms.proofs.Clauses.{so, or_else, given}
 use Rattle.af_axioms.specs.Table.{table_clause, notion_clause}
 
--- the number of an attacker lies before the end of all places
+-- the number of an attacker lies before the end of all positions
 before_end : (f : Af) (s : List ℕ) → IsAfWorld f s → (b a : ℕ) → Attacks f b a → b < 1000001
 before_end f s ok b a at = let high = (ok.framework.live b (ok.framework.form.ends b a at).0).high in omega arith
 

@@ -1,7 +1,7 @@
 -- The table of axioms: clauses that are true of every abstract framework and every set of numbers.
 --
 -- The axioms are the program's own; they put into clauses what the definitions of the notions say (Dung 1995).
--- Who attacks an argument is told by walking along its attackers by rising number: A5 and A8 step from a place
+-- Who attacks an argument is told by walking along its attackers by rising number: A5 and A8 step from a position
 -- over a gap to the next attacker, A6 and A9 end the walk.
 use Rattle.std.specs.Prelude.{ℕ, ◌+◌, ◌==◌, if◌then◌else◌, true, false, List, [], ◌∷◌}
 use Rattle.meaning_atoms.specs.declared.atom.TheConstants.{END}

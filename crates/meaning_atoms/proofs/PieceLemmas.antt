@@ -17,18 +17,18 @@ drop_next : (xs : List ℕ) (n : ℕ) → n < length xs → drop n xs ≡ get_or
 drop_next xs n h = rw (add-one, drop-cons xs n 0) refl
 
 -- a text with a colon is cut there first
-pub split_at_colon : (text : List ℕ) (place : ℕ) → position is_colon text ≡ Some place
-    → slice_split is_colon text ≡ take place text ∷ slice_split is_colon (drop (place + 1) text)
-split_at_colon text place found =
-    let at = position-Some is_colon text place 0 found in
-    let within : place < length text = at.0 in
-    let before : All (λ b. is_colon b ≡ false) (take place text)
-    = All-from_get_or (λ b. is_colon b ≡ false) (take place text) 0
-    (λ k h. let below : k < place = omega (arith, length-take place text) in rw (get_or-take place text k 0 below) (at.2 k below)) in
-    let parts : take place text ++ get_or text place 0 ∷ drop (place + 1) text ≡ text
-    = ap (λ t. take place text ++ t) (sym (drop_next text place within)) ∙ take-append-drop place text in
+pub split_at_colon : (text : List ℕ) (index : ℕ) → position is_colon text ≡ Some index
+    → slice_split is_colon text ≡ take index text ∷ slice_split is_colon (drop (index + 1) text)
+split_at_colon text index found =
+    let at = position-Some is_colon text index 0 found in
+    let within : index < length text = at.0 in
+    let before : All (λ b. is_colon b ≡ false) (take index text)
+    = All-from_get_or (λ b. is_colon b ≡ false) (take index text) 0
+    (λ k h. let below : k < index = omega (arith, length-take index text) in rw (get_or-take index text k 0 below) (at.2 k below)) in
+    let parts : take index text ++ get_or text index 0 ∷ drop (index + 1) text ≡ text
+    = ap (λ t. take index text ++ t) (sym (drop_next text index within)) ∙ take-append-drop index text in
     ap (λ t. slice_split is_colon t) (sym parts)
-    ∙ slice_split_at is_colon (take place text) (get_or text place 0) (drop (place + 1) text) before at.1
+    ∙ slice_split_at is_colon (take index text) (get_or text index 0) (drop (index + 1) text) before at.1
 
 -- a test that chose none did not hold
 not_chosen : (b : Bool) (n : ℕ) → cond b (Some n) None ≡ None → b ≡ false
@@ -41,7 +41,7 @@ split_nowhere text none =
     let past = ltb-false (position_or_len is_colon text) (length text) (not_chosen _ _ none) in
     slice_split_none is_colon text (λ k d below. fails_before_first is_colon text k d (omega arith))
 
--- what is left behind a place, as it is cut out
+-- what is left behind a index, as it is cut out
 pub rest_whole : (text : List ℕ) (n : ℕ) → take (length text - n) (drop n text) ≡ drop n text
 rest_whole text n = rw (← length-drop n text) (take-length (drop n text))
 

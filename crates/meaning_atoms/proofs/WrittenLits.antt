@@ -12,7 +12,7 @@ use Rattle.meaning_atoms.specs.declared.atom.Atom.{Atom}
 use Rattle.meaning_atoms.specs.declared.atom.Atom.TheVariants.{Member, Live, Attack, Gap, Tail, Unmet, Range, Cf, Ad, Co, St, Ask}
 use Rattle.meaning_atoms.specs.declared.atom.AtomLit.{AtomLit}
 use Rattle.semantics.specs.Arguments.{IsArgument}
-use Rattle.meaning_atoms.specs.Atoms.{IsPlace, IsAtom, IsLit}
+use Rattle.meaning_atoms.specs.Atoms.{IsPosition, IsAtom, IsLit}
 use Rattle.meaning_atoms.specs.AtomText.{is_colon, lit_text, name_of, numbers_of, signed, IsLitText}
 
 -- no byte of the text is a colon
@@ -68,7 +68,7 @@ signed_free false name h = h
 argument_word : (a : ℕ) → IsArgument a → a < 2 ^ 32
 argument_word a h = let high = h.high in omega arith
 
-place_word : (i : ℕ) → IsPlace i → i < 2 ^ 32
+place_word : (i : ℕ) → IsPosition i → i < 2 ^ 32
 place_word i h = let high = h.high in omega arith
 
 numbers_small : (atom : Atom) → IsAtom atom → AreWords (numbers_of atom)

@@ -6,8 +6,8 @@ use Rattle.meaning_atoms.specs.declared.atom.Atom.{Atom}
 use Rattle.meaning_atoms.specs.declared.atom.Atom.TheVariants.{Member, Live, Attack, Gap, Tail, Unmet, Range, Cf, Ad, Co, St, Ask}
 use Rattle.meaning_atoms.specs.declared.atom.AtomLit.{AtomLit}
 
--- a place in the order of argument numbers, from 1 to just past the last
-pub record IsPlace (i : ℕ) : Type 0 where
+-- a position in the order of argument numbers, from 1 to just past the last
+pub record IsPosition (i : ℕ) : Type 0 where
   pub low : 1 ≤ i
   pub high : i ≤ END
 
@@ -16,9 +16,9 @@ abbrev pub IsAtom : Atom → Type 0
 IsAtom (Member a) = IsArgument a
 IsAtom (Live a) = IsArgument a
 IsAtom (Attack b a) = IsArgument b × IsArgument a
-IsAtom (Gap a i j) = IsArgument a × IsPlace i × IsPlace j × (i ≤ j)
-IsAtom (Tail a i) = IsArgument a × IsPlace i
-IsAtom (Unmet a i) = IsArgument a × IsPlace i
+IsAtom (Gap a i j) = IsArgument a × IsPosition i × IsPosition j × (i ≤ j)
+IsAtom (Tail a i) = IsArgument a × IsPosition i
+IsAtom (Unmet a i) = IsArgument a × IsPosition i
 IsAtom (Range a) = IsArgument a
 IsAtom Cf = Unit {0}
 IsAtom Ad = Unit {0}

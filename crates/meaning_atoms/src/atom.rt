@@ -1,7 +1,7 @@
 //! The words of clauses: atoms about a framework and a set of arguments, and literals.
 
 ghost use Rattle.std.specs.Prelude.{◌≡◌, ◌↔◌, IsTrue};
-ghost use Rattle.meaning_atoms.specs.Atoms.{IsAtom, IsPlace};
+ghost use Rattle.meaning_atoms.specs.Atoms.{IsAtom, IsPosition};
 ghost use Rattle.meaning_atoms.specs.AtomText.{name_of};
 
 use semantics::{LAST_ARGUMENT, is_argument};
@@ -9,7 +9,7 @@ use semantics::{LAST_ARGUMENT, is_argument};
 /// The number just past the largest argument, 1,000,001: the end of every range of argument numbers.
 pub const END: u32 = LAST_ARGUMENT + 1;
 
-/// A statement about a framework and a set of its arguments. Argument numbers are 1 to 1,000,000, a place
+/// A statement about a framework and a set of its arguments. Argument numbers are 1 to 1,000,000, a position
 /// to begin at is 1 to `END`. What each atom says in a world is the definition `Holds` of the specs.
 #[derive(Clone, Copy, Debug, Drop, PartialEq, Eq, PartialOrd, Ord, Hash)]
 pub enum Atom {
@@ -48,7 +48,7 @@ pub struct AtomLit {
 }
 
 impl Atom {
-    /// Whether the numbers are within their bounds: arguments from 1 to 1,000,000, places from 1 to `END`, of
+    /// Whether the numbers are within their bounds: arguments from 1 to 1,000,000, positions from 1 to `END`, of
     /// a gap the first no more than the second, and the number of a side clause from 1.
     pub fn is_within(&self) -> bool
         ensures { IsTrue result ↔ IsAtom self.now }
@@ -56,8 +56,8 @@ impl Atom {
         match *self {
             Atom::Member(a) | Atom::Live(a) | Atom::Range(a) => is_argument(a),
             Atom::Attack(b, a) => is_argument(b) && is_argument(a),
-            Atom::Gap(a, i, j) => is_argument(a) && is_place(i) && is_place(j) && i <= j,
-            Atom::Tail(a, i) | Atom::Unmet(a, i) => is_argument(a) && is_place(i),
+            Atom::Gap(a, i, j) => is_argument(a) && is_position(i) && is_position(j) && i <= j,
+            Atom::Tail(a, i) | Atom::Unmet(a, i) => is_argument(a) && is_position(i),
             Atom::Cf | Atom::Ad | Atom::Co | Atom::St => true,
             Atom::Ask(n) => 1 <= n,
         }
@@ -84,9 +84,9 @@ impl Atom {
     }
 }
 
-/// Whether the number is a place in the order of arguments, from 1 to `END`.
-pub fn is_place(number: u32) -> bool
-    ensures { IsTrue result ↔ IsPlace number }
+/// Whether the number is a position in the order of arguments, from 1 to `END`.
+pub fn is_position(number: u32) -> bool
+    ensures { IsTrue result ↔ IsPosition number }
 {
     1 <= number && number <= END
 }

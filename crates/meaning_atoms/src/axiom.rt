@@ -4,7 +4,7 @@ ghost use Rattle.std.specs.Prelude.{◌≡◌, ◌↔◌, IsTrue};
 ghost use Rattle.meaning_atoms.specs.Axioms.{IsAfAxiom};
 ghost use Rattle.meaning_atoms.specs.AxiomText.{axiom_name};
 
-use crate::atom::{END, is_place};
+use crate::atom::{END, is_position};
 use semantics::is_argument;
 
 /// The name of an axiom with its arguments, in the order of the table of axioms. A value whose arguments are
@@ -35,8 +35,8 @@ pub enum AxiomName {
 }
 
 impl AfAxiom {
-    /// Whether the arguments fit the name's row: argument numbers from 1 to 1,000,000, a place to begin at from
-    /// 1 to `END`, a place to end at before `END` and not before its beginning, and 1 to 3 for `A14`.
+    /// Whether the arguments fit the name's row: argument numbers from 1 to 1,000,000, a position to begin at from
+    /// 1 to `END`, a position to end at before `END` and not before its beginning, and 1 to 3 for `A14`.
     pub fn is_name(&self) -> bool
         ensures { IsTrue result ↔ IsAfAxiom self.now }
     {
@@ -53,7 +53,7 @@ impl AfAxiom {
                 && 1 <= i
                 && i <= j
                 && j < END,
-            AfAxiom::A6(a, i) | AfAxiom::A9(a, i) => is_argument(a) && is_place(i),
+            AfAxiom::A6(a, i) | AfAxiom::A9(a, i) => is_argument(a) && is_position(i),
             AfAxiom::A14(part) => 1 <= part && part <= 3,
         }
     }

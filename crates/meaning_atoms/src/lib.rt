@@ -10,7 +10,7 @@ pub mod laws;
 mod tests;
 pub mod text;
 
-pub use atom::{Atom, AtomLit, END, is_place};
+pub use atom::{Atom, AtomLit, END, is_position};
 pub use axiom::{AfAxiom, AxiomName};
 pub use axiom_text::{axiom_of, write_axiom};
 pub use text::{atom_text, read_lit};

@@ -87,7 +87,7 @@ fn first_piece<'a>(text: &'a [u8]) -> (&'a [u8], Option<&'a [u8]>)
         ≡ result.0.now ∷ pieces_left (option_map (λ rest. rest.now) result.1) }
 {
     match first_colon(text) {
-        Some(place) => (&text[..place], Some(&text[place + 1..])),
+        Some(index) => (&text[..index], Some(&text[index + 1..])),
         None => (text, None),
     }
 }
