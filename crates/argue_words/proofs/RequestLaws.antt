@@ -86,7 +86,7 @@ is_query : (words : List Text) (file : Text) (b : Bool) → takes solve_app word
     → IsGroundedQuery words file
 is_query words file true taken is =
     let both = asked_task (task_of words) (file_of words) file is in
-        record { taken = taken; asks = both.0; names = both.1 }
+    record { taken = taken; asks = both.0; names = both.1 }
 is_query words file false taken is = cc
 
 -- only a query asks for a grounded set

@@ -15,7 +15,7 @@ overflow_add-begin g c =
     let inside = c.self.inside in
     let row = rw (← c.self.view_is) at c.requires.row in
     let within = item_within inside.items.items inside.ends.items c.args.index c.args.at c.end_before-begin.result c.self.invariant
-        (omega (arith, row, length-rows inside.items.items 0 inside.ends.items)) (rw (← c.self.view_is) at c.requires.item) (rw c.as_slice.ensures.value at c.end_before-begin.ensures) in
+    (omega (arith, row, length-rows inside.items.items 0 inside.ends.items)) (rw (← c.self.view_is) at c.requires.item) (rw c.as_slice.ensures.value at c.end_before-begin.ensures) in
     omega (arith, within)
 
 pub index_mut-requires : goal.index_mut-requires
@@ -23,7 +23,7 @@ index_mut-requires g c =
     let inside = c.self.inside in
     let row = rw (← c.self.view_is) at c.requires.row in
     let within = item_within inside.items.items inside.ends.items c.args.index c.args.at c.end_before-begin.result c.self.invariant
-        (omega (arith, row, length-rows inside.items.items 0 inside.ends.items)) (rw (← c.self.view_is) at c.requires.item) (rw c.as_slice.ensures.value at c.end_before-begin.ensures) in
+    (omega (arith, row, length-rows inside.items.items 0 inside.ends.items)) (rw (← c.self.view_is) at c.requires.item) (rw c.as_slice.ensures.value at c.end_before-begin.ensures) in
     omega (arith, within)
 
 pub invariant_of-self : goal.invariant_of-self
