@@ -1,0 +1,12 @@
+-- Atoms and their variables, one to one.
+use Rattle.std.specs.Prelude.{◌≡◌, ◌≢◌, ◌⊎◌, ℕ, ◌<◌, List, [], ◌∷◌, ◌++◌, Contains, length, slice_get, slice_index_or, Some}
+use Rattle.meaning_atoms.specs.declared.atom.Atom.{Atom}
+
+-- no atom stands twice in the list, so each has one variable
+abbrev pub AreDifferent : List Atom → Type 0
+AreDifferent atoms = (i j : ℕ) (d : Atom) → i < j → j < length atoms → slice_index_or atoms i d ≢ slice_index_or atoms j d
+
+-- the atom has this variable now: the table is as it was, or the atom is new and comes last
+pub record Numbers (old new : List Atom) (atom : Atom) (var : ℕ) : Type 0 where
+  pub at : slice_get new var ≡ Some atom
+  pub grown : (new ≡ old) ⊎ ((Contains old atom → ⊥) × (new ≡ old ++ atom ∷ []))

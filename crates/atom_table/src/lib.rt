@@ -1,0 +1,8 @@
+//! The variables of atoms: atoms and the numbers 0, 1, 2 and so on, one to one.
+#![tactic(auto)]
+
+pub mod table;
+#[cfg(test)]
+mod tests;
+
+pub use table::AtomTable;

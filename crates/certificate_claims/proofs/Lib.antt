@@ -1,0 +1,5 @@
+pub mod Refuting
+pub mod GoalLists
+pub mod KindFacts
+pub mod Right
+pub mod PreferredSets

@@ -1,0 +1,4 @@
+pub mod Acceptance
+pub mod Claims
+pub mod Refutations
+pub mod Rights

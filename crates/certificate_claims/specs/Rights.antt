@@ -1,0 +1,57 @@
+-- Right answers: what the semantics' definition gives for a query.
+use Rattle.std.specs.Prelude.{ℕ, List, [], ◌∷◌, Contains, Option, Some, None}
+use Rattle.semantics.specs.Framework.{Af, IsComplete, IsGrounded, IsPreferred, IsStable}
+use Rattle.semantics.specs.Frameworks.{Framework, af}
+use Rattle.iccma_tasks.specs.declared.answer.Answer.{Answer}
+use Rattle.iccma_tasks.specs.declared.answer.Answer.TheVariants.{Yes, No, Sets}
+use Rattle.iccma_tasks.specs.declared.task.Problem.{Problem}
+use Rattle.iccma_tasks.specs.declared.task.Problem.TheVariants.{Credulous, Sceptical, SomeExtension}
+use Rattle.iccma_tasks.specs.declared.task.Semantics.{Semantics}
+use Rattle.iccma_tasks.specs.declared.task.Semantics.TheVariants.{Complete, Grounded, Stable}
+use Rattle.iccma_tasks.specs.Tasks.{Asked}
+
+-- the set is an extension of an abstract framework
+abbrev pub IsExtensionOfAf : Af → Semantics → List ℕ → Type 0
+IsExtensionOfAf f Complete s = IsComplete f s
+IsExtensionOfAf f Grounded s = IsGrounded f s
+IsExtensionOfAf f Stable s = IsStable f s
+
+-- the same of a framework of any kind
+abbrev pub IsExtension : Framework → Semantics → List ℕ → Type 0
+IsExtension (af f) semantics s = IsExtensionOfAf f semantics s
+
+-- the set is preferred in a framework of any kind
+abbrev pub IsPreferredOf : Framework → List ℕ → Type 0
+IsPreferredOf (af f) s = IsPreferred f s
+
+-- the set accepts the query
+abbrev pub Accepts : Framework → List ℕ → ℕ → Type 0
+Accepts (af f) s q = Contains s q
+
+-- some extension accepts the query, and the answer's set is one; or none does
+abbrev pub IsRightCredulous : Framework → Semantics → ℕ → Answer → Type 0
+IsRightCredulous f semantics q (Yes (Some e)) = IsExtension f semantics e × Accepts f e q
+IsRightCredulous f semantics q (No None) = (e : List ℕ) → IsExtension f semantics e → Accepts f e q → ⊥
+IsRightCredulous f semantics q _ = ⊥
+
+-- every extension accepts the query; or the answer's set is one that doesn't
+abbrev pub IsRightSceptical : Framework → Semantics → ℕ → Answer → Type 0
+IsRightSceptical f semantics q (Yes None) = (e : List ℕ) → IsExtension f semantics e → Accepts f e q
+IsRightSceptical f semantics q (No (Some e)) = IsExtension f semantics e × (Accepts f e q → ⊥)
+IsRightSceptical f semantics q _ = ⊥
+
+-- the answer's set is an extension; or there is none
+abbrev pub IsRightSome : Framework → Semantics → Answer → Type 0
+IsRightSome f semantics (Sets (e ∷ [])) = IsExtension f semantics e
+IsRightSome f semantics (No None) = (e : List ℕ) → IsExtension f semantics e → ⊥
+IsRightSome f semantics _ = ⊥
+
+abbrev pub IsRightOf : Framework → Problem → Semantics → Option ℕ → Answer → Type 0
+IsRightOf f Credulous semantics (Some q) answer = IsRightCredulous f semantics q answer
+IsRightOf f Sceptical semantics (Some q) answer = IsRightSceptical f semantics q answer
+IsRightOf f SomeExtension semantics None answer = IsRightSome f semantics answer
+IsRightOf f _ semantics _ answer = ⊥
+
+-- the answer is right for what is asked
+abbrev pub IsRight : Framework → Asked → Answer → Type 0
+IsRight f asked answer = IsRightOf f asked.task.problem asked.task.semantics asked.number answer
