@@ -68,7 +68,8 @@ header_told bytes header others cause e told =
     )
   where
     header_first : AllPairs (λ l m. l.number < m.number) (header ∷ others) → (l : ℕ) (c : LineCause)
-        → StandsIn (length (lines_of bytes)) (header ∷ others) l c → (header.number < l) ⊎ ((header.number ≡ l) × (rank cause ≤ rank c))
+        → StandsIn (length (lines_of bytes)) (header ∷ others) l c → (header.number < l)
+        ⊎ ((header.number ≡ l) × (rank cause ≤ rank c))
     header_first rises l c (inl h) = inr (sym h.line_is, told.first c h.stands)
     header_first rises l c (inr h) =
         let later = rises 0 (h.index + 1) header (omega arith) (omega (arith, h.within)) in
@@ -151,7 +152,8 @@ attack_told bytes header others count line cause e header_is b =
         index = length b.before;
         within = room;
         line_is = b.number_is ∙ sym (ap (λ l. l.number) seam);
-        stands = subst (λ l. StandsOnAttack count (length b.before) (field_texts l.text) cause) (sym seam) b.told.stands;
+        stands = subst (λ l. StandsOnAttack count (length b.before) (field_texts l.text) cause)
+            (sym seam) b.told.stands;
       }),
       λ l c stands. attack_first header others count line cause header_is b rises seam room l c stands,
     )

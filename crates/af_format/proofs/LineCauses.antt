@@ -90,12 +90,14 @@ two_members fields a b field e member = two_members_of a b field (subst (λ xs. 
 
 -- only the limit on lines can be broken at an attack line
 pub limit_only : (count index : ℕ) (line : List ℕ) (attack : ℕ × ℕ) → IsAttackLine count line attack
-    → (other : LineCause) → StandsOnAttack count index (field_texts line) other → (MOST_ATTACK_LINES ≤ index) × (8 ≤ rank other)
+    → (other : LineCause) → StandsOnAttack count index (field_texts line) other → (MOST_ATTACK_LINES ≤ index)
+    × (8 ≤ rank other)
 limit_only count index line attack h NoHeader stands = absurd stands
 limit_only count index line attack h WrongKind stands = absurd stands
 limit_only count index line attack h BadHeader stands = absurd stands
 limit_only count index line attack h SecondHeader stands =
-    absurd (p_is_no_number h.attacker attack.0 (ap (λ xs. get_or xs 0 []) (sym h.fields ∙ stands.1)) h.attacker_is.number)
+    absurd (p_is_no_number h.attacker attack.0 (ap (λ xs. get_or xs 0 []) (sym h.fields ∙ stands.1))
+    h.attacker_is.number)
 limit_only count index line attack h BadLine stands = absurd (stands h.attacker h.target h.fields)
 limit_only count index line attack h BadNumber stands =
     elim (two_members (field_texts line) h.attacker h.target stands.field h.fields stands.member) [
@@ -105,10 +107,12 @@ limit_only count index line attack h BadNumber stands =
 limit_only count index line attack h OutOfRange stands =
     elim (two_members (field_texts line) h.attacker h.target stands.field h.fields stands.member) [
       | inl e ↦
-          let same = IsNumber-same h.attacker stands.n attack.0 (subst (λ t. IsNumber t stands.n) e stands.number_is) h.attacker_is.number in
+          let same = IsNumber-same h.attacker stands.n attack.0 (subst (λ t. IsNumber t stands.n) e stands.number_is)
+          h.attacker_is.number in
           absurd (outside_not_inside count stands.n attack.0 same h.attacker_is.low h.attacker_is.high stands.outside)
       | inr e ↦
-          let same = IsNumber-same h.target stands.n attack.1 (subst (λ t. IsNumber t stands.n) e stands.number_is) h.target_is.number in
+          let same = IsNumber-same h.target stands.n attack.1 (subst (λ t. IsNumber t stands.n) e stands.number_is)
+          h.target_is.number in
           absurd (outside_not_inside count stands.n attack.1 same h.target_is.low h.target_is.high stands.outside)
     ]
   where

@@ -38,7 +38,8 @@ read_none count lines = record {
   before_are = record { each = tt; few = omega arith };
 }
 
-pub read_more : (count : ℕ) (lines left rest : List LineText) (line : LineText) (attacks : List (ℕ × ℕ)) (attack : ℕ × ℕ)
+pub read_more : (count : ℕ) (lines left rest : List LineText) (line : LineText) (attacks : List (ℕ × ℕ)) (attack : ℕ
+    × ℕ)
     → HasRead count lines left attacks → left ≡ line ∷ rest → IsAttackLine count line.text attack
     → length attacks < MOST_ATTACK_LINES → HasRead count lines rest (attacks ++ attack ∷ [])
 read_more count lines left rest line attacks attack h e is few =
@@ -59,7 +60,8 @@ read_all count lines left attacks h e =
     subst (λ ls. AreAttackLines count ls attacks)
     (sym (h.lines_are ∙ ap (λ ls. h.before ++ ls) e ∙ append-nil h.before)) h.before_are
 
-pub read_bad : (count : ℕ) (lines left rest : List LineText) (line : LineText) (attacks : List (ℕ × ℕ)) (cause : LineCause)
+pub read_bad : (count : ℕ) (lines left rest : List LineText) (line : LineText) (attacks : List (ℕ × ℕ))
+    (cause : LineCause)
     → HasRead count lines left attacks → left ≡ line ∷ rest
     → IsFirstCause (StandsOnAttack count (length attacks) (field_texts line.text)) cause
     → IsFirstBadLine count lines line.number cause
@@ -118,7 +120,8 @@ arguments_numbered count few a h =
     record { low = omega (arith, here, h.2); high = omega (arith, here, h.2, few) }
 
 -- both ends of an attack are arguments
-pub ends_are_arguments : (count : ℕ) (lines : List LineText) (attacks : List (ℕ × ℕ)) → AreAttackLines count lines attacks
+pub ends_are_arguments : (count : ℕ) (lines : List LineText) (attacks : List (ℕ × ℕ))
+    → AreAttackLines count lines attacks
     → (b a : ℕ) → Contains attacks (b, a) → Contains (range_with_len 1 count) b × Contains (range_with_len 1 count) a
 ends_are_arguments count lines attacks are b a c =
     let line = AllZip-member (λ line attack. IsAttackLine count line.text attack) lines attacks (b, a) are.each c in (
@@ -139,7 +142,8 @@ framework_made (Ok f) count attacks live items range same is_live are form = rec
 }
 framework_made (Err e) count attacks live items range same is_live are form = form
 
-pub header_few : (bytes : List ℕ) (count : ℕ) (left : List LineText) → BeginWithHeader bytes count left → count ≤ LAST_ARGUMENT
+pub header_few : (bytes : List ℕ) (count : ℕ) (left : List LineText) → BeginWithHeader bytes count left
+    → count ≤ LAST_ARGUMENT
 header_few bytes count left h = h.header_is.few
 
 pub reads_as : (bytes : List ℕ) (count : ℕ) (left : List LineText) (attacks : List (ℕ × ℕ)) (f : Af)
@@ -163,7 +167,8 @@ pub bad_line_told : (bytes : List ℕ) (count : ℕ) (left : List LineText) (lin
 bad_line_told bytes count left line cause h bad =
     attack_told bytes h.header (kept left) count line cause h.lines h.header_is bad
 
-pub bad_text_told : (bytes : List ℕ) (count : ℕ) (left : List LineText) (e : ReadFault) → BeginWithHeader bytes count left
+pub bad_text_told : (bytes : List ℕ) (count : ℕ) (left : List LineText) (e : ReadFault)
+    → BeginWithHeader bytes count left
     → IfLine e (λ fault. IsFirstBadLine count (kept left) fault.line fault.cause)
     → IfLine e (λ fault. IsFirstFault bytes fault.line fault.cause)
 bad_text_told bytes count left (Line fault) h bad = bad_line_told bytes count left fault.line fault.cause h bad
@@ -173,12 +178,14 @@ bad_text_told bytes count left Memory h bad = bad
 pub no_fault_in : (size count : ℕ) (header : LineText) (others : List LineText) (attacks : List (ℕ × ℕ)) (line : ℕ)
     (cause : LineCause) → IsHeader header.text count → AreAttackLines count others attacks
     → IsHeaderFault header line cause ⊎ IsAttackFault header others line cause → ⊥
-no_fault_in size count header others attacks line cause is are (inl h) = header_is_good header.text count is cause h.stands
+no_fault_in size count header others attacks line cause is are (inl h) =
+    header_is_good header.text count is cause h.stands
 no_fault_in size count header others attacks line cause is are (inr h) =
     let stands : StandsOnAttack count h.index (field_texts (get_or others h.index header).text) cause
     = subst (λ n. StandsOnAttack n h.index (field_texts (get_or others h.index header).text) cause)
     (IsHeader-same header.text h.count count h.header_is is) h.stands in
-    let good = AllZip-at (λ line attack. IsAttackLine count line.text attack) others attacks h.index header are.each h.within in
+    let good = AllZip-at (λ line attack. IsAttackLine count line.text attack) others attacks h.index header are.each
+    h.within in
     let limit = limit_only count h.index (get_or others h.index header).text good.0 good.1 cause stands in
     let few = are.few in
     let within = h.within in
@@ -192,7 +199,8 @@ faultless bytes count left attacks h are = record {
 }
 
 -- what is read has the arguments 1 to n
-pub read_is_solid : (count : ℕ) (attacks : List (ℕ × ℕ)) (f : Af) → count ≤ LAST_ARGUMENT → IsFrameworkOf count attacks f
+pub read_is_solid : (count : ℕ) (attacks : List (ℕ × ℕ)) (f : Af) → count ≤ LAST_ARGUMENT
+    → IsFrameworkOf count attacks f
     → IsSolid f
 read_is_solid count attacks f few h =
     let long : length f.live ≡ count = ap length h.live ∙ length-range_with_len 1 count in

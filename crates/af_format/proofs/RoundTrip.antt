@@ -169,13 +169,16 @@ pub reads_back : (f : Af) → IsAf f → IsSolid f → length f.attacks ≤ MOST
 unfolding lines_of line_at
 reads_back f form solid few =
     let n = decimal_number (length f.live) (let few = solid.small in omega arith) in
-    let fields : field_texts (codes "p af " ++ decimal (length f.live)) ≡ codes "p" ∷ codes "af" ∷ decimal (length f.live) ∷ []
+    let fields : field_texts (codes "p af " ++ decimal (length f.live)) ≡ codes "p" ∷ codes "af"
+    ∷ decimal (length f.live) ∷ []
     = header_texts (decimal (length f.live)) n.digits n.not_empty in
     let free : All (λ byte. is_line_end byte ≡ false) (codes "p af " ++ decimal (length f.live))
     = All-append (λ byte. is_line_end byte ≡ false) (codes "p af ") (decimal (length f.live))
     (header_free) (no_ends (decimal (length f.live)) n.digits) in
-    let after = lines_from (1 + 1) (0 + (length (codes "p af " ++ decimal (length f.live)) + 1)) (flat_map attack_line f.attacks) in
-    let each = attack_lines (length f.live) (1 + 1) (0 + (length (codes "p af " ++ decimal (length f.live)) + 1)) f.attacks
+    let after = lines_from (1 + 1) (0 + (length (codes "p af " ++ decimal (length f.live)) + 1))
+    (flat_map attack_line f.attacks) in
+    let each = attack_lines (length f.live) (1 + 1) (0 + (length (codes "p af " ++ decimal (length f.live)) + 1))
+    f.attacks
     (attacks_are_pairs f form solid) in
     let long = AllZip-long (λ line attack. IsAttackLine (length f.live) line.text attack) (kept after) f.attacks each in
     record {
@@ -184,8 +187,10 @@ reads_back f form solid few =
       text = record {
         header = line_at 1 0 (codes "p af " ++ decimal (length f.live));
         others = kept after;
-        lines = ap (λ line. kept (lines_from 1 0 (line ++ flat_map attack_line f.attacks))) (header_line-piece (length f.live))
-            ∙ ap kept (first_line_is 1 0 (codes "p af " ++ decimal (length f.live)) (flat_map attack_line f.attacks) free)
+        lines = ap (λ line. kept (lines_from 1 0 (line ++ flat_map attack_line f.attacks)))
+            (header_line-piece (length f.live))
+            ∙ ap kept (first_line_is 1 0 (codes "p af " ++ decimal (length f.live)) (flat_map attack_line f.attacks)
+            free)
             ∙ kept-keeps (line_at 1 0 (codes "p af " ++ decimal (length f.live))) after (ap are_skipped fields);
         header_is = record { number = decimal (length f.live); fields = fields; number_is = n; few = solid.small };
         others_are = record { each = each; few = omega (arith, long) };
@@ -230,7 +235,8 @@ lines_within count (p ∷ ps) all =
     )
 
 -- a text of at most 10,000,000 attacks keeps the reader's limit
-pub text_within : (f : Af) → IsAf f → IsSolid f → length f.attacks ≤ MOST_ATTACK_LINES → length (af_text f) ≤ INPUT_LIMIT
+pub text_within : (f : Af) → IsAf f → IsSolid f → length f.attacks ≤ MOST_ATTACK_LINES
+    → length (af_text f) ≤ INPUT_LIMIT
 text_within f form solid few =
     omega (
       arith,

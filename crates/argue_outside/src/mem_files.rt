@@ -62,8 +62,10 @@ impl MemFiles {
 
     /// The bytes of a name, where it is there. With no call that is to fail, such a name is served.
     pub fn bytes_of(&self, name: &str) -> Option<&[u8]>
-        ensures served { IsSome result → ⟦<MemFiles as Planned>⟧.to_fail self.now ≡ [] → ⟦<MemFiles as Files>⟧.serves self.now name.now }
-        ensures bytes { MatchOption result (⟦<MemFiles as Files>⟧.holds self.now name.now ≡ Some None) (λ bytes. ⟦<MemFiles as Files>⟧.holds self.now name.now ≡ Some (Some bytes.now)) }
+        ensures served { IsSome result → ⟦<MemFiles as Planned>⟧.to_fail self.now ≡ []
+            → ⟦<MemFiles as Files>⟧.serves self.now name.now }
+        ensures bytes { MatchOption result (⟦<MemFiles as Files>⟧.holds self.now name.now ≡ Some None)
+            (λ bytes. ⟦<MemFiles as Files>⟧.holds self.now name.now ≡ Some (Some bytes.now)) }
     {
         match self.files.get(name) {
             Some(bytes) => Some(bytes.as_slice()),
@@ -74,7 +76,8 @@ impl MemFiles {
     /// How often memory was refused to the files. Where it never was and no call is to fail, every name
     /// is accepted.
     pub fn refusals(&self) -> u64
-        ensures { result ≡ 0 → ⟦<MemFiles as Planned>⟧.to_fail self.now ≡ [] → (name : List ℕ) → ⟦<MemFiles as Files>⟧.accepts self.now name }
+        ensures { result ≡ 0 → ⟦<MemFiles as Planned>⟧.to_fail self.now ≡ [] → (name : List ℕ)
+            → ⟦<MemFiles as Files>⟧.accepts self.now name }
     {
         self.refusals
     }
@@ -105,14 +108,21 @@ impl Files for MemFiles {
         ensures accepting { HoldsStill (⟦<MemFiles as Files>⟧.accepts self.old) (⟦<MemFiles as Files>⟧.accepts self.new) }
         ensures refusing { HoldsStill (⟦<MemFiles as Files>⟧.accepts self.new) (⟦<MemFiles as Files>⟧.accepts self.old) }
         ensures later { ⟦<MemFiles as Files>⟧.read_count self.old role ≤ ⟦<MemFiles as Files>⟧.read_count self.new role }
-        ensures quiet { OnOk result (⟦<MemFiles as Files>⟧.read_count self.new ≡ ⟦<MemFiles as Files>⟧.read_count self.old) }
-        ensures failed { OnErr result (FaultCounted (⟦<MemFiles as Files>⟧.read_count self.old role) (⟦<MemFiles as Files>⟧.read_count self.new role)) }
-        ensures others { OtherCountsKept role (⟦<MemFiles as Files>⟧.read_count self.old) (⟦<MemFiles as Files>⟧.read_count self.new) }
+        ensures quiet { OnOk result (⟦<MemFiles as Files>⟧.read_count self.new
+            ≡ ⟦<MemFiles as Files>⟧.read_count self.old) }
+        ensures failed { OnErr result (FaultCounted (⟦<MemFiles as Files>⟧.read_count self.old role)
+            (⟦<MemFiles as Files>⟧.read_count self.new role)) }
+        ensures others { OtherCountsKept role (⟦<MemFiles as Files>⟧.read_count self.old)
+            (⟦<MemFiles as Files>⟧.read_count self.new) }
         ensures writes { ⟦<MemFiles as Files>⟧.write_count self.new ≡ ⟦<MemFiles as Files>⟧.write_count self.old }
         ensures piece { IfOk result (λ n. n ≤ max (⟦<MemFiles as Planned>⟧.most self.old) 1) }
-        ensures planned { Contains (⟦<MemFiles as Planned>⟧.to_fail self.old) (next_call (⟦<MemFiles as Planned>⟧.call_count self.old)) → IsErr result }
-        ensures unplanned { OnErr result (Contains (⟦<MemFiles as Planned>⟧.to_fail self.old) (next_call (⟦<MemFiles as Planned>⟧.call_count self.old)) ⊎ (⟦<MemFiles as Files>⟧.holds self.old name.now ≡ Some None)) }
-        ensures counted { ⟦<MemFiles as Planned>⟧.call_count self.new ≡ next_call (⟦<MemFiles as Planned>⟧.call_count self.old) }
+        ensures planned { Contains (⟦<MemFiles as Planned>⟧.to_fail self.old)
+            (next_call (⟦<MemFiles as Planned>⟧.call_count self.old)) → IsErr result }
+        ensures unplanned { OnErr result (Contains (⟦<MemFiles as Planned>⟧.to_fail self.old)
+            (next_call (⟦<MemFiles as Planned>⟧.call_count self.old)) ⊎ (⟦<MemFiles as Files>⟧.holds self.old name.now
+            ≡ Some None)) }
+        ensures counted { ⟦<MemFiles as Planned>⟧.call_count self.new
+            ≡ next_call (⟦<MemFiles as Planned>⟧.call_count self.old) }
         ensures to_fail { ⟦<MemFiles as Planned>⟧.to_fail self.new ≡ ⟦<MemFiles as Planned>⟧.to_fail self.old }
         ensures most { ⟦<MemFiles as Planned>⟧.most self.new ≡ ⟦<MemFiles as Planned>⟧.most self.old }
     {
@@ -131,19 +141,26 @@ impl Files for MemFiles {
 
     /// Fails where this call is one of those that are to fail, and otherwise only for want of memory.
     fn clear(&mut self, name: &str) -> Result<(), Failed>
-        ensures cleared { OnOk result (Clears (⟦<MemFiles as Files>⟧.holds self.old name.now) (⟦<MemFiles as Files>⟧.holds self.new name.now)) }
-        ensures others { OtherFilesKept name.now (⟦<MemFiles as Files>⟧.holds self.old) (⟦<MemFiles as Files>⟧.holds self.new) }
+        ensures cleared { OnOk result (Clears (⟦<MemFiles as Files>⟧.holds self.old name.now)
+            (⟦<MemFiles as Files>⟧.holds self.new name.now)) }
+        ensures others { OtherFilesKept name.now (⟦<MemFiles as Files>⟧.holds self.old)
+            (⟦<MemFiles as Files>⟧.holds self.new) }
         ensures err { OnErr result (⟦<MemFiles as Files>⟧.holds self.new ≡ ⟦<MemFiles as Files>⟧.holds self.old) }
         ensures serving { HoldsStill (⟦<MemFiles as Files>⟧.serves self.old) (⟦<MemFiles as Files>⟧.serves self.new) }
         ensures accepted { OnErr result (¬ ⟦<MemFiles as Files>⟧.accepts self.new name.now) }
-        ensures accepting { OnOk result (HoldsStill (⟦<MemFiles as Files>⟧.accepts self.old) (⟦<MemFiles as Files>⟧.accepts self.new)) }
+        ensures accepting { OnOk result (HoldsStill (⟦<MemFiles as Files>⟧.accepts self.old)
+            (⟦<MemFiles as Files>⟧.accepts self.new)) }
         ensures refusing { HoldsStill (⟦<MemFiles as Files>⟧.accepts self.new) (⟦<MemFiles as Files>⟧.accepts self.old) }
         ensures later { ⟦<MemFiles as Files>⟧.write_count self.old ≤ ⟦<MemFiles as Files>⟧.write_count self.new }
-        ensures quiet { OnOk result (⟦<MemFiles as Files>⟧.write_count self.new ≡ ⟦<MemFiles as Files>⟧.write_count self.old) }
-        ensures failed { OnErr result (FaultCounted (⟦<MemFiles as Files>⟧.write_count self.old) (⟦<MemFiles as Files>⟧.write_count self.new)) }
+        ensures quiet { OnOk result (⟦<MemFiles as Files>⟧.write_count self.new
+            ≡ ⟦<MemFiles as Files>⟧.write_count self.old) }
+        ensures failed { OnErr result (FaultCounted (⟦<MemFiles as Files>⟧.write_count self.old)
+            (⟦<MemFiles as Files>⟧.write_count self.new)) }
         ensures reads { ⟦<MemFiles as Files>⟧.read_count self.new ≡ ⟦<MemFiles as Files>⟧.read_count self.old }
-        ensures planned { Contains (⟦<MemFiles as Planned>⟧.to_fail self.old) (next_call (⟦<MemFiles as Planned>⟧.call_count self.old)) → IsErr result }
-        ensures counted { ⟦<MemFiles as Planned>⟧.call_count self.new ≡ next_call (⟦<MemFiles as Planned>⟧.call_count self.old) }
+        ensures planned { Contains (⟦<MemFiles as Planned>⟧.to_fail self.old)
+            (next_call (⟦<MemFiles as Planned>⟧.call_count self.old)) → IsErr result }
+        ensures counted { ⟦<MemFiles as Planned>⟧.call_count self.new
+            ≡ next_call (⟦<MemFiles as Planned>⟧.call_count self.old) }
         ensures to_fail { ⟦<MemFiles as Planned>⟧.to_fail self.new ≡ ⟦<MemFiles as Planned>⟧.to_fail self.old }
         ensures most { ⟦<MemFiles as Planned>⟧.most self.new ≡ ⟦<MemFiles as Planned>⟧.most self.old }
     {
@@ -165,20 +182,27 @@ impl Files for MemFiles {
     fn append(&mut self, name: &str, bytes: &[u8]) -> Result<usize, Failed>
         ensures bound { IfOk result (λ n. n ≤ length bytes.now) }
         ensures some { IfOk result (λ n. 0 < length bytes.now → 0 < n) }
-        ensures added { IfOk result (λ n. Adds (⟦<MemFiles as Files>⟧.holds self.old name.now) (⟦<MemFiles as Files>⟧.holds self.new name.now) (take n bytes.now)) }
-        ensures others { OtherFilesKept name.now (⟦<MemFiles as Files>⟧.holds self.old) (⟦<MemFiles as Files>⟧.holds self.new) }
+        ensures added { IfOk result (λ n. Adds (⟦<MemFiles as Files>⟧.holds self.old name.now)
+            (⟦<MemFiles as Files>⟧.holds self.new name.now) (take n bytes.now)) }
+        ensures others { OtherFilesKept name.now (⟦<MemFiles as Files>⟧.holds self.old)
+            (⟦<MemFiles as Files>⟧.holds self.new) }
         ensures err { OnErr result (⟦<MemFiles as Files>⟧.holds self.new ≡ ⟦<MemFiles as Files>⟧.holds self.old) }
         ensures serving { HoldsStill (⟦<MemFiles as Files>⟧.serves self.old) (⟦<MemFiles as Files>⟧.serves self.new) }
         ensures accepted { OnErr result (¬ ⟦<MemFiles as Files>⟧.accepts self.new name.now) }
-        ensures accepting { OnOk result (HoldsStill (⟦<MemFiles as Files>⟧.accepts self.old) (⟦<MemFiles as Files>⟧.accepts self.new)) }
+        ensures accepting { OnOk result (HoldsStill (⟦<MemFiles as Files>⟧.accepts self.old)
+            (⟦<MemFiles as Files>⟧.accepts self.new)) }
         ensures refusing { HoldsStill (⟦<MemFiles as Files>⟧.accepts self.new) (⟦<MemFiles as Files>⟧.accepts self.old) }
         ensures later { ⟦<MemFiles as Files>⟧.write_count self.old ≤ ⟦<MemFiles as Files>⟧.write_count self.new }
-        ensures quiet { OnOk result (⟦<MemFiles as Files>⟧.write_count self.new ≡ ⟦<MemFiles as Files>⟧.write_count self.old) }
-        ensures failed { OnErr result (FaultCounted (⟦<MemFiles as Files>⟧.write_count self.old) (⟦<MemFiles as Files>⟧.write_count self.new)) }
+        ensures quiet { OnOk result (⟦<MemFiles as Files>⟧.write_count self.new
+            ≡ ⟦<MemFiles as Files>⟧.write_count self.old) }
+        ensures failed { OnErr result (FaultCounted (⟦<MemFiles as Files>⟧.write_count self.old)
+            (⟦<MemFiles as Files>⟧.write_count self.new)) }
         ensures reads { ⟦<MemFiles as Files>⟧.read_count self.new ≡ ⟦<MemFiles as Files>⟧.read_count self.old }
         ensures piece { IfOk result (λ n. n ≤ max (⟦<MemFiles as Planned>⟧.most self.old) 1) }
-        ensures planned { Contains (⟦<MemFiles as Planned>⟧.to_fail self.old) (next_call (⟦<MemFiles as Planned>⟧.call_count self.old)) → IsErr result }
-        ensures counted { ⟦<MemFiles as Planned>⟧.call_count self.new ≡ next_call (⟦<MemFiles as Planned>⟧.call_count self.old) }
+        ensures planned { Contains (⟦<MemFiles as Planned>⟧.to_fail self.old)
+            (next_call (⟦<MemFiles as Planned>⟧.call_count self.old)) → IsErr result }
+        ensures counted { ⟦<MemFiles as Planned>⟧.call_count self.new
+            ≡ next_call (⟦<MemFiles as Planned>⟧.call_count self.old) }
         ensures to_fail { ⟦<MemFiles as Planned>⟧.to_fail self.new ≡ ⟦<MemFiles as Planned>⟧.to_fail self.old }
         ensures most { ⟦<MemFiles as Planned>⟧.most self.new ≡ ⟦<MemFiles as Planned>⟧.most self.old }
     {

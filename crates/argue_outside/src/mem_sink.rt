@@ -67,13 +67,18 @@ impl Sink for MemSink {
     fn put(&mut self, bytes: &[u8]) -> Result<usize, Failed>
         ensures bound { IfOk result (λ n. n ≤ length bytes.now) }
         ensures some { IfOk result (λ n. 0 < length bytes.now → 0 < n) }
-        ensures bytes { WriteAppends (⟦<MemSink as Sink>⟧.contents self.old) (⟦<MemSink as Sink>⟧.contents self.new) result bytes.now }
+        ensures bytes { WriteAppends (⟦<MemSink as Sink>⟧.contents self.old) (⟦<MemSink as Sink>⟧.contents self.new)
+            result bytes.now }
         ensures later { ⟦<MemSink as Sink>⟧.fault_count self.old ≤ ⟦<MemSink as Sink>⟧.fault_count self.new }
-        ensures quiet { OnOk result (⟦<MemSink as Sink>⟧.fault_count self.new ≡ ⟦<MemSink as Sink>⟧.fault_count self.old) }
-        ensures failed { OnErr result (FaultCounted (⟦<MemSink as Sink>⟧.fault_count self.old) (⟦<MemSink as Sink>⟧.fault_count self.new)) }
+        ensures quiet { OnOk result (⟦<MemSink as Sink>⟧.fault_count self.new
+            ≡ ⟦<MemSink as Sink>⟧.fault_count self.old) }
+        ensures failed { OnErr result (FaultCounted (⟦<MemSink as Sink>⟧.fault_count self.old)
+            (⟦<MemSink as Sink>⟧.fault_count self.new)) }
         ensures piece { IfOk result (λ n. n ≤ max (⟦<MemSink as Planned>⟧.most self.old) 1) }
-        ensures planned { Contains (⟦<MemSink as Planned>⟧.to_fail self.old) (next_call (⟦<MemSink as Planned>⟧.call_count self.old)) → IsErr result }
-        ensures counted { ⟦<MemSink as Planned>⟧.call_count self.new ≡ next_call (⟦<MemSink as Planned>⟧.call_count self.old) }
+        ensures planned { Contains (⟦<MemSink as Planned>⟧.to_fail self.old)
+            (next_call (⟦<MemSink as Planned>⟧.call_count self.old)) → IsErr result }
+        ensures counted { ⟦<MemSink as Planned>⟧.call_count self.new
+            ≡ next_call (⟦<MemSink as Planned>⟧.call_count self.old) }
         ensures to_fail { ⟦<MemSink as Planned>⟧.to_fail self.new ≡ ⟦<MemSink as Planned>⟧.to_fail self.old }
         ensures most { ⟦<MemSink as Planned>⟧.most self.new ≡ ⟦<MemSink as Planned>⟧.most self.old }
     {

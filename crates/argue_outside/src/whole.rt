@@ -27,7 +27,8 @@ pub fn read_all<F: Files>(
     ensures whole { IfOk result (λ bytes. HoldsWhole (F.holds files.old name.now) bytes) }
     ensures short { IfOk result (λ bytes. length bytes ≤ limit) }
     ensures too_long { IsErrOf result ReadStop.TooLong → IsLonger (F.holds files.old name.now) limit }
-    ensures failed { IsErrOf result ReadStop.Failed → FaultCounted (F.read_count files.old role) (F.read_count files.new role) }
+    ensures failed { IsErrOf result ReadStop.Failed → FaultCounted (F.read_count files.old role)
+        (F.read_count files.new role) }
     ensures served { IsErrOf result ReadStop.Failed → ¬ F.serves files.old name.now }
     ensures serving { HoldsStill (F.serves files.old) (F.serves files.new) }
     ensures accepting { HoldsStill (F.accepts files.old) (F.accepts files.new) }
@@ -56,7 +57,8 @@ fn read_chunks<F: Files>(
     ensures whole { IfOk result (λ bytes. HoldsWhole (F.holds files.old name.now) bytes) }
     ensures short { IfOk result (λ bytes. length bytes ≤ limit) }
     ensures too_long { IsErrOf result ReadStop.TooLong → IsLonger (F.holds files.old name.now) limit }
-    ensures failed { IsErrOf result ReadStop.Failed → FaultCounted (F.read_count files.old role) (F.read_count files.new role) }
+    ensures failed { IsErrOf result ReadStop.Failed → FaultCounted (F.read_count files.old role)
+        (F.read_count files.new role) }
     ensures served { IsErrOf result ReadStop.Failed → ¬ F.serves files.old name.now }
     ensures serving { HoldsStill (F.serves files.old) (F.serves files.new) }
     ensures accepting { HoldsStill (F.accepts files.old) (F.accepts files.new) }

@@ -208,7 +208,8 @@ refuses_words found kept (ReadFault r) ends =
     absurd (ends_unknown found kept (ReadFault r) (λ e. cc) (λ e. cc) (ends (λ e. cc)))
 refuses_words found kept WriteFault ends = tt
 refuses_words found kept WantOfMemory ends = tt
-refuses_words found kept (Limit l) ends = absurd (ends_unknown found kept (Limit l) (λ e. cc) (λ e. cc) (ends (λ e. cc)))
+refuses_words found kept (Limit l) ends =
+    absurd (ends_unknown found kept (Limit l) (λ e. cc) (λ e. cc) (ends (λ e. cc)))
 
 -- ---- runs
 

@@ -77,7 +77,8 @@ fn refuse_words<F: Files, O: Sink>(
         → Appends (O.contents out.old) (O.contents out.new) (unwrap_or (common_text status) []) }
     ensures part { result.status ≡ Status.WriteFault
         → AppendsPart (O.contents out.old) (O.contents out.new) (unwrap_or (common_text status) []) }
-    ensures write_fault { result.status ≡ Status.WriteFault → FaultCounted (O.fault_count out.old) (O.fault_count out.new) }
+    ensures write_fault { result.status ≡ Status.WriteFault → FaultCounted (O.fault_count out.old)
+        (O.fault_count out.new) }
 {
     let ending = stopped(alloc, status);
     write_ending(files, out, ending)

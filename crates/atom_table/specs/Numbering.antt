@@ -4,7 +4,8 @@ use Rattle.meaning_atoms.specs.declared.atom.Atom.{Atom}
 
 -- no atom stands twice in the list, so each has one variable
 abbrev pub AreDifferent : List Atom → Type 0
-AreDifferent atoms = (i j : ℕ) (d : Atom) → i < j → j < length atoms → slice_index_or atoms i d ≢ slice_index_or atoms j d
+AreDifferent atoms = (i j : ℕ) (d : Atom) → i < j → j < length atoms → slice_index_or atoms i d ≢ slice_index_or atoms j
+    d
 
 -- the atom has this variable now: the table is as it was, or the atom is new and comes last
 pub record Numbers (old new : List Atom) (atom : Atom) (var : ℕ) : Type 0 where

@@ -15,13 +15,18 @@ WalkedAll P xs r = MatchBool r (AllWithin P xs 0 (length xs)) ((k : ℕ) × (k <
 abbrev pub WalkedAny : {X : Type 0} → (X → Type 0) → List X → Bool → Type 0
 WalkedAny P xs r = MatchBool r ((k : ℕ) × (k < length xs) × HoldsAt P xs k) (AllWithin (λ x. P x → ⊥) xs 0 (length xs))
 
-pub all_members : {X : Type 0} (P : X → Type 0) (xs : List X) (r : Bool) → WalkedAll P xs r → IsTrue r ↔ ((x : X) → Contains xs x → P x)
+pub all_members : {X : Type 0} (P : X → Type 0) (xs : List X) (r : Bool) → WalkedAll P xs r → IsTrue r
+    ↔ ((x : X) → Contains xs x → P x)
 all_members P xs true h = (λ _ x m. subst P m.2 (h m.0 x (omega arith) m.1), λ _. refl)
 all_members P [] false h = (λ e. absurd (search rules), λ each. absurd (let lt = h.1 in omega arith))
-all_members P (y ∷ ys) false h =
-    (λ e. absurd (search rules), λ each. absurd (h.2 y (each (get_or (y ∷ ys) h.0 y) (Contains-get_or (y ∷ ys) h.0 y h.1))))
+all_members P (y ∷ ys) false h = (
+  λ e. absurd (search rules),
+  λ each.
+      absurd (h.2 y (each (get_or (y ∷ ys) h.0 y) (Contains-get_or (y ∷ ys) h.0 y h.1))),
+)
 
-pub any_members : {X : Type 0} (P : X → Type 0) (xs : List X) (r : Bool) → WalkedAny P xs r → IsTrue r ↔ ((x : X) × Contains xs x × P x)
+pub any_members : {X : Type 0} (P : X → Type 0) (xs : List X) (r : Bool) → WalkedAny P xs r → IsTrue r
+    ↔ ((x : X) × Contains xs x × P x)
 any_members P [] true h = absurd (let lt = h.1 in omega arith)
 any_members P (y ∷ ys) true h = (λ _. (get_or (y ∷ ys) h.0 y, Contains-get_or (y ∷ ys) h.0 y h.1, h.2 y), λ _. refl)
 any_members P xs false h =
@@ -56,7 +61,8 @@ defends_walk f s a pairs r lists walk =
 
 -- the set attacks each attacker of a member where it attacks each live argument that attacks a member
 pub defends_itself_walk : (f : Af) (s : List ℕ) (r : Bool) → IsAf f
-    → WalkedAll (λ b. AttacksInto f b s → IsAttackedBy f s b) f.live r → IsTrue r ↔ ((a : ℕ) → Contains s a → Defends f s a)
+    → WalkedAll (λ b. AttacksInto f b s → IsAttackedBy f s b) f.live r → IsTrue r
+    ↔ ((a : ℕ) → Contains s a → Defends f s a)
 defends_itself_walk f s r form walk =
     let each = all_members (λ b. AttacksInto f b s → IsAttackedBy f s b) f.live r walk in (
       λ e a m b h. each.0 e b (form.ends b a h).0 (a, m, h),

@@ -12,14 +12,16 @@ use Rattle.semantics.specs.Frameworks.{IsNumberedAf}
 use Rattle.dung_notions.specs.Solid.{IsSolid}
 
 -- rising numbers rise by at least one from place to place
-climbs : (xs : List ℕ) → IsStrictlyIncreasing xs → (i k j : ℕ) → i + k ≡ j → j < length xs → get_or xs i 0 + k ≤ get_or xs j 0
+climbs : (xs : List ℕ) → IsStrictlyIncreasing xs → (i k j : ℕ) → i + k ≡ j → j < length xs
+    → get_or xs i 0 + k ≤ get_or xs j 0
 climbs xs up i zero j e lt = let same : i ≡ j = omega arith in omega (arith, ap (λ n. get_or xs n 0) same)
 climbs xs up i (suc k) j e lt =
     let before : get_or xs i 0 + k ≤ get_or xs (i + k) 0 = climbs xs up i k (i + k) (omega arith) (omega arith) in
     omega (arith, AllPairs-from_increasing xs up (i + k) j 0 (omega arith) lt)
 
 -- n rising numbers from 1 up to n are all of these
-pub numbered_from : (xs : List ℕ) → IsStrictlyIncreasing xs → (m : ℕ) → length xs ≡ m + 1 → get_or xs m 0 ≡ length xs → 0 < get_or xs 0 0
+pub numbered_from : (xs : List ℕ) → IsStrictlyIncreasing xs → (m : ℕ) → length xs ≡ m + 1 → get_or xs m 0 ≡ length xs
+    → 0 < get_or xs 0 0
     → xs ≡ range_with_len 1 (length xs)
 numbered_from xs up m long top low =
     ext_get_or 0 xs (range_with_len 1 (length xs)) (sym (length-range_with_len 1 (length xs)))

@@ -74,7 +74,8 @@ pub begins : (f : Af) (n : ℕ) (open_attackers members : List ℕ) → IsAf f �
     → IsSearchState f members (replicate n false) open_attackers []
 begins f n open_attackers members af below long counted e =
     let in_order : (a : ℕ)
-    → Contains members a ↔ (Contains f.live a × (get_or open_attackers a 0 ≡ 0)) = filtered f open_attackers members e in
+    → Contains members a ↔ (Contains f.live a × (get_or open_attackers a 0 ≡ 0)) =
+    filtered f open_attackers members e in
     let wide : length (replicate n false) ≡ n = length-replicate n false in
     let rising : IsStrictlyIncreasing members = rw e
     (IsStrictlyIncreasing-filter (λ a. eqb (get_or open_attackers a 0) 0) f.live af.live_rises) in
@@ -172,7 +173,8 @@ attacked_more f s t b more w = (w.0, more w.0 w.1, w.2)
 counted_after : (f : Af) (members : List ℕ) (out : List Bool) (open_attackers : List ℕ) (p : ℕ × ℕ)
     (rest : List (ℕ × ℕ)) → IsSearchState f members out open_attackers (p ∷ rest)
     → p.1 < length out → (x : ℕ) → x < length out
-    → get_or (set open_attackers p.1 (get_or open_attackers p.1 0 - 1)) x 0 ≡ count_undefeated out x f.attacks + reaching x rest
+    → get_or (set open_attackers p.1 (get_or open_attackers p.1 0 - 1)) x 0
+    ≡ count_undefeated out x f.attacks + reaching x rest
 counted_after f members out open_attackers p rest h lt x small =
     let here : get_or (set open_attackers p.1 (get_or open_attackers p.1 0 - 1)) p.1 0
     ≡ get_or open_attackers p.1 0 - 1 = get_or-set_same open_attackers p.1 _ 0 (omega (arith, h.long, lt)) in
@@ -190,7 +192,8 @@ pub counts_it : (f : Af) (members : List ℕ) (out : List Bool) (open_attackers 
 counts_it f members out open_attackers p rest h lt = omega (arith, h.counted p.1 lt, reaching_here p rest)
 
 -- the number of open attackers of another argument stays
-other_count : (open_attackers : List ℕ) (a n x : ℕ) → (x ≡ a → ⊥) → get_or (set open_attackers a n) x 0 ≡ get_or open_attackers x 0
+other_count : (open_attackers : List ℕ) (a n x : ℕ) → (x ≡ a → ⊥) → get_or (set open_attackers a n) x 0
+    ≡ get_or open_attackers x 0
 other_count open_attackers a n x ne = get_or-set_other open_attackers a x n 0 ne
 
 -- the last open attack on an argument is taken off: it enters
@@ -201,7 +204,8 @@ releases_last : (f : Af) → IsAf f
     → IsSearchState f (members ++ p.1 ∷ []) out (set open_attackers p.1 (get_or open_attackers p.1 0 - 1)) rest
 releases_last f af members out open_attackers p rest h live last =
     let lt : p.1 < length out = h.wide p.1 live in
-    let long : length (set open_attackers p.1 (get_or open_attackers p.1 0 - 1)) ≡ length open_attackers = length-set open_attackers p.1 _ in
+    let long : length (set open_attackers p.1 (get_or open_attackers p.1 0 - 1)) ≡ length open_attackers =
+    length-set open_attackers p.1 _ in
     let here : get_or (set open_attackers p.1 (get_or open_attackers p.1 0 - 1)) p.1 0
     ≡ get_or open_attackers p.1 0 - 1 = get_or-set_same open_attackers p.1 _ 0 (omega (arith, h.long, lt)) in
     let none : count_undefeated out p.1 f.attacks
@@ -233,13 +237,15 @@ releases_last f af members out open_attackers p rest h live last =
     }
 
 -- another open attack on the argument is left
-releases_other : (f : Af) (members : List ℕ) (out : List Bool) (open_attackers : List ℕ) (p : ℕ × ℕ) (rest : List (ℕ × ℕ))
+releases_other : (f : Af) (members : List ℕ) (out : List Bool) (open_attackers : List ℕ) (p : ℕ × ℕ)
+    (rest : List (ℕ × ℕ))
     → IsSearchState f members out open_attackers (p ∷ rest)
     → Contains f.live p.1 → (get_or open_attackers p.1 0 ≡ 1 → ⊥)
     → IsSearchState f members out (set open_attackers p.1 (get_or open_attackers p.1 0 - 1)) rest
 releases_other f members out open_attackers p rest h live left =
     let lt : p.1 < length out = h.wide p.1 live in
-    let long : length (set open_attackers p.1 (get_or open_attackers p.1 0 - 1)) ≡ length open_attackers = length-set open_attackers p.1 _ in
+    let long : length (set open_attackers p.1 (get_or open_attackers p.1 0 - 1)) ≡ length open_attackers =
+    length-set open_attackers p.1 _ in
     let here : get_or (set open_attackers p.1 (get_or open_attackers p.1 0 - 1)) p.1 0
     ≡ get_or open_attackers p.1 0 - 1 = get_or-set_same open_attackers p.1 _ 0 (omega (arith, h.long, lt)) in
     let some = counts_it f members out open_attackers p rest h lt in
@@ -264,9 +270,11 @@ releases_other f members out open_attackers p rest h live left =
     }
 
 pub releases : (f : Af) → IsAf f
-    → (members members' : List ℕ) (out : List Bool) (open_attackers open_attackers' : List ℕ) (p : ℕ × ℕ) (rest : List (ℕ × ℕ))
+    → (members members' : List ℕ) (out : List Bool) (open_attackers open_attackers' : List ℕ) (p : ℕ × ℕ)
+    (rest : List (ℕ × ℕ))
     → IsSearchState f members out open_attackers (p ∷ rest)
-    → Contains f.live p.1 → ReleasesOne p.1 members open_attackers members' open_attackers' → IsSearchState f members' out open_attackers' rest
+    → Contains f.live p.1 → ReleasesOne p.1 members open_attackers members' open_attackers'
+    → IsSearchState f members' out open_attackers' rest
 releases f af members members' out open_attackers open_attackers' p rest h live step = ⊎_elim
     (λ last. let is : members' ≡ members ++ p.1 ∷ [] = step.members_are
     ∙ rw (eq-eqb (get_or open_attackers p.1 0) 1 last) refl in rw (is, step.counts_are)
@@ -277,11 +285,13 @@ releases f af members members' out open_attackers open_attackers' p rest h live 
     (cases_eq (get_or open_attackers p.1 0) 1)
 
 -- the next of the attacks that are to be taken off
-next_live : (f : Af) → IsAf f → (members : List ℕ) (out : List Bool) (open_attackers : List ℕ) (p : ℕ × ℕ) (rest : List (ℕ × ℕ))
+next_live : (f : Af) → IsAf f → (members : List ℕ) (out : List Bool) (open_attackers : List ℕ) (p : ℕ × ℕ)
+    (rest : List (ℕ × ℕ))
     → IsSearchState f members out open_attackers (p ∷ rest) → Contains f.live p.1
 next_live f af members out open_attackers p rest h = (af.ends p.0 p.1 (h.pending p (Contains-head p rest p refl))).1
 
-pub next_counts : (f : Af) → IsAf f → (members : List ℕ) (out : List Bool) (open_attackers : List ℕ) (rest : List (ℕ × ℕ)) (i : ℕ)
+pub next_counts : (f : Af) → IsAf f → (members : List ℕ) (out : List Bool) (open_attackers : List ℕ)
+    (rest : List (ℕ × ℕ)) (i : ℕ)
     → IsSearchState f members out open_attackers (drop i rest) → i < length rest
     → ((get_or rest i (0, 0)).1 < length open_attackers) × (0 < get_or open_attackers (get_or rest i (0, 0)).1 0)
 next_counts f af members out open_attackers rest i h lt =
@@ -289,13 +299,15 @@ next_counts f af members out open_attackers rest i h lt =
     let wide = kept.wide _ (next_live f af members out open_attackers _ _ kept) in
     (omega (arith, wide, kept.long), counts_it f members out open_attackers _ _ kept wide)
 
-pub next_releases : (f : Af) → IsAf f → (members : List ℕ) (out : List Bool) (open_attackers : List ℕ) (rest : List (ℕ × ℕ)) (i : ℕ)
+pub next_releases : (f : Af) → IsAf f → (members : List ℕ) (out : List Bool) (open_attackers : List ℕ)
+    (rest : List (ℕ × ℕ)) (i : ℕ)
     (members' open_attackers' : List ℕ) → IsSearchState f members out open_attackers (drop i rest) → i < length rest
     → ReleasesOne (get_or rest i (0, 0)).1 members open_attackers members' open_attackers'
     → IsSearchState f members' out open_attackers' (drop (i + 1) rest)
 next_releases f af members out open_attackers rest i members' open_attackers' h lt step =
     let kept = rw (drop_more rest i (0, 0) lt) at h in
-    releases f af members members' out open_attackers open_attackers' _ _ kept (next_live f af members out open_attackers _ _ kept) step
+    releases f af members members' out open_attackers open_attackers' _ _ kept
+    (next_live f af members out open_attackers _ _ kept) step
 
 -- an members grows from itself, in two steps, and by one attack taken off
 pub grows_not : (members open_attackers : List ℕ) → Grows members open_attackers members open_attackers
@@ -308,7 +320,8 @@ grows_twice o c o' c' o'' c'' g h = record {
   spent = omega (arith, g.spent, h.spent);
 }
 
-pub grows_released : (members members' open_attackers open_attackers' : List ℕ) (a : ℕ) → a < length open_attackers → 0 < get_or open_attackers a 0
+pub grows_released : (members members' open_attackers open_attackers' : List ℕ) (a : ℕ) → a < length open_attackers
+    → 0 < get_or open_attackers a 0
     → ReleasesOne a members open_attackers members' open_attackers'
     → Grows members open_attackers members' open_attackers'
 grows_released members members' open_attackers open_attackers' a lt some step =
@@ -335,7 +348,8 @@ pub grown : (o c o' c' : List ℕ) → Grows o c o' c' → IsWithin o o'
 grown o c o' c' g x h = rw g.is (Contains-append_left o g.more x h)
 
 -- an argument that is out already
-pub defeats_nothing : (f : Af) (members : List ℕ) (out : List Bool) (open_attackers : List ℕ) (rest : List (ℕ × ℕ)) (a : ℕ)
+pub defeats_nothing : (f : Af) (members : List ℕ) (out : List Bool) (open_attackers : List ℕ) (rest : List (ℕ × ℕ))
+    (a : ℕ)
     → IsSearchState f members out open_attackers rest → is_out out a ≡ true
     → PutsOut f (λ b. b ≡ a) members out open_attackers out rest
 defeats_nothing f members out open_attackers rest a h gone = record {
@@ -355,7 +369,8 @@ defeats_one f members out open_attackers rest a lt h fresh att = record {
   defeated = λ b e. rw e (get_or-set_same out a true true lt);
 }
 
-pub defeats_none : (f : Af) (P : ℕ → Type 0) (members : List ℕ) (out : List Bool) (open_attackers : List ℕ) (rest : List (ℕ × ℕ))
+pub defeats_none : (f : Af) (P : ℕ → Type 0) (members : List ℕ) (out : List Bool) (open_attackers : List ℕ)
+    (rest : List (ℕ × ℕ))
     → IsSearchState f members out open_attackers rest → ((b : ℕ) → P b → ⊥)
     → PutsOut f P members out open_attackers out rest
 defeats_none f P members out open_attackers rest h none = record {
@@ -382,7 +397,8 @@ defeats_weaker f P Q o t c t' r g q = record {
 }
 
 -- the end: what each member attacks is out
-pub finishes : (f : Af) (members : List ℕ) (out : List Bool) (open_attackers : List ℕ) → IsSearchState f members out open_attackers []
+pub finishes : (f : Af) (members : List ℕ) (out : List Bool) (open_attackers : List ℕ)
+    → IsSearchState f members out open_attackers []
     → ((k b : ℕ) → k < length members → Attacks f (get_or members k 0) b → is_out out b ≡ true)
     → IsFinished f members open_attackers
 finishes f members out open_attackers h defeated = record {
@@ -403,7 +419,8 @@ pub rises_still : (f : Af) (open_attackers found : List ℕ) → IsAf f
 rises_still f open_attackers found af is = rw is
     (IsStrictlyIncreasing-filter (λ a. eqb (get_or open_attackers a 0) 0) f.live af.live_rises)
 
-pub grounds : (f : Af) (members read open_attackers found set : List ℕ) → read ≡ open_attackers → IsFinished f members read
+pub grounds : (f : Af) (members read open_attackers found set : List ℕ) → read ≡ open_attackers
+    → IsFinished f members read
     → found ≡ filter (λ a. eqb (get_or open_attackers a 0) 0) f.live → IsAf f → set ≡ found
     → GroundsInOrder f set members
 grounds f members read open_attackers found set e g is af same' =
@@ -458,16 +475,19 @@ targets_more leaving i b w = ⊎_elim
 -- one member more
 pub members_more : (f : Af) (members : List ℕ) (head i b : ℕ) → head + i < length members
     → ((k : ℕ) × (head ≤ k) × (k < head + (i + 1)) × Attacks f (get_or members k 0) b)
-    → ((k : ℕ) × (head ≤ k) × (k < head + i) × Attacks f (get_or members k 0) b) ⊎ Attacks f (get_or members (head + i) 0) b
+    → ((k : ℕ) × (head ≤ k) × (k < head + i) × Attacks f (get_or members k 0) b)
+    ⊎ Attacks f (get_or members (head + i) 0) b
 members_more f members head i b lt w = ⊎_elim
     (λ (e : w.0 ≡ head + i). inr (subst (λ (k : ℕ). Attacks f (get_or members k 0) b) e w.3))
     (λ ne. inl (w.0, w.1, omega (arith, w.2, ne), w.3)) (cases_eq w.0 (head + i))
 
 -- one round more: the members that stood there before it have had their targets put out
-pub round_on : (f : Af) (members : List ℕ) (out out' : List Bool) (open_attackers members' open_attackers' : List ℕ) (head : ℕ)
+pub round_on : (f : Af) (members : List ℕ) (out out' : List Bool) (open_attackers members' open_attackers' : List ℕ)
+    (head : ℕ)
     (rest : List (ℕ × ℕ))
     → ((k b : ℕ) → k < head → Attacks f (get_or members k 0) b → is_out out b ≡ true)
-    → PutsOut f (IsAttackedFrom f members head) members out open_attackers out' rest → Grows members open_attackers members' open_attackers'
+    → PutsOut f (IsAttackedFrom f members head) members out open_attackers out' rest
+    → Grows members open_attackers members' open_attackers'
     → (length members ≤ length members') × ((k b : ℕ) → k < length members → Attacks f (get_or members' k 0) b
     → is_out out' b ≡ true)
 round_on f members out out' open_attackers members' open_attackers' head rest before step grows =

@@ -10,7 +10,8 @@ use Rattle.dung_notions.specs.WrittenOut.{HasAdded}
 abbrev pub HasFitting : {X : Type 0} → (X → Type 0) → List X → ℕ → List X → Type 0
 HasFitting {X} P items n found = (x : X) → Contains found x ↔ (Contains (take n items) x × P x)
 
-pub added_pushed : {X : Type 0} (P : X → Type 0) (item : X) (old : List X) → P item → HasAdded P item old (old ++ item ∷ [])
+pub added_pushed : {X : Type 0} (P : X → Type 0) (item : X) (old : List X) → P item
+    → HasAdded P item old (old ++ item ∷ [])
 added_pushed P item old fits x = (
   λ h. ⊎_elim (λ c. inl c) (λ e. inr (sym e, subst P e fits)) (Contains-push_cases old item x h),
   λ h. ⊎_elim (λ c. Contains-append_left old (item ∷ []) x c)

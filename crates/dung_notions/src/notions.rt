@@ -129,7 +129,8 @@ impl AfPlain {
 
     /// Whether the set attacks each live argument outside it.
     fn attacks_others(&self, set: &NumSet) -> bool
-        ensures { IsTrue result ↔ ((a : ℕ) → Contains self.now.live a → ¬ Contains set.now a → IsAttackedBy self.now set.now a) }
+        ensures { IsTrue result ↔ ((a : ℕ) → Contains self.now.live a → ¬ Contains set.now a
+            → IsAttackedBy self.now set.now a) }
     {
         self.live()
             .iter()

@@ -22,7 +22,8 @@ double true = refl
 double false = refl
 
 signed_reading : (truth : ℕ → Bool) (v : ℕ) (p : Bool)
-    → valuation_of truth (negation (record { var = v; positive = p })) ≡ not (valuation_of truth (record { var = v; positive = p }))
+    → valuation_of truth (negation (record { var = v; positive = p }))
+    ≡ not (valuation_of truth (record { var = v; positive = p }))
 signed_reading truth v true = refl
 signed_reading truth v false = sym (double (truth v))
 
@@ -55,7 +56,8 @@ given_follows before step Axiom e h truth all = cc
 given_follows before step Side e h truth all = cc
 given_follows before step Derived e h truth all =
     let sound = taken_sound negation (clauses_of before) step.clause step.hints (length step.hints) h in
-    sound.follows (valuation_of truth) (reads_both truth) (λ hint c. all hint (rw (take_all (length step.hints) step.hints (omega arith)) at c))
+    sound.follows (valuation_of truth) (reads_both truth)
+    (λ hint c. all hint (rw (take_all (length step.hints) step.hints (omega arith)) at c))
 
 given_hints : (before : List Step) (step : Step) (kind : Kind) → IsGiven before step kind → (hint : ℕ)
     → Contains step.hints hint → (0 < hint) × (hint ≤ length before)
@@ -73,7 +75,8 @@ pub hint_before : (steps : List Step) → IsProof steps → (number hint : ℕ) 
 hint_before steps h number hint s c =
     let low = s.from_one in
     let high = s.within in
-    let g = given_hints (take (number - 1) steps) (step_at steps number) (step_at steps number).kind (h.each (number - 1) (omega arith)) hint c in
+    let g = given_hints (take (number - 1) steps) (step_at steps number) (step_at steps number).kind
+    (h.each (number - 1) (omega arith)) hint c in
     let pos = g.0 in
     let below = g.1 in
     (pos, omega (arith, length-take (number - 1) steps))
@@ -86,7 +89,8 @@ earlier_clause steps number hint pos lt = clause_of_step (take (number - 1) step
 
 follows_fuel : (steps : List Step) → IsProof steps → (truth : ℕ → Bool) → (fuel number : ℕ) → number ≤ fuel
     → IsStepOf steps number
-    → ((given : ℕ) → Reaches steps number given → (step_at steps given).kind ≢ Derived → IsTrueUnder truth (step_at steps given).clause)
+    → ((given : ℕ) → Reaches steps number given → (step_at steps given).kind ≢ Derived
+    → IsTrueUnder truth (step_at steps given).clause)
     → IsTrueUnder truth (step_at steps number).clause
 follows_fuel steps h truth zero number le s all = let low = s.from_one in absurd (omega arith)
 follows_fuel steps h truth (suc fuel) number le s all =
@@ -94,12 +98,14 @@ follows_fuel steps h truth (suc fuel) number le s all =
     let high = s.within in
     ⊎_elim
     (λ derived.
-    given_follows (take (number - 1) steps) (step_at steps number) (step_at steps number).kind derived (h.each (number - 1) (omega arith)) truth
+    given_follows (take (number - 1) steps) (step_at steps number) (step_at steps number).kind derived
+    (h.each (number - 1) (omega arith)) truth
     (λ hint c.
     let b = hint_before steps h number hint s c in
     let pos = b.0 in
     let lt = b.1 in
-    rw (earlier_clause steps number hint b.0 b.1) (follows_fuel steps h truth fuel hint (omega arith) (record { from_one = b.0; within = omega arith })
+    rw (earlier_clause steps number hint b.0 b.1) (follows_fuel steps h truth fuel hint (omega arith)
+    (record { from_one = b.0; within = omega arith })
     (λ given r ne. all given (by_hint number hint given c r) ne))))
     (λ ne. all number (itself number) ne)
     (cases_kind (step_at steps number).kind)
@@ -129,4 +135,6 @@ pub taken_from_hints : (steps : List Step) (clause : List Lit) (hints : List ℕ
 taken_from_hints steps clause hints used w truth all =
     let sound = taken_sound negation (clauses_of steps) clause hints used w in
     sound.follows (valuation_of truth) (reads_both truth)
-    (λ hint c. rw (clause_of_step steps (hint - 1)) (all hint (rw (take-append-drop used hints) at (Contains-append_left (take used hints) (drop used hints) hint c))))
+    (λ hint c. rw (clause_of_step steps (hint - 1))
+    (all hint (rw (take-append-drop used hints) at (Contains-append_left (take used hints) (drop used hints) hint
+    c))))

@@ -37,7 +37,8 @@ pub clauses-steps_of : (cs : List (List Lit)) (ks : List Kind) (hs : List (List 
 clauses-steps_of [] ks hs p = refl
 clauses-steps_of (c ∷ cs) [] hs p = absurd (no_kinds c cs hs p)
 clauses-steps_of (c ∷ cs) (k ∷ ks) [] p = absurd (no_hints c cs (k ∷ ks) p)
-clauses-steps_of (c ∷ cs) (k ∷ ks) (h ∷ hs) p = ap (λ rest. c ∷ rest) (clauses-steps_of cs ks hs (rest_parts c cs k ks h hs p))
+clauses-steps_of (c ∷ cs) (k ∷ ks) (h ∷ hs) p =
+    ap (λ rest. c ∷ rest) (clauses-steps_of cs ks hs (rest_parts c cs k ks h hs p))
 
 pub steps_of-at : (cs : List (List Lit)) (ks : List Kind) (hs : List (List ℕ)) (i : ℕ) → AreParts cs ks hs
     → i < length cs
@@ -56,10 +57,12 @@ steps_of-push [] (k2 ∷ ks) hs c k h p = let a = p.kinds_long in absurd (omega 
 steps_of-push [] [] (h2 ∷ hs) c k h p = let a = p.hints_long in absurd (omega arith)
 steps_of-push (c2 ∷ cs) [] hs c k h p = absurd (no_kinds c2 cs hs p)
 steps_of-push (c2 ∷ cs) (k2 ∷ ks) [] c k h p = absurd (no_hints c2 cs (k2 ∷ ks) p)
-steps_of-push (c2 ∷ cs) (k2 ∷ ks) (h2 ∷ hs) c k h p = ap (λ rest. step_of c2 k2 h2 ∷ rest) (steps_of-push cs ks hs c k h (rest_parts c2 cs k2 ks h2 hs p))
+steps_of-push (c2 ∷ cs) (k2 ∷ ks) (h2 ∷ hs) c k h p = ap (λ rest. step_of c2 k2 h2 ∷ rest)
+    (steps_of-push cs ks hs c k h (rest_parts c2 cs k2 ks h2 hs p))
 
 -- the steps after a push, by what the parts become
-pub pushed_step : (cs ncs : List (List Lit)) (ks nks : List Kind) (hs nhs : List (List ℕ)) (c : List Lit) (k : Kind) (h : List ℕ)
+pub pushed_step : (cs ncs : List (List Lit)) (ks nks : List Kind) (hs nhs : List (List ℕ)) (c : List Lit) (k : Kind)
+    (h : List ℕ)
     → AreParts cs ks hs → ncs ≡ cs ++ c ∷ [] → nks ≡ ks ++ k ∷ [] → nhs ≡ hs ++ h ∷ []
     → steps_of ncs nks nhs ≡ steps_of cs ks hs ++ step_of c k h ∷ []
 pushed_step cs ncs ks nks hs nhs c k h p e1 e2 e3 = rw (e1, e2, e3) (steps_of-push cs ks hs c k h p)

@@ -25,7 +25,8 @@ pub IsProof-push : (steps : List Step) (step : Step) → IsProof steps → IsGiv
     → IsProof (steps ++ step ∷ [])
 IsProof-push steps step h new = record {
   each = λ k lt. ⊎_elim
-      (λ old. rw (take-append-le k steps (step ∷ []) (omega arith), get_or_append_left steps (step ∷ []) no_step k old) (h.each k old))
+      (λ old. rw (take-append-le k steps (step ∷ []) (omega arith), get_or_append_left steps (step ∷ []) no_step k old)
+      (h.each k old))
       (λ last.
       let e : k ≡ length steps = omega (arith, length-append steps (step ∷ [])) in
       rw (e, after_push steps step, take-append_seam steps (step ∷ [])) new)
@@ -88,4 +89,5 @@ not_so b P h e p = false≢true (sym e ∙ h.1 p)
 -- as many hints are kept as were looked at
 pub used_hints : (clauses : List (List Lit)) (clause : List Lit) (hints : List ℕ) (used : ℕ)
     → Checks negation clauses clause hints (Ok used) → used ≡ length (take used hints)
-used_hints clauses clause hints used w = sym (length-take-le used hints ((taken_sound negation clauses clause hints used w).within))
+used_hints clauses clause hints used w =
+    sym (length-take-le used hints ((taken_sound negation clauses clause hints used w).within))

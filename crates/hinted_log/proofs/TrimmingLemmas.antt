@@ -29,9 +29,12 @@ none_marked (suc n) zero h = false≢true h
 none_marked (suc n) (suc j) h = none_marked n j h
 
 -- one more mark
-marked_there : (marks : List Bool) (n j : ℕ) → n < length marks → IsMarked (set marks n true) j → IsMarked marks j ⊎ (n ≡ j)
+marked_there : (marks : List Bool) (n j : ℕ) → n < length marks → IsMarked (set marks n true) j → IsMarked marks j
+    ⊎ (n ≡ j)
 marked_there marks n j lt h =
-    ⊎_elim (λ e. inr (sym e)) (λ ne. inl (sym (get_or-set_other marks n j true false (λ e. let same : j ≡ n = e in omega (arith, ne))) ∙ h)) (cases_eq j n)
+    ⊎_elim (λ e. inr (sym e)) (λ ne. inl
+    (sym (get_or-set_other marks n j true false (λ e. let same : j ≡ n = e in omega (arith, ne))) ∙ h))
+    (cases_eq j n)
 
 marked_here : (marks : List Bool) (n : ℕ) → n < length marks → IsMarked (set marks n true) n
 marked_here marks n lt = get_or-set_same marks n true false lt
@@ -62,7 +65,8 @@ hints_more hints old marks new i x n lt e same within h made =
           (marked_there marks n j within m);
       kept = λ j m. marked_kept marks n j within (h.kept j m);
       back = λ j c. ⊎_elim (λ o. marked_kept marks n j within (h.back j o))
-          (λ (here : x ≡ j). rw (sym here ∙ sym same) (marked_here marks n within)) (Contains-push_cases (take i hints) x j c);
+          (λ (here : x ≡ j). rw (sym here ∙ sym same) (marked_here marks n within))
+          (Contains-push_cases (take i hints) x j c);
     })
 
 -- a step reaches the hints of what it reaches
@@ -76,9 +80,11 @@ reach_within : (steps : List Step) (marks : List Bool)
     → ((x hint : ℕ) → IsMarked marks x → Contains (step_at steps x).hints hint → IsMarked marks hint)
     → {number reached : ℕ} → Reaches steps number reached → IsMarked marks number → IsMarked marks reached
 reach_within steps marks closed (itself number) m = m
-reach_within steps marks closed (by_hint number hint reached c r) m = reach_within steps marks closed r (closed number hint m c)
+reach_within steps marks closed (by_hint number hint reached c r) m =
+    reach_within steps marks closed r (closed number hint m c)
 
-pub walk_begins : (steps : List Step) (step : ℕ) (marks : List Bool) → marks ≡ set (replicate (step + 1) false) step true
+pub walk_begins : (steps : List Step) (step : ℕ) (marks : List Bool) → marks
+    ≡ set (replicate (step + 1) false) step true
     → IsWalk steps step step marks
 walk_begins steps step marks made =
     let blank : List Bool = replicate (step + 1) false in
@@ -89,7 +95,8 @@ walk_begins steps step marks made =
       start = marked_here blank step (omega (arith, long));
       sound = λ j m. ⊎_elim (λ o. absurd (none_marked (step + 1) j o)) (λ (e : step ≡ j). rw (← e) (itself step))
           (marked_there blank step j (omega (arith, long)) m);
-      closed = λ j hint lt m c. let high = marked_within (set blank step true) j m in absurd (omega (arith, long, length-set {A = Bool}));
+      closed = λ j hint lt m c. let high = marked_within (set blank step true) j m in
+          absurd (omega (arith, long, length-set {A = Bool}));
     })
 
 -- what is marked names a step
@@ -108,7 +115,8 @@ walk_hint steps step number hint marks proof named w pos c =
     omega arith
 
 -- the walk goes on below a number that is marked
-pub walk_marked : (steps : List Step) (step number : ℕ) (marks new : List Bool) (hints : List ℕ) → IsProof steps → IsStepOf steps step
+pub walk_marked : (steps : List Step) (step number : ℕ) (marks new : List Bool) (hints : List ℕ) → IsProof steps
+    → IsStepOf steps step
     → IsWalk steps step number marks → 0 < number → IsMarked marks number → hints ≡ (step_at steps number).hints
     → MarksHints hints marks new → IsWalk steps step (number - 1) new
 walk_marked steps step number marks new hints proof named w pos here e h =
@@ -124,13 +132,15 @@ walk_marked steps step number marks new hints proof named w pos here e h =
           (λ (same : j ≡ number). h.back hint (rw (e, ← same) c))
           (λ ne. ⊎_elim
           (λ old. h.kept hint (w.closed j hint (omega arith) old c))
-          (λ k. let below = (hint_before steps proof number j (record { from_one = pos; within = omega arith }) (its j k)).1 in absurd (omega arith))
+          (λ k. let below = (hint_before steps proof number j (record { from_one = pos; within = omega arith })
+          (its j k)).1 in absurd (omega arith))
           (h.there j m))
           (cases_eq j number);
     }
 
 -- and below one that isn't
-pub walk_unmarked : (steps : List Step) (step number : ℕ) (marks : List Bool) → IsWalk steps step number marks → 0 < number
+pub walk_unmarked : (steps : List Step) (step number : ℕ) (marks : List Bool) → IsWalk steps step number marks
+    → 0 < number
     → get_or marks number false ≡ false → IsWalk steps step (number - 1) marks
 walk_unmarked steps step number marks w pos low =
     let le = w.within in
@@ -151,7 +161,8 @@ pub walk_done : (steps : List Step) (step number : ℕ) (marks : List Bool) → 
 walk_done steps step number marks proof named w none j = (
   w.sound j,
   λ r. reach_within steps marks
-      (λ x hint m c. let pos = (walk_step steps step number x marks proof named w m).from_one in w.closed x hint (omega (arith, none)) m c)
+      (λ x hint m c. let pos = (walk_step steps step number x marks proof named w m).from_one in
+      w.closed x hint (omega (arith, none)) m c)
       r w.start,
 )
 
@@ -168,7 +179,8 @@ found_none marks = record {
   back = λ j lt m. absurd (omega arith);
 }
 
-pub found_more : (marks : List Bool) (number : ℕ) (found new : List ℕ) → new ≡ found ++ number ∷ [] → IsMarked marks number
+pub found_more : (marks : List Bool) (number : ℕ) (found new : List ℕ) → new ≡ found ++ number ∷ []
+    → IsMarked marks number
     → IsFoundBelow marks number found → IsFoundBelow marks (number + 1) new
 found_more marks number found new made here h = rw made (record {
   rises = λ k lt. let long = length-append found (number ∷ []) in ⊎_elim
@@ -199,7 +211,8 @@ found_same marks number found low h = record {
       (λ ne. h.back j (omega arith) m) (cases_eq j number);
 }
 
-pub found_all : (marks : List Bool) (number : ℕ) (found : List ℕ) → length marks ≤ number → IsFoundBelow marks number found
+pub found_all : (marks : List Bool) (number : ℕ) (found : List ℕ) → length marks ≤ number
+    → IsFoundBelow marks number found
     → IsSetOf (IsMarked marks) found
 found_all marks number found le h = record {
   rises = h.rises;
@@ -227,13 +240,15 @@ pub walk_next_hint : (steps : List Step) (step last down hint : ℕ) (marks : Li
 walk_next_hint steps step last down hint marks hints proof named same lt w e c =
     walk_hint steps last (last - down) hint marks proof (rw (← same) at named) w (omega arith) (rw e at c)
 
-pub walk_next_marked : (steps : List Step) (step last down : ℕ) (marks read new : List Bool) (hints : List ℕ) → IsProof steps
+pub walk_next_marked : (steps : List Step) (step last down : ℕ) (marks read new : List Bool) (hints : List ℕ)
+    → IsProof steps
     → IsStepOf steps step → last ≡ step → down < last → IsWalk steps last (last - down) marks → read ≡ marks
     → IsMarked read (last - down) → hints ≡ (step_at steps (last - down)).hints → MarksHints hints marks new
     → IsWalk steps last (last - (down + 1)) new
 walk_next_marked steps step last down marks read new hints proof named same lt w r here e h =
     let next : last - (down + 1) ≡ last - down - 1 = omega arith in
-    rw next (walk_marked steps last (last - down) marks new hints proof (rw (← same) at named) w (omega arith) (rw r at here) e h)
+    rw next (walk_marked steps last (last - down) marks new hints proof (rw (← same) at named) w (omega arith)
+    (rw r at here) e h)
 
 pub walk_next_unmarked : (steps : List Step) (last down : ℕ) (marks read : List Bool) → down < last
     → IsWalk steps last (last - down) marks → read ≡ marks → get_or read (last - down) false ≡ false
@@ -242,7 +257,8 @@ walk_next_unmarked steps last down marks read lt w r low =
     let next : last - (down + 1) ≡ last - down - 1 = omega arith in
     rw next (walk_unmarked steps last (last - down) marks w (omega arith) (rw r at low))
 
-pub walk_last : (steps : List Step) (step last down : ℕ) (marks : List Bool) → IsProof steps → IsStepOf steps step → last ≡ step
+pub walk_last : (steps : List Step) (step last down : ℕ) (marks : List Bool) → IsProof steps → IsStepOf steps step
+    → last ≡ step
     → last ≤ down → IsWalk steps last (last - down) marks → (j : ℕ) → IsMarked marks j ↔ Reaches steps step j
 walk_last steps step last down marks proof named same le w j =
     rw (← same) (walk_done steps last (last - down) marks proof (rw (← same) at named) w (omega arith) j)

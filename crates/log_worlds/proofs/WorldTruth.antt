@@ -23,32 +23,42 @@ use Rattle.log_worlds.specs.WorldLogs.{lit_of, atoms_of, step_clause, IsSideStep
 there : (f : Lit → AtomLit) (clause : List Lit) (l : Lit) → Contains clause l → Contains (map f clause) (f l)
 there f [] l c = absurd (Contains-nil l c)
 there f (x ∷ xs) l c =
-    ⊎_elim (λ e. Contains-head (f x) (map f xs) (f l) (ap f e)) (λ h. Contains-tail (f x) (map f xs) (f l) (there f xs l h))
+    ⊎_elim (λ e. Contains-head (f x) (map f xs) (f l) (ap f e)) (λ h. Contains-tail (f x) (map f xs) (f l)
+    (there f xs l h))
     (Contains-cons_cases x xs l c)
 
-back : (f : Lit → AtomLit) (clause : List Lit) (a : AtomLit) → Contains (map f clause) a → (l : Lit) × Contains clause l × (f l ≡ a)
+back : (f : Lit → AtomLit) (clause : List Lit) (a : AtomLit) → Contains (map f clause) a → (l : Lit) × Contains clause l
+    × (f l ≡ a)
 back f [] a c = absurd (Contains-nil a c)
 back f (x ∷ xs) a c =
-    ⊎_elim (λ e. (x, Contains-head x xs x refl, e)) (λ h. let w = back f xs a h in (w.0, Contains-tail x xs w.0 w.1, w.2))
+    ⊎_elim (λ e. (x, Contains-head x xs x refl, e)) (λ h. let w = back f xs a h in
+    (w.0, Contains-tail x xs w.0 w.1, w.2))
     (Contains-cons_cases (f x) (map f xs) a c)
 
 -- ---- valuations
 
-values_under : (atom_of : ℕ → Atom) (w : World) (sides : List (List AtomLit)) (value : Atom → Bool) → IsValuation w sides value → (clause : List Lit)
+values_under : (atom_of : ℕ → Atom) (w : World) (sides : List (List AtomLit)) (value : Atom → Bool)
+    → IsValuation w sides value → (clause : List Lit)
     → IsTrueBeside w sides (atoms_of atom_of clause) → IsTrueUnder (λ v. value (atom_of v)) clause
 values_under atom_of w sides value reads clause h =
     let t = under w sides value reads (atoms_of atom_of clause) h in
     let p = back (lit_of atom_of) clause t.0 t.1 in
     (p.0, p.1, subst (λ l. lit_value value l ≡ true) (sym p.2) t.2)
 
-true_beside : (atom_of : ℕ → Atom) (w : World) (sides : List (List AtomLit)) (value : Atom → Bool) → IsValuation w sides value → (clause : List Lit)
+true_beside : (atom_of : ℕ → Atom) (w : World) (sides : List (List AtomLit)) (value : Atom → Bool)
+    → IsValuation w sides value → (clause : List Lit)
     → IsTrueUnder (λ v. value (atom_of v)) clause → IsTrueBeside w sides (atoms_of atom_of clause)
 true_beside atom_of w sides value reads clause h =
-    beside w sides value reads (atoms_of atom_of clause) (lit_of atom_of h.0, there (lit_of atom_of) clause h.0 h.1, h.2)
+    beside w sides value reads (atoms_of atom_of clause) (
+      lit_of atom_of h.0,
+      there (lit_of atom_of) clause h.0 h.1,
+      h.2,
+    )
 
 -- ---- side clauses
 
-side_true : (w : World) (sides : List (List AtomLit)) (clause : List AtomLit) → ((side : List AtomLit) → Contains sides side → AsksNothing side)
+side_true : (w : World) (sides : List (List AtomLit)) (clause : List AtomLit)
+    → ((side : List AtomLit) → Contains sides side → AsksNothing side)
     → IsSideStep sides clause → IsTrueBeside w sides clause
 side_true w sides clause plain step =
     let low = step.low in
@@ -65,8 +75,10 @@ side_true w sides clause plain step =
     })
     (decide_atom w sides (Ask step.number))
 
-given_true : (atom_of : ℕ → Atom) (w : World) → IsWorld w → (sides : List (List AtomLit)) → ((side : List AtomLit) → Contains sides side → AsksNothing side)
-    → (step : Step) (kind : Kind) → IsGivenOf atom_of sides step kind → kind ≢ Derived → IsTrueBeside w sides (step_clause atom_of step)
+given_true : (atom_of : ℕ → Atom) (w : World) → IsWorld w → (sides : List (List AtomLit))
+    → ((side : List AtomLit) → Contains sides side → AsksNothing side)
+    → (step : Step) (kind : Kind) → IsGivenOf atom_of sides step kind → kind ≢ Derived
+    → IsTrueBeside w sides (step_clause atom_of step)
 given_true atom_of w world sides plain step Axiom given other = given w world sides
 given_true atom_of w world sides plain step Side given other = side_true w sides (step_clause atom_of step) plain given
 given_true atom_of w world sides plain step Derived given other = absurd (other refl)
@@ -74,16 +86,19 @@ given_true atom_of w world sides plain step Derived given other = absurd (other 
 -- ---- logs
 
 log_beside : (atom_of : ℕ → Atom) (sides : List (List AtomLit)) (steps : List Step) → IsLogOf atom_of sides steps
-    → (number : ℕ) → IsStepOf steps number → (w : World) → IsWorld w → IsTrueBeside w sides (step_clause atom_of (step_at steps number))
+    → (number : ℕ) → IsStepOf steps number → (w : World) → IsWorld w
+    → IsTrueBeside w sides (step_clause atom_of (step_at steps number))
 log_beside atom_of sides steps log number is w world =
     let r = world_valuation w sides in
     true_beside atom_of w sides r.0 r.1 (step_at steps number).clause
     ((all_follow steps log.proof).from_given (λ v. r.0 (atom_of v))
     (λ given there_is other. values_under atom_of w sides r.0 r.1 (step_at steps given).clause
-    (given_true atom_of w world sides log.plain (step_at steps given) (step_at steps given).kind (log.given given there_is) other))
+    (given_true atom_of w world sides log.plain (step_at steps given) (step_at steps given).kind
+    (log.given given there_is) other))
     number is)
 
-pub log_true : (atom_of : ℕ → Atom) (sides : List (List AtomLit)) (steps : List Step) → IsLogOf atom_of sides steps → IsTrueOfWorlds atom_of sides steps
+pub log_true : (atom_of : ℕ → Atom) (sides : List (List AtomLit)) (steps : List Step) → IsLogOf atom_of sides steps
+    → IsTrueOfWorlds atom_of sides steps
 log_true atom_of sides steps log = record {
   beside = λ number is w world. log_beside atom_of sides steps log number is w world;
   valid = λ number is plain w world others. elsewhere w sides others (step_clause atom_of (step_at steps number)) plain

@@ -10,5 +10,6 @@ ghost use Rattle.log_worlds.specs.WorldLogs.{IsLogOf, IsTrueOfWorlds};
 /// every world beside these side clauses, and valid where it asks for none. This holds whatever atoms the
 /// variables stand for.
 pub fn logs_are_true()
-    ensures { (atom_of : ℕ → Atom) (sides : List (List AtomLit)) (steps : List Step) → IsLogOf atom_of sides steps → IsTrueOfWorlds atom_of sides steps }
+    ensures { (atom_of : ℕ → Atom) (sides : List (List AtomLit)) (steps : List Step) → IsLogOf atom_of sides steps
+        → IsTrueOfWorlds atom_of sides steps }
 {}

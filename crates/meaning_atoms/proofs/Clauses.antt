@@ -47,11 +47,13 @@ given w sides a rest next =
 -- ---- side clauses
 
 -- what asks for no side clause is so beside any side clauses or none
-pub alone_holds : (w : World) (sides : List (List AtomLit)) (atom : Atom) → (IsAsk atom → ⊥) → HoldsAlone w atom → Holds w sides atom
+pub alone_holds : (w : World) (sides : List (List AtomLit)) (atom : Atom) → (IsAsk atom → ⊥) → HoldsAlone w atom
+    → Holds w sides atom
 alone_holds w sides (Ask n) none h = absurd (none tt)
 alone_holds w sides _ none h = h
 
-pub holds_alone : (w : World) (sides : List (List AtomLit)) (atom : Atom) → (IsAsk atom → ⊥) → Holds w sides atom → HoldsAlone w atom
+pub holds_alone : (w : World) (sides : List (List AtomLit)) (atom : Atom) → (IsAsk atom → ⊥) → Holds w sides atom
+    → HoldsAlone w atom
 holds_alone w sides (Ask n) none h = absurd (none tt)
 holds_alone w sides _ none h = h
 
@@ -60,7 +62,8 @@ says_moved true P Q to from h = to h
 says_moved false P Q to from h = λ q. h (from q)
 
 -- a clause that asks for no side clause is true beside side clauses where it is true alone
-pub from_alone : (w : World) (sides : List (List AtomLit)) (clause : List AtomLit) → AsksNothing clause → IsTrueAlone w clause
+pub from_alone : (w : World) (sides : List (List AtomLit)) (clause : List AtomLit) → AsksNothing clause
+    → IsTrueAlone w clause
     → IsTrueBeside w sides clause
 from_alone w sides clause plain h =
     let none = plain h.literal h.member in
@@ -72,7 +75,8 @@ from_alone w sides clause plain h =
           (holds_alone w sides atom none) h.says;
     }
 
-pub to_alone : (w : World) (sides : List (List AtomLit)) (clause : List AtomLit) → AsksNothing clause → IsTrueBeside w sides clause
+pub to_alone : (w : World) (sides : List (List AtomLit)) (clause : List AtomLit) → AsksNothing clause
+    → IsTrueBeside w sides clause
     → IsTrueAlone w clause
 to_alone w sides clause plain h =
     let none = plain h.literal h.member in
@@ -85,7 +89,8 @@ to_alone w sides clause plain h =
     }
 
 -- a clause that asks for no side clause is true beside any others too
-pub elsewhere : (w : World) (sides others : List (List AtomLit)) (clause : List AtomLit) → AsksNothing clause → IsTrueBeside w sides clause
+pub elsewhere : (w : World) (sides others : List (List AtomLit)) (clause : List AtomLit) → AsksNothing clause
+    → IsTrueBeside w sides clause
     → IsTrueBeside w others clause
 elsewhere w sides others clause plain h = from_alone w others clause plain (to_alone w sides clause plain h)
 
@@ -108,22 +113,26 @@ clash true a e = absurd (cc)
 clash false a e = absurd (cc)
 
 -- a literal says what is so exactly where its value is true
-pub read_true : (positive t : Bool) (P : Type 0) → ((t ≡ true) ↔ P) → Says positive P → (if positive then t else not t) ≡ true
+pub read_true : (positive t : Bool) (P : Type 0) → ((t ≡ true) ↔ P) → Says positive P → (if positive then t else not t)
+    ≡ true
 read_true true t P iff h = iff.1 h
 read_true false t P iff h = no_longer t (λ e. h (iff.0 e))
 
-pub true_read : (positive t : Bool) (P : Type 0) → ((t ≡ true) ↔ P) → (if positive then t else not t) ≡ true → Says positive P
+pub true_read : (positive t : Bool) (P : Type 0) → ((t ≡ true) ↔ P) → (if positive then t else not t) ≡ true
+    → Says positive P
 true_read true t P iff e = iff.0 e
 true_read false t P iff e = λ p. clash t (iff.1 p) e
 
 -- a clause is true in the world where some literal's value is true
-pub under : (w : World) (sides : List (List AtomLit)) (value : Atom → Bool) → IsValuation w sides value → (clause : List AtomLit)
+pub under : (w : World) (sides : List (List AtomLit)) (value : Atom → Bool) → IsValuation w sides value
+    → (clause : List AtomLit)
     → IsTrueBeside w sides clause → (l : AtomLit) × Contains clause l × (lit_value value l ≡ true)
 under w sides value reads clause h =
     let l = h.literal in
     (l, h.member, read_true l.positive (value l.atom) (Holds w sides l.atom) (reads l.atom) h.says)
 
-pub beside : (w : World) (sides : List (List AtomLit)) (value : Atom → Bool) → IsValuation w sides value → (clause : List AtomLit)
+pub beside : (w : World) (sides : List (List AtomLit)) (value : Atom → Bool) → IsValuation w sides value
+    → (clause : List AtomLit)
     → (l : AtomLit) × Contains clause l × (lit_value value l ≡ true) → IsTrueBeside w sides clause
 beside w sides value reads clause h = record {
   literal = h.0;

@@ -24,7 +24,8 @@ split_at_colon text index found =
     let within : index < length text = at.0 in
     let before : All (λ b. is_colon b ≡ false) (take index text)
     = All-from_get_or (λ b. is_colon b ≡ false) (take index text) 0
-    (λ k h. let below : k < index = omega (arith, length-take index text) in rw (get_or-take index text k 0 below) (at.2 k below)) in
+    (λ k h. let below : k < index = omega (arith, length-take index text) in rw (get_or-take index text k 0 below)
+    (at.2 k below)) in
     let parts : take index text ++ get_or text index 0 ∷ drop (index + 1) text ≡ text
     = ap (λ t. take index text ++ t) (sym (drop_next text index within)) ∙ take-append-drop index text in
     ap (λ t. slice_split is_colon t) (sym parts)
@@ -58,16 +59,19 @@ others_of piece more [] all = absurd all
 others_of piece more (n ∷ ns) all = (ns, all.1, omega arith)
 
 -- and the others spell the others
-pub others_spelled : (pieces more : List (List ℕ)) (n : ℕ) (numbers : List ℕ) → IsFirstNumber pieces n more → AllZip IsNumber pieces numbers
+pub others_spelled : (pieces more : List (List ℕ)) (n : ℕ) (numbers : List ℕ) → IsFirstNumber pieces n more
+    → AllZip IsNumber pieces numbers
     → (others : List ℕ) × AllZip IsNumber more others × (length numbers ≡ length others + 1)
 others_spelled pieces more n numbers first all =
     others_of first.piece more numbers (subst (λ ps. AllZip IsNumber ps numbers) first.pieces_are all)
 
 -- a text whose first piece spells no number spells no numbers
-pub none_spelled : (text : List ℕ) (numbers : List ℕ) → ((n : ℕ) (more : List (List ℕ)) → IsFirstNumber (slice_split is_colon text) n more → ⊥)
+pub none_spelled : (text : List ℕ) (numbers : List ℕ)
+    → ((n : ℕ) (more : List (List ℕ)) → IsFirstNumber (slice_split is_colon text) n more → ⊥)
     → AllZip IsNumber (slice_split is_colon text) numbers → ⊥
 none_spelled text numbers none all =
-    let first = first_spelled (slice_split is_colon text) numbers (omega (arith, length-slice_split is_colon text)) all in
+    let first = first_spelled (slice_split is_colon text) numbers (omega (arith, length-slice_split is_colon text)) all
+    in
     none first.0 first.1 first.2
 
 paired : (pieces : List (List ℕ)) (numbers : List ℕ) → AllZip IsNumber pieces numbers → length pieces ≡ length numbers
@@ -77,7 +81,8 @@ paired (p ∷ ps) [] all = absurd all
 paired (p ∷ ps) (n ∷ ns) all = let h = paired ps ns all.1 in omega arith
 
 -- the pieces of a text spell one number at least
-pub some_numbers : (text : List ℕ) (numbers : List ℕ) → AllZip IsNumber (slice_split is_colon text) numbers → 1 ≤ length numbers
+pub some_numbers : (text : List ℕ) (numbers : List ℕ) → AllZip IsNumber (slice_split is_colon text) numbers
+    → 1 ≤ length numbers
 some_numbers text numbers all =
     let same = paired (slice_split is_colon text) numbers all in
     let some = length-slice_split is_colon text in

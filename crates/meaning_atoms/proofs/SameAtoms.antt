@@ -18,10 +18,12 @@ use Rattle.meaning_atoms.specs.contracts.atom.AtomLitOrd.TheImpl.{cmp-value as l
 one : (make : ℕ → Atom) (a b : ℕ) → (make a ≡ make b → a ≡ b) → Decided (make a ≡ make b)
 one make a b back = ⊎_elim (λ e. inl (ap make e)) (λ ne. inr (λ e. ne (back e))) (cases_eq a b)
 
-two : (make : ℕ → ℕ → Atom) (a b c d : ℕ) → (make a b ≡ make c d → a ≡ c) → (make a b ≡ make c d → b ≡ d) → Decided (make a b ≡ make c d)
+two : (make : ℕ → ℕ → Atom) (a b c d : ℕ) → (make a b ≡ make c d → a ≡ c) → (make a b ≡ make c d → b ≡ d)
+    → Decided (make a b ≡ make c d)
 two make a b c d first second =
     ⊎_elim
-    (λ e. ⊎_elim (λ e'. inl (ap (λ x. make x b) e ∙ ap (λ x. make c x) e')) (λ ne. inr (λ all. ne (second all))) (cases_eq b d))
+    (λ e. ⊎_elim (λ e'. inl (ap (λ x. make x b) e ∙ ap (λ x. make c x) e')) (λ ne. inr (λ all. ne (second all)))
+    (cases_eq b d))
     (λ ne. inr (λ all. ne (first all))) (cases_eq a c)
 
 pub same_atom : (x y : Atom) → Decided (x ≡ y)
@@ -30,7 +32,8 @@ same_atom (Live a) (Live b) = one Live a b (λ e. cc)
 same_atom (Attack a b) (Attack c d) = two Attack a b c d (λ e. cc) (λ e. cc)
 same_atom (Gap a i j) (Gap b k l) =
     ⊎_elim
-    (λ e. ⊎_elim (λ e'. inl (ap (λ x. Gap x i j) e ∙ e')) (λ ne. inr (λ all. ne (cc))) (two (Gap b) i j k l (λ e. cc) (λ e. cc)))
+    (λ e. ⊎_elim (λ e'. inl (ap (λ x. Gap x i j) e ∙ e')) (λ ne. inr (λ all. ne (cc)))
+    (two (Gap b) i j k l (λ e. cc) (λ e. cc)))
     (λ ne. inr (λ all. ne (cc))) (cases_eq a b)
 same_atom (Tail a i) (Tail b j) = two Tail a i b j (λ e. cc) (λ e. cc)
 same_atom (Unmet a i) (Unmet b j) = two Unmet a i b j (λ e. cc) (λ e. cc)
@@ -53,7 +56,8 @@ literal atom positive = record { atom = atom; positive = positive }
 pub same_literal : (k l : AtomLit) → Decided (k ≡ l)
 same_literal k l =
     ⊎_elim
-    (λ e. ⊎_elim (λ e'. inl (ap (λ x. literal x k.positive) e ∙ ap (λ x. literal l.atom x) e')) (λ ne. inr (λ all. ne (ap (λ r. r.positive) all)))
+    (λ e. ⊎_elim (λ e'. inl (ap (λ x. literal x k.positive) e ∙ ap (λ x. literal l.atom x) e'))
+    (λ ne. inr (λ all. ne (ap (λ r. r.positive) all)))
     (same_sign k.positive l.positive))
     (λ ne. inr (λ all. ne (ap (λ r. r.atom) all))) (same_atom k.atom l.atom)
 
@@ -82,5 +86,9 @@ lit_order k l =
       λ e. let both = parts.0 e in
           ap (λ x. literal x k.positive) ((atom_order k.atom l.atom).0 both.0)
           ∙ ap (λ x. literal l.atom x) ((sign_order k.positive l.positive).0 both.1),
-      λ same. parts.1 ((atom_order k.atom l.atom).1 (ap (λ r. r.atom) same), (sign_order k.positive l.positive).1 (ap (λ r. r.positive) same)),
+      λ same. parts.1 (
+        (atom_order k.atom l.atom).1 (ap (λ r. r.atom) same),
+        (sign_order k.positive l.positive).1
+            (ap (λ r. r.positive) same),
+      ),
     )

@@ -20,7 +20,8 @@ decide_gap f a i j =
     ⊎_elim
     (λ h. inr (λ gap. gap h.0.0 (subst (λ x. Attacks f h.0.0 x) h.2.0 h.1) h.2.1.0 h.2.1.1))
     (λ none. inl (λ b at low high. none ((b, a), at, (refl, (low, high)))))
-    (decide_some In (λ p. decide_both (cases_eq p.1 a) (decide_both (decide_at_most i p.0) (decide_below p.0 j))) f.attacks)
+    (decide_some In (λ p. decide_both (cases_eq p.1 a) (decide_both (decide_at_most i p.0) (decide_below p.0 j)))
+    f.attacks)
 
 pub decide_tail : (f : Af) (s : List ℕ) (a i : ℕ) → Decided (HasTail f s a i)
 decide_tail f s a i =
@@ -34,9 +35,16 @@ pub decide_unmet : (f : Af) (s : List ℕ) (a i : ℕ) → Decided (HasUnmet f s
 decide_unmet f s a i =
     let Late : ℕ × ℕ → Type 0 = λ p. (p.1 ≡ a) × ((i ≤ p.0) × (IsAttackedBy f s p.0 → ⊥)) in
     ⊎_elim
-    (λ h. inl (record { attacker = h.0.0; late = h.2.1.0; attack = subst (λ x. Attacks f h.0.0 x) h.2.0 h.1; unmet = h.2.1.1 }))
+    (λ h. inl (record {
+      attacker = h.0.0;
+      late = h.2.1.0;
+      attack = subst (λ x. Attacks f h.0.0 x) h.2.0 h.1;
+      unmet =
+          h.2.1.1;
+    }))
     (λ none. inr (λ u. none ((u.attacker, a), u.attack, (refl, (u.late, u.unmet)))))
-    (decide_some Late (λ p. decide_both (cases_eq p.1 a) (decide_both (decide_at_most i p.0) (decide_not (decide_attacked f s p.0)))) f.attacks)
+    (decide_some Late (λ p. decide_both (cases_eq p.1 a)
+    (decide_both (decide_at_most i p.0) (decide_not (decide_attacked f s p.0)))) f.attacks)
 
 decide_of_af : (f : Af) (s : List ℕ) (atom : Atom) → Decided (HoldsOfAf f s atom)
 decide_of_af f s (Member a) = decide_member s a
@@ -64,13 +72,17 @@ decide_says false p = decide_not p
 
 pub decide_true_alone : (w : World) (clause : List AtomLit) → Decided (IsTrueAlone w clause)
 decide_true_alone w clause =
-    ⊎_elim (λ h. inl (record { literal = h.0; member = h.1; says = h.2 })) (λ no. inr (λ h. no (h.literal, h.member, h.says)))
-    (decide_some (λ l. Says l.positive (HoldsAlone w l.atom)) (λ l. decide_says l.positive (decide_alone w l.atom)) clause)
+    ⊎_elim (λ h. inl (record { literal = h.0; member = h.1; says = h.2 }))
+    (λ no. inr (λ h. no (h.literal, h.member, h.says)))
+    (decide_some (λ l. Says l.positive (HoldsAlone w l.atom)) (λ l. decide_says l.positive (decide_alone w l.atom))
+    clause)
 
 decide_side : (w : World) (sides : List (List AtomLit)) (n : ℕ) → Decided (IsSideTrue w sides n)
 decide_side w sides n =
-    ⊎_elim (λ h. inl (record { low = h.0; high = h.1.0; true_there = h.1.1 })) (λ no. inr (λ h. no (h.low, (h.high, h.true_there))))
-    (decide_both (decide_at_most 1 n) (decide_both (decide_at_most n (length sides)) (decide_true_alone w (slice_index_or sides (n - 1) []))))
+    ⊎_elim (λ h. inl (record { low = h.0; high = h.1.0; true_there = h.1.1 }))
+    (λ no. inr (λ h. no (h.low, (h.high, h.true_there))))
+    (decide_both (decide_at_most 1 n) (decide_both (decide_at_most n (length sides))
+    (decide_true_alone w (slice_index_or sides (n - 1) []))))
 
 -- what the atom says is so in the world, beside the side clauses, or is not
 pub decide_atom : (w : World) (sides : List (List AtomLit)) (atom : Atom) → Decided (Holds w sides atom)
@@ -80,9 +92,11 @@ decide_atom w sides atom = decide_alone w atom
 pub decide_lit : (w : World) (sides : List (List AtomLit)) (l : AtomLit) → Decided (HoldsLit w sides l)
 decide_lit w sides l = decide_says l.positive (decide_atom w sides l.atom)
 
-pub decide_true_beside : (w : World) (sides : List (List AtomLit)) (clause : List AtomLit) → Decided (IsTrueBeside w sides clause)
+pub decide_true_beside : (w : World) (sides : List (List AtomLit)) (clause : List AtomLit)
+    → Decided (IsTrueBeside w sides clause)
 decide_true_beside w sides clause =
-    ⊎_elim (λ h. inl (record { literal = h.0; member = h.1; says = h.2 })) (λ no. inr (λ h. no (h.literal, h.member, h.says)))
+    ⊎_elim (λ h. inl (record { literal = h.0; member = h.1; says = h.2 }))
+    (λ no. inr (λ h. no (h.literal, h.member, h.says)))
     (decide_some (HoldsLit w sides) (decide_lit w sides) clause)
 
 -- the answer as a test

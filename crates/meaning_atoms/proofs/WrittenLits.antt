@@ -29,7 +29,8 @@ free_from (x ∷ xs) h =
     All-cons (λ b. is_colon b ≡ false) x xs (not-true _ parts.0) (free_from xs parts.1)
 
 digits_free : (ds : List ℕ) → All IsDigit ds → IsFree ds
-digits_free ds all = λ k d within. let h = all k d within in let high = h.high in ne_eqb (get_or ds k d) 58 (λ e. omega arith)
+digits_free ds all = λ k d within. let h = all k d within in let high = h.high in
+    ne_eqb (get_or ds k d) 58 (λ e. omega arith)
 
 -- numbers of 32 bits
 abbrev AreWords : List ℕ → Type 0
@@ -38,10 +39,12 @@ AreWords (n ∷ ns) = (n < 2 ^ 32) × AreWords ns
 
 split_joined : (piece : List ℕ) (ns : List ℕ) → IsFree piece → AreWords ns
     → slice_split is_colon (piece ++ flat_map (λ n. 58 ∷ decimal n) ns) ≡ piece ∷ map decimal ns
-split_joined piece [] free small = ap (λ t. slice_split is_colon t) (append-nil piece) ∙ slice_split_none is_colon piece free
+split_joined piece [] free small = ap (λ t. slice_split is_colon t) (append-nil piece)
+    ∙ slice_split_none is_colon piece free
 split_joined piece (n ∷ ns) free small =
     slice_split_at is_colon piece 58 (decimal n ++ flat_map (λ m. 58 ∷ decimal m) ns) free refl
-    ∙ ap (λ pieces. piece ∷ pieces) (split_joined (decimal n) ns (digits_free (decimal n) (decimal_number n small.0).digits) small.1)
+    ∙ ap (λ pieces. piece ∷ pieces)
+    (split_joined (decimal n) ns (digits_free (decimal n) (decimal_number n small.0).digits) small.1)
 
 spelled_each : (ns : List ℕ) → AreWords ns → AllZip IsNumber (map decimal ns) ns
 spelled_each [] small = tt
@@ -91,7 +94,8 @@ written_reads l fits =
     let name = signed l.positive (name_of l.atom) in
     record {
       numbers = map decimal (numbers_of l.atom);
-      pieces = split_joined name (numbers_of l.atom) (free_from name (signed_free l.positive (name_of l.atom) (name_free l.atom))) small;
+      pieces = split_joined name (numbers_of l.atom)
+          (free_from name (signed_free l.positive (name_of l.atom) (name_free l.atom))) small;
       spelled = spelled_each (numbers_of l.atom) small;
       within = fits;
     }

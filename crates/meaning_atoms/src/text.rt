@@ -100,7 +100,8 @@ fn first_colon(text: &[u8]) -> Option<usize>
 
 // The numbers that the pieces of the text spell, where there are at most three pieces.
 fn numbers_in<'a>(text: Option<&'a [u8]>) -> Option<Numbers>
-    ensures spelled { IfSome result (λ numbers. AllZip IsNumber (pieces_left (option_map (λ rest. rest.now) text.entry)) (values_of numbers)) }
+    ensures spelled { IfSome result (λ numbers. AllZip IsNumber (pieces_left (option_map (λ rest. rest.now) text.entry))
+        (values_of numbers)) }
     ensures read { (numbers : List ℕ) → AllZip IsNumber (pieces_left (option_map (λ rest. rest.now) text.entry)) numbers
         → length numbers ≤ 3 → HasFound result numbers }
 {
@@ -126,7 +127,8 @@ fn numbers_in<'a>(text: Option<&'a [u8]>) -> Option<Numbers>
 fn first_number<'a>(text: &'a [u8]) -> Option<(u32, Option<&'a [u8]>)>
     ensures spelled { IfSome result (λ found. IsFirstNumber (slice_split is_colon text.entry.now) found.0
         (pieces_left (option_map (λ rest. rest.now) found.1))) }
-    ensures read { (n : ℕ) (more : List (List ℕ)) → IsFirstNumber (slice_split is_colon text.entry.now) n more → IsSome result }
+    ensures read { (n : ℕ) (more : List (List ℕ)) → IsFirstNumber (slice_split is_colon text.entry.now) n more
+        → IsSome result }
 {
     let (piece, rest) = first_piece(text);
     let number = decimal(piece)?;

@@ -29,7 +29,8 @@ pub skipped_byte : (text : List ℕ) (start : ℕ) → start ≡ position_or_len
 skipped_byte text start is within =
     let rest : List ℕ = drop start text in
     let n = position_or_len is_blank rest in
-    let at : get_or rest 0 0 ≡ get_or text start 0 = get_or-drop start text 0 0 ∙ ap (λ i. get_or text i 0) (omega arith) in
+    let at : get_or rest 0 0 ≡ get_or text start 0 = get_or-drop start text 0 0
+    ∙ ap (λ i. get_or text i 0) (omega arith) in
     let passes : not (is_blank (get_or text start 0)) ≡ true =
     ap (λ m. not (is_blank (get_or text m 0))) is
     ∙ passes_at_first (λ byte. not (is_blank byte)) text 0 (subst (λ m. m < length text) is within) in

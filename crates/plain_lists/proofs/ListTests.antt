@@ -6,7 +6,8 @@ use Rattle.std.proofs.lemmas.List.Sums.{AllPass-from_list_all, list_all-from_All
 use Rattle.std.proofs.lemmas.List.Elements.{All-contains, Contains-get_or}
 
 -- a member passes where some member does
-pub any_gives : {X : Type 0} (p : X → Bool) (xs : List X) → list_any p xs ≡ true → (x : X) × Contains xs x × (p x ≡ true)
+pub any_gives : {X : Type 0} (p : X → Bool) (xs : List X) → list_any p xs ≡ true → (x : X) × Contains xs x
+    × (p x ≡ true)
 any_gives p xs h = let a = Any-from_list_any p xs h in (a.1, (a.0, a.2, a.3), a.4)
 
 -- some member passes

@@ -55,7 +55,8 @@ so_far_again truths seen u x same h = record {
   there = Contains-append_left seen (x ∷ []) u h.there;
   not_true = h.not_true;
   not_false = h.not_false;
-  others = λ l c ne. ⊎_elim (λ old. h.others l old ne) (λ e. absurd (ne (sym (same ∙ e)))) (Contains-push_cases seen x l c);
+  others = λ l c ne. ⊎_elim (λ old. h.others l old ne) (λ e. absurd (ne (sym (same ∙ e))))
+      (Contains-push_cases seen x l c);
 }
 
 -- a clause with a true literal is neither false nor unit
@@ -71,13 +72,15 @@ pub neither_two : (truths clause : List Lit) (x y : Lit) → Contains clause x �
     → (Contains truths (negation x) → ⊥) → (Contains truths (negation y) → ⊥) → IsSatisfiedOrOpen truths clause
 neither_two truths clause x y cx cy apart vx vy = record {
   not_false = λ f. vx (f.each x cx);
-  not_unit = λ u f. ⊎_elim (λ e. ⊎_elim (λ e2. apart (e ∙ sym e2)) (λ ne. vy (f.others y cy ne)) (cases_lit y u)) (λ ne. vx (f.others x cx ne)) (cases_lit x u);
+  not_unit = λ u f. ⊎_elim (λ e. ⊎_elim (λ e2. apart (e ∙ sym e2)) (λ ne. vy (f.others y cy ne)) (cases_lit y u))
+      (λ ne. vx (f.others x cx ne)) (cases_lit x u);
 }
 
 -- the first literals of a clause are its own
 pub Contains-from_front : (clause : List Lit) (i : ℕ) (l : Lit) → Contains (take i clause) l
     → Contains clause l
-Contains-from_front clause i l c = let e = take-append-drop i clause in rw (← e) (Contains-append_left (take i clause) (drop i clause) l c)
+Contains-from_front clause i l c = let e = take-append-drop i clause in
+    rw (← e) (Contains-append_left (take i clause) (drop i clause) l c)
 
 double : (p : Bool) → not (not p) ≡ p
 double true = refl
@@ -105,11 +108,14 @@ pub assumes_again : (seen truths : List Lit) (x : Lit) → Contains truths (nega
 assumes_again seen truths x low h =
     let w = Contains-from_mapped negation seen (negation x) (h.there (negation x) low) in
     let old : Contains seen x = rw (negation_same w.0 x w.2) at w.1 in
-    let known = λ (l : Lit) (c : Contains (seen ++ x ∷ []) l). let k : Contains seen l = ⊎_elim (λ k. k) (λ e. rw e at old) (Contains-push_cases seen x l c) in k in
+    let known = λ (l : Lit) (c : Contains (seen ++ x ∷ []) l). let k : Contains seen l =
+    ⊎_elim (λ k. k) (λ e. rw e at old) (Contains-push_cases seen x l c) in k in
     record {
       plain = λ t. h.plain (t.0, known t.0 t.1, known (negation t.0) t.2);
-      there = λ l c. let m = Contains-from_mapped negation seen l (h.there l c) in rw (← m.2) (Contains-mapped negation (seen ++ x ∷ []) m.0 (Contains-append_left seen (x ∷ []) m.0 m.1));
-      back = λ l c. let m = Contains-from_mapped negation (seen ++ x ∷ []) l c in h.back l (rw (← m.2) (Contains-mapped negation seen m.0 (known m.0 m.1)));
+      there = λ l c. let m = Contains-from_mapped negation seen l (h.there l c) in
+          rw (← m.2) (Contains-mapped negation (seen ++ x ∷ []) m.0 (Contains-append_left seen (x ∷ []) m.0 m.1));
+      back = λ l c. let m = Contains-from_mapped negation (seen ++ x ∷ []) l c in
+          h.back l (rw (← m.2) (Contains-mapped negation seen m.0 (known m.0 m.1)));
     }
 
 not_itself : (p : Bool) → p ≡ not p → ⊥
@@ -126,18 +132,22 @@ assumes_new seen truths x free h = record {
       (λ e. free (h.back x (rw e (Contains-mapped negation seen t.0 old))))
       (Contains-push_cases seen x (negation t.0) t.2))
       (λ e. ⊎_elim
-      (λ c. free (h.back x (let m = Contains-mapped negation seen (negation t.0) c in rw (negation-negation t.0, ← e) at m)))
-      (λ e2. let bad : x.positive ≡ not x.positive = ap (λ (l : Lit). l.positive) (e2 ∙ ap negation (sym e)) in not_itself x.positive bad)
+      (λ c. free (h.back x (let m = Contains-mapped negation seen (negation t.0) c in
+      rw (negation-negation t.0, ← e) at m)))
+      (λ e2. let bad : x.positive ≡ not x.positive = ap (λ (l : Lit). l.positive) (e2 ∙ ap negation (sym e)) in
+      not_itself x.positive bad)
       (Contains-push_cases seen x (negation t.0) t.2))
       (Contains-push_cases seen x t.0 t.1);
   there = λ l c. ⊎_elim
-      (λ old. let m = Contains-from_mapped negation seen l (h.there l old) in rw (← m.2) (Contains-mapped negation (seen ++ x ∷ []) m.0 (Contains-append_left seen (x ∷ []) m.0 m.1)))
+      (λ old. let m = Contains-from_mapped negation seen l (h.there l old) in
+      rw (← m.2) (Contains-mapped negation (seen ++ x ∷ []) m.0 (Contains-append_left seen (x ∷ []) m.0 m.1)))
       (λ e. rw (← e) (Contains-mapped negation (seen ++ x ∷ []) x (Contains-pushed seen x x refl)))
       (Contains-push_cases truths (negation x) l c);
   back = λ l c.
       let m = Contains-from_mapped negation (seen ++ x ∷ []) l c in
       ⊎_elim
-      (λ old. Contains-append_left truths (negation x ∷ []) l (h.back l (rw (← m.2) (Contains-mapped negation seen m.0 old))))
+      (λ old. Contains-append_left truths (negation x ∷ []) l
+      (h.back l (rw (← m.2) (Contains-mapped negation seen m.0 old))))
       (λ e. Contains-pushed truths (negation x) l (ap negation e ∙ m.2))
       (Contains-push_cases seen x m.0 m.1);
 }
@@ -160,7 +170,11 @@ pub checks_along : (steps : List (List Lit)) (clause truths : List Lit) (hints :
     → AssumesFalse clause truths → Propagates negation steps truths 1 hints outcome
     → Checks negation steps clause hints outcome
 checks_along steps clause truths hints outcome h w =
-    inr (h.plain, propagates_same_set negation steps truths (map negation clause) 1 hints outcome (record { there = h.there; back = h.back }) w)
+    inr (
+      h.plain,
+      propagates_same_set negation steps truths (map negation clause) 1 hints outcome
+          (record { there = h.there; back = h.back }) w,
+    )
 
 -- an item of a loop over a clause, as a member at its place
 pub record IsItem (clause : List Lit) (i : ℕ) (x : Lit) : Type 0 where
@@ -189,24 +203,28 @@ not_same a b e same = false≢true (sym e ∙ (ap (λ x. lit_eq a x) (sym same) 
 pub status_false : (truths clause : List Lit) (i : ℕ) (found new : Option Lit) (x : Lit) → IsItem clause i x
     → new ≡ found → IsValueIn truths x False → IsSoFar truths (take i clause) found
     → IsSoFar truths (take (i + 1) clause) new
-status_false truths clause i found new x item e v h = rw (front_more clause i x item, e) (so_far_false truths (take i clause) found x v h)
+status_false truths clause i found new x item e v h = rw (front_more clause i x item, e)
+    (so_far_false truths (take i clause) found x v h)
 
 pub status_unset : (truths clause : List Lit) (i : ℕ) (found new : Option Lit) (x : Lit) → IsItem clause i x
     → found ≡ None → new ≡ Some x → IsValueIn truths x Unset → IsSoFar truths (take i clause) found
     → IsSoFar truths (take (i + 1) clause) new
-status_unset truths clause i found new x item none e v h = rw (front_more clause i x item, e) (so_far_unset truths (take i clause) x v (rw none at h))
+status_unset truths clause i found new x item none e v h = rw (front_more clause i x item, e)
+    (so_far_unset truths (take i clause) x v (rw none at h))
 
 pub status_again : (truths clause : List Lit) (i : ℕ) (found new : Option Lit) (x u : Lit) → IsItem clause i x
     → found ≡ Some u → new ≡ found → lit_eq u x ≡ true → IsSoFar truths (take i clause) found
     → IsSoFar truths (take (i + 1) clause) new
-status_again truths clause i found new x u item some_ e same h = rw (front_more clause i x item, e, some_) (so_far_again truths (take i clause) u x (same_from_eq u x same) (rw some_ at h))
+status_again truths clause i found new x u item some_ e same h = rw (front_more clause i x item, e, some_)
+    (so_far_again truths (take i clause) u x (same_from_eq u x same) (rw some_ at h))
 
 pub status_two : (truths clause : List Lit) (i : ℕ) (found : Option Lit) (x u : Lit) → IsItem clause i x
     → found ≡ Some u → lit_eq u x ≡ false → IsValueIn truths x Unset → IsSoFar truths (take i clause) found
     → IsSatisfiedOrOpen truths clause
 status_two truths clause i found x u item some_ apart v h =
     let unit : IsUnit negation truths (take i clause) u = rw some_ at h in
-    neither_two truths clause u x (Contains-from_front clause i u unit.there) (item_member clause i x item) (not_same u x apart) unit.not_false v.1
+    neither_two truths clause u x (Contains-from_front clause i u unit.there) (item_member clause i x item)
+    (not_same u x apart) unit.not_false v.1
 
 -- the step of taking literals to be false
 pub assume_more : (clause old new : List Lit) (i : ℕ) (x : Lit) → IsItem clause i x → BecomesFalse old new x
@@ -218,7 +236,8 @@ assume_more clause old new i x item step h =
 
 pub assume_clash : (clause old : List Lit) (i : ℕ) (x : Lit) → IsItem clause i x → Contains old x
     → AssumesFalse (take i clause) old → IsTautology negation clause
-assume_clash clause old i x item high h = assumes_clash clause (take i clause) old x (Contains-from_front clause i) (item_member clause i x item) high h
+assume_clash clause old i x item high h = assumes_clash clause (take i clause) old x (Contains-from_front clause i)
+    (item_member clause i x item) high h
 
 -- the hint at a place of the list names a step, which has this clause
 pub record IsHintAt (steps : List (List Lit)) (hints : List ℕ) (at number : ℕ)
@@ -245,12 +264,14 @@ pub along_false : (steps : List (List Lit)) (truths : List Lit) (hints : List �
 along_false steps truths hints at number clause h f =
     rw (opened hints at h.within, h.is_number) (inl (record { named = h.named; all_false = rw h.is_clause at f }, refl))
 
-pub along_unit : (steps : List (List Lit)) (truths : List Lit) (hints : List ℕ) (at number : ℕ) (clause : List Lit) (u : Lit) (outcome : Result ℕ ℕ)
+pub along_unit : (steps : List (List Lit)) (truths : List Lit) (hints : List ℕ) (at number : ℕ) (clause : List Lit)
+    (u : Lit) (outcome : Result ℕ ℕ)
     → IsHintAt steps hints at number clause → IsUnit negation truths clause u
     → Propagates negation steps (truths ++ u ∷ []) (at + 1 + 1) (drop (at + 1) hints) outcome
     → Propagates negation steps truths (at + 1) (drop at hints) outcome
 along_unit steps truths hints at number clause u outcome h f w =
-    rw (opened hints at h.within, h.is_number) (inr (inl (u, record { named = h.named; unit = rw h.is_clause at f }, w)))
+    rw (opened hints at h.within, h.is_number)
+    (inr (inl (u, record { named = h.named; unit = rw h.is_clause at f }, w)))
 
 pub along_other : (steps : List (List Lit)) (truths : List Lit) (hints : List ℕ) (at number : ℕ) (clause : List Lit)
     → IsHintAt steps hints at number clause → IsSatisfiedOrOpen truths clause
@@ -271,8 +292,10 @@ pub along_unnamed : (steps : List (List Lit)) (truths : List Lit) (hints : List 
     → Propagates negation steps truths (at + 1) (drop at hints) (Err (at + 1))
 along_unnamed steps truths hints at r lt e bad =
     let number : get_or hints at 0 ≡ r = get_or_default hints at 0 r lt ∙ sym e in
-    let none = λ (n : IsNamed steps r). let low = n.from_one in let high = n.within in let bot : ⊥ = ⊎_elim (λ z. omega (arith, z)) (λ out_. omega (arith, out_)) bad in bot in
-    rw (opened hints at lt, number) (inr (inr (record { not_false = λ g. none g.named; not_unit = λ u g. none g.named }, refl)))
+    let none = λ (n : IsNamed steps r). let low = n.from_one in let high = n.within in let bot : ⊥ =
+    ⊎_elim (λ z. omega (arith, z)) (λ out_. omega (arith, out_)) bad in bot in
+    rw (opened hints at lt, number)
+    (inr (inr (record { not_false = λ g. none g.named; not_unit = λ u g. none g.named }, refl)))
 
 -- a member of a list of clauses, by its place
 pub clause_member : (steps : List (List Lit)) (k : ℕ) (row : List Lit) → k < length steps

@@ -25,7 +25,8 @@ pub Contains-from_mapped : {A B : Type 0} (f : A → B) (xs : List A) (y : B) �
     → (x : A) × Contains xs x × (f x ≡ y)
 Contains-from_mapped f [] y c = absurd (Contains-nil y c)
 Contains-from_mapped f (x ∷ xs) y c = ⊎_elim (λ e. (x, Contains-head x xs x refl, e))
-    (λ t. let h = Contains-from_mapped f xs y t in (h.0, Contains-tail x xs h.0 h.1, h.2)) (Contains-cons_cases (f x) (map f xs) y c)
+    (λ t. let h = Contains-from_mapped f xs y t in (h.0, Contains-tail x xs h.0 h.1, h.2))
+    (Contains-cons_cases (f x) (map f xs) y c)
 
 -- two assignments with the same members
 pub record IsSameSet {L : Type 0} (xs ys : List L) : Type 0 where
@@ -37,8 +38,10 @@ turned xs ys h = record { there = h.back; back = h.there }
 
 same_push : {L : Type 0} (xs ys : List L) (u : L) → IsSameSet xs ys → IsSameSet (xs ++ u ∷ []) (ys ++ u ∷ [])
 same_push xs ys u h = record {
-  there = λ l c. ⊎_elim (λ old. Contains-append_left ys (u ∷ []) l (h.there l old)) (λ e. Contains-pushed ys u l e) (Contains-push_cases xs u l c);
-  back = λ l c. ⊎_elim (λ old. Contains-append_left xs (u ∷ []) l (h.back l old)) (λ e. Contains-pushed xs u l e) (Contains-push_cases ys u l c);
+  there = λ l c. ⊎_elim (λ old. Contains-append_left ys (u ∷ []) l (h.there l old)) (λ e. Contains-pushed ys u l e)
+      (Contains-push_cases xs u l c);
+  back = λ l c. ⊎_elim (λ old. Contains-append_left xs (u ∷ []) l (h.back l old)) (λ e. Contains-pushed xs u l e)
+      (Contains-push_cases ys u l c);
 }
 
 false_along : {L : Type 0} (neg : L → L) (steps : List (List L)) (xs ys : List L) (hint : ℕ) → IsSameSet xs ys
@@ -68,20 +71,27 @@ other_along neg steps xs ys hint h f = record {
 }
 
 -- only the members of an assignment count
-pub propagates_same_set : {L : Type 0} (neg : L → L) (steps : List (List L)) (xs ys : List L) (place : ℕ) (hints : List ℕ) (outcome : Result ℕ ℕ)
+pub propagates_same_set : {L : Type 0} (neg : L → L) (steps : List (List L)) (xs ys : List L) (place : ℕ)
+    (hints : List ℕ) (outcome : Result ℕ ℕ)
     → IsSameSet xs ys → Propagates neg steps xs place hints outcome → Propagates neg steps ys place hints outcome
 propagates_same_set neg steps xs ys place [] outcome h w = w
 propagates_same_set neg steps xs ys place (hint ∷ hints) outcome h w =
     ⊎_elim (λ f. inl (false_along neg steps xs ys hint h f.0, f.1))
     (λ r. ⊎_elim
-    (λ f. inr (inl (f.0, unit_along neg steps xs ys hint f.0 h f.1, propagates_same_set neg steps (xs ++ f.0 ∷ []) (ys ++ f.0 ∷ []) (place + 1) hints outcome (same_push xs ys f.0 h) f.2)))
+    (λ f. inr (inl (
+      f.0,
+      unit_along neg steps xs ys hint f.0 h f.1,
+      propagates_same_set neg steps (xs ++ f.0 ∷ [])
+          (ys ++ f.0 ∷ []) (place + 1) hints outcome (same_push xs ys f.0 h) f.2,
+    )))
     (λ f. inr (inr (other_along neg steps xs ys hint h f.0, f.1))) r) w
 
 -- under a reading that makes the literals of an assignment true, no clause of the hints that are taken can be false
 all_true_stays : {L : Type 0} (reading : L → Bool) (truths : List L) (u : L)
     → ((l : L) → Contains truths l → reading l ≡ true) → reading u ≡ true → (l : L)
     → Contains (truths ++ u ∷ []) l → reading l ≡ true
-all_true_stays reading truths u h e l c = ⊎_elim (λ old. h l old) (λ same. ap reading (sym same) ∙ e) (Contains-push_cases truths u l c)
+all_true_stays reading truths u h e l c = ⊎_elim (λ old. h l old) (λ same. ap reading (sym same) ∙ e)
+    (Contains-push_cases truths u l c)
 
 clash : {L : Type 0} (neg : L → L) (reading : L → Bool) (l : L) → IsValuation neg reading → reading l ≡ true
     → reading (neg l) ≡ true → ⊥
@@ -98,17 +108,20 @@ unit_true neg reading truths clause u h all f t =
     (cases_Bool (reading u))
 
 -- a clause is taken at one of the hints
-pub taken_within : {L : Type 0} (neg : L → L) (steps : List (List L)) (truths : List L) (place : ℕ) (hints : List ℕ) (n : ℕ)
+pub taken_within : {L : Type 0} (neg : L → L) (steps : List (List L)) (truths : List L) (place : ℕ) (hints : List ℕ)
+    (n : ℕ)
     → Propagates neg steps truths place hints (Ok n) → (place ≤ n) × (n < place + length hints)
 taken_within neg steps truths place [] n w = cc
 taken_within neg steps truths place (hint ∷ hints) n w =
     ⊎_elim (λ f. let e : n ≡ place = (let o = f.1 in cc) in (omega arith, omega arith))
     (λ r. ⊎_elim
-    (λ f. let h = taken_within neg steps (truths ++ f.0 ∷ []) (place + 1) hints n f.2 in let low = h.0 in let high = h.1 in (omega arith, omega arith))
+    (λ f. let h = taken_within neg steps (truths ++ f.0 ∷ []) (place + 1) hints n f.2 in let low = h.0 in let high =
+    h.1 in (omega arith, omega arith))
     (λ f. let o = f.1 in cc) r) w
 
 -- the hints that are looked at suffice
-pub taken_alone : {L : Type 0} (neg : L → L) (steps : List (List L)) (truths : List L) (place : ℕ) (hints : List ℕ) (n m : ℕ)
+pub taken_alone : {L : Type 0} (neg : L → L) (steps : List (List L)) (truths : List L) (place : ℕ) (hints : List ℕ)
+    (n m : ℕ)
     → Propagates neg steps truths place hints (Ok n) → n < place + m
     → Propagates neg steps truths place (take m hints) (Ok n)
 taken_alone neg steps truths place [] n m w lt = cc
@@ -121,7 +134,8 @@ taken_alone neg steps truths place (hint ∷ hints) n (suc m) w lt =
     (λ f. let o = f.1 in cc) r) w
 
 -- each hint that is looked at names a step
-pub taken_named : {L : Type 0} (neg : L → L) (steps : List (List L)) (truths : List L) (place : ℕ) (hints : List ℕ) (n k : ℕ)
+pub taken_named : {L : Type 0} (neg : L → L) (steps : List (List L)) (truths : List L) (place : ℕ) (hints : List ℕ)
+    (n k : ℕ)
     → Propagates neg steps truths place hints (Ok n) → place + k ≤ n → IsNamed steps (get_or hints k 0)
 taken_named neg steps truths place [] n k w le = cc
 taken_named neg steps truths place (hint ∷ hints) n zero w le =
@@ -133,7 +147,8 @@ taken_named neg steps truths place (hint ∷ hints) n (suc k) w le =
     (λ f. taken_named neg steps (truths ++ f.0 ∷ []) (place + 1) hints n k f.2 (omega arith))
     (λ f. let o = f.1 in cc) r) w
 
-refuted : {L : Type 0} (neg : L → L) (steps : List (List L)) (reading : L → Bool) (truths : List L) (place : ℕ) (hints : List ℕ) (n : ℕ)
+refuted : {L : Type 0} (neg : L → L) (steps : List (List L)) (reading : L → Bool) (truths : List L) (place : ℕ)
+    (hints : List ℕ) (n : ℕ)
     → IsValuation neg reading → ((l : L) → Contains truths l → reading l ≡ true)
     → Propagates neg steps truths place hints (Ok n)
     → ((k : ℕ) → place + k ≤ n → IsTrueClause reading (clause_at steps (get_or hints k 0))) → ⊥
@@ -144,12 +159,18 @@ refuted neg steps reading truths place (hint ∷ hints) n h all w true_hints =
     ⊎_elim (λ f. clash neg reading here.0 h here.2 (all (neg here.0) (f.0.all_false.each here.0 here.1)))
     (λ r. ⊎_elim
     (λ f. refuted neg steps reading (truths ++ f.0 ∷ []) (place + 1) hints n h
-    (all_true_stays reading truths f.0 all (unit_true neg reading truths (clause_at steps hint) f.0 h all f.1.unit here)) f.2
+    (all_true_stays reading truths f.0 all (unit_true neg reading truths (clause_at steps hint) f.0 h all f.1.unit
+    here)) f.2
     (λ k le. true_hints (suc k) (omega arith)))
     (λ f. let o = f.1 in cc) r) w
 
 in_front : (hints : List ℕ) (n k : ℕ) → k < n → k < length hints → Contains (take n hints) (get_or hints k 0)
-in_front hints n k lt within = (k, omega (arith, length-take n hints), get_or-take n hints k (get_or hints k 0) lt ∙ get_or_default hints k (get_or hints k 0) 0 within)
+in_front hints n k lt within = (
+  k,
+  omega (arith, length-take n hints),
+  get_or-take n hints k (get_or hints k 0) lt
+      ∙ get_or_default hints k (get_or hints k 0) 0 within,
+)
 
 -- what the check takes follows from the hints that it looks at
 pub taken_follows : {L : Type 0} (neg : L → L) (steps : List (List L)) (clause : List L) (hints : List ℕ) (n : ℕ)
@@ -161,9 +182,11 @@ taken_follows neg steps clause hints n w reading h true_hints =
     (λ none_.
     let all = λ (l : _) (c : Contains (map neg clause) l).
     let m = Contains-from_mapped neg clause l c in
-    let low : reading m.0 ≡ false = ⊎_elim (λ t. absurd (false≢true (sym none_ ∙ any_from reading clause m.0 m.1 t))) (λ f. f) (cases_Bool (reading m.0)) in
+    let low : reading m.0 ≡ false = ⊎_elim (λ t. absurd (false≢true (sym none_ ∙ any_from reading clause m.0 m.1 t)))
+    (λ f. f) (cases_Bool (reading m.0)) in
     let e : reading l ≡ true = ap reading (sym m.2) ∙ (h m.0 ∙ ap not low) in e in
-    absurd (refuted neg steps reading (map neg clause) 1 hints n h all w (λ k le. true_hints (get_or hints k 0) (in_front hints n k (omega arith) (omega arith)))))
+    absurd (refuted neg steps reading (map neg clause) 1 hints n h all w
+    (λ k le. true_hints (get_or hints k 0) (in_front hints n k (omega arith) (omega arith)))))
     (cases_Bool (list_any reading clause))
 
 pub taken_sound : {L : Type 0} (neg : L → L) (steps : List (List L)) (clause : List L) (hints : List ℕ) (n : ℕ)
@@ -177,7 +200,8 @@ taken_sound neg steps clause hints n w =
       within = omega arith;
       named = λ hint c.
           let lt = c.1 in
-          let at : get_or hints c.0 0 ≡ hint = get_or_default hints c.0 0 hint (omega (arith, length-take n hints)) ∙ (sym (get_or-take n hints c.0 hint (omega (arith, length-take n hints))) ∙ c.2) in
+          let at : get_or hints c.0 0 ≡ hint = get_or_default hints c.0 0 hint (omega (arith, length-take n hints))
+          ∙ (sym (get_or-take n hints c.0 hint (omega (arith, length-take n hints))) ∙ c.2) in
           rw at at (taken_named neg steps (map neg clause) 1 hints n c.0 good.1 (omega (arith, length-take n hints)));
       alone = inr (good.0, taken_alone neg steps (map neg clause) 1 hints n n good.1 (omega arith));
       follows = taken_follows neg steps clause hints n good.1;

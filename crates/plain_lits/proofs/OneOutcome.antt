@@ -36,7 +36,10 @@ cases_all_false neg same truths [] = inl (record { each = λ l c. absurd (Contai
 cases_all_false neg same truths (x ∷ xs) =
     ⊎_elim
     (λ low. ⊎_elim
-    (λ all. inl (record { each = λ l c. ⊎_elim (λ (e : x ≡ l). rw (← e) low) (λ t. all.each l t) (Contains-cons_cases x xs l c) }))
+    (λ all. inl (record {
+      each = λ l c. ⊎_elim (λ (e : x ≡ l). rw (← e) low) (λ t. all.each l t)
+          (Contains-cons_cases x xs l c);
+    }))
     (λ w. inr (w.0, Contains-tail x xs w.0 w.1, w.2))
     (cases_all_false neg same truths xs))
     (λ high. inr (x, Contains-head x xs x refl, high))
@@ -44,12 +47,14 @@ cases_all_false neg same truths (x ∷ xs) =
 
 -- each literal of a clause but one is false, or a further one isn't
 cases_others_false : {L : Type 0} (neg : L → L) (same : AreDecided L) (truths clause : List L) (u : L)
-    → ((l : L) → Contains clause l → l ≢ u → Contains truths (neg l)) ⊎ ((l : L) × Contains clause l × (l ≢ u) × (Contains truths (neg l) → ⊥))
+    → ((l : L) → Contains clause l → l ≢ u → Contains truths (neg l)) ⊎ ((l : L) × Contains clause l × (l ≢ u)
+    × (Contains truths (neg l) → ⊥))
 cases_others_false neg same truths [] u = inl (λ l c ne. absurd (Contains-nil l c))
 cases_others_false neg same truths (x ∷ xs) u =
     ⊎_elim
     (λ all. ⊎_elim
-    (λ (e : x ≡ u). inl (λ l c ne. ⊎_elim (λ (h : x ≡ l). absurd (ne (sym h ∙ e))) (λ t. all l t ne) (Contains-cons_cases x xs l c)))
+    (λ (e : x ≡ u). inl (λ l c ne. ⊎_elim (λ (h : x ≡ l). absurd (ne (sym h ∙ e))) (λ t. all l t ne)
+    (Contains-cons_cases x xs l c)))
     (λ ne_x. ⊎_elim
     (λ low. inl (λ l c ne. ⊎_elim (λ (e : x ≡ l). rw (← e) low) (λ t. all l t ne) (Contains-cons_cases x xs l c)))
     (λ high. inr (x, Contains-head x xs x refl, ne_x, high))
@@ -69,13 +74,15 @@ cases_named steps hint =
     (cases_lt 0 hint)
 
 -- a literal that isn't false is the one of a unit clause
-is_the_one : {L : Type 0} (neg : L → L) (same : AreDecided L) (truths clause : List L) (u l : L) → IsUnit neg truths clause u → Contains clause l
+is_the_one : {L : Type 0} (neg : L → L) (same : AreDecided L) (truths clause : List L) (u l : L)
+    → IsUnit neg truths clause u → Contains clause l
     → (Contains truths (neg l) → ⊥) → l ≡ u
 is_the_one neg same truths clause u l f c high = ⊎_elim (λ e. e) (λ ne. absurd (high (f.others l c ne))) (same l u)
 
 -- each hint is of one of the three kinds
 cases_hint : {L : Type 0} (neg : L → L) (same : AreDecided L) (steps : List (List L)) (truths : List L) (hint : ℕ)
-    → IsFalseHint neg steps truths hint ⊎ (((u : L) × IsUnitHint neg steps truths hint u) ⊎ IsOtherHint neg steps truths hint)
+    → IsFalseHint neg steps truths hint ⊎ (((u : L) × IsUnitHint neg steps truths hint u)
+    ⊎ IsOtherHint neg steps truths hint)
 cases_hint neg same steps truths hint =
     ⊎_elim
     (λ named. ⊎_elim
@@ -83,13 +90,27 @@ cases_hint neg same steps truths hint =
     (λ w. inr (⊎_elim
     (λ (yes_ : Contains truths w.0). inr (record {
       not_false = λ f. w.2 (f.all_false.each w.0 w.1);
-      not_unit = λ u f. f.unit.not_true (rw (is_the_one neg same truths (clause_at steps hint) u w.0 f.unit w.1 w.2) at yes_);
+      not_unit = λ u f. f.unit.not_true
+          (rw (is_the_one neg same truths (clause_at steps hint) u w.0 f.unit w.1 w.2) at yes_);
     }))
     (λ no_. ⊎_elim
-    (λ others. inl (w.0, record { named = named; unit = record { there = w.1; not_true = no_; not_false = w.2; others = others } }))
+    (λ others. inl (
+      w.0,
+      record {
+        named = named;
+        unit = record {
+          there = w.1;
+          not_true = no_;
+          not_false = w.2;
+          others =
+              others;
+        };
+      },
+    ))
     (λ w2. inr (record {
       not_false = λ f. w.2 (f.all_false.each w.0 w.1);
-      not_unit = λ u f. w2.2 (is_the_one neg same truths (clause_at steps hint) u w2.0 f.unit w2.1 w2.3 ∙ sym (is_the_one neg same truths (clause_at steps hint) u w.0 f.unit w.1 w.2));
+      not_unit = λ u f. w2.2 (is_the_one neg same truths (clause_at steps hint) u w2.0 f.unit w2.1 w2.3
+          ∙ sym (is_the_one neg same truths (clause_at steps hint) u w.0 f.unit w.1 w.2));
     }))
     (cases_others_false neg same truths (clause_at steps hint) w.0))
     (cases_member same truths w.0)))
@@ -97,17 +118,20 @@ cases_hint neg same steps truths hint =
     (λ out_. inr (inr (record { not_false = λ f. out_ f.named; not_unit = λ u f. out_ f.named })))
     (cases_named steps hint)
 
-some_propagation : {L : Type 0} (neg : L → L) (same : AreDecided L) (steps : List (List L)) (truths : List L) (place : ℕ) (hints : List ℕ)
+some_propagation : {L : Type 0} (neg : L → L) (same : AreDecided L) (steps : List (List L)) (truths : List L)
+    (place : ℕ) (hints : List ℕ)
     → (outcome : Result ℕ ℕ) × Propagates neg steps truths place hints outcome
 some_propagation neg same steps truths place [] = (Err place, refl)
 some_propagation neg same steps truths place (hint ∷ hints) =
     ⊎_elim (λ f. (Ok place, inl (f, refl)))
     (λ r. ⊎_elim
-    (λ f. let next = some_propagation neg same steps (truths ++ f.0 ∷ []) (place + 1) hints in (next.0, inr (inl (f.0, f.1, next.1))))
+    (λ f. let next = some_propagation neg same steps (truths ++ f.0 ∷ []) (place + 1) hints in
+    (next.0, inr (inl (f.0, f.1, next.1))))
     (λ f. (Err place, inr (inr (f, refl)))) r)
     (cases_hint neg same steps truths hint)
 
-one_propagation : {L : Type 0} (neg : L → L) (same : AreDecided L) (steps : List (List L)) (truths : List L) (place : ℕ) (hints : List ℕ) (a b : Result ℕ ℕ)
+one_propagation : {L : Type 0} (neg : L → L) (same : AreDecided L) (steps : List (List L)) (truths : List L) (place : ℕ)
+    (hints : List ℕ) (a b : Result ℕ ℕ)
     → Propagates neg steps truths place hints a → Propagates neg steps truths place hints b → a ≡ b
 one_propagation neg same steps truths place [] a b v w = v ∙ sym w
 one_propagation neg same steps truths place (hint ∷ hints) a b v w =
@@ -122,7 +146,8 @@ one_propagation neg same steps truths place (hint ∷ hints) a b v w =
     (λ g. absurd (f.1.unit.not_false (g.0.all_false.each f.0 f.1.unit.there)))
     (λ r. ⊎_elim
     (λ g.
-    let one : g.0 ≡ f.0 = is_the_one neg same truths (clause_at steps hint) f.0 g.0 f.1.unit g.1.unit.there g.1.unit.not_false in
+    let one : g.0 ≡ f.0 = is_the_one neg same truths (clause_at steps hint) f.0 g.0 f.1.unit g.1.unit.there
+    g.1.unit.not_false in
     let next : Propagates neg steps (truths ++ f.0 ∷ []) (place + 1) hints b = rw one at g.2 in
     one_propagation neg same steps (truths ++ f.0 ∷ []) (place + 1) hints a b f.2 next)
     (λ g. absurd (g.0.not_unit f.0 f.1)) r) w)
@@ -134,16 +159,19 @@ one_propagation neg same steps truths place (hint ∷ hints) a b v w =
 
 -- a clause holds a literal and its neg, or it doesn't
 cases_tautology : {L : Type 0} (neg : L → L) (same : AreDecided L) (whole clause : List L)
-    → ((l : L) × Contains clause l × Contains whole (neg l)) ⊎ ((l : L) × Contains clause l × Contains whole (neg l) → ⊥)
+    → ((l : L) × Contains clause l × Contains whole (neg l)) ⊎ ((l : L) × Contains clause l × Contains whole (neg l)
+    → ⊥)
 cases_tautology neg same whole [] = inr (λ t. Contains-nil t.0 t.1)
 cases_tautology neg same whole (x ∷ xs) =
     ⊎_elim (λ c. inl (x, Contains-head x xs x refl, c))
     (λ none. ⊎_elim (λ t. inl (t.0, Contains-tail x xs t.0 t.1, t.2))
-    (λ rest. inr (λ t. ⊎_elim (λ (e : x ≡ t.0). none (rw (← e) at t.2)) (λ c. rest (t.0, c, t.2)) (Contains-cons_cases x xs t.0 t.1)))
+    (λ rest. inr (λ t. ⊎_elim (λ (e : x ≡ t.0). none (rw (← e) at t.2)) (λ c. rest (t.0, c, t.2))
+    (Contains-cons_cases x xs t.0 t.1)))
     (cases_tautology neg same whole xs))
     (cases_member same whole (neg x))
 
-pub one_outcome : {L : Type 0} (neg : L → L) (same : AreDecided L) (steps : List (List L)) (clause : List L) (hints : List ℕ)
+pub one_outcome : {L : Type 0} (neg : L → L) (same : AreDecided L) (steps : List (List L)) (clause : List L)
+    (hints : List ℕ)
     → HasOneOutcome neg steps clause hints
 one_outcome neg same steps clause hints = record {
   some = ⊎_elim (λ t. (Err 0, inl (t, refl)))
@@ -151,5 +179,6 @@ one_outcome neg same steps clause hints = record {
       (cases_tautology neg same clause clause);
   one = λ a b v w. ⊎_elim
       (λ f. ⊎_elim (λ g. f.1 ∙ sym g.1) (λ g. absurd (g.0 f.0)) w)
-      (λ f. ⊎_elim (λ g. absurd (f.0 g.0)) (λ g. one_propagation neg same steps (map neg clause) 1 hints a b f.1 g.1) w) v;
+      (λ f. ⊎_elim (λ g. absurd (f.0 g.0)) (λ g. one_propagation neg same steps (map neg clause) 1 hints a b f.1 g.1) w)
+      v;
 }

@@ -26,10 +26,12 @@ not_attacked f s a free d h =
     free.apart back.0 h.0 back.1 h.1 back.2
 
 -- two admissible sets of which neither attacks the other
-pub union_admissible : (f : Af) (s t : List ℕ) → IsAdmissible f s → IsAdmissible f t → (AttacksMember f s t → ⊥) → (AttacksMember f t s → ⊥) → IsAdmissible f (s ++ t)
+pub union_admissible : (f : Af) (s t : List ℕ) → IsAdmissible f s → IsAdmissible f t → (AttacksMember f s t → ⊥)
+    → (AttacksMember f t s → ⊥) → IsAdmissible f (s ++ t)
 union_admissible f s t left right none back = record {
   conflict_free = record {
-    live = λ x c. ⊎_elim (λ k. left.conflict_free.live x k) (λ k. right.conflict_free.live x k) (Contains-append_cases s t x c);
+    live = λ x c. ⊎_elim (λ k. left.conflict_free.live x k) (λ k. right.conflict_free.live x k)
+        (Contains-append_cases s t x c);
     apart = λ b a cb ca at. ⊎_elim
         (λ b_left. ⊎_elim (λ a_left. left.conflict_free.apart b a b_left a_left at)
         (λ a_right. none (a, a_right, (b, b_left, at))) (Contains-append_cases s t a ca))
@@ -44,17 +46,22 @@ union_admissible f s t left right none back = record {
 }
 
 -- Dung's fundamental lemma: what an admissible set defends may be added to it
-pub added_admissible : (f : Af) (s : List ℕ) (x : ℕ) → IsAdmissible f s → Contains f.live x → Defends f s x → IsAdmissible f (s ++ x ∷ [])
+pub added_admissible : (f : Af) (s : List ℕ) (x : ℕ) → IsAdmissible f s → Contains f.live x → Defends f s x
+    → IsAdmissible f (s ++ x ∷ [])
 added_admissible f s x ok live d =
-    let hit = λ (c : ℕ) (at : Attacks f x c) (in_s : Contains s c). not_attacked f s x ok.conflict_free d (ok.defended c in_s x at) in
+    let hit = λ (c : ℕ) (at : Attacks f x c) (in_s : Contains s c). not_attacked f s x ok.conflict_free d
+    (ok.defended c in_s x at) in
     record {
       conflict_free = record {
-        live = λ y c. ⊎_elim (λ k. ok.conflict_free.live y k) (λ e. subst (λ z. Contains f.live z) e live) (Contains-push_cases s x y c);
+        live = λ y c. ⊎_elim (λ k. ok.conflict_free.live y k) (λ e. subst (λ z. Contains f.live z) e live)
+            (Contains-push_cases s x y c);
         apart = λ b a cb ca at. ⊎_elim
             (λ b_in. ⊎_elim (λ a_in. ok.conflict_free.apart b a b_in a_in at)
-            (λ e. not_attacked f s x ok.conflict_free d (b, b_in, subst (λ z. Attacks f b z) (sym e) at)) (Contains-push_cases s x a ca))
+            (λ e. not_attacked f s x ok.conflict_free d (b, b_in, subst (λ z. Attacks f b z) (sym e) at))
+            (Contains-push_cases s x a ca))
             (λ same. let from_x = subst (λ z. Attacks f z a) (sym same) at in ⊎_elim (λ a_in. hit a from_x a_in)
-            (λ e. let on_x = subst (λ z. Attacks f x z) (sym e) from_x in not_attacked f s x ok.conflict_free d (d x on_x)) (Contains-push_cases s x a ca))
+            (λ e. let on_x = subst (λ z. Attacks f x z) (sym e) from_x in not_attacked f s x ok.conflict_free d
+            (d x on_x)) (Contains-push_cases s x a ca))
             (Contains-push_cases s x b cb);
       };
       defended = λ a c. ⊎_elim

@@ -18,34 +18,46 @@ pub record Found {X : Type 0} (P : X → Type 0) (xs : List X) : Type 0 where
   pub parts : xs ≡ before ++ item ∷ after
   pub holds : P item
 
-pub search_list : {X : Type 0} (P : X → Type 0) → ((x : X) → Decided (P x)) → (xs : List X) → Found P xs ⊎ ((x : X) → Contains xs x → P x → ⊥)
+pub search_list : {X : Type 0} (P : X → Type 0) → ((x : X) → Decided (P x)) → (xs : List X) → Found P xs
+    ⊎ ((x : X) → Contains xs x → P x → ⊥)
 search_list P decide [] = inr (λ x c h. Contains-nil x c)
 search_list P decide (y ∷ ys) =
     ⊎_elim (λ h. inl (record { before = []; item = y; after = ys; parts = refl; holds = h }))
     (λ no. ⊎_elim
-    (λ w. inl (record { before = y ∷ w.before; item = w.item; after = w.after; parts = ap (λ t. y ∷ t) w.parts; holds = w.holds }))
+    (λ w. inl (record {
+      before = y ∷ w.before;
+      item = w.item;
+      after = w.after;
+      parts = ap (λ t. y ∷ t) w.parts;
+      holds =
+          w.holds;
+    }))
     (λ none. inr (λ x c h. ⊎_elim (λ e. no (subst P (sym e) h)) (λ t. none x t h) (Contains-cons_cases y ys x c)))
     (search_list P decide ys))
     (decide y)
 
 -- what is found is a member
 pub found_in : {X : Type 0} (P : X → Type 0) (xs : List X) (w : Found P xs) → Contains xs w.item
-found_in P xs w = rw w.parts (Contains-append_right w.before (w.item ∷ w.after) w.item (Contains-head w.item w.after w.item refl))
+found_in P xs w = rw w.parts (Contains-append_right w.before (w.item ∷ w.after) w.item
+    (Contains-head w.item w.after w.item refl))
 
 pub decide_both : {P Q : Type 0} → Decided P → Decided Q → Decided (P × Q)
 decide_both p q = ⊎_elim (λ a. ⊎_elim (λ b. inl (a, b)) (λ no. inr (λ h. no h.1)) q) (λ no. inr (λ h. no h.0)) p
 
 pub decide_either : {P Q : Type 0} → Decided P → Decided Q → Decided (P ⊎ Q)
-decide_either p q = ⊎_elim (λ a. inl (inl a)) (λ no. ⊎_elim (λ b. inl (inr b)) (λ none. inr (λ h. ⊎_elim no none h)) q) p
+decide_either p q = ⊎_elim (λ a. inl (inl a)) (λ no. ⊎_elim (λ b. inl (inr b)) (λ none. inr (λ h. ⊎_elim no none h)) q)
+    p
 
 pub decide_not : {P : Type 0} → Decided P → Decided (P → ⊥)
 decide_not p = ⊎_elim (λ a. inr (λ no. no a)) (λ no. inl no) p
 
-pub decide_some : {X : Type 0} (P : X → Type 0) → ((x : X) → Decided (P x)) → (xs : List X) → Decided ((x : X) × Contains xs x × P x)
+pub decide_some : {X : Type 0} (P : X → Type 0) → ((x : X) → Decided (P x)) → (xs : List X)
+    → Decided ((x : X) × Contains xs x × P x)
 decide_some P decide xs =
     ⊎_elim (λ w. inl (w.item, found_in P xs w, w.holds)) (λ none. inr (λ h. none h.0 h.1 h.2)) (search_list P decide xs)
 
-pub decide_each : {X : Type 0} (P : X → Type 0) → ((x : X) → Decided (P x)) → (xs : List X) → Decided ((x : X) → Contains xs x → P x)
+pub decide_each : {X : Type 0} (P : X → Type 0) → ((x : X) → Decided (P x)) → (xs : List X)
+    → Decided ((x : X) → Contains xs x → P x)
 decide_each P decide xs =
     ⊎_elim
     (λ w. inr (λ h. w.holds (h w.item (found_in (λ x. P x → ⊥) xs w))))
@@ -59,7 +71,8 @@ pub decide_below : (m n : ℕ) → Decided (m < n)
 decide_below m n = ⊎_elim (λ h. inl h) (λ no. inr (λ h. omega arith)) (cases_lt m n)
 
 pub decide_implied : {P Q : Type 0} → Decided P → Decided Q → Decided (P → Q)
-decide_implied p q = ⊎_elim (λ h. inl (λ a. h)) (λ no. ⊎_elim (λ a. inr (λ h. no (h a))) (λ none. inl (λ a. absurd (none a))) p) q
+decide_implied p q = ⊎_elim (λ h. inl (λ a. h)) (λ no. ⊎_elim (λ a. inr (λ h. no (h a)))
+    (λ none. inl (λ a. absurd (none a))) p) q
 
 pub decide_contains : {X : Type 0} → ((x y : X) → Decided (x ≡ y)) → (xs : List X) (x : X) → Decided (Contains xs x)
 decide_contains same xs x =
@@ -72,7 +85,8 @@ pair b a = (b, a)
 
 same_pair : (p q : ℕ × ℕ) → Decided (p ≡ q)
 same_pair p q =
-    ⊎_elim (λ first. ⊎_elim (λ second. inl (ap (λ n. pair n p.1) first ∙ ap (λ n. pair q.0 n) second)) (λ no. inr (λ e. no (ap (λ r. r.1) e))) (cases_eq p.1 q.1))
+    ⊎_elim (λ first. ⊎_elim (λ second. inl (ap (λ n. pair n p.1) first ∙ ap (λ n. pair q.0 n) second))
+    (λ no. inr (λ e. no (ap (λ r. r.1) e))) (cases_eq p.1 q.1))
     (λ no. inr (λ e. no (ap (λ r. r.0) e))) (cases_eq p.0 q.0)
 
 pub decide_member : (s : List ℕ) (a : ℕ) → Decided (Contains s a)

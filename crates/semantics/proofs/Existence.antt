@@ -18,7 +18,11 @@ use Rattle.semantics.proofs.SetsLemmas.{all_of_none, all_of_more}
 -- the empty set is admissible
 pub empty_admissible : (f : Af) → IsAdmissible f []
 empty_admissible f = record {
-  conflict_free = record { live = λ x c. absurd (Contains-nil x c); apart = λ b a cb ca at. absurd (Contains-nil b cb) };
+  conflict_free = record {
+    live = λ x c. absurd (Contains-nil x c);
+    apart =
+        λ b a cb ca at. absurd (Contains-nil b cb);
+  };
   defended = λ a c. absurd (Contains-nil a c);
 }
 
@@ -44,10 +48,16 @@ each_larger n (s ∷ sets) t c =
     (Contains-cons_cases s sets t c)
 
 -- all sets made of some numbers, and of more
-list_more : (front rest : List ℕ) (sets : List (List ℕ)) → HasAllSets front sets → (all : List (List ℕ)) × HasAllSets (front ++ rest) all
-list_more front [] sets h = (sets, λ t sub. h t (λ x c. ⊎_elim (λ k. k) (λ none. absurd (Contains-nil x none)) (Contains-append_cases front [] x (sub x c))))
+list_more : (front rest : List ℕ) (sets : List (List ℕ)) → HasAllSets front sets → (all : List (List ℕ))
+    × HasAllSets (front ++ rest) all
+list_more front [] sets h = (
+  sets,
+  λ t sub. h t (λ x c. ⊎_elim (λ k. k) (λ none. absurd (Contains-nil x none))
+      (Contains-append_cases front [] x (sub x c))),
+)
 list_more front (n ∷ rest) sets h =
-    let more = list_more (front ++ n ∷ []) rest (with_each n sets) (all_of_more front n sets (with_each n sets) h (each_larger n sets)) in
+    let more = list_more (front ++ n ∷ []) rest (with_each n sets) (all_of_more front n sets (with_each n sets) h
+    (each_larger n sets)) in
     (more.0, subst (λ numbers. HasAllSets numbers more.0) (append_assoc front (n ∷ []) rest) more.1)
 
 all_sets : (numbers : List ℕ) → (all : List (List ℕ)) × HasAllSets numbers all
@@ -117,7 +127,8 @@ decide_in_all f s =
     (λ h. inl (record { admissible = h.0; within = in_preferred f all.0 s all.1 (λ p c. record { within = h.1 p c }) }))
     (λ no. inr (λ h. no (h.admissible, λ p c pref. h.within p pref)))
     (decide_both (decide_admissible f s)
-    (decide_each (λ p. IsPreferred f p → IsWithin s p) (λ p. decide_implied (decide_preferred f p) (decide_within s p)) all.0))
+    (decide_each (λ p. IsPreferred f p → IsWithin s p) (λ p. decide_implied (decide_preferred f p) (decide_within s p))
+    all.0))
 
 -- of two sets that are part of one preferred set, neither attacks the other
 no_attack : (f : Af) (s t p : List ℕ) → IsPreferred f p → IsWithin s p → IsWithin t p → AttacksMember f s t → ⊥

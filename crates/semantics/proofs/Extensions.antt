@@ -48,7 +48,8 @@ pub preferred_complete : (f : Af) → PreferredIsComplete f
 preferred_complete f s p = record {
   admissible = p.admissible;
   closed = λ a live d.
-      p.maximal (s ++ a ∷ []) (added_admissible f s a p.admissible live d) (within_left s (a ∷ [])) a (Contains-pushed s a a refl);
+      p.maximal (s ++ a ∷ []) (added_admissible f s a p.admissible live d) (within_left s (a ∷ [])) a
+      (Contains-pushed s a a refl);
 }
 
 -- where no admissible set has a larger range, none is larger
@@ -70,8 +71,10 @@ unattacked_in_all f s ok none = record {
   admissible = ok;
   within = λ p pref.
       let quiet = none p pref.admissible in
-      let back = λ (h : AttacksMember f s p). let hit = pref.admissible.defended h.0 h.1 h.2.0 h.2.2 in quiet (h.2.0, h.2.1, hit) in
-      λ x c. pref.maximal (p ++ s) (union_admissible f p s pref.admissible ok quiet back) (within_left p s) x (within_right p s x c);
+      let back = λ (h : AttacksMember f s p). let hit = pref.admissible.defended h.0 h.1 h.2.0 h.2.2 in
+      quiet (h.2.0, h.2.1, hit) in
+      λ x c. pref.maximal (p ++ s) (union_admissible f p s pref.admissible ok quiet back) (within_left p s) x
+      (within_right p s x c);
 }
 
 pub ideal_unique : (f : Af) → IdealIsUnique f

@@ -33,11 +33,13 @@ begin f = record {
   left = λ x c. inr c;
 }
 
-more : (f : Af) (s rest : List ℕ) → IsGrowing f s rest → (w : Found (IsNext f s) rest) → IsGrowing f (s ++ w.item ∷ []) (w.before ++ w.after)
+more : (f : Af) (s rest : List ℕ) → IsGrowing f s rest → (w : Found (IsNext f s) rest) → IsGrowing f (s ++ w.item ∷ [])
+    (w.before ++ w.after)
 more f s rest g w = record {
   admissible = added_admissible f s w.item g.admissible w.holds.0 w.holds.1;
   least = λ t complete x c. ⊎_elim (λ k. g.least t complete x k)
-      (λ e. subst (λ z. Contains t z) e (complete.closed w.item w.holds.0 (defends_more f s t w.item (g.least t complete) w.holds.1)))
+      (λ e. subst (λ z. Contains t z) e
+      (complete.closed w.item w.holds.0 (defends_more f s t w.item (g.least t complete) w.holds.1)))
       (Contains-push_cases s w.item x c);
   left = λ x live. ⊎_elim (λ k. inl (Contains-append_left s (w.item ∷ []) x k))
       (λ k. ⊎_elim (λ b. inr (Contains-append_left w.before w.after x b))
@@ -61,7 +63,8 @@ grow zero f s rest small g = (s, done f s rest g (λ a c h. let lt = c.1 in omeg
 grow (suc n) f s rest small g =
     ⊎_elim
     (λ w. grow n f (s ++ w.item ∷ []) (w.before ++ w.after)
-    (let size = ap length w.parts in omega (arith, size, length-append w.before (w.item ∷ w.after), length-append w.before w.after))
+    (let size = ap length w.parts in
+    omega (arith, size, length-append w.before (w.item ∷ w.after), length-append w.before w.after))
     (more f s rest g w))
     (λ none. (s, done f s rest g none))
     (search_list (IsNext f s) (decide_next f s) rest)

@@ -18,7 +18,8 @@ pub no_larger : (f : Af) (sets : List (List ℕ)) (s : List ℕ) → HasAllSets 
     → (t : List ℕ) → IsAdmissible f t → IsWithin s t → IsWithin t s
 no_larger f sets s all h t ok sub x c =
     let l = all t ok.conflict_free.live in
-    (h l.set l.member).back (admissible_same f t l.set (turned l.set t l.same) ok) (λ y k. l.same.back y (sub y k)) x (l.same.back x c)
+    (h l.set l.member).back (admissible_same f t l.set (turned l.set t l.same) ok) (λ y k. l.same.back y (sub y k)) x
+    (l.same.back x c)
 
 pub no_wider : (f : Af) (sets : List (List ℕ)) (s : List ℕ) → HasAllSets f.live sets
     → ((t : List ℕ) → Contains sets t → HasNoWider f s t)
@@ -43,7 +44,11 @@ holds_in_all f sets s all h t ok x c =
 -- the walk along all attacks
 pub defends_by : (f : Af) (s : List ℕ) (a : ℕ) (r : Bool)
     → IsTrue r ↔ ((p : ℕ × ℕ) → Contains f.attacks p → p.1 ≡ a → IsAttackedBy f s p.0) → IsTrue r ↔ Defends f s a
-defends_by f s a r h = (λ e b at. h.0 e (b, a) at refl, λ d. h.1 (λ p c same. d p.0 (subst (λ x. Attacks f p.0 x) same c)))
+defends_by f s a r h = (
+  λ e b at. h.0 e (b, a) at refl,
+  λ d. h.1
+      (λ p c same. d p.0 (subst (λ x. Attacks f p.0 x) same c)),
+)
 
 pub covers_by : (f : Af) (s t : List ℕ) (r : Bool)
     → IsTrue r ↔ ((p : ℕ × ℕ) → Contains f.attacks p → Contains s p.0 → IsInRange f t p.1)

@@ -15,16 +15,19 @@ pub larger_none : (n : ℕ) (all : List (List ℕ)) → HasLarger n [] all
 larger_none n all s c = absurd (Contains-nil s c)
 
 -- one more set is copied, and made larger
-pub larger_more : (n : ℕ) (sets all mid new : List (List ℕ)) (k : ℕ) (x copy big : List ℕ) → k < length sets → x ≡ get_or sets k x
+pub larger_more : (n : ℕ) (sets all mid new : List (List ℕ)) (k : ℕ) (x copy big : List ℕ) → k < length sets → x
+    ≡ get_or sets k x
     → mid ≡ all ++ copy ∷ [] → copy ≡ x → new ≡ mid ++ big ∷ [] → big ≡ x ++ n ∷ []
     → HasLarger n (take k sets) all → HasLarger n (take (k + 1) sets) new
 larger_more n sets all mid new k x copy big lt is first copied second grown h s c =
     let made : new ≡ (all ++ x ∷ []) ++ (x ++ n ∷ []) ∷ [] =
-    second ∙ ap (λ z. z ++ big ∷ []) (first ∙ ap (λ z. all ++ z ∷ []) copied) ∙ ap (λ z. (all ++ x ∷ []) ++ z ∷ []) grown in
+    second ∙ ap (λ z. z ++ big ∷ []) (first ∙ ap (λ z. all ++ z ∷ []) copied)
+    ∙ ap (λ z. (all ++ x ∷ []) ++ z ∷ []) grown in
     rw made (⊎_elim
     (λ front. (
       Contains-append_left (all ++ x ∷ []) _ s (Contains-append_left all (x ∷ []) s (h s front).0),
-      Contains-append_left (all ++ x ∷ []) _ (s ++ n ∷ []) (Contains-append_left all (x ∷ []) (s ++ n ∷ []) (h s front).1),
+      Contains-append_left (all ++ x ∷ []) _ (s ++ n ∷ []) (Contains-append_left all (x ∷ []) (s ++ n ∷ [])
+          (h s front).1),
     ))
     (λ e. let same : x ≡ s = is ∙ e in (
       Contains-append_left (all ++ x ∷ []) _ s (Contains-pushed all x s same),
@@ -49,7 +52,8 @@ others_have : (n x : ℕ) (t : List ℕ) → Contains t x → x ≢ n → Contai
 others_have n x t c ne = (Contains-filter (λ y. not (y == n)) t x).1 (c, rw (ne_eqb x n ne) refl)
 
 others_from : (n x : ℕ) (t : List ℕ) → Contains (others n t) x → Contains t x × (x ≢ n)
-others_from n x t c = let both = (Contains-filter (λ y. not (y == n)) t x).0 c in (both.0, eqb-false x n (not-true (x == n) both.1))
+others_from n x t c = let both = (Contains-filter (λ y. not (y == n)) t x).0 c in
+    (both.0, eqb-false x n (not-true (x == n) both.1))
 
 pub all_of_more : (numbers : List ℕ) (n : ℕ) (old new : List (List ℕ)) → HasAllSets numbers old → HasLarger n old new
     → HasAllSets (numbers ++ n ∷ []) new

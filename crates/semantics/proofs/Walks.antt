@@ -9,8 +9,12 @@ abbrev pub WalkedAll : {X : Type 0} → (X → Type 0) → List X → Bool → T
 WalkedAll P xs r =
     MatchBool r (AllWithin P xs 0 (length xs)) ((k : ℕ) × (k < length xs) × HoldsAt (λ x. P x → ⊥) xs k)
 
-pub all_members : {X : Type 0} (P : X → Type 0) (xs : List X) (r : Bool) → WalkedAll P xs r → IsTrue r ↔ ((x : X) → Contains xs x → P x)
+pub all_members : {X : Type 0} (P : X → Type 0) (xs : List X) (r : Bool) → WalkedAll P xs r → IsTrue r
+    ↔ ((x : X) → Contains xs x → P x)
 all_members P xs true h = (λ _ x m. subst P m.2 (h m.0 x (omega arith) m.1), λ _. refl)
 all_members P [] false h = (λ e. absurd (search rules), λ each. absurd (let lt = h.1 in omega arith))
-all_members P (y ∷ ys) false h =
-    (λ e. absurd (search rules), λ each. absurd (h.2 y (each (get_or (y ∷ ys) h.0 y) (Contains-get_or (y ∷ ys) h.0 y h.1))))
+all_members P (y ∷ ys) false h = (
+  λ e. absurd (search rules),
+  λ each.
+      absurd (h.2 y (each (get_or (y ∷ ys) h.0 y) (Contains-get_or (y ∷ ys) h.0 y h.1))),
+)

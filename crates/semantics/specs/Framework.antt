@@ -25,7 +25,8 @@ IsPairBefore p q = (p.0 < q.0) ⊎ ((p.0 ≡ q.0) × (p.1 < q.1))
 -- both ends of an attack are live
 pub record IsAf (f : Af) : Type 0 where
   pub live_rises : IsStrictlyIncreasing f.live
-  pub attacks_rise : (i j : ℕ) (d : ℕ × ℕ) → i < j → j < length f.attacks → IsPairBefore (slice_index_or f.attacks i d) (slice_index_or f.attacks j d)
+  pub attacks_rise : (i j : ℕ) (d : ℕ × ℕ) → i < j → j < length f.attacks → IsPairBefore (slice_index_or f.attacks i d)
+      (slice_index_or f.attacks j d)
   pub ends : (b a : ℕ) → Contains f.attacks (b, a) → Contains f.live b × Contains f.live a
 
 -- b attacks a

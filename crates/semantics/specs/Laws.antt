@@ -40,11 +40,13 @@ pub record SemiStableIsPreferred (f : Af) : Type 0 where
 
 -- two admissible sets of which neither attacks the other make an admissible set together
 abbrev pub UnionIsAdmissible : Af → Type 0
-UnionIsAdmissible f = (s t : List ℕ) → IsAdmissible f s → IsAdmissible f t → (AttacksMember f s t → ⊥) → (AttacksMember f t s → ⊥) → IsAdmissible f (s ++ t)
+UnionIsAdmissible f = (s t : List ℕ) → IsAdmissible f s → IsAdmissible f t → (AttacksMember f s t → ⊥)
+    → (AttacksMember f t s → ⊥) → IsAdmissible f (s ++ t)
 
 -- an admissible set that no admissible set attacks is part of every preferred set (Dung, Mancarella, Toni 2007)
 abbrev pub UnattackedIsInAll : Af → Type 0
-UnattackedIsInAll f = (s : List ℕ) → IsAdmissible f s → ((t : List ℕ) → IsAdmissible f t → AttacksMember f t s → ⊥) → IsInAllPreferred f s
+UnattackedIsInAll f = (s : List ℕ) → IsAdmissible f s → ((t : List ℕ) → IsAdmissible f t → AttacksMember f t s → ⊥)
+    → IsInAllPreferred f s
 
 -- each framework has an ideal set, it has one alone, and it is admissible (Dung, Mancarella, Toni 2007)
 pub record IdealIsUnique (f : Af) : Type 0 where

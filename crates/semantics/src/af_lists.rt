@@ -118,7 +118,8 @@ impl AfLists<'_> {
 
     /// Whether the set holds each live argument that it defends.
     fn holds_defended(&self, set: &[u32]) -> bool
-        ensures { IsTrue result ↔ ((a : ℕ) → Contains self.now.live.now a → Defends (AfOf self.now) set.now a → Contains set.now a) }
+        ensures { IsTrue result ↔ ((a : ℕ) → Contains self.now.live.now a → Defends (AfOf self.now) set.now a
+            → Contains set.now a) }
     {
         self.live
             .iter()
@@ -141,7 +142,8 @@ impl AfLists<'_> {
 
     /// Whether the set attacks each live argument outside it.
     fn attacks_outside(&self, set: &[u32]) -> bool
-        ensures { IsTrue result ↔ ((a : ℕ) → Contains self.now.live.now a → ¬ Contains set.now a → IsAttackedBy (AfOf self.now) set.now a) }
+        ensures { IsTrue result ↔ ((a : ℕ) → Contains self.now.live.now a → ¬ Contains set.now a
+            → IsAttackedBy (AfOf self.now) set.now a) }
     {
         self.live
             .iter()
@@ -166,7 +168,8 @@ impl AfLists<'_> {
 
     /// Whether each argument that the first set attacks lies in the second set's range.
     fn covers_targets(&self, set: &[u32], other: &[u32]) -> bool
-        ensures { IsTrue result ↔ ((b a : ℕ) → Attacks (AfOf self.now) b a → Contains set.now b → IsInRange (AfOf self.now) other.now a) }
+        ensures { IsTrue result ↔ ((b a : ℕ) → Attacks (AfOf self.now) b a → Contains set.now b
+            → IsInRange (AfOf self.now) other.now a) }
     {
         self.attacks
             .iter()

@@ -33,7 +33,8 @@ high_part xs x i index y c =
     let h = index.2 (i + k) (omega arith) inside in
     omega (arith, same, e, at_zero, h)
 
-pub inserted : (xs : List ℕ) (x i : ℕ) (new : List ℕ) → IsStrictlyIncreasing xs → IsPlaceOf xs x (Err i) → new ≡ insert xs i x → IsSetOf (λ y. Contains xs y ⊎ (y ≡ x)) new
+pub inserted : (xs : List ℕ) (x i : ℕ) (new : List ℕ) → IsStrictlyIncreasing xs → IsPlaceOf xs x (Err i) → new
+    ≡ insert xs i x → IsSetOf (λ y. Contains xs y ⊎ (y ≡ x)) new
 inserted xs x i new up index e =
     let whole : take i xs ++ drop i xs ≡ xs = take-append-drop i xs in
     let up_parts : IsStrictlyIncreasing (take i xs ++ drop i xs) = rw whole up in
@@ -45,11 +46,13 @@ inserted xs x i new up index e =
     rw e (record {
       rises = rises_append (take i xs) (x ∷ drop i xs) (rises_left (take i xs) (drop i xs) up_parts) up_high
           (λ y z cy cz. ⊎_elim (λ same. let h = low_part xs x i index y cy in omega arith)
-          (λ later. below_across (take i xs) (drop i xs) up_parts y z cy later) (Contains-cons_cases x (drop i xs) z cz));
+          (λ later. below_across (take i xs) (drop i xs) up_parts y z cy later)
+          (Contains-cons_cases x (drop i xs) z cz));
       members = λ y. (
         λ c. ⊎_elim (λ k. inl (rw (← whole) (Contains-append_left (take i xs) (drop i xs) y k)))
             (λ k. ⊎_elim (λ same. inr (sym same))
-            (λ t. inl (rw (← whole) (Contains-append_right (take i xs) (drop i xs) y t))) (Contains-cons_cases x (drop i xs) y k))
+            (λ t. inl (rw (← whole) (Contains-append_right (take i xs) (drop i xs) y t)))
+            (Contains-cons_cases x (drop i xs) y k))
             (Contains-append_cases (take i xs) (x ∷ drop i xs) y c),
         λ h. ⊎_elim
             (λ c. ⊎_elim (λ k. Contains-append_left (take i xs) (x ∷ drop i xs) y k)

@@ -8,7 +8,8 @@ use Rattle.std.proofs.lemmas.List.Elements.{Contains-get_or}
 use Rattle.std.proofs.lemmas.List.Kept.{AllPairs-from_increasing}
 
 -- a later number of a rising list is not below an earlier one
-pub rises_along : (xs : List ℕ) → IsStrictlyIncreasing xs → (i j : ℕ) → i ≤ j → j < length xs → get_or xs i 0 ≤ get_or xs j 0
+pub rises_along : (xs : List ℕ) → IsStrictlyIncreasing xs → (i j : ℕ) → i ≤ j → j < length xs
+    → get_or xs i 0 ≤ get_or xs j 0
 rises_along xs up i j le lt =
     ⊎_elim (λ e. omega (arith, ap (λ k. get_or xs k 0) e))
     (λ ne. let h = AllPairs-from_increasing xs up i j 0 (omega arith) lt in omega arith)
@@ -18,7 +19,8 @@ rises_along xs up i j le lt =
 abbrev pub IsPlaceOf : List ℕ → ℕ → Result ℕ ℕ → Type 0
 IsPlaceOf xs x r =
     MatchResult r (λ i. (i < length xs) × (get_or xs i 0 ≡ x))
-    (λ i. (i ≤ length xs) × ((k : ℕ) → k < i → get_or xs k 0 < x) × ((k : ℕ) → i ≤ k → k < length xs → x < get_or xs k 0))
+    (λ i. (i ≤ length xs) × ((k : ℕ) → k < i → get_or xs k 0 < x)
+    × ((k : ℕ) → i ≤ k → k < length xs → x < get_or xs k 0))
 
 -- the search succeeds just where the number is a member
 pub found : (xs : List ℕ) (x : ℕ) (r : Result ℕ ℕ) → IsPlaceOf xs x r → (is_ok r ≡ true) ↔ Contains xs x
@@ -62,11 +64,13 @@ below_across xs ys up x y cx cy =
     let ey = cy.2 in
     let in_x = cx.1 in
     let in_y = cy.1 in
-    let h = AllPairs-from_increasing (xs ++ ys) up cx.0 (length xs + cy.0) x (omega arith) (omega (arith, length-append xs ys)) in
+    let h = AllPairs-from_increasing (xs ++ ys) up cx.0 (length xs + cy.0) x (omega arith)
+    (omega (arith, length-append xs ys)) in
     omega (arith, a, b, d, ex, ey, h)
 
 -- and these three facts say that the whole rises
-pub rises_append : (xs ys : List ℕ) → IsStrictlyIncreasing xs → IsStrictlyIncreasing ys → AllBelow xs ys → IsStrictlyIncreasing (xs ++ ys)
+pub rises_append : (xs ys : List ℕ) → IsStrictlyIncreasing xs → IsStrictlyIncreasing ys → AllBelow xs ys
+    → IsStrictlyIncreasing (xs ++ ys)
 rises_append xs ys up_x up_y across k lt =
     let total = length-append xs ys in
     ⊎_elim
@@ -80,7 +84,8 @@ rises_append xs ys up_x up_y across k lt =
     let a = get_or_append_left xs ys 0 k (omega arith) in
     let b = get_or-append_right xs ys (length xs) (k + 1) 0 refl beyond in
     let first = ap (λ n. get_or ys n 0) (let e : k + 1 - length xs ≡ 0 = omega arith in e) in
-    let h = across (get_or xs k 0) (get_or ys 0 0) (Contains-get_or xs k 0 (omega arith)) (Contains-get_or ys 0 0 (omega (arith, total))) in
+    let h = across (get_or xs k 0) (get_or ys 0 0) (Contains-get_or xs k 0 (omega arith))
+    (Contains-get_or ys 0 0 (omega (arith, total))) in
     omega (arith, a, b, first, h))
     (λ later.
     let a = get_or-append_right xs ys (length xs) k 0 refl (omega arith) in

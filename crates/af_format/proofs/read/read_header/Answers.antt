@@ -16,5 +16,6 @@ returns-in-Ok-clause-ok c = record {
 }
 
 pub returns-in-Err-clause-fault : goal.returns-in-Err-clause-fault
-returns-in-Err-clause-fault c = header_told c.args.bytes.now (line_text c.in-Some.header) (kept c.next_kept.new.lines) c.in-Err.cause
+returns-in-Err-clause-fault c = header_told c.args.bytes.now (line_text c.in-Some.header) (kept c.next_kept.new.lines)
+    c.in-Err.cause
     (sym (ap kept c.requires.all) ∙ c.in-Some.ensures.some) c.in-Err.ensures.err

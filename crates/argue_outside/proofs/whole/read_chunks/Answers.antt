@@ -4,7 +4,8 @@ use Rattle.argue_outside.proofs.whole.read_chunks.Goals as goal
 
 pub loop-role-preserved : goal.loop-role-preserved
 loop-role-preserved g c = record {
-  first = HoldsFirst-next _ _ _ _ _ _ _ (ap (λ h. h c.args.name.now) c.loop-role.invariant.same) c.len-in-loop-role.ensures c.in_ok-extend.ensures.ok
+  first = HoldsFirst-next _ _ _ _ _ _ _ (ap (λ h. h c.args.name.now) c.loop-role.invariant.same)
+      c.len-in-loop-role.ensures c.in_ok-extend.ensures.ok
       c.in_ok-count.ensures.bound c.loop-role.invariant.first c.in_ok-count.ensures.bytes;
   same = c.in_ok-count.ensures.same ∙ c.loop-role.invariant.same;
   serving = λ name known. c.in_ok-count.ensures.serving name (c.loop-role.invariant.serving name known);

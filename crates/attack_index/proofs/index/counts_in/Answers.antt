@@ -11,7 +11,8 @@ pub loop-number-preserved : goal.loop-number-preserved
 loop-number-preserved c =
     let more = counts_more c.args.pairs.now c.args.offsets.now c.loop-number.counts.items _
     c.requires c.loop-number.invariant.0 c.loop-number-test.true c.loop-number.invariant.1 in (
-      ap (λ xs. length xs + 1) c.in_ok-push.ensures.items ∙ ap (λ n. n + 1) (length_push c.loop-number.counts.items _ ∙ c.loop-number.invariant.0),
+      ap (λ xs. length xs + 1) c.in_ok-push.ensures.items ∙ ap (λ n. n + 1) (length_push c.loop-number.counts.items _
+          ∙ c.loop-number.invariant.0),
       rw c.in_ok-push.ensures.items more,
     )
 

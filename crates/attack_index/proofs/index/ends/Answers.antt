@@ -7,19 +7,22 @@ use Rattle.attack_index.proofs.index.ends.Goals as goal
 
 pub loop-index-init : goal.loop-index-init
 loop-index-init c =
-    let all : c.in_ok-ends.ends.items ≡ replicate (c.args.bound + 1) 0 = c.in_ok-ends.ensures.items_if_clones_equal (λ y e. e) in (
+    let all : c.in_ok-ends.ends.items ≡ replicate (c.args.bound + 1) 0 = c.in_ok-ends.ensures.items_if_clones_equal
+    (λ y e. e) in (
       ap (λ xs. length xs) all ∙ length-replicate (c.args.bound + 1) 0,
       ends_none c.args.pairs.now (c.args.bound + 1) c.in_ok-ends.ends.items all (omega arith),
     )
 
 pub index_mut-requires : goal.index_mut-requires
 index_mut-requires c =
-    let small = c.requires.below _ (Contains-get_or c.args.pairs.now c.loop-index.index (0, 0) c.loop-index-test.true) in
+    let small = c.requires.below _ (Contains-get_or c.args.pairs.now c.loop-index.index (0, 0) c.loop-index-test.true)
+    in
     omega (arith, small, c.loop-index.invariant.0, c.loop-index.ends.ok.0)
 
 pub loop-index-preserved : goal.loop-index-preserved
 loop-index-preserved c =
-    let small = c.requires.below _ (Contains-get_or c.args.pairs.now c.loop-index.index (0, 0) c.loop-index-test.true) in (
+    let small = c.requires.below _ (Contains-get_or c.args.pairs.now c.loop-index.index
+    (0, 0) c.loop-index-test.true) in (
       length-set c.loop-index.ends.items _ _ ∙ c.loop-index.invariant.0,
       ends_more c.args.pairs.now c.loop-index.index c.loop-index.ends.items c.loop-index-test.true
           (omega (arith, small, c.loop-index.invariant.0)) c.loop-index.invariant.1,
@@ -27,6 +30,7 @@ loop-index-preserved c =
 
 pub returns-clause-ends : goal.returns-clause-ends
 returns-clause-ends c =
-    let whole : c.loop-index.index ≡ length c.args.pairs.now = omega (arith, c.loop-index-test.false, c.loop-index.auto.index-end) in
+    let whole : c.loop-index.index ≡ length c.args.pairs.now =
+    omega (arith, c.loop-index-test.false, c.loop-index.auto.index-end) in
     λ k lt. subst (λ m. IsEndOf k c.args.pairs.now m (get_or c.loop-index.ends.items (k + 1) 0)) whole
     (c.loop-index.invariant.1.each k (omega (arith, lt, c.loop-index.invariant.0)))

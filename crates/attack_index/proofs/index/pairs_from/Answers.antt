@@ -16,6 +16,7 @@ slice_bounds-result-count c =
 
 pub slice_bounds-result-start : goal.slice_bounds-result-start
 slice_bounds-result-start c =
-    let rising = offsets_rise c.args.pairs.now c.args.number _ _ (c.requires.begins _ (omega (arith, c.if-at-offsets.false)))
+    let rising = offsets_rise c.args.pairs.now c.args.number _ _
+    (c.requires.begins _ (omega (arith, c.if-at-offsets.false)))
     (c.requires.begins _ (omega (arith, c.if-at-offsets.false))) in
     omega (arith, rising)

@@ -19,7 +19,8 @@ returns-clause-packable c =
 
 pub loop-lit-preserved : goal.loop-lit-preserved
 loop-lit-preserved c = record {
-  room = front_all (λ l. l.var < c.make_room.new.self.vars) c.args.clause.now c.loop-lit.lit-index blank c.loop-lit-test.true
+  room = front_all (λ l. l.var < c.make_room.new.self.vars) c.args.clause.now c.loop-lit.lit-index blank
+      c.loop-lit-test.true
       (λ l h. let lt = c.loop-lit.invariant.room l h in omega (arith, c.in_ok-make_room.ensures.ok))
       (omega (arith, c.in_ok-make_room.ensures.ok));
   packable = front_all (λ l. l.var < 2 ^ 31) c.args.clause.now c.loop-lit.lit-index blank c.loop-lit-test.true

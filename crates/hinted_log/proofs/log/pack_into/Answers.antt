@@ -7,4 +7,5 @@ abbrev blank : Lit
 blank = record { var = 0; positive = false }
 
 pub pack-requires : goal.pack-requires
-pack-requires c = c.requires _ (item_member _ _ _ (item_read c.args.clause.now c.loop-lit.lit-index blank c.loop-lit-test.true))
+pack-requires c = c.requires _
+    (item_member _ _ _ (item_read c.args.clause.now c.loop-lit.lit-index blank c.loop-lit-test.true))

@@ -15,5 +15,7 @@ pub loop-hint-preserved : goal.loop-hint-preserved
 loop-hint-preserved c =
     let lt = c.requires.within c.hint-item.result (c.loop-hint.hint-index, c.loop-hint-test.true, sym c.hint-item.is) in
     let long = c.loop-hint.invariant.long in
-    hints_more c.args.hints.now c.args.marks.now.items c.loop-hint.marks.items _ c.loop-hint.hint-index c.hint-item.result c.number.result
-    c.loop-hint-test.true c.hint-item.is c.number.ensures (omega (arith, lt, long, c.number.ensures)) c.loop-hint.invariant refl
+    hints_more c.args.hints.now c.args.marks.now.items c.loop-hint.marks.items _ c.loop-hint.hint-index
+    c.hint-item.result c.number.result
+    c.loop-hint-test.true c.hint-item.is c.number.ensures (omega (arith, lt, long, c.number.ensures))
+    c.loop-hint.invariant refl

@@ -11,6 +11,10 @@ returns c = found_all _ _ _ c.loop-number-test.false c.loop-number.invariant
 
 pub loop-number-preserved : goal.loop-number-preserved
 loop-number-preserved c = elim c.if-marks-number.branch [
-  | then-marks-number+in_ok-push w ↦ rw w.found-is (found_more c.args.marks.now c.loop-number.number c.loop-number.found.items w.push.new.self.items (w.in_ok-push.ensures.items ∙ ap (λ (n : ℕ). c.loop-number.found.items ++ n ∷ []) w.new.ensures) w.if-marks-number.true c.loop-number.invariant)
-  | else-marks-number w ↦ rw w.found-is (found_same c.args.marks.now c.loop-number.number c.loop-number.found.items w.if-marks-number.false c.loop-number.invariant)
+  | then-marks-number+in_ok-push w ↦ rw w.found-is
+      (found_more c.args.marks.now c.loop-number.number c.loop-number.found.items w.push.new.self.items
+      (w.in_ok-push.ensures.items ∙ ap (λ (n : ℕ). c.loop-number.found.items ++ n ∷ []) w.new.ensures)
+      w.if-marks-number.true c.loop-number.invariant)
+  | else-marks-number w ↦ rw w.found-is (found_same c.args.marks.now c.loop-number.number c.loop-number.found.items
+      w.if-marks-number.false c.loop-number.invariant)
 ]

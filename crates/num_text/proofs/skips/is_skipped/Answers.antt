@@ -5,7 +5,9 @@ use Rattle.num_text.proofs.skips.is_skipped.Goals as goal
 
 pub returns-then-start-line : goal.returns-then-start-line
 returns-then-start-line c =
-    sym (skipped_blanks c.args.line.now.text.now c.blanks_length-start.result c.blanks_length-start.ensures.index (omega arith))
+    sym (skipped_blanks c.args.line.now.text.now c.blanks_length-start.result c.blanks_length-start.ensures.index
+    (omega arith))
 
 pub returns : goal.returns
-returns c = sym (skipped_byte c.args.line.now.text.now c.blanks_length-start.result c.blanks_length-start.ensures.index (omega arith))
+returns c = sym (skipped_byte c.args.line.now.text.now c.blanks_length-start.result c.blanks_length-start.ensures.index
+    (omega arith))

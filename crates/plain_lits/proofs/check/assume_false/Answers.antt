@@ -14,12 +14,14 @@ assume_one-plain-requires c =
 pub returns-then-not-plain-clause-tautology : goal.returns-then-not-plain-clause-tautology
 returns-then-not-plain-clause-tautology c =
     let item = item_read c.args.clause.now c.loop-lit.lit-index blank c.loop-lit-test.true in
-    assume_clash c.args.clause.now c.loop-lit.trail.lits c.loop-lit.lit-index _ item c.if-not-plain.ensures.before c.loop-lit.invariant.so_far
+    assume_clash c.args.clause.now c.loop-lit.trail.lits c.loop-lit.lit-index _ item c.if-not-plain.ensures.before
+    c.loop-lit.invariant.so_far
 
 pub loop-lit-preserved : goal.loop-lit-preserved
 loop-lit-preserved c =
     let item = item_read c.args.clause.now c.loop-lit.lit-index blank c.loop-lit-test.true in
     record {
-      so_far = assume_more c.args.clause.now c.loop-lit.trail.lits _ c.loop-lit.lit-index _ item c.if-not-plain.ensures.now c.loop-lit.invariant.so_far;
+      so_far = assume_more c.args.clause.now c.loop-lit.trail.lits _ c.loop-lit.lit-index _ item
+          c.if-not-plain.ensures.now c.loop-lit.invariant.so_far;
       vars = c.assume_one-plain.ensures.vars ∙ c.loop-lit.invariant.vars;
     }

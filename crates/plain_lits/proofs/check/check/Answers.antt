@@ -6,4 +6,5 @@ propagate_hints-outcome-requires c = rw c.assume_false-plain.ensures.vars (recor
 
 pub returns-clause-outcome : goal.returns-clause-outcome
 returns-clause-outcome c =
-    checks_along c.args.clauses.now c.args.clause.now _ c.args.hints.now _ c.if-not-plain.ensures.plain c.propagate_hints-outcome.ensures.outcome
+    checks_along c.args.clauses.now c.args.clause.now _ c.args.hints.now _ c.if-not-plain.ensures.plain
+    c.propagate_hints-outcome.ensures.outcome

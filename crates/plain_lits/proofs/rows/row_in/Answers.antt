@@ -16,4 +16,5 @@ part-requires-clause-within g c =
     omega (arith, high, last)
 
 pub returns : goal.returns
-returns g c = rw c.part.ensures (row_at c.args.items.now c.args.ends.now c.args.index _ _ c.requires.within c.end_before.ensures refl)
+returns g c = rw c.part.ensures (row_at c.args.items.now c.args.ends.now c.args.index _ _ c.requires.within
+    c.end_before.ensures refl)

@@ -7,7 +7,8 @@ pub returns-then-is_in_all_preferred : goal.returns-then-is_in_all_preferred
 returns-then-is_in_all_preferred c = (
   λ e. record {
     in_all = search rules;
-    largest = holds_in_all (AfOf c.args.f.now) c.args.sets.now c.args.set.now c.requires (c.is_largest_in_all.ensures.0 e);
+    largest = holds_in_all (AfOf c.args.f.now) c.args.sets.now c.args.set.now c.requires
+        (c.is_largest_in_all.ensures.0 e);
   },
   λ h. c.is_largest_in_all.ensures.1 (λ t m. record { back = h.largest t }),
 )

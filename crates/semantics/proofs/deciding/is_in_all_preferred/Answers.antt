@@ -7,7 +7,8 @@ pub returns-then-is_admissible : goal.returns-then-is_admissible
 returns-then-is_admissible c = (
   λ e. record {
     admissible = search rules;
-    within = in_preferred (AfOf c.args.f.now) c.args.sets.now c.args.set.now c.requires (c.is_in_each_preferred.ensures.0 e);
+    within = in_preferred (AfOf c.args.f.now) c.args.sets.now c.args.set.now c.requires
+        (c.is_in_each_preferred.ensures.0 e);
   },
   λ h. c.is_in_each_preferred.ensures.1 (λ t m. record { within = h.within t }),
 )

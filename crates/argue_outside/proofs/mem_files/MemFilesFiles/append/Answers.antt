@@ -3,4 +3,5 @@ use Rattle.argue_outside.proofs.MemHeldLemmas.{served_along}
 use Rattle.argue_outside.proofs.mem_files.MemFilesFiles.append.Goals as goal
 
 pub returns-in-Err-clause-serving : goal.returns-in-Err-clause-serving
-returns-in-Err-clause-serving c = served_along _ _ (held_by c.args.self.now.files) (held_by c.extend.new.files) c.fails.ensures.same c.in-Err.ensures.err
+returns-in-Err-clause-serving c = served_along _ _ (held_by c.args.self.now.files) (held_by c.extend.new.files)
+    c.fails.ensures.same c.in-Err.ensures.err

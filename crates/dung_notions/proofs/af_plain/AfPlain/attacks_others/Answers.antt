@@ -9,4 +9,5 @@ pub returns : goal.returns
 returns c =
     let P : ℕ → Type 0 = λ a. (Contains c.args.set.now a → ⊥) → IsAttackedBy c.args.self.now c.args.set.now a in
     all_members _ c.args.self.now.live _
-    (cases_from_all _ _ _ P (λ x. P x → ⊥) c.all.ensures.ran (YieldsList-from_slice c.args.self.now.live cc) (λ x q k. search rules) (λ x q k. search rules))
+    (cases_from_all _ _ _ P (λ x. P x → ⊥) c.all.ensures.ran (YieldsList-from_slice c.args.self.now.live cc)
+    (λ x q k. search rules) (λ x q k. search rules))

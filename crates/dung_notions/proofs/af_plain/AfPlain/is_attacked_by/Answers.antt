@@ -8,4 +8,5 @@ pub returns : goal.returns
 returns c =
     let P : ℕ × ℕ → Type 0 = λ p. Contains c.args.set.now p.1 in
     attacked_by_walk c.args.self.now c.args.set.now c.args.argument c.attackers_of.result.now _ c.attackers_of.ensures
-    (cases_from_any _ _ _ P (λ x. P x → ⊥) c.any.ensures.ran (YieldsList-from_slice c.attackers_of.result.now cc) (λ x q k. search rules) (λ x q k. search rules))
+    (cases_from_any _ _ _ P (λ x. P x → ⊥) c.any.ensures.ran (YieldsList-from_slice c.attackers_of.result.now cc)
+    (λ x q k. search rules) (λ x q k. search rules))

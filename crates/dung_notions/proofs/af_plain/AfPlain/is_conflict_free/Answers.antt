@@ -9,4 +9,5 @@ pub returns : goal.returns
 returns c =
     let P : ℕ → Type 0 = λ b. Contains c.args.self.now.live b × (AttacksInto c.args.self.now b c.args.set.now → ⊥) in
     conflict_free_walk c.args.self.now c.args.set.now _
-    (cases_from_all _ _ _ P (λ x. P x → ⊥) c.all.ensures.ran (YieldsList-from_slice c.args.set.now cc) (λ x q k. search rules) (λ x q k. search rules))
+    (cases_from_all _ _ _ P (λ x. P x → ⊥) c.all.ensures.ran (YieldsList-from_slice c.args.set.now cc)
+    (λ x q k. search rules) (λ x q k. search rules))

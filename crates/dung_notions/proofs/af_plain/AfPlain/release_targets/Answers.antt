@@ -35,12 +35,15 @@ loop-index-preserved c =
       c.args.search.now.pending.ok.0,
       ap length c.loop-index.invariant.2,
     ) in
-    let counts = next_counts c.args.self.now c.requires.form.form _ _ _ rest c.loop-index.index c.loop-index.invariant.0 lt in
+    let counts = next_counts c.args.self.now c.requires.form.form _ _ _ rest c.loop-index.index c.loop-index.invariant.0
+    lt in
     let step : ReleasesOne (get_or rest c.loop-index.index (0, 0)).1 c.loop-index.search.members.items
-    c.loop-index.search.open_attackers.items c.release.new.search.members.items c.release.new.search.open_attackers.items
+    c.loop-index.search.open_attackers.items c.release.new.search.members.items
+    c.release.new.search.open_attackers.items
     = rw c.as_slice.ensures.value at c.in_ok-release.ensures.released in
     rw (c.in_ok-release.ensures.out, c.in_ok-release.ensures.pending) (
-      next_releases c.args.self.now c.requires.form.form _ _ _ rest c.loop-index.index _ _ c.loop-index.invariant.0 lt step,
+      next_releases c.args.self.now c.requires.form.form _ _ _ rest c.loop-index.index _ _ c.loop-index.invariant.0 lt
+          step,
       c.loop-index.invariant.1,
       c.loop-index.invariant.2,
       grows_twice _ _ _ _ _ _ c.loop-index.invariant.3 (grows_released _ _ _ _ _ counts.0 counts.1 step),

@@ -23,6 +23,7 @@ loop-head-preserved c =
     )
 
 pub returns : goal.returns
-returns c = finishes c.args.self.now _ c.loop-head.search.out.items _ (rw c.loop-head.invariant.1 at c.loop-head.invariant.0)
+returns c = finishes c.args.self.now _ c.loop-head.search.out.items _
+    (rw c.loop-head.invariant.1 at c.loop-head.invariant.0)
     (λ k b lt att. c.loop-head.invariant.3 k b
     (omega (arith, lt, c.loop-head-test.false, c.len.ensures, c.loop-head.search.members.ok.0)) att)

@@ -13,5 +13,7 @@ row-requires c =
 pub returns : goal.returns
 returns c =
     let within : c.args.index < length c.self.inside.clauses =
-    (let long = length-steps_of _ _ _ c.self.invariant in let same = ap length c.self.view_is in omega (arith, long, same, c.requires)) in
-    rw (← c.self.view_is) (c.row.ensures ∙ sym (ap (λ (s : Step). s.hints) (steps_of-at _ _ _ c.args.index c.self.invariant within)))
+    (let long = length-steps_of _ _ _ c.self.invariant in let same = ap length c.self.view_is in
+    omega (arith, long, same, c.requires)) in
+    rw (← c.self.view_is) (c.row.ensures
+    ∙ sym (ap (λ (s : Step). s.hints) (steps_of-at _ _ _ c.args.index c.self.invariant within)))

@@ -10,5 +10,7 @@ returns-clause-ok c =
     (λ full. omega (arith, c.in_ok-reserve.ensures.ok)) c.push-3.ensures.items in
     rw (← c.self.view_is) (
     pushed_step inside.clauses c.push-2.new.self inside.kinds.items c.push-3.new.self.items inside.hints c.push.new.self
-    c.args.clause.now c.args.kind c.args.hints.now c.self.invariant (given_ok _ _ c.push-2.ensures.ok c.if-is_err.ensures.value) (rw c.reserve.ensures.items at kinds) c.in_ok-push.ensures.ok
+    c.args.clause.now c.args.kind c.args.hints.now c.self.invariant
+    (given_ok _ _ c.push-2.ensures.ok c.if-is_err.ensures.value) (rw c.reserve.ensures.items at kinds)
+    c.in_ok-push.ensures.ok
     )

@@ -8,7 +8,8 @@ invariant_of-self-in_err-resize-2 c =
     let s = c.self.inside in
     record {
       assigned = rw (c.reserve.ensures.items, c.in_err-resize-2.ensures.items) (
-          longer_positions s.trail.items s.values.items s.positions.items c.resize.new.self.items c.args.vars _ c.self.invariant.assigned
+          longer_positions s.trail.items s.values.items s.positions.items c.resize.new.self.items c.args.vars _
+          c.self.invariant.assigned
           (omega arith) (omega arith) c.in_ok-resize.ensures.items
           );
       fits = search rules;

@@ -6,4 +6,5 @@ pub returns-clause-value : goal.returns-clause-value
 returns-clause-value c =
     let v = c.self.inside in
     let lt : c.args.lit.var < length v.values.items = omega arith in
-    rw (← c.self.view_is) (value_read v.trail.items v.values.items _ v.positions.items c.args.lit _ _ c.self.invariant.assigned c.as_slice-values.ensures.value lt c.for_sign.ensures)
+    rw (← c.self.view_is) (value_read v.trail.items v.values.items _ v.positions.items c.args.lit _ _
+    c.self.invariant.assigned c.as_slice-values.ensures.value lt c.for_sign.ensures)

@@ -3,7 +3,8 @@ use Rattle.plain_lits.proofs.TrailLemmas.{trail_state}
 use Rattle.plain_lits.proofs.trail.Trail.value.Goals as goal
 
 pub returns-clause-form : goal.returns-clause-form
-returns-clause-form c = trail_state _ c.self.inside.assignment c.self.inside.starts.items (sym c.self.view_is) c.value.ensures.form c.self.invariant.levels
+returns-clause-form c = trail_state _ c.self.inside.assignment c.self.inside.starts.items (sym c.self.view_is)
+    c.value.ensures.form c.self.invariant.levels
 
 pub returns-clause-value : goal.returns-clause-value
 returns-clause-value c = rw (← c.self.view_is) c.value.ensures.value

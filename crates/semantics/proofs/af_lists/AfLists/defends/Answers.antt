@@ -12,4 +12,5 @@ pub returns : goal.returns
 returns c =
     let P : ℕ × ℕ → Type 0 = λ p. p.1 ≡ c.args.argument → IsAttackedBy (AfOf c.args.self.now) c.args.set.now p.0 in
     defends_by (AfOf c.args.self.now) c.args.set.now c.args.argument _ (all_members P c.args.self.now.attacks.now _
-    (cases_from_all _ _ _ P (λ x. P x → ⊥) c.all.ensures.ran (YieldsList-from_slice c.args.self.now.attacks.now cc) (λ x q k. search rules) (λ x q k. search rules)))
+    (cases_from_all _ _ _ P (λ x. P x → ⊥) c.all.ensures.ran (YieldsList-from_slice c.args.self.now.attacks.now cc)
+    (λ x q k. search rules) (λ x q k. search rules)))

@@ -11,4 +11,5 @@ pub returns : goal.returns
 returns c =
     let P : ℕ → Type 0 = λ a. Defends (AfOf c.args.self.now) c.args.set.now a → Contains c.args.set.now a in
     (all_members P c.args.self.now.live.now _
-    (cases_from_all _ _ _ P (λ x. P x → ⊥) c.all.ensures.ran (YieldsList-from_slice c.args.self.now.live.now cc) (λ x q k. search rules) (λ x q k. search rules)))
+    (cases_from_all _ _ _ P (λ x. P x → ⊥) c.all.ensures.ran (YieldsList-from_slice c.args.self.now.live.now cc)
+    (λ x q k. search rules) (λ x q k. search rules)))
