@@ -1,9 +1,10 @@
 -- Which causes stand on a header, and on an attack line.
 use Rattle.std.proofs.Common.{◌≡◌, ℕ, zero, suc, ◌<◌, ◌≤◌, List, [], ◌∷◌, length, get_or, refl, sym, ap, subst, ◌∙◌, ◌⊎◌, inl, inr, arith}
-use Rattle.std.specs.Prelude.{Contains, codes, All}
+use Rattle.std.specs.Prelude.{Contains, codes, All, Option, Some, None}
 use Rattle.std.proofs.lemmas.List.Elements.{All-head}
 use Rattle.num_text.specs.Cuts.{field_texts}
 use Rattle.num_text.specs.Number.{IsNumber, IsDigit}
+use Rattle.num_text.specs.Numerals.{IsReadNumber}
 use Rattle.semantics.specs.declared.argument.TheConstants.{LAST_ARGUMENT}
 use Rattle.af_format.specs.declared.af_line.TheConstants.{MOST_ATTACK_LINES}
 use Rattle.af_format.specs.declared.fault.LineCause.{LineCause}
@@ -127,6 +128,12 @@ first_member fields a b e = subst (λ xs. Contains xs a) (sym e) (0, omega arith
 
 pub second_member : (fields : List (List ℕ)) (a b : List ℕ) → fields ≡ a ∷ b ∷ [] → Contains fields b
 second_member fields a b e = subst (λ xs. Contains xs b) (sym e) (1, omega arith, refl)
+
+-- where no number was read, the text spells none
+pub none_read : (text : List ℕ) (number : Option ℕ) → IsReadNumber text number
+    → ((n : ℕ) → number ≡ Some n → ⊥) → (n : ℕ) → IsNumber text n → ⊥
+none_read text None read unread n = read.none n
+none_read text (Some m) read unread n = absurd (unread m refl)
 
 -- two fields of which one is no number
 pub bad_number : (count index : ℕ) (fields : List (List ℕ)) (a b field : List ℕ) → fields ≡ a ∷ b ∷ []

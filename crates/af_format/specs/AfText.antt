@@ -29,14 +29,6 @@ pub record IsAttackLine (count : ℕ) (line : List ℕ) (attack : ℕ × ℕ) : 
   pub attacker_is : SpellsArgument count attacker attack.0
   pub target_is : SpellsArgument count target attack.1
 
--- the line is two numbers, be they arguments or not
-pub record TellsNumbers (line : List ℕ) (numbers : ℕ × ℕ) : Type 0 where
-  pub one : List ℕ
-  pub two : List ℕ
-  pub fields : field_texts line ≡ one ∷ two ∷ []
-  pub one_is : IsNumber one numbers.0
-  pub two_is : IsNumber two numbers.1
-
 -- each line is an attack line, of the attack at its index, and there aren't too many
 pub record AreAttackLines (count : ℕ) (lines : List LineText) (attacks : List (ℕ × ℕ)) : Type 0 where
   pub each : AllZip (λ line attack. IsAttackLine count line.text attack) lines attacks

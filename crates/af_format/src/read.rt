@@ -67,6 +67,7 @@ pub(crate) fn read_header(bytes: &[u8], left: &mut Lines<'_>) -> Result<u32, Lin
 
 #[tactic(auto, using(crate::proofs::Reading::read_none, crate::proofs::Reading::read_all,))]
 // The attacks of all lines that are left and not skipped, in their order.
+#[inline(never)]
 fn read_attacks(
     alloc: Global,
     mut left: Lines<'_>,

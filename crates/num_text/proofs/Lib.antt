@@ -5,3 +5,4 @@ pub mod KeptLines
 pub mod LineEnds
 pub mod SkippedLines
 pub mod DigitFields
+pub mod NumeralLemmas

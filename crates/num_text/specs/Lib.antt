@@ -2,3 +2,4 @@ pub mod Cuts
 pub mod Number
 pub mod Views
 pub mod Lines
+pub mod Numerals

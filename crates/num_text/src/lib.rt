@@ -15,7 +15,7 @@ pub mod skips;
 pub mod span;
 
 pub use cuts::{fields, lines};
-pub use field::{Field, Fields};
+pub use field::{Field, Fields, NumberField};
 pub use limit::INPUT_LIMIT;
 pub use line::{Line, Lines};
 pub use number::decimal;

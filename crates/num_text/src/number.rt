@@ -1,6 +1,6 @@
 //! Numbers in decimal.
 
-ghost use Rattle.std.specs.Prelude.{ℕ, IfSome, IfNone};
+ghost use Rattle.std.specs.Prelude.{ℕ, ◌≤◌, IfSome, IfNone, length, take};
 ghost use Rattle.num_text.specs.Number.{IsNumber};
 
 /// The largest number of 32 bits.
@@ -26,4 +26,34 @@ pub fn decimal(bytes: &[u8]) -> Option<u32>
         }
     }
     Some(value as u32)
+}
+
+/// How many digits are so few that the number which they spell fits 32 bits, whatever they are.
+const FEW_DIGITS: usize = 9;
+
+/// A number that bytes begin with.
+#[derive(Clone, Copy, Debug)]
+pub(crate) struct Numeral {
+    pub value: u32,
+    /// How many digits spell it.
+    pub length: usize,
+}
+
+/// The number that the first nine bytes begin with: where so few digits are taken, no step can overflow.
+#[inline(always)]
+pub(crate) fn leading_number(bytes: &[u8]) -> Option<Numeral>
+    ensures within { IfSome result (λ r. r.length ≤ length bytes.now) }
+    ensures number { IfSome result (λ r. IsNumber (take r.length bytes.now) r.value) }
+{
+    let most = bytes.len().min(FEW_DIGITS);
+    let mut value: u32 = 0;
+    let mut length = 0;
+    while length < most && bytes[length].is_ascii_digit() {
+        value = value * 10 + u32::from(bytes[length] - b'0');
+        length += 1;
+    }
+    if length == 0 {
+        return None;
+    }
+    Some(Numeral { value, length })
 }
