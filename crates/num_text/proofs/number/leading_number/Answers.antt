@@ -20,7 +20,8 @@ overflow_add-value c =
 
 pub loop-length-preserved : goal.loop-length-preserved
 loop-length-preserved c =
-    let within : c.loop-length.length < length c.args.bytes.now = omega (arith, c.min-most.ensures, c.loop-length-test.true) in
+    let within : c.loop-length.length < length c.args.bytes.now =
+        omega (arith, c.min-most.ensures, c.loop-length-test.true) in
     let more = digits_value_more c.args.bytes.now c.loop-length.length within in
     let worth = c.loop-length.invariant.value in
     let next = one_more c.loop-length.value c.loop-length.length c.min-most.result c.from.result
