@@ -54,9 +54,8 @@ impl<'a> Fields<'a> {
 
     /// The next field, and the number that it spells. `None` comes after the last field.
     ///
-    /// A field of digits alone is read in one pass over its bytes, which cuts it off too. A whole run on 1,000,000
-    /// arguments and 3,000,000 random attacks takes a quarter fewer instructions so than where each field is cut off
-    /// first and then read.
+    /// A field of digits alone is read in one pass over its bytes, which cuts it off too. A whole run on 3,000,000 random
+    /// attacks takes a seventh fewer instructions so than where each field is cut off first and then read.
     #[inline(always)]
     pub fn next_number(&mut self) -> Option<NumberField<'a>>
         ensures some { IfSome result (λ f. TakesField self.old f.text.now self.new) }

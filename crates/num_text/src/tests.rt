@@ -107,3 +107,30 @@ fn decimals(rt: HostRuntime) {
         assert_eq!(rt; decimal(text.as_bytes()), expected, "at {text:?}");
     }
 }
+
+#[test]
+fn fields_with_numbers(rt: HostRuntime) {
+    let text = " 12\t007  1234567890 4294967296 1x 999999999\r000000000001\n";
+    let table = [
+        ("12", Some(12)),
+        ("007", Some(7)),
+        ("1234567890", Some(1_234_567_890)),
+        ("4294967296", None),
+        ("1x", None),
+        ("999999999", Some(999_999_999)),
+        ("000000000001", Some(1)),
+    ];
+    let Some(line) = lines(text.as_bytes()).next() else {
+        assert!(rt; false, "no line");
+        return;
+    };
+    let mut parts = fields(&line);
+    for (expected, number) in table {
+        let found = parts.next_number();
+        assert!(rt;
+            found.is_some_and(|field| field.text == expected.as_bytes() && field.number == number),
+            "at {expected:?}"
+        );
+    }
+    assert!(rt; parts.next_number().is_none());
+}

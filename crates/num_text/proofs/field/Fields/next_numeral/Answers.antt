@@ -7,7 +7,7 @@ pub returns-clause-some : goal.returns-clause-some
 returns-clause-some c =
     let numeral = c.in_ok-value.ensures.number in
     let end = field_of_digits _ c.in_ok-value.field-0.length c.in_ok-value.ensures.within numeral.digits
-        (c.ends_at.ensures.0 c.if-not-ends_at.false) in
+    (c.ends_at.ensures.0 c.if-not-ends_at.false) in
     let some = some_digits _ _ numeral.not_empty in
     let n = rest_length (c.self.inside.start + c.blanks_length.result) c.self.inside.text.now in
     let within : c.self.inside.start + c.blanks_length.result < length c.self.inside.text.now = omega arith in
