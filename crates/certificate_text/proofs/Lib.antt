@@ -1,0 +1,5 @@
+pub mod Zips
+pub mod LiteralLemmas
+pub mod OrdinalLemmas
+pub mod StepLemmas
+pub mod ReadingLemmas
