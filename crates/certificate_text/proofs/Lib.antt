@@ -3,3 +3,5 @@ pub mod LiteralLemmas
 pub mod OrdinalLemmas
 pub mod StepLemmas
 pub mod ReadingLemmas
+pub mod OneOutcome
+pub mod Exact

@@ -14,6 +14,7 @@ mod word;
 mod write;
 
 pub use fault::{CertCause, CertFault};
+pub use laws::{one_reading, reading_is_exact};
 pub use read::read_certificate;
 pub use write::write_certificate;
 
