@@ -8,7 +8,6 @@
 mod af_line;
 mod fault;
 mod laws;
-mod lines;
 mod next_attack;
 mod read;
 mod write;

@@ -13,10 +13,9 @@ ghost use Rattle.num_text.specs.declared.limit.TheConstants.{INPUT_LIMIT};
 
 use crate::af_line::header_of;
 use crate::fault::{LineCause, LineFault, ReadFault};
-use crate::lines::line_count;
 use crate::next_attack::next_attack;
 use dung_notions::AfPlain;
-use num_text::{Lines, lines, next_kept};
+use num_text::{Lines, line_count, lines, next_kept};
 use plain_lists::{Items, Memory};
 use semantics::LAST_ARGUMENT;
 use set_lists::NumSet;

@@ -61,8 +61,11 @@ fn arguments(alloc: Global, line: usize, fields: Fields<'_>) -> Result<Vec<u32>,
     Ok(numbers)
 }
 
-// The set whose rising numbers the fields spell.
-fn set_of(alloc: Global, line: usize, fields: Fields<'_>) -> Result<NumSet, AnswerFault>
+/// The set whose rising numbers from 1 to 1,000,000 the fields spell, as those behind the `w` of a set's line.
+///
+/// `At` tells the line of this number: `BadNumber` where some field is no such number, else `NotRising` where the numbers
+/// don't rise.
+pub fn set_of(alloc: Global, line: usize, fields: Fields<'_>) -> Result<NumSet, AnswerFault>
     ensures set { IfOk result (AreRisingArguments (map (λ f. f.text) fields.entry)) }
     ensures fault { IfErr result (FaultsAt line (NumbersStand (map (λ f. f.text) fields.entry))) }
 {

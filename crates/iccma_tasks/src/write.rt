@@ -40,8 +40,8 @@ fn push_word(text: &mut String, word: &str, set: &Option<NumSet>) -> Result<(), 
     }
 }
 
-// Adds the line of each set.
-fn push_sets(text: &mut String, sets: &[NumSet]) -> Result<(), Memory>
+/// Adds the line of each set, in order. After `Memory` a part of the lines may have been added.
+pub fn push_sets(text: &mut String, sets: &[NumSet]) -> Result<(), Memory>
     ensures text { OnOk result (string_bytes text.new ≡ string_bytes text.old ++ flat_map set_line sets.now) }
     ensures rises { OnOk result (All IsStrictlyIncreasing sets.now) }
 {

@@ -3,3 +3,6 @@ pub mod Clauses
 pub mod PieceLemmas
 pub mod SameAtoms
 pub mod WrittenLits
+pub mod WrittenFields
+pub mod WrittenAxioms
+pub mod OneReading

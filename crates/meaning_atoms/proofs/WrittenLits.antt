@@ -33,11 +33,11 @@ digits_free ds all = λ k d within. let h = all k d within in let high = h.high 
     ne_eqb (get_or ds k d) 58 (λ e. omega arith)
 
 -- numbers of 32 bits
-abbrev AreWords : List ℕ → Type 0
+abbrev pub AreWords : List ℕ → Type 0
 AreWords [] = Unit {0}
 AreWords (n ∷ ns) = (n < 2 ^ 32) × AreWords ns
 
-split_joined : (piece : List ℕ) (ns : List ℕ) → IsFree piece → AreWords ns
+pub split_joined : (piece : List ℕ) (ns : List ℕ) → IsFree piece → AreWords ns
     → slice_split is_colon (piece ++ flat_map (λ n. 58 ∷ decimal n) ns) ≡ piece ∷ map decimal ns
 split_joined piece [] free small = ap (λ t. slice_split is_colon t) (append-nil piece)
     ∙ slice_split_none is_colon piece free
@@ -46,7 +46,7 @@ split_joined piece (n ∷ ns) free small =
     ∙ ap (λ pieces. piece ∷ pieces)
     (split_joined (decimal n) ns (digits_free (decimal n) (decimal_number n small.0).digits) small.1)
 
-spelled_each : (ns : List ℕ) → AreWords ns → AllZip IsNumber (map decimal ns) ns
+pub spelled_each : (ns : List ℕ) → AreWords ns → AllZip IsNumber (map decimal ns) ns
 spelled_each [] small = tt
 spelled_each (n ∷ ns) small = (decimal_number n small.0, spelled_each ns small.1)
 
@@ -68,10 +68,10 @@ signed_free : (positive : Bool) (name : List ℕ) → tests_free name ≡ true �
 signed_free true name h = h
 signed_free false name h = h
 
-argument_word : (a : ℕ) → IsArgument a → a < 2 ^ 32
+pub argument_word : (a : ℕ) → IsArgument a → a < 2 ^ 32
 argument_word a h = let high = h.high in omega arith
 
-place_word : (i : ℕ) → IsPosition i → i < 2 ^ 32
+pub place_word : (i : ℕ) → IsPosition i → i < 2 ^ 32
 place_word i h = let high = h.high in omega arith
 
 numbers_small : (atom : Atom) → IsAtom atom → AreWords (numbers_of atom)

@@ -1,7 +1,8 @@
 -- The text of an axiom: its name, and its arguments.
 use Rattle.std.specs.Prelude.{◌≡◌, ℕ, List, [], ◌∷◌, ◌++◌, codes}
-use Rattle.std.specs.List.{flat_map}
+use Rattle.std.specs.List.{AllZip, flat_map}
 use Rattle.std.specs.Fmt.{decimal}
+use Rattle.num_text.specs.Number.{IsNumber}
 use Rattle.meaning_atoms.specs.declared.axiom.AfAxiom.{AfAxiom}
 use Rattle.meaning_atoms.specs.declared.axiom.AfAxiom.TheVariants.{A1, A2, A3, A4, A5, A6, A7, A8, A9, A10, A11, A12, A13, A14}
 use Rattle.meaning_atoms.specs.Axioms.{IsAfAxiom}
@@ -50,4 +51,11 @@ pub record IsNamed (name arguments : List ℕ) (which : AfAxiom) : Type 0 where
 -- the axiom has this name and these arguments, which fit its row
 pub record IsAxiomOf (name arguments : List ℕ) (which : AfAxiom) : Type 0 where
   pub named : IsNamed name arguments which
+  pub within : IsAfAxiom which
+
+-- the fields are the name and the arguments, with leading zeros or without, and the arguments fit the name's row
+pub record IsAxiomFields (fields : List (List ℕ)) (which : AfAxiom) : Type 0 where
+  pub numbers : List (List ℕ)
+  pub fields_are : fields ≡ axiom_name which ∷ numbers
+  pub spelled : AllZip IsNumber numbers (axiom_arguments which)
   pub within : IsAfAxiom which

@@ -5,29 +5,32 @@ ghost use Rattle.std.specs.List.{flat_map};
 ghost use Rattle.std.specs.String.{string_bytes};
 ghost use Rattle.std.specs.Fmt.{decimal as decimal_text};
 ghost use Rattle.meaning_atoms.specs.declared.axiom.AfAxiom.{AfAxiom as AnAxiom};
-ghost use Rattle.meaning_atoms.specs.AxiomText.{IsAxiomOf, IsNamed, axiom_arguments, axiom_text};
+ghost use Rattle.num_text.specs.Cuts.{field_texts};
+ghost use Rattle.meaning_atoms.specs.Axioms.{IsAfAxiom};
+ghost use Rattle.meaning_atoms.specs.AxiomText.{IsAxiomFields, IsAxiomOf, IsNamed, axiom_arguments, axiom_text};
 
 use crate::axiom::AfAxiom;
 use plain_lists::{Bytes, Memory};
 use std::alloc::Global;
 use std::fmt::Write;
 
-/// The text of an axiom: its name, and each argument in decimal behind a blank, as `A5 1 3 7`.
+/// The text of an axiom: its name, and each argument in decimal behind a blank, as `A5 1 3 7`. Where the arguments fit
+/// their row, its fields read as the axiom again.
 pub fn write_axiom(alloc: Global, axiom: &AfAxiom) -> Result<Bytes, Memory>
-    ensures { IfOk result (λ text. text ≡ axiom_text axiom.now) }
+    ensures text { IfOk result (λ text. text ≡ axiom_text axiom.now) }
+    ensures reads { IfOk result (λ text. IsAfAxiom axiom.now → IsAxiomFields (field_texts text) axiom.now) }
 {
-    let text = text_of(alloc, axiom)?;
+    let mut text = String::new(alloc);
+    push_axiom(&mut text, axiom)?;
     Ok(Bytes::from_vec(text.into_bytes()))
 }
 
-// The same text, as a string.
-fn text_of(alloc: Global, axiom: &AfAxiom) -> Result<String, Memory>
-    ensures { IfOk result (λ text. string_bytes text ≡ axiom_text axiom.now) }
+/// Adds the text of an axiom at the end of a text. After `Memory` a part of it may have been added.
+pub fn push_axiom(text: &mut String, axiom: &AfAxiom) -> Result<(), Memory>
+    ensures { OnOk result (string_bytes text.new ≡ string_bytes text.old ++ axiom_text axiom.now) }
 {
-    let mut text = String::new(alloc);
     text.push_str(axiom.name())?;
-    push_arguments(&mut text, axiom)?;
-    Ok(text)
+    push_arguments(text, axiom)
 }
 
 // Adds each argument behind a blank.

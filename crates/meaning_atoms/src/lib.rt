@@ -12,5 +12,5 @@ pub mod text;
 
 pub use atom::{Atom, AtomLit, END, is_position};
 pub use axiom::{AfAxiom, AxiomName};
-pub use axiom_text::{axiom_of, write_axiom};
-pub use text::{atom_text, read_lit};
+pub use axiom_text::{axiom_of, push_axiom, write_axiom};
+pub use text::{atom_text, push_lit, read_lit};

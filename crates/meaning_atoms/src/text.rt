@@ -34,21 +34,20 @@ pub fn atom_text(alloc: Global, lit: &AtomLit) -> Result<Bytes, Memory>
     ensures text { IfOk result (λ text. text ≡ lit_text lit.now) }
     ensures reads { IfOk result (λ text. IsLit lit.now → IsLitText text lit.now) }
 {
-    let text = text_of(alloc, lit)?;
+    let mut text = String::new(alloc);
+    push_lit(&mut text, lit)?;
     Ok(Bytes::from_vec(text.into_bytes()))
 }
 
-// The same text, as a string.
-fn text_of(alloc: Global, lit: &AtomLit) -> Result<String, Memory>
-    ensures { IfOk result (λ text. string_bytes text ≡ lit_text lit.now) }
+/// Adds the text of a literal at the end of a text. After `Memory` a part of it may have been added.
+pub fn push_lit(text: &mut String, lit: &AtomLit) -> Result<(), Memory>
+    ensures { OnOk result (string_bytes text.new ≡ string_bytes text.old ++ lit_text lit.now) }
 {
-    let mut text = String::new(alloc);
     if !lit.positive {
         text.push('-')?;
     }
     text.push_str(lit.atom.name())?;
-    push_numbers(&mut text, &lit.atom)?;
-    Ok(text)
+    push_numbers(text, &lit.atom)
 }
 
 // Adds each number of the atom behind a colon.

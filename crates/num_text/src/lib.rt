@@ -6,6 +6,7 @@
 //! `#`, is one that readers skip. A number is one or more ASCII digits.
 #![tactic(auto)]
 
+pub mod count;
 pub mod cuts;
 pub mod field;
 pub mod limit;
@@ -14,6 +15,7 @@ pub mod number;
 pub mod skips;
 pub mod span;
 
+pub use count::line_count;
 pub use cuts::{fields, lines};
 pub use field::{Field, Fields, NumberField};
 pub use limit::INPUT_LIMIT;

@@ -1,5 +1,5 @@
 use Rattle.std.proofs.Common.{◌≡◌, ◌+◌, ◌≤◌, length}
-use Rattle.af_format.proofs.lines.line_count.Given as goal
+use Rattle.num_text.proofs.count.line_count.Given as goal
 
 -- the lines that were counted, and those that are left, are all
 abbrev pub invariant-loop-line : goal.invariant-loop-line

@@ -1,6 +1,6 @@
 use Rattle.std.proofs.Common.{length, ap, arith}
 use Rattle.num_text.proofs.KeptLines.{length-lines_of-le}
-use Rattle.af_format.proofs.lines.line_count.Goals as goal
+use Rattle.num_text.proofs.count.line_count.Goals as goal
 
 pub loop-line-init : goal.loop-line-init
 loop-line-init c =
