@@ -1,8 +1,8 @@
 //! Each public call once, and answers that were worked out by hand.
 
 use crate::{
-    Answer, AnswerCause, AnswerFault, Kind, Problem, Query, Semantics, Task, TaskFault, answer_text,
-    problems, read_answer,
+    Answer, AnswerCause, AnswerFault, Kind, Problem, Query, Semantics, Task, TaskFault,
+    answer_text, problems, read_answer,
 };
 use plain_lists::Items;
 use set_lists::NumSet;
@@ -105,7 +105,8 @@ fn tasks(rt: HostRuntime) -> Result<(), Fail> {
     assert_eq!(rt;
         problems(),
         b"[DC-CO,DC-GR,DC-PR,DC-ST,DC-SST,DC-ID,DS-CO,DS-GR,DS-PR,DS-ST,DS-SST,DS-ID,\
-          SE-CO,SE-GR,SE-PR,SE-ST,SE-SST,SE-ID,EE-CO,EE-PR,EE-ST,EE-SST]\n".as_slice()
+          SE-CO,SE-GR,SE-PR,SE-ST,SE-SST,SE-ID,EE-CO,EE-PR,EE-ST,EE-SST]\n"
+            .as_slice()
     );
     let query = Query::new(task, Some(4)).ok_or("query")?;
     assert_eq!(rt; query.task(), task);
