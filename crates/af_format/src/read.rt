@@ -27,9 +27,7 @@ use std::alloc::Global;
 ///
 /// `Line` tells the first line at which a cause stands, and of the causes that stand there the first in
 /// the order of [`LineCause`]. `Memory` says that an allocation was refused.
-#[tactic(auto, using(crate::proofs::Reading::header_few, crate::proofs::Reading::reads_as,
-    crate::proofs::Reading::bad_line_told, crate::proofs::Reading::ends_are_arguments,
-    crate::proofs::Reading::faultless,))]
+#[tactic(auto, using(crate::proofs::Reading::header_few, crate::proofs::Reading::reads_as, crate::proofs::Reading::bad_line_told, crate::proofs::Reading::ends_are_arguments, crate::proofs::Reading::faultless,))]
 pub fn read_af(alloc: Global, bytes: &[u8]) -> Result<AfPlain, ReadFault>
     requires { length bytes.now ≤ INPUT_LIMIT }
     ensures ok { IfOk result (ReadsAs bytes.now) }

@@ -22,8 +22,7 @@ pub fn write_af(alloc: Global, framework: &AfPlain) -> Result<Bytes, Memory>
     ensures text { IfOk result (λ text. text ≡ af_text framework.now) }
     ensures back { length framework.now.attacks ≤ MOST_ATTACK_LINES
         → IfOk result (λ text. ReadsAs text framework.now) }
-    ensures within { length framework.now.attacks ≤ MOST_ATTACK_LINES → IfOk result (λ text. length text ≤ INPUT_LIMIT)
-        }
+    ensures within { length framework.now.attacks ≤ MOST_ATTACK_LINES → IfOk result (λ text. length text ≤ INPUT_LIMIT) }
 {
     let text = text_of(alloc, framework)?;
     Ok(Bytes::from_vec(text.into_bytes()))

@@ -113,8 +113,7 @@ impl AfPlain {
 
     /// Whether the set holds each live argument that it defends.
     fn holds_defended(&self, set: &NumSet) -> bool
-        ensures { IsTrue result ↔ ((a : ℕ) → Contains self.now.live a → Defends self.now set.now a → Contains set.now a)
-            }
+        ensures { IsTrue result ↔ ((a : ℕ) → Contains self.now.live a → Defends self.now set.now a → Contains set.now a) }
     {
         self.live()
             .iter()
