@@ -11,12 +11,12 @@ use Rattle.iccma_tasks.specs.declared.answer.Answer.TheVariants.{Yes, No, Sets}
 use Rattle.iccma_tasks.specs.declared.task.Problem.{Problem}
 use Rattle.iccma_tasks.specs.declared.task.Problem.TheVariants.{Credulous, Sceptical, SomeExtension}
 use Rattle.iccma_tasks.specs.declared.task.Semantics.{Semantics}
-use Rattle.iccma_tasks.specs.declared.task.Semantics.TheVariants.{Complete, Grounded, Stable}
+use Rattle.iccma_tasks.specs.declared.task.Semantics.TheVariants.{Complete, Grounded, Preferred, Stable, SemiStable, Ideal}
 use Rattle.iccma_tasks.specs.Tasks.{Asked, task_of}
 use Rattle.certificate_claims.specs.declared.row.Row.{Row}
 use Rattle.certificate_claims.specs.declared.row.Row.TheVariants.{Excluded}
-use Rattle.certificate_claims.specs.Acceptance.{Tests, AreExcluded, ShownIsRight, AcceptedIsRight}
-use Rattle.certificate_claims.specs.Claims.{claims, goal, row_for, sets_of, none_accepts, each_accepts, there_is_none}
+use Rattle.certificate_claims.specs.Acceptance.{Suits, Tests, AreExcluded, ShownIsRight, AcceptedIsRight}
+use Rattle.certificate_claims.specs.Claims.{claims, goal, row_for, sets_of, shown as shown_row, none_accepts, each_accepts, there_is_none}
 use Rattle.certificate_claims.specs.Refutations.{MeetsGoals}
 use Rattle.certificate_claims.specs.Rights.{Accepts, IsExtension, IsRightOf, IsRightCredulous, IsRightSceptical, IsRightSome}
 use Rattle.certificate_claims.proofs.GoalLists.{meets_nil, meets_cons, asks_nil, asks_cons}
@@ -60,6 +60,9 @@ none_right f Stable q shown sets h e is accepts =
     e (stable_world f e h.numbered is)
     (meets_cons f e (affirmed St) (goal f q ∷ []) (stable_mode f e is)
     (meets_cons f e (goal f q) [] (goal_says f e q accepts) (meets_nil f e)))
+none_right f Preferred q shown sets h e is accepts = absurd (h.tests.shape)
+none_right f SemiStable q shown sets h e is accepts = absurd (h.tests.shape)
+none_right f Ideal q shown sets h e is accepts = absurd (h.tests.shape)
 
 each_right : (f : Framework) (semantics : Semantics) (q : ℕ) (shown sets : List (List ℕ))
     → Shows f (asked_of Sceptical semantics (Some q)) (each_accepts f semantics q) shown sets
@@ -76,6 +79,9 @@ each_right f Stable q shown sets h e is =
     (meets_cons f e (affirmed St) (negated (goal f q) ∷ []) (stable_mode f e is)
     (meets_cons f e (negated (goal f q)) [] (goal_denied f e q refuses) (meets_nil f e)))))
     (decide_accepts f e q)
+each_right f Preferred q shown sets h e is = absurd (h.tests.shape)
+each_right f SemiStable q shown sets h e is = absurd (h.tests.shape)
+each_right f Ideal q shown sets h e is = absurd (h.tests.shape)
 
 no_stable : (f : Framework) (shown sets : List (List ℕ))
     → Shows f (asked_of SomeExtension Stable None) (Excluded (affirmed St ∷ [])) shown sets
@@ -87,11 +93,24 @@ no_stable f shown sets h e is =
 
 -- ---- answers
 
+-- a set that is shown passes its test
+passes_shown : (f : Framework) (problem : Problem) (semantics : Semantics) (number : Option ℕ) (e : List ℕ)
+    (sets : List (List ℕ))
+    → Shows f (asked_of problem semantics number) (shown_row semantics e) (e ∷ []) sets
+    → IsExtension f semantics e × Suits f problem number e
+passes_shown f problem Complete number e sets h = h.tests.witnesses 0 (omega arith)
+passes_shown f problem Grounded number e sets h = h.tests.witnesses 0 (omega arith)
+passes_shown f problem Stable number e sets h = h.tests.witnesses 0 (omega arith)
+passes_shown f problem Preferred number e sets h = absurd (h.tests.shape)
+passes_shown f problem SemiStable number e sets h = absurd (h.tests.shape)
+passes_shown f problem Ideal number e sets h = absurd (h.tests.shape)
+
 credulous_right : (f : Framework) (semantics : Semantics) (q : ℕ) (answer : Answer) (sets : List (List ℕ))
     → Shows f (asked_of Credulous semantics (Some q)) (row_for f Credulous semantics (Some q) answer)
     (sets_of answer) sets
     → IsRightCredulous f semantics q answer
-credulous_right f semantics q (Yes (Some e)) sets h = h.tests.witnesses 0 (omega arith)
+credulous_right f semantics q (Yes (Some e)) sets h =
+    passes_shown f Credulous semantics (Some q) e sets h
 credulous_right f semantics q (No None) sets h = none_right f semantics q [] sets h
 credulous_right f semantics q _ sets h = absurd (h.tests.shape)
 
@@ -100,7 +119,8 @@ sceptical_right : (f : Framework) (semantics : Semantics) (q : ℕ) (answer : An
     (sets_of answer) sets
     → IsRightSceptical f semantics q answer
 sceptical_right f semantics q (Yes None) sets h = each_right f semantics q [] sets h
-sceptical_right f semantics q (No (Some e)) sets h = h.tests.witnesses 0 (omega arith)
+sceptical_right f semantics q (No (Some e)) sets h =
+    passes_shown f Sceptical semantics (Some q) e sets h
 sceptical_right f semantics q _ sets h = absurd (h.tests.shape)
 
 none_some : (f : Framework) (semantics : Semantics) (sets : List (List ℕ))
@@ -109,12 +129,16 @@ none_some : (f : Framework) (semantics : Semantics) (sets : List (List ℕ))
 none_some f Complete sets h = absurd (h.tests.shape)
 none_some f Grounded sets h = absurd (h.tests.shape)
 none_some f Stable sets h = no_stable f [] sets h
+none_some f Preferred sets h = absurd (h.tests.shape)
+none_some f SemiStable sets h = absurd (h.tests.shape)
+none_some f Ideal sets h = absurd (h.tests.shape)
 
 some_right : (f : Framework) (semantics : Semantics) (answer : Answer) (sets : List (List ℕ))
     → Shows f (asked_of SomeExtension semantics None) (row_for f SomeExtension semantics None answer)
     (sets_of answer) sets
     → IsRightSome f semantics answer
-some_right f semantics (Sets (e ∷ [])) sets h = (h.tests.witnesses 0 (omega arith)).0
+some_right f semantics (Sets (e ∷ [])) sets h =
+    (passes_shown f SomeExtension semantics None e sets h).0
 some_right f semantics (No None) sets h = none_some f semantics sets h
 some_right f semantics _ sets h = absurd (h.tests.shape)
 

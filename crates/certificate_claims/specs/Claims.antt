@@ -10,7 +10,7 @@ use Rattle.iccma_tasks.specs.declared.answer.Answer.TheVariants.{Yes, No, Sets}
 use Rattle.iccma_tasks.specs.declared.task.Problem.{Problem}
 use Rattle.iccma_tasks.specs.declared.task.Problem.TheVariants.{Credulous, Sceptical, SomeExtension}
 use Rattle.iccma_tasks.specs.declared.task.Semantics.{Semantics}
-use Rattle.iccma_tasks.specs.declared.task.Semantics.TheVariants.{Complete, Grounded, Stable}
+use Rattle.iccma_tasks.specs.declared.task.Semantics.TheVariants.{Complete, Grounded, Preferred, Stable, SemiStable, Ideal}
 use Rattle.iccma_tasks.specs.Tasks.{Asked}
 use Rattle.certificate_claims.specs.declared.row.Row.{Row}
 use Rattle.certificate_claims.specs.declared.row.Row.TheVariants.{Misshapen, Tested, Excluded, Largest, Covered, ByGrounded}
@@ -40,17 +40,26 @@ outside f e = are_in (filter (λ x. not (has e x)) (members f))
 
 -- ---- rows
 
+-- a set that is shown, where a test of it says that it is an extension
+abbrev pub shown : Semantics → List ℕ → Row
+shown Complete e = Tested e
+shown Grounded e = Tested e
+shown Stable e = Tested e
+shown _ e = Misshapen
+
 -- no extension accepts the query: complete sets are admissible, and an admissible set is part of a complete one
 abbrev pub none_accepts : Framework → Semantics → ℕ → Row
 none_accepts f Complete q = Excluded (affirmed Ad ∷ goal f q ∷ [])
 none_accepts f Grounded q = ByGrounded false
 none_accepts f Stable q = Excluded (affirmed St ∷ goal f q ∷ [])
+none_accepts f _ q = Misshapen
 
 -- every extension accepts the query: the grounded set is part of each complete one
 abbrev pub each_accepts : Framework → Semantics → ℕ → Row
 each_accepts f Complete q = ByGrounded true
 each_accepts f Grounded q = ByGrounded true
 each_accepts f Stable q = Excluded (affirmed St ∷ negated (goal f q) ∷ [])
+each_accepts f _ q = Misshapen
 
 -- there is no extension, which is so of stable sets alone
 abbrev pub there_is_none : Semantics → Row
@@ -58,17 +67,17 @@ there_is_none Stable = Excluded (affirmed St ∷ [])
 there_is_none _ = Misshapen
 
 abbrev pub credulous_row : Framework → Semantics → ℕ → Answer → Row
-credulous_row f semantics q (Yes (Some e)) = Tested e
+credulous_row f semantics q (Yes (Some e)) = shown semantics e
 credulous_row f semantics q (No None) = none_accepts f semantics q
 credulous_row f semantics q _ = Misshapen
 
 abbrev pub sceptical_row : Framework → Semantics → ℕ → Answer → Row
 sceptical_row f semantics q (Yes None) = each_accepts f semantics q
-sceptical_row f semantics q (No (Some e)) = Tested e
+sceptical_row f semantics q (No (Some e)) = shown semantics e
 sceptical_row f semantics q _ = Misshapen
 
 abbrev pub some_row : Semantics → Answer → Row
-some_row semantics (Sets (e ∷ [])) = Tested e
+some_row semantics (Sets (e ∷ [])) = shown semantics e
 some_row semantics (No None) = there_is_none semantics
 some_row semantics _ = Misshapen
 

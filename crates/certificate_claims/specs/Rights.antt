@@ -1,20 +1,23 @@
 -- Right answers: what the semantics' definition gives for a query.
 use Rattle.std.specs.Prelude.{ℕ, List, [], ◌∷◌, Contains, Option, Some, None}
-use Rattle.semantics.specs.Framework.{Af, IsComplete, IsGrounded, IsPreferred, IsStable}
+use Rattle.semantics.specs.Framework.{Af, IsComplete, IsGrounded, IsPreferred, IsStable, IsSemiStable, IsIdeal}
 use Rattle.semantics.specs.Frameworks.{Framework, af}
 use Rattle.iccma_tasks.specs.declared.answer.Answer.{Answer}
 use Rattle.iccma_tasks.specs.declared.answer.Answer.TheVariants.{Yes, No, Sets}
 use Rattle.iccma_tasks.specs.declared.task.Problem.{Problem}
 use Rattle.iccma_tasks.specs.declared.task.Problem.TheVariants.{Credulous, Sceptical, SomeExtension}
 use Rattle.iccma_tasks.specs.declared.task.Semantics.{Semantics}
-use Rattle.iccma_tasks.specs.declared.task.Semantics.TheVariants.{Complete, Grounded, Stable}
+use Rattle.iccma_tasks.specs.declared.task.Semantics.TheVariants.{Complete, Grounded, Preferred, Stable, SemiStable, Ideal}
 use Rattle.iccma_tasks.specs.Tasks.{Asked}
 
 -- the set is an extension of an abstract framework
 abbrev pub IsExtensionOfAf : Af → Semantics → List ℕ → Type 0
 IsExtensionOfAf f Complete s = IsComplete f s
 IsExtensionOfAf f Grounded s = IsGrounded f s
+IsExtensionOfAf f Preferred s = IsPreferred f s
 IsExtensionOfAf f Stable s = IsStable f s
+IsExtensionOfAf f SemiStable s = IsSemiStable f s
+IsExtensionOfAf f Ideal s = IsIdeal f s
 
 -- the same of a framework of any kind
 abbrev pub IsExtension : Framework → Semantics → List ℕ → Type 0

@@ -1,5 +1,5 @@
 -- What is written of an answer reads as that answer.
-use Rattle.std.proofs.Common.{◌≡◌, ℕ, zero, suc, ◌+◌, ◌<◌, ◌≤◌, ◌==◌, ◌||◌, Bool, false, not, List, [], ◌∷◌, ◌++◌, length, get_or, refl, sym, ap, subst, ◌∙◌, arith, append_assoc, map, codes, filter}
+use Rattle.std.proofs.Common.{◌≡◌, ℕ, zero, suc, ◌+◌, ◌<◌, ◌==◌, ◌||◌, Bool, false, not, List, [], ◌∷◌, ◌++◌, length, get_or, refl, sym, ap, subst, ◌∙◌, arith, append_assoc, map, codes, filter}
 use Rattle.std.specs.Prelude.{Some, None, All}
 use Rattle.std.specs.List.{flat_map, slice_split}
 use Rattle.std.specs.List.Sorted.{IsStrictlyIncreasing}

@@ -12,7 +12,7 @@ pub use answer::Answer;
 pub use fault::{AnswerCause, AnswerFault};
 pub use query::Query;
 pub use read::{read_answer, set_of};
-pub use task::{Problem, Semantics, Task, TaskFault, problems};
+pub use task::{Kind, Problem, Semantics, Task, TaskFault, problems};
 pub use write::{answer_text, push_set, push_sets};
 
 #[cfg(test)]

@@ -25,13 +25,14 @@ impl Model for Query {
 
 impl Query {
     /// The query of a task and a number. `None` exactly where the task is a `DC` or a `DS` and there is
-    /// no number, or it is an `SE` and there is one.
+    /// no number, or it is an `SE` or an `EE` and there is one.
     pub fn new(task: Task, number: Option<u32>) -> Option<Query>
         ensures value { IfSome result (λ query. query ≡ record { task = task; number = number }) }
         ensures none { IsNone result ↔ ¬ FitsTask task.problem number }
     {
         match (task.problem, number) {
-            (Problem::Credulous | Problem::Sceptical, Some(_)) | (Problem::SomeExtension, None) => {
+            (Problem::Credulous | Problem::Sceptical, Some(_))
+            | (Problem::SomeExtension | Problem::AllExtensions, None) => {
                 Some(Query { task, number })
             }
             _ => None,

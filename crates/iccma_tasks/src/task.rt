@@ -1,7 +1,7 @@
 //! The tasks and their names.
 
-ghost use Rattle.std.specs.Prelude.{◌≡◌, IfOk, OnErr};
-ghost use Rattle.iccma_tasks.specs.Tasks.{task_name, tasks_line, fault_name};
+ghost use Rattle.std.specs.Prelude.{◌≡◌, ◌↔◌, IfOk, IsTrue, OnErr};
+ghost use Rattle.iccma_tasks.specs.Tasks.{IsTask, IsTaskOf, task_name, tasks_line, fault_name};
 
 use thiserror::Error;
 
@@ -14,6 +14,8 @@ pub enum Problem {
     Sceptical,
     /// `SE`: some extension, where there is one.
     SomeExtension,
+    /// `EE`: all extensions, or that there is none.
+    AllExtensions,
 }
 
 /// Which sets are the extensions.
@@ -23,8 +25,23 @@ pub enum Semantics {
     Complete,
     /// `GR`: the grounded set.
     Grounded,
+    /// `PR`: the preferred sets.
+    Preferred,
     /// `ST`: the stable sets.
     Stable,
+    /// `SST`: the semi-stable sets.
+    SemiStable,
+    /// `ID`: the ideal set.
+    Ideal,
+}
+
+/// The kinds of framework.
+#[derive(Clone, Copy, Debug, PartialEq, Eq)]
+pub enum Kind {
+    /// Abstract: arguments and attacks.
+    Af,
+    /// Assumption-based: assumptions with contraries, and rules.
+    Aba,
 }
 
 /// A problem under a semantics.
@@ -54,38 +71,78 @@ impl Task {
 
     /// The task whose name the bytes are. `UnknownTask` where they are the name of none.
     pub fn read(bytes: &[u8]) -> Result<Task, TaskFault>
-        ensures named { IfOk result (λ task. task_name task ≡ bytes.now) }
-        ensures read { (task : Task) → task_name task ≡ bytes.now → result ≡ Ok task }
-        ensures unknown { OnErr result ((task : Task) → ¬ (task_name task ≡ bytes.now)) }
+        ensures named { IfOk result (λ task. IsTask task × (task_name task ≡ bytes.now)) }
+        ensures read { (task : Task) → IsTask task → task_name task ≡ bytes.now → result ≡ Ok task }
+        ensures unknown { OnErr result ((task : Task) → IsTask task → ¬ (task_name task ≡ bytes.now)) }
     {
         match bytes {
             b"DC-CO" => Ok(Task::of(Problem::Credulous, Semantics::Complete)),
             b"DC-GR" => Ok(Task::of(Problem::Credulous, Semantics::Grounded)),
+            b"DC-PR" => Ok(Task::of(Problem::Credulous, Semantics::Preferred)),
             b"DC-ST" => Ok(Task::of(Problem::Credulous, Semantics::Stable)),
+            b"DC-SST" => Ok(Task::of(Problem::Credulous, Semantics::SemiStable)),
+            b"DC-ID" => Ok(Task::of(Problem::Credulous, Semantics::Ideal)),
             b"DS-CO" => Ok(Task::of(Problem::Sceptical, Semantics::Complete)),
             b"DS-GR" => Ok(Task::of(Problem::Sceptical, Semantics::Grounded)),
+            b"DS-PR" => Ok(Task::of(Problem::Sceptical, Semantics::Preferred)),
             b"DS-ST" => Ok(Task::of(Problem::Sceptical, Semantics::Stable)),
+            b"DS-SST" => Ok(Task::of(Problem::Sceptical, Semantics::SemiStable)),
+            b"DS-ID" => Ok(Task::of(Problem::Sceptical, Semantics::Ideal)),
             b"SE-CO" => Ok(Task::of(Problem::SomeExtension, Semantics::Complete)),
             b"SE-GR" => Ok(Task::of(Problem::SomeExtension, Semantics::Grounded)),
+            b"SE-PR" => Ok(Task::of(Problem::SomeExtension, Semantics::Preferred)),
             b"SE-ST" => Ok(Task::of(Problem::SomeExtension, Semantics::Stable)),
+            b"SE-SST" => Ok(Task::of(Problem::SomeExtension, Semantics::SemiStable)),
+            b"SE-ID" => Ok(Task::of(Problem::SomeExtension, Semantics::Ideal)),
+            b"EE-CO" => Ok(Task::of(Problem::AllExtensions, Semantics::Complete)),
+            b"EE-PR" => Ok(Task::of(Problem::AllExtensions, Semantics::Preferred)),
+            b"EE-ST" => Ok(Task::of(Problem::AllExtensions, Semantics::Stable)),
+            b"EE-SST" => Ok(Task::of(Problem::AllExtensions, Semantics::SemiStable)),
             _ => Err(TaskFault::UnknownTask),
         }
     }
 
-    /// The name of the task, as `DC-CO`.
+    /// The name of the problem and of the semantics with a dash between, as `DC-CO`. That of a task is read again.
     pub fn name(self) -> &'static [u8]
         ensures { result.now ≡ task_name self }
     {
         match (self.problem, self.semantics) {
             (Problem::Credulous, Semantics::Complete) => b"DC-CO",
             (Problem::Credulous, Semantics::Grounded) => b"DC-GR",
+            (Problem::Credulous, Semantics::Preferred) => b"DC-PR",
             (Problem::Credulous, Semantics::Stable) => b"DC-ST",
+            (Problem::Credulous, Semantics::SemiStable) => b"DC-SST",
+            (Problem::Credulous, Semantics::Ideal) => b"DC-ID",
             (Problem::Sceptical, Semantics::Complete) => b"DS-CO",
             (Problem::Sceptical, Semantics::Grounded) => b"DS-GR",
+            (Problem::Sceptical, Semantics::Preferred) => b"DS-PR",
             (Problem::Sceptical, Semantics::Stable) => b"DS-ST",
+            (Problem::Sceptical, Semantics::SemiStable) => b"DS-SST",
+            (Problem::Sceptical, Semantics::Ideal) => b"DS-ID",
             (Problem::SomeExtension, Semantics::Complete) => b"SE-CO",
             (Problem::SomeExtension, Semantics::Grounded) => b"SE-GR",
+            (Problem::SomeExtension, Semantics::Preferred) => b"SE-PR",
             (Problem::SomeExtension, Semantics::Stable) => b"SE-ST",
+            (Problem::SomeExtension, Semantics::SemiStable) => b"SE-SST",
+            (Problem::SomeExtension, Semantics::Ideal) => b"SE-ID",
+            (Problem::AllExtensions, Semantics::Complete) => b"EE-CO",
+            (Problem::AllExtensions, Semantics::Grounded) => b"EE-GR",
+            (Problem::AllExtensions, Semantics::Preferred) => b"EE-PR",
+            (Problem::AllExtensions, Semantics::Stable) => b"EE-ST",
+            (Problem::AllExtensions, Semantics::SemiStable) => b"EE-SST",
+            (Problem::AllExtensions, Semantics::Ideal) => b"EE-ID",
+        }
+    }
+
+    /// Whether it is asked of frameworks of that kind. All problems are, by all semantics, but for two: there is only one
+    /// grounded set and one ideal set to enumerate; and assumption-based frameworks have no semi-stable and no ideal sets here.
+    pub fn is_for(self, kind: Kind) -> bool
+        ensures { IsTrue result ↔ IsTaskOf kind self }
+    {
+        match (kind, self.problem, self.semantics) {
+            (_, Problem::AllExtensions, Semantics::Grounded | Semantics::Ideal) => false,
+            (Kind::Aba, _, Semantics::SemiStable | Semantics::Ideal) => false,
+            _ => true,
         }
     }
 }
@@ -105,5 +162,6 @@ impl TaskFault {
 pub fn problems() -> &'static [u8]
     ensures { result.now ≡ tasks_line }
 {
-    b"[DC-CO,DC-GR,DC-ST,DS-CO,DS-GR,DS-ST,SE-CO,SE-GR,SE-ST]\n"
+    b"[DC-CO,DC-GR,DC-PR,DC-ST,DC-SST,DC-ID,DS-CO,DS-GR,DS-PR,DS-ST,DS-SST,DS-ID,\
+      SE-CO,SE-GR,SE-PR,SE-ST,SE-SST,SE-ID,EE-CO,EE-PR,EE-ST,EE-SST]\n"
 }

@@ -1,8 +1,8 @@
 //! Each public call once, and answers that were worked out by hand.
 
 use crate::{
-    Answer, AnswerCause, AnswerFault, Problem, Query, Semantics, Task, TaskFault, answer_text,
-    problems, read_answer,
+    Answer, AnswerCause, AnswerFault, Kind, Problem, Query, Semantics, Task, TaskFault,
+    answer_text, problems, read_answer,
 };
 use plain_lists::Items;
 use set_lists::NumSet;
@@ -104,7 +104,9 @@ fn tasks(rt: HostRuntime) -> Result<(), Fail> {
     assert_eq!(rt; TaskFault::UnknownTask.name(), "UnknownTask");
     assert_eq!(rt;
         problems(),
-        b"[DC-CO,DC-GR,DC-ST,DS-CO,DS-GR,DS-ST,SE-CO,SE-GR,SE-ST]\n".as_slice()
+        b"[DC-CO,DC-GR,DC-PR,DC-ST,DC-SST,DC-ID,DS-CO,DS-GR,DS-PR,DS-ST,DS-SST,DS-ID,\
+          SE-CO,SE-GR,SE-PR,SE-ST,SE-SST,SE-ID,EE-CO,EE-PR,EE-ST,EE-SST]\n"
+            .as_slice()
     );
     let query = Query::new(task, Some(4)).ok_or("query")?;
     assert_eq!(rt; query.task(), task);
@@ -113,5 +115,9 @@ fn tasks(rt: HostRuntime) -> Result<(), Fail> {
     let some = Task::read(b"SE-GR").ok().ok_or("SE-GR")?;
     assert!(rt; Query::new(some, None).is_some());
     assert!(rt; Query::new(some, Some(1)).is_none());
+    assert_eq!(rt; Task::read(b"EE-ID"), Err(TaskFault::UnknownTask));
+    let all = Task::read(b"EE-SST").ok().ok_or("EE-SST")?;
+    assert!(rt; Query::new(all, Some(1)).is_none());
+    assert!(rt; all.is_for(Kind::Af) && !all.is_for(Kind::Aba));
     Ok(())
 }

@@ -1,0 +1,61 @@
+//! Frameworks of both kinds.
+
+ghost use Rattle.std.specs.Prelude.{◌≡◌, ◌↔◌, IfOk, IsTrue};
+ghost use Rattle.semantics.specs.Frameworks.{IsNumbered, IsNumberedAf};
+ghost use Rattle.edit_rules.specs.Kinds.{framework_of, kind_of};
+ghost use Rattle.edit_rules.specs.Fitting.{IsKnown};
+
+use dung_notions::AfPlain;
+use iccma_tasks::Kind;
+use plain_lists::Memory;
+use set_lists::NumSet;
+use std::alloc::Global;
+
+/// A framework of either kind.
+#[derive(Drop)]
+pub enum Framework {
+    /// An abstract framework.
+    Af(AfPlain),
+}
+
+impl Framework {
+    /// The same framework again.
+    pub fn copy(&self, alloc: Global) -> Result<Framework, Memory>
+        ensures { IfOk result (λ copy. copy ≡ self.now) }
+    {
+        match self {
+            Framework::Af(plain) => Ok(Framework::Af(copy_af(alloc, plain)?)),
+        }
+    }
+
+    /// The framework's kind.
+    pub fn kind(&self) -> Kind
+        ensures kind { result ≡ kind_of (framework_of self.now) }
+        ensures form { IsNumbered (framework_of self.now) }
+    {
+        match self {
+            Framework::Af(plain) => {
+                let _live = plain.live();
+                Kind::Af
+            }
+        }
+    }
+
+    /// Whether there is what a query with this number asks about: for an abstract framework, a live argument.
+    pub fn knows(&self, number: u32) -> bool
+        ensures { IsTrue result ↔ IsKnown (framework_of self.now) number }
+    {
+        match self {
+            Framework::Af(plain) => plain.is_live(number),
+        }
+    }
+}
+
+/// The same abstract framework again.
+fn copy_af(alloc: Global, plain: &AfPlain) -> Result<AfPlain, Memory>
+    ensures { IfOk result (λ copy. copy ≡ plain.now) }
+{
+    let live = NumSet::from_rising(alloc, plain.live())?;
+    let attacks = Vec::from_slice(alloc, plain.attacks())?;
+    AfPlain::new(alloc, live, attacks)
+}

@@ -1,0 +1,10 @@
+//! Frameworks of both kinds as values, and which queries fit them.
+#![tactic(auto)]
+
+pub mod framework;
+pub mod query_fault;
+#[cfg(test)]
+mod tests;
+
+pub use framework::Framework;
+pub use query_fault::{QueryFault, query_fits};
