@@ -12,7 +12,11 @@ const COVER: &str = "cert 1\nw 1 4\nw 2 4\nr\na A3 1 3\na A5 1 1 2\na A6 1 3\na 
 
 // What the text reads as, written again; or the line and the name of its fault.
 fn shown(alloc: Global, text: &str) -> Result<Bytes, Memory> {
-    match read_certificate(alloc, text.as_bytes()) {
+    let bytes = text.as_bytes();
+    if bytes.len() > 1000 {
+        return Err(Memory);
+    }
+    match read_certificate(alloc, bytes) {
         Ok(certificate) => write_certificate(alloc, &certificate),
         Err(CertFault::At { line, cause }) => {
             let told = format!(in alloc; "{line} {}", cause.name())?;
