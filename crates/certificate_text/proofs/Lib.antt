@@ -5,3 +5,4 @@ pub mod StepLemmas
 pub mod ReadingLemmas
 pub mod OneOutcome
 pub mod Exact
+pub mod RoundTrip

@@ -85,6 +85,7 @@ fn push_refutations(text: &mut String, refutations: &[Refutation]) -> Result<(),
 /// numbers of sets and steps are within their bounds, it reads as the certificate again.
 pub fn write_certificate(alloc: Global, certificate: &Certificate) -> Result<Bytes, Memory>
     ensures text { IfOk result (λ text. text ≡ certificate_text certificate.now) }
+    ensures reads { IfOk result (λ text. IsWritable certificate.now → ReadsAs text (Ok certificate.now)) }
 {
     let mut text = String::new(alloc);
     text.push_str("cert 1\n")?;

@@ -91,7 +91,7 @@ numbers_are (n ∷ ns) all zero h =
 numbers_are (n ∷ ns) all (suc k) h = numbers_are ns (All-tail IsArgument n ns all) k
     (omega arith)
 
-written_set : (set : List ℕ) → HasArguments set → IsStrictlyIncreasing set
+pub written_set : (set : List ℕ) → HasArguments set → IsStrictlyIncreasing set
     → IsSetLine (codes "w" ∷ map decimal set) set
 written_set set all rises = record {
   numbers = map decimal set;
@@ -119,7 +119,7 @@ unfolding line_texts
 line_texts-more piece rest none = ap without_empty_last (slice_split_at is_line_end piece 10 rest none refl)
     ∙ keep_piece piece (slice_split is_line_end rest) (omega (arith, length-slice_split is_line_end rest))
 
-lines_from-more : (number start : ℕ) (piece rest : List ℕ) → All (λ b. is_line_end b ≡ false) piece
+pub lines_from-more : (number start : ℕ) (piece rest : List ℕ) → All (λ b. is_line_end b ≡ false) piece
     → lines_from number start (piece ++ 10 ∷ rest)
     ≡ record { number = number; span = record { start = start; end = start + length piece }; text = piece }
     ∷ lines_from (number + 1) (start + length piece + 1) rest
