@@ -2,9 +2,13 @@
 #![tactic(auto)]
 
 pub mod certificate;
+mod choice;
 pub mod row;
+#[cfg(test)]
+mod tests;
 pub mod verdict;
 
 pub use certificate::{Certificate, Refutation, Step};
+pub use choice::row_of;
 pub use row::Row;
 pub use verdict::{Cause, Verdict};
