@@ -46,8 +46,18 @@ fn rows(rt: HostRuntime) -> Result<(), Fail> {
         (Problem::SomeExtension, Semantics::Ideal, 1, "ideal"),
         (Problem::SomeExtension, Semantics::Grounded, 2, "misshapen"),
         (Problem::AllExtensions, Semantics::Complete, 2, "all tested"),
-        (Problem::AllExtensions, Semantics::Preferred, 1, "all largest"),
-        (Problem::AllExtensions, Semantics::SemiStable, 2, "all widest"),
+        (
+            Problem::AllExtensions,
+            Semantics::Preferred,
+            1,
+            "all largest",
+        ),
+        (
+            Problem::AllExtensions,
+            Semantics::SemiStable,
+            2,
+            "all widest",
+        ),
         (Problem::AllExtensions, Semantics::Stable, 0, "misshapen"),
     ];
     for (problem, semantics, count, expected) in table {
