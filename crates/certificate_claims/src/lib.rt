@@ -2,13 +2,13 @@
 #![tactic(auto)]
 
 pub mod certificate;
-mod choice;
+mod order;
 pub mod row;
 #[cfg(test)]
 mod tests;
 pub mod verdict;
 
 pub use certificate::{Certificate, Refutation, Step};
-pub use choice::row_of;
+pub use order::{none_within, sets_rise};
 pub use row::Row;
 pub use verdict::{Cause, Verdict};
