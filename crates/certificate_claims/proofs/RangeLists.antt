@@ -3,8 +3,8 @@ use Rattle.std.proofs.Common.{◌≡◌, ◌+◌, ◌<◌, ◌≤◌, ⊎_elim, 
 use Rattle.std.specs.Prelude.{◌↔◌, IsTrue, Contains}
 use Rattle.std.specs.List.Sorted.{IsStrictlyIncreasing}
 use Rattle.std.proofs.lemmas.Bool.{cases_Bool, not_from_false}
-use Rattle.std.proofs.lemmas.List.{map-append, take_more, take_all}
-use Rattle.std.proofs.lemmas.List.Elements.{Contains-get_or}
+use Rattle.std.proofs.lemmas.List.{append-nil, map-append, take_more, take_all}
+use Rattle.std.proofs.lemmas.List.Elements.{Contains-get_or, filter-append}
 use Rattle.std.proofs.lemmas.List.Kept.{IsStrictlyIncreasing-filter}
 use Rattle.plain_lists.specs.Members.{IsSetOf, IsWithin}
 use Rattle.plain_lists.proofs.Filters.{Contains-filter}
@@ -17,9 +17,9 @@ use Rattle.semantics.specs.Frameworks.{Framework, af, IsNumberedAf}
 use Rattle.certificate_claims.specs.declared.ranges.FirstRanged.{FirstRanged}
 use Rattle.certificate_claims.specs.Acceptance.{NoneWithin, NoRangeWithin}
 use Rattle.certificate_claims.specs.Claims.{first_ranged, has_ranged}
-use Rattle.certificate_claims.specs.Ranges.{AddsIfFirst, AreLive, IsFirstRanged}
+use Rattle.certificate_claims.specs.Ranges.{AddsIfFirst, AddsIfRanged, AreLive, IsFirstRanged}
 use Rattle.certificate_claims.specs.SetLiterals.{is_range_within, is_ranged, members, range_of, same_range}
-use Rattle.certificate_claims.proofs.SetTests.{chosen, passed, firsts_more, firsts_within, in_range_list, same_trans, within_from, within_gives}
+use Rattle.certificate_claims.proofs.SetTests.{chosen, passed, one_kept, one_lost, firsts_more, firsts_within, in_range_list, same_trans, within_from, within_gives}
 use Rattle.std.proofs.lemmas.Bool.{and_from, and_parts}
 
 -- ---- rising lists with the same members
@@ -243,3 +243,36 @@ apart_where_lists f sets found b ok live is tells = (
       (apart s.0 t.0 s.1 t.1 ((within_lists f s.0 t.0 form (live s.0 s.1) (live t.0 t.1)).0 lists)) in
       subst (λ l. IsWithin l r) t.2 (subst (λ l. IsWithin (range_of (af f) t.0) l) s.2 back)),
 )
+
+-- ---- the sets with a range
+
+pub adds_ranged : (f : Framework) (range own x copy : List ℕ) (old new : List (List ℕ)) (b : Bool)
+    → own ≡ range_of f x → (IsTrue b ↔ (own ≡ range)) → b ≡ true → copy ≡ x → new ≡ old ++ copy ∷ []
+    → AddsIfRanged f range x old new
+adds_ranged f range own x copy old new b is tells same is_copy more = record {
+  adds = λ e of.
+      let alike : same_range f e x ≡ true = same_ranges f e x (sym of ∙ (sym (tells.0 same) ∙ is)) in
+      more ∙ (ap (λ y. old ++ y ∷ []) is_copy ∙ ap (λ l. old ++ l) (sym (one_kept (same_range f e) x alike)));
+}
+
+pub adds_other : (f : Framework) (range own x : List ℕ) (old : List (List ℕ)) (b : Bool)
+    → own ≡ range_of f x → (IsTrue b ↔ (own ≡ range)) → b ≡ false
+    → AddsIfRanged f range x old old
+adds_other f range own x old b is tells other = record {
+  adds = λ e of.
+      let differ : same_range f e x ≡ false = ⊎_elim
+      (λ alike. let true_ : b ≡ true = tells.1 (is ∙ (sym (equal_ranges f e x alike) ∙ sym of)) in absurd (cc))
+      (λ no_. no_) (cases_Bool (same_range f e x)) in
+      sym (ap (λ l. old ++ l) (one_lost (same_range f e) x differ) ∙ append-nil old);
+}
+
+pub ranged_more : (f : Framework) (e range : List ℕ) (sets : List (List ℕ)) (k : ℕ) (x : List ℕ)
+    (old new : List (List ℕ))
+    → k < length sets → x ≡ get_or sets k x → range ≡ range_of f e → old ≡ filter (same_range f e) (take k sets)
+    → AddsIfRanged f range x old new → new ≡ filter (same_range f e) (take (k + 1) sets)
+ranged_more f e range sets k x old new lt at of before adds =
+    let is : take (k + 1) sets ≡ take k sets ++ x ∷ [] =
+    take_more sets k x lt ∙ ap (λ y. take k sets ++ y ∷ []) (sym at) in
+    adds.adds e of
+    ∙ (ap (λ l. l ++ filter (same_range f e) (x ∷ [])) before
+    ∙ (sym (filter-append (same_range f e) (take k sets) (x ∷ [])) ∙ ap (filter (same_range f e)) (sym is)))

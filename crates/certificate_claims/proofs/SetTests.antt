@@ -145,10 +145,10 @@ pub passed : {X : Type 0} (b : Bool) (left right : X) → b ≡ false → (if b 
 passed true left right e = absurd (cc)
 passed false left right e = refl
 
-one_kept : {X : Type 0} (p : X → Bool) (x : X) → p x ≡ true → filter p (x ∷ []) ≡ x ∷ []
+pub one_kept : {X : Type 0} (p : X → Bool) (x : X) → p x ≡ true → filter p (x ∷ []) ≡ x ∷ []
 one_kept p x e = rw e refl
 
-one_lost : {X : Type 0} (p : X → Bool) (x : X) → p x ≡ false → filter p (x ∷ []) ≡ []
+pub one_lost : {X : Type 0} (p : X → Bool) (x : X) → p x ≡ false → filter p (x ∷ []) ≡ []
 one_lost p x e = rw e refl
 
 -- whether the first set, or one of those that have other ranges, has a set's range

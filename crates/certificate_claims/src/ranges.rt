@@ -1,11 +1,11 @@
 //! The ranges of listed sets.
 
-ghost use Rattle.std.specs.Prelude.{◌≡◌, ◌↔◌, Contains, IfOk, IsTrue, OnOk, map};
+ghost use Rattle.std.specs.Prelude.{◌≡◌, ◌↔◌, Contains, IfOk, IsTrue, OnOk, filter};
 ghost use Rattle.plain_lists.specs.Members.{IsWithin};
 ghost use Rattle.semantics.specs.Frameworks.{af};
 ghost use Rattle.certificate_claims.specs.Acceptance.{NoRangeWithin};
-ghost use Rattle.certificate_claims.specs.Ranges.{AreLive, IsFirstRanged, AddsIfFirst};
-ghost use Rattle.certificate_claims.specs.SetLiterals.{range_of};
+ghost use Rattle.certificate_claims.specs.Ranges.{AreLive, IsFirstRanged, AddsIfFirst, AddsIfRanged};
+ghost use Rattle.certificate_claims.specs.SetLiterals.{range_of, same_range};
 
 use crate::order::none_within;
 use dung_notions::AfPlain;
@@ -86,4 +86,43 @@ pub fn no_range_within(alloc: Global, plain: &AfPlain, sets: &[NumSet]) -> Resul
     let _live = plain.live();
     let found = first_ranged(alloc, plain, sets)?;
     Ok(none_within(found.ranges.as_slice()))
+}
+
+/// Those of the sets that have a set's range. Each range is made anew. `Memory` says that an allocation was refused.
+pub fn with_range_of(
+    alloc: Global,
+    plain: &AfPlain,
+    set: &NumSet,
+    sets: &[NumSet],
+) -> Result<Items<NumSet>, Memory>
+    requires set { IsWithin set.now plain.now.live }
+    requires sets { AreLive plain.now sets.now }
+    ensures { IfOk result (λ found. found ≡ filter (same_range (af plain.now) set.now) sets.now) }
+{
+    let range = range_list(alloc, plain, set)?;
+    let mut found = Items::new(alloc);
+    for other in sets {
+        add_if_ranged(alloc, plain, &mut found, &range, other)?;
+    }
+    Ok(found)
+}
+
+/// Adds a set if this is its range.
+fn add_if_ranged(
+    alloc: Global,
+    plain: &AfPlain,
+    found: &mut Items<NumSet>,
+    range: &NumSet,
+    set: &NumSet,
+) -> Result<(), Memory>
+    requires { IsWithin set.now plain.now.live }
+    ensures { OnOk result (AddsIfRanged (af plain.now) range.now set.now found.old found.new) }
+{
+    let own = range_list(alloc, plain, set)?;
+    let same = is_same(&own, range);
+    if !same {
+        return Ok(());
+    }
+    found.push(set.copy(alloc)?)?;
+    Ok(())
 }
