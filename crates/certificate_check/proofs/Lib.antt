@@ -1,1 +1,3 @@
 pub mod BenchLemmas
+pub mod SideLemmas
+pub mod GoalLemmas

@@ -1,1 +1,4 @@
 pub mod Benches
+pub mod SideClauses
+pub mod GoalSets
+pub mod Standing

@@ -2,3 +2,7 @@
 #![tactic(auto)]
 
 mod bench;
+mod closed;
+mod goals;
+mod sides;
+mod steps;
