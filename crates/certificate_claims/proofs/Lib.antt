@@ -1,5 +1,1 @@
-pub mod Refuting
-pub mod GoalLists
-pub mod KindFacts
-pub mod Right
-pub mod PreferredSets
+pub mod Found

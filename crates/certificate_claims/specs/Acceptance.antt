@@ -1,6 +1,8 @@
 -- When a certificate is accepted for an answer.
-use Rattle.std.specs.Prelude.{◌≡◌, ℕ, ◌<◌, Bool, true, false, List, [], length, slice_index_or, Option, Some, None}
-use Rattle.semantics.specs.Frameworks.{Framework, IsNumbered}
+use Rattle.std.specs.Prelude.{◌≡◌, ℕ, zero, suc, ◌<◌, Bool, true, false, List, [], length, Contains, slice_index_or, Option, Some, None}
+use Rattle.plain_lists.specs.Members.{IsWithin}
+use Rattle.semantics.specs.Framework.{IsRangeWithin}
+use Rattle.semantics.specs.Frameworks.{Framework, af}
 use Rattle.meaning_atoms.specs.declared.atom.Atom.TheVariants.{Ad}
 use Rattle.meaning_atoms.specs.Worlds.{HoldsOf}
 use Rattle.iccma_tasks.specs.declared.answer.Answer.{Answer}
@@ -11,10 +13,10 @@ use Rattle.iccma_tasks.specs.Tasks.{Asked}
 use Rattle.certificate_claims.specs.declared.certificate.Certificate.{Certificate}
 use Rattle.certificate_claims.specs.declared.certificate.Refutation.{Refutation}
 use Rattle.certificate_claims.specs.declared.row.Row.{Row}
-use Rattle.certificate_claims.specs.declared.row.Row.TheVariants.{Misshapen, Tested, Largest, Covered, ByGrounded}
+use Rattle.certificate_claims.specs.declared.row.Row.TheVariants.{Misshapen, Tested, Largest, Widest, ByGrounded, Covered, Ranged, Ideal, AllTested, AllLargest, AllWidest}
 use Rattle.certificate_claims.specs.Claims.{claims, row_of, sets_of}
-use Rattle.certificate_claims.specs.Refutations.{Claim, IsPlain, IsRefutationOf, IsExcluded}
-use Rattle.certificate_claims.specs.Rights.{Accepts, IsExtension, IsPreferredOf, IsRight}
+use Rattle.certificate_claims.specs.Refutations.{Claim, IsRefutationOf}
+use Rattle.certificate_claims.specs.Rights.{Accepts, IsExtension, SetsRise}
 
 -- ---- the direct tests
 
@@ -32,12 +34,27 @@ Suits f _ _ e = Unit {0}
 abbrev pub PassesTest : Framework → Asked → Row → List ℕ → Type 0
 PassesTest f asked (Tested _) e = IsExtension f asked.task.semantics e × Suits f asked.task.problem asked.number e
 PassesTest f asked (Largest _) e = HoldsOf f e Ad × Suits f asked.task.problem asked.number e
+PassesTest f asked (Widest _) e = HoldsOf f e Ad × Suits f asked.task.problem asked.number e
+PassesTest f asked (AllTested _ _) e = IsExtension f asked.task.semantics e
+PassesTest f asked (AllLargest _) e = HoldsOf f e Ad
+PassesTest f asked (AllWidest _) e = HoldsOf f e Ad
 PassesTest f asked _ e = Unit {0}
 
--- the test of a set of the certificate
-abbrev pub PassesSet : Framework → Row → List ℕ → Type 0
-PassesSet f (Covered q) e = HoldsOf f e Ad × Accepts f e q
-PassesSet f _ e = Unit {0}
+-- no set of the list lies in another, different one
+abbrev pub NoneWithin : List (List ℕ) → Type 0
+NoneWithin sets = (s t : List ℕ) → Contains sets s → Contains sets t → IsWithin s t → IsWithin t s
+
+-- no set's range lies in another, different one
+abbrev pub NoRangeWithin : Framework → List (List ℕ) → Type 0
+NoRangeWithin (af f) sets =
+    (s t : List ℕ) → Contains sets s → Contains sets t → IsRangeWithin f s t → IsRangeWithin f t s
+
+-- how the listed sets stand to each other
+abbrev pub PassesOrder : Framework → Row → Type 0
+PassesOrder f (AllTested _ sets) = SetsRise sets
+PassesOrder f (AllLargest sets) = SetsRise sets × NoneWithin sets
+PassesOrder f (AllWidest sets) = SetsRise sets × NoRangeWithin f sets
+PassesOrder f _ = Unit {0}
 
 -- what the grounded set says of the query
 abbrev pub GroundedSays : Framework → Bool → Option ℕ → Type 0
@@ -52,16 +69,40 @@ PassesGrounded f asked _ = Unit {0}
 -- how many sets the certificate has
 abbrev pub TakesSets : Row → ℕ → Type 0
 TakesSets (Covered _) count = Unit {0}
+TakesSets (Ranged _) count = Unit {0}
+TakesSets (Ideal _ _) count = 0 < count
 TakesSets _ count = count ≡ 0
 
--- the tests that look at sets alone: of the answer's shape and sets, of the grounded set, and of the certificate's sets
--- and their number
+-- the set is the one that the answer shows, if it shows one
+abbrev pub IsShown : Option (List ℕ) → List ℕ → Type 0
+IsShown None e = Unit {0}
+IsShown (Some shown) e = e ≡ shown
+
+-- the set accepts the query or doesn't, as the answer says, if it says so
+abbrev pub AcceptsAsSaid : Framework → Option ℕ → Option Bool → List ℕ → Type 0
+AcceptsAsSaid f (Some q) (Some true) e = Accepts f e q
+AcceptsAsSaid f (Some q) (Some false) e = Accepts f e q → ⊥
+AcceptsAsSaid f number None e = Unit {0}
+AcceptsAsSaid f None (Some accepts) e = ⊥
+
+-- the test of the certificate's set at an index
+abbrev pub PassesSet : Framework → Asked → Row → ℕ → List ℕ → Type 0
+PassesSet f asked (Covered q) k e = HoldsOf f e Ad × Accepts f e q
+PassesSet f asked (Ranged _) k e = HoldsOf f e Ad
+PassesSet f asked (Ideal shown accepts) zero e =
+    HoldsOf f e Ad × (IsShown shown e × AcceptsAsSaid f asked.number accepts e)
+PassesSet f asked (Ideal shown accepts) (suc k) e = HoldsOf f e Ad
+PassesSet f asked _ k e = Unit {0}
+
+-- the tests that look at sets alone: of the answer's shape and sets, of their order, of the grounded set, and of the
+-- certificate's sets and their number
 pub record Tests (f : Framework) (asked : Asked) (row : Row) (shown sets : List (List ℕ)) : Type 0 where
   pub shape : IsShaped row
   pub witnesses : (k : ℕ) → k < length shown → PassesTest f asked row (slice_index_or shown k [])
+  pub order : PassesOrder f row
   pub grounded : PassesGrounded f asked row
   pub count : TakesSets row (length sets)
-  pub each_set : (k : ℕ) → k < length sets → PassesSet f row (slice_index_or sets k [])
+  pub each_set : (k : ℕ) → k < length sets → PassesSet f asked row k (slice_index_or sets k [])
 
 -- ---- the refutations
 
@@ -83,33 +124,3 @@ pub record Passes (f : Framework) (asked : Asked) (row : Row) (shown : List (Lis
 -- the certificate is accepted for the answer
 abbrev pub IsAccepted : Framework → Asked → Answer → Certificate → Type 0
 IsAccepted f asked answer certificate = Passes f asked (row_of f asked answer) (sets_of answer) certificate
-
--- ---- the laws
-
--- no set of the framework meets one of the claims
-abbrev pub AreExcluded : Framework → List Claim → Type 0
-AreExcluded f list = (k : ℕ) → k < length list → IsPlain (slice_index_or list k no_claim)
-    → IsExcluded f (slice_index_or list k no_claim)
-
--- an answer whose direct tests pass, and whose claims no set meets, is right
-abbrev pub ShownIsRight : Type 0
-ShownIsRight = (f : Framework) (asked : Asked) (answer : Answer) (sets : List (List ℕ)) → IsNumbered f
-    → Tests f asked (row_of f asked answer) (sets_of answer) sets
-    → AreExcluded f (claims f (row_of f asked answer) sets)
-    → IsRight f asked answer
-
--- an answer with an accepted certificate is right
-abbrev pub AcceptedIsRight : Type 0
-AcceptedIsRight = (f : Framework) (asked : Asked) (answer : Answer) (certificate : Certificate) → IsNumbered f
-    → IsAccepted f asked answer certificate → IsRight f asked answer
-
--- the set that the row of a largest set shows is preferred
-abbrev pub LargestIsPreferred : Type 0
-LargestIsPreferred = (f : Framework) (e : List ℕ) → IsNumbered f → HoldsOf f e Ad
-    → AreExcluded f (claims f (Largest e) []) → IsPreferredOf f e
-
--- where the row of a cover is shown, every preferred set accepts the query
-abbrev pub CoveredIsAccepted : Type 0
-CoveredIsAccepted = (f : Framework) (q : ℕ) (sets : List (List ℕ)) → IsNumbered f
-    → ((k : ℕ) → k < length sets → PassesSet f (Covered q) (slice_index_or sets k []))
-    → AreExcluded f (claims f (Covered q) sets) → (p : List ℕ) → IsPreferredOf f p → Accepts f p q

@@ -1,103 +1,93 @@
 -- What an answer has to show: its row in the table of certificates, and the claims of a row.
-use Rattle.std.specs.Prelude.{ℕ, ◌==◌, Bool, true, false, not, List, [], ◌∷◌, map, filter, Option, Some, None}
-use Rattle.std.specs.List.{list_any}
-use Rattle.semantics.specs.Frameworks.{Framework, af}
-use Rattle.meaning_atoms.specs.declared.atom.Atom.TheVariants.{Member, Ad, St}
+use Rattle.std.specs.Prelude.{ℕ, Bool, true, false, not, List, [], ◌∷◌, ◌++◌, map, filter, Option, Some, None}
+use Rattle.semantics.specs.Frameworks.{Framework}
+use Rattle.meaning_atoms.specs.declared.atom.Atom.TheVariants.{Ad, Co, St}
 use Rattle.meaning_atoms.specs.declared.atom.AtomLit.{AtomLit}
 use Rattle.meaning_atoms.specs.Literals.{affirmed, negated}
 use Rattle.iccma_tasks.specs.declared.answer.Answer.{Answer}
 use Rattle.iccma_tasks.specs.declared.answer.Answer.TheVariants.{Yes, No, Sets}
 use Rattle.iccma_tasks.specs.declared.task.Problem.{Problem}
-use Rattle.iccma_tasks.specs.declared.task.Problem.TheVariants.{Credulous, Sceptical, SomeExtension}
+use Rattle.iccma_tasks.specs.declared.task.Problem.TheVariants.{Credulous, Sceptical, SomeExtension, AllExtensions}
 use Rattle.iccma_tasks.specs.declared.task.Semantics.{Semantics}
-use Rattle.iccma_tasks.specs.declared.task.Semantics.TheVariants.{Complete, Grounded, Preferred, Stable, SemiStable, Ideal}
+use Rattle.iccma_tasks.specs.declared.task.Semantics.TheVariants.{Complete, Grounded, Preferred, Stable, SemiStable, Ideal as IdealSets}
 use Rattle.iccma_tasks.specs.Tasks.{Asked}
 use Rattle.certificate_claims.specs.declared.row.Row.{Row}
-use Rattle.certificate_claims.specs.declared.row.Row.TheVariants.{Misshapen, Tested, Excluded, Largest, Covered, ByGrounded}
+use Rattle.certificate_claims.specs.declared.row.Row.TheVariants.{Misshapen, Tested, Largest, Widest, Excluded, ByGrounded, Covered, Ranged, Ideal, AllTested, AllLargest, AllWidest}
 use Rattle.certificate_claims.specs.Refutations.{Claim}
-
--- the literal that the set accepts the query
-abbrev pub goal : Framework → ℕ → AtomLit
-goal (af f) q = affirmed (Member q)
-
--- ---- literals about sets
-
--- whether the number is a member
-abbrev pub has : List ℕ → ℕ → Bool
-has s x = list_any (λ y. y == x) s
-
--- the numbers that sets are made of
-abbrev pub members : Framework → List ℕ
-members (af f) = f.live
-
--- for each number that it is a member
-abbrev pub are_in : List ℕ → List AtomLit
-are_in numbers = map (λ a. affirmed (Member a)) numbers
-
--- some member lies outside the set
-abbrev pub outside : Framework → List ℕ → List AtomLit
-outside f e = are_in (filter (λ x. not (has e x)) (members f))
+use Rattle.certificate_claims.specs.SetLiterals.{goal, range_of, same_range, hit_by_any, are_in, are_out, are_ranged, outside, differs, wider, attacked}
 
 -- ---- rows
 
--- a set that is shown, where a test of it says that it is an extension
-abbrev pub shown : Semantics → List ℕ → Row
-shown Complete e = Tested e
-shown Grounded e = Tested e
-shown Stable e = Tested e
-shown _ e = Misshapen
+-- a set that is shown to be an extension; `accepts` is whether the answer says that it accepts the query
+abbrev pub shown : Semantics → List ℕ → Option Bool → Row
+shown Complete e accepts = Tested e
+shown Grounded e accepts = Tested e
+shown Preferred e accepts = Largest e
+shown Stable e accepts = Tested e
+shown SemiStable e accepts = Widest e
+shown IdealSets e accepts = Ideal (Some e) accepts
 
--- no extension accepts the query: complete sets are admissible, and an admissible set is part of a complete one
+-- no extension accepts the query: complete and preferred sets are admissible, and an admissible set is part of one
 abbrev pub none_accepts : Framework → Semantics → ℕ → Row
 none_accepts f Complete q = Excluded (affirmed Ad ∷ goal f q ∷ [])
 none_accepts f Grounded q = ByGrounded false
+none_accepts f Preferred q = Excluded (affirmed Ad ∷ goal f q ∷ [])
 none_accepts f Stable q = Excluded (affirmed St ∷ goal f q ∷ [])
-none_accepts f _ q = Misshapen
+none_accepts f SemiStable q = Ranged (goal f q)
+none_accepts f IdealSets q = Ideal None (Some false)
 
 -- every extension accepts the query: the grounded set is part of each complete one
 abbrev pub each_accepts : Framework → Semantics → ℕ → Row
 each_accepts f Complete q = ByGrounded true
 each_accepts f Grounded q = ByGrounded true
+each_accepts f Preferred q = Covered q
 each_accepts f Stable q = Excluded (affirmed St ∷ negated (goal f q) ∷ [])
-each_accepts f _ q = Misshapen
+each_accepts f SemiStable q = Ranged (negated (goal f q))
+each_accepts f IdealSets q = Ideal None (Some true)
 
 -- there is no extension, which is so of stable sets alone
 abbrev pub there_is_none : Semantics → Row
 there_is_none Stable = Excluded (affirmed St ∷ [])
 there_is_none _ = Misshapen
 
+-- the sets are all extensions
+abbrev pub all_shown : Semantics → List (List ℕ) → Row
+all_shown Complete sets = AllTested Co sets
+all_shown Preferred sets = AllLargest sets
+all_shown Stable sets = AllTested St sets
+all_shown SemiStable sets = AllWidest sets
+all_shown _ sets = Misshapen
+
 abbrev pub credulous_row : Framework → Semantics → ℕ → Answer → Row
-credulous_row f semantics q (Yes (Some e)) = shown semantics e
+credulous_row f semantics q (Yes (Some e)) = shown semantics e (Some true)
 credulous_row f semantics q (No None) = none_accepts f semantics q
 credulous_row f semantics q _ = Misshapen
 
 abbrev pub sceptical_row : Framework → Semantics → ℕ → Answer → Row
 sceptical_row f semantics q (Yes None) = each_accepts f semantics q
-sceptical_row f semantics q (No (Some e)) = shown semantics e
+sceptical_row f semantics q (No (Some e)) = shown semantics e (Some false)
 sceptical_row f semantics q _ = Misshapen
 
 abbrev pub some_row : Semantics → Answer → Row
-some_row semantics (Sets (e ∷ [])) = shown semantics e
+some_row semantics (Sets (e ∷ [])) = shown semantics e None
 some_row semantics (No None) = there_is_none semantics
 some_row semantics _ = Misshapen
+
+abbrev pub all_row : Semantics → Answer → Row
+all_row semantics (Sets (e ∷ more)) = all_shown semantics (e ∷ more)
+all_row semantics (No None) = there_is_none semantics
+all_row semantics _ = Misshapen
 
 abbrev pub row_for : Framework → Problem → Semantics → Option ℕ → Answer → Row
 row_for f Credulous semantics (Some q) answer = credulous_row f semantics q answer
 row_for f Sceptical semantics (Some q) answer = sceptical_row f semantics q answer
 row_for f SomeExtension semantics None answer = some_row semantics answer
+row_for f AllExtensions semantics None answer = all_row semantics answer
 row_for f _ semantics _ answer = Misshapen
 
 -- the answer's row
 abbrev pub row_of : Framework → Asked → Answer → Row
 row_of f asked answer = row_for f asked.task.problem asked.task.semantics asked.number answer
-
--- the claims of a row, in order; the sets are the certificate's
-abbrev pub claims : Framework → Row → List (List ℕ) → List Claim
-claims f (Excluded goals) sets = record { goals = goals; sides = [] } ∷ []
-claims f (Largest e) sets = record { goals = affirmed Ad ∷ are_in e; sides = outside f e ∷ [] } ∷ []
-claims f (Covered q) sets =
-    record { goals = affirmed Ad ∷ negated (goal f q) ∷ []; sides = map (λ e. outside f e) sets } ∷ []
-claims f _ sets = []
 
 -- the sets that an answer shows
 abbrev pub sets_of : Answer → List (List ℕ)
@@ -105,3 +95,48 @@ sets_of (Yes (Some e)) = e ∷ []
 sets_of (No (Some e)) = e ∷ []
 sets_of (Sets sets) = sets
 sets_of _ = []
+
+-- ---- claims
+
+abbrev pub claim_of : List AtomLit → List (List AtomLit) → Claim
+claim_of goals sides = record { goals = goals; sides = sides }
+
+-- of sets with the same range the first, in their order
+abbrev pub first_ranged : Framework → List (List ℕ) → List (List ℕ)
+first_ranged f [] = []
+first_ranged f (e ∷ more) = e ∷ filter (λ s. not (same_range f e s)) (first_ranged f more)
+
+-- each admissible set that makes the goals true has its range in that of one of the sets
+abbrev pub range_cover : Framework → List AtomLit → List (List ℕ) → Claim
+range_cover f goals sets = claim_of (affirmed Ad ∷ goals) (map (wider f) sets)
+
+-- no admissible set that makes the literal true has all of the set's range
+abbrev pub range_free : Framework → AtomLit → List ℕ → Claim
+range_free f bad e = claim_of (affirmed Ad ∷ bad ∷ are_ranged (range_of f e)) []
+
+-- each admissible set with all of the set's range is one of the listed sets with that range
+abbrev pub range_listed : Framework → List (List ℕ) → List ℕ → Claim
+range_listed f sets e =
+    claim_of (affirmed Ad ∷ are_ranged (range_of f e)) (map (differs f) (filter (same_range f e) sets))
+
+-- no admissible set attacks the first set; and each admissible set that holds it and nothing that one of the others
+-- attacks, which are admissible, lies in it
+abbrev pub ideal_claims : Framework → List (List ℕ) → List Claim
+ideal_claims f [] = []
+ideal_claims f (e ∷ others) =
+    claim_of (affirmed Ad ∷ []) (attacked f e ∷ [])
+    ∷ claim_of (affirmed Ad ∷ (are_in e ++ are_out (hit_by_any f others))) (outside f e ∷ []) ∷ []
+
+-- the claims of a row, in order; the sets are the certificate's
+abbrev pub claims : Framework → Row → List (List ℕ) → List Claim
+claims f (Largest e) sets = claim_of (affirmed Ad ∷ are_in e) (outside f e ∷ []) ∷ []
+claims f (Widest e) sets = claim_of (affirmed Ad ∷ are_ranged (range_of f e)) (wider f e ∷ []) ∷ []
+claims f (Excluded goals) sets = claim_of goals [] ∷ []
+claims f (Covered q) sets = claim_of (affirmed Ad ∷ negated (goal f q) ∷ []) (map (outside f) sets) ∷ []
+claims f (Ranged bad) sets = range_cover f (bad ∷ []) sets ∷ map (range_free f bad) sets
+claims f (Ideal shown accepts) sets = ideal_claims f sets
+claims f (AllTested mode all) sets = claim_of (affirmed mode ∷ []) (map (differs f) all) ∷ []
+claims f (AllLargest all) sets = claim_of (affirmed Ad ∷ []) (map (outside f) all) ∷ []
+claims f (AllWidest all) sets =
+    range_cover f [] (first_ranged f all) ∷ map (range_listed f all) (first_ranged f all)
+claims f _ sets = []

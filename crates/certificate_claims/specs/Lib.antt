@@ -2,3 +2,5 @@ pub mod Acceptance
 pub mod Claims
 pub mod Refutations
 pub mod Rights
+pub mod SetLiterals
+pub mod Verdicts

@@ -1,11 +1,15 @@
 -- Right answers: what the semantics' definition gives for a query.
-use Rattle.std.specs.Prelude.{ℕ, List, [], ◌∷◌, Contains, Option, Some, None}
+use Rattle.std.specs.Prelude.{◌≡◌, ℕ, ◌<◌, List, [], ◌∷◌, Contains, length, slice_index_or, Option, Some, None}
+use Rattle.std.specs.declared.cmp.Ordering.TheVariants.{Less}
+use Rattle.std.specs.Ordering.{nat_cmp}
+use Rattle.std.specs.Cmp.Lexicographic.{slice_cmp}
 use Rattle.semantics.specs.Framework.{Af, IsComplete, IsGrounded, IsPreferred, IsStable, IsSemiStable, IsIdeal}
 use Rattle.semantics.specs.Frameworks.{Framework, af}
+use Rattle.semantics.specs.Sets.{IsListed}
 use Rattle.iccma_tasks.specs.declared.answer.Answer.{Answer}
 use Rattle.iccma_tasks.specs.declared.answer.Answer.TheVariants.{Yes, No, Sets}
 use Rattle.iccma_tasks.specs.declared.task.Problem.{Problem}
-use Rattle.iccma_tasks.specs.declared.task.Problem.TheVariants.{Credulous, Sceptical, SomeExtension}
+use Rattle.iccma_tasks.specs.declared.task.Problem.TheVariants.{Credulous, Sceptical, SomeExtension, AllExtensions}
 use Rattle.iccma_tasks.specs.declared.task.Semantics.{Semantics}
 use Rattle.iccma_tasks.specs.declared.task.Semantics.TheVariants.{Complete, Grounded, Preferred, Stable, SemiStable, Ideal}
 use Rattle.iccma_tasks.specs.Tasks.{Asked}
@@ -22,10 +26,6 @@ IsExtensionOfAf f Ideal s = IsIdeal f s
 -- the same of a framework of any kind
 abbrev pub IsExtension : Framework → Semantics → List ℕ → Type 0
 IsExtension (af f) semantics s = IsExtensionOfAf f semantics s
-
--- the set is preferred in a framework of any kind
-abbrev pub IsPreferredOf : Framework → List ℕ → Type 0
-IsPreferredOf (af f) s = IsPreferred f s
 
 -- the set accepts the query
 abbrev pub Accepts : Framework → List ℕ → ℕ → Type 0
@@ -49,10 +49,28 @@ IsRightSome f semantics (Sets (e ∷ [])) = IsExtension f semantics e
 IsRightSome f semantics (No None) = (e : List ℕ) → IsExtension f semantics e → ⊥
 IsRightSome f semantics _ = ⊥
 
+-- the sets rise by the order of their lists
+abbrev pub SetsRise : List (List ℕ) → Type 0
+SetsRise sets = (i j : ℕ) → i < j → j < length sets
+    → slice_cmp nat_cmp (slice_index_or sets i []) (slice_index_or sets j []) ≡ Less
+
+-- the sets are all extensions, in order
+pub record AreAll (f : Framework) (semantics : Semantics) (sets : List (List ℕ)) : Type 0 where
+  pub each : (e : List ℕ) → Contains sets e → IsExtension f semantics e
+  pub all : (e : List ℕ) → IsExtension f semantics e → IsListed sets e
+  pub rise : SetsRise sets
+
+-- the answer's sets are all extensions; or there is none
+abbrev pub IsRightAll : Framework → Semantics → Answer → Type 0
+IsRightAll f semantics (Sets (e ∷ more)) = AreAll f semantics (e ∷ more)
+IsRightAll f semantics (No None) = (e : List ℕ) → IsExtension f semantics e → ⊥
+IsRightAll f semantics _ = ⊥
+
 abbrev pub IsRightOf : Framework → Problem → Semantics → Option ℕ → Answer → Type 0
 IsRightOf f Credulous semantics (Some q) answer = IsRightCredulous f semantics q answer
 IsRightOf f Sceptical semantics (Some q) answer = IsRightSceptical f semantics q answer
 IsRightOf f SomeExtension semantics None answer = IsRightSome f semantics answer
+IsRightOf f AllExtensions semantics None answer = IsRightAll f semantics answer
 IsRightOf f _ semantics _ answer = ⊥
 
 -- the answer is right for what is asked

@@ -1,6 +1,6 @@
 //! The rows of the table of certificates: what an answer of one shape to one task has to show.
 
-use meaning_atoms::AtomLit;
+use meaning_atoms::{Atom, AtomLit};
 use plain_lists::Items;
 use set_lists::NumSet;
 
@@ -11,13 +11,28 @@ pub enum Row {
     Misshapen,
     /// The set is an extension, and accepts the query or not, as the answer says.
     Tested(NumSet),
+    /// The set is admissible, accepts the query or not as the answer says, and lies in no larger admissible set.
+    Largest(NumSet),
+    /// The set is admissible, accepts the query or not as the answer says, and no admissible set has a larger range.
+    Widest(NumSet),
     /// No set makes these literals true.
     Excluded(Items<AtomLit>),
-    /// The set is admissible, accepts the query or not as the answer says, and within no larger admissible set.
-    Largest(NumSet),
+    /// The grounded set accepts the query, or doesn't.
+    ByGrounded(bool),
     /// The certificate's sets are admissible and accept the query, and every admissible set that doesn't lies in one
     /// of them.
     Covered(u32),
-    /// The grounded set accepts the query, or doesn't.
-    ByGrounded(bool),
+    /// The certificate's sets are admissible, and every admissible set that makes the literal true has its range in
+    /// that of one of them, but none has all of such a range.
+    Ranged(AtomLit),
+    /// The certificate's first set is the ideal set. The answer shows this set, if one, and says that the ideal set
+    /// accepts the query or doesn't, if either.
+    Ideal(Option<NumSet>, Option<bool>),
+    /// The sets are extensions, and no other set makes the atom true.
+    AllTested(Atom, Items<NumSet>),
+    /// The sets are admissible, none lies in another, and each admissible set lies in one of them.
+    AllLargest(Items<NumSet>),
+    /// The sets are admissible, no range lies in another, each admissible set has its range in that of one of them,
+    /// and no other set has all of such a range.
+    AllWidest(Items<NumSet>),
 }

@@ -2,6 +2,7 @@ pub mod NeighbourLemmas
 pub mod NotionLemmas
 pub mod Numbering
 pub mod Orders
+pub mod RangeLemmas
 pub mod SearchLemmas
 pub mod StorageLemmas
 pub mod UndefeatedLemmas

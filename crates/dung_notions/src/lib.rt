@@ -5,6 +5,7 @@
 mod af_plain;
 mod grounded;
 mod notions;
+mod range;
 #[cfg(test)]
 mod tests;
 mod written_out;

@@ -1,6 +1,7 @@
-//! Grounded sets of small frameworks, and attacks from either end.
+//! Grounded sets and ranges in small frameworks, and attacks from either end.
 
 use crate::AfPlain;
+use set_lists::NumSet;
 use std::test::Fail;
 
 /// Live arguments, attacks and the grounded set.
@@ -78,5 +79,27 @@ fn attacks_from_either_end(rt: HostRuntime) -> Result<(), Fail> {
     assert!(rt; !plain.has_attack(1, 7));
     assert!(rt; plain.is_live(7));
     assert!(rt; !plain.is_live(3));
+    Ok(())
+}
+
+#[test]
+fn ranges(rt: HostRuntime) -> Result<(), Fail> {
+    let alloc = rt.alloc();
+    let plain = AfPlain::of_lists(alloc, &[1, 2, 3, 4], &[(1, 2), (2, 1), (2, 3), (3, 3)])?;
+    let rows: [(&[u32], &[u32]); 5] = [
+        (&[], &[]),
+        (&[2], &[1, 2, 3]),
+        (&[4, 1], &[1, 2, 4]),
+        (&[3], &[3]),
+        (&[5, 2], &[1, 2, 3, 5]),
+    ];
+    for (set, range) in rows {
+        let set = NumSet::from_slice(alloc, set)?;
+        assert_eq!(rt;
+            plain.range_of(alloc, &set)?.as_slice(),
+            range,
+            "of {set:?}"
+        );
+    }
     Ok(())
 }
