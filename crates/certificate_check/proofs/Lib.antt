@@ -1,3 +1,5 @@
 pub mod BenchLemmas
 pub mod SideLemmas
 pub mod GoalLemmas
+pub mod RangeLemmas
+pub mod StepLemmas

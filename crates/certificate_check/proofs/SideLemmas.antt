@@ -6,9 +6,9 @@ use Rattle.std.proofs.lemmas.Bool.Decides.{nat_tests}
 use Rattle.std.proofs.lemmas.List.{append-nil, map-append, take_more}
 use Rattle.std.proofs.lemmas.List.Elements.{filter-append}
 use Rattle.plain_lists.proofs.ListTests.{any_gives, any_from}
-use Rattle.certificate_claims.specs.Claims.{has}
+use Rattle.certificate_claims.specs.SetLiterals.{has}
 
-eqb_itself : (n : ℕ) → eqb n n ≡ true
+pub eqb_itself : (n : ℕ) → eqb n n ≡ true
 eqb_itself n = grind (arith, nat_tests)
 
 -- the test of a member is its fact

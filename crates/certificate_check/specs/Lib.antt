@@ -1,4 +1,6 @@
 pub mod Benches
 pub mod SideClauses
-pub mod GoalSets
+pub mod SetFacts
+pub mod ClaimParts
 pub mod Standing
+pub mod Flaws

@@ -4,11 +4,11 @@ use Rattle.semantics.specs.Frameworks.{Framework}
 use Rattle.meaning_atoms.specs.declared.atom.Atom.TheVariants.{Member, Range, Tail}
 use Rattle.meaning_atoms.specs.declared.atom.AtomLit.{AtomLit}
 use Rattle.meaning_atoms.specs.Literals.{affirmed, denied}
-use Rattle.certificate_claims.specs.Claims.{outside}
+use Rattle.certificate_claims.specs.SetLiterals.{outside, differs, wider, attacked}
 use Rattle.certificate_check.specs.declared.sides.Word.{Word}
 use Rattle.certificate_check.specs.declared.sides.Word.TheVariants.{In, Out, Ranged, Struck}
 use Rattle.certificate_check.specs.declared.sides.SideKind.{SideKind}
-use Rattle.certificate_check.specs.declared.sides.SideKind.TheVariants.{Outside}
+use Rattle.certificate_check.specs.declared.sides.SideKind.TheVariants.{Outside, Differs, Wider, Attacked}
 
 -- the literal that says the word of an argument
 abbrev pub literal_of : Word → ℕ → AtomLit
@@ -20,6 +20,9 @@ literal_of Struck a = affirmed (Tail a 1)
 -- the side clause of a set
 abbrev pub side_of : Framework → SideKind → List ℕ → List AtomLit
 side_of f Outside e = outside f e
+side_of f Differs e = differs f e
+side_of f Wider e = wider f e
+side_of f Attacked e = attacked f e
 
 abbrev pub sides_of : Framework → SideKind → List (List ℕ) → List (List AtomLit)
 sides_of f kind sets = map (side_of f kind) sets

@@ -8,18 +8,24 @@ use Rattle.af_axioms.specs.Facts.{IsFactValue}
 use Rattle.certificate_claims.specs.declared.certificate.Step.{Step}
 use Rattle.certificate_claims.specs.declared.certificate.Step.TheVariants.{Axiom, Side, Derived}
 use Rattle.certificate_claims.specs.Refutations.{IsNotAsked, IsAxiomOf, StepHolds, step_clause, no_step}
-use Rattle.certificate_check.specs.declared.goals.Goals.{Goals}
+use Rattle.certificate_check.specs.declared.claim.Claim.{Claim}
 use Rattle.certificate_check.specs.Benches.{Takes}
-use Rattle.certificate_check.specs.GoalSets.{IsGoal}
+use Rattle.certificate_check.specs.ClaimParts.{IsGoal}
 
--- a fact makes the literal false, or one of these goals, or it denies one of so many side clauses
-pub record IsClosedBeside (f : Framework) (goals : Goals) (count : ℕ) (l : AtomLit) : Type 0 where
+-- a fact makes the literal false, or a goal of the claim does, or it denies a side clause
+pub record IsClosedBy (f : Framework) (c : Claim) (l : AtomLit) : Type 0 where
   pub way : IsFactValue f l.atom (not l.positive)
-      ⊎ (IsGoal f goals (negated l) ⊎ IsNotAsked l.atom l.positive count)
+      ⊎ (IsGoal f c (negated l) ⊎ IsNotAsked l.atom l.positive (length c.sides))
 
 -- each literal of the clause is so
-abbrev pub AreClosed : Framework → Goals → ℕ → List AtomLit → Type 0
-AreClosed f goals count clause = (l : AtomLit) → Contains clause l → IsClosedBeside f goals count l
+pub record AreClosed (f : Framework) (c : Claim) (clause : List AtomLit) : Type 0 where
+  pub each : (l : AtomLit) → Contains clause l → IsClosedBy f c l
+
+-- what the step names is there: an axiom, or one of so many side clauses
+abbrev pub IsNamed : Framework → ℕ → Step → Type 0
+IsNamed f count (Axiom name) = IsAxiomOf f name
+IsNamed f count (Side n) = (1 ≤ n) × (n ≤ count)
+IsNamed f count (Derived literals hints) = Unit {0}
 
 -- the step stands behind steps with these clauses
 abbrev pub StandsBehind : Framework → List (List AtomLit) → List (List AtomLit) → Step → Type 0

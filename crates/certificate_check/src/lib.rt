@@ -2,7 +2,9 @@
 #![tactic(auto)]
 
 mod bench;
+mod claim;
 mod closed;
-mod goals;
+mod kinds;
+mod refuting;
 mod sides;
 mod steps;

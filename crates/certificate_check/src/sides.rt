@@ -3,10 +3,11 @@
 ghost use Rattle.std.specs.Prelude.{◌≡◌, [], ◌∷◌, ◌++◌, not, map, filter, IfOk, OnOk};
 ghost use Rattle.meaning_atoms.specs.declared.atom.Atom.TheVariants.{Ask};
 ghost use Rattle.meaning_atoms.specs.Literals.{denied};
-ghost use Rattle.certificate_claims.specs.Claims.{has, members};
+ghost use Rattle.certificate_claims.specs.SetLiterals.{attacked, has, members, wider};
 ghost use Rattle.edit_rules.specs.Kinds.{framework_of};
 ghost use Rattle.certificate_check.specs.SideClauses.{literal_of, side_of};
 
+use crate::kinds::{members_of, range_of};
 use edit_rules::Framework;
 use meaning_atoms::{Atom, AtomLit};
 use plain_lists::Memory;
@@ -31,6 +32,12 @@ pub(crate) enum Word {
 pub(crate) enum SideKind {
     /// Some member lies outside the set.
     Outside,
+    /// Some member lies outside the set, or some member of it is none.
+    Differs,
+    /// Something is in the range that isn't in the set's range.
+    Wider,
+    /// Something attacks a member of the set.
+    Attacked,
 }
 
 /// The literal that says so.
@@ -98,13 +105,19 @@ fn lacking(alloc: Global, numbers: &[u32], set: &NumSet) -> Result<Vec<u32>, Mem
     Ok(found)
 }
 
-/// The numbers that sets are made of.
-fn members_of(framework: &Framework) -> &[u32]
-    ensures { result.now ≡ members (framework_of framework.now) }
+/// Adds, of the numbers that sets are made of, the literals of those that the set lacks.
+fn push_lacking(
+    alloc: Global,
+    clause: &mut Vec<AtomLit>,
+    framework: &Framework,
+    word: Word,
+    set: &NumSet,
+) -> Result<(), Memory>
+    ensures { OnOk result (clause.new.items ≡ clause.old.items ++ map (literal_of word)
+        (filter (λ x. not (has set.now x)) (members (framework_of framework.now)))) }
 {
-    match framework {
-        Framework::Af(plain) => plain.live(),
-    }
+    let numbers = lacking(alloc, members_of(framework), set)?;
+    push_all(clause, word, numbers.as_slice())
 }
 
 /// Adds the literals of a side clause.
@@ -118,10 +131,40 @@ fn push_side(
     ensures { OnOk result (clause.new.items ≡ clause.old.items ++ side_of (framework_of framework.now) kind set.now) }
 {
     match kind {
-        SideKind::Outside => {
-            let outside = lacking(alloc, members_of(framework), set)?;
-            push_all(clause, Word::In, outside.as_slice())
+        SideKind::Outside => push_lacking(alloc, clause, framework, Word::In, set),
+        SideKind::Differs => {
+            push_lacking(alloc, clause, framework, Word::In, set)?;
+            push_all(clause, Word::Out, set.as_slice())
         }
+        SideKind::Wider => push_wider(alloc, clause, framework, set),
+        SideKind::Attacked => push_attacked(clause, framework, set),
+    }
+}
+
+/// Adds the literals that something is in the range that isn't in the set's range.
+fn push_wider(
+    alloc: Global,
+    clause: &mut Vec<AtomLit>,
+    framework: &Framework,
+    set: &NumSet,
+) -> Result<(), Memory>
+    ensures { OnOk result (clause.new.items ≡ clause.old.items ++ wider (framework_of framework.now) set.now) }
+{
+    let range = range_of(alloc, framework, set)?;
+    push_lacking(alloc, clause, framework, Word::Ranged, &range)?;
+    Ok(())
+}
+
+/// Adds the literals that something attacks a member of the set.
+fn push_attacked(
+    clause: &mut Vec<AtomLit>,
+    framework: &Framework,
+    set: &NumSet,
+) -> Result<(), Memory>
+    ensures { OnOk result (clause.new.items ≡ clause.old.items ++ attacked (framework_of framework.now) set.now) }
+{
+    match framework {
+        Framework::Af(_) => push_all(clause, Word::Struck, set.as_slice()),
     }
 }
 

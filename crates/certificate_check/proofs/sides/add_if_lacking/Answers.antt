@@ -1,5 +1,5 @@
 use Rattle.std.proofs.Common.{not, ◌∙◌, sym}
-use Rattle.certificate_claims.specs.Claims.{has}
+use Rattle.certificate_claims.specs.SetLiterals.{has}
 use Rattle.certificate_check.proofs.SideLemmas.{kept_one, passed_one}
 use Rattle.certificate_check.proofs.sides.add_if_lacking.Goals as goal
 

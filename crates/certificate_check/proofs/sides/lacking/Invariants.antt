@@ -1,5 +1,5 @@
 use Rattle.std.proofs.Common.{◌≡◌, not, filter, take}
-use Rattle.certificate_claims.specs.Claims.{has}
+use Rattle.certificate_claims.specs.SetLiterals.{has}
 use Rattle.certificate_check.proofs.sides.lacking.Given as goal
 
 abbrev pub invariant-loop-number : goal.invariant-loop-number
