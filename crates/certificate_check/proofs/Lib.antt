@@ -3,3 +3,4 @@ pub mod SideLemmas
 pub mod GoalLemmas
 pub mod RangeLemmas
 pub mod StepLemmas
+pub mod SetLemmas

@@ -1,7 +1,7 @@
 -- Steps that are taken in turn, and literals that are closed in turn.
-use Rattle.std.proofs.Common.{◌≡◌, ◌⊎◌, ℕ, ◌+◌, ◌-◌, ◌<◌, ◌≤◌, Bool, true, false, List, [], ◌∷◌, ◌++◌, length, get_or, map, take, refl, ap, sym, subst, ◌∙◌, arith, inl, inr, ⊎_elim}
+use Rattle.std.proofs.Common.{◌≡◌, ◌⊎◌, ℕ, ◌+◌, ◌-◌, ◌<◌, ◌≤◌, Bool, true, false, List, [], ◌∷◌, ◌++◌, zero, suc, eqb, length, get_or, map, take, refl, ap, sym, subst, ◌∙◌, arith, inl, inr, ⊎_elim}
 use Rattle.std.specs.Prelude.{◌↔◌, Contains, IsTrue, Option, Some, None}
-use Rattle.std.proofs.lemmas.Bool.{cases_lt, cases_eq}
+use Rattle.std.proofs.lemmas.Bool.{cases_eq, false≢true}
 use Rattle.std.proofs.lemmas.List.{length-map, map-append, take_more, get_or_default, get_or-map, take_all}
 use Rattle.std.proofs.lemmas.List.Elements.{Contains-push_cases, Contains-get_or}
 use Rattle.semantics.specs.Frameworks.{Framework}
@@ -135,6 +135,6 @@ end_closed f c steps step r some_step e h =
       λ ends. h.1 (subst (λ s. AreClosed f c (step_clause (sides_of f c.kind c.sides) s)) (sym at) ends.closed),
     )
 
-pub not_empty : (steps : List Step) → (steps ≡ [] → ⊥) → 0 < length steps
-not_empty [] h = absurd (h refl)
-not_empty (s ∷ steps) h = omega arith
+pub positive_length : (n : ℕ) → false ≡ eqb n 0 → 0 < n
+positive_length zero e = absurd (false≢true e)
+positive_length (suc n) e = omega arith

@@ -1,8 +1,27 @@
 -- What is found of sets.
 use Rattle.std.specs.Prelude.{◌≡◌, ◌↔◌, ℕ, true, List, Contains}
 use Rattle.semantics.specs.Frameworks.{Framework}
+use Rattle.iccma_tasks.specs.declared.task.Semantics.{Semantics}
+use Rattle.iccma_tasks.specs.declared.task.Semantics.TheVariants.{Complete, Grounded, Preferred, Stable, SemiStable, Ideal}
+use Rattle.certificate_claims.specs.declared.row.Row.{Row}
+use Rattle.certificate_claims.specs.declared.row.Row.TheVariants.{Tested, AllTested}
 use Rattle.certificate_claims.specs.SetLiterals.{is_ranged}
 
 -- the list has just what is in the set's range
 pub record IsRangeOf (f : Framework) (s range : List ℕ) : Type 0 where
   pub members : (a : ℕ) → Contains range a ↔ (is_ranged f s a ≡ true)
+
+-- the extensions under the semantics are tested directly
+abbrev pub IsTested : Semantics → Type 0
+IsTested Complete = Unit {0}
+IsTested Grounded = Unit {0}
+IsTested Stable = Unit {0}
+IsTested Preferred = ⊥
+IsTested SemiStable = ⊥
+IsTested Ideal = ⊥
+
+-- a row that shows extensions is of a semantics whose extensions are tested directly
+abbrev pub IsTestedRow : Row → Semantics → Type 0
+IsTestedRow (Tested e) semantics = IsTested semantics
+IsTestedRow (AllTested mode sets) semantics = IsTested semantics
+IsTestedRow _ semantics = Unit {0}

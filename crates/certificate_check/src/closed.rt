@@ -1,7 +1,6 @@
 //! Which literals the facts, the goals and the side clauses make false.
 
 ghost use Rattle.std.specs.Prelude.{◌≡◌, ◌↔◌, ◌≤◌, not, length, IfOk, IsTrue};
-ghost use Rattle.meaning_atoms.specs.Literals.{negated};
 ghost use Rattle.meaning_atoms.specs.Axioms.{IsAfAxiom};
 ghost use Rattle.af_axioms.specs.Facts.{IsFactValue};
 ghost use Rattle.af_axioms.specs.Table.{table_clause};
@@ -14,6 +13,7 @@ ghost use Rattle.certificate_check.specs.Standing.{AreClosed, IsClosedBy, IsName
 
 use crate::claim::{Claim, is_goal};
 use crate::kinds::fact;
+use crate::rows::opposite;
 use crate::sides::side_clause;
 use af_axioms::clause_of;
 use certificate_claims::Step;
@@ -51,23 +51,13 @@ fn is_number_within(number: u32, count: usize) -> bool
     1 <= number && number as usize <= count
 }
 
-/// The literal that says the opposite.
-fn opposite(literal: &AtomLit) -> AtomLit
-    ensures { result ≡ negated literal.now }
-{
-    AtomLit {
-        atom: literal.atom,
-        positive: !literal.positive,
-    }
-}
-
 /// Whether a literal is false by a fact, by a goal, or as the denial of one of the side clauses.
 fn is_closed(framework: &Framework, claim: &Claim, range: &NumSet, literal: &AtomLit) -> bool
     requires { IsRangeOf (framework_of framework.now) claim.now.ranged range.now }
     ensures { IsTrue result ↔ IsClosedBy (framework_of framework.now) claim.now literal.now }
 {
     is_not_asked(literal, claim.sides.len())
-        || is_goal(framework, claim, range, &opposite(literal))
+        || is_goal(framework, claim, range, &opposite(*literal))
         || is_false_fact(framework, literal)
 }
 

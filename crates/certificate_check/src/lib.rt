@@ -6,5 +6,7 @@ mod claim;
 mod closed;
 mod kinds;
 mod refuting;
+mod rows;
 mod sides;
 mod steps;
+mod witness;
