@@ -4,3 +4,4 @@ pub mod GoalLemmas
 pub mod RangeLemmas
 pub mod StepLemmas
 pub mod SetLemmas
+pub mod ClaimLemmas

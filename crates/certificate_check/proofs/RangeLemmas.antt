@@ -57,7 +57,7 @@ is_range f s range h = record {
   members = λ a. (λ c. in_ranged f s a ((h.members a).0 c), λ e. (h.members a).1 (ranged_in f s a e));
 }
 
-filter_same : (p q : ℕ → Bool) → ((x : ℕ) → p x ≡ q x) → (xs : List ℕ) → filter p xs ≡ filter q xs
+pub filter_same : (p q : ℕ → Bool) → ((x : ℕ) → p x ≡ q x) → (xs : List ℕ) → filter p xs ≡ filter q xs
 filter_same p q same [] = refl
 filter_same p q same (x ∷ xs) =
     ⊎_elim (λ (e : q x ≡ true). rw (same x, e) (ap (λ ys. x ∷ ys) (filter_same p q same xs)))

@@ -1,5 +1,5 @@
 -- A claim by its parts.
-use Rattle.std.specs.Prelude.{◌≡◌, ◌⊎◌, ◌↔◌, ℕ, Bool, true, false, List, map, Contains}
+use Rattle.std.specs.Prelude.{◌≡◌, ◌⊎◌, ◌↔◌, ℕ, Bool, true, false, List, [], ◌∷◌, Contains}
 use Rattle.semantics.specs.Frameworks.{Framework}
 use Rattle.meaning_atoms.specs.declared.atom.Atom.{Atom}
 use Rattle.meaning_atoms.specs.declared.atom.Atom.TheVariants.{Member, Range}
@@ -24,3 +24,10 @@ IsGoal f c l = Contains c.fixed l ⊎ IsSetGoal f c l.atom l.positive
 pub record IsClaimOf (f : Framework) (c : Claim) (claim : TableClaim) : Type 0 where
   pub goals : (l : AtomLit) → IsGoal f c l ↔ Contains claim.goals l
   pub sides : claim.sides ≡ sides_of f c.kind c.sides
+
+-- the claims are those of the table, in order
+abbrev pub AreClaims : Framework → List Claim → List TableClaim → Type 0
+AreClaims f [] [] = Unit {0}
+AreClaims f (c ∷ cs) (claim ∷ claims) = IsClaimOf f c claim × AreClaims f cs claims
+AreClaims f [] (claim ∷ claims) = ⊥
+AreClaims f (c ∷ cs) [] = ⊥

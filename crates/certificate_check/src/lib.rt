@@ -3,6 +3,7 @@
 
 mod bench;
 mod claim;
+mod claims;
 mod closed;
 mod kinds;
 mod refuting;
