@@ -5,3 +5,5 @@ pub mod RangeLemmas
 pub mod StepLemmas
 pub mod SetLemmas
 pub mod ClaimLemmas
+pub mod FlawLemmas
+pub mod SectionLemmas

@@ -4,3 +4,4 @@ pub mod SetFacts
 pub mod ClaimParts
 pub mod Standing
 pub mod Flaws
+pub mod Sections
