@@ -90,7 +90,3 @@ MeetsSides f s sides = (side : List AtomLit) → Contains sides side → IsTrueA
 -- no set of the framework makes the goals and the side clauses true
 abbrev pub IsExcluded : Framework → Claim → Type 0
 IsExcluded f claim = (s : List ℕ) → IsWorldOf f s → MeetsGoals f s claim.goals → MeetsSides f s claim.sides → ⊥
-
-abbrev pub RefutationsExclude : Type 0
-RefutationsExclude = (f : Framework) (claim : Claim) (steps : List Step) → IsPlain claim → IsRefutationOf f claim steps
-    → IsExcluded f claim

@@ -22,7 +22,8 @@ use Rattle.af_axioms.specs.Facts.{IsFactValue}
 use Rattle.af_axioms.proofs.Rows.{rows_are_valid}
 use Rattle.certificate_claims.specs.declared.certificate.Step.{Step}
 use Rattle.certificate_claims.specs.declared.certificate.Step.TheVariants.{Axiom, Side, Derived}
-use Rattle.certificate_claims.specs.Refutations.{Claim, IsPlain, axiom_clause, step_clause, step_clauses, no_step, StepHolds, IsNotAsked, IsClosed, IsRefutationOf, MeetsGoals, MeetsSides, RefutationsExclude}
+use Rattle.certificate_claims.specs.Refutations.{Claim, IsPlain, axiom_clause, step_clause, step_clauses, no_step, StepHolds, IsNotAsked, IsClosed, IsRefutationOf, MeetsGoals, MeetsSides}
+use Rattle.certificate_laws.specs.Laws.{RefutationsExclude}
 
 -- ---- a literal and its negation have opposite values
 

@@ -1,7 +1,6 @@
-//! The laws that make certificates worth checking. Each function does nothing; its contract is the law.
+//! Each function does nothing; its contract is the law.
 
-ghost use Rattle.certificate_claims.specs.Acceptance.{AcceptedIsRight, CoveredIsAccepted, LargestIsPreferred, ShownIsRight};
-ghost use Rattle.certificate_claims.specs.Refutations.{RefutationsExclude};
+ghost use Rattle.certificate_laws.specs.Laws.{AcceptedIsRight, AcceptedIsVerdict, OneVerdict, RefutationsExclude, ShownIsRight};
 
 /// Where a refutation of a claim stands, no set of the framework meets the claim's goals and its side clauses.
 pub fn refutations_exclude()
@@ -18,12 +17,12 @@ pub fn accepted_is_right()
     ensures { AcceptedIsRight }
 {}
 
-/// A set with an accepted proof that it is largest is preferred.
-pub fn largest_is_preferred()
-    ensures { LargestIsPreferred }
+/// There is one verdict on a certificate at most.
+pub fn one_verdict()
+    ensures { OneVerdict }
 {}
 
-/// Where the certificate's sets cover all admissible sets that don't accept the query, each preferred set accepts it.
-pub fn covered_is_accepted()
-    ensures { CoveredIsAccepted }
+/// The verdict is `Accepted` exactly where the certificate is accepted.
+pub fn accepted_is_verdict()
+    ensures { AcceptedIsVerdict }
 {}

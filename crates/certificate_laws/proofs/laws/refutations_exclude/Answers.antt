@@ -1,5 +1,5 @@
-use Rattle.certificate_claims.proofs.Refuting.{excluded}
-use Rattle.certificate_claims.proofs.laws.refutations_exclude.Goals as goal
+use Rattle.certificate_laws.proofs.Refuting.{excluded}
+use Rattle.certificate_laws.proofs.laws.refutations_exclude.Goals as goal
 
 pub returns : goal.returns
 returns c = excluded

@@ -1,0 +1,10 @@
+pub mod Refuting
+pub mod GoalLists
+pub mod SideClauses
+pub mod KindFacts
+pub mod LargestSets
+pub mod WidestSets
+pub mod IdealSets
+pub mod Evidence
+pub mod Right
+pub mod Verdicts
