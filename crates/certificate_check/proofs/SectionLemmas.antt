@@ -1,8 +1,7 @@
 -- What is found from each section on.
 use Rattle.std.proofs.Common.{◌≡◌, ◌⊎◌, ℕ, zero, suc, ◌+◌, ◌-◌, ◌<◌, ◌≤◌, List, [], ◌∷◌, ◌++◌, length, get_or, map, take, refl, ap, sym, subst, ◌∙◌, arith, inl, inr, ⊎_elim, append_assoc}
 use Rattle.std.specs.Prelude.{Contains, Option, Some, None, flat_map}
-use Rattle.std.specs.List.{range_with_len}
-use Rattle.std.proofs.lemmas.Bool.{cases_eq}
+use Rattle.std.proofs.lemmas.Option.{none-some}
 use Rattle.std.proofs.lemmas.List.{length-map}
 use Rattle.semantics.specs.Frameworks.{Framework}
 use Rattle.meaning_atoms.specs.declared.atom.AtomLit.{AtomLit}
@@ -11,10 +10,12 @@ use Rattle.certificate_claims.specs.declared.certificate.Certificate.{Certificat
 use Rattle.certificate_claims.specs.declared.certificate.Step.{Step}
 use Rattle.certificate_claims.specs.declared.row.Row.{Row}
 use Rattle.certificate_claims.specs.declared.verdict.Verdict.{Verdict}
-use Rattle.certificate_claims.specs.declared.verdict.Verdict.TheVariants.{Accepted}
+use Rattle.certificate_claims.specs.declared.verdict.Verdict.TheVariants.{Accepted, Rejected}
+use Rattle.certificate_claims.specs.declared.verdict.Cause.{Cause}
 use Rattle.certificate_claims.specs.Acceptance.{no_claim as no_table_claim}
 use Rattle.certificate_claims.specs.Claims.{claims}
 use Rattle.certificate_claims.specs.Refutations.{Claim as TableClaim, IsClosed, StepHolds, step_clause, no_step}
+use Rattle.certificate_claims.proofs.Found.{AllPass, pass_append, pass_map_from, pass_cons, pass_nil, pass_parts, found_numbered, then_numbered, found_in_part, accepted_found}
 use Rattle.certificate_claims.specs.Verdicts.{Look, Finds, PassesLook, EndsClosed, told, indices, refutation_looks, steps_at, claim_at, at_step, at_last}
 use Rattle.certificate_check.specs.declared.claim.Claim.{Claim}
 use Rattle.certificate_check.specs.declared.refuting.Flaw.{Flaw}
@@ -25,45 +26,6 @@ use Rattle.certificate_check.specs.Sections.{FindsFrom, refutation_section}
 use Rattle.certificate_check.specs.SideClauses.{side_of, sides_of}
 use Rattle.certificate_check.specs.Standing.{IsClosedBy, AreClosed, StandsAt, IsFirstWithout}
 use Rattle.certificate_check.proofs.ClaimLemmas.{same_length, claim_at_index}
-
--- ---- sections by index
-
-passed_from : (passes : Look → Type 0) (tells : Look → Verdict) (look : ℕ → Look) (more : List Look) (verdict : Verdict)
-    (start n : ℕ) → ((k : ℕ) → start ≤ k → k < start + n → passes (look k)) → Finds passes tells more verdict
-    → Finds passes tells (map look (range_with_len start n) ++ more) verdict
-passed_from passes tells look more verdict start zero all found = found
-passed_from passes tells look more verdict start (suc n) all found = inl (
-  all start (omega arith) (omega arith),
-  passed_from passes tells look more verdict (start + 1) n (λ k low high. all k (omega arith) (omega arith)) found,
-)
-
-failed_from : (passes : Look → Type 0) (tells : Look → Verdict) (look : ℕ → Look) (more : List Look) (k start n : ℕ)
-    → start ≤ k → k < start + n → ((j : ℕ) → start ≤ j → j < k → passes (look j)) → (passes (look k) → ⊥)
-    → Finds passes tells (map look (range_with_len start n) ++ more) (tells (look k))
-failed_from passes tells look more k start zero low high before fails = absurd (omega arith)
-failed_from passes tells look more k start (suc n) low high before fails = ⊎_elim
-    (λ (same : start ≡ k). inr (
-      subst (λ j. passes (look j) → ⊥) (sym same) fails,
-      ap (λ j. tells (look j)) (sym same),
-    ))
-    (λ ne. inl (
-      before start (omega arith) (omega (arith, ne)),
-      failed_from passes tells look more k (start + 1) n (omega (arith, ne)) (omega arith)
-          (λ j from below. before j (omega arith) below) fails,
-    )) (cases_eq start k)
-
--- a section of a look for each index below a bound, by the first at which it fails
-pub section_passed : (passes : Look → Type 0) (tells : Look → Verdict) (look : ℕ → Look) (more : List Look)
-    (verdict : Verdict) (n : ℕ) → IsFirstWithout (λ k. passes (look k)) n None → Finds passes tells more verdict
-    → Finds passes tells (map look (indices n) ++ more) verdict
-section_passed passes tells look more verdict n all found =
-    passed_from passes tells look more verdict 0 n (λ k low high. all k (omega arith)) found
-
-pub section_failed : (passes : Look → Type 0) (tells : Look → Verdict) (look : ℕ → Look) (more : List Look) (n k : ℕ)
-    → IsFirstWithout (λ j. passes (look j)) n (Some k)
-    → Finds passes tells (map look (indices n) ++ more) (tells (look k))
-section_failed passes tells look more n k first =
-    failed_from passes tells look more k 0 n (omega arith) (omega (arith, first.0)) (λ j low lt. first.1.0 j lt) first.1.1
 
 -- ---- refutations
 
@@ -107,3 +69,84 @@ stands_there f c t steps k is h = subst (λ sides. StandsAt f sides steps k) (sy
 stands_back : (f : Framework) (c : Claim) (t : TableClaim) (steps : List Step) (k : ℕ) → IsClaimOf f c t
     → StandsAt f t.sides steps k → StandsAt f (sides_of f c.kind c.sides) steps k
 stands_back f c t steps k is h = subst (λ sides. StandsAt f sides steps k) is.sides h
+
+-- ---- what is found of refutations
+
+-- what passes at the looks of a refutation
+abbrev Pass : Framework → Asked → Row → List (List ℕ) → Certificate → Look → Type 0
+Pass f asked row shown cert = PassesLook f asked row shown cert
+
+claim_here : (f : Framework) (row : Row) (cert : Certificate) (cs : List Claim) (r : ℕ)
+    → AreClaims f cs (claims f row cert.sets) → length cert.refutations ≡ length cs → r < length cert.refutations
+    → IsClaimOf f (get_or cs r no_claim) (claim_at f row cert r)
+claim_here f row cert cs r all long lt =
+    claim_at_index f cs (claims f row cert.sets) r no_claim no_table_claim all (omega (arith, long))
+
+part_passes : (f : Framework) (asked : Asked) (row : Row) (shown : List (List ℕ)) (cert : Certificate) (c : Claim) (r : ℕ)
+    → IsClaimOf f c (claim_at f row cert r) → HasFlaw f c (steps_at cert r) NoFlaw
+    → AllPass (Pass f asked row shown cert) (refutation_looks cert r)
+part_passes f asked row shown cert c r is h =
+    pass_append (Pass f asked row shown cert) (map (at_step r) (indices (length (steps_at cert r)))) (at_last r ∷ [])
+    (pass_map_from (Pass f asked row shown cert) (at_step r) (length (steps_at cert r)) 0
+    (λ k low high. stands_there f c (claim_at f row cert r) (steps_at cert r) k is (h.0 k (omega arith))))
+    (pass_cons (Pass f asked row shown cert) (at_last r) []
+    (ends_there f c (claim_at f row cert r) (steps_at cert r) is h.1) (pass_nil (Pass f asked row shown cert)))
+
+some_same : {X : Type 0} (a b : X) → Some a ≡ Some b → a ≡ b
+some_same a b e = cc
+
+some_is_none : {X : Type 0} (a : X) → None ≡ Some a → ⊥
+some_is_none a e = none-some a e
+
+part_found : (f : Framework) (asked : Asked) (row : Row) (shown : List (List ℕ)) (cert : Certificate) (c : Claim) (r : ℕ)
+    (flaw : Flaw) (verdict : Verdict)
+    → IsClaimOf f c (claim_at f row cert r) → HasFlaw f c (steps_at cert r) flaw
+    → flaw_told r (length (steps_at cert r)) flaw ≡ Some verdict
+    → FindsFrom f asked row shown cert (refutation_looks cert r) verdict
+part_found f asked row shown cert c r NoFlaw verdict is h e = absurd (some_is_none verdict e)
+part_found f asked row shown cert c r (BadStep k) verdict is h e =
+    subst (λ v. FindsFrom f asked row shown cert (refutation_looks cert r) v) (some_same (told cert (at_step r k)) verdict e)
+    (found_numbered (Pass f asked row shown cert) (told cert) (at_step r) (at_last r ∷ []) (length (steps_at cert r)) k h.0
+    (λ j lt. stands_there f c (claim_at f row cert r) (steps_at cert r) j is (h.1.0 j lt))
+    (λ stands. h.1.1 (stands_back f c (claim_at f row cert r) (steps_at cert r) k is stands)))
+part_found f asked row shown cert c r OpenLiteral verdict is h e =
+    subst (λ v. FindsFrom f asked row shown cert (refutation_looks cert r) v) (some_same (told cert (at_last r)) verdict e)
+    (then_numbered (Pass f asked row shown cert) (told cert) (at_step r) (at_last r ∷ []) (length (steps_at cert r))
+    (told cert (at_last r)) (λ j lt. stands_there f c (claim_at f row cert r) (steps_at cert r) j is (h.0 j lt))
+    (inr ((λ ends. h.1 (ends_back f c (claim_at f row cert r) (steps_at cert r) is ends)), refl)))
+
+never_both : (cause : Cause) (r k : ℕ) (verdict : Verdict) → Rejected cause r k ≡ verdict → verdict ≡ Accepted → ⊥
+never_both cause r k verdict e a = cc
+
+rejected : (index count : ℕ) (flaw : Flaw) (verdict : Verdict) → flaw_told index count flaw ≡ Some verdict
+    → verdict ≡ Accepted → ⊥
+rejected index count NoFlaw verdict e a = some_is_none verdict e
+rejected index count (BadStep k) verdict e a = never_both _ _ _ _ (some_same _ verdict e) a
+rejected index count OpenLiteral verdict e a = never_both _ _ _ _ (some_same _ verdict e) a
+
+pub refutations_found : (f : Framework) (asked : Asked) (row : Row) (shown : List (List ℕ)) (cert : Certificate)
+    (cs : List Claim) (verdict : Verdict)
+    → AreClaims f cs (claims f row cert.sets) → length cert.refutations ≡ length cs
+    → FindsFlaws f cs cert.refutations verdict
+    → FindsFrom f asked row shown cert (refutation_section cert) verdict
+refutations_found f asked row shown cert cs verdict all long found = ⊎_elim
+    (λ (h : (verdict ≡ Accepted) × ((k : ℕ) → k < length cert.refutations → FlawAt f cs cert.refutations k NoFlaw)).
+    subst (λ v. FindsFrom f asked row shown cert (refutation_section cert) v) (sym h.0)
+    (accepted_found (Pass f asked row shown cert) (told cert) (refutation_section cert)
+    (pass_parts (Pass f asked row shown cert) (refutation_looks cert) (length cert.refutations)
+    (λ r lt. part_passes f asked row shown cert (get_or cs r no_claim) r (claim_here f row cert cs r all long lt) (h.1 r lt)))))
+    (λ (first : FirstFlaw f cs cert.refutations verdict).
+    found_in_part (Pass f asked row shown cert) (told cert) (refutation_looks cert) verdict (length cert.refutations)
+    first.index first.within
+    (λ r lt. let within : first.index < length cert.refutations = first.within in
+    part_passes f asked row shown cert (get_or cs r no_claim) r
+    (claim_here f row cert cs r all long (omega arith)) (first.before r lt))
+    (part_found f asked row shown cert (get_or cs first.index no_claim) first.index first.flaw verdict
+    (claim_here f row cert cs first.index all long first.within) first.has first.told)
+    (rejected first.index (length (steps_at cert first.index)) first.flaw verdict first.told))
+    found
+
+-- there are as many claims as refutations
+pub as_many : (f : Framework) (row : Row) (cert : Certificate) (cs : List Claim)
+    → AreClaims f cs (claims f row cert.sets) → length cs ≡ length (claims f row cert.sets)
+as_many f row cert cs all = same_length f cs (claims f row cert.sets) all

@@ -2,6 +2,7 @@
 #![tactic(auto)]
 
 mod bench;
+mod check;
 mod claim;
 mod claims;
 mod closed;
