@@ -7,3 +7,4 @@ pub mod SetLemmas
 pub mod ClaimLemmas
 pub mod FlawLemmas
 pub mod SectionLemmas
+pub mod RowLemmas

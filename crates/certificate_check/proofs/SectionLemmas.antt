@@ -12,17 +12,20 @@ use Rattle.certificate_claims.specs.declared.row.Row.{Row}
 use Rattle.certificate_claims.specs.declared.verdict.Verdict.{Verdict}
 use Rattle.certificate_claims.specs.declared.verdict.Verdict.TheVariants.{Accepted, Rejected}
 use Rattle.certificate_claims.specs.declared.verdict.Cause.{Cause}
-use Rattle.certificate_claims.specs.Acceptance.{no_claim as no_table_claim}
-use Rattle.certificate_claims.specs.Claims.{claims}
+use Rattle.certificate_claims.specs.declared.verdict.Cause.TheVariants.{BadWitness, BadSet, RefutationCount}
+use Rattle.certificate_claims.specs.declared.certificate.Refutation.{Refutation}
+use Rattle.iccma_tasks.specs.declared.answer.Answer.{Answer}
+use Rattle.certificate_claims.specs.Acceptance.{no_claim as no_table_claim, PassesSet, PassesTest}
+use Rattle.certificate_claims.specs.Claims.{claims, row_of, sets_of}
 use Rattle.certificate_claims.specs.Refutations.{Claim as TableClaim, IsClosed, StepHolds, step_clause, no_step}
 use Rattle.certificate_claims.proofs.Found.{AllPass, pass_append, pass_map_from, pass_cons, pass_nil, pass_parts, found_numbered, then_numbered, found_in_part, accepted_found}
-use Rattle.certificate_claims.specs.Verdicts.{Look, Finds, PassesLook, EndsClosed, told, indices, refutation_looks, steps_at, claim_at, at_step, at_last}
+use Rattle.certificate_claims.specs.Verdicts.{Look, Finds, PassesLook, EndsClosed, told, indices, refutation_looks, steps_at, claim_at, at_step, at_last, at_set, at_witness, looks, IsVerdict}
 use Rattle.certificate_check.specs.declared.claim.Claim.{Claim}
 use Rattle.certificate_check.specs.declared.refuting.Flaw.{Flaw}
 use Rattle.certificate_check.specs.declared.refuting.Flaw.TheVariants.{None as NoFlaw, BadStep, OpenLiteral}
 use Rattle.certificate_check.specs.ClaimParts.{IsClaimOf, AreClaims}
 use Rattle.certificate_check.specs.Flaws.{HasFlaw, EndsClosedBy, flaw_told, no_claim, FlawAt, FirstFlaw, FindsFlaws}
-use Rattle.certificate_check.specs.Sections.{FindsFrom, refutation_section}
+use Rattle.certificate_check.specs.Sections.{FindsFrom, refutation_section, after_sets, after_set_count, after_witnesses, after_shape}
 use Rattle.certificate_check.specs.SideClauses.{side_of, sides_of}
 use Rattle.certificate_check.specs.Standing.{IsClosedBy, AreClosed, StandsAt, IsFirstWithout}
 use Rattle.certificate_check.proofs.ClaimLemmas.{same_length, claim_at_index}
@@ -150,3 +153,76 @@ refutations_found f asked row shown cert cs verdict all long found = ⊎_elim
 pub as_many : (f : Framework) (row : Row) (cert : Certificate) (cs : List Claim)
     → AreClaims f cs (claims f row cert.sets) → length cs ≡ length (claims f row cert.sets)
 as_many f row cert cs all = same_length f cs (claims f row cert.sets) all
+
+-- ---- sections
+
+pub count_failed : (f : Framework) (asked : Asked) (row : Row) (shown : List (List ℕ)) (cert : Certificate) (cs : List Claim)
+    (refs : List Refutation) (sets : List (List ℕ)) → sets ≡ cert.sets → AreClaims f cs (claims f row sets)
+    → refs ≡ cert.refutations → (length refs ≡ length cs → ⊥)
+    → FindsFrom f asked row shown cert (after_sets cert) (Rejected RefutationCount 0 0)
+count_failed f asked row shown cert cs refs sets same all e differ = inr (
+  (λ long. differ (ap length e ∙ (long
+      ∙ sym (same_length f cs (claims f row cert.sets) (subst (λ x. AreClaims f cs (claims f row x)) same all))))),
+  refl,
+)
+
+pub count_passed : (f : Framework) (asked : Asked) (row : Row) (shown : List (List ℕ)) (cert : Certificate)
+    (cs given : List Claim) (refs : List Refutation) (sets : List (List ℕ)) (verdict : Verdict) → sets ≡ cert.sets
+    → AreClaims f cs (claims f row sets) → refs ≡ cert.refutations → given ≡ cs → length refs ≡ length cs
+    → FindsFlaws f given refs verdict → FindsFrom f asked row shown cert (after_sets cert) verdict
+count_passed f asked row shown cert cs given refs sets verdict same all e is long found =
+    let here : AreClaims f cs (claims f row cert.sets) = subst (λ x. AreClaims f cs (claims f row x)) same all in
+    let count : length cert.refutations ≡ length cs = ap length (sym e) ∙ long in inl (
+      count ∙ same_length f cs (claims f row cert.sets) here,
+      refutations_found f asked row shown cert cs verdict here count
+          (subst (λ x. FindsFlaws f cs x verdict) e (subst (λ x. FindsFlaws f x refs verdict) is found)),
+    )
+
+pub set_failed : (f : Framework) (asked : Asked) (row : Row) (shown : List (List ℕ)) (cert : Certificate)
+    (given : List (List ℕ)) (k : ℕ) → given ≡ cert.sets
+    → IsFirstWithout (λ j. PassesSet f asked row j (get_or given j [])) (length given) (Some k)
+    → FindsFrom f asked row shown cert (after_set_count cert) (Rejected BadSet 0 (k + 1))
+set_failed f asked row shown cert given k e first =
+    let here : IsFirstWithout (λ j. PassesSet f asked row j (get_or cert.sets j [])) (length cert.sets) (Some k) =
+    subst (λ x. IsFirstWithout (λ j. PassesSet f asked row j (get_or x j [])) (length x) (Some k)) e first in
+    found_numbered (Pass f asked row shown cert) (told cert) at_set (after_sets cert) (length cert.sets) k here.0 here.1.0
+    here.1.1
+
+pub sets_passed : (f : Framework) (asked : Asked) (row : Row) (shown : List (List ℕ)) (cert : Certificate)
+    (given : List (List ℕ)) (verdict : Verdict) → given ≡ cert.sets
+    → IsFirstWithout (λ j. PassesSet f asked row j (get_or given j [])) (length given) None
+    → FindsFrom f asked row shown cert (after_sets cert) verdict
+    → FindsFrom f asked row shown cert (after_set_count cert) verdict
+sets_passed f asked row shown cert given verdict e all found =
+    let here : IsFirstWithout (λ j. PassesSet f asked row j (get_or cert.sets j [])) (length cert.sets) None =
+    subst (λ x. IsFirstWithout (λ j. PassesSet f asked row j (get_or x j [])) (length x) None) e all in
+    then_numbered (Pass f asked row shown cert) (told cert) at_set (after_sets cert) (length cert.sets) verdict here found
+
+pub witness_failed : (f : Framework) (asked : Asked) (row : Row) (shown : List (List ℕ)) (cert : Certificate)
+    (bad : Option ℕ) (k : ℕ) → bad ≡ Some k
+    → IsFirstWithout (λ j. PassesTest f asked row (get_or shown j [])) (length shown) bad
+    → FindsFrom f asked row shown cert (after_shape shown cert) (Rejected BadWitness 0 (k + 1))
+witness_failed f asked row shown cert bad k e first =
+    let here : IsFirstWithout (λ j. PassesTest f asked row (get_or shown j [])) (length shown) (Some k) =
+    subst (λ x. IsFirstWithout (λ j. PassesTest f asked row (get_or shown j [])) (length shown) x) e first in
+    found_numbered (Pass f asked row shown cert) (told cert) at_witness (after_witnesses cert) (length shown) k here.0
+    here.1.0 here.1.1
+
+pub witnesses_passed : (f : Framework) (asked : Asked) (row : Row) (shown : List (List ℕ)) (cert : Certificate)
+    (bad : Option ℕ) (verdict : Verdict) → bad ≡ None
+    → IsFirstWithout (λ j. PassesTest f asked row (get_or shown j [])) (length shown) bad
+    → FindsFrom f asked row shown cert (after_witnesses cert) verdict
+    → FindsFrom f asked row shown cert (after_shape shown cert) verdict
+witnesses_passed f asked row shown cert bad verdict e all found =
+    let here : IsFirstWithout (λ j. PassesTest f asked row (get_or shown j [])) (length shown) None =
+    subst (λ x. IsFirstWithout (λ j. PassesTest f asked row (get_or shown j [])) (length shown) x) e all in
+    then_numbered (Pass f asked row shown cert) (told cert) at_witness (after_witnesses cert) (length shown) verdict here
+    found
+
+-- what is found of the answer's row and its sets is the verdict
+pub verdict_from : (f : Framework) (asked : Asked) (answer : Answer) (cert : Certificate) (row : Row)
+    (shown : List (List ℕ)) (verdict : Verdict) → row ≡ row_of f asked answer → shown ≡ sets_of answer
+    → FindsFrom f asked row shown cert (looks shown cert) verdict → IsVerdict f asked answer cert verdict
+verdict_from f asked answer cert row shown verdict e same found =
+    subst (λ r. FindsFrom f asked r (sets_of answer) cert (looks (sets_of answer) cert) verdict) e
+    (subst (λ s. FindsFrom f asked row s cert (looks s cert) verdict) same found)

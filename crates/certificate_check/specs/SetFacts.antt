@@ -2,6 +2,8 @@
 use Rattle.std.specs.Prelude.{◌≡◌, ◌↔◌, ℕ, true, List, Contains}
 use Rattle.std.specs.List.{list_any}
 use Rattle.semantics.specs.Frameworks.{Framework}
+use Rattle.iccma_tasks.specs.declared.task.Problem.{Problem}
+use Rattle.iccma_tasks.specs.declared.task.Problem.TheVariants.{AllExtensions}
 use Rattle.iccma_tasks.specs.declared.task.Semantics.{Semantics}
 use Rattle.iccma_tasks.specs.declared.task.Semantics.TheVariants.{Complete, Grounded, Preferred, Stable, SemiStable, Ideal}
 use Rattle.certificate_claims.specs.declared.row.Row.{Row}
@@ -36,3 +38,9 @@ abbrev pub IsReached : Row → Type 0
 IsReached (IdealRow shown says) = ⊥
 IsReached (AllWidest sets) = ⊥
 IsReached _ = Unit {0}
+
+-- the tasks whose certificates are checked so far: all but those of ideal sets and of all semi-stable sets
+abbrev pub IsReachedTask : Problem → Semantics → Type 0
+IsReachedTask problem Ideal = ⊥
+IsReachedTask AllExtensions SemiStable = ⊥
+IsReachedTask problem semantics = Unit {0}

@@ -2,7 +2,6 @@
 #![tactic(auto)]
 
 mod bench;
-mod check;
 mod claim;
 mod claims;
 mod closed;
@@ -11,4 +10,9 @@ mod refuting;
 mod rows;
 mod sides;
 mod steps;
+#[cfg(test)]
+mod tests;
+mod verdict;
 mod witness;
+
+pub use verdict::check;

@@ -1,19 +1,21 @@
 //! The check, section by section, each up to the first failure.
 
-ghost use Rattle.std.specs.Prelude.{◌≡◌, ◌↔◌, IfOk, IsTrue};
-ghost use Rattle.certificate_claims.specs.Acceptance.{GroundedSays, PassesGrounded, PassesOrder};
-ghost use Rattle.certificate_claims.specs.Verdicts.{looks};
+ghost use Rattle.std.specs.Prelude.{◌≡◌, ◌↔◌, Some, IfOk, IsTrue};
+ghost use Rattle.certificate_claims.specs.Acceptance.{GroundedSays, NoneWithin, PassesGrounded, PassesOrder};
+ghost use Rattle.certificate_claims.specs.Rights.{SetsRise};
+ghost use Rattle.certificate_claims.specs.Verdicts.{IsVerdict, looks};
 ghost use Rattle.edit_rules.specs.Kinds.{framework_of};
 ghost use Rattle.certificate_check.specs.Sections.{FindsFrom, after_order, after_set_count, after_sets, after_shape, after_witnesses};
-ghost use Rattle.certificate_check.specs.SetFacts.{IsReached, IsTestedRow};
+ghost use Rattle.certificate_check.specs.SetFacts.{IsReached, IsReachedTask, IsTestedRow};
 
 use crate::claims::claims_of;
 use crate::kinds::grounded_accepts;
 use crate::refuting::check_refutations;
+use crate::rows::{row, shown_sets};
 use crate::witness::{first_bad_set, first_bad_witness, is_shaped, takes_sets};
 use certificate_claims::{Cause, Certificate, Row, Verdict, none_within, sets_rise};
 use edit_rules::Framework;
-use iccma_tasks::Query;
+use iccma_tasks::{Answer, Query};
 use plain_lists::Memory;
 use set_lists::NumSet;
 use std::alloc::Global;
@@ -92,9 +94,16 @@ fn passes_order(framework: &Framework, row: &Row) -> bool
     let _kind = framework.kind();
     match row {
         Row::AllTested(_, sets) => sets_rise(sets.as_slice()),
-        Row::AllLargest(sets) => sets_rise(sets.as_slice()) && none_within(sets.as_slice()),
+        Row::AllLargest(sets) => rise_apart(sets.as_slice()),
         _ => true,
     }
+}
+
+/// Whether sets rise and none lies in another.
+fn rise_apart(sets: &[NumSet]) -> bool
+    ensures { IsTrue result ↔ (SetsRise sets.now × NoneWithin sets.now) }
+{
+    sets_rise(sets) && none_within(sets)
 }
 
 /// Whether the grounded set accepts the query or doesn't, as the row says, if it does.
@@ -122,9 +131,21 @@ fn grounded_says(
     ensures { IfOk result (λ passes. IsTrue passes
         ↔ GroundedSays (framework_of framework.now) says query.now.number) }
 {
-    let Some(number) = query.number() else {
-        return Ok(false);
-    };
+    match query.number() {
+        Some(number) => Ok(grounded_says_of(alloc, framework, number, says)?),
+        None => Ok(false),
+    }
+}
+
+/// Whether the grounded set accepts what is asked about or doesn't, as is said.
+fn grounded_says_of(
+    alloc: Global,
+    framework: &Framework,
+    number: u32,
+    says: bool,
+) -> Result<bool, Memory>
+    ensures { IfOk result (λ passes. IsTrue passes ↔ GroundedSays (framework_of framework.now) says (Some number)) }
+{
     let accepts = grounded_accepts(alloc, framework, number)?;
     Ok(accepts == says)
 }
@@ -195,5 +216,24 @@ fn check_row(
         return Ok(Verdict::Rejected(Cause::AnswerShape, 0, 0));
     }
     let verdict = check_witnesses(alloc, framework, query, row, shown, certificate)?;
+    Ok(verdict)
+}
+
+/// Checks a certificate for an answer to a query. It is `Accepted` exactly where the answer has a shape that its task
+/// gives, the direct tests pass, and there is a refutation of each claim; else the first failure is told, in the order in
+/// which these are looked at.
+pub fn check(
+    alloc: Global,
+    framework: &Framework,
+    query: &Query,
+    answer: &Answer,
+    certificate: &Certificate,
+) -> Result<Verdict, Memory>
+    requires reached { IsReachedTask query.now.task.problem query.now.task.semantics }
+    ensures verdict { IfOk result (IsVerdict (framework_of framework.now) query.now answer.now certificate.now) }
+{
+    let row = row(alloc, framework, query, answer)?;
+    let shown = shown_sets(alloc, answer)?;
+    let verdict = check_row(alloc, framework, query, &row, shown.as_slice(), certificate)?;
     Ok(verdict)
 }
