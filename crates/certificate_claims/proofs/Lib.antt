@@ -1,3 +1,4 @@
 pub mod Found
 pub mod OrderLemmas
 pub mod SetTests
+pub mod RangeLists

@@ -11,7 +11,7 @@ use Rattle.plain_lists.proofs.ListTests.{any_gives, any_from, all_gives, all_fro
 use Rattle.plain_lists.proofs.Membership.{Contains-head, Contains-tail, Contains-cons_cases}
 use Rattle.semantics.specs.Framework.{Af, IsAf, IsAttackedBy, IsInRange, IsRangeWithin}
 use Rattle.semantics.specs.Frameworks.{Framework, af}
-use Rattle.certificate_claims.specs.Claims.{first_ranged}
+use Rattle.certificate_claims.specs.Claims.{first_ranged, has_ranged}
 use Rattle.certificate_claims.specs.SetLiterals.{has, hits, hit_by_any, is_range_within, is_ranged, members, range_of, same_range}
 
 -- ---- members, attacks, ranges
@@ -129,7 +129,7 @@ within_trans : (f : Framework) (s t u : List ℕ) → is_range_within f s t ≡ 
 within_trans f s t u left right =
     within_from f s u (λ a c e. within_gives f t u right a c (within_gives f s t left a c e))
 
-same_trans : (f : Framework) (s t u : List ℕ) → same_range f s t ≡ true → same_range f t u ≡ true
+pub same_trans : (f : Framework) (s t u : List ℕ) → same_range f s t ≡ true → same_range f t u ≡ true
     → same_range f s u ≡ true
 same_trans f s t u left right =
     let l = and_parts (is_range_within f s t) (is_range_within f t s) left in
@@ -137,22 +137,18 @@ same_trans f s t u left right =
     and_from (is_range_within f s u) (is_range_within f u s) (within_trans f s t u l.0 r.0)
     (within_trans f u t s r.1 l.1)
 
--- whether some set of a list has the range of another
-abbrev pub has_ranged : Framework → List (List ℕ) → List ℕ → Bool
-has_ranged f sets x = list_any (λ s. same_range f s x) sets
-
-chosen : {X : Type 0} (b : Bool) (left right : X) → b ≡ true → (if b then left else right) ≡ left
+pub chosen : {X : Type 0} (b : Bool) (left right : X) → b ≡ true → (if b then left else right) ≡ left
 chosen true left right e = refl
 chosen false left right e = absurd (cc)
 
-passed : {X : Type 0} (b : Bool) (left right : X) → b ≡ false → (if b then left else right) ≡ right
+pub passed : {X : Type 0} (b : Bool) (left right : X) → b ≡ false → (if b then left else right) ≡ right
 passed true left right e = absurd (cc)
 passed false left right e = refl
 
-one_kept : {X : Type 0} (p : X → Bool) (x : X) → p x ≡ true → filter p (x ∷ []) ≡ x ∷ []
+pub one_kept : {X : Type 0} (p : X → Bool) (x : X) → p x ≡ true → filter p (x ∷ []) ≡ x ∷ []
 one_kept p x e = rw e refl
 
-one_lost : {X : Type 0} (p : X → Bool) (x : X) → p x ≡ false → filter p (x ∷ []) ≡ []
+pub one_lost : {X : Type 0} (p : X → Bool) (x : X) → p x ≡ false → filter p (x ∷ []) ≡ []
 one_lost p x e = rw e refl
 
 -- whether the first set, or one of those that have other ranges, has a set's range

@@ -1,5 +1,6 @@
 -- What an answer has to show: its row in the table of certificates, and the claims of a row.
 use Rattle.std.specs.Prelude.{ℕ, Bool, true, false, not, List, [], ◌∷◌, ◌++◌, map, filter, Option, Some, None}
+use Rattle.std.specs.List.{list_any}
 use Rattle.semantics.specs.Frameworks.{Framework}
 use Rattle.meaning_atoms.specs.declared.atom.Atom.TheVariants.{Ad, Co, St}
 use Rattle.meaning_atoms.specs.declared.atom.AtomLit.{AtomLit}
@@ -105,6 +106,10 @@ claim_of goals sides = record { goals = goals; sides = sides }
 abbrev pub first_ranged : Framework → List (List ℕ) → List (List ℕ)
 first_ranged f [] = []
 first_ranged f (e ∷ more) = e ∷ filter (λ s. not (same_range f e s)) (first_ranged f more)
+
+-- whether some set of a list has the range of another
+abbrev pub has_ranged : Framework → List (List ℕ) → List ℕ → Bool
+has_ranged f sets x = list_any (λ s. same_range f s x) sets
 
 -- each admissible set that makes the goals true has its range in that of one of the sets
 abbrev pub range_cover : Framework → List AtomLit → List (List ℕ) → Claim

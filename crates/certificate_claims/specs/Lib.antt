@@ -1,6 +1,7 @@
 pub mod Acceptance
 pub mod Claims
 pub mod Orders
+pub mod Ranges
 pub mod Refutations
 pub mod Rights
 pub mod SetLiterals

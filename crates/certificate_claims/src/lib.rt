@@ -3,6 +3,7 @@
 
 pub mod certificate;
 mod order;
+mod ranges;
 pub mod row;
 #[cfg(test)]
 mod tests;
@@ -10,5 +11,6 @@ pub mod verdict;
 
 pub use certificate::{Certificate, Refutation, Step};
 pub use order::{none_within, sets_rise};
+pub use ranges::{FirstRanged, first_ranged, no_range_within, with_range_of};
 pub use row::Row;
 pub use verdict::{Cause, Verdict};

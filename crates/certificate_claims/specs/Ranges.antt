@@ -1,0 +1,27 @@
+-- The ranges of listed sets.
+use Rattle.std.specs.Prelude.{◌≡◌, ℕ, ◌∷◌, ◌++◌, if◌then◌else◌, List, [], Contains, filter, map}
+use Rattle.plain_lists.specs.Members.{IsWithin}
+use Rattle.semantics.specs.Framework.{Af}
+use Rattle.semantics.specs.Frameworks.{Framework}
+use Rattle.certificate_claims.specs.declared.ranges.FirstRanged.{FirstRanged}
+use Rattle.certificate_claims.specs.Claims.{first_ranged, has_ranged}
+use Rattle.certificate_claims.specs.SetLiterals.{range_of, same_range}
+
+-- each set has live arguments alone
+abbrev pub AreLive : Af → List (List ℕ) → Type 0
+AreLive f sets = (s : List ℕ) → Contains sets s → IsWithin s f.live
+
+-- the sets of a list that are first with their ranges, and these ranges
+pub record IsFirstRanged (f : Framework) (list : List (List ℕ)) (found : FirstRanged) : Type 0 where
+  pub first : found.sets ≡ first_ranged f list
+  pub same : found.ranges ≡ map (range_of f) found.sets
+
+-- a set is added to them unless one of them has its range
+pub record AddsIfFirst (f : Framework) (x : List ℕ) (old new : FirstRanged) : Type 0 where
+  pub sets : (old.ranges ≡ map (range_of f) old.sets)
+      → new.sets ≡ (if has_ranged f old.sets x then old.sets else old.sets ++ x ∷ [])
+  pub same : (old.ranges ≡ map (range_of f) old.sets) → new.ranges ≡ map (range_of f) new.sets
+
+-- a set is added where it has this range, whichever set's it is
+pub record AddsIfRanged (f : Framework) (range x : List ℕ) (old new : List (List ℕ)) : Type 0 where
+  pub adds : (e : List ℕ) → range ≡ range_of f e → new ≡ old ++ filter (same_range f e) (x ∷ [])
