@@ -51,7 +51,8 @@ FlawAt f claims refutations k flaw =
     HasFlaw f (slice_index_or claims k no_claim) (slice_index_or refutations k no_refutation).steps flaw
 
 -- the first refutation with a flaw, and what is told of it
-pub record FirstFlaw (f : Framework) (claims : List Claim) (refutations : List Refutation) (verdict : Verdict) : Type 0 where
+pub record FirstFlaw (f : Framework) (claims : List Claim) (refutations : List Refutation)
+    (verdict : Verdict) : Type 0 where
   pub index : ℕ
   pub flaw : Flaw
   pub within : index < length refutations

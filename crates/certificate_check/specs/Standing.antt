@@ -34,8 +34,10 @@ StandsBehind f sides clauses (Side n) = (1 ≤ n) × (n ≤ length sides)
 StandsBehind f sides clauses (Derived literals hints) = (used : ℕ) × Checks negated clauses literals hints (Ok used)
 
 -- the step is taken behind steps with these clauses where it stands there, and its clause is added
-abbrev pub TakesStep : Framework → List (List AtomLit) → List (List AtomLit) → Step → List (List AtomLit) → Bool → Type 0
-TakesStep f sides before step after taken = Takes (StandsBehind f sides before step) before (step_clause sides step) after taken
+abbrev pub TakesStep : Framework → List (List AtomLit) → List (List AtomLit) → Step → List (List AtomLit) → Bool
+    → Type 0
+TakesStep f sides before step after taken =
+    Takes (StandsBehind f sides before step) before (step_clause sides step) after taken
 
 -- the step at an index stands behind those before it
 abbrev pub StandsAt : Framework → List (List AtomLit) → List Step → ℕ → Type 0

@@ -233,8 +233,8 @@ fn free_claim(alloc: Global, bad: AtomLit, set: &NumSet) -> Result<Claim, Memory
     Ok(claim)
 }
 
-/// The claims that each admissible set that makes a literal true has its range in that of one of the sets, and that none
-/// has all of such a range.
+/// The claims that each admissible set that makes a literal true has its range in that of one of the sets, and that
+/// none has all of such a range.
 fn ranged_claims(
     alloc: Global,
     framework: &Framework,

@@ -85,7 +85,8 @@ fn axiom_is_closed(
 ) -> Result<bool, Memory>
     requires range { IsRangeOf (framework_of framework.now) claim.now.ranged range.now }
     requires axiom { IsAxiomOf (framework_of framework.now) name.now }
-    ensures { IfOk result (λ closed. IsTrue closed ↔ AreClosed (framework_of framework.now) claim.now (axiom_clause name.now)) }
+    ensures { IfOk result (λ closed. IsTrue closed
+        ↔ AreClosed (framework_of framework.now) claim.now (axiom_clause name.now)) }
 {
     match name {
         AxiomName::Af(name) => af_axiom_is_closed(alloc, framework, claim, range, name),

@@ -2,7 +2,7 @@
 
 ghost use Rattle.std.specs.Prelude.{◌≡◌, ◌↔◌, Some, IfOk, IsTrue};
 ghost use Rattle.certificate_claims.specs.Acceptance.{GroundedSays, NoneWithin, PassesGrounded, PassesOrder};
-ghost use Rattle.certificate_claims.specs.Rights.{SetsRise};
+ghost use Rattle.certificate_claims.specs.Rights.{IsRight, SetsRise};
 ghost use Rattle.certificate_claims.specs.Verdicts.{IsVerdict, looks};
 ghost use Rattle.edit_rules.specs.Kinds.{framework_of};
 ghost use Rattle.certificate_check.specs.Sections.{FindsFrom, after_order, after_set_count, after_sets, after_shape, after_witnesses};
@@ -220,8 +220,8 @@ fn check_row(
 }
 
 /// Checks a certificate for an answer to a query. It is `Accepted` exactly where the answer has a shape that its task
-/// gives, the direct tests pass, and there is a refutation of each claim; else the first failure is told, in the order in
-/// which these are looked at.
+/// gives, the direct tests pass, and there is a refutation of each claim; else the first failure is told, in the order
+/// in which these are looked at. An answer with an accepted certificate is right.
 pub fn check(
     alloc: Global,
     framework: &Framework,
@@ -231,7 +231,9 @@ pub fn check(
 ) -> Result<Verdict, Memory>
     requires reached { IsReachedTask query.now.task.problem query.now.task.semantics }
     ensures verdict { IfOk result (IsVerdict (framework_of framework.now) query.now answer.now certificate.now) }
+    ensures right { IfOk result (λ v. v ≡ Verdict.Accepted → IsRight (framework_of framework.now) query.now answer.now) }
 {
+    let _kind = framework.kind();
     let row = row(alloc, framework, query, answer)?;
     let shown = shown_sets(alloc, answer)?;
     let verdict = check_row(alloc, framework, query, &row, shown.as_slice(), certificate)?;

@@ -71,7 +71,8 @@ fn passes_test(
     set: &NumSet,
 ) -> Result<bool, Memory>
     requires { IsTestedRow row.now query.now.task.semantics }
-    ensures { IfOk result (λ passes. IsTrue passes ↔ PassesTest (framework_of framework.now) query.now row.now set.now) }
+    ensures { IfOk result (λ passes. IsTrue passes
+        ↔ PassesTest (framework_of framework.now) query.now row.now set.now) }
 {
     match row {
         Row::Tested(_) => Ok(is_suitable_extension(alloc, framework, query, set)?),
