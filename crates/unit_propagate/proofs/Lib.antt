@@ -1,0 +1,13 @@
+pub mod ArenaLemmas
+pub mod Blocks
+pub mod Finding
+pub mod Fronts
+pub mod Growing
+pub mod Joining
+pub mod Levels
+pub mod Lists
+pub mod Moving
+pub mod Passing
+pub mod Rooms
+pub mod Showing
+pub mod Visiting

@@ -1,0 +1,9 @@
+use Rattle.unit_propagate.proofs.Rooms.{pick_none, pick_next}
+use Rattle.unit_propagate.proofs.adding.pick_one.Goals as goal
+
+pub loop-lit-init : goal.loop-lit-init
+loop-lit-init c = pick_none _
+
+pub loop-lit-preserved : goal.loop-lit-preserved
+loop-lit-preserved c =
+    pick_next c.args.clause.now c.loop-lit.lit-index c.args.other c.loop-lit.best c.consider-best.result c.loop-lit-test.true c.consider-best.ensures c.loop-lit.invariant

@@ -1,0 +1,28 @@
+use Rattle.std.proofs.Common.{◌≡◌, ◌<◌, length, arith, ap, ◌∙◌, get_or, refl, take, sym}
+use Rattle.unit_propagate.specs.States.{state_of, mark_at}
+use Rattle.unit_propagate.proofs.Levels.{back_kept}
+use Rattle.unit_propagate.proofs.engine.Engine.back_to.Goals as goal
+
+pub returns : goal.returns
+returns c =
+    let s = state_of c.args.self.now in
+    let same = c.starts-starts.ensures.starts in
+    let lt : c.args.level < length s.starts = omega (arith, c.if-level-starts.false, ap length same) in
+    record {
+      kept = back_kept s c.back_to.new.self.lits c.back_to.new.self.starts c.back_to.new.self.vars c.args.level
+          (get_or c.starts-starts.result.now c.args.level 0) c.mark_in-mark.result c.requires.kept c.starts-starts.ensures.form.levels lt
+          (ap (λ xs. get_or xs c.args.level 0) same) (c.mark_in-mark.ensures ∙ ap (λ ms. mark_at ms (get_or c.starts-starts.result.now c.args.level 0)) c.as_slice.ensures.value)
+          c.back_to.ensures.lits c.back_to.ensures.starts c.back_to.ensures.vars;
+      back = record { clauses = refl; pairs = refl; lits = c.back_to.ensures.lits; starts = c.back_to.ensures.starts; reasons = refl; vars = c.back_to.ensures.vars };
+    }
+
+pub mark_in-mark-requires : goal.mark_in-mark-requires
+mark_in-mark-requires c =
+    let s = state_of c.args.self.now in
+    let same = c.starts-starts.ensures.starts in
+    let lt : c.args.level < length s.starts = omega (arith, c.if-level-starts.false, ap length same) in
+    let within = c.starts-starts.ensures.form.levels.within c.args.level lt in
+    let short = c.starts-starts.ensures.form.short in
+    let long = c.requires.kept.marks_long in
+    let marks = ap length c.as_slice.ensures.value in
+    omega (arith, within, short, long, marks, ap (λ xs. get_or xs c.args.level 0) same)

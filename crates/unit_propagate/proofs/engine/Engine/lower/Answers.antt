@@ -1,0 +1,33 @@
+use Rattle.std.proofs.Common.{◌≡◌, ◌<◌, ◌≤◌, length, get_or, arith, ap, subst, sym, refl}
+use Rattle.unit_propagate.specs.States.{state_of}
+use Rattle.unit_propagate.specs.Steps.{LowersMarks}
+use Rattle.unit_propagate.proofs.Growing.{kept_lowered}
+use Rattle.unit_propagate.proofs.engine.Engine.lower.Goals as goal
+
+pub lower_marks-requires : goal.lower_marks-requires
+lower_marks-requires c =
+    let short = c.len-form.ensures.form.short in
+    let long = c.requires.kept.marks_long in
+    rw c.starts.ensures.starts (record {
+      within = λ k lt. omega (arith, c.len-form.ensures.form.levels.within k lt);
+      levels = c.len-form.ensures.form.levels.rise;
+      heads = c.requires.kept.marks_head;
+    })
+
+pub returns : goal.returns
+returns c =
+    let s = state_of c.args.self.now in
+    let lowered : LowersMarks s.marks c.lower_marks.new.marks.items s.starts 0 c.args.index =
+    subst (λ xs. LowersMarks s.marks c.lower_marks.new.marks.items xs 0 c.args.index) c.starts.ensures.starts c.lower_marks.ensures in
+    record {
+      kept = kept_lowered s c.lower_marks.new.marks.items c.smaller-self.result c.args.index c.requires.kept lowered c.smaller-self.ensures.first;
+      low = record {
+        rest = refl;
+        long = lowered.long;
+        head = c.smaller-self.ensures.first;
+        head_low = c.smaller-self.ensures.second;
+        marks = lowered.heads;
+        dones = lowered.dones;
+        marks_low = λ k lt. lowered.low k (omega arith) lt;
+      };
+    }

@@ -1,0 +1,247 @@
+-- These are a proof's inner states too: what one step of the propagator changes.
+use Rattle.std.specs.Prelude.{◌≡◌, ◌≢◌, ◌⊎◌, ℕ, ◌+◌, ◌*◌, ◌-◌, ◌^◌, ◌<◌, ◌≤◌, ◌==◌, List, [], ◌∷◌, ◌++◌, length, take}
+use Rattle.std.specs.Prelude.{Contains, Bool, cond, slice_index, slice_index_or, slice_set, Option, Some, None, IsSome}
+use Rattle.std.specs.Prelude.{count_by, if◌then◌else◌}
+use Rattle.plain_lits.specs.declared.lit.Lit.{Lit}
+use Rattle.plain_lits.specs.Literals.{negation}
+use Rattle.plain_lits.specs.Packed.{packed}
+use Rattle.plain_lits.specs.HintCheck.{clause_at, IsNamed}
+use Rattle.unit_propagate.specs.declared.pair.Pair.{Pair}
+use Rattle.unit_propagate.specs.declared.engine.Visit.{Visit}
+use Rattle.unit_propagate.specs.declared.engine.Visit.TheVariants.{Kept, Moved, Failed}
+use Rattle.unit_propagate.specs.Arenas.{pair_of}
+use Rattle.unit_propagate.specs.Search.{IsConflict, IsReason, IsQuiet, AreGuarded}
+use Rattle.unit_propagate.specs.WatchLists.{Listed, list_at, ids_at, one, watches, with_id, without, HasMoreRoom, Joins}
+use Rattle.unit_propagate.specs.States.{State, mark_at, has, no_mark, IsKept, IsPairOf}
+use Rattle.unit_propagate.specs.declared.engine.Mark.{Mark}
+
+-- a literal has come with its reason
+abbrev pub with_literal : State → Lit → ℕ → State
+with_literal s l id = record s {
+  lits = s.lits ++ l ∷ [];
+  reasons = slice_set s.reasons (length s.lits) id;
+}
+
+-- a level has begun, with the mark of how far propagation has come
+abbrev pub with_mark : State → State
+with_mark s = record s { marks = slice_set s.marks (length s.lits) (record { head = s.head; done = s.done }) }
+
+-- a level begins where the literals end
+abbrev pub begun : State → State
+begun s = record s { starts = s.starts ++ length s.lits ∷ [] }
+
+-- a clause watches another pair, and its id has moved to another list
+abbrev pub with_pair : State → ℕ → Pair → ℕ → ℕ → ℕ → State
+with_pair s id p from at to = record s {
+  pairs = slice_set s.pairs (id - 1) p;
+  lists = with_id (without s.lists from at) to id;
+}
+
+-- what a look for another literal to watch gives: one that isn't false and isn't the other watched one
+abbrev pub FindsWatch : List Lit → List Lit → ℕ → Option Lit → Type 0
+FindsWatch lits clause other None =
+    (l : Lit) → Contains clause l → packed l ≢ other → Contains lits (negation l)
+FindsWatch lits clause other (Some l) =
+    Contains clause l × (packed l ≢ other) × (Contains lits (negation l) → ⊥)
+
+-- the clause at an index of the list of a false literal, with the two literals that it watches
+pub record IsHere (s : State) (at id : ℕ) (falsified other : Lit) : Type 0 where
+  pub within : at < length (ids_at s.lists (packed falsified))
+  pub id_is : slice_index (ids_at s.lists (packed falsified)) at ≡ id
+  pub named : IsNamed s.clauses id
+  pub apart : falsified ≢ other
+  pub pair : (((pair_of s.pairs id).first ≡ falsified) × ((pair_of s.pairs id).second ≡ other))
+      ⊎ (((pair_of s.pairs id).first ≡ other) × ((pair_of s.pairs id).second ≡ falsified))
+
+-- of the first clauses of the list of a false literal, the other watched literal is true
+pub record AreDone (s : State) (falsified : Lit) (at : ℕ) : Type 0 where
+  pub first : (i : ℕ) → i < at → i < length (ids_at s.lists (packed falsified))
+      → (pair_of s.pairs (slice_index (ids_at s.lists (packed falsified)) i)).first ≡ falsified
+      → Contains s.lits (pair_of s.pairs (slice_index (ids_at s.lists (packed falsified)) i)).second
+  pub second : (i : ℕ) → i < at → i < length (ids_at s.lists (packed falsified))
+      → (pair_of s.pairs (slice_index (ids_at s.lists (packed falsified)) i)).second ≡ falsified
+      → Contains s.lits (pair_of s.pairs (slice_index (ids_at s.lists (packed falsified)) i)).first
+
+-- literals have come, each with a reason
+pub record Grows (old new : State) : Type 0 where
+  pub clauses : new.clauses ≡ old.clauses
+  pub starts : new.starts ≡ old.starts
+  pub vars : new.vars ≡ old.vars
+  pub short : new.short ≡ old.short
+  pub lists : length new.lists ≡ length old.lists
+  pub more : (rest : List Lit) × (new.lits ≡ old.lits ++ rest)
+  pub reasons : (i : ℕ) → i < length old.lits → slice_index new.reasons i ≡ slice_index old.reasons i
+  pub new_reasons : (i : ℕ) → length old.lits ≤ i → i < length new.lits → slice_index new.reasons i ≢ 0
+
+-- what a visit of one clause gives
+abbrev pub IsVisit : State → State → Lit → ℕ → Visit → Type 0
+IsVisit old new falsified at Kept =
+    AreDone new falsified (at + 1)
+    × (length (ids_at new.lists (packed falsified)) ≡ length (ids_at old.lists (packed falsified)))
+IsVisit old new falsified at Moved =
+    AreDone new falsified at
+    × (length (ids_at new.lists (packed falsified)) + 1 ≡ length (ids_at old.lists (packed falsified)))
+IsVisit old new falsified at (Failed id) = IsConflict new.clauses new.lits id
+
+-- the marks of levels are lowered to an index, and how far propagation has come
+pub record Lowers (old new : State) (index : ℕ) : Type 0 where
+  pub rest : new ≡ record old { marks = new.marks; head = new.head }
+  pub long : length new.marks ≡ length old.marks
+  pub head : new.head ≤ old.head
+  pub head_low : new.head ≤ index
+  pub marks : (n : ℕ) → (mark_at new.marks n).head ≤ (mark_at old.marks n).head
+  pub dones : (n : ℕ) → (mark_at new.marks n).done ≡ (mark_at old.marks n).done
+  pub marks_low : (k : ℕ) → k < length old.starts → (mark_at new.marks (slice_index old.starts k)).head ≤ index
+
+-- each list of a literal of the clause has room for it
+pub record HasRoomFor (s : State) (clause : List Lit) : Type 0 where
+  pub uses : (code : ℕ) → count_by (has code) s.clauses + cond (has code clause) 1 0 ≤ (list_at s.lists code).uses
+
+-- what a visit of a whole list gives: a false clause, or the other watched literals of all are true
+abbrev pub HasVisited : State → Lit → Option ℕ → Type 0
+HasVisited s falsified None = AreDone s falsified (length (ids_at s.lists (packed falsified)))
+HasVisited s falsified (Some id) = IsConflict s.clauses s.lits id
+
+-- what propagation finds
+abbrev pub IsFound : State → Option ℕ → Type 0
+IsFound s None = IsQuiet s.clauses s.lits × AreGuarded s.pairs s.lits
+IsFound s (Some id) = IsConflict s.clauses s.lits id
+
+-- a clause makes a literal true: it holds the literal, and its others are false
+pub record IsImplied (s : State) (l : Lit) (id : ℕ) : Type 0 where
+  pub named : IsNamed s.clauses id
+  pub there : Contains (clause_at s.clauses id) l
+  pub others : (x : Lit) → Contains (clause_at s.clauses id) x → x ≢ l → Contains s.lits (negation x)
+
+-- the variables of a list are below a number, and can be packed
+pub record HasVars (lits : List Lit) (vars : ℕ) : Type 0 where
+  pub below : (l : Lit) → Contains lits l → l.var < vars
+  pub packs : (l : Lit) → Contains lits l → l.var < 2 ^ 31
+  pub fits : vars ≤ 2 ^ 31
+
+-- a list is longer, and what is read of it is the same
+pub record IsLonger {X : Type 0} (d : X) (old new : List X) : Type 0 where
+  pub long : length old ≤ length new
+  pub same : (i : ℕ) → slice_index_or new i d ≡ slice_index_or old i d
+
+-- there is room for more variables and for more ids, and all else is the same
+pub record MakesRoom (old new : State) : Type 0 where
+  pub rest : new ≡ record old { lists = new.lists; vars = new.vars; reasons = new.reasons; marks = new.marks }
+  pub lists : HasMoreRoom old.lists new.lists
+  pub vars : old.vars ≤ new.vars
+  pub reasons : IsLonger 0 old.reasons new.reasons
+  pub marks : IsLonger no_mark old.marks new.marks
+  pub lists_long : 2 * new.vars ≤ length new.lists
+  pub reasons_long : new.vars ≤ length new.reasons
+  pub marks_long : new.vars < length new.marks
+
+-- each list of a clause's literals has room for one more
+pub record ClaimsAll (old new : List Listed) (clause : List Lit) : Type 0 where
+  pub room : HasMoreRoom old new
+  pub more : (l : Lit) → Contains clause l
+      → (list_at old (packed l)).uses + 1 ≤ (list_at new (packed l)).uses
+
+-- a literal is the one that is passed over, if any
+abbrev pub IsOther : Option Lit → Lit → Type 0
+IsOther None l = ⊥
+IsOther (Some o) l = l ≡ o
+
+-- what a look for a literal to watch gives
+abbrev pub IsPick : List Lit → Option Lit → Option Lit → Type 0
+IsPick clause other None = (l : Lit) → Contains clause l → IsOther other l
+IsPick clause other (Some l) = Contains clause l × (IsOther other l → ⊥)
+
+-- what the next literal makes of the best so far: it is passed over, or it is the best, or the one before stays so
+abbrev pub Considers : Option Lit → Option Lit → Lit → Option Lit → Type 0
+Considers best other l result =
+    (IsOther other l × (result ≡ best))
+    ⊎ ((IsOther other l → ⊥) × ((result ≡ Some l) ⊎ ((result ≡ best) × IsSome best)))
+
+-- a literal isn't false by the first true literals
+pub record IsUnfalse (lits : List Lit) (l : Lit) (index : ℕ) : Type 0 where
+  pub unfalse : Contains (take index lits) (negation l) → ⊥
+
+-- a mark is lowered to an index
+pub record LowersOne (old new : List Mark) (at index : ℕ) : Type 0 where
+  pub others : (n : ℕ) → n ≢ at → mark_at new n ≡ mark_at old n
+  pub long : length new ≡ length old
+  pub head : (mark_at new at).head ≤ (mark_at old at).head
+  pub done : (mark_at new at).done ≡ (mark_at old at).done
+  pub low : (mark_at new at).head ≤ index
+
+-- marks are lowered, from a level on to an index
+pub record LowersMarks (old new : List Mark) (starts : List ℕ) (from index : ℕ) : Type 0 where
+  pub long : length new ≡ length old
+  pub heads : (n : ℕ) → (mark_at new n).head ≤ (mark_at old n).head
+  pub dones : (n : ℕ) → (mark_at new n).done ≡ (mark_at old n).done
+  pub low : (k : ℕ) → from ≤ k → k < length starts → (mark_at new (slice_index starts k)).head ≤ index
+
+-- a clause has come with its pair and its id
+pub record IsAdded (s : State) (lists : List Listed) (short : List ℕ) (clause : List Lit) (p : Pair)
+    (id index : ℕ) : Type 0 where
+  pub pair : IsPairOf clause p
+  pub id_is : id ≡ length s.clauses + 1
+  pub fits : id < 2 ^ 32
+  pub known : (l : Lit) → Contains clause l → l.var < s.vars
+  pub first : IsUnfalse s.lits p.first index
+  pub second : IsUnfalse s.lits p.second index
+  pub head : s.head ≤ index
+  pub marks : (k : ℕ) → k < length s.starts → (mark_at s.marks (slice_index s.starts k)).head ≤ index
+  pub room : HasRoomFor s clause
+  pub joins : Joins s.lists lists p id
+  pub alone : p.first ≡ p.second → short ≡ s.short ++ id ∷ []
+  pub apart : p.first ≢ p.second → short ≡ s.short
+
+-- the state with one clause more
+abbrev pub with_clause : State → List Listed → List ℕ → List Lit → Pair → State
+with_clause s lists short clause p = record s {
+  clauses = s.clauses ++ clause ∷ [];
+  pairs = s.pairs ++ p ∷ [];
+  lists = lists;
+  short = short;
+}
+
+-- how far propagation has come is no further than an index, now and at each level
+pub record IsLow (s : State) (index : ℕ) : Type 0 where
+  pub head : s.head ≤ index
+  pub marks : (k : ℕ) → k < length s.starts → (mark_at s.marks (slice_index s.starts k)).head ≤ index
+
+-- a clause has come, and the trail is the same
+pub record Inserts (old new : State) (clause : List Lit) : Type 0 where
+  pub clauses : new.clauses ≡ old.clauses ++ clause ∷ []
+  pub lits : new.lits ≡ old.lits
+  pub starts : new.starts ≡ old.starts
+  pub vars : new.vars ≡ old.vars
+  pub reasons : new.reasons ≡ old.reasons
+
+-- there is room for a clause and its variables, which can be packed
+pub record IsReady (s : State) (clause : List Lit) : Type 0 where
+  pub known : (l : Lit) → Contains clause l → l.var < s.vars
+  pub packs : (l : Lit) → Contains clause l → l.var < 2 ^ 31
+  pub room : HasRoomFor s clause
+
+-- a literal is true, and what has come is that literal or nothing, without a reason
+pub record Assumes (old new : State) (l : Lit) : Type 0 where
+  pub clauses : new.clauses ≡ old.clauses
+  pub starts : new.starts ≡ old.starts
+  pub vars : new.vars ≡ old.vars
+  pub more : (rest : List Lit) × (new.lits ≡ old.lits ++ rest) × ((x : Lit) → Contains rest x → x ≡ l)
+  pub assumed : Contains new.lits l
+  pub reasons : (i : ℕ) → i < length old.lits → slice_index new.reasons i ≡ slice_index old.reasons i
+  pub new_reasons : (i : ℕ) → length old.lits ≤ i → i < length new.lits → slice_index new.reasons i ≡ 0
+
+-- so are all of a list
+pub record AssumesAll (old new : State) (block : List Lit) : Type 0 where
+  pub clauses : new.clauses ≡ old.clauses
+  pub starts : new.starts ≡ old.starts
+  pub vars : new.vars ≡ old.vars
+  pub more : (rest : List Lit) × (new.lits ≡ old.lits ++ rest) × ((x : Lit) → Contains rest x → Contains block x)
+  pub assumed : (l : Lit) → Contains block l → Contains new.lits l
+  pub reasons : (i : ℕ) → i < length old.lits → slice_index new.reasons i ≡ slice_index old.reasons i
+  pub new_reasons : (i : ℕ) → length old.lits ≤ i → i < length new.lits → slice_index new.reasons i ≡ 0
+
+-- the state without clauses and literals
+pub record IsOpened (s : State) : Type 0 where
+  pub clauses : s.clauses ≡ []
+  pub lits : s.lits ≡ []
+  pub starts : s.starts ≡ []

@@ -1,0 +1,382 @@
+//! Clauses, variables and blocks come.
+
+ghost use Rattle.std.specs.Prelude.{◌≡◌, ◌≢◌, ℕ, ◌+◌, ◌*◌, ◌<◌, ◌≤◌, ◌^◌, [], ◌∷◌, ◌++◌, length, take, Contains};
+ghost use Rattle.std.specs.Prelude.{IfOk, OnOk, OnErr, IsTrue, Some, slice_index, vec_len, vec_capacity, ◌⊎◌, ◌↔◌};
+ghost use Rattle.plain_lits.specs.declared.lit.Lit.{Lit};
+ghost use Rattle.plain_lits.specs.Literals.{negation};
+ghost use Rattle.plain_lits.specs.Packed.{packed};
+ghost use Rattle.plain_lits.specs.Trails.{AreLevels};
+ghost use Rattle.unit_propagate.specs.Search.{StaysSearch, GainsClause, GainsBlock};
+ghost use Rattle.unit_propagate.specs.States.{state_of, search_of, IsKept, IsPairOf, mark_at, no_mark};
+ghost use Rattle.unit_propagate.specs.Steps.{HasVars, IsLonger, MakesRoom, ClaimsAll, IsOther, IsPick, IsUnfalse};
+ghost use Rattle.unit_propagate.specs.Steps.{Considers, LowersOne, LowersMarks, Lowers, HasRoomFor, IsLow, IsReady, Inserts};
+ghost use Rattle.unit_propagate.specs.Steps.{with_mark, begun, Assumes, AssumesAll};
+ghost use Rattle.unit_propagate.specs.WatchLists.{list_at, ids_at, HasMoreRoom, HasPairRoom, Joins};
+
+use crate::engine::{Engine, Mark, code_of, mark_in};
+use crate::pair::Pair;
+use crate::watch_list::{WatchList, claim_id, grow_lists, push_id};
+use plain_lists::Memory;
+use plain_lits::{Lit, PackedLit, Trail, Value};
+use std::alloc::Global;
+
+/// The number above each variable of a list; more than can be packed is want of memory.
+fn vars_of(lits: &[Lit]) -> Result<usize, Memory>
+    ensures { IfOk result (HasVars lits.now) }
+{
+    let mut vars = 0;
+    for lit in lits {
+        if lit.var >= PackedLit::VARS {
+            return Err(Memory);
+        }
+        vars = larger(vars, lit.var + 1);
+    }
+    Ok(vars)
+}
+
+/// Makes a list of ids at least so long, with zeros.
+fn grow_ids(ids: &mut Vec<u32>, count: usize) -> Result<(), Memory>
+    ensures kept { IsLonger 0 ids.old.items ids.new.items }
+    ensures ok { OnOk result (count ≤ length ids.new.items) }
+{
+    if count <= ids.len() {
+        return Ok(());
+    }
+    ids.resize(count, 0)?;
+    Ok(())
+}
+
+/// Makes a list of marks at least so long, with marks of nothing.
+fn grow_marks(marks: &mut Vec<Mark>, count: usize) -> Result<(), Memory>
+    ensures kept { IsLonger no_mark marks.old.items marks.new.items }
+    ensures ok { OnOk result (count ≤ length marks.new.items) }
+{
+    if count <= marks.len() {
+        return Ok(());
+    }
+    marks.resize(count, Mark { head: 0, done: 0 })?;
+    Ok(())
+}
+
+/// Makes room for a clause in the lists of its literals. After `Memory` there may be room for a part.
+fn claim_all(lists: &mut Vec<WatchList>, clause: &[Lit]) -> Result<(), Memory>
+    requires { (l : Lit) → Contains clause.now l → packed l < length lists.old.items }
+    ensures room { HasMoreRoom lists.old.items lists.new.items }
+    ensures ok { OnOk result (ClaimsAll lists.old.items lists.new.items clause.now) }
+{
+    let _count = lists.len();
+    for lit in clause {
+        claim_id(lists, code_of(*lit))?;
+    }
+    Ok(())
+}
+
+/// How many true literals there were before a literal became false, or how many there are where it isn't false.
+fn rank_of(trail: &Trail, lit: Lit) -> usize
+    ensures { IsUnfalse trail.now.lits lit result }
+{
+    match trail.value(lit) {
+        Value::False => trail.position(!lit),
+        _ => trail.len(),
+    }
+}
+
+/// Whether a literal is the one that is passed over.
+fn is_other(other: Option<Lit>, lit: Lit) -> bool
+    ensures { IsTrue result ↔ IsOther other lit }
+{
+    match other {
+        None => false,
+        Some(passed) => passed == lit,
+    }
+}
+
+/// The best literal so far, or the next one: where it isn't passed over, and isn't false or became false later.
+fn consider(trail: &Trail, best: Option<Lit>, other: Option<Lit>, lit: Lit) -> Option<Lit>
+    ensures { Considers best other lit result }
+{
+    if is_other(other, lit) {
+        return best;
+    }
+    match best {
+        None => Some(lit),
+        Some(held) => {
+            if rank_of(trail, lit) > rank_of(trail, held) {
+                return Some(lit);
+            }
+            Some(held)
+        }
+    }
+}
+
+/// The literal of the clause, but for one, that isn't false or became false last.
+fn pick_one(trail: &Trail, clause: &[Lit], other: Option<Lit>) -> Option<Lit>
+    ensures { IsPick clause.now other result }
+{
+    let mut best = None;
+    for lit in clause {
+        best = consider(trail, best, other, *lit);
+    }
+    best
+}
+
+/// A pair of two literals.
+fn pair_with(first: Lit, second: Lit) -> Pair
+    requires first { first.var < 2 ^ 31 }
+    requires second { second.var < 2 ^ 31 }
+    ensures first { result.first ≡ first }
+    ensures second { result.second ≡ second }
+{
+    Pair {
+        first: PackedLit::pack(first),
+        second: PackedLit::pack(second),
+    }
+}
+
+/// The pair of a literal and the best other one.
+fn pick_second(trail: &Trail, clause: &[Lit], first: Lit) -> Pair
+    requires packs { (l : Lit) → Contains clause.now l → l.var < 2 ^ 31 }
+    requires there { Contains clause.now first }
+    ensures { IsPairOf clause.now result }
+{
+    match pick_one(trail, clause, Some(first)) {
+        None => pair_with(first, first),
+        Some(second) => pair_with(first, second),
+    }
+}
+
+/// The pair that a new clause watches: two different literals that aren't false or became false last. A clause
+/// without two different literals watches nothing.
+fn pick(trail: &Trail, clause: &[Lit]) -> Pair
+    requires { (l : Lit) → Contains clause.now l → l.var < 2 ^ 31 }
+    ensures { IsPairOf clause.now result }
+{
+    let none = Lit {
+        var: 0,
+        positive: false,
+    };
+    match pick_one(trail, clause, None) {
+        None => pair_with(none, none),
+        Some(first) => pick_second(trail, clause, first),
+    }
+}
+
+/// The greater of two numbers.
+fn larger(a: usize, b: usize) -> usize
+    ensures first { a ≤ result }
+    ensures second { b ≤ result }
+    ensures one_of { (result ≡ a) ⊎ (result ≡ b) }
+{
+    if a <= b { b } else { a }
+}
+
+/// The lesser of two numbers.
+fn smaller(a: usize, b: usize) -> usize
+    ensures first { result ≤ a }
+    ensures second { result ≤ b }
+    ensures one_of { (result ≡ a) ⊎ (result ≡ b) }
+{
+    if a <= b { a } else { b }
+}
+
+/// Lowers a mark to an index.
+fn lower_mark(marks: &mut Vec<Mark>, at: usize, index: usize)
+    requires { at < length marks.old.items }
+    ensures { LowersOne marks.old.items marks.new.items at index }
+{
+    let mark = mark_in(marks.as_slice(), at);
+    marks[at] = Mark {
+        head: smaller(mark.head, index),
+        done: mark.done,
+    };
+}
+
+/// Lowers the marks of levels to an index, from the last level down to one that began no later.
+fn lower_marks(marks: &mut Vec<Mark>, starts: &[usize], index: usize)
+    requires within { (k : ℕ) → k < length starts.now → slice_index starts.now k < length marks.old.items }
+    requires levels { (i j : ℕ) → i ≤ j → j < length starts.now → slice_index starts.now i ≤ slice_index starts.now j }
+    requires heads { (n : ℕ) → (mark_at marks.old.items n).head ≤ n }
+    ensures { LowersMarks marks.old.items marks.new.items starts.now 0 index }
+{
+    let mut level = starts.len();
+    'levels: while level > 0 {
+        let start = starts[level - 1];
+        if start <= index {
+            return;
+        }
+        lower_mark(marks, start, index);
+        level -= 1;
+    }
+}
+
+impl Engine {
+    /// Makes room for the variables below `vars`.
+    fn make_room(&mut self, vars: usize) -> Result<(), Memory>
+        requires kept { IsKept (state_of self.old) }
+        requires few { vars ≤ 2 ^ 31 }
+        ensures kept { IsKept (state_of self.new) }
+        ensures room { MakesRoom (state_of self.old) (state_of self.new) }
+        ensures ok { OnOk result (vars ≤ self.new.trail.vars) }
+    {
+        if vars <= self.trail.vars() {
+            return Ok(());
+        }
+        grow_lists(self.alloc, &mut self.lists, 2 * vars)?;
+        grow_ids(&mut self.reasons, vars)?;
+        grow_marks(&mut self.marks, vars + 1)?;
+        self.trail.make_room(vars)?;
+        Ok(())
+    }
+
+    /// Takes back how far propagation has come to an index, now and at each level.
+    fn lower(&mut self, index: usize)
+        requires kept { IsKept (state_of self.old) }
+        ensures kept { IsKept (state_of self.new) }
+        ensures low { Lowers (state_of self.old) (state_of self.new) index }
+    {
+        let _form = self.trail.len();
+        lower_marks(&mut self.marks, self.trail.starts(), index);
+        self.head = smaller(self.head, index);
+    }
+
+    /// Has a new clause stand in the lists of its pair, or among those that watch nothing.
+    fn join(&mut self, pair: Pair, id: u32)
+        requires room { HasPairRoom self.old.lists.items pair }
+        requires short { vec_len self.old.short < vec_capacity self.old.short }
+        ensures rest { state_of self.new ≡ record (state_of self.old) { lists = self.new.lists.items; short = self.new.short.items } }
+        ensures joins { Joins self.old.lists.items self.new.lists.items pair id }
+        ensures alone { pair.first ≡ pair.second → self.new.short.items ≡ self.old.short.items ++ id ∷ [] }
+        ensures apart { pair.first ≢ pair.second → self.new.short.items ≡ self.old.short.items }
+    {
+        if pair.first.code() == pair.second.code() {
+            let _ = self.short.push(id);
+            return;
+        }
+        push_id(&mut self.lists, pair.first.code(), id);
+        push_id(&mut self.lists, pair.second.code(), id);
+    }
+
+    /// Adds a clause with its pair and its id, for which there is room. After `Memory` nothing has changed.
+    fn insert(&mut self, clause: &[Lit], pair: Pair, id: u32, index: usize) -> Result<(), Memory>
+        requires kept { IsKept (state_of self.old) }
+        requires ready { IsReady (state_of self.old) clause.now }
+        requires pair { IsPairOf clause.now pair }
+        requires id_is { id ≡ length self.old.arena.clauses + 1 }
+        requires low { IsLow (state_of self.old) index }
+        requires first { IsUnfalse self.old.trail.lits pair.first index }
+        requires second { IsUnfalse self.old.trail.lits pair.second index }
+        ensures kept { IsKept (state_of self.new) }
+        ensures ok { OnOk result (Inserts (state_of self.old) (state_of self.new) clause.now) }
+        ensures err { OnErr result (state_of self.new ≡ state_of self.old) }
+    {
+        let joined = Pair {
+            first: pair.first,
+            second: pair.second,
+        };
+        self.short.reserve(1)?;
+        self.arena.push(self.alloc, clause, pair)?;
+        self.join(joined, id);
+        Ok(())
+    }
+
+    /// The id that the next clause has.
+    fn next_id(&self) -> Result<u32, Memory>
+        ensures { IfOk result (λ id. id ≡ length self.now.arena.clauses + 1) }
+    {
+        let count = self.arena.len();
+        if count >= u32::MAX as usize {
+            return Err(Memory);
+        }
+        Ok(count as u32 + 1)
+    }
+
+    /// Makes room for a clause and its variables.
+    fn prepare(&mut self, clause: &[Lit]) -> Result<(), Memory>
+        requires { IsKept (state_of self.old) }
+        ensures kept { IsKept (state_of self.new) }
+        ensures room { MakesRoom (state_of self.old) (state_of self.new) }
+        ensures ok { OnOk result (IsReady (state_of self.new) clause.now) }
+    {
+        let vars = vars_of(clause)?;
+        self.make_room(vars)?;
+        claim_all(&mut self.lists, clause)?;
+        Ok(())
+    }
+
+    /// Adds a clause, and gives its id.
+    pub(crate) fn add(&mut self, clause: &[Lit]) -> Result<u32, Memory>
+        requires { IsKept (state_of self.old) }
+        ensures kept { IsKept (state_of self.new) }
+        ensures ok { IfOk result (GainsClause (search_of (state_of self.old)) (search_of (state_of self.new)) clause.now) }
+        ensures err { OnErr result (StaysSearch (search_of (state_of self.old)) (search_of (state_of self.new))) }
+    {
+        self.prepare(clause)?;
+        let id = self.next_id()?;
+        let pair = pick(&self.trail, clause);
+        let index = smaller(
+            rank_of(&self.trail, pair.first.lit()),
+            rank_of(&self.trail, pair.second.lit()),
+        );
+        self.lower(index);
+        self.insert(clause, pair, id, index)?;
+        Ok(id)
+    }
+
+    /// Begins a level without a literal. After `Memory` all is as before.
+    fn begin_level(&mut self) -> Result<(), Memory>
+        requires { IsKept (state_of self.old) }
+        ensures kept { IsKept (state_of self.new) }
+        ensures ok { OnOk result (state_of self.new ≡ begun (with_mark (state_of self.old))) }
+        ensures err { OnErr result (state_of self.new ≡ with_mark (state_of self.old)) }
+    {
+        let _form = self.trail.len();
+        self.mark();
+        self.trail.begin_level()?;
+        Ok(())
+    }
+
+    /// Makes a literal of a block true, unless it is true already. It isn't false.
+    fn assume_one(&mut self, lit: Lit)
+        requires kept { IsKept (state_of self.old) }
+        requires known { lit.var < self.old.trail.vars }
+        requires not_false { Contains self.old.trail.lits (negation lit) → ⊥ }
+        ensures kept { IsKept (state_of self.new) }
+        ensures assumed { Assumes (state_of self.old) (state_of self.new) lit }
+    {
+        let _form = self.trail.len();
+        match self.trail.value(lit) {
+            Value::Unset => self.imply(lit, 0),
+            _ => {}
+        }
+    }
+
+    /// Makes the literals of a block true.
+    fn assume_all(&mut self, lits: &[Lit])
+        requires kept { IsKept (state_of self.old) }
+        requires known { (l : Lit) → Contains lits.now l → l.var < self.old.trail.vars }
+        requires not_false { (l : Lit) → Contains lits.now l → Contains self.old.trail.lits (negation l) → ⊥ }
+        requires plain { (l : Lit) → Contains lits.now l → Contains lits.now (negation l) → ⊥ }
+        ensures kept { IsKept (state_of self.new) }
+        ensures assumed { AssumesAll (state_of self.old) (state_of self.new) lits.now }
+    {
+        for lit in lits {
+            self.assume_one(*lit);
+        }
+    }
+
+    /// Begins a level with the literals of a block.
+    pub(crate) fn assume_block(&mut self, lits: &[Lit]) -> Result<(), Memory>
+        requires kept { IsKept (state_of self.old) }
+        requires not_false { (l : Lit) → Contains lits.now l → Contains self.old.trail.lits (negation l) → ⊥ }
+        requires plain { (l : Lit) → Contains lits.now l → Contains lits.now (negation l) → ⊥ }
+        ensures kept { IsKept (state_of self.new) }
+        ensures ok { OnOk result (GainsBlock (search_of (state_of self.old)) (search_of (state_of self.new)) lits.now) }
+        ensures err { OnErr result (StaysSearch (search_of (state_of self.old)) (search_of (state_of self.new))) }
+    {
+        let vars = vars_of(lits)?;
+        self.make_room(vars)?;
+        self.begin_level()?;
+        self.assume_all(lits);
+        Ok(())
+    }
+}
