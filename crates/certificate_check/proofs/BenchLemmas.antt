@@ -1,8 +1,6 @@
 -- Clauses over variables, beside more atoms and with one more clause.
-use Rattle.std.proofs.Common.{◌≡◌, ◌⊎◌, ℕ, ◌+◌, ◌-◌, ◌<◌, ◌≤◌, Bool, List, [], ◌∷◌, ◌++◌, length, get_or, map, take, Result, Ok, Err, arith, refl, ap, sym, subst, ◌∙◌, inl, inr, ⊎_elim, append_assoc}
-use Rattle.std.specs.Prelude.{◌↔◌, Contains, slice_get, Option, Some, None}
+use Rattle.std.proofs.Common.{◌≡◌, ℕ, ◌+◌, ◌-◌, ◌<◌, ◌≤◌, List, [], ◌∷◌, ◌++◌, length, get_or, map, take, Result, Ok, Err, arith, refl, ap, sym, subst, ◌∙◌, ⊎_elim, append_assoc}
 use Rattle.std.proofs.Math.ListN.{get_or-append}
-use Rattle.std.proofs.Math.Seq.{get_or-append_seam}
 use Rattle.std.proofs.lemmas.List.{append-nil, length-append, length-map, map-append, get_or-map, take_more}
 use Rattle.std.proofs.lemmas.Option.{get_or_from_slice_get, slice_get_cases, none-some}
 use Rattle.std.proofs.lemmas.Bool.{cases_order}
@@ -22,7 +20,7 @@ use Rattle.meaning_atoms.specs.declared.atom.AtomLit.{AtomLit}
 use Rattle.meaning_atoms.specs.Literals.{negated}
 use Rattle.meaning_atoms.proofs.SameAtoms.{same_literal}
 use Rattle.atom_table.specs.Numbering.{AreDifferent, Numbers}
-use Rattle.certificate_check.specs.Benches.{lit_over, clause_over, clauses_over, IsBench, Spells, HasGrown, Takes}
+use Rattle.certificate_check.specs.Benches.{lit_over, clause_over, clauses_over, IsBench, Spells, HasGrown}
 
 -- ---- more atoms
 
@@ -87,7 +85,8 @@ spells_more old new lits front literal var spells numbers =
     let grown = numbered_grown old new literal.atom var numbers in
     let lit : Lit = record { var = var; positive = literal.positive } in
     let read : lit_over new lit ≡ literal =
-    ap (λ a. record { atom = a; positive = literal.positive }) (get_or_from_slice_get new var literal.atom Ad numbers.at) in
+    ap (λ a. record { atom = a; positive = literal.positive }) (get_or_from_slice_get new var literal.atom Ad
+    numbers.at) in
     record {
       known = pushed_room (length new) lits lit
           (wider_room (length old) (length new) lits (grown_length old new grown) spells.known)
@@ -97,7 +96,8 @@ spells_more old new lits front literal var spells numbers =
           ∙ ap (λ x. front ++ x ∷ []) read);
     }
 
-pub spells_next : (old new : List Atom) (before after : List Lit) (clause : List AtomLit) (i : ℕ) (d : AtomLit) (var : ℕ)
+pub spells_next : (old new : List Atom) (before after : List Lit) (clause : List AtomLit) (i : ℕ) (d : AtomLit)
+    (var : ℕ)
     → i < length clause → Spells old before (take i clause) → Numbers old new (get_or clause i d).atom var
     → after ≡ before ++ record { var = var; positive = (get_or clause i d).positive } ∷ []
     → Spells new after (take (i + 1) clause)
@@ -117,7 +117,8 @@ kept old new clauses truths truths' vars vars' grown same le bench = record {
   idle = same ∙ bench.idle;
 }
 
-have_more : (bound : ℕ) (clauses : List (List Lit)) (lits : List Lit) → HaveRoomFor bound clauses → HasRoomFor bound lits
+have_more : (bound : ℕ) (clauses : List (List Lit)) (lits : List Lit) → HaveRoomFor bound clauses
+    → HasRoomFor bound lits
     → HaveRoomFor bound (clauses ++ lits ∷ [])
 have_more bound clauses lits room here clause c =
     ⊎_elim (λ old. room clause old) (λ (e : lits ≡ clause). subst (λ x. HasRoomFor bound x) e here)
@@ -163,7 +164,8 @@ over_image atoms clause room = record {
 }
 
 same_var : (a b : Lit) → a.var ≡ b.var → a.positive ≡ b.positive → a ≡ b
-same_var a b e f = ap (λ v. record { var = v; positive = a.positive }) e ∙ ap (λ p. record { var = b.var; positive = p }) f
+same_var a b e f = ap (λ v. record { var = v; positive = a.positive }) e
+    ∙ ap (λ p. record { var = b.var; positive = p }) f
 
 different_vars : (atoms : List Atom) (v w : ℕ) → AreDifferent atoms → v < length atoms → w < length atoms
     → get_or atoms v Ad ≡ get_or atoms w Ad → v ≡ w
@@ -210,7 +212,8 @@ pub checks_over : (atoms : List Atom) (clauses : List (List Lit)) (lits : List L
     → AreDifferent atoms → HaveRoomFor (length atoms) clauses → Spells atoms lits clause
     → Checks negation clauses lits hints outcome → Checks negated (clauses_over atoms clauses) clause hints outcome
 checks_over atoms clauses lits clause hints outcome different room spells h =
-    let moved : IsMovedCheck (lit_over atoms) (λ l. l.var < length atoms) (λ x. x) clauses (clauses_over atoms clauses) lits
+    let moved : IsMovedCheck (lit_over atoms) (λ l. l.var < length atoms) (λ x. x) clauses
+    (clauses_over atoms clauses) lits
     clause hints = record {
       clause_image = subst (λ x. IsImage (lit_over atoms) (λ l. l.var < length atoms) lits x) spells.same
           (over_image atoms lits spells.known);
@@ -230,7 +233,8 @@ taken_over old atoms clauses lits given clause hints steps outcome grown differe
     let known : HaveRoomFor (length atoms) clauses =
     λ c at. wider_room (length old) (length atoms) c (grown_length old atoms grown) (room c at) in
     let there : Checks negation clauses lits hints outcome =
-    subst (λ x. Checks negation clauses lits x outcome) same (subst (λ x. Checks negation clauses x steps outcome) e h) in
+    subst (λ x. Checks negation clauses lits x outcome) same (subst (λ x. Checks negation clauses x steps outcome) e
+    h) in
     subst (λ x. Checks negated x clause hints outcome) (clauses_same old atoms clauses grown room)
     (checks_over atoms clauses lits clause hints outcome different known spells there)
 

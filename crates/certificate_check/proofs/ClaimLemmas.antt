@@ -1,8 +1,7 @@
 -- Claims by their parts are those of the table.
-use Rattle.std.proofs.Common.{◌≡◌, ◌⊎◌, ℕ, Bool, true, false, ◌&&◌, ◌||◌, List, [], ◌∷◌, ◌++◌, zero, suc, ◌+◌, ◌<◌, length, get_or, take, append_assoc, map, filter, refl, ap, sym, subst, ◌∙◌, inl, inr, ⊎_elim, eqb, arith}
-use Rattle.std.specs.Prelude.{◌↔◌, Contains}
+use Rattle.std.proofs.Common.{◌≡◌, ℕ, Bool, true, false, ◌&&◌, List, [], ◌∷◌, ◌++◌, zero, suc, ◌+◌, ◌<◌, length, get_or, take, append_assoc, map, filter, refl, ap, sym, subst, ◌∙◌, inl, inr, ⊎_elim, eqb, arith}
+use Rattle.std.specs.Prelude.{Contains}
 use Rattle.std.specs.List.{list_any}
-use Rattle.std.proofs.lemmas.Bool.{cases_Bool, false≢true}
 use Rattle.std.proofs.lemmas.List.{append-nil, map-append, take_more}
 use Rattle.std.proofs.lemmas.List.Elements.{Contains-append_left, Contains-append_right, Contains-append_cases}
 use Rattle.plain_lists.proofs.Filters.{Contains-filter}
@@ -15,7 +14,7 @@ use Rattle.meaning_atoms.specs.Literals.{affirmed, denied}
 use Rattle.certificate_claims.specs.Refutations.{Claim as TableClaim}
 use Rattle.certificate_claims.specs.SetLiterals.{has, hits, is_ranged, members, range_of, hit_by_any, are_in, are_out, are_ranged}
 use Rattle.certificate_check.specs.declared.claim.Claim.{Claim}
-use Rattle.certificate_check.specs.ClaimParts.{IsSetGoal, IsGoal, IsClaimOf, AreClaims}
+use Rattle.certificate_check.specs.ClaimParts.{IsSetGoal, IsClaimOf, AreClaims}
 use Rattle.certificate_check.specs.SetFacts.{IsHitBy}
 use Rattle.certificate_check.specs.SideClauses.{sides_of}
 use Rattle.certificate_check.proofs.SideLemmas.{has_member, member_has, same_truth}

@@ -1,5 +1,5 @@
 -- The first flaw of refutations in turn.
-use Rattle.std.proofs.Common.{◌≡◌, ◌⊎◌, ℕ, ◌+◌, ◌<◌, List, [], length, get_or, refl, ap, sym, subst, ◌∙◌, arith, inl, inr, ⊎_elim}
+use Rattle.std.proofs.Common.{◌≡◌, ℕ, ◌+◌, ◌<◌, List, length, get_or, refl, ap, sym, subst, ◌∙◌, arith, inr, ⊎_elim}
 use Rattle.std.specs.Prelude.{Option, Some, None}
 use Rattle.std.proofs.lemmas.Bool.{cases_eq}
 use Rattle.std.proofs.lemmas.List.{get_or_default}
@@ -12,7 +12,7 @@ use Rattle.certificate_claims.specs.Acceptance.{no_refutation}
 use Rattle.certificate_check.specs.declared.claim.Claim.{Claim}
 use Rattle.certificate_check.specs.declared.refuting.Flaw.{Flaw}
 use Rattle.certificate_check.specs.declared.refuting.Flaw.TheVariants.{None as NoFlaw, BadStep, OpenLiteral}
-use Rattle.certificate_check.specs.Flaws.{HasFlaw, IsFlawWithin, flaw_told, no_claim, FlawAt, FirstFlaw, FindsFlaws}
+use Rattle.certificate_check.specs.Flaws.{HasFlaw, IsFlawWithin, flaw_told, no_claim, FlawAt, FindsFlaws}
 
 pub flaw_within : (f : Framework) (c : Claim) (steps : List Step) (flaw : Flaw) → HasFlaw f c steps flaw
     → IsFlawWithin (length steps) flaw
@@ -33,13 +33,15 @@ pub record ReadsAt (claims : List Claim) (refutations : List Refutation) (i : �
   pub claim_is : c ≡ get_or claims i c
   pub steps_are : steps ≡ (get_or refutations i r).steps
 
-the_claim : (claims : List Claim) (refutations : List Refutation) (i : ℕ) (c : Claim) (r : Refutation) (steps : List Step)
+the_claim : (claims : List Claim) (refutations : List Refutation) (i : ℕ) (c : Claim) (r : Refutation)
+    (steps : List Step)
     → ReadsAt claims refutations i c r steps → c ≡ get_or claims i no_claim
 the_claim claims refutations i c r steps at =
     let lt : i < length refutations = at.below in
     at.claim_is ∙ get_or_default claims i c no_claim (omega (arith, at.same_length))
 
-the_steps : (claims : List Claim) (refutations : List Refutation) (i : ℕ) (c : Claim) (r : Refutation) (steps : List Step)
+the_steps : (claims : List Claim) (refutations : List Refutation) (i : ℕ) (c : Claim) (r : Refutation)
+    (steps : List Step)
     → ReadsAt claims refutations i c r steps → steps ≡ (get_or refutations i no_refutation).steps
 the_steps claims refutations i c r steps at =
     at.steps_are ∙ ap (λ x. x.steps) (get_or_default refutations i r no_refutation at.below)
@@ -48,7 +50,8 @@ flaw_here : (f : Framework) (claims : List Claim) (refutations : List Refutation
     (steps : List Step) (flaw : Flaw) → ReadsAt claims refutations i c r steps → HasFlaw f c steps flaw
     → FlawAt f claims refutations i flaw
 flaw_here f claims refutations i c r steps flaw at h =
-    subst (λ x. HasFlaw f x (get_or refutations i no_refutation).steps flaw) (the_claim claims refutations i c r steps at)
+    subst (λ x. HasFlaw f x (get_or refutations i no_refutation).steps flaw)
+    (the_claim claims refutations i c r steps at)
     (subst (λ x. HasFlaw f c x flaw) (the_steps claims refutations i c r steps at) h)
 
 pub none_next : (f : Framework) (claims : List Claim) (refutations : List Refutation) (i : ℕ) (c : Claim)

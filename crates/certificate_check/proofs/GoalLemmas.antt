@@ -1,5 +1,5 @@
 -- Literals that a fact makes false.
-use Rattle.std.proofs.Common.{◌≡◌, List, [], Bool, true, false, not, ap, subst, sym, refl}
+use Rattle.std.proofs.Common.{◌≡◌, [], Bool, true, false, not, ap, subst, sym, refl}
 use Rattle.std.specs.Prelude.{◌↔◌, IsTrue}
 use Rattle.semantics.specs.Frameworks.{Framework}
 use Rattle.meaning_atoms.specs.declared.atom.Atom.{Atom}

@@ -1,6 +1,6 @@
 -- The test of a range is its fact.
-use Rattle.std.proofs.Common.{◌≡◌, ◌⊎◌, ℕ, Bool, true, false, not, ◌&&◌, ◌||◌, ◌==◌, List, [], ◌∷◌, map, filter, refl, ap, sym, subst, ◌∙◌, inl, inr, ⊎_elim, eqb, arith}
-use Rattle.std.specs.Prelude.{◌↔◌, Contains, IsTrue}
+use Rattle.std.proofs.Common.{◌≡◌, ◌⊎◌, ℕ, Bool, true, false, not, ◌&&◌, ◌||◌, List, [], ◌∷◌, map, filter, refl, ap, subst, inl, inr, ⊎_elim, eqb, arith}
+use Rattle.std.specs.Prelude.{Contains}
 use Rattle.std.proofs.lemmas.Bool.{eqb-true, cases_Bool}
 use Rattle.std.proofs.lemmas.Bool.Decides.{nat_tests}
 use Rattle.plain_lists.specs.Members.{IsSetOf}

@@ -1,6 +1,6 @@
 -- What is found from each section on.
-use Rattle.std.proofs.Common.{◌≡◌, ◌⊎◌, ℕ, zero, suc, ◌+◌, ◌-◌, ◌<◌, ◌≤◌, List, [], ◌∷◌, ◌++◌, length, get_or, map, take, refl, ap, sym, subst, ◌∙◌, arith, inl, inr, ⊎_elim, append_assoc}
-use Rattle.std.specs.Prelude.{Contains, Option, Some, None, flat_map}
+use Rattle.std.proofs.Common.{◌≡◌, ℕ, ◌+◌, ◌-◌, ◌<◌, List, [], ◌∷◌, length, get_or, map, refl, ap, sym, subst, ◌∙◌, arith, inl, inr, ⊎_elim}
+use Rattle.std.specs.Prelude.{Contains, Option, Some, None}
 use Rattle.std.proofs.lemmas.Option.{none-some}
 use Rattle.std.proofs.lemmas.List.{length-map}
 use Rattle.semantics.specs.Frameworks.{Framework}
@@ -17,9 +17,9 @@ use Rattle.certificate_claims.specs.declared.certificate.Refutation.{Refutation}
 use Rattle.iccma_tasks.specs.declared.answer.Answer.{Answer}
 use Rattle.certificate_claims.specs.Acceptance.{no_claim as no_table_claim, PassesSet, PassesTest}
 use Rattle.certificate_claims.specs.Claims.{claims, row_of, sets_of}
-use Rattle.certificate_claims.specs.Refutations.{Claim as TableClaim, IsClosed, StepHolds, step_clause, no_step}
+use Rattle.certificate_claims.specs.Refutations.{Claim as TableClaim, IsClosed, step_clause, no_step}
 use Rattle.certificate_claims.proofs.Found.{AllPass, pass_append, pass_map_from, pass_cons, pass_nil, pass_parts, found_numbered, then_numbered, found_in_part, accepted_found}
-use Rattle.certificate_claims.specs.Verdicts.{Look, Finds, PassesLook, EndsClosed, told, indices, refutation_looks, steps_at, claim_at, at_step, at_last, at_set, at_witness, looks, IsVerdict}
+use Rattle.certificate_claims.specs.Verdicts.{Look, PassesLook, EndsClosed, told, indices, refutation_looks, steps_at, claim_at, at_step, at_last, at_set, at_witness, looks, IsVerdict}
 use Rattle.certificate_check.specs.declared.claim.Claim.{Claim}
 use Rattle.certificate_check.specs.declared.refuting.Flaw.{Flaw}
 use Rattle.certificate_check.specs.declared.refuting.Flaw.TheVariants.{None as NoFlaw, BadStep, OpenLiteral}
@@ -27,7 +27,7 @@ use Rattle.certificate_check.specs.ClaimParts.{IsClaimOf, AreClaims}
 use Rattle.certificate_check.specs.Flaws.{HasFlaw, EndsClosedBy, flaw_told, no_claim, FlawAt, FirstFlaw, FindsFlaws}
 use Rattle.certificate_check.specs.Sections.{FindsFrom, refutation_section, after_sets, after_set_count, after_witnesses, after_shape}
 use Rattle.certificate_check.specs.SideClauses.{side_of, sides_of}
-use Rattle.certificate_check.specs.Standing.{IsClosedBy, AreClosed, StandsAt, IsFirstWithout}
+use Rattle.certificate_check.specs.Standing.{IsClosedBy, StandsAt, IsFirstWithout}
 use Rattle.certificate_check.proofs.ClaimLemmas.{same_length, claim_at_index}
 
 -- ---- refutations
@@ -85,7 +85,8 @@ claim_here : (f : Framework) (row : Row) (cert : Certificate) (cs : List Claim) 
 claim_here f row cert cs r all long lt =
     claim_at_index f cs (claims f row cert.sets) r no_claim no_table_claim all (omega (arith, long))
 
-part_passes : (f : Framework) (asked : Asked) (row : Row) (shown : List (List ℕ)) (cert : Certificate) (c : Claim) (r : ℕ)
+part_passes : (f : Framework) (asked : Asked) (row : Row) (shown : List (List ℕ)) (cert : Certificate) (c : Claim)
+    (r : ℕ)
     → IsClaimOf f c (claim_at f row cert r) → HasFlaw f c (steps_at cert r) NoFlaw
     → AllPass (Pass f asked row shown cert) (refutation_looks cert r)
 part_passes f asked row shown cert c r is h =
@@ -101,19 +102,23 @@ some_same a b e = cc
 some_is_none : {X : Type 0} (a : X) → None ≡ Some a → ⊥
 some_is_none a e = none-some a e
 
-part_found : (f : Framework) (asked : Asked) (row : Row) (shown : List (List ℕ)) (cert : Certificate) (c : Claim) (r : ℕ)
+part_found : (f : Framework) (asked : Asked) (row : Row) (shown : List (List ℕ)) (cert : Certificate) (c : Claim)
+    (r : ℕ)
     (flaw : Flaw) (verdict : Verdict)
     → IsClaimOf f c (claim_at f row cert r) → HasFlaw f c (steps_at cert r) flaw
     → flaw_told r (length (steps_at cert r)) flaw ≡ Some verdict
     → FindsFrom f asked row shown cert (refutation_looks cert r) verdict
 part_found f asked row shown cert c r NoFlaw verdict is h e = absurd (some_is_none verdict e)
 part_found f asked row shown cert c r (BadStep k) verdict is h e =
-    subst (λ v. FindsFrom f asked row shown cert (refutation_looks cert r) v) (some_same (told cert (at_step r k)) verdict e)
-    (found_numbered (Pass f asked row shown cert) (told cert) (at_step r) (at_last r ∷ []) (length (steps_at cert r)) k h.0
+    subst (λ v. FindsFrom f asked row shown cert (refutation_looks cert r) v) (some_same (told cert
+    (at_step r k)) verdict e)
+    (found_numbered (Pass f asked row shown cert) (told cert) (at_step r) (at_last r ∷ []) (length
+    (steps_at cert r)) k h.0
     (λ j lt. stands_there f c (claim_at f row cert r) (steps_at cert r) j is (h.1.0 j lt))
     (λ stands. h.1.1 (stands_back f c (claim_at f row cert r) (steps_at cert r) k is stands)))
 part_found f asked row shown cert c r OpenLiteral verdict is h e =
-    subst (λ v. FindsFrom f asked row shown cert (refutation_looks cert r) v) (some_same (told cert (at_last r)) verdict e)
+    subst (λ v. FindsFrom f asked row shown cert (refutation_looks cert r) v) (some_same (told cert
+    (at_last r)) verdict e)
     (then_numbered (Pass f asked row shown cert) (told cert) (at_step r) (at_last r ∷ []) (length (steps_at cert r))
     (told cert (at_last r)) (λ j lt. stands_there f c (claim_at f row cert r) (steps_at cert r) j is (h.0 j lt))
     (inr ((λ ends. h.1 (ends_back f c (claim_at f row cert r) (steps_at cert r) is ends)), refl)))
@@ -137,7 +142,8 @@ refutations_found f asked row shown cert cs verdict all long found = ⊎_elim
     subst (λ v. FindsFrom f asked row shown cert (refutation_section cert) v) (sym h.0)
     (accepted_found (Pass f asked row shown cert) (told cert) (refutation_section cert)
     (pass_parts (Pass f asked row shown cert) (refutation_looks cert) (length cert.refutations)
-    (λ r lt. part_passes f asked row shown cert (get_or cs r no_claim) r (claim_here f row cert cs r all long lt) (h.1 r lt)))))
+    (λ r lt. part_passes f asked row shown cert (get_or cs r no_claim) r (claim_here f row cert cs r all long lt)
+    (h.1 r lt)))))
     (λ (first : FirstFlaw f cs cert.refutations verdict).
     found_in_part (Pass f asked row shown cert) (told cert) (refutation_looks cert) verdict (length cert.refutations)
     first.index first.within
@@ -156,7 +162,8 @@ as_many f row cert cs all = same_length f cs (claims f row cert.sets) all
 
 -- ---- sections
 
-pub count_failed : (f : Framework) (asked : Asked) (row : Row) (shown : List (List ℕ)) (cert : Certificate) (cs : List Claim)
+pub count_failed : (f : Framework) (asked : Asked) (row : Row) (shown : List (List ℕ)) (cert : Certificate)
+    (cs : List Claim)
     (refs : List Refutation) (sets : List (List ℕ)) → sets ≡ cert.sets → AreClaims f cs (claims f row sets)
     → refs ≡ cert.refutations → (length refs ≡ length cs → ⊥)
     → FindsFrom f asked row shown cert (after_sets cert) (Rejected RefutationCount 0 0)
@@ -185,7 +192,8 @@ pub set_failed : (f : Framework) (asked : Asked) (row : Row) (shown : List (List
 set_failed f asked row shown cert given k e first =
     let here : IsFirstWithout (λ j. PassesSet f asked row j (get_or cert.sets j [])) (length cert.sets) (Some k) =
     subst (λ x. IsFirstWithout (λ j. PassesSet f asked row j (get_or x j [])) (length x) (Some k)) e first in
-    found_numbered (Pass f asked row shown cert) (told cert) at_set (after_sets cert) (length cert.sets) k here.0 here.1.0
+    found_numbered (Pass f asked row shown cert) (told cert) at_set (after_sets cert)
+    (length cert.sets) k here.0 here.1.0
     here.1.1
 
 pub sets_passed : (f : Framework) (asked : Asked) (row : Row) (shown : List (List ℕ)) (cert : Certificate)
@@ -196,7 +204,8 @@ pub sets_passed : (f : Framework) (asked : Asked) (row : Row) (shown : List (Lis
 sets_passed f asked row shown cert given verdict e all found =
     let here : IsFirstWithout (λ j. PassesSet f asked row j (get_or cert.sets j [])) (length cert.sets) None =
     subst (λ x. IsFirstWithout (λ j. PassesSet f asked row j (get_or x j [])) (length x) None) e all in
-    then_numbered (Pass f asked row shown cert) (told cert) at_set (after_sets cert) (length cert.sets) verdict here found
+    then_numbered (Pass f asked row shown cert) (told cert) at_set (after_sets cert)
+    (length cert.sets) verdict here found
 
 pub witness_failed : (f : Framework) (asked : Asked) (row : Row) (shown : List (List ℕ)) (cert : Certificate)
     (bad : Option ℕ) (k : ℕ) → bad ≡ Some k
@@ -216,7 +225,8 @@ pub witnesses_passed : (f : Framework) (asked : Asked) (row : Row) (shown : List
 witnesses_passed f asked row shown cert bad verdict e all found =
     let here : IsFirstWithout (λ j. PassesTest f asked row (get_or shown j [])) (length shown) None =
     subst (λ x. IsFirstWithout (λ j. PassesTest f asked row (get_or shown j [])) (length shown) x) e all in
-    then_numbered (Pass f asked row shown cert) (told cert) at_witness (after_witnesses cert) (length shown) verdict here
+    then_numbered (Pass f asked row shown cert) (told cert) at_witness (after_witnesses cert)
+    (length shown) verdict here
     found
 
 -- what is found of the answer's row and its sets is the verdict

@@ -231,7 +231,8 @@ pub fn check(
 ) -> Result<Verdict, Memory>
     requires reached { IsReachedTask query.now.task.problem query.now.task.semantics }
     ensures verdict { IfOk result (IsVerdict (framework_of framework.now) query.now answer.now certificate.now) }
-    ensures right { IfOk result (λ v. v ≡ Verdict.Accepted → IsRight (framework_of framework.now) query.now answer.now) }
+    ensures right { IfOk result (λ v. v ≡ Verdict.Accepted
+        → IsRight (framework_of framework.now) query.now answer.now) }
 {
     let _kind = framework.kind();
     let row = row(alloc, framework, query, answer)?;

@@ -1,4 +1,4 @@
-use Rattle.std.proofs.Common.{take, false, ◌∙◌, sym, ap, ◌++◌, ◌∷◌, []}
+use Rattle.std.proofs.Common.{◌∙◌, sym, ap, ◌++◌, ◌∷◌, []}
 use Rattle.certificate_check.proofs.BenchLemmas.{grown_more, spells_next}
 use Rattle.certificate_check.proofs.bench.spell.Goals as goal
 

@@ -1,4 +1,4 @@
-use Rattle.std.proofs.Common.{refl, arith, subst, [], ◌∷◌, ◌++◌, map, sym}
+use Rattle.std.proofs.Common.{refl, arith, subst, [], ◌∷◌, ◌++◌, map}
 use Rattle.std.proofs.lemmas.List.{take_all}
 use Rattle.edit_rules.specs.Kinds.{framework_of}
 use Rattle.certificate_claims.specs.Claims.{range_cover, range_free}
@@ -22,4 +22,5 @@ pub returns : goal.returns
 returns c =
     let f = framework_of c.args.framework.now in
     subst (λ xs. AreClaims f c.loop-index.list (range_cover f (c.args.bad ∷ []) c.args.sets.now ∷ []
-    ++ map (range_free f c.args.bad) xs)) (take_all c.loop-index.index c.args.sets.now (omega arith)) c.loop-index.invariant
+    ++ map (range_free f c.args.bad) xs)) (take_all c.loop-index.index c.args.sets.now
+    (omega arith)) c.loop-index.invariant

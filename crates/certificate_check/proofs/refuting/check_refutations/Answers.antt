@@ -1,4 +1,4 @@
-use Rattle.std.proofs.Common.{refl, arith, inl, sym}
+use Rattle.std.proofs.Common.{refl, arith, inl}
 use Rattle.certificate_check.proofs.FlawLemmas.{flaw_within, none_next, first_flaw}
 use Rattle.certificate_check.proofs.refuting.check_refutations.Goals as goal
 

@@ -5,7 +5,8 @@ use Rattle.certificate_check.proofs.sides.add_if_lacking.Goals as goal
 
 pub returns-then-lacking : goal.returns-then-lacking
 returns-then-lacking c =
-    kept_one (λ x. not (has c.args.set.now x)) _ _ _ (sym c.lacks-lacking.ensures ∙ c.if-lacking.true) c.in_ok-push.ensures.items
+    kept_one (λ x. not (has c.args.set.now x)) _ _ _ (sym c.lacks-lacking.ensures
+    ∙ c.if-lacking.true) c.in_ok-push.ensures.items
 
 pub returns : goal.returns
 returns c =

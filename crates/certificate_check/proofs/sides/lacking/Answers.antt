@@ -1,4 +1,4 @@
-use Rattle.std.proofs.Common.{true, not}
+use Rattle.std.proofs.Common.{not}
 use Rattle.certificate_claims.specs.SetLiterals.{has}
 use Rattle.certificate_check.proofs.SideLemmas.{filtered_more}
 use Rattle.certificate_check.proofs.sides.lacking.Goals as goal

@@ -1,4 +1,4 @@
-use Rattle.std.proofs.Common.{◌∙◌, ap, ◌++◌, ◌∷◌, [], true}
+use Rattle.std.proofs.Common.{◌∙◌, ap, ◌++◌, ◌∷◌, []}
 use Rattle.certificate_check.specs.SideClauses.{literal_of}
 use Rattle.certificate_check.proofs.SideLemmas.{mapped_more}
 use Rattle.certificate_check.proofs.sides.push_all.Goals as goal

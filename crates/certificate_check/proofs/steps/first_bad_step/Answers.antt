@@ -7,12 +7,14 @@ loop-index-init c = none_taken _ _ _ _ c.new-bench.ensures
 
 pub returns-then-not-branch : goal.returns-then-not-branch
 returns-then-not-branch c =
-    stops_at _ _ _ _ _ _ _ _ c.loop-index-test.true c.index-steps-index.is c.loop-index.invariant c.in_ok-take_step.ensures
+    stops_at _ _ _ _ _ _ _ _ c.loop-index-test.true c.index-steps-index.is c.loop-index.invariant
+    c.in_ok-take_step.ensures
     c.if-not-branch.true
 
 pub loop-index-preserved : goal.loop-index-preserved
 loop-index-preserved c =
-    takes_next _ _ _ _ _ _ _ _ c.loop-index-test.true c.index-steps-index.is c.loop-index.invariant c.in_ok-take_step.ensures
+    takes_next _ _ _ _ _ _ _ _ c.loop-index-test.true c.index-steps-index.is c.loop-index.invariant
+    c.in_ok-take_step.ensures
     c.if-not-branch.false
 
 pub returns : goal.returns

@@ -1,4 +1,4 @@
-use Rattle.std.proofs.Common.{refl, sym, ◌∙◌}
+use Rattle.std.proofs.Common.{refl}
 use Rattle.std.proofs.lemmas.Bool.{false≢true}
 use Rattle.edit_rules.specs.Kinds.{framework_of}
 use Rattle.certificate_claims.specs.Acceptance.{PassesSet}

@@ -53,5 +53,6 @@ returns-in_ok-push-in-Ok c =
             c.as_slice.ensures.value (c.as_slice-2.ensures.value ∙ c.in_ok-name_steps.ensures) c.in-Ok.ensures.outcome,
       ),
       view_more _ _ _ _ _ _ c.prepare.ensures.grown c.self.invariant.known c.in_ok-prepare.ensures.spelled
-          (pushed_row _ _ _ _ _ c.in_ok-push-in-Ok.ensures.ok c.as_slice-in-Ok.ensures.value c.in_ok-prepare.ensures.packed),
+          (pushed_row _ _ _ _ _ c.in_ok-push-in-Ok.ensures.ok c.as_slice-in-Ok.ensures.value
+          c.in_ok-prepare.ensures.packed),
     )
