@@ -4,12 +4,16 @@ use Rattle.std.specs.Prelude.{Contains}
 use Rattle.argue_outside.specs.Outside.{FaultCounted, HoldsWhole, IsLonger, KnownFile, OtherCountsKept}
 use Rattle.argue_outside.specs.declared.Role.{Role}
 use Rattle.argue_outside.specs.declared.Role.TheVariants.{Framework}
-use Rattle.argue_words.specs.Words.{AreWords, IsGroundedQuery, Request, version, grounded, unknown, requested}
+use Rattle.argue_words.specs.Words.{AreWords, CheckTexts, IsGroundedQuery, Request, version, grounded, checking, unknown, requested}
 use Rattle.argue_words.proofs.RequestLaws.{query_requested, requested_none, requested_query, requested_unknown}
 use Rattle.af_format.specs.AfText.{IsReadable, ReadsAs}
 use Rattle.af_format.proofs.Readings.{ReadsAs-faultless}
 use Rattle.argue_program.specs.Inputs.{HasBytes, HasFirstFault, HasReadFault, Input, IsFirstFaultIn, Reading, StopsAt, input}
-use Rattle.argue_program.specs.Rows.{AnswersFile, EndsCommand, FileText, HasNoInput, IsEndingOf, KeepsAnswer, Row, file_text, files_beside, grounded_row, nothing_kept, row_of, unknown_row, version_row}
+use Rattle.argue_program.specs.Rows.{AnswersFile, EndsCommand, check_row, FileText, HasNoInput, IsEndingOf, KeepsAnswer, Row, file_text, files_beside, grounded_row, nothing_kept, row_of, unknown_row, version_row}
+use Rattle.certificate_claims.specs.declared.verdict.Cause.{Cause as Failure}
+use Rattle.edit_rules.specs.declared.query_fault.QueryFault.{QueryFault}
+use Rattle.iccma_tasks.specs.Tasks.{Asked}
+use Rattle.argue_program.specs.Queries.{asked_by}
 use Rattle.argue_program.specs.Runs.{IsDoneOrMemory, IsFaulty, IsRightFor, IsRunOf, QueriesBytes, RefusesBytes, RefusesLength, RefusesWords}
 use Rattle.argue_program.specs.Texts.{common_text}
 use Rattle.argue_program.specs.Writing.{BreaksFiles, BreaksInText, BreaksOff, IsWritten, Output, WritesFiles}
@@ -18,9 +22,9 @@ use Rattle.argue_program.specs.declared.ended.Cause.{Cause}
 use Rattle.argue_program.specs.declared.ended.Cause.TheVariants as cause
 use Rattle.argue_program.specs.declared.ended.Ended.{Ended}
 use Rattle.argue_program.specs.declared.ended.Limit.TheVariants as limit
-use Rattle.argue_program.specs.declared.ended.Refusal.TheVariants.{Line}
+use Rattle.argue_program.specs.declared.ended.Refusal.TheVariants.{Line, Query}
 use Rattle.argue_program.specs.declared.ended.Status.{Status}
-use Rattle.argue_program.specs.declared.ended.Status.TheVariants.{Done, Usage, InputRefused, ReadFault, WriteFault, WantOfMemory, Limit}
+use Rattle.argue_program.specs.declared.ended.Status.TheVariants.{Done, Usage, InputRefused, ReadFault, WriteFault, WantOfMemory, Limit, Rejected}
 use Rattle.argue_program.specs.declared.ended.Transcript.{Transcript}
 use Rattle.num_text.specs.declared.limit.TheConstants.{INPUT_LIMIT}
 
@@ -80,6 +84,8 @@ readable_sound : (bytes : List ℕ) (line : ℕ) (c : Cause) → IsReadable byte
     → ¬ IsFirstFaultIn (Framework 1) bytes line c
 readable_sound bytes line (cause.Framework c) reads first =
     (ReadsAs-faultless bytes reads.0 reads.1).none line c first.stands
+readable_sound bytes line (cause.Answer c) reads first = first
+readable_sound bytes line (cause.Certificate c) reads first = first
 
 -- and no fault
 readable_or_faulty : (bytes : List ℕ) → IsReadable bytes → ¬ IsFaulty bytes
@@ -141,6 +147,12 @@ module _ (found : Reading) (words : List (List ℕ)) (file bytes : List ℕ) (ke
   never_usage : ¬ EndsQuery found file kept Usage
   never_usage ends = stops_query found file kept Usage (λ e. cc) (λ e. cc) ends
 
+  never_query : (fault : QueryFault) → ¬ EndsQuery found file kept (InputRefused (Query fault))
+  never_query fault ends = stops_query found file kept (InputRefused (Query fault)) (λ e. cc) (λ e. cc) ends
+
+  never_rejected : (failure : Failure) (r s : ℕ) → ¬ EndsQuery found file kept (Rejected failure r s)
+  never_rejected failure r s ends = stops_query found file kept (Rejected failure r s) (λ e. cc) (λ e. cc) ends
+
   -- readable bytes within the limit are answered, but for want of memory
   pub done_or_memory : (end : Status) → IsReadable bytes → length bytes ≤ INPUT_LIMIT → end ≢ WriteFault
       → EndsQuery found file kept end → IsDoneOrMemory end
@@ -148,6 +160,8 @@ module _ (found : Reading) (words : List (List ℕ)) (file bytes : List ℕ) (ke
   done_or_memory Usage reads short whole ends = absurd (never_usage ends)
   done_or_memory (InputRefused (Line r line c)) reads short whole ends =
       absurd (readable_sound bytes line c reads (refused_first r line c ends).1)
+  done_or_memory (InputRefused (Query fault)) reads short whole ends = absurd (never_query fault ends)
+  done_or_memory (Rejected failure r s) reads short whole ends = absurd (never_rejected failure r s ends)
   done_or_memory (ReadFault r) reads short whole ends = absurd (never_unread r ends)
   done_or_memory WriteFault reads short whole ends = absurd (whole refl)
   done_or_memory WantOfMemory reads short whole ends = tt
@@ -162,6 +176,8 @@ module _ (found : Reading) (words : List (List ℕ)) (file bytes : List ℕ) (ke
       (answer_query found file kept (ends (λ e. cc)))) faulty)
   refuses_bytes Usage faulty short ends = absurd (never_usage (ends (λ e. cc)))
   refuses_bytes (InputRefused (Line r line c)) faulty short ends = refused_first r line c (ends (λ e. cc))
+  refuses_bytes (InputRefused (Query fault)) faulty short ends = absurd (never_query fault (ends (λ e. cc)))
+  refuses_bytes (Rejected failure r s) faulty short ends = absurd (never_rejected failure r s (ends (λ e. cc)))
   refuses_bytes (ReadFault r) faulty short ends = absurd (never_unread r (ends (λ e. cc)))
   refuses_bytes WriteFault faulty short ends = tt
   refuses_bytes WantOfMemory faulty short ends = tt
@@ -177,6 +193,8 @@ module _ (found : Reading) (words : List (List ℕ)) (file bytes : List ℕ) (ke
   refuses_length Usage long ends = absurd (never_usage (ends (λ e. cc)))
   refuses_length (InputRefused (Line r line c)) long ends =
       let short = refused_within r line c (ends (λ e. cc)) in absurd (omega arith)
+  refuses_length (InputRefused (Query fault)) long ends = absurd (never_query fault (ends (λ e. cc)))
+  refuses_length (Rejected failure r s) long ends = absurd (never_rejected failure r s (ends (λ e. cc)))
   refuses_length (ReadFault r) long ends = absurd (never_unread r (ends (λ e. cc)))
   refuses_length WriteFault long ends = tt
   refuses_length WantOfMemory long ends = tt
@@ -206,6 +224,8 @@ refuses_words found kept (InputRefused refusal) ends =
     absurd (ends_unknown found kept (InputRefused refusal) (λ e. cc) (λ e. cc) (ends (λ e. cc)))
 refuses_words found kept (ReadFault r) ends =
     absurd (ends_unknown found kept (ReadFault r) (λ e. cc) (λ e. cc) (ends (λ e. cc)))
+refuses_words found kept (Rejected failure r s) ends =
+    absurd (ends_unknown found kept (Rejected failure r s) (λ e. cc) (λ e. cc) (ends (λ e. cc)))
 refuses_words found kept WriteFault ends = tt
 refuses_words found kept WantOfMemory ends = tt
 refuses_words found kept (Limit l) ends = absurd (ends_unknown found kept (Limit l) (λ e. cc) (λ e. cc) (ends (λ e. cc)))
@@ -215,12 +235,18 @@ refuses_words found kept (Limit l) ends = absurd (ends_unknown found kept (Limit
 some_is : {X : Type 0} {x y : X} → Some x ≡ Some y → x ≡ y
 some_is e = cc
 
-none_in : (x : Input) → Contains [] x → ⊥
-none_in x c = let lt : c.0 < 0 = c.1 in absurd (omega arith)
+no_check_files : (holds : List ℕ → KnownFile) (asked : Option Asked) (texts : CheckTexts) (kept : Transcript)
+    (end : Status) (text : Option (List ℕ)) → files_beside text ((check_row holds asked texts).files kept end) ≡ []
+no_check_files holds None texts kept end None = refl
+no_check_files holds None texts kept end (Some text) = refl
+no_check_files holds (Some asked) texts kept end None = refl
+no_check_files holds (Some asked) texts kept end (Some text) = refl
 
-only_in : (x y : Input) → Contains (y ∷ []) x → x ≡ y
-only_in x y (zero, lt, is) = sym is
-only_in x y (suc i, lt, is) = absurd (let past : suc i < 1 = lt in omega arith)
+-- a check keeps nothing
+check_keeps : (holds : List ℕ → KnownFile) (asked : Option Asked) (texts : CheckTexts) (kept : Transcript) (end : Status)
+    → (check_row holds asked texts).Ends kept end → kept ≡ nothing_kept
+check_keeps holds None texts kept end unasked = unasked.0
+check_keeps holds (Some asked) texts kept end checks = checks.0
 
 -- no row writes a file today
 no_files : (holds : List ℕ → KnownFile) (request : Request) (kept : Transcript) (end : Status) (text : Option (List ℕ))
@@ -229,16 +255,10 @@ no_files holds version kept end None = refl
 no_files holds version kept end (Some text) = refl
 no_files holds (grounded file) kept end None = refl
 no_files holds (grounded file) kept end (Some text) = refl
+no_files holds (checking texts) kept end text =
+    no_check_files holds (asked_by texts.task texts.number) texts kept end text
 no_files holds unknown kept end None = refl
 no_files holds unknown kept end (Some text) = refl
-
--- the one role in which inputs are read today
-other_role : (holds : List ℕ → KnownFile) (request : Request) (other : Role) → other ≢ Framework 1
-    → HasNoInput (row_of holds request) other
-other_role holds version other apart = λ x c. absurd (none_in x c)
-other_role holds (grounded file) other apart =
-    λ x c e. apart (e ∙ ap (λ (i : Input). i.role) (only_in x (input (Framework 1) file) c))
-other_role holds unknown other apart = λ x c. absurd (none_in x c)
 
 write_fault_or : (end : Status) → (end ≡ WriteFault) ⊎ (end ≢ WriteFault)
 write_fault_or WriteFault = inl refl
@@ -248,6 +268,7 @@ write_fault_or (InputRefused refusal) = inr (λ e. cc)
 write_fault_or (ReadFault r) = inr (λ e. cc)
 write_fault_or WantOfMemory = inr (λ e. cc)
 write_fault_or (Limit l) = inr (λ e. cc)
+write_fault_or (Rejected failure r s) = inr (λ e. cc)
 
 -- what is decided and then written is a run
 pub IsRunOf-written : (found : Reading) (holds : List ℕ → KnownFile) (count : Role
@@ -286,6 +307,8 @@ right_at : (found : Reading) (words : List (List ℕ)) (request : Request) (kept
     → IsRightFor words found.holds set
 right_at found words request kept end set asked (inl (nothing, why)) is = none_kept found words kept set nothing is
 right_at found words version kept end set asked (inr done) is = none_kept found words kept set done.0 is
+right_at found words (checking texts) kept end set asked (inr checks) is =
+    none_kept found words kept set (check_keeps found.holds (asked_by texts.task texts.number) texts kept end checks) is
 right_at found words unknown kept end set asked (inr unasked) is = none_kept found words kept set unasked.0 is
 right_at found words (grounded file) kept end set asked (inr answered) is = record {
   file = file;
@@ -367,5 +390,6 @@ module _ (found : Reading) (words : List (List ℕ)) (ended : Ended) (old new : 
       (λ whole. let written = (run.whole whole).1 in (same_files written.files, written.no_fault.0))
       (write_fault_or ended.status)
 
-  pub other_counts : OtherCountsKept (Framework 1) found.old_count found.new_count
-  other_counts other apart = run.decided.counts.others other (other_role found.holds (requested words) other apart)
+  pub other_counts : (other : Role) → HasNoInput (row_of found.holds (requested words)) other
+      → found.new_count other ≡ found.old_count other
+  other_counts other none = run.decided.counts.others other none

@@ -2,11 +2,12 @@
 
 ghost use Rattle.std.specs.Prelude.{◌≡◌, ◌≢◌, ℕ, ◌<◌, ◌≤◌, List, [], Some, length, map};
 ghost use Rattle.std.specs.String.{string_bytes};
-ghost use Rattle.argue_outside.specs.Outside.{FaultCounted, OtherCountsKept};
+ghost use Rattle.argue_outside.specs.Outside.{FaultCounted};
+ghost use Rattle.argue_outside.specs.declared.Role.{Role as ARole};
 ghost use Rattle.argue_words.specs.Words.{AreWords, requested};
 ghost use Rattle.af_format.specs.AfText.{IsReadable};
 ghost use Rattle.argue_program.specs.Inputs.{reading};
-ghost use Rattle.argue_program.specs.Rows.{row_of};
+ghost use Rattle.argue_program.specs.Rows.{HasNoInput, row_of};
 ghost use Rattle.argue_program.specs.Runs.{IsDoneOrMemory, IsFaulty, IsRightFor, IsRunOf, QueriesBytes, RefusesBytes, RefusesLength, RefusesWords};
 ghost use Rattle.argue_program.specs.Writing.{output};
 ghost use Rattle.num_text.specs.declared.limit.TheConstants.{INPUT_LIMIT};
@@ -14,7 +15,7 @@ ghost use Rattle.num_text.specs.declared.limit.TheConstants.{INPUT_LIMIT};
 use crate::decision::decide;
 use crate::ended::{Ended, Status};
 use crate::writing::write_ending;
-use argue_outside::{Files, Pace, Role, Sink};
+use argue_outside::{Files, Pace, Sink};
 use std::alloc::Global;
 use std::sync::Wait;
 use std::thread::Threads;
@@ -63,7 +64,9 @@ pub fn execute<F: Files, O: Sink>(
         → FaultCounted (O.fault_count out.old) (O.fault_count out.new) }
     ensures contents_stay { F.holds files.new ≡ F.holds files.old }
     ensures no_write { F.write_count files.new ≡ F.write_count files.old }
-    ensures no_other_read { OtherCountsKept (Role.Framework 1) (F.read_count files.old) (F.read_count files.new) }
+    ensures no_other_read { (role : ARole)
+        → HasNoInput (row_of (F.holds files.old) (requested (map string_bytes words.now))) role
+        → F.read_count files.new role ≡ F.read_count files.old role }
 {
     let ending = decide(alloc, words, files);
     write_ending(files, out, ending)
@@ -115,7 +118,9 @@ pub fn run<F: Files, O: Sink, P: Pace + Sync, R: Threads + Wait + Sync>(
         → FaultCounted (O.fault_count out.old) (O.fault_count out.new) }
     ensures contents_stay { F.holds files.new ≡ F.holds files.old }
     ensures no_write { F.write_count files.new ≡ F.write_count files.old }
-    ensures no_other_read { OtherCountsKept (Role.Framework 1) (F.read_count files.old) (F.read_count files.new) }
+    ensures no_other_read { (role : ARole)
+        → HasNoInput (row_of (F.holds files.old) (requested (map string_bytes words.now))) role
+        → F.read_count files.new role ≡ F.read_count files.old role }
 {
     execute(alloc, words, files, out)
 }

@@ -1,3 +1,5 @@
+use Rattle.std.proofs.Common.{map}
+use Rattle.std.specs.String.{string_bytes}
 use Rattle.argue_program.proofs.RunsLemmas.{IsRunOf-written, complete, faulty, other_counts, right_set, too_long, usage}
 use Rattle.argue_program.proofs.command.execute.Goals as goal
 
@@ -23,4 +25,5 @@ pub returns-clause-too_long : goal.returns-clause-too_long
 returns-clause-too_long g c = too_long _ _ _ _ _ (returns-clause-run g c)
 
 pub returns-clause-no_other_read : goal.returns-clause-no_other_read
-returns-clause-no_other_read g c = other_counts _ _ _ _ _ (returns-clause-run g c)
+returns-clause-no_other_read g c =
+    other_counts _ (map string_bytes c.args.words.now) _ _ _ (returns-clause-run g c)
