@@ -19,6 +19,8 @@ use Rattle.iccma_tasks.specs.declared.fault.AnswerFault.{AnswerFault}
 use Rattle.iccma_tasks.specs.declared.fault.AnswerFault.TheVariants as answer_fault
 use Rattle.iccma_tasks.proofs.Exact.{exact_read}
 use Rattle.certificate_text.specs.Reading.{IsRead as IsCertRead, ReadsAs as CertReadsAs}
+use Rattle.certificate_text.proofs.OneOutcome.{one_reading}
+use Rattle.certificate_claims.specs.declared.certificate.Certificate.{Certificate}
 use Rattle.certificate_text.specs.declared.fault.CertFault.{CertFault}
 use Rattle.certificate_text.specs.declared.fault.CertFault.TheVariants as certificate_fault
 use Rattle.argue_program.specs.Checks.{CheckEnds, ChecksFiles, EndsChecking, HasCheckBytes, IsChecked, IsSoundIn, IsTextFault, answer_status, certificate_status, check_inputs}
@@ -105,6 +107,13 @@ answer_sound bytes a reads line (cause.Answer c) first =
 answer_sound bytes a reads line (cause.Framework c) first = first
 answer_sound bytes a reads line (cause.Certificate c) first = first
 
+pub certificate_sound : (bytes : List ℕ) (k : Certificate) → CertReadsAs bytes (Ok k) → IsSoundIn role.Certificate bytes
+certificate_sound bytes k reads line (cause.Certificate c) first =
+    let e = one_reading bytes (Ok k) (Err (certificate_fault.At line c)) reads first in
+    cc e
+certificate_sound bytes k reads line (cause.Framework c) first = first
+certificate_sound bytes k reads line (cause.Answer c) first = first
+
 -- a fault of the framework is the first of all
 pub framework_fault : (bytes : CheckBytes) (f : AfFault)
     → IfLine f (λ told. IsFirstFault bytes.framework told.line told.cause)
@@ -171,7 +180,7 @@ text_stops found texts bytes WriteFault has is = absurd is
 text_stops found texts bytes (Limit l) has is = absurd is
 text_stops found texts bytes (Rejected failure refutation step) has is = absurd is
 
-stops_told : (found : Reading) (inputs : List Input) (end : Status) → StopsAtFirst found end inputs → end ≢ Done
+pub stops_told : (found : Reading) (inputs : List Input) (end : Status) → StopsAtFirst found end inputs → end ≢ Done
 stops_told found [] end stops is = stops
 stops_told found (one ∷ more) end (inl first) is =
     let P : Status → Type 0 = λ e. StopsAt found e one in subst P is first.0

@@ -1,5 +1,5 @@
+mod CheckLemmas
 pub mod RowsLemmas
 pub mod RunsLemmas
 pub mod WritingLemmas
-mod CheckLemmas
 mod QueryLemmas

@@ -1,20 +1,33 @@
 -- What follows of a run, in the words of its query.
-use Rattle.std.proofs.Common.{◌≡◌, ◌≢◌, ◌∙◌, ◌⊎◌, ◌<◌, ◌≤◌, ℕ, List, [], ◌∷◌, zero, suc, length, refl, sym, ap, subst, inl, inr, ⊎_elim, true, false, arith, Option, None, Some, map}
+use Rattle.std.proofs.Common.{◌≡◌, ◌≢◌, ◌∙◌, ◌⊎◌, ◌<◌, ◌≤◌, ℕ, List, [], ◌∷◌, zero, suc, length, refl, sym, ap, subst, inl, inr, ⊎_elim, true, false, arith, Option, None, Some, Ok, map}
 use Rattle.std.specs.Prelude.{Contains}
 use Rattle.argue_outside.specs.Outside.{FaultCounted, HoldsWhole, IsLonger, KnownFile, OtherCountsKept}
 use Rattle.argue_outside.specs.declared.Role.{Role}
 use Rattle.argue_outside.specs.declared.Role.TheVariants.{Framework}
-use Rattle.argue_words.specs.Words.{AreWords, CheckTexts, IsGroundedQuery, Request, version, grounded, checking, unknown, requested}
-use Rattle.argue_words.proofs.RequestLaws.{query_requested, requested_none, requested_query, requested_unknown}
+use Rattle.argue_words.specs.Words.{AreWords, CheckTexts, IsCheckQuery, IsGroundedQuery, Request, version, grounded, checking, unknown, requested}
+use Rattle.argue_words.proofs.RequestLaws.{query_requested, requested_texts, requested_none, requested_query, requested_unknown}
 use Rattle.af_format.specs.AfText.{IsReadable, ReadsAs}
-use Rattle.af_format.proofs.Readings.{ReadsAs-faultless}
-use Rattle.argue_program.specs.Inputs.{HasBytes, HasFirstFault, HasReadFault, Input, IsFirstFaultIn, Reading, StopsAt, input}
+use Rattle.af_format.proofs.Readings.{ReadsAs-faultless, ReadsAs-same}
+use Rattle.argue_program.specs.Inputs.{HasBytes, HasFirstFault, HasReadFault, Input, IsFirstFaultIn, IsFrameworkOf, Reading, StopsAt, StopsAtFirst, input}
 use Rattle.argue_program.specs.Rows.{AnswersFile, EndsCommand, check_row, FileText, HasNoInput, IsEndingOf, KeepsAnswer, Row, file_text, files_beside, grounded_row, nothing_kept, row_of, unknown_row, version_row}
 use Rattle.certificate_claims.specs.declared.verdict.Cause.{Cause as Failure}
 use Rattle.edit_rules.specs.declared.query_fault.QueryFault.{QueryFault}
 use Rattle.iccma_tasks.specs.Tasks.{Asked}
 use Rattle.argue_program.specs.Queries.{asked_by}
-use Rattle.argue_program.specs.Runs.{IsDoneOrMemory, IsFaulty, IsRightFor, IsRunOf, QueriesBytes, RefusesBytes, RefusesLength, RefusesWords}
+use Rattle.argue_program.specs.Checks.{CheckEnds, ChecksFiles, IsAnswerOf, IsCertificateOf, IsSoundIn, check_inputs}
+use Rattle.argue_program.proofs.CheckLemmas.{answer_sound, certificate_sound, framework_sound, stops_told}
+use Rattle.semantics.specs.Framework.{Af}
+use Rattle.semantics.specs.Frameworks.{IsNumbered, af}
+use Rattle.af_format.proofs.Reading.{arguments_numbered}
+use Rattle.iccma_tasks.specs.AnswerText.{filled_fields, ReadsAs as AnswerReadsAs}
+use Rattle.iccma_tasks.specs.declared.answer.Answer.{Answer}
+use Rattle.iccma_tasks.proofs.Exact.{ReadsAs-unique}
+use Rattle.certificate_claims.specs.declared.certificate.Certificate.{Certificate}
+use Rattle.certificate_laws.proofs.Right.{accepted_right}
+use Rattle.certificate_laws.proofs.Verdicts.{accepted_is_verdict}
+use Rattle.certificate_text.specs.Reading.{ReadsAs as CertReadsAs}
+use Rattle.certificate_text.proofs.OneOutcome.{one_reading}
+use Rattle.argue_program.specs.Runs.{AnswersRight, ChecksContents, HasText, IsCheckEnd, IsDoneOrMemory, IsFaulty, IsRightFor, IsRunOf, QueriesBytes, RefusesBytes, RefusesLength, RefusesWords}
 use Rattle.argue_program.specs.Texts.{common_text}
 use Rattle.argue_program.specs.Writing.{BreaksFiles, BreaksInText, BreaksOff, IsWritten, Output, WritesFiles}
 use Rattle.argue_program.specs.declared.decision.Ending.{Ending}
@@ -230,6 +243,117 @@ refuses_words found kept WriteFault ends = tt
 refuses_words found kept WantOfMemory ends = tt
 refuses_words found kept (Limit l) ends = absurd (ends_unknown found kept (Limit l) (λ e. cc) (λ e. cc) (ends (λ e. cc)))
 
+-- ---- the laws of a check
+
+-- a framework that a text reads as has numbers within their bounds
+numbered : (bytes : List ℕ) (f : Af) → ReadsAs bytes f → IsNumbered (af f)
+numbered bytes f reads = record {
+  form = reads.framework.form;
+  live = λ a c. arguments_numbered reads.count reads.text.header_is.few a
+      (subst (λ xs. Contains xs a) reads.framework.live c);
+}
+
+accepts_right : (holds : List ℕ → KnownFile) (asked : Asked) (texts : CheckTexts)
+    → asked_by texts.task texts.number ≡ Some asked → ChecksFiles holds asked texts Done → AnswersRight holds texts
+accepts_right holds asked texts asks checks = record {
+  asked = asked;
+  asks = asks;
+  framework = checks.framework;
+  answer = checks.answer;
+  of_framework = checks.of_framework;
+  of_answer = checks.of_answer;
+  right = accepted_right (af checks.framework) asked checks.answer checks.certificate
+      (numbered checks.of_framework.bytes checks.framework checks.of_framework.reads)
+      ((accepted_is_verdict (af checks.framework) asked checks.answer checks.certificate).0 checks.ends.1);
+}
+
+done_right : (found : Reading) (by : Option Asked) (texts : CheckTexts) (kept : Transcript)
+    → asked_by texts.task texts.number ≡ by → EndsCommand found (check_row found.holds by texts) kept Done
+    → AnswersRight found.holds texts
+done_right found None texts kept asks ends = absurd (ends_unknown found kept Done (λ e. cc) (λ e. cc) ends)
+done_right found (Some asked) texts kept asks (inl (nothing, inl stops)) =
+    absurd (stops_told found (check_inputs texts) Done stops refl)
+done_right found (Some asked) texts kept asks (inl (nothing, inr memory)) = absurd (done_no_memory memory.0)
+done_right found (Some asked) texts kept asks (inr checks) = accepts_right found.holds asked texts asks checks.1
+
+-- an input that reads as something ends no run
+no_stop : (found : Reading) (one : Input) (P : List ℕ → Type 0) → ((bytes : List ℕ) → P bytes → IsSoundIn one.role bytes)
+    → HasText found one P → (end : Status) → ¬ StopsAt found end one
+no_stop found one P sound has (InputRefused (Line of line c)) stops =
+    sound has.bytes has.reads line c
+    (subst (λ bs. IsFirstFaultIn one.role bs line c)
+    (bytes_at (found.holds one.file) has.bytes stops.1.bytes has.known stops.1.has) stops.1.first)
+no_stop found one P sound has (InputRefused (Query fault)) stops = stops
+no_stop found one P sound has (ReadFault of) stops =
+    ⊎_elim (λ served. stops.1.unserved served) (λ uncounted. uncounted stops.1.counted) has.no_fault
+no_stop found one P sound has (Limit limit.Input) stops =
+    let long = longer_at (found.holds one.file) has.bytes has.known stops in
+    let short = has.within in
+    omega arith
+no_stop found one P sound has Done stops = stops
+no_stop found one P sound has Usage stops = stops
+no_stop found one P sound has WriteFault stops = stops
+no_stop found one P sound has WantOfMemory stops = stops
+no_stop found one P sound has (Rejected failure r s) stops = stops
+
+check_end : (f : Af) (asked : Asked) (answer : Answer) (certificate : Certificate) (end : Status)
+    → CheckEnds (af f) asked answer certificate end → IsCheckEnd f asked answer certificate end
+check_end f asked answer certificate Done ends = ends
+check_end f asked answer certificate Usage ends = ends
+check_end f asked answer certificate (InputRefused refusal) ends = ends
+check_end f asked answer certificate (ReadFault r) ends = ends
+check_end f asked answer certificate WriteFault ends = tt
+check_end f asked answer certificate WantOfMemory ends = tt
+check_end f asked answer certificate (Limit l) ends = ends
+check_end f asked answer certificate (Rejected failure r s) ends = ends
+
+module _ (found : Reading) (words : List (List ℕ)) (texts : CheckTexts) (asked : Asked) (f : Af) (answer : Answer)
+    (certificate : Certificate) (contents : ChecksContents found words texts asked f answer certificate) where
+  same_framework : (g : Af) → IsFrameworkOf (found.holds texts.file) g → g ≡ f
+  same_framework g is =
+      let has = contents.of_framework in
+      ReadsAs-same has.bytes g f
+      (subst (λ bs. ReadsAs bs g) (bytes_at (found.holds texts.file) has.bytes is.bytes has.known is.has) is.reads) has.reads
+
+  same_answer : (a : Answer) → IsAnswerOf (found.holds texts.answer) a → a ≡ answer
+  same_answer a is =
+      let has = contents.of_answer in
+      ReadsAs-unique (filled_fields has.bytes) a answer
+      (subst (λ bs. AnswerReadsAs (filled_fields bs) a)
+      (bytes_at (found.holds texts.answer) has.bytes is.bytes has.known is.has) is.reads) has.reads
+
+  same_certificate : (k : Certificate) → IsCertificateOf (found.holds texts.certificate) k → k ≡ certificate
+  same_certificate k is =
+      let has = contents.of_certificate in
+      let e : Ok k ≡ Ok certificate
+      = one_reading has.bytes (Ok k) (Ok certificate)
+      (subst (λ bs. CertReadsAs bs (Ok k))
+      (bytes_at (found.holds texts.certificate) has.bytes is.bytes has.known is.has) is.reads) has.reads in
+      cc e
+
+  no_stops : (end : Status) → ¬ StopsAtFirst found end (check_inputs texts)
+  no_stops end (inl stops) = no_stop found _ _ (λ bytes reads. framework_sound bytes f reads) contents.of_framework end stops.0
+  no_stops end (inr (passed, inl stops)) =
+      no_stop found _ _ (λ bytes reads. answer_sound bytes answer reads) contents.of_answer end stops.0
+  no_stops end (inr (passed, inr (passed', inl stops))) =
+      no_stop found _ _ (λ bytes reads. certificate_sound bytes certificate reads) contents.of_certificate end stops.0
+  no_stops end (inr (passed, inr (passed', inr stops))) = stops.1
+
+  checks_end : (end : Status) → ChecksFiles found.holds asked texts end → IsCheckEnd f asked answer certificate end
+  checks_end end checks =
+      check_end f asked answer certificate end
+      (subst (λ g. CheckEnds (af g) asked answer certificate end) (same_framework checks.framework checks.of_framework)
+      (subst (λ a. CheckEnds (af checks.framework) asked a certificate end) (same_answer checks.answer checks.of_answer)
+      (subst (λ k. CheckEnds (af checks.framework) asked checks.answer k end)
+      (same_certificate checks.certificate checks.of_certificate) checks.ends)))
+
+  pub ends_check : (kept : Transcript) (end : Status) → EndsCommand found (check_row found.holds (Some asked) texts) kept end
+      → IsCheckEnd f asked answer certificate end
+  ends_check kept end (inl (nothing, inl stops)) = absurd (no_stops end stops)
+  ends_check kept end (inl (nothing, inr memory)) =
+      let P : Status → Type 0 = IsCheckEnd f asked answer certificate in subst P (sym memory.0) tt
+  ends_check kept end (inr checks) = checks_end end checks.1
+
 -- ---- runs
 
 some_is : {X : Type 0} {x y : X} → Some x ≡ Some y → x ≡ y
@@ -393,3 +517,33 @@ module _ (found : Reading) (words : List (List ℕ)) (ended : Ended) (old new : 
   pub other_counts : (other : Role) → HasNoInput (row_of found.holds (requested words)) other
       → found.new_count other ≡ found.old_count other
   other_counts other none = run.decided.counts.others other none
+
+  -- at a check, the row is that of its query
+  at_check : (texts : CheckTexts) (by : Option Asked) → IsCheckQuery words texts → asked_by texts.task texts.number ≡ by
+      → ended.status ≢ WriteFault → EndsCommand found (check_row found.holds by texts) ended.kept ended.status
+  at_check texts by query asks whole =
+      let P : Request → Type 0 = λ r. EndsCommand found (row_of found.holds r) ended.kept ended.status in
+      let Q : Option Asked → Type 0 = λ o. EndsCommand found (check_row found.holds o texts) ended.kept ended.status in
+      subst Q asks (subst P (requested_texts words texts query) (ends whole))
+
+  -- where a check is done, the answer is right
+  pub accepted : (texts : CheckTexts) → IsCheckQuery words texts → ended.status ≡ Done → AnswersRight found.holds texts
+  accepted texts query done =
+      let P : Status → Type 0 =
+      λ e. EndsCommand found (check_row found.holds (asked_by texts.task texts.number) texts) ended.kept e in
+      done_right found (asked_by texts.task texts.number) texts ended.kept refl
+      (subst P done (at_check texts (asked_by texts.task texts.number) query refl (λ e. let x : Done ≡ WriteFault =
+      sym done ∙ e in cc)))
+
+  pub checked : (texts : CheckTexts) (asked : Asked) (f : Af) (answer : Answer) (certificate : Certificate)
+      → ChecksContents found words texts asked f answer certificate → IsCheckEnd f asked answer certificate ended.status
+  checked texts asked f answer certificate contents = ⊎_elim
+      (λ broken. let P : Status → Type 0 = IsCheckEnd f asked answer certificate in subst P (sym broken) tt)
+      (λ whole. ends_check found words texts asked f answer certificate contents ended.kept ended.status
+      (at_check texts (Some asked) contents.query contents.asks whole)) (write_fault_or ended.status)
+
+  -- a check that asks no query is refused
+  pub unasked : (texts : CheckTexts) → IsCheckQuery words texts → asked_by texts.task texts.number ≡ None
+      → RefusesWords ended.status
+  unasked texts query asks =
+      refuses_words found ended.kept ended.status (λ whole. at_check texts None query asks whole)
