@@ -16,7 +16,7 @@ use Rattle.iccma_tasks.specs.declared.task.Semantics.{Semantics}
 use Rattle.iccma_tasks.specs.declared.task.Semantics.TheVariants.{Complete, Grounded, Preferred, Stable, SemiStable, Ideal}
 use Rattle.iccma_tasks.specs.declared.task.Task.{Task}
 use Rattle.iccma_tasks.specs.Tasks.{Asked, FitsTask, HasTask, IsTask, all_tasks, task_name, task_of}
-use Rattle.argue_program.specs.Queries.{asked_if, first_named, fits_task, number_of, spells_number}
+use Rattle.argue_program.specs.Queries.{asked_with, first_named, fits_task, number_of, spells_number}
 
 -- ---- tasks
 
@@ -159,7 +159,7 @@ fits_test AllExtensions None h = refl
 
 pub query_found : (task : Task) (number : Option ℕ) (r : Option Asked)
     → IfSome r (λ query. query ≡ record { task = task; number = number })
-    → (IsNone r ↔ ¬ FitsTask task.problem number) → r ≡ asked_if task number
+    → (IsNone r ↔ ¬ FitsTask task.problem number) → r ≡ asked_with task number
 query_found task number (Some asked) some none = elim (cases_Bool (fits_task task.problem number)) [
   | inl fits ↦ ap Some some ∙ sym (cond-true _ (Some (record { task = task; number = number })) None fits)
   | inr other ↦
