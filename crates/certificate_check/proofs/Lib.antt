@@ -1,1 +1,10 @@
 pub mod BenchLemmas
+pub mod SideLemmas
+pub mod GoalLemmas
+pub mod RangeLemmas
+pub mod StepLemmas
+pub mod SetLemmas
+pub mod ClaimLemmas
+pub mod FlawLemmas
+pub mod SectionLemmas
+pub mod RowLemmas

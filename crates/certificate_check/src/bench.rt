@@ -32,7 +32,7 @@ impl Model for Bench {
     ghost use Rattle.std.specs.Prelude.{List};
     ghost use Rattle.meaning_atoms.specs.declared.atom.AtomLit.{AtomLit};
     ghost use Rattle.atom_table.specs.Numbering.{AreDifferent};
-ghost use Rattle.certificate_check.specs.Benches.{clauses_over, IsBench};
+    ghost use Rattle.certificate_check.specs.Benches.{clauses_over, IsBench};
 
     ghost Value = { List (List AtomLit) };
 
@@ -60,7 +60,13 @@ impl Bench {
     pub(crate) fn push(&mut self, clause: &[AtomLit]) -> Result<(), Memory>
         ensures { OnOk result (self.new ≡ self.old ++ clause.now ∷ []) }
     {
-        prepare(&mut self.atoms, &mut self.trail, clause, &mut self.lits, &mut self.packed)?;
+        prepare(
+            &mut self.atoms,
+            &mut self.trail,
+            clause,
+            &mut self.lits,
+            &mut self.packed,
+        )?;
         self.rows.push(self.packed.as_slice())?;
         Ok(())
     }
@@ -71,8 +77,19 @@ impl Bench {
             self.old clause.now self.new) }
     {
         name_steps(&mut self.hints, hints)?;
-        prepare(&mut self.atoms, &mut self.trail, clause, &mut self.lits, &mut self.packed)?;
-        match check(&mut self.trail, &self.rows, self.lits.as_slice(), self.hints.as_slice()) {
+        prepare(
+            &mut self.atoms,
+            &mut self.trail,
+            clause,
+            &mut self.lits,
+            &mut self.packed,
+        )?;
+        match check(
+            &mut self.trail,
+            &self.rows,
+            self.lits.as_slice(),
+            self.hints.as_slice(),
+        ) {
             Err(_) => Ok(false),
             Ok(_) => {
                 self.rows.push(self.packed.as_slice())?;

@@ -2,3 +2,17 @@
 #![tactic(auto)]
 
 mod bench;
+mod claim;
+mod claims;
+mod closed;
+mod kinds;
+mod refuting;
+mod rows;
+mod sides;
+mod steps;
+#[cfg(test)]
+mod tests;
+mod verdict;
+mod witness;
+
+pub use verdict::check;

@@ -1,5 +1,5 @@
 -- The verdict on a certificate: accepted, or the first failure in the order in which it is looked at.
-use Rattle.std.specs.Prelude.{◌≡◌, ◌⊎◌, ℕ, ◌+◌, ◌-◌, ◌<◌, List, [], ◌∷◌, ◌++◌, length, map, take, flat_map, Contains, slice_index_or}
+use Rattle.std.specs.Prelude.{◌≡◌, ◌⊎◌, ℕ, ◌+◌, ◌-◌, ◌<◌, List, [], ◌∷◌, ◌++◌, length, map, take, flat_map, codes, Contains, slice_index_or}
 use Rattle.std.specs.List.{range_with_len}
 use Rattle.semantics.specs.Frameworks.{Framework}
 use Rattle.meaning_atoms.specs.declared.atom.AtomLit.{AtomLit}
@@ -10,10 +10,21 @@ use Rattle.certificate_claims.specs.declared.certificate.Step.{Step}
 use Rattle.certificate_claims.specs.declared.row.Row.{Row}
 use Rattle.certificate_claims.specs.declared.verdict.Verdict.{Verdict}
 use Rattle.certificate_claims.specs.declared.verdict.Verdict.TheVariants.{Accepted, Rejected}
+use Rattle.certificate_claims.specs.declared.verdict.Cause.{Cause}
 use Rattle.certificate_claims.specs.declared.verdict.Cause.TheVariants.{AnswerShape, BadWitness, SetCount, BadSet, RefutationCount, BadStep, OpenLiteral}
 use Rattle.certificate_claims.specs.Acceptance.{IsShaped, PassesTest, PassesOrder, PassesGrounded, TakesSets, PassesSet, no_claim, no_refutation}
 use Rattle.certificate_claims.specs.Claims.{claims, row_of, sets_of}
 use Rattle.certificate_claims.specs.Refutations.{Claim, IsClosed, StepHolds, no_step, step_clause}
+
+-- the names of the causes, as they are printed
+abbrev pub cause_name : Cause → List ℕ
+cause_name AnswerShape = codes "AnswerShape"
+cause_name BadWitness = codes "BadWitness"
+cause_name SetCount = codes "SetCount"
+cause_name BadSet = codes "BadSet"
+cause_name RefutationCount = codes "RefutationCount"
+cause_name BadStep = codes "BadStep"
+cause_name OpenLiteral = codes "OpenLiteral"
 
 -- what is looked at; sets, refutations and steps by index
 pub data Look : Type 0 where

@@ -2,9 +2,13 @@
 #![tactic(auto)]
 
 pub mod certificate;
+mod order;
 pub mod row;
+#[cfg(test)]
+mod tests;
 pub mod verdict;
 
 pub use certificate::{Certificate, Refutation, Step};
+pub use order::{none_within, sets_rise};
 pub use row::Row;
 pub use verdict::{Cause, Verdict};

@@ -1,5 +1,8 @@
 //! What a check tells of a certificate.
 
+ghost use Rattle.std.specs.Prelude.{◌≡◌};
+ghost use Rattle.certificate_claims.specs.Verdicts.{cause_name};
+
 /// Why a certificate isn't accepted for an answer, in the order in which it is looked at.
 #[derive(Clone, Copy, Debug, PartialEq, Eq)]
 pub enum Cause {
@@ -27,4 +30,21 @@ pub enum Verdict {
     /// It isn't. The first number is a refutation's, counted from 1, or 0; the second is that of a step of it or, where
     /// the first is 0, of a set, counted from 1, or 0.
     Rejected(Cause, usize, usize),
+}
+
+impl Cause {
+    /// The name of the cause, as it is printed.
+    pub fn name(self) -> &'static str
+        ensures { result.now ≡ cause_name self }
+    {
+        match self {
+            Cause::AnswerShape => "AnswerShape",
+            Cause::BadWitness => "BadWitness",
+            Cause::SetCount => "SetCount",
+            Cause::BadSet => "BadSet",
+            Cause::RefutationCount => "RefutationCount",
+            Cause::BadStep => "BadStep",
+            Cause::OpenLiteral => "OpenLiteral",
+        }
+    }
 }

@@ -150,7 +150,8 @@ is_ideal (af f) e others numbered ok each none =
     (outside_plain (af f))))
 
 -- an ideal set, of which the answer says so much
-pub record IsIdealFound (f : Framework) (number : Option ℕ) (said : Option (List ℕ)) (accepts : Option Bool) : Type 0 where
+pub record IsIdealFound (f : Framework) (number : Option ℕ) (said : Option (List ℕ))
+    (accepts : Option Bool) : Type 0 where
   pub set : List ℕ
   pub is : IsExtension f IdealSets set
   pub shown : IsShown said set

@@ -17,11 +17,12 @@ use Rattle.meaning_atoms.specs.declared.atom.Atom.TheVariants.{Member, Tail, Ad}
 use Rattle.meaning_atoms.specs.declared.atom.AtomLit.{AtomLit}
 use Rattle.meaning_atoms.specs.Literals.{affirmed, denied}
 use Rattle.meaning_atoms.specs.Worlds.{world_of, IsTrueAlone}
+use Rattle.certificate_claims.proofs.SetTests.{hits_gives}
 use Rattle.certificate_claims.specs.Claims.{claim_of}
 use Rattle.certificate_claims.specs.Refutations.{IsExcluded}
 use Rattle.certificate_claims.specs.SetLiterals.{hits, hit_by_any, are_in, are_out, outside, struck, attacked}
 use Rattle.certificate_laws.proofs.GoalLists.{meets_nil, meets_cons, meets_append, meets_mapped, only_one, fails_mapped}
-use Rattle.certificate_laws.proofs.SideClauses.{world_of_admissible, within_where_false, hits_gives, meets_in}
+use Rattle.certificate_laws.proofs.SideClauses.{world_of_admissible, within_where_false, meets_in}
 
 -- no admissible set attacks the set
 unattacked : (f : Af) (e : List ℕ) → IsNumberedAf f

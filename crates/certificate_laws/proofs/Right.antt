@@ -106,7 +106,8 @@ each_right f Ideal q shown sets h e is =
     let i = ideal_found f (asked_of Sceptical Ideal (Some q)) None (Some true) shown sets h in
     ideal_accepts f i.set e q i.is is i.accepts_as_said
 
-none_exist : (f : Framework) (problem : Problem) (semantics : Semantics) (number : Option ℕ) (shown sets : List (List ℕ))
+none_exist : (f : Framework) (problem : Problem) (semantics : Semantics) (number : Option ℕ)
+    (shown sets : List (List ℕ))
     → Shows f (asked_of problem semantics number) (there_is_none semantics) shown sets
     → (e : List ℕ) → IsExtension f semantics e → ⊥
 none_exist f problem Complete number shown sets h = absurd (h.tests.shape)

@@ -1,13 +1,12 @@
 -- What a set is like that fails a side clause of another, and goals about members and ranges.
-use Rattle.std.proofs.Common.{◌≡◌, ◌==◌, ◌&&◌, ⊎_elim, inl, inr, ℕ, true, not, List, filter, subst}
+use Rattle.std.proofs.Common.{◌≡◌, ⊎_elim, ℕ, true, not, List, filter}
 use Rattle.std.specs.Prelude.{Contains}
-use Rattle.std.proofs.lemmas.Bool.{cases_Bool, eqb-true, and_parts, not_from_false, false_from_ne_true}
+use Rattle.std.proofs.lemmas.Bool.{cases_Bool, not_from_false, false_from_ne_true}
 use Rattle.std.proofs.lemmas.List.Elements.{Contains-append_left, Contains-append_right}
 use Rattle.plain_lists.specs.Members.{IsWithin}
 use Rattle.plain_lists.proofs.Filters.{Contains-filter}
-use Rattle.plain_lists.proofs.ListTests.{any_gives}
 use Rattle.plain_lits.proofs.HintCheckLemmas.{Contains-mapped}
-use Rattle.semantics.specs.Framework.{Af, IsAf, IsAdmissible, IsAttackedBy, IsInRange, IsRangeWithin, IsConflictFree}
+use Rattle.semantics.specs.Framework.{Af, IsAf, IsAdmissible, IsRangeWithin, IsConflictFree}
 use Rattle.semantics.specs.Frameworks.{Framework, af, IsNumberedAf}
 use Rattle.semantics.specs.Laws.{HasSameMembers}
 use Rattle.semantics.proofs.Decided.{decide_member}
@@ -15,7 +14,8 @@ use Rattle.meaning_atoms.specs.declared.atom.Atom.TheVariants.{Member, Range}
 use Rattle.meaning_atoms.specs.Literals.{affirmed, denied, AsksNothing}
 use Rattle.meaning_atoms.specs.Worlds.{world_of, IsAfWorld, IsTrueAlone}
 use Rattle.certificate_claims.specs.Refutations.{MeetsGoals}
-use Rattle.certificate_claims.specs.SetLiterals.{has, hits, is_ranged, range_of, are_in, are_out, are_ranged, members, outside, differs, wider, struck, attacked}
+use Rattle.certificate_claims.proofs.SetTests.{has_gives, ranged_gives, in_range_live}
+use Rattle.certificate_claims.specs.SetLiterals.{has, is_ranged, range_of, are_in, are_out, are_ranged, members, outside, differs, wider, struck, attacked}
 use Rattle.certificate_laws.proofs.GoalLists.{meets_mapped, asks_append, asks_mapped}
 
 -- ---- worlds
@@ -26,30 +26,8 @@ world_of_free f s ok free = record { framework = ok; members = λ a c. ok.live a
 pub world_of_admissible : (f : Af) (s : List ℕ) → IsNumberedAf f → IsAdmissible f s → IsAfWorld f s
 world_of_admissible f s ok h = world_of_free f s ok h.conflict_free
 
--- ---- what the tests give
-
-pub has_gives : (s : List ℕ) (x : ℕ) → has s x ≡ true → Contains s x
-has_gives s x h = let m = any_gives (λ y. y == x) s h in subst (λ y. Contains s y) (eqb-true m.0 x m.2) m.1
-
-pub hits_gives : (f : Af) (s : List ℕ) (a : ℕ) → hits (af f) s a ≡ true → IsAttackedBy f s a
-hits_gives f s a h =
-    let m = any_gives (λ (p : ℕ × ℕ). p.1 == a && has s p.0) f.attacks h in
-    let both = and_parts (m.0.1 == a) (has s m.0.0) m.2 in (
-      m.0.0,
-      has_gives s m.0.0 both.1,
-      subst (λ (x : ℕ). Contains f.attacks (m.0.0, x)) (eqb-true m.0.1 a both.0) m.1,
-    )
-
-pub ranged_gives : (f : Af) (s : List ℕ) (a : ℕ) → is_ranged (af f) s a ≡ true → IsInRange f s a
-ranged_gives f s a h =
-    ⊎_elim (λ t. inl (has_gives s a t)) (λ no. inr (hits_gives f s a (rw no at h))) (cases_Bool (has s a))
-
 lacks : (e : List ℕ) (x : ℕ) → (Contains e x → ⊥) → not (has e x) ≡ true
 lacks e x out = not_from_false (has e x) (false_from_ne_true (has e x) (λ h. out (has_gives e x h)))
-
--- what a set of live arguments has in its range is live
-in_range_live : (f : Af) (s : List ℕ) (a : ℕ) → IsAf f → IsWithin s f.live → IsInRange f s a → Contains f.live a
-in_range_live f s a form live r = ⊎_elim (λ c. live a c) (λ hit. (form.ends hit.0 a hit.2).1) r
 
 -- ---- side clauses that a set of live arguments fails
 

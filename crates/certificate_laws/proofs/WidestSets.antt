@@ -1,14 +1,15 @@
 -- Sets of which no admissible set has a larger range.
-use Rattle.std.proofs.Common.{⊎_elim, ℕ, List, [], ◌∷◌, filter, not, sym, subst}
+use Rattle.std.proofs.Common.{ℕ, List, [], ◌∷◌, filter, sym, subst}
 use Rattle.std.specs.Prelude.{Contains}
 use Rattle.plain_lists.proofs.Filters.{Contains-filter}
-use Rattle.plain_lists.proofs.Membership.{Contains-nil, Contains-head, Contains-tail, Contains-cons_cases}
+use Rattle.plain_lists.proofs.Membership.{Contains-nil}
 use Rattle.semantics.specs.Framework.{Af, IsAdmissible, IsSemiStable, IsRangeWithin}
-use Rattle.semantics.specs.Frameworks.{Framework, af, IsNumberedAf}
+use Rattle.semantics.specs.Frameworks.{af, IsNumberedAf}
 use Rattle.meaning_atoms.specs.declared.atom.Atom.TheVariants.{Ad}
 use Rattle.meaning_atoms.specs.declared.atom.AtomLit.{AtomLit}
 use Rattle.meaning_atoms.specs.Literals.{affirmed}
 use Rattle.meaning_atoms.specs.Worlds.{HoldsOf, Says}
+use Rattle.certificate_claims.proofs.SetTests.{firsts_within}
 use Rattle.certificate_claims.specs.Acceptance.{NoRangeWithin}
 use Rattle.certificate_claims.specs.Claims.{claim_of, first_ranged, range_cover, range_free, range_listed}
 use Rattle.certificate_claims.specs.Refutations.{IsExcluded}
@@ -52,16 +53,6 @@ ranged_out f bad sets numbered ok cover free s semi says =
     (λ side c. absurd (Contains-nil side c))
 
 -- ---- lists
-
--- the first sets of each range are of the list
-pub firsts_within : (f : Framework) (sets : List (List ℕ)) (e : List ℕ) → Contains (first_ranged f sets) e
-    → Contains sets e
-firsts_within f [] e c = c
-firsts_within f (first ∷ more) e c =
-    ⊎_elim (λ here. Contains-head first more e here)
-    (λ later. Contains-tail first more e (firsts_within f more e
-    ((Contains-filter (λ s. not (same_range f first s)) (first_ranged f more) e).0 later).0))
-    (Contains-cons_cases first (filter (λ s. not (same_range f first s)) (first_ranged f more)) e c)
 
 covers_range : (f : Af) (firsts : List (List ℕ)) → IsNumberedAf f → IsExcluded (af f) (range_cover (af f) [] firsts)
     → (t : List ℕ) → IsAdmissible f t → (e : List ℕ) × Contains firsts e × IsRangeWithin f t e

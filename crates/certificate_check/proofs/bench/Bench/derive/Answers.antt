@@ -23,10 +23,10 @@ invariant_of-self-in-Err c =
 pub returns-in-Err : goal.returns-in-Err
 returns-in-Err c =
     rw (← c.self.view_is) (
-    not_taken _ _ _ _ (taken_over _ _ _ _ _ c.args.clause.now c.args.hints.now _ _ c.prepare.ensures.grown
-    c.in_ok-prepare.ensures.different c.self.invariant.known c.in_ok-prepare.ensures.spelled
-    c.as_slice.ensures.value (c.as_slice-2.ensures.value ∙ c.in_ok-name_steps.ensures) c.in-Err.ensures.outcome),
-    clauses_same _ _ _ c.prepare.ensures.grown c.self.invariant.known,
+      not_taken _ _ _ _ (taken_over _ _ _ _ _ c.args.clause.now c.args.hints.now _ _ c.prepare.ensures.grown
+          c.in_ok-prepare.ensures.different c.self.invariant.known c.in_ok-prepare.ensures.spelled
+          c.as_slice.ensures.value (c.as_slice-2.ensures.value ∙ c.in_ok-name_steps.ensures) c.in-Err.ensures.outcome),
+      clauses_same _ _ _ c.prepare.ensures.grown c.self.invariant.known,
     )
 
 pub invariant_of-self-in_err-push-in-Ok : goal.invariant_of-self-in_err-push-in-Ok
@@ -46,9 +46,12 @@ invariant_of-self-in-Ok c =
 pub returns-in_ok-push-in-Ok : goal.returns-in_ok-push-in-Ok
 returns-in_ok-push-in-Ok c =
     rw (← c.self.view_is) (
-    (c.in-Ok.field-0, taken_over _ _ _ _ _ c.args.clause.now c.args.hints.now _ _ c.prepare.ensures.grown
-    c.in_ok-prepare.ensures.different c.self.invariant.known c.in_ok-prepare.ensures.spelled
-    c.as_slice.ensures.value (c.as_slice-2.ensures.value ∙ c.in_ok-name_steps.ensures) c.in-Ok.ensures.outcome),
-    view_more _ _ _ _ _ _ c.prepare.ensures.grown c.self.invariant.known c.in_ok-prepare.ensures.spelled
-    (pushed_row _ _ _ _ _ c.in_ok-push-in-Ok.ensures.ok c.as_slice-in-Ok.ensures.value c.in_ok-prepare.ensures.packed),
+      (
+        c.in-Ok.field-0,
+        taken_over _ _ _ _ _ c.args.clause.now c.args.hints.now _ _ c.prepare.ensures.grown
+            c.in_ok-prepare.ensures.different c.self.invariant.known c.in_ok-prepare.ensures.spelled
+            c.as_slice.ensures.value (c.as_slice-2.ensures.value ∙ c.in_ok-name_steps.ensures) c.in-Ok.ensures.outcome,
+      ),
+      view_more _ _ _ _ _ _ c.prepare.ensures.grown c.self.invariant.known c.in_ok-prepare.ensures.spelled
+          (pushed_row _ _ _ _ _ c.in_ok-push-in-Ok.ensures.ok c.as_slice-in-Ok.ensures.value c.in_ok-prepare.ensures.packed),
     )

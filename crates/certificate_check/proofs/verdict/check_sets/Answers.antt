@@ -1,0 +1,13 @@
+use Rattle.edit_rules.specs.Kinds.{framework_of}
+use Rattle.certificate_check.proofs.SectionLemmas.{set_failed, sets_passed}
+use Rattle.certificate_check.proofs.verdict.check_sets.Goals as goal
+
+pub returns-in-Some : goal.returns-in-Some
+returns-in-Some c =
+    set_failed (framework_of c.args.framework.now) c.args.query.now c.args.row.now c.args.shown.now c.args.certificate.now
+    c.as_slice.result.now c.in-Some.index c.as_slice.ensures c.in-Some.ensures
+
+pub returns : goal.returns
+returns c =
+    sets_passed (framework_of c.args.framework.now) c.args.query.now c.args.row.now c.args.shown.now c.args.certificate.now
+    c.as_slice.result.now c.in_ok-verdict.verdict c.as_slice.ensures c.in_default.ensures c.in_ok-verdict.ensures

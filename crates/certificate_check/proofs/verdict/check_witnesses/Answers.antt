@@ -1,0 +1,13 @@
+use Rattle.edit_rules.specs.Kinds.{framework_of}
+use Rattle.certificate_check.proofs.SectionLemmas.{witness_failed, witnesses_passed}
+use Rattle.certificate_check.proofs.verdict.check_witnesses.Goals as goal
+
+pub returns-in-Some : goal.returns-in-Some
+returns-in-Some c =
+    witness_failed (framework_of c.args.framework.now) c.args.query.now c.args.row.now c.args.shown.now c.args.certificate.now
+    c.in_ok-bad.bad c.in-Some.index c.in-Some.is c.in_ok-bad.ensures
+
+pub returns : goal.returns
+returns c =
+    witnesses_passed (framework_of c.args.framework.now) c.args.query.now c.args.row.now c.args.shown.now c.args.certificate.now
+    c.in_ok-bad.bad c.in_ok-verdict.verdict c.in_default.is c.in_ok-bad.ensures c.in_ok-verdict.ensures

@@ -1,0 +1,150 @@
+//! What a framework says, by its kind.
+
+ghost use Rattle.std.specs.Prelude.{◌≡◌, ◌↔◌, ◌⊎◌, not, true, Some, Contains, IfNone, IfOk, IfSome, IsTrue};
+ghost use Rattle.semantics.specs.Framework.{IsGrounded};
+ghost use Rattle.semantics.specs.Frameworks.{af};
+ghost use Rattle.semantics.specs.Laws.{HasSameMembers};
+ghost use Rattle.meaning_atoms.specs.declared.atom.Atom.TheVariants.{Ad};
+ghost use Rattle.meaning_atoms.specs.Worlds.{HoldsOf, IsFact};
+ghost use Rattle.af_axioms.specs.Facts.{IsFactValue};
+ghost use Rattle.certificate_claims.specs.Acceptance.{GroundedSays};
+ghost use Rattle.certificate_claims.specs.Rights.{Accepts, IsExtension};
+ghost use Rattle.certificate_claims.specs.SetLiterals.{is_ranged, members};
+ghost use Rattle.edit_rules.specs.Kinds.{framework_of};
+ghost use Rattle.certificate_check.specs.SetFacts.{IsRangeOf, IsTested};
+
+use af_axioms::fact_value;
+use dung_notions::AfPlain;
+use edit_rules::Framework;
+use iccma_tasks::Semantics;
+use meaning_atoms::Atom;
+use plain_lists::Memory;
+use set_lists::NumSet;
+use std::alloc::Global;
+
+/// The numbers that sets are made of.
+pub(crate) fn members_of(framework: &Framework) -> &[u32]
+    ensures { result.now ≡ members (framework_of framework.now) }
+{
+    match framework {
+        Framework::Af(plain) => plain.live(),
+    }
+}
+
+/// Whether sets may have the number as a member.
+pub(crate) fn is_member(framework: &Framework, number: u32) -> bool
+    ensures { IsTrue result ↔ Contains (members (framework_of framework.now)) number }
+{
+    match framework {
+        Framework::Af(plain) => plain.is_live(number),
+    }
+}
+
+/// Whether an atom is true, where the framework alone fixes it. It looks the fact up.
+pub(crate) fn fact(framework: &Framework, atom: &Atom) -> Option<bool>
+    ensures some { IfSome result (IsFactValue (framework_of framework.now) atom.now) }
+    ensures none { IfNone result (¬ IsFact (framework_of framework.now) atom.now) }
+{
+    match framework {
+        Framework::Af(plain) => fact_value(plain, atom),
+    }
+}
+
+/// Whether a set is admissible.
+pub(crate) fn is_admissible(framework: &Framework, set: &NumSet) -> bool
+    ensures { IsTrue result ↔ HoldsOf (framework_of framework.now) set.now Ad }
+{
+    match framework {
+        Framework::Af(plain) => plain.is_admissible(set),
+    }
+}
+
+/// Whether a set accepts what is asked about.
+pub(crate) fn accepts(framework: &Framework, set: &NumSet, number: u32) -> bool
+    ensures { IsTrue result ↔ Accepts (framework_of framework.now) set.now number }
+{
+    match framework {
+        Framework::Af(_) => set.contains(number),
+    }
+}
+
+/// A set's range.
+pub(crate) fn range_of(alloc: Global, framework: &Framework, set: &NumSet) -> Result<NumSet, Memory>
+    ensures { IfOk result (IsRangeOf (framework_of framework.now) set.now) }
+{
+    match framework {
+        Framework::Af(plain) => af_range(alloc, plain, set),
+    }
+}
+
+/// A set's range in an abstract framework.
+fn af_range(alloc: Global, plain: &AfPlain, set: &NumSet) -> Result<NumSet, Memory>
+    ensures { IfOk result (IsRangeOf (af plain.now) set.now) }
+{
+    let range = plain.range_of(alloc, set)?;
+    Ok(range)
+}
+
+/// Whether a set is an extension under a semantics whose extensions are tested directly: complete, grounded or stable.
+pub(crate) fn is_extension(
+    alloc: Global,
+    framework: &Framework,
+    semantics: Semantics,
+    set: &NumSet,
+) -> Result<bool, Memory>
+    requires { IsTested semantics }
+    ensures { IfOk result (λ is. IsTrue is ↔ IsExtension (framework_of framework.now) semantics set.now) }
+{
+    match framework {
+        Framework::Af(plain) => Ok(is_af_extension(alloc, plain, semantics, set)?),
+    }
+}
+
+/// The same of an abstract framework.
+fn is_af_extension(
+    alloc: Global,
+    plain: &AfPlain,
+    semantics: Semantics,
+    set: &NumSet,
+) -> Result<bool, Memory>
+    requires { IsTested semantics }
+    ensures { IfOk result (λ is. IsTrue is ↔ IsExtension (af plain.now) semantics set.now) }
+{
+    match semantics {
+        Semantics::Complete => Ok(plain.is_complete(set)),
+        Semantics::Grounded => Ok(is_grounded(alloc, plain, set)?),
+        Semantics::Stable => Ok(plain.is_stable(set)),
+        _ => Ok(false),
+    }
+}
+
+/// Whether a set is the grounded set.
+fn is_grounded(alloc: Global, plain: &AfPlain, set: &NumSet) -> Result<bool, Memory>
+    ensures { IfOk result (λ is. IsTrue is ↔ IsGrounded plain.now set.now) }
+{
+    let grounded = plain.grounded(alloc)?.set;
+    Ok(is_same(set, &grounded))
+}
+
+/// Whether two sets have the same members.
+fn is_same(set: &NumSet, other: &NumSet) -> bool
+    ensures { IsTrue result ↔ HasSameMembers set.now other.now }
+{
+    set.within(other) && other.within(set)
+}
+
+/// Whether the grounded set accepts what is asked about.
+pub(crate) fn grounded_accepts(
+    alloc: Global,
+    framework: &Framework,
+    number: u32,
+) -> Result<bool, Memory>
+    ensures { IfOk result (λ accepts. GroundedSays (framework_of framework.now) accepts (Some number)) }
+{
+    match framework {
+        Framework::Af(plain) => {
+            let grounded = plain.grounded(alloc)?.set;
+            Ok(grounded.contains(number))
+        }
+    }
+}

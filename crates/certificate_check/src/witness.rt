@@ -1,0 +1,215 @@
+//! The direct tests, which look at sets alone.
+
+ghost use Rattle.std.specs.Prelude.{◌≡◌, ◌↔◌, ◌<◌, [], length, slice_index_or, Contains, IfOk, IsTrue};
+ghost use Rattle.meaning_atoms.specs.declared.atom.Atom.TheVariants.{Ad};
+ghost use Rattle.meaning_atoms.specs.Worlds.{HoldsOf};
+ghost use Rattle.certificate_claims.specs.declared.row.Row.TheVariants.{Ideal};
+ghost use Rattle.certificate_claims.specs.Acceptance.{AcceptsAsSaid, IsShaped, IsShown, PassesSet, PassesTest, Suits, TakesSets};
+ghost use Rattle.certificate_claims.specs.Rights.{IsExtension};
+ghost use Rattle.edit_rules.specs.Kinds.{framework_of};
+ghost use Rattle.certificate_check.specs.SetFacts.{IsTested, IsTestedRow};
+ghost use Rattle.certificate_check.specs.Standing.{IsFirstWithout};
+
+use crate::kinds::{accepts, is_admissible, is_extension};
+use certificate_claims::Row;
+use edit_rules::Framework;
+use iccma_tasks::{Problem, Query};
+use plain_lists::Memory;
+use set_lists::NumSet;
+use std::alloc::Global;
+
+/// Whether the answer has a shape that its task gives.
+pub(crate) fn is_shaped(row: &Row) -> bool
+    ensures { IsTrue result ↔ IsShaped row.now }
+{
+    match row {
+        Row::Misshapen => false,
+        _ => true,
+    }
+}
+
+/// Whether a set that shows YES to DC accepts the query, and one that shows NO to DS doesn't.
+fn suits(framework: &Framework, query: &Query, set: &NumSet) -> bool
+    ensures { IsTrue result ↔ Suits (framework_of framework.now) query.now.task.problem query.now.number set.now }
+{
+    match (query.task().problem, query.number()) {
+        (Problem::Credulous, Some(number)) => accepts(framework, set, number),
+        (Problem::Sceptical, Some(number)) => !accepts(framework, set, number),
+        _ => true,
+    }
+}
+
+/// Whether a set is admissible and suits the query.
+fn is_suitable(framework: &Framework, query: &Query, set: &NumSet) -> bool
+    ensures { IsTrue result ↔ (HoldsOf (framework_of framework.now) set.now Ad
+        × Suits (framework_of framework.now) query.now.task.problem query.now.number set.now) }
+{
+    is_admissible(framework, set) && suits(framework, query, set)
+}
+
+/// Whether a set is an extension and suits the query.
+fn is_suitable_extension(
+    alloc: Global,
+    framework: &Framework,
+    query: &Query,
+    set: &NumSet,
+) -> Result<bool, Memory>
+    requires { IsTested query.now.task.semantics }
+    ensures { IfOk result (λ is. IsTrue is ↔ (IsExtension (framework_of framework.now) query.now.task.semantics set.now
+        × Suits (framework_of framework.now) query.now.task.problem query.now.number set.now)) }
+{
+    let extension = is_extension(alloc, framework, query.task().semantics, set)?;
+    Ok(extension && suits(framework, query, set))
+}
+
+/// Whether a set that the answer shows passes its test.
+fn passes_test(
+    alloc: Global,
+    framework: &Framework,
+    query: &Query,
+    row: &Row,
+    set: &NumSet,
+) -> Result<bool, Memory>
+    requires { IsTestedRow row.now query.now.task.semantics }
+    ensures { IfOk result (λ passes. IsTrue passes ↔ PassesTest (framework_of framework.now) query.now row.now set.now) }
+{
+    match row {
+        Row::Tested(_) => Ok(is_suitable_extension(alloc, framework, query, set)?),
+        Row::Largest(_) | Row::Widest(_) => Ok(is_suitable(framework, query, set)),
+        Row::AllTested(_, _) => {
+            let semantics = query.task().semantics;
+            Ok(is_extension(alloc, framework, semantics, set)?)
+        }
+        Row::AllLargest(_) | Row::AllWidest(_) => Ok(is_admissible(framework, set)),
+        _ => Ok(true),
+    }
+}
+
+/// The index of the first set that the answer shows and that fails its test, if there is one.
+pub(crate) fn first_bad_witness(
+    alloc: Global,
+    framework: &Framework,
+    query: &Query,
+    row: &Row,
+    shown: &[NumSet],
+) -> Result<Option<usize>, Memory>
+    requires { IsTestedRow row.now query.now.task.semantics }
+    ensures { IfOk result (IsFirstWithout (λ k. PassesTest (framework_of framework.now) query.now row.now
+        (slice_index_or shown.now k [])) (length shown.now)) }
+{
+    for index in 0..shown.len() {
+        let passes = passes_test(alloc, framework, query, row, &shown[index])?;
+        if !passes {
+            return Ok(Some(index));
+        }
+    }
+    Ok(None)
+}
+
+/// Whether the certificate has as many sets as the row takes.
+pub(crate) fn takes_sets(row: &Row, count: usize) -> bool
+    ensures { IsTrue result ↔ TakesSets row.now count }
+{
+    match row {
+        Row::Covered(_) | Row::Ranged(_) => true,
+        Row::Ideal(_, _) => 0 < count,
+        _ => count == 0,
+    }
+}
+
+/// Whether the certificate's set at an index passes its test.
+fn passes_set(framework: &Framework, query: &Query, row: &Row, index: usize, set: &NumSet) -> bool
+    ensures { IsTrue result ↔ PassesSet (framework_of framework.now) query.now row.now index set.now }
+{
+    match row {
+        Row::Covered(number) => is_admissible(framework, set) && accepts(framework, set, *number),
+        Row::Ranged(_) => is_admissible(framework, set),
+        Row::Ideal(shown, says) => passes_ideal(framework, query, shown, *says, index, set),
+        _ => true,
+    }
+}
+
+/// Whether the set at an index of a certificate for the ideal set passes its test.
+fn passes_ideal(
+    framework: &Framework,
+    query: &Query,
+    shown: &Option<NumSet>,
+    says: Option<bool>,
+    index: usize,
+    set: &NumSet,
+) -> bool
+    ensures { IsTrue result ↔ PassesSet (framework_of framework.now) query.now (Ideal shown.now says) index set.now }
+{
+    if index == 0 {
+        return is_ideal_shown(framework, query, shown, says, set);
+    }
+    is_admissible(framework, set)
+}
+
+/// Whether a set is admissible, the one that the answer shows, and accepts the query or not as the answer says.
+fn is_ideal_shown(
+    framework: &Framework,
+    query: &Query,
+    shown: &Option<NumSet>,
+    says: Option<bool>,
+    set: &NumSet,
+) -> bool
+    ensures { IsTrue result ↔ (HoldsOf (framework_of framework.now) set.now Ad × (IsShown shown.now set.now
+        × AcceptsAsSaid (framework_of framework.now) query.now.number says set.now)) }
+{
+    is_admissible(framework, set)
+        && (is_shown(shown, set) && accepts_as_said(framework, query.number(), says, set))
+}
+
+/// Whether a set is the one that is shown, if one is.
+fn is_shown(shown: &Option<NumSet>, set: &NumSet) -> bool
+    ensures { IsTrue result ↔ IsShown shown.now set.now }
+{
+    match shown {
+        None => true,
+        Some(shown) => is_equal(set, shown),
+    }
+}
+
+/// Whether two sets are the same list.
+fn is_equal(set: &NumSet, other: &NumSet) -> bool
+    ensures { IsTrue result ↔ (set.now ≡ other.now) }
+{
+    set.as_slice() == other.as_slice()
+}
+
+/// Whether a set accepts the query or not, as is said, if it is.
+fn accepts_as_said(
+    framework: &Framework,
+    number: Option<u32>,
+    says: Option<bool>,
+    set: &NumSet,
+) -> bool
+    ensures { IsTrue result ↔ AcceptsAsSaid (framework_of framework.now) number says set.now }
+{
+    match (number, says) {
+        (Some(number), Some(true)) => accepts(framework, set, number),
+        (Some(number), Some(false)) => !accepts(framework, set, number),
+        (_, None) => true,
+        (None, Some(_)) => false,
+    }
+}
+
+/// The index of the first set of the certificate that fails its test, if there is one.
+pub(crate) fn first_bad_set(
+    framework: &Framework,
+    query: &Query,
+    row: &Row,
+    sets: &[NumSet],
+) -> Option<usize>
+    ensures { IsFirstWithout (λ k. PassesSet (framework_of framework.now) query.now row.now k
+        (slice_index_or sets.now k [])) (length sets.now) result }
+{
+    for index in 0..sets.len() {
+        let passes = passes_set(framework, query, row, index, &sets[index]);
+        if !passes {
+            return Some(index);
+        }
+    }
+    None
+}
