@@ -3,7 +3,6 @@
 ghost use Rattle.std.specs.Prelude.{◌≡◌, ◌≢◌, ◌⊎◌, ◌≤◌, length, IfErr, IfOk, IsErrOf, IsSome, OnOk, true};
 ghost use Rattle.argue_outside.specs.declared.Role.{Role as ARole};
 ghost use Rattle.argue_words.specs.Words.{check_texts};
-ghost use Rattle.certificate_claims.specs.Verdicts.{IsVerdict};
 ghost use Rattle.edit_rules.specs.Kinds.{framework_of};
 ghost use Rattle.num_text.specs.declared.limit.TheConstants.{INPUT_LIMIT};
 ghost use Rattle.argue_program.specs.Checks.{CheckEnds, ChecksFiles, EndsChecking, HasCheckBytes, IsChecked, IsTextFault, answer_status, certificate_status, check_inputs};
@@ -16,6 +15,7 @@ use crate::input::{read_input, refused};
 use af_format::read_af;
 use argue_outside::{Files, Role};
 use argue_words::CheckWords;
+use certificate_check::check;
 use certificate_claims::{Certificate, Verdict};
 use certificate_text::{CertFault, read_certificate};
 use edit_rules::{Framework, query_fits};
@@ -125,21 +125,8 @@ fn parse(alloc: Global, bytes: &CheckBytes) -> Result<Checked, Status>
     }
 }
 
-// Stands for the checker until it is there.
-fn check(
-    _alloc: Global,
-    framework: &Framework,
-    query: &Query,
-    answer: &Answer,
-    certificate: &Certificate,
-) -> Result<Verdict, Memory>
-    requires { is_checked query.now.task.problem query.now.task.semantics ≡ true }
-    ensures { IfOk result (IsVerdict (framework_of framework.now) query.now answer.now certificate.now) }
-{
-    Err(Memory)
-}
-
 /// Checks the answer to a query with its certificate. `Ok` where the certificate is accepted, else how the run ends.
+#[tactic(auto, using(crate::proofs::QueryLemmas::task_reached))]
 fn judge(alloc: Global, query: &Query, read: &Checked) -> Result<(), Status>
     requires { is_checked query.now.task.problem query.now.task.semantics ≡ true }
     ensures ok { OnOk result (CheckEnds (framework_of read.now.framework) query.now read.now.answer read.now.certificate
