@@ -1,3 +1,5 @@
+mod CheckLemmas
 pub mod RowsLemmas
 pub mod RunsLemmas
 pub mod WritingLemmas
+mod QueryLemmas

@@ -1,17 +1,20 @@
 -- Endings that a row of the table has.
-use Rattle.std.proofs.Common.{◌≡◌, ◌≢◌, ◌<◌, ◌∙◌, ◌⊎◌, ℕ, List, [], ◌∷◌, refl, sym, ap, subst, inl, inr, arith, Some}
+use Rattle.std.proofs.Common.{◌≡◌, ◌≢◌, ◌<◌, ◌∙◌, ◌⊎◌, ℕ, List, [], ◌∷◌, refl, sym, ap, subst, inl, inr, arith, Option, None, Some, codes}
 use Rattle.std.specs.Prelude.{Contains, IsSome, IsTrue}
 use Rattle.argue_outside.specs.Outside.{KnownFile, OtherCountsKept}
 use Rattle.argue_outside.specs.declared.Role.{Role}
 use Rattle.argue_outside.specs.declared.Role.TheVariants as role
-use Rattle.argue_words.specs.Words.{Request, version, grounded, unknown, requested}
+use Rattle.argue_words.specs.Words.{CheckTexts, Request, version, grounded, checking, unknown, requested}
 use Rattle.argue_words.proofs.RequestLaws.{none_requested}
 use Rattle.argue_program.specs.Inputs.{EndsReading, Follow, Input, Reading, input}
-use Rattle.argue_program.specs.Rows.{CountsReads, EndsCommand, IsEndingOf, Row, grounded_row, nothing_kept, row_of}
+use Rattle.argue_program.specs.Rows.{CountsReads, EndsCommand, HasNoInput, IsEndingOf, Row, check_row, grounded_row, nothing_kept, row_of, unknown_row}
+use Rattle.iccma_tasks.specs.Tasks.{Asked}
+use Rattle.argue_program.specs.Checks.{ChecksFiles, EndsChecking, check_inputs}
+use Rattle.argue_program.specs.Queries.{asked_by}
 use Rattle.argue_program.specs.Texts.{IsRefusal, common_text, text_bytes}
 use Rattle.argue_program.specs.declared.decision.Ending.{Ending}
 use Rattle.argue_program.specs.declared.ended.Status.{Status}
-use Rattle.argue_program.specs.declared.ended.Status.TheVariants.{Done, Usage, InputRefused, ReadFault, WriteFault, WantOfMemory, Limit}
+use Rattle.argue_program.specs.declared.ended.Status.TheVariants.{Done, Usage, InputRefused, ReadFault, WriteFault, WantOfMemory, Limit, Rejected}
 use Rattle.argue_program.specs.declared.ended.Transcript.{Transcript}
 
 -- ---- a run with one input
@@ -27,6 +30,7 @@ follow_none found (ReadFault role) = tt
 follow_none found WriteFault = tt
 follow_none found WantOfMemory = tt
 follow_none found (Limit limit) = tt
+follow_none found (Rejected failure refutation step) = tt
 
 -- the status of a run that its one input ends is one of its row
 pub EndsCommand-reading : (found : Reading) (holds : List ℕ → KnownFile) (file : List ℕ) (end : Status)
@@ -59,12 +63,14 @@ common_text-reading found one (Limit limit) h = refl
 common_text-reading found one Done (inl stops) = absurd stops
 common_text-reading found one Done (inr memory) = cc
 common_text-reading found one WriteFault h = refl
+common_text-reading found one (Rejected failure refutation step) h = refl
 
 -- ---- a run that stopped
 
 -- a status beside that of a refusal is no read fault
 no_read_fault : (end : Status) → IsRefusal end → (role : Role) → end ≢ ReadFault role
 no_read_fault (InputRefused refusal) h role = λ e. cc
+no_read_fault (Rejected failure refutation step) h role = λ e. cc
 no_read_fault Done h role = absurd h
 no_read_fault Usage h role = absurd h
 no_read_fault (ReadFault other) h role = absurd h
@@ -102,11 +108,17 @@ module _ (found : Reading) (row : Row) (ending : Ending) (end : Status) where
 
 -- ---- want of memory before the command is known
 
+check_takes : (holds : List ℕ → KnownFile) (asked : Option Asked) (texts : CheckTexts)
+    → IsTrue (check_row holds asked texts).takes_memory
+check_takes holds None texts = refl
+check_takes holds (Some asked) texts = refl
+
 takes_unless : (holds : List ℕ → KnownFile) (words : List (List ℕ)) (request : Request) → requested words ≡ request
     → words ≢ []
     → IsTrue (row_of holds request).takes_memory
 takes_unless holds words version is some = absurd (some (none_requested words is))
 takes_unless holds words (grounded file) is some = refl
+takes_unless holds words (checking texts) is some = check_takes holds (asked_by texts.task texts.number) texts
 takes_unless holds words unknown is some = refl
 
 -- where there are words, the command that they ask for takes memory
@@ -124,3 +136,67 @@ pub CountsReads-none : (found : Reading) (row : Row) (end : Status) → found.ne
     → CountsReads found row end
 CountsReads-none found row end same =
     record { quiet = λ none. same; others = λ role none. ap (λ count. count role) same }
+
+-- ---- checks
+
+abbrev OtherRolesKept : (Role → ℕ) → (Role → ℕ) → Type 0
+OtherRolesKept old new = (other : Role) → other ≢ role.Framework 1 → other ≢ role.Answer → other ≢ role.Certificate
+    → new other ≡ old other
+
+check_counts : (found : Reading) (asked : Asked) (texts : CheckTexts) (end : Status)
+    → (((of : Role) → end ≢ ReadFault of) → found.new_count ≡ found.old_count)
+    → OtherRolesKept found.old_count found.new_count → CountsReads found (check_row found.holds (Some asked) texts) end
+check_counts found asked texts end quiet others = record {
+  quiet = quiet;
+  others = λ other none. others other
+      (none (input (role.Framework 1) texts.file) (0, omega arith, refl))
+      (none (input role.Answer texts.answer) (1, omega arith, refl))
+      (none (input role.Certificate texts.certificate) (2, omega arith, refl));
+}
+
+check_cause : (found : Reading) (asked : Asked) (texts : CheckTexts) (end : Status) → EndsChecking found asked texts end
+    → EndsCommand found (check_row found.holds (Some asked) texts) nothing_kept end
+check_cause found asked texts end (inl stops) = inl (refl, inl stops)
+check_cause found asked texts end (inr (inl memory)) = inl (refl, inr (memory, refl))
+check_cause found asked texts end (inr (inr checks)) = inr (refl, checks)
+
+-- a check that stopped ends as its row says
+pub check_stopped : (found : Reading) (by : Option Asked) (asked : Asked) (texts : CheckTexts) (ending : Ending)
+    (end : Status) → by ≡ Some asked → EndsChecking found asked texts end
+    → (((of : Role) → end ≢ ReadFault of) → found.new_count ≡ found.old_count)
+    → OtherRolesKept found.old_count found.new_count
+    → (ending.status ≡ end) ⊎ ((ending.status ≡ WantOfMemory) × IsRefusal end) → ending.kept ≡ nothing_kept
+    → Some (text_bytes ending.text) ≡ common_text ending.status → ending.files ≡ []
+    → IsEndingOf found (check_row found.holds by texts) ending
+check_stopped found by asked texts ending end is ends quiet others status kept text files =
+    let row = check_row found.holds (Some asked) texts in
+    let P : Option Asked → Type 0 = λ o. IsEndingOf found (check_row found.holds o texts) ending in
+    subst P (sym is)
+    (IsEndingOf-stopped found row ending end (check_cause found asked texts end ends) refl status kept text files
+    (check_counts found asked texts end quiet others))
+
+-- a check that is done accepted the certificate
+pub check_done : (found : Reading) (by : Option Asked) (asked : Asked) (texts : CheckTexts) (ending : Ending)
+    → by ≡ Some asked → ChecksFiles found.holds asked texts Done → found.new_count ≡ found.old_count
+    → ending.status ≡ Done → ending.kept ≡ nothing_kept → text_bytes ending.text ≡ codes "ACCEPTED\n"
+    → ending.files ≡ [] → IsEndingOf found (check_row found.holds by texts) ending
+check_done found by asked texts ending is checks quiet status kept text files =
+    let P : Option Asked → Type 0 = λ o. IsEndingOf found (check_row found.holds o texts) ending in
+    subst P (sym is) (record {
+      cause = rw status (rw kept (inr (refl, checks)));
+      text = rw status text;
+      files = rw status (rw files refl);
+      counts = CountsReads-none found (check_row found.holds (Some asked) texts) ending.status quiet;
+    })
+
+-- words that ask no query are refused
+pub check_unasked : (found : Reading) (by : Option Asked) (texts : CheckTexts) (ending : Ending) → by ≡ None
+    → found.new_count ≡ found.old_count
+    → (ending.status ≡ Usage) ⊎ ((ending.status ≡ WantOfMemory) × IsRefusal Usage) → ending.kept ≡ nothing_kept
+    → Some (text_bytes ending.text) ≡ common_text ending.status → ending.files ≡ []
+    → IsEndingOf found (check_row found.holds by texts) ending
+check_unasked found by texts ending is quiet status kept text files =
+    let P : Option Asked → Type 0 = λ o. IsEndingOf found (check_row found.holds o texts) ending in
+    subst P (sym is)
+    (IsEndingOf-stopped found unknown_row ending Usage (inr (refl, refl)) refl status kept text files
+    (CountsReads-none found unknown_row Usage quiet))

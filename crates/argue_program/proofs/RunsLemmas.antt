@@ -1,16 +1,33 @@
 -- What follows of a run, in the words of its query.
-use Rattle.std.proofs.Common.{◌≡◌, ◌≢◌, ◌∙◌, ◌⊎◌, ◌<◌, ◌≤◌, ℕ, List, [], ◌∷◌, zero, suc, length, refl, sym, ap, subst, inl, inr, ⊎_elim, true, false, arith, Option, None, Some, map}
+use Rattle.std.proofs.Common.{◌≡◌, ◌≢◌, ◌∙◌, ◌⊎◌, ◌<◌, ◌≤◌, ℕ, List, [], ◌∷◌, zero, suc, length, refl, sym, ap, subst, inl, inr, ⊎_elim, true, false, arith, Option, None, Some, Ok, map}
 use Rattle.std.specs.Prelude.{Contains}
 use Rattle.argue_outside.specs.Outside.{FaultCounted, HoldsWhole, IsLonger, KnownFile, OtherCountsKept}
 use Rattle.argue_outside.specs.declared.Role.{Role}
 use Rattle.argue_outside.specs.declared.Role.TheVariants.{Framework}
-use Rattle.argue_words.specs.Words.{AreWords, IsGroundedQuery, Request, version, grounded, unknown, requested}
-use Rattle.argue_words.proofs.RequestLaws.{query_requested, requested_none, requested_query, requested_unknown}
+use Rattle.argue_words.specs.Words.{AreWords, CheckTexts, IsCheckQuery, IsGroundedQuery, Request, version, grounded, checking, unknown, requested}
+use Rattle.argue_words.proofs.RequestLaws.{query_requested, requested_texts, requested_none, requested_query, requested_unknown}
 use Rattle.af_format.specs.AfText.{IsReadable, ReadsAs}
-use Rattle.af_format.proofs.Readings.{ReadsAs-faultless}
-use Rattle.argue_program.specs.Inputs.{HasBytes, HasFirstFault, HasReadFault, Input, IsFirstFaultIn, Reading, StopsAt, input}
-use Rattle.argue_program.specs.Rows.{AnswersFile, EndsCommand, FileText, HasNoInput, IsEndingOf, KeepsAnswer, Row, file_text, files_beside, grounded_row, nothing_kept, row_of, unknown_row, version_row}
-use Rattle.argue_program.specs.Runs.{IsDoneOrMemory, IsFaulty, IsRightFor, IsRunOf, QueriesBytes, RefusesBytes, RefusesLength, RefusesWords}
+use Rattle.af_format.proofs.Readings.{ReadsAs-faultless, ReadsAs-same}
+use Rattle.argue_program.specs.Inputs.{HasBytes, HasFirstFault, HasReadFault, Input, IsFirstFaultIn, IsFrameworkOf, Reading, StopsAt, StopsAtFirst, input}
+use Rattle.argue_program.specs.Rows.{AnswersFile, EndsCommand, check_row, FileText, HasNoInput, IsEndingOf, KeepsAnswer, Row, file_text, files_beside, grounded_row, nothing_kept, row_of, unknown_row, version_row}
+use Rattle.certificate_claims.specs.declared.verdict.Cause.{Cause as Failure}
+use Rattle.edit_rules.specs.declared.query_fault.QueryFault.{QueryFault}
+use Rattle.iccma_tasks.specs.Tasks.{Asked}
+use Rattle.argue_program.specs.Queries.{asked_by}
+use Rattle.argue_program.specs.Checks.{CheckEnds, ChecksFiles, IsAnswerOf, IsCertificateOf, IsSoundIn, check_inputs}
+use Rattle.argue_program.proofs.CheckLemmas.{answer_sound, certificate_sound, framework_sound, stops_told}
+use Rattle.semantics.specs.Framework.{Af}
+use Rattle.semantics.specs.Frameworks.{IsNumbered, af}
+use Rattle.af_format.proofs.Reading.{arguments_numbered}
+use Rattle.iccma_tasks.specs.AnswerText.{filled_fields, ReadsAs as AnswerReadsAs}
+use Rattle.iccma_tasks.specs.declared.answer.Answer.{Answer}
+use Rattle.iccma_tasks.proofs.Exact.{ReadsAs-unique}
+use Rattle.certificate_claims.specs.declared.certificate.Certificate.{Certificate}
+use Rattle.certificate_laws.proofs.Right.{accepted_right}
+use Rattle.certificate_laws.proofs.Verdicts.{accepted_is_verdict}
+use Rattle.certificate_text.specs.Reading.{ReadsAs as CertReadsAs}
+use Rattle.certificate_text.proofs.OneOutcome.{one_reading}
+use Rattle.argue_program.specs.Runs.{AnswersRight, ChecksContents, HasText, IsCheckEnd, IsDoneOrMemory, IsFaulty, IsRightFor, IsRunOf, QueriesBytes, RefusesBytes, RefusesLength, RefusesWords}
 use Rattle.argue_program.specs.Texts.{common_text}
 use Rattle.argue_program.specs.Writing.{BreaksFiles, BreaksInText, BreaksOff, IsWritten, Output, WritesFiles}
 use Rattle.argue_program.specs.declared.decision.Ending.{Ending}
@@ -18,9 +35,9 @@ use Rattle.argue_program.specs.declared.ended.Cause.{Cause}
 use Rattle.argue_program.specs.declared.ended.Cause.TheVariants as cause
 use Rattle.argue_program.specs.declared.ended.Ended.{Ended}
 use Rattle.argue_program.specs.declared.ended.Limit.TheVariants as limit
-use Rattle.argue_program.specs.declared.ended.Refusal.TheVariants.{Line}
+use Rattle.argue_program.specs.declared.ended.Refusal.TheVariants.{Line, Query}
 use Rattle.argue_program.specs.declared.ended.Status.{Status}
-use Rattle.argue_program.specs.declared.ended.Status.TheVariants.{Done, Usage, InputRefused, ReadFault, WriteFault, WantOfMemory, Limit}
+use Rattle.argue_program.specs.declared.ended.Status.TheVariants.{Done, Usage, InputRefused, ReadFault, WriteFault, WantOfMemory, Limit, Rejected}
 use Rattle.argue_program.specs.declared.ended.Transcript.{Transcript}
 use Rattle.num_text.specs.declared.limit.TheConstants.{INPUT_LIMIT}
 
@@ -80,6 +97,8 @@ readable_sound : (bytes : List ℕ) (line : ℕ) (c : Cause) → IsReadable byte
     → ¬ IsFirstFaultIn (Framework 1) bytes line c
 readable_sound bytes line (cause.Framework c) reads first =
     (ReadsAs-faultless bytes reads.0 reads.1).none line c first.stands
+readable_sound bytes line (cause.Answer c) reads first = first
+readable_sound bytes line (cause.Certificate c) reads first = first
 
 -- and no fault
 readable_or_faulty : (bytes : List ℕ) → IsReadable bytes → ¬ IsFaulty bytes
@@ -141,6 +160,12 @@ module _ (found : Reading) (words : List (List ℕ)) (file bytes : List ℕ) (ke
   never_usage : ¬ EndsQuery found file kept Usage
   never_usage ends = stops_query found file kept Usage (λ e. cc) (λ e. cc) ends
 
+  never_query : (fault : QueryFault) → ¬ EndsQuery found file kept (InputRefused (Query fault))
+  never_query fault ends = stops_query found file kept (InputRefused (Query fault)) (λ e. cc) (λ e. cc) ends
+
+  never_rejected : (failure : Failure) (r s : ℕ) → ¬ EndsQuery found file kept (Rejected failure r s)
+  never_rejected failure r s ends = stops_query found file kept (Rejected failure r s) (λ e. cc) (λ e. cc) ends
+
   -- readable bytes within the limit are answered, but for want of memory
   pub done_or_memory : (end : Status) → IsReadable bytes → length bytes ≤ INPUT_LIMIT → end ≢ WriteFault
       → EndsQuery found file kept end → IsDoneOrMemory end
@@ -148,6 +173,8 @@ module _ (found : Reading) (words : List (List ℕ)) (file bytes : List ℕ) (ke
   done_or_memory Usage reads short whole ends = absurd (never_usage ends)
   done_or_memory (InputRefused (Line r line c)) reads short whole ends =
       absurd (readable_sound bytes line c reads (refused_first r line c ends).1)
+  done_or_memory (InputRefused (Query fault)) reads short whole ends = absurd (never_query fault ends)
+  done_or_memory (Rejected failure r s) reads short whole ends = absurd (never_rejected failure r s ends)
   done_or_memory (ReadFault r) reads short whole ends = absurd (never_unread r ends)
   done_or_memory WriteFault reads short whole ends = absurd (whole refl)
   done_or_memory WantOfMemory reads short whole ends = tt
@@ -162,6 +189,8 @@ module _ (found : Reading) (words : List (List ℕ)) (file bytes : List ℕ) (ke
       (answer_query found file kept (ends (λ e. cc)))) faulty)
   refuses_bytes Usage faulty short ends = absurd (never_usage (ends (λ e. cc)))
   refuses_bytes (InputRefused (Line r line c)) faulty short ends = refused_first r line c (ends (λ e. cc))
+  refuses_bytes (InputRefused (Query fault)) faulty short ends = absurd (never_query fault (ends (λ e. cc)))
+  refuses_bytes (Rejected failure r s) faulty short ends = absurd (never_rejected failure r s (ends (λ e. cc)))
   refuses_bytes (ReadFault r) faulty short ends = absurd (never_unread r (ends (λ e. cc)))
   refuses_bytes WriteFault faulty short ends = tt
   refuses_bytes WantOfMemory faulty short ends = tt
@@ -177,6 +206,8 @@ module _ (found : Reading) (words : List (List ℕ)) (file bytes : List ℕ) (ke
   refuses_length Usage long ends = absurd (never_usage (ends (λ e. cc)))
   refuses_length (InputRefused (Line r line c)) long ends =
       let short = refused_within r line c (ends (λ e. cc)) in absurd (omega arith)
+  refuses_length (InputRefused (Query fault)) long ends = absurd (never_query fault (ends (λ e. cc)))
+  refuses_length (Rejected failure r s) long ends = absurd (never_rejected failure r s (ends (λ e. cc)))
   refuses_length (ReadFault r) long ends = absurd (never_unread r (ends (λ e. cc)))
   refuses_length WriteFault long ends = tt
   refuses_length WantOfMemory long ends = tt
@@ -206,22 +237,141 @@ refuses_words found kept (InputRefused refusal) ends =
     absurd (ends_unknown found kept (InputRefused refusal) (λ e. cc) (λ e. cc) (ends (λ e. cc)))
 refuses_words found kept (ReadFault r) ends =
     absurd (ends_unknown found kept (ReadFault r) (λ e. cc) (λ e. cc) (ends (λ e. cc)))
+refuses_words found kept (Rejected failure r s) ends =
+    absurd (ends_unknown found kept (Rejected failure r s) (λ e. cc) (λ e. cc) (ends (λ e. cc)))
 refuses_words found kept WriteFault ends = tt
 refuses_words found kept WantOfMemory ends = tt
 refuses_words found kept (Limit l) ends =
     absurd (ends_unknown found kept (Limit l) (λ e. cc) (λ e. cc) (ends (λ e. cc)))
+
+-- ---- the laws of a check
+
+-- a framework that a text reads as has numbers within their bounds
+numbered : (bytes : List ℕ) (f : Af) → ReadsAs bytes f → IsNumbered (af f)
+numbered bytes f reads = record {
+  form = reads.framework.form;
+  live = λ a c. arguments_numbered reads.count reads.text.header_is.few a
+      (subst (λ xs. Contains xs a) reads.framework.live c);
+}
+
+accepts_right : (holds : List ℕ → KnownFile) (asked : Asked) (texts : CheckTexts)
+    → asked_by texts.task texts.number ≡ Some asked → ChecksFiles holds asked texts Done → AnswersRight holds texts
+accepts_right holds asked texts asks checks = record {
+  asked = asked;
+  asks = asks;
+  framework = checks.framework;
+  answer = checks.answer;
+  of_framework = checks.of_framework;
+  of_answer = checks.of_answer;
+  right = accepted_right (af checks.framework) asked checks.answer checks.certificate
+      (numbered checks.of_framework.bytes checks.framework checks.of_framework.reads)
+      ((accepted_is_verdict (af checks.framework) asked checks.answer checks.certificate).0 checks.ends.1);
+}
+
+done_right : (found : Reading) (by : Option Asked) (texts : CheckTexts) (kept : Transcript)
+    → asked_by texts.task texts.number ≡ by → EndsCommand found (check_row found.holds by texts) kept Done
+    → AnswersRight found.holds texts
+done_right found None texts kept asks ends = absurd (ends_unknown found kept Done (λ e. cc) (λ e. cc) ends)
+done_right found (Some asked) texts kept asks (inl (nothing, inl stops)) =
+    absurd (stops_told found (check_inputs texts) Done stops refl)
+done_right found (Some asked) texts kept asks (inl (nothing, inr memory)) = absurd (done_no_memory memory.0)
+done_right found (Some asked) texts kept asks (inr checks) = accepts_right found.holds asked texts asks checks.1
+
+-- an input that reads as something ends no run
+no_stop : (found : Reading) (one : Input) (P : List ℕ → Type 0) → ((bytes : List ℕ) → P bytes → IsSoundIn one.role bytes)
+    → HasText found one P → (end : Status) → ¬ StopsAt found end one
+no_stop found one P sound has (InputRefused (Line of line c)) stops =
+    sound has.bytes has.reads line c
+    (subst (λ bs. IsFirstFaultIn one.role bs line c)
+    (bytes_at (found.holds one.file) has.bytes stops.1.bytes has.known stops.1.has) stops.1.first)
+no_stop found one P sound has (InputRefused (Query fault)) stops = stops
+no_stop found one P sound has (ReadFault of) stops =
+    ⊎_elim (λ served. stops.1.unserved served) (λ uncounted. uncounted stops.1.counted) has.no_fault
+no_stop found one P sound has (Limit limit.Input) stops =
+    let long = longer_at (found.holds one.file) has.bytes has.known stops in
+    let short = has.within in
+    omega arith
+no_stop found one P sound has Done stops = stops
+no_stop found one P sound has Usage stops = stops
+no_stop found one P sound has WriteFault stops = stops
+no_stop found one P sound has WantOfMemory stops = stops
+no_stop found one P sound has (Rejected failure r s) stops = stops
+
+check_end : (f : Af) (asked : Asked) (answer : Answer) (certificate : Certificate) (end : Status)
+    → CheckEnds (af f) asked answer certificate end → IsCheckEnd f asked answer certificate end
+check_end f asked answer certificate Done ends = ends
+check_end f asked answer certificate Usage ends = ends
+check_end f asked answer certificate (InputRefused refusal) ends = ends
+check_end f asked answer certificate (ReadFault r) ends = ends
+check_end f asked answer certificate WriteFault ends = tt
+check_end f asked answer certificate WantOfMemory ends = tt
+check_end f asked answer certificate (Limit l) ends = ends
+check_end f asked answer certificate (Rejected failure r s) ends = ends
+
+module _ (found : Reading) (words : List (List ℕ)) (texts : CheckTexts) (asked : Asked) (f : Af) (answer : Answer)
+    (certificate : Certificate) (contents : ChecksContents found words texts asked f answer certificate) where
+  same_framework : (g : Af) → IsFrameworkOf (found.holds texts.file) g → g ≡ f
+  same_framework g is =
+      let has = contents.of_framework in
+      ReadsAs-same has.bytes g f
+      (subst (λ bs. ReadsAs bs g) (bytes_at (found.holds texts.file) has.bytes is.bytes has.known is.has) is.reads) has.reads
+
+  same_answer : (a : Answer) → IsAnswerOf (found.holds texts.answer) a → a ≡ answer
+  same_answer a is =
+      let has = contents.of_answer in
+      ReadsAs-unique (filled_fields has.bytes) a answer
+      (subst (λ bs. AnswerReadsAs (filled_fields bs) a)
+      (bytes_at (found.holds texts.answer) has.bytes is.bytes has.known is.has) is.reads) has.reads
+
+  same_certificate : (k : Certificate) → IsCertificateOf (found.holds texts.certificate) k → k ≡ certificate
+  same_certificate k is =
+      let has = contents.of_certificate in
+      let e : Ok k ≡ Ok certificate
+      = one_reading has.bytes (Ok k) (Ok certificate)
+      (subst (λ bs. CertReadsAs bs (Ok k))
+      (bytes_at (found.holds texts.certificate) has.bytes is.bytes has.known is.has) is.reads) has.reads in
+      cc e
+
+  no_stops : (end : Status) → ¬ StopsAtFirst found end (check_inputs texts)
+  no_stops end (inl stops) = no_stop found _ _ (λ bytes reads. framework_sound bytes f reads) contents.of_framework end stops.0
+  no_stops end (inr (passed, inl stops)) =
+      no_stop found _ _ (λ bytes reads. answer_sound bytes answer reads) contents.of_answer end stops.0
+  no_stops end (inr (passed, inr (passed', inl stops))) =
+      no_stop found _ _ (λ bytes reads. certificate_sound bytes certificate reads) contents.of_certificate end stops.0
+  no_stops end (inr (passed, inr (passed', inr stops))) = stops.1
+
+  checks_end : (end : Status) → ChecksFiles found.holds asked texts end → IsCheckEnd f asked answer certificate end
+  checks_end end checks =
+      check_end f asked answer certificate end
+      (subst (λ g. CheckEnds (af g) asked answer certificate end) (same_framework checks.framework checks.of_framework)
+      (subst (λ a. CheckEnds (af checks.framework) asked a certificate end) (same_answer checks.answer checks.of_answer)
+      (subst (λ k. CheckEnds (af checks.framework) asked checks.answer k end)
+      (same_certificate checks.certificate checks.of_certificate) checks.ends)))
+
+  pub ends_check : (kept : Transcript) (end : Status) → EndsCommand found (check_row found.holds (Some asked) texts) kept end
+      → IsCheckEnd f asked answer certificate end
+  ends_check kept end (inl (nothing, inl stops)) = absurd (no_stops end stops)
+  ends_check kept end (inl (nothing, inr memory)) =
+      let P : Status → Type 0 = IsCheckEnd f asked answer certificate in subst P (sym memory.0) tt
+  ends_check kept end (inr checks) = checks_end end checks.1
 
 -- ---- runs
 
 some_is : {X : Type 0} {x y : X} → Some x ≡ Some y → x ≡ y
 some_is e = cc
 
-none_in : (x : Input) → Contains [] x → ⊥
-none_in x c = let lt : c.0 < 0 = c.1 in absurd (omega arith)
+no_check_files : (holds : List ℕ → KnownFile) (asked : Option Asked) (texts : CheckTexts) (kept : Transcript)
+    (end : Status) (text : Option (List ℕ)) → files_beside text ((check_row holds asked texts).files kept end) ≡ []
+no_check_files holds None texts kept end None = refl
+no_check_files holds None texts kept end (Some text) = refl
+no_check_files holds (Some asked) texts kept end None = refl
+no_check_files holds (Some asked) texts kept end (Some text) = refl
 
-only_in : (x y : Input) → Contains (y ∷ []) x → x ≡ y
-only_in x y (zero, lt, is) = sym is
-only_in x y (suc i, lt, is) = absurd (let past : suc i < 1 = lt in omega arith)
+-- a check keeps nothing
+check_keeps : (holds : List ℕ → KnownFile) (asked : Option Asked) (texts : CheckTexts) (kept : Transcript) (end : Status)
+    → (check_row holds asked texts).Ends kept end → kept ≡ nothing_kept
+check_keeps holds None texts kept end unasked = unasked.0
+check_keeps holds (Some asked) texts kept end checks = checks.0
 
 -- no row writes a file today
 no_files : (holds : List ℕ → KnownFile) (request : Request) (kept : Transcript) (end : Status) (text : Option (List ℕ))
@@ -230,16 +380,10 @@ no_files holds version kept end None = refl
 no_files holds version kept end (Some text) = refl
 no_files holds (grounded file) kept end None = refl
 no_files holds (grounded file) kept end (Some text) = refl
+no_files holds (checking texts) kept end text =
+    no_check_files holds (asked_by texts.task texts.number) texts kept end text
 no_files holds unknown kept end None = refl
 no_files holds unknown kept end (Some text) = refl
-
--- the one role in which inputs are read today
-other_role : (holds : List ℕ → KnownFile) (request : Request) (other : Role) → other ≢ Framework 1
-    → HasNoInput (row_of holds request) other
-other_role holds version other apart = λ x c. absurd (none_in x c)
-other_role holds (grounded file) other apart =
-    λ x c e. apart (e ∙ ap (λ (i : Input). i.role) (only_in x (input (Framework 1) file) c))
-other_role holds unknown other apart = λ x c. absurd (none_in x c)
 
 write_fault_or : (end : Status) → (end ≡ WriteFault) ⊎ (end ≢ WriteFault)
 write_fault_or WriteFault = inl refl
@@ -249,6 +393,7 @@ write_fault_or (InputRefused refusal) = inr (λ e. cc)
 write_fault_or (ReadFault r) = inr (λ e. cc)
 write_fault_or WantOfMemory = inr (λ e. cc)
 write_fault_or (Limit l) = inr (λ e. cc)
+write_fault_or (Rejected failure r s) = inr (λ e. cc)
 
 -- what is decided and then written is a run
 pub IsRunOf-written : (found : Reading) (holds : List ℕ → KnownFile) (count : Role
@@ -287,6 +432,8 @@ right_at : (found : Reading) (words : List (List ℕ)) (request : Request) (kept
     → IsRightFor words found.holds set
 right_at found words request kept end set asked (inl (nothing, why)) is = none_kept found words kept set nothing is
 right_at found words version kept end set asked (inr done) is = none_kept found words kept set done.0 is
+right_at found words (checking texts) kept end set asked (inr checks) is =
+    none_kept found words kept set (check_keeps found.holds (asked_by texts.task texts.number) texts kept end checks) is
 right_at found words unknown kept end set asked (inr unasked) is = none_kept found words kept set unasked.0 is
 right_at found words (grounded file) kept end set asked (inr answered) is = record {
   file = file;
@@ -368,5 +515,36 @@ module _ (found : Reading) (words : List (List ℕ)) (ended : Ended) (old new : 
       (λ whole. let written = (run.whole whole).1 in (same_files written.files, written.no_fault.0))
       (write_fault_or ended.status)
 
-  pub other_counts : OtherCountsKept (Framework 1) found.old_count found.new_count
-  other_counts other apart = run.decided.counts.others other (other_role found.holds (requested words) other apart)
+  pub other_counts : (other : Role) → HasNoInput (row_of found.holds (requested words)) other
+      → found.new_count other ≡ found.old_count other
+  other_counts other none = run.decided.counts.others other none
+
+  -- at a check, the row is that of its query
+  at_check : (texts : CheckTexts) (by : Option Asked) → IsCheckQuery words texts → asked_by texts.task texts.number ≡ by
+      → ended.status ≢ WriteFault → EndsCommand found (check_row found.holds by texts) ended.kept ended.status
+  at_check texts by query asks whole =
+      let P : Request → Type 0 = λ r. EndsCommand found (row_of found.holds r) ended.kept ended.status in
+      let Q : Option Asked → Type 0 = λ o. EndsCommand found (check_row found.holds o texts) ended.kept ended.status in
+      subst Q asks (subst P (requested_texts words texts query) (ends whole))
+
+  -- where a check is done, the answer is right
+  pub accepted : (texts : CheckTexts) → IsCheckQuery words texts → ended.status ≡ Done → AnswersRight found.holds texts
+  accepted texts query done =
+      let P : Status → Type 0 =
+      λ e. EndsCommand found (check_row found.holds (asked_by texts.task texts.number) texts) ended.kept e in
+      done_right found (asked_by texts.task texts.number) texts ended.kept refl
+      (subst P done (at_check texts (asked_by texts.task texts.number) query refl (λ e. let x : Done ≡ WriteFault =
+      sym done ∙ e in cc)))
+
+  pub checked : (texts : CheckTexts) (asked : Asked) (f : Af) (answer : Answer) (certificate : Certificate)
+      → ChecksContents found words texts asked f answer certificate → IsCheckEnd f asked answer certificate ended.status
+  checked texts asked f answer certificate contents = ⊎_elim
+      (λ broken. let P : Status → Type 0 = IsCheckEnd f asked answer certificate in subst P (sym broken) tt)
+      (λ whole. ends_check found words texts asked f answer certificate contents ended.kept ended.status
+      (at_check texts (Some asked) contents.query contents.asks whole)) (write_fault_or ended.status)
+
+  -- a check that asks no query is refused
+  pub unasked : (texts : CheckTexts) → IsCheckQuery words texts → asked_by texts.task texts.number ≡ None
+      → RefusesWords ended.status
+  unasked texts query asks =
+      refuses_words found ended.kept ended.status (λ whole. at_check texts None query asks whole)

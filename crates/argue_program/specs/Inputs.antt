@@ -1,8 +1,11 @@
 -- The inputs of a run, and how one of them ends it.
-use Rattle.std.specs.Prelude.{◌≡◌, ℕ, ◌≤◌, ◌⊎◌, List, [], ◌∷◌, length, Contains}
+use Rattle.std.specs.Prelude.{◌≡◌, ℕ, ◌≤◌, ◌⊎◌, List, [], ◌∷◌, length, Contains, Err}
 use Rattle.argue_outside.specs.Outside.{FaultCounted, HoldsWhole, IsLonger, KnownFile}
 use Rattle.argue_outside.specs.declared.Role.{Role}
-use Rattle.argue_outside.specs.declared.Role.TheVariants.{Framework}
+use Rattle.argue_outside.specs.declared.Role.TheVariants.{Framework, Answer as OfAnswer, Certificate as OfCertificate}
+use Rattle.iccma_tasks.specs.AnswerText.{IsFaultOf}
+use Rattle.certificate_text.specs.Reading.{ReadsAs as CertReadsAs}
+use Rattle.certificate_text.specs.declared.fault.CertFault.TheVariants.{At}
 use Rattle.semantics.specs.Framework.{Af}
 use Rattle.af_format.specs.AfText.{ReadsAs}
 use Rattle.af_format.specs.Faults.{IsFirstFault}
@@ -43,6 +46,8 @@ pub record HasBytes (known : KnownFile) (bytes : List ℕ) : Type 0 where
 -- the first fault of bytes that are read in a role: a row for each kind of text
 abbrev pub IsFirstFaultIn : Role → List ℕ → ℕ → Cause → Type 0
 IsFirstFaultIn (Framework k) bytes line (cause.Framework cause) = IsFirstFault bytes line cause
+IsFirstFaultIn OfAnswer bytes line (cause.Answer cause) = IsFaultOf bytes line cause
+IsFirstFaultIn OfCertificate bytes line (cause.Certificate cause) = CertReadsAs bytes (Err (At line cause))
 IsFirstFaultIn _ bytes line cause = ⊥
 
 -- the input has been read whole
@@ -105,3 +110,14 @@ pub record IsFrameworkOf (known : KnownFile) (framework : Af) : Type 0 where
 abbrev pub status_of_fault : Role → AfFault → Status
 status_of_fault role (fault.Line told) = InputRefused (Line role told.line (cause.Framework told.cause))
 status_of_fault role fault.Memory = WantOfMemory
+
+-- ---- reading several inputs
+
+-- how reading the inputs whole may end the run
+abbrev pub StopsReading : Reading → List Input → Status → Type 0
+StopsReading found inputs end = StopsAtFirst found end inputs ⊎ (end ≡ WantOfMemory)
+
+-- no text is refused
+abbrev pub IsUnrefused : Status → Type 0
+IsUnrefused (InputRefused refusal) = ⊥
+IsUnrefused _ = Unit {0}

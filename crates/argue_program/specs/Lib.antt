@@ -1,4 +1,6 @@
+pub mod Checks
 pub mod Inputs
+pub mod Queries
 pub mod Rows
 pub mod Runs
 pub mod Statuses

@@ -8,7 +8,10 @@ use Rattle.argue_outside.specs.Outside.{KnownFile}
 use Rattle.iccma_tasks.specs.WrittenText.{set_line}
 use Rattle.argue_outside.specs.declared.Role.{Role}
 use Rattle.argue_outside.specs.declared.Role.TheVariants.{Framework}
-use Rattle.argue_words.specs.Words.{Request, version, grounded, unknown}
+use Rattle.argue_words.specs.Words.{CheckTexts, Request, version, grounded, checking, unknown}
+use Rattle.iccma_tasks.specs.Tasks.{Asked}
+use Rattle.argue_program.specs.Checks.{ChecksFiles, check_inputs}
+use Rattle.argue_program.specs.Queries.{asked_by}
 use Rattle.af_format.specs.AfText.{ReadsAs}
 use Rattle.argue_program.specs.Inputs.{HasBytes, Input, Reading, StopsAtFirst}
 use Rattle.argue_program.specs.Texts.{common_text, text_bytes}
@@ -100,10 +103,26 @@ grounded_row holds file = record {
   files = λ kept end. [];
 }
 
+-- it keeps nothing, and ends as the check of the files does
+abbrev pub EndsChecked : (List ℕ → KnownFile) → Asked → CheckTexts → Transcript → Status → Type 0
+EndsChecked holds asked texts kept end = (kept ≡ nothing_kept) × ChecksFiles holds asked texts end
+
+-- the check of an answer to a query, or words that ask none
+abbrev pub check_row : (List ℕ → KnownFile) → Option Asked → CheckTexts → Row
+check_row holds None texts = unknown_row
+check_row holds (Some asked) texts = record {
+  inputs = check_inputs texts;
+  takes_memory = true;
+  Ends = EndsChecked holds asked texts;
+  text = λ kept end. codes "ACCEPTED\n";
+  files = λ kept end. [];
+}
+
 -- the table: what is known of the files matters to some rows
 abbrev pub row_of : (List ℕ → KnownFile) → Request → Row
 row_of holds version = version_row
 row_of holds (grounded file) = grounded_row holds file
+row_of holds (checking texts) = check_row holds (asked_by texts.task texts.number) texts
 row_of holds unknown = unknown_row
 
 -- ---- the cause of an ending

@@ -1,11 +1,23 @@
 -- What a run does, and what follows of it in the words of its query.
-use Rattle.std.specs.Prelude.{◌≡◌, ◌≢◌, ℕ, ◌⊎◌, List, Some}
+use Rattle.std.specs.Prelude.{◌≡◌, ◌≢◌, ℕ, ◌⊎◌, ◌≤◌, List, length, Ok, Some}
 use Rattle.argue_outside.specs.Outside.{FaultCounted, KnownFile}
 use Rattle.argue_outside.specs.declared.Role.TheVariants as role
-use Rattle.argue_words.specs.Words.{IsGroundedQuery}
+use Rattle.semantics.specs.Framework.{Af}
+use Rattle.semantics.specs.Frameworks.{af}
+use Rattle.num_text.specs.declared.limit.TheConstants.{INPUT_LIMIT}
+use Rattle.argue_words.specs.Words.{CheckTexts, IsCheckQuery, IsGroundedQuery}
+use Rattle.iccma_tasks.specs.AnswerText.{filled_fields, ReadsAs as AnswerReadsAs}
+use Rattle.iccma_tasks.specs.Tasks.{Asked}
+use Rattle.iccma_tasks.specs.declared.answer.Answer.{Answer}
+use Rattle.certificate_claims.specs.Rights.{IsRight}
+use Rattle.certificate_claims.specs.declared.certificate.Certificate.{Certificate}
+use Rattle.certificate_text.specs.Reading.{ReadsAs as CertReadsAs}
+use Rattle.af_format.specs.AfText.{ReadsAs}
+use Rattle.argue_program.specs.Checks.{CheckEnds, IsAnswerOf}
+use Rattle.argue_program.specs.Queries.{asked_by}
 use Rattle.af_format.specs.Faults.{HasFault}
 use Rattle.af_format.specs.declared.fault.LineCause.{LineCause}
-use Rattle.argue_program.specs.Inputs.{IsFirstFaultIn, Reading}
+use Rattle.argue_program.specs.Inputs.{Input, IsFirstFaultIn, IsFrameworkOf, Reading, input}
 use Rattle.argue_program.specs.Rows.{AnswersFile, IsEndingOf, Row}
 use Rattle.argue_program.specs.Writing.{BreaksOff, IsWritten, Output}
 use Rattle.argue_program.specs.declared.decision.Ending.{Ending}
@@ -70,3 +82,38 @@ RefusesLength (Limit limit.Input) = Unit {0}
 RefusesLength WriteFault = Unit {0}
 RefusesLength WantOfMemory = Unit {0}
 RefusesLength _ = ⊥
+
+-- ---- checks
+
+-- the answer in its file is right for the query of these texts, on the framework in its file
+pub record AnswersRight (holds : List ℕ → KnownFile) (texts : CheckTexts) : Type 0 where
+  pub asked : Asked
+  pub asks : asked_by texts.task texts.number ≡ Some asked
+  pub framework : Af
+  pub answer : Answer
+  pub of_framework : IsFrameworkOf (holds texts.file) framework
+  pub of_answer : IsAnswerOf (holds texts.answer) answer
+  pub right : IsRight (af framework) asked answer
+
+-- the input has bytes within the limit, of which P holds and no read fails: it is served, or no fault is counted
+pub record HasText (found : Reading) (one : Input) (P : List ℕ → Type 0) : Type 0 where
+  pub bytes : List ℕ
+  pub known : found.holds one.file ≡ Some (Some bytes)
+  pub within : length bytes ≤ INPUT_LIMIT
+  pub reads : P bytes
+  pub no_fault : found.Serves one.file ⊎ ¬ FaultCounted (found.old_count one.role) (found.new_count one.role)
+
+-- the words ask for a check of this query, and the files read as these
+pub record ChecksContents (found : Reading) (words : List (List ℕ)) (texts : CheckTexts) (asked : Asked) (f : Af)
+    (answer : Answer) (certificate : Certificate) : Type 0 where
+  pub query : IsCheckQuery words texts
+  pub asks : asked_by texts.task texts.number ≡ Some asked
+  pub of_framework : HasText found (input (role.Framework 1) texts.file) (λ bytes. ReadsAs bytes f)
+  pub of_answer : HasText found (input role.Answer texts.answer) (λ bytes. AnswerReadsAs (filled_fields bytes) answer)
+  pub of_certificate : HasText found (input role.Certificate texts.certificate) (λ bytes. CertReadsAs bytes (Ok certificate))
+
+-- a check ends as its framework, query, answer and certificate say, but for want of memory or a write fault
+abbrev pub IsCheckEnd : Af → Asked → Answer → Certificate → Status → Type 0
+IsCheckEnd f asked answer certificate WantOfMemory = Unit {0}
+IsCheckEnd f asked answer certificate WriteFault = Unit {0}
+IsCheckEnd f asked answer certificate end = CheckEnds (af f) asked answer certificate end

@@ -1,20 +1,26 @@
 //! The top call.
 
-ghost use Rattle.std.specs.Prelude.{◌≡◌, ◌≢◌, ℕ, ◌<◌, ◌≤◌, List, [], Some, length, map};
+ghost use Rattle.std.specs.Prelude.{◌≡◌, ◌≢◌, ℕ, ◌<◌, ◌≤◌, List, [], None, Some, length, map};
 ghost use Rattle.std.specs.String.{string_bytes};
-ghost use Rattle.argue_outside.specs.Outside.{FaultCounted, OtherCountsKept};
-ghost use Rattle.argue_words.specs.Words.{AreWords, requested};
+ghost use Rattle.argue_outside.specs.Outside.{FaultCounted};
+ghost use Rattle.argue_outside.specs.declared.Role.{Role as ARole};
+ghost use Rattle.semantics.specs.Framework.{Af};
+ghost use Rattle.argue_words.specs.Words.{AreWords, CheckTexts, IsCheckQuery, requested};
+ghost use Rattle.iccma_tasks.specs.Tasks.{Asked};
+ghost use Rattle.iccma_tasks.specs.declared.answer.Answer.{Answer};
+ghost use Rattle.certificate_claims.specs.declared.certificate.Certificate.{Certificate};
+ghost use Rattle.argue_program.specs.Queries.{asked_by};
 ghost use Rattle.af_format.specs.AfText.{IsReadable};
 ghost use Rattle.argue_program.specs.Inputs.{reading};
-ghost use Rattle.argue_program.specs.Rows.{row_of};
-ghost use Rattle.argue_program.specs.Runs.{IsDoneOrMemory, IsFaulty, IsRightFor, IsRunOf, QueriesBytes, RefusesBytes, RefusesLength, RefusesWords};
+ghost use Rattle.argue_program.specs.Rows.{HasNoInput, row_of};
+ghost use Rattle.argue_program.specs.Runs.{AnswersRight, ChecksContents, IsCheckEnd, IsDoneOrMemory, IsFaulty, IsRightFor, IsRunOf, QueriesBytes, RefusesBytes, RefusesLength, RefusesWords};
 ghost use Rattle.argue_program.specs.Writing.{output};
 ghost use Rattle.num_text.specs.declared.limit.TheConstants.{INPUT_LIMIT};
 
 use crate::decision::decide;
 use crate::ended::{Ended, Status};
 use crate::writing::write_ending;
-use argue_outside::{Files, Pace, Role, Sink};
+use argue_outside::{Files, Pace, Sink};
 use std::alloc::Global;
 use std::sync::Wait;
 use std::thread::Threads;
@@ -58,12 +64,26 @@ pub fn execute<F: Files, O: Sink>(
         (map string_bytes words.now) file bytes
         → INPUT_LIMIT < length bytes → RefusesLength result.status }
 
+    // Of a check: done only where the answer is right; with files that read as something and no fault, it ends as these
+    // say, or wants memory; and one that asks no query is refused.
+    ensures accepted { (texts : CheckTexts) → IsCheckQuery (map string_bytes words.now) texts
+        → result.status ≡ Status.Done → AnswersRight (F.holds files.old) texts }
+    ensures checked { (texts : CheckTexts) (asked : Asked) (f : Af) (answer : Answer) (certificate : Certificate)
+        → ChecksContents
+        (reading (F.holds files.old) (F.serves files.old) (F.read_count files.old) (F.read_count files.new))
+        (map string_bytes words.now) texts asked f answer certificate
+        → IsCheckEnd f asked answer certificate result.status }
+    ensures unasked { (texts : CheckTexts) → IsCheckQuery (map string_bytes words.now) texts
+        → asked_by texts.task texts.number ≡ None → RefusesWords result.status }
+
     // A write fault was counted. No file changes, and no other count of faults does.
     ensures write_fault { result.status ≡ Status.WriteFault
         → FaultCounted (O.fault_count out.old) (O.fault_count out.new) }
     ensures contents_stay { F.holds files.new ≡ F.holds files.old }
     ensures no_write { F.write_count files.new ≡ F.write_count files.old }
-    ensures no_other_read { OtherCountsKept (Role.Framework 1) (F.read_count files.old) (F.read_count files.new) }
+    ensures no_other_read { (role : ARole)
+        → HasNoInput (row_of (F.holds files.old) (requested (map string_bytes words.now))) role
+        → F.read_count files.new role ≡ F.read_count files.old role }
 {
     let ending = decide(alloc, words, files);
     write_ending(files, out, ending)
@@ -110,12 +130,26 @@ pub fn run<F: Files, O: Sink, P: Pace + Sync, R: Threads + Wait + Sync>(
         (map string_bytes words.now) file bytes
         → INPUT_LIMIT < length bytes → RefusesLength result.status }
 
+    // Of a check: done only where the answer is right; with files that read as something and no fault, it ends as these
+    // say, or wants memory; and one that asks no query is refused.
+    ensures accepted { (texts : CheckTexts) → IsCheckQuery (map string_bytes words.now) texts
+        → result.status ≡ Status.Done → AnswersRight (F.holds files.old) texts }
+    ensures checked { (texts : CheckTexts) (asked : Asked) (f : Af) (answer : Answer) (certificate : Certificate)
+        → ChecksContents
+        (reading (F.holds files.old) (F.serves files.old) (F.read_count files.old) (F.read_count files.new))
+        (map string_bytes words.now) texts asked f answer certificate
+        → IsCheckEnd f asked answer certificate result.status }
+    ensures unasked { (texts : CheckTexts) → IsCheckQuery (map string_bytes words.now) texts
+        → asked_by texts.task texts.number ≡ None → RefusesWords result.status }
+
     // A write fault was counted. No file changes, and no other count of faults does.
     ensures write_fault { result.status ≡ Status.WriteFault
         → FaultCounted (O.fault_count out.old) (O.fault_count out.new) }
     ensures contents_stay { F.holds files.new ≡ F.holds files.old }
     ensures no_write { F.write_count files.new ≡ F.write_count files.old }
-    ensures no_other_read { OtherCountsKept (Role.Framework 1) (F.read_count files.old) (F.read_count files.new) }
+    ensures no_other_read { (role : ARole)
+        → HasNoInput (row_of (F.holds files.old) (requested (map string_bytes words.now))) role
+        → F.read_count files.new role ≡ F.read_count files.old role }
 {
     execute(alloc, words, files, out)
 }

@@ -3,17 +3,19 @@
 ghost use Rattle.std.specs.Prelude.{◌≡◌, ◌⊎◌, ℕ, List, [], IfErr, IfOk, IsErrOf, IsSome, Some, map};
 ghost use Rattle.std.specs.String.{string_bytes};
 ghost use Rattle.argue_outside.specs.Outside.{OtherCountsKept};
-ghost use Rattle.argue_words.specs.Words.{request_of, requested};
+ghost use Rattle.argue_words.specs.Words.{check_texts, checking, request_of, requested};
 ghost use Rattle.argue_program.specs.Inputs.{EndsReading, input, reading};
 ghost use Rattle.argue_program.specs.Rows.{AnswersQuery, IsEndingOf, grounded_row, nothing_kept, row_of};
 ghost use Rattle.argue_program.specs.Texts.{IsRefusal, common_text, text_bytes};
 
+use crate::checking::check_files;
 use crate::ended::{Status, Transcript};
 use crate::input::read_framework;
+use crate::query::query_of;
 use crate::texts::{Text, status_text};
 use crate::writing::Written;
 use argue_outside::{Files, Role};
-use argue_words::{Command, read_words};
+use argue_words::{CheckWords, Command, read_words};
 use iccma_tasks::push_set;
 use plain_lists::{Items, Memory};
 use std::alloc::Global;
@@ -103,6 +105,22 @@ fn solve<F: Files>(alloc: Global, files: &mut F, name: &str) -> Ending
     }
 }
 
+/// The ending of a check.
+fn check<F: Files>(alloc: Global, files: &mut F, words: CheckWords<'_>) -> Ending
+    ensures ending { IsEndingOf (reading (F.holds files.old) (F.serves files.old) (F.read_count files.old)
+        (F.read_count files.new)) (row_of (F.holds files.old) (checking (check_texts words.entry))) result }
+    ensures same { F.holds files.new ≡ F.holds files.old }
+    ensures writes { F.write_count files.new ≡ F.write_count files.old }
+{
+    let Some(query) = query_of(words.task, words.number) else {
+        return stopped(alloc, Status::Usage);
+    };
+    match check_files(alloc, files, &query, &words) {
+        Ok(()) => done(alloc, Transcript { set: None }, Text::Fixed("ACCEPTED\n")),
+        Err(status) => stopped(alloc, status),
+    }
+}
+
 /// The ending of a command.
 fn decide_command<F: Files>(alloc: Global, command: Command, files: &mut F) -> Ending
     ensures ending { IsEndingOf (reading (F.holds files.old) (F.serves files.old) (F.read_count files.old)
@@ -113,6 +131,7 @@ fn decide_command<F: Files>(alloc: Global, command: Command, files: &mut F) -> E
     match command {
         Command::Version => done(alloc, Transcript { set: None }, Text::Fixed("argue 1.0\n")),
         Command::Grounded(file) => solve(alloc, files, file),
+        Command::Check(words) => check(alloc, files, words),
         Command::Unknown => stopped(alloc, Status::Usage),
     }
 }

@@ -5,6 +5,10 @@ ghost use Rattle.argue_program.specs.Statuses.{code_of};
 
 use af_format::LineCause;
 use argue_outside::Role;
+use certificate_claims::Cause as Failure;
+use certificate_text::CertCause;
+use edit_rules::QueryFault;
+use iccma_tasks::AnswerCause;
 use set_lists::NumSet;
 
 /// What is wrong with a line of an input: a variant for each kind of text.
@@ -12,6 +16,10 @@ use set_lists::NumSet;
 pub enum Cause {
     /// A line of a framework.
     Framework(LineCause),
+    /// A line of an answer.
+    Answer(AnswerCause),
+    /// A line of a certificate.
+    Certificate(CertCause),
 }
 
 /// Why an input is refused.
@@ -19,6 +27,8 @@ pub enum Cause {
 pub enum Refusal {
     /// The text read in this role has its first fault at this line, counted from 1.
     Line(Role, usize, Cause),
+    /// The query doesn't fit the framework.
+    Query(QueryFault),
 }
 
 /// Which bound was met.
@@ -45,6 +55,8 @@ pub enum Status {
     WantOfMemory,
     /// A bound was met.
     Limit(Limit),
+    /// The certificate isn't accepted for the answer: why, and the numbers of the refutation and of the step or the set.
+    Rejected(Failure, usize, usize),
 }
 
 impl Status {
@@ -60,6 +72,7 @@ impl Status {
             Status::WriteFault => 4,
             Status::WantOfMemory => 5,
             Status::Limit(_) => 7,
+            Status::Rejected(_, _, _) => 8,
         }
     }
 }

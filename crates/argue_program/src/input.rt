@@ -1,8 +1,8 @@
 //! The inputs of a run.
 
 ghost use Rattle.std.specs.Prelude.{◌≡◌, IfErr, IfOk, IsErrOf};
-ghost use Rattle.argue_outside.specs.Outside.{IsRole, OtherCountsKept};
-ghost use Rattle.argue_program.specs.Inputs.{EndsReading, HasBytes, IsFrameworkOf, input, reading, status_of_fault};
+ghost use Rattle.argue_outside.specs.Outside.{HoldsStill, IsRole, OtherCountsKept};
+ghost use Rattle.argue_program.specs.Inputs.{EndsReading, HasBytes, IsFrameworkOf, IsUnrefused, input, reading, status_of_fault};
 
 use crate::ended::{Cause, Limit, Refusal, Status};
 use af_format::{ReadFault, read_af};
@@ -24,7 +24,7 @@ impl From<Memory> for Status {
 }
 
 /// The whole bytes of an input, or the status of the run that it ends.
-fn read_input<F: Files>(
+pub(crate) fn read_input<F: Files>(
     alloc: Global,
     files: &mut F,
     role: Role,
@@ -34,8 +34,10 @@ fn read_input<F: Files>(
     ensures ok { IfOk result (HasBytes (F.holds files.old name.now)) }
     ensures err { IfErr result (EndsReading (reading (F.holds files.old) (F.serves files.old) (F.read_count files.old)
         (F.read_count files.new)) (input role name.now)) }
+    ensures unrefused { IfErr result IsUnrefused }
     ensures quiet { (IsErrOf result (Status.ReadFault role) → ⊥) → F.read_count files.new ≡ F.read_count files.old }
     ensures others { OtherCountsKept role (F.read_count files.old) (F.read_count files.new) }
+    ensures serving { HoldsStill (F.serves files.old) (F.serves files.new) }
     ensures same { F.holds files.new ≡ F.holds files.old }
     ensures writes { F.write_count files.new ≡ F.write_count files.old }
 {
@@ -48,7 +50,7 @@ fn read_input<F: Files>(
 }
 
 /// The status of a run whose framework has this fault.
-fn refused(role: Role, fault: ReadFault) -> Status
+pub(crate) fn refused(role: Role, fault: ReadFault) -> Status
     ensures { result ≡ status_of_fault role fault }
 {
     match fault {

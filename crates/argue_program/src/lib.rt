@@ -5,11 +5,13 @@
 //! `write_ending` writes it.
 #![tactic(auto)]
 
+mod checking;
 pub mod command;
 pub mod decision;
 pub mod ended;
 pub mod input;
 pub mod process;
+mod query;
 pub mod texts;
 pub mod writing;
 

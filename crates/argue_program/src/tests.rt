@@ -79,6 +79,222 @@ fn only(alloc: Global, number: u64) -> Result<Items<u64>, Fail> {
     Ok(numbers)
 }
 
+// That in `FRAMEWORK` every preferred set has 4: each admissible set lies in 1 4 or in 2 4.
+const COVER: &str = "cert 1\nw 1 4\nw 2 4\nr\na A3 1 3\na A5 1 1 2\na A6 1 3\na A2 2 3\na A14 1\n\
+    d -Ad -Member:3 -Attack:1:3 -Attack:2:3 -Gap:1:1:2 -Gap:1:3:1000001 0 5 1 3 2 4\ns 1\ns 2\na A2 1 2\n\
+    d -Ad -Ask:1 -Ask:2 -Attack:1:2 -Attack:1:3 -Attack:2:3 -Gap:1:1:2 -Gap:1:3:1000001 0 5 6 7 8 9\nend\n";
+
+const FRAMEWORK: &str = "p af 4\n1 2\n2 1\n1 3\n2 3\n3 4\n";
+
+const CHECK: &str = "check -p DS-PR -f a -a 4 -r b -c c";
+
+#[test]
+fn checks(rt: HostRuntime) -> Result<(), Fail> {
+    let alloc = rt.alloc();
+    let stable = "check -p SE-ST -f a -r b -c c";
+    // The words, the framework, the answer, what stands in COVER in place of what, the output and the status.
+    let rows = [
+        (CHECK, FRAMEWORK, "YES", "", "", "ACCEPTED\n", 0),
+        (
+            CHECK,
+            FRAMEWORK,
+            "YES",
+            "w 2 4\n",
+            "",
+            "REJECTED BadStep 1 8\n",
+            8,
+        ),
+        (
+            CHECK,
+            FRAMEWORK,
+            "YES",
+            "6 7 8 9\nend",
+            "6 7 8\nend",
+            "REJECTED BadStep 1 10\n",
+            8,
+        ),
+        (
+            CHECK,
+            FRAMEWORK,
+            "YES",
+            "A5 1 1 2",
+            "A5 1 1 3",
+            "REJECTED BadStep 1 6\n",
+            8,
+        ),
+        (
+            CHECK,
+            FRAMEWORK,
+            "YES",
+            "s 2",
+            "s 3",
+            "REJECTED BadStep 1 8\n",
+            8,
+        ),
+        (
+            CHECK,
+            FRAMEWORK,
+            "YES",
+            "w 2 4",
+            "w 2",
+            "REJECTED BadSet 0 2\n",
+            8,
+        ),
+        (
+            CHECK,
+            FRAMEWORK,
+            "YES",
+            "w 2 4",
+            "w 4",
+            "REJECTED BadSet 0 2\n",
+            8,
+        ),
+        (
+            CHECK,
+            FRAMEWORK,
+            "YES",
+            "end",
+            "r\nend",
+            "REJECTED RefutationCount 0 0\n",
+            8,
+        ),
+        (
+            CHECK,
+            FRAMEWORK,
+            "NO\nw 1 4",
+            "",
+            "",
+            "REJECTED BadWitness 0 1\n",
+            8,
+        ),
+        (
+            CHECK,
+            FRAMEWORK,
+            "YES\nw 1 4",
+            "",
+            "",
+            "REJECTED AnswerShape 0 0\n",
+            8,
+        ),
+        (
+            CHECK,
+            "p af 4\n2 1\n1 3\n2 3\n3 4\n",
+            "YES",
+            "",
+            "",
+            "REJECTED BadSet 0 1\n",
+            8,
+        ),
+        (
+            CHECK,
+            "p af 3",
+            "YES",
+            "",
+            "",
+            "error: query UnknownArgument 4\n",
+            2,
+        ),
+        (
+            CHECK,
+            FRAMEWORK,
+            "w 3 1",
+            "",
+            "",
+            "error: answer line 1 NotRising\n",
+            2,
+        ),
+        (
+            CHECK,
+            FRAMEWORK,
+            "YES",
+            "end",
+            "",
+            "error: certificate line 16 NoEnd\n",
+            2,
+        ),
+        (
+            CHECK,
+            "p af x",
+            "w 3 1",
+            "end",
+            "",
+            "error: framework line 1 BadHeader\n",
+            2,
+        ),
+        (
+            CHECK,
+            "p af 3",
+            "w 3 1",
+            "",
+            "",
+            "error: answer line 1 NotRising\n",
+            2,
+        ),
+        (
+            "check -p DS-PR -f a -a 4 -r b -c d",
+            "p af x",
+            "",
+            "",
+            "",
+            "error: read certificate\n",
+            3,
+        ),
+        (
+            "check -p DS-PR -f a -r b -c c",
+            FRAMEWORK,
+            "YES",
+            "",
+            "",
+            "error: usage\n",
+            1,
+        ),
+        (
+            "check -p DS-PR -f a -a x -r b -c c",
+            FRAMEWORK,
+            "YES",
+            "",
+            "",
+            "error: usage\n",
+            1,
+        ),
+        (
+            "check -p DS-XX -f a -a 4 -r b -c c",
+            FRAMEWORK,
+            "YES",
+            "",
+            "",
+            "error: usage\n",
+            1,
+        ),
+        (
+            stable,
+            FRAMEWORK,
+            "w 1 4",
+            "",
+            "",
+            "REJECTED SetCount 0 0\n",
+            8,
+        ),
+    ];
+    for (line, framework, answer, from, to, output, code) in rows {
+        let mut files = MemFiles::new(alloc);
+        let mut out = MemSink::new(alloc);
+        append_all(&mut files, "a", framework.as_bytes())?;
+        files.clear("b")?;
+        append_all(&mut files, "b", answer.as_bytes())?;
+        let certificate = if from.is_empty() {
+            String::from_str(alloc, COVER)?
+        } else {
+            COVER.replace(alloc, from, to)?
+        };
+        append_all(&mut files, "c", certificate.as_bytes())?;
+        let ended = code_of(alloc, line, &mut files, &mut out)?;
+        assert!(rt; out.bytes() == output.as_bytes(), "output at {output:?}");
+        assert!(rt; ended == code, "status at {output:?}");
+    }
+    Ok(())
+}
+
 #[test]
 fn faults(rt: HostRuntime) -> Result<(), Fail> {
     let alloc = rt.alloc();

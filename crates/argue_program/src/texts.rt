@@ -2,10 +2,13 @@
 
 ghost use Rattle.std.specs.Prelude.{◌≡◌, ◌++◌, IfOk, IsErr, IsSome, Some, codes};
 ghost use Rattle.std.specs.String.{string_bytes};
-ghost use Rattle.argue_program.specs.Texts.{IsRefusal, cause_text, common_text, limit_text, refusal_text, role_text, text_bytes};
+ghost use Rattle.edit_rules.specs.Fitting.{fault_name, fault_number};
+ghost use Rattle.argue_program.specs.Texts.{IsRefusal, cause_text, common_text, failure_text, limit_text, query_line, refusal_text, rejection_text, role_text, text_bytes};
 
 use crate::ended::{Cause, Limit, Refusal, Status};
 use argue_outside::Role;
+use certificate_claims::Cause as Failure;
+use edit_rules::QueryFault;
 use plain_lists::Memory;
 use std::alloc::{AllocError, Global};
 
@@ -49,6 +52,23 @@ fn cause_name(cause: Cause) -> &'static str
 {
     match cause {
         Cause::Framework(cause) => cause.name(),
+        Cause::Answer(cause) => cause.name(),
+        Cause::Certificate(cause) => cause.name(),
+    }
+}
+
+/// The name of a check's failure.
+fn failure_name(failure: Failure) -> &'static str
+    ensures { result.now ≡ failure_text failure }
+{
+    match failure {
+        Failure::AnswerShape => "AnswerShape",
+        Failure::BadWitness => "BadWitness",
+        Failure::SetCount => "SetCount",
+        Failure::BadSet => "BadSet",
+        Failure::RefutationCount => "RefutationCount",
+        Failure::BadStep => "BadStep",
+        Failure::OpenLiteral => "OpenLiteral",
     }
 }
 
@@ -76,18 +96,46 @@ fn limit_line(limit: Limit) -> &'static str
     }
 }
 
+/// The line that tells a query's fault, its end included.
+fn query_fault_line(alloc: Global, fault: QueryFault) -> Result<String, Memory>
+    ensures { IfOk result (λ text. string_bytes text ≡ query_line (fault_name fault) (fault_number fault)) }
+{
+    let name = fault.name();
+    match fault.number() {
+        None => Ok(format!(in alloc; "error: query {name}\n")?),
+        Some(number) => Ok(format!(in alloc; "error: query {name} {number}\n")?),
+    }
+}
+
 /// The line that tells a refusal, its end included: `error:`, the role, the number of the faulty line and
-/// the name of the cause.
+/// the name of the cause, or the fault of the query.
 fn refusal_line(alloc: Global, refusal: Refusal) -> Result<String, Memory>
     ensures { IfOk result (λ text. string_bytes text ≡ refusal_text refusal) }
 {
-    let Refusal::Line(role, line, cause) = refusal;
-    let role = role_name(role);
-    let cause = cause_name(cause);
-    Ok(format!(in alloc; "error: {role} line {line} {cause}\n")?)
+    match refusal {
+        Refusal::Line(role, line, cause) => {
+            let role = role_name(role);
+            let cause = cause_name(cause);
+            Ok(format!(in alloc; "error: {role} line {line} {cause}\n")?)
+        }
+        Refusal::Query(fault) => query_fault_line(alloc, fault),
+    }
 }
 
-/// The text of a status that has one of its own. Memory is taken for a refusal alone.
+/// The line that tells that a certificate isn't accepted, its end included.
+fn rejection_line(
+    alloc: Global,
+    failure: Failure,
+    refutation: usize,
+    step: usize,
+) -> Result<String, Memory>
+    ensures { IfOk result (λ text. string_bytes text ≡ rejection_text failure refutation step) }
+{
+    let name = failure_name(failure);
+    Ok(format!(in alloc; "REJECTED {name} {refutation} {step}\n")?)
+}
+
+/// The text of a status that has one of its own. Memory is taken for a refusal and a rejection alone.
 pub fn status_text(alloc: Global, status: Status) -> Result<Text, Memory>
     ensures memory { IsErr result → IsRefusal status }
     ensures text { IsSome (common_text status) → IfOk result (λ text. Some (text_bytes text) ≡ common_text status) }
@@ -95,6 +143,9 @@ pub fn status_text(alloc: Global, status: Status) -> Result<Text, Memory>
     match status {
         Status::Usage => Ok(Text::Fixed("error: usage\n")),
         Status::InputRefused(refusal) => Ok(Text::Made(refusal_line(alloc, refusal)?)),
+        Status::Rejected(failure, refutation, step) => Ok(Text::Made(rejection_line(
+            alloc, failure, refutation, step,
+        )?)),
         Status::ReadFault(role) => Ok(Text::Fixed(read_line(role))),
         Status::Limit(limit) => Ok(Text::Fixed(limit_line(limit))),
         Status::Done | Status::WriteFault | Status::WantOfMemory => Ok(Text::Fixed("")),

@@ -2,5 +2,5 @@ mod NoFault
 mod FileGiven
 mod SolveLaws
 mod ValueWords
-pub mod TakenWords
 pub mod RequestLaws
+pub mod TakenWords

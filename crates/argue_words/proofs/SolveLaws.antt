@@ -3,12 +3,12 @@ use Rattle.std.proofs.Common.{◌≡◌, ◌≢◌, ◌∙◌, ◌==◌, true, f
 use Rattle.std.proofs.Common.{List, [], ◌∷◌, Result, Ok, Err, IfOk, IfErr, IsSome, codes}
 use Rattle.std.proofs.lemmas.Result.{IfOk-weaker}
 use Rattle.clap.specs.Words.{App, FailsBy, HasMatchesOf, IsParsedFrom, Text, app_of, fault_of, first_value}
-use Rattle.clap.specs.Words.{first_of, found_of, is_simple, is_simple_and_free, matches_of, rule_of, takes}
+use Rattle.clap.specs.Words.{first_of, found_of, is_simple, is_simple_and_free, matches_of, rule_of, takes, with_rule, Rule}
 use Rattle.clap.specs.declared.builder.command.Command.{Command}
 use Rattle.clap.specs.declared.error.Error.{Error}
 use Rattle.clap.specs.declared.parser.matches.ArgMatches.{ArgMatches}
 use Rattle.clap.proofs.WalkLemmas.{first_value-rows}
-use Rattle.argue_words.specs.Words.{solve_app, value_of, value_option}
+use Rattle.argue_words.specs.Words.{check_app, check_value, option_of, solve_app, value_of, value_option}
 use Rattle.argue_words.proofs.NoFault.{takes_if}
 use Rattle.argue_words.proofs.FileGiven.{file_given, two_of}
 
@@ -67,6 +67,62 @@ file_at c r is = IfOk-weaker r _ _ (λ m p.
     let args = two_of rule_of _ _ _ (solve_rules (app_of c) is) in
     let fields = solve_is_plain (app_of c) is in
     file_given args.0 args.1 args.3 args.4 c m args.2 fields.0 fields.1 p)
+
+-- ---- the same of the command of a check
+
+check_is_simple : is_simple check_app ≡ true
+unfolding check_app solve_app
+check_is_simple = refl
+
+check_is_free : is_simple_and_free check_app ≡ true
+unfolding check_app solve_app
+check_is_free = refl
+
+check_takes_if : (words : List Text) → fault_of check_app words ≡ [] → takes check_app words ≡ true
+unfolding check_app solve_app
+check_takes_if words e = takes_if check_app words refl refl refl refl e
+
+pub check_taken_at : {T : Type 0} (app : App) (words : List Text) (r : Result T Error) → app ≡ check_app
+    → (is_simple_and_free app ≡ true → FailsBy (fault_of app words) r)
+    → IfOk r (λ _. takes check_app words ≡ true)
+check_taken_at app words (Err e) is h = tt
+check_taken_at app words (Ok m) is h =
+    check_takes_if words (ap (λ (a : App). fault_of a words) (sym is)
+    ∙ h (ap is_simple_and_free is ∙ check_is_free))
+
+pub check_values_at : (app : App) (words : List Text) (r : Result ArgMatches Error) → app ≡ check_app
+    → IfOk r (HasMatchesOf app words)
+    → IfOk r (λ m. (id : Text) → first_value (found_of m) id ≡ check_value words id)
+check_values_at app words r is = IfOk-weaker r _ _ (λ m h id.
+    first_value-rows (found_of m) id
+    ∙ ap (first_of id) ((h (ap is_simple is ∙ check_is_simple)).0
+    ∙ ap (λ (a : App). matches_of a words) is))
+
+pub check_refused_at : {T : Type 0} (K : Error → Type 0) (app : App) (words : List Text) (r : Result T Error)
+    → app ≡ check_app
+    → IfErr r (λ e. takes app words ≡ true → K e) → IfErr r (λ e. takes check_app words ≡ true → K e)
+check_refused_at K app words (Ok m) is h = tt
+check_refused_at K app words (Err e) is h = λ taken. h (ap (λ (a : App). takes a words) is ∙ taken)
+
+-- the options of a check behind those of a query
+pub check_app_is : (first second third fourth : App) (a b d : Rule) → first ≡ solve_app → second ≡ with_rule first a
+    → third ≡ with_rule second b → fourth ≡ with_rule third d → a ≡ value_option (codes "answer") 114
+    → b ≡ value_option (codes "certificate") 99 → d ≡ option_of (codes "number") 97 false → fourth ≡ check_app
+unfolding check_app
+check_app_is first second third fourth a b d is then and last e f g =
+    last ∙ ap (λ r. with_rule third r) g ∙ ap (λ x. with_rule x (option_of (codes "number") 97 false))
+    (and ∙ ap (λ r. with_rule second r) f ∙ ap (λ x. with_rule x (value_option (codes "certificate") 99))
+    (then ∙ ap (λ r. with_rule first r) e ∙ ap (λ x. with_rule x (value_option (codes "answer") 114)) is))
+
+pub check_built : {E : Type 0} (r : Result Command E) (first second third : App) (a b d : Rule) → first ≡ solve_app
+    → second ≡ with_rule first a → third ≡ with_rule second b → a ≡ value_option (codes "answer") 114
+    → b ≡ value_option (codes "certificate") 99 → d ≡ option_of (codes "number") 97 false
+    → IfOk r (λ c. app_of c ≡ with_rule third d) → IfOk r (λ c. app_of c ≡ check_app)
+check_built (Err e) first second third a b d is then and e' f g last = tt
+check_built (Ok c) first second third a b d is then and e' f g last =
+    check_app_is first second third (app_of c) a b d is then and last e' f g
+
+-- ---- words
 
 pub some_texts : {X : Type 0} (text : X → Text) (words : List X) → false ≡ (length words == 0)
     → map text words ≢ []

@@ -1,6 +1,6 @@
 -- Words that clap takes for a grounded query, and words that it does not.
 use Rattle.std.proofs.Common.{◌≡◌, ◌≢◌, ◌∙◌, ◌&&◌, Bool, true, false, true≢false, refl, sym, ap, subst}
-use Rattle.std.proofs.Common.{arith, slice_index, List, [], ◌∷◌, Option, Some, codes}
+use Rattle.std.proofs.Common.{arith, slice_index, List, [], ◌∷◌, Option, None, Some, codes}
 use Rattle.std.specs.List.{list_all}
 use Rattle.std.specs.Prelude.{fold, slice_get, unwrap_or}
 use Rattle.clap.specs.Walk.{Held, Walk, finished, nothing_held, walk, walked}
@@ -8,7 +8,8 @@ use Rattle.clap.specs.Takes.{default_passes, is_valid, settle_passes, walk_passe
 use Rattle.clap.specs.Words.{Shape, Text, built, first_of, takes}
 use Rattle.clap.proofs.TakesLemmas.{leaf_takes}
 use Rattle.clap.proofs.OnLiterals.{clap_on_literals}
-use Rattle.argue_words.specs.Words.{AreUnknown, IsGroundedQuery, solve_app}
+use Rattle.argue_words.specs.Words.{AreUnknown, IsCheckQuery, IsGroundedQuery, check_app, is_check, solve_app}
+use Rattle.argue_words.proofs.RequestLaws.{no_check_in}
 use Rattle.argue_words.proofs.NoFault.{and_true}
 use Rattle.argue_words.proofs.ValueWords.{no_flag, value_turn, value_walked}
 
@@ -40,6 +41,7 @@ task_first file other =
     let step = value_walked [] (codes "file") 1 h file (no_flag file other) top.rules in
     let turn = value_turn [] (codes "file") 1 h file (no_flag file other) top in
     record {
+      solves = refl;
       taken = and_true _ _ refl (leaf_takes (built solve_app) nothing_held words refl
           (and_true _ _ (and_true _ _ refl (and_true _ _ refl (and_true _ _ refl (and_true _ _ turn refl))))
           (subst (λ w. ends w ≡ true) (sym step) refl)));
@@ -57,6 +59,7 @@ file_first file other =
     let step = value_walked [] (codes "file") 1 h file (no_flag file other) top.rules in
     let turn = value_turn [] (codes "file") 1 h file (no_flag file other) top in
     record {
+      solves = refl;
       taken = and_true _ _ refl (leaf_takes (built solve_app) nothing_held words refl
           (and_true _ _
           (and_true _ _ refl
@@ -70,30 +73,53 @@ file_first file other =
 
 pub values_attached : IsGroundedQuery (codes "-pSE-GR" ∷ codes "-fa.af" ∷ []) (codes "a.af")
 unfolding clap_on_literals solve_app
-values_attached = record { taken = refl; asks = refl; names = refl }
+values_attached = record { solves = refl; taken = refl; asks = refl; names = refl }
 
-refused : (words : List Text) → (words ≡ [] → ⊥) → takes solve_app words ≡ false → AreUnknown words
-refused words some e =
-    record { some_words = some; other_task = λ taken. absurd (true≢false (sym taken ∙ e)) }
+abbrev check_words : List Text
+check_words = codes "-p" ∷ codes "DS-PR" ∷ codes "-f" ∷ codes "a.af" ∷ codes "-a" ∷ codes "4" ∷ codes "-r" ∷ codes "b" ∷ codes "-c"
+    ∷ codes "c" ∷ []
+
+pub check_with_number : IsCheckQuery (codes "check" ∷ check_words) (record {
+  task = codes "DS-PR";
+  number = Some (codes "4");
+  file = codes "a.af";
+  answer = codes "b";
+  certificate = codes "c";
+})
+unfolding clap_on_literals check_app solve_app
+check_with_number = record {
+  rest = check_words;
+  words_are = refl;
+  has = record { taken = refl; task = refl; number = refl; file = refl; answer = refl; certificate = refl };
+}
+
+refused : (words : List Text) → (words ≡ [] → ⊥) → is_check words ≡ false → takes solve_app words ≡ false
+    → AreUnknown words
+refused words some solves e = record {
+  some_words = some;
+  no_check = λ texts query. no_check_in words solves texts query;
+  other_task = λ _ taken. absurd (true≢false (sym taken ∙ e));
+}
 
 pub other_task : AreUnknown (codes "-p" ∷ codes "SE-ST" ∷ codes "-f" ∷ codes "a.af" ∷ [])
 unfolding clap_on_literals solve_app
 other_task = record {
   some_words = λ none. cc;
-  other_task = λ taken same.
+  no_check = λ texts query. no_check_in _ refl texts query;
+  other_task = λ _ taken same.
       let letter : 83 ≡ 71 = ap (λ (o : Option Text). slice_index (unwrap_or o []) 3) same in
       absurd (omega arith);
 }
 
 pub no_file : AreUnknown (codes "-p" ∷ codes "SE-GR" ∷ [])
 unfolding clap_on_literals solve_app
-no_file = refused _ (λ none. cc) refl
+no_file = refused _ (λ none. cc) refl refl
 
 pub file_twice : AreUnknown
     (codes "-p" ∷ codes "SE-GR" ∷ codes "-f" ∷ codes "a.af" ∷ codes "-f" ∷ codes "a.af" ∷ [])
 unfolding clap_on_literals solve_app
-file_twice = refused _ (λ none. cc) refl
+file_twice = refused _ (λ none. cc) refl refl
 
 pub help_asked : AreUnknown (codes "--help" ∷ [])
 unfolding clap_on_literals solve_app
-help_asked = refused _ (λ none. cc) refl
+help_asked = refused _ (λ none. cc) refl refl

@@ -1,5 +1,5 @@
-//! The words after the program's name: none, or the options `-p TASK` and `-f FILE` in any order, as
-//! clap takes them.
+//! The words after the program's name: none, or `check` and its options, or the options `-p TASK` and `-f FILE`, in any
+//! order, as clap takes them.
 #![tactic(auto)]
 
 mod options;
@@ -7,4 +7,4 @@ mod options;
 mod tests;
 pub mod words;
 
-pub use words::{Command, read_words};
+pub use words::{CheckWords, Command, read_words};

@@ -1,21 +1,21 @@
-//! The command line of solve, as clap takes it.
+//! The command lines, as clap takes them.
 
 ghost use Rattle.std.specs.Prelude.{◌≡◌, IfOk, codes, false};
 ghost use Rattle.clap.specs.Words.{app_of, rule_of, with_rule};
-ghost use Rattle.argue_words.specs.Words.{bare_app, solve_app, value_option};
+ghost use Rattle.argue_words.specs.Words.{bare_app, check_app, option_of, solve_app};
 
 use clap::{Arg, ArgAction, Command};
 use std::alloc::{AllocError, Global};
 
-// A required option of one value, written `-s VALUE`.
-fn value_arg<'a>(alloc: Global, id: &'a str, short: char) -> Arg<'a>
-    ensures rule { rule_of result ≡ value_option id.entry.now short }
+// An option of one value, written `-s VALUE`.
+fn value_arg<'a>(alloc: Global, id: &'a str, short: char, required: bool) -> Arg<'a>
+    ensures rule { rule_of result ≡ option_of id.entry.now short required }
     ensures local { result.global ≡ false }
 {
     Arg::new(alloc, id)
         .short(short)
         .action(ArgAction::Set)
-        .required(true)
+        .required(required)
 }
 
 fn with_arg<'a>(command: Command<'a>, arg: Arg<'a>) -> Result<Command<'a>, AllocError>
@@ -36,6 +36,17 @@ fn bare_command<'a>(alloc: Global) -> Command<'a>
 pub(crate) fn solve_command<'a>(alloc: Global) -> Result<Command<'a>, AllocError>
     ensures { IfOk result (λ c. app_of c ≡ solve_app) }
 {
-    let command = with_arg(bare_command(alloc), value_arg(alloc, "task", 'p'))?;
-    with_arg(command, value_arg(alloc, "file", 'f'))
+    let command = with_arg(bare_command(alloc), value_arg(alloc, "task", 'p', true))?;
+    with_arg(command, value_arg(alloc, "file", 'f', true))
+}
+
+/// The command of `-p TASK`, `-f FILE`, `-r ANSWER`, `-c CERT` and perhaps `-a N`, whose words begin after the name of the
+/// command.
+pub(crate) fn check_command<'a>(alloc: Global) -> Result<Command<'a>, AllocError>
+    ensures { IfOk result (λ c. app_of c ≡ check_app) }
+{
+    let command = solve_command(alloc)?;
+    let command = with_arg(command, value_arg(alloc, "answer", 'r', true))?;
+    let command = with_arg(command, value_arg(alloc, "certificate", 'c', true))?;
+    with_arg(command, value_arg(alloc, "number", 'a', false))
 }

@@ -1,4 +1,4 @@
-use crate::{Command, read_words};
+use crate::{CheckWords, Command, read_words};
 use std::alloc::{AllocError, Global};
 use std::test::Fail;
 
@@ -35,6 +35,32 @@ fn words_of_each_kind(rt: HostRuntime) -> Result<(), Fail> {
         ("-h", Command::Unknown),
         ("-p SE-GR -f x --help", Command::Unknown),
         ("--version", Command::Unknown),
+        (
+            "check -r b -c c -f a -p DS-PR -a 4",
+            Command::Check(CheckWords {
+                task: "DS-PR",
+                number: Some("4"),
+                file: "a",
+                answer: "b",
+                certificate: "c",
+            }),
+        ),
+        (
+            "check -p SE-ST -f check -r b -c c",
+            Command::Check(CheckWords {
+                task: "SE-ST",
+                number: None,
+                file: "check",
+                answer: "b",
+                certificate: "c",
+            }),
+        ),
+        ("check -p SE-ST -f a -r b", Command::Unknown),
+        ("check -p SE-ST -f a -r b -c c -b 1", Command::Unknown),
+        ("check -p SE-ST -f a -r b -c c x", Command::Unknown),
+        ("check --help", Command::Unknown),
+        ("check", Command::Unknown),
+        ("-p SE-GR -f check", Command::Grounded("check")),
     ];
     for (line, wanted) in rows {
         let words = words_in(alloc, line)?;

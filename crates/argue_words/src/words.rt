@@ -3,9 +3,9 @@
 ghost use Rattle.std.specs.Prelude.{◌≡◌, ◌≢◌, IfErr, IfOk, IsErr, IsSome, List, [], ℕ, codes, map};
 ghost use Rattle.std.specs.Prelude.{string_bytes, true};
 ghost use Rattle.clap.specs.Words.{first_value, found_of, kind_of, takes};
-ghost use Rattle.argue_words.specs.Words.{AreUnknown, IsQueryOf, request_of, requested, solve_app, value_of};
+ghost use Rattle.argue_words.specs.Words.{AreUnknown, HasOtherTask, IsQueryOf, check_app, check_request, check_requested, check_value, request_of, requested, solve_app, solve_requested, value_of};
 
-use crate::options::solve_command;
+use crate::options::{check_command, solve_command};
 use clap::ArgMatches;
 use clap::error::ErrorKind;
 use plain_lists::Memory;
@@ -18,30 +18,67 @@ pub enum Command<'a> {
     Version,
     /// The grounded set of the framework in the file of this name.
     Grounded(&'a str),
-    /// Words that clap refuses, or a task other than `SE-GR`.
+    /// A check of an answer with its certificate.
+    Check(CheckWords<'a>),
+    /// Words that clap refuses, or a query for a task other than `SE-GR`.
     Unknown,
 }
 
-/// Reads the words after the program's name. No words ask for the version. All others are read by
-/// clap as the options `-p TASK` and `-f FILE`, both required, each with one value, in any order:
-/// `Grounded` comes exactly where clap takes them and the task is `SE-GR`, with the value of `-f`,
-/// and `Unknown` for all other words, also for those that ask for help. `Memory` is want of memory
+/// The words of a check: the task's name, the number that is asked about where one is given, and the names of the files
+/// of the framework, the answer and the certificate. Whether there is such a task, and whether it wants the number, is
+/// for the caller to see.
+#[derive(Clone, Copy, Debug, PartialEq, Eq)]
+pub struct CheckWords<'a> {
+    pub task: &'a str,
+    pub number: Option<&'a str>,
+    pub file: &'a str,
+    pub answer: &'a str,
+    pub certificate: &'a str,
+}
+
+/// Reads the words after the program's name. No words ask for the version. Where the first is `check`, those behind it
+/// are read by clap as the options `-p TASK`, `-f FILE`, `-r ANSWER`, `-c CERT` and perhaps `-a N`, in any order: `Check`
+/// comes exactly where clap takes them. All others are read by clap as the options `-p TASK` and `-f FILE`, both required,
+/// each with one value, in any order: `Grounded` comes exactly where clap takes them and the task is `SE-GR`, with the
+/// value of `-f`. `Unknown` comes for all other words, also for those that ask for help. `Memory` is want of memory
 /// and no fault of the words; it comes only where there are words.
 pub fn read_words<'a>(alloc: Global, words: &'a [String]) -> Result<Command<'a>, Memory>
     ensures request { IfOk result (λ c. request_of c ≡ requested (map string_bytes words.now)) }
     ensures unknown { IfOk result (λ c. c ≡ Command.Unknown → AreUnknown (map string_bytes words.now)) }
     ensures memory { IsErr result → map string_bytes words.now ≢ [] }
 {
-    if words.is_empty() {
+    let Some((first, rest)) = words.split_first() else {
         return Ok(Command::Version);
+    };
+    if first.as_str() == "check" {
+        read_check(alloc, rest)
+    } else {
+        read_solve(alloc, words)
     }
+}
+
+// What words that name no command ask for.
+fn read_solve<'a>(alloc: Global, words: &'a [String]) -> Result<Command<'a>, Memory>
+    ensures request { IfOk result (λ c. request_of c ≡ solve_requested (map string_bytes words.now)) }
+    ensures unknown { IfOk result (λ c. c ≡ Command.Unknown → HasOtherTask (map string_bytes words.now)) }
+{
     match solve_matches(alloc, words) {
         Ok(matches) => Ok(query_of(&matches)),
         Err(error) => refusal(&error),
     }
 }
 
-// What clap matches on the words.
+// What the words behind `check` ask for.
+fn read_check<'a>(alloc: Global, words: &'a [String]) -> Result<Command<'a>, Memory>
+    ensures request { IfOk result (λ c. request_of c ≡ check_requested (map string_bytes words.now)) }
+{
+    match check_matches(alloc, words) {
+        Ok(matches) => Ok(check_of(&matches)),
+        Err(error) => refusal(&error),
+    }
+}
+
+// What clap matches on the words of a query.
 fn solve_matches<'a>(alloc: Global, words: &'a [String]) -> Result<ArgMatches<'a>, clap::Error>
     ensures taken { IfOk result (λ _. takes solve_app (map string_bytes words.now) ≡ true) }
     ensures values { IfOk result (λ m. (id : List ℕ)
@@ -54,7 +91,48 @@ fn solve_matches<'a>(alloc: Global, words: &'a [String]) -> Result<ArgMatches<'a
     command.try_get_matches_from(words)
 }
 
-// The command of words that clap takes.
+// What clap matches on the words of a check.
+fn check_matches<'a>(alloc: Global, words: &'a [String]) -> Result<ArgMatches<'a>, clap::Error>
+    ensures taken { IfOk result (λ _. takes check_app (map string_bytes words.now) ≡ true) }
+    ensures values { IfOk result (λ m. (id : List ℕ)
+        → first_value (found_of m) id ≡ check_value (map string_bytes words.now) id) }
+    ensures refused { IfErr result (λ e. takes check_app (map string_bytes words.now) ≡ true
+        → kind_of e ≡ ErrorKind.OutOfMemory) }
+{
+    let command = check_command(alloc)?;
+    command.try_get_matches_from(words)
+}
+
+// The check of words that clap takes.
+fn check_of<'a>(matches: &ArgMatches<'a>) -> Command<'a>
+    ensures { request_of result ≡ check_request (first_value (found_of matches.now) (codes "task"))
+        (first_value (found_of matches.now) (codes "number")) (first_value (found_of matches.now) (codes "file"))
+        (first_value (found_of matches.now) (codes "answer"))
+        (first_value (found_of matches.now) (codes "certificate")) }
+{
+    let Some(task) = matches.get_str("task") else {
+        return Command::Unknown;
+    };
+    let number = matches.get_str("number");
+    let Some(file) = matches.get_str("file") else {
+        return Command::Unknown;
+    };
+    let Some(answer) = matches.get_str("answer") else {
+        return Command::Unknown;
+    };
+    let Some(certificate) = matches.get_str("certificate") else {
+        return Command::Unknown;
+    };
+    Command::Check(CheckWords {
+        task,
+        number,
+        file,
+        answer,
+        certificate,
+    })
+}
+
+// The query of words that clap takes.
 fn query_of<'a>(matches: &ArgMatches<'a>) -> Command<'a>
     ensures { IsQueryOf (first_value (found_of matches.now) (codes "task"))
         (first_value (found_of matches.now) (codes "file")) result }

@@ -4,6 +4,7 @@ use Rattle.std.specs.Prelude.{Option, None, Some, Ok, Err}
 use Rattle.std.specs.List.{AllZip}
 use Rattle.std.specs.List.Sorted.{IsStrictlyIncreasing}
 use Rattle.num_text.specs.Cuts.{LineText, field_texts}
+use Rattle.num_text.specs.Lines.{kept_lines}
 use Rattle.meaning_atoms.specs.declared.atom.AtomLit.{AtomLit}
 use Rattle.meaning_atoms.specs.declared.axiom.AxiomName.TheVariants.{Af}
 use Rattle.meaning_atoms.specs.AtomText.{IsLitText}
@@ -22,7 +23,7 @@ use Rattle.certificate_text.specs.declared.word.Word.{Word}
 use Rattle.certificate_text.specs.declared.word.Word.TheVariants.{Header as HeaderWord, Set as SetWord, Refutation as RefutationWord, Axiom as AxiomWord, Side as SideWord, Derived as DerivedWord, End as EndWord, Other as OtherWord}
 use Rattle.certificate_text.specs.StepFields.{AxiomStands, DerivedStands, HasBadLiteral, HasBadOrdinal, IsDerivedOf, IsStepOf, Parts, SideStands, SpellsOrdinal, StepStands, parts_of}
 use Rattle.certificate_text.specs.Lines.{LeadsBy, LeadsTo, SetStands, Stands, StandsBy}
-use Rattle.certificate_text.specs.Reading.{Ends, Outcome, Reads}
+use Rattle.certificate_text.specs.Reading.{Ends, Outcome, Reads, ReadsAs, end_of}
 use Rattle.certificate_text.proofs.Zips.{zip_partner, zip_same}
 
 -- ---- what fields say
@@ -327,3 +328,6 @@ one_outcome end draft (line ∷ lines) a b h k = elim h [
         x.2 ∙ ap (λ c. Err (At line.number c)) same ∙ sym y.2
   ]
 ]
+
+pub one_reading : (bytes : List ℕ) (a b : Outcome) → ReadsAs bytes a → ReadsAs bytes b → a ≡ b
+one_reading bytes a b h k = one_outcome (end_of bytes) Nothing (kept_lines bytes) a b h k

@@ -28,7 +28,7 @@ use Rattle.meaning_atoms.specs.declared.axiom.AxiomName.TheVariants.{Af}
 use Rattle.meaning_atoms.specs.Atoms.{IsLit}
 use Rattle.meaning_atoms.specs.AtomText.{IsLitText, lit_text, name_of, numbers_of, signed}
 use Rattle.meaning_atoms.specs.AxiomText.{axiom_arguments, axiom_name, axiom_text}
-use Rattle.meaning_atoms.proofs.WrittenAxioms.{arguments_small, axiom_reads, field_from, tests_whole}
+use Rattle.meaning_atoms.proofs.WrittenAxioms.{arguments_small, axiom_reads, field_from}
 use Rattle.meaning_atoms.proofs.WrittenFields.{AreFields, IsField, decimals_joined, fields_joined}
 use Rattle.meaning_atoms.proofs.WrittenLits.{AreWords, written_reads}
 use Rattle.certificate_claims.specs.declared.certificate.Certificate.{Certificate}
@@ -123,6 +123,9 @@ no_end_from [] h = All-nil (λ b. is_line_end b ≡ false)
 no_end_from (x ∷ xs) h =
     let split = and_parts (not (is_line_end x)) (tests_line xs) h in
     All-cons (λ b. is_line_end b ≡ false) x xs (not-true _ split.0) (no_end_from xs split.1)
+
+abbrev tests_whole : List ℕ → Bool
+tests_whole text = list_all (λ b. not (is_blank b)) text
 
 in_line_from : (text : List ℕ) → 0 < length text → tests_whole text ≡ true → tests_line text ≡ true → IsInLine text
 in_line_from text some whole line = record { field = field_from text some whole; no_end = no_end_from text line }

@@ -15,7 +15,7 @@ use Rattle.meaning_atoms.specs.AxiomText.{IsAxiomFields, axiom_name, axiom_argum
 use Rattle.meaning_atoms.proofs.WrittenLits.{AreWords, argument_word, place_word, spelled_each}
 use Rattle.meaning_atoms.proofs.WrittenFields.{IsField, decimal_fields, decimals_joined, fields_joined}
 
-abbrev pub tests_whole : List ℕ → Bool
+abbrev tests_whole : List ℕ → Bool
 tests_whole text = list_all (λ b. not (is_blank b)) text
 
 whole_from : (text : List ℕ) → tests_whole text ≡ true → All (λ b. is_blank b ≡ false) text

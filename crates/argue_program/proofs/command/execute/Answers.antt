@@ -1,4 +1,6 @@
-use Rattle.argue_program.proofs.RunsLemmas.{IsRunOf-written, complete, faulty, other_counts, right_set, too_long, usage}
+use Rattle.std.proofs.Common.{map}
+use Rattle.std.specs.String.{string_bytes}
+use Rattle.argue_program.proofs.RunsLemmas.{IsRunOf-written, accepted, checked, complete, faulty, other_counts, right_set, too_long, unasked, usage}
 use Rattle.argue_program.proofs.command.execute.Goals as goal
 
 pub returns-clause-run : goal.returns-clause-run
@@ -23,4 +25,14 @@ pub returns-clause-too_long : goal.returns-clause-too_long
 returns-clause-too_long g c = too_long _ _ _ _ _ (returns-clause-run g c)
 
 pub returns-clause-no_other_read : goal.returns-clause-no_other_read
-returns-clause-no_other_read g c = other_counts _ _ _ _ _ (returns-clause-run g c)
+returns-clause-no_other_read g c =
+    other_counts _ (map string_bytes c.args.words.now) _ _ _ (returns-clause-run g c)
+
+pub returns-clause-accepted : goal.returns-clause-accepted
+returns-clause-accepted g c = accepted _ (map string_bytes c.args.words.now) _ _ _ (returns-clause-run g c)
+
+pub returns-clause-checked : goal.returns-clause-checked
+returns-clause-checked g c = checked _ (map string_bytes c.args.words.now) _ _ _ (returns-clause-run g c)
+
+pub returns-clause-unasked : goal.returns-clause-unasked
+returns-clause-unasked g c = unasked _ (map string_bytes c.args.words.now) _ _ _ (returns-clause-run g c)

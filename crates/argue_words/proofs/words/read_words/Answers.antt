@@ -1,24 +1,17 @@
-use Rattle.argue_words.proofs.RequestLaws.{other_matches, requested_at, requested_matches, unknown_at}
-use Rattle.argue_words.proofs.SolveLaws.{some_texts}
+use Rattle.std.proofs.Common.{codes, sym, map, ap, rules, ◌∙◌}
+use Rattle.std.specs.Str.{bytes_eq}
+use Rattle.std.specs.String.{string_bytes}
+use Rattle.argue_words.proofs.RequestLaws.{check_unknown, solve_unknown}
 use Rattle.argue_words.proofs.words.read_words.Goals as goal
 
-pub returns-in-Ok-clause-request : goal.returns-in-Ok-clause-request
-returns-in-Ok-clause-request c =
-    requested_matches _ _ _ _ (some_texts _ _ c.if-is_empty.ensures) c.in-Ok.ensures.taken
-    (c.in-Ok.ensures.values _) (c.in-Ok.ensures.values _) c.query_of.ensures
+pub returns-then-eq-clause-unknown : goal.returns-then-eq-clause-unknown
+returns-then-eq-clause-unknown c =
+    check_unknown (map string_bytes c.args.words.now) (map string_bytes c.in-Some.rest.now) (string_bytes c.in-Some.first.now)
+    c.read_check.result (search rules)
+    (ap (λ b. bytes_eq b (codes "check")) (sym c.as_str.ensures.value) ∙ sym c.if-eq.ensures) c.read_check.ensures.request
 
-pub returns-in-Ok-clause-unknown : goal.returns-in-Ok-clause-unknown
-returns-in-Ok-clause-unknown c =
-    other_matches _ _ _ _ (some_texts _ _ c.if-is_empty.ensures) (c.in-Ok.ensures.values _)
-    c.in-Ok.ensures.file c.query_of.ensures
-
-pub returns-in-Err-clause-request : goal.returns-in-Err-clause-request
-returns-in-Err-clause-request c =
-    requested_at _ _ _ (some_texts _ _ c.if-is_empty.ensures) c.in-Err.ensures.refused c.refusal.ensures.unknown
-
-pub returns-in-Err-clause-unknown : goal.returns-in-Err-clause-unknown
-returns-in-Err-clause-unknown c =
-    unknown_at _ _ _ (some_texts _ _ c.if-is_empty.ensures) c.in-Err.ensures.refused c.refusal.ensures.unknown
-
-pub returns-in-Err-clause-memory : goal.returns-in-Err-clause-memory
-returns-in-Err-clause-memory c = λ _. some_texts _ _ c.if-is_empty.ensures
+pub returns-else-eq-clause-unknown : goal.returns-else-eq-clause-unknown
+returns-else-eq-clause-unknown c =
+    solve_unknown (map string_bytes c.args.words.now) (map string_bytes c.in-Some.rest.now) (string_bytes c.in-Some.first.now)
+    c.read_solve.result (search rules)
+    (ap (λ b. bytes_eq b (codes "check")) (sym c.as_str.ensures.value) ∙ sym c.if-eq.ensures) c.read_solve.ensures.request c.read_solve.ensures.unknown
