@@ -1,4 +1,4 @@
-//! The program again, for one more stored run: one with words, a file and a status other than 0. So a program that
+//! The program again, for one more stored run: one with words, files and a status other than 0. So a program that
 //! takes its words, its files or its status amiss is caught wherever the programs are run.
 #![tactic(auto)]
 

@@ -6,7 +6,6 @@ use Rattle.std.proofs.lemmas.List.{length-map}
 use Rattle.plain_lits.specs.HintCheck.{IsNamed}
 use Rattle.plain_lits.specs.declared.lit.Lit.{Lit}
 use Rattle.unit_propagate.specs.Arenas.{Store, row_clause, row_pair}
-use Rattle.unit_propagate.specs.declared.pair.Pair.{Pair}
 
 -- a row with another pair
 abbrev pub paired_row : List Lit → Lit → Lit → List Lit
@@ -23,7 +22,8 @@ clauses_paired [] k a b lt two = absurd (omega arith)
 clauses_paired ([] ∷ rows) zero a b lt two = absurd (omega arith)
 clauses_paired ((x ∷ []) ∷ rows) zero a b lt two = absurd (omega arith)
 clauses_paired ((x ∷ y ∷ row) ∷ rows) zero a b lt two = refl
-clauses_paired (row ∷ rows) (suc k) a b lt two = ap (λ rs. row_clause row ∷ rs) (clauses_paired rows k a b (omega arith) two)
+clauses_paired (row ∷ rows) (suc k) a b lt two =
+    ap (λ rs. row_clause row ∷ rs) (clauses_paired rows k a b (omega arith) two)
 
 pub pairs_paired : (rows : List (List Lit)) (k : ℕ) (a b : Lit) → k < length rows → 2 ≤ length (get_or rows k [])
     → map row_pair (paired_rows rows k a b) ≡ set (map row_pair rows) k (record { first = a; second = b })

@@ -1,7 +1,7 @@
 -- A level begins with the literals of a block.
 use Rattle.std.proofs.Common.{◌≡◌, ◌≢◌, ℕ, ◌<◌, ◌≤◌, ◌+◌, List, [], ◌∷◌, ◌++◌, length}
 use Rattle.std.proofs.Common.{get_or, take, arith, ap, sym, subst, ◌∙◌, refl, ⊎_elim, length-append}
-use Rattle.std.specs.Prelude.{◌⊎◌, Contains}
+use Rattle.std.specs.Prelude.{Contains}
 use Rattle.std.proofs.lemmas.List.{get_or_default, get_or-set_same, get_or-set_other, append-nil, append_assoc}
 use Rattle.std.proofs.lemmas.List.Elements.{Contains-append_left, Contains-append_cases}
 use Rattle.std.proofs.Math.ListN.{set}
@@ -22,7 +22,8 @@ use Rattle.unit_propagate.proofs.Visiting.{kept_literal}
 
 -- a level has begun, by what the trail becomes
 pub begun_is : (s m : State) (lits : List Lit) (starts : List ℕ) (vars : ℕ) → m ≡ with_mark s → lits ≡ m.lits
-    → starts ≡ m.starts ++ length m.lits ∷ [] → vars ≡ m.vars → record m { lits = lits; starts = starts; vars = vars } ≡ begun (with_mark s)
+    → starts ≡ m.starts ++ length m.lits ∷ [] → vars ≡ m.vars → record m { lits = lits; starts = starts; vars = vars }
+    ≡ begun (with_mark s)
 begun_is s m lits starts vars e e1 e2 e3 = rw (e1, e2, e3) (ap begun e)
 
 pub marked_is : (s m : State) (lits : List Lit) (starts : List ℕ) (vars : ℕ) → m ≡ with_mark s → lits ≡ m.lits
@@ -32,19 +33,28 @@ marked_is s m lits starts vars e e1 e2 e3 = rw (e1, e2, e3) e
 -- a literal of the block comes
 pub assumed_kept : (s new : State) (l : Lit) → IsKept s → AreLevels s.starts (length s.lits) → length s.lits < s.vars
     → new ≡ with_literal s l 0 → IsKept new
-assumed_kept s new l kept levels before e = subst IsKept (sym e) (kept_literal s l 0 kept levels before (λ ne. absurd (ne refl)))
+assumed_kept s new l kept levels before e =
+    subst IsKept (sym e) (kept_literal s l 0 kept levels before (λ ne. absurd (ne refl)))
 
-pub assumes_new : (s new : State) (l : Lit) → length s.lits < length s.reasons → new ≡ with_literal s l 0 → Assumes s new l
+pub assumes_new : (s new : State) (l : Lit) → length s.lits < length s.reasons → new ≡ with_literal s l 0
+    → Assumes s new l
 assumes_new s new l within e = subst (λ (n : State). Assumes s n l) (sym e) (record {
   clauses = refl;
   starts = refl;
   vars = refl;
-  more = (l ∷ [], refl, λ x c. ⊎_elim (λ is. sym is) (λ none. absurd (Contains-nil x none)) (Contains-cons_cases l [] x c));
+  more = (
+    l ∷ [],
+    refl,
+    λ x c. ⊎_elim (λ is. sym is) (λ none. absurd (Contains-nil x none))
+        (Contains-cons_cases l [] x c),
+  );
   assumed = Contains-pushed s.lits l l refl;
-  reasons = λ i lt. get_or-set_other s.reasons (length s.lits) i 0 0 (λ same. let bad : i ≡ length s.lits = same in omega arith);
+  reasons = λ i lt. get_or-set_other s.reasons (length s.lits) i 0 0 (λ same. let bad : i ≡ length s.lits = same in
+      omega arith);
   new_reasons = λ i le lt.
       let last : i ≡ length s.lits = omega (arith, length-append s.lits (l ∷ [])) in
-      ap (λ k. get_or (set s.reasons (length s.lits) 0) k 0) last ∙ get_or-set_same s.reasons (length s.lits) 0 0 within;
+      ap (λ k. get_or (set s.reasons (length s.lits) 0) k 0) last ∙ get_or-set_same s.reasons (length s.lits) 0 0
+      within;
 })
 
 pub assumes_same : (s : State) (l : Lit) → Contains s.lits l → Assumes s s l
@@ -58,7 +68,8 @@ assumes_same s l c = record {
   new_reasons = λ i le lt. absurd (omega arith);
 }
 
-pub true_of : (lits : List Lit) (l : Lit) (v : Value) → IsValueIn lits l v → v ≢ Unset → (Contains lits (negation l) → ⊥) → Contains lits l
+pub true_of : (lits : List Lit) (l : Lit) (v : Value) → IsValueIn lits l v → v ≢ Unset
+    → (Contains lits (negation l) → ⊥) → Contains lits l
 true_of lits l True h ne open_lit = h.0
 true_of lits l False h ne open_lit = absurd (open_lit h.0)
 true_of lits l Unset h ne open_lit = absurd (ne refl)
@@ -79,7 +90,8 @@ pub assumes_next : (a b c : State) (block : List Lit) (i : ℕ) → i < length b
 assumes_next a b c block i lt h one =
     let r = h.more in
     let t = one.more in
-    let here : Contains (take (i + 1) block) (get_or block i blank) = in_front (i + 1) i block (get_or block i blank) blank (omega arith) lt refl in
+    let here : Contains (take (i + 1) block) (get_or block i blank) = in_front (i + 1) i block (get_or block i blank)
+    blank (omega arith) lt refl in
     let long : length b.lits ≡ length a.lits + length r.0 = ap length r.1 ∙ length-append a.lits r.0 in
     record {
       clauses = one.clauses ∙ h.clauses;
@@ -129,14 +141,17 @@ gains_block s m b new block vars room enough has e a =
     let r = a.more in
     record {
       clauses = a.clauses ∙ (ap (λ (n : State). n.clauses) e ∙ ap (λ (n : State). n.clauses) room.rest);
-      starts = a.starts ∙ (starts ∙ (ap (λ xs. xs ++ length m.lits ∷ []) old_starts ∙ ap (λ xs. s.starts ++ length xs ∷ []) old_lits));
+      starts = a.starts ∙ (starts ∙ (ap (λ xs. xs ++ length m.lits ∷ []) old_starts
+          ∙ ap (λ xs. s.starts ++ length xs ∷ []) old_lits));
       more = (r.0, r.1 ∙ ap (λ xs. xs ++ r.0) lits, r.2);
       block_true = a.assumed;
       known = λ l c. let low = has.below l c in omega (arith, a.vars, b_vars, low);
-      reasons = λ i lt. a.reasons i (omega (arith, ap length lits)) ∙ (ap (λ xs. get_or xs i 0) b_reasons ∙ room.reasons.same i);
+      reasons = λ i lt. a.reasons i (omega (arith, ap length lits))
+          ∙ (ap (λ xs. get_or xs i 0) b_reasons ∙ room.reasons.same i);
       new_reasons = λ i le lt. a.new_reasons i (omega (arith, ap length lits)) lt;
       vars = omega (arith, a.vars, b_vars, more_vars);
     }
 
-pub stays_marked : (s m b : State) → StaysSearch (search_of s) (search_of m) → b ≡ with_mark m → StaysSearch (search_of s) (search_of b)
+pub stays_marked : (s m b : State) → StaysSearch (search_of s) (search_of m) → b ≡ with_mark m
+    → StaysSearch (search_of s) (search_of b)
 stays_marked s m b h e = subst (λ (n : State). StaysSearch (search_of s) (search_of n)) (sym e) h

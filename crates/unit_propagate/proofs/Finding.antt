@@ -11,7 +11,8 @@ use Rattle.plain_lits.specs.Values.{IsValueIn}
 use Rattle.unit_propagate.proofs.Fronts.{front_cases}
 
 -- what has another value than false isn't false
-pub not_false : (lits : List Lit) (l : Lit) (v : Value) → IsValueIn lits l v → v ≢ False → Contains lits (negation l) → ⊥
+pub not_false : (lits : List Lit) (l : Lit) (v : Value) → IsValueIn lits l v → v ≢ False → Contains lits (negation l)
+    → ⊥
 not_false lits l True h ne = h.1
 not_false lits l Unset h ne = h.1
 not_false lits l False h ne = absurd (ne refl)
@@ -28,7 +29,8 @@ found_open lits clause i item l code other v lt is same code_is ne value unlike 
 abbrev pub AreFalseBut : List Lit → List Lit → ℕ → Type 0
 AreFalseBut lits clause other = (x : Lit) → Contains clause x → packed x ≢ other → Contains lits (negation x)
 
-item_is : (clause : List Lit) (i : ℕ) (item x : Lit) → i < length clause → item ≡ get_or clause i item → get_or clause i x ≡ x → item ≡ x
+item_is : (clause : List Lit) (i : ℕ) (item x : Lit) → i < length clause → item ≡ get_or clause i item
+    → get_or clause i x ≡ x → item ≡ x
 item_is clause i item x lt is at = is ∙ (get_or_default clause i item x lt ∙ at)
 
 pub looked_false : (lits clause : List Lit) (i : ℕ) (item l : Lit) (other : ℕ) → i < length clause

@@ -1,20 +1,19 @@
 -- Members of the fronts of lists, and literals by their signs and codes.
-use Rattle.std.proofs.Common.{◌≡◌, ◌≢◌, ℕ, zero, suc, ◌<◌, ◌≤◌, ◌+◌, ◌-◌, ◌*◌, List, [], ◌∷◌, ◌++◌, length}
-use Rattle.std.proofs.Common.{get_or, take, arith, ap, sym, ◌∙◌, refl, Bool, true, false, length-append, length-take}
+use Rattle.std.proofs.Common.{◌≡◌, ℕ, ◌<◌, ◌≤◌, ◌+◌, ◌*◌, List, [], ◌∷◌, ◌++◌, length}
+use Rattle.std.proofs.Common.{get_or, take, arith, ap, sym, ◌∙◌, refl, Bool, true, false, length-take}
 use Rattle.std.proofs.Common.{inl, inr, ⊎_elim, not}
 use Rattle.std.specs.Prelude.{◌⊎◌, Contains, if◌then◌else◌}
 use Rattle.std.proofs.Math.ListN.{set, length-set}
-use Rattle.std.proofs.lemmas.List.{get_or-take, get_or-set_same, get_or-set_other, get_or_append_left, get_or-append_right, get_or_default}
-use Rattle.std.proofs.lemmas.List.Elements.{Contains-append_cases, Contains-append_left}
+use Rattle.std.proofs.lemmas.List.{get_or-take, get_or-set_same, get_or-set_other}
+use Rattle.std.proofs.lemmas.List.{get_or_default}
+use Rattle.std.proofs.lemmas.List.Elements.{Contains-append_cases}
 use Rattle.std.proofs.lemmas.Bool.{cases_lt, cases_eq}
-use Rattle.std.proofs.lemmas.Bool.Decides.{nat_tests}
-use Rattle.plain_lists.proofs.Membership.{Contains-nil, Contains-cons_cases, Contains-pushed}
+use Rattle.plain_lists.proofs.Membership.{Contains-nil, Contains-cons_cases}
 use Rattle.plain_lits.specs.declared.lit.Lit.{Lit}
 use Rattle.plain_lits.specs.Literals.{negation}
 use Rattle.plain_lits.specs.Packed.{packed}
 use Rattle.plain_lits.specs.Trails.{VarsDiffer}
 use Rattle.plain_lits.proofs.LitOrder.{lit_same}
-use Rattle.plain_lits.proofs.CheckingLemmas.{negation-negation}
 
 -- what stands in a front stands in the list
 pub from_front : {X : Type 0} (n : ℕ) (xs : List X) (x : X) → Contains (take n xs) x → Contains xs x
@@ -31,7 +30,8 @@ in_front n i xs x d lt within e =
     (i, omega (arith, length-take n xs), get_or-take n xs i x lt ∙ (get_or_default xs i x d within ∙ e))
 
 -- and a longer front has what a shorter one has
-pub longer_front : {X : Type 0} (n m : ℕ) (xs : List X) (x : X) → n ≤ m → Contains (take n xs) x → Contains (take m xs) x
+pub longer_front : {X : Type 0} (n m : ℕ) (xs : List X) (x : X) → n ≤ m → Contains (take n xs) x
+    → Contains (take m xs) x
 longer_front n m xs x le c =
     let lt = c.1 in
     let below : c.0 < n = omega (arith, length-take n xs) in
@@ -61,7 +61,8 @@ set_cases xs i y x c =
 -- an item that is added
 pub pushed_cases : {X : Type 0} (xs : List X) (y x : X) → Contains (xs ++ y ∷ []) x → Contains xs x ⊎ (y ≡ x)
 pushed_cases xs y x c =
-    ⊎_elim (λ old. inl old) (λ new. ⊎_elim (λ e. inr e) (λ none. absurd (Contains-nil x none)) (Contains-cons_cases y [] x new))
+    ⊎_elim (λ old. inl old) (λ new. ⊎_elim (λ e. inr e) (λ none. absurd (Contains-nil x none))
+    (Contains-cons_cases y [] x new))
     (Contains-append_cases xs (y ∷ []) x c)
 
 sign_apart : (p : Bool) → p ≡ not p → ⊥

@@ -1,31 +1,41 @@
 -- The state with more room, with lowered marks, and lists that a new clause joins.
-use Rattle.std.proofs.Common.{◌≡◌, ◌≢◌, ℕ, zero, suc, ◌<◌, ◌≤◌, ◌+◌, ◌-◌, ◌*◌, ◌^◌, List, [], ◌∷◌, ◌++◌, length}
-use Rattle.std.proofs.Common.{get_or, take, arith, ap, sym, subst, ◌∙◌, refl, inl, inr, ⊎_elim, true, length-append}
-use Rattle.std.specs.Prelude.{◌⊎◌, Contains, sum_by, count_by, cond, Result, Ok, Err, OnErr}
-use Rattle.std.proofs.lemmas.Bool.{cases_lt, cases_eq}
-use Rattle.std.proofs.lemmas.List.{get_or-set_other}
-use Rattle.std.proofs.Math.ListN.{length-set}
+use Rattle.std.proofs.Common.{◌≡◌, ◌≢◌, ℕ, ◌<◌, ◌≤◌, ◌+◌, ◌*◌, ◌^◌, List, [], ◌∷◌, ◌++◌, length}
+use Rattle.std.proofs.Common.{get_or, take, arith, ap, sym, subst, ◌∙◌, refl, true, length-append}
+use Rattle.std.specs.Prelude.{Contains, sum_by, count_by, cond, Result, Ok, Err, OnErr}
+use Rattle.std.proofs.lemmas.List.{get_or-set_same, get_or-set_other}
+use Rattle.std.proofs.Math.ListN.{set, length-set}
+use Rattle.plain_lits.specs.HintCheck.{clause_at, IsUnit}
 use Rattle.plain_lits.specs.declared.lit.Lit.{Lit}
 use Rattle.plain_lits.specs.Literals.{negation}
 use Rattle.plain_lits.specs.Packed.{packed}
 use Rattle.unit_propagate.specs.declared.engine.Mark.{Mark}
 use Rattle.unit_propagate.specs.declared.pair.Pair.{Pair}
-use Rattle.unit_propagate.specs.Arenas.{pair_of}
-use Rattle.unit_propagate.specs.Search.{IsReason, StaysSearch, GainsClause}
-use Rattle.unit_propagate.specs.States.{State, has, IsPairOf, IsWatching, IsKept, IsLooked, Guards, mark_at, no_mark}
-use Rattle.unit_propagate.specs.Steps.{IsLonger, MakesRoom, LowersMarks, Lowers, HasRoomFor, IsUnfalse, IsLow, IsReady, Inserts}
+use Rattle.unit_propagate.specs.Search.{IsReason, StaysSearch, GainsClause, Learns}
+use Rattle.unit_propagate.specs.States.{State, has, IsPairOf, IsWatching, IsKept, IsLooked, mark_at, no_mark}
+use Rattle.unit_propagate.specs.Steps.{IsLonger, MakesRoom, LowersMarks, Lowers, HasRoomFor, IsUnfalse, IsLow}
+use Rattle.unit_propagate.specs.Steps.{IsReady, Inserts, IsImplied, with_literal}
 use Rattle.unit_propagate.specs.States.{search_of}
 use Rattle.unit_propagate.proofs.Rooms.{longer_same, room_same, room_trans}
-use Rattle.unit_propagate.proofs.Joining.{kept_added}
-use Rattle.unit_propagate.specs.WatchLists.{Listed, no_list, list_at, ids_at, one, watches, with_id, HasMoreRoom, HasPairRoom, Joins}
+use Rattle.unit_propagate.proofs.Joining.{kept_added, clause_last}
+use Rattle.unit_propagate.specs.WatchLists.{Listed, no_list, list_at, ids_at, one, watches, with_id, HasMoreRoom}
+use Rattle.unit_propagate.specs.WatchLists.{HasPairRoom, Joins}
 use Rattle.unit_propagate.proofs.Fronts.{longer_front, packed_low}
 use Rattle.unit_propagate.proofs.Lists.{weight_with, uses_with, watches_apart, watches_alone, pairs_below, has_there}
 
 abbrev pub roomy : State → List Lit → List ℕ → ℕ → List Listed → List ℕ → List Mark → State
-roomy s lits starts vars lists reasons marks = record s { lits = lits; starts = starts; vars = vars; lists = lists; reasons = reasons; marks = marks }
+roomy s lits starts vars lists reasons marks = record s {
+  lits = lits;
+  starts = starts;
+  vars = vars;
+  lists =
+      lists;
+  reasons = reasons;
+  marks = marks;
+}
 
 -- what has room
-pub record IsRoomyFor (s : State) (lits : List Lit) (starts : List ℕ) (vars : ℕ) (lists : List Listed) (reasons : List ℕ)
+pub record IsRoomyFor (s : State) (lits : List Lit) (starts : List ℕ) (vars : ℕ) (lists : List Listed)
+    (reasons : List ℕ)
     (marks : List Mark) : Type 0 where
   pub new_lits : lits ≡ s.lits
   pub new_starts : starts ≡ s.starts
@@ -37,7 +47,8 @@ pub record IsRoomyFor (s : State) (lits : List Lit) (starts : List ℕ) (vars : 
   pub reasons_long : vars ≤ length reasons
   pub marks_long : vars < length marks
 
-roomy_watching : (s : State) (lists : List Listed) → IsKept s → HasMoreRoom s.lists lists → IsWatching s.clauses s.pairs lists
+roomy_watching : (s : State) (lists : List Listed) → IsKept s → HasMoreRoom s.lists lists
+    → IsWatching s.clauses s.pairs lists
 roomy_watching s lists kept h = record {
   long = kept.watching.long;
   paired = kept.watching.paired;
@@ -46,8 +57,10 @@ roomy_watching s lists kept h = record {
   room = λ code. omega (arith, kept.watching.room code, h.uses code);
 }
 
-pub kept_roomy : (s : State) (lits : List Lit) (starts : List ℕ) (vars : ℕ) (lists : List Listed) (reasons : List ℕ) (marks : List Mark)
-    → IsKept s → IsRoomyFor s lits starts vars lists reasons marks → IsKept (roomy s lits starts vars lists reasons marks)
+pub kept_roomy : (s : State) (lits : List Lit) (starts : List ℕ) (vars : ℕ) (lists : List Listed) (reasons : List ℕ)
+    (marks : List Mark)
+    → IsKept s → IsRoomyFor s lits starts vars lists reasons marks
+    → IsKept (roomy s lits starts vars lists reasons marks)
 kept_roomy s lits starts vars lists reasons marks kept h =
     let more = h.new_vars in
     let is : IsKept (roomy s s.lits s.starts vars lists reasons marks) = record {
@@ -57,7 +70,8 @@ kept_roomy s lits starts vars lists reasons marks kept h =
       room = λ id l named c. let low = kept.room id l named c in omega arith;
       lists_long = h.lists_long;
       looked = kept.looked;
-      before = λ k lt. subst (λ (m : Mark). IsLooked s.clauses s.pairs s.short (take m.head s.lits) (take (get_or s.starts k 0) s.lits) m.done)
+      before = λ k lt. subst (λ (m : Mark). IsLooked s.clauses s.pairs s.short (take m.head s.lits)
+          (take (get_or s.starts k 0) s.lits) m.done)
           (sym (h.new_marks.same (get_or s.starts k 0))) (kept.before k lt);
       reasons = λ i lt some.
           let same = h.new_reasons.same i in
@@ -72,7 +86,8 @@ kept_roomy s lits starts vars lists reasons marks kept h =
     } in
     rw (h.new_lits, h.new_starts) is
 
-pub makes_room : (s : State) (lits : List Lit) (starts : List ℕ) (vars : ℕ) (lists : List Listed) (reasons : List ℕ) (marks : List Mark)
+pub makes_room : (s : State) (lits : List Lit) (starts : List ℕ) (vars : ℕ) (lists : List Listed) (reasons : List ℕ)
+    (marks : List Mark)
     → IsRoomyFor s lits starts vars lists reasons marks → MakesRoom s (roomy s lits starts vars lists reasons marks)
 makes_room s lits starts vars lists reasons marks h = record {
   rest = rw (h.new_lits, h.new_starts) refl;
@@ -87,7 +102,8 @@ makes_room s lits starts vars lists reasons marks h = record {
 
 -- how far propagation has come is lowered
 looked_lower : (s : State) (n m done : ℕ) (high : List Lit) → n ≤ m
-    → IsLooked s.clauses s.pairs s.short (take m s.lits) high done → IsLooked s.clauses s.pairs s.short (take n s.lits) high done
+    → IsLooked s.clauses s.pairs s.short (take m s.lits) high done → IsLooked s.clauses s.pairs s.short (take n s.lits)
+    high done
 looked_lower s n m done high le h = record {
   guarded = λ p there apart. let g = h.guarded p there apart in record {
     first = λ c. g.first (longer_front n m s.lits (negation p.first) le c);
@@ -96,7 +112,8 @@ looked_lower s n m done high le h = record {
   holds = h.holds;
 }
 
-pub kept_lowered : (s : State) (marks : List Mark) (head index : ℕ) → IsKept s → LowersMarks s.marks marks s.starts 0 index
+pub kept_lowered : (s : State) (marks : List Mark) (head index : ℕ) → IsKept s
+    → LowersMarks s.marks marks s.starts 0 index
     → head ≤ s.head → IsKept (record s { marks = marks; head = head })
 kept_lowered s marks head index kept h le = record {
   watching = kept.watching;
@@ -107,8 +124,10 @@ kept_lowered s marks head index kept h le = record {
   looked = looked_lower s head s.head s.done s.lits le kept.looked;
   before = λ k lt.
       let n = get_or s.starts k 0 in
-      subst (λ d. IsLooked s.clauses s.pairs s.short (take (mark_at marks n).head s.lits) (take n s.lits) d) (sym (h.dones n))
-      (looked_lower s (mark_at marks n).head (mark_at s.marks n).head (mark_at s.marks n).done (take n s.lits) (h.heads n) (kept.before k lt));
+      subst (λ d. IsLooked s.clauses s.pairs s.short (take (mark_at marks n).head s.lits) (take n s.lits) d)
+      (sym (h.dones n))
+      (looked_lower s (mark_at marks n).head (mark_at s.marks n).head (mark_at s.marks n).done (take n s.lits)
+      (h.heads n) (kept.before k lt));
   reasons = kept.reasons;
   head_within = let within = kept.head_within in omega arith;
   done_within = kept.done_within;
@@ -124,13 +143,19 @@ pub joined_two : (lists : List Listed) (p : Pair) (id a b : ℕ) → a ≡ packe
     → a < length lists → b < length lists → Joins lists (with_id (with_id lists a id) b id) p id
 joined_two lists p id a b first second ne a_lt b_lt =
     let middle = with_id lists a id in
-    let long : length middle ≡ length lists = length-set lists a (record { ids = ids_at lists a ++ id ∷ []; uses = (list_at lists a).uses }) in
+    let long : length middle ≡ length lists = length-set lists a (record {
+      ids = ids_at lists a ++ id ∷ [];
+      uses =
+          (list_at lists a).uses;
+    }) in
     record {
       long = length-set middle b (record { ids = ids_at middle b ++ id ∷ []; uses = (list_at middle b).uses }) ∙ long;
       uses = λ code. uses_with middle b id code ∙ uses_with lists a id code;
       weight = λ f code.
           let apart : packed p.first ≢ packed p.second = λ e. ne (first ∙ (e ∙ sym second)) in
-          let counts : watches code p ≡ one a code + one b code = watches_apart code p apart ∙ (ap (λ k. one k code + one (packed p.second) code) (sym first) ∙ ap (λ k. one a code + one k code) (sym second)) in
+          let counts : watches code p ≡ one a code + one b code = watches_apart code p apart
+          ∙ (ap (λ k. one k code + one (packed p.second) code) (sym first) ∙ ap (λ k. one a code + one k code)
+          (sym second)) in
           let two = weight_with f middle b id code (omega arith) in
           let first_one = weight_with f lists a id code a_lt in
           let product = ap (λ n. n * f id) counts in
@@ -150,27 +175,39 @@ pub room_pair : (s : State) (clause : List Lit) (p : Pair) → IsKept s → HasR
 room_pair s clause p kept room known is =
     let long = kept.lists_long in
     let below : (code : ℕ) → length (ids_at s.lists code) ≤ count_by (has code) s.clauses = λ code.
-    omega (arith, kept.watching.counted code, pairs_below code s.clauses s.pairs kept.watching.long kept.watching.paired) in
+    omega (
+      arith,
+      kept.watching.counted code,
+      pairs_below code s.clauses s.pairs kept.watching.long
+          kept.watching.paired,
+    ) in
     record {
       first = λ ne.
-          let needs : count_by (has (packed p.first)) s.clauses + cond true 1 0 ≤ (list_at s.lists (packed p.first)).uses = rw (has_there clause p.first (is.first ne)) at (room.uses (packed p.first)) in
+          let needs : count_by (has (packed p.first)) s.clauses + cond true 1
+          0 ≤ (list_at s.lists (packed p.first)).uses =
+          rw (has_there clause p.first (is.first ne)) at (room.uses (packed p.first)) in
           let low = packed_low p.first s.vars (known p.first (is.first ne)) in
           (omega arith, omega (arith, needs, below (packed p.first)));
       second = λ ne.
-          let needs : count_by (has (packed p.second)) s.clauses + cond true 1 0 ≤ (list_at s.lists (packed p.second)).uses = rw (has_there clause p.second (is.second ne)) at (room.uses (packed p.second)) in
+          let needs : count_by (has (packed p.second)) s.clauses + cond true 1
+          0 ≤ (list_at s.lists (packed p.second)).uses =
+          rw (has_there clause p.second (is.second ne)) at (room.uses (packed p.second)) in
           let low = packed_low p.second s.vars (known p.second (is.second ne)) in
           (omega arith, omega (arith, needs, below (packed p.second)));
     }
 
 -- where the first id has come, there is still room for the second
 pub room_second : (lists : List Listed) (p : Pair) (id a b : ℕ) → a ≢ b
-    → length (ids_at lists b) < (list_at lists b).uses → length (ids_at (with_id lists a id) b) < (list_at (with_id lists a id) b).uses
+    → length (ids_at lists b) < (list_at lists b).uses
+    → length (ids_at (with_id lists a id) b) < (list_at (with_id lists a id) b).uses
 room_second lists p id a b ne room =
-    let same : list_at (with_id lists a id) b ≡ list_at lists b = get_or-set_other lists a b _ no_list (λ e. ne (sym e)) in
+    let same : list_at (with_id lists a id) b ≡ list_at lists b = get_or-set_other lists a b _ no_list (λ e. ne (sym e))
+    in
     subst (λ (l : Listed). length l.ids < l.uses) (sym same) room
 
 pub long_second : (lists : List Listed) (a id b : ℕ) → b < length lists → b < length (with_id lists a id)
-long_second lists a id b lt = omega (arith, length-set lists a (record { ids = ids_at lists a ++ id ∷ []; uses = (list_at lists a).uses }))
+long_second lists a id b lt =
+    omega (arith, length-set lists a (record { ids = ids_at lists a ++ id ∷ []; uses = (list_at lists a).uses }))
 
 -- nothing is changed
 pub makes_same : (s : State) → IsKept s → MakesRoom s s
@@ -186,7 +223,8 @@ makes_same s kept = record {
 }
 
 -- more room in the lists alone
-pub kept_lists : (s : State) (lists : List Listed) → IsKept s → HasMoreRoom s.lists lists → IsKept (record s { lists = lists })
+pub kept_lists : (s : State) (lists : List Listed) → IsKept s → HasMoreRoom s.lists lists
+    → IsKept (record s { lists = lists })
 kept_lists s lists kept h =
     let long = h.long in
     let old = kept.lists_long in
@@ -202,7 +240,8 @@ kept_lists s lists kept h =
       marks_long = kept.marks_long;
     })
 
-pub makes_claim : (s m : State) (lists : List Listed) → MakesRoom s m → HasMoreRoom m.lists lists → MakesRoom s (record m { lists = lists })
+pub makes_claim : (s m : State) (lists : List Listed) → MakesRoom s m → HasMoreRoom m.lists lists
+    → MakesRoom s (record m { lists = lists })
 makes_claim s m lists h more =
     let long = more.long in
     let old = h.lists_long in
@@ -230,25 +269,32 @@ stays_room s m h = record {
   };
 }
 
-pub stays_lowered : (s m w : State) (index : ℕ) → StaysSearch (search_of s) (search_of m) → Lowers m w index → StaysSearch (search_of s) (search_of w)
+pub stays_lowered : (s m w : State) (index : ℕ) → StaysSearch (search_of s) (search_of m) → Lowers m w index
+    → StaysSearch (search_of s) (search_of w)
 stays_lowered s m w index h low = subst (λ (n : State). StaysSearch (search_of s) (search_of n)) (sym low.rest) h
 
 pub low_lowered : (m w : State) (index : ℕ) → Lowers m w index → IsLow w index
 low_lowered m w index low =
-    let is : IsLow (record m { marks = w.marks; head = w.head }) index = record { head = low.head_low; marks = low.marks_low } in
+    let is : IsLow (record m { marks = w.marks; head = w.head }) index =
+    record { head = low.head_low; marks = low.marks_low } in
     subst (λ (n : State). IsLow n index) (sym low.rest) is
 
-pub ready_lowered : (m w : State) (index : ℕ) (clause : List Lit) → Lowers m w index → IsReady m clause → IsReady w clause
+pub ready_lowered : (m w : State) (index : ℕ) (clause : List Lit) → Lowers m w index → IsReady m clause
+    → IsReady w clause
 ready_lowered m w index clause low ready =
-    let is : IsReady (record m { marks = w.marks; head = w.head }) clause = record { known = ready.known; packs = ready.packs; room = record { uses = ready.room.uses } } in
+    let is : IsReady (record m { marks = w.marks; head = w.head }) clause =
+    record { known = ready.known; packs = ready.packs; room = record { uses = ready.room.uses } } in
     subst (λ (n : State). IsReady n clause) (sym low.rest) is
 
-pub unfalse_lowered : (m w : State) (index n : ℕ) (l x : Lit) → Lowers m w index → index ≤ n → l ≡ x → IsUnfalse m.lits l n → IsUnfalse w.lits x index
+pub unfalse_lowered : (m w : State) (index n : ℕ) (l x : Lit) → Lowers m w index → index ≤ n → l ≡ x
+    → IsUnfalse m.lits l n → IsUnfalse w.lits x index
 unfalse_lowered m w index n l x low le e h =
     let lits = ap (λ (s : State). s.lits) low.rest in
-    subst (λ xs. IsUnfalse xs x index) (sym lits) (subst (λ y. IsUnfalse m.lits y index) e (record { unfalse = λ c. h.unfalse (longer_front index n m.lits (negation l) le c) }))
+    subst (λ xs. IsUnfalse xs x index) (sym lits) (subst (λ y. IsUnfalse m.lits y index) e
+    (record { unfalse = λ c. h.unfalse (longer_front index n m.lits (negation l) le c) }))
 
-pub gains : (s w new : State) (clause : List Lit) (id : ℕ) → StaysSearch (search_of s) (search_of w) → Inserts w new clause
+pub gains : (s w new : State) (clause : List Lit) (id : ℕ) → StaysSearch (search_of s) (search_of w)
+    → Inserts w new clause
     → IsReady w clause → id ≡ length w.clauses + 1 → GainsClause (search_of s) (search_of new) clause id
 gains s w new clause id h i ready id_is =
     let a = h.assigned in
@@ -266,13 +312,16 @@ gains s w new clause id h i ready id_is =
     }
 
 -- a clause has come, by what the arrays become
-pub inserted : (s : State) (clauses : List (List Lit)) (pairs : List Pair) (lists : List Listed) (short : List ℕ) (clause : List Lit)
-    (p q : Pair) (id index : ℕ) → IsKept s → IsReady s clause → IsPairOf clause q → id ≡ length s.clauses + 1 → id < 2 ^ 32 → IsLow s index
+pub inserted : (s : State) (clauses : List (List Lit)) (pairs : List Pair) (lists : List Listed) (short : List ℕ)
+    (clause : List Lit)
+    (p q : Pair) (id index : ℕ) → IsKept s → IsReady s clause → IsPairOf clause q → id ≡ length s.clauses + 1
+    → id < 2 ^ 32 → IsLow s index
     → IsUnfalse s.lits q.first index → IsUnfalse s.lits q.second index → q ≡ p → clauses ≡ s.clauses ++ clause ∷ []
     → pairs ≡ s.pairs ++ q ∷ [] → Joins s.lists lists p id
     → (p.first ≡ p.second → short ≡ s.short ++ id ∷ []) → (p.first ≢ p.second → short ≡ s.short)
     → IsKept (record s { clauses = clauses; pairs = pairs; lists = lists; short = short })
-inserted s clauses pairs lists short clause p q id index kept ready pair id_is fits low first second same clauses_are pairs_are joins alone apart =
+inserted s clauses pairs lists short clause p q id index kept ready pair id_is fits low first second same clauses_are
+    pairs_are joins alone apart =
     rw (clauses_are, pairs_are, same) (kept_added s lists short clause p id index kept (record {
       pair = subst (IsPairOf clause) same pair;
       id_is = id_is;
@@ -293,11 +342,14 @@ pub on_err : {T E : Type 0} (r : Result T E) (P : Type 0) → P → OnErr r P
 on_err (Ok x) P h = tt
 on_err (Err e) P h = h
 
-pub stays_same : (s w new : State) → StaysSearch (search_of s) (search_of w) → new ≡ w → StaysSearch (search_of s) (search_of new)
+pub stays_same : (s w new : State) → StaysSearch (search_of s) (search_of w) → new ≡ w
+    → StaysSearch (search_of s) (search_of new)
 stays_same s w new h e = subst (λ (n : State). StaysSearch (search_of s) (search_of n)) (sym e) h
 
-pub inserts : (s pre new : State) (clause : List Lit) (lists : List Listed) (short : List ℕ) → new ≡ record pre { lists = lists; short = short }
-    → pre.clauses ≡ s.clauses ++ clause ∷ [] → pre.lits ≡ s.lits → pre.starts ≡ s.starts → pre.vars ≡ s.vars → pre.reasons ≡ s.reasons
+pub inserts : (s pre new : State) (clause : List Lit) (lists : List Listed) (short : List ℕ) → new
+    ≡ record pre { lists = lists; short = short }
+    → pre.clauses ≡ s.clauses ++ clause ∷ [] → pre.lits ≡ s.lits → pre.starts ≡ s.starts → pre.vars ≡ s.vars
+    → pre.reasons ≡ s.reasons
     → Inserts s new clause
 inserts s pre new clause lists short e clauses lits starts vars reasons = record {
   clauses = ap (λ (n : State). n.clauses) e ∙ clauses;
@@ -306,3 +358,39 @@ inserts s pre new clause lists short e clauses lits starts vars reasons = record
   vars = ap (λ (n : State). n.vars) e ∙ vars;
   reasons = ap (λ (n : State). n.reasons) e ∙ reasons;
 }
+
+-- a clause that has come implies its literal
+pub learned_implied : (s m : State) (clause : List Lit) (lit : Lit) (id : ℕ) → GainsClause (search_of s) (search_of m)
+    clause id
+    → IsUnit negation s.lits clause lit → IsImplied m lit id
+learned_implied s m clause lit id g unit =
+    let long : length m.clauses ≡ length s.clauses + 1 = ap length g.clauses ∙ length-append s.clauses (clause ∷ []) in
+    let is : clause_at m.clauses id ≡ clause = ap (λ cs. clause_at cs id) g.clauses ∙ clause_last s.clauses clause id
+    (g.id_is ∙ long) in
+    let lits = g.assigned.lits in
+    record {
+      named = record { from_one = omega (arith, g.id_is, long); within = omega (arith, g.id_is) };
+      there = subst (λ xs. Contains xs lit) (sym is) unit.there;
+      others = λ x c ne. subst (λ xs. Contains xs (negation x)) (sym lits)
+          (unit.others x (subst (λ xs. Contains xs x) is c) ne);
+    }
+
+pub learns : (s m new : State) (clause : List Lit) (lit : Lit) (id : ℕ) → GainsClause (search_of s) (search_of m) clause
+    id
+    → length m.lits < length m.reasons → new ≡ with_literal m lit id → Learns (search_of s) (search_of new) clause lit
+    id
+learns s m new clause lit id g within e =
+    let lits = g.assigned.lits in
+    let vars = g.assigned.vars in
+    let is : Learns (search_of s) (search_of (with_literal m lit id)) clause lit id = record {
+      clauses = g.clauses;
+      id_is = g.id_is;
+      lits = ap (λ xs. xs ++ lit ∷ []) lits;
+      starts = g.assigned.starts;
+      reasons = λ i lt. get_or-set_other m.reasons (length m.lits) i id 0 (λ same. let bad : i ≡ length m.lits = same in
+          omega (arith, ap length lits)) ∙ g.assigned.reasons i lt;
+      reason = ap (λ k. get_or (set m.reasons (length m.lits) id) k 0) (sym (ap length lits))
+          ∙ get_or-set_same m.reasons (length m.lits) id 0 within;
+      vars = vars;
+    } in
+    subst (λ (n : State). Learns (search_of s) (search_of n) clause lit id) (sym e) is

@@ -1,12 +1,12 @@
 -- The watch lists as ids come and go.
 use Rattle.std.proofs.Common.{◌≡◌, ◌≢◌, ℕ, zero, suc, ◌<◌, ◌≤◌, ◌+◌, ◌-◌, ◌*◌, List, [], ◌∷◌, ◌++◌, length}
-use Rattle.std.proofs.Common.{get_or, take, arith, ap, sym, ◌∙◌, refl, Bool, true, false, inl, inr, ⊎_elim}
-use Rattle.std.specs.Prelude.{◌⊎◌, ◌==◌, Contains, if◌then◌else◌, sum_by, count_by, cond}
+use Rattle.std.proofs.Common.{get_or, arith, ap, sym, ◌∙◌, refl, true, inl, inr, ⊎_elim}
+use Rattle.std.specs.Prelude.{◌⊎◌, ◌==◌, Contains, sum_by, count_by, cond}
 use Rattle.std.specs.List.{swap_remove}
-use Rattle.std.proofs.Math.ListN.{set, length-set}
-use Rattle.std.proofs.lemmas.List.{get_or-set_same, get_or-set_other, get_or_default, set_past}
+use Rattle.std.proofs.Math.ListN.{length-set}
+use Rattle.std.proofs.lemmas.List.{get_or-set_same, get_or-set_other, set_past}
 use Rattle.std.proofs.Math.ListN.{get_or-eq_default}
-use Rattle.std.proofs.lemmas.List.Sums.{sum_by-set, sum_by_push, sum_by-swap_remove, sum_by-cons}
+use Rattle.std.proofs.lemmas.List.Sums.{sum_by_push, sum_by-swap_remove, sum_by-cons}
 use Rattle.std.proofs.lemmas.Bool.{cases_lt, cases_eq}
 use Rattle.std.proofs.lemmas.Bool.Decides.{nat_tests}
 use Rattle.plain_lists.proofs.ListTests.{any_from}
@@ -16,8 +16,7 @@ use Rattle.plain_lits.specs.HintCheck.{clause_at, IsNamed}
 use Rattle.unit_propagate.specs.declared.pair.Pair.{Pair}
 use Rattle.unit_propagate.specs.Arenas.{pair_of, no_pair}
 use Rattle.unit_propagate.specs.States.{has, IsPairOf, IsWatching}
-use Rattle.unit_propagate.specs.WatchLists.{Listed, no_list, list_at, ids_at, one, watches, with_id, without, Joins}
-use Rattle.unit_propagate.proofs.Fronts.{packed_same}
+use Rattle.unit_propagate.specs.WatchLists.{Listed, no_list, list_at, ids_at, one, watches, with_id, without}
 
 pub one_same : (a : ℕ) → one a a ≡ 1
 one_same a = grind (arith, nat_tests)
@@ -39,39 +38,65 @@ pub weight_with : (f : ℕ → ℕ) (lists : List Listed) (code id c : ℕ) → 
 weight_with f lists code id c lt = ⊎_elim
     (λ same.
     let e : ids_at (with_id lists code id) c ≡ ids_at lists code ++ id ∷ [] =
-    ap (λ k. ids_at (with_id lists code id) k) (sym same) ∙ ap (λ (l : Listed). l.ids) (get_or-set_same lists code _ no_list lt) in
+    ap (λ k. ids_at (with_id lists code id) k) (sym same) ∙ ap (λ (l : Listed). l.ids)
+    (get_or-set_same lists code _ no_list lt) in
     let here : one code c ≡ 1 = ap (λ k. one code k) (sym same) ∙ one_same code in
-    omega (arith, ap (λ xs. sum_by f xs) e, sum_by_push f (ids_at lists code) id, ap (λ n. n * f id) here, ap (λ k. sum_by f (ids_at lists k)) same))
+    omega (
+      arith,
+      ap (λ xs. sum_by f xs) e,
+      sum_by_push f (ids_at lists code) id,
+      ap (λ n. n * f id) here,
+      ap (λ k. sum_by f (ids_at lists k)) same,
+    ))
     (λ other.
-    let e : ids_at (with_id lists code id) c ≡ ids_at lists c = ap (λ (l : Listed). l.ids) (get_or-set_other lists code c _ no_list (λ e. other (sym e))) in
+    let e : ids_at (with_id lists code id) c ≡ ids_at lists c =
+    ap (λ (l : Listed). l.ids) (get_or-set_other lists code c _ no_list (λ e. other (sym e))) in
     omega (arith, ap (λ xs. sum_by f xs) e, ap (λ n. n * f id) (one_other code c other)))
     (cases_eq code c)
 
 -- a list that loses an id
 pub weight_without : (f : ℕ → ℕ) (lists : List Listed) (code at c : ℕ) → code < length lists
     → at < length (ids_at lists code)
-    → sum_by f (ids_at (without lists code at) c) + one code c * f (get_or (ids_at lists code) at 0) ≡ sum_by f (ids_at lists c)
+    → sum_by f (ids_at (without lists code at) c) + one code c * f (get_or (ids_at lists code) at 0)
+    ≡ sum_by f (ids_at lists c)
 weight_without f lists code at c lt within = ⊎_elim
-    (λ same. let e : ids_at (without lists code at) c ≡ swap_remove (ids_at lists code) at 0 = ap (λ k. ids_at (without lists code at) k) (sym same) ∙ ap (λ (l : Listed). l.ids) (get_or-set_same lists code _ no_list lt) in
+    (λ same. let e : ids_at (without lists code at) c ≡ swap_remove (ids_at lists code) at 0 =
+    ap (λ k. ids_at (without lists code at) k) (sym same) ∙ ap (λ (l : Listed). l.ids)
+    (get_or-set_same lists code _ no_list lt) in
     let cut = sum_by-swap_remove f (ids_at lists code) at 0 within in
     let here : one code c ≡ 1 = ap (λ k. one code k) (sym same) ∙ one_same code in
-    omega (arith, ap (λ xs. sum_by f xs) e, cut, ap (λ n. n * f (get_or (ids_at lists code) at 0)) here, ap (λ k. sum_by f (ids_at lists k)) same))
-    (λ other. let e : ids_at (without lists code at) c ≡ ids_at lists c = ap (λ (l : Listed). l.ids) (get_or-set_other lists code c _ no_list (λ e. other (sym e))) in
+    omega (
+      arith,
+      ap (λ xs. sum_by f xs) e,
+      cut,
+      ap (λ n. n * f (get_or (ids_at lists code) at 0)) here,
+      ap (λ k. sum_by f (ids_at lists k)) same,
+    ))
+    (λ other. let e : ids_at (without lists code at) c ≡ ids_at lists c =
+    ap (λ (l : Listed). l.ids) (get_or-set_other lists code c _ no_list (λ e. other (sym e))) in
     omega (arith, ap (λ xs. sum_by f xs) e, ap (λ n. n * f (get_or (ids_at lists code) at 0)) (one_other code c other)))
     (cases_eq code c)
 
 -- the room of lists stays
-pub uses_with : (lists : List Listed) (code id c : ℕ) → (list_at (with_id lists code id) c).uses ≡ (list_at lists c).uses
+pub uses_with : (lists : List Listed) (code id c : ℕ) → (list_at (with_id lists code id) c).uses
+    ≡ (list_at lists c).uses
 uses_with lists code id c = ⊎_elim
-    (λ same. ⊎_elim (λ lt. ap (λ k. (list_at (with_id lists code id) k).uses) (sym same) ∙ (ap (λ (l : Listed). l.uses) (get_or-set_same lists code _ no_list lt) ∙ ap (λ k. (list_at lists k).uses) same))
-    (λ past. ap (λ (ls : List Listed). (list_at ls c).uses) (set_past lists code _ past)) (cases_lt code (length lists)))
+    (λ same. ⊎_elim (λ lt. ap (λ k. (list_at (with_id lists code id) k).uses) (sym same)
+    ∙ (ap (λ (l : Listed). l.uses) (get_or-set_same lists code _ no_list lt)
+    ∙ ap (λ k. (list_at lists k).uses) same))
+    (λ past. ap (λ (ls : List Listed). (list_at ls c).uses) (set_past lists code _ past))
+    (cases_lt code (length lists)))
     (λ other. ap (λ (l : Listed). l.uses) (get_or-set_other lists code c _ no_list (λ e. other (sym e))))
     (cases_eq code c)
 
-pub uses_without : (lists : List Listed) (code at c : ℕ) → (list_at (without lists code at) c).uses ≡ (list_at lists c).uses
+pub uses_without : (lists : List Listed) (code at c : ℕ) → (list_at (without lists code at) c).uses
+    ≡ (list_at lists c).uses
 uses_without lists code at c = ⊎_elim
-    (λ same. ⊎_elim (λ lt. ap (λ k. (list_at (without lists code at) k).uses) (sym same) ∙ (ap (λ (l : Listed). l.uses) (get_or-set_same lists code _ no_list lt) ∙ ap (λ k. (list_at lists k).uses) same))
-    (λ past. ap (λ (ls : List Listed). (list_at ls c).uses) (set_past lists code _ past)) (cases_lt code (length lists)))
+    (λ same. ⊎_elim (λ lt. ap (λ k. (list_at (without lists code at) k).uses) (sym same)
+    ∙ (ap (λ (l : Listed). l.uses) (get_or-set_same lists code _ no_list lt)
+    ∙ ap (λ k. (list_at lists k).uses) same))
+    (λ past. ap (λ (ls : List Listed). (list_at ls c).uses) (set_past lists code _ past))
+    (cases_lt code (length lists)))
     (λ other. ap (λ (l : Listed). l.uses) (get_or-set_other lists code c _ no_list (λ e. other (sym e))))
     (cases_eq code c)
 
@@ -87,7 +112,15 @@ pub weight_moved : (f : ℕ → ℕ) (lists : List Listed) (from at to c : ℕ) 
     ≡ sum_by f (ids_at lists c) + one to c * f (get_or (ids_at lists from) at 0)
 weight_moved f lists from at to c lt lt2 within =
     let id = get_or (ids_at lists from) at 0 in
-    let long : to < length (without lists from at) = omega (arith, length-set lists from (record { ids = swap_remove (ids_at lists from) at 0; uses = (list_at lists from).uses })) in
+    let long : to < length (without lists from at) =
+    omega (
+      arith,
+      length-set lists from (record {
+        ids = swap_remove (ids_at lists from) at 0;
+        uses =
+            (list_at lists from).uses;
+      }),
+    ) in
     let a = weight_with f (without lists from at) to id c long in
     let b = weight_without f lists from at c lt within in
     omega (arith, a, b)
@@ -114,7 +147,14 @@ sums_below code (clause ∷ clauses) [] e h = absurd (omega arith)
 sums_below code (clause ∷ clauses) (p ∷ pairs) e h =
     let first = h 0 (omega arith) in
     let rest = sums_below code clauses pairs (omega arith) (λ k lt. h (suc k) (omega arith)) in
-    omega (arith, first, rest, sum_by-cons (watches code) p pairs, sum_by-cons (λ c. cond (has code c) 1 0) clause clauses)
+    omega (
+      arith,
+      first,
+      rest,
+      sum_by-cons (watches code) p pairs,
+      sum_by-cons (λ c. cond (has code c) 1 0) clause
+          clauses,
+    )
 
 -- a clause has the code of a literal that it holds
 pub has_there : (clause : List Lit) (l : Lit) → Contains clause l → has (packed l) clause ≡ true
@@ -137,7 +177,13 @@ pair_below code clause p h = ⊎_elim
     (λ (second : packed p.second ≡ code).
     let e : has code clause ≡ true = rw second at (has_there clause p.second (h.second ne)) in
     rw e (omega (arith, sum, one_other (packed p.first) code not_first, ap (λ k. one k code) second, one_same code)))
-    (λ (not_second : packed p.second ≢ code). omega (arith, sum, one_other (packed p.first) code not_first, one_other (packed p.second) code not_second))
+    (λ (not_second : packed p.second ≢ code). omega (
+      arith,
+      sum,
+      one_other (packed p.first) code not_first,
+      one_other
+          (packed p.second) code not_second,
+    ))
     (cases_eq (packed p.second) code))
     (cases_eq (packed p.first) code))
     (cases_eq (packed p.first) (packed p.second))
@@ -149,7 +195,8 @@ pub pairs_below : (code : ℕ) (clauses : List (List Lit)) (pairs : List Pair) �
 pairs_below code clauses pairs e h = sums_below code clauses pairs e
     (λ k lt.
     let last : suc k - 1 ≡ k = omega arith in
-    let is : IsPairOf (get_or clauses (suc k - 1) []) (get_or pairs k no_pair) = h (suc k) (record { from_one = omega arith; within = omega arith }) in
+    let is : IsPairOf (get_or clauses (suc k - 1) []) (get_or pairs k no_pair) =
+    h (suc k) (record { from_one = omega arith; within = omega arith }) in
     pair_below code (get_or clauses k []) (get_or pairs k no_pair) (rw last at is))
 
 -- an id in a list is counted there
@@ -183,7 +230,13 @@ seen_pair code p h = ⊎_elim
       apart,
       ⊎_elim (λ e. inl e)
           (λ ne. ⊎_elim (λ e. inr e)
-          (λ ne2. absurd (omega (arith, watches_apart code p apart, one_other (packed p.first) code ne, one_other (packed p.second) code ne2)))
+          (λ ne2. absurd (omega (
+            arith,
+            watches_apart code p apart,
+            one_other (packed p.first) code ne,
+            one_other
+                (packed p.second) code ne2,
+          )))
           (cases_eq (packed p.second) code))
           (cases_eq (packed p.first) code),
     ))
@@ -192,10 +245,16 @@ seen_pair code p h = ⊎_elim
 pair_past : (pairs : List Pair) (id : ℕ) → length pairs < id → pair_of pairs id ≡ no_pair
 pair_past pairs id lt = get_or-eq_default (no_pair ∷ pairs) no_pair (omega arith)
 
-seen_named : (pairs : List Pair) (n code id : ℕ) → length pairs ≡ n → 1 ≤ watches code (pair_of pairs id) → (0 < id) × (id ≤ n)
+seen_named : (pairs : List Pair) (n code id : ℕ) → length pairs ≡ n → 1 ≤ watches code (pair_of pairs id) → (0 < id)
+    × (id ≤ n)
 seen_named pairs n code zero e h = absurd (omega (arith, watches_alone code no_pair refl))
 seen_named pairs n code (suc k) e h = ⊎_elim
-    (λ past. absurd (omega (arith, ap (λ p. watches code p) (pair_past pairs (suc k) past), watches_alone code no_pair refl)))
+    (λ past. absurd (omega (
+      arith,
+      ap (λ p. watches code p) (pair_past pairs (suc k) past),
+      watches_alone code no_pair
+          refl,
+    )))
     (λ within. (omega arith, omega arith))
     (cases_lt (length pairs) (suc k))
 
@@ -205,7 +264,8 @@ pub listed_seen : (clauses : List (List Lit)) (pairs : List Pair) (lists : List 
     → IsSeen clauses pairs code (get_or (ids_at lists code) i 0)
 listed_seen clauses pairs lists code i h lt =
     let id = get_or (ids_at lists code) i 0 in
-    let some : 1 ≤ watches code (pair_of pairs id) = omega (arith, h.listed code id, counted_at (ids_at lists code) i id lt refl) in
+    let some : 1 ≤ watches code (pair_of pairs id) =
+    omega (arith, h.listed code id, counted_at (ids_at lists code) i id lt refl) in
     let named = seen_named pairs (length clauses) code id h.long some in
     let seen = seen_pair code (pair_of pairs id) some in
     record { named = record { from_one = named.0; within = named.1 }; apart = seen.0; one_of = seen.1 }

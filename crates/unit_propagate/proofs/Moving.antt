@@ -1,12 +1,11 @@
 -- A clause watches another literal in the place of a false one.
-use Rattle.std.proofs.Common.{◌≡◌, ◌≢◌, ℕ, zero, suc, ◌<◌, ◌≤◌, ◌+◌, ◌-◌, ◌*◌, List, [], ◌∷◌, ◌++◌, length}
+use Rattle.std.proofs.Common.{◌≡◌, ◌≢◌, ℕ, zero, suc, ◌<◌, ◌≤◌, ◌+◌, ◌-◌, ◌*◌, List, length}
 use Rattle.std.proofs.Common.{get_or, take, arith, ap, sym, subst, ◌∙◌, refl, inl, inr, ⊎_elim}
-use Rattle.std.specs.Prelude.{◌⊎◌, Contains, sum_by, count_by}
-use Rattle.std.specs.List.{swap_remove}
+use Rattle.std.specs.Prelude.{Contains, sum_by}
 use Rattle.std.proofs.Math.ListN.{set, length-set}
 use Rattle.std.proofs.lemmas.List.{get_or-set_same, get_or-set_other, get_or_default}
 use Rattle.std.proofs.lemmas.List.Sums.{sum_by-set}
-use Rattle.std.proofs.lemmas.Bool.{cases_lt, cases_eq}
+use Rattle.std.proofs.lemmas.Bool.{cases_eq}
 use Rattle.plain_lits.specs.declared.lit.Lit.{Lit}
 use Rattle.plain_lits.specs.Literals.{negation}
 use Rattle.plain_lits.specs.Packed.{packed}
@@ -14,9 +13,9 @@ use Rattle.plain_lits.specs.Trails.{VarsDiffer}
 use Rattle.plain_lits.specs.HintCheck.{clause_at, IsNamed}
 use Rattle.unit_propagate.specs.declared.pair.Pair.{Pair}
 use Rattle.unit_propagate.specs.Arenas.{pair_of, no_pair}
-use Rattle.unit_propagate.specs.States.{State, has, IsPairOf, IsWatching, IsKept, IsShort, IsLooked, Guards}
-use Rattle.unit_propagate.specs.Steps.{IsHere, with_pair, AreDone, Grows}
-use Rattle.unit_propagate.specs.WatchLists.{Listed, no_list, list_at, ids_at, one, watches, with_id, without}
+use Rattle.unit_propagate.specs.States.{State, IsPairOf, IsWatching, IsKept, IsShort, IsLooked, Guards}
+use Rattle.unit_propagate.specs.Steps.{IsHere, with_pair}
+use Rattle.unit_propagate.specs.WatchLists.{Listed, list_at, ids_at, one, watches, with_id, without}
 use Rattle.unit_propagate.proofs.Fronts.{packed_same, set_cases, from_front, consistent}
 use Rattle.unit_propagate.proofs.Lists.{IsSeen, listed_seen, watches_apart, one_same, one_other, pairs_below}
 use Rattle.unit_propagate.proofs.Lists.{weight_moved, length_moved, uses_with, uses_without}
@@ -29,14 +28,16 @@ pub here_first : (s : State) (at code id : ℕ) (f : Lit) (p : Pair) → IsKept 
     → at < length (ids_at s.lists code) → id ≡ get_or (ids_at s.lists code) at 0 → p ≡ pair_of s.pairs id
     → packed p.first ≡ code → IsHere s at id f p.second
 here_first s at code id f p kept e lt id_is p_is first =
-    let seen : IsSeen s.clauses s.pairs code id = subst (IsSeen s.clauses s.pairs code) (sym id_is) (listed_seen s.clauses s.pairs s.lists code at kept.watching lt) in
+    let seen : IsSeen s.clauses s.pairs code id = subst (IsSeen s.clauses s.pairs code) (sym id_is)
+    (listed_seen s.clauses s.pairs s.lists code at kept.watching lt) in
     let f_is : p.first ≡ f = packed_same p.first f (first ∙ e) in
     let same : pair_of s.pairs id ≡ p = sym p_is in
     record {
       within = subst (λ k. at < length (ids_at s.lists k)) e lt;
       id_is = ap (λ k. get_or (ids_at s.lists k) at 0) (sym e) ∙ sym id_is;
       named = seen.named;
-      apart = λ same_lits. seen.apart (ap (λ (q : Pair). packed q.first) same ∙ (ap packed (f_is ∙ same_lits) ∙ ap (λ (q : Pair). packed q.second) p_is));
+      apart = λ same_lits. seen.apart (ap (λ (q : Pair). packed q.first) same
+          ∙ (ap packed (f_is ∙ same_lits) ∙ ap (λ (q : Pair). packed q.second) p_is));
       pair = inl (ap (λ (q : Pair). q.first) same ∙ f_is, ap (λ (q : Pair). q.second) same);
     }
 
@@ -44,7 +45,8 @@ pub here_second : (s : State) (at code id : ℕ) (f : Lit) (p : Pair) → IsKept
     → at < length (ids_at s.lists code) → id ≡ get_or (ids_at s.lists code) at 0 → p ≡ pair_of s.pairs id
     → packed p.first ≢ code → IsHere s at id f p.first
 here_second s at code id f p kept e lt id_is p_is not_first =
-    let seen : IsSeen s.clauses s.pairs code id = subst (IsSeen s.clauses s.pairs code) (sym id_is) (listed_seen s.clauses s.pairs s.lists code at kept.watching lt) in
+    let seen : IsSeen s.clauses s.pairs code id = subst (IsSeen s.clauses s.pairs code) (sym id_is)
+    (listed_seen s.clauses s.pairs s.lists code at kept.watching lt) in
     let same : pair_of s.pairs id ≡ p = sym p_is in
     let second : packed p.second ≡ code = ⊎_elim
     (λ one. absurd (not_first (ap (λ (q : Pair). packed q.first) p_is ∙ one)))
@@ -85,7 +87,8 @@ here_apart s at id f o here = ⊎_elim
     here.pair
 
 -- and stand in the clause
-pub here_other : (s : State) (at id : ℕ) (f o : Lit) → IsKept s → IsHere s at id f o → Contains (clause_at s.clauses id) o
+pub here_other : (s : State) (at id : ℕ) (f o : Lit) → IsKept s → IsHere s at id f o
+    → Contains (clause_at s.clauses id) o
 here_other s at id f o kept here =
     let apart = here_apart s at id f o here in
     let is = kept.watching.paired id here.named in
@@ -133,18 +136,23 @@ moved_paired s at id f o to kept m j named =
     let long = kept.watching.long in
     ⊎_elim
     (λ (e : j ≡ id).
-    let new : pair_of (set s.pairs (id - 1) (pair_with o to)) j ≡ pair_with o to = ap (λ k. pair_of (set s.pairs (id - 1) (pair_with o to)) k) e ∙ pair_set_same s.pairs id (pair_with o to) above (omega arith) in
+    let new : pair_of (set s.pairs (id - 1) (pair_with o to)) j ≡ pair_with o to =
+    ap (λ k. pair_of (set s.pairs (id - 1) (pair_with o to)) k) e ∙ pair_set_same s.pairs id (pair_with o to) above
+    (omega arith) in
     let is : IsPairOf (clause_at s.clauses id) (pair_with o to) = record {
       first = λ _. here_other s at id f o kept m.here;
       second = λ _. m.there;
       alone = λ same. absurd (m.apart (sym (ap packed same)));
     } in
-    subst (IsPairOf (clause_at s.clauses j)) (sym new) (subst (λ k. IsPairOf (clause_at s.clauses k) (pair_with o to)) (sym e) is))
-    (λ (ne : j ≢ id). subst (IsPairOf (clause_at s.clauses j)) (sym (pair_set_other s.pairs id j (pair_with o to) above ne)) (kept.watching.paired j named))
+    subst (IsPairOf (clause_at s.clauses j)) (sym new) (subst (λ k. IsPairOf (clause_at s.clauses k) (pair_with o to))
+    (sym e) is))
+    (λ (ne : j ≢ id). subst (IsPairOf (clause_at s.clauses j))
+    (sym (pair_set_other s.pairs id j (pair_with o to) above ne)) (kept.watching.paired j named))
     (cases_eq j id)
 
 moved_sum : (s : State) (at id : ℕ) (f o to : Lit) → IsKept s → IsMove s at id f o to → (c : ℕ)
-    → sum_by (watches c) (set s.pairs (id - 1) (pair_with o to)) + one (packed f) c ≡ sum_by (watches c) s.pairs + one (packed to) c
+    → sum_by (watches c) (set s.pairs (id - 1) (pair_with o to)) + one (packed f) c ≡ sum_by (watches c) s.pairs + one
+    (packed to) c
 moved_sum s at id f o to kept m c =
     let above = m.here.named.from_one in
     let within = m.here.named.within in
@@ -160,8 +168,17 @@ pub room_there : (s : State) (at id : ℕ) (f o to : Lit) → IsKept s → IsMov
     → length (ids_at s.lists (packed to)) < (list_at s.lists (packed to)).uses
 room_there s at id f o to kept m =
     let sum = moved_sum s at id f o to kept m (packed to) in
-    let below = pairs_below (packed to) s.clauses (set s.pairs (id - 1) (pair_with o to)) (length-set s.pairs (id - 1) (pair_with o to) ∙ kept.watching.long) (moved_paired s at id f o to kept m) in
-    omega (arith, sum, below, kept.watching.room (packed to), kept.watching.counted (packed to), one_same (packed to), one_other (packed f) (packed to) (move_codes s at id f o to m))
+    let below = pairs_below (packed to) s.clauses (set s.pairs (id - 1) (pair_with o to))
+    (length-set s.pairs (id - 1) (pair_with o to) ∙ kept.watching.long) (moved_paired s at id f o to kept m) in
+    omega (
+      arith,
+      sum,
+      below,
+      kept.watching.room (packed to),
+      kept.watching.counted (packed to),
+      one_same (packed to),
+      one_other (packed f) (packed to) (move_codes s at id f o to m),
+    )
 
 abbrev pub moved_pairs : State → ℕ → Lit → Lit → List Pair
 moved_pairs s id o to = set s.pairs (id - 1) (pair_with o to)
@@ -184,11 +201,13 @@ rewatched s at id f o to kept m lt lt2 =
           let weight = weight_moved (one j) s.lists (packed f) at (packed to) c lt lt2 m.here.within in
           let moved : sum_by (one j) (ids_at (moved_lists s at id f to) c) + one (packed f) c * one j id
           ≡ sum_by (one j) (ids_at s.lists c) + one (packed to) c * one j id =
-          subst (λ k. sum_by (one j) (ids_at (moved_lists s at k f to) c) + one (packed f) c * one j k ≡ sum_by (one j) (ids_at s.lists c) + one (packed to) c * one j k) is weight in
+          subst (λ k. sum_by (one j) (ids_at (moved_lists s at k f to) c) + one (packed f) c * one j k
+          ≡ sum_by (one j) (ids_at s.lists c) + one (packed to) c * one j k) is weight in
           let old = kept.watching.listed c j in
           ⊎_elim
           (λ (e : j ≡ id).
-          let new : pair_of (moved_pairs s id o to) j ≡ pair_with o to = ap (λ k. pair_of (moved_pairs s id o to) k) e ∙ pair_set_same s.pairs id (pair_with o to) above (omega arith) in
+          let new : pair_of (moved_pairs s id o to) j ≡ pair_with o to = ap (λ k. pair_of (moved_pairs s id o to) k) e
+          ∙ pair_set_same s.pairs id (pair_with o to) above (omega arith) in
           let counts = here_watches s at id f o m.here c in
           let at_old = ap (λ k. watches c (pair_of s.pairs k)) e in
           let at_new = ap (λ p. watches c p) new in
@@ -206,20 +225,29 @@ rewatched s at id f o to kept m lt lt2 =
           (cases_eq j id);
       counted = λ c.
           let count = length_moved s.lists (packed f) at (packed to) c lt lt2 m.here.within in
-          let moved : length (ids_at (moved_lists s at id f to) c) + one (packed f) c ≡ length (ids_at s.lists c) + one (packed to) c =
-          subst (λ k. length (ids_at (moved_lists s at k f to) c) + one (packed f) c ≡ length (ids_at s.lists c) + one (packed to) c) is count in
+          let moved : length (ids_at (moved_lists s at id f to) c) + one (packed f) c ≡ length (ids_at s.lists c) + one
+          (packed to) c =
+          subst (λ k. length (ids_at (moved_lists s at k f to) c) + one (packed f) c ≡ length (ids_at s.lists c) + one
+          (packed to) c) is count in
           omega (arith, moved, moved_sum s at id f o to kept m c, kept.watching.counted c);
-      room = λ c. omega (arith, kept.watching.room c, uses_with (without s.lists (packed f) at) (packed to) id c, uses_without s.lists (packed f) at c);
+      room = λ c. omega (
+        arith,
+        kept.watching.room c,
+        uses_with (without s.lists (packed f) at) (packed to) id c,
+        uses_without s.lists (packed f) at c,
+      );
     }
 
 -- what watches nothing stays the same
 moved_short : (s : State) (at id : ℕ) (f o to : Lit) → IsMove s at id f o to → id ≤ length s.pairs → (j : ℕ)
     → IsShort s.clauses s.pairs j → IsShort s.clauses (moved_pairs s id o to) j
 moved_short s at id f o to m within j short = ⊎_elim
-    (λ (e : j ≡ id). absurd (here_apart s at id f o m.here (subst (λ k. (pair_of s.pairs k).first ≡ (pair_of s.pairs k).second) e short.alone)))
+    (λ (e : j ≡ id). absurd (here_apart s at id f o m.here
+    (subst (λ k. (pair_of s.pairs k).first ≡ (pair_of s.pairs k).second) e short.alone)))
     (λ (ne : j ≢ id). record {
       named = short.named;
-      alone = subst (λ (p : Pair). p.first ≡ p.second) (sym (pair_set_other s.pairs id j (pair_with o to) m.here.named.from_one ne)) short.alone;
+      alone = subst (λ (p : Pair). p.first ≡ p.second)
+          (sym (pair_set_other s.pairs id j (pair_with o to) m.here.named.from_one ne)) short.alone;
     })
     (cases_eq j id)
 
@@ -227,12 +255,14 @@ short_moved : (s : State) (at id : ℕ) (f o to : Lit) → IsMove s at id f o to
     → IsShort s.clauses (moved_pairs s id o to) j → IsShort s.clauses s.pairs j
 short_moved s at id f o to m within j short = ⊎_elim
     (λ (e : j ≡ id).
-    let new : pair_of (moved_pairs s id o to) j ≡ pair_with o to = ap (λ k. pair_of (moved_pairs s id o to) k) e ∙ pair_set_same s.pairs id (pair_with o to) m.here.named.from_one within in
+    let new : pair_of (moved_pairs s id o to) j ≡ pair_with o to = ap (λ k. pair_of (moved_pairs s id o to) k) e
+    ∙ pair_set_same s.pairs id (pair_with o to) m.here.named.from_one within in
     let same : o ≡ to = subst (λ (p : Pair). p.first ≡ p.second) new short.alone in
     absurd (m.apart (ap packed (sym same))))
     (λ (ne : j ≢ id). record {
       named = short.named;
-      alone = subst (λ (p : Pair). p.first ≡ p.second) (pair_set_other s.pairs id j (pair_with o to) m.here.named.from_one ne) short.alone;
+      alone = subst (λ (p : Pair). p.first ≡ p.second)
+          (pair_set_other s.pairs id j (pair_with o to) m.here.named.from_one ne) short.alone;
     })
     (cases_eq j id)
 
@@ -242,8 +272,12 @@ moved_guards : (s : State) (at id : ℕ) (f o to : Lit) (low high : List Lit) �
     → Guards low high (pair_of s.pairs id) → Guards low high (pair_with o to)
 moved_guards s at id f o to low high m in_low in_high g =
     let never : Contains low (negation o) → ⊥ = λ false_other. ⊎_elim
-    (λ h. consistent s.lits f m.vars (in_high f (subst (Contains high) h.0 (g.second (subst (λ l. Contains low (negation l)) (sym h.1) false_other)))) m.falsified)
-    (λ h. consistent s.lits f m.vars (in_high f (subst (Contains high) h.1 (g.first (subst (λ l. Contains low (negation l)) (sym h.0) false_other)))) m.falsified)
+    (λ h. consistent s.lits f m.vars
+    (in_high f (subst (Contains high) h.0
+    (g.second (subst (λ l. Contains low (negation l)) (sym h.1) false_other)))) m.falsified)
+    (λ h. consistent s.lits f m.vars
+    (in_high f (subst (Contains high) h.1 (g.first (subst (λ l. Contains low (negation l)) (sym h.0) false_other))))
+    m.falsified)
     m.here.pair in
     record {
       first = λ c. absurd (never c);
@@ -253,11 +287,13 @@ moved_guards s at id f o to low high m in_low in_high g =
 moved_looked : (s : State) (at id : ℕ) (f o to : Lit) (low high : List Lit) (done : ℕ) → IsMove s at id f o to
     → id ≤ length s.pairs
     → ((l : Lit) → Contains low l → Contains s.lits l) → ((l : Lit) → Contains high l → Contains s.lits l)
-    → IsLooked s.clauses s.pairs s.short low high done → IsLooked s.clauses (moved_pairs s id o to) s.short low high done
+    → IsLooked s.clauses s.pairs s.short low high done → IsLooked s.clauses (moved_pairs s id o to) s.short low high
+    done
 moved_looked s at id f o to low high done m within in_low in_high h = record {
   guarded = λ p there apart. ⊎_elim
       (λ (e : pair_with o to ≡ p). subst (Guards low high) e (moved_guards s at id f o to low high m in_low in_high
-      (h.guarded (pair_of s.pairs id) (pair_there s.pairs id m.here.named.from_one within) (here_apart s at id f o m.here))))
+      (h.guarded (pair_of s.pairs id) (pair_there s.pairs id m.here.named.from_one within)
+      (here_apart s at id f o m.here))))
       (λ old. h.guarded p old apart)
       (set_cases s.pairs (id - 1) (pair_with o to) p there);
   holds = h.holds;
@@ -274,8 +310,10 @@ kept_moved s at id f o to kept m lt lt2 =
       all_short = λ j c. kept.all_short j (short_moved s at id f o to m within j c);
       room = kept.room;
       lists_long = let long = kept.lists_long in omega (arith, length-set {A = Listed});
-      looked = moved_looked s at id f o to (take s.head s.lits) s.lits s.done m within (λ l c. from_front s.head s.lits l c) (λ l c. c) kept.looked;
-      before = λ k k_lt. moved_looked s at id f o to _ _ _ m within (λ l c. from_front _ s.lits l c) (λ l c. from_front _ s.lits l c) (kept.before k k_lt);
+      looked = moved_looked s at id f o to (take s.head s.lits) s.lits s.done m within
+          (λ l c. from_front s.head s.lits l c) (λ l c. c) kept.looked;
+      before = λ k k_lt. moved_looked s at id f o to _ _ _ m within (λ l c. from_front _ s.lits l c)
+          (λ l c. from_front _ s.lits l c) (kept.before k k_lt);
       reasons = kept.reasons;
       head_within = kept.head_within;
       done_within = kept.done_within;

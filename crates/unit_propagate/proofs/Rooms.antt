@@ -1,10 +1,12 @@
 -- Room for variables and clauses, the literals that a new clause watches, and lowered marks.
-use Rattle.std.proofs.Common.{◌≡◌, ◌≢◌, ℕ, zero, suc, ◌<◌, ◌≤◌, ◌+◌, ◌-◌, ◌*◌, ◌^◌, List, [], ◌∷◌, ◌++◌, length}
-use Rattle.std.proofs.Common.{get_or, take, arith, ap, sym, subst, ◌∙◌, refl, inl, inr, ⊎_elim, length-append, length-take, true, false, Bool}
-use Rattle.std.specs.Prelude.{◌⊎◌, Contains, cond, count_by, Option, Some, None, IsSome, replicate, if◌then◌else◌, ◌==◌, slice_get}
+use Rattle.std.proofs.Common.{◌≡◌, ◌≢◌, ℕ, ◌<◌, ◌≤◌, ◌+◌, ◌-◌, ◌*◌, ◌^◌, List, [], ◌++◌, length}
+use Rattle.std.proofs.Common.{get_or, take, arith, ap, sym, subst, ◌∙◌, refl, ⊎_elim, length-append}
+use Rattle.std.proofs.Common.{length-take, true, false, Bool}
+use Rattle.std.specs.Prelude.{◌⊎◌, Contains, Option, Some, None, IsSome, replicate, if◌then◌else◌}
+use Rattle.std.specs.Prelude.{◌==◌, slice_get}
 use Rattle.std.proofs.Math.ListN.{set, length-set, get_or-eq_default, length-replicate, get_or-replicate}
-use Rattle.std.proofs.lemmas.List.{get_or_default, get_or_append_left, get_or-append_right, get_or-take, take_all, get_or-set_same, get_or-set_other}
-use Rattle.std.proofs.lemmas.List.Elements.{Contains-get_or}
+use Rattle.std.proofs.lemmas.List.{get_or_default, get_or_append_left, get_or-append_right, get_or-take, take_all}
+use Rattle.std.proofs.lemmas.List.{get_or-set_same, get_or-set_other}
 use Rattle.std.proofs.lemmas.Bool.{cases_lt, cases_eq, cases_Bool}
 use Rattle.std.proofs.lemmas.Option.{slice_get_within, get_or_from_slice_get}
 use Rattle.std.proofs.lemmas.Bool.Decides.{nat_tests}
@@ -20,12 +22,12 @@ use Rattle.plain_lits.specs.Values.{IsValueIn}
 use Rattle.unit_propagate.specs.declared.engine.Mark.{Mark}
 use Rattle.unit_propagate.specs.declared.pair.Pair.{Pair}
 use Rattle.unit_propagate.specs.Arenas.{blank}
-use Rattle.unit_propagate.specs.States.{State, has, IsPairOf, IsKept, IsLooked, Guards, HasTrue, mark_at, no_mark}
-use Rattle.unit_propagate.specs.Steps.{HasVars, IsLonger, MakesRoom, ClaimsAll, IsOther, IsPick, Considers, IsUnfalse, LowersOne, LowersMarks, Lowers, HasRoomFor}
-use Rattle.unit_propagate.specs.WatchLists.{Listed, list_at, ids_at, HasMoreRoom, ClaimsOne}
-use Rattle.unit_propagate.proofs.Fronts.{front_cases, from_front, longer_front, in_front, packed_same}
+use Rattle.unit_propagate.specs.States.{State, has, IsPairOf, IsKept, mark_at, no_mark}
+use Rattle.unit_propagate.specs.Steps.{HasVars, IsLonger, ClaimsAll, IsOther, IsPick, Considers, IsUnfalse}
+use Rattle.unit_propagate.specs.Steps.{LowersOne, LowersMarks, HasRoomFor}
+use Rattle.unit_propagate.specs.WatchLists.{Listed, list_at, HasMoreRoom, ClaimsOne}
+use Rattle.unit_propagate.proofs.Fronts.{front_cases, from_front, longer_front, in_front}
 use Rattle.unit_propagate.proofs.Finding.{not_false}
-use Rattle.unit_propagate.proofs.Passing.{lit_cases}
 
 -- the item at an index, by another default
 item_at : {X : Type 0} (xs : List X) (i : ℕ) (d x : X) → i < length xs → get_or xs i x ≡ x → get_or xs i d ≡ x
@@ -33,7 +35,12 @@ item_at xs i d x lt e = get_or_default xs i d x lt ∙ e
 
 -- the variables of a list
 pub vars_none : HasVars [] 0
-vars_none = record { below = λ l c. absurd (Contains-nil l c); packs = λ l c. absurd (Contains-nil l c); fits = omega arith }
+vars_none = record {
+  below = λ l c. absurd (Contains-nil l c);
+  packs = λ l c. absurd (Contains-nil l c);
+  fits =
+      omega arith;
+}
 
 pub vars_next : (lits : List Lit) (i vars new : ℕ) → i < length lits → HasVars (take i lits) vars
     → (get_or lits i blank).var < 2 ^ 31 → vars ≤ new → (get_or lits i blank).var + 1 ≤ new
@@ -67,7 +74,8 @@ longer_resized d old new n m le em e =
       long = omega (arith, ap length is, length-append old tail);
       same = λ i. ap (λ xs. get_or xs i d) is ∙ ⊎_elim
           (λ lt. get_or_append_left old tail d i lt)
-          (λ past. get_or-append_right old tail (length old) i d refl past ∙ (replicate_read (n - m) (i - length old) d ∙ sym (get_or-eq_default old d past)))
+          (λ past. get_or-append_right old tail (length old) i d refl past ∙ (replicate_read (n - m) (i - length old) d
+          ∙ sym (get_or-eq_default old d past)))
           (cases_lt i (length old));
     }
 
@@ -102,7 +110,8 @@ packed_room l n lt = code_room l.var l.positive n lt
 pub claims_none : (lists : List Listed) → ClaimsAll lists lists []
 claims_none lists = record { room = room_same lists; more = λ l c. absurd (Contains-nil l c) }
 
-pub claims_next : (a b c : List Listed) (clause : List Lit) (i code : ℕ) → i < length clause → ClaimsAll a b (take i clause)
+pub claims_next : (a b c : List Listed) (clause : List Lit) (i code : ℕ) → i < length clause
+    → ClaimsAll a b (take i clause)
     → code ≡ packed (get_or clause i blank) → ClaimsOne b c code → ClaimsAll a c (take (i + 1) clause)
 claims_next a b c clause i code lt h e one = record {
   room = room_trans a b c h.room one.room;
@@ -110,7 +119,8 @@ claims_next a b c clause i code lt h e one = record {
       (λ old. omega (arith, h.more l old, one.room.uses (packed l)))
       (λ here.
       let is : code ≡ packed l = e ∙ ap packed (item_at clause i blank l lt here.1) in
-      let claimed : (list_at b (packed l)).uses + 1 ≤ (list_at c (packed l)).uses = subst (λ k. (list_at b k).uses + 1 ≤ (list_at c k).uses) is one.more in
+      let claimed : (list_at b (packed l)).uses + 1 ≤ (list_at c (packed l)).uses =
+      subst (λ k. (list_at b k).uses + 1 ≤ (list_at c k).uses) is one.more in
       omega (arith, h.room.uses (packed l), claimed))
       (front_cases i clause l there);
 }
@@ -126,7 +136,8 @@ room_for s lists clause kept h = record {
       (λ (e : has code clause ≡ true).
       let l = any_gives (λ x. packed x == code) clause e in
       let is : packed l.0 ≡ code = same_code (packed l.0) code l.2 in
-      let claimed : (list_at s.lists code).uses + 1 ≤ (list_at lists code).uses = subst (λ k. (list_at s.lists k).uses + 1 ≤ (list_at lists k).uses) is (h.more l.0 l.1) in
+      let claimed : (list_at s.lists code).uses + 1 ≤ (list_at lists code).uses =
+      subst (λ k. (list_at s.lists k).uses + 1 ≤ (list_at lists k).uses) is (h.more l.0 l.1) in
       rw e (omega (arith, kept.watching.room code, claimed)))
       (λ (e : has code clause ≡ false). rw e (omega (arith, kept.watching.room code, h.room.uses code)))
       (cases_Bool (has code clause));
@@ -134,16 +145,19 @@ room_for s lists clause kept h = record {
 
 -- the rank of a literal
 pub unfalse_open : (lits : List Lit) (l : Lit) (v : Value) (n : ℕ) → IsValueIn lits l v → v ≢ False → IsUnfalse lits l n
-unfalse_open lits l v n value ne = record { unfalse = λ c. not_false lits l v value ne (from_front n lits (negation l) c) }
+unfalse_open lits l v n value ne =
+    record { unfalse = λ c. not_false lits l v value ne (from_front n lits (negation l) c) }
 
-pub unfalse_at : (lits : List Lit) (l : Lit) (n : ℕ) → VarsDiffer lits → n < length lits → get_or lits n (negation l) ≡ negation l
+pub unfalse_at : (lits : List Lit) (l : Lit) (n : ℕ) → VarsDiffer lits → n < length lits → get_or lits n (negation l)
+    ≡ negation l
     → IsUnfalse lits l n
 unfalse_at lits l n vars lt is = record {
   unfalse = λ c.
       let below = c.1 in
       let low : c.0 < n = omega (arith, length-take n lits) in
       let same : get_or lits c.0 (negation l) ≡ negation l = sym (get_or-take n lits c.0 (negation l) low) ∙ c.2 in
-      let at : c.0 ≡ n = vars c.0 n (negation l) (omega (arith, length-take n lits)) lt (ap (λ (x : Lit). x.var) (same ∙ sym is)) in
+      let at : c.0 ≡ n = vars c.0 n (negation l) (omega (arith, length-take n lits)) lt
+      (ap (λ (x : Lit). x.var) (same ∙ sym is)) in
       omega arith;
 }
 
@@ -151,7 +165,8 @@ unfalse_at lits l n vars lt is = record {
 pub pick_none : (other : Option Lit) → IsPick [] other None
 pick_none other = λ l c. absurd (Contains-nil l c)
 
-pick_passed : (clause : List Lit) (i : ℕ) (other best : Option Lit) → i < length clause → IsOther other (get_or clause i blank)
+pick_passed : (clause : List Lit) (i : ℕ) (other best : Option Lit) → i < length clause
+    → IsOther other (get_or clause i blank)
     → IsPick (take i clause) other best → IsPick (take (i + 1) clause) other best
 pick_passed clause i other None lt passed h = λ l c. ⊎_elim (λ old. h l old)
     (λ here. subst (IsOther other) (item_at clause i blank l lt here.1) passed) (front_cases i clause l c)
@@ -166,11 +181,17 @@ pick_held clause i other None some_best h = absurd (no_some some_best)
 pick_held clause i other (Some b) some_best h = (longer_front i (i + 1) clause b (omega arith) h.0, h.1)
 
 pub pick_next : (clause : List Lit) (i : ℕ) (other best new : Option Lit) → i < length clause
-    → Considers best other (get_or clause i blank) new → IsPick (take i clause) other best → IsPick (take (i + 1) clause) other new
+    → Considers best other (get_or clause i blank) new → IsPick (take i clause) other best
+    → IsPick (take (i + 1) clause) other new
 pick_next clause i other best new lt h old = ⊎_elim
-    (λ passed. subst (IsPick (take (i + 1) clause) other) (sym passed.1) (pick_passed clause i other best lt passed.0 old))
+    (λ passed. subst (IsPick (take (i + 1) clause) other) (sym passed.1)
+    (pick_passed clause i other best lt passed.0 old))
     (λ open_lit. ⊎_elim
-    (λ e. subst (IsPick (take (i + 1) clause) other) (sym e) (in_front (i + 1) i clause (get_or clause i blank) blank (omega arith) lt refl, open_lit.0))
+    (λ e. subst (IsPick (take (i + 1) clause) other) (sym e) (
+      in_front (i + 1) i clause (get_or clause i blank) blank
+          (omega arith) lt refl,
+      open_lit.0,
+    ))
     (λ held. subst (IsPick (take (i + 1) clause) other) (sym held.0) (pick_held clause i other best held.1 old))
     open_lit.1)
     h
@@ -184,7 +205,8 @@ pair_alone clause a p first second all = record {
   alone = λ e x y in_x in_y. all x in_x ∙ sym (all y in_y);
 }
 
-pub pair_two : (clause : List Lit) (a b : Lit) (p : Pair) → p.first ≡ a → p.second ≡ b → Contains clause a → Contains clause b
+pub pair_two : (clause : List Lit) (a b : Lit) (p : Pair) → p.first ≡ a → p.second ≡ b → Contains clause a
+    → Contains clause b
     → (b ≡ a → ⊥) → IsPairOf clause p
 pair_two clause a b p first second in_a in_b ne = record {
   first = λ _. subst (Contains clause) (sym first) in_a;
@@ -192,7 +214,8 @@ pair_two clause a b p first second in_a in_b ne = record {
   alone = λ e. absurd (ne (sym second ∙ (sym e ∙ first)));
 }
 
-pub pair_empty : (clause : List Lit) (p : Pair) (a b : Lit) → p.first ≡ a → p.second ≡ a → ((l : Lit) → Contains clause l → ⊥) → IsPairOf clause p
+pub pair_empty : (clause : List Lit) (p : Pair) (a b : Lit) → p.first ≡ a → p.second ≡ a
+    → ((l : Lit) → Contains clause l → ⊥) → IsPairOf clause p
 pair_empty clause p a b first second none = record {
   first = λ ne. absurd (ne (first ∙ sym second));
   second = λ ne. absurd (ne (first ∙ sym second));
@@ -200,7 +223,8 @@ pair_empty clause p a b first second none = record {
 }
 
 -- lowered marks
-pub lowers_none : (marks : List Mark) (starts : List ℕ) (index : ℕ) → LowersMarks marks marks starts (length starts) index
+pub lowers_none : (marks : List Mark) (starts : List ℕ) (index : ℕ) → LowersMarks marks marks starts (length starts)
+    index
 lowers_none marks starts index = record {
   long = refl;
   heads = λ n. omega arith;
@@ -209,17 +233,25 @@ lowers_none marks starts index = record {
 }
 
 pub lowers_next : (a b c : List Mark) (starts : List ℕ) (level index : ℕ) → 0 < level
-    → LowersMarks a b starts level index → LowersOne b c (get_or starts (level - 1) 0) index → LowersMarks a c starts (level - 1) index
+    → LowersMarks a b starts level index → LowersOne b c (get_or starts (level - 1) 0) index
+    → LowersMarks a c starts (level - 1) index
 lowers_next a b c starts level index some_level h one =
     let at = get_or starts (level - 1) 0 in
     record {
       long = one.long ∙ h.long;
       heads = λ n. ⊎_elim
-          (λ (e : n ≡ at). omega (arith, ap (λ k. (mark_at c k).head) e, ap (λ k. (mark_at a k).head) e, one.head, h.heads at))
+          (λ (e : n ≡ at). omega (
+            arith,
+            ap (λ k. (mark_at c k).head) e,
+            ap (λ k. (mark_at a k).head) e,
+            one.head,
+            h.heads at,
+          ))
           (λ (ne : n ≢ at). omega (arith, ap (λ (m : Mark). m.head) (one.others n ne), h.heads n))
           (cases_eq n at);
       dones = λ n. ⊎_elim
-          (λ (e : n ≡ at). ap (λ k. (mark_at c k).done) e ∙ (one.done ∙ (h.dones at ∙ ap (λ k. (mark_at a k).done) (sym e))))
+          (λ (e : n ≡ at). ap (λ k. (mark_at c k).done) e
+          ∙ (one.done ∙ (h.dones at ∙ ap (λ k. (mark_at a k).done) (sym e))))
           (λ (ne : n ≢ at). ap (λ (m : Mark). m.done) (one.others n ne) ∙ h.dones n)
           (cases_eq n at);
       low = λ k le lt. ⊎_elim
@@ -234,19 +266,27 @@ lowers_next a b c starts level index some_level h one =
     }
 
 pub lowers_rest : (a b : List Mark) (starts : List ℕ) (level index : ℕ) → 0 < level → level ≤ length starts
-    → ((i j : ℕ) → i ≤ j → j < length starts → get_or starts i 0 ≤ get_or starts j 0) → ((n : ℕ) → (mark_at a n).head ≤ n)
+    → ((i j : ℕ) → i ≤ j → j < length starts → get_or starts i 0 ≤ get_or starts j 0)
+    → ((n : ℕ) → (mark_at a n).head ≤ n)
     → get_or starts (level - 1) 0 ≤ index → LowersMarks a b starts level index → LowersMarks a b starts 0 index
 lowers_rest a b starts level index some_level within rise heads low h = record {
   long = h.long;
   heads = h.heads;
   dones = h.dones;
   low = λ k le lt. ⊎_elim
-      (λ below. omega (arith, rise k (level - 1) (omega arith) (omega arith), h.heads (get_or starts k 0), heads (get_or starts k 0)))
+      (λ below. omega (
+        arith,
+        rise k (level - 1) (omega arith) (omega arith),
+        h.heads (get_or starts k 0),
+        heads
+            (get_or starts k 0),
+      ))
       (λ above. h.low k above lt)
       (cases_lt k level);
 }
 
-pub lowers_all : (a b : List Mark) (starts : List ℕ) (level index : ℕ) → level ≤ 0 → LowersMarks a b starts level index → LowersMarks a b starts 0 index
+pub lowers_all : (a b : List Mark) (starts : List ℕ) (level index : ℕ) → level ≤ 0 → LowersMarks a b starts level index
+    → LowersMarks a b starts 0 index
 lowers_all a b starts level index none h = record {
   long = h.long;
   heads = h.heads;
@@ -255,9 +295,14 @@ lowers_all a b starts level index none h = record {
 }
 
 pub lowers_one : (marks : List Mark) (at index head : ℕ) (mark : Mark) → at < length marks → mark ≡ mark_at marks at
-    → head ≤ mark.head → head ≤ index → LowersOne marks (set marks at (record { head = head; done = mark.done })) at index
+    → head ≤ mark.head → head ≤ index
+    → LowersOne marks (set marks at (record { head = head; done = mark.done })) at index
 lowers_one marks at index head mark lt is le low =
-    let here : mark_at (set marks at (record { head = head; done = mark.done })) at ≡ record { head = head; done = mark.done } = get_or-set_same marks at _ no_mark lt in
+    let here : mark_at (set marks at (record { head = head; done = mark.done })) at ≡ record {
+      head = head;
+      done =
+          mark.done;
+    } = get_or-set_same marks at _ no_mark lt in
     let heads = ap (λ (m : Mark). m.head) here in
     record {
       others = λ n ne. get_or-set_other marks at n _ no_mark ne;
@@ -268,6 +313,7 @@ lowers_one marks at index head mark lt is le low =
     }
 
 -- the rank of a false literal
-pub unfalse_got : (lits : List Lit) (l m : Lit) (n : ℕ) → VarsDiffer lits → slice_get lits n ≡ Some m → m ≡ negation l → IsUnfalse lits l n
+pub unfalse_got : (lits : List Lit) (l m : Lit) (n : ℕ) → VarsDiffer lits → slice_get lits n ≡ Some m → m ≡ negation l
+    → IsUnfalse lits l n
 unfalse_got lits l m n vars got is =
     unfalse_at lits l n vars (slice_get_within lits n m got) (get_or_from_slice_get lits n m (negation l) got ∙ is)

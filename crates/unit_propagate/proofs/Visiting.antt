@@ -1,11 +1,13 @@
 -- What a visit of a clause changes: its watch moves, or a literal comes.
-use Rattle.std.proofs.Common.{◌≡◌, ◌≢◌, ℕ, zero, suc, ◌<◌, ◌≤◌, ◌+◌, ◌-◌, ◌*◌, List, [], ◌∷◌, ◌++◌, length}
-use Rattle.std.proofs.Common.{get_or, take, arith, ap, sym, subst, ◌∙◌, refl, inl, inr, ⊎_elim, length-append, length-take}
-use Rattle.std.specs.Prelude.{◌⊎◌, Contains, Some, None}
+use Rattle.std.proofs.Common.{◌≡◌, ◌≢◌, ℕ, ◌<◌, ◌≤◌, ◌+◌, ◌-◌, List, [], ◌∷◌, ◌++◌, length}
+use Rattle.std.proofs.Common.{get_or, take, arith, ap, sym, subst, ◌∙◌, refl, ⊎_elim, length-append}
+use Rattle.std.proofs.Common.{length-take}
+use Rattle.std.specs.Prelude.{Contains, Some, None}
 use Rattle.std.specs.List.{swap_remove}
 use Rattle.std.proofs.Math.ListN.{set, length-set}
 use Rattle.std.proofs.Math.Seq.{get_or-append_seam}
-use Rattle.std.proofs.lemmas.List.{get_or-set_same, get_or-set_other, get_or_default, get_or-take, get_or_append_left, take-append-le, append-nil, append_assoc}
+use Rattle.std.proofs.lemmas.List.{get_or-set_same, get_or-set_other, get_or-take, get_or_append_left}
+use Rattle.std.proofs.lemmas.List.{take-append-le, append-nil, append_assoc}
 use Rattle.std.proofs.Math.Seq.{take-append_seam}
 use Rattle.std.proofs.lemmas.List.Elements.{Contains-append_left}
 use Rattle.std.proofs.lemmas.Bool.{cases_lt, cases_eq}
@@ -14,20 +16,22 @@ use Rattle.plain_lits.specs.declared.lit.Lit.{Lit}
 use Rattle.plain_lits.specs.Literals.{negation}
 use Rattle.plain_lits.specs.Packed.{packed}
 use Rattle.plain_lits.specs.Trails.{VarsDiffer, AreLevels}
-use Rattle.plain_lits.specs.HintCheck.{clause_at, IsNamed, IsFalsified}
+use Rattle.plain_lits.specs.HintCheck.{clause_at, IsNamed}
 use Rattle.unit_propagate.specs.declared.pair.Pair.{Pair}
-use Rattle.unit_propagate.specs.Arenas.{pair_of, no_pair}
+use Rattle.unit_propagate.specs.Arenas.{pair_of}
 use Rattle.unit_propagate.specs.Search.{IsReason, IsConflict}
-use Rattle.unit_propagate.specs.States.{State, IsPairOf, IsWatching, IsKept, IsShort, IsLooked, Guards, HasTrue, mark_at}
+use Rattle.unit_propagate.specs.States.{State, IsKept, IsLooked, HasTrue}
+use Rattle.unit_propagate.specs.States.{mark_at}
 use Rattle.unit_propagate.specs.Steps.{IsHere, with_pair, with_literal, AreDone, Grows, IsImplied, FindsWatch, IsVisit}
-use Rattle.unit_propagate.specs.declared.engine.Visit.TheVariants.{Kept, Moved, Failed}
+use Rattle.unit_propagate.specs.declared.engine.Visit.TheVariants.{Kept, Moved}
 use Rattle.plain_lits.specs.declared.value.Value.{Value}
 use Rattle.plain_lits.specs.declared.value.Value.TheVariants.{True, False, Unset}
 use Rattle.plain_lits.specs.Values.{IsValueIn}
-use Rattle.unit_propagate.specs.WatchLists.{Listed, no_list, list_at, ids_at, one, with_id, without}
-use Rattle.unit_propagate.proofs.Fronts.{packed_same, packed_low, from_front}
+use Rattle.unit_propagate.specs.WatchLists.{Listed, no_list, list_at, ids_at, one, without}
+use Rattle.unit_propagate.proofs.Fronts.{packed_same, packed_low}
 use Rattle.unit_propagate.proofs.Lists.{one_same, one_other, length_moved}
-use Rattle.unit_propagate.proofs.Moving.{IsMove, pair_with, moved_pairs, moved_lists, here_apart, here_other, pair_set_other, move_codes, kept_moved}
+use Rattle.unit_propagate.proofs.Moving.{IsMove, pair_with, moved_pairs, moved_lists, here_other}
+use Rattle.unit_propagate.proofs.Moving.{pair_set_other, move_codes, kept_moved}
 
 -- the list of the false literal after a move
 moved_ids : (s : State) (at id : ℕ) (f to : Lit) → packed f ≢ packed to → packed f < length s.lists
@@ -36,29 +40,41 @@ moved_ids s at id f to ne lt =
     ap (λ (l : Listed). l.ids) (get_or-set_other (without s.lists (packed f) at) (packed to) (packed f) _ no_list ne)
     ∙ ap (λ (l : Listed). l.ids) (get_or-set_same s.lists (packed f) _ no_list lt)
 
-swap_front : (xs : List ℕ) (at i : ℕ) → i < at → i < length (swap_remove xs at 0) → get_or (swap_remove xs at 0) i 0 ≡ get_or xs i 0
+swap_front : (xs : List ℕ) (at i : ℕ) → i < at → i < length (swap_remove xs at 0) → get_or (swap_remove xs at 0) i 0
+    ≡ get_or xs i 0
 swap_front xs at i lt within =
     let ys = set xs at (get_or xs (length xs - 1) 0) in
     let below : i < length xs - 1 = omega (arith, length-take (length xs - 1) ys) in
-    get_or-take (length xs - 1) ys i 0 below ∙ get_or-set_other xs at i (get_or xs (length xs - 1) 0) 0 (λ e. let bad : i ≡ at = e in omega arith)
+    get_or-take (length xs - 1) ys i 0 below ∙ get_or-set_other xs at i (get_or xs (length xs - 1) 0) 0
+    (λ e. let bad : i ≡ at = e in omega arith)
 
 pub moved_length : (s : State) (at id : ℕ) (f o to : Lit) → IsMove s at id f o to → packed f < length s.lists
     → packed to < length s.lists
     → length (ids_at (moved_lists s at id f to) (packed f)) + 1 ≡ length (ids_at s.lists (packed f))
 moved_length s at id f o to m lt lt2 =
     let count = length_moved s.lists (packed f) at (packed to) (packed f) lt lt2 m.here.within in
-    let moved : length (ids_at (moved_lists s at id f to) (packed f)) + one (packed f) (packed f) ≡ length (ids_at s.lists (packed f)) + one (packed to) (packed f) =
-    subst (λ k. length (ids_at (moved_lists s at k f to) (packed f)) + one (packed f) (packed f) ≡ length (ids_at s.lists (packed f)) + one (packed to) (packed f)) m.here.id_is count in
-    omega (arith, moved, one_same (packed f), one_other (packed to) (packed f) (λ e. move_codes s at id f o to m (sym e)))
+    let moved : length (ids_at (moved_lists s at id f to) (packed f)) + one (packed f) (packed f)
+    ≡ length (ids_at s.lists (packed f)) + one (packed to) (packed f) =
+    subst (λ k. length (ids_at (moved_lists s at k f to) (packed f)) + one (packed f) (packed f)
+    ≡ length (ids_at s.lists (packed f)) + one (packed to) (packed f)) m.here.id_is count in
+    omega (
+      arith,
+      moved,
+      one_same (packed f),
+      one_other (packed to) (packed f)
+          (λ e. move_codes s at id f o to m (sym e)),
+    )
 
 -- the clauses before it in the list stay done: it isn't one of them, since its other literal isn't true
 pub done_moved : (s : State) (at id : ℕ) (f o to : Lit) → IsMove s at id f o to → (Contains s.lits o → ⊥)
-    → packed f < length s.lists → AreDone s f at → AreDone (with_pair s id (pair_with o to) (packed f) at (packed to)) f at
+    → packed f < length s.lists → AreDone s f at → AreDone (with_pair s id (pair_with o to) (packed f) at (packed to)) f
+    at
 done_moved s at id f o to m not_true lt h =
     let ids = ids_at s.lists (packed f) in
     let is = moved_ids s at id f to (move_codes s at id f o to m) lt in
     let above = m.here.named.from_one in
-    let same : (i : ℕ) → i < at → i < length (ids_at (moved_lists s at id f to) (packed f)) → get_or (ids_at (moved_lists s at id f to) (packed f)) i 0 ≡ get_or ids i 0 =
+    let same : (i : ℕ) → i < at → i < length (ids_at (moved_lists s at id f to) (packed f))
+    → get_or (ids_at (moved_lists s at id f to) (packed f)) i 0 ≡ get_or ids i 0 =
     λ i i_lt within. ap (λ xs. get_or xs i 0) is ∙ swap_front ids at i i_lt (subst (λ xs. i < length xs) is within) in
     let in_old : (i : ℕ) → i < at → i < length ids = λ i i_lt. let w = m.here.within in omega arith in
     let other : (i : ℕ) → i < at → get_or ids i 0 ≢ id = λ i i_lt e. ⊎_elim
@@ -68,8 +84,10 @@ done_moved s at id f o to m not_true lt h =
     (h.second i i_lt (in_old i i_lt) (ap (λ k. (pair_of s.pairs k).second) e ∙ p.1)))))
     m.here.pair in
     let pair : (i : ℕ) → i < at → i < length (ids_at (moved_lists s at id f to) (packed f))
-    → pair_of (moved_pairs s id o to) (get_or (ids_at (moved_lists s at id f to) (packed f)) i 0) ≡ pair_of s.pairs (get_or ids i 0) =
-    λ i i_lt within. ap (λ k. pair_of (moved_pairs s id o to) k) (same i i_lt within) ∙ pair_set_other s.pairs id (get_or ids i 0) (pair_with o to) above (other i i_lt) in
+    → pair_of (moved_pairs s id o to) (get_or (ids_at (moved_lists s at id f to) (packed f)) i 0)
+    ≡ pair_of s.pairs (get_or ids i 0) =
+    λ i i_lt within. ap (λ k. pair_of (moved_pairs s id o to) k) (same i i_lt within)
+    ∙ pair_set_other s.pairs id (get_or ids i 0) (pair_with o to) above (other i i_lt) in
     record {
       first = λ i i_lt within e. subst (λ (p : Pair). Contains s.lits p.second) (sym (pair i i_lt within))
           (h.first i i_lt (in_old i i_lt) (subst (λ (p : Pair). p.first ≡ f) (pair i i_lt within) e));
@@ -106,13 +124,15 @@ done_next s at id f o here true_other h =
     }
 
 -- what is done stays so as a literal comes
-pub done_literal : (s : State) (l : Lit) (id : ℕ) (f : Lit) (at : ℕ) → AreDone s f at → AreDone (with_literal s l id) f at
+pub done_literal : (s : State) (l : Lit) (id : ℕ) (f : Lit) (at : ℕ) → AreDone s f at → AreDone (with_literal s l id) f
+    at
 done_literal s l id f at h = record {
   first = λ i lt within e. Contains-append_left s.lits (l ∷ []) _ (h.first i lt within e);
   second = λ i lt within e. Contains-append_left s.lits (l ∷ []) _ (h.second i lt within e);
 }
 
-pub looked_higher : (clauses : List (List Lit)) (pairs : List Pair) (short : List ℕ) (low high higher : List Lit) (done : ℕ)
+pub looked_higher : (clauses : List (List Lit)) (pairs : List Pair) (short : List ℕ) (low high higher : List Lit)
+    (done : ℕ)
     → ((l : Lit) → Contains high l → Contains higher l) → IsLooked clauses pairs short low high done
     → IsLooked clauses pairs short low higher done
 looked_higher clauses pairs short low high higher done more h = record {
@@ -132,7 +152,8 @@ reason_longer clauses lits rest i id lt h = record {
       (h.others l d c (λ e. ne (e ∙ sym (get_or_append_left lits rest d i lt))));
 }
 
-reason_new : (s : State) (l : Lit) (id : ℕ) → IsImplied s l id → IsReason s.clauses (s.lits ++ l ∷ []) (length s.lits) id
+reason_new : (s : State) (l : Lit) (id : ℕ) → IsImplied s l id → IsReason s.clauses (s.lits ++ l ∷ []) (length s.lits)
+    id
 reason_new s l id h = record {
   named = h.named;
   there = λ d. subst (Contains (clause_at s.clauses id)) (sym (get_or-append_seam s.lits l [] d)) h.there;
@@ -141,10 +162,12 @@ reason_new s l id h = record {
 }
 
 -- a literal comes, implied by a clause or without a reason
-pub kept_literal : (s : State) (l : Lit) (id : ℕ) → IsKept s → AreLevels s.starts (length s.lits) → length s.lits < s.vars
+pub kept_literal : (s : State) (l : Lit) (id : ℕ) → IsKept s → AreLevels s.starts (length s.lits)
+    → length s.lits < s.vars
     → (id ≢ 0 → IsImplied s l id) → IsKept (with_literal s l id)
 kept_literal s l id kept levels before implied =
-    let more : (x : Lit) → Contains s.lits x → Contains (s.lits ++ l ∷ []) x = λ x c. Contains-append_left s.lits (l ∷ []) x c in
+    let more : (x : Lit) → Contains s.lits x → Contains (s.lits ++ l ∷ []) x = λ x c. Contains-append_left s.lits
+    (l ∷ []) x c in
     let in_reasons : length s.lits < length s.reasons = let long = kept.reasons_long in omega arith in
     record {
       watching = kept.watching;
@@ -153,21 +176,29 @@ kept_literal s l id kept levels before implied =
       room = kept.room;
       lists_long = kept.lists_long;
       looked = rw (take-append-le s.head s.lits (l ∷ []) kept.head_within)
-          (looked_higher s.clauses s.pairs s.short (take s.head s.lits) s.lits (s.lits ++ l ∷ []) s.done more kept.looked);
+          (looked_higher s.clauses s.pairs s.short (take s.head s.lits) s.lits (s.lits ++ l ∷ []) s.done more
+          kept.looked);
       before = λ k lt.
           let n = get_or s.starts k 0 in
           let low : n ≤ length s.lits = levels.within k lt in
           let head = kept.marks_head n in
           let lower : (mark_at s.marks n).head ≤ length s.lits = omega arith in
-          rw (take-append-le n s.lits (l ∷ []) low, take-append-le (mark_at s.marks n).head s.lits (l ∷ []) lower) (kept.before k lt);
+          rw (take-append-le n s.lits (l ∷ []) low, take-append-le (mark_at s.marks n).head s.lits (l ∷ []) lower)
+          (kept.before k lt);
       reasons = λ i lt some. ⊎_elim
           (λ old.
-          let same : get_or (set s.reasons (length s.lits) id) i 0 ≡ get_or s.reasons i 0 = get_or-set_other s.reasons (length s.lits) i id 0 (λ e. let bad : i ≡ length s.lits = e in omega arith) in
-          subst (λ r. IsReason s.clauses (s.lits ++ l ∷ []) i r) (sym same) (reason_longer s.clauses s.lits (l ∷ []) i (get_or s.reasons i 0) old (kept.reasons i old (λ z. some (same ∙ z)))))
+          let same : get_or (set s.reasons (length s.lits) id) i 0 ≡ get_or s.reasons i 0 =
+          get_or-set_other s.reasons (length s.lits) i id 0 (λ e. let bad : i ≡ length s.lits = e in omega arith) in
+          subst (λ r. IsReason s.clauses (s.lits ++ l ∷ []) i r) (sym same) (reason_longer s.clauses s.lits (l ∷ []) i
+          (get_or s.reasons i 0) old (kept.reasons i old (λ z. some (same ∙ z)))))
           (λ new.
           let last : i ≡ length s.lits = omega (arith, length-append s.lits (l ∷ [])) in
-          let is : get_or (set s.reasons (length s.lits) id) i 0 ≡ id = ap (λ k. get_or (set s.reasons (length s.lits) id) k 0) last ∙ get_or-set_same s.reasons (length s.lits) id 0 in_reasons in
-          subst (λ r. IsReason s.clauses (s.lits ++ l ∷ []) i r) (sym is) (subst (λ k. IsReason s.clauses (s.lits ++ l ∷ []) k id) (sym last) (reason_new s l id (implied (λ z. some (is ∙ z))))))
+          let is : get_or (set s.reasons (length s.lits) id) i 0 ≡ id =
+          ap (λ k. get_or (set s.reasons (length s.lits) id) k 0) last ∙ get_or-set_same s.reasons (length s.lits)
+          id 0 in_reasons in
+          subst (λ r. IsReason s.clauses (s.lits ++ l ∷ []) i r) (sym is)
+          (subst (λ k. IsReason s.clauses (s.lits ++ l ∷ []) k id) (sym last)
+          (reason_new s l id (implied (λ z. some (is ∙ z))))))
           (cases_lt i (length s.lits));
       head_within = let within = kept.head_within in omega (arith, length-append s.lits (l ∷ []));
       done_within = kept.done_within;
@@ -191,7 +222,8 @@ grows_same s = record {
   new_reasons = λ i le lt. absurd (omega arith);
 }
 
-pub grows_literal : (s : State) (l : Lit) (id : ℕ) → length s.lits < length s.reasons → id ≢ 0 → Grows s (with_literal s l id)
+pub grows_literal : (s : State) (l : Lit) (id : ℕ) → length s.lits < length s.reasons → id ≢ 0
+    → Grows s (with_literal s l id)
 grows_literal s l id within some = record {
   clauses = refl;
   starts = refl;
@@ -199,10 +231,12 @@ grows_literal s l id within some = record {
   short = refl;
   lists = refl;
   more = (l ∷ [], refl);
-  reasons = λ i lt. get_or-set_other s.reasons (length s.lits) i id 0 (λ e. let bad : i ≡ length s.lits = e in omega arith);
+  reasons = λ i lt. get_or-set_other s.reasons (length s.lits) i id 0 (λ e. let bad : i ≡ length s.lits = e in
+      omega arith);
   new_reasons = λ i le lt.
       let last : i ≡ length s.lits = omega (arith, length-append s.lits (l ∷ [])) in
-      λ z. some (sym (ap (λ k. get_or (set s.reasons (length s.lits) id) k 0) last ∙ get_or-set_same s.reasons (length s.lits) id 0 within) ∙ z);
+      λ z. some (sym (ap (λ k. get_or (set s.reasons (length s.lits) id) k 0) last
+      ∙ get_or-set_same s.reasons (length s.lits) id 0 within) ∙ z);
 }
 
 pub grows_moved : (s : State) (id : ℕ) (p : Pair) (from at to : ℕ) → Grows s (with_pair s id p from at to)
@@ -211,8 +245,16 @@ grows_moved s id p from at to = record {
   starts = refl;
   vars = refl;
   short = refl;
-  lists = length-set (without s.lists from at) to (record { ids = ids_at (without s.lists from at) to ++ id ∷ []; uses = (list_at (without s.lists from at) to).uses })
-      ∙ length-set s.lists from (record { ids = swap_remove (ids_at s.lists from) at 0; uses = (list_at s.lists from).uses });
+  lists = length-set (without s.lists from at) to (record {
+    ids = ids_at (without s.lists from at) to ++ id ∷ [];
+    uses =
+        (list_at (without s.lists from at) to).uses;
+  })
+      ∙ length-set s.lists from (record {
+        ids = swap_remove (ids_at s.lists from) at 0;
+        uses =
+            (list_at s.lists from).uses;
+      });
   more = ([], sym (append-nil s.lits));
   reasons = λ i lt. refl;
   new_reasons = λ i le lt. absurd (omega arith);
@@ -295,7 +337,8 @@ pub moved_kept : (s new : State) (at id code code_to : ℕ) (f o to : Lit) → I
     → new ≡ with_pair s id (pair_with o to) code at code_to → IsKept new
 moved_kept s new at id code code_to f o to kept m code_is to_is lt e =
     let from : packed f < length s.lists = subst (λ k. k < length s.lists) code_is lt in
-    subst IsKept (sym (e ∙ (ap (λ k. with_pair s id (pair_with o to) k at code_to) code_is ∙ ap (λ k. with_pair s id (pair_with o to) (packed f) at k) to_is)))
+    subst IsKept (sym (e ∙ (ap (λ k. with_pair s id (pair_with o to) k at code_to) code_is
+    ∙ ap (λ k. with_pair s id (pair_with o to) (packed f) at k) to_is)))
     (kept_moved s at id f o to kept m from (lit_listed s id to kept m.here.named m.there))
 
 pub moved_visit : (s new : State) (at id code code_to : ℕ) (f o to : Lit) → IsKept s → IsMove s at id f o to
@@ -303,8 +346,13 @@ pub moved_visit : (s new : State) (at id code code_to : ℕ) (f o to : Lit) → 
     → new ≡ with_pair s id (pair_with o to) code at code_to → IsVisit s new f at Moved
 moved_visit s new at id code code_to f o to kept m not_true done code_is to_is lt e =
     let from : packed f < length s.lists = subst (λ k. k < length s.lists) code_is lt in
-    subst (λ n. IsVisit s n f at Moved) (sym (e ∙ (ap (λ k. with_pair s id (pair_with o to) k at code_to) code_is ∙ ap (λ k. with_pair s id (pair_with o to) (packed f) at k) to_is)))
-    (done_moved s at id f o to m not_true from done, moved_length s at id f o to m from (lit_listed s id to kept m.here.named m.there))
+    subst (λ n. IsVisit s n f at Moved)
+    (sym (e ∙ (ap (λ k. with_pair s id (pair_with o to) k at code_to) code_is
+    ∙ ap (λ k. with_pair s id (pair_with o to) (packed f) at k) to_is))) (
+      done_moved s at id f o to m not_true from done,
+      moved_length s at id f o to m from
+          (lit_listed s id to kept m.here.named m.there),
+    )
 
 -- and after a literal has come
 pub implied_kept : (s new : State) (at id : ℕ) (f o l : Lit) → IsKept s → IsHere s at id f o
@@ -319,7 +367,14 @@ pub implied_visit : (s new : State) (at id : ℕ) (f o l : Lit) → IsHere s at 
 implied_visit s new at id f o l here done l_is e =
     subst (λ n. IsVisit s n f at Kept) (sym (e ∙ ap (λ x. with_literal s x id) l_is)) (
       done_next (with_literal s o id) at id f o
-          (record { within = here.within; id_is = here.id_is; named = here.named; apart = here.apart; pair = here.pair })
+          (record {
+            within = here.within;
+            id_is = here.id_is;
+            named = here.named;
+            apart = here.apart;
+            pair =
+                here.pair;
+          })
           (Contains-pushed s.lits o o refl) (done_literal s o id f at done),
       refl,
     )
@@ -379,7 +434,8 @@ literal_kept s new l id kept implied levels before e =
 pub literal_true : (s new : State) (l : Lit) (id : ℕ) → Contains (clause_at s.clauses id) l → new ≡ with_literal s l id
     → HasTrue (clause_at new.clauses id) new.lits
 literal_true s new l id there e =
-    subst (λ (n : State). HasTrue (clause_at n.clauses id) n.lits) (sym e) (record { some = (l, there, Contains-pushed s.lits l l refl) })
+    subst (λ (n : State). HasTrue (clause_at n.clauses id) n.lits) (sym e)
+    (record { some = (l, there, Contains-pushed s.lits l l refl) })
 
 -- how far it has come is no part of the growth
 pub grows_head : (a b : State) (n : ℕ) → Grows a b → Grows a (record b { head = n })

@@ -1,5 +1,5 @@
 -- Clauses with their watched pairs, as contracts of this crate see them, and how rows hold them.
-use Rattle.std.specs.Prelude.{◌≡◌, ℕ, ◌-◌, ◌<◌, ◌≤◌, List, [], ◌∷◌, length, map, drop, false, slice_index_or}
+use Rattle.std.specs.Prelude.{ℕ, ◌<◌, ◌≤◌, List, [], ◌∷◌, length, drop, false, slice_index_or}
 use Rattle.plain_lits.specs.declared.lit.Lit.{Lit}
 use Rattle.unit_propagate.specs.declared.pair.Pair.{Pair}
 

@@ -1,6 +1,6 @@
 -- What contracts see of a propagator, and what its calls tell and change.
-use Rattle.std.specs.Prelude.{◌≡◌, ◌≢◌, ◌⊎◌, ℕ, ◌+◌, ◌<◌, ◌≤◌, List, [], ◌∷◌, ◌++◌, length, take, Contains}
-use Rattle.std.specs.Prelude.{slice_index, slice_index_or, slice_get, slice_set, Option, Some}
+use Rattle.std.specs.Prelude.{◌≡◌, ◌≢◌, ◌⊎◌, ℕ, ◌<◌, ◌≤◌, List, [], ◌∷◌, ◌++◌, length, take, Contains}
+use Rattle.std.specs.Prelude.{slice_index, slice_index_or, slice_set}
 use Rattle.plain_lits.specs.declared.lit.Lit.{Lit}
 use Rattle.plain_lits.specs.Literals.{negation}
 use Rattle.plain_lits.specs.HintCheck.{clause_at, IsNamed, IsFalsified, IsUnit}
@@ -109,6 +109,16 @@ pub record GainsClause (old new : Search) (clause : List Lit) (id : ℕ) : Type 
   pub id_is : id ≡ length new.clauses
   pub known : (l : Lit) → Contains clause l → l.var < new.vars
   pub assigned : StaysAssigned old new
+
+-- there is one clause more, and its literal is true with it as its reason
+pub record Learns (old new : Search) (clause : List Lit) (lit : Lit) (id : ℕ) : Type 0 where
+  pub clauses : new.clauses ≡ old.clauses ++ clause ∷ []
+  pub id_is : id ≡ length new.clauses
+  pub lits : new.lits ≡ old.lits ++ lit ∷ []
+  pub starts : new.starts ≡ old.starts
+  pub reasons : (i : ℕ) → i < length old.lits → slice_index new.reasons i ≡ slice_index old.reasons i
+  pub reason : slice_index new.reasons (length old.lits) ≡ id
+  pub vars : old.vars ≤ new.vars
 
 -- a level has begun, whose literals without a clause are those of the block that weren't true
 pub record GainsBlock (old new : Search) (block : List Lit) : Type 0 where

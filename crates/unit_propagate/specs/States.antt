@@ -1,7 +1,7 @@
 -- These are a proof's inner states, between two steps of the propagator, which no caller sees: what the watch lists
 -- and the trail keep to each other.
-use Rattle.std.specs.Prelude.{◌≡◌, ◌≢◌, ◌⊎◌, ℕ, ◌+◌, ◌*◌, ◌-◌, ◌^◌, ◌<◌, ◌≤◌, ◌==◌, List, [], ◌∷◌, ◌++◌, length, take}
-use Rattle.std.specs.Prelude.{Contains, Bool, cond, slice_index, slice_index_or, slice_set, sum_by, count_by}
+use Rattle.std.specs.Prelude.{◌≡◌, ◌≢◌, ℕ, ◌*◌, ◌^◌, ◌<◌, ◌≤◌, ◌==◌, List, length, take}
+use Rattle.std.specs.Prelude.{Contains, Bool, slice_index, slice_index_or, sum_by, count_by}
 use Rattle.std.specs.List.{list_any}
 use Rattle.plain_lits.specs.declared.lit.Lit.{Lit}
 use Rattle.plain_lits.specs.Literals.{negation}

@@ -1,7 +1,7 @@
 -- These are a proof's inner states too: what one step of the propagator changes.
-use Rattle.std.specs.Prelude.{◌≡◌, ◌≢◌, ◌⊎◌, ℕ, ◌+◌, ◌*◌, ◌-◌, ◌^◌, ◌<◌, ◌≤◌, ◌==◌, List, [], ◌∷◌, ◌++◌, length, take}
-use Rattle.std.specs.Prelude.{Contains, Bool, cond, slice_index, slice_index_or, slice_set, Option, Some, None, IsSome}
-use Rattle.std.specs.Prelude.{count_by, if◌then◌else◌}
+use Rattle.std.specs.Prelude.{◌≡◌, ◌≢◌, ◌⊎◌, ℕ, ◌+◌, ◌*◌, ◌-◌, ◌^◌, ◌<◌, ◌≤◌, List, [], ◌∷◌, ◌++◌, length, take}
+use Rattle.std.specs.Prelude.{Contains, cond, slice_index, slice_index_or, slice_set, Option, Some, None, IsSome}
+use Rattle.std.specs.Prelude.{count_by}
 use Rattle.plain_lits.specs.declared.lit.Lit.{Lit}
 use Rattle.plain_lits.specs.Literals.{negation}
 use Rattle.plain_lits.specs.Packed.{packed}
@@ -10,9 +10,9 @@ use Rattle.unit_propagate.specs.declared.pair.Pair.{Pair}
 use Rattle.unit_propagate.specs.declared.engine.Visit.{Visit}
 use Rattle.unit_propagate.specs.declared.engine.Visit.TheVariants.{Kept, Moved, Failed}
 use Rattle.unit_propagate.specs.Arenas.{pair_of}
-use Rattle.unit_propagate.specs.Search.{IsConflict, IsReason, IsQuiet, AreGuarded}
-use Rattle.unit_propagate.specs.WatchLists.{Listed, list_at, ids_at, one, watches, with_id, without, HasMoreRoom, Joins}
-use Rattle.unit_propagate.specs.States.{State, mark_at, has, no_mark, IsKept, IsPairOf}
+use Rattle.unit_propagate.specs.Search.{IsConflict, IsQuiet, AreGuarded, Learns}
+use Rattle.unit_propagate.specs.WatchLists.{Listed, list_at, ids_at, with_id, without, HasMoreRoom, Joins}
+use Rattle.unit_propagate.specs.States.{State, search_of, mark_at, has, no_mark, IsPairOf}
 use Rattle.unit_propagate.specs.declared.engine.Mark.{Mark}
 
 -- a literal has come with its reason
@@ -245,3 +245,7 @@ pub record IsOpened (s : State) : Type 0 where
   pub clauses : s.clauses ≡ []
   pub lits : s.lits ≡ []
   pub starts : s.starts ≡ []
+
+-- what callers see of a learned clause that has come
+abbrev pub HasLearned : State → State → List Lit → Lit → ℕ → Type 0
+HasLearned old new clause lit id = Learns (search_of old) (search_of new) clause lit id

@@ -1,6 +1,6 @@
 -- The ids of the clauses that watch a literal, with room for each clause that may come to do so.
 use Rattle.std.specs.Prelude.{◌≡◌, ◌≢◌, ℕ, ◌+◌, ◌*◌, ◌<◌, ◌≤◌, ◌==◌, List, [], ◌∷◌, ◌++◌, length, if◌then◌else◌}
-use Rattle.std.specs.Prelude.{slice_index, slice_index_or, slice_set, sum_by}
+use Rattle.std.specs.Prelude.{slice_index_or, slice_set, sum_by}
 use Rattle.std.specs.List.{swap_remove}
 use Rattle.plain_lits.specs.Packed.{packed}
 use Rattle.unit_propagate.specs.declared.pair.Pair.{Pair}

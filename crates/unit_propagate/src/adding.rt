@@ -3,14 +3,16 @@
 ghost use Rattle.std.specs.Prelude.{◌≡◌, ◌≢◌, ℕ, ◌+◌, ◌*◌, ◌<◌, ◌≤◌, ◌^◌, [], ◌∷◌, ◌++◌, length, take, Contains};
 ghost use Rattle.std.specs.Prelude.{IfOk, OnOk, OnErr, IsTrue, Some, slice_index, vec_len, vec_capacity, ◌⊎◌, ◌↔◌};
 ghost use Rattle.plain_lits.specs.declared.lit.Lit.{Lit};
+ghost use Rattle.plain_lits.specs.HintCheck.{IsUnit};
 ghost use Rattle.plain_lits.specs.Literals.{negation};
 ghost use Rattle.plain_lits.specs.Packed.{packed};
 ghost use Rattle.plain_lits.specs.Trails.{AreLevels};
 ghost use Rattle.unit_propagate.specs.Search.{StaysSearch, GainsClause, GainsBlock};
 ghost use Rattle.unit_propagate.specs.States.{state_of, search_of, IsKept, IsPairOf, mark_at, no_mark};
 ghost use Rattle.unit_propagate.specs.Steps.{HasVars, IsLonger, MakesRoom, ClaimsAll, IsOther, IsPick, IsUnfalse};
-ghost use Rattle.unit_propagate.specs.Steps.{Considers, LowersOne, LowersMarks, Lowers, HasRoomFor, IsLow, IsReady, Inserts};
-ghost use Rattle.unit_propagate.specs.Steps.{with_mark, begun, Assumes, AssumesAll};
+ghost use Rattle.unit_propagate.specs.Steps.{Considers, LowersOne, LowersMarks, Lowers, HasRoomFor, IsLow, IsReady};
+ghost use Rattle.unit_propagate.specs.Steps.{Inserts};
+ghost use Rattle.unit_propagate.specs.Steps.{with_mark, begun, Assumes, AssumesAll, HasLearned};
 ghost use Rattle.unit_propagate.specs.WatchLists.{list_at, ids_at, HasMoreRoom, HasPairRoom, Joins};
 
 use crate::engine::{Engine, Mark, code_of, mark_in};
@@ -243,7 +245,11 @@ impl Engine {
     fn join(&mut self, pair: Pair, id: u32)
         requires room { HasPairRoom self.old.lists.items pair }
         requires short { vec_len self.old.short < vec_capacity self.old.short }
-        ensures rest { state_of self.new ≡ record (state_of self.old) { lists = self.new.lists.items; short = self.new.short.items } }
+        ensures rest { state_of self.new ≡ record (state_of self.old) {
+          lists = self.new.lists.items;
+          short =
+              self.new.short.items;
+        } }
         ensures joins { Joins self.old.lists.items self.new.lists.items pair id }
         ensures alone { pair.first ≡ pair.second → self.new.short.items ≡ self.old.short.items ++ id ∷ [] }
         ensures apart { pair.first ≢ pair.second → self.new.short.items ≡ self.old.short.items }
@@ -307,7 +313,8 @@ impl Engine {
     pub(crate) fn add(&mut self, clause: &[Lit]) -> Result<u32, Memory>
         requires { IsKept (state_of self.old) }
         ensures kept { IsKept (state_of self.new) }
-        ensures ok { IfOk result (GainsClause (search_of (state_of self.old)) (search_of (state_of self.new)) clause.now) }
+        ensures ok { IfOk result (GainsClause (search_of (state_of self.old)) (search_of (state_of self.new))
+            clause.now) }
         ensures err { OnErr result (StaysSearch (search_of (state_of self.old)) (search_of (state_of self.new))) }
     {
         self.prepare(clause)?;
@@ -378,5 +385,19 @@ impl Engine {
         self.begin_level()?;
         self.assume_all(lits);
         Ok(())
+    }
+
+    /// Adds a clause that is unit, and makes its literal true at once, with the clause as its reason.
+    pub(crate) fn add_learned(&mut self, clause: &[Lit], lit: Lit) -> Result<u32, Memory>
+        requires kept { IsKept (state_of self.old) }
+        requires unit { IsUnit negation self.old.trail.lits clause.now lit }
+        ensures kept { IsKept (state_of self.new) }
+        ensures ok { IfOk result (HasLearned (state_of self.old) (state_of self.new) clause.now lit) }
+        ensures err { OnErr result (StaysSearch (search_of (state_of self.old)) (search_of (state_of self.new))) }
+    {
+        let id = self.add(clause)?;
+        let _form = self.trail.len();
+        self.imply(lit, id);
+        Ok(id)
     }
 }

@@ -1,6 +1,7 @@
 //! Clauses in one array, each with its watched pair in front.
 
-ghost use Rattle.std.specs.Prelude.{◌≡◌, ◌-◌, ◌<◌, ◌≤◌, ◌^◌, [], ◌∷◌, ◌++◌, length, slice_set, OnOk, OnErr, IfOk, Contains};
+ghost use Rattle.std.specs.Prelude.{◌≡◌, ◌-◌, ◌<◌, ◌≤◌, ◌^◌, [], ◌∷◌, ◌++◌, length, slice_set, OnOk, OnErr, IfOk};
+ghost use Rattle.std.specs.Prelude.{Contains};
 ghost use Rattle.plain_lits.specs.HintCheck.{clause_at, IsNamed};
 ghost use Rattle.plain_lits.specs.declared.lit.Lit.{Lit};
 ghost use Rattle.unit_propagate.specs.Arenas.{pair_of, row_pair as pair_in};

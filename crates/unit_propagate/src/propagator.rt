@@ -1,12 +1,13 @@
 //! The propagator, as callers see it.
 
-ghost use Rattle.std.specs.Prelude.{◌≡◌, ◌≢◌, ◌↔◌, ℕ, ◌<◌, ◌≤◌, [], length, Contains, IfOk, OnOk, OnErr, slice_index, slice_get, Some};
+ghost use Rattle.std.specs.Prelude.{◌≡◌, ◌≢◌, ◌↔◌, ℕ, ◌<◌, ◌≤◌, [], length, Contains, IfOk, OnOk, OnErr, slice_index};
+ghost use Rattle.std.specs.Prelude.{slice_get, Some};
 ghost use Rattle.plain_lits.specs.declared.lit.Lit.{Lit};
-ghost use Rattle.plain_lits.specs.HintCheck.{clause_at, IsNamed};
+ghost use Rattle.plain_lits.specs.HintCheck.{clause_at, IsNamed, IsUnit};
 ghost use Rattle.plain_lits.specs.Literals.{negation};
 ghost use Rattle.plain_lits.specs.Values.{IsValueIn};
 ghost use Rattle.unit_propagate.specs.Search.{IsSearch, IsAnswer, IsGuarded, HasGrown, Decides, GoesBack, IsWatchedBy};
-ghost use Rattle.unit_propagate.specs.Search.{GainsClause, GainsBlock, StaysSearch};
+ghost use Rattle.unit_propagate.specs.Search.{GainsClause, GainsBlock, Learns, StaysSearch};
 
 use crate::engine::{Engine, code_of};
 use crate::watch_list::ids_in;
@@ -58,6 +59,16 @@ impl Propagator {
         ensures err { OnErr result (StaysSearch self.old self.new) }
     {
         self.engine.add(clause)
+    }
+
+    /// Adds a clause that is unit, and makes its one literal without value true at the present level, with the clause
+    /// as its reason. After `Memory` no clause has come.
+    pub fn add_learned(&mut self, clause: &[Lit], lit: Lit) -> Result<u32, Memory>
+        requires { IsUnit negation self.old.lits clause.now lit }
+        ensures ok { IfOk result (Learns self.old self.new clause.now lit) }
+        ensures err { OnErr result (StaysSearch self.old self.new) }
+    {
+        self.engine.add_learned(clause, lit)
     }
 
     /// Begins a level with the literals of a block, of which none is false. After `Memory` no level has begun.

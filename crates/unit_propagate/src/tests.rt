@@ -1,4 +1,7 @@
+ghost use Rattle.std.specs.Prelude.{◌≡◌, []};
+
 use crate::{Propagated, Propagator};
+use plain_lists::Memory;
 use plain_lits::{Lit, Value};
 use std::test::Fail;
 
@@ -46,7 +49,8 @@ fn two_clauses_conflict(rt: HostRuntime) -> Result<(), Fail> {
     Ok(())
 }
 
-/// Not a at level 1 and not b at level 2, and then (a or b): it is false, and unit where level 2 goes. Then (not a or c)
+/// Not a at level 1 and not b at level 2, and then (a or b): it is false, and unit where level 2 goes. Then (not a or
+/// c)
 /// stays watched while a is unset.
 #[test]
 fn clause_of_false_literals(rt: HostRuntime) -> Result<(), Fail> {
@@ -77,4 +81,32 @@ fn short_clauses(rt: HostRuntime) -> Result<(), Fail> {
     assert_eq!(rt; search.add(&[])?, 3);
     assert_eq!(rt; search.propagate(), Propagated::Conflict(3));
     Ok(())
+}
+
+/// Adds a clause of one literal, and makes it true at once.
+fn learn_first(search: &mut Propagator, lit: Lit) -> Result<u32, Memory>
+    requires { search.old.lits ≡ [] }
+{
+    search.add_learned(&[lit], lit)
+}
+
+/// A learned unit clause: its literal is true at once, with the clause as its reason, and then it propagates.
+#[test]
+fn learned_clause_with_its_literal(rt: HostRuntime) -> Result<(), Fail> {
+    let mut search = Propagator::open(rt.alloc())?;
+    assert_eq!(rt; learn_first(&mut search, lit(0, true))?, 1);
+    assert_eq!(rt; search.lits(), [lit(0, true)].as_slice());
+    assert_eq!(rt; search.add(&[lit(0, false), lit(3, true)])?, 2);
+    assert_eq!(rt; search.propagate(), Propagated::Quiet);
+    assert_eq!(rt; search.lits(), [lit(0, true), lit(3, true)].as_slice());
+    assert_eq!(rt; reasons(&search), (1, 2));
+    Ok(())
+}
+
+/// The reasons of the first two true literals.
+fn reasons(search: &Propagator) -> (u32, u32) {
+    if search.lits().len() < 2 {
+        return (0, 0);
+    }
+    (search.reason(0), search.reason(1))
 }

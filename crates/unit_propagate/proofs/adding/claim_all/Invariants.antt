@@ -1,4 +1,4 @@
-use Rattle.std.proofs.Common.{◌≡◌, take, length}
+use Rattle.std.proofs.Common.{take}
 use Rattle.unit_propagate.specs.Steps.{ClaimsAll}
 use Rattle.unit_propagate.proofs.adding.claim_all.Given as goal
 

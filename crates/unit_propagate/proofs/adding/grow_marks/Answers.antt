@@ -1,4 +1,4 @@
-use Rattle.std.proofs.Common.{◌≡◌, ◌≤◌, length, arith, refl}
+use Rattle.std.proofs.Common.{arith, refl}
 use Rattle.unit_propagate.specs.States.{no_mark}
 use Rattle.unit_propagate.proofs.Rooms.{longer_same, longer_resized, long_resized}
 use Rattle.unit_propagate.proofs.adding.grow_marks.Goals as goal

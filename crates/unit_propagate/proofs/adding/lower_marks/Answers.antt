@@ -1,4 +1,4 @@
-use Rattle.std.proofs.Common.{◌≡◌, ◌<◌, ◌-◌, length, get_or, arith}
+use Rattle.std.proofs.Common.{◌-◌, arith}
 use Rattle.unit_propagate.proofs.Rooms.{lowers_none, lowers_next, lowers_rest, lowers_all}
 use Rattle.unit_propagate.proofs.adding.lower_marks.Goals as goal
 
@@ -10,7 +10,8 @@ levels-preserved c =
     let within = c.levels.invariant.within in
     record {
       within = omega arith;
-      lowered = lowers_next _ _ _ c.args.starts.now c.levels.level c.args.index c.levels-test.true c.levels.invariant.lowered c.lower_mark.ensures;
+      lowered = lowers_next _ _ _ c.args.starts.now c.levels.level c.args.index c.levels-test.true
+          c.levels.invariant.lowered c.lower_mark.ensures;
     }
 
 pub returns : goal.returns
@@ -18,7 +19,8 @@ returns c = lowers_all _ _ c.args.starts.now c.levels.level c.args.index c.level
 
 pub returns-then-start-index : goal.returns-then-start-index
 returns-then-start-index c =
-    lowers_rest _ _ c.args.starts.now c.levels.level c.args.index c.levels-test.true c.levels.invariant.within c.requires.levels c.requires.heads
+    lowers_rest _ _ c.args.starts.now c.levels.level c.args.index c.levels-test.true c.levels.invariant.within
+    c.requires.levels c.requires.heads
     c.if-start-index.true c.levels.invariant.lowered
 
 pub lower_mark-requires : goal.lower_mark-requires

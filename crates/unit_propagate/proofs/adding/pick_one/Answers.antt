@@ -6,4 +6,5 @@ loop-lit-init c = pick_none _
 
 pub loop-lit-preserved : goal.loop-lit-preserved
 loop-lit-preserved c =
-    pick_next c.args.clause.now c.loop-lit.lit-index c.args.other c.loop-lit.best c.consider-best.result c.loop-lit-test.true c.consider-best.ensures c.loop-lit.invariant
+    pick_next c.args.clause.now c.loop-lit.lit-index c.args.other c.loop-lit.best c.consider-best.result
+    c.loop-lit-test.true c.consider-best.ensures c.loop-lit.invariant

@@ -1,4 +1,4 @@
-use Rattle.std.proofs.Common.{◌≡◌, ◌≢◌, take}
+use Rattle.std.proofs.Common.{◌≢◌, take}
 use Rattle.std.specs.Prelude.{Contains}
 use Rattle.plain_lits.specs.declared.lit.Lit.{Lit}
 use Rattle.plain_lits.specs.Literals.{negation}

@@ -1,4 +1,4 @@
-use Rattle.std.proofs.Common.{◌≡◌, ◌<◌, get_or, arith, sym}
+use Rattle.std.proofs.Common.{get_or, arith}
 use Rattle.std.proofs.lemmas.List.Elements.{Contains-get_or}
 use Rattle.unit_propagate.specs.Arenas.{blank}
 use Rattle.unit_propagate.specs.States.{state_of}
@@ -15,12 +15,14 @@ assume_one-requires c =
     record {
       kept = c.loop-lit.invariant.kept;
       known = omega (arith, vars, c.requires.known (get_or c.args.lits.now c.loop-lit.lit-index blank) there);
-      not_false = still_open (state_of c.args.self.now) (state_of c.loop-lit.self) c.args.lits.now c.loop-lit.lit-index _ c.loop-lit.invariant.assumed there
+      not_false = still_open (state_of c.args.self.now) (state_of c.loop-lit.self) c.args.lits.now c.loop-lit.lit-index
+          _ c.loop-lit.invariant.assumed there
           c.requires.not_false c.requires.plain;
     }
 
 pub loop-lit-preserved : goal.loop-lit-preserved
 loop-lit-preserved c = record {
   kept = c.assume_one.ensures.kept;
-  assumed = assumes_next _ (state_of c.loop-lit.self) _ c.args.lits.now c.loop-lit.lit-index c.loop-lit-test.true c.loop-lit.invariant.assumed c.assume_one.ensures.assumed;
+  assumed = assumes_next _ (state_of c.loop-lit.self) _ c.args.lits.now c.loop-lit.lit-index c.loop-lit-test.true
+      c.loop-lit.invariant.assumed c.assume_one.ensures.assumed;
 }

@@ -1,4 +1,4 @@
-use Rattle.std.proofs.Common.{◌≡◌, ◌<◌, length, arith, ap, ◌∙◌, get_or, refl, take, sym}
+use Rattle.std.proofs.Common.{◌<◌, length, arith, ap, ◌∙◌, get_or, refl}
 use Rattle.unit_propagate.specs.States.{state_of, mark_at}
 use Rattle.unit_propagate.proofs.Levels.{back_kept}
 use Rattle.unit_propagate.proofs.engine.Engine.back_to.Goals as goal
@@ -10,10 +10,20 @@ returns c =
     let lt : c.args.level < length s.starts = omega (arith, c.if-level-starts.false, ap length same) in
     record {
       kept = back_kept s c.back_to.new.self.lits c.back_to.new.self.starts c.back_to.new.self.vars c.args.level
-          (get_or c.starts-starts.result.now c.args.level 0) c.mark_in-mark.result c.requires.kept c.starts-starts.ensures.form.levels lt
-          (ap (λ xs. get_or xs c.args.level 0) same) (c.mark_in-mark.ensures ∙ ap (λ ms. mark_at ms (get_or c.starts-starts.result.now c.args.level 0)) c.as_slice.ensures.value)
+          (get_or c.starts-starts.result.now c.args.level 0) c.mark_in-mark.result c.requires.kept
+          c.starts-starts.ensures.form.levels lt
+          (ap (λ xs. get_or xs c.args.level 0) same) (c.mark_in-mark.ensures
+          ∙ ap (λ ms. mark_at ms (get_or c.starts-starts.result.now c.args.level 0)) c.as_slice.ensures.value)
           c.back_to.ensures.lits c.back_to.ensures.starts c.back_to.ensures.vars;
-      back = record { clauses = refl; pairs = refl; lits = c.back_to.ensures.lits; starts = c.back_to.ensures.starts; reasons = refl; vars = c.back_to.ensures.vars };
+      back = record {
+        clauses = refl;
+        pairs = refl;
+        lits = c.back_to.ensures.lits;
+        starts =
+            c.back_to.ensures.starts;
+        reasons = refl;
+        vars = c.back_to.ensures.vars;
+      };
     }
 
 pub mark_in-mark-requires : goal.mark_in-mark-requires

@@ -1,4 +1,4 @@
-use Rattle.std.proofs.Common.{◌≡◌, get_or, ap, sym, ◌∙◌}
+use Rattle.std.proofs.Common.{get_or, ap, sym, ◌∙◌}
 use Rattle.unit_propagate.specs.States.{state_of}
 use Rattle.unit_propagate.specs.WatchLists.{ids_at}
 use Rattle.unit_propagate.proofs.Lists.{IsSeen, listed_seen}
@@ -14,12 +14,14 @@ pair-pair-requires c =
 
 pub returns-then-code : goal.returns-then-code
 returns-then-code c =
-    here_first (state_of c.args.self.now) c.args.at c.args.code _ c.args.falsified c.pair-pair.result c.requires.kept c.requires.code_is c.requires.at
+    here_first (state_of c.args.self.now) c.args.at c.args.code _ c.args.falsified c.pair-pair.result c.requires.kept
+    c.requires.code_is c.requires.at
     (ap (λ xs. get_or xs c.args.at 0) (c.ids_in.ensures ∙ ap (λ ls. ids_at ls c.args.code) c.as_slice.ensures.value))
     c.pair-pair.ensures (sym c.code.ensures.code ∙ c.if-code.true)
 
 pub returns : goal.returns
 returns c =
-    here_second (state_of c.args.self.now) c.args.at c.args.code _ c.args.falsified c.pair-pair.result c.requires.kept c.requires.code_is c.requires.at
+    here_second (state_of c.args.self.now) c.args.at c.args.code _ c.args.falsified c.pair-pair.result c.requires.kept
+    c.requires.code_is c.requires.at
     (ap (λ xs. get_or xs c.args.at 0) (c.ids_in.ensures ∙ ap (λ ls. ids_at ls c.args.code) c.as_slice.ensures.value))
     c.pair-pair.ensures (λ e. c.if-code.false (c.code.ensures.code ∙ e))

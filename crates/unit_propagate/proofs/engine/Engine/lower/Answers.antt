@@ -1,4 +1,4 @@
-use Rattle.std.proofs.Common.{◌≡◌, ◌<◌, ◌≤◌, length, get_or, arith, ap, subst, sym, refl}
+use Rattle.std.proofs.Common.{arith, subst, refl}
 use Rattle.unit_propagate.specs.States.{state_of}
 use Rattle.unit_propagate.specs.Steps.{LowersMarks}
 use Rattle.unit_propagate.proofs.Growing.{kept_lowered}
@@ -18,9 +18,11 @@ pub returns : goal.returns
 returns c =
     let s = state_of c.args.self.now in
     let lowered : LowersMarks s.marks c.lower_marks.new.marks.items s.starts 0 c.args.index =
-    subst (λ xs. LowersMarks s.marks c.lower_marks.new.marks.items xs 0 c.args.index) c.starts.ensures.starts c.lower_marks.ensures in
+    subst (λ xs. LowersMarks s.marks c.lower_marks.new.marks.items xs 0 c.args.index) c.starts.ensures.starts
+    c.lower_marks.ensures in
     record {
-      kept = kept_lowered s c.lower_marks.new.marks.items c.smaller-self.result c.args.index c.requires.kept lowered c.smaller-self.ensures.first;
+      kept = kept_lowered s c.lower_marks.new.marks.items c.smaller-self.result c.args.index c.requires.kept lowered
+          c.smaller-self.ensures.first;
       low = record {
         rest = refl;
         long = lowered.long;

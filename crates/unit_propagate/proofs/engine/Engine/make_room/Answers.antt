@@ -1,4 +1,4 @@
-use Rattle.std.proofs.Common.{◌≡◌, ◌≤◌, ◌<◌, length, ap, refl, arith}
+use Rattle.std.proofs.Common.{refl, arith}
 use Rattle.unit_propagate.specs.States.{state_of, no_mark}
 use Rattle.unit_propagate.proofs.Growing.{IsRoomyFor, kept_roomy, makes_room}
 use Rattle.unit_propagate.proofs.Rooms.{longer_same, room_same}
@@ -12,18 +12,30 @@ returns c =
     let old_reasons = kept.reasons_long in
     let old_marks = kept.marks_long in
     let old_vars = c.vars.ensures.vars in
-    let h : IsRoomyFor s c.make_room.new.self.lits c.make_room.new.self.starts c.make_room.new.self.vars c.grow_lists.new.lists.items c.grow_ids.new.ids.items c.grow_marks.new.marks.items = record {
+    let h : IsRoomyFor s c.make_room.new.self.lits c.make_room.new.self.starts c.make_room.new.self.vars
+    c.grow_lists.new.lists.items c.grow_ids.new.ids.items c.grow_marks.new.marks.items = record {
       new_lits = c.in_ok-make_room.ensures.lits;
       new_starts = c.in_ok-make_room.ensures.starts;
       new_vars = let e = c.in_ok-make_room.ensures.ok in omega (arith, e);
       new_lists = c.grow_lists.ensures.kept;
       new_reasons = c.grow_ids.ensures.kept;
       new_marks = c.grow_marks.ensures.kept;
-      lists_long = let e = c.in_ok-make_room.ensures.ok in let long = c.in_ok-grow_lists.ensures.ok in omega (arith, e, long, c.if-vars.false);
-      reasons_long = let e = c.in_ok-make_room.ensures.ok in let long = c.in_ok-grow_ids.ensures.ok in omega (arith, e, long, c.if-vars.false);
-      marks_long = let e = c.in_ok-make_room.ensures.ok in let long = c.in_ok-grow_marks.ensures.ok in omega (arith, e, long, c.if-vars.false);
+      lists_long = let e = c.in_ok-make_room.ensures.ok in let long = c.in_ok-grow_lists.ensures.ok in
+          omega (arith, e, long, c.if-vars.false);
+      reasons_long = let e = c.in_ok-make_room.ensures.ok in let long = c.in_ok-grow_ids.ensures.ok in
+          omega (arith, e, long, c.if-vars.false);
+      marks_long = let e = c.in_ok-make_room.ensures.ok in let long = c.in_ok-grow_marks.ensures.ok in
+          omega (arith, e, long, c.if-vars.false);
     } in
-    record { kept = kept_roomy s c.make_room.new.self.lits c.make_room.new.self.starts c.make_room.new.self.vars c.grow_lists.new.lists.items c.grow_ids.new.ids.items c.grow_marks.new.marks.items kept h; room = makes_room s c.make_room.new.self.lits c.make_room.new.self.starts c.make_room.new.self.vars c.grow_lists.new.lists.items c.grow_ids.new.ids.items c.grow_marks.new.marks.items h; ok = let e = c.in_ok-make_room.ensures.ok in omega (arith, e) }
+    record {
+      kept = kept_roomy s c.make_room.new.self.lits c.make_room.new.self.starts c.make_room.new.self.vars
+          c.grow_lists.new.lists.items c.grow_ids.new.ids.items c.grow_marks.new.marks.items kept h;
+      room =
+          makes_room s c.make_room.new.self.lits c.make_room.new.self.starts c.make_room.new.self.vars
+          c.grow_lists.new.lists.items c.grow_ids.new.ids.items c.grow_marks.new.marks.items h;
+      ok = let e =
+          c.in_ok-make_room.ensures.ok in omega (arith, e);
+    }
 
 pub returns-in_err-make_room-clause-kept : goal.returns-in_err-make_room-clause-kept
 returns-in_err-make_room-clause-kept c =
@@ -33,18 +45,23 @@ returns-in_err-make_room-clause-kept c =
     let old_reasons = kept.reasons_long in
     let old_marks = kept.marks_long in
     let old_vars = c.vars.ensures.vars in
-    let h : IsRoomyFor s c.make_room.new.self.lits c.make_room.new.self.starts c.make_room.new.self.vars c.grow_lists.new.lists.items c.grow_ids.new.ids.items c.grow_marks.new.marks.items = record {
+    let h : IsRoomyFor s c.make_room.new.self.lits c.make_room.new.self.starts c.make_room.new.self.vars
+    c.grow_lists.new.lists.items c.grow_ids.new.ids.items c.grow_marks.new.marks.items = record {
       new_lits = c.in_err-make_room.ensures.lits;
       new_starts = c.in_err-make_room.ensures.starts;
       new_vars = let e = c.in_err-make_room.ensures.err in omega (arith, e);
       new_lists = c.grow_lists.ensures.kept;
       new_reasons = c.grow_ids.ensures.kept;
       new_marks = c.grow_marks.ensures.kept;
-      lists_long = let e = c.in_err-make_room.ensures.err in let long = c.grow_lists.ensures.kept.long in omega (arith, e, long, old_lists);
-      reasons_long = let e = c.in_err-make_room.ensures.err in let long = c.grow_ids.ensures.kept.long in omega (arith, e, long, old_reasons);
-      marks_long = let e = c.in_err-make_room.ensures.err in let long = c.grow_marks.ensures.kept.long in omega (arith, e, long, old_marks);
+      lists_long = let e = c.in_err-make_room.ensures.err in let long = c.grow_lists.ensures.kept.long in
+          omega (arith, e, long, old_lists);
+      reasons_long = let e = c.in_err-make_room.ensures.err in let long = c.grow_ids.ensures.kept.long in
+          omega (arith, e, long, old_reasons);
+      marks_long = let e = c.in_err-make_room.ensures.err in let long = c.grow_marks.ensures.kept.long in
+          omega (arith, e, long, old_marks);
     } in
-    kept_roomy s c.make_room.new.self.lits c.make_room.new.self.starts c.make_room.new.self.vars c.grow_lists.new.lists.items c.grow_ids.new.ids.items c.grow_marks.new.marks.items kept h
+    kept_roomy s c.make_room.new.self.lits c.make_room.new.self.starts c.make_room.new.self.vars
+    c.grow_lists.new.lists.items c.grow_ids.new.ids.items c.grow_marks.new.marks.items kept h
 
 pub returns-in_err-make_room-clause-room : goal.returns-in_err-make_room-clause-room
 returns-in_err-make_room-clause-room c =
@@ -54,18 +71,23 @@ returns-in_err-make_room-clause-room c =
     let old_reasons = kept.reasons_long in
     let old_marks = kept.marks_long in
     let old_vars = c.vars.ensures.vars in
-    let h : IsRoomyFor s c.make_room.new.self.lits c.make_room.new.self.starts c.make_room.new.self.vars c.grow_lists.new.lists.items c.grow_ids.new.ids.items c.grow_marks.new.marks.items = record {
+    let h : IsRoomyFor s c.make_room.new.self.lits c.make_room.new.self.starts c.make_room.new.self.vars
+    c.grow_lists.new.lists.items c.grow_ids.new.ids.items c.grow_marks.new.marks.items = record {
       new_lits = c.in_err-make_room.ensures.lits;
       new_starts = c.in_err-make_room.ensures.starts;
       new_vars = let e = c.in_err-make_room.ensures.err in omega (arith, e);
       new_lists = c.grow_lists.ensures.kept;
       new_reasons = c.grow_ids.ensures.kept;
       new_marks = c.grow_marks.ensures.kept;
-      lists_long = let e = c.in_err-make_room.ensures.err in let long = c.grow_lists.ensures.kept.long in omega (arith, e, long, old_lists);
-      reasons_long = let e = c.in_err-make_room.ensures.err in let long = c.grow_ids.ensures.kept.long in omega (arith, e, long, old_reasons);
-      marks_long = let e = c.in_err-make_room.ensures.err in let long = c.grow_marks.ensures.kept.long in omega (arith, e, long, old_marks);
+      lists_long = let e = c.in_err-make_room.ensures.err in let long = c.grow_lists.ensures.kept.long in
+          omega (arith, e, long, old_lists);
+      reasons_long = let e = c.in_err-make_room.ensures.err in let long = c.grow_ids.ensures.kept.long in
+          omega (arith, e, long, old_reasons);
+      marks_long = let e = c.in_err-make_room.ensures.err in let long = c.grow_marks.ensures.kept.long in
+          omega (arith, e, long, old_marks);
     } in
-    makes_room s c.make_room.new.self.lits c.make_room.new.self.starts c.make_room.new.self.vars c.grow_lists.new.lists.items c.grow_ids.new.ids.items c.grow_marks.new.marks.items h
+    makes_room s c.make_room.new.self.lits c.make_room.new.self.starts c.make_room.new.self.vars
+    c.grow_lists.new.lists.items c.grow_ids.new.ids.items c.grow_marks.new.marks.items h
 
 pub returns-in_err-grow_marks-clause-kept : goal.returns-in_err-grow_marks-clause-kept
 returns-in_err-grow_marks-clause-kept c =
@@ -75,7 +97,8 @@ returns-in_err-grow_marks-clause-kept c =
     let old_reasons = kept.reasons_long in
     let old_marks = kept.marks_long in
     let old_vars = c.vars.ensures.vars in
-    let h : IsRoomyFor s s.lits s.starts s.vars c.grow_lists.new.lists.items c.grow_ids.new.ids.items c.grow_marks.new.marks.items = record {
+    let h : IsRoomyFor s s.lits s.starts s.vars c.grow_lists.new.lists.items c.grow_ids.new.ids.items
+    c.grow_marks.new.marks.items = record {
       new_lits = refl;
       new_starts = refl;
       new_vars = omega arith;
@@ -86,7 +109,8 @@ returns-in_err-grow_marks-clause-kept c =
       reasons_long = let long = c.grow_ids.ensures.kept.long in omega (arith, long, old_reasons);
       marks_long = let long = c.grow_marks.ensures.kept.long in omega (arith, long, old_marks);
     } in
-    kept_roomy s s.lits s.starts s.vars c.grow_lists.new.lists.items c.grow_ids.new.ids.items c.grow_marks.new.marks.items kept h
+    kept_roomy s s.lits s.starts s.vars c.grow_lists.new.lists.items c.grow_ids.new.ids.items
+    c.grow_marks.new.marks.items kept h
 
 pub returns-in_err-grow_marks-clause-room : goal.returns-in_err-grow_marks-clause-room
 returns-in_err-grow_marks-clause-room c =
@@ -96,7 +120,8 @@ returns-in_err-grow_marks-clause-room c =
     let old_reasons = kept.reasons_long in
     let old_marks = kept.marks_long in
     let old_vars = c.vars.ensures.vars in
-    let h : IsRoomyFor s s.lits s.starts s.vars c.grow_lists.new.lists.items c.grow_ids.new.ids.items c.grow_marks.new.marks.items = record {
+    let h : IsRoomyFor s s.lits s.starts s.vars c.grow_lists.new.lists.items c.grow_ids.new.ids.items
+    c.grow_marks.new.marks.items = record {
       new_lits = refl;
       new_starts = refl;
       new_vars = omega arith;
@@ -107,7 +132,8 @@ returns-in_err-grow_marks-clause-room c =
       reasons_long = let long = c.grow_ids.ensures.kept.long in omega (arith, long, old_reasons);
       marks_long = let long = c.grow_marks.ensures.kept.long in omega (arith, long, old_marks);
     } in
-    makes_room s s.lits s.starts s.vars c.grow_lists.new.lists.items c.grow_ids.new.ids.items c.grow_marks.new.marks.items h
+    makes_room s s.lits s.starts s.vars c.grow_lists.new.lists.items c.grow_ids.new.ids.items
+    c.grow_marks.new.marks.items h
 
 pub returns-in_err-grow_ids-clause-kept : goal.returns-in_err-grow_ids-clause-kept
 returns-in_err-grow_ids-clause-kept c =
@@ -212,4 +238,9 @@ returns-then-vars c =
       reasons_long = old_reasons;
       marks_long = old_marks;
     } in
-    record { kept = kept_roomy s s.lits s.starts s.vars s.lists s.reasons s.marks kept h; room = makes_room s s.lits s.starts s.vars s.lists s.reasons s.marks h; ok = omega (arith, c.if-vars.true, old_vars) }
+    record {
+      kept = kept_roomy s s.lits s.starts s.vars s.lists s.reasons s.marks kept h;
+      room =
+          makes_room s s.lits s.starts s.vars s.lists s.reasons s.marks h;
+      ok = omega (arith, c.if-vars.true, old_vars);
+    }

@@ -1,5 +1,4 @@
-use Rattle.std.proofs.Common.{◌≡◌, ◌<◌, ◌+◌, ◌*◌, ◌∙◌, length, arith, refl, subst, sym, ap, get_or}
-use Rattle.plain_lits.specs.Packed.{packed}
+use Rattle.std.proofs.Common.{◌<◌, ◌+◌, length, arith, subst, sym, ap}
 use Rattle.unit_propagate.specs.Arenas.{blank}
 use Rattle.unit_propagate.specs.States.{state_of}
 use Rattle.unit_propagate.proofs.Fronts.{packed_low}
@@ -10,7 +9,8 @@ use Rattle.unit_propagate.proofs.engine.Engine.pass.Goals as goal
 pub code_of-requires : goal.code_of-requires
 code_of-requires c =
     let s = state_of c.args.self.now in
-    let low : c.not-falsified.result.var < s.vars = next_var s.lits c.lits.result.now s.head s.vars blank c.not-falsified.result c.requires.more c.lits.ensures.lits c.lits.ensures.form.within c.not-falsified.ensures in
+    let low : c.not-falsified.result.var < s.vars = next_var s.lits c.lits.result.now s.head s.vars blank
+    c.not-falsified.result c.requires.more c.lits.ensures.lits c.lits.ensures.form.within c.not-falsified.ensures in
     let long = c.requires.kept.lists_long in
     let fits = c.len-lists.type_inv in
     omega (arith, low, long, fits, c.len-lists.ensures)
@@ -18,14 +18,16 @@ code_of-requires c =
 pub visit-requires : goal.visit-requires
 visit-requires c =
     let s = state_of c.args.self.now in
-    let low : c.not-falsified.result.var < s.vars = next_var s.lits c.lits.result.now s.head s.vars blank c.not-falsified.result c.requires.more c.lits.ensures.lits c.lits.ensures.form.within c.not-falsified.ensures in
+    let low : c.not-falsified.result.var < s.vars = next_var s.lits c.lits.result.now s.head s.vars blank
+    c.not-falsified.result c.requires.more c.lits.ensures.lits c.lits.ensures.form.within c.not-falsified.ensures in
     let long = c.requires.kept.lists_long in
     let code = packed_low c.not-falsified.result s.vars low in
     record {
       kept = c.requires.kept;
       code_is = c.code_of.ensures;
       inside = subst (λ k. k < length s.lists) (sym c.code_of.ensures) (omega arith);
-      falsified_now = next_there s.lits c.lits.result.now s.head blank c.not-falsified.result c.requires.more c.lits.ensures.lits c.not-falsified.ensures;
+      falsified_now = next_there s.lits c.lits.result.now s.head blank c.not-falsified.result c.requires.more
+          c.lits.ensures.lits c.not-falsified.ensures;
     }
 
 pub returns-in-Some : goal.returns-in-Some
@@ -41,8 +43,10 @@ pub returns-in-None : goal.returns-in-None
 returns-in-None c =
     let s = state_of c.args.self.now in
     record {
-      kept = pass_kept s (state_of c.visit.new.self) blank c.not-falsified.result c.in-None.ensures.kept c.in-None.ensures.grown c.in-None.ensures.head
-          c.requires.more (next_is s.lits c.lits.result.now s.head blank c.not-falsified.result c.lits.ensures.lits c.not-falsified.ensures) c.in-None.ensures.all;
+      kept = pass_kept s (state_of c.visit.new.self) blank c.not-falsified.result c.in-None.ensures.kept
+          c.in-None.ensures.grown c.in-None.ensures.head
+          c.requires.more (next_is s.lits c.lits.result.now s.head blank c.not-falsified.result c.lits.ensures.lits
+          c.not-falsified.ensures) c.in-None.ensures.all;
       grown = grows_head s (state_of c.visit.new.self) (c.visit.new.self.head + 1) c.in-None.ensures.grown;
       conflict = tt;
       next = λ _. ap (λ n. n + 1) c.in-None.ensures.head;

@@ -1,4 +1,4 @@
-use Rattle.std.proofs.Common.{◌≡◌, ◌<◌, length, arith, refl, ◌∙◌}
+use Rattle.std.proofs.Common.{arith, refl, ◌∙◌}
 use Rattle.unit_propagate.proofs.Visiting.{grows_same, grows_trans}
 use Rattle.unit_propagate.proofs.engine.Engine.pass_lits.Goals as goal
 

@@ -1,4 +1,4 @@
-use Rattle.std.proofs.Common.{◌≡◌, refl, subst, sym, ◌∙◌}
+use Rattle.std.proofs.Common.{refl, subst, sym, ◌∙◌}
 use Rattle.std.specs.Prelude.{Contains}
 use Rattle.unit_propagate.specs.States.{state_of}
 use Rattle.unit_propagate.proofs.Visiting.{grows_same}
@@ -9,7 +9,8 @@ pub returns-in-None : goal.returns-in-None
 returns-in-None c = record {
   kept = c.requires.kept;
   grown = grows_same _;
-  conflict = empty_fails (state_of c.args.self.now) c.args.id c.requires.short (sym c.clause.ensures ∙ c.in-None.ensures);
+  conflict = empty_fails (state_of c.args.self.now) c.args.id c.requires.short (sym c.clause.ensures
+      ∙ c.in-None.ensures);
   holds = tt;
   head = refl;
   done_same = refl;

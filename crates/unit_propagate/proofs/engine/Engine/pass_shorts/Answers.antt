@@ -1,4 +1,4 @@
-use Rattle.std.proofs.Common.{◌≡◌, ◌<◌, ◌+◌, length, arith, refl, ◌∙◌, get_or, ap, sym}
+use Rattle.std.proofs.Common.{◌<◌, ◌+◌, length, arith, ◌∙◌, ap, sym}
 use Rattle.std.proofs.lemmas.List.{get_or_default}
 use Rattle.unit_propagate.specs.States.{state_of}
 use Rattle.unit_propagate.proofs.Visiting.{grows_same, grows_trans, grows_done}
@@ -15,7 +15,8 @@ pass_short-requires c =
     let lt : s.done < length s.short = omega (arith, below, c.len.ensures) in
     record {
       kept = c.shorts.invariant.kept;
-      short = short_at s s.done _ c.shorts.invariant.kept lt (get_or_default s.short s.done 0 _ lt ∙ sym c.index-id.ensures);
+      short = short_at s s.done _ c.shorts.invariant.kept lt (get_or_default s.short s.done 0 _ lt
+          ∙ sym c.index-id.ensures);
     }
 
 pub shorts-preserved : goal.shorts-preserved
@@ -25,9 +26,11 @@ shorts-preserved c =
     let below = c.shorts-test.true in
     let lt : s.done < length s.short = omega (arith, below, c.len.ensures) in
     record {
-      kept = done_kept s new _ c.if-not-pass_short.ensures.kept c.if-not-pass_short.ensures.grown c.if-not-pass_short.ensures.done_same
+      kept = done_kept s new _ c.if-not-pass_short.ensures.kept c.if-not-pass_short.ensures.grown
+          c.if-not-pass_short.ensures.done_same
           lt (get_or_default s.short s.done 0 _ lt ∙ sym c.index-id.ensures) c.if-not-pass_short.ensures.holds;
-      grown = grows_done _ new (new.done + 1) (grows_trans _ _ _ c.shorts.invariant.grown c.if-not-pass_short.ensures.grown);
+      grown = grows_done _ new (new.done + 1)
+          (grows_trans _ _ _ c.shorts.invariant.grown c.if-not-pass_short.ensures.grown);
     }
 
 pub shorts-smaller : goal.shorts-smaller

@@ -1,4 +1,4 @@
-use Rattle.std.proofs.Common.{◌≡◌, ◌-◌, length}
+use Rattle.std.proofs.Common.{◌-◌, length}
 use Rattle.unit_propagate.specs.States.{state_of, IsKept}
 use Rattle.unit_propagate.specs.Steps.{Grows}
 use Rattle.unit_propagate.proofs.engine.Engine.pass_shorts.Given as goal

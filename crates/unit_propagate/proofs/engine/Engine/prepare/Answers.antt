@@ -1,4 +1,4 @@
-use Rattle.std.proofs.Common.{◌≡◌, ◌<◌, ◌≤◌, length, arith, ap}
+use Rattle.std.proofs.Common.{arith}
 use Rattle.unit_propagate.specs.States.{state_of}
 use Rattle.unit_propagate.proofs.Fronts.{packed_low}
 use Rattle.unit_propagate.proofs.Growing.{kept_lists, makes_claim, makes_same}
@@ -26,17 +26,20 @@ returns c =
       ok = record {
         known = λ l there. let below = c.in_ok-vars.ensures.below l there in omega arith;
         packs = c.in_ok-vars.ensures.packs;
-        room = room_for m c.claim_all.new.lists.items c.args.clause.now c.make_room.ensures.kept c.in_ok-claim_all.ensures.ok;
+        room = room_for m c.claim_all.new.lists.items c.args.clause.now c.make_room.ensures.kept
+            c.in_ok-claim_all.ensures.ok;
       };
     }
 
 pub returns-in_err-claim_all-clause-kept : goal.returns-in_err-claim_all-clause-kept
 returns-in_err-claim_all-clause-kept c =
-    kept_lists (state_of c.make_room.new.self) c.claim_all.new.lists.items c.make_room.ensures.kept c.claim_all.ensures.room
+    kept_lists (state_of c.make_room.new.self) c.claim_all.new.lists.items c.make_room.ensures.kept
+    c.claim_all.ensures.room
 
 pub returns-in_err-claim_all-clause-room : goal.returns-in_err-claim_all-clause-room
 returns-in_err-claim_all-clause-room c =
-    makes_claim _ (state_of c.make_room.new.self) c.claim_all.new.lists.items c.make_room.ensures.room c.claim_all.ensures.room
+    makes_claim _ (state_of c.make_room.new.self) c.claim_all.new.lists.items c.make_room.ensures.room
+    c.claim_all.ensures.room
 
 pub returns-in_err-vars-clause-room : goal.returns-in_err-vars-clause-room
 returns-in_err-vars-clause-room c = makes_same (state_of c.args.self.now) c.requires

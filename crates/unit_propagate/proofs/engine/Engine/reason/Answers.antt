@@ -1,4 +1,4 @@
-use Rattle.std.proofs.Common.{◌≡◌, get_or, ap}
+use Rattle.std.proofs.Common.{get_or, ap}
 use Rattle.unit_propagate.proofs.engine.Engine.reason.Goals as goal
 
 pub returns : goal.returns

@@ -1,4 +1,4 @@
-use Rattle.std.proofs.Common.{◌≡◌, ◌<◌, length, ap, ◌∙◌, arith, refl}
+use Rattle.std.proofs.Common.{length, ap, ◌∙◌, arith, refl}
 use Rattle.unit_propagate.specs.States.{state_of}
 use Rattle.unit_propagate.specs.WatchLists.{ids_at}
 use Rattle.unit_propagate.proofs.Visiting.{grows_same, grows_trans, grown_there, done_all, done_none, ids_are}
@@ -30,7 +30,8 @@ visit_one-requires c =
 
 pub returns : goal.returns
 returns c =
-    let ids = ids_are c.ids.self.lists.items c.as_slice.result.now c.ids_in.result.now c.args.code c.args.falsified c.ids_in.ensures c.as_slice.ensures.value c.requires.code_is in
+    let ids = ids_are c.ids.self.lists.items c.as_slice.result.now c.ids_in.result.now c.args.code c.args.falsified
+    c.ids_in.ensures c.as_slice.ensures.value c.requires.code_is in
     let past = c.ids-test.false in
     let same = ap length ids in
     record {
@@ -68,7 +69,8 @@ ids-preserved c =
 
 pub ids-smaller : goal.ids-smaller
 ids-smaller c =
-    let ids = ids_are c.ids.self.lists.items c.as_slice.result.now c.ids_in.result.now c.args.code c.args.falsified c.ids_in.ensures c.as_slice.ensures.value c.requires.code_is in
+    let ids = ids_are c.ids.self.lists.items c.as_slice.result.now c.ids_in.result.now c.args.code c.args.falsified
+    c.ids_in.ensures c.as_slice.ensures.value c.requires.code_is in
     let below = c.ids-test.true in
     let same = ap length ids in
     let count = c.in-Moved.ensures.visit.1 in
@@ -92,7 +94,8 @@ ids-preserved-in-Kept c =
 
 pub ids-smaller-in-Kept : goal.ids-smaller-in-Kept
 ids-smaller-in-Kept c =
-    let ids = ids_are c.ids.self.lists.items c.as_slice.result.now c.ids_in.result.now c.args.code c.args.falsified c.ids_in.ensures c.as_slice.ensures.value c.requires.code_is in
+    let ids = ids_are c.ids.self.lists.items c.as_slice.result.now c.ids_in.result.now c.args.code c.args.falsified
+    c.ids_in.ensures c.as_slice.ensures.value c.requires.code_is in
     let below = c.ids-test.true in
     let same = ap length ids in
     let count = c.in-Kept.ensures.visit.1 in

@@ -1,4 +1,4 @@
-use Rattle.std.proofs.Common.{◌≡◌, refl}
+use Rattle.std.proofs.Common.{refl}
 use Rattle.unit_propagate.specs.States.{state_of}
 use Rattle.unit_propagate.proofs.Visiting.{grows_same, done_next, true_value}
 use Rattle.unit_propagate.proofs.engine.Engine.visit_one.Goals as goal
@@ -8,7 +8,8 @@ visit_open-requires-clause-value c = rw c.lit.ensures.lit at c.value-value.ensur
 
 pub visit_open-requires-clause-open : goal.visit_open-requires-clause-open
 visit_open-requires-clause-open c =
-    true_value c.args.self.now.trail.lits c.here-here.result.other c.value-value.result (rw c.lit.ensures.lit at c.value-value.ensures.value) c.in_default.not-True
+    true_value c.args.self.now.trail.lits c.here-here.result.other c.value-value.result
+    (rw c.lit.ensures.lit at c.value-value.ensures.value) c.in_default.not-True
 
 pub returns-in-True : goal.returns-in-True
 returns-in-True c =

@@ -1,9 +1,9 @@
-use Rattle.std.proofs.Common.{◌≡◌, ◌<◌, length, subst, sym, ◌∙◌, refl, arith}
-use Rattle.plain_lits.specs.Packed.{packed}
+use Rattle.std.proofs.Common.{◌<◌, length, subst, sym, refl}
 use Rattle.unit_propagate.specs.States.{state_of}
 use Rattle.unit_propagate.specs.WatchLists.{ids_at, list_at}
 use Rattle.unit_propagate.proofs.Moving.{IsMove, room_there, here_other}
-use Rattle.unit_propagate.proofs.Visiting.{move_of, others_of, lit_listed, moved_kept, moved_visit, implied_kept, implied_visit}
+use Rattle.unit_propagate.proofs.Visiting.{move_of, others_of, lit_listed, moved_kept, moved_visit, implied_kept}
+use Rattle.unit_propagate.proofs.Visiting.{implied_visit}
 use Rattle.unit_propagate.proofs.Visiting.{grows_same, grown_literal, grown_moved, fails, false_value}
 use Rattle.unit_propagate.proofs.engine.Engine.visit_open.Goals as goal
 
@@ -12,15 +12,18 @@ move_watch-requires-clause-to c =
     let s = state_of c.args.self.now in
     let m : IsMove s c.args.at c.args.here.id c.args.falsified c.args.here.other c.in-Some.to =
     move_of s c.args.at c.args.here.id c.code.result c.args.falsified c.args.here.other c.in-Some.to c.clause.result.now
-    c.requires.here_is c.clause.ensures c.code.ensures.code c.in-Some.ensures c.requires.falsified_now c.len-form.ensures.form.apart in
-    subst (λ k. k < length s.lists) (sym c.code-in-Some.ensures.code) (lit_listed s c.args.here.id c.in-Some.to c.requires.kept m.here.named m.there)
+    c.requires.here_is c.clause.ensures c.code.ensures.code c.in-Some.ensures c.requires.falsified_now
+    c.len-form.ensures.form.apart in
+    subst (λ k. k < length s.lists) (sym c.code-in-Some.ensures.code)
+    (lit_listed s c.args.here.id c.in-Some.to c.requires.kept m.here.named m.there)
 
 pub move_watch-requires-clause-room : goal.move_watch-requires-clause-room
 move_watch-requires-clause-room c =
     let s = state_of c.args.self.now in
     let m : IsMove s c.args.at c.args.here.id c.args.falsified c.args.here.other c.in-Some.to =
     move_of s c.args.at c.args.here.id c.code.result c.args.falsified c.args.here.other c.in-Some.to c.clause.result.now
-    c.requires.here_is c.clause.ensures c.code.ensures.code c.in-Some.ensures c.requires.falsified_now c.len-form.ensures.form.apart in
+    c.requires.here_is c.clause.ensures c.code.ensures.code c.in-Some.ensures c.requires.falsified_now
+    c.len-form.ensures.form.apart in
     subst (λ k. length (ids_at s.lists k) < (list_at s.lists k).uses) (sym c.code-in-Some.ensures.code)
     (room_there s c.args.at c.args.here.id c.args.falsified c.args.here.other c.in-Some.to c.requires.kept m)
 
@@ -35,8 +38,10 @@ returns-in-Some-clause-kept c =
     let s = state_of c.args.self.now in
     let m : IsMove s c.args.at c.args.here.id c.args.falsified c.args.here.other c.in-Some.to =
     move_of s c.args.at c.args.here.id c.code.result c.args.falsified c.args.here.other c.in-Some.to c.clause.result.now
-    c.requires.here_is c.clause.ensures c.code.ensures.code c.in-Some.ensures c.requires.falsified_now c.len-form.ensures.form.apart in
-    moved_kept s (state_of c.move_watch.new.self) c.args.at c.args.here.id c.args.code c.code-in-Some.result c.args.falsified c.args.here.other c.in-Some.to
+    c.requires.here_is c.clause.ensures c.code.ensures.code c.in-Some.ensures c.requires.falsified_now
+    c.len-form.ensures.form.apart in
+    moved_kept s (state_of c.move_watch.new.self) c.args.at c.args.here.id c.args.code c.code-in-Some.result
+    c.args.falsified c.args.here.other c.in-Some.to
     c.requires.kept m c.requires.code_is c.code-in-Some.ensures.code c.requires.inside c.move_watch.ensures
 
 pub returns-in-Some-clause-visit : goal.returns-in-Some-clause-visit
@@ -44,16 +49,21 @@ returns-in-Some-clause-visit c =
     let s = state_of c.args.self.now in
     let m : IsMove s c.args.at c.args.here.id c.args.falsified c.args.here.other c.in-Some.to =
     move_of s c.args.at c.args.here.id c.code.result c.args.falsified c.args.here.other c.in-Some.to c.clause.result.now
-    c.requires.here_is c.clause.ensures c.code.ensures.code c.in-Some.ensures c.requires.falsified_now c.len-form.ensures.form.apart in
-    moved_visit s (state_of c.move_watch.new.self) c.args.at c.args.here.id c.args.code c.code-in-Some.result c.args.falsified c.args.here.other c.in-Some.to
-    c.requires.kept m c.requires.open c.requires.done c.requires.code_is c.code-in-Some.ensures.code c.requires.inside c.move_watch.ensures
+    c.requires.here_is c.clause.ensures c.code.ensures.code c.in-Some.ensures c.requires.falsified_now
+    c.len-form.ensures.form.apart in
+    moved_visit s (state_of c.move_watch.new.self) c.args.at c.args.here.id c.args.code c.code-in-Some.result
+    c.args.falsified c.args.here.other c.in-Some.to
+    c.requires.kept m c.requires.open c.requires.done c.requires.code_is c.code-in-Some.ensures.code c.requires.inside
+    c.move_watch.ensures
 
 pub returns-in-Unset-clause-kept : goal.returns-in-Unset-clause-kept
 returns-in-Unset-clause-kept c =
     let s = state_of c.args.self.now in
-    let others = others_of s c.args.here.id c.code.result c.args.here.other c.clause.result.now c.clause.ensures c.code.ensures.code c.in-None.ensures in
+    let others = others_of s c.args.here.id c.code.result c.args.here.other c.clause.result.now c.clause.ensures
+    c.code.ensures.code c.in-None.ensures in
     implied_kept s (state_of c.imply.new.self) c.args.at c.args.here.id c.args.falsified c.args.here.other c.lit.result
-    c.requires.kept c.requires.here_is others c.lit.ensures.lit c.len-form.ensures.form.levels c.imply.ensures.before c.imply.ensures.state
+    c.requires.kept c.requires.here_is others c.lit.ensures.lit c.len-form.ensures.form.levels c.imply.ensures.before
+    c.imply.ensures.state
 
 pub returns-in-Unset-clause-visit : goal.returns-in-Unset-clause-visit
 returns-in-Unset-clause-visit c =
@@ -63,13 +73,15 @@ returns-in-Unset-clause-visit c =
 
 pub returns-in-Unset-clause-grown : goal.returns-in-Unset-clause-grown
 returns-in-Unset-clause-grown c =
-    grown_literal (state_of c.args.self.now) (state_of c.imply.new.self) c.lit.result c.args.here.id c.requires.kept c.requires.here_is.named
+    grown_literal (state_of c.args.self.now) (state_of c.imply.new.self) c.lit.result c.args.here.id c.requires.kept
+    c.requires.here_is.named
     c.imply.ensures.before c.imply.ensures.state
 
 pub returns-in_default : goal.returns-in_default
 returns-in_default c =
     let s = state_of c.args.self.now in
-    let others = others_of s c.args.here.id c.code.result c.args.here.other c.clause.result.now c.clause.ensures c.code.ensures.code c.in-None.ensures in
+    let others = others_of s c.args.here.id c.code.result c.args.here.other c.clause.result.now c.clause.ensures
+    c.code.ensures.code c.in-None.ensures in
     record {
       kept = c.requires.kept;
       grown = grows_same s;

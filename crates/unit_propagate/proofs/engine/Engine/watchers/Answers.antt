@@ -1,4 +1,4 @@
-use Rattle.std.proofs.Common.{◌≡◌, ◌<◌, ◌≤◌, ◌+◌, ◌*◌, length, arith, ap, ◌∙◌, subst, sym}
+use Rattle.std.proofs.Common.{◌<◌, ◌≤◌, length, arith, ap, ◌∙◌, subst, sym}
 use Rattle.unit_propagate.specs.States.{state_of}
 use Rattle.unit_propagate.specs.WatchLists.{ids_at}
 use Rattle.unit_propagate.proofs.Fronts.{packed_low}
@@ -27,4 +27,5 @@ ids_in-requires c =
     let known : c.args.lit.var < s.vars = omega (arith, c.if-lit-vars.false, c.vars.ensures.vars) in
     let low = packed_low c.args.lit s.vars known in
     let long = c.requires.lists_long in
-    subst (λ k. k < length c.as_slice.result.now) (sym c.code_of.ensures) (omega (arith, low, long, ap length c.as_slice.ensures.value))
+    subst (λ k. k < length c.as_slice.result.now) (sym c.code_of.ensures)
+    (omega (arith, low, long, ap length c.as_slice.ensures.value))
