@@ -10,8 +10,6 @@ mod refuting;
 mod rows;
 mod sides;
 mod steps;
-#[cfg(test)]
-mod tests;
 mod verdict;
 mod witness;
 
