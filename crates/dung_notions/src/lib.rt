@@ -6,8 +6,6 @@ mod af_plain;
 mod grounded;
 mod notions;
 mod range;
-#[cfg(test)]
-mod tests;
 mod written_out;
 
 pub use af_plain::AfPlain;

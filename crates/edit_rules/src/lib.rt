@@ -3,8 +3,6 @@
 
 pub mod framework;
 pub mod query_fault;
-#[cfg(test)]
-mod tests;
 
 pub use framework::Framework;
 pub use query_fault::{QueryFault, query_fits};

@@ -14,6 +14,3 @@ pub use query::Query;
 pub use read::{read_answer, set_of};
 pub use task::{Kind, Problem, Semantics, Task, TaskFault, problems};
 pub use write::{answer_text, push_set, push_sets};
-
-#[cfg(test)]
-mod tests;

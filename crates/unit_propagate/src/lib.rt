@@ -6,8 +6,6 @@ mod arena;
 mod engine;
 mod pair;
 mod propagator;
-#[cfg(test)]
-mod tests;
 mod watch_list;
 
 pub use propagator::{Propagated, Propagator};

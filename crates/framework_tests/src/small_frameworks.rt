@@ -1,7 +1,7 @@
 //! The grounded set and the four tests of a set against a slow program that decides each notion from its words,
 //! on every framework of three arguments; and whether a framework is solid.
 
-use crate::AfPlain;
+use dung_notions::AfPlain;
 use plain_lists::Memory;
 use semantics::{AfLists, Notion, decide};
 use set_lists::NumSet;

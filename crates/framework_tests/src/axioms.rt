@@ -1,6 +1,6 @@
 //! The table of axioms row by row, and the values of facts in one framework.
 
-use crate::{clause_of, fact_value};
+use af_axioms::{clause_of, fact_value};
 use dung_notions::AfPlain;
 use meaning_atoms::Atom::{Ad, Ask, Attack, Cf, Co, Gap, Live, Member, Range, St, Tail, Unmet};
 use meaning_atoms::{AfAxiom, Atom, AtomLit, END};

@@ -1,6 +1,6 @@
 //! Comparisons and hashes, each through its bound.
 
-use crate::{AfAxiom, Atom, AtomLit};
+use meaning_atoms::{AfAxiom, Atom, AtomLit};
 use std::collections::hash_map::DefaultHasher;
 use std::hash::{Hash, Hasher};
 use std::process::Abort;

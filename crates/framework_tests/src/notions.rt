@@ -1,7 +1,9 @@
 //! Grounded sets and ranges in small frameworks, and attacks from either end.
 
-use crate::AfPlain;
+use dung_notions::{AfPlain, Grounded};
+use plain_lists::Memory;
 use set_lists::NumSet;
+use std::alloc::Global;
 use std::test::Fail;
 
 /// Live arguments, attacks and the grounded set.
@@ -10,6 +12,20 @@ struct Row<'a> {
     live: &'a [u32],
     attacks: &'a [(u32, u32)],
     grounded: &'a [u32],
+}
+
+/// Whether a framework has the row's arguments, and its grounded set was found.
+fn is_answered(
+    plain: &AfPlain,
+    found: Result<Grounded, Memory>,
+    row: &Row<'_>,
+) -> Result<bool, Memory> {
+    let found = found?;
+    Ok(
+        plain.live() == row.live
+            && found.set.as_slice() == row.grounded
+            && found.order.len() == found.set.len(),
+    )
 }
 
 #[test]
@@ -54,10 +70,10 @@ fn grounded_sets(rt: HostRuntime) -> Result<(), Fail> {
     ];
     for (number, row) in rows.iter().enumerate() {
         let plain = AfPlain::of_lists(alloc, row.live, row.attacks)?;
-        let found = plain.grounded(alloc)?;
-        assert_eq!(rt; found.set.as_slice(), row.grounded, "at {number}");
-        assert_eq!(rt; found.order.len(), found.set.len(), "at {number}");
-        assert_eq!(rt; plain.live(), row.live, "at {number}");
+        assert!(rt;
+            is_answered(&plain, plain.grounded(alloc), row)?,
+            "at {number}"
+        );
     }
     Ok(())
 }
@@ -70,16 +86,22 @@ fn attacks_from_either_end(rt: HostRuntime) -> Result<(), Fail> {
         &[1, 2, 7, 0, 1_000_001],
         &[(7, 1), (2, 1), (2, 7), (3, 1), (7, 1)],
     )?;
-    assert_eq!(rt; plain.attacks(), [(2, 1), (2, 7), (7, 1)].as_slice());
-    assert_eq!(rt; plain.targets_of(2), [(2, 1), (2, 7)].as_slice());
+    assert!(rt; plain.attacks() == [(2, 1), (2, 7), (7, 1)].as_slice());
+    assert!(rt; plain.targets_of(2) == [(2, 1), (2, 7)].as_slice());
     assert!(rt; plain.targets_of(8).is_empty());
-    assert_eq!(rt; plain.attackers_of(1), [(1, 2), (1, 7)].as_slice());
+    assert!(rt; plain.attackers_of(1) == [(1, 2), (1, 7)].as_slice());
     assert!(rt; plain.attackers_of(2).is_empty());
     assert!(rt; plain.has_attack(7, 1));
     assert!(rt; !plain.has_attack(1, 7));
     assert!(rt; plain.is_live(7));
     assert!(rt; !plain.is_live(3));
     Ok(())
+}
+
+/// Whether this set has this range.
+fn has_range(alloc: Global, plain: &AfPlain, set: &[u32], range: &[u32]) -> Result<bool, Memory> {
+    let set = NumSet::from_slice(alloc, set)?;
+    Ok(plain.range_of(alloc, &set)?.as_slice() == range)
 }
 
 #[test]
@@ -94,12 +116,7 @@ fn ranges(rt: HostRuntime) -> Result<(), Fail> {
         (&[5, 2], &[1, 2, 3, 5]),
     ];
     for (set, range) in rows {
-        let set = NumSet::from_slice(alloc, set)?;
-        assert_eq!(rt;
-            plain.range_of(alloc, &set)?.as_slice(),
-            range,
-            "of {set:?}"
-        );
+        assert!(rt; has_range(alloc, &plain, set, range)?, "of {set:?}");
     }
     Ok(())
 }

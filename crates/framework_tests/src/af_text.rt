@@ -1,17 +1,14 @@
 //! The reader and the writer, compared with answers that were worked out by hand.
 
-use crate::af_line::MOST_ATTACK_LINES;
-use crate::next_attack::next_attack;
-use crate::{
+use af_format::{
     LineCause, LineFault, ReadFault, one_reading, read_af, read_back, readable_or_faulty, write_af,
 };
-use num_text::lines;
 use std::alloc::{AllocError, Global};
 use std::test::Fail;
 
 // A framework as its number of arguments and its attacks, or what is told of the text.
 fn shown(alloc: Global, bytes: &[u8]) -> Result<String, AllocError> {
-    if bytes.len() > 1_000 {
+    if bytes.len() > 268_435_456 {
         return String::from_str(alloc, "too long for this test");
     }
     match read_af(alloc, bytes) {
@@ -124,18 +121,18 @@ fn written(rt: HostRuntime) {
     assert!(rt; text.as_slice() == "p af 3\n1 2\n2 1\n2 3\n".as_bytes());
 }
 
-// The count of attack lines before a line is given here, as the reader gives it: ten million lines would take long.
 #[test]
-fn too_many_lines(rt: HostRuntime) {
-    let mut left = lines("1 2\n#\n2 1\n".as_bytes());
-    let last = next_attack(&mut left, 2, MOST_ATTACK_LINES - 1);
-    assert!(rt; last == Ok(Some((1, 2))));
-    let one_more = next_attack(&mut left, 2, MOST_ATTACK_LINES);
-    let fault = LineFault {
-        line: 3,
-        cause: LineCause::TooManyLines,
-    };
-    assert!(rt; one_more == Err(fault));
+fn too_many_lines(rt: HostRuntime) -> Result<(), Fail> {
+    let alloc = rt.alloc();
+    let mut text = String::from_str(alloc, "p af 1\n")?;
+    text.push_str("1 1\n".repeat(alloc, 10_000_000)?.as_str())?;
+    assert_eq!(rt; shown(alloc, text.as_bytes())?.as_str(), "1: 1-1");
+    text.push_str("1 1\n")?;
+    assert_eq!(rt;
+        shown(alloc, text.as_bytes())?.as_str(),
+        "line 10000002 TooManyLines"
+    );
+    Ok(())
 }
 
 #[test]

@@ -1,6 +1,8 @@
 //! What no clause says: that calls succeed, and worked rows of the check.
 
-use crate::{Kind, Log, LogFault};
+ghost use Rattle.hinted_log.specs.Logs.{IsStepOf};
+
+use hinted_log::{Kind, Log, LogFault};
 use plain_lits::{Clause, Lit, StepId};
 use std::alloc::Global;
 use std::test::Fail;
@@ -66,6 +68,26 @@ fn added(alloc: Global, log: &mut Log, row: &Row) -> Result<u32, LogFault> {
     Ok(step.number())
 }
 
+/// Whether a log's step has these literals.
+fn has_literals(log: &Log, step: StepId, literals: &[Lit]) -> bool
+    requires { IsStepOf log.now.steps step }
+{
+    let clause = log.clause(step);
+    clause.len() == literals.len()
+        && clause
+            .iter()
+            .zip(literals)
+            .all(|(packed, lit)| packed.lit() == *lit)
+}
+
+/// Whether a log's step reaches just these steps.
+fn reaches(alloc: Global, log: &Log, step: StepId, reached: &[u32]) -> Result<bool, LogFault>
+    requires { IsStepOf log.now.steps step }
+{
+    let steps = steps_of(alloc, reached)?;
+    Ok(log.trim(alloc, step)?.as_slice() == steps.as_slice())
+}
+
 /// Whether a log has a row's step, and it reaches just these steps.
 fn is_kept(alloc: Global, log: &Log, row: &Row, reached: &[u32]) -> Result<bool, LogFault> {
     let number = row.3?;
@@ -74,18 +96,8 @@ fn is_kept(alloc: Global, log: &Log, row: &Row, reached: &[u32]) -> Result<bool,
     }
     let step = StepId::new(number);
     let hints = steps_of(alloc, row.2)?;
-    let steps = steps_of(alloc, reached)?;
-    let clause = log.clause(step);
-    let same = clause
-        .iter()
-        .zip(row.1)
-        .all(|(packed, lit)| packed.lit() == *lit);
-    Ok(
-        same && clause.len() == row.1.len()
-            && log.kind(step) == row.0
-            && log.hints(step) == hints.as_slice()
-            && log.trim(alloc, step)?.as_slice() == steps.as_slice(),
-    )
+    let same = log.kind(step) == row.0 && log.hints(step) == hints.as_slice();
+    Ok(same && has_literals(log, step, row.1) && reaches(alloc, log, step, reached)?)
 }
 
 #[test]

@@ -1,10 +1,10 @@
 //! Each public call once, and answers that were worked out by hand.
 
-use crate::{
-    Answer, AnswerCause, AnswerFault, Kind, Problem, Query, Semantics, Task, TaskFault,
-    answer_text, problems, read_answer,
+use iccma_tasks::{
+    Answer, AnswerFault, Kind, Problem, Query, Semantics, Task, TaskFault, answer_text, problems,
+    read_answer,
 };
-use plain_lists::Items;
+use plain_lists::{Items, Memory};
 use set_lists::NumSet;
 use std::alloc::{AllocError, Global};
 use std::test::Fail;
@@ -71,53 +71,65 @@ fn reads(rt: HostRuntime) -> Result<(), Fail> {
     Ok(())
 }
 
-#[test]
-fn writes(rt: HostRuntime) -> Result<(), Fail> {
-    let alloc = rt.alloc();
-    let Ok(none) = answer_text(alloc, &Answer::No(None)) else {
-        return Err("memory")?;
-    };
-    assert_eq!(rt; none.as_slice(), b"NO\n".as_slice());
-    let Ok(set) = NumSet::from_slice(alloc, &[3, 1]) else {
-        return Err("memory")?;
-    };
-    let Ok(yes) = answer_text(alloc, &Answer::Yes(Some(set))) else {
-        return Err("memory")?;
-    };
-    assert_eq!(rt; yes.as_slice(), b"YES\nw 1 3\n".as_slice());
-    let mut sets = Items::new(alloc);
-    sets.push(NumSet::new(alloc)).ok().ok_or("memory")?;
-    let Ok(lines) = answer_text(alloc, &Answer::Sets(sets)) else {
-        return Err("memory")?;
-    };
-    assert_eq!(rt; lines.as_slice(), b"w\n".as_slice());
-    Ok(())
+/// Whether this text is written of an answer.
+fn writes(alloc: Global, answer: &Answer, text: &[u8]) -> Result<bool, Memory> {
+    Ok(answer_text(alloc, answer)?.as_slice() == text)
 }
 
 #[test]
-fn tasks(rt: HostRuntime) -> Result<(), Fail> {
-    let task = Task::read(b"DS-ST").ok().ok_or("DS-ST")?;
-    assert_eq!(rt; task.problem, Problem::Sceptical);
-    assert_eq!(rt; task.semantics, Semantics::Stable);
-    assert_eq!(rt; task.name(), b"DS-ST".as_slice());
-    assert_eq!(rt; Task::read(b"DC-XX"), Err(TaskFault::UnknownTask));
-    assert_eq!(rt; TaskFault::UnknownTask.name(), "UnknownTask");
-    assert_eq!(rt;
-        problems(),
-        b"[DC-CO,DC-GR,DC-PR,DC-ST,DC-SST,DC-ID,DS-CO,DS-GR,DS-PR,DS-ST,DS-SST,DS-ID,\
-          SE-CO,SE-GR,SE-PR,SE-ST,SE-SST,SE-ID,EE-CO,EE-PR,EE-ST,EE-SST]\n"
-            .as_slice()
-    );
-    let query = Query::new(task, Some(4)).ok_or("query")?;
-    assert_eq!(rt; query.task(), task);
-    assert_eq!(rt; query.number(), Some(4));
-    assert!(rt; Query::new(task, None).is_none());
-    let some = Task::read(b"SE-GR").ok().ok_or("SE-GR")?;
-    assert!(rt; Query::new(some, None).is_some());
-    assert!(rt; Query::new(some, Some(1)).is_none());
-    assert_eq!(rt; Task::read(b"EE-ID"), Err(TaskFault::UnknownTask));
-    let all = Task::read(b"EE-SST").ok().ok_or("EE-SST")?;
-    assert!(rt; Query::new(all, Some(1)).is_none());
-    assert!(rt; all.is_for(Kind::Af) && !all.is_for(Kind::Aba));
+fn answers(rt: HostRuntime) -> Result<(), Fail> {
+    let alloc = rt.alloc();
+    assert!(rt; writes(alloc, &Answer::No(None), b"NO\n")?);
+    let set = NumSet::from_slice(alloc, &[3, 1])?;
+    assert!(rt; writes(alloc, &Answer::Yes(Some(set)), b"YES\nw 1 3\n")?);
+    let mut sets = Items::new(alloc);
+    sets.push(NumSet::new(alloc))?;
+    assert!(rt; writes(alloc, &Answer::Sets(sets), b"w\n")?);
     Ok(())
+}
+
+const PROBLEMS: &[u8] =
+    b"[DC-CO,DC-GR,DC-PR,DC-ST,DC-SST,DC-ID,DS-CO,DS-GR,DS-PR,DS-ST,DS-SST,DS-ID,\
+      SE-CO,SE-GR,SE-PR,SE-ST,SE-SST,SE-ID,EE-CO,EE-PR,EE-ST,EE-SST]\n";
+
+#[test]
+fn names(rt: HostRuntime) {
+    let task = Task {
+        problem: Problem::Sceptical,
+        semantics: Semantics::Stable,
+    };
+    assert!(rt; Task::read(b"DS-ST") == Ok(task));
+    assert!(rt; task.name() == b"DS-ST".as_slice());
+    assert!(rt; Task::read(b"DC-XX") == Err(TaskFault::UnknownTask));
+    assert!(rt; Task::read(b"EE-ID") == Err(TaskFault::UnknownTask));
+    assert!(rt; TaskFault::UnknownTask.name() == "UnknownTask");
+    assert!(rt; problems() == PROBLEMS);
+    let all = Task {
+        problem: Problem::AllExtensions,
+        semantics: Semantics::SemiStable,
+    };
+    assert!(rt; all.is_for(Kind::Af) && !all.is_for(Kind::Aba));
+}
+
+#[test]
+fn queries_of_tasks(rt: HostRuntime) {
+    let rows = [
+        (Problem::Sceptical, Some(4), true),
+        (Problem::Sceptical, None, false),
+        (Problem::SomeExtension, None, true),
+        (Problem::SomeExtension, Some(1), false),
+        (Problem::AllExtensions, Some(1), false),
+    ];
+    for (problem, number, fits) in rows {
+        let task = Task {
+            problem,
+            semantics: Semantics::SemiStable,
+        };
+        match Query::new(task, number) {
+            Some(query) => {
+                assert!(rt; fits && query.task() == task && query.number() == number);
+            }
+            None => assert!(rt; !fits),
+        }
+    }
 }

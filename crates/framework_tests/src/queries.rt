@@ -1,9 +1,14 @@
 //! Each public call once, and the table of queries.
 
-use crate::{Framework, QueryFault, query_fits};
 use dung_notions::AfPlain;
+use edit_rules::{Framework, QueryFault, query_fits};
 use iccma_tasks::{Problem, Query, Semantics, Task};
 use std::test::Fail;
+
+/// What is told of a query, where the task has one of this number.
+fn told(framework: &Framework, task: Task, number: Option<u32>) -> Option<Result<(), QueryFault>> {
+    Some(query_fits(framework, &Query::new(task, number)?))
+}
 
 #[test]
 fn queries(rt: HostRuntime) -> Result<(), Fail> {
@@ -29,15 +34,16 @@ fn queries(rt: HostRuntime) -> Result<(), Fail> {
     ];
     for (problem, semantics, number, expected) in table {
         let task = Task { problem, semantics };
-        let query = Query::new(task, number).ok_or("query")?;
-        assert_eq!(rt;
-            query_fits(&framework, &query),
-            expected,
-            "at {problem:?} {semantics:?}"
+        assert!(rt;
+            told(&framework, task, number) == Some(expected),
+            "at {task:?}"
         );
     }
-    let fault = QueryFault::UnknownAtom(7);
-    assert_eq!(rt; fault.name(), "UnknownAtom");
-    assert_eq!(rt; fault.number(), Some(7));
     Ok(())
+}
+
+#[test]
+fn faults(rt: HostRuntime) {
+    let fault = QueryFault::UnknownAtom(7);
+    assert!(rt; fault.name() == "UnknownAtom" && fault.number() == Some(7));
 }

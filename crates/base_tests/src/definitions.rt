@@ -1,11 +1,11 @@
 //! What no clause says: the definitions against extensions worked out by hand.
 
-use crate::Notion::{
+use plain_lists::{Items, Memory};
+use semantics::Notion::{
     Admissible, Complete, ConflictFree, Grounded, Ideal, InAllPreferred, Preferred, SemiStable,
     Stable,
 };
-use crate::{AfLists, Notion, decide};
-use plain_lists::{Items, Memory};
+use semantics::{AfLists, Notion, decide};
 use std::alloc::Global;
 use std::process::Abort;
 use std::test::Fail;

@@ -1,6 +1,6 @@
 //! Cuts and numbers, compared with values that were worked out by hand.
 
-use crate::{decimal, fields, is_skipped, lines, next_kept};
+use num_text::{decimal, fields, is_skipped, lines, next_kept};
 use std::alloc::{AllocError, Global};
 use std::test::Fail;
 

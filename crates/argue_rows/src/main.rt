@@ -1,0 +1,63 @@
+//! Runs the program over files in memory, as `rows.txt` lists it, and prints each row that ends otherwise than it says.
+//! A row is data, so that a further one costs no proof.
+#![tactic(auto)]
+
+mod given;
+mod outcome;
+mod sweep;
+
+use given::Given;
+use outcome::{run, with_ends, words_of};
+use std::alloc::{AllocError, Global};
+use std::{fs, io};
+
+/// How what is asked ends.
+fn ended(alloc: Global, given: &Given<'_>, asked: &str) -> Result<String, AllocError> {
+    let certificate = given.certificate(alloc)?;
+    if asked == "prefixes" {
+        return sweep::prefixes(alloc, given, certificate.as_bytes());
+    }
+    if asked == "bytes" {
+        return sweep::bytes(alloc, given, certificate.as_bytes());
+    }
+    match asked.split_once(": ") {
+        Some((query, answer)) => {
+            let words = words_of(alloc, query)?;
+            let answer = with_ends(alloc, answer)?;
+            run(
+                alloc,
+                words.as_str(),
+                given.framework,
+                answer.as_str(),
+                certificate.as_bytes(),
+            )
+        }
+        None => run(
+            alloc,
+            asked,
+            given.framework,
+            given.answer,
+            certificate.as_bytes(),
+        ),
+    }
+}
+
+fn main(rt: HostRuntime) -> io::Result<()> {
+    let alloc = rt.alloc();
+    let list = fs::read_to_string(&rt, "rows.txt")?;
+    let mut given = Given::new();
+    let mut rows = 0u64;
+    for line in list.as_str().lines() {
+        if given.takes(line) {
+            continue;
+        }
+        let (asked, expected) = line.split_once(" => ").unwrap_or((line, ""));
+        let found = ended(alloc, &given, asked)?;
+        if found.as_str() != expected {
+            println!(rt; "{line}: {found}")?;
+        }
+        given.swap = None;
+        rows = rows.saturating_add(1);
+    }
+    println!(rt; "{rows} rows")
+}

@@ -1,0 +1,55 @@
+//! One run over files in memory, told as a line.
+
+use argue_outside::{Files, MemFiles, MemSink, append_all};
+use argue_program::execute;
+use std::alloc::{AllocError, Global};
+
+/// The text with ends of lines in place of `;`.
+pub fn with_ends(alloc: Global, text: &str) -> Result<String, AllocError> {
+    text.replace(alloc, ";", "\n")
+}
+
+/// The words of a check of this query: a task, and its argument where it has one.
+pub fn words_of(alloc: Global, query: &str) -> Result<String, AllocError> {
+    match query.split_once(' ') {
+        Some((task, number)) => { format!(in alloc; "check -p {task} -a {number} -f a -r b -c c") }
+        None => format!(in alloc; "check -p {query} -f a -r b -c c"),
+    }
+}
+
+/// Makes the file hold these bytes.
+fn hold(files: &mut MemFiles, name: &str, bytes: &[u8]) -> Result<(), AllocError> {
+    match files.clear(name) {
+        Ok(()) => {}
+        Err(_) => return Err(AllocError),
+    }
+    match append_all(files, name, bytes) {
+        Ok(()) => Ok(()),
+        Err(_) => Err(AllocError),
+    }
+}
+
+/// The exit status of a run with the files a, b and c, and what it writes, with `;` for the end of a line.
+pub fn run(
+    alloc: Global,
+    line: &str,
+    framework: &str,
+    answer: &str,
+    certificate: &[u8],
+) -> Result<String, AllocError> {
+    let mut files = MemFiles::new(alloc);
+    hold(&mut files, "a", with_ends(alloc, framework)?.as_bytes())?;
+    hold(&mut files, "b", with_ends(alloc, answer)?.as_bytes())?;
+    hold(&mut files, "c", certificate)?;
+    let mut words = Vec::new(alloc);
+    for word in line.split_whitespace() {
+        words.push(String::from_str(alloc, word)?)?;
+    }
+    let mut out = MemSink::new(alloc);
+    let code = execute(alloc, words.as_slice(), &mut files, &mut out)
+        .status
+        .code();
+    let text = String::from_utf8_lossy(alloc, out.bytes())?;
+    let text = text.as_str().replace(alloc, "\n", ";")?;
+    format!(in alloc; "{code} {text}")
+}
