@@ -5,8 +5,6 @@ pub mod certificate;
 mod order;
 mod ranges;
 pub mod row;
-#[cfg(test)]
-mod tests;
 pub mod verdict;
 
 pub use certificate::{Certificate, Refutation, Step};

@@ -17,6 +17,3 @@ pub use fault::{CertCause, CertFault};
 pub use laws::{one_reading, reading_is_exact};
 pub use read::read_certificate;
 pub use write::write_certificate;
-
-#[cfg(test)]
-mod tests;

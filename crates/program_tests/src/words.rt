@@ -1,4 +1,4 @@
-use crate::{CheckWords, Command, read_words};
+use argue_words::{CheckWords, Command, read_words};
 use std::alloc::{AllocError, Global};
 use std::test::Fail;
 

@@ -1,7 +1,7 @@
 //! What no clause says: that memory suffices. Whole runs over memory, each compared with what was worked out by hand.
 
-use crate::command::{execute, run};
 use argue_outside::{Files, MemFiles, MemSink, NoPace, append_all};
+use argue_program::command::{execute, run};
 use plain_lists::Items;
 use std::alloc::{AllocError, Global};
 use std::test::Fail;
@@ -26,50 +26,6 @@ fn code_of(
 ) -> Result<u8, AllocError> {
     let words = words_of(alloc, line)?;
     Ok(execute(alloc, words.as_slice(), files, out).status.code())
-}
-
-#[test]
-fn rows(rt: HostRuntime) -> Result<(), Fail> {
-    let rows = [
-        (QUERY, "p af 2\n1 2\n", "w 1\n", 0),
-        ("-f a -p SE-GR", "p af 3\n1 2\n2 3\n", "w 1 3\n", 0),
-        (QUERY, "p af 0\n", "w\n", 0),
-        (QUERY, "p af 4\n1 2\n2 1\n1 3\n2 3\n3 4\n", "w\n", 0),
-        (
-            QUERY,
-            "p af 7\n1 2\n3 1\n4 3\n5 6\n6 5\n5 7\n6 7\n",
-            "w 1 4\n",
-            0,
-        ),
-        (
-            QUERY,
-            "# x\n\n\tp af  3\r\n2 3\n \t\n01\t2\r\n #\n1 2",
-            "w 1 3\n",
-            0,
-        ),
-        (
-            QUERY,
-            "\n# x\n\np af 2\n1 2\n\n1\n0 1\n",
-            "error: framework line 7 BadLine\n",
-            2,
-        ),
-        (QUERY, "", "error: framework line 1 NoHeader\n", 2),
-        ("-p SE-GR -f b", "p af 1\n", "error: read framework\n", 3),
-        ("-p SE-XX -f a", "p af 1\n", "error: usage\n", 1),
-        ("-p SE-GR", "p af 1\n", "error: usage\n", 1),
-        ("--help", "p af 1\n", "error: usage\n", 1),
-        ("", "", "argue 1.0\n", 0),
-    ];
-    for (line, text, output, code) in rows {
-        let mut files = MemFiles::new(rt.alloc());
-        let mut out = MemSink::new(rt.alloc());
-        files.clear("a")?;
-        append_all(&mut files, "a", text.as_bytes())?;
-        let ended = code_of(rt.alloc(), line, &mut files, &mut out)?;
-        assert!(rt; ended == code, "status at {output:?}");
-        assert!(rt; out.bytes() == output.as_bytes(), "output at {output:?}");
-    }
-    Ok(())
 }
 
 /// The list of one number.

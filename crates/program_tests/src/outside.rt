@@ -2,7 +2,7 @@
 
 ghost use Rattle.std.specs.Prelude.{◌≡◌, [], IsTrue};
 
-use crate::{
+use argue_outside::{
     Files, MemFiles, MemSink, NoPace, Pace, Planned, Point, ReadStop, RealFiles, Role, Sink,
     append_all, put_all, read_all,
 };

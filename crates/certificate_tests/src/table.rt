@@ -1,6 +1,6 @@
 //! A table that is filled and asked.
 
-use crate::AtomTable;
+use atom_table::AtomTable;
 use meaning_atoms::Atom;
 use std::test::Fail;
 

@@ -1,6 +1,6 @@
 //! Lists of sets in order and out of it, and with one set in another.
 
-use crate::{Cause, none_within, sets_rise};
+use certificate_claims::{Cause, none_within, sets_rise};
 use set_lists::NumSet;
 use std::test::Fail;
 

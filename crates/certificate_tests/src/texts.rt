@@ -1,6 +1,8 @@
 //! What no clause says: the worked certificate both ways, and a table of texts with their faults.
 
-use crate::{CertFault, one_reading, read_certificate, reading_is_exact, write_certificate};
+use certificate_text::{
+    CertFault, one_reading, read_certificate, reading_is_exact, write_certificate,
+};
 use plain_lists::{Bytes, Memory};
 use std::alloc::Global;
 use std::test::Fail;
