@@ -6,7 +6,7 @@ use Rattle.num_text.specs.Number.{digits_value}
 use Rattle.iccma_tasks.specs.declared.task.Problem.{Problem}
 use Rattle.iccma_tasks.specs.declared.task.Problem.TheVariants.{Credulous, Sceptical, SomeExtension, AllExtensions}
 use Rattle.iccma_tasks.specs.declared.task.Semantics.{Semantics}
-use Rattle.iccma_tasks.specs.declared.task.Semantics.TheVariants.{SemiStable, Ideal}
+use Rattle.iccma_tasks.specs.declared.task.Semantics.TheVariants.{SemiStable}
 use Rattle.iccma_tasks.specs.declared.task.Task.{Task}
 use Rattle.iccma_tasks.specs.Tasks.{Asked, all_tasks, task_name}
 
@@ -35,9 +35,8 @@ fits_task SomeExtension None = true
 fits_task AllExtensions (Some n) = false
 fits_task AllExtensions None = true
 
--- the checker has the task: it doesn't have ideal sets, nor all semi-stable ones
+-- the checker has the task: it doesn't have all semi-stable sets
 abbrev pub is_checked : Problem → Semantics → Bool
-is_checked problem Ideal = false
 is_checked AllExtensions SemiStable = false
 is_checked problem semantics = true
 

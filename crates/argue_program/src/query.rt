@@ -25,12 +25,12 @@ fn number_in(text: &str) -> Option<u32>
     decimal(text.as_bytes())
 }
 
-// Whether the checker has the task: it doesn't have ideal sets, nor all semi-stable ones.
+// Whether the checker has the task: it doesn't have all semi-stable sets.
 fn is_checked(task: Task) -> bool
     ensures { result ≡ is_checked task.problem task.semantics }
 {
     match (task.problem, task.semantics) {
-        (_, Semantics::Ideal) | (Problem::AllExtensions, Semantics::SemiStable) => false,
+        (Problem::AllExtensions, Semantics::SemiStable) => false,
         _ => true,
     }
 }

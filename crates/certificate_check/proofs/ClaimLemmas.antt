@@ -172,7 +172,7 @@ pub one_is : (f : Framework) (cs : List Claim) (c : Claim) (given table : TableC
 one_is f cs c given table e same is =
     subst (λ xs. AreClaims f xs (table ∷ [])) (sym e) (subst (λ t. IsClaimOf f c t) same is, record {})
 
-claims_push : (f : Framework) (cs : List Claim) (ts : List TableClaim) (c : Claim) (t : TableClaim) → AreClaims f cs ts
+pub claims_push : (f : Framework) (cs : List Claim) (ts : List TableClaim) (c : Claim) (t : TableClaim) → AreClaims f cs ts
     → IsClaimOf f c t → AreClaims f (cs ++ c ∷ []) (ts ++ t ∷ [])
 claims_push f [] [] c t all is = (is, record {})
 claims_push f (b ∷ cs) (u ∷ ts) c t all is = (all.0, claims_push f cs ts c t all.1 is)

@@ -8,3 +8,4 @@ pub mod ClaimLemmas
 pub mod FlawLemmas
 pub mod SectionLemmas
 pub mod RowLemmas
+pub mod HitLemmas

@@ -27,7 +27,7 @@ shown_known Grounded e says h = (record {}, record {})
 shown_known Preferred e says h = (record {}, record {})
 shown_known Stable e says h = (record {}, record {})
 shown_known SemiStable e says h = (record {}, record {})
-shown_known Ideal e says h = absurd h
+shown_known Ideal e says h = (record {}, record {})
 
 none_known : (f : Framework) (s : Semantics) (q : ℕ) → IsReachedTask Credulous s
     → IsTestedRow (none_accepts f s q) s × IsReached (none_accepts f s q)
@@ -36,7 +36,7 @@ none_known f Grounded q h = (record {}, record {})
 none_known f Preferred q h = (record {}, record {})
 none_known f Stable q h = (record {}, record {})
 none_known f SemiStable q h = (record {}, record {})
-none_known f Ideal q h = absurd h
+none_known f Ideal q h = (record {}, record {})
 
 each_known : (f : Framework) (s : Semantics) (q : ℕ) → IsReachedTask Credulous s
     → IsTestedRow (each_accepts f s q) s × IsReached (each_accepts f s q)
@@ -45,7 +45,7 @@ each_known f Grounded q h = (record {}, record {})
 each_known f Preferred q h = (record {}, record {})
 each_known f Stable q h = (record {}, record {})
 each_known f SemiStable q h = (record {}, record {})
-each_known f Ideal q h = absurd h
+each_known f Ideal q h = (record {}, record {})
 
 no_known : (s : Semantics) → IsTestedRow (there_is_none s) s × IsReached (there_is_none s)
 no_known Complete = (record {}, record {})
@@ -62,7 +62,7 @@ all_known Grounded sets h = (record {}, record {})
 all_known Preferred sets h = (record {}, record {})
 all_known Stable sets h = (record {}, record {})
 all_known SemiStable sets h = absurd h
-all_known Ideal sets h = absurd h
+all_known Ideal sets h = (record {}, record {})
 
 reached_as_dc : (p : Problem) (s : Semantics) → IsReachedTask p s → (s ≡ s) × IsReachedTask Credulous s
 reached_as_dc p Complete h = (refl, record {})
@@ -70,10 +70,7 @@ reached_as_dc p Grounded h = (refl, record {})
 reached_as_dc p Preferred h = (refl, record {})
 reached_as_dc p Stable h = (refl, record {})
 reached_as_dc p SemiStable h = (refl, record {})
-reached_as_dc Credulous Ideal h = absurd h
-reached_as_dc Sceptical Ideal h = absurd h
-reached_as_dc SomeExtension Ideal h = absurd h
-reached_as_dc AllExtensions Ideal h = absurd h
+reached_as_dc p Ideal h = (refl, record {})
 
 credulous_known : (f : Framework) (s : Semantics) (q : ℕ) (answer : Answer) → IsReachedTask Credulous s
     → IsTestedRow (credulous_row f s q answer) s × IsReached (credulous_row f s q answer)

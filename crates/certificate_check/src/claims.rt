@@ -4,7 +4,7 @@ ghost use Rattle.std.specs.Prelude.{◌≡◌, ◌∷◌, ◌++◌, [], ℕ, Lis
 ghost use Rattle.semantics.specs.Frameworks.{Framework as AnyFramework};
 ghost use Rattle.meaning_atoms.specs.declared.atom.Atom.TheVariants.{Ad};
 ghost use Rattle.meaning_atoms.specs.Literals.{affirmed};
-ghost use Rattle.certificate_claims.specs.Claims.{claim_of, claims, range_free};
+ghost use Rattle.certificate_claims.specs.Claims.{claim_of, claims, ideal_claims, range_free};
 ghost use Rattle.certificate_claims.specs.declared.row.Row.TheVariants.{AllLargest, AllTested, Covered, Excluded, Largest, Ranged, Widest};
 ghost use Rattle.edit_rules.specs.Kinds.{framework_of};
 ghost use Rattle.certificate_claims.specs.SetLiterals.{are_in, are_out, are_ranged, hit_by_any, outside, range_of};
@@ -13,6 +13,7 @@ ghost use Rattle.certificate_check.specs.SetFacts.{IsHitBy, IsReached};
 ghost use Rattle.certificate_check.specs.SideClauses.{sides_of};
 
 use crate::claim::Claim;
+use crate::hits::hit_by;
 use crate::rows::{copies, goal_literal, one, opposite, two, yes};
 use crate::sides::SideKind;
 use certificate_claims::Row;
@@ -256,6 +257,44 @@ fn ranged_claims(
     Ok(list)
 }
 
+/// The claims that a set is the ideal set: no admissible set attacks it, and the others leave nothing larger.
+fn ideal_pair(
+    alloc: Global,
+    framework: &Framework,
+    set: &NumSet,
+    others: &[NumSet],
+) -> Result<Items<Claim>, Memory>
+    ensures { IfOk result (λ cs. AreClaims (framework_of framework.now) cs
+        (ideal_claims (framework_of framework.now) (set.now ∷ others.now))) }
+{
+    let hit = hit_by(alloc, framework, others)?;
+    let fixed = one(alloc, yes(Atom::Ad))?;
+    let sides = one_set(alloc, set)?;
+    let free = few_goals(alloc, fixed, SideKind::Attacked, sides);
+    let mut list = one_claim(alloc, free)?;
+    let ideal = ideal_claim(alloc, set, hit)?;
+    list.push(ideal)?;
+    Ok(list)
+}
+
+/// The claims that the first of the sets is the ideal set, if there is one.
+fn ideal_claims_of(
+    alloc: Global,
+    framework: &Framework,
+    sets: &[NumSet],
+) -> Result<Items<Claim>, Memory>
+    ensures { IfOk result (λ cs. AreClaims (framework_of framework.now) cs
+        (ideal_claims (framework_of framework.now) sets.now)) }
+{
+    match sets {
+        [] => Ok(Items::new(alloc)),
+        [set, others @ ..] => {
+            let list = ideal_pair(alloc, framework, set, others)?;
+            Ok(list)
+        }
+    }
+}
+
 /// The claims of a row.
 pub(crate) fn claims_of(
     alloc: Global,
@@ -281,6 +320,7 @@ pub(crate) fn claims_of(
             all.as_slice(),
         )?),
         Row::AllLargest(all) => Ok(all_largest_claims(alloc, framework, all.as_slice())?),
-        Row::Ideal(_, _) | Row::AllWidest(_) => Ok(Items::new(alloc)),
+        Row::Ideal(_, _) => Ok(ideal_claims_of(alloc, framework, sets)?),
+        Row::AllWidest(_) => Ok(Items::new(alloc)),
     }
 }

@@ -5,6 +5,7 @@ mod bench;
 mod claim;
 mod claims;
 mod closed;
+mod hits;
 mod kinds;
 mod refuting;
 mod rows;
