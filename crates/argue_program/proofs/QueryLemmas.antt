@@ -1,5 +1,5 @@
 -- The query of a task's name and a number's text.
-use Rattle.std.proofs.Common.{true≢false, ◌≡◌, ◌≢◌, ◌∙◌, ◌&&◌, ℕ, ◌<◌, ◌≤◌, ◌^◌, Bool, true, false, List, [], ◌∷◌, length, get_or, refl, sym, ap, subst, arith, Option, None, Some, inl, inr, nat_le, nat_lt}
+use Rattle.std.proofs.Common.{◌≡◌, ◌≢◌, ◌∙◌, ◌&&◌, ℕ, ◌<◌, ◌≤◌, ◌^◌, Bool, true, false, List, [], ◌∷◌, length, get_or, refl, sym, ap, subst, arith, Option, None, Some, inl, inr, nat_le, nat_lt}
 use Rattle.std.specs.Prelude.{All, Contains, IfNone, IfSome, IsNone, ◌↔◌, Result, Ok, Err, IfOk, OnErr}
 use Rattle.std.specs.List.{list_all}
 use Rattle.std.specs.Str.{bytes_eq}
@@ -16,8 +16,7 @@ use Rattle.iccma_tasks.specs.declared.task.Semantics.{Semantics}
 use Rattle.iccma_tasks.specs.declared.task.Semantics.TheVariants.{Complete, Grounded, Preferred, Stable, SemiStable, Ideal}
 use Rattle.iccma_tasks.specs.declared.task.Task.{Task}
 use Rattle.iccma_tasks.specs.Tasks.{Asked, FitsTask, HasTask, IsTask, all_tasks, task_name, task_of}
-use Rattle.certificate_check.specs.SetFacts.{IsReachedTask}
-use Rattle.argue_program.specs.Queries.{asked_with, first_named, is_checked, fits_task, number_of, spells_number}
+use Rattle.argue_program.specs.Queries.{asked_with, first_named, fits_task, number_of, spells_number}
 
 -- ---- tasks
 
@@ -170,30 +169,3 @@ query_found task number None some none = elim (cases_Bool (fits_task task.proble
   | inl fits ↦ absurd (none.0 refl (fits_from task.problem number fits))
   | inr other ↦ sym (cond-false _ (Some (record { task = task; number = number })) None other)
 ]
-
--- the checker reaches what it has
-pub task_reached : (p : Problem) (s : Semantics) → is_checked p s ≡ true → IsReachedTask p s
-task_reached Credulous Complete is = tt
-task_reached Credulous Grounded is = tt
-task_reached Credulous Preferred is = tt
-task_reached Credulous Stable is = tt
-task_reached Credulous SemiStable is = tt
-task_reached Credulous Ideal is = absurd (true≢false (sym is))
-task_reached Sceptical Complete is = tt
-task_reached Sceptical Grounded is = tt
-task_reached Sceptical Preferred is = tt
-task_reached Sceptical Stable is = tt
-task_reached Sceptical SemiStable is = tt
-task_reached Sceptical Ideal is = absurd (true≢false (sym is))
-task_reached SomeExtension Complete is = tt
-task_reached SomeExtension Grounded is = tt
-task_reached SomeExtension Preferred is = tt
-task_reached SomeExtension Stable is = tt
-task_reached SomeExtension SemiStable is = tt
-task_reached SomeExtension Ideal is = absurd (true≢false (sym is))
-task_reached AllExtensions Complete is = tt
-task_reached AllExtensions Grounded is = tt
-task_reached AllExtensions Preferred is = tt
-task_reached AllExtensions Stable is = tt
-task_reached AllExtensions SemiStable is = absurd (true≢false (sym is))
-task_reached AllExtensions Ideal is = absurd (true≢false (sym is))

@@ -5,8 +5,6 @@ use Rattle.std.specs.Str.{bytes_eq}
 use Rattle.num_text.specs.Number.{digits_value}
 use Rattle.iccma_tasks.specs.declared.task.Problem.{Problem}
 use Rattle.iccma_tasks.specs.declared.task.Problem.TheVariants.{Credulous, Sceptical, SomeExtension, AllExtensions}
-use Rattle.iccma_tasks.specs.declared.task.Semantics.{Semantics}
-use Rattle.iccma_tasks.specs.declared.task.Semantics.TheVariants.{SemiStable, Ideal}
 use Rattle.iccma_tasks.specs.declared.task.Task.{Task}
 use Rattle.iccma_tasks.specs.Tasks.{Asked, all_tasks, task_name}
 
@@ -35,27 +33,18 @@ fits_task SomeExtension None = true
 fits_task AllExtensions (Some n) = false
 fits_task AllExtensions None = true
 
--- the checker has the task: it doesn't have ideal sets, nor all semi-stable ones
-abbrev pub is_checked : Problem → Semantics → Bool
-is_checked problem Ideal = false
-is_checked AllExtensions SemiStable = false
-is_checked problem semantics = true
-
 abbrev pub asked_with : Task → Option ℕ → Option Asked
 asked_with task number = if fits_task task.problem number then Some (record { task = task; number = number }) else None
 
-abbrev pub asked_if : Task → Option ℕ → Option Asked
-asked_if task number = if is_checked task.problem task.semantics then asked_with task number else None
-
 abbrev pub asked_about : Task → Option ℕ → Option Asked
 asked_about task None = None
-asked_about task (Some n) = asked_if task (Some n)
+asked_about task (Some n) = asked_with task (Some n)
 
 abbrev pub asked_of : Option Task → Option (List ℕ) → Option Asked
 asked_of None number = None
-asked_of (Some task) None = asked_if task None
+asked_of (Some task) None = asked_with task None
 asked_of (Some task) (Some text) = asked_about task (number_of text)
 
--- the query, where there is such a task, the checker has it, the text is a number, and the task wants what is given
+-- the query, where there is such a task, the text is a number, and the task wants what is given
 unfoldable pub asked_by : List ℕ → Option (List ℕ) → Option Asked
 asked_by task number = asked_of (first_named all_tasks task) number

@@ -1,13 +1,12 @@
 //! The check of an answer with its certificate.
 
-ghost use Rattle.std.specs.Prelude.{◌≡◌, ◌≢◌, ◌⊎◌, ◌≤◌, length, IfErr, IfOk, IsErrOf, IsSome, OnOk, true};
+ghost use Rattle.std.specs.Prelude.{◌≡◌, ◌≢◌, ◌⊎◌, ◌≤◌, length, IfErr, IfOk, IsErrOf, IsSome, OnOk};
 ghost use Rattle.argue_outside.specs.declared.Role.{Role as ARole};
 ghost use Rattle.argue_words.specs.Words.{check_texts};
 ghost use Rattle.edit_rules.specs.Kinds.{framework_of};
 ghost use Rattle.num_text.specs.declared.limit.TheConstants.{INPUT_LIMIT};
 ghost use Rattle.argue_program.specs.Checks.{CheckEnds, ChecksFiles, EndsChecking, HasCheckBytes, IsChecked, IsTextFault, answer_status, certificate_status, check_inputs};
 ghost use Rattle.argue_program.specs.Inputs.{StopsReading, reading};
-ghost use Rattle.argue_program.specs.Queries.{is_checked};
 ghost use Rattle.argue_program.specs.Texts.{common_text};
 
 use crate::ended::{Cause, Refusal, Status};
@@ -126,9 +125,7 @@ fn parse(alloc: Global, bytes: &CheckBytes) -> Result<Checked, Status>
 }
 
 /// Checks the answer to a query with its certificate. `Ok` where the certificate is accepted, else how the run ends.
-#[tactic(auto, using(crate::proofs::QueryLemmas::task_reached))]
 fn judge(alloc: Global, query: &Query, read: &Checked) -> Result<(), Status>
-    requires { is_checked query.now.task.problem query.now.task.semantics ≡ true }
     ensures ok { OnOk result (CheckEnds (framework_of read.now.framework) query.now read.now.answer read.now.certificate
         Status.Done) }
     ensures err { IfErr result (λ end. (end ≡ Status.WantOfMemory) ⊎ CheckEnds (framework_of read.now.framework) query.now
@@ -162,7 +159,6 @@ pub(crate) fn check_files<F: Files>(
     query: &Query,
     words: &CheckWords<'_>,
 ) -> Result<(), Status>
-    requires { is_checked query.now.task.problem query.now.task.semantics ≡ true }
     ensures ok { OnOk result (ChecksFiles (F.holds files.old) query.now (check_texts words.now) Status.Done) }
     ensures err { IfErr result (EndsChecking (reading (F.holds files.old) (F.serves files.old) (F.read_count files.old)
         (F.read_count files.new)) query.now (check_texts words.now)) }

@@ -9,7 +9,7 @@ use Rattle.certificate_claims.specs.declared.certificate.Refutation.{Refutation}
 use Rattle.certificate_claims.specs.declared.certificate.Step.{Step}
 use Rattle.certificate_claims.specs.declared.verdict.Verdict.{Verdict}
 use Rattle.certificate_claims.specs.Acceptance.{no_refutation}
-use Rattle.certificate_check.specs.declared.claim.Claim.{Claim}
+use Rattle.answer_claims.specs.declared.claim.Claim.{Claim}
 use Rattle.certificate_check.specs.declared.refuting.Flaw.{Flaw}
 use Rattle.certificate_check.specs.declared.refuting.Flaw.TheVariants.{None as NoFlaw, BadStep, OpenLiteral}
 use Rattle.certificate_check.specs.Flaws.{HasFlaw, IsFlawWithin, flaw_told, no_claim, FlawAt, FindsFlaws}

@@ -1,15 +1,15 @@
 -- Literals that a fact makes false.
 use Rattle.std.proofs.Common.{◌≡◌, [], Bool, true, false, not, ap, subst, sym, refl}
 use Rattle.std.specs.Prelude.{◌↔◌, IsTrue}
+use Rattle.std.specs.Cmp.{both_ways}
 use Rattle.semantics.specs.Frameworks.{Framework}
 use Rattle.meaning_atoms.specs.declared.atom.Atom.{Atom}
 use Rattle.af_axioms.specs.Facts.{IsFactValue}
-use Rattle.certificate_check.proofs.SideLemmas.{same_truth}
 
 -- a fact has one value
 one_value : (f : Framework) (atom : Atom) (v w : Bool) → IsFactValue f atom v → IsFactValue f atom w → v ≡ w
 one_value f atom v w a b =
-    same_truth v w (λ h. (b.reading [] []).1 ((a.reading [] []).0 h)) (λ h. (a.reading [] []).1 ((b.reading [] []).0 h))
+    both_ways v w (λ h. (b.reading [] []).1 ((a.reading [] []).0 h)) (λ h. (a.reading [] []).1 ((b.reading [] []).0 h))
 
 pub true_fact : (f : Framework) (atom : Atom) (w : Bool) → IsFactValue f atom true → IsTrue w ↔ IsFactValue f atom w
 true_fact f atom w fact = (

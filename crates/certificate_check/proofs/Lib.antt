@@ -1,10 +1,7 @@
-pub mod BenchLemmas
-pub mod SideLemmas
-pub mod GoalLemmas
-pub mod RangeLemmas
-pub mod StepLemmas
-pub mod SetLemmas
-pub mod ClaimLemmas
-pub mod FlawLemmas
-pub mod SectionLemmas
-pub mod RowLemmas
+mod BenchLemmas
+mod GoalLemmas
+mod StepLemmas
+mod SetLemmas
+mod FlawLemmas
+mod SectionLemmas
+mod RowLemmas

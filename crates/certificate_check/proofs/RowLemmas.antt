@@ -1,123 +1,141 @@
 -- What is known of the rows of answers.
-use Rattle.std.proofs.Common.{◌≡◌, ℕ, Bool, true, false, List, [], ◌∷◌, refl}
+use Rattle.std.proofs.Common.{◌≡◌, ◌∙◌, ◌<◌, ℕ, Bool, true, false, List, [], ◌∷◌, length, get_or, refl, subst, sym}
 use Rattle.std.specs.Prelude.{◌↔◌, IsTrue, Option, Some, None}
 use Rattle.std.proofs.lemmas.Bool.{false≢true}
+use Rattle.std.proofs.lemmas.List.{get_or_default}
 use mathlib.Core.Bool.{beq}
+use Rattle.plain_lists.specs.Members.{IsWithin}
 use Rattle.semantics.specs.Frameworks.{Framework, af}
+use Rattle.meaning_atoms.specs.declared.atom.Atom.TheVariants.{Ad}
+use Rattle.meaning_atoms.specs.Worlds.{HoldsOf}
 use Rattle.iccma_tasks.specs.declared.answer.Answer.{Answer}
 use Rattle.iccma_tasks.specs.declared.answer.Answer.TheVariants.{Yes, No, Sets}
 use Rattle.iccma_tasks.specs.declared.task.Problem.{Problem}
 use Rattle.iccma_tasks.specs.declared.task.Problem.TheVariants.{Credulous, Sceptical, SomeExtension, AllExtensions}
 use Rattle.iccma_tasks.specs.declared.task.Semantics.{Semantics}
 use Rattle.iccma_tasks.specs.declared.task.Semantics.TheVariants.{Complete, Grounded, Preferred, Stable, SemiStable, Ideal}
-use Rattle.certificate_claims.specs.Acceptance.{GroundedSays}
-use Rattle.certificate_claims.specs.Claims.{shown, none_accepts, each_accepts, there_is_none, all_shown, credulous_row, sceptical_row, some_row, all_row, row_for}
-use Rattle.certificate_check.specs.SetFacts.{IsTestedRow, IsReached, IsReachedTask}
+use Rattle.iccma_tasks.specs.Tasks.{Asked}
+use Rattle.certificate_claims.specs.declared.row.Row.{Row}
+use Rattle.certificate_claims.specs.declared.row.Row.TheVariants.{Misshapen, Tested, Largest, Widest, Excluded, ByGrounded, Covered, Ranged, Ideal as IdealRow, AllTested, AllLargest, AllWidest}
+use Rattle.certificate_claims.specs.Acceptance.{GroundedSays, PassesTest}
+use Rattle.certificate_claims.specs.Claims.{shown, none_accepts, each_accepts, there_is_none, all_shown, credulous_row, sceptical_row, some_row, all_row, row_for, sets_of}
+use Rattle.certificate_claims.specs.SetLiterals.{members}
+use Rattle.answer_claims.specs.SetFacts.{AreSetsOf, HasSetsOf}
+use Rattle.certificate_check.specs.Standing.{IsFirstWithout}
+use Rattle.certificate_check.specs.Witnesses.{IsTestedRow, ShowsSets}
 
--- both facts of a row that the sections need
-abbrev Known : Framework → Problem → Semantics → Option ℕ → Answer → Type 0
-Known f problem semantics number answer =
-    IsTestedRow (row_for f problem semantics number answer) semantics
-    × IsReached (row_for f problem semantics number answer)
+-- what is known of a row, and of the sets that the answer shows
+abbrev Known : Row → Semantics → List (List ℕ) → Type 0
+Known row semantics shown = IsTestedRow row semantics × ShowsSets row shown
 
-shown_known : (s : Semantics) (e : List ℕ) (says : Option Bool) → IsReachedTask Credulous s
-    → IsTestedRow (shown s e says) s × IsReached (shown s e says)
-shown_known Complete e says h = (record {}, record {})
-shown_known Grounded e says h = (record {}, record {})
-shown_known Preferred e says h = (record {}, record {})
-shown_known Stable e says h = (record {}, record {})
-shown_known SemiStable e says h = (record {}, record {})
-shown_known Ideal e says h = absurd h
+shown_known : (s : Semantics) (e : List ℕ) (says : Option Bool) (sets : List (List ℕ)) → Known (shown s e says) s sets
+shown_known Complete e says sets = (record {}, record {})
+shown_known Grounded e says sets = (record {}, record {})
+shown_known Preferred e says sets = (record {}, record {})
+shown_known Stable e says sets = (record {}, record {})
+shown_known SemiStable e says sets = (record {}, record {})
+shown_known Ideal e says sets = (record {}, record {})
 
-none_known : (f : Framework) (s : Semantics) (q : ℕ) → IsReachedTask Credulous s
-    → IsTestedRow (none_accepts f s q) s × IsReached (none_accepts f s q)
-none_known f Complete q h = (record {}, record {})
-none_known f Grounded q h = (record {}, record {})
-none_known f Preferred q h = (record {}, record {})
-none_known f Stable q h = (record {}, record {})
-none_known f SemiStable q h = (record {}, record {})
-none_known f Ideal q h = absurd h
+none_known : (f : Framework) (s : Semantics) (q : ℕ) (sets : List (List ℕ)) → Known (none_accepts f s q) s sets
+none_known f Complete q sets = (record {}, record {})
+none_known f Grounded q sets = (record {}, record {})
+none_known f Preferred q sets = (record {}, record {})
+none_known f Stable q sets = (record {}, record {})
+none_known f SemiStable q sets = (record {}, record {})
+none_known f Ideal q sets = (record {}, record {})
 
-each_known : (f : Framework) (s : Semantics) (q : ℕ) → IsReachedTask Credulous s
-    → IsTestedRow (each_accepts f s q) s × IsReached (each_accepts f s q)
-each_known f Complete q h = (record {}, record {})
-each_known f Grounded q h = (record {}, record {})
-each_known f Preferred q h = (record {}, record {})
-each_known f Stable q h = (record {}, record {})
-each_known f SemiStable q h = (record {}, record {})
-each_known f Ideal q h = absurd h
+each_known : (f : Framework) (s : Semantics) (q : ℕ) (sets : List (List ℕ)) → Known (each_accepts f s q) s sets
+each_known f Complete q sets = (record {}, record {})
+each_known f Grounded q sets = (record {}, record {})
+each_known f Preferred q sets = (record {}, record {})
+each_known f Stable q sets = (record {}, record {})
+each_known f SemiStable q sets = (record {}, record {})
+each_known f Ideal q sets = (record {}, record {})
 
-no_known : (s : Semantics) → IsTestedRow (there_is_none s) s × IsReached (there_is_none s)
-no_known Complete = (record {}, record {})
-no_known Grounded = (record {}, record {})
-no_known Preferred = (record {}, record {})
-no_known Stable = (record {}, record {})
-no_known SemiStable = (record {}, record {})
-no_known Ideal = (record {}, record {})
+no_known : (s : Semantics) (sets : List (List ℕ)) → Known (there_is_none s) s sets
+no_known Complete sets = (record {}, record {})
+no_known Grounded sets = (record {}, record {})
+no_known Preferred sets = (record {}, record {})
+no_known Stable sets = (record {}, record {})
+no_known SemiStable sets = (record {}, record {})
+no_known Ideal sets = (record {}, record {})
 
-all_known : (s : Semantics) (sets : List (List ℕ)) → IsReachedTask AllExtensions s
-    → IsTestedRow (all_shown s sets) s × IsReached (all_shown s sets)
-all_known Complete sets h = (record {}, record {})
-all_known Grounded sets h = (record {}, record {})
-all_known Preferred sets h = (record {}, record {})
-all_known Stable sets h = (record {}, record {})
-all_known SemiStable sets h = absurd h
-all_known Ideal sets h = absurd h
+all_known : (s : Semantics) (sets : List (List ℕ)) → Known (all_shown s sets) s sets
+all_known Complete sets = (record {}, record {})
+all_known Grounded sets = (record {}, record {})
+all_known Preferred sets = (record {}, record {})
+all_known Stable sets = (record {}, record {})
+all_known SemiStable sets = (record {}, refl)
+all_known Ideal sets = (record {}, record {})
 
-reached_as_dc : (p : Problem) (s : Semantics) → IsReachedTask p s → (s ≡ s) × IsReachedTask Credulous s
-reached_as_dc p Complete h = (refl, record {})
-reached_as_dc p Grounded h = (refl, record {})
-reached_as_dc p Preferred h = (refl, record {})
-reached_as_dc p Stable h = (refl, record {})
-reached_as_dc p SemiStable h = (refl, record {})
-reached_as_dc Credulous Ideal h = absurd h
-reached_as_dc Sceptical Ideal h = absurd h
-reached_as_dc SomeExtension Ideal h = absurd h
-reached_as_dc AllExtensions Ideal h = absurd h
+credulous_known : (f : Framework) (s : Semantics) (q : ℕ) (answer : Answer)
+    → Known (credulous_row f s q answer) s (sets_of answer)
+credulous_known f s q (Yes (Some e)) = shown_known s e (Some true) (e ∷ [])
+credulous_known f s q (No None) = none_known f s q []
+credulous_known f s q (Yes None) = (record {}, record {})
+credulous_known f s q (No (Some e)) = (record {}, record {})
+credulous_known f s q (Sets sets) = (record {}, record {})
 
-credulous_known : (f : Framework) (s : Semantics) (q : ℕ) (answer : Answer) → IsReachedTask Credulous s
-    → IsTestedRow (credulous_row f s q answer) s × IsReached (credulous_row f s q answer)
-credulous_known f s q (Yes (Some e)) h = shown_known s e (Some true) h
-credulous_known f s q (No None) h = none_known f s q h
-credulous_known f s q (Yes None) h = (record {}, record {})
-credulous_known f s q (No (Some e)) h = (record {}, record {})
-credulous_known f s q (Sets sets) h = (record {}, record {})
+sceptical_known : (f : Framework) (s : Semantics) (q : ℕ) (answer : Answer)
+    → Known (sceptical_row f s q answer) s (sets_of answer)
+sceptical_known f s q (Yes None) = each_known f s q []
+sceptical_known f s q (No (Some e)) = shown_known s e (Some false) (e ∷ [])
+sceptical_known f s q (Yes (Some e)) = (record {}, record {})
+sceptical_known f s q (No None) = (record {}, record {})
+sceptical_known f s q (Sets sets) = (record {}, record {})
 
-sceptical_known : (f : Framework) (s : Semantics) (q : ℕ) (answer : Answer) → IsReachedTask Credulous s
-    → IsTestedRow (sceptical_row f s q answer) s × IsReached (sceptical_row f s q answer)
-sceptical_known f s q (Yes None) h = each_known f s q h
-sceptical_known f s q (No (Some e)) h = shown_known s e (Some false) h
-sceptical_known f s q (Yes (Some e)) h = (record {}, record {})
-sceptical_known f s q (No None) h = (record {}, record {})
-sceptical_known f s q (Sets sets) h = (record {}, record {})
+some_known : (s : Semantics) (answer : Answer) → Known (some_row s answer) s (sets_of answer)
+some_known s (Sets (e ∷ [])) = shown_known s e None (e ∷ [])
+some_known s (Sets []) = (record {}, record {})
+some_known s (Sets (e ∷ d ∷ more)) = (record {}, record {})
+some_known s (No None) = no_known s []
+some_known s (No (Some e)) = (record {}, record {})
+some_known s (Yes e) = (record {}, record {})
 
-some_known : (s : Semantics) (answer : Answer) → IsReachedTask Credulous s
-    → IsTestedRow (some_row s answer) s × IsReached (some_row s answer)
-some_known s (Sets (e ∷ [])) h = shown_known s e None h
-some_known s (Sets []) h = (record {}, record {})
-some_known s (Sets (e ∷ d ∷ more)) h = (record {}, record {})
-some_known s (No None) h = no_known s
-some_known s (No (Some e)) h = (record {}, record {})
-some_known s (Yes e) h = (record {}, record {})
+every_known : (s : Semantics) (answer : Answer) → Known (all_row s answer) s (sets_of answer)
+every_known s (Sets []) = (record {}, record {})
+every_known s (Sets (e ∷ more)) = all_known s (e ∷ more)
+every_known s (No None) = no_known s []
+every_known s (No (Some e)) = (record {}, record {})
+every_known s (Yes e) = (record {}, record {})
 
-every_known : (s : Semantics) (answer : Answer) → IsReachedTask AllExtensions s
-    → IsTestedRow (all_row s answer) s × IsReached (all_row s answer)
-every_known s (Sets []) h = (record {}, record {})
-every_known s (Sets (e ∷ more)) h = all_known s (e ∷ more) h
-every_known s (No None) h = no_known s
-every_known s (No (Some e)) h = (record {}, record {})
-every_known s (Yes e) h = (record {}, record {})
+pub row_known : (f : Framework) (p : Problem) (s : Semantics) (number : Option ℕ) (answer : Answer)
+    → Known (row_for f p s number answer) s (sets_of answer)
+row_known f Credulous s (Some q) answer = credulous_known f s q answer
+row_known f Credulous s None answer = (record {}, record {})
+row_known f Sceptical s (Some q) answer = sceptical_known f s q answer
+row_known f Sceptical s None answer = (record {}, record {})
+row_known f SomeExtension s None answer = some_known s answer
+row_known f SomeExtension s (Some q) answer = (record {}, record {})
+row_known f AllExtensions s None answer = every_known s answer
+row_known f AllExtensions s (Some q) answer = (record {}, record {})
 
-pub row_known : (f : Framework) (p : Problem) (s : Semantics) (number : Option ℕ) (answer : Answer) → IsReachedTask p s
-    → Known f p s number answer
-row_known f Credulous s (Some q) answer h = credulous_known f s q answer h
-row_known f Credulous s None answer h = (record {}, record {})
-row_known f Sceptical s (Some q) answer h = sceptical_known f s q answer (reached_as_dc Sceptical s h).1
-row_known f Sceptical s None answer h = (record {}, record {})
-row_known f SomeExtension s None answer h = some_known s answer (reached_as_dc SomeExtension s h).1
-row_known f SomeExtension s (Some q) answer h = (record {}, record {})
-row_known f AllExtensions s None answer h = every_known s answer h
-row_known f AllExtensions s (Some q) answer h = (record {}, record {})
+-- sets that pass their tests have members of the framework alone
+admissible_live : (f : Framework) (e : List ℕ) → HoldsOf f e Ad → IsWithin e (members f)
+admissible_live (af f) e is = is.conflict_free.live
+
+each_live : (f : Framework) (sets : List (List ℕ)) → ((k : ℕ) → k < length sets → HoldsOf f (get_or sets k []) Ad)
+    → AreSetsOf f sets
+each_live f sets all = record {
+  within = λ s c. subst (λ x. IsWithin x (members f)) (get_or_default sets c.0 [] s c.1 ∙ c.2)
+      (admissible_live f (get_or sets c.0 []) (all c.0 c.1));
+}
+
+pub tested_sets : (f : Framework) (asked : Asked) (row : Row) (listed : List (List ℕ)) → ShowsSets row listed
+    → IsFirstWithout (λ k. PassesTest f asked row (get_or listed k [])) (length listed) None → HasSetsOf f row
+tested_sets f asked (AllWidest sets) listed same all = each_live f sets (λ k lt.
+    subst (λ l. HoldsOf f (get_or l k []) Ad) (sym same) (all k (subst (λ l. k < length l) same lt)))
+tested_sets f asked Misshapen listed same all = record {}
+tested_sets f asked (Tested e) listed same all = record {}
+tested_sets f asked (Largest e) listed same all = record {}
+tested_sets f asked (Widest e) listed same all = record {}
+tested_sets f asked (Excluded goals) listed same all = record {}
+tested_sets f asked (ByGrounded says) listed same all = record {}
+tested_sets f asked (Covered q) listed same all = record {}
+tested_sets f asked (Ranged bad) listed same all = record {}
+tested_sets f asked (IdealRow e says) listed same all = record {}
+tested_sets f asked (AllTested mode sets) listed same all = record {}
+tested_sets f asked (AllLargest sets) listed same all = record {}
 
 -- ---- the grounded set
 

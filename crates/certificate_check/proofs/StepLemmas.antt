@@ -11,9 +11,9 @@ use Rattle.meaning_atoms.specs.Literals.{denied}
 use Rattle.certificate_claims.specs.declared.certificate.Step.{Step}
 use Rattle.certificate_claims.specs.declared.certificate.Step.TheVariants.{Axiom, Side, Derived}
 use Rattle.certificate_claims.specs.Refutations.{StepHolds, step_clause, step_clauses, no_step}
-use Rattle.certificate_check.specs.declared.claim.Claim.{Claim}
-use Rattle.certificate_check.specs.declared.sides.SideKind.{SideKind}
-use Rattle.certificate_check.specs.SideClauses.{side_of, sides_of}
+use Rattle.answer_claims.specs.declared.claim.Claim.{Claim}
+use Rattle.answer_claims.specs.declared.sides.SideKind.{SideKind}
+use Rattle.answer_claims.specs.SideClauses.{side_of, sides_of}
 use Rattle.certificate_check.specs.Flaws.{EndsClosedBy}
 use Rattle.certificate_check.specs.Standing.{AreClosed, IsNamed, StandsBehind, StandsAt, TakesStep, IsFirstWithout}
 

@@ -8,11 +8,11 @@ use Rattle.certificate_claims.specs.declared.verdict.Cause.TheVariants.{BadStep 
 use Rattle.certificate_claims.specs.declared.certificate.Refutation.{Refutation}
 use Rattle.certificate_claims.specs.Acceptance.{no_refutation}
 use Rattle.certificate_claims.specs.Refutations.{no_step, step_clause}
-use Rattle.certificate_check.specs.declared.claim.Claim.{Claim}
-use Rattle.certificate_check.specs.declared.sides.SideKind.TheVariants.{Outside}
+use Rattle.answer_claims.specs.declared.claim.Claim.{Claim}
+use Rattle.answer_claims.specs.declared.sides.SideKind.TheVariants.{Outside}
 use Rattle.certificate_check.specs.declared.refuting.Flaw.{Flaw}
 use Rattle.certificate_check.specs.declared.refuting.Flaw.TheVariants.{None as NoFlaw, BadStep, OpenLiteral}
-use Rattle.certificate_check.specs.SideClauses.{sides_of}
+use Rattle.answer_claims.specs.SideClauses.{sides_of}
 use Rattle.certificate_check.specs.Standing.{AreClosed, StandsAt, IsFirstWithout}
 
 -- there is a step, and each literal of the last one's clause is closed

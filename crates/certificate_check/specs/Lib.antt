@@ -1,7 +1,5 @@
 pub mod Benches
-pub mod SideClauses
-pub mod SetFacts
-pub mod ClaimParts
+pub mod Witnesses
 pub mod Standing
 pub mod Flaws
 pub mod Sections

@@ -7,15 +7,13 @@ ghost use Rattle.af_axioms.specs.Table.{table_clause};
 ghost use Rattle.certificate_claims.specs.declared.certificate.Step.TheVariants.{Side};
 ghost use Rattle.certificate_claims.specs.Refutations.{IsAxiomOf, IsNotAsked, axiom_clause, step_clause};
 ghost use Rattle.edit_rules.specs.Kinds.{framework_of};
-ghost use Rattle.certificate_check.specs.SetFacts.{IsRangeOf};
-ghost use Rattle.certificate_check.specs.SideClauses.{sides_of};
+ghost use Rattle.answer_claims.specs.SetFacts.{IsRangeOf};
+ghost use Rattle.answer_claims.specs.SideClauses.{sides_of};
 ghost use Rattle.certificate_check.specs.Standing.{AreClosed, IsClosedBy, IsNamed};
 
-use crate::claim::{Claim, is_goal};
 use crate::kinds::fact;
-use crate::rows::opposite;
-use crate::sides::side_clause;
 use af_axioms::clause_of;
+use answer_claims::{Claim, is_goal, opposite, side_clause};
 use certificate_claims::Step;
 use edit_rules::Framework;
 use meaning_atoms::{AfAxiom, Atom, AtomLit, AxiomName};

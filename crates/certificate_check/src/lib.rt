@@ -2,13 +2,9 @@
 #![tactic(auto)]
 
 mod bench;
-mod claim;
-mod claims;
 mod closed;
 mod kinds;
 mod refuting;
-mod rows;
-mod sides;
 mod steps;
 mod verdict;
 mod witness;

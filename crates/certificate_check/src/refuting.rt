@@ -6,10 +6,9 @@ ghost use Rattle.edit_rules.specs.Kinds.{framework_of};
 ghost use Rattle.certificate_check.specs.Flaws.{EndsClosedBy, FindsFlaws, HasFlaw, IsFlawWithin, flaw_told};
 ghost use Rattle.certificate_check.specs.Standing.{IsNamed};
 
-use crate::claim::Claim;
 use crate::closed::step_is_closed;
-use crate::kinds::range_of;
 use crate::steps::first_bad_step;
+use answer_claims::{Claim, range_of};
 use certificate_claims::{Cause, Refutation, Step, Verdict};
 use edit_rules::Framework;
 use plain_lists::Memory;

@@ -3,12 +3,12 @@
 ghost use Rattle.std.specs.Prelude.{◌≡◌, [], length, IfOk};
 ghost use Rattle.edit_rules.specs.Kinds.{framework_of};
 ghost use Rattle.certificate_claims.specs.declared.certificate.Step.TheVariants.{Axiom, Side, Derived};
-ghost use Rattle.certificate_check.specs.SideClauses.{sides_of};
+ghost use Rattle.answer_claims.specs.SideClauses.{sides_of};
 ghost use Rattle.certificate_check.specs.Standing.{TakesStep, StandsAt, IsFirstWithout};
 
 use crate::bench::Bench;
-use crate::sides::{SideKind, side_clause};
 use af_axioms::clause_of;
+use answer_claims::{SideKind, side_clause};
 use certificate_claims::Step;
 use edit_rules::Framework;
 use meaning_atoms::AxiomName;

@@ -1,19 +1,23 @@
 //! The check, section by section, each up to the first failure.
 
 ghost use Rattle.std.specs.Prelude.{◌≡◌, ◌↔◌, Some, IfOk, IsTrue};
-ghost use Rattle.certificate_claims.specs.Acceptance.{GroundedSays, NoneWithin, PassesGrounded, PassesOrder};
+ghost use Rattle.semantics.specs.Frameworks.{af};
+ghost use Rattle.certificate_claims.specs.Acceptance.{GroundedSays, NoneWithin, NoRangeWithin, PassesGrounded, PassesOrder};
 ghost use Rattle.certificate_claims.specs.Rights.{IsRight, SetsRise};
 ghost use Rattle.certificate_claims.specs.Verdicts.{IsVerdict, looks};
 ghost use Rattle.edit_rules.specs.Kinds.{framework_of};
+ghost use Rattle.answer_claims.specs.SetFacts.{AreSetsOf, HasSetsOf};
 ghost use Rattle.certificate_check.specs.Sections.{FindsFrom, after_order, after_set_count, after_sets, after_shape, after_witnesses};
-ghost use Rattle.certificate_check.specs.SetFacts.{IsReached, IsReachedTask, IsTestedRow};
+ghost use Rattle.certificate_check.specs.Witnesses.{IsTestedRow, ShowsSets, TellsApart};
 
-use crate::claims::claims_of;
 use crate::kinds::grounded_accepts;
 use crate::refuting::check_refutations;
-use crate::rows::{row, shown_sets};
 use crate::witness::{first_bad_set, first_bad_witness, is_shaped, takes_sets};
-use certificate_claims::{Cause, Certificate, Row, Verdict, none_within, sets_rise};
+use answer_claims::{claims_of, row, shown_sets};
+use certificate_claims::{
+    Cause, Certificate, Row, Verdict, no_range_within, none_within, sets_rise,
+};
+use dung_notions::AfPlain;
 use edit_rules::Framework;
 use iccma_tasks::{Answer, Query};
 use plain_lists::Memory;
@@ -29,7 +33,7 @@ fn check_refutation_count(
     shown: &[NumSet],
     certificate: &Certificate,
 ) -> Result<Verdict, Memory>
-    requires { IsReached row.now }
+    requires { HasSetsOf (framework_of framework.now) row.now }
     ensures { IfOk result (FindsFrom (framework_of framework.now) query.now row.now shown.now certificate.now
         (after_sets certificate.now)) }
 {
@@ -53,7 +57,7 @@ fn check_sets(
     shown: &[NumSet],
     certificate: &Certificate,
 ) -> Result<Verdict, Memory>
-    requires { IsReached row.now }
+    requires { HasSetsOf (framework_of framework.now) row.now }
     ensures { IfOk result (FindsFrom (framework_of framework.now) query.now row.now shown.now certificate.now
         (after_set_count certificate.now)) }
 {
@@ -74,7 +78,7 @@ fn check_set_count(
     shown: &[NumSet],
     certificate: &Certificate,
 ) -> Result<Verdict, Memory>
-    requires { IsReached row.now }
+    requires { HasSetsOf (framework_of framework.now) row.now }
     ensures { IfOk result (FindsFrom (framework_of framework.now) query.now row.now shown.now certificate.now
         (after_order certificate.now)) }
 {
@@ -87,15 +91,15 @@ fn check_set_count(
 }
 
 /// Whether the listed sets stand to each other as they have to.
-fn passes_order(framework: &Framework, row: &Row) -> bool
-    requires { IsReached row.now }
-    ensures { IsTrue result ↔ PassesOrder (framework_of framework.now) row.now }
+fn passes_order(alloc: Global, framework: &Framework, row: &Row) -> Result<bool, Memory>
+    requires { HasSetsOf (framework_of framework.now) row.now }
+    ensures { IfOk result (λ passes. IsTrue passes ↔ PassesOrder (framework_of framework.now) row.now) }
 {
-    let _kind = framework.kind();
     match row {
-        Row::AllTested(_, sets) => sets_rise(sets.as_slice()),
-        Row::AllLargest(sets) => rise_apart(sets.as_slice()),
-        _ => true,
+        Row::AllTested(_, sets) => Ok(sets_rise(sets.as_slice())),
+        Row::AllLargest(sets) => Ok(rise_apart(sets.as_slice())),
+        Row::AllWidest(sets) => Ok(rise_wide(alloc, framework, sets.as_slice())?),
+        _ => Ok(true),
     }
 }
 
@@ -104,6 +108,39 @@ fn rise_apart(sets: &[NumSet]) -> bool
     ensures { IsTrue result ↔ (SetsRise sets.now × NoneWithin sets.now) }
 {
     sets_rise(sets) && none_within(sets)
+}
+
+/// Whether sets rise and no range lies in another.
+fn rise_wide(alloc: Global, framework: &Framework, sets: &[NumSet]) -> Result<bool, Memory>
+    requires { AreSetsOf (framework_of framework.now) sets.now }
+    ensures { IfOk result (λ rise. IsTrue rise
+        ↔ (SetsRise sets.now × NoRangeWithin (framework_of framework.now) sets.now)) }
+{
+    let rise = sets_rise(sets);
+    if !rise {
+        return Ok(false);
+    }
+    let apart = ranges_apart(alloc, framework, sets)?;
+    Ok(apart)
+}
+
+/// Whether no set's range lies in another's, by the framework's kind.
+fn ranges_apart(alloc: Global, framework: &Framework, sets: &[NumSet]) -> Result<bool, Memory>
+    requires { AreSetsOf (framework_of framework.now) sets.now }
+    ensures { IfOk result (TellsApart (framework_of framework.now) sets.now) }
+{
+    match framework {
+        Framework::Af(plain) => af_ranges_apart(alloc, plain, sets),
+    }
+}
+
+/// The same in an abstract framework.
+fn af_ranges_apart(alloc: Global, plain: &AfPlain, sets: &[NumSet]) -> Result<bool, Memory>
+    requires { AreSetsOf (af plain.now) sets.now }
+    ensures { IfOk result (TellsApart (af plain.now) sets.now) }
+{
+    let apart = no_range_within(alloc, plain, sets)?;
+    Ok(apart)
 }
 
 /// Whether the grounded set accepts the query or doesn't, as the row says, if it does.
@@ -159,11 +196,11 @@ fn check_order(
     shown: &[NumSet],
     certificate: &Certificate,
 ) -> Result<Verdict, Memory>
-    requires { IsReached row.now }
+    requires { HasSetsOf (framework_of framework.now) row.now }
     ensures { IfOk result (FindsFrom (framework_of framework.now) query.now row.now shown.now certificate.now
         (after_witnesses certificate.now)) }
 {
-    let ordered = passes_order(framework, row);
+    let ordered = passes_order(alloc, framework, row)?;
     if !ordered {
         return Ok(Verdict::Rejected(Cause::BadWitness, 0, 0));
     }
@@ -184,7 +221,7 @@ fn check_witnesses(
     shown: &[NumSet],
     certificate: &Certificate,
 ) -> Result<Verdict, Memory>
-    requires reached { IsReached row.now }
+    requires sets { ShowsSets row.now shown.now }
     requires tested { IsTestedRow row.now query.now.task.semantics }
     ensures { IfOk result (FindsFrom (framework_of framework.now) query.now row.now shown.now certificate.now
         (after_shape shown.now certificate.now)) }
@@ -206,7 +243,7 @@ fn check_row(
     shown: &[NumSet],
     certificate: &Certificate,
 ) -> Result<Verdict, Memory>
-    requires reached { IsReached row.now }
+    requires sets { ShowsSets row.now shown.now }
     requires tested { IsTestedRow row.now query.now.task.semantics }
     ensures { IfOk result (FindsFrom (framework_of framework.now) query.now row.now shown.now certificate.now
         (looks shown.now certificate.now)) }
@@ -229,7 +266,6 @@ pub fn check(
     answer: &Answer,
     certificate: &Certificate,
 ) -> Result<Verdict, Memory>
-    requires reached { IsReachedTask query.now.task.problem query.now.task.semantics }
     ensures verdict { IfOk result (IsVerdict (framework_of framework.now) query.now answer.now certificate.now) }
     ensures right { IfOk result (λ v. v ≡ Verdict.Accepted
         → IsRight (framework_of framework.now) query.now answer.now) }

@@ -7,7 +7,7 @@ ghost use Rattle.certificate_claims.specs.declared.row.Row.TheVariants.{Ideal};
 ghost use Rattle.certificate_claims.specs.Acceptance.{AcceptsAsSaid, IsShaped, IsShown, PassesSet, PassesTest, Suits, TakesSets};
 ghost use Rattle.certificate_claims.specs.Rights.{IsExtension};
 ghost use Rattle.edit_rules.specs.Kinds.{framework_of};
-ghost use Rattle.certificate_check.specs.SetFacts.{IsTested, IsTestedRow};
+ghost use Rattle.certificate_check.specs.Witnesses.{IsTested, IsTestedRow};
 ghost use Rattle.certificate_check.specs.Standing.{IsFirstWithout};
 
 use crate::kinds::{accepts, is_admissible, is_extension};

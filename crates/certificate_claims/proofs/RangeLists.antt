@@ -2,8 +2,9 @@
 use Rattle.std.proofs.Common.{◌≡◌, ◌+◌, ◌<◌, ◌≤◌, ⊎_elim, inl, inr, ℕ, Bool, true, false, not, if◌then◌else◌, List, [], ◌∷◌, ◌++◌, length, get_or, map, filter, take, arith, refl, ap, sym, subst, ◌∙◌}
 use Rattle.std.specs.Prelude.{◌↔◌, IsTrue, Contains}
 use Rattle.std.specs.List.Sorted.{IsStrictlyIncreasing}
+use Rattle.std.specs.Cmp.{both_ways}
 use Rattle.std.proofs.lemmas.Bool.{cases_Bool, not_from_false}
-use Rattle.std.proofs.lemmas.List.{append-nil, map-append, take_more, take_all}
+use Rattle.std.proofs.lemmas.List.{append-nil, get_or-map, map-append, take_more, take_all}
 use Rattle.std.proofs.lemmas.List.Elements.{Contains-get_or, filter-append}
 use Rattle.std.proofs.lemmas.List.Kept.{IsStrictlyIncreasing-filter}
 use Rattle.plain_lists.specs.Members.{IsSetOf, IsWithin}
@@ -17,7 +18,7 @@ use Rattle.semantics.specs.Frameworks.{Framework, af, IsNumberedAf}
 use Rattle.certificate_claims.specs.declared.ranges.FirstRanged.{FirstRanged}
 use Rattle.certificate_claims.specs.Acceptance.{NoneWithin, NoRangeWithin}
 use Rattle.certificate_claims.specs.Claims.{first_ranged, has_ranged}
-use Rattle.certificate_claims.specs.Ranges.{AddsIfFirst, AddsIfRanged, AreLive, IsFirstRanged}
+use Rattle.certificate_claims.specs.Ranges.{AddsIfFirst, AddsIfRanged, AreLive, AreWithRange, IsFirstRanged}
 use Rattle.certificate_claims.specs.SetLiterals.{is_range_within, is_ranged, members, range_of, same_range}
 use Rattle.certificate_claims.proofs.SetTests.{chosen, passed, one_kept, one_lost, firsts_more, firsts_within, in_range_list, same_trans, within_from, within_gives}
 use Rattle.std.proofs.lemmas.Bool.{and_from, and_parts}
@@ -69,13 +70,7 @@ range_is f s r ok live is =
 
 -- ---- the same range
 
-same_truth : (a b : Bool) → (a ≡ true → b ≡ true) → (b ≡ true → a ≡ true) → a ≡ b
-same_truth true true there back = refl
-same_truth true false there back = sym (there refl)
-same_truth false true there back = back refl
-same_truth false false there back = refl
-
-kept_alike : (p q : ℕ → Bool) (xs : List ℕ) → ((a : ℕ) → Contains xs a → p a ≡ q a) → filter p xs ≡ filter q xs
+pub kept_alike : (p q : ℕ → Bool) (xs : List ℕ) → ((a : ℕ) → Contains xs a → p a ≡ q a) → filter p xs ≡ filter q xs
 kept_alike p q [] same = refl
 kept_alike p q (x ∷ xs) same =
     let rest = kept_alike p q xs (λ a c. same a (Contains-tail x xs a c)) in
@@ -86,7 +81,7 @@ pub equal_ranges : (f : Framework) (s t : List ℕ) → same_range f s t ≡ tru
 equal_ranges f s t h =
     let both = and_parts (is_range_within f s t) (is_range_within f t s) h in
     kept_alike (is_ranged f s) (is_ranged f t) (members f)
-    (λ a c. same_truth (is_ranged f s a) (is_ranged f t a) (within_gives f s t both.0 a c)
+    (λ a c. both_ways (is_ranged f s a) (is_ranged f t a) (within_gives f s t both.0 a c)
     (within_gives f t s both.1 a c))
 
 within_where_equal : (f : Framework) (s t : List ℕ) → range_of f s ≡ range_of f t → is_range_within f s t ≡ true
@@ -246,33 +241,55 @@ apart_where_lists f sets found b ok live is tells = (
 
 -- ---- the sets with a range
 
-pub adds_ranged : (f : Framework) (range own x copy : List ℕ) (old new : List (List ℕ)) (b : Bool)
-    → own ≡ range_of f x → (IsTrue b ↔ (own ≡ range)) → b ≡ true → copy ≡ x → new ≡ old ++ copy ∷ []
-    → AddsIfRanged f range x old new
-adds_ranged f range own x copy old new b is tells same is_copy more = record {
-  adds = λ e of.
+pub adds_ranged : (range own x copy : List ℕ) (old new : List (List ℕ)) (b : Bool)
+    → (IsTrue b ↔ (own ≡ range)) → b ≡ true → copy ≡ x → new ≡ old ++ copy ∷ [] → AddsIfRanged range own x old new
+adds_ranged range own x copy old new b tells same is_copy more = record {
+  adds = λ f e of is.
       let alike : same_range f e x ≡ true = same_ranges f e x (sym of ∙ (sym (tells.0 same) ∙ is)) in
       more ∙ (ap (λ y. old ++ y ∷ []) is_copy ∙ ap (λ l. old ++ l) (sym (one_kept (same_range f e) x alike)));
 }
 
-pub adds_other : (f : Framework) (range own x : List ℕ) (old : List (List ℕ)) (b : Bool)
-    → own ≡ range_of f x → (IsTrue b ↔ (own ≡ range)) → b ≡ false
-    → AddsIfRanged f range x old old
-adds_other f range own x old b is tells other = record {
-  adds = λ e of.
+pub adds_other : (range own x : List ℕ) (old : List (List ℕ)) (b : Bool)
+    → (IsTrue b ↔ (own ≡ range)) → b ≡ false → AddsIfRanged range own x old old
+adds_other range own x old b tells other = record {
+  adds = λ f e of is.
       let differ : same_range f e x ≡ false = ⊎_elim
       (λ alike. let true_ : b ≡ true = tells.1 (is ∙ (sym (equal_ranges f e x alike) ∙ sym of)) in absurd (cc))
       (λ no_. no_) (cases_Bool (same_range f e x)) in
       sym (ap (λ l. old ++ l) (one_lost (same_range f e) x differ) ∙ append-nil old);
 }
 
-pub ranged_more : (f : Framework) (e range : List ℕ) (sets : List (List ℕ)) (k : ℕ) (x : List ℕ)
-    (old new : List (List ℕ))
-    → k < length sets → x ≡ get_or sets k x → range ≡ range_of f e → old ≡ filter (same_range f e) (take k sets)
-    → AddsIfRanged f range x old new → new ≡ filter (same_range f e) (take (k + 1) sets)
-ranged_more f e range sets k x old new lt at of before adds =
+-- a range more of the list of them
+pub ranges_more : (f : Framework) (sets : List (List ℕ)) (k : ℕ) (x range : List ℕ) (old new : List (List ℕ))
+    → k < length sets → x ≡ get_or sets k x → old ≡ map (range_of f) (take k sets) → range ≡ range_of f x
+    → new ≡ old ++ range ∷ [] → new ≡ map (range_of f) (take (k + 1) sets)
+ranges_more f sets k x range old new lt at before is more =
+    let one : take (k + 1) sets ≡ take k sets ++ x ∷ [] =
+    take_more sets k x lt ∙ ap (λ y. take k sets ++ y ∷ []) (sym at) in
+    more ∙ (ap (λ l. l ++ range ∷ []) before ∙ (ap (λ r. map (range_of f) (take k sets) ++ r ∷ []) is
+    ∙ (sym (map-append (range_of f) (take k sets) (x ∷ [])) ∙ ap (map (range_of f)) (sym one))))
+
+-- the sets of a list's front that have the range
+abbrev pub AreFrontWithRange : List (List ℕ) → List (List ℕ) → List ℕ → ℕ → List (List ℕ) → Type 0
+AreFrontWithRange sets ranges range k found =
+    (f : Framework) (e : List ℕ) → ranges ≡ map (range_of f) sets → range ≡ range_of f e
+    → found ≡ filter (same_range f e) (take k sets)
+
+pub ranged_more : (sets ranges : List (List ℕ)) (range : List ℕ) (k : ℕ) (x own : List ℕ) (old new : List (List ℕ))
+    → k < length sets → x ≡ get_or sets k x → own ≡ get_or ranges k own
+    → AreFrontWithRange sets ranges range k old → AddsIfRanged range own x old new
+    → AreFrontWithRange sets ranges range (k + 1) new
+ranged_more sets ranges range k x own old new lt at own_at before adds f e all of =
     let is : take (k + 1) sets ≡ take k sets ++ x ∷ [] =
     take_more sets k x lt ∙ ap (λ y. take k sets ++ y ∷ []) (sym at) in
-    adds.adds e of
-    ∙ (ap (λ l. l ++ filter (same_range f e) (x ∷ [])) before
+    let mine : own ≡ range_of f x =
+    own_at ∙ (ap (λ l. get_or l k own) all ∙ (get_or-map (range_of f) sets k x own lt ∙ ap (range_of f) (sym at))) in
+    adds.adds f e of mine
+    ∙ (ap (λ l. l ++ filter (same_range f e) (x ∷ [])) (before f e all of)
     ∙ (sym (filter-append (same_range f e) (take k sets) (x ∷ [])) ∙ ap (filter (same_range f e)) (sym is)))
+
+pub ranged_all : (sets ranges : List (List ℕ)) (range : List ℕ) (k : ℕ) (found : List (List ℕ)) → length sets ≤ k
+    → AreFrontWithRange sets ranges range k found → AreWithRange sets ranges range found
+ranged_all sets ranges range k found end is = record {
+  kept = λ f e all of. is f e all of ∙ ap (filter (same_range f e)) (take_all k sets end);
+}

@@ -22,6 +22,12 @@ pub record AddsIfFirst (f : Framework) (x : List ℕ) (old new : FirstRanged) : 
       → new.sets ≡ (if has_ranged f old.sets x then old.sets else old.sets ++ x ∷ [])
   pub same : (old.ranges ≡ map (range_of f) old.sets) → new.ranges ≡ map (range_of f) new.sets
 
--- a set is added where it has this range, whichever set's it is
-pub record AddsIfRanged (f : Framework) (range x : List ℕ) (old new : List (List ℕ)) : Type 0 where
-  pub adds : (e : List ℕ) → range ≡ range_of f e → new ≡ old ++ filter (same_range f e) (x ∷ [])
+-- a set is added where its own range is the one that is looked for, whichever framework gives the ranges
+pub record AddsIfRanged (range own x : List ℕ) (old new : List (List ℕ)) : Type 0 where
+  pub adds : (f : Framework) (e : List ℕ) → range ≡ range_of f e → own ≡ range_of f x
+      → new ≡ old ++ filter (same_range f e) (x ∷ [])
+
+-- those of the sets that have the range, whichever framework gives the ranges
+pub record AreWithRange (sets ranges : List (List ℕ)) (range : List ℕ) (found : List (List ℕ)) : Type 0 where
+  pub kept : (f : Framework) (e : List ℕ) → ranges ≡ map (range_of f) sets → range ≡ range_of f e
+      → found ≡ filter (same_range f e) sets

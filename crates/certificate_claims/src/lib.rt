@@ -9,6 +9,6 @@ pub mod verdict;
 
 pub use certificate::{Certificate, Refutation, Step};
 pub use order::{none_within, sets_rise};
-pub use ranges::{FirstRanged, first_ranged, no_range_within, with_range_of};
+pub use ranges::{FirstRanged, first_ranged, no_range_within, ranges_of, with_range};
 pub use row::Row;
 pub use verdict::{Cause, Verdict};

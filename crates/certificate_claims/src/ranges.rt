@@ -1,11 +1,11 @@
 //! The ranges of listed sets.
 
-ghost use Rattle.std.specs.Prelude.{◌≡◌, ◌↔◌, Contains, IfOk, IsTrue, OnOk, filter};
+ghost use Rattle.std.specs.Prelude.{◌≡◌, ◌↔◌, length, map, Contains, IfOk, IsTrue, OnOk};
 ghost use Rattle.plain_lists.specs.Members.{IsWithin};
 ghost use Rattle.semantics.specs.Frameworks.{af};
 ghost use Rattle.certificate_claims.specs.Acceptance.{NoRangeWithin};
-ghost use Rattle.certificate_claims.specs.Ranges.{AreLive, IsFirstRanged, AddsIfFirst, AddsIfRanged};
-ghost use Rattle.certificate_claims.specs.SetLiterals.{range_of, same_range};
+ghost use Rattle.certificate_claims.specs.Ranges.{AddsIfFirst, AddsIfRanged, AreLive, AreWithRange, IsFirstRanged};
+ghost use Rattle.certificate_claims.specs.SetLiterals.{range_of};
 
 use crate::order::none_within;
 use dung_notions::AfPlain;
@@ -88,38 +88,47 @@ pub fn no_range_within(alloc: Global, plain: &AfPlain, sets: &[NumSet]) -> Resul
     Ok(none_within(found.ranges.as_slice()))
 }
 
-/// Those of the sets that have a set's range. Each range is made anew. `Memory` says that an allocation was refused.
-pub fn with_range_of(
-    alloc: Global,
-    plain: &AfPlain,
-    set: &NumSet,
-    sets: &[NumSet],
-) -> Result<Items<NumSet>, Memory>
-    requires set { IsWithin set.now plain.now.live }
-    requires sets { AreLive plain.now sets.now }
-    ensures { IfOk result (λ found. found ≡ filter (same_range (af plain.now) set.now) sets.now) }
+/// The ranges of sets, in order. `Memory` says that an allocation was refused.
+pub fn ranges_of(alloc: Global, plain: &AfPlain, sets: &[NumSet]) -> Result<Items<NumSet>, Memory>
+    requires { AreLive plain.now sets.now }
+    ensures { IfOk result (λ ranges. ranges ≡ map (range_of (af plain.now)) sets.now) }
 {
-    let range = range_list(alloc, plain, set)?;
+    let mut ranges = Items::new(alloc);
+    for set in sets {
+        let range = range_list(alloc, plain, set)?;
+        ranges.push(range)?;
+    }
+    Ok(ranges)
+}
+
+/// Those of the sets that have a range; `ranges` are the sets' ranges. `Memory` says that an allocation was refused.
+pub fn with_range(
+    alloc: Global,
+    sets: &[NumSet],
+    ranges: &[NumSet],
+    range: &NumSet,
+) -> Result<Items<NumSet>, Memory>
+    requires { length ranges.now ≡ length sets.now }
+    ensures { IfOk result (AreWithRange sets.now ranges.now range.now) }
+{
     let mut found = Items::new(alloc);
-    for other in sets {
-        add_if_ranged(alloc, plain, &mut found, &range, other)?;
+    for index in 0..sets.len() {
+        add_if_ranged(alloc, &mut found, range, &ranges[index], &sets[index])?;
     }
     Ok(found)
 }
 
-/// Adds a set if this is its range.
+/// Adds a set if its own range is this one.
 fn add_if_ranged(
     alloc: Global,
-    plain: &AfPlain,
     found: &mut Items<NumSet>,
     range: &NumSet,
+    own: &NumSet,
     set: &NumSet,
 ) -> Result<(), Memory>
-    requires { IsWithin set.now plain.now.live }
-    ensures { OnOk result (AddsIfRanged (af plain.now) range.now set.now found.old found.new) }
+    ensures { OnOk result (AddsIfRanged range.now own.now set.now found.old found.new) }
 {
-    let own = range_list(alloc, plain, set)?;
-    let same = is_same(&own, range);
+    let same = is_same(own, range);
     if !same {
         return Ok(());
     }

@@ -5,7 +5,7 @@ use Rattle.argue_program.proofs.decision.check.Goals as goal
 
 pub returns-in-Err-clause-ending : goal.returns-in-Err-clause-ending
 returns-in-Err-clause-ending g c =
-    check_stopped _ _ _ _ c.stopped-in-Err.result c.in-Err.status (sym c.query_of.ensures.asked ∙ c.in-Some.is)
+    check_stopped _ _ _ _ c.stopped-in-Err.result c.in-Err.status (sym c.query_of.ensures ∙ c.in-Some.is)
     c.in-Err.ensures.err
     (λ none. c.in-Err.ensures.quiet (λ of e. none of (let is : Err c.in-Err.status ≡ Err (ReadFault of) = e in cc)))
     c.in-Err.ensures.others c.stopped-in-Err.ensures.status c.stopped-in-Err.ensures.kept c.stopped-in-Err.ensures.text

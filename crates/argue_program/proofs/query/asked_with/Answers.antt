@@ -1,5 +1,5 @@
 use Rattle.argue_program.proofs.QueryLemmas.{query_found}
 use Rattle.argue_program.proofs.query.asked_with.Goals as goal
 
-pub returns-clause-asked : goal.returns-clause-asked
-returns-clause-asked c = query_found _ _ c.new.result c.new.ensures.value c.new.ensures.none
+pub returns : goal.returns
+returns c = query_found _ _ c.new.result c.new.ensures.value c.new.ensures.none

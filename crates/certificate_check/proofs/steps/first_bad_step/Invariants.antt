@@ -1,5 +1,5 @@
 use Rattle.edit_rules.specs.Kinds.{framework_of}
-use Rattle.certificate_check.specs.SideClauses.{sides_of}
+use Rattle.answer_claims.specs.SideClauses.{sides_of}
 use Rattle.certificate_check.proofs.StepLemmas.{HasTaken}
 use Rattle.certificate_check.proofs.steps.first_bad_step.Given as goal
 

@@ -7,15 +7,14 @@ use Rattle.certificate_check.proofs.RowLemmas.{row_known}
 use Rattle.certificate_check.proofs.SectionLemmas.{verdict_from}
 use Rattle.certificate_check.proofs.verdict.check.Goals as goal
 
-pub check_row-requires-clause-reached : goal.check_row-requires-clause-reached
-check_row-requires-clause-reached c = rw c.in_ok-row.ensures (row_known (framework_of c.args.framework.now)
-    c.args.query.now.task.problem c.args.query.now.task.semantics c.args.query.now.number c.args.answer.now
-    c.requires.reached).1
+pub check_row-requires-clause-sets : goal.check_row-requires-clause-sets
+check_row-requires-clause-sets c = rw (c.in_ok-row.ensures, c.as_slice.ensures, c.in_ok-shown.ensures) (row_known
+    (framework_of c.args.framework.now) c.args.query.now.task.problem c.args.query.now.task.semantics
+    c.args.query.now.number c.args.answer.now).1
 
 pub check_row-requires-clause-tested : goal.check_row-requires-clause-tested
 check_row-requires-clause-tested c = rw c.in_ok-row.ensures (row_known (framework_of c.args.framework.now)
-    c.args.query.now.task.problem c.args.query.now.task.semantics c.args.query.now.number c.args.answer.now
-    c.requires.reached).0
+    c.args.query.now.task.problem c.args.query.now.task.semantics c.args.query.now.number c.args.answer.now).0
 
 pub returns : goal.returns
 returns c =

@@ -1,0 +1,4 @@
+pub mod SideLemmas
+pub mod RangeLemmas
+pub mod ClaimLemmas
+pub mod HitLemmas

@@ -1,0 +1,6 @@
+use Rattle.std.proofs.Common.{refl}
+use Rattle.answer_claims.proofs.ClaimLemmas.{member_claim}
+use Rattle.answer_claims.proofs.claims.member_goals.Goals as goal
+
+pub returns : goal.returns
+returns c = λ f. member_claim f _ _ c.new.ensures c.new-2.ensures refl refl

@@ -1,0 +1,3 @@
+pub mod SideClauses
+pub mod SetFacts
+pub mod ClaimParts

@@ -1,0 +1,30 @@
+-- What is found of sets.
+use Rattle.std.specs.Prelude.{◌≡◌, ◌↔◌, ◌⊎◌, ℕ, true, List, Contains}
+use Rattle.std.specs.List.{list_any}
+use Rattle.plain_lists.specs.Members.{IsWithin}
+use Rattle.semantics.specs.Framework.{Af, IsAttackedBy}
+use Rattle.semantics.specs.Frameworks.{Framework}
+use Rattle.certificate_claims.specs.declared.row.Row.{Row}
+use Rattle.certificate_claims.specs.declared.row.Row.TheVariants.{AllWidest}
+use Rattle.certificate_claims.specs.SetLiterals.{hits, is_ranged, members}
+
+-- the list has just what is in the set's range
+pub record IsRangeOf (f : Framework) (s range : List ℕ) : Type 0 where
+  pub members : (a : ℕ) → Contains range a ↔ (is_ranged f s a ≡ true)
+
+-- the list has just what some set of the list attacks
+pub record IsHitBy (f : Framework) (sets : List (List ℕ)) (hit : List ℕ) : Type 0 where
+  pub members : (a : ℕ) → Contains hit a ↔ (list_any (λ t. hits f t a) sets ≡ true)
+
+-- the list has gained what the set attacks, and nothing else
+pub record GainsHits (f : Af) (s old new : List ℕ) : Type 0 where
+  pub gains : (a : ℕ) → Contains new a ↔ (Contains old a ⊎ IsAttackedBy f s a)
+
+-- the sets have members of the framework alone
+pub record AreSetsOf (f : Framework) (sets : List (List ℕ)) : Type 0 where
+  pub within : (s : List ℕ) → Contains sets s → IsWithin s (members f)
+
+-- so have those of a row whose sets are all the extensions by their ranges
+abbrev pub HasSetsOf : Framework → Row → Type 0
+HasSetsOf f (AllWidest sets) = AreSetsOf f sets
+HasSetsOf f _ = Unit {0}

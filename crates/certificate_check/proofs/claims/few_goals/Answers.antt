@@ -1,6 +1,0 @@
-use Rattle.std.proofs.Common.{refl}
-use Rattle.certificate_check.proofs.ClaimLemmas.{few_claim}
-use Rattle.certificate_check.proofs.claims.few_goals.Goals as goal
-
-pub returns : goal.returns
-returns c = λ f. few_claim f _ _ c.new.ensures c.new-2.ensures c.new-3.ensures refl refl

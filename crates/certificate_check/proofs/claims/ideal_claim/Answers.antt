@@ -1,9 +1,0 @@
-use Rattle.std.proofs.Common.{refl, sym, subst}
-use Rattle.certificate_check.specs.SetFacts.{IsHitBy}
-use Rattle.certificate_check.proofs.ClaimLemmas.{hit_claim}
-use Rattle.certificate_check.proofs.claims.ideal_claim.Goals as goal
-
-pub returns : goal.returns
-returns c = λ f others hit.
-    hit_claim f _ _ others (subst (λ s. IsHitBy f others s) (sym c.hit.view_is) hit) c.new.ensures
-    (rw (c.in_ok-one.ensures, c.yes.ensures, c.in_ok-copy.ensures.same) refl) (rw c.in_ok-one_set.ensures refl)

@@ -1,5 +1,0 @@
-use Rattle.certificate_check.proofs.RangeLemmas.{is_range}
-use Rattle.certificate_check.proofs.kinds.af_range.Goals as goal
-
-pub returns : goal.returns
-returns c = is_range _ _ _ c.in_ok-range.ensures

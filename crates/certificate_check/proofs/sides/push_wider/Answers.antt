@@ -1,7 +1,0 @@
-use Rattle.std.proofs.Common.{◌∙◌, ap, ◌++◌}
-use Rattle.certificate_check.proofs.RangeLemmas.{lacks_range}
-use Rattle.certificate_check.proofs.sides.push_wider.Goals as goal
-
-pub returns : goal.returns
-returns c = c.in_ok-push_lacking.ensures ∙ ap (λ xs. c.args.clause.now.items ++ xs)
-    (lacks_range _ _ _ c.in_ok-range.ensures)

@@ -1,0 +1,32 @@
+-- What is known of the sets that an answer shows.
+use Rattle.std.specs.Prelude.{◌≡◌, ◌↔◌, ℕ, Bool, List, IsTrue}
+use Rattle.semantics.specs.Frameworks.{Framework}
+use Rattle.iccma_tasks.specs.declared.task.Semantics.{Semantics}
+use Rattle.iccma_tasks.specs.declared.task.Semantics.TheVariants.{Complete, Grounded, Preferred, Stable, SemiStable, Ideal}
+use Rattle.certificate_claims.specs.declared.row.Row.{Row}
+use Rattle.certificate_claims.specs.declared.row.Row.TheVariants.{Tested, AllTested, AllWidest}
+use Rattle.certificate_claims.specs.Acceptance.{NoRangeWithin}
+
+-- the extensions under the semantics are tested directly
+abbrev pub IsTested : Semantics → Type 0
+IsTested Complete = Unit {0}
+IsTested Grounded = Unit {0}
+IsTested Stable = Unit {0}
+IsTested Preferred = ⊥
+IsTested SemiStable = ⊥
+IsTested Ideal = ⊥
+
+-- a row that shows extensions is of a semantics whose extensions are tested directly
+abbrev pub IsTestedRow : Row → Semantics → Type 0
+IsTestedRow (Tested e) semantics = IsTested semantics
+IsTestedRow (AllTested mode sets) semantics = IsTested semantics
+IsTestedRow _ semantics = Unit {0}
+
+-- the sets of a row that are all the extensions by their ranges are those that the answer shows
+abbrev pub ShowsSets : Row → List (List ℕ) → Type 0
+ShowsSets (AllWidest sets) shown = sets ≡ shown
+ShowsSets _ shown = Unit {0}
+
+-- whether no set's range lies in another, different one
+pub record TellsApart (f : Framework) (sets : List (List ℕ)) (apart : Bool) : Type 0 where
+  pub tells : IsTrue apart ↔ NoRangeWithin f sets
