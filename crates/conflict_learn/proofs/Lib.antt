@@ -1,0 +1,3 @@
+pub mod Counting
+pub mod Literally
+pub mod Meeting

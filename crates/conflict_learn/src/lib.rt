@@ -2,5 +2,7 @@
 #![tactic(auto)]
 
 mod learner;
+mod walk;
+mod workspace;
 
 pub use learner::{Core, Learned, Learner};
