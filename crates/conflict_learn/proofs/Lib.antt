@@ -1,3 +1,4 @@
 pub mod Counting
 pub mod Literally
 pub mod Meeting
+pub mod Walking

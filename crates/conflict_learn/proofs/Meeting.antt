@@ -1,7 +1,8 @@
 -- A false literal is met.
-use Rattle.std.proofs.Common.{◌≡◌, ◌≢◌, ℕ, ◌<◌, ◌≤◌, ◌+◌, Bool, true, false, not, List, [], ◌∷◌, ◌++◌, length, get_or, take}
+use Rattle.std.proofs.Common.{◌≡◌, ◌≢◌, ℕ, ◌<◌, ◌≤◌, ◌+◌, Bool, true, false, not, eqb, List, [], ◌∷◌, ◌++◌, length, get_or, take}
 use Rattle.std.proofs.Common.{arith, ap, sym, subst, ◌∙◌, refl, ⊎_elim, inl, inr}
 use Rattle.std.specs.Prelude.{◌⊎◌, ◌&&◌, Contains}
+use Rattle.std.proofs.Math.Bool.{beq}
 use Rattle.std.proofs.Math.ListN.{set, length-set}
 use Rattle.std.proofs.Math.Seq.{take-suc}
 use Rattle.std.proofs.lemmas.Bool.{cases_eq, cases_Bool, false≢true}
@@ -10,12 +11,13 @@ use Rattle.std.proofs.lemmas.List.Elements.{Contains-append_left}
 use Rattle.plain_lists.proofs.Membership.{Contains-pushed, Contains-nil}
 use Rattle.plain_lits.specs.declared.lit.Lit.{Lit}
 use Rattle.plain_lits.specs.Literals.{negation}
+use Rattle.plain_lits.proofs.LitOrder.{lit_eq_itself, same_from_eq}
 use Rattle.unit_propagate.specs.Search.{Search}
 use Rattle.unit_propagate.proofs.Fronts.{pushed_cases, longer_front, in_front, front_cases}
 use Rattle.conflict_learn.specs.declared.workspace.Border.{Border}
 use Rattle.conflict_learn.specs.Learning.{StandsAt}
 use Rattle.conflict_learn.specs.Analyses.{Analysis, AreClear, IsCounted, IsMet, Meets, OthersOf, HasMetAll, is_marked, is_kept, is_open, count_to}
-use Rattle.conflict_learn.proofs.Counting.{count_up, count_same, count_room}
+use Rattle.conflict_learn.proofs.Counting.{count_up, count_same, count_room, count_none}
 use Rattle.conflict_learn.proofs.Literally.{negation_same, stands_same, lit_decided, but_not, but_is, but_marked, but_kept}
 
 -- marks with one more
@@ -240,3 +242,60 @@ kept_pushed s border a l i clause h at fresh kept e =
     subst (λ xs. IsCounted s border (record a { marks = set a.marks i true; clause = xs })
     × Meets s border a (record a { marks = set a.marks i true; clause = xs }) (λ x. x ≡ l)) (sym e)
     (kept_counted s border a l i h at fresh kept, kept_meets s border a l i h at fresh kept)
+
+-- a mark that is read
+pub marked_read : (marks : List Bool) (i : ℕ) (b r : Bool) → i < length marks → b ≡ get_or marks i b → b ≡ r
+    → is_marked marks i ≡ r
+marked_read marks i b r lt read e = get_or_default marks i false b lt ∙ (sym read ∙ e)
+
+-- where nothing is marked, nothing is counted
+pub begun : (s : Search) (border : Border) (marks : List Bool) (clause : List Lit) (hints : List ℕ) → AreClear marks
+    → s.vars ≤ length marks → length s.lits ≤ s.vars → clause ≡ []
+    → IsCounted s border (record { marks = marks; open_count = 0; clause = clause; hints = hints })
+begun s border marks clause hints clear long short e = record {
+  long = omega arith;
+  count = sym (count_none (is_open border s.reasons marks) (length marks)
+      (λ i lt. but_marked _ (is_kept border s.reasons i) (clear.each i)));
+  within = λ k m. absurd (false≢true (sym (clear.each k) ∙ m));
+  in_clause = λ k x m. absurd (false≢true (sym (clear.each k) ∙ m));
+  kept = λ l c. absurd (Contains-nil l (subst (λ xs. Contains xs l) e c));
+}
+
+-- what a test of two literals says
+apart_if : (a b : Lit) (r : Bool) → r ≡ not (eqb a.var b.var && beq a.positive b.positive) → r ≡ true → a ≢ b
+apart_if a b r is e same =
+    let itself : (eqb a.var b.var && beq a.positive b.positive) ≡ true =
+    ap (λ (x : Lit). eqb a.var x.var && beq a.positive x.positive) (sym same) ∙ lit_eq_itself a in
+    false≢true (sym (is ∙ ap not itself) ∙ e)
+
+same_if : (a b : Lit) (r : Bool) → r ≡ not (eqb a.var b.var && beq a.positive b.positive) → r ≡ false → a ≡ b
+same_if a b r is e =
+    same_from_eq a b (⊎_elim (λ t. t)
+    (λ f. absurd (false≢true (sym e ∙ (is ∙ ap not f))))
+    (cases_Bool (eqb a.var b.var && beq a.positive b.positive)))
+
+-- one literal more, as the loop has it
+pub all_met : (s : Search) (border : Border) (a mid new joined : Analysis) (clause items : List Lit) (but item l : Lit)
+    (k : ℕ) (r : Bool) → items ≡ clause → k < length items → item ≡ get_or items k item → l ≡ item
+    → r ≡ not (eqb l.var but.var && beq l.positive but.positive) → r ≡ true
+    → Meets s border a mid (OthersOf (take k clause) but) → IsCounted s border new → Meets s border mid new (λ x. x ≡ l)
+    → joined ≡ new
+    → IsCounted s border joined × Meets s border a joined (OthersOf (take (k + 1) clause) but)
+all_met s border a mid new joined clause items but item l k r same lt is e test yes_it m counted n j =
+    let within : k < length clause = subst (λ (xs : List Lit). k < length xs) same lt in
+    let read : item ≡ get_or clause k item = subst (λ (xs : List Lit). item ≡ get_or xs k item) same is in
+    subst (λ x. IsCounted s border x × Meets s border a x (OthersOf (take (k + 1) clause) but)) (sym j)
+    (counted, meets_next s border a mid new clause but l k within
+    (e ∙ (read ∙ get_or_default clause k item l within)) (apart_if l but r test yes_it) m n)
+
+pub all_past : (s : Search) (border : Border) (a mid joined : Analysis) (clause items : List Lit) (but item l : Lit)
+    (k : ℕ) (r : Bool) → items ≡ clause → k < length items → item ≡ get_or items k item → l ≡ item
+    → r ≡ not (eqb l.var but.var && beq l.positive but.positive) → r ≡ false
+    → IsCounted s border mid → Meets s border a mid (OthersOf (take k clause) but) → joined ≡ mid
+    → IsCounted s border joined × Meets s border a joined (OthersOf (take (k + 1) clause) but)
+all_past s border a mid joined clause items but item l k r same lt is e test not_it counted m j =
+    let within : k < length clause = subst (λ (xs : List Lit). k < length xs) same lt in
+    let read : item ≡ get_or clause k item = subst (λ (xs : List Lit). item ≡ get_or xs k item) same is in
+    subst (λ x. IsCounted s border x × Meets s border a x (OthersOf (take (k + 1) clause) but)) (sym j)
+    (counted, meets_past s border a mid clause but l k within
+    (e ∙ (read ∙ get_or_default clause k item l within)) (same_if l but r test not_it) m)
