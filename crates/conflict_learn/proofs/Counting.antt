@@ -98,3 +98,14 @@ count_room f p (suc n) lt fails =
     (λ ne. let rest = count_room f p n (omega arith) fails in
     let one = count_step f n in omega (arith, rest, one))
     (cases_eq p n)
+
+-- one that passes is found where they count
+pub count_found : (f : ℕ → Bool) (n : ℕ) → 0 < count_to f n → (i : ℕ) × (i < n) × (f i ≡ true)
+count_found f zero h = absurd (omega arith)
+count_found f (suc n) h =
+    ⊎_elim (λ e. (n, lt-suc_self n, e))
+    (λ e. let same = counts_no f n e in
+    let o = count_found f n (omega (arith, same)) in
+    let lt = o.1 in
+    let wider : o.0 < suc n = omega arith in (o.0, wider, o.2))
+    (cases_Bool (f n))

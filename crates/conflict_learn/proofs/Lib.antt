@@ -1,4 +1,5 @@
 pub mod Counting
+pub mod Descending
 pub mod Literally
 pub mod Meeting
 pub mod Walking

@@ -1,6 +1,6 @@
 -- The walk begins, passes an index, and replaces a literal by its reason.
 use Rattle.std.proofs.Common.{◌≡◌, ◌≢◌, ℕ, ◌<◌, ◌≤◌, ◌+◌, ◌-◌, Bool, true, false, not, List, [], ◌∷◌, ◌++◌, length, get_or, take}
-use Rattle.std.proofs.Common.{arith, ap, sym, subst, ◌∙◌, refl, ⊎_elim, inl, inr, Ok, Result, length-append, reverse}
+use Rattle.std.proofs.Common.{arith, ap, sym, subst, ◌∙◌, refl, ⊎_elim, inl, inr, Ok, Err, Result, OnOk, reverse}
 use Rattle.std.specs.Prelude.{◌⊎◌, ◌&&◌, Contains}
 use Rattle.std.proofs.Math.ListN.{set, length-set}
 use Rattle.std.proofs.lemmas.Bool.{cases_lt, cases_eq, cases_Bool, false≢true}
@@ -17,13 +17,14 @@ use Rattle.conflict_learn.specs.declared.workspace.Border.{Border}
 use Rattle.conflict_learn.specs.Learning.{StandsAt}
 use Rattle.conflict_learn.specs.Analyses.{Analysis, AreClear, IsCounted, IsMet, Meets, OthersOf, HasMetAll, IsWalk, IsAt}
 use Rattle.conflict_learn.specs.Analyses.{is_marked, is_kept, is_open, count_to}
-use Rattle.conflict_learn.proofs.Counting.{count_up, count_none}
+use Rattle.conflict_learn.proofs.Counting.{count_up, count_some}
 use Rattle.conflict_learn.proofs.Literally.{negation_back, negation_same, stands_same, stands_index, stands_contains}
 use Rattle.conflict_learn.proofs.Literally.{contains_stands, stands_front, front_stands, lit_decided, but_not, but_is, but_marked}
-use Rattle.conflict_learn.proofs.Meeting.{marked_else, marked_here}
+use Rattle.conflict_learn.proofs.Literally.{but_kept, stands_here}
+use Rattle.conflict_learn.proofs.Meeting.{marked_else, marked_here, marked_read}
 
 -- an open literal whose negation is one of a clause's
-abbrev HasOpen : List Lit → (ℕ → Bool) → Lit → Type 0
+abbrev pub HasOpen : List Lit → (ℕ → Bool) → Lit → Type 0
 HasOpen lits marked l = (k : ℕ) × StandsAt lits k (negation l) × (marked k ≡ true)
 
 -- hints that begin with a false clause
@@ -66,21 +67,21 @@ walk_past clauses lits clause index marked hints w = record {
 }
 
 -- what an expansion changes: the literal of an index goes, and those of its reason come
-record Expands (clauses : List (List Lit)) (lits : List Lit) (index id : ℕ) (l : Lit) (old new : List Lit)
+pub record Expands (clauses : List (List Lit)) (lits : List Lit) (index id : ℕ) (l : Lit) (old new : List Lit)
     (was now : ℕ → Bool) : Type 0 where
-  named : IsNamed clauses id
-  here : StandsAt lits index l
-  there : Contains (clause_at clauses id) l
-  others : (x : Lit) → OthersOf (clause_at clauses id) l x → Contains (take index lits) (negation x)
-  new_false : (x : Lit) → Contains new x → Contains lits (negation x)
-  apart : (x : Lit) → Contains new x → negation x ≢ l
-  stay : (x : Lit) → Contains old x → Contains new x
-  back : (x : Lit) → Contains new x → Contains old x ⊎ OthersOf (clause_at clauses id) l x
-  open_stay : (k : ℕ) → was k ≡ true → k ≢ index → now k ≡ true
-  open_back : (k : ℕ) → now k ≡ true
+  pub named : IsNamed clauses id
+  pub here : StandsAt lits index l
+  pub there : Contains (clause_at clauses id) l
+  pub others : (x : Lit) → OthersOf (clause_at clauses id) l x → Contains (take index lits) (negation x)
+  pub new_false : (x : Lit) → Contains new x → Contains lits (negation x)
+  pub apart : (x : Lit) → Contains new x → negation x ≢ l
+  pub stay : (x : Lit) → Contains old x → Contains new x
+  pub back : (x : Lit) → Contains new x → Contains old x ⊎ OthersOf (clause_at clauses id) l x
+  pub open_stay : (k : ℕ) → was k ≡ true → k ≢ index → now k ≡ true
+  pub open_back : (k : ℕ) → now k ≡ true
       → (was k ≡ true) ⊎ ((x : Lit) × OthersOf (clause_at clauses id) l x × StandsAt lits k (negation x))
-  met : (x : Lit) → OthersOf (clause_at clauses id) l x → Contains new x ⊎ HasOpen lits now x
-  was_open : was index ≡ true
+  pub met : (x : Lit) → OthersOf (clause_at clauses id) l x → Contains new x ⊎ HasOpen lits now x
+  pub was_open : was index ≡ true
 
 hint_leads : (clauses : List (List Lit)) (lits : List Lit) (index id : ℕ) (l : Lit) (old new : List Lit)
     (was now : ℕ → Bool) (hints : List ℕ) → VarsDiffer lits → Expands clauses lits index id l old new was now
@@ -308,3 +309,52 @@ at_expanded s border a new index id l hints form at is here reason hints_are cou
           })
           at.walk);
     }
+
+pub both_ok : {T E : Type 0} (r : Result T E) (P Q R : Type 0) → OnOk r P → OnOk r Q → (P → Q → R) → OnOk r R
+both_ok (Ok x) P Q R p q f = f p q
+both_ok (Err e) P Q R p q f = tt
+
+pub open_some : (s : Search) (border : Border) (a : Analysis) (k : ℕ) → IsCounted s border a
+    → is_open border s.reasons a.marks k ≡ true → 1 ≤ a.open_count
+open_some s border a k h e =
+    let long = h.long in
+    let within = h.within k (but_not _ _ e).0 in
+    let lt : k < length a.marks = omega arith in
+    let some = count_some (is_open border s.reasons a.marks) k (length a.marks) lt e in
+    let count = h.count in
+    omega (arith, some, count)
+
+-- the reason of a literal, which stands at an index
+pub reason_at : (s : Search) (index id : ℕ) (lits : List Lit) (d : Lit) → IsSearch s → index < length s.lits
+    → lits ≡ s.lits → id ≡ get_or s.reasons index 0 → get_or s.reasons index 0 ≢ 0
+    → IsReason s.clauses s.lits index id × StandsAt s.lits index (get_or lits index d)
+reason_at s index id lits d form lt same is some =
+    (subst (IsReason s.clauses s.lits index) (sym is) (form.reasons index lt some),
+    subst (λ (xs : List Lit). StandsAt s.lits index (get_or xs index d)) (sym same) (stands_here s.lits index d lt))
+
+pub others_false : (s : Search) (index id : ℕ) (l : Lit) → IsReason s.clauses s.lits index id
+    → StandsAt s.lits index l → (x : Lit) → OthersOf (clause_at s.clauses id) l x → Contains s.lits (negation x)
+others_false s index id l reason here x o =
+    from_front index s.lits (negation x) (reason.others x l o.0 (λ e. o.1 (e ∙ here.is l)))
+
+-- a literal that isn't marked is passed, and one that is kept
+pub at_unmarked : (s : Search) (border : Border) (a : Analysis) (index : ℕ) (b : Bool) → IsAt s border a (index + 1)
+    → b ≡ get_or a.marks index b → b ≡ false → IsAt s border a index
+at_unmarked s border a index b at read e =
+    let w = at.within in
+    let long = at.counted.long in
+    at_past s border a index at (but_marked _ (is_kept border s.reasons index)
+    (marked_read a.marks index b false (omega arith) read e))
+
+pub at_kept : (s : Search) (border : Border) (a : Analysis) (index : ℕ) (b : Bool) → IsAt s border a (index + 1)
+    → b ≡ is_kept border s.reasons index → b ≡ true → IsAt s border a index
+at_kept s border a index b at is e =
+    at_past s border a index at (but_kept (is_marked a.marks index) _ (sym is ∙ e))
+
+pub open_if : (s : Search) (border : Border) (a : Analysis) (index : ℕ) (b c : Bool) → IsAt s border a (index + 1)
+    → b ≡ get_or a.marks index b → b ≡ true → c ≡ is_kept border s.reasons index → c ≡ false
+    → is_open border s.reasons a.marks index ≡ true
+open_if s border a index b c at read e is kept =
+    let w = at.within in
+    let long = at.counted.long in
+    but_is _ _ (marked_read a.marks index b true (omega arith) read e) (sym is ∙ kept)

@@ -133,3 +133,10 @@ pub record AreOfClause (lits : List Lit) (a : Analysis) : Type 0 where
       → Contains a.clause l
   pub all_false : (l : Lit) → Contains a.clause l → Contains lits (negation l)
   pub long : length lits ≤ length a.marks
+
+-- the marks of a clause's first literals are taken away
+pub record AreLeft (lits clause : List Lit) (marks : List Bool) (taken : ℕ) : Type 0 where
+  pub within : (index : ℕ) → is_marked marks index ≡ true → index < length lits
+  pub each : (index : ℕ) (l : Lit) → is_marked marks index ≡ true → StandsAt lits index (negation l)
+      → (k : ℕ) × (taken ≤ k) × (k < length clause) × (slice_index_or clause k l ≡ l)
+  pub long : length lits ≤ length marks

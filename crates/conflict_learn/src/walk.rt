@@ -1,7 +1,7 @@
 //! The walk down the true literals, which replaces open literals by their reasons.
 
 ghost use Rattle.std.specs.Prelude.{◌≡◌, ◌≢◌, ℕ, ◌+◌, ◌-◌, ◌<◌, ◌≤◌, ◌++◌, ◌∷◌, [], true, length, reverse, Contains};
-ghost use Rattle.std.specs.Prelude.{OnOk, IfOk, slice_index};
+ghost use Rattle.std.specs.Prelude.{OnOk, IfOk, slice_index, ◌⊎◌};
 ghost use Rattle.plain_lits.specs.declared.lit.Lit.{Lit};
 ghost use Rattle.plain_lits.specs.HintCheck.{clause_at};
 ghost use Rattle.plain_lits.specs.Literals.{negation};
@@ -15,6 +15,19 @@ use crate::workspace::{Border, Workspace, keeps};
 use plain_lists::Memory;
 use plain_lits::Lit;
 use unit_propagate::Propagator;
+
+/// The higher of a reach and that of one index more.
+fn higher(reach: usize, index: usize, count: usize) -> usize
+    requires { index < count }
+    ensures first { reach ≤ result }
+    ensures second { index < result }
+    ensures one_of { (result ≡ reach) ⊎ (result ≡ index + 1) }
+{
+    if index < reach {
+        return reach;
+    }
+    index + 1
+}
 
 impl Workspace {
     /// Begins with a false clause.
@@ -121,12 +134,10 @@ impl Workspace {
         requires { (l : Lit) → Contains self.now.clause.items l → Contains search.now.lits (negation l) }
         ensures { IsReach search.now.lits self.now.clause.items result }
     {
+        let count = search.lits().len();
         let mut reach = 0;
         for lit in self.clause.as_slice() {
-            let index = search.position(!*lit);
-            if index >= reach {
-                reach = index + 1;
-            }
+            reach = higher(reach, search.position(!*lit), count);
         }
         reach
     }
