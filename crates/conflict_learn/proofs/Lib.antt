@@ -1,5 +1,6 @@
 pub mod Counting
 pub mod Descending
+pub mod Ending
 pub mod Literally
 pub mod Meeting
 pub mod Walking

@@ -67,11 +67,14 @@ pub front_stands : (lits : List Lit) (n : ℕ) (l : Lit) → Contains (take n li
 front_stands lits n l c =
     let lt = c.1 in
     let below : c.0 < n = omega (arith, length-take n lits) in
-    let within : c.0 < length lits = omega (arith, length-take n lits) in
-    (c.0, record {
-      within = within;
-      is = λ d. get_or_default lits c.0 d l within ∙ (sym (get_or-take n lits c.0 l below) ∙ c.2);
-    }, below)
+    let within : c.0 < length lits = omega (arith, length-take n lits) in (
+      c.0,
+      record {
+        within = within;
+        is = λ d. get_or_default lits c.0 d l within ∙ (sym (get_or-take n lits c.0 l below) ∙ c.2);
+      },
+      below,
+    )
 
 pub but_not : (a b : Bool) → (a && not b) ≡ true → (a ≡ true) × (b ≡ false)
 but_not true true e = absurd (false≢true e)

@@ -132,8 +132,11 @@ open_meets s border a l i h at fresh unkept =
           (marked_back a.marks i k e);
       clause_stay = λ x c. c;
       clause_back = λ x c. inl c;
-      met = λ x e. inr (i, subst (λ (y : Lit). StandsAt s.lits i (negation y)) (sym e) at,
-      but_is _ _ (marked_here a.marks i true lt) unkept);
+      met = λ x e. inr (
+        i,
+        subst (λ (y : Lit). StandsAt s.lits i (negation y)) (sym e) at,
+        but_is _ _ (marked_here a.marks i true lt) unkept,
+      );
       count = omega arith;
     }
 
@@ -284,9 +287,11 @@ pub all_met : (s : Search) (border : Border) (a mid new joined : Analysis) (clau
 all_met s border a mid new joined clause items but item l k r same lt is e test yes_it m counted n j =
     let within : k < length clause = subst (λ (xs : List Lit). k < length xs) same lt in
     let read : item ≡ get_or clause k item = subst (λ (xs : List Lit). item ≡ get_or xs k item) same is in
-    subst (λ x. IsCounted s border x × Meets s border a x (OthersOf (take (k + 1) clause) but)) (sym j)
-    (counted, meets_next s border a mid new clause but l k within
-    (e ∙ (read ∙ get_or_default clause k item l within)) (apart_if l but r test yes_it) m n)
+    subst (λ x. IsCounted s border x × Meets s border a x (OthersOf (take (k + 1) clause) but)) (sym j) (
+      counted,
+      meets_next s border a mid new clause but l k within
+          (e ∙ (read ∙ get_or_default clause k item l within)) (apart_if l but r test yes_it) m n,
+    )
 
 pub all_past : (s : Search) (border : Border) (a mid joined : Analysis) (clause items : List Lit) (but item l : Lit)
     (k : ℕ) (r : Bool) → items ≡ clause → k < length items → item ≡ get_or items k item → l ≡ item
@@ -296,6 +301,8 @@ pub all_past : (s : Search) (border : Border) (a mid joined : Analysis) (clause 
 all_past s border a mid joined clause items but item l k r same lt is e test not_it counted m j =
     let within : k < length clause = subst (λ (xs : List Lit). k < length xs) same lt in
     let read : item ≡ get_or clause k item = subst (λ (xs : List Lit). item ≡ get_or xs k item) same is in
-    subst (λ x. IsCounted s border x × Meets s border a x (OthersOf (take (k + 1) clause) but)) (sym j)
-    (counted, meets_past s border a mid clause but l k within
-    (e ∙ (read ∙ get_or_default clause k item l within)) (same_if l but r test not_it) m)
+    subst (λ x. IsCounted s border x × Meets s border a x (OthersOf (take (k + 1) clause) but)) (sym j) (
+      counted,
+      meets_past s border a mid clause but l k within
+          (e ∙ (read ∙ get_or_default clause k item l within)) (same_if l but r test not_it) m,
+    )

@@ -41,11 +41,16 @@ walk_begins clauses lits clause index marked hint named met back open_back =
     record {
       leads = λ truths m c b place.
           let same : place + 1 - 1 ≡ place = omega arith in
-          inl (record {
-            named = named;
-            all_false = record { each = λ l h. ⊎_elim (λ in_clause. c l in_clause)
-                (λ o. m o.0 (negation l) o.2 o.1) (met l h) };
-          }, ap (λ (n : ℕ). Ok n) same);
+          inl (
+            record {
+              named = named;
+              all_false = record {
+                each = λ l h. ⊎_elim (λ in_clause. c l in_clause)
+                    (λ o. m o.0 (negation l) o.2 o.1) (met l h);
+              };
+            },
+            ap (λ (n : ℕ). Ok n) same,
+          );
       some = omega arith;
       used = λ x l h c. ⊎_elim (λ a. inl a) (λ o. inr (inl o))
           (met l (subst (λ n. Contains (clause_at clauses n) l) (sym (only x h)) c));
@@ -114,21 +119,25 @@ hint_leads clauses lits index id l old new was now hints differ e w truths m c b
     (pushed_cases truths l x t))
     (place + 1) in
     let same : place + 1 + length hints - 1 ≡ place + length (id ∷ hints) - 1 = omega arith in
-    inr (inl (l, record {
-      named = e.named;
-      unit = record {
-        there = e.there;
-        not_true = λ t. ⊎_elim
-            (λ front. let f = front_stands lits index l front in
-            let bad = stands_index lits f.0 index l differ f.1 e.here in
-            let lt = f.2 in
-            absurd (omega (arith, bad, lt)))
-            (λ kept. absurd (e.apart (negation l) kept (negation_back l)))
-            (b l t);
-        not_false = λ t. consistent lits l differ (stands_contains lits index l e.here) (all_true (negation l) t);
-        others = λ x h ne. ⊎_elim (λ kept. c x kept) (λ o. m o.0 (negation x) o.2 o.1) (e.met x (h, ne));
-      };
-    }, subst (λ (n : ℕ). Propagates negation clauses (truths ++ l ∷ []) (place + 1) hints (Ok n)) same rest))
+    inr (inl (
+      l,
+      record {
+        named = e.named;
+        unit = record {
+          there = e.there;
+          not_true = λ t. ⊎_elim
+              (λ front. let f = front_stands lits index l front in
+              let bad = stands_index lits f.0 index l differ f.1 e.here in
+              let lt = f.2 in
+              absurd (omega (arith, bad, lt)))
+              (λ kept. absurd (e.apart (negation l) kept (negation_back l)))
+              (b l t);
+          not_false = λ t. consistent lits l differ (stands_contains lits index l e.here) (all_true (negation l) t);
+          others = λ x h ne. ⊎_elim (λ kept. c x kept) (λ o. m o.0 (negation x) o.2 o.1) (e.met x (h, ne));
+        };
+      },
+      subst (λ (n : ℕ). Propagates negation clauses (truths ++ l ∷ []) (place + 1) hints (Ok n)) same rest,
+    ))
 
 pub walk_expands : (clauses : List (List Lit)) (lits : List Lit) (index id : ℕ) (l : Lit) (old new : List Lit)
     (was now : ℕ → Bool) (hints : List ℕ) → VarsDiffer lits → Expands clauses lits index id l old new was now
@@ -155,8 +164,12 @@ walk_expands clauses lits index id l old new was now hints differ e w =
           (λ kept. inl (e.stay x kept))
           (λ rest. ⊎_elim
           (λ o. ⊎_elim
-          (λ same. inr (inr (id, here, subst (Contains (clause_at clauses id))
-          (stands_same lits index l (negation x) e.here (subst (λ n. StandsAt lits n (negation x)) same o.1)) e.there)))
+          (λ same. inr (inr (
+            id,
+            here,
+            subst (Contains (clause_at clauses id))
+                (stands_same lits index l (negation x) e.here (subst (λ n. StandsAt lits n (negation x)) same o.1)) e.there,
+          )))
           (λ ne. inr (inl (o.0, o.1, e.open_stay o.0 o.2 ne)))
           (cases_eq o.0 index))
           (λ o. inr (inr (o.0, later o.0 o.1, o.2)))
@@ -169,8 +182,12 @@ walk_expands clauses lits index id l old new was now hints differ e w =
           (e.back x c);
       open_come = λ k x marked at. ⊎_elim
           (λ before. let o = w.open_come k x before at in (o.0, later o.0 o.1, o.2))
-          (λ o. (id, here, subst (Contains (clause_at clauses id))
-          (negation_same o.0 x (stands_same lits k (negation o.0) (negation x) o.2 at)) o.1.0))
+          (λ o. (
+            id,
+            here,
+            subst (Contains (clause_at clauses id))
+                (negation_same o.0 x (stands_same lits k (negation o.0) (negation x) o.2 at)) o.1.0,
+          ))
           (e.open_back k marked);
     }
 
@@ -184,27 +201,33 @@ pub at_begun : (s : Search) (border : Border) (mid new : Analysis) (conflict : �
 at_begun s border mid new conflict but form bad var empty clear hints counted m =
     let clause = clause_at s.clauses conflict in
     let marked = is_open border s.reasons new.marks in
-    let other : (l : Lit) → Contains clause l → OthersOf clause but l = λ l c. (c, λ e.
-    let known = form.within (negation l) (bad.all_false.each l c) in
-    let same : l.var ≡ but.var = ap (λ (x : Lit). x.var) e in
-    absurd (omega (arith, known, same, var))) in
+    let other : (l : Lit) → Contains clause l → OthersOf clause but l = λ l c. (
+      c,
+      λ e.
+          let known = form.within (negation l) (bad.all_false.each l c) in
+          let same : l.var ≡ but.var = ap (λ (x : Lit). x.var) e in
+          absurd (omega (arith, known, same, var)),
+    ) in
     let met : (l : Lit) → Contains clause l → IsMet s border new l = λ l c. m.met l (other l c) in
-    let new_hints : new.hints ≡ conflict ∷ [] = m.hints_same ∙ hints in
-    (record {
-      counted = counted;
-      within = omega arith;
-      below = λ k e. counted.within k (but_not _ _ e).0;
-      walk = subst (λ (hs : List ℕ). IsWalk s.clauses s.lits (length s.lits) new.clause marked hs)
-          (sym (ap reverse new_hints))
-          (walk_begins s.clauses s.lits new.clause (length s.lits) marked conflict bad.named met
-          (λ l c. ⊎_elim (λ old. absurd (Contains-nil l (subst (λ (xs : List Lit). Contains xs l) empty old)))
-          (λ o. o.0) (m.clause_back l c))
-          (λ k l e st. ⊎_elim
-          (λ old. absurd (false≢true (sym (clear.each k) ∙ old)))
-          (λ o. subst (Contains clause) (negation_same o.0 l
-          (stands_same s.lits k (negation o.0) (negation l) o.2 st)) o.1.0)
-          (m.back k (but_not _ _ e).0)));
-    }, record { each = met }, new_hints)
+    let new_hints : new.hints ≡ conflict ∷ [] = m.hints_same ∙ hints in (
+      record {
+        counted = counted;
+        within = omega arith;
+        below = λ k e. counted.within k (but_not _ _ e).0;
+        walk = subst (λ (hs : List ℕ). IsWalk s.clauses s.lits (length s.lits) new.clause marked hs)
+            (sym (ap reverse new_hints))
+            (walk_begins s.clauses s.lits new.clause (length s.lits) marked conflict bad.named met
+            (λ l c. ⊎_elim (λ old. absurd (Contains-nil l (subst (λ (xs : List Lit). Contains xs l) empty old)))
+            (λ o. o.0) (m.clause_back l c))
+            (λ k l e st. ⊎_elim
+            (λ old. absurd (false≢true (sym (clear.each k) ∙ old)))
+            (λ o. subst (Contains clause) (negation_same o.0 l
+            (stands_same s.lits k (negation o.0) (negation l) o.2 st)) o.1.0)
+            (m.back k (but_not _ _ e).0)));
+      },
+      record { each = met },
+      new_hints,
+    )
 
 pub at_past : (s : Search) (border : Border) (a : Analysis) (index : ℕ) → IsAt s border a (index + 1)
     → is_open border s.reasons a.marks index ≡ false → IsAt s border a index
@@ -328,9 +351,10 @@ open_some s border a k h e =
 pub reason_at : (s : Search) (index id : ℕ) (lits : List Lit) (d : Lit) → IsSearch s → index < length s.lits
     → lits ≡ s.lits → id ≡ get_or s.reasons index 0 → get_or s.reasons index 0 ≢ 0
     → IsReason s.clauses s.lits index id × StandsAt s.lits index (get_or lits index d)
-reason_at s index id lits d form lt same is some =
-    (subst (IsReason s.clauses s.lits index) (sym is) (form.reasons index lt some),
-    subst (λ (xs : List Lit). StandsAt s.lits index (get_or xs index d)) (sym same) (stands_here s.lits index d lt))
+reason_at s index id lits d form lt same is some = (
+  subst (IsReason s.clauses s.lits index) (sym is) (form.reasons index lt some),
+  subst (λ (xs : List Lit). StandsAt s.lits index (get_or xs index d)) (sym same) (stands_here s.lits index d lt),
+)
 
 pub others_false : (s : Search) (index id : ℕ) (l : Lit) → IsReason s.clauses s.lits index id
     → StandsAt s.lits index l → (x : Lit) → OthersOf (clause_at s.clauses id) l x → Contains s.lits (negation x)

@@ -115,6 +115,12 @@ pub record IsLastOpen (s : Search) (border : Border) (a : Analysis) (index : ℕ
   pub within : index < length s.lits
   pub alone : (k : ℕ) → is_open border s.reasons a.marks k ≡ true → k ≡ index
 
+-- the first unique implication point by its index: the one literal of the last level that is open
+pub record IsFirstUip (s : Search) (start : ℕ) (a : Analysis) (index : ℕ) : Type 0 where
+  pub before : ℕ
+  pub at : IsAt s (Below start) a before
+  pub last : IsLastOpen s (Below start) a index
+
 -- one more than the highest index of the negations of a clause's literals, or 0
 pub record IsReach (lits clause : List Lit) (reach : ℕ) : Type 0 where
   pub others : (l : Lit) → Contains clause l → Contains (take reach lits) (negation l)
@@ -125,14 +131,6 @@ pub record IsLevelOf (starts : List ℕ) (reach level : ℕ) : Type 0 where
   pub within : level ≤ length starts
   pub below : (k : ℕ) → k < level → slice_index starts k < reach
   pub above : (k : ℕ) → level ≤ k → k < length starts → reach ≤ slice_index starts k
-
--- each marked literal has its negation in the clause
-pub record AreOfClause (lits : List Lit) (a : Analysis) : Type 0 where
-  pub within : (index : ℕ) → is_marked a.marks index ≡ true → index < length lits
-  pub each : (index : ℕ) (l : Lit) → is_marked a.marks index ≡ true → StandsAt lits index (negation l)
-      → Contains a.clause l
-  pub all_false : (l : Lit) → Contains a.clause l → Contains lits (negation l)
-  pub long : length lits ≤ length a.marks
 
 -- the marks of a clause's first literals are taken away
 pub record AreLeft (lits clause : List Lit) (marks : List Bool) (taken : ℕ) : Type 0 where

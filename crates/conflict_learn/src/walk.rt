@@ -7,8 +7,8 @@ ghost use Rattle.plain_lits.specs.HintCheck.{clause_at};
 ghost use Rattle.plain_lits.specs.Literals.{negation};
 ghost use Rattle.unit_propagate.specs.Search.{IsConflict};
 ghost use Rattle.conflict_learn.specs.declared.workspace.Border.TheVariants.{Below, Assumed};
-ghost use Rattle.conflict_learn.specs.Analyses.{analysis_of, is_open, AreClear, IsAt, HasMetAll, IsLastOpen};
-ghost use Rattle.conflict_learn.specs.Analyses.{IsReach, AreOfClause};
+ghost use Rattle.conflict_learn.specs.Analyses.{analysis_of, is_open, AreClear, IsAt, HasMetAll};
+ghost use Rattle.conflict_learn.specs.Analyses.{IsReach, AreLeft};
 ghost use Rattle.conflict_learn.specs.Learning.{IsDecided, last_start};
 
 use crate::workspace::{Border, Workspace, keeps};
@@ -27,6 +27,18 @@ fn higher(reach: usize, index: usize, count: usize) -> usize
         return reach;
     }
     index + 1
+}
+
+/// Takes the marks of a clause's literals away, which are all that there are.
+pub(crate) fn unmark(marks: &mut Vec<bool>, clause: &[Lit], search: &Propagator)
+    requires left { AreLeft search.now.lits clause.now marks.old.items 0 }
+    requires falsified { (l : Lit) → Contains clause.now l → Contains search.now.lits (negation l) }
+    ensures { AreClear marks.new.items }
+{
+    for lit in clause {
+        let index = search.position(!*lit);
+        marks[index] = false;
+    }
 }
 
 impl Workspace {
@@ -102,19 +114,6 @@ impl Workspace {
         Ok(index)
     }
 
-    /// The one open literal, which stands before an index.
-    pub(crate) fn last_open(&self, search: &Propagator, start: usize, before: usize) -> usize
-        requires at { IsAt search.now (Below start) (analysis_of self.now) before }
-        requires one { self.now.open_count ≡ 1 }
-        ensures { IsLastOpen search.now (Below start) (analysis_of self.now) result }
-    {
-        let mut index = before - 1;
-        while !self.marks[index] {
-            index -= 1;
-        }
-        index
-    }
-
     /// Goes down all literals until none is open.
     pub(crate) fn walk_all(&mut self, search: &Propagator) -> Result<usize, Memory>
         requires { IsAt search.now Assumed (analysis_of self.old) (length search.now.lits) }
@@ -140,18 +139,5 @@ impl Workspace {
             reach = higher(reach, search.position(!*lit), count);
         }
         reach
-    }
-
-    /// Takes the marks of the clause's literals away, which are all that there are.
-    pub(crate) fn unmark(&mut self, search: &Propagator)
-        requires { AreOfClause search.now.lits (analysis_of self.old) }
-        ensures clear { AreClear self.new.marks.items }
-        ensures clause { self.new.clause ≡ self.old.clause }
-        ensures hints { self.new.hints ≡ self.old.hints }
-    {
-        for lit in self.clause.as_slice() {
-            let index = search.position(!*lit);
-            self.marks[index] = false;
-        }
     }
 }
