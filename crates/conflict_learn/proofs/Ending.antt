@@ -13,6 +13,7 @@ use Rattle.plain_lits.proofs.HintCheckLemmas.{Contains-mapped, Contains-from_map
 use Rattle.unit_propagate.specs.Search.{Search, IsSearch, IsQuiet, IsConflict}
 use Rattle.unit_propagate.proofs.Fronts.{pushed_cases, longer_front, from_front, consistent}
 use Rattle.conflict_learn.specs.declared.workspace.Border.{Border}
+use Rattle.conflict_learn.specs.declared.learner.Core.{Core}
 use Rattle.conflict_learn.specs.declared.workspace.Border.TheVariants.{Below, Assumed}
 use Rattle.conflict_learn.specs.Learning.{StandsAt, IsDecided, IsSettled, IsLearned, IsNew, IsOpen, IsUnitFrom, IsOpenBelow}
 use Rattle.conflict_learn.specs.Learning.{IsAssumed, last_start, lits_at}
@@ -175,3 +176,19 @@ more_false s start index a u more f at e l c =
     ⊎_elim (λ old. kept_false s (Below start) a f.at.counted l old)
     (λ same. subst (λ (y : Lit). Contains s.lits (negation y)) same (stands_contains s.lits index (negation u) at))
     (pushed_cases a.clause u l (subst (λ (xs : List Lit). Contains xs l) e c))
+
+-- the answer of a whole analysis that keeps assumptions
+pub core_learned : {E : Type 0} (s : Search) (a : Analysis) (index : ℕ) (r : Result Core E) → IsSearch s
+    → IsAt s Assumed a index → a.open_count ≡ 0 → IfOk r (λ (c : Core). IsClauseOf a.clause c.clause)
+    → IfOk r (λ (c : Core). c.hints ≡ reverse a.hints)
+    → IfOk r (λ (c : Core). IsLearned s.clauses s.lits c.clause c.hints)
+core_learned s a index (Ok c) form at none is hints =
+    concluded s Assumed a index c.clause c.hints form at
+    (concludes_none s Assumed a c.clause at.counted none is) hints
+core_learned s a index (Err e) form at none is hints = tt
+
+pub core_assumed : {E : Type 0} (s : Search) (a : Analysis) (r : Result Core E) → IsCounted s Assumed a
+    → a.open_count ≡ 0 → IfOk r (λ (c : Core). IsClauseOf a.clause c.clause)
+    → IfOk r (λ (c : Core). (l : Lit) → Contains c.clause l → IsAssumed s l)
+core_assumed s a (Ok c) h none is = concluded_assumed s a c.clause h none is
+core_assumed s a (Err e) h none is = tt

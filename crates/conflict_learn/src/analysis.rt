@@ -4,7 +4,7 @@ ghost use Rattle.std.specs.Prelude.{◌≡◌, ◌≢◌, ℕ, ◌-◌, ◌<◌,
 ghost use Rattle.plain_lits.specs.declared.lit.Lit.{Lit};
 ghost use Rattle.plain_lits.specs.HintCheck.{clause_at};
 ghost use Rattle.plain_lits.specs.Literals.{negation, IsClauseOf};
-ghost use Rattle.unit_propagate.specs.Search.{IsConflict};
+ghost use Rattle.unit_propagate.specs.Search.{IsConflict, IsSearch};
 ghost use Rattle.conflict_learn.specs.declared.workspace.Border.TheVariants.{Below, Assumed};
 ghost use Rattle.conflict_learn.specs.Analyses.{analysis_of, AreClear, AreLeft, IsAt, HasMetAll, IsFirstUip, IsLevelOf};
 ghost use Rattle.conflict_learn.specs.Learning.{IsDecided, IsSettled, IsLearned, IsNew, IsUnitFrom, IsOpenBelow, IsAssumed};
@@ -100,6 +100,7 @@ impl Workspace {
     fn give_back(&mut self, search: &Propagator) -> Result<Learned, Memory>
         requires at { IsAt search.now (Below (last_start search.now)) (analysis_of self.old) (length search.now.lits) }
         requires none { self.old.open_count ≡ 0 }
+        requires form { IsSearch search.now }
         ensures clear { OnOk result (AreClear self.new.marks.items) }
         ensures learned { IfOk result (λ l. IsLearned search.now.clauses search.now.lits l.clause l.hints) }
         ensures level { IfOk result (λ l. l.level ≡ 0) }

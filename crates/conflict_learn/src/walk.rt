@@ -5,7 +5,7 @@ ghost use Rattle.std.specs.Prelude.{OnOk, IfOk, slice_index, ◌⊎◌};
 ghost use Rattle.plain_lits.specs.declared.lit.Lit.{Lit};
 ghost use Rattle.plain_lits.specs.HintCheck.{clause_at};
 ghost use Rattle.plain_lits.specs.Literals.{negation};
-ghost use Rattle.unit_propagate.specs.Search.{IsConflict};
+ghost use Rattle.unit_propagate.specs.Search.{IsConflict, IsSearch};
 ghost use Rattle.conflict_learn.specs.declared.workspace.Border.TheVariants.{Below, Assumed};
 ghost use Rattle.conflict_learn.specs.Analyses.{analysis_of, is_open, AreClear, IsAt, HasMetAll};
 ghost use Rattle.conflict_learn.specs.Analyses.{IsReach, AreLeft};
@@ -119,6 +119,7 @@ impl Workspace {
         requires { IsAt search.now Assumed (analysis_of self.old) (length search.now.lits) }
         ensures at { IfOk result (IsAt search.now Assumed (analysis_of self.new)) }
         ensures none { OnOk result (self.new.open_count ≡ 0) }
+        ensures form { IsSearch search.now }
     {
         let mut index = search.lits().len();
         while self.open_count > 0 {
