@@ -1,5 +1,5 @@
 -- The clause of the first implication point: at which levels it is unit, and that it is new.
-use Rattle.std.proofs.Common.{◌≡◌, ◌≢◌, ℕ, ◌<◌, ◌≤◌, ◌+◌, ◌-◌, Bool, true, false, List, [], ◌∷◌, ◌++◌, length, get_or, take}
+use Rattle.std.proofs.Common.{◌≡◌, ◌≢◌, ℕ, ◌<◌, ◌≤◌, ◌+◌, ◌-◌, Bool, true, false, List, [], ◌∷◌, ◌++◌, length, get_or, take, reverse}
 use Rattle.std.proofs.Common.{arith, ap, sym, subst, ◌∙◌, refl, ⊎_elim, inl, inr}
 use Rattle.std.specs.Prelude.{◌⊎◌, Contains}
 use Rattle.std.proofs.lemmas.Bool.{cases_lt, cases_eq, ltb-true, ltb-false}
@@ -8,15 +8,15 @@ use Rattle.plain_lits.specs.declared.lit.Lit.{Lit}
 use Rattle.plain_lits.specs.Literals.{negation, IsClauseOf}
 use Rattle.plain_lits.specs.HintCheck.{clause_at, IsNamed, IsFalsified, IsUnit, IsTautology}
 use Rattle.plain_lits.specs.Trails.{VarsDiffer, AreLevels}
-use Rattle.unit_propagate.specs.Search.{Search, IsSearch, IsQuiet}
+use Rattle.unit_propagate.specs.Search.{Search, IsSearch, IsQuiet, IsConflict}
 use Rattle.unit_propagate.proofs.Fronts.{longer_front, from_front, consistent}
 use Rattle.conflict_learn.specs.declared.workspace.Border.TheVariants.{Below}
-use Rattle.conflict_learn.specs.Learning.{StandsAt, IsDecided, IsSettled, IsNew, IsOpen, IsUnitFrom, IsOpenBelow}
+use Rattle.conflict_learn.specs.Learning.{StandsAt, IsDecided, IsSettled, IsLearned, IsNew, IsOpen, IsUnitFrom, IsOpenBelow}
 use Rattle.conflict_learn.specs.Learning.{last_start, lits_at}
-use Rattle.conflict_learn.specs.Analyses.{Analysis, IsFirstUip, IsReach, IsLevelOf}
+use Rattle.conflict_learn.specs.Analyses.{Analysis, IsAt, IsFirstUip, IsReach, IsLevelOf, HasMetAll}
 use Rattle.conflict_learn.proofs.Literally.{negation_back, negation_same, stands_same, stands_index, stands_contains}
-use Rattle.conflict_learn.proofs.Literally.{stands_front, front_stands, lit_decided, but_not}
-use Rattle.conflict_learn.proofs.Ending.{Concludes, concluded_false, concludes_uip}
+use Rattle.conflict_learn.proofs.Literally.{stands_front, front_stands, stands_here, lit_decided, but_not}
+use Rattle.conflict_learn.proofs.Ending.{Concludes, concluded, concluded_false, concludes_uip, settled_open}
 
 -- a clause with one literal that isn't false in a front, where each other literal is false in a part of the front
 pub record HasPoint (lits clause : List Lit) (start index : ℕ) (u : Lit) : Type 0 where
@@ -219,3 +219,43 @@ conclusion_least s a index reach level u more clause c =
     point_least s clause a.clause index reach level u c.form
     (conclusion_point s a index reach level u more clause c)
     w.kept_in (kept_early s (last_start s) index a c.uip) c.reach_is c.level_is
+
+-- the negation of the literal of an index
+pub asserted : (lits read : List Lit) (index : ℕ) (u d : Lit) → index < length lits → read ≡ lits
+    → u ≡ negation (get_or read index d) → StandsAt lits index (negation u)
+asserted lits read index u d lt same is =
+    let e : get_or lits index d ≡ negation u =
+    sym (ap (λ (xs : List Lit). get_or xs index d) same)
+    ∙ (sym (negation_back (get_or read index d)) ∙ ap negation (sym is)) in
+    subst (StandsAt lits index) e (stands_here lits index d lt)
+
+pub conclusion_of : (s : Search) (a : Analysis) (start index reach level : ℕ) (u d : Lit) (read more clause : List Lit)
+    (starts : List ℕ) → IsSearch s → IsDecided s → start ≡ last_start s → IsFirstUip s start a index → read ≡ s.lits
+    → u ≡ negation (get_or read index d) → more ≡ a.clause ++ u ∷ [] → IsClauseOf more clause
+    → IsReach s.lits a.clause reach → starts ≡ s.starts → IsLevelOf starts reach level
+    → IsConclusion s a index reach level u more clause
+conclusion_of s a start index reach level u d read more clause starts form decided start_is f same is pushed sorted r
+    starts_are v = record {
+      form = form;
+      decided = decided;
+      uip = subst (λ n. IsFirstUip s n a index) start_is f;
+      stands = asserted s.lits read index u d f.last.within same is;
+      pushed = pushed;
+      sorted = sorted;
+      reach_is = r;
+      level_is = subst (λ (xs : List ℕ). IsLevelOf xs reach level) starts_are v;
+    }
+
+pub conclusion_learned : (s : Search) (a : Analysis) (index reach level : ℕ) (u : Lit) (more clause : List Lit)
+    (hints : List ℕ) → IsConclusion s a index reach level u more clause → hints ≡ reverse a.hints
+    → IsLearned s.clauses s.lits clause hints
+conclusion_learned s a index reach level u more clause hints c hints_are =
+    concluded s (Below (last_start s)) a c.uip.before clause hints c.form c.uip.at
+    (concludes_uip s (last_start s) index a u more clause c.uip c.stands c.pushed c.sorted) hints_are
+
+pub unsettled : (s : Search) (a : Analysis) (start conflict : ℕ) → start ≡ last_start s
+    → IsConflict s.clauses s.lits conflict → IsAt s (Below start) a (length s.lits)
+    → HasMetAll s (Below start) a (clause_at s.clauses conflict) → a.open_count ≡ 0 → IsSettled s → ⊥
+unsettled s a start conflict e bad at met none settled =
+    settled_open s a conflict bad (subst (λ n. IsAt s (Below n) a (length s.lits)) e at)
+    (subst (λ n. HasMetAll s (Below n) a (clause_at s.clauses conflict)) e met) none settled
