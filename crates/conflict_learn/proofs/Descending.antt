@@ -1,5 +1,6 @@
 -- How far the walk goes down, and the clause that it leaves.
-use Rattle.std.proofs.Common.{◌≡◌, ◌≢◌, ℕ, ◌<◌, ◌≤◌, ◌+◌, ◌-◌, Bool, true, false, not, eqb, List, [], ◌∷◌, ◌++◌, length, get_or, take}
+use Rattle.std.proofs.Common.{◌≡◌, ◌≢◌, ℕ, ◌<◌, ◌≤◌, ◌+◌, ◌-◌, Bool, true, false, not, eqb, List, [], ◌∷◌}
+use Rattle.std.proofs.Common.{◌++◌, length, get_or, take}
 use Rattle.std.proofs.Common.{drop, arith, ap, sym, subst, ◌∙◌, refl, ⊎_elim, inl, inr}
 use Rattle.std.specs.Prelude.{◌⊎◌, ◌&&◌, Contains, Some, slice_get}
 use Rattle.std.proofs.Math.ListN.{set, length-set}
@@ -15,11 +16,13 @@ use Rattle.unit_propagate.proofs.Fronts.{pushed_cases, longer_front, in_front, f
 use Rattle.conflict_learn.specs.declared.workspace.Border.{Border}
 use Rattle.conflict_learn.specs.declared.workspace.Border.TheVariants.{Below, Assumed}
 use Rattle.conflict_learn.specs.Learning.{StandsAt, IsDecided, last_start}
-use Rattle.conflict_learn.specs.Analyses.{Analysis, AreClear, IsCounted, IsAt, IsLastOpen, IsReach, IsLevelOf, AreLeft}
+use Rattle.conflict_learn.specs.Analyses.{Analysis, AreClear, IsCounted, IsAt, IsLastOpen, IsReach, IsLevelOf}
+use Rattle.conflict_learn.specs.Analyses.{AreLeft}
 use Rattle.conflict_learn.specs.Analyses.{is_marked, is_kept, is_open, count_to}
 use Rattle.conflict_learn.proofs.Counting.{count_some, count_two, count_one, count_found, count_none}
 use Rattle.conflict_learn.proofs.Literally.{negation_back, negation_same, stands_same, stands_index, stands_contains}
-use Rattle.conflict_learn.proofs.Literally.{contains_stands, stands_front, front_stands, stands_here, stands_got, but_not, but_is}
+use Rattle.conflict_learn.proofs.Literally.{contains_stands, stands_front, front_stands, stands_here}
+use Rattle.conflict_learn.proofs.Literally.{stands_got, but_not, but_is}
 use Rattle.conflict_learn.proofs.Meeting.{marked_else, marked_here, marked_read}
 
 -- an open literal, where some are counted

@@ -1,5 +1,6 @@
 -- What a walk to its end proves of the clause.
-use Rattle.std.proofs.Common.{◌≡◌, ◌≢◌, ℕ, ◌<◌, ◌≤◌, ◌+◌, ◌-◌, Bool, true, false, not, List, [], ◌∷◌, ◌++◌, length, get_or, take}
+use Rattle.std.proofs.Common.{◌≡◌, ◌≢◌, ℕ, ◌<◌, ◌≤◌, ◌+◌, ◌-◌, Bool, true, false, not, List, [], ◌∷◌, ◌++◌}
+use Rattle.std.proofs.Common.{length, get_or, take}
 use Rattle.std.proofs.Common.{map, reverse, arith, ap, sym, subst, ◌∙◌, refl, ⊎_elim, inl, inr, Ok, Err, Result, IfOk}
 use Rattle.std.specs.Prelude.{◌⊎◌, Contains}
 use Rattle.std.proofs.lemmas.Bool.{cases_Bool, ltb-true, ltb-false, eqb-true}
@@ -15,9 +16,11 @@ use Rattle.unit_propagate.proofs.Fronts.{pushed_cases, longer_front, from_front,
 use Rattle.conflict_learn.specs.declared.workspace.Border.{Border}
 use Rattle.conflict_learn.specs.declared.learner.Core.{Core}
 use Rattle.conflict_learn.specs.declared.workspace.Border.TheVariants.{Below, Assumed}
-use Rattle.conflict_learn.specs.Learning.{StandsAt, IsDecided, IsSettled, IsLearned, IsNew, IsOpen, IsUnitFrom, IsOpenBelow}
+use Rattle.conflict_learn.specs.Learning.{StandsAt, IsDecided, IsSettled, IsLearned, IsNew, IsOpen, IsUnitFrom}
+use Rattle.conflict_learn.specs.Learning.{IsOpenBelow}
 use Rattle.conflict_learn.specs.Learning.{IsAssumed, last_start, lits_at}
-use Rattle.conflict_learn.specs.Analyses.{Analysis, IsCounted, IsAt, IsLastOpen, IsFirstUip, IsReach, IsLevelOf, AreLeft, HasMetAll}
+use Rattle.conflict_learn.specs.Analyses.{Analysis, IsCounted, IsAt, IsLastOpen, IsFirstUip, IsReach}
+use Rattle.conflict_learn.specs.Analyses.{IsLevelOf, AreLeft, HasMetAll}
 use Rattle.conflict_learn.specs.Analyses.{is_marked, is_kept, is_open}
 use Rattle.conflict_learn.proofs.Literally.{negation_back, negation_same, stands_same, stands_index, stands_contains}
 use Rattle.conflict_learn.proofs.Literally.{stands_front, front_stands, lit_decided, but_not, but_is}

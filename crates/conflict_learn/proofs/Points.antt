@@ -1,5 +1,6 @@
 -- The clause of the first implication point: at which levels it is unit, and that it is new.
-use Rattle.std.proofs.Common.{◌≡◌, ◌≢◌, ℕ, ◌<◌, ◌≤◌, ◌+◌, ◌-◌, Bool, true, false, List, [], ◌∷◌, ◌++◌, length, get_or, take, reverse}
+use Rattle.std.proofs.Common.{◌≡◌, ◌≢◌, ℕ, ◌<◌, ◌≤◌, ◌+◌, ◌-◌, Bool, true, false, List, [], ◌∷◌, ◌++◌, length}
+use Rattle.std.proofs.Common.{get_or, take, reverse}
 use Rattle.std.proofs.Common.{arith, ap, sym, subst, ◌∙◌, refl, ⊎_elim, inl, inr}
 use Rattle.std.specs.Prelude.{◌⊎◌, Contains}
 use Rattle.std.proofs.lemmas.Bool.{cases_lt, cases_eq, ltb-true, ltb-false}
@@ -11,7 +12,8 @@ use Rattle.plain_lits.specs.Trails.{VarsDiffer, AreLevels}
 use Rattle.unit_propagate.specs.Search.{Search, IsSearch, IsQuiet, IsConflict}
 use Rattle.unit_propagate.proofs.Fronts.{longer_front, from_front, consistent}
 use Rattle.conflict_learn.specs.declared.workspace.Border.TheVariants.{Below}
-use Rattle.conflict_learn.specs.Learning.{StandsAt, IsDecided, IsSettled, IsLearned, IsNew, IsOpen, IsUnitFrom, IsOpenBelow}
+use Rattle.conflict_learn.specs.Learning.{StandsAt, IsDecided, IsSettled, IsLearned, IsNew, IsOpen, IsUnitFrom}
+use Rattle.conflict_learn.specs.Learning.{IsOpenBelow}
 use Rattle.conflict_learn.specs.Learning.{last_start, lits_at}
 use Rattle.conflict_learn.specs.Analyses.{Analysis, IsAt, IsFirstUip, IsReach, IsLevelOf, HasMetAll}
 use Rattle.conflict_learn.proofs.Literally.{negation_back, negation_same, stands_same, stands_index, stands_contains}
@@ -179,7 +181,8 @@ others_kept s start index a u more clause f at e is l c ne =
     (w.back l c)
 
 -- where the last level is named by its start
-pub record IsConclusion (s : Search) (a : Analysis) (index reach level : ℕ) (u : Lit) (more clause : List Lit) : Type 0 where
+pub record IsConclusion (s : Search) (a : Analysis) (index reach level : ℕ) (u : Lit)
+    (more clause : List Lit) : Type 0 where
   pub form : IsSearch s
   pub decided : IsDecided s
   pub uip : IsFirstUip s (last_start s) a index
