@@ -4,7 +4,7 @@ use Rattle.std.proofs.Common.{length, get_or, take}
 use Rattle.std.proofs.Common.{arith, ap, sym, subst, ◌∙◌, refl, ⊎_elim, inl, inr, Ok, Err, Result, OnOk, reverse}
 use Rattle.std.specs.Prelude.{◌⊎◌, ◌&&◌, Contains}
 use Rattle.std.proofs.Math.ListN.{set, length-set}
-use Rattle.std.proofs.lemmas.Bool.{cases_lt, cases_eq, cases_Bool, false≢true}
+use Rattle.std.proofs.lemmas.Bool.{cases_eq, false≢true}
 use Rattle.std.proofs.lemmas.List.{reverse-append}
 use Rattle.std.proofs.lemmas.List.Elements.{Contains-append_left}
 use Rattle.plain_lists.proofs.Membership.{Contains-pushed, Contains-nil, Contains-head, Contains-tail}
@@ -22,7 +22,7 @@ use Rattle.conflict_learn.specs.Analyses.{IsWalk, IsAt}
 use Rattle.conflict_learn.specs.Analyses.{is_marked, is_kept, is_open, count_to}
 use Rattle.conflict_learn.proofs.Counting.{count_up, count_some}
 use Rattle.conflict_learn.proofs.Literally.{negation_back, negation_same, stands_same, stands_index, stands_contains}
-use Rattle.conflict_learn.proofs.Literally.{contains_stands, stands_front, front_stands, lit_decided, but_not}
+use Rattle.conflict_learn.proofs.Literally.{stands_front, front_stands, lit_decided, but_not}
 use Rattle.conflict_learn.proofs.Literally.{but_is, but_marked}
 use Rattle.conflict_learn.proofs.Literally.{but_kept, stands_here}
 use Rattle.conflict_learn.proofs.Meeting.{marked_else, marked_here, marked_read}

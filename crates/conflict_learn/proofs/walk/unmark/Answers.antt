@@ -1,4 +1,4 @@
-use Rattle.std.proofs.Common.{◌<◌, ◌≤◌, length, false, refl, get_or, arith}
+use Rattle.std.proofs.Common.{false, refl, get_or, arith}
 use Rattle.plain_lits.specs.declared.lit.Lit.{Lit}
 use Rattle.conflict_learn.proofs.Descending.{left_next, left_clear, item_false, item_at}
 use Rattle.conflict_learn.proofs.walk.unmark.Goals as goal

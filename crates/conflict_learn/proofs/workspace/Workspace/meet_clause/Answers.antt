@@ -1,4 +1,4 @@
-use Rattle.std.proofs.Common.{arith, ap}
+use Rattle.std.proofs.Common.{ap}
 use Rattle.plain_lits.specs.HintCheck.{clause_at}
 use Rattle.conflict_learn.specs.Analyses.{analysis_of}
 use Rattle.conflict_learn.proofs.Meeting.{all_met, all_past}
