@@ -1,0 +1,11 @@
+//! Learning from conflicts: a clause up to the first unique implication point, with the hints that show it.
+#![tactic(auto)]
+
+mod analysis;
+mod learner;
+#[cfg(test)]
+mod tests;
+mod walk;
+mod workspace;
+
+pub use learner::{Core, Learned, Learner};
