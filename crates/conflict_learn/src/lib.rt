@@ -1,0 +1,6 @@
+//! Learning from conflicts: a clause up to the first unique implication point, with the hints that show it.
+#![tactic(auto)]
+
+mod learner;
+
+pub use learner::{Core, Learned, Learner};
