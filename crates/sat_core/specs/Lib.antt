@@ -1,0 +1,3 @@
+pub mod Mirrors
+pub mod Runs
+pub mod Solving

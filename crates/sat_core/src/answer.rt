@@ -1,0 +1,19 @@
+//! What a search tells.
+
+use plain_lists::Items;
+use plain_lits::{Clause, Lit, StepId};
+
+/// What a search found: true literals under which each clause and each assumption is true, or a step whose literals
+/// are negated assumptions.
+#[derive(Debug, Drop)]
+pub enum Solved {
+    Model(Items<Lit>),
+    Core(StepId),
+}
+
+/// A clause that was learned with its hints, but not added, since the budget was spent.
+#[derive(Debug, Drop)]
+pub struct Pending {
+    pub clause: Clause,
+    pub hints: Items<StepId>,
+}
