@@ -1,2 +1,5 @@
+pub mod Descending
 pub mod Mirroring
 pub mod Running
+pub mod Serving
+pub mod Turning

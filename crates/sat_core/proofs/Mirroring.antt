@@ -18,7 +18,7 @@ use Rattle.hinted_log.specs.Logs.{derived_step}
 use Rattle.hinted_log.proofs.Following.{clause_of_step, length-clauses_of}
 use Rattle.conflict_learn.specs.Learning.{AreUsed, ComesFromHints, IsLearned, IsNew}
 use Rattle.sat_core.specs.Solving.{SolverState, clause_of, Holds, IsShown, IsNewTo, IsUnitOf, with_derived}
-use Rattle.sat_core.specs.Mirrors.{step_of, IsMirror}
+use Rattle.sat_core.specs.Mirrors.{step_of, IsMirror, IsDerived}
 use Rattle.sat_core.proofs.Running.{clause_cases}
 
 -- the id of a step in use
@@ -249,3 +249,10 @@ mirror_more clauses active steps step m =
           ∙ (clause_new steps step number refl ∙ sym w.1))
           (clause_cases clauses step.clause id n);
     }
+
+pub derived_is : (old new : LogState) (clause : List Lit) (hints : List ℕ) (number : ℕ)
+    → Checks negation (clauses_of old.steps) clause hints (Ok (length hints)) → AddsDerived old new clause hints number
+    → IsDerived old new clause hints number
+derived_is old new clause hints number w a =
+    let h = derived_all old new clause hints number w a in
+    record { log_is = h.0; next = h.1 }

@@ -1,11 +1,12 @@
 -- The inner state of a search, which no caller sees: the first level has the assumptions, and each level above it was
 -- begun by a decision when nothing was left to propagate.
-use Rattle.std.specs.Prelude.{◌≡◌, ◌≢◌, ◌⊎◌, ℕ, ◌-◌, ◌<◌, ◌≤◌, List, [], length, take, Contains, Option, None, Some}
+use Rattle.std.specs.Prelude.{◌≡◌, ◌⊎◌, ℕ, ◌<◌, ◌≤◌, Bool, true, false, List, [], length, take, Contains}
+use Rattle.std.specs.Prelude.{Option, None, Some}
 use Rattle.std.specs.Prelude.{slice_index, slice_index_or}
 use Rattle.plain_lits.specs.declared.lit.Lit.{Lit}
 use Rattle.plain_lits.specs.declared.value.Value.TheVariants.{Unset}
 use Rattle.plain_lits.specs.HintCheck.{clause_at, IsNamed}
-use Rattle.plain_lits.specs.Literals.{negation}
+use Rattle.plain_lits.specs.Values.{IsValueIn}
 use Rattle.unit_propagate.specs.Search.{Search, IsQuiet, IsConflict}
 use Rattle.conflict_learn.specs.Learning.{StandsAt}
 
@@ -56,14 +57,36 @@ pub record IsResting (s : Search) : Type 0 where
   pub levels : s.starts ≡ []
   pub room : HasRoom s
 
--- each known variable has a value
-pub record HaveValues (vars : ℕ) (lits : List Lit) : Type 0 where
-  pub each : (l : Lit) → l.var < vars → (Contains lits l → ⊥) → Contains lits (negation l)
+-- a variable has a value
+abbrev pub HasValue : List Lit → ℕ → Type 0
+HasValue lits v =
+    Contains lits (record { var = v; positive = false }) ⊎ Contains lits (record { var = v; positive = true })
+
+-- each known variable has a value, from one on; and from the first on
+pub record HaveValuesFrom (from : ℕ) (s : Search) : Type 0 where
+  pub each : (v : ℕ) → from ≤ v → v < s.vars → HasValue s.lits v
+
+abbrev pub HaveValues : Search → Type 0
+HaveValues s = HaveValuesFrom 0 s
+
+-- a literal's variable is known and has no value
+pub record IsUnsetIn (s : Search) (l : Lit) : Type 0 where
+  pub known : l.var < s.vars
+  pub unset : IsValueIn s.lits l Unset
+
+-- a variable is known and has no value
+pub record IsUnsetVar (s : Search) (v : ℕ) : Type 0 where
+  pub either : (positive : Bool) → IsUnsetIn s (record { var = v; positive = positive })
+
+-- what propagation gives: a false clause, or nothing is left to do
+abbrev pub IsSpread : Search → Option ℕ → Type 0
+IsSpread s (Some id) = IsConflict s.clauses s.lits id
+IsSpread s None = IsQuiet s.clauses s.lits
 
 -- what a descent gives: a false clause, or nothing is left to do and all variables have values
 abbrev pub IsDescent : Search → Option ℕ → Type 0
 IsDescent s (Some id) = IsConflict s.clauses s.lits id
-IsDescent s None = IsQuiet s.clauses s.lits × HaveValues s.vars s.lits
+IsDescent s None = IsQuiet s.clauses s.lits × HaveValues s
 
 -- the search goes on with other literals: the clauses and the known variables are the same
 pub record GoesOn (old new : Search) : Type 0 where

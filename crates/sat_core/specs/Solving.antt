@@ -8,7 +8,11 @@ use Rattle.plain_lits.specs.declared.halt.Halt.TheVariants.{Spent, LogFull, Memo
 use Rattle.plain_lits.specs.Literals.{negation}
 use Rattle.plain_lits.specs.HintCheck.{IsTautology, Checks}
 use Rattle.plain_lits.specs.Units.{Units}
-use Rattle.hinted_log.specs.Logs.{Step, LogState, IsLog, IsStepOf, step_at, clauses_of, derived_step}
+use Rattle.hinted_log.specs.Logs.{Step, LogState, IsLog, IsStepOf, step_at, clauses_of, given_step, derived_step}
+use Rattle.hinted_log.specs.Logs.{AddsStep, AddsDerived}
+use Rattle.hinted_log.specs.declared.kind.Kind.TheVariants as kind
+use Rattle.sat_core.specs.declared.answer.Added.{Added}
+use Rattle.sat_core.specs.declared.answer.Added.TheVariants.{Axiom, Side, Derived}
 use Rattle.sat_core.specs.declared.answer.Pending.{Pending}
 use Rattle.sat_core.specs.declared.answer.Solved.{Solved}
 use Rattle.sat_core.specs.declared.answer.Solved.TheVariants.{Model, Core}
@@ -115,14 +119,18 @@ pub record EndsCore (learned new : SolverState) (assumptions : List Lit) (number
   pub core : IsCore new.log.steps assumptions number
   pub closed : (new ≡ learned) ⊎ Closes learned new number
 
+-- what stops a search, and what it leaves: the budget was spent, or the log is full
+abbrev pub StopsAs : SolverState → SolverState → List Lit → Units → Halt → Type 0
+StopsAs learned new assumptions budget (Spent count) =
+    (new.log ≡ learned.log) × (new.active ≡ learned.active) × IsSpent new assumptions budget count
+StopsAs learned new assumptions budget LogFull = (new ≡ learned) × (length new.log.steps ≡ new.log.limit)
+StopsAs learned new assumptions budget Memory = Unit {0}
+
 -- what a search tells, and what it leaves where these clauses were learned
 abbrev pub EndsAs : SolverState → SolverState → List Lit → Units → Result Solved Halt → Type 0
 EndsAs learned new assumptions budget (Ok (Model lits)) = (new ≡ learned) × IsModel new assumptions lits
 EndsAs learned new assumptions budget (Ok (Core step)) = EndsCore learned new assumptions step
-EndsAs learned new assumptions budget (Err (Spent count)) =
-    (new.log ≡ learned.log) × (new.active ≡ learned.active) × IsSpent new assumptions budget count
-EndsAs learned new assumptions budget (Err LogFull) = (new ≡ learned) × (length new.log.steps ≡ new.log.limit)
-EndsAs learned new assumptions budget (Err Memory) = Unit {0}
+EndsAs learned new assumptions budget (Err halt) = StopsAs learned new assumptions budget halt
 
 -- a search: clauses are learned, for each of which a unit is spent, and then it ends
 pub record HasSearched (old new : SolverState) (assumptions : List Lit) (before after : Units)
@@ -132,3 +140,27 @@ pub record HasSearched (old new : SolverState) (assumptions : List Lit) (before 
   pub learns : Learns assumptions (begun old) learned count
   pub spent : after.used ≡ before.used + count
   pub ends : EndsAs learned new assumptions after result
+
+-- whatever a call tells, the log and the steps in use are the same from the front on
+pub record Keeps (old new : SolverState) : Type 0 where
+  pub limit : new.log.limit ≡ old.log.limit
+  pub more_steps : (more : List Step) × (new.log.steps ≡ old.log.steps ++ more)
+  pub more_active : (more : List ℕ) × (new.active ≡ old.active ++ more)
+
+-- a log gains a clause as one that is given or derived, and the step gets the next number
+abbrev pub Records : LogState → LogState → List Lit → Added → ℕ → Type 0
+Records old new clause Axiom number = AddsStep old new (given_step clause kind.Axiom) number
+Records old new clause Side number = AddsStep old new (given_step clause kind.Side) number
+Records old new clause (Derived hints) number = AddsDerived old new clause hints number
+
+-- a clause comes, and its step is in use
+pub record AddsTo (old new : SolverState) (clause : List Lit) (how : Added) (number : ℕ) : Type 0 where
+  pub recorded : Records old.log new.log clause how number
+  pub in_use : new.active ≡ old.active ++ number ∷ []
+  pub pending_same : new.pending ≡ old.pending
+
+-- the check of the hints rejects a clause at a place
+abbrev pub IsRejected : LogState → List Lit → Added → ℕ → Type 0
+IsRejected log clause Axiom place = ⊥
+IsRejected log clause Side place = ⊥
+IsRejected log clause (Derived hints) place = Checks negation (clauses_of log.steps) clause hints (Err place)

@@ -2,5 +2,8 @@
 #![tactic(auto)]
 
 pub mod answer;
+mod cdcl;
+mod descent;
+mod ledger;
 
-pub use answer::{Pending, Solved};
+pub use answer::{Added, Pending, Solved};
