@@ -1,5 +1,6 @@
 pub mod Descending
 pub mod Mirroring
 pub mod Running
+pub mod Searching
 pub mod Serving
 pub mod Turning

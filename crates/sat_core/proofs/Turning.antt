@@ -19,7 +19,9 @@ use Rattle.sat_core.specs.Mirrors.{IsMirror, step_of, AreIds, IsDerived, IsServe
 use Rattle.sat_core.specs.Runs.{IsRun, IsBased, HasRoom}
 use Rattle.sat_core.specs.Turns.{IsAsserting}
 use Rattle.sat_core.proofs.Running.{back, learned, back_lits, lits_below, stays_run, core_lits, not_assumed, based_of}
+use Rattle.std.proofs.lemmas.List.{length-map}
 use Rattle.sat_core.proofs.Mirroring.{mirror_grown, mirror_more, hints_named, unit_of, shown_of, clause_new, step_new}
+use Rattle.sat_core.proofs.Mirroring.{moved}
 
 -- the level to which a search goes back lies below the last one
 pub target_within : (s : Search) (level target : ℕ) → level < length s.starts → 1 < length s.starts
@@ -55,14 +57,15 @@ run_learned old mid new level target clause lit id assumptions form mid_form a p
     (back old mid target assumptions form pos lt g run)
 
 -- the clauses and the steps, where a step has come but not its clause, and where both have
-pub mirror_derived : (clauses new_clauses : List (List Lit)) (active : List ℕ) (log new_log : LogState)
-    (clause : List Lit) (hints : List ℕ) (number : ℕ) → new_clauses ≡ clauses
+pub mirror_derived : (clauses new_clauses : List (List Lit)) (active new_active : List ℕ) (log new_log : LogState)
+    (clause : List Lit) (hints : List ℕ) (number : ℕ) → new_clauses ≡ clauses → new_active ≡ active
     → IsDerived log new_log clause hints number → IsMirror clauses active log.steps
-    → IsMirror new_clauses active new_log.steps
-mirror_derived clauses new_clauses active log new_log clause hints number e d m =
-    subst (λ cs. IsMirror cs active new_log.steps) (sym e)
+    → IsMirror new_clauses new_active new_log.steps
+mirror_derived clauses new_clauses active new_active log new_log clause hints number e e2 d m =
+    subst (λ cs. IsMirror cs new_active new_log.steps) (sym e)
+    (subst (λ xs. IsMirror clauses xs new_log.steps) (sym e2)
     (subst (λ (g : LogState). IsMirror clauses active g.steps) (sym d.log_is)
-    (mirror_grown clauses active log.steps (derived_step clause hints) m))
+    (mirror_grown clauses active log.steps (derived_step clause hints) m)))
 
 pub mirror_learned : (clauses mid new_clauses : List (List Lit)) (active new_active : List ℕ) (log new_log : LogState)
     (clause : List Lit) (hints : List ℕ) (number : ℕ) → mid ≡ clauses → new_clauses ≡ mid ++ clause ∷ []
@@ -119,13 +122,13 @@ unit_learned state s assumptions clause ids hints m form run l new e =
     (λ x c a. not_assumed s assumptions clause x form run l.all_false c a))
 
 -- a core, where a step serves and where it is one step more
-taken_plain : {clauses : List (List Lit)} (clause : List Lit) (hints : List ℕ) (n : ℕ)
+taken_plain : (clauses : List (List Lit)) (clause : List Lit) (hints : List ℕ) (n : ℕ)
     → Checks negation clauses clause hints (Ok n) → IsTautology negation clause → ⊥
-taken_plain clause hints n w t = ⊎_elim (λ f. let e = f.1 in cc) (λ f. f.0 t) w
+taken_plain clauses clause hints n w t = ⊎_elim (λ f. let e = f.1 in cc) (λ f. f.0 t) w
 
 pub plain_of : (s : Search) (clause : List Lit) (hints : List ℕ) → IsLearned s.clauses s.lits clause hints
     → IsTautology negation clause → ⊥
-plain_of s clause hints l t = taken_plain {clauses = s.clauses} clause hints (length hints) l.taken t
+plain_of s clause hints l t = taken_plain s.clauses clause hints (length hints) l.taken t
 
 pub core_served : (state : SolverState) (s : Search) (assumptions clause : List Lit) (number : ℕ)
     → length s.starts ≤ 1 → IsRun assumptions s → ((x : Lit) → Contains clause x → IsAssumed s x)
@@ -169,3 +172,12 @@ core_derived state log s assumptions clause ids hints number m shallow run l ass
         pending_same = refl;
       });
     }
+
+-- the check moves to hints that are steps
+pub moved_to : (clauses : List (List Lit)) (active : List ℕ) (steps : List Step) (clause : List Lit)
+    (ids hints : List ℕ) → IsMirror clauses active steps → Checks negation clauses clause ids (Ok (length ids))
+    → hints ≡ map (step_of active) ids → Checks negation (clauses_of steps) clause hints (Ok (length hints))
+moved_to clauses active steps clause ids hints m w e =
+    subst (λ hs. Checks negation (clauses_of steps) clause hs (Ok (length hs))) (sym e)
+    (subst (λ n. Checks negation (clauses_of steps) clause (map (step_of active) ids) (Ok n))
+    (sym (length-map ids (step_of active))) (moved clauses active steps clause ids m w))

@@ -61,22 +61,23 @@ EndsAt learned new assumptions before after (Refuted step) =
 EndsAt learned new assumptions before after (Stopped halt) = StopsAt learned new assumptions before after halt
 
 -- the search goes on: a clause is learned, and a unit spent
-pub record Goes (old new : Cdcl) (assumptions : List Lit) (before after : Units) : Type 0 where
+pub record Goes (old : SolverState) (new : Cdcl) (assumptions : List Lit) (before after : Units) : Type 0 where
   pub spent : after.used ≡ before.used + 1
   pub run : IsRun assumptions new.descent.search
-  pub learns : LearnsOne (state_of old) (state_of new) assumptions
+  pub learns : LearnsOne old (state_of new) assumptions
 
 -- what a turn gives
-abbrev pub IsTurn : Cdcl → Cdcl → List Lit → Units → Units → Option End → Type 0
+abbrev pub IsTurn : SolverState → Cdcl → List Lit → Units → Units → Option End → Type 0
 IsTurn old new assumptions before after None = Goes old new assumptions before after
-IsTurn old new assumptions before after (Some ended) = EndsAt (state_of old) new assumptions before after ended
+IsTurn old new assumptions before after (Some ended) = EndsAt old new assumptions before after ended
 
 -- what turns give, one after the other
-pub record HasRun (old new : Cdcl) (assumptions : List Lit) (before after : Units) (ended : End) : Type 0 where
+pub record HasRun (old : SolverState) (new : Cdcl) (assumptions : List Lit) (before after : Units)
+    (ended : End) : Type 0 where
   pub learned : SolverState
   pub count : ℕ
   pub mid : Units
-  pub learns : Learns assumptions (state_of old) learned count
+  pub learns : Learns assumptions old learned count
   pub spent : mid.used ≡ before.used + count
   pub ends : EndsAt learned new assumptions mid after ended
 

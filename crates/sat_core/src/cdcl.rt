@@ -56,10 +56,10 @@ fn told_of(alloc: Global, search: &Propagator, end: End) -> Result<Solved, Halt>
     ensures { Tells search.now.lits end result }
 {
     match end {
-        End::Satisfied => {
-            let lits = Vec::from_slice(alloc, search.lits())?;
-            Ok(Solved::Model(Items::from_vec(lits)))
-        }
+        End::Satisfied => match Vec::from_slice(alloc, search.lits()) {
+            Ok(lits) => Ok(Solved::Model(Items::from_vec(lits))),
+            Err(_) => Err(Halt::Memory),
+        },
         End::Refuted(step) => Ok(Solved::Core(step)),
         End::Stopped(halt) => Err(halt),
     }
@@ -133,7 +133,7 @@ impl Cdcl {
         requires deep { 1 < length self.old.descent.search.starts }
         requires conflict { IsConflict self.old.descent.search.clauses self.old.descent.search.lits conflict }
         ensures kept { IsKept self.new }
-        ensures goes { OnOk result (Goes self.old self.new assumptions.now budget.old budget.new) }
+        ensures goes { OnOk result (Goes (state_of self.old) self.new assumptions.now budget.old budget.new) }
         ensures stops { IfErr result (StopsAt (state_of self.old) self.new assumptions.now budget.old budget.new) }
         ensures limit { budget.new.limit ≡ budget.old.limit }
     {
@@ -174,8 +174,9 @@ impl Cdcl {
         let vars = self.descent.search.vars();
         let Core { clause, hints } = self.learner.final_core(&self.descent.search, conflict)?;
         let served = serving(self.alloc, &self.ledger.log, clause.as_slice(), vars)?;
-        if let Some(step) = served {
-            return Ok(step);
+        match served {
+            Some(step) => return Ok(step),
+            None => {}
         }
         if self.ledger.log.is_full() {
             return Err(Halt::LogFull);
@@ -191,7 +192,7 @@ impl Cdcl {
         requires run { IsRun assumptions.now self.old.descent.search }
         requires conflict { IsConflict self.old.descent.search.clauses self.old.descent.search.lits conflict }
         ensures kept { IsKept self.new }
-        ensures turn { IsTurn self.old self.new assumptions.now budget.old budget.new result }
+        ensures turn { IsTurn (state_of self.old) self.new assumptions.now budget.old budget.new result }
         ensures limit { budget.new.limit ≡ budget.old.limit }
     {
         if self.descent.search.starts().len() <= 1 {
@@ -214,7 +215,7 @@ impl Cdcl {
         requires kept { IsKept self.old }
         requires run { IsRun assumptions.now self.old.descent.search }
         ensures kept { IsKept self.new }
-        ensures turn { IsTurn self.old self.new assumptions.now budget.old budget.new result }
+        ensures turn { IsTurn (state_of self.old) self.new assumptions.now budget.old budget.new result }
         ensures limit { budget.new.limit ≡ budget.old.limit }
     {
         match self.descent.descend() {
@@ -231,13 +232,14 @@ impl Cdcl {
         requires kept { IsKept self.old }
         requires run { IsRun assumptions.now self.old.descent.search }
         ensures kept { IsKept self.new }
-        ensures run { HasRun self.old self.new assumptions.now budget.old budget.new result }
+        ensures run { HasRun (state_of self.old) self.new assumptions.now budget.old budget.new result }
         ensures limit { budget.new.limit ≡ budget.old.limit }
     {
         'conflicts: loop {
-            let _within = budget.used();
             match self.turn(assumptions, budget) {
-                None => {}
+                None => {
+                    let _within = budget.used();
+                }
                 Some(end) => return end,
             }
         }
@@ -256,7 +258,10 @@ impl Cdcl {
         if self.ledger.log.is_full() {
             return Err(LogFault::LogFull);
         }
-        self.ledger.active.reserve(1)?;
+        match self.ledger.active.reserve(1) {
+            Ok(()) => {}
+            Err(_) => return Err(LogFault::Memory),
+        }
         let kept = clause.copy(self.alloc)?;
         let step = record(&mut self.ledger.log, clause, how)?;
         let _ = self.descent.search.add(kept.as_slice())?;

@@ -14,8 +14,8 @@ use unit_propagate::{Propagated, Propagator};
 /// How many conflicts one step of Luby's sequence is worth.
 const CONFLICTS_A_STEP: u64 = 100;
 
-/// A propagator, the order of decisions, and when it begins anew. No variable below `next` has lost its value since
-/// all below it had one.
+/// A propagator, the order of decisions, and when it begins anew: after so many `conflicts`. No variable below `next`
+/// has lost its value since all below it had one; `released` counts the literals that have lost theirs.
 #[derive(Debug, Drop)]
 pub(crate) struct Descent {
     pub(crate) search: Propagator,
@@ -23,6 +23,7 @@ pub(crate) struct Descent {
     pub(crate) next: usize,
     pub(crate) restarts: Luby,
     pub(crate) conflicts: u64,
+    pub(crate) released: u64,
 }
 
 /// The first variable from one on that has no value.
@@ -59,14 +60,15 @@ fn first_active(search: &Propagator, order: &mut DecisionOrder) -> Option<Lit>
     None
 }
 
-/// The literals from an index on are about to lose their values.
-fn release_all(order: &mut DecisionOrder, next: &mut usize, lits: &[Lit], from: usize) {
+/// The literals from an index on are about to lose their values. It tells how many they are.
+fn release_all(order: &mut DecisionOrder, next: &mut usize, lits: &[Lit], from: usize) -> u64 {
     for lit in lits.iter().skip(from) {
         order.release(*lit);
         if lit.var < *next {
             *next = lit.var;
         }
     }
+    lits.len().saturating_sub(from) as u64
 }
 
 /// The variables of a clause become more active.
@@ -97,6 +99,7 @@ impl Descent {
             next: 0,
             restarts: Luby::new(),
             conflicts: 0,
+            released: 0,
         }
     }
 
@@ -184,12 +187,13 @@ impl Descent {
         let starts = self.search.starts();
         if level < starts.len() {
             let from = starts[level];
-            release_all(
+            let released = release_all(
                 &mut self.order,
                 &mut self.next,
                 self.search.lits(),
                 from,
             );
+            self.released = self.released.saturating_add(released);
         }
         self.search.back_to(level);
     }

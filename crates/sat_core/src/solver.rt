@@ -104,6 +104,11 @@ impl Solver {
         self.cdcl.ledger.active.as_slice()
     }
 
+    /// How many literals all searches so far have made true, for measurements.
+    pub fn propagated(&self) -> u64 {
+        self.cdcl.descent.released
+    }
+
     /// Takes the clause that was in hand when the budget of the last search was spent.
     pub fn take_pending(&mut self) -> Option<Pending>
         ensures pending { result ≡ self.old.pending }

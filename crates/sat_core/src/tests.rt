@@ -1,0 +1,113 @@
+ghost use Rattle.std.specs.Prelude.{◌≡◌};
+
+use crate::{Added, Solved, Solver};
+use hinted_log::{Log, LogFault};
+use plain_lits::{Budget, Clause, Halt, Lit, StepId};
+use std::alloc::Global;
+use std::test::Fail;
+
+fn lit(var: usize, positive: bool) -> Lit {
+    Lit { var, positive }
+}
+
+/// Adds an axiom.
+fn add(solver: &mut Solver, alloc: Global, lits: &[Lit]) -> Result<(), LogFault> {
+    let clause = Clause::from_slice(alloc, lits)?;
+    let _ = solver.add(clause, Added::Axiom)?;
+    Ok(())
+}
+
+/// Searches under one assumption.
+fn solve_with(solver: &mut Solver, assumed: Lit, budget: &mut Budget) -> Result<Solved, Halt> {
+    solver.solve(&[assumed], budget)
+}
+
+/// The literal of a step that has one.
+fn only_lit(log: &Log, step: StepId) -> Option<Lit> {
+    if step.number() == 0 || step.number() as usize > log.len() {
+        return None;
+    }
+    match log.clause(step) {
+        [packed] => Some(packed.lit()),
+        _ => None,
+    }
+}
+
+/// The one literal of the core that was found.
+fn core_lit(solver: &Solver, found: &Solved) -> Option<Lit> {
+    match found {
+        Solved::Core(step) => only_lit(solver.log(), *step),
+        Solved::Model(_) => None,
+    }
+}
+
+/// Whether a model was found in which a literal is true.
+fn is_model_with(found: &Solved, lit: Lit) -> bool {
+    match found {
+        Solved::Core(_) => false,
+        Solved::Model(lits) => lits.as_slice().contains(&lit),
+    }
+}
+
+/// Of the pigeons 0 to 3 each has one of the holes 0 to 2 where variable 12 is true, and no two have the same one.
+fn pigeons(alloc: Global, limit: u64) -> Result<Solver, LogFault>
+    requires { limit ≤ 1000 }
+{
+    let mut solver = Solver::open(alloc, limit)?;
+    for first in [0, 3, 6, 9] {
+        let holes = [lit(first, true), lit(first + 1, true), lit(first + 2, true), lit(12, false)];
+        add(&mut solver, alloc, &holes)?;
+    }
+    for (one, other) in [(0, 3), (0, 6), (0, 9), (3, 6), (3, 9), (6, 9)] {
+        for hole in 0..3 {
+            add(&mut solver, alloc, &[lit(one + hole, false), lit(other + hole, false)])?;
+        }
+    }
+    Ok(solver)
+}
+
+/// Where each pigeon has a hole there is a core, and where none has there is a model.
+#[test]
+fn four_pigeons_and_three_holes(rt: HostRuntime) -> Result<(), Fail> {
+    let mut solver = pigeons(rt.alloc(), 1000)?;
+    let mut budget = Budget::new(1000);
+    solver.name(lit(0, true))?;
+    let found = solve_with(&mut solver, lit(12, true), &mut budget)?;
+    assert_eq!(rt; core_lit(&solver, &found), Some(lit(12, false)));
+    assert!(rt; budget.used() > 0);
+    solver.reset_phases();
+    let found = solve_with(&mut solver, lit(12, false), &mut budget)?;
+    assert!(rt; is_model_with(&found, lit(12, false)));
+    Ok(())
+}
+
+/// A budget of one unit ends with a further clause in hand, and a log of 22 steps has no room for any.
+#[test]
+fn searches_that_stop(rt: HostRuntime) -> Result<(), Fail> {
+    let mut solver = pigeons(rt.alloc(), 1000)?;
+    let mut budget = Budget::new(1);
+    let stopped = solve_with(&mut solver, lit(12, true), &mut budget);
+    assert!(rt; matches!(&stopped, Err(Halt::Spent(1))));
+    assert_eq!(rt; solver.log().len(), 23);
+    assert_eq!(rt; solver.active().len(), 23);
+    assert!(rt; solver.take_pending().is_some());
+    assert!(rt; solver.take_pending().is_none());
+    let mut full = pigeons(rt.alloc(), 22)?;
+    let stopped = solve_with(&mut full, lit(12, true), &mut Budget::new(1000));
+    assert!(rt; matches!(&stopped, Err(Halt::LogFull)));
+    Ok(())
+}
+
+/// The clauses (1 or 2) and (not 1 or 2): 2 is true in each model, and not 2 has the core (2).
+#[test]
+fn two_clauses(rt: HostRuntime) -> Result<(), Fail> {
+    let mut solver = Solver::open(rt.alloc(), 100)?;
+    add(&mut solver, rt.alloc(), &[lit(1, true), lit(2, true)])?;
+    add(&mut solver, rt.alloc(), &[lit(1, false), lit(2, true)])?;
+    let mut budget = Budget::new(100);
+    let found = solver.solve(&[], &mut budget)?;
+    assert!(rt; is_model_with(&found, lit(2, true)));
+    let found = solve_with(&mut solver, lit(2, false), &mut budget)?;
+    assert_eq!(rt; core_lit(&solver, &found), Some(lit(2, true)));
+    Ok(())
+}
