@@ -41,7 +41,7 @@ pub unset_both : (s : Search) (v : ℕ) → v < s.vars → IsValueIn s.lits (rec
     → IsUnsetVar s v
 unset_both s v lt h = record {
   either = λ positive. elim positive as (λ p. IsUnsetIn s (record { var = v; positive = p })) [
-    true ↦ record { known = lt; unset = (h.1, h.0) }
+    | true ↦ record { known = lt; unset = (h.1, h.0) }
     | false ↦ record { known = lt; unset = (h.0, h.1) }
   ];
 }
@@ -85,8 +85,7 @@ model_of state s assumptions m form run quiet values = record {
   assumed = λ l c. let w = run.there l c in contains_of s.lits w.index l w.stands;
   satisfied = λ number c.
       let id = id_of s.clauses state.active state.log.steps number m c in
-      let w = quiet_true s id.0 run.room quiet values id.1 in
-      (
+      let w = quiet_true s id.0 run.room quiet values id.1 in (
         w.0,
         subst (λ n. Contains (clause_of state.log.steps n) w.0) id.2
             (subst (λ xs. Contains xs w.0) (sym (m.same id.0 id.1)) w.1),

@@ -28,8 +28,7 @@ pub id_of : (clauses : List (List Lit)) (active : List ℕ) (steps : List Step) 
 id_of clauses active steps number m c =
     let lt = c.1 in
     let long = m.long in
-    let same : c.0 + 1 - 1 ≡ c.0 = omega arith in
-    (
+    let same : c.0 + 1 - 1 ≡ c.0 = omega arith in (
       c.0 + 1,
       record { from_one = omega arith; within = omega (arith, lt, long) },
       ap (λ i. get_or active i 0) same ∙ (get_or_default active c.0 0 number lt ∙ c.2),
@@ -134,8 +133,7 @@ shown_of s clauses clause hints m w used from =
           ))
           (used.each h.0 l h.1 at);
       from_hints = λ l c.
-          let o = from.each l c in
-          (
+          let o = from.each l c in (
             to o.0,
             Contains-mapped to hints o.0 o.1,
             subst (λ xs. Contains xs l) (sym (m.same o.0 (named o.0 o.1))) o.2,
@@ -231,12 +229,12 @@ mirror_more clauses active steps step m =
     record {
       long = omega (arith, length-append active (number ∷ []), length-append clauses (step.clause ∷ []), long);
       rises = rises_pushed active number m.rises (λ k lt.
-      let named : IsNamed clauses (k + 1) = record { from_one = omega arith; within = omega (arith, long, lt) } in
-      let s = m.named (k + 1) named in
-      let within = s.within in
-      let same : k + 1 - 1 ≡ k = omega arith in
-      let e : step_of active (k + 1) ≡ get_or active k 0 = ap (λ i. get_or active i 0) same in
-      omega (arith, within, e));
+          let named : IsNamed clauses (k + 1) = record { from_one = omega arith; within = omega (arith, long, lt) } in
+          let s = m.named (k + 1) named in
+          let within = s.within in
+          let same : k + 1 - 1 ≡ k = omega arith in
+          let e : step_of active (k + 1) ≡ get_or active k 0 = ap (λ i. get_or active i 0) same in
+          omega (arith, within, e));
       named = λ id n. ⊎_elim
           (λ w. subst (IsStepOf (steps ++ step ∷ [])) (sym (old_at id w.0))
           (step_kept steps step (step_of active id) (m.named id w.0)))

@@ -80,6 +80,7 @@ pub record Recorded (old new : LogState) (clause : List Lit) (number : ℕ) : Ty
   pub is : step.clause ≡ clause
   pub steps : new.steps ≡ old.steps ++ step ∷ []
   pub next : number ≡ length old.steps + 1
+  pub limit : new.limit ≡ old.limit
 
 pub recorded_of : (old new : LogState) (clause : List Lit) (how : Added) (number : ℕ) → Records old new clause how number
     → Recorded old new clause number
@@ -88,18 +89,21 @@ recorded_of old new clause Axiom number r = record {
   is = refl;
   steps = ap (λ (g : LogState). g.steps) r.new_log;
   next = r.next;
+  limit = ap (λ (g : LogState). g.limit) r.new_log;
 }
 recorded_of old new clause Side number r = record {
   step = _;
   is = refl;
   steps = ap (λ (g : LogState). g.steps) r.new_log;
   next = r.next;
+  limit = ap (λ (g : LogState). g.limit) r.new_log;
 }
 recorded_of old new clause (Derived hints) number r = record {
   step = derived_step clause (take r.used hints);
   is = refl;
   steps = ap (λ (g : LogState). g.steps) r.added.new_log;
   next = r.added.next;
+  limit = ap (λ (g : LogState). g.limit) r.added.new_log;
 }
 
 pub mirror_recorded : (clauses new_clauses : List (List Lit)) (active new_active : List ℕ) (log new_log : LogState)

@@ -187,12 +187,7 @@ impl Descent {
         let starts = self.search.starts();
         if level < starts.len() {
             let from = starts[level];
-            let released = release_all(
-                &mut self.order,
-                &mut self.next,
-                self.search.lits(),
-                from,
-            );
+            let released = release_all(&mut self.order, &mut self.next, self.search.lits(), from);
             self.released = self.released.saturating_add(released);
         }
         self.search.back_to(level);

@@ -24,7 +24,11 @@ pub(crate) struct Ledger {
 }
 
 /// The steps of clauses.
-pub(crate) fn steps_of(alloc: Global, active: &[StepId], ids: &[u32]) -> Result<Items<StepId>, Memory>
+pub(crate) fn steps_of(
+    alloc: Global,
+    active: &[StepId],
+    ids: &[u32],
+) -> Result<Items<StepId>, Memory>
     requires { AreIds active.now ids.now }
     ensures { IfOk result (λ steps. steps ≡ map (step_of active.now) ids.now) }
 {
@@ -109,7 +113,12 @@ fn first_denied(log: &Log, trail: &Trail, clause: &[Lit]) -> Option<StepId>
 }
 
 /// A step whose clause has no literal beyond those of a clause, where there is one.
-pub(crate) fn serving(alloc: Global, log: &Log, clause: &[Lit], vars: usize) -> Result<Option<StepId>, Memory>
+pub(crate) fn serving(
+    alloc: Global,
+    log: &Log,
+    clause: &[Lit],
+    vars: usize,
+) -> Result<Option<StepId>, Memory>
     requires room { (l : Lit) → Contains clause.now l → l.var < vars }
     requires plain { IsTautology negation clause.now → ⊥ }
     ensures { IfOk result (λ step. MatchOption step (HoldsNone log.now.steps clause.now)

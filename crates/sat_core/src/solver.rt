@@ -4,7 +4,7 @@ ghost use Rattle.std.specs.Prelude.{◌≡◌, ◌≢◌, ◌↔◌, ℕ, ◌≤
 ghost use Rattle.plain_lits.specs.declared.lit.Lit.{Lit};
 ghost use Rattle.plain_lits.specs.Literals.{negation};
 ghost use Rattle.hinted_log.specs.declared.log.TheConstants.{MOST_STEPS};
-ghost use Rattle.sat_core.specs.Solving.{IsSolver, AddsTo, IsRejected, HasSearched, begun};
+ghost use Rattle.sat_core.specs.Solving.{IsSolver, AddsTo, IsRejected, HasSearched, Keeps, begun};
 
 use crate::answer::{Added, Pending, Solved};
 use crate::cdcl::Cdcl;
@@ -54,6 +54,7 @@ impl Solver {
         ensures rejected { (place : ℕ) → result ≡ Err (LogFault.Rejected place)
             → IsRejected self.old.log clause how place }
         ensures refused { result ≢ Err LogFault.Memory → OnErr result (self.new ≡ self.old) }
+        ensures keeps { Keeps self.old self.new }
     {
         self.cdcl.add(clause, how)
     }
@@ -81,6 +82,7 @@ impl Solver {
         requires { (l : Lit) → Contains assumptions.now l → Contains assumptions.now (negation l) → ⊥ }
         ensures searched { result ≢ Err Halt.Memory
             → HasSearched self.old self.new assumptions.now budget.old budget.new result }
+        ensures keeps { Keeps self.old self.new }
         ensures limit { budget.new.limit ≡ budget.old.limit }
     {
         self.cdcl.solve(assumptions, budget)

@@ -55,12 +55,21 @@ fn pigeons(alloc: Global, limit: u64) -> Result<Solver, LogFault>
 {
     let mut solver = Solver::open(alloc, limit)?;
     for first in [0, 3, 6, 9] {
-        let holes = [lit(first, true), lit(first + 1, true), lit(first + 2, true), lit(12, false)];
+        let holes = [
+            lit(first, true),
+            lit(first + 1, true),
+            lit(first + 2, true),
+            lit(12, false),
+        ];
         add(&mut solver, alloc, &holes)?;
     }
     for (one, other) in [(0, 3), (0, 6), (0, 9), (3, 6), (3, 9), (6, 9)] {
         for hole in 0..3 {
-            add(&mut solver, alloc, &[lit(one + hole, false), lit(other + hole, false)])?;
+            add(
+                &mut solver,
+                alloc,
+                &[lit(one + hole, false), lit(other + hole, false)],
+            )?;
         }
     }
     Ok(solver)

@@ -16,7 +16,7 @@ pub loop-lit-preserved : goal.loop-lit-preserved
 loop-lit-preserved c =
     let i = c.loop-lit.lit-index in
     elim c.match-value.branch [
-      in-Unset w ↦ rw w.trail-is (record {
+      | in-Unset w ↦ rw w.trail-is (record {
         denies = denies_more c.args.clause.now c.loop-lit.trail.lits w.push.new.self.lits i no_lit c.loop-lit-test.true
             c.loop-lit.invariant.denies (w.push.ensures.lits ∙ ap (λ l. c.loop-lit.trail.lits ++ l ∷ []) w.not.ensures);
         vars = w.push.ensures.vars ∙ c.loop-lit.invariant.vars;

@@ -1,6 +1,7 @@
 use Rattle.std.proofs.Common.{◌≡◌, ◌++◌, ◌∷◌, [], ap, ◌∙◌, rules}
 use Rattle.sat_core.proofs.Running.{resting_stays, resting_more}
 use Rattle.sat_core.proofs.Searching.{recorded_of, mirror_unused, mirror_recorded}
+use Rattle.sat_core.proofs.Keeping.{keeps_recorded, unused}
 use Rattle.sat_core.proofs.cdcl.Cdcl.add.Goals as goal
 
 pub returns-in_err-add-clause-rest : goal.returns-in_err-add-clause-rest
@@ -26,3 +27,14 @@ returns-clause-rest c =
           c.requires.rest.mirror;
       resting = resting_more _ _ _ _ gains c.requires.rest.resting;
     }
+
+pub returns-in_err-add-clause-keeps : goal.returns-in_err-add-clause-keeps
+returns-in_err-add-clause-keeps c = keeps_recorded _ _ c.args.clause _
+    (recorded_of _ _ c.args.clause c.args.how _ c.in_ok-step.ensures.ok) (unused _ _ c.in-Ok.ensures.items)
+
+pub returns-clause-keeps : goal.returns-clause-keeps
+returns-clause-keeps c =
+    let pushed : c.push.new.self.items ≡ c.args.self.now.ledger.active.items ++ c.in_ok-step.step ∷ [] =
+    search rules in
+    keeps_recorded _ _ c.args.clause _ (recorded_of _ _ c.args.clause c.args.how _ c.in_ok-step.ensures.ok)
+    (c.in_ok-step.step ∷ [], pushed)

@@ -3,6 +3,7 @@ use Rattle.std.specs.Prelude.{Contains}
 use Rattle.sat_core.specs.Mirrors.{IsServed, HoldsNone, step_of}
 use Rattle.sat_core.specs.Turns.{state_of}
 use Rattle.sat_core.proofs.Turning.{known_of, ids_of, moved_to, core_served, core_derived, mirror_derived}
+use Rattle.sat_core.proofs.Keeping.{keeps_derived, keeps_logs}
 use Rattle.sat_core.proofs.cdcl.Cdcl.close.Goals as goal
 
 pub serving-requires-clause-room : goal.serving-requires-clause-room
@@ -55,3 +56,9 @@ returns-clause-core c =
     c.requires.shallow c.requires.run c.in_ok-clause.ensures.learned c.in_ok-clause.ensures.assumed
     (subst (λ xs. HoldsNone c.args.self.now.ledger.log.steps xs) c.as_slice.ensures.lits none) hints
     c.in_ok-step.ensures.ok
+
+pub returns-clause-keeps : goal.returns-clause-keeps
+returns-clause-keeps c = keeps_derived _ _ _ _ _ c.in_ok-step.ensures.ok refl
+
+pub returns-in_err-step-clause-keeps : goal.returns-in_err-step-clause-keeps
+returns-in_err-step-clause-keeps c = keeps_logs _ _ c.in_err-step.ensures.err refl

@@ -51,16 +51,22 @@ returns-then-not-spend-clause-stops c =
     let settled = has_settled s c.args.assumptions.now c.requires.deep c.requires.run in
     let hints : c.in_ok-hints.hints ≡ map (step_of c.args.self.now.ledger.active.items) c.in_ok-learned.learned.hints =
     rw (c.in_ok-hints.ensures, c.deref.ensures.value, c.as_slice.ensures) refl in
-    let spend = c.if-not-spend.ensures in
-    (spend.kept, (refl, refl, record {
-      is_limit = c.used.ensures.used ∙ (spend.kept ∙ (spend.empty.0 refl ∙ sym spend.limit));
-      is_used = c.used.ensures.used;
-      in_hand = record { clause = c.in_ok-learned.learned.clause; hints = c.in_ok-hints.hints };
-      kept = refl;
-      further = unit_learned _ s c.args.assumptions.now c.in_ok-learned.learned.clause
-          c.in_ok-learned.learned.hints c.in_ok-hints.hints c.requires.kept.mirror c.vars-form.ensures.form
-          c.requires.run c.in_ok-learned.ensures.learned (c.in_ok-learned.ensures.new settled) hints;
-    }))
+    let spend = c.if-not-spend.ensures in (
+      spend.kept,
+      (
+        refl,
+        refl,
+        record {
+          is_limit = c.used.ensures.used ∙ (spend.kept ∙ (spend.empty.0 refl ∙ sym spend.limit));
+          is_used = c.used.ensures.used;
+          in_hand = record { clause = c.in_ok-learned.learned.clause; hints = c.in_ok-hints.hints };
+          kept = refl;
+          further = unit_learned _ s c.args.assumptions.now c.in_ok-learned.learned.clause
+              c.in_ok-learned.learned.hints c.in_ok-hints.hints c.requires.kept.mirror c.vars-form.ensures.form
+              c.requires.run c.in_ok-learned.ensures.learned (c.in_ok-learned.ensures.new settled) hints;
+        },
+      ),
+    )
 
 pub returns-clause-goes : goal.returns-clause-goes
 returns-clause-goes c =

@@ -3,6 +3,9 @@ use Rattle.plain_lits.specs.Literals.{negation}
 use Rattle.plain_lits.specs.HintCheck.{IsUnit}
 use Rattle.sat_core.proofs.Running.{based_of, stays_run}
 use Rattle.sat_core.proofs.Turning.{target_within, unit_after, run_after, run_learned, mirror_derived, mirror_learned}
+use Rattle.sat_core.proofs.Turning.{state_learned}
+use Rattle.sat_core.specs.Turns.{state_of}
+use Rattle.sat_core.proofs.Keeping.{keeps_derived, keeps_unit}
 use Rattle.sat_core.proofs.cdcl.Cdcl.take.Goals as goal
 
 pub back_to-requires : goal.back_to-requires
@@ -74,3 +77,13 @@ returns-clause-run c =
     c.args.assumptions.now c.vars-before.ensures.form c.vars-form.ensures.form c.requires.asserting
     c.kept_level.ensures.positive c.kept_level.ensures.low lt c.back_to.ensures
     (rw c.as_slice.ensures.lits at learns) c.requires.run
+
+pub returns-in_err-add_learned-clause-keeps : goal.returns-in_err-add_learned-clause-keeps
+returns-in_err-add_learned-clause-keeps c = keeps_derived _ _ _ _ _ c.in_ok-step.ensures.ok c.reserve.ensures.items
+
+pub returns-clause-keeps : goal.returns-clause-keeps
+returns-clause-keeps c =
+    let pushed : c.push.new.self.items ≡ c.args.self.now.ledger.active.items ++ c.in_ok-step.step ∷ [] =
+    search rules in
+    keeps_unit _ _ c.in_ok-clause.clause c.args.hints.now
+    (state_learned (state_of c.args.self.now) _ _ _ _ _ c.in_ok-step.ensures.ok pushed)

@@ -23,7 +23,10 @@ returns-in-None-clause-kept c = record {
 pub returns-in-None-clause-turn : goal.returns-in-None-clause-turn
 returns-in-None-clause-turn c =
     let on = c.in-None.ensures.on in
-    let found = c.in-None.ensures.found in
-    (refl, refl, model_of (state_of c.args.self.now) c.descend.new.self.search c.args.assumptions.now
-    (mirror_same _ _ _ _ on.clauses c.requires.kept.mirror) c.vars-form.ensures.form
-    (on.run c.args.assumptions.now c.requires.run) found.0 found.1)
+    let found = c.in-None.ensures.found in (
+      refl,
+      refl,
+      model_of (state_of c.args.self.now) c.descend.new.self.search c.args.assumptions.now
+          (mirror_same _ _ _ _ on.clauses c.requires.kept.mirror) c.vars-form.ensures.form
+          (on.run c.args.assumptions.now c.requires.run) found.0 found.1,
+    )
