@@ -1,8 +1,10 @@
 -- A whole search: turns, one after the other, and what they tell.
 use Rattle.std.proofs.Common.{◌≡◌, ◌≢◌, ℕ, ◌<◌, ◌≤◌, ◌+◌, ◌-◌, List, [], ◌∷◌, ◌++◌, length, get_or, take, map}
-use Rattle.std.proofs.Common.{arith, ap, sym, subst, ◌∙◌, refl, inl, inr, ⊎_elim, Ok, Err, Result, add_assoc}
+use Rattle.std.proofs.Common.{Bool, true, false, not, arith, ap, sym, subst, ◌∙◌, refl, inl, inr, ⊎_elim, Ok, Err, Result, add_assoc}
 use Rattle.std.specs.Prelude.{Contains, ◌⊎◌, Option, None, Some}
+use Rattle.plain_lists.proofs.Membership.{Contains-nil, Contains-cons_cases}
 use Rattle.plain_lits.specs.declared.lit.Lit.{Lit}
+use Rattle.plain_lits.specs.Literals.{negation}
 use Rattle.plain_lits.specs.declared.halt.Halt.{Halt}
 use Rattle.plain_lits.specs.declared.halt.Halt.TheVariants.{Spent, LogFull, Memory}
 use Rattle.plain_lits.specs.Units.{Units}
@@ -137,3 +139,18 @@ solver_form s clauses form m = record {
       let id = id_of clauses s.active s.log.steps number m c in
       subst (IsStepOf s.log.steps) id.2 (m.named id.0 id.1);
 }
+
+not_itself : (p : Bool) → p ≡ not p → ⊥
+not_itself true e = cc
+not_itself false e = cc
+
+-- one assumption, or none, doesn't stand beside its negation
+pub plain_alone : (a l : Lit) → Contains (a ∷ []) l → Contains (a ∷ []) (negation l) → ⊥
+plain_alone a l c n =
+    let e : a ≡ l = ⊎_elim (λ e. e) (λ none. absurd (Contains-nil l none)) (Contains-cons_cases a [] l c) in
+    let f : a ≡ negation l = ⊎_elim (λ e. e) (λ none. absurd (Contains-nil (negation l) none))
+    (Contains-cons_cases a [] (negation l) n) in
+    not_itself l.positive (ap (λ (x : Lit). x.positive) (sym e ∙ f))
+
+pub plain_none : (l : Lit) → Contains [] l → Contains [] (negation l) → ⊥
+plain_none l c n = Contains-nil l c

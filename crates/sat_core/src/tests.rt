@@ -1,5 +1,3 @@
-ghost use Rattle.std.specs.Prelude.{◌≡◌};
-
 use crate::{Added, Solved, Solver};
 use hinted_log::{Log, LogFault};
 use plain_lits::{Budget, Clause, Halt, Lit, StepId};
@@ -49,36 +47,53 @@ fn is_model_with(found: &Solved, lit: Lit) -> bool {
     }
 }
 
-/// Of the pigeons 0 to 3 each has one of the holes 0 to 2 where variable 12 is true, and no two have the same one.
-fn pigeons(alloc: Global, limit: u64) -> Result<Solver, LogFault>
-    requires { limit ≤ 1000 }
-{
-    let mut solver = Solver::open(alloc, limit)?;
-    for first in [0, 3, 6, 9] {
+/// Where variable 12 is true, each of four pigeons has one of three holes.
+const HOLES: [(usize, usize, usize); 4] = [(0, 1, 2), (3, 4, 5), (6, 7, 8), (9, 10, 11)];
+
+/// No two of them have the same hole.
+const PAIRS: [(usize, usize); 18] = [
+    (0, 3),
+    (0, 6),
+    (0, 9),
+    (3, 6),
+    (3, 9),
+    (6, 9),
+    (1, 4),
+    (1, 7),
+    (1, 10),
+    (4, 7),
+    (4, 10),
+    (7, 10),
+    (2, 5),
+    (2, 8),
+    (2, 11),
+    (5, 8),
+    (5, 11),
+    (8, 11),
+];
+
+/// The clauses of four pigeons and three holes.
+fn add_pigeons(solver: &mut Solver, alloc: Global) -> Result<(), LogFault> {
+    for (first, second, third) in HOLES {
         let holes = [
             lit(first, true),
-            lit(first + 1, true),
-            lit(first + 2, true),
+            lit(second, true),
+            lit(third, true),
             lit(12, false),
         ];
-        add(&mut solver, alloc, &holes)?;
+        add(solver, alloc, &holes)?;
     }
-    for (one, other) in [(0, 3), (0, 6), (0, 9), (3, 6), (3, 9), (6, 9)] {
-        for hole in 0..3 {
-            add(
-                &mut solver,
-                alloc,
-                &[lit(one + hole, false), lit(other + hole, false)],
-            )?;
-        }
+    for (one, other) in PAIRS {
+        add(solver, alloc, &[lit(one, false), lit(other, false)])?;
     }
-    Ok(solver)
+    Ok(())
 }
 
 /// Where each pigeon has a hole there is a core, and where none has there is a model.
 #[test]
 fn four_pigeons_and_three_holes(rt: HostRuntime) -> Result<(), Fail> {
-    let mut solver = pigeons(rt.alloc(), 1000)?;
+    let mut solver = Solver::open(rt.alloc(), 1000)?;
+    add_pigeons(&mut solver, rt.alloc())?;
     let mut budget = Budget::new(1000);
     solver.name(lit(0, true))?;
     let found = solve_with(&mut solver, lit(12, true), &mut budget)?;
@@ -93,7 +108,8 @@ fn four_pigeons_and_three_holes(rt: HostRuntime) -> Result<(), Fail> {
 /// A budget of one unit ends with a further clause in hand, and a log of 22 steps has no room for any.
 #[test]
 fn searches_that_stop(rt: HostRuntime) -> Result<(), Fail> {
-    let mut solver = pigeons(rt.alloc(), 1000)?;
+    let mut solver = Solver::open(rt.alloc(), 1000)?;
+    add_pigeons(&mut solver, rt.alloc())?;
     let mut budget = Budget::new(1);
     let stopped = solve_with(&mut solver, lit(12, true), &mut budget);
     assert!(rt; matches!(&stopped, Err(Halt::Spent(1))));
@@ -101,7 +117,8 @@ fn searches_that_stop(rt: HostRuntime) -> Result<(), Fail> {
     assert_eq!(rt; solver.active().len(), 23);
     assert!(rt; solver.take_pending().is_some());
     assert!(rt; solver.take_pending().is_none());
-    let mut full = pigeons(rt.alloc(), 22)?;
+    let mut full = Solver::open(rt.alloc(), 22)?;
+    add_pigeons(&mut full, rt.alloc())?;
     let stopped = solve_with(&mut full, lit(12, true), &mut Budget::new(1000));
     assert!(rt; matches!(&stopped, Err(Halt::LogFull)));
     Ok(())
