@@ -5,6 +5,7 @@ ghost use Rattle.plain_lits.specs.declared.lit.Lit.{Lit};
 ghost use Rattle.unit_propagate.specs.Search.{IsConflict};
 ghost use Rattle.conflict_learn.specs.Learning.{IsDecided, IsSettled, IsLearned, IsNew, IsUnitFrom, IsOpenBelow, IsAssumed};
 
+use crate::workspace::Workspace;
 use plain_lists::{Items, Memory};
 use plain_lits::{Clause, Lit};
 use std::alloc::Global;
@@ -33,21 +34,25 @@ pub struct Core {
 /// walks over.
 #[derive(Debug, Drop)]
 pub struct Learner {
-    alloc: Global,
+    workspace: Workspace,
 }
 
 impl Model for Learner {
+    ghost use Rattle.conflict_learn.specs.Analyses.{AreClear};
+
     ghost Value = { Unit {0} };
 
     ghost view = { λ l. tt };
 
-    ghost invariant = { λ l. Unit {0} };
+    ghost invariant = { λ l. AreClear l.workspace.marks.items };
 }
 
 impl Learner {
     /// A learner, which takes no memory yet.
     pub fn new(alloc: Global) -> Learner {
-        Learner { alloc }
+        Learner {
+            workspace: Workspace::new(alloc),
+        }
     }
 
     /// Learns from a false clause the clause up to the first unique implication point: of the last level it has one
@@ -61,9 +66,11 @@ impl Learner {
         ensures unit { IsSettled search.now → IfOk result (λ l. IsUnitFrom search.now l.level l.clause l.asserting) }
         ensures least { IsSettled search.now → IfOk result (λ l. IsOpenBelow search.now l.level l.clause) }
     {
-        let _ = conflict;
-        let _ = search.vars();
-        Err(Memory)
+        let result = self.workspace.learn(search, conflict);
+        if result.is_err() {
+            self.workspace.drop_marks();
+        }
+        result
     }
 
     /// Learns from a false clause the clause of those assumptions that it rests on: literals that no clause made true.
@@ -72,8 +79,10 @@ impl Learner {
         ensures learned { IfOk result (λ c. IsLearned search.now.clauses search.now.lits c.clause c.hints) }
         ensures assumed { IfOk result (λ c. (x : Lit) → Contains c.clause x → IsAssumed search.now x) }
     {
-        let _ = conflict;
-        let _ = search.vars();
-        Err(Memory)
+        let result = self.workspace.final_core(search, conflict);
+        if result.is_err() {
+            self.workspace.drop_marks();
+        }
+        result
     }
 }
