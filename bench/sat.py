@@ -24,8 +24,8 @@ NEEDED = ("plain_lists", "plain_lits", "hinted_log", "unit_propagate", "decision
 
 # It stands here, and not in a file of its own, since `rt ci` refuses a source outside the crates.
 PROGRAM = """\
-//! Reads clauses in DIMACS form, searches for a model, and prints what it found, how many conflicts there were, how many
-//! literals were made true, and the model.
+//! Reads clauses in DIMACS form, searches for a model, and prints what it found, how many conflicts there were, how
+//! many literals were made true, and the model.
 #![tactic(auto)]
 
 use hinted_log::LogFault;
@@ -204,8 +204,8 @@ def main():
             for _ in range(asked.runs):
                 found, (conflicts, literals), seconds, model = told(program, text)
                 right = found != "SATISFIABLE" or all(any(lit in model for lit in clause) for clause in clauses)
-                line = (f"{title}: {found}, {seconds:.3f} s, {conflicts} conflicts, {literals / 1e6:.2f} million literals, "
-                        f"{literals / seconds / 1e6:.2f} million a second")
+                line = (f"{title}: {found}, {seconds:.3f} s, {conflicts} conflicts, "
+                        f"{literals / 1e6:.2f} million literals, {literals / seconds / 1e6:.2f} million a second")
                 if shutil.which("minisat"):
                     other = beside(text)
                     right = right and other[0] == found

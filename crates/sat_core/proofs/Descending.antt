@@ -15,14 +15,16 @@ use Rattle.unit_propagate.specs.Search.{Search, IsSearch, IsQuiet, HasGrown, Dec
 use Rattle.unit_propagate.proofs.Fronts.{consistent}
 use Rattle.hinted_log.specs.Logs.{Step, LogState}
 use Rattle.conflict_learn.specs.Learning.{StandsAt}
-use Rattle.sat_core.specs.Runs.{HasValue, HaveValuesFrom, HaveValues, IsUnsetIn, IsUnsetVar, GoesOn, IsRun, HasRoom, IsThere}
+use Rattle.sat_core.specs.Runs.{HasValue, HaveValuesFrom, HaveValues, IsUnsetIn}
+use Rattle.sat_core.specs.Runs.{IsUnsetVar, GoesOn, IsRun, HasRoom, IsThere}
 use Rattle.sat_core.specs.Solving.{SolverState, clause_of, IsModel}
 use Rattle.sat_core.specs.Mirrors.{IsMirror, step_of}
 use Rattle.sat_core.proofs.Running.{grown, decided, back, contains_of}
 use Rattle.sat_core.proofs.Mirroring.{id_of}
 
 -- a value that isn't Unset is the value of a variable
-pub value_there : (lits : List Lit) (v : ℕ) (value : Value) → IsValueIn lits (record { var = v; positive = false }) value
+pub value_there : (lits : List Lit) (v : ℕ) (value : Value) → IsValueIn lits (record { var = v; positive = false })
+    value
     → value ≢ Unset → HasValue lits v
 value_there lits v True h ne = inl h.0
 value_there lits v False h ne = inr h.0
@@ -78,7 +80,8 @@ quiet_true s id room quiet values named =
     (some_true s.lits (clause_at s.clauses id) (λ l c.
     value_of s.lits l.var l.positive (values.each l.var (omega arith) (room.known id l named c))))
 
-pub model_of : (state : SolverState) (s : Search) (assumptions : List Lit) → IsMirror s.clauses state.active state.log.steps
+pub model_of : (state : SolverState) (s : Search) (assumptions : List Lit)
+    → IsMirror s.clauses state.active state.log.steps
     → IsSearch s → IsRun assumptions s → IsQuiet s.clauses s.lits → HaveValues s → IsModel state assumptions s.lits
 model_of state s assumptions m form run quiet values = record {
   plain = λ t. consistent s.lits t.0 form.apart t.1 t.2;

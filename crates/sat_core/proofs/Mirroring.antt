@@ -34,7 +34,8 @@ id_of clauses active steps number m c =
       ap (λ i. get_or active i 0) same ∙ (get_or_default active c.0 0 number lt ∙ c.2),
     )
 
-pub active_of : (clauses : List (List Lit)) (active : List ℕ) (steps : List Step) (id : ℕ) → IsMirror clauses active steps
+pub active_of : (clauses : List (List Lit)) (active : List ℕ) (steps : List Step) (id : ℕ)
+    → IsMirror clauses active steps
     → IsNamed clauses id → Contains active (step_of active id)
 active_of clauses active steps id m named =
     let from = named.from_one in
@@ -93,7 +94,8 @@ derived_with : (old new : LogState) (clause : List Lit) (hints : List ℕ) (used
     → AddsStep old new (derived_step clause (take used hints)) number
     → (new ≡ with_derived old clause hints) × (number ≡ length old.steps + 1)
 derived_with old new clause hints used number e a = (
-  a.new_log ∙ ap (λ hs. with_derived old clause hs) (ap (λ n. take n hints) e ∙ take_all (length hints) hints (omega arith)),
+  a.new_log ∙ ap (λ hs. with_derived old clause hs) (ap (λ n. take n hints) e ∙ take_all (length hints) hints
+      (omega arith)),
   a.next,
 )
 
@@ -208,7 +210,8 @@ rises_pushed xs x rise below k lt =
     (λ after.
     let at : k + 1 ≡ length xs = omega arith in
     let a = get_or_append_left xs (x ∷ []) 0 k (omega arith) in
-    let b : get_or (xs ++ x ∷ []) (k + 1) 0 ≡ x = ap (λ i. get_or (xs ++ x ∷ []) i 0) at ∙ get_or-append_seam xs x [] 0 in
+    let b : get_or (xs ++ x ∷ []) (k + 1) 0 ≡ x = ap (λ i. get_or (xs ++ x ∷ []) i 0) at ∙ get_or-append_seam xs x
+    [] 0 in
     let low = below k (omega arith) in
     omega (arith, a, b, low))
     (cases_lt (k + 1) (length xs))

@@ -87,7 +87,8 @@ room_more : (old new : Search) (clause : List Lit) → new.clauses ≡ old.claus
     → ((l : Lit) → Contains clause l → l.var < new.vars) → HasRoom old → HasRoom new
 room_more old new clause e vars known room = record {
   known = λ id l named c.
-      let c2 : Contains (clause_at (old.clauses ++ clause ∷ []) id) l = subst (λ cs. Contains (clause_at cs id) l) e c in
+      let c2 : Contains (clause_at (old.clauses ++ clause ∷ []) id) l = subst (λ cs. Contains (clause_at cs id) l)
+      e c in
       ⊎_elim
       (λ w. let lt = room.known id l w.0 (subst (λ xs. Contains xs l) w.1 c2) in omega arith)
       (λ w. known l (subst (λ xs. Contains xs l) w.1 c2))
@@ -166,7 +167,8 @@ grown old new assumptions form g run =
           (λ (before : index < length old.lits). ⊎_elim
           (λ w. inl (record {
             assumed = λ d. subst (Contains assumptions)
-                (sym (ap (λ xs. get_or xs index d) lits ∙ get_or_append_left old.lits rest d index before)) (w.assumed d);
+                (sym (ap (λ xs. get_or xs index d) lits ∙ get_or_append_left old.lits rest d index before))
+                (w.assumed d);
             early = subst (λ xs. IsEarly xs index) (sym starts) w.early;
           }))
           (λ w. inr (subst (λ xs. BeginsAt xs index) (sym starts) w))
@@ -276,7 +278,8 @@ lits_below old new level k form g lt k_lt =
     ∙ take-take (get_or old.starts k 0) (get_or old.starts level 0) old.lits rise)
 
 -- levels are taken back, but not the first
-pub back : (old new : Search) (level : ℕ) (assumptions : List Lit) → IsSearch old → 0 < level → level < length old.starts
+pub back : (old new : Search) (level : ℕ) (assumptions : List Lit) → IsSearch old → 0 < level
+    → level < length old.starts
     → GoesBack old new level → IsRun assumptions old → IsRun assumptions new
 back old new level assumptions form pos lt g run =
     let s = get_or old.starts level 0 in

@@ -1,6 +1,7 @@
 -- A whole search: turns, one after the other, and what they tell.
 use Rattle.std.proofs.Common.{◌≡◌, ◌≢◌, ℕ, ◌<◌, ◌≤◌, ◌+◌, ◌-◌, List, [], ◌∷◌, ◌++◌, length, get_or, take, map}
-use Rattle.std.proofs.Common.{Bool, true, false, not, arith, ap, sym, subst, ◌∙◌, refl, inl, inr, ⊎_elim, Ok, Err, Result, add_assoc}
+use Rattle.std.proofs.Common.{Bool, true, false, not, arith, ap, sym, subst}
+use Rattle.std.proofs.Common.{◌∙◌, refl, inl, inr, ⊎_elim, Ok, Err, Result, add_assoc}
 use Rattle.std.specs.Prelude.{Contains, ◌⊎◌, Option, None, Some}
 use Rattle.plain_lists.proofs.Membership.{Contains-nil, Contains-cons_cases}
 use Rattle.plain_lits.specs.declared.lit.Lit.{Lit}
@@ -17,7 +18,8 @@ use Rattle.sat_core.specs.declared.answer.Solved.TheVariants.{Model, Core}
 use Rattle.sat_core.specs.declared.cdcl.Cdcl.{Cdcl}
 use Rattle.sat_core.specs.declared.cdcl.End.{End}
 use Rattle.sat_core.specs.declared.cdcl.End.TheVariants.{Satisfied, Refuted, Stopped}
-use Rattle.sat_core.specs.Solving.{SolverState, Learns, one_more, IsUnitOf, IsModel, HasSearched, IsSolver, begun, with_unit, Records}
+use Rattle.sat_core.specs.Solving.{SolverState, Learns, one_more, IsUnitOf, IsModel}
+use Rattle.sat_core.specs.Solving.{HasSearched, IsSolver, begun, with_unit, Records}
 use Rattle.sat_core.specs.Mirrors.{IsMirror}
 use Rattle.sat_core.specs.Runs.{IsRun, IsResting, GoesOn}
 use Rattle.sat_core.specs.Turns.{state_of, Goes, LearnsOne, EndsAt, StopsAt, HasRun, Tells}
@@ -84,7 +86,8 @@ pub record Recorded (old new : LogState) (clause : List Lit) (number : ℕ) : Ty
   pub next : number ≡ length old.steps + 1
   pub limit : new.limit ≡ old.limit
 
-pub recorded_of : (old new : LogState) (clause : List Lit) (how : Added) (number : ℕ) → Records old new clause how number
+pub recorded_of : (old new : LogState) (clause : List Lit) (how : Added) (number : ℕ)
+    → Records old new clause how number
     → Recorded old new clause number
 recorded_of old new clause Axiom number r = record {
   step = _;

@@ -83,19 +83,22 @@ denies_same clause lits i d v lt plain h value ne =
       there = λ l c. ⊎_elim (λ before. h.there l before)
           (λ (same : x ≡ l). subst (λ y. Contains lits (negation y)) same denied)
           (Contains-push_cases (take i clause) x l (subst (λ xs. Contains xs l) more c));
-      back = λ l c. subst (λ xs. Contains xs l) (sym more) (Contains-append_left (take i clause) (x ∷ []) l (h.back l c));
+      back = λ l c. subst (λ xs. Contains xs l) (sym more) (Contains-append_left (take i clause) (x ∷ []) l (h.back
+          l c));
     }
 
 -- the literals before an index and the one there
 pub front_more : (part : List Lit) (i : ℕ) (d : Lit) (P : Lit → Type 0) → i < length part
-    → ((x : Lit) → Contains (take i part) x → P x) → P (get_or part i d) → (x : Lit) → Contains (take (i + 1) part) x → P x
+    → ((x : Lit) → Contains (take i part) x → P x) → P (get_or part i d) → (x : Lit)
+    → Contains (take (i + 1) part) x → P x
 front_more part i d P lt before here x c =
     ⊎_elim (λ old. before x old)
     (λ (same : get_or part i d ≡ x). subst P same here)
     (Contains-push_cases (take i part) (get_or part i d) x (subst (λ xs. Contains xs x) (take_more part i d lt) c))
 
 -- a step whose literals are all denied serves, and one with a literal that isn't denied doesn't
-pub served_of : (steps : List Step) (clause lits : List Lit) (number : ℕ) → DeniesAll clause lits → IsStepOf steps number
+pub served_of : (steps : List Step) (clause lits : List Lit) (number : ℕ) → DeniesAll clause lits
+    → IsStepOf steps number
     → ((l : Lit) → Contains (clause_of steps number) l → Contains lits (negation l)) → IsServed steps clause number
 served_of steps clause lits number d step all = record {
   step = step;

@@ -29,7 +29,8 @@ pub target_within : (s : Search) (level target : ℕ) → level < length s.start
 target_within s level target lt deep within = within (length s.starts) deep lt
 
 -- there the clause is unit
-pub unit_after : (old new : Search) (level target : ℕ) (clause : List Lit) (lit : Lit) → IsAsserting old level clause lit
+pub unit_after : (old new : Search) (level target : ℕ) (clause : List Lit) (lit : Lit)
+    → IsAsserting old level clause lit
     → level ≤ target → target < length old.starts → GoesBack old new target → IsUnit negation new.lits clause lit
 unit_after old new level target clause lit a le lt g =
     subst (λ xs. IsUnit negation xs clause lit) (sym (back_lits old new target g lt)) (a.unit.each target le lt)

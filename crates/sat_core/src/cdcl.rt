@@ -264,7 +264,8 @@ impl Cdcl {
         ensures rest { IsAtRest self.new }
         ensures keeps { Keeps (state_of self.old) (state_of self.new) }
         ensures ok { IfOk result (AddsTo (state_of self.old) (state_of self.new) clause how) }
-        ensures full { (result ≡ Err LogFault.LogFull) ↔ (length self.old.ledger.log.steps ≡ self.old.ledger.log.limit) }
+        ensures full { (result ≡ Err LogFault.LogFull) ↔ (length self.old.ledger.log.steps ≡
+            self.old.ledger.log.limit) }
         ensures rejected { (place : ℕ) → result ≡ Err (LogFault.Rejected place)
             → IsRejected self.old.ledger.log clause how place }
         ensures refused { result ≢ Err LogFault.Memory → OnErr result (state_of self.new ≡ state_of self.old) }

@@ -20,6 +20,11 @@ fn solve_with(solver: &mut Solver, assumed: Lit, budget: &mut Budget) -> Result<
     solver.solve(&[assumed], budget)
 }
 
+/// Searches under none.
+fn solve_free(solver: &mut Solver, budget: &mut Budget) -> Result<Solved, Halt> {
+    solver.solve(&[], budget)
+}
+
 /// The literal of a step that has one.
 fn only_lit(log: &Log, step: StepId) -> Option<Lit> {
     if step.number() == 0 || step.number() as usize > log.len() {
@@ -89,39 +94,63 @@ fn add_pigeons(solver: &mut Solver, alloc: Global) -> Result<(), LogFault> {
     Ok(())
 }
 
-/// Where each pigeon has a hole there is a core, and where none has there is a model.
+/// The core where each pigeon has a hole, and whether there is a model where none has.
+fn pigeons_found(solver: &mut Solver) -> Result<(Option<Lit>, bool), Halt> {
+    let mut budget = Budget::new(1000);
+    solver.name(lit(0, true))?;
+    let core = solve_with(solver, lit(12, true), &mut budget)?;
+    solver.reset_phases();
+    let model = solve_with(solver, lit(12, false), &mut budget)?;
+    Ok((
+        core_lit(solver, &core),
+        is_model_with(&model, lit(12, false)),
+    ))
+}
+
 #[test]
 fn four_pigeons_and_three_holes(rt: HostRuntime) -> Result<(), Fail> {
     let mut solver = Solver::open(rt.alloc(), 1000)?;
     add_pigeons(&mut solver, rt.alloc())?;
-    let mut budget = Budget::new(1000);
-    solver.name(lit(0, true))?;
-    let found = solve_with(&mut solver, lit(12, true), &mut budget)?;
-    assert_eq!(rt; core_lit(&solver, &found), Some(lit(12, false)));
-    assert!(rt; budget.used() > 0);
-    solver.reset_phases();
-    let found = solve_with(&mut solver, lit(12, false), &mut budget)?;
-    assert!(rt; is_model_with(&found, lit(12, false)));
+    let found = pigeons_found(&mut solver)?;
+    assert_eq!(rt; found, (Some(lit(12, false)), true));
     Ok(())
 }
 
-/// A budget of one unit ends with a further clause in hand, and a log of 22 steps has no room for any.
+/// The units of a search that its budget stops.
+fn spent(solver: &mut Solver, limit: u64) -> Option<u64> {
+    match solve_with(solver, lit(12, true), &mut Budget::new(limit)) {
+        Err(Halt::Spent(units)) => Some(units),
+        _ => None,
+    }
+}
+
+/// A budget of one unit ends with a further clause in hand: the log has one step more than the 22 clauses.
 #[test]
-fn searches_that_stop(rt: HostRuntime) -> Result<(), Fail> {
+fn spent_budget(rt: HostRuntime) -> Result<(), Fail> {
     let mut solver = Solver::open(rt.alloc(), 1000)?;
     add_pigeons(&mut solver, rt.alloc())?;
-    let mut budget = Budget::new(1);
-    let stopped = solve_with(&mut solver, lit(12, true), &mut budget);
-    assert!(rt; matches!(&stopped, Err(Halt::Spent(1))));
-    assert_eq!(rt; solver.log().len(), 23);
-    assert_eq!(rt; solver.active().len(), 23);
+    assert_eq!(rt; spent(&mut solver, 1), Some(1));
+    assert_eq!(rt; (solver.log().len(), solver.active().len()), (23, 23));
     assert!(rt; solver.take_pending().is_some());
-    assert!(rt; solver.take_pending().is_none());
-    let mut full = Solver::open(rt.alloc(), 22)?;
-    add_pigeons(&mut full, rt.alloc())?;
-    let stopped = solve_with(&mut full, lit(12, true), &mut Budget::new(1000));
-    assert!(rt; matches!(&stopped, Err(Halt::LogFull)));
     Ok(())
+}
+
+/// A log of 22 steps has no room for a learned clause.
+#[test]
+fn full_log(rt: HostRuntime) -> Result<(), Fail> {
+    let mut solver = Solver::open(rt.alloc(), 22)?;
+    add_pigeons(&mut solver, rt.alloc())?;
+    let found = solve_with(&mut solver, lit(12, true), &mut Budget::new(1000));
+    assert!(rt; matches!(&found, Err(Halt::LogFull)));
+    Ok(())
+}
+
+/// Whether there is a model with 2, and the core where 2 is false.
+fn clauses_found(solver: &mut Solver) -> Result<(bool, Option<Lit>), Halt> {
+    let mut budget = Budget::new(100);
+    let model = solve_free(solver, &mut budget)?;
+    let core = solve_with(solver, lit(2, false), &mut budget)?;
+    Ok((is_model_with(&model, lit(2, true)), core_lit(solver, &core)))
 }
 
 /// The clauses (1 or 2) and (not 1 or 2): 2 is true in each model, and not 2 has the core (2).
@@ -130,10 +159,6 @@ fn two_clauses(rt: HostRuntime) -> Result<(), Fail> {
     let mut solver = Solver::open(rt.alloc(), 100)?;
     add(&mut solver, rt.alloc(), &[lit(1, true), lit(2, true)])?;
     add(&mut solver, rt.alloc(), &[lit(1, false), lit(2, true)])?;
-    let mut budget = Budget::new(100);
-    let found = solver.solve(&[], &mut budget)?;
-    assert!(rt; is_model_with(&found, lit(2, true)));
-    let found = solve_with(&mut solver, lit(2, false), &mut budget)?;
-    assert_eq!(rt; core_lit(&solver, &found), Some(lit(2, true)));
+    assert_eq!(rt; clauses_found(&mut solver)?, (true, Some(lit(2, true))));
     Ok(())
 }

@@ -25,13 +25,15 @@ returns-in-Some-clause-core c =
 pub steps_of-requires : goal.steps_of-requires
 steps_of-requires c =
     let s = c.args.self.now.descent.search in
-    rw c.deref.ensures.value (ids_of s.clauses c.args.self.now.ledger.active.items c.args.self.now.ledger.log.steps _ _ _
+    rw c.deref.ensures.value (ids_of s.clauses c.args.self.now.ledger.active.items c.args.self.now.ledger.log.steps
+    _ _ _
     c.requires.kept.mirror c.in_ok-clause.ensures.learned.taken c.as_slice-2.ensures)
 
 pub derive-requires-clause-shown : goal.derive-requires-clause-shown
 derive-requires-clause-shown c =
     let s = c.args.self.now.descent.search in
-    let hints : c.as_slice-3.result.now ≡ map (step_of c.args.self.now.ledger.active.items) c.in_ok-clause.field-0.hints =
+    let hints : c.as_slice-3.result.now ≡ map (step_of c.args.self.now.ledger.active.items)
+    c.in_ok-clause.field-0.hints =
     rw (c.as_slice-3.ensures, c.in_ok-hints.ensures, c.deref.ensures.value, c.as_slice-2.ensures) refl in
     moved_to s.clauses c.args.self.now.ledger.active.items c.args.self.now.ledger.log.steps _ _ _
     c.requires.kept.mirror c.in_ok-clause.ensures.learned.taken hints
@@ -49,9 +51,11 @@ returns-clause-kept c =
 pub returns-clause-core : goal.returns-clause-core
 returns-clause-core c =
     let s = c.args.self.now.descent.search in
-    let hints : c.as_slice-3.result.now ≡ map (step_of c.args.self.now.ledger.active.items) c.in_ok-clause.field-0.hints =
+    let hints : c.as_slice-3.result.now ≡ map (step_of c.args.self.now.ledger.active.items)
+    c.in_ok-clause.field-0.hints =
     rw (c.as_slice-3.ensures, c.in_ok-hints.ensures, c.deref.ensures.value, c.as_slice-2.ensures) refl in
-    let none : HoldsNone c.args.self.now.ledger.log.steps c.as_slice.result.now = rw c.in-None.is at c.in_ok-served.ensures in
+    let none : HoldsNone c.args.self.now.ledger.log.steps c.as_slice.result.now = rw c.in-None.is at
+    c.in_ok-served.ensures in
     core_derived (state_of c.args.self.now) _ s c.args.assumptions.now _ _ _ _ c.requires.kept.mirror
     c.requires.shallow c.requires.run c.in_ok-clause.ensures.learned c.in_ok-clause.ensures.assumed
     (subst (λ xs. HoldsNone c.args.self.now.ledger.log.steps xs) c.as_slice.ensures.lits none) hints

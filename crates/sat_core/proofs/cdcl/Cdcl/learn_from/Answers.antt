@@ -13,7 +13,8 @@ learn-requires-clause-decided c = has_decided c.args.self.now.descent.search c.a
 pub steps_of-requires : goal.steps_of-requires
 steps_of-requires c =
     let s = c.args.self.now.descent.search in
-    rw c.deref.ensures.value (ids_of s.clauses c.args.self.now.ledger.active.items c.args.self.now.ledger.log.steps _ _ _
+    rw c.deref.ensures.value (ids_of s.clauses c.args.self.now.ledger.active.items c.args.self.now.ledger.log.steps
+    _ _ _
     c.requires.kept.mirror c.in_ok-learned.ensures.learned.taken c.as_slice.ensures)
 
 pub bump_all-requires : goal.bump_all-requires
@@ -27,7 +28,8 @@ pub take-requires-clause-shown : goal.take-requires-clause-shown
 take-requires-clause-shown c =
     let s = c.args.self.now.descent.search in
     let settled = has_settled s c.args.assumptions.now c.requires.deep c.requires.run in
-    let hints : c.as_slice-3.result.now ≡ map (step_of c.args.self.now.ledger.active.items) c.in_ok-learned.learned.hints =
+    let hints : c.as_slice-3.result.now ≡ map (step_of c.args.self.now.ledger.active.items)
+    c.in_ok-learned.learned.hints =
     rw (c.as_slice-3.ensures, c.in_ok-hints.ensures, c.deref.ensures.value, c.as_slice.ensures) refl in
     unit_learned (state_of c.args.self.now) s c.args.assumptions.now c.in_ok-learned.learned.clause
     c.in_ok-learned.learned.hints _ c.requires.kept.mirror c.vars-form.ensures.form c.requires.run
@@ -72,7 +74,8 @@ pub returns-clause-goes : goal.returns-clause-goes
 returns-clause-goes c =
     let s = c.args.self.now.descent.search in
     let settled = has_settled s c.args.assumptions.now c.requires.deep c.requires.run in
-    let hints : c.as_slice-3.result.now ≡ map (step_of c.args.self.now.ledger.active.items) c.in_ok-learned.learned.hints =
+    let hints : c.as_slice-3.result.now ≡ map (step_of c.args.self.now.ledger.active.items)
+    c.in_ok-learned.learned.hints =
     rw (c.as_slice-3.ensures, c.in_ok-hints.ensures, c.deref.ensures.value, c.as_slice.ensures) refl in
     record {
       spent = c.if-not-spend.ensures.spent;

@@ -31,7 +31,8 @@ returns-clause-rest c = record {
 }
 
 pub returns-clause-searched : goal.returns-clause-searched
-returns-clause-searched c = λ ne. searched_of (state_of c.args.self.now) c.run-end.new.self c.args.assumptions.now _ _ _ _
+returns-clause-searched c = λ ne. searched_of (state_of c.args.self.now) c.run-end.new.self c.args.assumptions.now
+    _ _ _ _
     c.run-end.ensures.run c.told_of-told.ensures ne
 
 pub returns-clause-keeps : goal.returns-clause-keeps
