@@ -1,0 +1,14 @@
+use Rattle.std.proofs.Common.{◌≡◌, ◌<◌, ◌-◌, length}
+use Rattle.decision_order.specs.Orders.{AreVars}
+use Rattle.decision_order.proofs.heap.sift_down.Given as goal
+
+abbrev pub invariant-down : goal.invariant-down
+invariant-down l = record {
+  vars : AreVars (length l.activities) l.heap.items;
+  heap_long : length l.heap.items ≡ length l.initial.heap.items;
+  indices_long : length l.indices.items ≡ length l.initial.indices.items;
+  at : l.at < length l.heap.items;
+}
+
+abbrev pub decreases-down : goal.decreases-down
+decreases-down l = length l.heap.items - l.at

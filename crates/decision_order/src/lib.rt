@@ -1,0 +1,11 @@
+//! Which variable a search decides next, and with which value: by activity, with saved phases.
+#![tactic(auto)]
+
+mod heap;
+mod order;
+mod restarts;
+#[cfg(test)]
+mod tests;
+
+pub use order::DecisionOrder;
+pub use restarts::Luby;

@@ -1,0 +1,146 @@
+-- What a descent finds.
+use Rattle.std.proofs.Common.{◌≡◌, ◌≢◌, ℕ, ◌<◌, ◌≤◌, ◌+◌, List, [], ◌∷◌, ◌++◌, length, get_or, Bool, true, false}
+use Rattle.std.proofs.Common.{arith, ap, sym, subst, ◌∙◌, refl, inl, inr, ⊎_elim, Ok, Err, below_more}
+use Rattle.std.specs.Prelude.{Contains, ◌⊎◌, Option, None, Some, MatchOption}
+use Rattle.std.proofs.lemmas.Bool.{cases_lt}
+use Rattle.std.proofs.lemmas.List.{length_push}
+use Rattle.plain_lists.proofs.Membership.{Contains-nil, Contains-head, Contains-tail, Contains-cons_cases}
+use Rattle.plain_lits.specs.declared.lit.Lit.{Lit}
+use Rattle.plain_lits.specs.declared.value.Value.{Value}
+use Rattle.plain_lits.specs.declared.value.Value.TheVariants.{True, False, Unset}
+use Rattle.plain_lits.specs.Literals.{negation}
+use Rattle.plain_lits.specs.Values.{IsValueIn}
+use Rattle.plain_lits.specs.HintCheck.{clause_at, IsNamed, IsFalsified, IsTautology}
+use Rattle.unit_propagate.specs.Search.{Search, IsSearch, IsQuiet, HasGrown, Decides, GoesBack}
+use Rattle.unit_propagate.proofs.Fronts.{consistent}
+use Rattle.hinted_log.specs.Logs.{Step, LogState}
+use Rattle.conflict_learn.specs.Learning.{StandsAt}
+use Rattle.sat_core.specs.Runs.{HasValue, HaveValuesFrom, HaveValues, IsUnsetIn}
+use Rattle.sat_core.specs.Runs.{IsUnsetVar, GoesOn, IsRun, HasRoom, IsThere}
+use Rattle.sat_core.specs.Solving.{SolverState, clause_of, IsModel}
+use Rattle.sat_core.specs.Mirrors.{IsMirror, step_of}
+use Rattle.sat_core.proofs.Running.{grown, decided, back, contains_of}
+use Rattle.sat_core.proofs.Mirroring.{id_of}
+
+-- a value that isn't Unset is the value of a variable
+pub value_there : (lits : List Lit) (v : ℕ) (value : Value) → IsValueIn lits (record { var = v; positive = false })
+    value
+    → value ≢ Unset → HasValue lits v
+value_there lits v True h ne = inl h.0
+value_there lits v False h ne = inr h.0
+value_there lits v Unset h ne = absurd (ne refl)
+
+pub values_more : (lits : List Lit) (from v : ℕ) (value : Value)
+    → ((w : ℕ) → from ≤ w → w < v → HasValue lits w)
+    → IsValueIn lits (record { var = v; positive = false }) value → value ≢ Unset
+    → (w : ℕ) → from ≤ w → w < v + 1 → HasValue lits w
+values_more lits from v value before h ne w le lt =
+    ⊎_elim (λ low. before w le low)
+    (λ high. let e : v ≡ w = omega arith in subst (HasValue lits) e (value_there lits v value h ne))
+    (cases_lt w v)
+
+pub unset_both : (s : Search) (v : ℕ) → v < s.vars → IsValueIn s.lits (record { var = v; positive = false }) Unset
+    → IsUnsetVar s v
+unset_both s v lt h = record {
+  either = λ positive. elim positive as (λ p. IsUnsetIn s (record { var = v; positive = p })) [
+    | true ↦ record { known = lt; unset = (h.1, h.0) }
+    | false ↦ record { known = lt; unset = (h.0, h.1) }
+  ];
+}
+
+-- a clause of literals with values is false, or one of them is true
+some_true : (lits clause : List Lit) → ((l : Lit) → Contains clause l → Contains lits l ⊎ Contains lits (negation l))
+    → IsFalsified negation lits clause ⊎ ((l : Lit) × Contains clause l × Contains lits l)
+some_true lits [] h = inl (record { each = λ l c. absurd (Contains-nil l c) })
+some_true lits (x ∷ xs) h =
+    ⊎_elim
+    (λ yes_. inr (x, Contains-head x xs x refl, yes_))
+    (λ no_. ⊎_elim
+    (λ f. inl (record {
+      each = λ l c. ⊎_elim (λ (e : x ≡ l). subst (λ y. Contains lits (negation y)) e no_) (λ t. f.each l t)
+          (Contains-cons_cases x xs l c);
+    }))
+    (λ w. inr (w.0, Contains-tail x xs w.0 w.1, w.2))
+    (some_true lits xs (λ l c. h l (Contains-tail x xs l c))))
+    (h x (Contains-head x xs x refl))
+
+value_of : (lits : List Lit) (v : ℕ) (positive : Bool) → HasValue lits v
+    → Contains lits (record { var = v; positive = positive })
+    ⊎ Contains lits (negation (record { var = v; positive = positive }))
+value_of lits v true h = ⊎_elim (λ no_. inr no_) (λ yes_. inl yes_) h
+value_of lits v false h = ⊎_elim (λ no_. inl no_) (λ yes_. inr yes_) h
+
+-- where nothing is left to do and all variables have values, each clause is true
+pub quiet_true : (s : Search) (id : ℕ) → HasRoom s → IsQuiet s.clauses s.lits → HaveValues s → IsNamed s.clauses id
+    → (l : Lit) × Contains (clause_at s.clauses id) l × Contains s.lits l
+quiet_true s id room quiet values named =
+    ⊎_elim
+    (λ f. absurd (quiet.not_false id named f))
+    (λ w. w)
+    (some_true s.lits (clause_at s.clauses id) (λ l c.
+    value_of s.lits l.var l.positive (values.each l.var (omega arith) (room.known id l named c))))
+
+pub model_of : (state : SolverState) (s : Search) (assumptions : List Lit)
+    → IsMirror s.clauses state.active state.log.steps
+    → IsSearch s → IsRun assumptions s → IsQuiet s.clauses s.lits → HaveValues s → IsModel state assumptions s.lits
+model_of state s assumptions m form run quiet values = record {
+  plain = λ t. consistent s.lits t.0 form.apart t.1 t.2;
+  assumed = λ l c. let w = run.there l c in contains_of s.lits w.index l w.stands;
+  satisfied = λ number c.
+      let id = id_of s.clauses state.active state.log.steps number m c in
+      let w = quiet_true s id.0 run.room quiet values id.1 in (
+        w.0,
+        subst (λ n. Contains (clause_of state.log.steps n) w.0) id.2
+            (subst (λ xs. Contains xs w.0) (sym (m.same id.0 id.1)) w.1),
+        w.2,
+      );
+}
+
+-- a search goes on
+pub on_same : (s : Search) → GoesOn s s
+on_same s = record { clauses = refl; vars = refl; run = λ assumptions r. r }
+
+pub on_trans : (a b c : Search) → GoesOn a b → GoesOn b c → GoesOn a c
+on_trans a b c f g = record {
+  clauses = g.clauses ∙ f.clauses;
+  vars = g.vars ∙ f.vars;
+  run = λ assumptions r. g.run assumptions (f.run assumptions r);
+}
+
+pub on_equal : (a b : Search) → b ≡ a → GoesOn a b
+on_equal a b e = subst (GoesOn a) (sym e) (on_same a)
+
+pub on_grown : (old new : Search) → IsSearch old → HasGrown old new → GoesOn old new
+on_grown old new form g = record {
+  clauses = g.clauses;
+  vars = g.vars;
+  run = λ assumptions r. grown old new assumptions form g r;
+}
+
+pub on_decided : (old new : Search) (l : Lit) → IsSearch old → IsQuiet old.clauses old.lits → Decides old new l
+    → GoesOn old new
+on_decided old new l form quiet d = record {
+  clauses = d.clauses;
+  vars = d.vars;
+  run = λ assumptions r. decided old new l assumptions form quiet d r;
+}
+
+pub on_back : (old new : Search) (level : ℕ) → IsSearch old → 0 < level → level < length old.starts
+    → GoesBack old new level → GoesOn old new
+on_back old new level form pos lt g = record {
+  clauses = g.clauses;
+  vars = g.vars;
+  run = λ assumptions r. back old new level assumptions form pos lt g r;
+}
+
+-- a decision after a look that changed nothing of the search
+pub on_decided_after : (old same new : Search) (l : Lit) → same ≡ old → IsSearch old → IsQuiet old.clauses old.lits
+    → Decides same new l → GoesOn old new
+on_decided_after old same new l e form quiet d =
+    on_decided old new l form quiet (subst (λ s. Decides s new l) e d)
+
+pub decided_long : (old same new : Search) (l : Lit) → same ≡ old → Decides same new l
+    → (length new.lits ≡ length old.lits + 1) × (new.vars ≡ old.vars)
+decided_long old same new l e d =
+    let f : Decides old new l = subst (λ s. Decides s new l) e d in
+    (ap length f.lits ∙ length_push old.lits l, f.vars)

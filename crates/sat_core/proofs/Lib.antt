@@ -1,0 +1,7 @@
+pub mod Descending
+pub mod Keeping
+pub mod Mirroring
+pub mod Running
+pub mod Searching
+pub mod Serving
+pub mod Turning

@@ -1,0 +1,259 @@
+-- The clauses of the propagator beside the steps of the log.
+use Rattle.std.proofs.Common.{◌≡◌, ◌≢◌, ℕ, ◌<◌, ◌≤◌, ◌+◌, ◌-◌, List, [], ◌∷◌, ◌++◌, length, get_or, take, map}
+use Rattle.std.proofs.Common.{arith, ap, sym, subst, ◌∙◌, refl, inl, inr, ⊎_elim, length-append, Ok, Err}
+use Rattle.std.specs.Prelude.{Contains, ◌⊎◌}
+use Rattle.std.specs.List.Sorted.{IsStrictlyIncreasing}
+use Rattle.std.proofs.Math.Seq.{get_or-append_seam}
+use Rattle.std.proofs.lemmas.List.{get_or_default, get_or_append_left, take_all, length-map}
+use Rattle.std.proofs.lemmas.Bool.{cases_lt}
+use Rattle.plain_lits.specs.declared.lit.Lit.{Lit}
+use Rattle.plain_lits.specs.Literals.{negation}
+use Rattle.plain_lits.specs.HintCheck.{clause_at, IsNamed, IsFalsified, Checks}
+use Rattle.plain_lits.specs.CheckLaws.{IsSound, Renames, IsImage, IsMovedHint, IsMovedCheck}
+use Rattle.plain_lits.proofs.HintCheckLemmas.{Contains-mapped, Contains-from_mapped, taken_sound}
+use Rattle.plain_lits.proofs.OneOutcome.{cases_lit, one_outcome}
+use Rattle.plain_lits.proofs.Renaming.{checks_moved}
+use Rattle.hinted_log.specs.Logs.{Step, LogState, IsStepOf, AddsStep, AddsDerived, clauses_of, step_at, no_step}
+use Rattle.hinted_log.specs.Logs.{derived_step}
+use Rattle.hinted_log.proofs.Following.{clause_of_step, length-clauses_of}
+use Rattle.conflict_learn.specs.Learning.{AreUsed, ComesFromHints, IsLearned, IsNew}
+use Rattle.sat_core.specs.Solving.{SolverState, clause_of, Holds, IsShown, IsNewTo, IsUnitOf, with_derived}
+use Rattle.sat_core.specs.Mirrors.{step_of, IsMirror, IsDerived}
+use Rattle.sat_core.proofs.Running.{clause_cases}
+
+-- the id of a step in use
+pub id_of : (clauses : List (List Lit)) (active : List ℕ) (steps : List Step) (number : ℕ)
+    → IsMirror clauses active steps → Contains active number
+    → (id : ℕ) × IsNamed clauses id × (step_of active id ≡ number)
+id_of clauses active steps number m c =
+    let lt = c.1 in
+    let long = m.long in
+    let same : c.0 + 1 - 1 ≡ c.0 = omega arith in (
+      c.0 + 1,
+      record { from_one = omega arith; within = omega (arith, lt, long) },
+      ap (λ i. get_or active i 0) same ∙ (get_or_default active c.0 0 number lt ∙ c.2),
+    )
+
+pub active_of : (clauses : List (List Lit)) (active : List ℕ) (steps : List Step) (id : ℕ)
+    → IsMirror clauses active steps
+    → IsNamed clauses id → Contains active (step_of active id)
+active_of clauses active steps id m named =
+    let from = named.from_one in
+    let within = named.within in
+    let long = m.long in
+    let lt : id - 1 < length active = omega arith in
+    (id - 1, lt, get_or_default active (id - 1) (step_of active id) 0 lt)
+
+-- each hint of a clause that is taken names a clause
+pub hints_named : (clauses : List (List Lit)) (clause : List Lit) (hints : List ℕ) (hint : ℕ)
+    → Checks negation clauses clause hints (Ok (length hints)) → Contains hints hint → IsNamed clauses hint
+hints_named clauses clause hints hint w c =
+    (taken_sound negation clauses clause hints (length hints) w).named hint
+    (subst (λ xs. Contains xs hint) (sym (take_all (length hints) hints (omega arith))) c)
+
+-- the check moves from the propagator's clauses to the log's steps
+image_same : (clause image : List Lit) → image ≡ clause → IsImage (λ (l : Lit). l) (λ l. Unit {0}) clause image
+image_same clause image e = record {
+  within = λ l c. tt;
+  there = λ l c. subst (λ xs. Contains xs l) (sym e) c;
+  back = λ m c. (m, subst (λ xs. Contains xs m) e c, refl);
+}
+
+same_lits : Renames negation negation (λ (l : Lit). l) (λ l. Unit {0})
+same_lits = record { closed = λ l i. tt; negates = λ l i. refl; apart = λ a b i j e. e }
+
+named_step : (steps : List Step) (number : ℕ) → IsStepOf steps number → IsNamed (clauses_of steps) number
+named_step steps number s =
+    let within = s.within in
+    record { from_one = s.from_one; within = omega (arith, length-clauses_of steps, within) }
+
+pub moved : (clauses : List (List Lit)) (active : List ℕ) (steps : List Step) (clause : List Lit) (hints : List ℕ)
+    → IsMirror clauses active steps → Checks negation clauses clause hints (Ok (length hints))
+    → Checks negation (clauses_of steps) clause (map (step_of active) hints) (Ok (length hints))
+moved clauses active steps clause hints m w =
+    checks_moved negation negation (λ (l : Lit). l) (λ l. Unit {0}) same_lits (step_of active) clauses
+    (clauses_of steps) clause clause hints (record {
+      clause_image = image_same clause clause refl;
+      each = λ hint c.
+          let named = hints_named clauses clause hints hint w c in
+          record {
+            named = (λ n. named_step steps (step_of active hint) (m.named hint named), λ n. named);
+            image = λ n. image_same (clause_at clauses hint) (clause_at (clauses_of steps) (step_of active hint))
+                (clause_of_step steps (step_of active hint - 1) ∙ m.same hint named);
+          };
+    }) (Ok (length hints)) w
+
+-- so the log doesn't reject it, and keeps all hints
+pub never_rejected : (steps : List Step) (clause : List Lit) (hints : List ℕ) (n place : ℕ)
+    → Checks negation (clauses_of steps) clause hints (Ok n)
+    → Checks negation (clauses_of steps) clause hints (Err place) → ⊥
+never_rejected steps clause hints n place w v =
+    let e = (one_outcome negation cases_lit (clauses_of steps) clause hints).one (Ok n) (Err place) w v in cc
+
+derived_with : (old new : LogState) (clause : List Lit) (hints : List ℕ) (used number : ℕ) → used ≡ length hints
+    → AddsStep old new (derived_step clause (take used hints)) number
+    → (new ≡ with_derived old clause hints) × (number ≡ length old.steps + 1)
+derived_with old new clause hints used number e a = (
+  a.new_log ∙ ap (λ hs. with_derived old clause hs) (ap (λ n. take n hints) e ∙ take_all (length hints) hints
+      (omega arith)),
+  a.next,
+)
+
+pub derived_all : (old new : LogState) (clause : List Lit) (hints : List ℕ) (number : ℕ)
+    → Checks negation (clauses_of old.steps) clause hints (Ok (length hints)) → AddsDerived old new clause hints number
+    → (new ≡ with_derived old clause hints) × (number ≡ length old.steps + 1)
+derived_all old new clause hints number w a =
+    let e = (one_outcome negation cases_lit (clauses_of old.steps) clause hints).one (Ok a.used) (Ok (length hints))
+    a.taken w in
+    let same : a.used ≡ length hints = cc in
+    derived_with old new clause hints a.used number same a.added
+
+-- what is learned beside the clauses is learned beside the steps
+pub shown_of : (s : SolverState) (clauses : List (List Lit)) (clause : List Lit) (hints : List ℕ)
+    → IsMirror clauses s.active s.log.steps → Checks negation clauses clause hints (Ok (length hints))
+    → AreUsed clauses clause hints → ComesFromHints clauses clause hints
+    → IsShown s clause (map (step_of s.active) hints)
+shown_of s clauses clause hints m w used from =
+    let to = step_of s.active in
+    let steps = s.log.steps in
+    let named : (h : ℕ) → Contains hints h → IsNamed clauses h = λ h c. hints_named clauses clause hints h w c in
+    record {
+      taken = subst (λ n. Checks negation (clauses_of steps) clause (map to hints) (Ok n))
+          (sym (length-map hints to)) (moved clauses s.active steps clause hints m w);
+      in_use = λ hint c.
+          let h = Contains-from_mapped to hints hint c in
+          subst (Contains s.active) h.2 (active_of clauses s.active steps h.0 m (named h.0 h.1));
+      used = λ hint l c there.
+          let h = Contains-from_mapped to hints hint c in
+          let at : Contains (clause_at clauses h.0) l = subst (λ xs. Contains xs l) (m.same h.0 (named h.0 h.1))
+          (subst (λ n. Contains (clause_of steps n) l) (sym h.2) there) in
+          ⊎_elim (λ held. inl held)
+          (λ o. inr (
+            to o.0,
+            Contains-mapped to hints o.0 o.1,
+            subst (λ xs. Contains xs (negation l)) (sym (m.same o.0 (named o.0 o.1))) o.2,
+          ))
+          (used.each h.0 l h.1 at);
+      from_hints = λ l c.
+          let o = from.each l c in (
+            to o.0,
+            Contains-mapped to hints o.0 o.1,
+            subst (λ xs. Contains xs l) (sym (m.same o.0 (named o.0 o.1))) o.2,
+          );
+    }
+
+pub unit_of : (s : SolverState) (clauses : List (List Lit)) (lits assumptions clause : List Lit) (hints : List ℕ)
+    → IsMirror clauses s.active s.log.steps → IsLearned clauses lits clause hints → IsNew clauses clause
+    → ((l : Lit) → Contains clause l → Contains assumptions l → ⊥)
+    → IsUnitOf s assumptions clause (map (step_of s.active) hints)
+unit_of s clauses lits assumptions clause hints m learned new unassumed = record {
+  shown = shown_of s clauses clause hints m learned.taken learned.used learned.from_hints;
+  fresh = record {
+    plain = new.plain;
+    holds_none = λ number c h.
+        let id = id_of clauses s.active s.log.steps number m c in
+        new.holds_none id.0 id.1 (λ l there. h.each l
+        (subst (λ n. Contains (clause_of s.log.steps n) l) id.2
+        (subst (λ xs. Contains xs l) (sym (m.same id.0 id.1)) there)));
+  };
+  unassumed = unassumed;
+}
+
+-- more steps than those in use
+clause_kept : (steps : List Step) (step : Step) (number : ℕ) → IsStepOf steps number
+    → clause_of (steps ++ step ∷ []) number ≡ clause_of steps number
+clause_kept steps step number s =
+    let from = s.from_one in
+    let within = s.within in
+    ap (λ (x : Step). x.clause) (get_or_append_left steps (step ∷ []) no_step (number - 1) (omega arith))
+
+step_kept : (steps : List Step) (step : Step) (number : ℕ) → IsStepOf steps number
+    → IsStepOf (steps ++ step ∷ []) number
+step_kept steps step number s =
+    let within = s.within in
+    record { from_one = s.from_one; within = omega (arith, length-append steps (step ∷ [])) }
+
+pub mirror_grown : (clauses : List (List Lit)) (active : List ℕ) (steps : List Step) (step : Step)
+    → IsMirror clauses active steps → IsMirror clauses active (steps ++ step ∷ [])
+mirror_grown clauses active steps step m = record {
+  long = m.long;
+  rises = m.rises;
+  named = λ id n. step_kept steps step (step_of active id) (m.named id n);
+  same = λ id n. clause_kept steps step (step_of active id) (m.named id n) ∙ m.same id n;
+}
+
+-- the last step of a list that has grown
+pub clause_new : (steps : List Step) (step : Step) (number : ℕ) → number ≡ length steps + 1
+    → clause_of (steps ++ step ∷ []) number ≡ step.clause
+clause_new steps step number e =
+    let i : number - 1 ≡ length steps = omega arith in
+    ap (λ k. (get_or (steps ++ step ∷ []) k no_step).clause) i
+    ∙ ap (λ (x : Step). x.clause) (get_or-append_seam steps step [] no_step)
+
+pub step_new : (steps : List Step) (step : Step) (number : ℕ) → number ≡ length steps + 1
+    → IsStepOf (steps ++ step ∷ []) number
+step_new steps step number e = record {
+  from_one = omega arith;
+  within = omega (arith, length-append steps (step ∷ []));
+}
+
+rises_pushed : (xs : List ℕ) (x : ℕ) → IsStrictlyIncreasing xs → ((k : ℕ) → k < length xs → get_or xs k 0 < x)
+    → IsStrictlyIncreasing (xs ++ x ∷ [])
+rises_pushed xs x rise below k lt =
+    let long = length-append xs (x ∷ []) in
+    ⊎_elim
+    (λ (before : k + 1 < length xs).
+    let a = get_or_append_left xs (x ∷ []) 0 k (omega arith) in
+    let b = get_or_append_left xs (x ∷ []) 0 (k + 1) before in
+    let r = rise k before in
+    omega (arith, a, b, r))
+    (λ after.
+    let at : k + 1 ≡ length xs = omega arith in
+    let a = get_or_append_left xs (x ∷ []) 0 k (omega arith) in
+    let b : get_or (xs ++ x ∷ []) (k + 1) 0 ≡ x = ap (λ i. get_or (xs ++ x ∷ []) i 0) at ∙ get_or-append_seam xs x
+    [] 0 in
+    let low = below k (omega arith) in
+    omega (arith, a, b, low))
+    (cases_lt (k + 1) (length xs))
+
+-- a step comes with its clause
+pub mirror_more : (clauses : List (List Lit)) (active : List ℕ) (steps : List Step) (step : Step)
+    → IsMirror clauses active steps
+    → IsMirror (clauses ++ step.clause ∷ []) (active ++ (length steps + 1) ∷ []) (steps ++ step ∷ [])
+mirror_more clauses active steps step m =
+    let number = length steps + 1 in
+    let long = m.long in
+    let old_at : (id : ℕ) → IsNamed clauses id → step_of (active ++ number ∷ []) id ≡ step_of active id = λ id n.
+    let from = n.from_one in let within = n.within in
+    get_or_append_left active (number ∷ []) 0 (id - 1) (omega arith) in
+    let new_at : (id : ℕ) → id ≡ length clauses + 1 → step_of (active ++ number ∷ []) id ≡ number = λ id e.
+    let i : id - 1 ≡ length active = omega arith in
+    ap (λ k. get_or (active ++ number ∷ []) k 0) i ∙ get_or-append_seam active number [] 0 in
+    record {
+      long = omega (arith, length-append active (number ∷ []), length-append clauses (step.clause ∷ []), long);
+      rises = rises_pushed active number m.rises (λ k lt.
+          let named : IsNamed clauses (k + 1) = record { from_one = omega arith; within = omega (arith, long, lt) } in
+          let s = m.named (k + 1) named in
+          let within = s.within in
+          let same : k + 1 - 1 ≡ k = omega arith in
+          let e : step_of active (k + 1) ≡ get_or active k 0 = ap (λ i. get_or active i 0) same in
+          omega (arith, within, e));
+      named = λ id n. ⊎_elim
+          (λ w. subst (IsStepOf (steps ++ step ∷ [])) (sym (old_at id w.0))
+          (step_kept steps step (step_of active id) (m.named id w.0)))
+          (λ w. subst (IsStepOf (steps ++ step ∷ [])) (sym (new_at id w.0)) (step_new steps step number refl))
+          (clause_cases clauses step.clause id n);
+      same = λ id n. ⊎_elim
+          (λ w. ap (clause_of (steps ++ step ∷ [])) (old_at id w.0)
+          ∙ (clause_kept steps step (step_of active id) (m.named id w.0) ∙ (m.same id w.0 ∙ sym w.1)))
+          (λ w. ap (clause_of (steps ++ step ∷ [])) (new_at id w.0)
+          ∙ (clause_new steps step number refl ∙ sym w.1))
+          (clause_cases clauses step.clause id n);
+    }
+
+pub derived_is : (old new : LogState) (clause : List Lit) (hints : List ℕ) (number : ℕ)
+    → Checks negation (clauses_of old.steps) clause hints (Ok (length hints)) → AddsDerived old new clause hints number
+    → IsDerived old new clause hints number
+derived_is old new clause hints number w a =
+    let h = derived_all old new clause hints number w a in
+    record { log_is = h.0; next = h.1 }

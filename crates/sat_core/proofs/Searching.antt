@@ -1,0 +1,159 @@
+-- A whole search: turns, one after the other, and what they tell.
+use Rattle.std.proofs.Common.{◌≡◌, ◌≢◌, ℕ, ◌<◌, ◌≤◌, ◌+◌, ◌-◌, List, [], ◌∷◌, ◌++◌, length, get_or, take, map}
+use Rattle.std.proofs.Common.{Bool, true, false, not, arith, ap, sym, subst}
+use Rattle.std.proofs.Common.{◌∙◌, refl, inl, inr, ⊎_elim, Ok, Err, Result, add_assoc}
+use Rattle.std.specs.Prelude.{Contains, ◌⊎◌, Option, None, Some}
+use Rattle.plain_lists.proofs.Membership.{Contains-nil, Contains-cons_cases}
+use Rattle.plain_lits.specs.declared.lit.Lit.{Lit}
+use Rattle.plain_lits.specs.Literals.{negation}
+use Rattle.plain_lits.specs.declared.halt.Halt.{Halt}
+use Rattle.plain_lits.specs.declared.halt.Halt.TheVariants.{Spent, LogFull, Memory}
+use Rattle.plain_lits.specs.Units.{Units}
+use Rattle.hinted_log.specs.Logs.{Step, LogState, IsLog, IsStepOf, derived_step}
+use Rattle.unit_propagate.specs.Search.{Search, IsSearch, GainsBlock, GoesBack, StaysSearch, GainsClause}
+use Rattle.sat_core.specs.declared.answer.Added.{Added}
+use Rattle.sat_core.specs.declared.answer.Added.TheVariants.{Axiom, Side, Derived}
+use Rattle.sat_core.specs.declared.answer.Solved.{Solved}
+use Rattle.sat_core.specs.declared.answer.Solved.TheVariants.{Model, Core}
+use Rattle.sat_core.specs.declared.cdcl.Cdcl.{Cdcl}
+use Rattle.sat_core.specs.declared.cdcl.End.{End}
+use Rattle.sat_core.specs.declared.cdcl.End.TheVariants.{Satisfied, Refuted, Stopped}
+use Rattle.sat_core.specs.Solving.{SolverState, Learns, one_more, IsUnitOf, IsModel}
+use Rattle.sat_core.specs.Solving.{HasSearched, IsSolver, begun, with_unit, Records}
+use Rattle.sat_core.specs.Mirrors.{IsMirror}
+use Rattle.sat_core.specs.Runs.{IsRun, IsResting, GoesOn}
+use Rattle.sat_core.specs.Turns.{state_of, Goes, LearnsOne, EndsAt, StopsAt, HasRun, Tells}
+use Rattle.sat_core.proofs.Running.{based_of, rests, resting_stays, resting_more, begins}
+use Rattle.sat_core.proofs.Mirroring.{mirror_more, mirror_grown, id_of}
+
+-- one clause more is learned
+pub learns_more : (old mid new : SolverState) (assumptions : List Lit) (count : ℕ) → Learns assumptions old mid count
+    → LearnsOne mid new assumptions → Learns assumptions old new (count + 1)
+learns_more old mid new assumptions count h l =
+    subst (λ s. Learns assumptions old s (count + 1)) (sym l.new_state)
+    (one_more old mid count l.clause l.hints h l.learned)
+
+pub counted_more : (before mid after count : ℕ) → mid ≡ before + count → after ≡ mid + 1 → after ≡ before + (count + 1)
+counted_more before mid after count e f = omega arith
+
+-- why a search on the first level stops
+pub stops_of : (learned : SolverState) (new : Cdcl) (assumptions : List Lit) (units : Units) (halt : Halt)
+    → (halt ≡ LogFull → (state_of new ≡ learned) × (length new.ledger.log.steps ≡ new.ledger.log.limit))
+    → ((count : ℕ) → halt ≡ Spent count → ⊥) → StopsAt learned new assumptions units units halt
+stops_of learned new assumptions units LogFull full unspent = (refl, full refl)
+stops_of learned new assumptions units (Spent count) full unspent = absurd (unspent count refl)
+stops_of learned new assumptions units Memory full unspent = tt
+
+-- clauses that are the same are mirrored
+pub mirror_same : (clauses new_clauses : List (List Lit)) (active : List ℕ) (steps : List Step)
+    → new_clauses ≡ clauses → IsMirror clauses active steps → IsMirror new_clauses active steps
+mirror_same clauses new_clauses active steps e m = subst (λ cs. IsMirror cs active steps) (sym e) m
+
+-- what a search tells
+pub searched_of : (old : SolverState) (ran : Cdcl) (assumptions : List Lit) (before after : Units) (ended : End)
+    (result : Result Solved Halt) → HasRun (begun old) ran assumptions before after ended
+    → Tells ran.descent.search.lits ended result → result ≢ Err Memory
+    → HasSearched old (state_of ran) assumptions before after result
+searched_of old ran assumptions before after ended (Ok (Model values)) h t ne =
+    let e : EndsAt h.learned ran assumptions h.mid after Satisfied =
+    subst (λ (x : End). EndsAt h.learned ran assumptions h.mid after x) t.0 h.ends in
+    record {
+      learned = h.learned;
+      count = h.count;
+      learns = h.learns;
+      spent = e.0 ∙ h.spent;
+      ends = (e.1, subst (IsModel (state_of ran) assumptions) (sym t.1) e.2);
+    }
+searched_of old ran assumptions before after ended (Ok (Core step)) h t ne =
+    let e : EndsAt h.learned ran assumptions h.mid after (Refuted step) =
+    subst (λ (x : End). EndsAt h.learned ran assumptions h.mid after x) t h.ends in
+    record { learned = h.learned; count = h.count; learns = h.learns; spent = e.0 ∙ h.spent; ends = e.1 }
+searched_of old ran assumptions before after ended (Err (Spent count)) h t ne =
+    let e : EndsAt h.learned ran assumptions h.mid after (Stopped (Spent count)) =
+    subst (λ (x : End). EndsAt h.learned ran assumptions h.mid after x) t h.ends in
+    record { learned = h.learned; count = h.count; learns = h.learns; spent = e.0 ∙ h.spent; ends = e.1 }
+searched_of old ran assumptions before after ended (Err LogFull) h t ne =
+    let e : EndsAt h.learned ran assumptions h.mid after (Stopped LogFull) =
+    subst (λ (x : End). EndsAt h.learned ran assumptions h.mid after x) t h.ends in
+    record { learned = h.learned; count = h.count; learns = h.learns; spent = e.0 ∙ h.spent; ends = e.1 }
+searched_of old ran assumptions before after ended (Err Memory) h t ne = absurd (ne refl)
+
+-- a step that was recorded
+pub record Recorded (old new : LogState) (clause : List Lit) (number : ℕ) : Type 0 where
+  pub step : Step
+  pub is : step.clause ≡ clause
+  pub steps : new.steps ≡ old.steps ++ step ∷ []
+  pub next : number ≡ length old.steps + 1
+  pub limit : new.limit ≡ old.limit
+
+pub recorded_of : (old new : LogState) (clause : List Lit) (how : Added) (number : ℕ)
+    → Records old new clause how number
+    → Recorded old new clause number
+recorded_of old new clause Axiom number r = record {
+  step = _;
+  is = refl;
+  steps = ap (λ (g : LogState). g.steps) r.new_log;
+  next = r.next;
+  limit = ap (λ (g : LogState). g.limit) r.new_log;
+}
+recorded_of old new clause Side number r = record {
+  step = _;
+  is = refl;
+  steps = ap (λ (g : LogState). g.steps) r.new_log;
+  next = r.next;
+  limit = ap (λ (g : LogState). g.limit) r.new_log;
+}
+recorded_of old new clause (Derived hints) number r = record {
+  step = derived_step clause (take r.used hints);
+  is = refl;
+  steps = ap (λ (g : LogState). g.steps) r.added.new_log;
+  next = r.added.next;
+  limit = ap (λ (g : LogState). g.limit) r.added.new_log;
+}
+
+pub mirror_recorded : (clauses new_clauses : List (List Lit)) (active new_active : List ℕ) (log new_log : LogState)
+    (clause : List Lit) (number : ℕ) → Recorded log new_log clause number → new_clauses ≡ clauses ++ clause ∷ []
+    → new_active ≡ active ++ number ∷ [] → IsMirror clauses active log.steps
+    → IsMirror new_clauses new_active new_log.steps
+mirror_recorded clauses new_clauses active new_active log new_log clause number r e1 e2 m =
+    let cs : new_clauses ≡ clauses ++ r.step.clause ∷ [] = e1 ∙ ap (λ x. clauses ++ x ∷ []) (sym r.is) in
+    let ns : new_active ≡ active ++ (length log.steps + 1) ∷ [] = e2 ∙ ap (λ n. active ++ n ∷ []) r.next in
+    subst (λ xs. IsMirror xs new_active new_log.steps) (sym cs)
+    (subst (λ xs. IsMirror (clauses ++ r.step.clause ∷ []) xs new_log.steps) (sym ns)
+    (subst (λ xs. IsMirror (clauses ++ r.step.clause ∷ []) (active ++ (length log.steps + 1) ∷ []) xs)
+    (sym r.steps)
+    (mirror_more clauses active log.steps r.step m)))
+
+pub mirror_unused : (clauses new_clauses : List (List Lit)) (active new_active : List ℕ) (log new_log : LogState)
+    (clause : List Lit) (number : ℕ) → Recorded log new_log clause number → new_clauses ≡ clauses
+    → new_active ≡ active → IsMirror clauses active log.steps → IsMirror new_clauses new_active new_log.steps
+mirror_unused clauses new_clauses active new_active log new_log clause number r e1 e2 m =
+    subst (λ xs. IsMirror xs new_active new_log.steps) (sym e1)
+    (subst (λ xs. IsMirror clauses xs new_log.steps) (sym e2)
+    (subst (λ xs. IsMirror clauses active xs) (sym r.steps) (mirror_grown clauses active log.steps r.step m)))
+
+-- what callers see of it
+pub solver_form : (s : SolverState) (clauses : List (List Lit)) → IsLog s.log → IsMirror clauses s.active s.log.steps
+    → IsSolver s
+solver_form s clauses form m = record {
+  log_form = form;
+  rises = m.rises;
+  named = λ number c.
+      let id = id_of clauses s.active s.log.steps number m c in
+      subst (IsStepOf s.log.steps) id.2 (m.named id.0 id.1);
+}
+
+not_itself : (p : Bool) → p ≡ not p → ⊥
+not_itself true e = cc
+not_itself false e = cc
+
+-- one assumption, or none, doesn't stand beside its negation
+pub plain_alone : (a l : Lit) → Contains (a ∷ []) l → Contains (a ∷ []) (negation l) → ⊥
+plain_alone a l c n =
+    let e : a ≡ l = ⊎_elim (λ e. e) (λ none. absurd (Contains-nil l none)) (Contains-cons_cases a [] l c) in
+    let f : a ≡ negation l = ⊎_elim (λ e. e) (λ none. absurd (Contains-nil (negation l) none))
+    (Contains-cons_cases a [] (negation l) n) in
+    not_itself l.positive (ap (λ (x : Lit). x.positive) (sym e ∙ f))
+
+pub plain_none : (l : Lit) → Contains [] l → Contains [] (negation l) → ⊥
+plain_none l c n = Contains-nil l c

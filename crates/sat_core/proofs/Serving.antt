@@ -1,0 +1,141 @@
+-- The look for a step that serves.
+use Rattle.std.proofs.Common.{◌≡◌, ◌≢◌, ℕ, ◌<◌, ◌≤◌, ◌+◌, ◌-◌, List, [], ◌∷◌, ◌++◌, length, get_or, take, map}
+use Rattle.std.proofs.Common.{Bool, true, false, not, arith, ap, sym, subst, ◌∙◌, refl, inl, inr, ⊎_elim}
+use Rattle.std.specs.Prelude.{Contains, ◌⊎◌}
+use Rattle.std.proofs.lemmas.List.{get_or_default, take_more, map-append}
+use Rattle.std.proofs.lemmas.List.Elements.{Contains-push_cases, Contains-append_left}
+use Rattle.std.proofs.lemmas.Bool.{cases_lt}
+use Rattle.plain_lists.proofs.Membership.{Contains-nil, Contains-pushed}
+use Rattle.plain_lits.specs.declared.lit.Lit.{Lit}
+use Rattle.plain_lits.specs.declared.value.Value.{Value}
+use Rattle.plain_lits.specs.declared.value.Value.TheVariants.{True, False, Unset}
+use Rattle.plain_lits.specs.Literals.{negation}
+use Rattle.plain_lits.specs.Values.{IsValueIn}
+use Rattle.plain_lits.specs.HintCheck.{IsTautology}
+use Rattle.plain_lits.proofs.LitOrder.{lit_same}
+use Rattle.unit_propagate.proofs.Fronts.{from_front}
+use Rattle.hinted_log.specs.Logs.{Step, IsStepOf}
+use Rattle.sat_core.specs.Solving.{clause_of, Holds}
+use Rattle.sat_core.specs.Mirrors.{DeniesAll, IsServed, HoldsNone, step_of}
+
+pub denies_none : (clause lits : List Lit) → lits ≡ [] → DeniesAll (take 0 clause) lits
+denies_none clause lits e = record {
+  there = λ l c. absurd (Contains-nil l c);
+  back = λ l c. absurd (Contains-nil (negation l) (subst (λ xs. Contains xs (negation l)) e c));
+}
+
+not_same : (p q : Bool) → not p ≡ not q → p ≡ q
+not_same true true e = refl
+not_same false false e = refl
+not_same true false e = cc
+not_same false true e = cc
+
+twice : (p : Bool) → not (not p) ≡ p
+twice true = refl
+twice false = refl
+
+negation_same : (a b : Lit) → negation a ≡ negation b → a ≡ b
+negation_same a b e =
+    let v : a.var ≡ b.var = ap (λ (l : Lit). l.var) e in
+    let p : not a.positive ≡ not b.positive = ap (λ (l : Lit). l.positive) e in
+    lit_same a b v (not_same a.positive b.positive p)
+
+-- one literal more is denied
+pub denies_more : (clause old new : List Lit) (i : ℕ) (d : Lit) → i < length clause → DeniesAll (take i clause) old
+    → new ≡ old ++ negation (get_or clause i d) ∷ [] → DeniesAll (take (i + 1) clause) new
+denies_more clause old new i d lt h e =
+    let x = get_or clause i d in
+    let more : take (i + 1) clause ≡ take i clause ++ x ∷ [] = take_more clause i d lt in
+    record {
+      there = λ l c. subst (λ xs. Contains xs (negation l)) (sym e)
+          (⊎_elim (λ before. Contains-append_left old (negation x ∷ []) (negation l) (h.there l before))
+          (λ (same : x ≡ l). Contains-pushed old (negation x) (negation l) (ap negation same))
+          (Contains-push_cases (take i clause) x l (subst (λ xs. Contains xs l) more c)));
+      back = λ l c. subst (λ xs. Contains xs l) (sym more)
+          (⊎_elim (λ before. Contains-append_left (take i clause) (x ∷ []) l (h.back l before))
+          (λ (same : negation x ≡ negation l). Contains-pushed (take i clause) x l (negation_same x l same))
+          (Contains-push_cases old (negation x) (negation l) (subst (λ xs. Contains xs (negation l)) e c)));
+    }
+
+negated_twice : (l : Lit) → negation (negation l) ≡ l
+negated_twice l = lit_same (negation (negation l)) l refl (twice l.positive)
+
+denied_of : (clause lits : List Lit) (i : ℕ) (x : Lit) (v : Value) → Contains clause x
+    → (IsTautology negation clause → ⊥) → DeniesAll (take i clause) lits → IsValueIn lits x v → v ≢ Unset
+    → Contains lits (negation x)
+denied_of clause lits i x False there plain h value ne = value.0
+denied_of clause lits i x Unset there plain h value ne = absurd (ne refl)
+denied_of clause lits i x True there plain h value ne =
+    let held : Contains (take i clause) (negation x) = h.back (negation x)
+    (subst (Contains lits) (sym (negated_twice x)) value.0) in
+    absurd (plain (x, there, from_front i clause (negation x) held))
+
+-- a literal that has a value is denied already
+pub denies_same : (clause lits : List Lit) (i : ℕ) (d : Lit) (v : Value) → i < length clause
+    → (IsTautology negation clause → ⊥) → DeniesAll (take i clause) lits → IsValueIn lits (get_or clause i d) v
+    → v ≢ Unset → DeniesAll (take (i + 1) clause) lits
+denies_same clause lits i d v lt plain h value ne =
+    let x = get_or clause i d in
+    let there : Contains clause x = (i, lt, get_or_default clause i x d lt) in
+    let denied : Contains lits (negation x) = denied_of clause lits i x v there plain h value ne in
+    let more : take (i + 1) clause ≡ take i clause ++ x ∷ [] = take_more clause i d lt in
+    record {
+      there = λ l c. ⊎_elim (λ before. h.there l before)
+          (λ (same : x ≡ l). subst (λ y. Contains lits (negation y)) same denied)
+          (Contains-push_cases (take i clause) x l (subst (λ xs. Contains xs l) more c));
+      back = λ l c. subst (λ xs. Contains xs l) (sym more) (Contains-append_left (take i clause) (x ∷ []) l (h.back
+          l c));
+    }
+
+-- the literals before an index and the one there
+pub front_more : (part : List Lit) (i : ℕ) (d : Lit) (P : Lit → Type 0) → i < length part
+    → ((x : Lit) → Contains (take i part) x → P x) → P (get_or part i d) → (x : Lit)
+    → Contains (take (i + 1) part) x → P x
+front_more part i d P lt before here x c =
+    ⊎_elim (λ old. before x old)
+    (λ (same : get_or part i d ≡ x). subst P same here)
+    (Contains-push_cases (take i part) (get_or part i d) x (subst (λ xs. Contains xs x) (take_more part i d lt) c))
+
+-- a step whose literals are all denied serves, and one with a literal that isn't denied doesn't
+pub served_of : (steps : List Step) (clause lits : List Lit) (number : ℕ) → DeniesAll clause lits
+    → IsStepOf steps number
+    → ((l : Lit) → Contains (clause_of steps number) l → Contains lits (negation l)) → IsServed steps clause number
+served_of steps clause lits number d step all = record {
+  step = step;
+  held = record { each = λ l c. d.back l (all l c) };
+}
+
+pub not_served : (steps : List Step) (clause lits : List Lit) (number : ℕ) → DeniesAll clause lits
+    → (l : Lit) × Contains (clause_of steps number) l × (Contains lits (negation l) → ⊥)
+    → Holds clause (clause_of steps number) → ⊥
+not_served steps clause lits number d w h = w.2 (d.there w.0 (h.each w.0 w.1))
+
+-- the step of the next id
+pub steps_more : (active ids : List ℕ) (steps new : List ℕ) (i step : ℕ) → i < length ids
+    → steps ≡ map (step_of active) (take i ids) → new ≡ steps ++ step ∷ [] → step ≡ step_of active (get_or ids i 0)
+    → new ≡ map (step_of active) (take (i + 1) ids)
+steps_more active ids steps new i step lt e e2 e3 =
+    e2 ∙ (ap (λ xs. xs ++ step ∷ []) e
+    ∙ (ap (λ x. map (step_of active) (take i ids) ++ x ∷ []) e3
+    ∙ (sym (map-append (step_of active) (take i ids) (get_or ids i 0 ∷ []))
+    ∙ ap (map (step_of active)) (sym (take_more ids i 0 lt)))))
+
+-- what stands where there is no literal
+abbrev pub no_lit : Lit
+no_lit = record { var = 0; positive = false }
+
+-- none of the steps up to a number serves
+pub none_more : (steps : List Step) (clause lits part : List Lit) (index step : ℕ) → DeniesAll clause lits
+    → ((n : ℕ) → 0 < n → n ≤ index → Holds clause (clause_of steps n) → ⊥) → step ≡ index + 1
+    → part ≡ clause_of steps step
+    → (l : Lit) × Contains part l × (Contains lits (negation l) → ⊥)
+    → (n : ℕ) → 0 < n → n ≤ index + 1 → Holds clause (clause_of steps n) → ⊥
+none_more steps clause lits part index step d before e part_is w n pos le h =
+    ⊎_elim
+    (λ (low : n < index + 1). before n pos (omega arith) h)
+    (λ high.
+    let same : step ≡ n = omega arith in
+    let there : Contains (clause_of steps n) w.0 = subst (λ k. Contains (clause_of steps k) w.0) same
+    (subst (λ xs. Contains xs w.0) part_is w.1) in
+    w.2 (d.there w.0 (h.each w.0 there)))
+    (cases_lt n (index + 1))

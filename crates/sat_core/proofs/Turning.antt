@@ -1,0 +1,184 @@
+-- One turn of a search: a clause is learned, or the search ends.
+use Rattle.std.proofs.Common.{◌≡◌, ◌≢◌, ℕ, ◌<◌, ◌≤◌, ◌+◌, ◌-◌, List, [], ◌∷◌, ◌++◌, length, get_or, take, map}
+use Rattle.std.proofs.Common.{arith, ap, sym, subst, ◌∙◌, refl, inl, inr, ⊎_elim, Ok, Err, length-take, Result}
+use Rattle.std.specs.Prelude.{Contains, ◌⊎◌, Option, None, Some, IfErr}
+use Rattle.std.proofs.lemmas.Bool.{cases_lt}
+use Rattle.plain_lits.specs.declared.lit.Lit.{Lit}
+use Rattle.plain_lits.specs.declared.halt.Halt.{Halt}
+use Rattle.plain_lits.specs.declared.halt.Halt.TheVariants.{Spent, LogFull, Memory}
+use Rattle.plain_lits.specs.Literals.{negation}
+use Rattle.plain_lits.specs.HintCheck.{clause_at, IsNamed, IsFalsified, IsUnit, IsTautology, Checks}
+use Rattle.plain_lits.specs.Units.{Units}
+use Rattle.hinted_log.specs.Logs.{Step, LogState, IsStepOf, clauses_of, derived_step}
+use Rattle.unit_propagate.specs.Search.{Search, IsSearch, GoesBack, Learns, StaysSearch}
+use Rattle.conflict_learn.specs.Learning.{IsLearned, IsNew, IsUnitFrom, IsOpenBelow, IsOpen, IsAssumed, lits_at}
+use Rattle.sat_core.specs.declared.answer.Pending.{Pending}
+use Rattle.sat_core.specs.Solving.{SolverState, clause_of, Holds, IsShown, IsUnitOf, IsCore, Closes, EndsCore, IsSpent}
+use Rattle.sat_core.specs.Solving.{with_derived, with_unit}
+use Rattle.sat_core.specs.Mirrors.{IsMirror, step_of, AreIds, IsDerived, IsServed, HoldsNone}
+use Rattle.sat_core.specs.Runs.{IsRun, IsBased, HasRoom}
+use Rattle.sat_core.specs.Turns.{IsAsserting}
+use Rattle.sat_core.proofs.Running.{back, learned, back_lits, lits_below, stays_run, core_lits, not_assumed, based_of}
+use Rattle.std.proofs.lemmas.List.{length-map}
+use Rattle.sat_core.proofs.Mirroring.{mirror_grown, mirror_more, hints_named, unit_of, shown_of, clause_new, step_new}
+use Rattle.sat_core.proofs.Mirroring.{moved}
+
+-- the level to which a search goes back lies below the last one
+pub target_within : (s : Search) (level target : ℕ) → level < length s.starts → 1 < length s.starts
+    → ((n : ℕ) → 1 < n → level < n → target < n) → target < length s.starts
+target_within s level target lt deep within = within (length s.starts) deep lt
+
+-- there the clause is unit
+pub unit_after : (old new : Search) (level target : ℕ) (clause : List Lit) (lit : Lit)
+    → IsAsserting old level clause lit
+    → level ≤ target → target < length old.starts → GoesBack old new target → IsUnit negation new.lits clause lit
+unit_after old new level target clause lit a le lt g =
+    subst (λ xs. IsUnit negation xs clause lit) (sym (back_lits old new target g lt)) (a.unit.each target le lt)
+
+pub run_after : (old new : Search) (target : ℕ) (assumptions : List Lit) → IsSearch old → 0 < target
+    → target < length old.starts → GoesBack old new target → IsRun assumptions old → IsRun assumptions new
+run_after old new target assumptions form pos lt g run = back old new target assumptions form pos lt g run
+
+-- and with it the search goes on
+pub run_learned : (old mid new : Search) (level target : ℕ) (clause : List Lit) (lit : Lit) (id : ℕ)
+    (assumptions : List Lit)
+    → IsSearch old → IsSearch mid → IsAsserting old level clause lit → 0 < target
+    → ((n : ℕ) → 0 < n → n < target → n < level) → target < length old.starts → GoesBack old mid target
+    → Learns mid new clause lit id → IsRun assumptions old → IsRun assumptions new
+run_learned old mid new level target clause lit id assumptions form mid_form a pos low lt g l run =
+    let vars = g.vars in
+    let long : length mid.starts ≡ target = ap length g.starts
+    ∙ (let e : length (take target old.starts) ≡ target = omega (arith, length-take target old.starts) in e) in
+    learned mid new clause lit id assumptions mid_form l
+    (λ x c. let known = a.known x c in omega (arith, vars, known))
+    (λ k k_pos k_lt.
+    let k_target : k < target = omega (arith, long, k_lt) in
+    subst (λ xs. IsOpen xs clause) (sym (lits_below old mid target k form g lt k_target))
+    (a.least.each k (low k k_pos k_target)))
+    (back old mid target assumptions form pos lt g run)
+
+-- the clauses and the steps, where a step has come but not its clause, and where both have
+pub mirror_derived : (clauses new_clauses : List (List Lit)) (active new_active : List ℕ) (log new_log : LogState)
+    (clause : List Lit) (hints : List ℕ) (number : ℕ) → new_clauses ≡ clauses → new_active ≡ active
+    → IsDerived log new_log clause hints number → IsMirror clauses active log.steps
+    → IsMirror new_clauses new_active new_log.steps
+mirror_derived clauses new_clauses active new_active log new_log clause hints number e e2 d m =
+    subst (λ cs. IsMirror cs new_active new_log.steps) (sym e)
+    (subst (λ xs. IsMirror clauses xs new_log.steps) (sym e2)
+    (subst (λ (g : LogState). IsMirror clauses active g.steps) (sym d.log_is)
+    (mirror_grown clauses active log.steps (derived_step clause hints) m)))
+
+pub mirror_learned : (clauses mid new_clauses : List (List Lit)) (active new_active : List ℕ) (log new_log : LogState)
+    (clause : List Lit) (hints : List ℕ) (number : ℕ) → mid ≡ clauses → new_clauses ≡ mid ++ clause ∷ []
+    → new_active ≡ active ++ number ∷ []
+    → IsDerived log new_log clause hints number → IsMirror clauses active log.steps
+    → IsMirror new_clauses new_active new_log.steps
+mirror_learned clauses mid new_clauses active new_active log new_log clause hints number e0 e1 e2 d m =
+    let cs : new_clauses ≡ clauses ++ clause ∷ [] = e1 ∙ ap (λ xs. xs ++ clause ∷ []) e0 in
+    let ns : new_active ≡ active ++ (length log.steps + 1) ∷ [] = e2 ∙ ap (λ n. active ++ n ∷ []) d.next in
+    subst (λ xs. IsMirror xs new_active new_log.steps) (sym cs)
+    (subst (λ xs. IsMirror (clauses ++ clause ∷ []) xs new_log.steps) (sym ns)
+    (subst (λ (g : LogState). IsMirror (clauses ++ clause ∷ []) (active ++ (length log.steps + 1) ∷ []) g.steps)
+    (sym d.log_is)
+    (mirror_more clauses active log.steps (derived_step clause hints) m)))
+
+pub state_learned : (s : SolverState) (log : LogState) (active : List ℕ) (clause : List Lit) (hints : List ℕ)
+    (number : ℕ)
+    → IsDerived s.log log clause hints number → active ≡ s.active ++ number ∷ []
+    → record { log = log; active = active; pending = s.pending } ≡ with_unit s clause hints
+state_learned s log active clause hints number d e =
+    let ns : active ≡ s.active ++ (length s.log.steps + 1) ∷ [] = e ∙ ap (λ n. s.active ++ n ∷ []) d.next in
+    rw (d.log_is, ns) refl
+
+-- ids of clauses have steps
+pub ids_of : (clauses : List (List Lit)) (active : List ℕ) (steps : List Step) (clause : List Lit) (hints ids : List ℕ)
+    → IsMirror clauses active steps → Checks negation clauses clause hints (Ok (length hints)) → ids ≡ hints
+    → AreIds active ids
+ids_of clauses active steps clause hints ids m w e =
+    let long = m.long in
+    record {
+      from_one = λ id c. (hints_named clauses clause hints id w (subst (λ xs. Contains xs id) e c)).from_one;
+      within = λ id c. let within = (hints_named clauses clause hints id w (subst (λ xs. Contains xs id) e c)).within in
+          omega (arith, within, long);
+    }
+
+pub named_of : (clauses : List (List Lit)) (clause : List Lit) (hints ids : List ℕ)
+    → Checks negation clauses clause hints (Ok (length hints)) → ids ≡ hints → (id : ℕ) → Contains ids id
+    → IsNamed clauses id
+named_of clauses clause hints ids w e id c = hints_named clauses clause hints id w (subst (λ xs. Contains xs id) e c)
+
+-- a clause of false literals has known variables
+pub known_of : (s : Search) (clause : List Lit) → IsSearch s → IsFalsified negation s.lits clause
+    → (l : Lit) → Contains clause l → l.var < s.vars
+known_of s clause form f l c = form.within (negation l) (f.each l c)
+
+-- what is learned is a unit of the solver
+pub unit_learned : (state : SolverState) (s : Search) (assumptions clause : List Lit) (ids : List ℕ) (hints : List ℕ)
+    → IsMirror s.clauses state.active state.log.steps → IsSearch s → IsRun assumptions s
+    → IsLearned s.clauses s.lits clause ids → IsNew s.clauses clause → hints ≡ map (step_of state.active) ids
+    → IsUnitOf state assumptions clause hints
+unit_learned state s assumptions clause ids hints m form run l new e =
+    subst (IsUnitOf state assumptions clause) (sym e)
+    (unit_of state s.clauses s.lits assumptions clause ids m l new
+    (λ x c a. not_assumed s assumptions clause x form run l.all_false c a))
+
+-- a core, where a step serves and where it is one step more
+taken_plain : (clauses : List (List Lit)) (clause : List Lit) (hints : List ℕ) (n : ℕ)
+    → Checks negation clauses clause hints (Ok n) → IsTautology negation clause → ⊥
+taken_plain clauses clause hints n w t = ⊎_elim (λ f. let e = f.1 in cc) (λ f. f.0 t) w
+
+pub plain_of : (s : Search) (clause : List Lit) (hints : List ℕ) → IsLearned s.clauses s.lits clause hints
+    → IsTautology negation clause → ⊥
+plain_of s clause hints l t = taken_plain s.clauses clause hints (length hints) l.taken t
+
+pub core_served : (state : SolverState) (s : Search) (assumptions clause : List Lit) (number : ℕ)
+    → length s.starts ≤ 1 → IsRun assumptions s → ((x : Lit) → Contains clause x → IsAssumed s x)
+    → IsServed state.log.steps clause number → EndsCore state state assumptions number
+core_served state s assumptions clause number shallow run assumed served = record {
+  core = record {
+    step = served.step;
+    negated = λ l c. core_lits s assumptions l shallow run (assumed l (served.held.each l c));
+  };
+  closed = inl refl;
+}
+
+pub core_derived : (state : SolverState) (log : LogState) (s : Search) (assumptions clause : List Lit)
+    (ids hints : List ℕ) (number : ℕ)
+    → IsMirror s.clauses state.active state.log.steps → length s.starts ≤ 1 → IsRun assumptions s
+    → IsLearned s.clauses s.lits clause ids → ((x : Lit) → Contains clause x → IsAssumed s x)
+    → HoldsNone state.log.steps clause → hints ≡ map (step_of state.active) ids
+    → IsDerived state.log log clause hints number
+    → EndsCore state (record { log = log; active = state.active; pending = state.pending }) assumptions number
+core_derived state log s assumptions clause ids hints number m shallow run l assumed none e d =
+    let steps_are : log.steps ≡ state.log.steps ++ derived_step clause hints ∷ [] =
+    ap (λ (g : LogState). g.steps) d.log_is in
+    let clause_is : clause_of log.steps number ≡ clause = ap (λ xs. clause_of xs number) steps_are
+    ∙ clause_new state.log.steps (derived_step clause hints) number d.next in
+    record {
+      core = record {
+        step = subst (λ xs. IsStepOf xs number) (sym steps_are)
+            (step_new state.log.steps (derived_step clause hints) number d.next);
+        negated = λ x c. core_lits s assumptions x shallow run
+            (assumed x (subst (λ xs. Contains xs x) clause_is c));
+      };
+      closed = inr (record {
+        clause = clause;
+        hints = hints;
+        shown = subst (IsShown state clause) (sym e)
+            (shown_of state s.clauses clause ids m l.taken l.used l.from_hints);
+        holds_none = none;
+        next = d.next;
+        log_is = d.log_is;
+        active_same = refl;
+        pending_same = refl;
+      });
+    }
+
+-- the check moves to hints that are steps
+pub moved_to : (clauses : List (List Lit)) (active : List ℕ) (steps : List Step) (clause : List Lit)
+    (ids hints : List ℕ) → IsMirror clauses active steps → Checks negation clauses clause ids (Ok (length ids))
+    → hints ≡ map (step_of active) ids → Checks negation (clauses_of steps) clause hints (Ok (length hints))
+moved_to clauses active steps clause ids hints m w e =
+    subst (λ hs. Checks negation (clauses_of steps) clause hs (Ok (length hs))) (sym e)
+    (subst (λ n. Checks negation (clauses_of steps) clause (map (step_of active) ids) (Ok n))
+    (sym (length-map ids (step_of active))) (moved clauses active steps clause ids m w))

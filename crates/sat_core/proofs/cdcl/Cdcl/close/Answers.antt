@@ -1,0 +1,68 @@
+use Rattle.std.proofs.Common.{◌≡◌, length, arith, ap, sym, subst, ◌∙◌, refl, map}
+use Rattle.std.specs.Prelude.{Contains}
+use Rattle.sat_core.specs.Mirrors.{IsServed, HoldsNone, step_of}
+use Rattle.sat_core.specs.Turns.{state_of}
+use Rattle.sat_core.proofs.Turning.{known_of, ids_of, moved_to, core_served, core_derived, mirror_derived}
+use Rattle.sat_core.proofs.Keeping.{keeps_derived, keeps_logs}
+use Rattle.sat_core.proofs.cdcl.Cdcl.close.Goals as goal
+
+pub serving-requires-clause-room : goal.serving-requires-clause-room
+serving-requires-clause-room c = λ l h.
+    let s = c.args.self.now.descent.search in
+    let learned = c.in_ok-clause.ensures.learned in
+    let known = known_of s _ c.vars-vars.ensures.form learned.all_false l
+    (subst (λ xs. Contains xs l) c.as_slice.ensures.lits h) in
+    omega (arith, known, c.vars-vars.ensures.vars)
+
+pub returns-in-Some-clause-core : goal.returns-in-Some-clause-core
+returns-in-Some-clause-core c =
+    let s = c.args.self.now.descent.search in
+    let served = rw c.in-Some.is at c.in_ok-served.ensures in
+    core_served (state_of c.args.self.now) s c.args.assumptions.now _ c.in-Some.step c.requires.shallow c.requires.run
+    c.in_ok-clause.ensures.assumed
+    (subst (λ xs. IsServed c.args.self.now.ledger.log.steps xs c.in-Some.step) c.as_slice.ensures.lits served)
+
+pub steps_of-requires : goal.steps_of-requires
+steps_of-requires c =
+    let s = c.args.self.now.descent.search in
+    rw c.deref.ensures.value (ids_of s.clauses c.args.self.now.ledger.active.items c.args.self.now.ledger.log.steps
+    _ _ _
+    c.requires.kept.mirror c.in_ok-clause.ensures.learned.taken c.as_slice-2.ensures)
+
+pub derive-requires-clause-shown : goal.derive-requires-clause-shown
+derive-requires-clause-shown c =
+    let s = c.args.self.now.descent.search in
+    let hints : c.as_slice-3.result.now ≡ map (step_of c.args.self.now.ledger.active.items)
+    c.in_ok-clause.field-0.hints =
+    rw (c.as_slice-3.ensures, c.in_ok-hints.ensures, c.deref.ensures.value, c.as_slice-2.ensures) refl in
+    moved_to s.clauses c.args.self.now.ledger.active.items c.args.self.now.ledger.log.steps _ _ _
+    c.requires.kept.mirror c.in_ok-clause.ensures.learned.taken hints
+
+pub returns-clause-kept : goal.returns-clause-kept
+returns-clause-kept c =
+    let s = c.args.self.now.descent.search in
+    record {
+      mirror = mirror_derived s.clauses s.clauses c.args.self.now.ledger.active.items
+          c.args.self.now.ledger.active.items c.args.self.now.ledger.log _ _ _ _
+          refl refl c.in_ok-step.ensures.ok c.requires.kept.mirror;
+      based = c.requires.kept.based;
+    }
+
+pub returns-clause-core : goal.returns-clause-core
+returns-clause-core c =
+    let s = c.args.self.now.descent.search in
+    let hints : c.as_slice-3.result.now ≡ map (step_of c.args.self.now.ledger.active.items)
+    c.in_ok-clause.field-0.hints =
+    rw (c.as_slice-3.ensures, c.in_ok-hints.ensures, c.deref.ensures.value, c.as_slice-2.ensures) refl in
+    let none : HoldsNone c.args.self.now.ledger.log.steps c.as_slice.result.now = rw c.in-None.is at
+    c.in_ok-served.ensures in
+    core_derived (state_of c.args.self.now) _ s c.args.assumptions.now _ _ _ _ c.requires.kept.mirror
+    c.requires.shallow c.requires.run c.in_ok-clause.ensures.learned c.in_ok-clause.ensures.assumed
+    (subst (λ xs. HoldsNone c.args.self.now.ledger.log.steps xs) c.as_slice.ensures.lits none) hints
+    c.in_ok-step.ensures.ok
+
+pub returns-clause-keeps : goal.returns-clause-keeps
+returns-clause-keeps c = keeps_derived _ _ _ _ _ c.in_ok-step.ensures.ok refl
+
+pub returns-in_err-step-clause-keeps : goal.returns-in_err-step-clause-keeps
+returns-in_err-step-clause-keeps c = keeps_logs _ _ c.in_err-step.ensures.err refl

@@ -1,0 +1,91 @@
+use Rattle.std.proofs.Common.{◌≡◌, length, arith, ap, sym, subst, ◌∙◌, refl, map}
+use Rattle.hinted_log.proofs.Proofs.{not_so}
+use Rattle.sat_core.specs.Mirrors.{step_of}
+use Rattle.sat_core.specs.Turns.{state_of}
+use Rattle.sat_core.proofs.Running.{has_decided, has_settled}
+use Rattle.sat_core.proofs.Turning.{known_of, ids_of, named_of, unit_learned}
+use Rattle.sat_core.proofs.cdcl.Cdcl.learn_from.Goals as goal
+
+pub learn-requires-clause-decided : goal.learn-requires-clause-decided
+learn-requires-clause-decided c = has_decided c.args.self.now.descent.search c.args.assumptions.now
+    c.vars-form.ensures.form c.requires.deep c.requires.run
+
+pub steps_of-requires : goal.steps_of-requires
+steps_of-requires c =
+    let s = c.args.self.now.descent.search in
+    rw c.deref.ensures.value (ids_of s.clauses c.args.self.now.ledger.active.items c.args.self.now.ledger.log.steps
+    _ _ _
+    c.requires.kept.mirror c.in_ok-learned.ensures.learned.taken c.as_slice.ensures)
+
+pub bump_all-requires : goal.bump_all-requires
+bump_all-requires c = named_of c.args.self.now.descent.search.clauses _ _ _ c.in_ok-learned.ensures.learned.taken
+    c.as_slice-2.ensures
+
+pub take-requires-clause-room : goal.take-requires-clause-room
+take-requires-clause-room c = not_so _ _ c.is_full.ensures.full c.if-is_full.false
+
+pub take-requires-clause-shown : goal.take-requires-clause-shown
+take-requires-clause-shown c =
+    let s = c.args.self.now.descent.search in
+    let settled = has_settled s c.args.assumptions.now c.requires.deep c.requires.run in
+    let hints : c.as_slice-3.result.now ≡ map (step_of c.args.self.now.ledger.active.items)
+    c.in_ok-learned.learned.hints =
+    rw (c.as_slice-3.ensures, c.in_ok-hints.ensures, c.deref.ensures.value, c.as_slice.ensures) refl in
+    unit_learned (state_of c.args.self.now) s c.args.assumptions.now c.in_ok-learned.learned.clause
+    c.in_ok-learned.learned.hints _ c.requires.kept.mirror c.vars-form.ensures.form c.requires.run
+    c.in_ok-learned.ensures.learned (c.in_ok-learned.ensures.new settled) hints
+
+pub take-requires-clause-asserting : goal.take-requires-clause-asserting
+take-requires-clause-asserting c =
+    let s = c.args.self.now.descent.search in
+    let settled = has_settled s c.args.assumptions.now c.requires.deep c.requires.run in
+    record {
+      level_in = c.in_ok-learned.ensures.level;
+      unit = c.in_ok-learned.ensures.unit settled;
+      least = c.in_ok-learned.ensures.least settled;
+      known = known_of s c.in_ok-learned.learned.clause c.vars-form.ensures.form
+          c.in_ok-learned.ensures.learned.all_false;
+    }
+
+pub returns-then-not-spend-clause-stops : goal.returns-then-not-spend-clause-stops
+returns-then-not-spend-clause-stops c =
+    let s = c.args.self.now.descent.search in
+    let settled = has_settled s c.args.assumptions.now c.requires.deep c.requires.run in
+    let hints : c.in_ok-hints.hints ≡ map (step_of c.args.self.now.ledger.active.items) c.in_ok-learned.learned.hints =
+    rw (c.in_ok-hints.ensures, c.deref.ensures.value, c.as_slice.ensures) refl in
+    let spend = c.if-not-spend.ensures in (
+      spend.kept,
+      (
+        refl,
+        refl,
+        record {
+          is_limit = c.used.ensures.used ∙ (spend.kept ∙ (spend.empty.0 refl ∙ sym spend.limit));
+          is_used = c.used.ensures.used;
+          in_hand = record { clause = c.in_ok-learned.learned.clause; hints = c.in_ok-hints.hints };
+          kept = refl;
+          further = unit_learned _ s c.args.assumptions.now c.in_ok-learned.learned.clause
+              c.in_ok-learned.learned.hints c.in_ok-hints.hints c.requires.kept.mirror c.vars-form.ensures.form
+              c.requires.run c.in_ok-learned.ensures.learned (c.in_ok-learned.ensures.new settled) hints;
+        },
+      ),
+    )
+
+pub returns-clause-goes : goal.returns-clause-goes
+returns-clause-goes c =
+    let s = c.args.self.now.descent.search in
+    let settled = has_settled s c.args.assumptions.now c.requires.deep c.requires.run in
+    let hints : c.as_slice-3.result.now ≡ map (step_of c.args.self.now.ledger.active.items)
+    c.in_ok-learned.learned.hints =
+    rw (c.as_slice-3.ensures, c.in_ok-hints.ensures, c.deref.ensures.value, c.as_slice.ensures) refl in
+    record {
+      spent = c.if-not-spend.ensures.spent;
+      run = c.in_ok-take.ensures.run;
+      learns = record {
+        clause = c.in_ok-learned.learned.clause;
+        hints = c.as_slice-3.result.now;
+        learned = unit_learned (state_of c.args.self.now) s c.args.assumptions.now c.in_ok-learned.learned.clause
+            c.in_ok-learned.learned.hints _ c.requires.kept.mirror c.vars-form.ensures.form c.requires.run
+            c.in_ok-learned.ensures.learned (c.in_ok-learned.ensures.new settled) hints;
+        new_state = c.in_ok-take.ensures.state;
+      };
+    }

@@ -1,0 +1,18 @@
+use Rattle.std.proofs.Common.{◌≡◌, ℕ, ◌+◌, ◌-◌}
+use Rattle.sat_core.specs.Runs.{IsRun}
+use Rattle.sat_core.specs.Solving.{Learns, Keeps}
+use Rattle.sat_core.specs.Turns.{state_of, IsKept}
+use Rattle.sat_core.proofs.cdcl.Cdcl.run.Given as goal
+
+abbrev pub invariant-conflicts : goal.invariant-conflicts
+invariant-conflicts l = record {
+  kept : IsKept l.self;
+  run : IsRun l.assumptions l.self.descent.search;
+  learns : (count : ℕ) × Learns l.assumptions (state_of l.initial.self) (state_of l.self) count
+      × (l.budget.used ≡ l.initial.budget.used + count);
+  keeps : Keeps (state_of l.initial.self) (state_of l.self);
+  limit : l.budget.limit ≡ l.initial.budget.limit;
+}
+
+abbrev pub decreases-conflicts : goal.decreases-conflicts
+decreases-conflicts l = l.budget.limit - l.budget.used

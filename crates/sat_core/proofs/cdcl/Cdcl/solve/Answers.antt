@@ -1,0 +1,39 @@
+use Rattle.sat_core.specs.Turns.{state_of}
+use Rattle.sat_core.proofs.Running.{based_of, begins, rests, resting_stays}
+use Rattle.std.proofs.Common.{refl}
+use Rattle.sat_core.proofs.Keeping.{keeps_logs, keeps_trans}
+use Rattle.sat_core.proofs.Searching.{mirror_same, searched_of}
+use Rattle.sat_core.proofs.cdcl.Cdcl.solve.Goals as goal
+
+pub returns-in_err-assume_block-clause-rest : goal.returns-in_err-assume_block-clause-rest
+returns-in_err-assume_block-clause-rest c =
+    let stays = c.in_err-assume_block.ensures.err in
+    record {
+      mirror = mirror_same _ _ _ _ stays.clauses c.requires.rest.mirror;
+      resting = resting_stays _ _ stays c.requires.rest.resting;
+    }
+
+pub run-end-requires-clause-kept : goal.run-end-requires-clause-kept
+run-end-requires-clause-kept c =
+    let block = c.in_ok-assume_block.ensures.ok in
+    record {
+      mirror = mirror_same _ _ _ _ block.clauses c.requires.rest.mirror;
+      based = based_of _ c.args.assumptions.now (begins _ _ _ c.requires.rest.resting block);
+    }
+
+pub run-end-requires-clause-run : goal.run-end-requires-clause-run
+run-end-requires-clause-run c = begins _ _ _ c.requires.rest.resting c.in_ok-assume_block.ensures.ok
+
+pub returns-clause-rest : goal.returns-clause-rest
+returns-clause-rest c = record {
+  mirror = mirror_same _ _ _ _ c.back_to.ensures.clauses c.run-end.ensures.kept.mirror;
+  resting = rests _ _ c.run-end.ensures.kept.based c.back_to.ensures;
+}
+
+pub returns-clause-searched : goal.returns-clause-searched
+returns-clause-searched c = λ ne. searched_of (state_of c.args.self.now) c.run-end.new.self c.args.assumptions.now
+    _ _ _ _
+    c.run-end.ensures.run c.told_of-told.ensures ne
+
+pub returns-clause-keeps : goal.returns-clause-keeps
+returns-clause-keeps c = keeps_trans _ _ _ (keeps_logs _ _ refl refl) c.run-end.ensures.keeps

@@ -1,0 +1,89 @@
+use Rattle.std.proofs.Common.{◌≡◌, ◌<◌, ◌++◌, ◌∷◌, [], length, arith, ap, sym, subst, ◌∙◌, rules}
+use Rattle.plain_lits.specs.Literals.{negation}
+use Rattle.plain_lits.specs.HintCheck.{IsUnit}
+use Rattle.sat_core.proofs.Running.{based_of, stays_run}
+use Rattle.sat_core.proofs.Turning.{target_within, unit_after, run_after, run_learned, mirror_derived, mirror_learned}
+use Rattle.sat_core.proofs.Turning.{state_learned}
+use Rattle.sat_core.specs.Turns.{state_of}
+use Rattle.sat_core.proofs.Keeping.{keeps_derived, keeps_unit}
+use Rattle.sat_core.proofs.cdcl.Cdcl.take.Goals as goal
+
+pub back_to-requires : goal.back_to-requires
+back_to-requires c =
+    let s = c.args.self.now.descent.search in
+    let lt = target_within s c.args.learned.now.level c.kept_level.result c.requires.asserting.level_in c.requires.deep
+    c.kept_level.ensures.within in
+    omega (arith, lt)
+
+pub add_learned-requires : goal.add_learned-requires
+add_learned-requires c =
+    let s = c.args.self.now.descent.search in
+    let l = c.args.learned.now in
+    let lt = target_within s l.level c.kept_level.result c.requires.asserting.level_in c.requires.deep
+    c.kept_level.ensures.within in
+    subst (λ xs. IsUnit negation c.back_to.new.self.search.lits xs l.asserting) (sym c.as_slice.ensures.lits)
+    (unit_after s c.back_to.new.self.search l.level c.kept_level.result l.clause l.asserting c.requires.asserting
+    c.kept_level.ensures.kept lt c.back_to.ensures)
+
+pub returns-in_err-add_learned-clause-kept : goal.returns-in_err-add_learned-clause-kept
+returns-in_err-add_learned-clause-kept c =
+    let s = c.args.self.now.descent.search in
+    let l = c.args.learned.now in
+    let lt = target_within s l.level c.kept_level.result c.requires.asserting.level_in c.requires.deep
+    c.kept_level.ensures.within in
+    let stays = c.in_err-add_learned.ensures.err in
+    record {
+      mirror = mirror_derived s.clauses _ c.args.self.now.ledger.active.items _ c.args.self.now.ledger.log _ _ _ _
+          (stays.clauses ∙ c.back_to.ensures.clauses) c.reserve.ensures.items c.in_ok-step.ensures.ok
+          c.requires.kept.mirror;
+      based = based_of _ c.args.assumptions.now
+          (stays_run c.back_to.new.self.search _ c.args.assumptions.now c.vars-form.ensures.form stays
+          (run_after s c.back_to.new.self.search c.kept_level.result c.args.assumptions.now c.vars-before.ensures.form
+          c.kept_level.ensures.positive lt c.back_to.ensures c.requires.run));
+    }
+
+pub returns-clause-kept : goal.returns-clause-kept
+returns-clause-kept c =
+    let s = c.args.self.now.descent.search in
+    let l = c.args.learned.now in
+    let lt = target_within s l.level c.kept_level.result c.requires.asserting.level_in c.requires.deep
+    c.kept_level.ensures.within in
+    let learns = c.in_ok-add_learned.ensures.ok in
+    let clause_is : c.as_slice.result.now ≡ c.in_ok-clause.clause = c.as_slice.ensures.lits
+    ∙ sym c.in_ok-clause.ensures in
+    let pushed : c.push.new.self.items ≡ c.args.self.now.ledger.active.items ++ c.in_ok-step.step ∷ [] =
+    search rules in
+    record {
+      mirror = mirror_learned s.clauses c.back_to.new.self.search.clauses _ c.args.self.now.ledger.active.items _
+          c.args.self.now.ledger.log _ c.in_ok-clause.clause _ c.in_ok-step.step
+          c.back_to.ensures.clauses
+          (learns.clauses ∙ ap (λ xs. c.back_to.new.self.search.clauses ++ xs ∷ []) clause_is) pushed
+          c.in_ok-step.ensures.ok c.requires.kept.mirror;
+      based = based_of _ c.args.assumptions.now
+          (run_learned s c.back_to.new.self.search _ l.level c.kept_level.result l.clause l.asserting _
+          c.args.assumptions.now c.vars-before.ensures.form c.vars-form.ensures.form c.requires.asserting
+          c.kept_level.ensures.positive c.kept_level.ensures.low lt c.back_to.ensures
+          (rw c.as_slice.ensures.lits at learns) c.requires.run);
+    }
+
+pub returns-clause-run : goal.returns-clause-run
+returns-clause-run c =
+    let s = c.args.self.now.descent.search in
+    let l = c.args.learned.now in
+    let lt = target_within s l.level c.kept_level.result c.requires.asserting.level_in c.requires.deep
+    c.kept_level.ensures.within in
+    let learns = c.in_ok-add_learned.ensures.ok in
+    run_learned s c.back_to.new.self.search _ l.level c.kept_level.result l.clause l.asserting _
+    c.args.assumptions.now c.vars-before.ensures.form c.vars-form.ensures.form c.requires.asserting
+    c.kept_level.ensures.positive c.kept_level.ensures.low lt c.back_to.ensures
+    (rw c.as_slice.ensures.lits at learns) c.requires.run
+
+pub returns-in_err-add_learned-clause-keeps : goal.returns-in_err-add_learned-clause-keeps
+returns-in_err-add_learned-clause-keeps c = keeps_derived _ _ _ _ _ c.in_ok-step.ensures.ok c.reserve.ensures.items
+
+pub returns-clause-keeps : goal.returns-clause-keeps
+returns-clause-keeps c =
+    let pushed : c.push.new.self.items ≡ c.args.self.now.ledger.active.items ++ c.in_ok-step.step ∷ [] =
+    search rules in
+    keeps_unit _ _ c.in_ok-clause.clause c.args.hints.now
+    (state_learned (state_of c.args.self.now) _ _ _ _ _ c.in_ok-step.ensures.ok pushed)

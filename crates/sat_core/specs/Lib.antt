@@ -1,0 +1,4 @@
+pub mod Mirrors
+pub mod Runs
+pub mod Solving
+pub mod Turns

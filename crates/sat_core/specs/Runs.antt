@@ -1,0 +1,95 @@
+-- The inner state of a search, which no caller sees: the first level has the assumptions, and each level above it was
+-- begun by a decision when nothing was left to propagate.
+use Rattle.std.specs.Prelude.{◌≡◌, ◌⊎◌, ℕ, ◌<◌, ◌≤◌, Bool, true, false, List, [], length, take, Contains}
+use Rattle.std.specs.Prelude.{Option, None, Some}
+use Rattle.std.specs.Prelude.{slice_index, slice_index_or}
+use Rattle.plain_lits.specs.declared.lit.Lit.{Lit}
+use Rattle.plain_lits.specs.declared.value.Value.TheVariants.{Unset}
+use Rattle.plain_lits.specs.HintCheck.{clause_at, IsNamed}
+use Rattle.plain_lits.specs.Values.{IsValueIn}
+use Rattle.unit_propagate.specs.Search.{Search, IsQuiet, IsConflict}
+use Rattle.conflict_learn.specs.Learning.{StandsAt}
+
+-- an index lies below each level but the first
+pub record IsEarly (starts : List ℕ) (index : ℕ) : Type 0 where
+  pub below : (k : ℕ) → 0 < k → k < length starts → index < slice_index starts k
+
+-- a level after the first begins at an index
+pub record BeginsAt (starts : List ℕ) (index : ℕ) : Type 0 where
+  pub level : ℕ
+  pub later : 0 < level
+  pub within : level < length starts
+  pub is : index ≡ slice_index starts level
+
+-- an assumption is true on the first level
+pub record IsThere (s : Search) (l : Lit) : Type 0 where
+  pub index : ℕ
+  pub stands : StandsAt s.lits index l
+  pub early : IsEarly s.starts index
+
+-- a literal without a reason is an assumption on the first level
+pub record IsGround (s : Search) (assumptions : List Lit) (index : ℕ) : Type 0 where
+  pub assumed : (d : Lit) → Contains assumptions (slice_index_or s.lits index d)
+  pub early : IsEarly s.starts index
+
+-- each literal of a clause is within the known variables
+pub record HasRoom (s : Search) : Type 0 where
+  pub known : (id : ℕ) (l : Lit) → IsNamed s.clauses id → Contains (clause_at s.clauses id) l → l.var < s.vars
+
+-- a search under assumptions
+pub record IsRun (assumptions : List Lit) (s : Search) : Type 0 where
+  pub some : 0 < length s.starts
+  pub first : slice_index s.starts 0 ≡ 0
+  pub there : (l : Lit) → Contains assumptions l → IsThere s l
+  pub free : (index : ℕ) → index < length s.lits → slice_index s.reasons index ≡ 0
+      → IsGround s assumptions index ⊎ BeginsAt s.starts index
+  pub room : HasRoom s
+  pub settled : (k : ℕ) → 0 < k → k < length s.starts → IsQuiet s.clauses (take (slice_index s.starts k) s.lits)
+
+-- no literal is true before the first level, and each clause's variables are known
+pub record IsBased (s : Search) : Type 0 where
+  pub base : slice_index_or s.starts 0 (length s.lits) ≡ 0
+  pub room : HasRoom s
+
+-- no literal is true
+pub record IsResting (s : Search) : Type 0 where
+  pub none : s.lits ≡ []
+  pub levels : s.starts ≡ []
+  pub room : HasRoom s
+
+-- a variable has a value
+abbrev pub HasValue : List Lit → ℕ → Type 0
+HasValue lits v =
+    Contains lits (record { var = v; positive = false }) ⊎ Contains lits (record { var = v; positive = true })
+
+-- each known variable has a value, from one on; and from the first on
+pub record HaveValuesFrom (from : ℕ) (s : Search) : Type 0 where
+  pub each : (v : ℕ) → from ≤ v → v < s.vars → HasValue s.lits v
+
+abbrev pub HaveValues : Search → Type 0
+HaveValues s = HaveValuesFrom 0 s
+
+-- a literal's variable is known and has no value
+pub record IsUnsetIn (s : Search) (l : Lit) : Type 0 where
+  pub known : l.var < s.vars
+  pub unset : IsValueIn s.lits l Unset
+
+-- a variable is known and has no value
+pub record IsUnsetVar (s : Search) (v : ℕ) : Type 0 where
+  pub either : (positive : Bool) → IsUnsetIn s (record { var = v; positive = positive })
+
+-- what propagation gives: a false clause, or nothing is left to do
+abbrev pub IsSpread : Search → Option ℕ → Type 0
+IsSpread s (Some id) = IsConflict s.clauses s.lits id
+IsSpread s None = IsQuiet s.clauses s.lits
+
+-- what a descent gives: a false clause, or nothing is left to do and all variables have values
+abbrev pub IsDescent : Search → Option ℕ → Type 0
+IsDescent s (Some id) = IsConflict s.clauses s.lits id
+IsDescent s None = IsQuiet s.clauses s.lits × HaveValues s
+
+-- the search goes on with other literals: the clauses and the known variables are the same
+pub record GoesOn (old new : Search) : Type 0 where
+  pub clauses : new.clauses ≡ old.clauses
+  pub vars : new.vars ≡ old.vars
+  pub run : (assumptions : List Lit) → IsRun assumptions old → IsRun assumptions new

@@ -1,0 +1,90 @@
+-- The inner state of a solver, and what one turn of its search gives, which no caller sees.
+use Rattle.std.specs.Prelude.{◌≡◌, ℕ, ◌+◌, ◌<◌, List, length, Contains, Option, None, Some, Result, Ok, Err}
+use Rattle.plain_lits.specs.declared.lit.Lit.{Lit}
+use Rattle.plain_lits.specs.declared.halt.Halt.{Halt}
+use Rattle.plain_lits.specs.declared.halt.Halt.TheVariants.{Spent, LogFull, Memory}
+use Rattle.plain_lits.specs.Units.{Units}
+use Rattle.unit_propagate.specs.Search.{Search}
+use Rattle.conflict_learn.specs.Learning.{IsUnitFrom, IsOpenBelow}
+use Rattle.sat_core.specs.declared.answer.Solved.{Solved}
+use Rattle.sat_core.specs.declared.answer.Solved.TheVariants.{Model, Core}
+use Rattle.sat_core.specs.declared.cdcl.Cdcl.{Cdcl}
+use Rattle.sat_core.specs.declared.cdcl.End.{End}
+use Rattle.sat_core.specs.declared.cdcl.End.TheVariants.{Satisfied, Refuted, Stopped}
+use Rattle.sat_core.specs.Solving.{SolverState, Learns, IsUnitOf, IsModel, EndsCore, StopsAs, with_unit}
+use Rattle.sat_core.specs.Mirrors.{IsMirror}
+use Rattle.sat_core.specs.Runs.{IsRun, IsBased, IsResting}
+
+-- what contracts see
+abbrev pub state_of : Cdcl → SolverState
+state_of c = record { log = c.ledger.log; active = c.ledger.active.items; pending = c.pending }
+
+-- the propagator's clauses are the steps in use, and no literal is true before the first level
+pub record IsKept (c : Cdcl) : Type 0 where
+  pub mirror : IsMirror c.descent.search.clauses c.ledger.active.items c.ledger.log.steps
+  pub based : IsBased c.descent.search
+
+-- the same between two calls, where no literal is true
+pub record IsAtRest (c : Cdcl) : Type 0 where
+  pub mirror : IsMirror c.descent.search.clauses c.ledger.active.items c.ledger.log.steps
+  pub resting : IsResting c.descent.search
+
+-- a clause makes a literal true at a level, and at no lower one
+pub record IsAsserting (s : Search) (level : ℕ) (clause : List Lit) (lit : Lit) : Type 0 where
+  pub level_in : level < length s.starts
+  pub unit : IsUnitFrom s level clause lit
+  pub least : IsOpenBelow s level clause
+  pub known : (l : Lit) → Contains clause l → l.var < s.vars
+
+-- a clause is learned
+pub record LearnsOne (old new : SolverState) (assumptions : List Lit) : Type 0 where
+  pub clause : List Lit
+  pub hints : List ℕ
+  pub learned : IsUnitOf old assumptions clause hints
+  pub new_state : new ≡ with_unit old clause hints
+
+-- a search stops as no unit is spent
+abbrev pub StopsAt : SolverState → Cdcl → List Lit → Units → Units → Halt → Type 0
+StopsAt learned new assumptions before after (Spent count) =
+    (after.used ≡ before.used) × StopsAs learned (state_of new) assumptions after (Spent count)
+StopsAt learned new assumptions before after LogFull =
+    (after.used ≡ before.used) × StopsAs learned (state_of new) assumptions after LogFull
+StopsAt learned new assumptions before after Memory = Unit {0}
+
+-- a search ends as no unit is spent
+abbrev pub EndsAt : SolverState → Cdcl → List Lit → Units → Units → End → Type 0
+EndsAt learned new assumptions before after Satisfied =
+    (after.used ≡ before.used) × (state_of new ≡ learned)
+    × IsModel (state_of new) assumptions new.descent.search.lits
+EndsAt learned new assumptions before after (Refuted step) =
+    (after.used ≡ before.used) × EndsCore learned (state_of new) assumptions step
+EndsAt learned new assumptions before after (Stopped halt) = StopsAt learned new assumptions before after halt
+
+-- the search goes on: a clause is learned, and a unit spent
+pub record Goes (old : SolverState) (new : Cdcl) (assumptions : List Lit) (before after : Units) : Type 0 where
+  pub spent : after.used ≡ before.used + 1
+  pub run : IsRun assumptions new.descent.search
+  pub learns : LearnsOne old (state_of new) assumptions
+
+-- what a turn gives
+abbrev pub IsTurn : SolverState → Cdcl → List Lit → Units → Units → Option End → Type 0
+IsTurn old new assumptions before after None = Goes old new assumptions before after
+IsTurn old new assumptions before after (Some ended) = EndsAt old new assumptions before after ended
+
+-- what turns give, one after the other
+pub record HasRun (old : SolverState) (new : Cdcl) (assumptions : List Lit) (before after : Units)
+    (ended : End) : Type 0 where
+  pub learned : SolverState
+  pub count : ℕ
+  pub mid : Units
+  pub learns : Learns assumptions old learned count
+  pub spent : mid.used ≡ before.used + count
+  pub ends : EndsAt learned new assumptions mid after ended
+
+-- what an end tells, of a search with these true literals
+abbrev pub Tells : List Lit → End → Result Solved Halt → Type 0
+Tells lits ended (Ok (Model values)) = (ended ≡ Satisfied) × (values ≡ lits)
+Tells lits ended (Ok (Core step)) = ended ≡ Refuted step
+Tells lits ended (Err Memory) = Unit {0}
+Tells lits ended (Err LogFull) = ended ≡ Stopped LogFull
+Tells lits ended (Err (Spent count)) = ended ≡ Stopped (Spent count)

@@ -1,0 +1,307 @@
+//! The search: it decides, propagates and learns from conflicts.
+
+ghost use Rattle.std.specs.Prelude.{◌≡◌, ◌≢◌, ◌↔◌, ℕ, ◌<◌, ◌≤◌, [], length, Contains, IfOk, OnOk, OnErr, IfErr, None};
+ghost use Rattle.plain_lits.specs.declared.lit.Lit.{Lit};
+ghost use Rattle.plain_lits.specs.Literals.{negation};
+ghost use Rattle.hinted_log.specs.declared.log.TheConstants.{MOST_STEPS};
+ghost use Rattle.unit_propagate.specs.Search.{IsConflict};
+ghost use Rattle.sat_core.specs.Runs.{IsRun};
+ghost use Rattle.sat_core.specs.Solving.{IsUnitOf, EndsCore, HasSearched, AddsTo, IsRejected, Keeps, with_unit};
+ghost use Rattle.sat_core.specs.Turns.{state_of, IsKept, IsAtRest, IsAsserting, IsTurn, HasRun, StopsAt, Goes, Tells};
+
+use crate::answer::{Added, Pending, Solved};
+use crate::descent::{Descent, bump_all};
+use crate::ledger::{Ledger, derive, record, serving, steps_of};
+use conflict_learn::{Core, Learned, Learner};
+use hinted_log::{Log, LogFault, MOST_STEPS};
+use plain_lists::{Items, Memory};
+use plain_lits::{Budget, Clause, Halt, Lit, StepId};
+use std::alloc::Global;
+use unit_propagate::Propagator;
+
+/// How a search ends: all is true, or a step refutes the assumptions, or it stops.
+#[derive(Debug, Drop)]
+pub(crate) enum End {
+    Satisfied,
+    Refuted(StepId),
+    Stopped(Halt),
+}
+
+/// Conflict-driven clause learning (Marques-Silva and Sakallah, GRASP, 1996) under assumptions (Eén and Sörensson, An
+/// extensible SAT-solver, 2003), with a log of what is learned. The first level has the assumptions and what follows.
+#[derive(Debug, Drop)]
+pub(crate) struct Cdcl {
+    pub(crate) alloc: Global,
+    pub(crate) descent: Descent,
+    pub(crate) ledger: Ledger,
+    pub(crate) learner: Learner,
+    pub(crate) pending: Option<Pending>,
+}
+
+/// The greater of a level and the first one.
+fn kept_level(level: usize) -> usize
+    ensures positive { 0 < result }
+    ensures kept { level ≤ result }
+    ensures low { (n : ℕ) → 0 < n → n < result → n < level }
+    ensures within { (n : ℕ) → 1 < n → level < n → result < n }
+{
+    if level == 0 {
+        return 1;
+    }
+    level
+}
+
+/// What the end of a search tells.
+fn told_of(alloc: Global, search: &Propagator, end: End) -> Result<Solved, Halt>
+    ensures { Tells search.now.lits end result }
+{
+    match end {
+        End::Satisfied => match Vec::from_slice(alloc, search.lits()) {
+            Ok(lits) => Ok(Solved::Model(Items::from_vec(lits))),
+            Err(_) => Err(Halt::Memory),
+        },
+        End::Refuted(step) => Ok(Solved::Core(step)),
+        End::Stopped(halt) => Err(halt),
+    }
+}
+
+impl Cdcl {
+    /// No clause, and a log for at most so many steps.
+    pub(crate) fn open(alloc: Global, log_limit: u64) -> Result<Cdcl, Memory>
+        requires { log_limit ≤ MOST_STEPS }
+        ensures rest { IfOk result IsAtRest }
+        ensures limit { IfOk result (λ c. c.ledger.log.limit ≡ log_limit) }
+        ensures steps { IfOk result (λ c. c.ledger.log.steps ≡ []) }
+        ensures active { IfOk result (λ c. c.ledger.active.items ≡ []) }
+        ensures pending { IfOk result (λ c. c.pending ≡ None) }
+    {
+        let search = Propagator::open(alloc)?;
+        let log = Log::open(alloc, log_limit)?;
+        Ok(Cdcl {
+            alloc,
+            descent: Descent::new(alloc, search),
+            ledger: Ledger {
+                log,
+                active: Vec::new(alloc),
+            },
+            learner: Learner::new(alloc),
+            pending: None,
+        })
+    }
+
+    /// Takes a learned clause: the log gains it, and at the level where it is unit its literal becomes true.
+    #[tactic(auto, using(crate::proofs::Keeping::keeps_logs))]
+    fn take(
+        &mut self,
+        assumptions: &[Lit],
+        learned: &Learned,
+        hints: &[StepId],
+    ) -> Result<(), Memory>
+        requires kept { IsKept self.old }
+        requires run { IsRun assumptions.now self.old.descent.search }
+        requires deep { 1 < length self.old.descent.search.starts }
+        requires room { length self.old.ledger.log.steps ≡ self.old.ledger.log.limit → ⊥ }
+        requires shown { IsUnitOf (state_of self.old) assumptions.now learned.now.clause hints.now }
+        requires asserting { IsAsserting self.old.descent.search learned.now.level learned.now.clause
+            learned.now.asserting }
+        ensures kept { IsKept self.new }
+        ensures keeps { Keeps (state_of self.old) (state_of self.new) }
+        ensures run { OnOk result (IsRun assumptions.now self.new.descent.search) }
+        ensures state { OnOk result (state_of self.new ≡ with_unit (state_of self.old) learned.now.clause hints.now) }
+    {
+        let _before = self.descent.search.vars();
+        self.ledger.active.reserve(1)?;
+        let clause = learned.clause.copy(self.alloc)?;
+        let step = derive(&mut self.ledger.log, clause, hints)?;
+        self.descent.back_to(kept_level(learned.level));
+        let _form = self.descent.search.vars();
+        let _ = self
+            .descent
+            .search
+            .add_learned(learned.clause.as_slice(), learned.asserting)?;
+        let _ = self.ledger.active.push(step);
+        Ok(())
+    }
+
+    /// Learns from a conflict above the first level, where the budget has a unit for that.
+    #[tactic(auto, using(crate::proofs::Keeping::keeps_logs))]
+    fn learn_from(
+        &mut self,
+        assumptions: &[Lit],
+        conflict: u32,
+        budget: &mut Budget,
+    ) -> Result<(), Halt>
+        requires kept { IsKept self.old }
+        requires run { IsRun assumptions.now self.old.descent.search }
+        requires deep { 1 < length self.old.descent.search.starts }
+        requires conflict { IsConflict self.old.descent.search.clauses self.old.descent.search.lits conflict }
+        ensures kept { IsKept self.new }
+        ensures keeps { Keeps (state_of self.old) (state_of self.new) }
+        ensures goes { OnOk result (Goes (state_of self.old) self.new assumptions.now budget.old budget.new) }
+        ensures stops { IfErr result (StopsAt (state_of self.old) self.new assumptions.now budget.old budget.new) }
+        ensures limit { budget.new.limit ≡ budget.old.limit }
+    {
+        let _form = self.descent.search.vars();
+        let learned = self.learner.learn(&self.descent.search, conflict)?;
+        let hints = steps_of(self.alloc, &self.ledger.active, learned.hints.as_slice())?;
+        if self.ledger.log.is_full() {
+            return Err(Halt::LogFull);
+        }
+        if !budget.spend() {
+            self.pending = Some(Pending {
+                clause: learned.clause,
+                hints,
+            });
+            return Err(Halt::Spent(budget.used()));
+        }
+        bump_all(
+            &self.descent.search,
+            &mut self.descent.order,
+            learned.hints.as_slice(),
+        );
+        self.take(assumptions, &learned, hints.as_slice())?;
+        Ok(())
+    }
+
+    /// Ends a search by a step that refutes the assumptions: one that is there, or one that is derived.
+    #[tactic(auto, using(crate::proofs::Keeping::keeps_logs))]
+    fn close(&mut self, assumptions: &[Lit], conflict: u32) -> Result<StepId, Halt>
+        requires kept { IsKept self.old }
+        requires run { IsRun assumptions.now self.old.descent.search }
+        requires shallow { length self.old.descent.search.starts ≤ 1 }
+        requires conflict { IsConflict self.old.descent.search.clauses self.old.descent.search.lits conflict }
+        ensures kept { IsKept self.new }
+        ensures keeps { Keeps (state_of self.old) (state_of self.new) }
+        ensures core { IfOk result (EndsCore (state_of self.old) (state_of self.new) assumptions.now) }
+        ensures full { result ≡ Err Halt.LogFull → (state_of self.new ≡ state_of self.old)
+            × (length self.new.ledger.log.steps ≡ self.new.ledger.log.limit) }
+        ensures unspent { (count : ℕ) → result ≡ Err (Halt.Spent count) → ⊥ }
+    {
+        let vars = self.descent.search.vars();
+        let Core { clause, hints } = self.learner.final_core(&self.descent.search, conflict)?;
+        let served = serving(self.alloc, &self.ledger.log, clause.as_slice(), vars)?;
+        match served {
+            Some(step) => return Ok(step),
+            None => {}
+        }
+        if self.ledger.log.is_full() {
+            return Err(Halt::LogFull);
+        }
+        let hints = steps_of(self.alloc, &self.ledger.active, hints.as_slice())?;
+        let step = derive(&mut self.ledger.log, clause, hints.as_slice())?;
+        Ok(step)
+    }
+
+    /// Resolves a conflict: it ends the search on the first level, and else a clause is learned.
+    #[tactic(auto, using(crate::proofs::Keeping::keeps_logs))]
+    fn resolve(&mut self, assumptions: &[Lit], conflict: u32, budget: &mut Budget) -> Option<End>
+        requires kept { IsKept self.old }
+        requires run { IsRun assumptions.now self.old.descent.search }
+        requires conflict { IsConflict self.old.descent.search.clauses self.old.descent.search.lits conflict }
+        ensures kept { IsKept self.new }
+        ensures keeps { Keeps (state_of self.old) (state_of self.new) }
+        ensures turn { IsTurn (state_of self.old) self.new assumptions.now budget.old budget.new result }
+        ensures limit { budget.new.limit ≡ budget.old.limit }
+    {
+        if self.descent.search.starts().len() <= 1 {
+            return match self.close(assumptions, conflict) {
+                Ok(step) => Some(End::Refuted(step)),
+                Err(halt) => Some(End::Stopped(halt)),
+            };
+        }
+        match self.learn_from(assumptions, conflict, budget) {
+            Ok(()) => {
+                self.descent.count_conflict();
+                None
+            }
+            Err(halt) => Some(End::Stopped(halt)),
+        }
+    }
+
+    /// Goes on until a conflict is resolved or all variables have values.
+    #[tactic(auto, using(crate::proofs::Keeping::keeps_logs))]
+    fn turn(&mut self, assumptions: &[Lit], budget: &mut Budget) -> Option<End>
+        requires kept { IsKept self.old }
+        requires run { IsRun assumptions.now self.old.descent.search }
+        ensures kept { IsKept self.new }
+        ensures keeps { Keeps (state_of self.old) (state_of self.new) }
+        ensures turn { IsTurn (state_of self.old) self.new assumptions.now budget.old budget.new result }
+        ensures limit { budget.new.limit ≡ budget.old.limit }
+    {
+        match self.descent.descend() {
+            Some(conflict) => self.resolve(assumptions, conflict, budget),
+            None => {
+                let _form = self.descent.search.vars();
+                Some(End::Satisfied)
+            }
+        }
+    }
+
+    /// Searches until an end. Each turn but the last spends a unit of the budget.
+    #[tactic(auto, using(crate::proofs::Keeping::keeps_logs))]
+    pub(crate) fn run(&mut self, assumptions: &[Lit], budget: &mut Budget) -> End
+        requires kept { IsKept self.old }
+        requires run { IsRun assumptions.now self.old.descent.search }
+        ensures kept { IsKept self.new }
+        ensures keeps { Keeps (state_of self.old) (state_of self.new) }
+        ensures run { HasRun (state_of self.old) self.new assumptions.now budget.old budget.new result }
+        ensures limit { budget.new.limit ≡ budget.old.limit }
+    {
+        'conflicts: loop {
+            match self.turn(assumptions, budget) {
+                None => {
+                    let _within = budget.used();
+                }
+                Some(end) => return end,
+            }
+        }
+    }
+
+    /// Adds a clause to the log and to the propagator.
+    #[tactic(auto, using(crate::proofs::Keeping::keeps_logs))]
+    pub(crate) fn add(&mut self, clause: Clause, how: Added) -> Result<StepId, LogFault>
+        requires rest { IsAtRest self.old }
+        ensures rest { IsAtRest self.new }
+        ensures keeps { Keeps (state_of self.old) (state_of self.new) }
+        ensures ok { IfOk result (AddsTo (state_of self.old) (state_of self.new) clause how) }
+        ensures full { (result ≡ Err LogFault.LogFull) ↔ (length self.old.ledger.log.steps ≡
+            self.old.ledger.log.limit) }
+        ensures rejected { (place : ℕ) → result ≡ Err (LogFault.Rejected place)
+            → IsRejected self.old.ledger.log clause how place }
+        ensures refused { result ≢ Err LogFault.Memory → OnErr result (state_of self.new ≡ state_of self.old) }
+    {
+        if self.ledger.log.is_full() {
+            return Err(LogFault::LogFull);
+        }
+        match self.ledger.active.reserve(1) {
+            Ok(()) => {}
+            Err(_) => return Err(LogFault::Memory),
+        }
+        let kept = clause.copy(self.alloc)?;
+        let step = record(&mut self.ledger.log, clause, how)?;
+        let _ = self.descent.search.add(kept.as_slice())?;
+        let _ = self.ledger.active.push(step);
+        Ok(step)
+    }
+
+    /// Searches under assumptions, which are taken back whatever comes of it.
+    #[tactic(auto, using(crate::proofs::Keeping::keeps_logs))]
+    pub(crate) fn solve(&mut self, assumptions: &[Lit], budget: &mut Budget) -> Result<Solved, Halt>
+        requires rest { IsAtRest self.old }
+        requires plain { (l : Lit) → Contains assumptions.now l → Contains assumptions.now (negation l) → ⊥ }
+        ensures rest { IsAtRest self.new }
+        ensures keeps { Keeps (state_of self.old) (state_of self.new) }
+        ensures searched { result ≢ Err Halt.Memory → HasSearched (state_of self.old) (state_of self.new)
+            assumptions.now budget.old budget.new result }
+        ensures limit { budget.new.limit ≡ budget.old.limit }
+    {
+        self.pending = None;
+        let vars = self.descent.search.vars();
+        self.descent.order.make_room(vars)?;
+        self.descent.search.assume_block(assumptions)?;
+        let end = self.run(assumptions, budget);
+        let told = told_of(self.alloc, &self.descent.search, end);
+        self.descent.back_to(0);
+        told
+    }
+}

@@ -1,0 +1,121 @@
+//! The solver, as callers see it.
+
+ghost use Rattle.std.specs.Prelude.{◌≡◌, ◌≢◌, ◌↔◌, ℕ, ◌≤◌, [], length, Contains, IfOk, OnErr, None};
+ghost use Rattle.plain_lits.specs.declared.lit.Lit.{Lit};
+ghost use Rattle.plain_lits.specs.Literals.{negation};
+ghost use Rattle.hinted_log.specs.declared.log.TheConstants.{MOST_STEPS};
+ghost use Rattle.sat_core.specs.Solving.{IsSolver, AddsTo, IsRejected, HasSearched, Keeps, begun};
+
+use crate::answer::{Added, Pending, Solved};
+use crate::cdcl::Cdcl;
+use hinted_log::{Log, LogFault, MOST_STEPS};
+use plain_lists::Memory;
+use plain_lits::{Budget, Clause, Halt, Lit, StepId};
+use std::alloc::Global;
+use std::marker::Model;
+
+/// Clauses with a log of where each comes from, in which a search under assumptions finds a model or a core. It is
+/// kept from one search to the next, with what it has learned.
+#[derive(Debug, Drop)]
+pub struct Solver {
+    cdcl: Cdcl,
+}
+
+impl Model for Solver {
+    ghost use Rattle.sat_core.specs.Solving.{SolverState};
+    ghost use Rattle.sat_core.specs.Turns.{state_of, IsAtRest};
+
+    ghost Value = { SolverState };
+
+    ghost view = { λ s. state_of s.cdcl };
+
+    ghost invariant = { λ s. IsAtRest s.cdcl };
+}
+
+impl Solver {
+    /// No clause, and a log for at most so many steps.
+    pub fn open(alloc: Global, log_limit: u64) -> Result<Solver, Memory>
+        requires { log_limit ≤ MOST_STEPS }
+        ensures limit { IfOk result (λ s. s.log.limit ≡ log_limit) }
+        ensures steps { IfOk result (λ s. s.log.steps ≡ []) }
+        ensures active { IfOk result (λ s. s.active ≡ []) }
+        ensures pending { IfOk result (λ s. s.pending ≡ None) }
+    {
+        let cdcl = Cdcl::open(alloc, log_limit)?;
+        Ok(Solver { cdcl })
+    }
+
+    /// Adds a clause. `LogFull` comes exactly at a full log, and is tested first; `Rejected` comes exactly where the
+    /// check of the hints rejects the clause at that place; then nothing has changed. After `Memory` the log may have
+    /// the step, which isn't in use then.
+    pub fn add(&mut self, clause: Clause, how: Added) -> Result<StepId, LogFault>
+        ensures ok { IfOk result (AddsTo self.old self.new clause how) }
+        ensures full { (result ≡ Err LogFault.LogFull) ↔ (length self.old.log.steps ≡ self.old.log.limit) }
+        ensures rejected { (place : ℕ) → result ≡ Err (LogFault.Rejected place)
+            → IsRejected self.old.log clause how place }
+        ensures refused { result ≢ Err LogFault.Memory → OnErr result (self.new ≡ self.old) }
+        ensures keeps { Keeps self.old self.new }
+    {
+        self.cdcl.add(clause, how)
+    }
+
+    /// Says that a variable is worth deciding, and that its first phase, the value that it is decided with, is the
+    /// literal's sign. A search decides such variables before all others, the most active one first.
+    pub fn name(&mut self, lit: Lit) -> Result<(), Memory>
+        ensures { self.new ≡ self.old }
+    {
+        self.cdcl.descent.name(lit)
+    }
+
+    /// Gives each variable its first phase again, in the place of the value that it had last.
+    pub fn reset_phases(&mut self)
+        ensures { self.new ≡ self.old }
+    {
+        self.cdcl.descent.order.reset_phases();
+    }
+
+    /// Searches under assumptions. A model makes each clause in use and each assumption true; a core is a step whose
+    /// literals are negated assumptions. Each clause that is learned is new and takes one unit of the budget; where it
+    /// has none, `Spent` tells how many units it had, and the further clause is kept as `pending`. `LogFull` comes only
+    /// at a full log. After `Memory` the log may have a learned step more, which isn't in use.
+    pub fn solve(&mut self, assumptions: &[Lit], budget: &mut Budget) -> Result<Solved, Halt>
+        requires { (l : Lit) → Contains assumptions.now l → Contains assumptions.now (negation l) → ⊥ }
+        ensures searched { result ≢ Err Halt.Memory
+            → HasSearched self.old self.new assumptions.now budget.old budget.new result }
+        ensures keeps { Keeps self.old self.new }
+        ensures limit { budget.new.limit ≡ budget.old.limit }
+    {
+        self.cdcl.solve(assumptions, budget)
+    }
+
+    /// The log.
+    pub fn log(&self) -> &Log
+        ensures log { result.now ≡ self.now.log }
+        ensures form { IsSolver self.now }
+    {
+        let _form = self.cdcl.ledger.log.len();
+        &self.cdcl.ledger.log
+    }
+
+    /// The steps in use.
+    pub fn active(&self) -> &[StepId]
+        ensures active { result.now ≡ self.now.active }
+        ensures form { IsSolver self.now }
+    {
+        let _form = self.cdcl.ledger.log.len();
+        self.cdcl.ledger.active.as_slice()
+    }
+
+    /// How many literals all searches so far have made true, for measurements.
+    pub fn propagated(&self) -> u64 {
+        self.cdcl.descent.released
+    }
+
+    /// Takes the clause that was in hand when the budget of the last search was spent.
+    pub fn take_pending(&mut self) -> Option<Pending>
+        ensures pending { result ≡ self.old.pending }
+        ensures rest { self.new ≡ begun self.old }
+    {
+        self.cdcl.pending.take()
+    }
+}
