@@ -1,1 +1,5 @@
-pub mod SamePairs
+pub mod RisingLists
+pub mod SameFrameworks
+pub mod EditTests
+pub mod RowForms
+pub mod RowOutcomes
