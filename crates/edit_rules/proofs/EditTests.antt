@@ -84,7 +84,8 @@ le_from a b le = ⊎_elim (λ y. y.0) (λ n. let lt = n.1 in absurd (omega arith
 -- the bounds of an argument's number
 pub within_bounds : (x : ℕ) → not (nat_le 1 x && nat_le x LAST_ARGUMENT) ≡ false → IsArgument x
 within_bounds x h =
-    let b = both_gives (nat_le 1 x) (nat_le x LAST_ARGUMENT) (not-false (nat_le 1 x && nat_le x LAST_ARGUMENT) h) in record {
+    let b = both_gives (nat_le 1 x) (nat_le x LAST_ARGUMENT)
+    (not-false (nat_le 1 x && nat_le x LAST_ARGUMENT) h) in record {
       low = le_true 1 x b.0;
       high = le_true x LAST_ARGUMENT b.1;
     }

@@ -3,3 +3,4 @@ pub mod SameFrameworks
 pub mod EditTests
 pub mod RowForms
 pub mod RowOutcomes
+pub mod ReplayLemmas

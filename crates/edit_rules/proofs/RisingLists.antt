@@ -24,7 +24,8 @@ pub numbers_asymmetric : IsAsymmetric (λ (x y : ℕ). x < y)
 numbers_asymmetric x y a b = omega arith
 
 -- what stands behind the head rises
-tail_rises : {X : Type 0} (before : X → X → Type 0) (x : X) (xs : List X) → AllPairs before (x ∷ xs) → AllPairs before xs
+tail_rises : {X : Type 0} (before : X → X → Type 0) (x : X) (xs : List X) → AllPairs before (x ∷ xs)
+    → AllPairs before xs
 tail_rises before x xs up i j d lt within = up (suc i) (suc j) d (omega arith) (omega arith)
 
 -- the head comes before what stands behind it
@@ -60,9 +61,11 @@ same_lists before never [] (y ∷ ys) up_x up_y same = absurd (Contains-nil y ((
 same_lists before never (x ∷ xs) [] up_x up_y same = absurd (Contains-nil x ((same x).0 (Contains-head x xs x refl)))
 same_lists before never (x ∷ xs) (y ∷ ys) up_x up_y same =
     let e : x ≡ y = same_head before never x y xs ys up_x up_y same in
-    let rest : xs ≡ ys = same_lists before never xs ys (tail_rises before x xs up_x) (tail_rises before y ys up_y) (λ z. (
+    let rest : xs ≡ ys = same_lists before never xs ys (tail_rises before x xs up_x)
+    (tail_rises before y ys up_y) (λ z. (
       within_tail before never x y xs ys up_x e (λ u. (same u).0) z,
-      within_tail before never y x ys xs up_y (sym e) (λ u. (same u).1) z)) in
+      within_tail before never y x ys xs up_y (sym e) (λ u. (same u).1) z,
+    )) in
     ap (λ z. z ∷ xs) e ∙ ap (λ zs. y ∷ zs) rest
 
 -- an item before all the others may stand in front of them
@@ -94,7 +97,8 @@ middle_rises before through xs m ys up_x up_y low high =
 pub pairs_through : (p q r : ℕ × ℕ) → IsPairBefore p q → IsPairBefore q r → IsPairBefore p r
 pairs_through p q r a b =
     ⊎_elim (λ (x : p.0 < q.0). inl
-    (⊎_elim (λ (y : q.0 < r.0). omega arith) (λ (y : (q.0 ≡ r.0) × (q.1 < r.1)). let e : q.0 ≡ r.0 = y.0 in omega arith) b))
+    (⊎_elim (λ (y : q.0 < r.0). omega arith) (λ (y : (q.0 ≡ r.0) × (q.1 < r.1)).
+    let e : q.0 ≡ r.0 = y.0 in omega arith) b))
     (λ (x : (p.0 ≡ q.0) × (p.1 < q.1)). let e : p.0 ≡ q.0 = x.0 in let lt : p.1 < q.1 = x.1 in
     ⊎_elim (λ (y : q.0 < r.0). inl (omega arith)) (λ (y : (q.0 ≡ r.0) × (q.1 < r.1)).
     let less : q.1 < r.1 = y.1 in inr (e ∙ y.0, omega arith)) b) a

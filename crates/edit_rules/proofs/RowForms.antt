@@ -13,7 +13,7 @@ use Rattle.plain_lists.proofs.Membership.{Contains-head, Contains-tail, Contains
 use Rattle.semantics.specs.Arguments.{IsArgument}
 use Rattle.semantics.specs.Framework.{Af, IsPairBefore}
 use Rattle.semantics.specs.Frameworks.{IsNumberedAf}
-use Rattle.edit_rules.specs.Edits.{is_before, is_end, with_number, with_pair}
+use Rattle.edit_rules.specs.Edits.{af_with_argument, af_without_argument, af_with_attack, af_without_attack, is_before, is_end, with_number, with_pair}
 use Rattle.edit_rules.proofs.RisingLists.{increasing_from, middle_rises, numbers_asymmetric, pairs_through, same_lists}
 use Rattle.edit_rules.proofs.EditTests.{before_true, true_before, both_from, both_gives, either_left, either_right, is_false, pair_cases}
 
@@ -55,9 +55,11 @@ with_number_is x xs new up set = same_lists (λ (a b : ℕ). a < b) numbers_asym
     (AllPairs-from_increasing new set.rises)
     (AllPairs-from_increasing (with_number x xs) (with_number_rises x xs up)) (λ y. (
       λ c. (with_number_members x xs y).1 ((set.members y).0 c),
-      λ c. (set.members y).1 ((with_number_members x xs y).0 c)))
+      λ c. (set.members y).1 ((with_number_members x xs y).0 c),
+    ))
 
-pub with_pair_rises : (p : ℕ × ℕ) (ps : List (ℕ × ℕ)) → AllPairs IsPairBefore ps → AllPairs IsPairBefore (with_pair p ps)
+pub with_pair_rises : (p : ℕ × ℕ) (ps : List (ℕ × ℕ)) → AllPairs IsPairBefore ps
+    → AllPairs IsPairBefore (with_pair p ps)
 with_pair_rises p ps up = middle_rises IsPairBefore pairs_through
     (filter (λ q. is_before q p) ps) p (filter (λ q. is_before p q) ps)
     (AllPairs-filter IsPairBefore (λ q. is_before q p) ps up)
@@ -75,10 +77,12 @@ pair_stays p ps q c =
     ((Contains-filter (λ q. is_before q p) ps q).1 (c, true_before q p low)))
     (λ rest. ⊎_elim (λ (e : q ≡ p). pair_joins p ps q (sym e))
     (λ high. Contains-append_right (filter (λ q. is_before q p) ps) (p ∷ filter (λ q. is_before p q) ps) q
-    (Contains-tail p (filter (λ q. is_before p q) ps) q ((Contains-filter (λ q. is_before p q) ps q).1 (c, true_before p q high))))
+    (Contains-tail p (filter (λ q. is_before p q) ps) q
+    ((Contains-filter (λ q. is_before p q) ps q).1 (c, true_before p q high))))
     rest) (pair_cases q p)
 
-pub with_pair_members : (p : ℕ × ℕ) (ps : List (ℕ × ℕ)) (q : ℕ × ℕ) → Contains (with_pair p ps) q ↔ (Contains ps q ⊎ (q ≡ p))
+pub with_pair_members : (p : ℕ × ℕ) (ps : List (ℕ × ℕ)) (q : ℕ × ℕ)
+    → Contains (with_pair p ps) q ↔ (Contains ps q ⊎ (q ≡ p))
 with_pair_members p ps q = (
   λ c. ⊎_elim (λ h. inl ((Contains-filter (λ q. is_before q p) ps q).0 h).0)
       (λ h. ⊎_elim (λ (e : p ≡ q). inr (sym e)) (λ h'. inl ((Contains-filter (λ q. is_before p q) ps q).0 h').0)
@@ -88,7 +92,7 @@ with_pair_members p ps q = (
 )
 
 pub with_argument_form : (f : Af) (n : ℕ) → IsNumberedAf f → IsArgument n
-    → IsNumberedAf (record { live = with_number n f.live; attacks = f.attacks })
+    → IsNumberedAf (af_with_argument f n)
 with_argument_form f n ok is = record {
   form = record {
     live_rises = with_number_rises n f.live ok.form.live_rises;
@@ -105,10 +109,13 @@ not_end : (n b a : ℕ) → not (is_end n (b, a)) ≡ true → (not (b == n) ≡
 not_end n b a h =
     let e = not-true (is_end n (b, a)) h in (
       not_from_false (b == n) (is_false (b == n) (λ t. true≢false (sym (either_left (b == n) (a == n) t) ∙ e))),
-      not_from_false (a == n) (is_false (a == n) (λ t. true≢false (sym (either_right (b == n) (a == n) t) ∙ e))))
+      not_from_false (a == n) (is_false (a == n) (λ t. true≢false (sym (either_right (b == n) (a == n) t) ∙ e))),
+    )
 
 pub without_argument_form : (f : Af) (n : ℕ) → IsNumberedAf f → IsNumberedAf (record {
-    live = filter (λ a. not (a == n)) f.live; attacks = filter (λ p. not (is_end n p)) f.attacks })
+  live = filter (λ a. not (a == n)) f.live;
+  attacks = filter (λ p. not (is_end n p)) f.attacks;
+})
 without_argument_form f n ok = record {
   form = record {
     live_rises = IsStrictlyIncreasing-filter (λ a. not (a == n)) f.live ok.form.live_rises;
@@ -118,27 +125,31 @@ without_argument_form f n ok = record {
         let ends = ok.form.ends b a h.0 in
         let free = not_end n b a h.1 in (
           (Contains-filter (λ a. not (a == n)) f.live b).1 (ends.0, free.0),
-          (Contains-filter (λ a. not (a == n)) f.live a).1 (ends.1, free.1));
+          (Contains-filter (λ a. not (a == n)) f.live a).1 (ends.1, free.1),
+        );
   };
   live = λ a c. ok.live a ((Contains-filter (λ a. not (a == n)) f.live a).0 c).0;
 }
 
 pub with_attack_form : (f : Af) (b a : ℕ) → IsNumberedAf f → Contains f.live b × Contains f.live a
-    → IsNumberedAf (record { live = f.live; attacks = with_pair (b, a) f.attacks })
+    → IsNumberedAf (af_with_attack f b a)
 with_attack_form f b a ok live = record {
   form = record {
     live_rises = ok.form.live_rises;
     attacks_rise = with_pair_rises (b, a) f.attacks ok.form.attacks_rise;
     ends = λ x y c. ⊎_elim (λ h. ok.form.ends x y h) (λ (e : (x, y) ≡ (b, a)). (
-        subst (λ z. Contains f.live z) (sym (ap (λ (p : ℕ × ℕ). p.0) e)) live.0,
-        subst (λ z. Contains f.live z) (sym (ap (λ (p : ℕ × ℕ). p.1) e)) live.1))
+      subst (λ z. Contains f.live z) (sym (ap (λ (p : ℕ × ℕ). p.0) e)) live.0,
+      subst (λ z. Contains f.live z) (sym (ap (λ (p : ℕ × ℕ). p.1) e)) live.1,
+    ))
         ((with_pair_members (b, a) f.attacks (x, y)).0 c);
   };
   live = ok.live;
 }
 
 pub without_attack_form : (f : Af) (b a : ℕ) → IsNumberedAf f → IsNumberedAf (record {
-    live = f.live; attacks = filter (λ p. not (p.0 == b && p.1 == a)) f.attacks })
+  live = f.live;
+  attacks = filter (λ p. not (p.0 == b && p.1 == a)) f.attacks;
+})
 without_attack_form f b a ok = record {
   form = record {
     live_rises = ok.form.live_rises;
@@ -155,19 +166,23 @@ joined_number xs copy new x e up set =
     with_number_is x xs new up (subst (λ zs. IsSetOf (λ y. Contains zs y ⊎ (y ≡ x)) new) e set)
 
 pub joined_pairs : (ps copy new : List (ℕ × ℕ)) (p : ℕ × ℕ) → copy ≡ ps
-    → ((q : ℕ × ℕ) → Contains new q ↔ (Contains copy q ⊎ (q ≡ p))) → (q : ℕ × ℕ) → Contains new q ↔ Contains (with_pair p ps) q
+    → ((q : ℕ × ℕ) → Contains new q ↔ (Contains copy q ⊎ (q ≡ p))) → (q : ℕ × ℕ)
+    → Contains new q ↔ Contains (with_pair p ps) q
 joined_pairs ps copy new p e has q =
     let gains = subst (λ zs. Contains new q ↔ (Contains zs q ⊎ (q ≡ p))) e (has q) in (
       λ c. (with_pair_members p ps q).1 (gains.0 c),
-      λ c. gains.1 ((with_pair_members p ps q).0 c))
+      λ c. gains.1 ((with_pair_members p ps q).0 c),
+    )
 
 -- a list with an item put between two parts of it
 pub inserted_members : {X : Type 0} (xs : List X) (i : ℕ) (x y : X)
     → Contains (take i xs ++ x ∷ drop i xs) y ↔ (Contains xs y ⊎ (y ≡ x))
 inserted_members xs i x y = (
-  λ c. ⊎_elim (λ h. inl (subst (λ zs. Contains zs y) (take-append-drop i xs) (Contains-append_left (take i xs) (drop i xs) y h)))
+  λ c. ⊎_elim (λ h. inl (subst (λ zs. Contains zs y) (take-append-drop i xs)
+      (Contains-append_left (take i xs) (drop i xs) y h)))
       (λ h. ⊎_elim (λ (e : x ≡ y). inr (sym e))
-      (λ h'. inl (subst (λ zs. Contains zs y) (take-append-drop i xs) (Contains-append_right (take i xs) (drop i xs) y h')))
+      (λ h'. inl (subst (λ zs. Contains zs y) (take-append-drop i xs)
+      (Contains-append_right (take i xs) (drop i xs) y h')))
       (Contains-cons_cases x (drop i xs) y h))
       (Contains-append_cases (take i xs) (x ∷ drop i xs) y c),
   λ s. ⊎_elim (λ c. ⊎_elim (λ h. Contains-append_left (take i xs) (x ∷ drop i xs) y h)

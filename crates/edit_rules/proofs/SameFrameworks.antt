@@ -10,7 +10,8 @@ use Rattle.edit_rules.proofs.RisingLists.{pairs_asymmetric, same_lists}
 pub same_framework : (f g : Af) → IsAf f → IsAf g → f.live ≡ g.live
     → ((p : ℕ × ℕ) → Contains f.attacks p ↔ Contains g.attacks p) → f ≡ g
 same_framework f g ok_f ok_g live attacks =
-    let pairs : f.attacks ≡ g.attacks = same_lists IsPairBefore pairs_asymmetric f.attacks g.attacks ok_f.attacks_rise ok_g.attacks_rise attacks in
+    let pairs : f.attacks ≡ g.attacks = same_lists IsPairBefore pairs_asymmetric f.attacks g.attacks
+    ok_f.attacks_rise ok_g.attacks_rise attacks in
     ap (λ l. record { live = l; attacks = f.attacks }) live ∙ ap (λ a. record { live = g.live; attacks = a }) pairs
 
 -- what is made of lists is the framework that has their members, where that one is in form

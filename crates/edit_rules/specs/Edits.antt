@@ -63,6 +63,23 @@ with_pair p ps = filter (λ q. is_before q p) ps ++ p ∷ filter (λ q. is_befor
 abbrev pub is_end : ℕ → ℕ × ℕ → Bool
 is_end x p = p.0 == x || p.1 == x
 
+-- a framework with an argument more, and without one and its attacks
+abbrev pub af_with_argument : Af → ℕ → Af
+af_with_argument f n = record { live = with_number n f.live; attacks = f.attacks }
+
+abbrev pub af_without_argument : Af → ℕ → Af
+af_without_argument f n = record {
+  live = filter (λ a. not (a == n)) f.live;
+  attacks = filter (λ p. not (is_end n p)) f.attacks;
+}
+
+-- a framework with an attack more, and without one
+abbrev pub af_with_attack : Af → ℕ → ℕ → Af
+af_with_attack f b a = record { live = f.live; attacks = with_pair (b, a) f.attacks }
+
+abbrev pub af_without_attack : Af → ℕ → ℕ → Af
+af_without_attack f b a = record { live = f.live; attacks = filter (λ p. not (p.0 == b && p.1 == a)) f.attacks }
+
 -- an effect that took nothing away
 abbrev pub plain_effect : Edit → Effect
 plain_effect edit = record { edit = edit; rule = 0; dropped = []; gone = 0; head = 0; body = [] }
@@ -70,8 +87,8 @@ plain_effect edit = record { edit = edit; rule = 0; dropped = []; gone = 0; head
 abbrev pub argument_added : Af → ℕ → Row
 argument_added f n = record {
   refusals = outside n ∷ refused_if (has_number f.live n) ArgumentIsThere ∷ [];
-  framework = af (record { live = with_number n f.live; attacks = f.attacks });
-  effect = plain_effect (ArgAdd n)
+  framework = af (af_with_argument f n);
+  effect = plain_effect (ArgAdd n);
 }
 
 abbrev pub argument_dropped : Af → ℕ → Row
@@ -79,27 +96,33 @@ argument_dropped f n = record {
   refusals = outside n ∷ unknown f n ∷ [];
   framework = af (record {
     live = filter (λ a. not (a == n)) f.live;
-    attacks = filter (λ p. not (is_end n p)) f.attacks
+    attacks = filter (λ p. not (is_end n p)) f.attacks;
   });
   effect = record {
-    edit = ArgDrop n; rule = 0; dropped = filter (is_end n) f.attacks; gone = 0; head = 0; body = []
-  }
+    edit = ArgDrop n;
+    rule = 0;
+    dropped = filter (is_end n) f.attacks;
+    gone = 0;
+    head = 0;
+    body = [];
+  };
 }
 
 abbrev pub attack_added : Af → ℕ → ℕ → Row
 attack_added f b a = record {
   refusals = end_refusals f b a ++ refused_if (has_pair f.attacks (b, a)) AttackIsThere ∷ [];
-  framework = af (record { live = f.live; attacks = with_pair (b, a) f.attacks });
-  effect = plain_effect (AttackAdd b a)
+  framework = af (af_with_attack f b a);
+  effect = plain_effect (AttackAdd b a);
 }
 
 abbrev pub attack_dropped : Af → ℕ → ℕ → Row
 attack_dropped f b a = record {
   refusals = end_refusals f b a ++ refused_if (not (has_pair f.attacks (b, a))) NoSuchAttack ∷ [];
   framework = af (record {
-    live = f.live; attacks = filter (λ p. not (p.0 == b && p.1 == a)) f.attacks
+    live = f.live;
+    attacks = filter (λ p. not (p.0 == b && p.1 == a)) f.attacks;
   });
-  effect = plain_effect (AttackDrop b a)
+  effect = plain_effect (AttackDrop b a);
 }
 
 -- the row of an edit of an abstract framework; an edit of the other kind has none

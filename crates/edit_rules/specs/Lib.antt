@@ -3,3 +3,4 @@ pub mod Fitting
 pub mod Edits
 pub mod Replay
 pub mod Applying
+pub mod Laws

@@ -7,6 +7,7 @@ ghost use Rattle.semantics.specs.Arguments.{IsArgument};
 ghost use Rattle.semantics.specs.Framework.{Af};
 ghost use Rattle.semantics.specs.Frameworks.{IsNumberedAf, af};
 ghost use Rattle.edit_rules.specs.Kinds.{framework_of};
+ghost use Rattle.edit_rules.specs.Edits.{af_with_argument, af_without_argument, af_with_attack, af_without_attack};
 ghost use Rattle.edit_rules.specs.Edits.{argument_added, argument_dropped, attack_added, attack_dropped};
 ghost use Rattle.edit_rules.specs.Edits.{edit_outcome, end_refusals, is_end, outside, row_outcome, unknown, with_number, with_pair};
 ghost use Rattle.edit_rules.specs.Applying.{AreTold, ComesTo};
@@ -103,18 +104,30 @@ fn add_argument(alloc: Global, plain: &AfPlain, number: u32) -> Result<(AfPlain,
 }
 
 /// Takes an argument away with its attacks.
-fn drop_argument(alloc: Global, plain: &AfPlain, number: u32) -> Result<(AfPlain, Effect), EditFault>
+fn drop_argument(
+    alloc: Global,
+    plain: &AfPlain,
+    number: u32,
+) -> Result<(AfPlain, Effect), EditFault>
     ensures { ComesTo (row_outcome (argument_dropped plain.now number)) result }
 {
     check_range(number)?;
     check_live(plain, number)?;
     let dropped = attacks_at(alloc, plain.attacks(), number)?;
     let after = without_argument(alloc, plain, number)?;
-    Ok((after, Effect::with_dropped(alloc, Edit::ArgDrop(number), dropped)))
+    Ok((
+        after,
+        Effect::with_dropped(alloc, Edit::ArgDrop(number), dropped),
+    ))
 }
 
 /// Adds an attack.
-fn add_attack(alloc: Global, plain: &AfPlain, attacker: u32, target: u32) -> Result<(AfPlain, Effect), EditFault>
+fn add_attack(
+    alloc: Global,
+    plain: &AfPlain,
+    attacker: u32,
+    target: u32,
+) -> Result<(AfPlain, Effect), EditFault>
     ensures { ComesTo (row_outcome (attack_added plain.now attacker target)) result }
 {
     check_ends(plain, attacker, target)?;
@@ -122,11 +135,19 @@ fn add_attack(alloc: Global, plain: &AfPlain, attacker: u32, target: u32) -> Res
         return Err(EditFault::AttackIsThere);
     }
     let after = with_attack(alloc, plain, attacker, target)?;
-    Ok((after, Effect::of_edit(alloc, Edit::AttackAdd(attacker, target))))
+    Ok((
+        after,
+        Effect::of_edit(alloc, Edit::AttackAdd(attacker, target)),
+    ))
 }
 
 /// Takes an attack away.
-fn drop_attack(alloc: Global, plain: &AfPlain, attacker: u32, target: u32) -> Result<(AfPlain, Effect), EditFault>
+fn drop_attack(
+    alloc: Global,
+    plain: &AfPlain,
+    attacker: u32,
+    target: u32,
+) -> Result<(AfPlain, Effect), EditFault>
     ensures { ComesTo (row_outcome (attack_dropped plain.now attacker target)) result }
 {
     check_ends(plain, attacker, target)?;
@@ -134,14 +155,16 @@ fn drop_attack(alloc: Global, plain: &AfPlain, attacker: u32, target: u32) -> Re
         return Err(EditFault::NoSuchAttack);
     }
     let after = without_attack(alloc, plain, attacker, target)?;
-    Ok((after, Effect::of_edit(alloc, Edit::AttackDrop(attacker, target))))
+    Ok((
+        after,
+        Effect::of_edit(alloc, Edit::AttackDrop(attacker, target)),
+    ))
 }
 
 /// The framework with an argument more.
 fn with_argument(alloc: Global, plain: &AfPlain, number: u32) -> Result<AfPlain, OutOfMemory>
     requires { IsArgument number }
-    ensures { IfOk result (λ after.
-        after ≡ record { live = with_number number plain.now.live; attacks = plain.now.attacks }) }
+    ensures { IfOk result (λ after. after ≡ af_with_argument plain.now number) }
 {
     let mut live = NumSet::from_rising(alloc, plain.live())?;
     live.insert(number)?;
@@ -152,8 +175,9 @@ fn with_argument(alloc: Global, plain: &AfPlain, number: u32) -> Result<AfPlain,
 /// The framework without an argument and its attacks.
 fn without_argument(alloc: Global, plain: &AfPlain, number: u32) -> Result<AfPlain, OutOfMemory>
     ensures { IfOk result (λ after. after ≡ record {
-        live = filter (λ a. not (a == number)) plain.now.live;
-        attacks = filter (λ p. not (is_end number p)) plain.now.attacks }) }
+      live = filter (λ a. not (a == number)) plain.now.live;
+      attacks = filter (λ p. not (is_end number p)) plain.now.attacks;
+    }) }
 {
     let live = numbers_but(alloc, plain.live(), number)?;
     let attacks = attacks_but(alloc, plain.attacks(), number)?;
@@ -161,10 +185,14 @@ fn without_argument(alloc: Global, plain: &AfPlain, number: u32) -> Result<AfPla
 }
 
 /// The framework with an attack more.
-fn with_attack(alloc: Global, plain: &AfPlain, attacker: u32, target: u32) -> Result<AfPlain, OutOfMemory>
+fn with_attack(
+    alloc: Global,
+    plain: &AfPlain,
+    attacker: u32,
+    target: u32,
+) -> Result<AfPlain, OutOfMemory>
     requires { Contains plain.now.live attacker × Contains plain.now.live target }
-    ensures { IfOk result (λ after.
-        after ≡ record { live = plain.now.live; attacks = with_pair (attacker, target) plain.now.attacks }) }
+    ensures { IfOk result (λ after. after ≡ af_with_attack plain.now attacker target) }
 {
     let live = NumSet::from_rising(alloc, plain.live())?;
     let attacks = pairs_with(alloc, plain.attacks(), (attacker, target))?;
@@ -172,10 +200,16 @@ fn with_attack(alloc: Global, plain: &AfPlain, attacker: u32, target: u32) -> Re
 }
 
 /// The framework without an attack.
-fn without_attack(alloc: Global, plain: &AfPlain, attacker: u32, target: u32) -> Result<AfPlain, OutOfMemory>
+fn without_attack(
+    alloc: Global,
+    plain: &AfPlain,
+    attacker: u32,
+    target: u32,
+) -> Result<AfPlain, OutOfMemory>
     ensures { IfOk result (λ after. after ≡ record {
-        live = plain.now.live;
-        attacks = filter (λ p. not (p.0 == attacker && p.1 == target)) plain.now.attacks }) }
+      live = plain.now.live;
+      attacks = filter (λ p. not (p.0 == attacker && p.1 == target)) plain.now.attacks;
+    }) }
 {
     let live = NumSet::from_rising(alloc, plain.live())?;
     let attacks = pairs_but(alloc, plain.attacks(), (attacker, target))?;
@@ -195,33 +229,71 @@ fn numbers_but(alloc: Global, numbers: &[u32], gone: u32) -> Result<NumSet, OutO
 fn others_of(alloc: Global, numbers: &[u32], gone: u32) -> Result<Vec<u32>, OutOfMemory>
     ensures { IfOk result (λ kept. kept.items ≡ filter (λ a. not (a == gone)) numbers.now) }
 {
-    Ok(numbers.iter().copied().filter(|number| *number != gone).collect(alloc)?)
+    Ok(
+        numbers
+            .iter()
+            .copied()
+            .filter(|number| *number != gone)
+            .collect(alloc)?,
+    )
 }
 
 /// The attacks of which the argument is no end.
-fn attacks_but(alloc: Global, attacks: &[(u32, u32)], gone: u32) -> Result<Vec<(u32, u32)>, OutOfMemory>
+fn attacks_but(
+    alloc: Global,
+    attacks: &[(u32, u32)],
+    gone: u32,
+) -> Result<Vec<(u32, u32)>, OutOfMemory>
     ensures { IfOk result (λ kept. kept.items ≡ filter (λ p. not (is_end gone p)) attacks.now) }
 {
-    Ok(attacks.iter().copied().filter(|pair| pair.0 != gone && pair.1 != gone).collect(alloc)?)
+    Ok(
+        attacks
+            .iter()
+            .copied()
+            .filter(|pair| pair.0 != gone && pair.1 != gone)
+            .collect(alloc)?,
+    )
 }
 
 /// The attacks of which the argument is an end.
-fn attacks_at(alloc: Global, attacks: &[(u32, u32)], argument: u32) -> Result<Items<(u32, u32)>, OutOfMemory>
+fn attacks_at(
+    alloc: Global,
+    attacks: &[(u32, u32)],
+    argument: u32,
+) -> Result<Items<(u32, u32)>, OutOfMemory>
     ensures { IfOk result (λ found. found ≡ filter (is_end argument) attacks.now) }
 {
-    let found = attacks.iter().copied().filter(|pair| pair.0 == argument || pair.1 == argument).collect(alloc)?;
+    let found = attacks
+        .iter()
+        .copied()
+        .filter(|pair| pair.0 == argument || pair.1 == argument)
+        .collect(alloc)?;
     Ok(Items::from_vec(found))
 }
 
 /// The pairs but for one.
-fn pairs_but(alloc: Global, pairs: &[(u32, u32)], gone: (u32, u32)) -> Result<Vec<(u32, u32)>, OutOfMemory>
+fn pairs_but(
+    alloc: Global,
+    pairs: &[(u32, u32)],
+    gone: (u32, u32),
+) -> Result<Vec<(u32, u32)>, OutOfMemory>
     ensures { IfOk result (λ kept. kept.items ≡ filter (λ p. not (p.0 == gone.0 && p.1 == gone.1)) pairs.now) }
 {
-    Ok(pairs.iter().copied().filter(|pair| !(pair.0 == gone.0 && pair.1 == gone.1)).collect(alloc)?)
+    Ok(
+        pairs
+            .iter()
+            .copied()
+            .filter(|pair| !(pair.0 == gone.0 && pair.1 == gone.1))
+            .collect(alloc)?,
+    )
 }
 
 /// The pairs and one more, which stands where it keeps pairs that rise in their order.
-fn pairs_with(alloc: Global, pairs: &[(u32, u32)], pair: (u32, u32)) -> Result<Vec<(u32, u32)>, OutOfMemory>
+fn pairs_with(
+    alloc: Global,
+    pairs: &[(u32, u32)],
+    pair: (u32, u32),
+) -> Result<Vec<(u32, u32)>, OutOfMemory>
     ensures { IfOk result (λ more. (p : ℕ × ℕ) → Contains more.items p ↔ (Contains pairs.now p ⊎ (p ≡ pair))) }
 {
     let index = pairs.partition_point(|other| *other < pair);

@@ -1,16 +1,17 @@
-//! Frameworks of both kinds as values, and which queries fit them.
+//! Frameworks of both kinds as values, which queries fit them, and how edits change them.
 #![tactic(auto)]
 
-pub mod edits;
 pub mod edit;
+pub mod edits;
 pub mod effect;
 pub mod framework;
+pub mod laws;
 pub mod query_fault;
 #[cfg(test)]
 mod tests;
 
-pub use edits::apply;
 pub use edit::Edit;
+pub use edits::apply;
 pub use effect::{EditFault, Effect};
 pub use framework::Framework;
 pub use query_fault::{QueryFault, query_fits};

@@ -1,6 +1,6 @@
 use Rattle.std.proofs.Common.{◌≡◌, ◌∙◌, sym, ap, refl, inl, inr, [], ◌∷◌, ◌++◌, Ok, Err, true, false, subst, Contains, not}
 use Rattle.semantics.specs.Frameworks.{af}
-use Rattle.edit_rules.specs.Edits.{argument_added, argument_dropped, attack_added, attack_dropped, end_refusals, has_number, has_pair, is_end, outside, refused_if, row_outcome, unknown, with_number, with_pair}
+use Rattle.edit_rules.specs.Edits.{af_with_argument, af_without_argument, af_with_attack, af_without_attack, argument_added, argument_dropped, attack_added, attack_dropped, end_refusals, has_number, has_pair, is_end, outside, refused_if, row_outcome, unknown, with_number, with_pair}
 use Rattle.edit_rules.specs.Applying.{AreTold, ComesTo}
 use Rattle.edit_rules.specs.declared.effect.EditFault.TheVariants.{ArgumentIsThere, AttackIsThere, NoSuchAttack, UnknownArgument, OutOfRange}
 use Rattle.edit_rules.proofs.EditTests.{there_number, there_pair, number_there, pair_there, is_false}
@@ -24,7 +24,8 @@ returns-then-has_attack c =
     inr (refused_behind (end_refusals c.args.plain.now c.args.attacker c.args.target)
     (refused_if (has_pair c.args.plain.now.attacks (c.args.attacker, c.args.target)) AttackIsThere)
     (row.framework, row.effect) _ c.in_ok-check_ends.ensures.told
-    (there_pair c.args.plain.now.attacks (c.args.attacker, c.args.target) (c.has_attack.ensures.0 c.if-has_attack.true)) refl)
+    (there_pair c.args.plain.now.attacks (c.args.attacker, c.args.target)
+    (c.has_attack.ensures.0 c.if-has_attack.true)) refl)
 
 pub returns : goal.returns
 returns c =
@@ -35,4 +36,5 @@ returns c =
     (is_false (has_pair c.args.plain.now.attacks (c.args.attacker, c.args.target)) (λ t.
     not_so c.has_attack.result _ c.has_attack.ensures c.if-has_attack.false
     (pair_there c.args.plain.now.attacks (c.args.attacker, c.args.target) t)))
-    (ap (λ f. (af f, row.effect)) (sym c.in_ok-after.ensures) ∙ ap (λ e. (af c.in_ok-after.after, e)) (sym c.of_edit.ensures))
+    (ap (λ f. (af f, row.effect)) (sym c.in_ok-after.ensures)
+    ∙ ap (λ e. (af c.in_ok-after.after, e)) (sym c.of_edit.ensures))

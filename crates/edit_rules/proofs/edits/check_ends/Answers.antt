@@ -1,6 +1,6 @@
 use Rattle.std.proofs.Common.{◌≡◌, ◌∙◌, sym, ap, refl, inl, inr, [], ◌∷◌, ◌++◌, Ok, Err, true, false, subst, Contains, not}
 use Rattle.semantics.specs.Frameworks.{af}
-use Rattle.edit_rules.specs.Edits.{argument_added, argument_dropped, attack_added, attack_dropped, end_refusals, has_number, has_pair, is_end, outside, refused_if, row_outcome, unknown, with_number, with_pair}
+use Rattle.edit_rules.specs.Edits.{af_with_argument, af_without_argument, af_with_attack, af_without_attack, argument_added, argument_dropped, attack_added, attack_dropped, end_refusals, has_number, has_pair, is_end, outside, refused_if, row_outcome, unknown, with_number, with_pair}
 use Rattle.edit_rules.specs.Applying.{AreTold, ComesTo}
 use Rattle.edit_rules.specs.declared.effect.EditFault.TheVariants.{ArgumentIsThere, AttackIsThere, NoSuchAttack, UnknownArgument, OutOfRange}
 use Rattle.edit_rules.proofs.EditTests.{there_number, there_pair, number_there, pair_there, is_false}
@@ -23,7 +23,8 @@ returns-in_err-check_range-2-clause-told c =
     c.in_err-check_range-2.field-0.0 c.from_residual-in_err-check_range-2.ensures
     (told_first (outside c.args.attacker ∷ outside c.args.target ∷ []) (unknown c.args.plain.now c.args.attacker
     ∷ unknown c.args.plain.now c.args.target ∷ []) _
-    (told_then (outside c.args.attacker ∷ []) (outside c.args.target ∷ []) (Err c.in_err-check_range-2.field-0.0) c.in_ok-check_range.ensures.told
+    (told_then (outside c.args.attacker ∷ []) (outside c.args.target ∷ [])
+    (Err c.in_err-check_range-2.field-0.0) c.in_ok-check_range.ensures.told
     c.in_err-check_range-2.ensures.told))
 
 pub returns-in_err-check_live-clause-told : goal.returns-in_err-check_live-clause-told
@@ -33,7 +34,8 @@ returns-in_err-check_live-clause-told c =
     c.in_err-check_live.field-0.0 c.from_residual-in_err-check_live.ensures
     (told_first (outside c.args.attacker ∷ outside c.args.target ∷ unknown c.args.plain.now c.args.attacker ∷ [])
     (unknown c.args.plain.now c.args.target ∷ []) _
-    (told_then (outside c.args.attacker ∷ []) (outside c.args.target ∷ unknown c.args.plain.now c.args.attacker ∷ [])
+    (told_then (outside c.args.attacker ∷ []) (outside c.args.target
+    ∷ unknown c.args.plain.now c.args.attacker ∷ [])
     (Err c.in_err-check_live.field-0.0) c.in_ok-check_range.ensures.told
     (told_then (outside c.args.target ∷ []) (unknown c.args.plain.now c.args.attacker ∷ [])
     (Err c.in_err-check_live.field-0.0) c.in_ok-check_range-2.ensures.told c.in_err-check_live.ensures.told)))

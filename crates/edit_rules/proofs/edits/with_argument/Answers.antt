@@ -1,6 +1,6 @@
 use Rattle.std.proofs.Common.{◌≡◌, ◌∙◌, sym, ap, refl, inl, inr, [], ◌∷◌, ◌++◌, Ok, Err, true, false, subst, Contains, not}
 use Rattle.semantics.specs.Frameworks.{af}
-use Rattle.edit_rules.specs.Edits.{argument_added, argument_dropped, attack_added, attack_dropped, end_refusals, has_number, has_pair, is_end, outside, refused_if, row_outcome, unknown, with_number, with_pair}
+use Rattle.edit_rules.specs.Edits.{af_with_argument, af_without_argument, af_with_attack, af_without_attack, argument_added, argument_dropped, attack_added, attack_dropped, end_refusals, has_number, has_pair, is_end, outside, refused_if, row_outcome, unknown, with_number, with_pair}
 use Rattle.edit_rules.specs.Applying.{AreTold, ComesTo}
 use Rattle.edit_rules.specs.declared.effect.EditFault.TheVariants.{ArgumentIsThere, AttackIsThere, NoSuchAttack, UnknownArgument, OutOfRange}
 use Rattle.edit_rules.proofs.EditTests.{there_number, there_pair, number_there, pair_there, is_false}
@@ -11,14 +11,14 @@ use Rattle.edit_rules.proofs.edits.with_argument.Goals as goal
 
 pub new-requires-clause-arguments : goal.new-requires-clause-arguments
 new-requires-clause-arguments c =
-    are_arguments (record { live = with_number c.args.number c.args.plain.now.live; attacks = c.args.plain.now.attacks }) _
+    are_arguments (af_with_argument c.args.plain.now c.args.number) _
     (with_argument_form c.args.plain.now c.args.number c.live.ensures.form c.requires)
     (joined_number c.args.plain.now.live _ _ c.args.number (c.in_ok-live.ensures ∙ c.live.ensures.value)
     c.live.ensures.form.form.live_rises c.in_ok-insert.ensures.ok)
 
 pub new-requires-clause-between : goal.new-requires-clause-between
 new-requires-clause-between c =
-    are_between (record { live = with_number c.args.number c.args.plain.now.live; attacks = c.args.plain.now.attacks }) _ _
+    are_between (af_with_argument c.args.plain.now c.args.number) _ _
     (with_argument_form c.args.plain.now c.args.number c.live.ensures.form c.requires)
     (joined_number c.args.plain.now.live _ _ c.args.number (c.in_ok-live.ensures ∙ c.live.ensures.value)
     c.live.ensures.form.form.live_rises c.in_ok-insert.ensures.ok)
@@ -26,7 +26,7 @@ new-requires-clause-between c =
 
 pub returns : goal.returns
 returns c =
-    made (record { live = with_number c.args.number c.args.plain.now.live; attacks = c.args.plain.now.attacks }) _ _
+    made (af_with_argument c.args.plain.now c.args.number) _ _
     c.new.result
     (with_argument_form c.args.plain.now c.args.number c.live.ensures.form c.requires)
     (joined_number c.args.plain.now.live _ _ c.args.number (c.in_ok-live.ensures ∙ c.live.ensures.value)

@@ -1,6 +1,6 @@
 use Rattle.std.proofs.Common.{◌≡◌, ◌∙◌, sym, ap, refl, inl, inr, [], ◌∷◌, ◌++◌, Ok, Err, true, false, subst, Contains, not}
 use Rattle.semantics.specs.Frameworks.{af}
-use Rattle.edit_rules.specs.Edits.{argument_added, argument_dropped, attack_added, attack_dropped, end_refusals, has_number, has_pair, is_end, outside, refused_if, row_outcome, unknown, with_number, with_pair}
+use Rattle.edit_rules.specs.Edits.{af_with_argument, af_without_argument, af_with_attack, af_without_attack, argument_added, argument_dropped, attack_added, attack_dropped, end_refusals, has_number, has_pair, is_end, outside, refused_if, row_outcome, unknown, with_number, with_pair}
 use Rattle.edit_rules.specs.Applying.{AreTold, ComesTo}
 use Rattle.edit_rules.specs.declared.effect.EditFault.TheVariants.{ArgumentIsThere, AttackIsThere, NoSuchAttack, UnknownArgument, OutOfRange}
 use Rattle.edit_rules.proofs.EditTests.{there_number, there_pair, number_there, pair_there, is_false}
@@ -15,16 +15,18 @@ new-requires-clause-arguments c =
 
 pub new-requires-clause-between : goal.new-requires-clause-between
 new-requires-clause-between c =
-    are_between (record { live = c.args.plain.now.live; attacks = with_pair (c.args.attacker, c.args.target) c.args.plain.now.attacks }) _ _
+    are_between (af_with_attack c.args.plain.now c.args.attacker c.args.target) _ _
     (with_attack_form c.args.plain.now c.args.attacker c.args.target c.live.ensures.form c.requires)
     (c.in_ok-live.ensures ∙ c.live.ensures.value)
-    (joined_pairs c.args.plain.now.attacks _ _ (c.args.attacker, c.args.target) c.attacks.ensures.value c.in_ok-attacks.ensures)
+    (joined_pairs c.args.plain.now.attacks _ _ (c.args.attacker, c.args.target) c.attacks.ensures.value
+    c.in_ok-attacks.ensures)
 
 pub returns : goal.returns
 returns c =
-    made (record { live = c.args.plain.now.live; attacks = with_pair (c.args.attacker, c.args.target) c.args.plain.now.attacks }) _ _
+    made (af_with_attack c.args.plain.now c.args.attacker c.args.target) _ _
     c.new.result
     (with_attack_form c.args.plain.now c.args.attacker c.args.target c.live.ensures.form c.requires)
     (c.in_ok-live.ensures ∙ c.live.ensures.value)
-    (joined_pairs c.args.plain.now.attacks _ _ (c.args.attacker, c.args.target) c.attacks.ensures.value c.in_ok-attacks.ensures)
+    (joined_pairs c.args.plain.now.attacks _ _ (c.args.attacker, c.args.target) c.attacks.ensures.value
+    c.in_ok-attacks.ensures)
     c.new.ensures.live c.new.ensures.attacks c.new.ensures.form

@@ -1,6 +1,6 @@
 use Rattle.std.proofs.Common.{◌≡◌, ◌∙◌, sym, ap, refl, inl, inr, [], ◌∷◌, ◌++◌, Ok, Err, true, false, subst, Contains, not, ◌==◌, ◌&&◌, filter}
 use Rattle.semantics.specs.Frameworks.{af}
-use Rattle.edit_rules.specs.Edits.{argument_added, argument_dropped, attack_added, attack_dropped, end_refusals, has_number, has_pair, is_end, outside, refused_if, row_outcome, unknown, with_number, with_pair}
+use Rattle.edit_rules.specs.Edits.{af_with_argument, af_without_argument, af_with_attack, af_without_attack, argument_added, argument_dropped, attack_added, attack_dropped, end_refusals, has_number, has_pair, is_end, outside, refused_if, row_outcome, unknown, with_number, with_pair}
 use Rattle.edit_rules.specs.Applying.{AreTold, ComesTo}
 use Rattle.edit_rules.specs.declared.effect.EditFault.TheVariants.{ArgumentIsThere, AttackIsThere, NoSuchAttack, UnknownArgument, OutOfRange}
 use Rattle.edit_rules.proofs.EditTests.{there_number, there_pair, number_there, pair_there, is_false}
@@ -11,22 +11,24 @@ use Rattle.edit_rules.proofs.edits.without_argument.Goals as goal
 
 pub new-requires-clause-arguments : goal.new-requires-clause-arguments
 new-requires-clause-arguments c =
-    are_arguments (record { live = filter (λ a. not (a == c.args.number)) c.args.plain.now.live; attacks = filter (λ p. not (is_end c.args.number p)) c.args.plain.now.attacks }) _
+    are_arguments (af_without_argument c.args.plain.now c.args.number) _
     (without_argument_form c.args.plain.now c.args.number c.live.ensures.form)
     (c.in_ok-live.ensures ∙ ap (filter (λ a. not (a == c.args.number))) c.live.ensures.value)
 
 pub new-requires-clause-between : goal.new-requires-clause-between
 new-requires-clause-between c =
-    are_between (record { live = filter (λ a. not (a == c.args.number)) c.args.plain.now.live; attacks = filter (λ p. not (is_end c.args.number p)) c.args.plain.now.attacks }) _ _
+    are_between (af_without_argument c.args.plain.now c.args.number) _ _
     (without_argument_form c.args.plain.now c.args.number c.live.ensures.form)
     (c.in_ok-live.ensures ∙ ap (filter (λ a. not (a == c.args.number))) c.live.ensures.value)
-    (equal_members _ _ (c.in_ok-attacks.ensures ∙ ap (filter (λ p. not (is_end c.args.number p))) c.attacks.ensures.value))
+    (equal_members _ _ (c.in_ok-attacks.ensures
+    ∙ ap (filter (λ p. not (is_end c.args.number p))) c.attacks.ensures.value))
 
 pub returns : goal.returns
 returns c =
-    made (record { live = filter (λ a. not (a == c.args.number)) c.args.plain.now.live; attacks = filter (λ p. not (is_end c.args.number p)) c.args.plain.now.attacks }) _ _
+    made (af_without_argument c.args.plain.now c.args.number) _ _
     c.new.result
     (without_argument_form c.args.plain.now c.args.number c.live.ensures.form)
     (c.in_ok-live.ensures ∙ ap (filter (λ a. not (a == c.args.number))) c.live.ensures.value)
-    (equal_members _ _ (c.in_ok-attacks.ensures ∙ ap (filter (λ p. not (is_end c.args.number p))) c.attacks.ensures.value))
+    (equal_members _ _ (c.in_ok-attacks.ensures
+    ∙ ap (filter (λ p. not (is_end c.args.number p))) c.attacks.ensures.value))
     c.new.ensures.live c.new.ensures.attacks c.new.ensures.form
