@@ -1,13 +1,13 @@
 -- What the tests of an edit's row say.
-use Rattle.std.proofs.Common.{◌≡◌, ◌≢◌, ◌<◌, ◌≤◌, ℕ, true, false, Bool, not, List, refl, ap, sym, ◌∙◌, subst, arith, ⊎_elim, inl, inr}
-use Rattle.std.specs.Prelude.{◌↔◌, ◌⊎◌, ◌&&◌, ◌||◌, ◌==◌, Contains, filter, nat_lt, nat_le}
-use Rattle.std.proofs.lemmas.Bool.{true≢false, false≢true, eqb-true, eq-eqb, ltb-true, lt-ltb, not-false, not-true, not_from_false, not_from_true, cases_lt, cases_eq}
+use Rattle.std.proofs.Common.{◌≡◌, ◌<◌, ◌≤◌, ℕ, true, false, Bool, not, List, refl, ap, sym, ◌∙◌, subst, arith, ⊎_elim, inl, inr}
+use Rattle.std.specs.Prelude.{◌⊎◌, ◌&&◌, ◌||◌, ◌==◌, Contains, nat_lt, nat_le}
+use Rattle.std.proofs.lemmas.Bool.{false≢true, eqb-true, eq-eqb, ltb-true, lt-ltb, not-false, not_from_false, not_from_true, cases_lt}
 use Rattle.std.proofs.lemmas.Bool.Decides.{leb_tells}
 use Rattle.plain_lists.proofs.ListTests.{any_gives, any_from}
 use Rattle.semantics.specs.Arguments.{IsArgument}
 use Rattle.semantics.specs.declared.argument.TheConstants.{LAST_ARGUMENT}
 use Rattle.semantics.specs.Framework.{IsPairBefore}
-use Rattle.edit_rules.specs.Edits.{has_number, has_pair, is_before, is_end}
+use Rattle.edit_rules.specs.Edits.{has_number, has_pair, is_before}
 
 -- a conjunction of tests, and a disjunction
 pub both_gives : (a b : Bool) → (a && b) ≡ true → (a ≡ true) × (b ≡ true)

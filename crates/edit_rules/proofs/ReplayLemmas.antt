@@ -1,16 +1,15 @@
 -- What edits keep of a framework, and what the framework and the effect behind an edit tell of the framework before.
-use Rattle.std.proofs.Common.{Result, Ok, Err, ◌≡◌, true, false, Bool, List, [], ◌∷◌, ◌++◌, not, ℕ, refl, sym, ◌∙◌, ap, subst, ⊎_elim, inl, inr}
-use Rattle.std.specs.Prelude.{Contains, ◌↔◌, ◌⊎◌, ◌==◌, ◌&&◌, ◌<◌, filter, is_ok}
-use Rattle.std.proofs.lemmas.Bool.{false≢true, true≢false, cond_both, not-false, not_from_false, eqb-true}
+use Rattle.std.proofs.Common.{Result, Ok, Err, ◌≡◌, true, false, Bool, List, [], ◌∷◌, not, ℕ, sym, ◌∙◌, ap, subst, ⊎_elim, inl}
+use Rattle.std.specs.Prelude.{Contains, ◌==◌, ◌&&◌, ◌<◌, filter, is_ok}
+use Rattle.std.proofs.lemmas.Bool.{false≢true, cond_both, not-false, not_from_false, eqb-true}
 use Rattle.std.proofs.lemmas.List.Kept.{AllPairs-from_increasing}
 use Rattle.plain_lists.proofs.Filters.{Contains-filter}
-use Rattle.semantics.specs.Framework.{Af, IsAf, IsPairBefore}
+use Rattle.semantics.specs.Framework.{Af}
 use Rattle.semantics.specs.Frameworks.{Framework, af, IsNumbered, IsNumberedAf}
 use Rattle.edit_rules.specs.declared.edit.Edit.{Edit}
 use Rattle.edit_rules.specs.declared.edit.Edit.TheVariants.{ArgAdd, ArgDrop, AttackAdd, AttackDrop, AsmAdd, AsmDrop, ConSet, RuleAdd, RuleDrop}
 use Rattle.edit_rules.specs.declared.effect.Effect.{Effect}
-use Rattle.edit_rules.specs.declared.effect.EditFault.{EditFault}
-use Rattle.edit_rules.specs.Edits.{Refusal, Row, edit_outcome, has_number, has_pair, is_end, row_outcome, unless_refused, with_number, with_pair, argument_added, argument_dropped, attack_added, attack_dropped}
+use Rattle.edit_rules.specs.Edits.{Refusal, edit_outcome, has_number, has_pair, is_end, unless_refused, with_number, with_pair, argument_added, argument_dropped, attack_added, attack_dropped}
 use Rattle.edit_rules.specs.Replay.{after_edit, left_by, replay}
 use Rattle.edit_rules.proofs.EditTests.{both_gives, same_pair, number_there, pair_there, there_number, there_pair, within_bounds}
 use Rattle.edit_rules.proofs.RisingLists.{numbers_asymmetric, same_lists}

@@ -1,10 +1,10 @@
 -- The frameworks behind the edits are in form, and which members their lists have.
-use Rattle.std.proofs.Common.{◌≡◌, ◌<◌, ◌≤◌, ℕ, true, false, Bool, not, List, [], ◌∷◌, ◌++◌, take, drop, refl, ap, sym, ◌∙◌, subst, arith, ⊎_elim, inl, inr}
+use Rattle.std.proofs.Common.{◌≡◌, ◌<◌, ℕ, true, not, List, ◌∷◌, ◌++◌, take, drop, ap, sym, ◌∙◌, subst, arith, ⊎_elim, inl, inr}
 use Rattle.std.proofs.lemmas.List.{take-append-drop}
 use Rattle.std.specs.Prelude.{◌↔◌, ◌⊎◌, ◌&&◌, ◌==◌, Contains, filter, nat_lt}
 use Rattle.std.specs.List.{AllPairs}
 use Rattle.std.specs.List.Sorted.{IsStrictlyIncreasing}
-use Rattle.std.proofs.lemmas.Bool.{true≢false, eqb-true, eq-eqb, ltb-true, lt-ltb, not-true, not_from_false, cases_lt}
+use Rattle.std.proofs.lemmas.Bool.{true≢false, ltb-true, lt-ltb, not-true, not_from_false, cases_lt}
 use Rattle.std.proofs.lemmas.List.Elements.{Contains-append_cases, Contains-append_left, Contains-append_right}
 use Rattle.std.proofs.lemmas.List.Kept.{AllPairs-filter, AllPairs-from_increasing, IsStrictlyIncreasing-filter}
 use Rattle.plain_lists.specs.Members.{IsSetOf}
@@ -13,9 +13,9 @@ use Rattle.plain_lists.proofs.Membership.{Contains-head, Contains-tail, Contains
 use Rattle.semantics.specs.Arguments.{IsArgument}
 use Rattle.semantics.specs.Framework.{Af, IsPairBefore}
 use Rattle.semantics.specs.Frameworks.{IsNumberedAf}
-use Rattle.edit_rules.specs.Edits.{af_with_argument, af_without_argument, af_with_attack, af_without_attack, is_before, is_end, with_number, with_pair}
+use Rattle.edit_rules.specs.Edits.{af_with_argument, af_with_attack, is_before, is_end, with_number, with_pair}
 use Rattle.edit_rules.proofs.RisingLists.{increasing_from, middle_rises, numbers_asymmetric, pairs_through, same_lists}
-use Rattle.edit_rules.proofs.EditTests.{before_true, true_before, both_from, both_gives, either_left, either_right, is_false, pair_cases}
+use Rattle.edit_rules.proofs.EditTests.{before_true, true_before, either_left, either_right, is_false, pair_cases}
 
 pub with_number_rises : (x : ℕ) (xs : List ℕ) → IsStrictlyIncreasing xs → IsStrictlyIncreasing (with_number x xs)
 with_number_rises x xs up =

@@ -1,16 +1,14 @@
 -- How the outcome of a row follows from what its steps tell.
-use Rattle.std.proofs.Common.{Result, Ok, Err, ◌≡◌, true, false, Bool, List, [], ◌∷◌, ◌++◌, refl, ap, sym, ◌∙◌, subst, inl, inr}
-use Rattle.std.specs.Prelude.{◌⊎◌, ◌↔◌}
+use Rattle.std.proofs.Common.{Result, Ok, Err, ◌≡◌, true, false, Bool, List, [], ◌∷◌, ◌++◌, refl, ap, sym, ◌∙◌, subst}
+use Rattle.std.specs.Prelude.{◌↔◌}
 use Rattle.std.proofs.lemmas.Bool.{false≢true}
 use Rattle.std.specs.Result.{IsErr, IsErrAnd}
 use Rattle.std.proofs.lemmas.List.{append_assoc}
-use Rattle.semantics.specs.Framework.{Af}
 use Rattle.semantics.specs.Frameworks.{Framework}
 use Rattle.edit_rules.specs.declared.effect.Effect.{Effect}
 use Rattle.edit_rules.specs.declared.effect.EditFault.{EditFault}
-use Rattle.edit_rules.specs.declared.effect.EditFault.TheVariants.{Memory}
 use Rattle.edit_rules.specs.Edits.{Refusal, unless_refused}
-use Rattle.edit_rules.specs.Applying.{AreTold, ComesTo}
+use Rattle.edit_rules.specs.Applying.{AreTold}
 
 -- a refusal that stands is told
 pub stands : (r : Refusal) (more : List Refusal) (done : Framework × Effect) (fault : EditFault)

@@ -2,7 +2,7 @@
 -- stands is told, the framework behind it, and its effect. Edits of a framework as operations on its graph: C. Cayrol,
 -- F. Dupin de Saint-Cyr, M.-C. Lagasquie-Schiex, "Change in abstract argumentation frameworks: adding an argument",
 -- Journal of Artificial Intelligence Research 38 (2010).
-use Rattle.std.specs.Prelude.{ℕ, ◌==◌, ◌&&◌, ◌||◌, Bool, true, false, not, nat_le, nat_lt, if◌then◌else◌}
+use Rattle.std.specs.Prelude.{ℕ, ◌==◌, ◌&&◌, ◌||◌, Bool, not, nat_le, nat_lt, if◌then◌else◌}
 use Rattle.std.specs.Prelude.{List, [], ◌∷◌, ◌++◌, filter, Option, Some, None, Result, Ok, Err}
 use Rattle.std.specs.List.{list_any}
 use Rattle.semantics.specs.Framework.{Af}
