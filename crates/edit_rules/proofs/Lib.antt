@@ -1,1 +1,6 @@
-pub mod SamePairs
+pub mod RisingLists
+pub mod SameFrameworks
+pub mod EditTests
+pub mod RowForms
+pub mod RowOutcomes
+pub mod ReplayLemmas

@@ -8,6 +8,8 @@ mod attacks;
 #[cfg(test)]
 mod axioms;
 #[cfg(test)]
+mod edits;
+#[cfg(test)]
 mod notions;
 #[cfg(test)]
 mod queries;

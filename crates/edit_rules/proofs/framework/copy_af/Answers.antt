@@ -1,21 +1,21 @@
 use Rattle.std.proofs.Common.{◌∙◌}
 use Rattle.edit_rules.proofs.framework.copy_af.Goals as goal
-use Rattle.edit_rules.proofs.SamePairs.{still_arguments, still_between, copied}
+use Rattle.edit_rules.proofs.SameFrameworks.{are_arguments, are_between, equal_members, made}
 
 -- src/framework.rt:60:5
 pub new-requires-clause-arguments : goal.new-requires-clause-arguments
 new-requires-clause-arguments c =
-    still_arguments c.args.plain.now _ c.live.ensures.form (c.in_ok-live.ensures ∙ c.live.ensures.value)
+    are_arguments c.args.plain.now _ c.live.ensures.form (c.in_ok-live.ensures ∙ c.live.ensures.value)
 
 -- src/framework.rt:60:5
 pub new-requires-clause-between : goal.new-requires-clause-between
 new-requires-clause-between c =
-    still_between c.args.plain.now _ _ c.live.ensures.form (c.in_ok-live.ensures ∙ c.live.ensures.value)
-    (c.in_ok-attacks.ensures.items ∙ c.attacks.ensures.value)
+    are_between c.args.plain.now _ _ c.live.ensures.form (c.in_ok-live.ensures ∙ c.live.ensures.value)
+    (equal_members _ _ (c.in_ok-attacks.ensures.items ∙ c.attacks.ensures.value))
 
 -- src/framework.rt:55:1
 pub returns : goal.returns
 returns c =
-    copied c.args.plain.now _ _ c.new.result c.live.ensures.form (c.in_ok-live.ensures ∙ c.live.ensures.value)
-    (c.in_ok-attacks.ensures.items ∙ c.attacks.ensures.value)
+    made c.args.plain.now _ _ c.new.result c.live.ensures.form (c.in_ok-live.ensures ∙ c.live.ensures.value)
+    (equal_members _ _ (c.in_ok-attacks.ensures.items ∙ c.attacks.ensures.value))
     c.new.ensures.live c.new.ensures.attacks c.new.ensures.form

@@ -1,0 +1,192 @@
+-- The frameworks behind the edits are in form, and which members their lists have.
+use Rattle.std.proofs.Common.{◌≡◌, ◌<◌, ℕ, true, not, List, ◌∷◌, ◌++◌, take, drop, ap, sym, ◌∙◌, subst, arith, ⊎_elim, inl, inr}
+use Rattle.std.proofs.lemmas.List.{take-append-drop}
+use Rattle.std.specs.Prelude.{◌↔◌, ◌⊎◌, ◌&&◌, ◌==◌, Contains, filter, nat_lt}
+use Rattle.std.specs.List.{AllPairs}
+use Rattle.std.specs.List.Sorted.{IsStrictlyIncreasing}
+use Rattle.std.proofs.lemmas.Bool.{true≢false, ltb-true, lt-ltb, not-true, not_from_false, cases_lt}
+use Rattle.std.proofs.lemmas.List.Elements.{Contains-append_cases, Contains-append_left, Contains-append_right}
+use Rattle.std.proofs.lemmas.List.Kept.{AllPairs-filter, AllPairs-from_increasing, IsStrictlyIncreasing-filter}
+use Rattle.plain_lists.specs.Members.{IsSetOf}
+use Rattle.plain_lists.proofs.Filters.{Contains-filter}
+use Rattle.plain_lists.proofs.Membership.{Contains-head, Contains-tail, Contains-cons_cases}
+use Rattle.semantics.specs.Arguments.{IsArgument}
+use Rattle.semantics.specs.Framework.{Af, IsPairBefore}
+use Rattle.semantics.specs.Frameworks.{IsNumberedAf}
+use Rattle.edit_rules.specs.Edits.{af_with_argument, af_with_attack, is_before, is_end, with_number, with_pair}
+use Rattle.edit_rules.proofs.RisingLists.{increasing_from, middle_rises, numbers_asymmetric, pairs_through, same_lists}
+use Rattle.edit_rules.proofs.EditTests.{before_true, true_before, either_left, either_right, is_false, pair_cases}
+
+pub with_number_rises : (x : ℕ) (xs : List ℕ) → IsStrictlyIncreasing xs → IsStrictlyIncreasing (with_number x xs)
+with_number_rises x xs up =
+    let all = AllPairs-from_increasing xs up in
+    increasing_from (with_number x xs) (middle_rises (λ (a b : ℕ). a < b) (λ a b c low high. omega arith)
+    (filter (λ y. nat_lt y x) xs) x (filter (λ y. nat_lt x y) xs)
+    (AllPairs-filter (λ (a b : ℕ). a < b) (λ y. nat_lt y x) xs all)
+    (AllPairs-filter (λ (a b : ℕ). a < b) (λ y. nat_lt x y) xs all)
+    (λ y c. ltb-true y x ((Contains-filter (λ y. nat_lt y x) xs y).0 c).1)
+    (λ y c. ltb-true x y ((Contains-filter (λ y. nat_lt x y) xs y).0 c).1))
+
+joins : (x : ℕ) (xs : List ℕ) (y : ℕ) → x ≡ y → Contains (with_number x xs) y
+joins x xs y e = Contains-append_right (filter (λ y. nat_lt y x) xs) (x ∷ filter (λ y. nat_lt x y) xs) y
+    (Contains-head x (filter (λ y. nat_lt x y) xs) y e)
+
+stays : (x : ℕ) (xs : List ℕ) (y : ℕ) → Contains xs y → Contains (with_number x xs) y
+stays x xs y c =
+    ⊎_elim (λ lt. Contains-append_left (filter (λ y. nat_lt y x) xs) (x ∷ filter (λ y. nat_lt x y) xs) y
+    ((Contains-filter (λ y. nat_lt y x) xs y).1 (c, lt-ltb y x lt)))
+    (λ ge. ⊎_elim (λ lt. Contains-append_right (filter (λ y. nat_lt y x) xs) (x ∷ filter (λ y. nat_lt x y) xs) y
+    (Contains-tail x (filter (λ y. nat_lt x y) xs) y ((Contains-filter (λ y. nat_lt x y) xs y).1 (c, lt-ltb x y lt))))
+    (λ le. joins x xs y (omega arith)) (cases_lt x y)) (cases_lt y x)
+
+pub with_number_members : (x : ℕ) (xs : List ℕ) (y : ℕ) → Contains (with_number x xs) y ↔ (Contains xs y ⊎ (y ≡ x))
+with_number_members x xs y = (
+  λ c. ⊎_elim (λ h. inl ((Contains-filter (λ y. nat_lt y x) xs y).0 h).0)
+      (λ h. ⊎_elim (λ (e : x ≡ y). inr (sym e)) (λ h'. inl ((Contains-filter (λ y. nat_lt x y) xs y).0 h').0)
+      (Contains-cons_cases x (filter (λ y. nat_lt x y) xs) y h))
+      (Contains-append_cases (filter (λ y. nat_lt y x) xs) (x ∷ filter (λ y. nat_lt x y) xs) y c),
+  λ s. ⊎_elim (λ c. stays x xs y c) (λ (e : y ≡ x). joins x xs y (sym e)) s,
+)
+
+-- what has the members of a list and a number more, and rises, is the list with the number more
+pub with_number_is : (x : ℕ) (xs new : List ℕ) → IsStrictlyIncreasing xs
+    → IsSetOf (λ y. Contains xs y ⊎ (y ≡ x)) new → new ≡ with_number x xs
+with_number_is x xs new up set = same_lists (λ (a b : ℕ). a < b) numbers_asymmetric new (with_number x xs)
+    (AllPairs-from_increasing new set.rises)
+    (AllPairs-from_increasing (with_number x xs) (with_number_rises x xs up)) (λ y. (
+      λ c. (with_number_members x xs y).1 ((set.members y).0 c),
+      λ c. (set.members y).1 ((with_number_members x xs y).0 c),
+    ))
+
+pub with_pair_rises : (p : ℕ × ℕ) (ps : List (ℕ × ℕ)) → AllPairs IsPairBefore ps
+    → AllPairs IsPairBefore (with_pair p ps)
+with_pair_rises p ps up = middle_rises IsPairBefore pairs_through
+    (filter (λ q. is_before q p) ps) p (filter (λ q. is_before p q) ps)
+    (AllPairs-filter IsPairBefore (λ q. is_before q p) ps up)
+    (AllPairs-filter IsPairBefore (λ q. is_before p q) ps up)
+    (λ q c. before_true q p ((Contains-filter (λ q. is_before q p) ps q).0 c).1)
+    (λ q c. before_true p q ((Contains-filter (λ q. is_before p q) ps q).0 c).1)
+
+pair_joins : (p : ℕ × ℕ) (ps : List (ℕ × ℕ)) (q : ℕ × ℕ) → p ≡ q → Contains (with_pair p ps) q
+pair_joins p ps q e = Contains-append_right (filter (λ q. is_before q p) ps) (p ∷ filter (λ q. is_before p q) ps) q
+    (Contains-head p (filter (λ q. is_before p q) ps) q e)
+
+pair_stays : (p : ℕ × ℕ) (ps : List (ℕ × ℕ)) (q : ℕ × ℕ) → Contains ps q → Contains (with_pair p ps) q
+pair_stays p ps q c =
+    ⊎_elim (λ low. Contains-append_left (filter (λ q. is_before q p) ps) (p ∷ filter (λ q. is_before p q) ps) q
+    ((Contains-filter (λ q. is_before q p) ps q).1 (c, true_before q p low)))
+    (λ rest. ⊎_elim (λ (e : q ≡ p). pair_joins p ps q (sym e))
+    (λ high. Contains-append_right (filter (λ q. is_before q p) ps) (p ∷ filter (λ q. is_before p q) ps) q
+    (Contains-tail p (filter (λ q. is_before p q) ps) q
+    ((Contains-filter (λ q. is_before p q) ps q).1 (c, true_before p q high))))
+    rest) (pair_cases q p)
+
+pub with_pair_members : (p : ℕ × ℕ) (ps : List (ℕ × ℕ)) (q : ℕ × ℕ)
+    → Contains (with_pair p ps) q ↔ (Contains ps q ⊎ (q ≡ p))
+with_pair_members p ps q = (
+  λ c. ⊎_elim (λ h. inl ((Contains-filter (λ q. is_before q p) ps q).0 h).0)
+      (λ h. ⊎_elim (λ (e : p ≡ q). inr (sym e)) (λ h'. inl ((Contains-filter (λ q. is_before p q) ps q).0 h').0)
+      (Contains-cons_cases p (filter (λ q. is_before p q) ps) q h))
+      (Contains-append_cases (filter (λ q. is_before q p) ps) (p ∷ filter (λ q. is_before p q) ps) q c),
+  λ s. ⊎_elim (λ c. pair_stays p ps q c) (λ (e : q ≡ p). pair_joins p ps q (sym e)) s,
+)
+
+pub with_argument_form : (f : Af) (n : ℕ) → IsNumberedAf f → IsArgument n
+    → IsNumberedAf (af_with_argument f n)
+with_argument_form f n ok is = record {
+  form = record {
+    live_rises = with_number_rises n f.live ok.form.live_rises;
+    attacks_rise = ok.form.attacks_rise;
+    ends = λ b a c. let ends = ok.form.ends b a c in
+        ((with_number_members n f.live b).1 (inl ends.0), (with_number_members n f.live a).1 (inl ends.1));
+  };
+  live = λ a c. ⊎_elim (λ h. ok.live a h) (λ (e : a ≡ n). subst (λ x. IsArgument x) (sym e) is)
+      ((with_number_members n f.live a).0 c);
+}
+
+-- an attack that stays has ends which stay
+not_end : (n b a : ℕ) → not (is_end n (b, a)) ≡ true → (not (b == n) ≡ true) × (not (a == n) ≡ true)
+not_end n b a h =
+    let e = not-true (is_end n (b, a)) h in (
+      not_from_false (b == n) (is_false (b == n) (λ t. true≢false (sym (either_left (b == n) (a == n) t) ∙ e))),
+      not_from_false (a == n) (is_false (a == n) (λ t. true≢false (sym (either_right (b == n) (a == n) t) ∙ e))),
+    )
+
+pub without_argument_form : (f : Af) (n : ℕ) → IsNumberedAf f → IsNumberedAf (record {
+  live = filter (λ a. not (a == n)) f.live;
+  attacks = filter (λ p. not (is_end n p)) f.attacks;
+})
+without_argument_form f n ok = record {
+  form = record {
+    live_rises = IsStrictlyIncreasing-filter (λ a. not (a == n)) f.live ok.form.live_rises;
+    attacks_rise = AllPairs-filter IsPairBefore (λ p. not (is_end n p)) f.attacks ok.form.attacks_rise;
+    ends = λ b a c.
+        let h = (Contains-filter (λ p. not (is_end n p)) f.attacks (b, a)).0 c in
+        let ends = ok.form.ends b a h.0 in
+        let free = not_end n b a h.1 in (
+          (Contains-filter (λ a. not (a == n)) f.live b).1 (ends.0, free.0),
+          (Contains-filter (λ a. not (a == n)) f.live a).1 (ends.1, free.1),
+        );
+  };
+  live = λ a c. ok.live a ((Contains-filter (λ a. not (a == n)) f.live a).0 c).0;
+}
+
+pub with_attack_form : (f : Af) (b a : ℕ) → IsNumberedAf f → Contains f.live b × Contains f.live a
+    → IsNumberedAf (af_with_attack f b a)
+with_attack_form f b a ok live = record {
+  form = record {
+    live_rises = ok.form.live_rises;
+    attacks_rise = with_pair_rises (b, a) f.attacks ok.form.attacks_rise;
+    ends = λ x y c. ⊎_elim (λ h. ok.form.ends x y h) (λ (e : (x, y) ≡ (b, a)). (
+      subst (λ z. Contains f.live z) (sym (ap (λ (p : ℕ × ℕ). p.0) e)) live.0,
+      subst (λ z. Contains f.live z) (sym (ap (λ (p : ℕ × ℕ). p.1) e)) live.1,
+    ))
+        ((with_pair_members (b, a) f.attacks (x, y)).0 c);
+  };
+  live = ok.live;
+}
+
+pub without_attack_form : (f : Af) (b a : ℕ) → IsNumberedAf f → IsNumberedAf (record {
+  live = f.live;
+  attacks = filter (λ p. not (p.0 == b && p.1 == a)) f.attacks;
+})
+without_attack_form f b a ok = record {
+  form = record {
+    live_rises = ok.form.live_rises;
+    attacks_rise = AllPairs-filter IsPairBefore (λ p. not (p.0 == b && p.1 == a)) f.attacks ok.form.attacks_rise;
+    ends = λ x y c. ok.form.ends x y ((Contains-filter (λ p. not (p.0 == b && p.1 == a)) f.attacks (x, y)).0 c).0;
+  };
+  live = ok.live;
+}
+
+-- lists that gained a number and a pair, said of copies
+pub joined_number : (xs copy new : List ℕ) (x : ℕ) → copy ≡ xs → IsStrictlyIncreasing xs
+    → IsSetOf (λ y. Contains copy y ⊎ (y ≡ x)) new → new ≡ with_number x xs
+joined_number xs copy new x e up set =
+    with_number_is x xs new up (subst (λ zs. IsSetOf (λ y. Contains zs y ⊎ (y ≡ x)) new) e set)
+
+pub joined_pairs : (ps copy new : List (ℕ × ℕ)) (p : ℕ × ℕ) → copy ≡ ps
+    → ((q : ℕ × ℕ) → Contains new q ↔ (Contains copy q ⊎ (q ≡ p))) → (q : ℕ × ℕ)
+    → Contains new q ↔ Contains (with_pair p ps) q
+joined_pairs ps copy new p e has q =
+    let gains = subst (λ zs. Contains new q ↔ (Contains zs q ⊎ (q ≡ p))) e (has q) in (
+      λ c. (with_pair_members p ps q).1 (gains.0 c),
+      λ c. gains.1 ((with_pair_members p ps q).0 c),
+    )
+
+-- a list with an item put between two parts of it
+pub inserted_members : {X : Type 0} (xs : List X) (i : ℕ) (x y : X)
+    → Contains (take i xs ++ x ∷ drop i xs) y ↔ (Contains xs y ⊎ (y ≡ x))
+inserted_members xs i x y = (
+  λ c. ⊎_elim (λ h. inl (subst (λ zs. Contains zs y) (take-append-drop i xs)
+      (Contains-append_left (take i xs) (drop i xs) y h)))
+      (λ h. ⊎_elim (λ (e : x ≡ y). inr (sym e))
+      (λ h'. inl (subst (λ zs. Contains zs y) (take-append-drop i xs)
+      (Contains-append_right (take i xs) (drop i xs) y h')))
+      (Contains-cons_cases x (drop i xs) y h))
+      (Contains-append_cases (take i xs) (x ∷ drop i xs) y c),
+  λ s. ⊎_elim (λ c. ⊎_elim (λ h. Contains-append_left (take i xs) (x ∷ drop i xs) y h)
+      (λ h. Contains-append_right (take i xs) (x ∷ drop i xs) y (Contains-tail x (drop i xs) y h))
+      (Contains-append_cases (take i xs) (drop i xs) y (subst (λ zs. Contains zs y) (sym (take-append-drop i xs)) c)))
+      (λ (e : y ≡ x). Contains-append_right (take i xs) (x ∷ drop i xs) y (Contains-head x (drop i xs) y (sym e))) s,
+)

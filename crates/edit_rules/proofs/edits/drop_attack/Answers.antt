@@ -1,0 +1,38 @@
+use Rattle.std.proofs.Common.{◌∙◌, sym, ap, refl, inr, [], ◌∷◌, not}
+use Rattle.semantics.specs.Frameworks.{af}
+use Rattle.edit_rules.specs.Edits.{attack_dropped, end_refusals, has_pair, refused_if, row_outcome}
+use Rattle.edit_rules.specs.Applying.{ComesTo}
+use Rattle.edit_rules.specs.declared.effect.EditFault.TheVariants.{NoSuchAttack}
+use Rattle.edit_rules.proofs.EditTests.{there_pair, pair_there, is_false}
+use Rattle.edit_rules.proofs.RowOutcomes.{done_behind, handed_on, not_so, refused_behind}
+use Rattle.edit_rules.proofs.edits.drop_attack.Goals as goal
+
+pub returns-in_err-check_ends : goal.returns-in_err-check_ends
+returns-in_err-check_ends c =
+    let row = attack_dropped c.args.plain.now c.args.attacker c.args.target in
+    handed_on (ComesTo (row_outcome row)) c.from_residual.result
+    c.in_err-check_ends.field-0.0 c.from_residual.ensures
+    (inr (c.in_err-check_ends.ensures.told
+    (refused_if (not (has_pair c.args.plain.now.attacks (c.args.attacker, c.args.target))) NoSuchAttack ∷ [])
+    (row.framework, row.effect)))
+
+pub returns-then-not-has_attack : goal.returns-then-not-has_attack
+returns-then-not-has_attack c =
+    let row = attack_dropped c.args.plain.now c.args.attacker c.args.target in
+    inr (refused_behind (end_refusals c.args.plain.now c.args.attacker c.args.target)
+    (refused_if (not (has_pair c.args.plain.now.attacks (c.args.attacker, c.args.target))) NoSuchAttack)
+    (row.framework, row.effect) _ c.in_ok-check_ends.ensures.told
+    (ap not (is_false (has_pair c.args.plain.now.attacks (c.args.attacker, c.args.target)) (λ t.
+    not_so c.has_attack.result _ c.has_attack.ensures c.if-not-has_attack.true
+    (pair_there c.args.plain.now.attacks (c.args.attacker, c.args.target) t)))) refl)
+
+pub returns : goal.returns
+returns c =
+    let row = attack_dropped c.args.plain.now c.args.attacker c.args.target in
+    done_behind (end_refusals c.args.plain.now c.args.attacker c.args.target)
+    (refused_if (not (has_pair c.args.plain.now.attacks (c.args.attacker, c.args.target))) NoSuchAttack)
+    (row.framework, row.effect) _ c.in_ok-check_ends.ensures.told
+    (ap not (there_pair c.args.plain.now.attacks (c.args.attacker, c.args.target)
+    (c.has_attack.ensures.0 c.if-not-has_attack.false)))
+    (ap (λ f. (af f, row.effect)) (sym c.in_ok-after.ensures)
+    ∙ ap (λ e. (af c.in_ok-after.after, e)) (sym c.of_edit.ensures))

@@ -1,0 +1,29 @@
+use Rattle.std.proofs.Common.{◌∙◌, ap, not, ◌==◌, ◌&&◌, filter}
+use Rattle.edit_rules.specs.Edits.{af_without_attack}
+use Rattle.edit_rules.proofs.RowForms.{without_attack_form}
+use Rattle.edit_rules.proofs.SameFrameworks.{are_arguments, are_between, equal_members, made}
+use Rattle.edit_rules.proofs.edits.without_attack.Goals as goal
+
+pub new-requires-clause-arguments : goal.new-requires-clause-arguments
+new-requires-clause-arguments c =
+    are_arguments (af_without_attack c.args.plain.now c.args.attacker c.args.target) _
+    (without_attack_form c.args.plain.now c.args.attacker c.args.target c.live.ensures.form)
+    (c.in_ok-live.ensures ∙ c.live.ensures.value)
+
+pub new-requires-clause-between : goal.new-requires-clause-between
+new-requires-clause-between c =
+    are_between (af_without_attack c.args.plain.now c.args.attacker c.args.target) _ _
+    (without_attack_form c.args.plain.now c.args.attacker c.args.target c.live.ensures.form)
+    (c.in_ok-live.ensures ∙ c.live.ensures.value)
+    (equal_members _ _ (c.in_ok-attacks.ensures
+    ∙ ap (filter (λ p. not (p.0 == c.args.attacker && p.1 == c.args.target))) c.attacks.ensures.value))
+
+pub returns : goal.returns
+returns c =
+    made (af_without_attack c.args.plain.now c.args.attacker c.args.target) _ _
+    c.new.result
+    (without_attack_form c.args.plain.now c.args.attacker c.args.target c.live.ensures.form)
+    (c.in_ok-live.ensures ∙ c.live.ensures.value)
+    (equal_members _ _ (c.in_ok-attacks.ensures
+    ∙ ap (filter (λ p. not (p.0 == c.args.attacker && p.1 == c.args.target))) c.attacks.ensures.value))
+    c.new.ensures.live c.new.ensures.attacks c.new.ensures.form

@@ -1,0 +1,16 @@
+-- What edits keep, and what an effect tells.
+use Rattle.std.specs.Prelude.{◌≡◌, List, Ok}
+use Rattle.semantics.specs.Frameworks.{Framework, IsNumbered}
+use Rattle.edit_rules.specs.declared.edit.Edit.{Edit}
+use Rattle.edit_rules.specs.declared.effect.Effect.{Effect}
+use Rattle.edit_rules.specs.Edits.{edit_outcome}
+use Rattle.edit_rules.specs.Replay.{replay}
+
+-- a framework in form stays in form, whatever the edits
+abbrev pub EditsKeepForm : Type 0
+EditsKeepForm = (f : Framework) (edits : List Edit) → IsNumbered f → IsNumbered (replay f edits)
+
+-- the framework behind an edit and the edit's effect determine the framework before it
+abbrev pub EffectsDetermine : Type 0
+EffectsDetermine = (f g : Framework) (edit : Edit) (done : Framework × Effect) → IsNumbered f → IsNumbered g
+    → edit_outcome f edit ≡ Ok done → edit_outcome g edit ≡ Ok done → f ≡ g

@@ -1,0 +1,303 @@
+//! Edits of a framework.
+
+ghost use Rattle.std.specs.Prelude.{◌≡◌, ◌↔◌, ◌==◌, ◌&&◌, ◌⊎◌, ◌∷◌, ◌++◌, [], ℕ, not, Contains};
+ghost use Rattle.std.specs.Prelude.{IfOk, IfErr, OnErr, OnOk, filter, Ok, Err};
+ghost use Rattle.std.specs.List.Sorted.{IsStrictlyIncreasing};
+ghost use Rattle.semantics.specs.Arguments.{IsArgument};
+ghost use Rattle.semantics.specs.Framework.{Af};
+ghost use Rattle.semantics.specs.Frameworks.{IsNumberedAf, af};
+ghost use Rattle.edit_rules.specs.Kinds.{framework_of};
+ghost use Rattle.edit_rules.specs.Edits.{af_with_argument, af_without_argument, af_with_attack, af_without_attack};
+ghost use Rattle.edit_rules.specs.Edits.{argument_added, argument_dropped, attack_added, attack_dropped};
+ghost use Rattle.edit_rules.specs.Edits.{edit_outcome, end_refusals, is_end, outside, row_outcome, unknown, with_number, with_pair};
+ghost use Rattle.edit_rules.specs.Applying.{AreTold, ComesTo};
+ghost use Rattle.edit_rules.specs.declared.effect.EditFault.TheVariants.{Memory};
+
+use crate::edit::Edit;
+use crate::effect::{EditFault, Effect};
+use crate::framework::Framework;
+use dung_notions::AfPlain;
+use plain_lists::{Items, Memory as OutOfMemory};
+use semantics::LAST_ARGUMENT;
+use set_lists::NumSet;
+use std::alloc::Global;
+
+/// Changes a framework by an edit. Each edit refuses in the order of its row: `WrongKind`, `OutOfRange` with the first
+/// number outside its range, and then what the edit itself asks for. After every `Err` the framework is as before.
+/// The time is linear in the framework.
+pub fn apply(alloc: Global, framework: &mut Framework, edit: &Edit) -> Result<Effect, EditFault>
+    ensures done { IfOk result (λ effect.
+        edit_outcome (framework_of framework.old) edit.now ≡ Ok (framework_of framework.new, effect)) }
+    ensures fault { IfErr result (λ fault.
+        (fault ≡ Memory) ⊎ (edit_outcome (framework_of framework.old) edit.now ≡ Err fault)) }
+    ensures kept { OnErr result (framework.new ≡ framework.old) }
+{
+    match framework {
+        Framework::Af(plain) => {
+            let (after, effect) = edited(alloc, plain, edit)?;
+            *plain = after;
+            Ok(effect)
+        }
+    }
+}
+
+/// The abstract framework after an edit, and what the edit did.
+fn edited(alloc: Global, plain: &AfPlain, edit: &Edit) -> Result<(AfPlain, Effect), EditFault>
+    ensures { ComesTo (edit_outcome (af plain.now) edit.now) result }
+{
+    match edit {
+        Edit::ArgAdd(number) => add_argument(alloc, plain, *number),
+        Edit::ArgDrop(number) => drop_argument(alloc, plain, *number),
+        Edit::AttackAdd(attacker, target) => add_attack(alloc, plain, *attacker, *target),
+        Edit::AttackDrop(attacker, target) => drop_attack(alloc, plain, *attacker, *target),
+        Edit::AsmAdd(_, _)
+        | Edit::AsmDrop(_)
+        | Edit::ConSet(_, _)
+        | Edit::RuleAdd(_, _)
+        | Edit::RuleDrop(_) => Err(EditFault::WrongKind),
+    }
+}
+
+/// Refuses a number that no argument may have.
+fn check_range(number: u32) -> Result<(), EditFault>
+    ensures told { AreTold (outside number ∷ []) result }
+    ensures argument { OnOk result (IsArgument number) }
+{
+    if number < 1 || LAST_ARGUMENT < number {
+        return Err(EditFault::OutOfRange(number));
+    }
+    Ok(())
+}
+
+/// Refuses an argument that isn't live.
+fn check_live(plain: &AfPlain, argument: u32) -> Result<(), EditFault>
+    ensures told { AreTold (unknown plain.now argument ∷ []) result }
+    ensures live { OnOk result (Contains plain.now.live argument) }
+{
+    if !plain.is_live(argument) {
+        return Err(EditFault::UnknownArgument(argument));
+    }
+    Ok(())
+}
+
+/// Refuses the ends of an attack, which must be live arguments.
+fn check_ends(plain: &AfPlain, attacker: u32, target: u32) -> Result<(), EditFault>
+    ensures told { AreTold (end_refusals plain.now attacker target) result }
+    ensures live { OnOk result (Contains plain.now.live attacker × Contains plain.now.live target) }
+{
+    check_range(attacker)?;
+    check_range(target)?;
+    check_live(plain, attacker)?;
+    check_live(plain, target)
+}
+
+/// Makes an argument live.
+fn add_argument(alloc: Global, plain: &AfPlain, number: u32) -> Result<(AfPlain, Effect), EditFault>
+    ensures { ComesTo (row_outcome (argument_added plain.now number)) result }
+{
+    check_range(number)?;
+    if plain.is_live(number) {
+        return Err(EditFault::ArgumentIsThere);
+    }
+    let after = with_argument(alloc, plain, number)?;
+    Ok((after, Effect::of_edit(alloc, Edit::ArgAdd(number))))
+}
+
+/// Takes an argument away with its attacks.
+fn drop_argument(
+    alloc: Global,
+    plain: &AfPlain,
+    number: u32,
+) -> Result<(AfPlain, Effect), EditFault>
+    ensures { ComesTo (row_outcome (argument_dropped plain.now number)) result }
+{
+    check_range(number)?;
+    check_live(plain, number)?;
+    let dropped = attacks_at(alloc, plain.attacks(), number)?;
+    let after = without_argument(alloc, plain, number)?;
+    Ok((
+        after,
+        Effect::with_dropped(alloc, Edit::ArgDrop(number), dropped),
+    ))
+}
+
+/// Adds an attack.
+fn add_attack(
+    alloc: Global,
+    plain: &AfPlain,
+    attacker: u32,
+    target: u32,
+) -> Result<(AfPlain, Effect), EditFault>
+    ensures { ComesTo (row_outcome (attack_added plain.now attacker target)) result }
+{
+    check_ends(plain, attacker, target)?;
+    if plain.has_attack(attacker, target) {
+        return Err(EditFault::AttackIsThere);
+    }
+    let after = with_attack(alloc, plain, attacker, target)?;
+    Ok((
+        after,
+        Effect::of_edit(alloc, Edit::AttackAdd(attacker, target)),
+    ))
+}
+
+/// Takes an attack away.
+fn drop_attack(
+    alloc: Global,
+    plain: &AfPlain,
+    attacker: u32,
+    target: u32,
+) -> Result<(AfPlain, Effect), EditFault>
+    ensures { ComesTo (row_outcome (attack_dropped plain.now attacker target)) result }
+{
+    check_ends(plain, attacker, target)?;
+    if !plain.has_attack(attacker, target) {
+        return Err(EditFault::NoSuchAttack);
+    }
+    let after = without_attack(alloc, plain, attacker, target)?;
+    Ok((
+        after,
+        Effect::of_edit(alloc, Edit::AttackDrop(attacker, target)),
+    ))
+}
+
+/// The framework with an argument more.
+fn with_argument(alloc: Global, plain: &AfPlain, number: u32) -> Result<AfPlain, OutOfMemory>
+    requires { IsArgument number }
+    ensures { IfOk result (λ after. after ≡ af_with_argument plain.now number) }
+{
+    let mut live = NumSet::from_rising(alloc, plain.live())?;
+    live.insert(number)?;
+    let attacks = Vec::from_slice(alloc, plain.attacks())?;
+    AfPlain::new(alloc, live, attacks)
+}
+
+/// The framework without an argument and its attacks.
+fn without_argument(alloc: Global, plain: &AfPlain, number: u32) -> Result<AfPlain, OutOfMemory>
+    ensures { IfOk result (λ after. after ≡ record {
+      live = filter (λ a. not (a == number)) plain.now.live;
+      attacks = filter (λ p. not (is_end number p)) plain.now.attacks;
+    }) }
+{
+    let live = numbers_but(alloc, plain.live(), number)?;
+    let attacks = attacks_but(alloc, plain.attacks(), number)?;
+    AfPlain::new(alloc, live, attacks)
+}
+
+/// The framework with an attack more.
+fn with_attack(
+    alloc: Global,
+    plain: &AfPlain,
+    attacker: u32,
+    target: u32,
+) -> Result<AfPlain, OutOfMemory>
+    requires { Contains plain.now.live attacker × Contains plain.now.live target }
+    ensures { IfOk result (λ after. after ≡ af_with_attack plain.now attacker target) }
+{
+    let live = NumSet::from_rising(alloc, plain.live())?;
+    let attacks = pairs_with(alloc, plain.attacks(), (attacker, target))?;
+    AfPlain::new(alloc, live, attacks)
+}
+
+/// The framework without an attack.
+fn without_attack(
+    alloc: Global,
+    plain: &AfPlain,
+    attacker: u32,
+    target: u32,
+) -> Result<AfPlain, OutOfMemory>
+    ensures { IfOk result (λ after. after ≡ record {
+      live = plain.now.live;
+      attacks = filter (λ p. not (p.0 == attacker && p.1 == target)) plain.now.attacks;
+    }) }
+{
+    let live = NumSet::from_rising(alloc, plain.live())?;
+    let attacks = pairs_but(alloc, plain.attacks(), (attacker, target))?;
+    AfPlain::new(alloc, live, attacks)
+}
+
+/// The numbers of a rising list but for one.
+fn numbers_but(alloc: Global, numbers: &[u32], gone: u32) -> Result<NumSet, OutOfMemory>
+    requires { IsStrictlyIncreasing numbers.now }
+    ensures { IfOk result (λ kept. kept ≡ filter (λ a. not (a == gone)) numbers.now) }
+{
+    let kept = others_of(alloc, numbers, gone)?;
+    NumSet::from_rising(alloc, kept.as_slice())
+}
+
+/// The numbers but for one, in their order.
+fn others_of(alloc: Global, numbers: &[u32], gone: u32) -> Result<Vec<u32>, OutOfMemory>
+    ensures { IfOk result (λ kept. kept.items ≡ filter (λ a. not (a == gone)) numbers.now) }
+{
+    Ok(
+        numbers
+            .iter()
+            .copied()
+            .filter(|number| *number != gone)
+            .collect(alloc)?,
+    )
+}
+
+/// The attacks of which the argument is no end.
+fn attacks_but(
+    alloc: Global,
+    attacks: &[(u32, u32)],
+    gone: u32,
+) -> Result<Vec<(u32, u32)>, OutOfMemory>
+    ensures { IfOk result (λ kept. kept.items ≡ filter (λ p. not (is_end gone p)) attacks.now) }
+{
+    Ok(
+        attacks
+            .iter()
+            .copied()
+            .filter(|pair| pair.0 != gone && pair.1 != gone)
+            .collect(alloc)?,
+    )
+}
+
+/// The attacks of which the argument is an end.
+fn attacks_at(
+    alloc: Global,
+    attacks: &[(u32, u32)],
+    argument: u32,
+) -> Result<Items<(u32, u32)>, OutOfMemory>
+    ensures { IfOk result (λ found. found ≡ filter (is_end argument) attacks.now) }
+{
+    let found = attacks
+        .iter()
+        .copied()
+        .filter(|pair| pair.0 == argument || pair.1 == argument)
+        .collect(alloc)?;
+    Ok(Items::from_vec(found))
+}
+
+/// The pairs but for one.
+fn pairs_but(
+    alloc: Global,
+    pairs: &[(u32, u32)],
+    gone: (u32, u32),
+) -> Result<Vec<(u32, u32)>, OutOfMemory>
+    ensures { IfOk result (λ kept. kept.items ≡ filter (λ p. not (p.0 == gone.0 && p.1 == gone.1)) pairs.now) }
+{
+    Ok(
+        pairs
+            .iter()
+            .copied()
+            .filter(|pair| !(pair.0 == gone.0 && pair.1 == gone.1))
+            .collect(alloc)?,
+    )
+}
+
+/// The pairs and one more, which stands where it keeps pairs that rise in their order.
+fn pairs_with(
+    alloc: Global,
+    pairs: &[(u32, u32)],
+    pair: (u32, u32),
+) -> Result<Vec<(u32, u32)>, OutOfMemory>
+    ensures { IfOk result (λ more. (p : ℕ × ℕ) → Contains more.items p ↔ (Contains pairs.now p ⊎ (p ≡ pair))) }
+{
+    let index = pairs.partition_point(|other| *other < pair);
+    let mut more = Vec::from_slice(alloc, pairs)?;
+    more.insert(index, pair)?;
+    Ok(more)
+}
