@@ -17,12 +17,15 @@ use set_lists::NumSet;
 /// in its range is in the range.
 #[derive(Debug, Drop)]
 pub struct Claim {
-    /// At most two.
+    /// A few literals that are goals as they stand.
     pub fixed: Items<AtomLit>,
+    /// Each of these is a member.
     pub inside: NumSet,
+    /// Each of these that sets may have is no member.
     pub outside: NumSet,
-    /// The set whose range it is.
+    /// What this set has in its range is in the range.
     pub ranged: NumSet,
+    /// What a side clause says of a set.
     pub kind: SideKind,
     /// The sets that side clauses of this kind speak of.
     pub sides: Items<NumSet>,

@@ -368,7 +368,8 @@ fn all_widest_claims(
     Ok(list)
 }
 
-/// The claims of a row.
+/// The claims of a row; `sets` are the certificate's. Each set is copied once for each claim that speaks of it.
+/// `Memory` says that an allocation was refused.
 pub fn claims_of(
     alloc: Global,
     framework: &Framework,

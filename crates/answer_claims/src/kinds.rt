@@ -32,7 +32,7 @@ pub(crate) fn is_member(framework: &Framework, number: u32) -> bool
     }
 }
 
-/// A set's range.
+/// A set's range. `Memory` says that an allocation was refused.
 pub fn range_of(alloc: Global, framework: &Framework, set: &NumSet) -> Result<NumSet, Memory>
     ensures { IfOk result (IsRangeOf (framework_of framework.now) set.now) }
 {

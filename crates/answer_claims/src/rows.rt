@@ -231,7 +231,7 @@ fn all(alloc: Global, semantics: Semantics, answer: &Answer) -> Result<Row, Memo
     }
 }
 
-/// The row of an answer to a query.
+/// The row of an answer to a query. `Memory` says that an allocation was refused.
 pub fn row(
     alloc: Global,
     framework: &Framework,
@@ -251,7 +251,7 @@ pub fn row(
     }
 }
 
-/// The sets that an answer shows.
+/// The sets that an answer shows, copied. `Memory` says that an allocation was refused.
 pub fn shown_sets(alloc: Global, answer: &Answer) -> Result<Items<NumSet>, Memory>
     ensures { IfOk result (λ sets. sets ≡ sets_of answer.now) }
 {

@@ -168,7 +168,8 @@ fn push_attacked(
     }
 }
 
-/// The clause of a step that names a side clause by its number.
+/// The clause of a step that names a side clause by its number. It may have a literal for each argument.
+/// `Memory` says that an allocation was refused.
 pub fn side_clause(
     alloc: Global,
     framework: &Framework,

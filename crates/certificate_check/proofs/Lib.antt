@@ -1,7 +1,3 @@
-mod BenchLemmas
-mod GoalLemmas
-mod StepLemmas
 mod SetLemmas
-mod FlawLemmas
 mod SectionLemmas
 mod RowLemmas

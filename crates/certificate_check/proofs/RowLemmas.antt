@@ -21,7 +21,7 @@ use Rattle.certificate_claims.specs.Acceptance.{GroundedSays, PassesTest}
 use Rattle.certificate_claims.specs.Claims.{shown, none_accepts, each_accepts, there_is_none, all_shown, credulous_row, sceptical_row, some_row, all_row, row_for, sets_of}
 use Rattle.certificate_claims.specs.SetLiterals.{members}
 use Rattle.answer_claims.specs.SetFacts.{AreSetsOf, HasSetsOf}
-use Rattle.certificate_check.specs.Standing.{IsFirstWithout}
+use Rattle.refutation_check.specs.Standing.{IsFirstWithout}
 use Rattle.certificate_check.specs.Witnesses.{IsTestedRow, ShowsSets}
 
 -- what is known of a row, and of the sets that the answer shows

@@ -12,7 +12,7 @@ use Rattle.meaning_atoms.specs.Worlds.{HoldsOf}
 use Rattle.iccma_tasks.specs.Tasks.{Asked}
 use Rattle.certificate_claims.specs.declared.row.Row.TheVariants.{Ideal}
 use Rattle.certificate_claims.specs.Acceptance.{PassesSet}
-use Rattle.certificate_check.specs.Standing.{IsFirstWithout}
+use Rattle.refutation_check.specs.Standing.{IsFirstWithout}
 
 pub tests_grounded : (f : Af) (s g : List ℕ) (r : Bool) → IsGrounded f g → (IsTrue r ↔ HasSameMembers s g)
     → IsTrue r ↔ IsGrounded f s

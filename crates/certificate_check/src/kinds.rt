@@ -1,35 +1,22 @@
-//! What a framework says of atoms and sets, by its kind.
+//! What a framework says of sets, by its kind.
 
-ghost use Rattle.std.specs.Prelude.{◌≡◌, ◌↔◌, Some, IfNone, IfOk, IfSome, IsTrue};
+ghost use Rattle.std.specs.Prelude.{◌≡◌, ◌↔◌, Some, IfOk, IsTrue};
 ghost use Rattle.semantics.specs.Framework.{IsGrounded};
 ghost use Rattle.semantics.specs.Frameworks.{af};
 ghost use Rattle.semantics.specs.Laws.{HasSameMembers};
 ghost use Rattle.meaning_atoms.specs.declared.atom.Atom.TheVariants.{Ad};
-ghost use Rattle.meaning_atoms.specs.Worlds.{HoldsOf, IsFact};
-ghost use Rattle.af_axioms.specs.Facts.{IsFactValue};
+ghost use Rattle.meaning_atoms.specs.Worlds.{HoldsOf};
 ghost use Rattle.certificate_claims.specs.Acceptance.{GroundedSays};
 ghost use Rattle.certificate_claims.specs.Rights.{Accepts, IsExtension};
 ghost use Rattle.edit_rules.specs.Kinds.{framework_of};
 ghost use Rattle.certificate_check.specs.Witnesses.{IsTested};
 
-use af_axioms::fact_value;
 use dung_notions::AfPlain;
 use edit_rules::Framework;
 use iccma_tasks::Semantics;
-use meaning_atoms::Atom;
 use plain_lists::Memory;
 use set_lists::NumSet;
 use std::alloc::Global;
-
-/// Whether an atom is true, where the framework alone fixes it. It looks the fact up.
-pub(crate) fn fact(framework: &Framework, atom: &Atom) -> Option<bool>
-    ensures some { IfSome result (IsFactValue (framework_of framework.now) atom.now) }
-    ensures none { IfNone result (¬ IsFact (framework_of framework.now) atom.now) }
-{
-    match framework {
-        Framework::Af(plain) => fact_value(plain, atom),
-    }
-}
 
 /// Whether a set is admissible.
 pub(crate) fn is_admissible(framework: &Framework, set: &NumSet) -> bool

@@ -11,7 +11,6 @@ ghost use Rattle.certificate_check.specs.Sections.{FindsFrom, after_order, after
 ghost use Rattle.certificate_check.specs.Witnesses.{IsTestedRow, ShowsSets, TellsApart};
 
 use crate::kinds::grounded_accepts;
-use crate::refuting::check_refutations;
 use crate::witness::{first_bad_set, first_bad_witness, is_shaped, takes_sets};
 use answer_claims::{claims_of, row, shown_sets};
 use certificate_claims::{
@@ -21,6 +20,7 @@ use dung_notions::AfPlain;
 use edit_rules::Framework;
 use iccma_tasks::{Answer, Query};
 use plain_lists::Memory;
+use refutation_check::check_refutations;
 use set_lists::NumSet;
 use std::alloc::Global;
 

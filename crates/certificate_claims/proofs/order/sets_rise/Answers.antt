@@ -1,5 +1,5 @@
 use Rattle.std.proofs.Common.{arith, refl}
-use Rattle.certificate_claims.proofs.OrderLemmas.{rise_one, rise_more, rise_all, falls}
+use Rattle.certificate_claims.proofs.OrderLemmas.{rise_one, rise_all, falls}
 use Rattle.certificate_claims.proofs.order.sets_rise.Goals as goal
 
 pub loop-index-init : goal.loop-index-init

@@ -1,8 +1,0 @@
-use Rattle.edit_rules.specs.Kinds.{framework_of}
-use Rattle.answer_claims.specs.SideClauses.{sides_of}
-use Rattle.certificate_check.proofs.StepLemmas.{HasTaken}
-use Rattle.certificate_check.proofs.steps.first_bad_step.Given as goal
-
-abbrev pub invariant-loop-index : goal.invariant-loop-index
-invariant-loop-index l =
-    HasTaken (framework_of l.framework) (sides_of (framework_of l.framework) l.kind l.sets) l.bench l.steps l.index

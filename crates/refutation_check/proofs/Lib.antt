@@ -1,0 +1,6 @@
+mod BenchLemmas
+mod GoalLemmas
+mod HintLemmas
+mod RowsLemmas
+mod StepLemmas
+mod FlawLemmas

@@ -1,0 +1,4 @@
+pub mod Benches
+pub mod Standing
+pub mod StepRows
+pub mod Flaws
