@@ -1,25 +1,28 @@
 -- How far the walk goes down, and the clause that it leaves.
-use Rattle.std.proofs.Common.{◌≡◌, ◌≢◌, ℕ, ◌<◌, ◌≤◌, ◌+◌, ◌-◌, Bool, true, false, not, eqb, List, [], ◌∷◌, ◌++◌, length, get_or, take}
-use Rattle.std.proofs.Common.{drop, arith, ap, sym, subst, ◌∙◌, refl, ⊎_elim, inl, inr}
-use Rattle.std.specs.Prelude.{◌⊎◌, ◌&&◌, Contains, Some, slice_get}
+use Rattle.std.proofs.Common.{◌≡◌, ◌≢◌, ℕ, ◌<◌, ◌≤◌, ◌+◌, ◌-◌, Bool, true, false, eqb, List}
+use Rattle.std.proofs.Common.{length, get_or, take}
+use Rattle.std.proofs.Common.{arith, ap, sym, subst, ◌∙◌, refl, ⊎_elim}
+use Rattle.std.specs.Prelude.{◌⊎◌, Contains, Some, slice_get}
 use Rattle.std.proofs.Math.ListN.{set, length-set}
-use Rattle.std.proofs.lemmas.Bool.{cases_lt, cases_eq, cases_Bool, false≢true, ltb-false, lt-ltb, le-ltb, eqb-true}
+use Rattle.std.proofs.lemmas.Bool.{cases_eq, cases_Bool, false≢true, ltb-false, le-ltb}
 use Rattle.std.proofs.lemmas.List.{get_or_default}
-use Rattle.std.proofs.lemmas.List.Elements.{Contains-append_left, Contains-get_or}
-use Rattle.plain_lists.proofs.Membership.{Contains-pushed, Contains-nil}
+use Rattle.std.proofs.lemmas.List.Elements.{Contains-get_or}
+use Rattle.plain_lists.proofs.Membership.{Contains-nil}
 use Rattle.plain_lits.specs.declared.lit.Lit.{Lit}
 use Rattle.plain_lits.specs.Literals.{negation}
-use Rattle.plain_lits.specs.Trails.{VarsDiffer, AreLevels}
-use Rattle.unit_propagate.specs.Search.{Search, IsSearch}
-use Rattle.unit_propagate.proofs.Fronts.{pushed_cases, longer_front, in_front, from_front, front_cases}
+use Rattle.plain_lits.specs.Trails.{VarsDiffer}
+use Rattle.unit_propagate.specs.Search.{Search}
+use Rattle.unit_propagate.proofs.Fronts.{longer_front, in_front, front_cases}
 use Rattle.conflict_learn.specs.declared.workspace.Border.{Border}
 use Rattle.conflict_learn.specs.declared.workspace.Border.TheVariants.{Below, Assumed}
 use Rattle.conflict_learn.specs.Learning.{StandsAt, IsDecided, last_start}
-use Rattle.conflict_learn.specs.Analyses.{Analysis, AreClear, IsCounted, IsAt, IsLastOpen, IsReach, IsLevelOf, AreLeft}
-use Rattle.conflict_learn.specs.Analyses.{is_marked, is_kept, is_open, count_to}
-use Rattle.conflict_learn.proofs.Counting.{count_some, count_two, count_one, count_found, count_none}
-use Rattle.conflict_learn.proofs.Literally.{negation_back, negation_same, stands_same, stands_index, stands_contains}
-use Rattle.conflict_learn.proofs.Literally.{contains_stands, stands_front, front_stands, stands_here, stands_got, but_not, but_is}
+use Rattle.conflict_learn.specs.Analyses.{Analysis, AreClear, IsAt, IsLastOpen, IsReach}
+use Rattle.conflict_learn.specs.Analyses.{AreLeft}
+use Rattle.conflict_learn.specs.Analyses.{is_marked, is_kept, is_open}
+use Rattle.conflict_learn.proofs.Counting.{count_two, count_one, count_found}
+use Rattle.conflict_learn.proofs.Literally.{negation_back, stands_index}
+use Rattle.conflict_learn.proofs.Literally.{stands_front, stands_here}
+use Rattle.conflict_learn.proofs.Literally.{stands_got, but_not, but_is}
 use Rattle.conflict_learn.proofs.Meeting.{marked_else, marked_here, marked_read}
 
 -- an open literal, where some are counted

@@ -1,26 +1,27 @@
 -- What a walk to its end proves of the clause.
-use Rattle.std.proofs.Common.{◌≡◌, ◌≢◌, ℕ, ◌<◌, ◌≤◌, ◌+◌, ◌-◌, Bool, true, false, not, List, [], ◌∷◌, ◌++◌, length, get_or, take}
-use Rattle.std.proofs.Common.{map, reverse, arith, ap, sym, subst, ◌∙◌, refl, ⊎_elim, inl, inr, Ok, Err, Result, IfOk}
+use Rattle.std.proofs.Common.{◌≡◌, ℕ, ◌<◌, ◌≤◌, ◌+◌, ◌-◌, true, List, [], ◌∷◌, ◌++◌}
+use Rattle.std.proofs.Common.{length, get_or}
+use Rattle.std.proofs.Common.{map, reverse, arith, ap, sym, subst, ◌∙◌, ⊎_elim, inl, inr, Ok, Err, Result, IfOk}
 use Rattle.std.specs.Prelude.{◌⊎◌, Contains}
-use Rattle.std.proofs.lemmas.Bool.{cases_Bool, ltb-true, ltb-false, eqb-true}
+use Rattle.std.proofs.lemmas.Bool.{cases_Bool, ltb-true, eqb-true}
 use Rattle.std.proofs.lemmas.List.Elements.{Contains-append_left}
 use Rattle.plain_lists.proofs.Membership.{Contains-pushed}
 use Rattle.plain_lits.specs.declared.lit.Lit.{Lit}
 use Rattle.plain_lits.specs.Literals.{negation, IsClauseOf}
-use Rattle.plain_lits.specs.HintCheck.{clause_at, IsNamed, IsFalsified, IsUnit, IsTautology, Propagates, Checks}
-use Rattle.plain_lits.specs.Trails.{VarsDiffer, AreLevels}
+use Rattle.plain_lits.specs.HintCheck.{clause_at, Propagates, Checks}
 use Rattle.plain_lits.proofs.HintCheckLemmas.{Contains-mapped, Contains-from_mapped}
-use Rattle.unit_propagate.specs.Search.{Search, IsSearch, IsQuiet, IsConflict}
-use Rattle.unit_propagate.proofs.Fronts.{pushed_cases, longer_front, from_front, consistent}
+use Rattle.unit_propagate.specs.Search.{Search, IsSearch, IsConflict}
+use Rattle.unit_propagate.proofs.Fronts.{pushed_cases, consistent}
 use Rattle.conflict_learn.specs.declared.workspace.Border.{Border}
 use Rattle.conflict_learn.specs.declared.learner.Core.{Core}
 use Rattle.conflict_learn.specs.declared.workspace.Border.TheVariants.{Below, Assumed}
-use Rattle.conflict_learn.specs.Learning.{StandsAt, IsDecided, IsSettled, IsLearned, IsNew, IsOpen, IsUnitFrom, IsOpenBelow}
-use Rattle.conflict_learn.specs.Learning.{IsAssumed, last_start, lits_at}
-use Rattle.conflict_learn.specs.Analyses.{Analysis, IsCounted, IsAt, IsLastOpen, IsFirstUip, IsReach, IsLevelOf, AreLeft, HasMetAll}
-use Rattle.conflict_learn.specs.Analyses.{is_marked, is_kept, is_open}
-use Rattle.conflict_learn.proofs.Literally.{negation_back, negation_same, stands_same, stands_index, stands_contains}
-use Rattle.conflict_learn.proofs.Literally.{stands_front, front_stands, lit_decided, but_not, but_is}
+use Rattle.conflict_learn.specs.Learning.{StandsAt, IsSettled, IsLearned}
+use Rattle.conflict_learn.specs.Learning.{IsAssumed, last_start}
+use Rattle.conflict_learn.specs.Analyses.{Analysis, IsCounted, IsAt, IsFirstUip}
+use Rattle.conflict_learn.specs.Analyses.{AreLeft, HasMetAll}
+use Rattle.conflict_learn.specs.Analyses.{is_kept, is_open}
+use Rattle.conflict_learn.proofs.Literally.{negation_back, negation_same, stands_same, stands_contains}
+use Rattle.conflict_learn.proofs.Literally.{stands_front, but_is}
 use Rattle.conflict_learn.proofs.Walking.{HasOpen, open_some}
 
 -- a clause has the literals of the walk's clause, and the negations of the open ones

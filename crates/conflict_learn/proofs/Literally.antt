@@ -1,8 +1,9 @@
 -- Literals by their indices among the true ones, and tests on marks.
-use Rattle.std.proofs.Common.{◌≡◌, ◌≢◌, ℕ, ◌<◌, ◌≤◌, ◌+◌, Bool, true, false, not, List, length, get_or, take, arith, ap, sym}
+use Rattle.std.proofs.Common.{◌≡◌, ◌≢◌, ℕ, ◌<◌, Bool, true, false, not, List, length, get_or, take}
+use Rattle.std.proofs.Common.{arith, ap, sym}
 use Rattle.std.proofs.Common.{◌∙◌, refl, ⊎_elim, inl, inr, length-take}
 use Rattle.std.specs.Prelude.{◌⊎◌, ◌&&◌, Contains, Some, slice_get}
-use Rattle.std.proofs.lemmas.Bool.{cases_eq, cases_Bool, false≢true}
+use Rattle.std.proofs.lemmas.Bool.{cases_eq, false≢true}
 use Rattle.std.proofs.lemmas.List.{get_or-take, get_or_default}
 use Rattle.std.proofs.lemmas.Option.{get_or_from_slice_get, slice_get_within}
 use Rattle.plain_lits.specs.declared.lit.Lit.{Lit}

@@ -1,10 +1,10 @@
 -- A false literal is met.
-use Rattle.std.proofs.Common.{◌≡◌, ◌≢◌, ℕ, ◌<◌, ◌≤◌, ◌+◌, Bool, true, false, not, eqb, List, [], ◌∷◌, ◌++◌, length, get_or, take}
+use Rattle.std.proofs.Common.{◌≡◌, ◌≢◌, ℕ, ◌<◌, ◌≤◌, ◌+◌, Bool, true, false, not, eqb, List, [], ◌∷◌, ◌++◌}
+use Rattle.std.proofs.Common.{length, get_or, take}
 use Rattle.std.proofs.Common.{arith, ap, sym, subst, ◌∙◌, refl, ⊎_elim, inl, inr}
 use Rattle.std.specs.Prelude.{◌⊎◌, ◌&&◌, Contains}
 use Rattle.std.proofs.Math.Bool.{beq}
 use Rattle.std.proofs.Math.ListN.{set, length-set}
-use Rattle.std.proofs.Math.Seq.{take-suc}
 use Rattle.std.proofs.lemmas.Bool.{cases_eq, cases_Bool, false≢true}
 use Rattle.std.proofs.lemmas.List.{get_or-set_same, get_or-set_other, get_or_default}
 use Rattle.std.proofs.lemmas.List.Elements.{Contains-append_left}
@@ -16,9 +16,11 @@ use Rattle.unit_propagate.specs.Search.{Search}
 use Rattle.unit_propagate.proofs.Fronts.{pushed_cases, longer_front, in_front, front_cases}
 use Rattle.conflict_learn.specs.declared.workspace.Border.{Border}
 use Rattle.conflict_learn.specs.Learning.{StandsAt}
-use Rattle.conflict_learn.specs.Analyses.{Analysis, AreClear, IsCounted, IsMet, Meets, OthersOf, HasMetAll, is_marked, is_kept, is_open, count_to}
+use Rattle.conflict_learn.specs.Analyses.{Analysis, AreClear, IsCounted, IsMet, Meets, OthersOf}
+use Rattle.conflict_learn.specs.Analyses.{is_marked, is_kept, is_open, count_to}
 use Rattle.conflict_learn.proofs.Counting.{count_up, count_same, count_room, count_none}
-use Rattle.conflict_learn.proofs.Literally.{negation_same, stands_same, lit_decided, but_not, but_is, but_marked, but_kept}
+use Rattle.conflict_learn.proofs.Literally.{negation_same, stands_same, but_not, but_is}
+use Rattle.conflict_learn.proofs.Literally.{but_marked, but_kept}
 
 -- marks with one more
 pub marked_here : (marks : List Bool) (i : ℕ) (b : Bool) → i < length marks → is_marked (set marks i b) i ≡ b

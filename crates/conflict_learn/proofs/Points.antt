@@ -1,22 +1,24 @@
 -- The clause of the first implication point: at which levels it is unit, and that it is new.
-use Rattle.std.proofs.Common.{◌≡◌, ◌≢◌, ℕ, ◌<◌, ◌≤◌, ◌+◌, ◌-◌, Bool, true, false, List, [], ◌∷◌, ◌++◌, length, get_or, take, reverse}
-use Rattle.std.proofs.Common.{arith, ap, sym, subst, ◌∙◌, refl, ⊎_elim, inl, inr}
+use Rattle.std.proofs.Common.{◌≡◌, ◌≢◌, ℕ, ◌<◌, ◌≤◌, ◌-◌, List, [], ◌∷◌, ◌++◌, length}
+use Rattle.std.proofs.Common.{get_or, take, reverse}
+use Rattle.std.proofs.Common.{arith, ap, sym, subst, ◌∙◌, ⊎_elim, inl, inr}
 use Rattle.std.specs.Prelude.{◌⊎◌, Contains}
 use Rattle.std.proofs.lemmas.Bool.{cases_lt, cases_eq, ltb-true, ltb-false}
 use Rattle.plain_lists.proofs.Membership.{Contains-nil, Contains-head, Contains-tail, Contains-cons_cases}
 use Rattle.plain_lits.specs.declared.lit.Lit.{Lit}
 use Rattle.plain_lits.specs.Literals.{negation, IsClauseOf}
-use Rattle.plain_lits.specs.HintCheck.{clause_at, IsNamed, IsFalsified, IsUnit, IsTautology}
-use Rattle.plain_lits.specs.Trails.{VarsDiffer, AreLevels}
-use Rattle.unit_propagate.specs.Search.{Search, IsSearch, IsQuiet, IsConflict}
+use Rattle.plain_lits.specs.HintCheck.{clause_at, IsTautology}
+use Rattle.plain_lits.specs.Trails.{VarsDiffer}
+use Rattle.unit_propagate.specs.Search.{Search, IsSearch, IsConflict}
 use Rattle.unit_propagate.proofs.Fronts.{longer_front, from_front, consistent}
 use Rattle.conflict_learn.specs.declared.workspace.Border.TheVariants.{Below}
-use Rattle.conflict_learn.specs.Learning.{StandsAt, IsDecided, IsSettled, IsLearned, IsNew, IsOpen, IsUnitFrom, IsOpenBelow}
-use Rattle.conflict_learn.specs.Learning.{last_start, lits_at}
+use Rattle.conflict_learn.specs.Learning.{StandsAt, IsDecided, IsSettled, IsLearned, IsNew, IsUnitFrom}
+use Rattle.conflict_learn.specs.Learning.{IsOpenBelow}
+use Rattle.conflict_learn.specs.Learning.{last_start}
 use Rattle.conflict_learn.specs.Analyses.{Analysis, IsAt, IsFirstUip, IsReach, IsLevelOf, HasMetAll}
 use Rattle.conflict_learn.proofs.Literally.{negation_back, negation_same, stands_same, stands_index, stands_contains}
 use Rattle.conflict_learn.proofs.Literally.{stands_front, front_stands, stands_here, lit_decided, but_not}
-use Rattle.conflict_learn.proofs.Ending.{Concludes, concluded, concluded_false, concludes_uip, settled_open}
+use Rattle.conflict_learn.proofs.Ending.{concluded, concluded_false, concludes_uip, settled_open}
 
 -- a clause with one literal that isn't false in a front, where each other literal is false in a part of the front
 pub record HasPoint (lits clause : List Lit) (start index : ℕ) (u : Lit) : Type 0 where
@@ -179,7 +181,8 @@ others_kept s start index a u more clause f at e is l c ne =
     (w.back l c)
 
 -- where the last level is named by its start
-pub record IsConclusion (s : Search) (a : Analysis) (index reach level : ℕ) (u : Lit) (more clause : List Lit) : Type 0 where
+pub record IsConclusion (s : Search) (a : Analysis) (index reach level : ℕ) (u : Lit)
+    (more clause : List Lit) : Type 0 where
   pub form : IsSearch s
   pub decided : IsDecided s
   pub uip : IsFirstUip s (last_start s) a index

@@ -1,12 +1,14 @@
 -- The walk begins, passes an index, and replaces a literal by its reason.
-use Rattle.std.proofs.Common.{◌≡◌, ◌≢◌, ℕ, ◌<◌, ◌≤◌, ◌+◌, ◌-◌, Bool, true, false, not, List, [], ◌∷◌, ◌++◌, length, get_or, take}
+use Rattle.std.proofs.Common.{◌≡◌, ◌≢◌, ℕ, ◌<◌, ◌≤◌, ◌+◌, ◌-◌, Bool, true, false, not, List, [], ◌∷◌, ◌++◌}
+use Rattle.std.proofs.Common.{length, get_or, take}
 use Rattle.std.proofs.Common.{arith, ap, sym, subst, ◌∙◌, refl, ⊎_elim, inl, inr, Ok, Err, Result, OnOk, reverse}
 use Rattle.std.specs.Prelude.{◌⊎◌, ◌&&◌, Contains}
 use Rattle.std.proofs.Math.ListN.{set, length-set}
-use Rattle.std.proofs.lemmas.Bool.{cases_lt, cases_eq, cases_Bool, false≢true}
+use Rattle.std.proofs.lemmas.Bool.{cases_eq, false≢true}
 use Rattle.std.proofs.lemmas.List.{reverse-append}
 use Rattle.std.proofs.lemmas.List.Elements.{Contains-append_left}
-use Rattle.plain_lists.proofs.Membership.{Contains-pushed, Contains-nil, Contains-head, Contains-tail, Contains-cons_cases}
+use Rattle.plain_lists.proofs.Membership.{Contains-pushed, Contains-nil, Contains-head, Contains-tail}
+use Rattle.plain_lists.proofs.Membership.{Contains-cons_cases}
 use Rattle.plain_lits.specs.declared.lit.Lit.{Lit}
 use Rattle.plain_lits.specs.Literals.{negation}
 use Rattle.plain_lits.specs.HintCheck.{clause_at, IsNamed, Propagates}
@@ -15,11 +17,13 @@ use Rattle.unit_propagate.specs.Search.{Search, IsSearch, IsReason, IsConflict}
 use Rattle.unit_propagate.proofs.Fronts.{pushed_cases, longer_front, from_front, consistent}
 use Rattle.conflict_learn.specs.declared.workspace.Border.{Border}
 use Rattle.conflict_learn.specs.Learning.{StandsAt}
-use Rattle.conflict_learn.specs.Analyses.{Analysis, AreClear, IsCounted, IsMet, Meets, OthersOf, HasMetAll, IsWalk, IsAt}
+use Rattle.conflict_learn.specs.Analyses.{Analysis, AreClear, IsCounted, IsMet, Meets, OthersOf, HasMetAll}
+use Rattle.conflict_learn.specs.Analyses.{IsWalk, IsAt}
 use Rattle.conflict_learn.specs.Analyses.{is_marked, is_kept, is_open, count_to}
 use Rattle.conflict_learn.proofs.Counting.{count_up, count_some}
 use Rattle.conflict_learn.proofs.Literally.{negation_back, negation_same, stands_same, stands_index, stands_contains}
-use Rattle.conflict_learn.proofs.Literally.{contains_stands, stands_front, front_stands, lit_decided, but_not, but_is, but_marked}
+use Rattle.conflict_learn.proofs.Literally.{stands_front, front_stands, lit_decided, but_not}
+use Rattle.conflict_learn.proofs.Literally.{but_is, but_marked}
 use Rattle.conflict_learn.proofs.Literally.{but_kept, stands_here}
 use Rattle.conflict_learn.proofs.Meeting.{marked_else, marked_here, marked_read}
 
@@ -148,7 +152,8 @@ walk_expands clauses lits index id l old new was now hints differ e w =
     let Used : Lit → Type 0 = λ x. (other : ℕ) × Contains (id ∷ hints) other
     × Contains (clause_at clauses other) (negation x) in
     record {
-      leads = λ truths m c b place. hint_leads clauses lits index id l old new was now hints differ e w truths m c b place;
+      leads = λ truths m c b place.
+          hint_leads clauses lits index id l old new was now hints differ e w truths m c b place;
       some = omega arith;
       used = λ hint x h c. ⊎_elim
           (λ same.
@@ -157,7 +162,11 @@ walk_expands clauses lits index id l old new was now hints differ e w =
           ⊎_elim
           (λ is. let o = w.open_come index (negation l) e.was_open
           (subst (StandsAt lits index) (sym (negation_back l)) e.here) in
-          inr (inr (o.0, later o.0 o.1, subst (λ (y : Lit). Contains (clause_at clauses o.0) (negation y)) (sym is) o.2)))
+          inr (inr (
+            o.0,
+            later o.0 o.1,
+            subst (λ (y : Lit). Contains (clause_at clauses o.0) (negation y)) (sym is) o.2,
+          )))
           (λ ne. ⊎_elim (λ kept. inl kept) (λ o. inr (inl o)) (e.met x (in_reason, ne)))
           (lit_decided x l))
           (λ old_hint. ⊎_elim
@@ -168,7 +177,8 @@ walk_expands clauses lits index id l old new was now hints differ e w =
             id,
             here,
             subst (Contains (clause_at clauses id))
-                (stands_same lits index l (negation x) e.here (subst (λ n. StandsAt lits n (negation x)) same o.1)) e.there,
+                (stands_same lits index l (negation x) e.here
+                (subst (λ n. StandsAt lits n (negation x)) same o.1)) e.there,
           )))
           (λ ne. inr (inl (o.0, o.1, e.open_stay o.0 o.2 ne)))
           (cases_eq o.0 index))

@@ -6,8 +6,10 @@ ghost use Rattle.plain_lits.specs.HintCheck.{clause_at};
 ghost use Rattle.plain_lits.specs.Literals.{negation, IsClauseOf};
 ghost use Rattle.unit_propagate.specs.Search.{IsConflict, IsSearch};
 ghost use Rattle.conflict_learn.specs.declared.workspace.Border.TheVariants.{Below, Assumed};
-ghost use Rattle.conflict_learn.specs.Analyses.{analysis_of, AreClear, AreLeft, IsAt, HasMetAll, IsFirstUip, IsLevelOf};
-ghost use Rattle.conflict_learn.specs.Learning.{IsDecided, IsSettled, IsLearned, IsNew, IsUnitFrom, IsOpenBelow, IsAssumed};
+ghost use Rattle.conflict_learn.specs.Analyses.{analysis_of, AreClear, AreLeft, IsAt, HasMetAll, IsFirstUip};
+ghost use Rattle.conflict_learn.specs.Analyses.{IsLevelOf};
+ghost use Rattle.conflict_learn.specs.Learning.{IsDecided, IsSettled, IsLearned, IsNew, IsUnitFrom};
+ghost use Rattle.conflict_learn.specs.Learning.{IsOpenBelow, IsAssumed};
 ghost use Rattle.conflict_learn.specs.Learning.{last_start};
 
 use crate::learner::{Core, Learned};

@@ -3,7 +3,8 @@
 ghost use Rattle.std.specs.Prelude.{◌≡◌, ◌<◌, length, Contains, IfOk};
 ghost use Rattle.plain_lits.specs.declared.lit.Lit.{Lit};
 ghost use Rattle.unit_propagate.specs.Search.{IsConflict};
-ghost use Rattle.conflict_learn.specs.Learning.{IsDecided, IsSettled, IsLearned, IsNew, IsUnitFrom, IsOpenBelow, IsAssumed};
+ghost use Rattle.conflict_learn.specs.Learning.{IsDecided, IsSettled, IsLearned, IsNew, IsUnitFrom};
+ghost use Rattle.conflict_learn.specs.Learning.{IsOpenBelow, IsAssumed};
 
 use crate::workspace::Workspace;
 use plain_lists::{Items, Memory};

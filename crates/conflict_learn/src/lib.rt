@@ -3,6 +3,8 @@
 
 mod analysis;
 mod learner;
+#[cfg(test)]
+mod tests;
 mod walk;
 mod workspace;
 

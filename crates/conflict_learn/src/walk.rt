@@ -36,8 +36,8 @@ pub(crate) fn unmark(marks: &mut Vec<bool>, clause: &[Lit], search: &Propagator)
     ensures { AreClear marks.new.items }
 {
     for lit in clause {
-        let index = search.position(!*lit);
-        marks[index] = false;
+        let at = search.position(!*lit);
+        marks[at] = false;
     }
 }
 
@@ -52,7 +52,8 @@ impl Workspace {
         requires clear { AreClear self.old.marks.items }
         requires conflict { IsConflict search.now.clauses search.now.lits conflict }
         ensures at { OnOk result (IsAt search.now border (analysis_of self.new) (length search.now.lits)) }
-        ensures met { OnOk result (HasMetAll search.now border (analysis_of self.new) (clause_at search.now.clauses conflict)) }
+        ensures met { OnOk result (HasMetAll search.now border (analysis_of self.new)
+            (clause_at search.now.clauses conflict)) }
         ensures hints { OnOk result (self.new.hints.items ≡ conflict ∷ []) }
     {
         let unknown = Lit {

@@ -4,7 +4,8 @@ ghost use Rattle.std.specs.Prelude.{◌≡◌, ◌≢◌, ℕ, ◌<◌, ◌≤�
 ghost use Rattle.plain_lits.specs.declared.lit.Lit.{Lit};
 ghost use Rattle.plain_lits.specs.HintCheck.{clause_at, IsNamed};
 ghost use Rattle.plain_lits.specs.Literals.{negation};
-ghost use Rattle.conflict_learn.specs.Analyses.{analysis_of, is_kept, is_marked, AreClear, IsCounted, Meets, OthersOf};
+ghost use Rattle.conflict_learn.specs.Analyses.{analysis_of, is_kept, is_marked, AreClear, IsCounted, Meets};
+ghost use Rattle.conflict_learn.specs.Analyses.{OthersOf};
 ghost use Rattle.conflict_learn.specs.Learning.{StandsAt};
 
 use plain_lists::Memory;
@@ -19,9 +20,9 @@ pub(crate) enum Border {
     Assumed,
 }
 
-/// The arrays. `marks` says by its index whether a true literal was met. A literal that was met goes into the clause, or
-/// is open, so that the walk will replace it by its reason; `open_count` counts these. The conflict is the first of
-/// `hints`. Between analyses nothing is marked.
+/// The arrays. `marks` says of a true literal, by its index, whether it was met. The negation of one that was met goes
+/// into the clause, or it is open: the walk will replace it by its reason. `open_count` counts the open ones. The
+/// conflict is the first of `hints`. Between analyses nothing is marked.
 #[derive(Debug, Drop)]
 pub(crate) struct Workspace {
     pub(crate) alloc: Global,
@@ -103,7 +104,8 @@ impl Workspace {
         requires stands { StandsAt search.now.lits index (negation lit) }
         requires fresh { is_marked self.old.marks.items index ≡ false }
         ensures counted { OnOk result (IsCounted search.now border (analysis_of self.new)) }
-        ensures met { OnOk result (Meets search.now border (analysis_of self.old) (analysis_of self.new) (λ l. l ≡ lit)) }
+        ensures met { OnOk result (Meets search.now border (analysis_of self.old) (analysis_of self.new)
+            (λ l. l ≡ lit)) }
     {
         let _count = self.marks.len();
         let kept = keeps(search, border, index);
@@ -121,7 +123,8 @@ impl Workspace {
         requires counted { IsCounted search.now border (analysis_of self.old) }
         requires falsified { Contains search.now.lits (negation lit) }
         ensures counted { OnOk result (IsCounted search.now border (analysis_of self.new)) }
-        ensures met { OnOk result (Meets search.now border (analysis_of self.old) (analysis_of self.new) (λ l. l ≡ lit)) }
+        ensures met { OnOk result (Meets search.now border (analysis_of self.old) (analysis_of self.new)
+            (λ l. l ≡ lit)) }
     {
         let index = search.position(!lit);
         if self.marks[index] {

@@ -1,4 +1,4 @@
-use Rattle.std.proofs.Common.{◌≡◌, ◌∷◌, ◌++◌, [], false}
+use Rattle.std.proofs.Common.{false}
 use Rattle.plain_lits.specs.declared.lit.Lit.{Lit}
 use Rattle.conflict_learn.specs.declared.workspace.Border.TheVariants.{Below}
 use Rattle.conflict_learn.specs.Analyses.{analysis_of}

@@ -1,4 +1,3 @@
-use Rattle.std.proofs.Common.{IfOk}
 use Rattle.conflict_learn.specs.declared.workspace.Border.TheVariants.{Assumed}
 use Rattle.conflict_learn.specs.Analyses.{analysis_of}
 use Rattle.conflict_learn.proofs.Ending.{core_learned, core_assumed, left_none, kept_false}

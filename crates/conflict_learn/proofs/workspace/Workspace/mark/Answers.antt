@@ -1,6 +1,6 @@
-use Rattle.std.proofs.Common.{◌≡◌, ◌∷◌, ◌++◌, [], arith, sym, ap, subst, ◌∙◌}
-use Rattle.conflict_learn.specs.Analyses.{analysis_of, IsCounted, Meets}
-use Rattle.conflict_learn.proofs.Meeting.{kept_counted, kept_meets, open_counted, open_meets, open_room, kept_pushed}
+use Rattle.std.proofs.Common.{arith, sym, ◌∙◌}
+use Rattle.conflict_learn.specs.Analyses.{analysis_of}
+use Rattle.conflict_learn.proofs.Meeting.{open_counted, open_meets, open_room, kept_pushed}
 use Rattle.conflict_learn.proofs.workspace.Workspace.mark.Goals as goal
 
 pub returns-then-kept-clause-counted : goal.returns-then-kept-clause-counted

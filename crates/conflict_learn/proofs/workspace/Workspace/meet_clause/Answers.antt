@@ -1,4 +1,4 @@
-use Rattle.std.proofs.Common.{arith, ap}
+use Rattle.std.proofs.Common.{ap}
 use Rattle.plain_lits.specs.HintCheck.{clause_at}
 use Rattle.conflict_learn.specs.Analyses.{analysis_of}
 use Rattle.conflict_learn.proofs.Meeting.{all_met, all_past}
@@ -10,13 +10,15 @@ loop-packed-preserved c =
     elim c.if-ne.branch [
       | then-ne+in_ok-meet w ↦ all_met c.args.search.now c.args.border (analysis_of c.args.self.now)
           (analysis_of c.loop-packed.self) (analysis_of w.meet.new.self) (analysis_of c.if-ne.self)
-          (clause_at c.args.search.now.clauses c.args.id) c.clause-packed-items.result.now c.args.but c.packed-item.result c.lit-lit.result
+          (clause_at c.args.search.now.clauses c.args.id) c.clause-packed-items.result.now
+          c.args.but c.packed-item.result c.lit-lit.result
           c.loop-packed.packed-index c.ne.result c.clause-packed-items.ensures c.loop-packed-test.true c.packed-item.is
           c.lit-lit.ensures.lit c.ne.ensures w.if-ne.true c.loop-packed.invariant.1 w.in_ok-meet.ensures.counted
           w.in_ok-meet.ensures.met (ap analysis_of w.self-is)
       | else-ne w ↦ all_past c.args.search.now c.args.border (analysis_of c.args.self.now)
           (analysis_of c.loop-packed.self) (analysis_of c.if-ne.self)
-          (clause_at c.args.search.now.clauses c.args.id) c.clause-packed-items.result.now c.args.but c.packed-item.result c.lit-lit.result
+          (clause_at c.args.search.now.clauses c.args.id) c.clause-packed-items.result.now
+          c.args.but c.packed-item.result c.lit-lit.result
           c.loop-packed.packed-index c.ne.result c.clause-packed-items.ensures c.loop-packed-test.true c.packed-item.is
           c.lit-lit.ensures.lit c.ne.ensures w.if-ne.false c.loop-packed.invariant.0 c.loop-packed.invariant.1
           (ap analysis_of w.self-is)

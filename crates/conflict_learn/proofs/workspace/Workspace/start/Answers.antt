@@ -1,5 +1,4 @@
 use Rattle.std.proofs.Common.{List, ℕ, ◌∷◌, ◌++◌, [], ap, ◌∙◌}
-use Rattle.plain_lits.specs.declared.lit.Lit.{Lit}
 use Rattle.conflict_learn.specs.Analyses.{analysis_of}
 use Rattle.conflict_learn.proofs.Walking.{at_begun, both_ok}
 use Rattle.conflict_learn.proofs.workspace.Workspace.start.Goals as goal

@@ -1,5 +1,5 @@
 use Rattle.conflict_learn.specs.Analyses.{analysis_of}
-use Rattle.conflict_learn.proofs.Walking.{at_unmarked, at_kept, open_if}
+use Rattle.conflict_learn.proofs.Walking.{at_unmarked, at_kept}
 use Rattle.conflict_learn.proofs.workspace.Workspace.step.Goals as goal
 
 pub returns-then-not-index-clause-at : goal.returns-then-not-index-clause-at

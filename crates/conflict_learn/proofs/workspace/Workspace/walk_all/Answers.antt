@@ -1,4 +1,4 @@
-use Rattle.std.proofs.Common.{◌<◌, ◌≤◌, arith}
+use Rattle.std.proofs.Common.{arith}
 use Rattle.conflict_learn.specs.declared.workspace.Border.TheVariants.{Assumed}
 use Rattle.conflict_learn.specs.Analyses.{analysis_of}
 use Rattle.conflict_learn.proofs.Descending.{at_positive, at_lower, assumed_reason}
