@@ -29,8 +29,8 @@ PROGRAM = """\
 #![tactic(auto)]
 
 use hinted_log::LogFault;
-use plain_lists::Memory;
-use plain_lits::{Budget, Clause, Lit};
+use plain_lists::{Items, Memory};
+use plain_lits::{Budget, Clause, Halt, Lit};
 use sat_core::{Added, Solved, Solver};
 use std::alloc::Global;
 use std::io;
@@ -64,41 +64,103 @@ fn add_clause(solver: &mut Solver, alloc: Global, lits: &[Lit]) -> Result<(), Lo
     Ok(())
 }
 
-fn main(rt: HostRuntime) -> io::Result<()> {
-    let alloc = rt.alloc();
-    let mut solver = match Solver::open(alloc, 50_000_000) {
-        Ok(solver) => solver,
-        Err(_) => return Ok(()),
-    };
-    for line in rt.lines(alloc) {
-        let line = line?;
-        if line.as_str().starts_with('p') || line.as_str().starts_with('c') {
-            continue;
-        }
-        match read_lits(alloc, line.as_str()) {
-            Ok(lits) => {
-                if add_clause(&mut solver, alloc, lits.as_slice()).is_err() {
-                    println!(rt; "stopped")?;
-                }
-            }
-            Err(_) => println!(rt; "stopped")?,
-        }
+/// Adds the clause of a line.
+fn add_line(solver: &mut Solver, alloc: Global, line: &str) -> Result<(), LogFault> {
+    if line.starts_with('p') || line.starts_with('c') {
+        return Ok(());
     }
-    println!(rt; "read")?;
+    let lits = read_lits(alloc, line)?;
+    add_clause(solver, alloc, lits.as_slice())
+}
+
+/// What a search found: whether there is a model, the numbers of conflicts and literals, and the model.
+#[derive(Drop)]
+struct Outcome {
+    satisfiable: bool,
+    conflicts: u64,
+    literals: u64,
+    model: Items<Lit>,
+}
+
+/// Searches under no assumption.
+fn solve_free(solver: &mut Solver, budget: &mut Budget) -> Result<Solved, Halt> {
+    solver.solve(&[], budget)
+}
+
+/// Searches, with no end to its budget; none where memory ends.
+fn found(solver: &mut Solver, alloc: Global) -> Option<Outcome> {
     let mut budget = Budget::new(u64::MAX);
-    match solver.solve(&[], &mut budget) {
-        Ok(Solved::Model(lits)) => {
-            println!(rt; "SATISFIABLE {} {}", budget.used(), solver.propagated())?;
-            for lit in lits.as_slice() {
-                let sign = if lit.positive { "" } else { "-" };
-                println!(rt; "{sign}{}", lit.var.saturating_add(1))?;
-            }
-        }
-        Ok(Solved::Core(_)) => println!(rt; "UNSATISFIABLE {} {}", budget.used(), solver.propagated())?,
-        Err(_) => println!(rt; "stopped")?,
+    let told = solve_free(solver, &mut budget).ok()?;
+    let literals = solver.propagated();
+    let conflicts = budget.used();
+    match told {
+        Solved::Model(model) => Some(Outcome {
+            satisfiable: true,
+            conflicts,
+            literals,
+            model,
+        }),
+        Solved::Core(_) => Some(Outcome {
+            satisfiable: false,
+            conflicts,
+            literals,
+            model: Items::new(alloc),
+        }),
+    }
+}
+
+/// Prints a literal.
+fn print_lit(rt: &impl Print, lit: Lit) -> io::Result<()> {
+    let number = lit.var.saturating_add(1);
+    if lit.positive {
+        return println!(rt; "{number}");
+    }
+    println!(rt; "-{number}")
+}
+
+/// Prints what was found.
+fn print_outcome(rt: &impl Print, outcome: &Outcome) -> io::Result<()> {
+    let conflicts = outcome.conflicts;
+    let literals = outcome.literals;
+    if outcome.satisfiable {
+        println!(rt; "SATISFIABLE {conflicts} {literals}")?;
+    } else {
+        println!(rt; "UNSATISFIABLE {conflicts} {literals}")?;
+    }
+    for lit in outcome.model.as_slice() {
+        print_lit(rt, *lit)?;
     }
     Ok(())
 }
+
+/// Reads the clauses.
+fn read_clauses(rt: &(impl Input + Print + AllocGlobal), solver: &mut Solver) -> io::Result<()> {
+    for line in rt.lines(rt.alloc()) {
+        let line = line?;
+        if add_line(solver, rt.alloc(), line.as_str()).is_err() {
+            return Ok(());
+        }
+    }
+    println!(rt; "read")
+}
+
+fn main(rt: HostRuntime) -> io::Result<()> {
+    if let Ok(mut solver) = Solver::open(rt.alloc(), 50_000_000) {
+        read_clauses(&rt, &mut solver)?;
+        if let Some(outcome) = found(&mut solver, rt.alloc()) {
+            print_outcome(&rt, &outcome)?;
+        }
+    }
+    Ok(())
+}
+"""
+
+ANSWERS = """\
+use Rattle.sat_core.proofs.Searching.{plain_none}
+use Rattle.sat_bench.proofs.solve_free.Goals as goal
+
+pub solve-requires : goal.solve-requires
+solve-requires c = plain_none
 """
 
 
@@ -153,6 +215,8 @@ def built(folder):
     crate = folder / "crates" / "sat_bench"
     (crate / "src").mkdir(parents=True)
     (crate / "src" / "main.rt").write_text(PROGRAM, encoding="utf-8")
+    (crate / "proofs" / "solve_free").mkdir(parents=True)
+    (crate / "proofs" / "solve_free" / "Answers.antt").write_text(ANSWERS, encoding="utf-8")
     (crate / "stdin").write_text("1 0\n", encoding="utf-8")
     (crate / "stdout").write_text("read\nSATISFIABLE 0 1\n1\n", encoding="utf-8")
     done = subprocess.run(["rt", "run"], cwd=crate, stdout=subprocess.PIPE, stderr=subprocess.STDOUT, text=True,

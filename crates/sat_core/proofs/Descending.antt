@@ -1,7 +1,7 @@
 -- What a descent finds.
-use Rattle.std.proofs.Common.{◌≡◌, ◌≢◌, ℕ, ◌<◌, ◌≤◌, ◌+◌, List, [], ◌∷◌, ◌++◌, length, get_or, Bool, true, false}
-use Rattle.std.proofs.Common.{arith, ap, sym, subst, ◌∙◌, refl, inl, inr, ⊎_elim, Ok, Err, below_more}
-use Rattle.std.specs.Prelude.{Contains, ◌⊎◌, Option, None, Some, MatchOption}
+use Rattle.std.proofs.Common.{◌≡◌, ◌≢◌, ℕ, ◌<◌, ◌≤◌, ◌+◌, List, [], ◌∷◌, length, Bool, true, false}
+use Rattle.std.proofs.Common.{arith, ap, sym, subst, ◌∙◌, refl, inl, inr, ⊎_elim}
+use Rattle.std.specs.Prelude.{Contains, ◌⊎◌}
 use Rattle.std.proofs.lemmas.Bool.{cases_lt}
 use Rattle.std.proofs.lemmas.List.{length_push}
 use Rattle.plain_lists.proofs.Membership.{Contains-nil, Contains-head, Contains-tail, Contains-cons_cases}
@@ -10,15 +10,13 @@ use Rattle.plain_lits.specs.declared.value.Value.{Value}
 use Rattle.plain_lits.specs.declared.value.Value.TheVariants.{True, False, Unset}
 use Rattle.plain_lits.specs.Literals.{negation}
 use Rattle.plain_lits.specs.Values.{IsValueIn}
-use Rattle.plain_lits.specs.HintCheck.{clause_at, IsNamed, IsFalsified, IsTautology}
+use Rattle.plain_lits.specs.HintCheck.{clause_at, IsNamed, IsFalsified}
 use Rattle.unit_propagate.specs.Search.{Search, IsSearch, IsQuiet, HasGrown, Decides, GoesBack}
 use Rattle.unit_propagate.proofs.Fronts.{consistent}
-use Rattle.hinted_log.specs.Logs.{Step, LogState}
-use Rattle.conflict_learn.specs.Learning.{StandsAt}
-use Rattle.sat_core.specs.Runs.{HasValue, HaveValuesFrom, HaveValues, IsUnsetIn}
-use Rattle.sat_core.specs.Runs.{IsUnsetVar, GoesOn, IsRun, HasRoom, IsThere}
+use Rattle.sat_core.specs.Runs.{HasValue, HaveValues, IsUnsetIn}
+use Rattle.sat_core.specs.Runs.{IsUnsetVar, GoesOn, IsRun, HasRoom}
 use Rattle.sat_core.specs.Solving.{SolverState, clause_of, IsModel}
-use Rattle.sat_core.specs.Mirrors.{IsMirror, step_of}
+use Rattle.sat_core.specs.Mirrors.{IsMirror}
 use Rattle.sat_core.proofs.Running.{grown, decided, back, contains_of}
 use Rattle.sat_core.proofs.Mirroring.{id_of}
 

@@ -1,10 +1,8 @@
 -- The log and the steps in use are the same from the front on.
 use Rattle.std.proofs.Common.{◌≡◌, ℕ, ◌+◌, List, [], ◌∷◌, ◌++◌, length, ap, sym, ◌∙◌, refl, subst}
 use Rattle.std.proofs.lemmas.List.{append-nil, append_assoc}
-use Rattle.std.specs.Prelude.{Option}
 use Rattle.plain_lits.specs.declared.lit.Lit.{Lit}
-use Rattle.hinted_log.specs.Logs.{Step, LogState, derived_step}
-use Rattle.sat_core.specs.declared.answer.Pending.{Pending}
+use Rattle.hinted_log.specs.Logs.{LogState, derived_step}
 use Rattle.sat_core.specs.Solving.{SolverState, Keeps, with_unit}
 use Rattle.sat_core.specs.Mirrors.{IsDerived}
 use Rattle.sat_core.proofs.Searching.{Recorded}

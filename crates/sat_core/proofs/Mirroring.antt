@@ -1,23 +1,23 @@
 -- The clauses of the propagator beside the steps of the log.
-use Rattle.std.proofs.Common.{◌≡◌, ◌≢◌, ℕ, ◌<◌, ◌≤◌, ◌+◌, ◌-◌, List, [], ◌∷◌, ◌++◌, length, get_or, take, map}
+use Rattle.std.proofs.Common.{◌≡◌, ℕ, ◌<◌, ◌+◌, ◌-◌, List, [], ◌∷◌, ◌++◌, length, get_or, take, map}
 use Rattle.std.proofs.Common.{arith, ap, sym, subst, ◌∙◌, refl, inl, inr, ⊎_elim, length-append, Ok, Err}
-use Rattle.std.specs.Prelude.{Contains, ◌⊎◌}
+use Rattle.std.specs.Prelude.{Contains}
 use Rattle.std.specs.List.Sorted.{IsStrictlyIncreasing}
 use Rattle.std.proofs.Math.Seq.{get_or-append_seam}
 use Rattle.std.proofs.lemmas.List.{get_or_default, get_or_append_left, take_all, length-map}
 use Rattle.std.proofs.lemmas.Bool.{cases_lt}
 use Rattle.plain_lits.specs.declared.lit.Lit.{Lit}
 use Rattle.plain_lits.specs.Literals.{negation}
-use Rattle.plain_lits.specs.HintCheck.{clause_at, IsNamed, IsFalsified, Checks}
-use Rattle.plain_lits.specs.CheckLaws.{IsSound, Renames, IsImage, IsMovedHint, IsMovedCheck}
+use Rattle.plain_lits.specs.HintCheck.{clause_at, IsNamed, Checks}
+use Rattle.plain_lits.specs.CheckLaws.{Renames, IsImage}
 use Rattle.plain_lits.proofs.HintCheckLemmas.{Contains-mapped, Contains-from_mapped, taken_sound}
 use Rattle.plain_lits.proofs.OneOutcome.{cases_lit, one_outcome}
 use Rattle.plain_lits.proofs.Renaming.{checks_moved}
-use Rattle.hinted_log.specs.Logs.{Step, LogState, IsStepOf, AddsStep, AddsDerived, clauses_of, step_at, no_step}
+use Rattle.hinted_log.specs.Logs.{Step, LogState, IsStepOf, AddsStep, AddsDerived, clauses_of, no_step}
 use Rattle.hinted_log.specs.Logs.{derived_step}
 use Rattle.hinted_log.proofs.Following.{clause_of_step, length-clauses_of}
 use Rattle.conflict_learn.specs.Learning.{AreUsed, ComesFromHints, IsLearned, IsNew}
-use Rattle.sat_core.specs.Solving.{SolverState, clause_of, Holds, IsShown, IsNewTo, IsUnitOf, with_derived}
+use Rattle.sat_core.specs.Solving.{SolverState, clause_of, IsShown, IsUnitOf, with_derived}
 use Rattle.sat_core.specs.Mirrors.{step_of, IsMirror, IsDerived}
 use Rattle.sat_core.proofs.Running.{clause_cases}
 

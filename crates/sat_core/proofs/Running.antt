@@ -1,23 +1,21 @@
 -- A search goes on: levels begin, grow and are taken back, and clauses come.
-use Rattle.std.proofs.Common.{◌≡◌, ◌≢◌, ℕ, ◌<◌, ◌≤◌, ◌+◌, ◌-◌, List, [], ◌∷◌, ◌++◌, length, get_or, take}
-use Rattle.std.proofs.Common.{arith, ap, sym, subst, ◌∙◌, refl, inl, inr, ⊎_elim, length-append, length-take, max}
+use Rattle.std.proofs.Common.{◌≡◌, ℕ, ◌<◌, ◌≤◌, ◌+◌, ◌-◌, List, [], ◌∷◌, ◌++◌, length, get_or, take}
+use Rattle.std.proofs.Common.{arith, ap, sym, subst, ◌∙◌, refl, inl, inr, ⊎_elim, length-append, length-take}
 use Rattle.std.specs.Prelude.{Contains, ◌⊎◌}
-use Rattle.std.proofs.Math.ListN.{set}
 use Rattle.std.proofs.Math.Seq.{get_or-append_seam}
 use Rattle.std.proofs.lemmas.List.{get_or_default, get_or-set_other, get_or_append_left, get_or-take}
-use Rattle.std.proofs.lemmas.List.{take-append-le, take-take, take_all, take_at, append-nil}
-use Rattle.std.proofs.lemmas.Bool.{cases_lt, cases_eq}
+use Rattle.std.proofs.lemmas.List.{take-append-le, take-take, take_at}
+use Rattle.std.proofs.lemmas.Bool.{cases_lt}
 use Rattle.plain_lits.specs.declared.lit.Lit.{Lit}
 use Rattle.plain_lits.specs.Literals.{negation}
 use Rattle.plain_lits.specs.HintCheck.{clause_at, IsNamed, IsFalsified, IsUnit}
-use Rattle.plain_lits.specs.Trails.{AreLevels, VarsDiffer}
 use Rattle.plain_lits.proofs.OneOutcome.{cases_lit}
 use Rattle.unit_propagate.specs.Search.{Search, IsSearch, IsQuiet, HasGrown, Decides, GoesBack, GainsBlock, GainsClause}
-use Rattle.unit_propagate.specs.Search.{Learns, StaysSearch, StaysAssigned}
+use Rattle.unit_propagate.specs.Search.{Learns, StaysSearch}
 use Rattle.unit_propagate.proofs.Fronts.{consistent}
-use Rattle.conflict_learn.specs.Learning.{StandsAt, IsDecided, IsSettled, IsOpen, IsAssumed, IsUnitFrom, IsOpenBelow}
-use Rattle.conflict_learn.specs.Learning.{lits_at, last_start}
-use Rattle.sat_core.specs.Runs.{IsEarly, BeginsAt, IsThere, IsGround, HasRoom, IsRun, IsBased, IsResting, GoesOn}
+use Rattle.conflict_learn.specs.Learning.{StandsAt, IsDecided, IsSettled, IsOpen, IsAssumed}
+use Rattle.conflict_learn.specs.Learning.{lits_at}
+use Rattle.sat_core.specs.Runs.{IsEarly, BeginsAt, HasRoom, IsRun, IsBased, IsResting}
 
 -- a literal that stands at an index
 pub stands_of : (lits : List Lit) (l : Lit) → Contains lits l → (index : ℕ) × StandsAt lits index l

@@ -1,8 +1,8 @@
 -- A whole search: turns, one after the other, and what they tell.
-use Rattle.std.proofs.Common.{◌≡◌, ◌≢◌, ℕ, ◌<◌, ◌≤◌, ◌+◌, ◌-◌, List, [], ◌∷◌, ◌++◌, length, get_or, take, map}
+use Rattle.std.proofs.Common.{◌≡◌, ◌≢◌, ℕ, ◌+◌, List, [], ◌∷◌, ◌++◌, length, take}
 use Rattle.std.proofs.Common.{Bool, true, false, not, arith, ap, sym, subst}
-use Rattle.std.proofs.Common.{◌∙◌, refl, inl, inr, ⊎_elim, Ok, Err, Result, add_assoc}
-use Rattle.std.specs.Prelude.{Contains, ◌⊎◌, Option, None, Some}
+use Rattle.std.proofs.Common.{◌∙◌, refl, ⊎_elim, Ok, Err, Result}
+use Rattle.std.specs.Prelude.{Contains}
 use Rattle.plain_lists.proofs.Membership.{Contains-nil, Contains-cons_cases}
 use Rattle.plain_lits.specs.declared.lit.Lit.{Lit}
 use Rattle.plain_lits.specs.Literals.{negation}
@@ -10,7 +10,6 @@ use Rattle.plain_lits.specs.declared.halt.Halt.{Halt}
 use Rattle.plain_lits.specs.declared.halt.Halt.TheVariants.{Spent, LogFull, Memory}
 use Rattle.plain_lits.specs.Units.{Units}
 use Rattle.hinted_log.specs.Logs.{Step, LogState, IsLog, IsStepOf, derived_step}
-use Rattle.unit_propagate.specs.Search.{Search, IsSearch, GainsBlock, GoesBack, StaysSearch, GainsClause}
 use Rattle.sat_core.specs.declared.answer.Added.{Added}
 use Rattle.sat_core.specs.declared.answer.Added.TheVariants.{Axiom, Side, Derived}
 use Rattle.sat_core.specs.declared.answer.Solved.{Solved}
@@ -18,12 +17,10 @@ use Rattle.sat_core.specs.declared.answer.Solved.TheVariants.{Model, Core}
 use Rattle.sat_core.specs.declared.cdcl.Cdcl.{Cdcl}
 use Rattle.sat_core.specs.declared.cdcl.End.{End}
 use Rattle.sat_core.specs.declared.cdcl.End.TheVariants.{Satisfied, Refuted, Stopped}
-use Rattle.sat_core.specs.Solving.{SolverState, Learns, one_more, IsUnitOf, IsModel}
-use Rattle.sat_core.specs.Solving.{HasSearched, IsSolver, begun, with_unit, Records}
+use Rattle.sat_core.specs.Solving.{SolverState, Learns, one_more, IsModel}
+use Rattle.sat_core.specs.Solving.{HasSearched, IsSolver, begun, Records}
 use Rattle.sat_core.specs.Mirrors.{IsMirror}
-use Rattle.sat_core.specs.Runs.{IsRun, IsResting, GoesOn}
-use Rattle.sat_core.specs.Turns.{state_of, Goes, LearnsOne, EndsAt, StopsAt, HasRun, Tells}
-use Rattle.sat_core.proofs.Running.{based_of, rests, resting_stays, resting_more, begins}
+use Rattle.sat_core.specs.Turns.{state_of, LearnsOne, EndsAt, StopsAt, HasRun, Tells}
 use Rattle.sat_core.proofs.Mirroring.{mirror_more, mirror_grown, id_of}
 
 -- one clause more is learned

@@ -1,7 +1,7 @@
 -- The look for a step that serves.
-use Rattle.std.proofs.Common.{◌≡◌, ◌≢◌, ℕ, ◌<◌, ◌≤◌, ◌+◌, ◌-◌, List, [], ◌∷◌, ◌++◌, length, get_or, take, map}
-use Rattle.std.proofs.Common.{Bool, true, false, not, arith, ap, sym, subst, ◌∙◌, refl, inl, inr, ⊎_elim}
-use Rattle.std.specs.Prelude.{Contains, ◌⊎◌}
+use Rattle.std.proofs.Common.{◌≡◌, ◌≢◌, ℕ, ◌<◌, ◌≤◌, ◌+◌, List, [], ◌∷◌, ◌++◌, length, get_or, take, map}
+use Rattle.std.proofs.Common.{Bool, true, false, not, arith, ap, sym, subst, ◌∙◌, refl, ⊎_elim}
+use Rattle.std.specs.Prelude.{Contains}
 use Rattle.std.proofs.lemmas.List.{get_or_default, take_more, map-append}
 use Rattle.std.proofs.lemmas.List.Elements.{Contains-push_cases, Contains-append_left}
 use Rattle.std.proofs.lemmas.Bool.{cases_lt}
@@ -16,7 +16,7 @@ use Rattle.plain_lits.proofs.LitOrder.{lit_same}
 use Rattle.unit_propagate.proofs.Fronts.{from_front}
 use Rattle.hinted_log.specs.Logs.{Step, IsStepOf}
 use Rattle.sat_core.specs.Solving.{clause_of, Holds}
-use Rattle.sat_core.specs.Mirrors.{DeniesAll, IsServed, HoldsNone, step_of}
+use Rattle.sat_core.specs.Mirrors.{DeniesAll, IsServed, step_of}
 
 pub denies_none : (clause lits : List Lit) → lits ≡ [] → DeniesAll (take 0 clause) lits
 denies_none clause lits e = record {

@@ -1,24 +1,19 @@
 -- One turn of a search: a clause is learned, or the search ends.
-use Rattle.std.proofs.Common.{◌≡◌, ◌≢◌, ℕ, ◌<◌, ◌≤◌, ◌+◌, ◌-◌, List, [], ◌∷◌, ◌++◌, length, get_or, take, map}
-use Rattle.std.proofs.Common.{arith, ap, sym, subst, ◌∙◌, refl, inl, inr, ⊎_elim, Ok, Err, length-take, Result}
-use Rattle.std.specs.Prelude.{Contains, ◌⊎◌, Option, None, Some, IfErr}
-use Rattle.std.proofs.lemmas.Bool.{cases_lt}
+use Rattle.std.proofs.Common.{◌≡◌, ℕ, ◌<◌, ◌≤◌, ◌+◌, List, [], ◌∷◌, ◌++◌, length, take, map}
+use Rattle.std.proofs.Common.{arith, ap, sym, subst, ◌∙◌, refl, inl, inr, ⊎_elim, Ok, length-take}
+use Rattle.std.specs.Prelude.{Contains}
 use Rattle.plain_lits.specs.declared.lit.Lit.{Lit}
-use Rattle.plain_lits.specs.declared.halt.Halt.{Halt}
-use Rattle.plain_lits.specs.declared.halt.Halt.TheVariants.{Spent, LogFull, Memory}
 use Rattle.plain_lits.specs.Literals.{negation}
-use Rattle.plain_lits.specs.HintCheck.{clause_at, IsNamed, IsFalsified, IsUnit, IsTautology, Checks}
-use Rattle.plain_lits.specs.Units.{Units}
+use Rattle.plain_lits.specs.HintCheck.{IsNamed, IsFalsified, IsUnit, IsTautology, Checks}
 use Rattle.hinted_log.specs.Logs.{Step, LogState, IsStepOf, clauses_of, derived_step}
-use Rattle.unit_propagate.specs.Search.{Search, IsSearch, GoesBack, Learns, StaysSearch}
-use Rattle.conflict_learn.specs.Learning.{IsLearned, IsNew, IsUnitFrom, IsOpenBelow, IsOpen, IsAssumed, lits_at}
-use Rattle.sat_core.specs.declared.answer.Pending.{Pending}
-use Rattle.sat_core.specs.Solving.{SolverState, clause_of, Holds, IsShown, IsUnitOf, IsCore, Closes, EndsCore, IsSpent}
-use Rattle.sat_core.specs.Solving.{with_derived, with_unit}
+use Rattle.unit_propagate.specs.Search.{Search, IsSearch, GoesBack, Learns}
+use Rattle.conflict_learn.specs.Learning.{IsLearned, IsNew, IsOpen, IsAssumed}
+use Rattle.sat_core.specs.Solving.{SolverState, clause_of, IsShown, IsUnitOf, EndsCore}
+use Rattle.sat_core.specs.Solving.{with_unit}
 use Rattle.sat_core.specs.Mirrors.{IsMirror, step_of, AreIds, IsDerived, IsServed, HoldsNone}
-use Rattle.sat_core.specs.Runs.{IsRun, IsBased, HasRoom}
+use Rattle.sat_core.specs.Runs.{IsRun}
 use Rattle.sat_core.specs.Turns.{IsAsserting}
-use Rattle.sat_core.proofs.Running.{back, learned, back_lits, lits_below, stays_run, core_lits, not_assumed, based_of}
+use Rattle.sat_core.proofs.Running.{back, learned, back_lits, lits_below, core_lits, not_assumed}
 use Rattle.std.proofs.lemmas.List.{length-map}
 use Rattle.sat_core.proofs.Mirroring.{mirror_grown, mirror_more, hints_named, unit_of, shown_of, clause_new, step_new}
 use Rattle.sat_core.proofs.Mirroring.{moved}

@@ -1,4 +1,4 @@
-use Rattle.std.proofs.Common.{sym, ap, ◌∙◌, Err}
+use Rattle.std.proofs.Common.{ap, ◌∙◌, Err}
 use Rattle.sat_core.proofs.Mirroring.{never_rejected, derived_is}
 use Rattle.sat_core.proofs.ledger.derive.Goals as goal
 

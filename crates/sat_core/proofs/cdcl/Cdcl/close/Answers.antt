@@ -1,4 +1,4 @@
-use Rattle.std.proofs.Common.{◌≡◌, length, arith, ap, sym, subst, ◌∙◌, refl, map}
+use Rattle.std.proofs.Common.{◌≡◌, arith, subst, refl, map}
 use Rattle.std.specs.Prelude.{Contains}
 use Rattle.sat_core.specs.Mirrors.{IsServed, HoldsNone, step_of}
 use Rattle.sat_core.specs.Turns.{state_of}

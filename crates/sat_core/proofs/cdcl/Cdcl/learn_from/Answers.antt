@@ -1,4 +1,4 @@
-use Rattle.std.proofs.Common.{◌≡◌, length, arith, ap, sym, subst, ◌∙◌, refl, map}
+use Rattle.std.proofs.Common.{◌≡◌, sym, ◌∙◌, refl, map}
 use Rattle.hinted_log.proofs.Proofs.{not_so}
 use Rattle.sat_core.specs.Mirrors.{step_of}
 use Rattle.sat_core.specs.Turns.{state_of}

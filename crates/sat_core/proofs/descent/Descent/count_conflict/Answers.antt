@@ -1,4 +1,4 @@
-use Rattle.std.proofs.Common.{◌<◌, length, arith, ap}
+use Rattle.std.proofs.Common.{length, arith, ap}
 use Rattle.sat_core.proofs.Descending.{on_back}
 use Rattle.sat_core.proofs.descent.Descent.count_conflict.Goals as goal
 
