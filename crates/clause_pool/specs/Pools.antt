@@ -1,0 +1,21 @@
+-- A pool's tokens, and what a look into it finds.
+use Rattle.std.specs.Prelude.{◌≡◌, ◌+◌, ◌<◌, ℕ, List, length, slice_index_or}
+use Rattle.boxcar.specs.Table.{Shows}
+use Rattle.oracle_face.specs.Entries.{IsShareable}
+use Rattle.oracle_face.specs.declared.entry.Entry.{Entry}
+use Rattle.clause_pool.specs.declared.pool.Pool.{Pool}
+use Rattle.clause_pool.specs.declared.pooled.Pooled.{Pooled}
+use Rattle.clause_pool.specs.declared.pooled.Token.{Token}
+
+-- the token was given by this pool, for an entry that may be shared
+pub record IsTokenOf (pool : Pool) (token : Token) : Type 0 where
+  pub shown : Shows pool.entries token.pushed
+  pub shareable : IsShareable token.pushed.value
+
+-- the entry that was shared for the token
+abbrev pub entry_of : Token → Entry
+entry_of token = token.pushed.value
+
+-- the entries stand at the indexes from the first on, one after the other
+abbrev pub AreFrom : ℕ → List Pooled → Type 0
+AreFrom from entries = (k : ℕ) (d : Pooled) → k < length entries → (slice_index_or entries k d).index ≡ from + k

@@ -1,0 +1,22 @@
+-- Clauses that sessions hand each other.
+use Rattle.std.specs.Prelude.{List, All}
+use Rattle.meaning_atoms.specs.Atoms.{IsLit}
+use Rattle.meaning_atoms.specs.Literals.{AsksNothing}
+use Rattle.meaning_atoms.specs.Worlds.{IsValid}
+use Rattle.meaning_atoms.specs.declared.axiom.AfAxiom.{AfAxiom}
+use Rattle.meaning_atoms.specs.declared.axiom.AxiomName.TheVariants.{Af}
+use Rattle.af_axioms.specs.Table.{table_clause}
+use Rattle.oracle_face.specs.declared.entry.Entry.{Entry}
+use Rattle.oracle_face.specs.declared.entry.EntryName.{EntryName}
+use Rattle.oracle_face.specs.declared.entry.EntryOrigin.TheVariants.{Axiom}
+
+-- the entry's clause is true in every world of every framework, whatever the side clauses; it asks for none, and its
+-- atoms are within their bounds
+pub record IsShareable (entry : Entry) : Type 0 where
+  pub valid : IsValid entry.clause
+  pub plain : AsksNothing entry.clause
+  pub within : All IsLit entry.clause
+
+-- the entry of an axiom
+abbrev pub axiom_entry : AfAxiom → EntryName → Entry
+axiom_entry rule name = record { clause = table_clause rule; name = name; origin = Axiom (Af rule) }

@@ -1,0 +1,83 @@
+//! Clauses that sessions hand each other.
+
+ghost use Rattle.std.specs.Prelude.{◌≡◌, IfOk};
+ghost use Rattle.meaning_atoms.specs.Axioms.{IsAfAxiom};
+ghost use Rattle.oracle_face.specs.Entries.{IsShareable, axiom_entry};
+
+use af_axioms::clause_of;
+use meaning_atoms::{AfAxiom, AtomLit, AxiomName};
+use plain_lists::{Items, Memory};
+use plain_lits::StepId;
+use std::alloc::Global;
+
+/// Where an entry comes from: a session by its number, and the step of its log.
+#[derive(Clone, Copy, Debug, PartialEq, Eq)]
+pub struct EntryName {
+    pub session: u32,
+    pub step: StepId,
+}
+
+/// A clause that another clause follows from: an axiom, or an entry.
+#[derive(Clone, Copy, Debug, PartialEq, Eq)]
+pub enum HintName {
+    Axiom(AxiomName),
+    Entry(EntryName),
+}
+
+/// Why an entry's clause is true: it is an axiom's, or it follows from others by unit propagation, in this order.
+#[derive(Debug, Drop, PartialEq, Eq)]
+pub enum EntryOrigin {
+    Axiom(AxiomName),
+    Hints(Items<HintName>),
+}
+
+/// A clause with its name and its origin.
+#[derive(Debug, Drop, PartialEq, Eq)]
+pub struct Entry {
+    pub clause: Items<AtomLit>,
+    pub name: EntryName,
+    pub origin: EntryOrigin,
+}
+
+impl Entry {
+    /// The entry of an axiom of abstract frameworks by its name. Every such entry may be shared.
+    pub fn of_axiom(alloc: Global, rule: AfAxiom, name: EntryName) -> Result<Entry, Memory>
+        requires { IsAfAxiom rule }
+        ensures entry { IfOk result (λ entry. entry ≡ axiom_entry rule name) }
+        ensures shareable { IfOk result IsShareable }
+    {
+        Ok(Entry {
+            clause: clause_of(alloc, &rule)?,
+            name,
+            origin: EntryOrigin::Axiom(AxiomName::Af(rule)),
+        })
+    }
+
+    /// The same entry again.
+    pub fn copy(&self, alloc: Global) -> Result<Entry, Memory>
+        ensures { IfOk result (λ copy. copy ≡ self.now) }
+    {
+        Ok(Entry {
+            clause: copy_items(alloc, self.clause.as_slice())?,
+            name: self.name,
+            origin: copy_origin(alloc, &self.origin)?,
+        })
+    }
+}
+
+/// The same origin again.
+fn copy_origin(alloc: Global, origin: &EntryOrigin) -> Result<EntryOrigin, Memory>
+    ensures { IfOk result (λ copy. copy ≡ origin.now) }
+{
+    match origin {
+        EntryOrigin::Axiom(name) => Ok(EntryOrigin::Axiom(*name)),
+        EntryOrigin::Hints(hints) => Ok(EntryOrigin::Hints(copy_items(alloc, hints.as_slice())?)),
+    }
+}
+
+/// The same items again.
+fn copy_items<T: Copy>(alloc: Global, items: &[T]) -> Result<Items<T>, Memory>
+    ensures { IfOk result (λ copy. copy ≡ items.now) }
+{
+    Ok(Items::from_vec(Vec::from_slice(alloc, items)?))
+}
