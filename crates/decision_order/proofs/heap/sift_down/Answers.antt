@@ -1,4 +1,4 @@
-use Rattle.std.proofs.Common.{◌≡◌, length, arith, ◌∙◌}
+use Rattle.std.proofs.Common.{length, arith, ◌∙◌}
 use Rattle.decision_order.proofs.heap.sift_down.Goals as goal
 
 pub down-preserved : goal.down-preserved

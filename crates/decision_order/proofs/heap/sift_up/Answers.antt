@@ -1,4 +1,4 @@
-use Rattle.std.proofs.Common.{◌≡◌, length, arith, ◌∙◌}
+use Rattle.std.proofs.Common.{length, arith, ◌∙◌}
 use Rattle.decision_order.proofs.heap.sift_up.Goals as goal
 
 pub up-preserved : goal.up-preserved
