@@ -1,5 +1,5 @@
 -- What is known of the rows of answers.
-use Rattle.std.proofs.Common.{◌≡◌, ◌∙◌, ◌<◌, ℕ, Bool, true, false, List, [], ◌∷◌, length, get_or, refl, subst, sym}
+use Rattle.std.proofs.Common.{◌∙◌, ◌<◌, ℕ, Bool, true, false, List, [], ◌∷◌, length, get_or, refl, subst, sym}
 use Rattle.std.specs.Prelude.{◌↔◌, IsTrue, Option, Some, None}
 use Rattle.std.proofs.lemmas.Bool.{false≢true}
 use Rattle.std.proofs.lemmas.List.{get_or_default}

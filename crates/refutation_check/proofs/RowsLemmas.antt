@@ -1,12 +1,12 @@
 -- The steps that were taken, with the rows of their clauses.
-use Rattle.std.proofs.Common.{◌≡◌, ◌⊎◌, ◌∙◌, ℕ, zero, suc, ◌+◌, ◌-◌, ◌<◌, ◌≤◌, Bool, true, false, List, [], ◌∷◌, ◌++◌, length, get_or, map, set, Ok, refl, ap, sym, subst, arith, inl, inr, ⊎_elim}
+use Rattle.std.proofs.Common.{◌≡◌, ◌∙◌, ℕ, zero, suc, ◌+◌, ◌-◌, ◌<◌, ◌≤◌, Bool, true, false, List, [], ◌∷◌, ◌++◌, length, get_or, map, set, Ok, refl, ap, sym, subst, arith, inl, inr, ⊎_elim}
 use Rattle.std.specs.Prelude.{Contains}
 use Rattle.std.proofs.Math.ListN.{get_or-append}
 use Rattle.std.proofs.lemmas.Bool.{cases_eq, cases_lt}
 use Rattle.std.proofs.lemmas.List.{get_or-map, get_or-set_other, get_or-set_same, get_or_default, get_or_push, length-set, length-map, length_push, map-append}
 use Rattle.std.proofs.lemmas.List.Elements.{Contains-get_or, Contains-push_cases}
 use Rattle.plain_lists.proofs.Membership.{Contains-head, Contains-nil, Contains-tail}
-use Rattle.plain_lits.specs.HintCheck.{Checks, IsNamed, clause_at}
+use Rattle.plain_lits.specs.HintCheck.{Checks}
 use Rattle.semantics.specs.Frameworks.{Framework}
 use Rattle.meaning_atoms.specs.declared.atom.Atom.TheVariants.{Ask}
 use Rattle.meaning_atoms.specs.declared.atom.AtomLit.{AtomLit}

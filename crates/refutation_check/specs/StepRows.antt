@@ -9,7 +9,6 @@ use Rattle.certificate_claims.specs.declared.certificate.Step.{Step}
 use Rattle.answer_claims.specs.declared.sides.SideKind.{SideKind}
 use Rattle.answer_claims.specs.SideClauses.{side_of, sides_of}
 use Rattle.refutation_check.specs.declared.taken.Taken.{Taken}
-use Rattle.refutation_check.specs.Benches.{Takes}
 use Rattle.refutation_check.specs.Standing.{TakesStep}
 
 -- the clause of a row, and the rows that there are
