@@ -4,6 +4,7 @@ pub mod Finding
 pub mod Fronts
 pub mod Growing
 pub mod Joining
+pub mod Learning
 pub mod Levels
 pub mod Lists
 pub mod Moving

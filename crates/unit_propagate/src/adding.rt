@@ -139,7 +139,8 @@ fn pair_with(first: Lit, second: Lit) -> Pair
 fn pick_second(trail: &Trail, clause: &[Lit], first: Lit) -> Pair
     requires packs { (l : Lit) → Contains clause.now l → l.var < 2 ^ 31 }
     requires there { Contains clause.now first }
-    ensures { IsPairOf clause.now result }
+    ensures pair { IsPairOf clause.now result }
+    ensures first { result.first ≡ first }
 {
     match pick_one(trail, clause, Some(first)) {
         None => pair_with(first, first),
@@ -273,6 +274,7 @@ impl Engine {
         requires second { IsUnfalse self.old.trail.lits pair.second index }
         ensures kept { IsKept (state_of self.new) }
         ensures ok { OnOk result (Inserts (state_of self.old) (state_of self.new) clause.now) }
+        ensures pairs { OnOk result (self.new.arena.pairs ≡ self.old.arena.pairs ++ pair ∷ []) }
         ensures err { OnErr result (state_of self.new ≡ state_of self.old) }
     {
         let joined = Pair {
@@ -309,6 +311,27 @@ impl Engine {
         Ok(())
     }
 
+    /// Adds a clause, for which there is room, with the pair that it watches, and gives its id.
+    fn add_watching(&mut self, clause: &[Lit], pair: Pair) -> Result<u32, Memory>
+        requires kept { IsKept (state_of self.old) }
+        requires ready { IsReady (state_of self.old) clause.now }
+        requires pair { IsPairOf clause.now pair }
+        ensures kept { IsKept (state_of self.new) }
+        ensures ok { IfOk result (GainsClause (search_of (state_of self.old)) (search_of (state_of self.new))
+            clause.now) }
+        ensures pairs { OnOk result (self.new.arena.pairs ≡ self.old.arena.pairs ++ pair ∷ []) }
+        ensures err { OnErr result (StaysSearch (search_of (state_of self.old)) (search_of (state_of self.new))) }
+    {
+        let id = self.next_id()?;
+        let index = smaller(
+            rank_of(&self.trail, pair.first.lit()),
+            rank_of(&self.trail, pair.second.lit()),
+        );
+        self.lower(index);
+        self.insert(clause, pair, id, index)?;
+        Ok(id)
+    }
+
     /// Adds a clause, and gives its id.
     pub(crate) fn add(&mut self, clause: &[Lit]) -> Result<u32, Memory>
         requires { IsKept (state_of self.old) }
@@ -318,14 +341,8 @@ impl Engine {
         ensures err { OnErr result (StaysSearch (search_of (state_of self.old)) (search_of (state_of self.new))) }
     {
         self.prepare(clause)?;
-        let id = self.next_id()?;
         let pair = pick(&self.trail, clause);
-        let index = smaller(
-            rank_of(&self.trail, pair.first.lit()),
-            rank_of(&self.trail, pair.second.lit()),
-        );
-        self.lower(index);
-        self.insert(clause, pair, id, index)?;
+        let id = self.add_watching(clause, pair)?;
         Ok(id)
     }
 
@@ -387,17 +404,23 @@ impl Engine {
         Ok(())
     }
 
-    /// Adds a clause that is unit, and makes its literal true at once, with the clause as its reason.
+    /// Adds a clause that is unit, and makes its literal true at once, with the clause as its reason. The clause watches
+    /// this literal, so propagation goes on from where it was.
     pub(crate) fn add_learned(&mut self, clause: &[Lit], lit: Lit) -> Result<u32, Memory>
         requires kept { IsKept (state_of self.old) }
         requires unit { IsUnit negation self.old.trail.lits clause.now lit }
         ensures kept { IsKept (state_of self.new) }
         ensures ok { IfOk result (HasLearned (state_of self.old) (state_of self.new) clause.now lit) }
+        ensures head { OnOk result (self.new.head ≡ self.old.head) }
         ensures err { OnErr result (StaysSearch (search_of (state_of self.old)) (search_of (state_of self.new))) }
     {
-        let id = self.add(clause)?;
+        let head = self.head;
+        self.prepare(clause)?;
+        let pair = pick_second(&self.trail, clause, lit);
+        let id = self.add_watching(clause, pair)?;
         let _form = self.trail.len();
         self.imply(lit, id);
+        self.head = head;
         Ok(id)
     }
 }

@@ -62,7 +62,8 @@ impl Propagator {
     }
 
     /// Adds a clause that is unit, and makes its one literal without value true at the present level, with the clause
-    /// as its reason. After `Memory` no clause has come.
+    /// as its reason. Propagation goes on from where it was: after `Quiet` it has just this literal to look at. After
+    /// `Memory` no clause has come.
     pub fn add_learned(&mut self, clause: &[Lit], lit: Lit) -> Result<u32, Memory>
         requires { IsUnit negation self.old.lits clause.now lit }
         ensures ok { IfOk result (Learns self.old self.new clause.now lit) }

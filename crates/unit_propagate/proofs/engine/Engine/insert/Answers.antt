@@ -1,5 +1,5 @@
 use Rattle.std.proofs.Common.{◌∷◌, ◌++◌, [], refl, arith, ap, sym, subst, ◌∙◌}
-use Rattle.unit_propagate.specs.States.{state_of, IsKept}
+use Rattle.unit_propagate.specs.States.{State, state_of, IsKept}
 use Rattle.unit_propagate.proofs.Growing.{room_pair, inserted, inserts}
 use Rattle.unit_propagate.proofs.engine.Engine.insert.Goals as goal
 
@@ -31,5 +31,6 @@ returns c =
       }) (state_of c.join.new.self) c.args.clause.now c.join.new.self.lists.items
           c.join.new.self.short.items c.join.ensures.rest
           c.in_ok-push.ensures.clauses refl refl refl refl;
+      pairs = ap (λ (n : State). n.pairs) c.join.ensures.rest ∙ c.in_ok-push.ensures.pairs;
       err = tt;
     }
