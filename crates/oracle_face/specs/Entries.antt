@@ -1,5 +1,5 @@
 -- Clauses that sessions hand each other.
-use Rattle.std.specs.Prelude.{List, All}
+use Rattle.std.specs.Prelude.{All}
 use Rattle.meaning_atoms.specs.Atoms.{IsLit}
 use Rattle.meaning_atoms.specs.Literals.{AsksNothing}
 use Rattle.meaning_atoms.specs.Worlds.{IsValid}
