@@ -3,8 +3,6 @@
 
 mod analysis;
 mod learner;
-#[cfg(test)]
-mod tests;
 mod walk;
 mod workspace;
 

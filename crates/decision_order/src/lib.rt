@@ -4,8 +4,6 @@
 mod heap;
 mod order;
 mod restarts;
-#[cfg(test)]
-mod tests;
 
 pub use order::DecisionOrder;
 pub use restarts::Luby;

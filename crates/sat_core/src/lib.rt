@@ -6,8 +6,6 @@ mod cdcl;
 mod descent;
 mod ledger;
 mod solver;
-#[cfg(test)]
-mod tests;
 
 pub use answer::{Added, Pending, Solved};
 pub use solver::Solver;

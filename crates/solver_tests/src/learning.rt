@@ -1,8 +1,10 @@
+//! What no clause says: that calls succeed, and a conflict that was worked out by hand.
+
 ghost use Rattle.std.specs.Prelude.{IfSome};
 ghost use Rattle.unit_propagate.specs.Search.{IsConflict};
 ghost use Rattle.conflict_learn.specs.Learning.{IsDecided};
 
-use crate::Learner;
+use conflict_learn::Learner;
 use plain_lists::Memory;
 use plain_lits::{Lit, Value};
 use std::alloc::Global;
@@ -39,30 +41,50 @@ fn four_clauses(alloc: Global) -> Result<Propagator, Memory> {
     Ok(search)
 }
 
+/// Whether (not 0 or not 2) is learned from three clauses, to hold from level 1 on.
+fn learns_the_point(
+    learner: &mut Learner,
+    search: &Propagator,
+    conflict: u32,
+) -> Result<bool, Memory>
+    requires conflict { IsConflict search.now.clauses search.now.lits conflict }
+    requires decided { IsDecided search.now }
+{
+    let learned = learner.learn(search, conflict)?;
+    let clause = [lit(0, false), lit(2, false)];
+    Ok(
+        learned.clause.as_slice() == clause.as_slice()
+            && learned.asserting == lit(2, false)
+            && learned.level == 1
+            && learned.hints.len() == 3,
+    )
+}
+
+/// Whether the core is that not both 0 and 1 are so, from four clauses.
+fn has_both_in_its_core(
+    learner: &mut Learner,
+    search: &Propagator,
+    conflict: u32,
+) -> Result<bool, Memory>
+    requires { IsConflict search.now.clauses search.now.lits conflict }
+{
+    let core = learner.final_core(search, conflict)?;
+    let clause = [lit(0, false), lit(1, false)];
+    Ok(core.clause.as_slice() == clause.as_slice() && core.hints.len() == 4)
+}
+
 /// The first implication point is 2, not the decision 1, and 0 is of the first level; 5 has no part in it.
 #[test]
 fn first_implication_point(rt: HostRuntime) -> Result<(), Fail> {
     let mut search = four_clauses(rt.alloc())?;
     let mut learner = Learner::new(rt.alloc());
-    assert_eq!(rt; conflict_under(&mut search, lit(0, true)), None);
-    assert_eq!(rt; conflict_under(&mut search, lit(5, true)), None);
+    assert!(rt; conflict_under(&mut search, lit(0, true)).is_none());
+    assert!(rt; conflict_under(&mut search, lit(5, true)).is_none());
     match conflict_under(&mut search, lit(1, true)) {
         None => assert!(rt; false),
         Some(conflict) => {
-            let learned = learner.learn(&search, conflict)?;
-            assert_eq!(rt;
-                learned.clause.as_slice(),
-                [lit(0, false), lit(2, false)].as_slice()
-            );
-            assert_eq!(rt; learned.level, 1);
-            assert_eq!(rt; learned.asserting, lit(2, false));
-            assert_eq!(rt; learned.hints.len(), 3);
-            let core = learner.final_core(&search, conflict)?;
-            assert_eq!(rt;
-                core.clause.as_slice(),
-                [lit(0, false), lit(1, false)].as_slice()
-            );
-            assert_eq!(rt; core.hints.len(), 4);
+            assert!(rt; learns_the_point(&mut learner, &search, conflict)?);
+            assert!(rt; has_both_in_its_core(&mut learner, &search, conflict)?);
         }
     }
     Ok(())
