@@ -2,74 +2,83 @@
 
 use dung_notions::AfPlain;
 use edit_rules::{Edit, EditFault, Framework, apply};
-use plain_lists::Items;
+use plain_lists::{Items, Memory};
+use std::alloc::Global;
 use std::test::Fail;
 
-#[test]
-fn refusals(rt: HostRuntime) -> Result<(), Fail> {
-    let alloc = rt.alloc();
+/// An edit with the attacks that go with it, or why it is refused.
+type Row<'a> = (Edit, Result<&'a [(u32, u32)], EditFault>);
+
+/// 1 and 2 attack each other, and 2 attacks 3.
+fn worked(alloc: Global) -> Result<Framework, Memory> {
     let plain = AfPlain::of_lists(alloc, &[1, 2, 3], &[(1, 2), (2, 1), (2, 3)])?;
-    let mut framework = Framework::Af(plain);
-    let table = [
-        (Edit::RuleDrop(0), EditFault::WrongKind),
-        (Edit::AsmAdd(0, 0), EditFault::WrongKind),
-        (Edit::ArgAdd(1_000_001), EditFault::OutOfRange(1_000_001)),
-        (Edit::ArgAdd(2), EditFault::ArgumentIsThere),
-        (Edit::ArgDrop(0), EditFault::OutOfRange(0)),
-        (Edit::ArgDrop(4), EditFault::UnknownArgument(4)),
-        (Edit::AttackAdd(4, 0), EditFault::OutOfRange(0)),
-        (Edit::AttackAdd(5, 4), EditFault::UnknownArgument(5)),
-        (Edit::AttackAdd(1, 4), EditFault::UnknownArgument(4)),
-        (Edit::AttackAdd(2, 3), EditFault::AttackIsThere),
-        (Edit::AttackDrop(0, 1_000_001), EditFault::OutOfRange(0)),
-        (Edit::AttackDrop(3, 2), EditFault::NoSuchAttack),
-    ];
-    for (edit, fault) in table {
-        assert_eq!(rt;
-            apply(alloc, &mut framework, &edit).err(),
-            Some(fault),
-            "at {edit:?}"
-        );
+    Ok(Framework::Af(plain))
+}
+
+/// Makes the edit; whether it ends as the row says.
+fn ends_so(alloc: Global, framework: &mut Framework, row: &Row<'_>) -> bool {
+    match (apply(alloc, framework, &row.0), row.1) {
+        (Ok(effect), Ok(dropped)) => effect.dropped.as_slice() == dropped && effect.edit == row.0,
+        (Err(fault), Err(told)) => fault == told,
+        _ => false,
     }
-    let Framework::Af(plain) = framework;
-    assert_eq!(rt; plain.live(), [1, 2, 3].as_slice());
-    assert_eq!(rt; plain.attacks(), [(1, 2), (2, 1), (2, 3)].as_slice());
-    Ok(())
+}
+
+/// Whether these are the framework's attacks, and its arguments are 1, 2 and 3.
+fn has_attacks(framework: &Framework, attacks: &[(u32, u32)]) -> bool {
+    match framework {
+        Framework::Af(plain) => {
+            plain.live() == [1, 2, 3].as_slice() && plain.attacks() == attacks
+        }
+    }
 }
 
 #[test]
+fn refusals(rt: HostRuntime) -> Result<(), Fail> {
+    let mut framework = worked(rt.alloc())?;
+    let rows: [Row; 12] = [
+        (Edit::RuleDrop(0), Err(EditFault::WrongKind)),
+        (Edit::AsmAdd(0, 0), Err(EditFault::WrongKind)),
+        (
+            Edit::ArgAdd(1_000_001),
+            Err(EditFault::OutOfRange(1_000_001)),
+        ),
+        (Edit::ArgAdd(2), Err(EditFault::ArgumentIsThere)),
+        (Edit::ArgDrop(0), Err(EditFault::OutOfRange(0))),
+        (Edit::ArgDrop(4), Err(EditFault::UnknownArgument(4))),
+        (Edit::AttackAdd(4, 0), Err(EditFault::OutOfRange(0))),
+        (Edit::AttackAdd(5, 4), Err(EditFault::UnknownArgument(5))),
+        (Edit::AttackAdd(1, 4), Err(EditFault::UnknownArgument(4))),
+        (Edit::AttackAdd(2, 3), Err(EditFault::AttackIsThere)),
+        (
+            Edit::AttackDrop(0, 1_000_001),
+            Err(EditFault::OutOfRange(0)),
+        ),
+        (Edit::AttackDrop(3, 2), Err(EditFault::NoSuchAttack)),
+    ];
+    for row in &rows {
+        assert!(rt; ends_so(rt.alloc(), &mut framework, row), "at {:?}", row.0);
+    }
+    assert!(rt; has_attacks(&framework, &[(1, 2), (2, 1), (2, 3)]));
+    Ok(())
+}
+
+/// 2 goes with all attacks, and comes back without them.
+#[test]
 fn changes(rt: HostRuntime) -> Result<(), Fail> {
-    let alloc = rt.alloc();
-    let plain = AfPlain::of_lists(alloc, &[1, 2, 3], &[(1, 2), (2, 1), (2, 3)])?;
-    let mut framework = Framework::Af(plain);
-    let dropped = apply(alloc, &mut framework, &Edit::ArgDrop(2))
-        .ok()
-        .ok_or("drop")?;
-    assert_eq!(rt;
-        dropped.dropped.as_slice(),
-        [(1, 2), (2, 1), (2, 3)].as_slice()
-    );
-    assert_eq!(rt;
-        apply(alloc, &mut framework, &Edit::AttackAdd(1, 2)).err(),
-        Some(EditFault::UnknownArgument(2))
-    );
-    apply(alloc, &mut framework, &Edit::ArgAdd(2))
-        .ok()
-        .ok_or("add")?;
-    apply(alloc, &mut framework, &Edit::AttackAdd(3, 1))
-        .ok()
-        .ok_or("attack")?;
-    let added = apply(alloc, &mut framework, &Edit::AttackAdd(1, 1))
-        .ok()
-        .ok_or("attack")?;
-    assert_eq!(rt; added.edit, Edit::AttackAdd(1, 1));
-    assert_eq!(rt; (added.rule, added.gone, added.head), (0, 0, 0));
-    apply(alloc, &mut framework, &Edit::AttackDrop(3, 1))
-        .ok()
-        .ok_or("no attack")?;
-    let Framework::Af(plain) = framework;
-    assert_eq!(rt; plain.live(), [1, 2, 3].as_slice());
-    assert_eq!(rt; plain.attacks(), [(1, 1)].as_slice());
+    let mut framework = worked(rt.alloc())?;
+    let rows: [Row; 6] = [
+        (Edit::ArgDrop(2), Ok(&[(1, 2), (2, 1), (2, 3)])),
+        (Edit::AttackAdd(1, 2), Err(EditFault::UnknownArgument(2))),
+        (Edit::ArgAdd(2), Ok(&[])),
+        (Edit::AttackAdd(3, 1), Ok(&[])),
+        (Edit::AttackAdd(1, 1), Ok(&[])),
+        (Edit::AttackDrop(3, 1), Ok(&[])),
+    ];
+    for row in &rows {
+        assert!(rt; ends_so(rt.alloc(), &mut framework, row), "at {:?}", row.0);
+    }
+    assert!(rt; has_attacks(&framework, &[(1, 1)]));
     Ok(())
 }
 
@@ -77,7 +86,7 @@ fn changes(rt: HostRuntime) -> Result<(), Fail> {
 fn copies(rt: HostRuntime) -> Result<(), Fail> {
     let alloc = rt.alloc();
     let rule = Edit::RuleAdd(3, Items::from_vec(vec![in alloc; 1, 2]?));
-    assert_eq!(rt; rule.copy(alloc)?, rule);
-    assert_eq!(rt; Edit::ConSet(1, 2).copy(alloc)?, Edit::ConSet(1, 2));
+    assert!(rt; rule.copy(alloc)? == rule);
+    assert!(rt; Edit::ConSet(1, 2).copy(alloc)? == Edit::ConSet(1, 2));
     Ok(())
 }
