@@ -2,8 +2,4 @@
 #![tactic(auto)]
 
 #[cfg(test)]
-mod outside;
-#[cfg(test)]
 mod runs;
-#[cfg(test)]
-mod words;
