@@ -106,6 +106,7 @@ impl Hub {
 
     /// Sees the whole history at one turn, and tells the entries after the first `from`. After `Memory` the seat has
     /// seen it too. The time is linear in what it tells.
+    #[tactic(auto, using(crate::proofs::HubLemmas::still_there))]
     pub fn refresh<R: Wait>(
         &self,
         rt: &R,

@@ -2,16 +2,9 @@ use Rattle.std.proofs.Common.{ap}
 use Rattle.edit_rules.specs.Kinds.{framework_of}
 use Rattle.turn_lock.specs.Seats.{list_of}
 use Rattle.edit_history.specs.Hubs.{start_of}
-use Rattle.edit_history.proofs.HubLemmas.{fresh_from, still_there}
+use Rattle.edit_history.proofs.HubLemmas.{fresh_from}
 use Rattle.edit_history.proofs.hub.Hub.refresh.Goals as goal
 
--- src/hub.rt:124:13
-pub changes_from-told-requires : goal.changes_from-told-requires
-changes_from-told-requires g c =
-    still_there c.args.from (list_of c.args.seat.now) c.enter-held.result.value.changes.items c.requires.from
-    c.enter-held.ensures.longer
-
--- src/hub.rt:109:5
 pub returns-clause-ok : goal.returns-clause-ok
 returns-clause-ok g c =
     let value = c.enter-held.result.value in
