@@ -136,6 +136,67 @@ fn main(rt: HostRuntime) -> io::Result<()> {
 
 # What is written of the proofs: files below the crate's proofs/.
 PROOFS = {
+    "proofs/Lib.antt": """\
+mod FirstLemmas
+""",
+    "proofs/FirstLemmas.antt": """\
+-- What holds of each of some items, of which the first is lent.
+use Rattle.std.proofs.Common.{arith, ◌≡◌, ℕ, zero, suc, List, ◌∷◌, map, refl, sym, ap, subst, ◌∙◌}
+use Rattle.std.specs.Prelude.{All, ◌<◌, length}
+
+module _ {X : Type 0} (P : X → Type 0) where
+  pub first_of : (xs : List X) (x : X) (rest : List X) → All P xs → xs ≡ x ∷ rest → P x
+  first_of xs x rest all is = let each : All P (x ∷ rest) = subst (All P) is all in each 0 x (omega arith)
+
+  pub rest_of : (xs : List X) (x : X) (rest : List X) → All P xs → xs ≡ x ∷ rest → All P rest
+  rest_of xs x rest all is =
+      let each : All P (x ∷ rest) = subst (All P) is all in λ k d low. each (suc k) d (omega arith)
+
+  each_of : (x : X) (rest : List X) → P x → All P rest → All P (x ∷ rest)
+  each_of x rest here more zero d low = here
+  each_of x rest here more (suc k) d low = more k d (omega arith)
+
+  -- each still has it, and their numbers are the same
+  pub kept : (f : X → ℕ) (xs : List X) (x y : X) (rest more : List X) → xs ≡ x ∷ rest → P y × (f y ≡ f x)
+      → All P more × (map f more ≡ map f rest) → All P (y ∷ more) × (map f (y ∷ more) ≡ map f xs)
+  kept f xs x y rest more is here others = (
+    each_of y more here.0 others.0,
+    ap (λ n. n ∷ map f more) here.1 ∙ ap (λ l. f x ∷ l) others.1 ∙ ap (map f) (sym is),
+  )
+""",
+    "proofs/commit_often/Invariants.antt": """\
+use Rattle.std.proofs.Common.{◌≡◌}
+use Rattle.turn_lock.specs.Seats.{number_of}
+use Rattle.edit_history.specs.Hubs.{IsSeatAt}
+use Rattle.history_bench.proofs.commit_often.Given as goal
+
+abbrev pub invariant-loop-turn : goal.invariant-loop-turn
+invariant-loop-turn g l = IsSeatAt l.hub l.seat × (number_of l.seat ≡ number_of l.initial.seat)
+""",
+    "proofs/+fn-commit_all-join_mut+arg3+commit_all/Invariants.antt": """\
+use Rattle.std.proofs.Common.{◌+◌, ◌*◌, length}
+use Rattle.history_bench.proofs.+fn-commit_all-join_mut+arg3+commit_all.Given as goal
+
+abbrev pub decreases-join_mut+arg3 : goal.decreases-join_mut+arg3
+decreases-join_mut+arg3 g l = 2 * length l.rest.now + 1
+
+abbrev pub decreases-commit_all : goal.decreases-commit_all
+decreases-commit_all g l = 2 * length l.seats.now
+""",
+    "proofs/+fn-commit_all-join_mut+arg3+commit_all/Answers.antt": """\
+use Rattle.std.proofs.Common.{rules}
+use Rattle.edit_history.specs.Hubs.{IsSeatAt}
+use Rattle.history_bench.proofs.FirstLemmas.{first_of, rest_of}
+use Rattle.history_bench.proofs.+fn-commit_all-join_mut+arg3+commit_all.Goals as goal
+
+pub join_mut-requires-after_bounds : goal.join_mut-requires-after_bounds
+join_mut-requires-after_bounds g t c κs within =
+    let is = c.in-Some.ensures.cases.0 in
+    let seats = c.args.seats.now in
+    let first = first_of (λ s. IsSeatAt c.args.hub.now s) seats c.in-Some.first.now c.in-Some.rest.now c.requires is in
+    let rest = rest_of (λ s. IsSeatAt c.args.hub.now s) seats c.in-Some.first.now c.in-Some.rest.now c.requires is in
+    (first, (search rules, ((λ a m. m), (search rules, (rest, search rules)))))
+""",
 }
 
 
