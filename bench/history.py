@@ -173,9 +173,9 @@ use Rattle.history_bench.proofs.commit_often.Given as goal
 abbrev pub invariant-loop-turn : goal.invariant-loop-turn
 invariant-loop-turn g l = IsSeatAt l.hub l.seat × (number_of l.seat ≡ number_of l.initial.seat)
 """,
-    "proofs/+fn-commit_all-join_mut+arg3+commit_all/Invariants.antt": """\
+    "proofs/+commit_all+fn-commit_all-join_mut+arg3/Invariants.antt": """\
 use Rattle.std.proofs.Common.{◌+◌, ◌*◌, length}
-use Rattle.history_bench.proofs.+fn-commit_all-join_mut+arg3+commit_all.Given as goal
+use Rattle.history_bench.proofs.+commit_all+fn-commit_all-join_mut+arg3.Given as goal
 
 abbrev pub decreases-join_mut+arg3 : goal.decreases-join_mut+arg3
 decreases-join_mut+arg3 g l = 2 * length l.rest.now + 1
@@ -183,11 +183,11 @@ decreases-join_mut+arg3 g l = 2 * length l.rest.now + 1
 abbrev pub decreases-commit_all : goal.decreases-commit_all
 decreases-commit_all g l = 2 * length l.seats.now
 """,
-    "proofs/+fn-commit_all-join_mut+arg3+commit_all/Answers.antt": """\
+    "proofs/+commit_all+fn-commit_all-join_mut+arg3/Answers.antt": """\
 use Rattle.std.proofs.Common.{rules}
 use Rattle.edit_history.specs.Hubs.{IsSeatAt}
 use Rattle.history_bench.proofs.FirstLemmas.{first_of, rest_of}
-use Rattle.history_bench.proofs.+fn-commit_all-join_mut+arg3+commit_all.Goals as goal
+use Rattle.history_bench.proofs.+commit_all+fn-commit_all-join_mut+arg3.Goals as goal
 
 pub join_mut-requires-after_bounds : goal.join_mut-requires-after_bounds
 join_mut-requires-after_bounds g t c κs within =
@@ -232,7 +232,7 @@ def built(folder):
                           stdin=open(crate / "stdin", encoding="utf-8"))
     program = crate / "out" / "history_bench"
     if done.returncode != 0 or not program.exists():
-        sys.exit("bench: the program isn't built:\n" + "\n".join(done.stdout.splitlines()[-8:]))
+        sys.exit("bench: the program isn't built:\n" + "\n".join(done.stdout.splitlines()[-40:]))
     return program
 
 
