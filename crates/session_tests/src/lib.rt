@@ -2,4 +2,8 @@
 #![tactic(auto)]
 
 #[cfg(test)]
+mod hubs;
+#[cfg(test)]
 mod pools;
+#[cfg(test)]
+mod turns;

@@ -1,0 +1,119 @@
+-- What edits tell that are made one after another, and how a change is added to them.
+use Rattle.std.proofs.Common.{arith, ◌≡◌, ℕ, zero, suc, ◌+◌, List, [], ◌∷◌, ◌++◌, map, take, drop}
+use Rattle.std.proofs.Common.{Result, Ok, Err, is_ok, refl, sym, ap, subst, ◌∙◌}
+use Rattle.std.specs.Prelude.{◌<◌, ◌≤◌, length}
+use Rattle.std.proofs.lemmas.Bool.{cond_both, false≢true}
+use Rattle.std.proofs.lemmas.List.{length-append, length-map, map-append}
+use Rattle.semantics.specs.Frameworks.{Framework, af}
+use Rattle.edit_rules.specs.declared.edit.Edit.{Edit}
+use Rattle.edit_rules.specs.declared.edit.Edit.TheVariants.{ArgAdd, ArgDrop, AttackAdd, AttackDrop}
+use Rattle.edit_rules.specs.declared.edit.Edit.TheVariants.{AsmAdd, AsmDrop, ConSet, RuleAdd, RuleDrop}
+use Rattle.edit_rules.specs.declared.effect.Effect.{Effect}
+use Rattle.edit_rules.specs.Edits.{Refusal, Row, edit_outcome, row_outcome, unless_refused}
+use Rattle.edit_rules.specs.Edits.{argument_added, argument_dropped, attack_added, attack_dropped}
+use Rattle.edit_rules.specs.Replay.{after_edit, left_by, replay}
+use Rattle.edit_history.specs.declared.entry.Change.{Change}
+use Rattle.edit_history.specs.Entries.{AreDone, IsAdded, effect_told, effects_of, entries_in, entry_of, framework_after}
+
+abbrev value_or : {T E : Type 0} → Result T E → T → T
+value_or (Ok x) d = x
+value_or (Err e) d = d
+
+-- what a row comes to is what it says
+row_done : (rs : List Refusal) (done made : Framework × Effect) → unless_refused rs done ≡ Ok made → done ≡ made
+row_done [] done made is = ap (λ r. value_or r done) is
+row_done (r ∷ more) done made is =
+    cond_both r.stands (Err r.fault) (unless_refused more done) (λ o. o ≡ Ok made → done ≡ made)
+    (λ _. λ e. absurd (false≢true (ap is_ok e))) (λ _. λ e. row_done more done made e) is
+
+row_edit : (row : Row) (done : Framework × Effect) → row_outcome row ≡ Ok done → done.1.edit ≡ row.effect.edit
+row_edit row done e = sym (ap (λ d. d.1.edit) (row_done row.refusals (row.framework, row.effect) done e))
+
+-- an effect has its edit
+effect_edit : (f : Framework) (edit : Edit) (done : Framework × Effect) → edit_outcome f edit ≡ Ok done
+    → done.1.edit ≡ edit
+effect_edit (af f) (ArgAdd n) done e = row_edit (argument_added f n) done e
+effect_edit (af f) (ArgDrop n) done e = row_edit (argument_dropped f n) done e
+effect_edit (af f) (AttackAdd b a) done e = row_edit (attack_added f b a) done e
+effect_edit (af f) (AttackDrop b a) done e = row_edit (attack_dropped f b a) done e
+effect_edit (af f) (AsmAdd a c) done e = absurd (false≢true (ap is_ok e))
+effect_edit (af f) (AsmDrop a) done e = absurd (false≢true (ap is_ok e))
+effect_edit (af f) (ConSet a c) done e = absurd (false≢true (ap is_ok e))
+effect_edit (af f) (RuleAdd h body) done e = absurd (false≢true (ap is_ok e))
+effect_edit (af f) (RuleDrop r) done e = absurd (false≢true (ap is_ok e))
+
+-- the edits of changes
+abbrev edits_in : List Change → List Edit
+edits_in changes = map (λ c. c.effect.edit) changes
+
+entries_edits : (changes : List Change) → map (λ e. e.edit) (entries_in changes) ≡ edits_in changes
+entries_edits [] = refl
+entries_edits (c ∷ changes) = ap (λ l. c.effect.edit ∷ l) (entries_edits changes)
+
+replay_more : (f : Framework) (edits : List Edit) (edit : Edit)
+    → replay f (edits ++ edit ∷ []) ≡ after_edit (replay f edits) edit
+replay_more f [] edit = refl
+replay_more f (x ∷ edits) edit = replay_more (after_edit f x) edits edit
+
+effects_more : (f : Framework) (edits : List Edit) (edit : Edit)
+    → effects_of f (edits ++ edit ∷ []) ≡ effects_of f edits ++ effect_told (edit_outcome (replay f edits) edit) ∷ []
+effects_more f [] edit = refl
+effects_more f (x ∷ edits) edit =
+    ap (λ l. effect_told (edit_outcome f x) ∷ l) (effects_more (after_edit f x) edits edit)
+
+-- what a commit that is taken leaves
+pub record IsLonger (limit : ℕ) (f : Framework) (session : ℕ) (edit : Edit) (changes : List Change)
+    (after : Framework) (effect : Effect) : Type 0 where
+  pub within : length (changes ++ record { session = session; effect = effect } ∷ []) ≤ limit
+  pub done : AreDone f (changes ++ record { session = session; effect = effect } ∷ [])
+  pub replayed : after ≡ framework_after f (entries_in (changes ++ record { session = session; effect = effect } ∷ []))
+  pub added : IsAdded limit f session edit (entries_in changes)
+      (entries_in (changes ++ record { session = session; effect = effect } ∷ [])) effect
+
+-- a commit that is taken
+pub committed : (limit : ℕ) (f before after : Framework) (changes : List Change) (session : ℕ) (edit : Edit)
+    (effect : Effect) → length changes < limit → AreDone f changes
+    → before ≡ framework_after f (entries_in changes) → edit_outcome before edit ≡ Ok (after, effect)
+    → IsLonger limit f session edit changes after effect
+committed limit f before after changes session edit effect room done replayed outcome =
+    let change : Change = record { session = session; effect = effect } in
+    let same : effect.edit ≡ edit = effect_edit before edit (after, effect) outcome in
+    let edits : map (λ e. e.edit) (entries_in changes) ≡ edits_in changes = entries_edits changes in
+    let at : before ≡ replay f (edits_in changes) = replayed ∙ ap (λ l. replay f l) edits in
+    let told : edit_outcome (replay f (edits_in changes)) effect.edit ≡ Ok (after, effect) =
+    ap (λ g. edit_outcome g effect.edit) (sym at) ∙ ap (λ x. edit_outcome before x) same ∙ outcome in
+    let taken : edit_outcome (framework_after f (entries_in changes)) edit ≡ Ok (after, effect) =
+    ap (λ g. edit_outcome g edit) (sym replayed) ∙ outcome in
+    let next : after_edit (framework_after f (entries_in changes)) edit ≡ after =
+    ap (left_by (framework_after f (entries_in changes))) taken in
+    let long : length (changes ++ change ∷ []) ≡ length changes + 1 = length-append changes (change ∷ []) in
+    record {
+      within = omega arith;
+      done = ap (effects_of f) (map-append (λ c. c.effect.edit) changes (change ∷ []))
+          ∙ effects_more f (edits_in changes) effect.edit
+          ∙ ap (λ l. l ++ effect_told (edit_outcome (replay f (edits_in changes)) effect.edit) ∷ []) done
+          ∙ ap (λ r. map (λ c. Ok c.effect) changes ++ effect_told r ∷ []) told
+          ∙ sym (map-append (λ c. Ok c.effect) changes (change ∷ []));
+      replayed = sym (
+          ap (replay f) (entries_edits (changes ++ change ∷ []))
+          ∙ ap (replay f) (map-append (λ c. c.effect.edit) changes (change ∷ []))
+          ∙ replay_more f (edits_in changes) effect.edit
+          ∙ ap (left_by (replay f (edits_in changes))) told
+          );
+      added = record {
+        room = subst (λ n. n < limit) (sym (length-map changes entry_of)) room;
+        taken = taken ∙ ap (λ g. Ok (g, effect)) (sym next);
+        longer = map-append entry_of changes (change ∷ [])
+            ∙ ap (λ x. entries_in changes ++ record { session = session; edit = x } ∷ []) same;
+      };
+    }
+
+abbrev rest_of : {X : Type 0} → List X → List X
+rest_of xs = drop 1 xs
+
+-- what is done is done from each entry on
+pub done_from : (f : Framework) (n : ℕ) (changes : List Change) → AreDone f changes
+    → AreDone (framework_after f (take n (entries_in changes))) (drop n changes)
+done_from f zero changes done = done
+done_from f (suc n) [] done = refl
+done_from f (suc n) (c ∷ changes) done = done_from (after_edit f c.effect.edit) n changes (ap rest_of done)

@@ -1,0 +1,13 @@
+-- What a journal means.
+use Rattle.std.specs.Prelude.{ℕ, List}
+use Rattle.edit_rules.specs.declared.framework.Framework.{Framework}
+use Rattle.edit_history.specs.declared.entry.Entry.{Entry}
+use Rattle.edit_history.specs.declared.journal.Journal.{Journal}
+use Rattle.edit_history.specs.Entries.{entries_in}
+
+-- what no commit changes: the framework at the beginning, and how many entries there may be
+abbrev pub opening_of : Journal → Framework × ℕ
+opening_of journal = (journal.opening, journal.limit)
+
+abbrev pub history_of : Journal → List Entry
+history_of journal = entries_in journal.changes.items

@@ -1,0 +1,40 @@
+//! The history under the lock, with the framework that its edits have made.
+
+ghost use Rattle.std.specs.Prelude.{◌≡◌, ◌≤◌, length};
+ghost use Rattle.edit_rules.specs.Kinds.{framework_of};
+ghost use Rattle.edit_history.specs.Entries.{AreDone, entries_in, framework_after};
+
+use crate::entry::{Change, Entry};
+use edit_rules::Framework;
+use turn_lock::Turned;
+
+/// A history of edits over an opening framework, of at most `limit` entries, with the framework after all of them.
+#[derive(Drop)]
+pub struct Journal {
+    pub(crate) opening: Framework,
+    pub(crate) limit: u64,
+    pub(crate) framework: Framework,
+    pub(crate) changes: Vec<Change>,
+    ghost within: { length changes.items ≤ limit },
+    ghost done: { AreDone (framework_of opening) changes.items },
+    ghost replayed: { framework_of framework ≡ framework_after (framework_of opening) (entries_in changes.items) },
+}
+
+impl Turned for Journal {
+    ghost use Rattle.edit_history.specs.Entries.{session_of};
+    ghost use Rattle.edit_history.specs.Journals.{history_of, opening_of};
+
+    type Opening = (Framework, u64);
+
+    type Entry = Entry;
+
+    ghost opening = { opening_of };
+
+    ghost history = { history_of };
+
+    ghost number = { session_of };
+
+    fn entries(&self) -> u64 {
+        self.changes.len() as u64
+    }
+}
