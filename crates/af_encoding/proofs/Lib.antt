@@ -1,0 +1,5 @@
+pub mod EnumerationLemmas
+pub mod WalkLemmas
+pub mod NeededLemmas
+pub mod Affirmed
+pub mod Readings

@@ -1,0 +1,12 @@
+//! Abstract frameworks as clauses for a search: the axioms that it needs of a framework, the values of the atoms that
+//! the framework alone fixes, and the set of arguments that a model of these axioms means.
+#![tactic(auto)]
+
+mod decoding;
+mod facts;
+pub mod laws;
+mod needed_axioms;
+
+pub use decoding::decode;
+pub use facts::{fact, missing};
+pub use needed_axioms::needed;
