@@ -9,7 +9,8 @@ use Rattle.meaning_atoms.specs.declared.atom.Atom.{Atom}
 use Rattle.meaning_atoms.specs.declared.atom.Atom.TheVariants.{Member, Live}
 use Rattle.meaning_atoms.specs.declared.atom.AtomLit.{AtomLit}
 use Rattle.meaning_atoms.specs.Literals.{affirmed}
-use Rattle.af_encoding.specs.Models.{Affirms, member_at, member_in, live_at, live_in}
+use Rattle.oracle_face.specs.Decoding.{IsDecoded}
+use Rattle.af_encoding.specs.Decoded.{Affirms, member_at, member_in, live_at, live_in}
 
 cons_cases : {Y : Type 0} (o : Option Y) (ys : List Y) (y : Y)
     → Contains (cons_option o ys) y ↔ ((o ≡ Some y) ⊎ Contains ys y)
@@ -70,17 +71,19 @@ set_with P Q xs same h = record {
   members = λ a. (λ c. (same a).0 ((h.members a).0 c), λ q. (h.members a).1 ((same a).1 q));
 }
 
--- members without those members that are not live are live members
-pub without_dead : (P Q : ℕ → Type 0) (members live dead set : List ℕ) → IsSetOf P members → IsSetOf Q live
+-- members without those members that are not live are the live members
+pub without_dead : (values : List AtomLit) (members live dead set : List ℕ)
+    → IsSetOf (λ a. Affirms values (Member a)) members → IsSetOf (λ a. Affirms values (Live a)) live
     → IsSetOf (λ a. Contains members a × (Contains live a → ⊥)) dead
-    → IsSetOf (λ a. Contains members a × (Contains dead a → ⊥)) set → IsSetOf (λ a. P a × Q a) set
-without_dead P Q members live dead set m l d s = record {
+    → IsSetOf (λ a. Contains members a × (Contains dead a → ⊥)) set → IsSetOf (IsDecoded Live values) set
+without_dead values members live dead set m l d s = record {
   rises = s.rises;
   members = λ a. (
-    λ c. let w = (s.members a).0 c in (
-      (m.members a).0 w.0,
-      ⊎_elim (λ there. (l.members a).0 there) (λ no. absurd (w.1 ((d.members a).1 (w.0, no)))) (decide_member live a),
-    ),
-    λ h. (s.members a).1 ((m.members a).1 h.0, λ c. ((d.members a).0 c).1 ((l.members a).1 h.1)),
+    λ c. let w = (s.members a).0 c in record {
+      member = (m.members a).0 w.0;
+      vouched = ⊎_elim (λ there. (l.members a).0 there) (λ no. absurd (w.1 ((d.members a).1 (w.0, no))))
+          (decide_member live a);
+    },
+    λ h. (s.members a).1 ((m.members a).1 h.member, λ c. ((d.members a).0 c).1 ((l.members a).1 h.vouched)),
   );
 }

@@ -8,7 +8,7 @@ use Rattle.std.proofs.lemmas.List.{get_or_default}
 use Rattle.std.proofs.lemmas.List.Elements.{All-from_recursion, All-contains, Contains-get_or}
 use Rattle.std.proofs.lemmas.List.Kept.{AllPairs-from_increasing}
 use Rattle.semantics.specs.Framework.{Af, Attacks}
-use Rattle.semantics.specs.Frameworks.{IsNumberedAf}
+use Rattle.semantics.specs.Frameworks.{af, IsNumberedAf}
 use Rattle.meaning_atoms.specs.declared.axiom.AfAxiom.{AfAxiom}
 use Rattle.meaning_atoms.specs.declared.axiom.AfAxiom.TheVariants.{A1, A2, A3, A4, A5, A6, A7, A8, A9, A10, A11, A12, A13, A14}
 use Rattle.meaning_atoms.specs.declared.axiom.AxiomName.{AxiomName}
@@ -16,7 +16,9 @@ use Rattle.meaning_atoms.specs.declared.axiom.AxiomName.TheVariants.{Af as OfAf}
 use Rattle.meaning_atoms.specs.Worlds.{HasGap}
 use Rattle.dung_notions.specs.Neighbours.{ListsAttackers}
 use Rattle.af_encoding.specs.Enumerations.{Enumerates, GainsEach}
-use Rattle.af_encoding.specs.Needed.{IsWalkPosition, IsWalkStep, IsWalkEnd, IsNeeded, IsNeededAt, IsAfName, argument_of}
+use Rattle.certificate_claims.specs.Refutations.{IsAxiomOf}
+use Rattle.oracle_face.specs.Needed.{IsWalkStart, IsWalkStep, IsWalkEnd, IsNeeded}
+use Rattle.af_encoding.specs.Told.{IsNeededAt, argument_of}
 use Rattle.af_encoding.proofs.EnumerationLemmas.{rising_once, gains_list, gains_both, gained_whole, enumerates_same}
 use Rattle.af_encoding.proofs.WalkLemmas.{attacker_low, attacker_high, position_low, position_high, one_step, one_end}
 
@@ -322,7 +324,7 @@ reach_high f ok a (OfAf (A14 part)) h = omega arith
 
 -- the walk along the pairs of a's attackers stands before the k-th, at position i, and the names so far are listed
 pub record HasWalked (f : Af) (a : ℕ) (pairs : List (ℕ × ℕ)) (k i : ℕ) (old new : List AxiomName) : Type 0 where
-  pub position : IsWalkPosition f a i
+  pub position : IsWalkStart f a i
   pub before : (n : ℕ) (d : ℕ × ℕ) → n < k → n < length pairs → (get_or pairs n d).1 < i
   pub after : (n : ℕ) (d : ℕ × ℕ) → k ≤ n → n < length pairs → i ≤ (get_or pairs n d).1
   pub gains : GainsEach (IsNeededBelow f a i) old new
@@ -375,11 +377,12 @@ gap_before f a pairs lists k i d old new walked within c at late early =
     (λ other. let less = later f a pairs lists k found.0 d (let ge : k ≤ found.0 = found.1 in omega arith) found.2 in omega arith)
     (cases_eq k found.0)
 
-step_here : (f : Af) (a : ℕ) (pairs : List (ℕ × ℕ)) → ListsAttackers f a pairs → (k i : ℕ) (d : ℕ × ℕ)
+step_here : (f : Af) → IsNumberedAf f → (a : ℕ) (pairs : List (ℕ × ℕ)) → ListsAttackers f a pairs → (k i : ℕ) (d : ℕ × ℕ)
     (old new : List AxiomName) → HasWalked f a pairs k i old new → k < length pairs
     → IsWalkStep f a i (get_or pairs k d).1
-step_here f a pairs lists k i d old new walked within = record {
-  position = walked.position;
+step_here f ok a pairs lists k i d old new walked within = record {
+  live = (ok.form.ends _ a (attack_at f a pairs lists k d within).1).1;
+  start = walked.position;
   order = walked.after k d (omega arith) within;
   gap = gap_before f a pairs lists k i d old new walked within;
   attack = (attack_at f a pairs lists k d within).1;
@@ -389,7 +392,7 @@ step_here f a pairs lists k i d old new walked within = record {
 split_step : (f : Af) → IsNumberedAf f → (a i b : ℕ) → IsWalkStep f a i b → (name : AxiomName)
     → IsNeededBelow f a (b + 1) name ↔ (IsNeededBelow f a i name ⊎ IsNeededTo f a b name)
 split_step f ok a i b step name =
-    let low = position_low f a i step.position in
+    let low = position_low f a i step.start in
     let high = attacker_high f ok b a step.attack in
     let order = step.order in (
       λ h. ⊎_elim (λ lt. inl (h.0, lt))
@@ -408,7 +411,7 @@ pub walk_goes : (f : Af) → IsNumberedAf f → (a : ℕ) (pairs : List (ℕ × 
     → HasWalked f a pairs (k + 1) ((get_or pairs k d).1 + 1) old new
 walk_goes f ok a pairs lists k i d old mid new walked within e =
     let b = (get_or pairs k d).1 in
-    let step : IsWalkStep f a i b = step_here f a pairs lists k i d old mid walked within in
+    let step : IsWalkStep f a i b = step_here f ok a pairs lists k i d old mid walked within in
     let order : i ≤ b = step.order in
     let here : (d' : ℕ × ℕ) → (get_or pairs k d').1 ≡ b =
     λ d'. ap (λ (p : ℕ × ℕ). p.1) (get_or_default pairs k d' d within) in
@@ -429,7 +432,7 @@ walk_goes f ok a pairs lists k i d old mid new walked within e =
 split_end : (f : Af) → IsNumberedAf f → (a i : ℕ) → IsWalkEnd f a i → (name : AxiomName)
     → IsNeededAt f a name ↔ (IsNeededBelow f a i name ⊎ IsNeededTo f a 1000001 name)
 split_end f ok a i end name =
-    let low = position_low f a i end.position in (
+    let low = position_low f a i end.start in (
       λ h. ⊎_elim (λ lt. inl (h, lt))
           (λ ge. ⊎_elim
           (λ lt. absurd (end.gap (reach name) (reach_attacks f a name h (omega arith) lt) ge lt))
@@ -445,7 +448,7 @@ pub walk_ends : (f : Af) → IsNumberedAf f → (a : ℕ) → Contains f.live a 
 walk_ends f ok a live pairs lists k i old mid new walked all e =
     let end : IsWalkEnd f a i = record {
       live = live;
-      position = walked.position;
+      start = walked.position;
       gap = λ c at late _. let found = found_after f a pairs lists k i old mid walked c at late in
           let ge : k ≤ found.0 = found.1 in let lt : found.0 < length pairs = found.2 in omega arith;
     } in
@@ -459,7 +462,7 @@ walk_ends f ok a live pairs lists k i old mid new walked all e =
 
 -- the framework needs the axiom, and it tells of all or of one of the first n live arguments
 abbrev pub IsNeededUpTo : Af → ℕ → AxiomName → Type 0
-IsNeededUpTo f n name = IsNeeded f name
+IsNeededUpTo f n name = IsNeeded (af f) name
     × ((argument_of name ≡ 0) ⊎ ((k : ℕ) × (k < n) × (get_or f.live k 0 ≡ argument_of name)))
 
 pub names_begin : (f : Af) → IsNumberedAf f → (names : List AxiomName) → names ≡ [] ++ notion_names
@@ -502,7 +505,7 @@ names_go f ok n mid new within before more =
     ))
 
 -- each needed axiom tells of all or of a live argument
-argument_known : (f : Af) → IsNumberedAf f → (name : AxiomName) → IsNeeded f name
+argument_known : (f : Af) → IsNumberedAf f → (name : AxiomName) → IsNeeded (af f) name
     → (argument_of name ≡ 0) ⊎ Contains f.live (argument_of name)
 argument_known f ok (OfAf (A1 a)) h = inr h
 argument_known f ok (OfAf (A2 b a)) h = inr (ok.form.ends b a h).1
@@ -520,9 +523,9 @@ argument_known f ok (OfAf (A13 a)) h = inr h
 argument_known f ok (OfAf (A14 part)) h = inl refl
 
 pub names_end : (f : Af) → IsNumberedAf f → (n : ℕ) (names : List AxiomName) → length f.live ≤ n
-    → GainsEach (IsNeededUpTo f n) [] names → Enumerates (IsNeeded f) names
+    → GainsEach (IsNeededUpTo f n) [] names → Enumerates (IsNeeded (af f)) names
 names_end f ok n names all gains =
-    enumerates_same (IsNeededUpTo f n) (IsNeeded f) names
+    enumerates_same (IsNeededUpTo f n) (IsNeeded (af f)) names
     (λ name. (
       λ h. h.0,
       λ h. (
@@ -537,31 +540,31 @@ names_end f ok n names all gains =
 
 -- ---- the names are names of axioms
 
-pub needed_is_name : (f : Af) → IsNumberedAf f → (name : AxiomName) → IsNeeded f name → IsAfName name
+pub needed_is_name : (f : Af) → IsNumberedAf f → (name : AxiomName) → IsNeeded (af f) name → IsAxiomOf (af f) name
 needed_is_name f ok (OfAf (A1 a)) h = ok.live a h
 needed_is_name f ok (OfAf (A2 b a)) h = let ends = ok.form.ends b a h in (ok.live b ends.0, ok.live a ends.1)
 needed_is_name f ok (OfAf (A3 b a)) h = let ends = ok.form.ends b a h in (ok.live b ends.0, ok.live a ends.1)
 needed_is_name f ok (OfAf (A4 b a)) h = let ends = ok.form.ends b a h in (ok.live b ends.0, ok.live a ends.1)
 needed_is_name f ok (OfAf (A5 a i j)) h = record {
   argument = ok.live a (ok.form.ends j a h.attack).1;
-  from = position_low f a i h.position;
+  from = position_low f a i h.start;
   order = h.order;
   before_end = attacker_high f ok j a h.attack;
 }
 needed_is_name f ok (OfAf (A6 a i)) h = (
   ok.live a h.live,
-  record { low = position_low f a i h.position; high = position_high f ok a i h.position },
+  record { low = position_low f a i h.start; high = position_high f ok a i h.start },
 )
 needed_is_name f ok (OfAf (A7 a)) h = ok.live a h
 needed_is_name f ok (OfAf (A8 a i j)) h = record {
   argument = ok.live a (ok.form.ends j a h.attack).1;
-  from = position_low f a i h.position;
+  from = position_low f a i h.start;
   order = h.order;
   before_end = attacker_high f ok j a h.attack;
 }
 needed_is_name f ok (OfAf (A9 a i)) h = (
   ok.live a h.live,
-  record { low = position_low f a i h.position; high = position_high f ok a i h.position },
+  record { low = position_low f a i h.start; high = position_high f ok a i h.start },
 )
 needed_is_name f ok (OfAf (A10 a)) h = ok.live a h
 needed_is_name f ok (OfAf (A11 a)) h = ok.live a h

@@ -1,3 +1,3 @@
 pub mod Enumerations
-pub mod Needed
-pub mod Models
+pub mod Told
+pub mod Decoded

@@ -3,23 +3,24 @@
 ghost use Rattle.std.specs.Prelude.{◌≡◌, IfOk};
 ghost use Rattle.plain_lists.specs.Members.{IsSetOf};
 ghost use Rattle.semantics.specs.Framework.{Af};
-ghost use Rattle.semantics.specs.Frameworks.{IsNumberedAf};
+ghost use Rattle.semantics.specs.Frameworks.{af, IsNumberedAf};
 ghost use Rattle.meaning_atoms.specs.declared.atom.Atom.TheVariants.{Live, Member};
-ghost use Rattle.af_encoding.specs.Models.{Affirms, Decodes, IsModel, live_in, member_in};
+ghost use Rattle.oracle_face.specs.Decoding.{IsDecoded, IsModelOf};
+ghost use Rattle.af_encoding.specs.Decoded.{Affirms, Describes, live_in, member_in};
 
 use meaning_atoms::{Atom, AtomLit};
 use plain_lists::Memory;
 use set_lists::NumSet;
 use std::alloc::Global;
 
-/// The set that literals mean: each argument that they affirm to be a member and to be live. Where they are a model of
-/// the axioms that a framework needs, in which its facts have their values, the set has in that framework each notion
-/// that the model affirms, and each live argument is a member, in the range or attacked exactly where the model affirms
-/// it. Numbers are put in order, and everything else takes time linear in the literals. `Memory` says that an
-/// allocation was refused.
+/// The set that literals are read as: each argument that they affirm to be a member and to be live. Where they are a model
+/// of the axioms that a framework needs, in which its facts have their values, the set has in that framework each mode that
+/// the model affirms, and each live argument is a member, in the range or attacked exactly where the model affirms it.
+/// Numbers are put in order, and everything else takes time linear in the literals. `Memory` says that an allocation was
+/// refused.
 pub fn decode(alloc: Global, values: &[AtomLit]) -> Result<NumSet, Memory>
-    ensures members { IfOk result (IsSetOf (λ a. Affirms values.now (Member a) × Affirms values.now (Live a))) }
-    ensures model { (f : Af) → IsNumberedAf f → IsModel f values.now → IfOk result (Decodes f values.now) }
+    ensures set { IfOk result (IsSetOf (IsDecoded Live values.now)) }
+    ensures model { (f : Af) → IsNumberedAf f → IsModelOf (af f) values.now → IfOk result (Describes f values.now) }
 {
     let members = affirmed_members(alloc, values)?;
     let live = affirmed_live(alloc, values)?;

@@ -1,14 +1,13 @@
 //! The values that a framework alone fixes.
 
-ghost use Rattle.std.specs.Prelude.{◌≡◌, IfNone, IfSome, None, Ok};
+ghost use Rattle.std.specs.Prelude.{IfNone, IfSome};
 ghost use Rattle.semantics.specs.Frameworks.{af};
 ghost use Rattle.meaning_atoms.specs.Worlds.{IsFact};
 ghost use Rattle.af_axioms.specs.Facts.{IsFactValue};
 
 use af_axioms::fact_value;
 use dung_notions::AfPlain;
-use meaning_atoms::{Atom, AtomLit, AxiomName};
-use plain_lists::Memory;
+use meaning_atoms::Atom;
 
 /// Whether an atom is true, where the framework alone fixes it: `Live`, `Attack` and `Gap`. None at each other atom.
 /// It takes no memory.
@@ -17,12 +16,4 @@ pub fn fact(plain: &AfPlain, atom: &Atom) -> Option<bool>
     ensures none { IfNone result (¬ IsFact (af plain.now) atom.now) }
 {
     fact_value(plain, atom)
-}
-
-/// The axiom that a model of the needed axioms lacks: of an abstract framework always none, since the needed axioms
-/// are all that a model has to keep.
-pub fn missing(_plain: &AfPlain, _values: &[AtomLit]) -> Result<Option<AxiomName>, Memory>
-    ensures { result ≡ Ok None }
-{
-    Ok(None)
 }

@@ -1,21 +1,32 @@
 //! The laws that show the needed axioms to be the right ones. Each function does nothing; its contract is the law.
 
 ghost use Rattle.std.specs.Prelude.{ℕ, List};
+ghost use Rattle.plain_lists.specs.Members.{IsSetOf};
 ghost use Rattle.semantics.specs.Framework.{Af};
-ghost use Rattle.semantics.specs.Frameworks.{IsNumberedAf};
+ghost use Rattle.semantics.specs.Frameworks.{af, IsNumberedAf};
+ghost use Rattle.meaning_atoms.specs.declared.atom.Atom.TheVariants.{Live};
 ghost use Rattle.meaning_atoms.specs.declared.atom.AtomLit.{AtomLit};
 ghost use Rattle.meaning_atoms.specs.declared.axiom.AxiomName.{AxiomName};
-ghost use Rattle.af_encoding.specs.Models.{Decodes, IsDecoded, IsModel};
-ghost use Rattle.af_encoding.specs.Needed.{IsAfName, IsNeeded};
+ghost use Rattle.certificate_claims.specs.Refutations.{IsAxiomOf};
+ghost use Rattle.oracle_face.specs.Decoding.{IsDecoded, IsModelOf, ReadsBack};
+ghost use Rattle.oracle_face.specs.Needed.{IsNeeded};
+ghost use Rattle.af_encoding.specs.Decoded.{Describes};
 
-/// The set that a model means has each notion that the model affirms, and each live argument is a member, in the range
+/// The set that a model is read as has each mode that the model affirms, and each live argument is a member, in the range
 /// or attacked exactly where the model affirms it.
-pub fn models_decode()
-    ensures { (f : Af) (values : List AtomLit) (s : List ℕ) → IsNumberedAf f → IsModel f values
-        → IsDecoded values s → Decodes f values s }
+pub fn models_describe()
+    ensures { (f : Af) (values : List AtomLit) (set : List ℕ) → IsNumberedAf f → IsModelOf (af f) values
+        → IsSetOf (IsDecoded Live values) set → Describes f values set }
+{}
+
+/// Whatever a model says of modes, of live arguments as members, of the range and of what the set attacks is so of the
+/// set that it is read as.
+pub fn models_read_back()
+    ensures { (f : Af) (values : List AtomLit) (set : List ℕ) → IsNumberedAf f → IsModelOf (af f) values
+        → IsSetOf (IsDecoded Live values) set → ReadsBack (af f) values set }
 {}
 
 /// What a framework needs is an axiom: its numbers are within the bounds of its row.
 pub fn needed_are_axioms()
-    ensures { (f : Af) → IsNumberedAf f → (name : AxiomName) → IsNeeded f name → IsAfName name }
+    ensures { (f : Af) → IsNumberedAf f → (name : AxiomName) → IsNeeded (af f) name → IsAxiomOf (af f) name }
 {}

@@ -1,9 +1,11 @@
 //! The axioms that a search needs of a framework.
 
 ghost use Rattle.std.specs.Prelude.{All, Contains, IfOk, OnOk};
-ghost use Rattle.semantics.specs.Frameworks.{IsNumberedAf};
+ghost use Rattle.semantics.specs.Frameworks.{af, IsNumberedAf};
+ghost use Rattle.certificate_claims.specs.Refutations.{IsAxiomOf};
+ghost use Rattle.oracle_face.specs.Needed.{IsNeeded};
 ghost use Rattle.af_encoding.specs.Enumerations.{Enumerates, GainsEach};
-ghost use Rattle.af_encoding.specs.Needed.{IsAfName, IsNeeded, IsNeededAt};
+ghost use Rattle.af_encoding.specs.Told.{IsNeededAt};
 
 use dung_notions::AfPlain;
 use meaning_atoms::AfAxiom::{A1, A2, A3, A4, A5, A6, A7, A8, A9, A10, A11, A12, A13, A14};
@@ -17,8 +19,8 @@ use std::alloc::Global;
 /// arguments and attacks: three axioms of all, eight of each argument and five of each attack. `Memory` says that an
 /// allocation was refused.
 pub fn needed(alloc: Global, plain: &AfPlain) -> Result<Items<AxiomName>, Memory>
-    ensures all { IfOk result (Enumerates (IsNeeded plain.now)) }
-    ensures names { IfOk result (All IsAfName) }
+    ensures all { IfOk result (Enumerates (IsNeeded (af plain.now))) }
+    ensures names { IfOk result (All (IsAxiomOf (af plain.now))) }
 {
     let mut names = Vec::with_capacity(alloc, count(plain))?;
     names.extend_from_slice(&[Af(A14(1)), Af(A14(2)), Af(A14(3))])?;

@@ -4,7 +4,7 @@ use Rattle.std.proofs.lemmas.Iterator.{items_from_collect, YieldsList-from_slice
 use Rattle.std.proofs.lemmas.Iterator.Consumers.{YieldsList-from_filter_map}
 use Rattle.std.proofs.lemmas.Result.{IfOk-weaker}
 use Rattle.meaning_atoms.specs.declared.atom.Atom.TheVariants.{Member}
-use Rattle.af_encoding.specs.Models.{Affirms, member_in}
+use Rattle.af_encoding.specs.Decoded.{Affirms, member_in}
 use Rattle.af_encoding.proofs.Affirmed.{affirmed_members_are, set_with}
 use Rattle.af_encoding.proofs.decoding.affirmed_members.Goals as goal
 

@@ -1,6 +1,7 @@
 use Rattle.std.proofs.Common.{◌++◌, ap, ◌∙◌}
 use Rattle.af_encoding.proofs.EnumerationLemmas.{all_of_members}
-use Rattle.af_encoding.specs.Needed.{IsAfName}
+use Rattle.semantics.specs.Frameworks.{af}
+use Rattle.certificate_claims.specs.Refutations.{IsAxiomOf}
 use Rattle.af_encoding.proofs.NeededLemmas.{notion_names, names_begin, names_go, names_end, needed_is_name}
 use Rattle.af_encoding.proofs.needed_axioms.needed.Goals as goal
 
@@ -20,6 +21,6 @@ returns-clause-all c = rw c.from_vec.ensures
     c.loop-argument.invariant)
 
 pub returns-clause-names : goal.returns-clause-names
-returns-clause-names c = all_of_members IsAfName c.from_vec.result
+returns-clause-names c = all_of_members (IsAxiomOf (af c.args.plain.now)) c.from_vec.result
     (λ name there. needed_is_name c.args.plain.now c.live-argument-items.ensures.form name
     (((returns-clause-all c).members name).0 there))
