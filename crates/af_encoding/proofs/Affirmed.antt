@@ -1,5 +1,6 @@
 -- The numbers that literals affirm to be members, or live.
-use Rattle.std.proofs.Common.{◌≡◌, ◌⊎◌, ℕ, Bool, true, false, List, [], ◌∷◌, ap, sym, refl, ◌∙◌, subst, inl, inr, ⊎_elim}
+use Rattle.std.proofs.Common.{◌≡◌, ◌⊎◌, ℕ, Bool, true, List, [], ◌∷◌, ap, sym, refl, subst}
+use Rattle.std.proofs.Common.{inl, inr, ⊎_elim}
 use Rattle.std.specs.Prelude.{Contains, ◌↔◌, Option, Some, None, filter_map}
 use Rattle.std.specs.List.{cons_option}
 use Rattle.plain_lists.specs.Members.{IsSetOf}

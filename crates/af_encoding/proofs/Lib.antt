@@ -3,3 +3,4 @@ pub mod WalkLemmas
 pub mod NeededLemmas
 pub mod Affirmed
 pub mod Readings
+pub mod WorldModels

@@ -1,5 +1,6 @@
 -- The needed axioms are listed argument by argument, and those of an argument along the walk through its attackers.
-use Rattle.std.proofs.Common.{◌≡◌, ◌≤◌, ◌<◌, ◌+◌, ◌⊎◌, ℕ, List, [], ◌∷◌, ◌++◌, length, get_or, arith, refl, ap, sym, ◌∙◌, subst, inl, inr, ⊎_elim}
+use Rattle.std.proofs.Common.{◌≡◌, ◌≤◌, ◌<◌, ◌+◌, ◌⊎◌, ℕ, List, [], ◌∷◌, ◌++◌, length, get_or, arith}
+use Rattle.std.proofs.Common.{refl, ap, sym, ◌∙◌, subst, inl, inr, ⊎_elim}
 use Rattle.std.specs.Prelude.{Contains, ◌↔◌, All}
 use Rattle.std.specs.List.{AllByRecursion}
 use Rattle.std.specs.List.Sorted.{IsStrictlyIncreasing}
@@ -10,7 +11,8 @@ use Rattle.std.proofs.lemmas.List.Kept.{AllPairs-from_increasing}
 use Rattle.semantics.specs.Framework.{Af, Attacks}
 use Rattle.semantics.specs.Frameworks.{af, IsNumberedAf}
 use Rattle.meaning_atoms.specs.declared.axiom.AfAxiom.{AfAxiom}
-use Rattle.meaning_atoms.specs.declared.axiom.AfAxiom.TheVariants.{A1, A2, A3, A4, A5, A6, A7, A8, A9, A10, A11, A12, A13, A14}
+use Rattle.meaning_atoms.specs.declared.axiom.AfAxiom.TheVariants.{A1, A2, A3, A4, A5, A6, A7, A8, A9}
+use Rattle.meaning_atoms.specs.declared.axiom.AfAxiom.TheVariants.{A10, A11, A12, A13, A14}
 use Rattle.meaning_atoms.specs.declared.axiom.AxiomName.{AxiomName}
 use Rattle.meaning_atoms.specs.declared.axiom.AxiomName.TheVariants.{Af as OfAf}
 use Rattle.meaning_atoms.specs.Worlds.{HasGap}
@@ -114,7 +116,11 @@ notions_back : (f : Af) → IsNumberedAf f → (name : AxiomName) → IsNeededAt
 notions_back f ok (OfAf (A14 part)) h =
     ⊎_elim (λ e. (0, omega arith, same_one A14 1 part e))
     (λ no. ⊎_elim (λ e. (1, omega arith, same_one A14 2 part e))
-    (λ neither. (2, omega arith, same_one A14 3 part (let low : 1 ≤ part = h.0.0 in let high : part ≤ 3 = h.0.1 in omega arith)))
+    (λ neither. (
+      2,
+      omega arith,
+      same_one A14 3 part (let low : 1 ≤ part = h.0.0 in let high : part ≤ 3 = h.0.1 in omega arith),
+    ))
     (cases_eq part 2)) (cases_eq part 1)
 notions_back f ok (OfAf (A1 a)) h = absurd (let low = live_low f ok a h.0 in let e : a ≡ 0 = h.1 in omega arith)
 notions_back f ok (OfAf (A2 b a)) h = absurd (let low = target_low f ok b a h.0 in let e : a ≡ 0 = h.1 in omega arith)

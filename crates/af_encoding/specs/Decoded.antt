@@ -1,11 +1,13 @@
 -- What a model of the needed axioms tells of the set that it is read as, where the framework is abstract.
 use Rattle.std.specs.Prelude.{◌≡◌, ◌↔◌, ℕ, Bool, true, List, Contains, Option, Some, None}
 use Rattle.semantics.specs.Framework.{Af}
+use Rattle.semantics.specs.Frameworks.{af}
 use Rattle.meaning_atoms.specs.declared.atom.Atom.{Atom}
 use Rattle.meaning_atoms.specs.declared.atom.Atom.TheVariants.{Member, Live, Tail, Range}
 use Rattle.meaning_atoms.specs.declared.atom.AtomLit.{AtomLit}
 use Rattle.meaning_atoms.specs.Literals.{affirmed}
 use Rattle.meaning_atoms.specs.Worlds.{HoldsOfAf}
+use Rattle.oracle_face.specs.Decoding.{IsDecoded, IsModelOf}
 use Rattle.oracle_face.specs.Goals.{IsMode}
 
 -- the atom itself is among the literals
@@ -40,3 +42,9 @@ live_at _ _ = None
 
 abbrev pub live_in : AtomLit → Option ℕ
 live_in l = live_at l.atom l.positive
+
+-- a model of the axioms that the framework needs, which is read as the set and affirms each mode that the set has
+pub record IsModelOfSet (f : Af) (values : List AtomLit) (s : List ℕ) : Type 0 where
+  pub model : IsModelOf (af f) values
+  pub read : (a : ℕ) → IsDecoded Live values a ↔ Contains s a
+  pub modes : (mode : Atom) → IsMode mode → HoldsOfAf f s mode → Affirms values mode
