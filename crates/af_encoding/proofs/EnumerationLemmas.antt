@@ -1,11 +1,11 @@
 -- Lists that name each item of a kind once, and how they grow.
-use Rattle.std.proofs.Common.{◌≡◌, ◌≢◌, ℕ, ◌<◌, ◌⊎◌, List, [], ◌∷◌, ◌++◌, append_assoc, length, get_or}
-use Rattle.std.proofs.Common.{arith, ap, sym, ◌∙◌, subst, refl, inl, inr, ⊎_elim, suc}
+use Rattle.std.proofs.Common.{◌≡◌, ◌≢◌, ℕ, ◌<◌, ◌⊎◌, List, [], ◌∷◌, ◌++◌, append_assoc, get_or}
+use Rattle.std.proofs.Common.{arith, ap, ◌∙◌, subst, refl, inl, inr, ⊎_elim, suc}
 use Rattle.std.specs.Prelude.{Contains, ◌↔◌, All, AllPairs}
 use Rattle.std.proofs.lemmas.List.Elements.{All-append, All-cons, Contains-get_or}
 use Rattle.std.proofs.lemmas.List.Elements.{Contains-append_left, Contains-append_right, Contains-append_cases}
 use Rattle.std.proofs.lemmas.List.Kept.{AllPairs-cons}
-use Rattle.plain_lists.proofs.Membership.{Contains-head, Contains-tail, Contains-nil}
+use Rattle.plain_lists.proofs.Membership.{Contains-head, Contains-tail}
 use Rattle.af_encoding.specs.Enumerations.{Enumerates, GainsEach}
 
 module _ {X : Type 0} where

@@ -1,6 +1,6 @@
 -- Walks along the attackers of an argument: there is one step to each attacker and one end, and the walk comes past
 -- every attacker.
-use Rattle.std.proofs.Common.{◌≡◌, ◌≤◌, ◌<◌, ◌+◌, ◌⊎◌, ℕ, zero, suc, arith, refl, inl, inr, ⊎_elim, subst, sym}
+use Rattle.std.proofs.Common.{◌≡◌, ◌≤◌, ◌<◌, ◌+◌, ◌⊎◌, ℕ, zero, suc, arith, refl, inl, inr, ⊎_elim, subst}
 use Rattle.std.specs.Prelude.{Contains}
 use Rattle.std.proofs.lemmas.Bool.{cases_eq, cases_lt}
 use Rattle.semantics.specs.Framework.{Af, Attacks}

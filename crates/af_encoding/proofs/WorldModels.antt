@@ -20,13 +20,12 @@ use Rattle.meaning_atoms.specs.declared.axiom.AxiomName.{AxiomName}
 use Rattle.meaning_atoms.specs.declared.axiom.AxiomName.TheVariants.{Af as OfAf}
 use Rattle.meaning_atoms.specs.Literals.{affirmed, negated}
 use Rattle.meaning_atoms.specs.Valuations.{IsValuation}
-use Rattle.meaning_atoms.specs.Worlds.{World, world_of, IsAfWorld, Says, Holds, HoldsOfAf, IsAfFact, IsTrueBeside}
+use Rattle.meaning_atoms.specs.Worlds.{world_of, IsAfWorld, Says, Holds, HoldsOfAf, IsAfFact, IsTrueBeside}
 use Rattle.meaning_atoms.proofs.Valuations.{world_valuation}
-use Rattle.af_axioms.specs.Facts.{IsFactValue}
 use Rattle.af_axioms.specs.Table.{notion_clause}
 use Rattle.af_axioms.proofs.Rows.{rows_are_valid}
 use Rattle.certificate_claims.specs.Refutations.{axiom_clause}
-use Rattle.oracle_face.specs.Decoding.{IsDecoded, IsModelOf}
+use Rattle.oracle_face.specs.Decoding.{IsModelOf}
 use Rattle.oracle_face.specs.Goals.{IsMode}
 use Rattle.oracle_face.specs.Needed.{IsNeeded, IsWalkStart}
 use Rattle.af_encoding.specs.Decoded.{Affirms, IsModelOfSet}
