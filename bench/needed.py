@@ -187,9 +187,9 @@ def main():
             right = (status == 0 and live == asked.arguments and axioms == 3 + 8 * live + 5 * attacks
                      and members == asked.arguments // 2)
             wrong += not right
-            print(f"needed: {live} arguments, {attacks} attacks: {axioms} axioms in {taken / 1000:.3f} s; {members} members "
-                  f"decoded of {2 * live} literals in {read / 1000:.3f} s; peak memory of it all {memory / 1024:.0f} MB"
-                  f"{'' if right else ', WRONG'}", flush=True)
+            print(f"needed: {live} arguments, {attacks} attacks: {axioms} axioms in {taken / 1000:.3f} s; "
+                  f"{members} members decoded of {2 * live} literals in {read / 1000:.3f} s; "
+                  f"peak memory of it all {memory / 1024:.0f} MB{'' if right else ', WRONG'}", flush=True)
     sys.exit(1 if wrong else 0)
 
 

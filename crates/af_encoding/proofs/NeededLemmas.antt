@@ -140,8 +140,13 @@ notions_back f ok (OfAf (A13 a)) h = absurd (let low = live_low f ok a h.0 in le
 notions_enumerated : (f : Af) → IsNumberedAf f → Enumerates (IsNeededAt f 0) notion_names
 notions_enumerated f ok = record {
   members = λ name. (
-    listed (IsNeededAt f 0) notion_names
-        (((omega arith, omega arith), refl), (((omega arith, omega arith), refl), (((omega arith, omega arith), refl), tt))) name,
+    listed (IsNeededAt f 0) notion_names (
+      ((omega arith, omega arith), refl),
+      (
+        ((omega arith, omega arith), refl),
+        (((omega arith, omega arith), refl), tt),
+      ),
+    ) name,
     notions_back f ok name,
   );
   once = rising_once row notion_names (omega arith, (omega arith, tt));
@@ -169,7 +174,8 @@ own_back f ok a live (OfAf (A6 c i)) h = absurd (let lt : 1000001 < 1 = h.1 in o
 own_back f ok a live (OfAf (A8 c i j)) h =
     absurd (let low = attacker_low f ok j c h.0.0.attack in let lt : j < 1 = h.1 in omega arith)
 own_back f ok a live (OfAf (A9 c i)) h = absurd (let lt : 1000001 < 1 = h.1 in omega arith)
-own_back f ok a live (OfAf (A14 part)) h = absurd (let low = live_low f ok a live in let e : 0 ≡ a = h.0.1 in omega arith)
+own_back f ok a live (OfAf (A14 part)) h =
+    absurd (let low = live_low f ok a live in let e : 0 ≡ a = h.0.1 in omega arith)
 
 own_enumerated : (f : Af) → IsNumberedAf f → (a : ℕ) → Contains f.live a
     → Enumerates (IsNeededBelow f a 1) (own_names a)
@@ -335,8 +341,8 @@ pub record HasWalked (f : Af) (a : ℕ) (pairs : List (ℕ × ℕ)) (k i : ℕ) 
   pub gains : GainsEach (IsNeededBelow f a i) old new
 
 -- the attack of a pair
-pub attack_at : (f : Af) (a : ℕ) (pairs : List (ℕ × ℕ)) → ListsAttackers f a pairs → (k : ℕ) (d : ℕ × ℕ) → k < length pairs
-    → ((get_or pairs k d).0 ≡ a) × Attacks f (get_or pairs k d).1 a
+pub attack_at : (f : Af) (a : ℕ) (pairs : List (ℕ × ℕ)) → ListsAttackers f a pairs → (k : ℕ) (d : ℕ × ℕ)
+    → k < length pairs → ((get_or pairs k d).0 ≡ a) × Attacks f (get_or pairs k d).1 a
 attack_at f a pairs lists k d lt = (lists.attackers _ _).0 (Contains-get_or pairs k d lt)
 
 pub walk_begins : (f : Af) → IsNumberedAf f → (a : ℕ) → Contains f.live a → (pairs : List (ℕ × ℕ))
@@ -379,11 +385,12 @@ gap_before f a pairs lists k i d old new walked within c at late early =
     let is : (get_or pairs found.0 d).1 ≡ c = found.3 d in
     ⊎_elim
     (λ same. let here : (get_or pairs k d).1 ≡ c = subst (λ n. (get_or pairs n d).1 ≡ c) (sym same) is in omega arith)
-    (λ other. let less = later f a pairs lists k found.0 d (let ge : k ≤ found.0 = found.1 in omega arith) found.2 in omega arith)
+    (λ other. let ge : k ≤ found.0 = found.1 in
+    let less = later f a pairs lists k found.0 d (omega arith) found.2 in omega arith)
     (cases_eq k found.0)
 
-step_here : (f : Af) → IsNumberedAf f → (a : ℕ) (pairs : List (ℕ × ℕ)) → ListsAttackers f a pairs → (k i : ℕ) (d : ℕ × ℕ)
-    (old new : List AxiomName) → HasWalked f a pairs k i old new → k < length pairs
+step_here : (f : Af) → IsNumberedAf f → (a : ℕ) (pairs : List (ℕ × ℕ)) → ListsAttackers f a pairs
+    → (k i : ℕ) (d : ℕ × ℕ) (old new : List AxiomName) → HasWalked f a pairs k i old new → k < length pairs
     → IsWalkStep f a i (get_or pairs k d).1
 step_here f ok a pairs lists k i d old new walked within = record {
   live = (ok.form.ends _ a (attack_at f a pairs lists k d within).1).1;
@@ -423,7 +430,8 @@ walk_goes f ok a pairs lists k i d old mid new walked within e =
     record {
       position = inr (b, step.attack, refl);
       before = λ n d' lt inside. ⊎_elim
-          (λ same. let is : (get_or pairs n d').1 ≡ b = subst (λ m. (get_or pairs m d').1 ≡ b) (sym same) (here d') in omega arith)
+          (λ same. let is : (get_or pairs n d').1 ≡ b
+          = subst (λ m. (get_or pairs m d').1 ≡ b) (sym same) (here d') in omega arith)
           (λ other. let early : (get_or pairs n d').1 < i = walked.before n d' (omega arith) inside in omega arith)
           (cases_eq n k);
       after = λ n d' le inside.

@@ -13,11 +13,11 @@ use plain_lists::Memory;
 use set_lists::NumSet;
 use std::alloc::Global;
 
-/// The set that literals are read as: each argument that they affirm to be a member and to be live. Where they are a model
-/// of the axioms that a framework needs, in which its facts have their values, the set has in that framework each mode that
-/// the model affirms, and each live argument is a member, in the range or attacked exactly where the model affirms it.
-/// Numbers are put in order, and everything else takes time linear in the literals. `Memory` says that an allocation was
-/// refused.
+/// The set that literals are read as: each argument that they affirm to be a member and to be live. Where they are a
+/// model of the axioms that a framework needs, in which its facts have their values, the set has in that framework each
+/// mode that the model affirms, and each live argument is a member, in the range or attacked exactly where the model
+/// affirms it. Numbers are put in order, and everything else takes time linear in the literals. `Memory` says that an
+/// allocation was refused.
 pub fn decode(alloc: Global, values: &[AtomLit]) -> Result<NumSet, Memory>
     ensures set { IfOk result (IsSetOf (IsDecoded Live values.now)) }
     ensures model { (f : Af) → IsNumberedAf f → IsModelOf (af f) values.now → IfOk result (Describes f values.now) }

@@ -12,8 +12,8 @@ ghost use Rattle.oracle_face.specs.Decoding.{IsDecoded, IsModelOf, ReadsBack};
 ghost use Rattle.oracle_face.specs.Needed.{IsNeeded};
 ghost use Rattle.af_encoding.specs.Decoded.{Describes, IsModelOfSet};
 
-/// The set that a model is read as has each mode that the model affirms, and each live argument is a member, in the range
-/// or attacked exactly where the model affirms it.
+/// The set that a model is read as has each mode that the model affirms, and each live argument is a member, in the
+/// range or attacked exactly where the model affirms it.
 pub fn models_describe()
     ensures { (f : Af) (values : List AtomLit) (set : List ℕ) → IsNumberedAf f → IsModelOf (af f) values
         → IsSetOf (IsDecoded Live values) set → Describes f values set }

@@ -30,7 +30,7 @@ fn is_read_as(alloc: Global, values: &[AtomLit], set: &[u32]) -> Result<bool, Me
     Ok(read.as_slice() == set && again.as_slice() == set)
 }
 
-/// A member counts where it is said to be live, whatever the order and the other literals; 9 isn't live, 3 is no member.
+/// A member counts where it is said to be live, whatever the order and the other literals: 9 isn't live, 3 is none.
 #[test]
 fn sets(rt: HostRuntime) -> Result<(), Fail> {
     let alloc = rt.alloc();
