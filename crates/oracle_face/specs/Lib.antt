@@ -1,2 +1,9 @@
+pub mod Decoding
 pub mod Entries
+pub mod Goals
+pub mod Growing
+pub mod Kinds
+pub mod Laws
+pub mod Logs
+pub mod Needed
 pub mod Trades

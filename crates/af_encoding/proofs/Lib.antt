@@ -1,0 +1,6 @@
+pub mod EnumerationLemmas
+pub mod WalkLemmas
+pub mod NeededLemmas
+pub mod Affirmed
+pub mod Readings
+pub mod WorldModels

@@ -1,0 +1,3 @@
+pub mod Enumerations
+pub mod Told
+pub mod Decoded

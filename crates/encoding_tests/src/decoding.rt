@@ -1,0 +1,91 @@
+//! Sets that literals are read as, and the values of facts.
+
+use af_encoding::{AfEncoding, decode, fact};
+use dung_notions::AfPlain;
+use meaning_atoms::Atom::{Ad, Ask, Attack, Cf, Gap, Live, Member, Range, Tail, Unmet};
+use meaning_atoms::{Atom, AtomLit, END};
+use oracle_face::Encoding;
+use plain_lists::Memory;
+use std::alloc::Global;
+use std::test::Fail;
+
+fn is(atom: Atom) -> AtomLit {
+    AtomLit {
+        atom,
+        positive: true,
+    }
+}
+
+fn not(atom: Atom) -> AtomLit {
+    AtomLit {
+        atom,
+        positive: false,
+    }
+}
+
+/// Whether the literals are read as the set of these numbers.
+fn is_read_as(alloc: Global, values: &[AtomLit], set: &[u32]) -> Result<bool, Memory> {
+    let read = decode(alloc, values)?;
+    let again = AfEncoding::decode(alloc, values)?;
+    Ok(read.as_slice() == set && again.as_slice() == set)
+}
+
+/// A member counts where it is said to be live, whatever the order and the other literals: 9 isn't live, 3 is none.
+#[test]
+fn sets(rt: HostRuntime) -> Result<(), Fail> {
+    let alloc = rt.alloc();
+    let values = [
+        is(Ad),
+        is(Member(2)),
+        is(Member(9)),
+        not(Live(9)),
+        is(Live(2)),
+        is(Live(1)),
+        not(Member(3)),
+        is(Live(3)),
+        is(Range(3)),
+        is(Tail(3, 1)),
+        is(Member(1)),
+        is(Member(2)),
+    ];
+    assert!(rt; is_read_as(alloc, &values, &[1, 2])?);
+    assert!(rt; is_read_as(alloc, &[is(Member(1)), not(Live(1))], &[])?);
+    assert!(rt; is_read_as(alloc, &[is(Live(1)), not(Member(1))], &[])?);
+    assert!(rt; is_read_as(alloc, &[], &[])?);
+    assert!(rt; is_read_as(alloc, &[is(Member(7)), is(Live(7))], &[7])?);
+    Ok(())
+}
+
+/// 1 and 2 attack each other, and 2 attacks 3.
+#[test]
+fn facts(rt: HostRuntime) -> Result<(), Fail> {
+    let plain = AfPlain::of_lists(rt.alloc(), &[1, 2, 3], &[(1, 2), (2, 1), (2, 3)])?;
+    let rows = [
+        (Live(3), Some(true)),
+        (Live(4), Some(false)),
+        (Attack(2, 3), Some(true)),
+        (Attack(3, 2), Some(false)),
+        (Gap(3, 1, 2), Some(true)),
+        (Gap(3, 2, 3), Some(false)),
+        (Gap(3, 3, END), Some(true)),
+        (Member(1), None),
+        (Tail(1, 1), None),
+        (Unmet(1, 1), None),
+        (Range(1), None),
+        (Cf, None),
+        (Ask(1), None),
+    ];
+    for (atom, value) in &rows {
+        assert!(rt; fact(&plain, atom) == *value, "{atom:?}");
+        assert!(rt; AfEncoding::fact(&plain, atom) == *value, "{atom:?}");
+    }
+    Ok(())
+}
+
+#[test]
+fn nothing_is_missing(rt: HostRuntime) -> Result<(), Fail> {
+    let plain = AfPlain::of_lists(rt.alloc(), &[1], &[(1, 1)])?;
+    assert!(rt; AfEncoding::missing(rt.alloc(), &plain, &[is(Member(1))])?.is_none());
+    assert!(rt; AfEncoding::missing(rt.alloc(), &plain, &[])?.is_none());
+    Ok(())
+}

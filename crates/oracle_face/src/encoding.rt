@@ -1,0 +1,55 @@
+//! How a framework is put into clauses, and models are read as sets.
+
+ghost use Rattle.std.specs.Prelude.{◌≡◌, ◌↔◌, Contains, IfOk, IfSome, IfNone, None};
+ghost use Rattle.plain_lists.specs.Members.{IsSetOf};
+ghost use Rattle.meaning_atoms.specs.Worlds.{IsFact};
+ghost use Rattle.af_axioms.specs.Facts.{IsFactValue};
+ghost use Rattle.oracle_face.specs.Decoding.{IsDecoded, IsModelOf, IsNewLoop, ReadsBack};
+ghost use Rattle.oracle_face.specs.Needed.{IsNeeded};
+
+use meaning_atoms::{Atom, AtomLit, AxiomName};
+use plain_lists::{Items, Memory};
+use set_lists::NumSet;
+use std::alloc::Global;
+
+/// One kind of framework in clauses over atoms.
+pub trait Encoding {
+    ghost use Rattle.std.specs.Prelude.{ℕ, List};
+    ghost use Rattle.semantics.specs.Frameworks.{Framework};
+    ghost use Rattle.meaning_atoms.specs.declared.atom.Atom.{Atom};
+
+    /// A framework of this kind.
+    type Plain;
+
+    /// The framework that it is.
+    ghost framework: { Self.Plain → Framework };
+    /// The atom that says of a number that it is a member of the framework.
+    ghost vouches: { ℕ → Atom };
+
+    /// The axioms that a search needs for the framework: exactly these, in any order.
+    fn needed(alloc: Global, plain: &Self::Plain) -> Result<Items<AxiomName>, Memory>
+        ensures { IfOk result (λ names. (name : AxiomName) → Contains names name
+            ↔ IsNeeded (framework plain.now) name) };
+
+    /// The set that literals are read as: each number of which they say that it is in the set, and that it is a member of
+    /// the framework.
+    fn decode(alloc: Global, values: &[AtomLit]) -> Result<NumSet, Memory>
+        ensures { IfOk result (IsSetOf (IsDecoded vouches values.now)) };
+
+    /// Whether an atom is so that the framework alone fixes; None exactly where it doesn't.
+    fn fact(plain: &Self::Plain, atom: &Atom) -> Option<bool>
+        ensures some { IfSome result (IsFactValue (framework plain.now) atom.now) }
+        ensures none { IfNone result (¬ IsFact (framework plain.now) atom.now) };
+
+    /// The axiom that a model of the needed axioms lacks to be read as a set, or None. Where there is none, what the model
+    /// says reads back: of modes, of members of the framework and of their ranges.
+    fn missing(
+        alloc: Global,
+        plain: &Self::Plain,
+        values: &[AtomLit],
+    ) -> Result<Option<AxiomName>, Memory>
+        ensures lacks { IfOk result (λ name. IfSome name (IsNewLoop (framework plain.now) values.now)) }
+        ensures reads { IfOk result (λ name. name ≡ None → IsModelOf (framework plain.now) values.now
+            → (set : List ℕ) → IsSetOf (IsDecoded vouches values.now) set
+            → ReadsBack (framework plain.now) values.now set) };
+}
