@@ -20,7 +20,8 @@ import time
 from pathlib import Path
 
 TOP = Path(__file__).resolve().parent.parent
-NEEDED = ("plain_lists", "plain_lits", "hinted_log", "unit_propagate", "decision_order", "conflict_learn", "sat_core")
+NEEDED = ("plain_lists", "plain_lits", "hinted_log", "clause_watches", "unit_propagate", "decision_order",
+          "conflict_learn", "sat_core")
 
 # It stands here, and not in a file of its own, since `rt ci` refuses a source outside the crates.
 PROGRAM = """\

@@ -9,17 +9,20 @@ use Rattle.plain_lits.specs.declared.lit.Lit.{Lit}
 use Rattle.plain_lits.specs.Literals.{negation}
 use Rattle.plain_lits.specs.Packed.{packed}
 use Rattle.unit_propagate.specs.declared.engine.Mark.{Mark}
-use Rattle.unit_propagate.specs.declared.pair.Pair.{Pair}
+use Rattle.clause_watches.specs.declared.pair.Pair.{Pair}
 use Rattle.unit_propagate.specs.Search.{IsReason, StaysSearch, GainsClause, Learns}
-use Rattle.unit_propagate.specs.States.{State, has, IsPairOf, IsWatching, IsKept, IsLooked, mark_at, no_mark}
-use Rattle.unit_propagate.specs.Steps.{IsLonger, MakesRoom, LowersMarks, Lowers, HasRoomFor, IsUnfalse, IsLow}
+use Rattle.unit_propagate.specs.States.{State, has, IsWatching, IsKept, IsLooked, mark_at, no_mark}
+use Rattle.clause_watches.specs.Picks.{IsPairOf}
+use Rattle.unit_propagate.specs.Steps.{IsLonger, MakesRoom, LowersMarks, Lowers, HasRoomFor, IsLow}
+use Rattle.clause_watches.specs.Picks.{IsUnfalse}
 use Rattle.unit_propagate.specs.Steps.{IsReady, Inserts, IsImplied, with_literal}
 use Rattle.unit_propagate.specs.States.{search_of}
-use Rattle.unit_propagate.proofs.Rooms.{longer_same, room_same, room_trans}
+use Rattle.unit_propagate.proofs.Rooms.{longer_same}
+use Rattle.clause_watches.proofs.Pairing.{room_same, room_trans}
 use Rattle.unit_propagate.proofs.Joining.{kept_added, clause_last}
-use Rattle.unit_propagate.specs.WatchLists.{Listed, no_list, list_at, ids_at, one, watches, with_id, HasMoreRoom}
-use Rattle.unit_propagate.specs.WatchLists.{HasPairRoom, Joins}
-use Rattle.unit_propagate.proofs.Fronts.{longer_front, packed_low}
+use Rattle.clause_watches.specs.WatchLists.{Listed, no_list, list_at, ids_at, one, watches, with_id, HasMoreRoom}
+use Rattle.clause_watches.specs.WatchLists.{HasPairRoom, Joins}
+use Rattle.clause_watches.proofs.Fronts.{longer_front, packed_low}
 use Rattle.unit_propagate.proofs.Lists.{weight_with, uses_with, watches_apart, watches_alone, pairs_below, has_there}
 
 abbrev pub roomy : State → List Lit → List ℕ → ℕ → List Listed → List ℕ → List Mark → State

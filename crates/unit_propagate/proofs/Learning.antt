@@ -7,11 +7,11 @@ use Rattle.std.proofs.lemmas.List.Elements.{Contains-append_left}
 use Rattle.plain_lists.proofs.Membership.{Contains-pushed}
 use Rattle.plain_lits.specs.declared.lit.Lit.{Lit}
 use Rattle.plain_lits.specs.Literals.{negation}
-use Rattle.unit_propagate.specs.declared.pair.Pair.{Pair}
+use Rattle.clause_watches.specs.declared.pair.Pair.{Pair}
 use Rattle.unit_propagate.specs.Search.{Search, StaysSearch, StaysAssigned, GainsClause}
 use Rattle.unit_propagate.specs.States.{State, IsKept, IsLooked, Guards, search_of}
 use Rattle.unit_propagate.specs.Steps.{MakesRoom}
-use Rattle.unit_propagate.proofs.Fronts.{from_front, pushed_cases}
+use Rattle.clause_watches.proofs.Fronts.{from_front, pushed_cases}
 use Rattle.unit_propagate.proofs.Growing.{stays_room}
 
 -- nothing is changed

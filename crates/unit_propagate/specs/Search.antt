@@ -5,10 +5,10 @@ use Rattle.plain_lits.specs.declared.lit.Lit.{Lit}
 use Rattle.plain_lits.specs.Literals.{negation}
 use Rattle.plain_lits.specs.HintCheck.{clause_at, IsNamed, IsFalsified, IsUnit}
 use Rattle.plain_lits.specs.Trails.{VarsDiffer, AreLevels}
-use Rattle.unit_propagate.specs.declared.pair.Pair.{Pair}
+use Rattle.clause_watches.specs.declared.pair.Pair.{Pair}
 use Rattle.unit_propagate.specs.declared.propagator.Propagated.{Propagated}
 use Rattle.unit_propagate.specs.declared.propagator.Propagated.TheVariants.{Conflict, Quiet}
-use Rattle.unit_propagate.specs.Arenas.{pair_of}
+use Rattle.clause_watches.specs.Arenas.{pair_of}
 
 -- the clauses in the order of their ids, which count from 1, each with its watched pair; the true literals in the
 -- order in which they came, how many there were before each level, and for each, by its index, the id of the clause

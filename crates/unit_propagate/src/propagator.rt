@@ -9,8 +9,7 @@ ghost use Rattle.plain_lits.specs.Values.{IsValueIn};
 ghost use Rattle.unit_propagate.specs.Search.{IsSearch, IsAnswer, IsGuarded, HasGrown, Decides, GoesBack, IsWatchedBy};
 ghost use Rattle.unit_propagate.specs.Search.{GainsClause, GainsBlock, Learns, StaysSearch};
 
-use crate::engine::{Engine, code_of};
-use crate::watch_list::ids_in;
+use crate::engine::Engine;
 use plain_lists::Memory;
 use plain_lits::{Lit, PackedLit, Value};
 use std::alloc::Global;
