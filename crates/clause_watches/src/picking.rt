@@ -2,7 +2,9 @@
 
 ghost use Rattle.std.specs.Prelude.{◌≡◌, ◌+◌, ◌<◌, ◌≤◌, ◌^◌, take, Contains, IfOk, IsTrue, ◌⊎◌, ◌↔◌};
 ghost use Rattle.plain_lits.specs.declared.lit.Lit.{Lit};
-ghost use Rattle.clause_watches.specs.Picks.{IsPairOf, HasVars, IsOther, IsPick, Considers, IsUnfalse};
+ghost use Rattle.clause_watches.specs.Picks.{IsPairOf, HasVars, IsOther, IsPick, Considers, IsRank, Outlasts};
+ghost use Rattle.clause_watches.specs.Picks.{WatchesLast};
+ghost use Rattle.std.specs.Bool.{OnTrue, OnFalse};
 
 use crate::pair::Pair;
 use plain_lists::Memory;
@@ -33,7 +35,7 @@ pub fn vars_of(lits: &[Lit]) -> Result<usize, Memory>
 
 /// How many true literals there were before a literal became false, or how many there are where it isn't false.
 pub fn rank_of(trail: &Trail, lit: Lit) -> usize
-    ensures { IsUnfalse trail.now.lits lit result }
+    ensures { IsRank trail.now.lits lit result }
 {
     match trail.value(lit) {
         Value::False => trail.position(!lit),
@@ -51,9 +53,22 @@ fn is_other(other: Option<Lit>, lit: Lit) -> bool
     }
 }
 
+/// Whether a literal became false later than another, or isn't false where the other is; else the other outlasts it.
+fn outlasts(trail: &Trail, lit: Lit, other: Lit) -> bool
+    ensures later { OnTrue result (Outlasts trail.now.lits lit other) }
+    ensures sooner { OnFalse result (Outlasts trail.now.lits other lit) }
+{
+    let rank = rank_of(trail, lit);
+    let passed = rank_of(trail, other);
+    if rank > passed {
+        return true;
+    }
+    false
+}
+
 /// The best literal so far, or the next one: where it isn't passed over, and isn't false or became false later.
 fn consider(trail: &Trail, best: Option<Lit>, other: Option<Lit>, lit: Lit) -> Option<Lit>
-    ensures { Considers best other lit result }
+    ensures { Considers trail.now.lits best other lit result }
 {
     if is_other(other, lit) {
         return best;
@@ -61,7 +76,7 @@ fn consider(trail: &Trail, best: Option<Lit>, other: Option<Lit>, lit: Lit) -> O
     match best {
         None => Some(lit),
         Some(held) => {
-            if rank_of(trail, lit) > rank_of(trail, held) {
+            if outlasts(trail, lit, held) {
                 return Some(lit);
             }
             Some(held)
@@ -71,7 +86,7 @@ fn consider(trail: &Trail, best: Option<Lit>, other: Option<Lit>, lit: Lit) -> O
 
 /// The literal of the clause, but for one, that isn't false or became false last.
 fn pick_one(trail: &Trail, clause: &[Lit], other: Option<Lit>) -> Option<Lit>
-    ensures { IsPick clause.now other result }
+    ensures { IsPick trail.now.lits clause.now other result }
 {
     let mut best = None;
     for lit in clause {
@@ -93,11 +108,13 @@ fn pair_with(first: Lit, second: Lit) -> Pair
     }
 }
 
-/// The pair of a literal and the best other one.
+/// The pair of a literal that outlasts the others and the best other one.
 pub fn pick_second(trail: &Trail, clause: &[Lit], first: Lit) -> Pair
     requires packs { (l : Lit) → Contains clause.now l → l.var < 2 ^ 31 }
     requires there { Contains clause.now first }
+    requires best { (l : Lit) → Contains clause.now l → Outlasts trail.now.lits first l }
     ensures pair { IsPairOf clause.now result }
+    ensures last { WatchesLast trail.now.lits clause.now result }
     ensures first { result.first ≡ first }
 {
     match pick_one(trail, clause, Some(first)) {
@@ -110,7 +127,8 @@ pub fn pick_second(trail: &Trail, clause: &[Lit], first: Lit) -> Pair
 /// without two different literals watches nothing.
 pub fn pick(trail: &Trail, clause: &[Lit]) -> Pair
     requires { (l : Lit) → Contains clause.now l → l.var < 2 ^ 31 }
-    ensures { IsPairOf clause.now result }
+    ensures pair { IsPairOf clause.now result }
+    ensures last { WatchesLast trail.now.lits clause.now result }
 {
     let none = Lit {
         var: 0,

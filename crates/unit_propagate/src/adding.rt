@@ -9,7 +9,7 @@ ghost use Rattle.plain_lits.specs.Packed.{packed};
 ghost use Rattle.plain_lits.specs.Trails.{AreLevels};
 ghost use Rattle.unit_propagate.specs.Search.{StaysSearch, GainsClause, GainsBlock};
 ghost use Rattle.unit_propagate.specs.States.{state_of, search_of, IsKept, mark_at, no_mark};
-ghost use Rattle.clause_watches.specs.Picks.{IsPairOf, IsUnfalse};
+ghost use Rattle.clause_watches.specs.Picks.{IsPairOf, IsUnfalse, WatchesLast};
 ghost use Rattle.unit_propagate.specs.Steps.{IsLonger, MakesRoom};
 ghost use Rattle.unit_propagate.specs.Steps.{LowersOne, LowersMarks, Lowers, HasRoomFor, IsLow, IsReady};
 ghost use Rattle.unit_propagate.specs.Steps.{Inserts};
@@ -189,6 +189,7 @@ impl Engine {
         requires kept { IsKept (state_of self.old) }
         requires ready { IsReady (state_of self.old) clause.now }
         requires pair { IsPairOf clause.now pair }
+        requires last { WatchesLast self.old.trail.lits clause.now pair }
         ensures kept { IsKept (state_of self.new) }
         ensures ok { IfOk result (GainsClause (search_of (state_of self.old)) (search_of (state_of self.new))
             clause.now) }

@@ -52,7 +52,8 @@ impl Propagator {
         Ok(Propagator { engine })
     }
 
-    /// Adds a clause, and gives its id. Its literals may have any values. After `Memory` no clause has come.
+    /// Adds a clause, and gives its id. Its literals may have any values: it watches two that aren't false, or became
+    /// false last. After `Memory` no clause has come.
     pub fn add(&mut self, clause: &[Lit]) -> Result<u32, Memory>
         ensures ok { IfOk result (GainsClause self.old self.new clause.now) }
         ensures err { OnErr result (StaysSearch self.old self.new) }
