@@ -1,35 +1,23 @@
 -- Room for variables and clauses, and lowered marks.
-use Rattle.std.proofs.Common.{◌≡◌, ◌≢◌, ℕ, ◌<◌, ◌≤◌, ◌+◌, ◌-◌, ◌*◌, ◌^◌, List, [], ◌++◌, length}
+use Rattle.std.proofs.Common.{◌≡◌, ◌≢◌, ℕ, ◌<◌, ◌≤◌, ◌+◌, ◌-◌, List, ◌++◌, length}
 use Rattle.std.proofs.Common.{get_or, take, arith, ap, sym, subst, ◌∙◌, refl, ⊎_elim, length-append}
-use Rattle.std.proofs.Common.{length-take, true, false, Bool}
-use Rattle.std.specs.Prelude.{◌⊎◌, Contains, Option, Some, None, IsSome, replicate, if◌then◌else◌}
-use Rattle.std.specs.Prelude.{◌==◌, slice_get}
+use Rattle.std.proofs.Common.{true, false}
+use Rattle.std.specs.Prelude.{replicate}
+use Rattle.std.specs.Prelude.{◌==◌}
 use Rattle.std.proofs.Math.ListN.{set, length-set, get_or-eq_default, length-replicate, get_or-replicate}
-use Rattle.std.proofs.lemmas.List.{get_or_default, get_or_append_left, get_or-append_right, get_or-take, take_all}
+use Rattle.std.proofs.lemmas.List.{get_or_append_left, get_or-append_right, take_all}
 use Rattle.std.proofs.lemmas.List.{get_or-set_same, get_or-set_other}
 use Rattle.std.proofs.lemmas.Bool.{cases_lt, cases_eq, cases_Bool}
-use Rattle.std.proofs.lemmas.Option.{slice_get_within, get_or_from_slice_get}
 use Rattle.std.proofs.lemmas.Bool.Decides.{nat_tests}
-use Rattle.plain_lists.proofs.Membership.{Contains-nil}
 use Rattle.plain_lists.proofs.ListTests.{any_gives}
 use Rattle.plain_lits.specs.declared.lit.Lit.{Lit}
-use Rattle.plain_lits.specs.declared.value.Value.{Value}
-use Rattle.plain_lits.specs.declared.value.Value.TheVariants.{False}
-use Rattle.plain_lits.specs.Literals.{negation}
 use Rattle.plain_lits.specs.Packed.{packed}
-use Rattle.plain_lits.specs.Trails.{VarsDiffer}
-use Rattle.plain_lits.specs.Values.{IsValueIn}
 use Rattle.unit_propagate.specs.declared.engine.Mark.{Mark}
-use Rattle.clause_watches.specs.declared.pair.Pair.{Pair}
-use Rattle.clause_watches.specs.Arenas.{blank}
 use Rattle.unit_propagate.specs.States.{State, has, IsKept, mark_at, no_mark}
-use Rattle.clause_watches.specs.Picks.{IsPairOf}
-use Rattle.clause_watches.specs.Picks.{HasVars, ClaimsAll, IsOther, IsPick, Considers, IsUnfalse}
+use Rattle.clause_watches.specs.Picks.{ClaimsAll}
 use Rattle.unit_propagate.specs.Steps.{IsLonger}
 use Rattle.unit_propagate.specs.Steps.{LowersOne, LowersMarks, HasRoomFor}
-use Rattle.clause_watches.specs.WatchLists.{Listed, list_at, HasMoreRoom, ClaimsOne}
-use Rattle.clause_watches.proofs.Fronts.{front_cases, from_front, longer_front, in_front}
-use Rattle.clause_watches.proofs.Looking.{not_false}
+use Rattle.clause_watches.specs.WatchLists.{Listed, list_at}
 
 -- longer lists
 pub longer_same : {X : Type 0} (d : X) (old new : List X) → new ≡ old → IsLonger d old new
