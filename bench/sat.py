@@ -1,5 +1,5 @@
 #!/usr/bin/env python3
-"""Measures the solver: seconds, conflicts, and literals propagated a second.
+"""Measures the solver: seconds of the processor, conflicts, and literals propagated a second.
 
 It copies the crates to a temporary folder, adds a program that reads clauses in DIMACS form and searches, has `rt run`
 prove and build it (some minutes), and runs it on random clauses of three literals near the threshold (4.26 clauses a
@@ -16,11 +16,11 @@ import shutil
 import subprocess
 import sys
 import tempfile
-import time
 from pathlib import Path
 
 TOP = Path(__file__).resolve().parent.parent
-NEEDED = ("plain_lists", "plain_lits", "hinted_log", "unit_propagate", "decision_order", "conflict_learn", "sat_core")
+NEEDED = ("plain_lists", "plain_lits", "hinted_log", "clause_watches", "unit_propagate", "decision_order",
+          "conflict_learn", "sat_core")
 
 # It stands here, and not in a file of its own, since `rt ci` refuses a source outside the crates.
 PROGRAM = """\
@@ -227,14 +227,20 @@ def built(folder):
     return program
 
 
+def processor_seconds(pid):
+    """How many seconds a process has had a processor, so that other work beside it counts for little."""
+    with open(f"/proc/{pid}/schedstat", encoding="ascii") as file:
+        return int(file.read().split()[0]) / 1e9
+
+
 def told(program, text):
-    """What the program found, its conflicts and literals, the seconds of the search, and whether a model is one."""
+    """What the program found, its conflicts and literals, the processor's seconds of the search, and the model."""
     with open(text, encoding="ascii") as file:
         child = subprocess.Popen([str(program)], stdin=file, stdout=subprocess.PIPE, text=True)
         child.stdout.readline()
-        begin = time.perf_counter()
+        begin = processor_seconds(child.pid)
         found = child.stdout.readline().split()
-        seconds = time.perf_counter() - begin
+        seconds = max(processor_seconds(child.pid) - begin, 1e-4)
         rest = child.stdout.read().split()
     child.wait()
     return found[0], [int(n) for n in found[1:]], seconds, {int(n) for n in rest}

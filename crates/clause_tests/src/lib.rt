@@ -6,4 +6,6 @@ mod literals;
 #[cfg(test)]
 mod logs;
 #[cfg(test)]
+mod named;
+#[cfg(test)]
 mod propagation;

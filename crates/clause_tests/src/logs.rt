@@ -2,40 +2,11 @@
 
 ghost use Rattle.hinted_log.specs.Logs.{IsStepOf};
 
+use crate::named::{N1, N2, N3, P1, P2, P3};
 use hinted_log::{Kind, Log, LogFault};
 use plain_lits::{Clause, Lit, StepId};
 use std::alloc::Global;
 use std::test::Fail;
-
-const P1: Lit = Lit {
-    var: 1,
-    positive: true,
-};
-
-const N1: Lit = Lit {
-    var: 1,
-    positive: false,
-};
-
-const P2: Lit = Lit {
-    var: 2,
-    positive: true,
-};
-
-const N2: Lit = Lit {
-    var: 2,
-    positive: false,
-};
-
-const P3: Lit = Lit {
-    var: 3,
-    positive: true,
-};
-
-const N3: Lit = Lit {
-    var: 3,
-    positive: false,
-};
 
 const LARGEST: Lit = Lit {
     var: usize::MAX,

@@ -3,51 +3,12 @@
 
 ghost use Rattle.std.specs.Prelude.{◌≡◌, []};
 
+use crate::named::{N0, N1, N2, P0, P1, P2, P3, P9};
 use plain_lists::Memory;
-use plain_lits::{Lit, Value};
+use plain_lits::{Lit, PackedLit, Value};
 use std::process::Abort;
 use std::test::Fail;
 use unit_propagate::{Propagated, Propagator};
-
-const P0: Lit = Lit {
-    var: 0,
-    positive: true,
-};
-
-const N0: Lit = Lit {
-    var: 0,
-    positive: false,
-};
-
-const P1: Lit = Lit {
-    var: 1,
-    positive: true,
-};
-
-const N1: Lit = Lit {
-    var: 1,
-    positive: false,
-};
-
-const P2: Lit = Lit {
-    var: 2,
-    positive: true,
-};
-
-const N2: Lit = Lit {
-    var: 2,
-    positive: false,
-};
-
-const P3: Lit = Lit {
-    var: 3,
-    positive: true,
-};
-
-const P9: Lit = Lit {
-    var: 9,
-    positive: true,
-};
 
 /// A call and its answer, or what then stands.
 #[derive(Clone, Copy)]
@@ -71,6 +32,10 @@ enum Act<'a> {
     IsWatchedBy(Lit, &'a [u32]),
     /// The reasons of the first two true literals.
     HasReasons(u32, u32),
+    /// A true literal has this index.
+    HasPosition(Lit, usize),
+    /// A clause comes, and is then lent as it came.
+    Lends(&'a [Lit]),
 }
 
 /// Decides a literal where its variable is known and has no value.
@@ -110,6 +75,25 @@ fn has_reasons(search: &Propagator, first: u32, second: u32) -> bool {
     search.lits().len() >= 2 && search.reason(0) == first && search.reason(1) == second
 }
 
+/// Whether a literal is true, and has this index among those that are.
+fn has_position(search: &Propagator, lit: Lit, index: usize) -> bool {
+    match search.value(lit) {
+        Value::True => search.position(lit) == index,
+        _ => false,
+    }
+}
+
+/// Whether packed literals are these.
+fn are_same(packed: &[PackedLit], lits: &[Lit]) -> bool {
+    packed.len() == lits.len() && packed.iter().zip(lits).all(|(one, lit)| one.lit() == *lit)
+}
+
+/// Adds a clause; whether it is lent as it came.
+fn lends(search: &mut Propagator, clause: &[Lit]) -> Result<bool, Memory> {
+    let id = search.add(clause)?;
+    Ok(are_same(search.clause(id), clause))
+}
+
 /// Makes the call; whether all is as the act says.
 fn holds(search: &mut Propagator, act: Act<'_>) -> Result<bool, Memory> {
     match act {
@@ -126,6 +110,8 @@ fn holds(search: &mut Propagator, act: Act<'_>) -> Result<bool, Memory> {
         Act::IsSet(lit) => Ok(search.value(lit) != Value::Unset),
         Act::IsWatchedBy(lit, clauses) => Ok(search.watchers(lit) == clauses),
         Act::HasReasons(first, second) => Ok(has_reasons(search, first, second)),
+        Act::HasPosition(lit, index) => Ok(has_position(search, lit, index)),
+        Act::Lends(clause) => lends(search, clause),
     }
 }
 
@@ -165,18 +151,21 @@ const LATE_CLAUSE: &[Act<'static>] = &[
     Act::BackTo(2),
     Act::Rests,
     Act::HasLits(&[N0, P1]),
+    Act::HasPosition(P1, 1),
     Act::IsWatchedBy(P0, &[2]),
     Act::IsWatchedBy(P9, &[]),
 ];
 
-/// A unit clause with a repeated literal, a clause with a literal and its negation, and the empty clause.
+/// A unit clause with a repeated literal, a clause with a literal and its negation, one that is out of order and
+/// repeats a literal, and the empty clause.
 const SHORT_CLAUSES: &[Act<'static>] = &[
     Act::Adds(&[P0, P0], 1),
     Act::Adds(&[N0, N1, P1], 2),
     Act::Rests,
     Act::HasLits(&[P0]),
-    Act::Adds(&[], 3),
-    Act::Meets(&[3]),
+    Act::Lends(&[P1, N0, P1]),
+    Act::Adds(&[], 4),
+    Act::Meets(&[4]),
 ];
 
 #[test]

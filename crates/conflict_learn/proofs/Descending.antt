@@ -12,7 +12,7 @@ use Rattle.plain_lits.specs.declared.lit.Lit.{Lit}
 use Rattle.plain_lits.specs.Literals.{negation}
 use Rattle.plain_lits.specs.Trails.{VarsDiffer}
 use Rattle.unit_propagate.specs.Search.{Search}
-use Rattle.unit_propagate.proofs.Fronts.{longer_front, in_front, front_cases}
+use Rattle.clause_watches.proofs.Fronts.{longer_front, in_front, front_cases}
 use Rattle.conflict_learn.specs.declared.workspace.Border.{Border}
 use Rattle.conflict_learn.specs.declared.workspace.Border.TheVariants.{Below, Assumed}
 use Rattle.conflict_learn.specs.Learning.{StandsAt, IsDecided, last_start}

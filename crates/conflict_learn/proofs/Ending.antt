@@ -11,7 +11,7 @@ use Rattle.plain_lits.specs.Literals.{negation, IsClauseOf}
 use Rattle.plain_lits.specs.HintCheck.{clause_at, Propagates, Checks}
 use Rattle.plain_lits.proofs.HintCheckLemmas.{Contains-mapped, Contains-from_mapped}
 use Rattle.unit_propagate.specs.Search.{Search, IsSearch, IsConflict}
-use Rattle.unit_propagate.proofs.Fronts.{pushed_cases, consistent}
+use Rattle.clause_watches.proofs.Fronts.{pushed_cases, consistent}
 use Rattle.conflict_learn.specs.declared.workspace.Border.{Border}
 use Rattle.conflict_learn.specs.declared.learner.Core.{Core}
 use Rattle.conflict_learn.specs.declared.workspace.Border.TheVariants.{Below, Assumed}

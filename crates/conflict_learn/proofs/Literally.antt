@@ -10,7 +10,7 @@ use Rattle.plain_lits.specs.declared.lit.Lit.{Lit}
 use Rattle.plain_lits.specs.Literals.{negation}
 use Rattle.plain_lits.specs.Trails.{VarsDiffer}
 use Rattle.plain_lits.proofs.LitOrder.{lit_same}
-use Rattle.unit_propagate.proofs.Fronts.{in_front}
+use Rattle.clause_watches.proofs.Fronts.{in_front}
 use Rattle.conflict_learn.specs.Learning.{StandsAt}
 
 not_not : (b : Bool) → not (not b) ≡ b

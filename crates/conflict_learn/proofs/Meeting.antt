@@ -13,7 +13,7 @@ use Rattle.plain_lits.specs.declared.lit.Lit.{Lit}
 use Rattle.plain_lits.specs.Literals.{negation}
 use Rattle.plain_lits.proofs.LitOrder.{lit_eq_itself, same_from_eq}
 use Rattle.unit_propagate.specs.Search.{Search}
-use Rattle.unit_propagate.proofs.Fronts.{pushed_cases, longer_front, in_front, front_cases}
+use Rattle.clause_watches.proofs.Fronts.{pushed_cases, longer_front, in_front, front_cases}
 use Rattle.conflict_learn.specs.declared.workspace.Border.{Border}
 use Rattle.conflict_learn.specs.Learning.{StandsAt}
 use Rattle.conflict_learn.specs.Analyses.{Analysis, AreClear, IsCounted, IsMet, Meets, OthersOf}

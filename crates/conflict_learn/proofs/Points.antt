@@ -10,7 +10,7 @@ use Rattle.plain_lits.specs.Literals.{negation, IsClauseOf}
 use Rattle.plain_lits.specs.HintCheck.{clause_at, IsTautology}
 use Rattle.plain_lits.specs.Trails.{VarsDiffer}
 use Rattle.unit_propagate.specs.Search.{Search, IsSearch, IsConflict}
-use Rattle.unit_propagate.proofs.Fronts.{longer_front, from_front, consistent}
+use Rattle.clause_watches.proofs.Fronts.{longer_front, from_front, consistent}
 use Rattle.conflict_learn.specs.declared.workspace.Border.TheVariants.{Below}
 use Rattle.conflict_learn.specs.Learning.{StandsAt, IsDecided, IsSettled, IsLearned, IsNew, IsUnitFrom}
 use Rattle.conflict_learn.specs.Learning.{IsOpenBelow}

@@ -14,7 +14,7 @@ use Rattle.plain_lits.specs.Literals.{negation}
 use Rattle.plain_lits.specs.HintCheck.{clause_at, IsNamed, Propagates}
 use Rattle.plain_lits.specs.Trails.{VarsDiffer}
 use Rattle.unit_propagate.specs.Search.{Search, IsSearch, IsReason, IsConflict}
-use Rattle.unit_propagate.proofs.Fronts.{pushed_cases, longer_front, from_front, consistent}
+use Rattle.clause_watches.proofs.Fronts.{pushed_cases, longer_front, from_front, consistent}
 use Rattle.conflict_learn.specs.declared.workspace.Border.{Border}
 use Rattle.conflict_learn.specs.Learning.{StandsAt}
 use Rattle.conflict_learn.specs.Analyses.{Analysis, AreClear, IsCounted, IsMet, Meets, OthersOf, HasMetAll}

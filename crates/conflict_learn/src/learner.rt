@@ -32,25 +32,28 @@ pub struct Core {
 }
 
 /// Room to analyze conflicts in, which is kept from one to the next, so that an analysis costs no more than what it
-/// walks over.
+/// walks over. Contracts see for how many true literals there is room.
 #[derive(Debug, Drop)]
 pub struct Learner {
     workspace: Workspace,
 }
 
 impl Model for Learner {
+    ghost use Rattle.std.specs.Prelude.{ℕ, length};
     ghost use Rattle.conflict_learn.specs.Analyses.{AreClear};
 
-    ghost Value = { Unit {0} };
+    ghost Value = { ℕ };
 
-    ghost view = { λ l. tt };
+    ghost view = { λ l. length l.workspace.marks.items };
 
     ghost invariant = { λ l. AreClear l.workspace.marks.items };
 }
 
 impl Learner {
-    /// A learner, which takes no memory yet.
-    pub fn new(alloc: Global) -> Learner {
+    /// A learner, which has room for no literal, and takes no memory yet.
+    pub fn new(alloc: Global) -> Learner
+        ensures { result ≡ 0 }
+    {
         Learner {
             workspace: Workspace::new(alloc),
         }

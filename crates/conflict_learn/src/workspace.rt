@@ -46,7 +46,8 @@ pub(crate) fn keeps(search: &Propagator, border: Border, index: usize) -> bool
 impl Workspace {
     /// Nothing is marked, and no memory is taken.
     pub(crate) fn new(alloc: Global) -> Workspace
-        ensures { AreClear result.marks.items }
+        ensures clear { AreClear result.marks.items }
+        ensures none { result.marks.items ≡ [] }
     {
         Workspace {
             alloc,

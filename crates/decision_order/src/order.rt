@@ -11,7 +11,7 @@ use std::marker::Model;
 /// Where a variable stands that isn't in the heap.
 const ABSENT: usize = usize::MAX;
 
-/// The step at first. It grows by a sixteenth with each conflict, which is as if all activities fell.
+/// The step at first. It grows by a twentieth with each conflict, which is as if all activities fell.
 const FIRST_STEP: u64 = 1 << 20;
 
 /// Where the step is greater, it and all activities are divided by `2 ^ 36`.
@@ -142,7 +142,7 @@ impl DecisionOrder {
         if self.step > LAST_STEP {
             self.rescale();
         }
-        self.step = self.step.saturating_add(self.step / 16);
+        self.step = self.step.saturating_add(self.step / 20);
     }
 
     /// Divides the step and all activities.

@@ -12,7 +12,7 @@ use Rattle.plain_lits.specs.Literals.{negation}
 use Rattle.plain_lits.specs.Values.{IsValueIn}
 use Rattle.plain_lits.specs.HintCheck.{clause_at, IsNamed, IsFalsified}
 use Rattle.unit_propagate.specs.Search.{Search, IsSearch, IsQuiet, HasGrown, Decides, GoesBack}
-use Rattle.unit_propagate.proofs.Fronts.{consistent}
+use Rattle.clause_watches.proofs.Fronts.{consistent}
 use Rattle.sat_core.specs.Runs.{HasValue, HaveValues, IsUnsetIn}
 use Rattle.sat_core.specs.Runs.{IsUnsetVar, GoesOn, IsRun, HasRoom}
 use Rattle.sat_core.specs.Solving.{SolverState, clause_of, IsModel}

@@ -12,7 +12,7 @@ use Rattle.plain_lits.specs.HintCheck.{clause_at, IsNamed, IsFalsified, IsUnit}
 use Rattle.plain_lits.proofs.OneOutcome.{cases_lit}
 use Rattle.unit_propagate.specs.Search.{Search, IsSearch, IsQuiet, HasGrown, Decides, GoesBack, GainsBlock, GainsClause}
 use Rattle.unit_propagate.specs.Search.{Learns, StaysSearch}
-use Rattle.unit_propagate.proofs.Fronts.{consistent}
+use Rattle.clause_watches.proofs.Fronts.{consistent}
 use Rattle.conflict_learn.specs.Learning.{StandsAt, IsDecided, IsSettled, IsOpen, IsAssumed}
 use Rattle.conflict_learn.specs.Learning.{lits_at}
 use Rattle.sat_core.specs.Runs.{IsEarly, BeginsAt, HasRoom, IsRun, IsBased, IsResting}

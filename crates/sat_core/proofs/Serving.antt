@@ -13,7 +13,7 @@ use Rattle.plain_lits.specs.Literals.{negation}
 use Rattle.plain_lits.specs.Values.{IsValueIn}
 use Rattle.plain_lits.specs.HintCheck.{IsTautology}
 use Rattle.plain_lits.proofs.LitOrder.{lit_same}
-use Rattle.unit_propagate.proofs.Fronts.{from_front}
+use Rattle.clause_watches.proofs.Fronts.{from_front}
 use Rattle.hinted_log.specs.Logs.{Step, IsStepOf}
 use Rattle.sat_core.specs.Solving.{clause_of, Holds}
 use Rattle.sat_core.specs.Mirrors.{DeniesAll, IsServed, step_of}

@@ -13,11 +13,12 @@ use Rattle.plain_lits.specs.declared.value.Value.TheVariants.{True, False, Unset
 use Rattle.plain_lits.specs.Literals.{negation}
 use Rattle.plain_lits.specs.Trails.{AreLevels}
 use Rattle.plain_lits.specs.Values.{IsValueIn}
-use Rattle.unit_propagate.specs.Arenas.{blank}
+use Rattle.clause_watches.specs.Arenas.{blank}
 use Rattle.unit_propagate.specs.Search.{GainsBlock, StaysSearch}
 use Rattle.unit_propagate.specs.States.{State, IsKept, search_of}
-use Rattle.unit_propagate.specs.Steps.{with_literal, with_mark, begun, Assumes, AssumesAll, MakesRoom, HasVars}
-use Rattle.unit_propagate.proofs.Fronts.{front_cases, longer_front, in_front, from_front}
+use Rattle.unit_propagate.specs.Steps.{with_literal, with_mark, begun, Assumes, AssumesAll, MakesRoom}
+use Rattle.clause_watches.specs.Picks.{HasVars}
+use Rattle.clause_watches.proofs.Fronts.{front_cases, longer_front, in_front, from_front}
 use Rattle.unit_propagate.proofs.Visiting.{kept_literal}
 
 -- a level has begun, by what the trail becomes

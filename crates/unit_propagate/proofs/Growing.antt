@@ -9,17 +9,22 @@ use Rattle.plain_lits.specs.declared.lit.Lit.{Lit}
 use Rattle.plain_lits.specs.Literals.{negation}
 use Rattle.plain_lits.specs.Packed.{packed}
 use Rattle.unit_propagate.specs.declared.engine.Mark.{Mark}
-use Rattle.unit_propagate.specs.declared.pair.Pair.{Pair}
+use Rattle.clause_watches.specs.declared.pair.Pair.{Pair}
 use Rattle.unit_propagate.specs.Search.{IsReason, StaysSearch, GainsClause, Learns}
-use Rattle.unit_propagate.specs.States.{State, has, IsPairOf, IsWatching, IsKept, IsLooked, mark_at, no_mark}
-use Rattle.unit_propagate.specs.Steps.{IsLonger, MakesRoom, LowersMarks, Lowers, HasRoomFor, IsUnfalse, IsLow}
+use Rattle.unit_propagate.specs.States.{State, has, IsWatching, IsKept, IsLooked, mark_at, no_mark}
+use Rattle.clause_watches.specs.Picks.{IsPairOf}
+use Rattle.unit_propagate.specs.Steps.{IsLonger, MakesRoom, LowersMarks, Lowers, HasRoomFor, IsLow}
+use Rattle.clause_watches.specs.Picks.{IsUnfalse, WatchesLast}
+use Rattle.clause_watches.specs.Arenas.{pair_of, no_pair}
+use Rattle.std.proofs.Math.Seq.{get_or-append_seam}
 use Rattle.unit_propagate.specs.Steps.{IsReady, Inserts, IsImplied, with_literal}
 use Rattle.unit_propagate.specs.States.{search_of}
-use Rattle.unit_propagate.proofs.Rooms.{longer_same, room_same, room_trans}
+use Rattle.unit_propagate.proofs.Rooms.{longer_same}
+use Rattle.clause_watches.proofs.Pairing.{room_same, room_trans}
 use Rattle.unit_propagate.proofs.Joining.{kept_added, clause_last}
-use Rattle.unit_propagate.specs.WatchLists.{Listed, no_list, list_at, ids_at, one, watches, with_id, HasMoreRoom}
-use Rattle.unit_propagate.specs.WatchLists.{HasPairRoom, Joins}
-use Rattle.unit_propagate.proofs.Fronts.{longer_front, packed_low}
+use Rattle.clause_watches.specs.WatchLists.{Listed, no_list, list_at, ids_at, one, watches, with_id, HasMoreRoom}
+use Rattle.clause_watches.specs.WatchLists.{HasPairRoom, Joins}
+use Rattle.clause_watches.proofs.Fronts.{longer_front, packed_low}
 use Rattle.unit_propagate.proofs.Lists.{weight_with, uses_with, watches_apart, watches_alone, pairs_below, has_there}
 
 abbrev pub roomy : State → List Lit → List ℕ → ℕ → List Listed → List ℕ → List Mark → State
@@ -293,16 +298,33 @@ unfalse_lowered m w index n l x low le e h =
     subst (λ xs. IsUnfalse xs x index) (sym lits) (subst (λ y. IsUnfalse m.lits y index) e
     (record { unfalse = λ c. h.unfalse (longer_front index n m.lits (negation l) le c) }))
 
+-- a pair that has come is that of the last id
+pub last_pair : (pairs : List Pair) (p : Pair) (id : ℕ) → id ≡ length pairs + 1 → pair_of (pairs ++ p ∷ []) id ≡ p
+last_pair pairs p id e =
+    let seam : get_or ((no_pair ∷ pairs) ++ p ∷ []) (length (no_pair ∷ pairs)) no_pair ≡ p =
+    get_or-append_seam (no_pair ∷ pairs) p [] no_pair in
+    let at : id ≡ length (no_pair ∷ pairs) = omega arith in
+    ap (λ k. pair_of (pairs ++ p ∷ []) k) at ∙ seam
+
+-- so its clause watches it
+pub watched_last : (m n : State) (clause : List Lit) (p : Pair) (id : ℕ) → IsKept m → n.pairs ≡ m.pairs ++ p ∷ []
+    → id ≡ length m.clauses + 1 → WatchesLast m.lits clause p → WatchesLast m.lits clause (pair_of n.pairs id)
+watched_last m n clause p id kept e is h =
+    let long = kept.watching.long in
+    subst (WatchesLast m.lits clause) (sym (ap (λ ps. pair_of ps id) e ∙ last_pair m.pairs p id (omega arith))) h
+
 pub gains : (s w new : State) (clause : List Lit) (id : ℕ) → StaysSearch (search_of s) (search_of w)
     → Inserts w new clause
-    → IsReady w clause → id ≡ length w.clauses + 1 → GainsClause (search_of s) (search_of new) clause id
-gains s w new clause id h i ready id_is =
+    → IsReady w clause → id ≡ length w.clauses + 1 → WatchesLast s.lits clause (pair_of new.pairs id)
+    → GainsClause (search_of s) (search_of new) clause id
+gains s w new clause id h i ready id_is watched =
     let a = h.assigned in
     let vars = a.vars in
     record {
       clauses = i.clauses ∙ ap (λ xs. xs ++ clause ∷ []) h.clauses;
       id_is = omega (arith, id_is, ap length i.clauses, length-append w.clauses (clause ∷ []));
       known = λ l c. omega (arith, ready.known l c, i.vars);
+      watched = watched;
       assigned = record {
         lits = i.lits ∙ a.lits;
         starts = i.starts ∙ a.starts;
@@ -385,6 +407,7 @@ learns s m new clause lit id g within e =
     let is : Learns (search_of s) (search_of (with_literal m lit id)) clause lit id = record {
       clauses = g.clauses;
       id_is = g.id_is;
+      watched = g.watched;
       lits = ap (λ xs. xs ++ lit ∷ []) lits;
       starts = g.assigned.starts;
       reasons = λ i lt. get_or-set_other m.reasons (length m.lits) i id 0 (λ same. let bad : i ≡ length m.lits = same in

@@ -12,12 +12,13 @@ use Rattle.plain_lists.proofs.Membership.{Contains-pushed}
 use Rattle.plain_lits.specs.declared.lit.Lit.{Lit}
 use Rattle.plain_lits.specs.Literals.{negation}
 use Rattle.plain_lits.specs.HintCheck.{clause_at, IsNamed}
-use Rattle.unit_propagate.specs.declared.pair.Pair.{Pair}
-use Rattle.unit_propagate.specs.Arenas.{pair_of, no_pair}
-use Rattle.unit_propagate.specs.States.{State, has, IsPairOf, IsWatching, IsKept, IsShort, IsLooked, Guards, HasTrue}
+use Rattle.clause_watches.specs.declared.pair.Pair.{Pair}
+use Rattle.clause_watches.specs.Arenas.{pair_of, no_pair}
+use Rattle.unit_propagate.specs.States.{State, has, IsWatching, IsKept, IsShort, IsLooked, Guards, HasTrue}
+use Rattle.clause_watches.specs.Picks.{IsPairOf}
 use Rattle.unit_propagate.specs.Steps.{IsAdded, with_clause}
-use Rattle.unit_propagate.specs.WatchLists.{Listed, ids_at, one, watches}
-use Rattle.unit_propagate.proofs.Fronts.{pushed_cases, longer_front, from_front}
+use Rattle.clause_watches.specs.WatchLists.{Listed, ids_at, one, watches}
+use Rattle.clause_watches.proofs.Fronts.{pushed_cases, longer_front, from_front}
 use Rattle.unit_propagate.proofs.Lists.{one_same, one_other, watches_alone, ones_length}
 use Rattle.unit_propagate.proofs.Passing.{lit_cases}
 

@@ -7,11 +7,13 @@ use Rattle.std.proofs.lemmas.List.Elements.{Contains-append_left}
 use Rattle.plain_lists.proofs.Membership.{Contains-pushed}
 use Rattle.plain_lits.specs.declared.lit.Lit.{Lit}
 use Rattle.plain_lits.specs.Literals.{negation}
-use Rattle.unit_propagate.specs.declared.pair.Pair.{Pair}
+use Rattle.clause_watches.specs.declared.pair.Pair.{Pair}
+use Rattle.clause_watches.specs.Arenas.{pair_of}
+use Rattle.clause_watches.specs.Picks.{WatchesLast}
 use Rattle.unit_propagate.specs.Search.{Search, StaysSearch, StaysAssigned, GainsClause}
 use Rattle.unit_propagate.specs.States.{State, IsKept, IsLooked, Guards, search_of}
 use Rattle.unit_propagate.specs.Steps.{MakesRoom}
-use Rattle.unit_propagate.proofs.Fronts.{from_front, pushed_cases}
+use Rattle.clause_watches.proofs.Fronts.{from_front, pushed_cases}
 use Rattle.unit_propagate.proofs.Growing.{stays_room}
 
 -- nothing is changed
@@ -53,6 +55,7 @@ gains_more s m w clause id room g =
       clauses = g.clauses ∙ ap (λ cs. cs ++ clause ∷ []) same.clauses;
       id_is = g.id_is;
       known = g.known;
+      watched = subst (λ xs. WatchesLast xs clause (pair_of w.pairs id)) same.assigned.lits g.watched;
       assigned = assigned_more (search_of s) (search_of m) (search_of w) same.assigned g.assigned;
     }
 

@@ -1,7 +1,4 @@
-pub mod ArenaLemmas
 pub mod Blocks
-pub mod Finding
-pub mod Fronts
 pub mod Growing
 pub mod Joining
 pub mod Learning

@@ -13,10 +13,11 @@ use Rattle.plain_lists.proofs.ListTests.{any_from}
 use Rattle.plain_lits.specs.declared.lit.Lit.{Lit}
 use Rattle.plain_lits.specs.Packed.{packed}
 use Rattle.plain_lits.specs.HintCheck.{clause_at, IsNamed}
-use Rattle.unit_propagate.specs.declared.pair.Pair.{Pair}
-use Rattle.unit_propagate.specs.Arenas.{pair_of, no_pair}
-use Rattle.unit_propagate.specs.States.{has, IsPairOf, IsWatching}
-use Rattle.unit_propagate.specs.WatchLists.{Listed, no_list, list_at, ids_at, one, watches, with_id, without}
+use Rattle.clause_watches.specs.declared.pair.Pair.{Pair}
+use Rattle.clause_watches.specs.Arenas.{pair_of, no_pair}
+use Rattle.unit_propagate.specs.States.{has, IsWatching}
+use Rattle.clause_watches.specs.Picks.{IsPairOf}
+use Rattle.clause_watches.specs.WatchLists.{Listed, no_list, list_at, ids_at, one, watches, with_id, without}
 
 pub one_same : (a : ℕ) → one a a ≡ 1
 one_same a = grind (arith, nat_tests)

@@ -11,12 +11,13 @@ use Rattle.plain_lits.specs.Literals.{negation}
 use Rattle.plain_lits.specs.Packed.{packed}
 use Rattle.plain_lits.specs.Trails.{VarsDiffer}
 use Rattle.plain_lits.specs.HintCheck.{clause_at, IsNamed}
-use Rattle.unit_propagate.specs.declared.pair.Pair.{Pair}
-use Rattle.unit_propagate.specs.Arenas.{pair_of, no_pair}
-use Rattle.unit_propagate.specs.States.{State, IsPairOf, IsWatching, IsKept, IsShort, IsLooked, Guards}
+use Rattle.clause_watches.specs.declared.pair.Pair.{Pair}
+use Rattle.clause_watches.specs.Arenas.{pair_of, no_pair}
+use Rattle.unit_propagate.specs.States.{State, IsWatching, IsKept, IsShort, IsLooked, Guards}
+use Rattle.clause_watches.specs.Picks.{IsPairOf}
 use Rattle.unit_propagate.specs.Steps.{IsHere, with_pair}
-use Rattle.unit_propagate.specs.WatchLists.{Listed, list_at, ids_at, one, watches, with_id, without}
-use Rattle.unit_propagate.proofs.Fronts.{packed_same, set_cases, from_front, consistent}
+use Rattle.clause_watches.specs.WatchLists.{Listed, list_at, ids_at, one, watches, with_id, without}
+use Rattle.clause_watches.proofs.Fronts.{packed_same, set_cases, from_front, consistent}
 use Rattle.unit_propagate.proofs.Lists.{IsSeen, listed_seen, watches_apart, one_same, one_other, pairs_below}
 use Rattle.unit_propagate.proofs.Lists.{weight_moved, length_moved, uses_with, uses_without}
 

@@ -12,13 +12,13 @@ use Rattle.plain_lits.specs.Packed.{packed}
 use Rattle.plain_lits.specs.Trails.{VarsDiffer}
 use Rattle.plain_lits.specs.HintCheck.{clause_at, IsNamed, IsFalsified, IsUnit}
 use Rattle.plain_lits.proofs.CheckingLemmas.{negation-negation}
-use Rattle.unit_propagate.specs.declared.pair.Pair.{Pair}
-use Rattle.unit_propagate.specs.Arenas.{pair_of, no_pair}
+use Rattle.clause_watches.specs.declared.pair.Pair.{Pair}
+use Rattle.clause_watches.specs.Arenas.{pair_of, no_pair}
 use Rattle.unit_propagate.specs.Search.{IsConflict}
 use Rattle.unit_propagate.specs.States.{State, IsKept, IsShort, Guards, HasTrue}
 use Rattle.unit_propagate.specs.Steps.{AreDone, Grows, IsImplied, HasVisited, IsFound}
-use Rattle.unit_propagate.specs.WatchLists.{ids_at}
-use Rattle.unit_propagate.proofs.Fronts.{packed_same, front_cases, consistent}
+use Rattle.clause_watches.specs.WatchLists.{ids_at}
+use Rattle.clause_watches.proofs.Fronts.{packed_same, front_cases, consistent}
 use Rattle.unit_propagate.proofs.Lists.{seen_listed}
 use Rattle.unit_propagate.proofs.Moving.{pair_there}
 

@@ -9,14 +9,14 @@ use Rattle.plain_lits.specs.Packed.{packed}
 use Rattle.plain_lits.specs.Trails.{TrailState, IsTrailState}
 use Rattle.plain_lits.specs.HintCheck.{IsUnit}
 use Rattle.plain_lits.specs.Literals.{negation}
-use Rattle.unit_propagate.specs.declared.pair.Pair.{Pair}
+use Rattle.clause_watches.specs.declared.pair.Pair.{Pair}
 use Rattle.unit_propagate.specs.declared.engine.Mark.{Mark}
-use Rattle.unit_propagate.specs.Arenas.{pair_of, no_pair}
+use Rattle.clause_watches.specs.Arenas.{pair_of, no_pair}
 use Rattle.unit_propagate.specs.Search.{IsSearch, IsWatchedBy, HasGrown}
 use Rattle.unit_propagate.specs.States.{State, IsKept, search_of, no_mark, mark_at}
 use Rattle.unit_propagate.specs.Steps.{Grows}
-use Rattle.unit_propagate.specs.WatchLists.{Listed, ids_at, one, watches}
-use Rattle.unit_propagate.proofs.Fronts.{packed_same}
+use Rattle.clause_watches.specs.WatchLists.{Listed, ids_at, one, watches}
+use Rattle.clause_watches.proofs.Fronts.{packed_same}
 use Rattle.unit_propagate.proofs.Lists.{IsSeen, listed_seen, seen_listed, watches_alone}
 
 abbrev trail_in : State → TrailState

@@ -17,18 +17,20 @@ use Rattle.plain_lits.specs.Literals.{negation}
 use Rattle.plain_lits.specs.Packed.{packed}
 use Rattle.plain_lits.specs.Trails.{VarsDiffer, AreLevels}
 use Rattle.plain_lits.specs.HintCheck.{clause_at, IsNamed}
-use Rattle.unit_propagate.specs.declared.pair.Pair.{Pair}
-use Rattle.unit_propagate.specs.Arenas.{pair_of}
+use Rattle.clause_watches.specs.declared.pair.Pair.{Pair}
+use Rattle.clause_watches.specs.Arenas.{pair_of}
 use Rattle.unit_propagate.specs.Search.{IsReason, IsConflict}
 use Rattle.unit_propagate.specs.States.{State, IsKept, IsLooked, HasTrue}
 use Rattle.unit_propagate.specs.States.{mark_at}
-use Rattle.unit_propagate.specs.Steps.{IsHere, with_pair, with_literal, AreDone, Grows, IsImplied, FindsWatch, IsVisit}
+use Rattle.unit_propagate.specs.Steps.{IsHere, with_pair, with_literal, AreDone, Grows, IsImplied, IsVisit}
+use Rattle.clause_watches.specs.declared.finding.Found.{Found}
+use Rattle.clause_watches.specs.Picks.{FindsWatch}
 use Rattle.unit_propagate.specs.declared.engine.Visit.TheVariants.{Kept, Moved}
 use Rattle.plain_lits.specs.declared.value.Value.{Value}
 use Rattle.plain_lits.specs.declared.value.Value.TheVariants.{True, False, Unset}
 use Rattle.plain_lits.specs.Values.{IsValueIn}
-use Rattle.unit_propagate.specs.WatchLists.{Listed, no_list, list_at, ids_at, one, without}
-use Rattle.unit_propagate.proofs.Fronts.{packed_same, packed_low}
+use Rattle.clause_watches.specs.WatchLists.{Listed, no_list, list_at, ids_at, one, without}
+use Rattle.clause_watches.proofs.Fronts.{packed_same, packed_low}
 use Rattle.unit_propagate.proofs.Lists.{one_same, one_other, length_moved}
 use Rattle.unit_propagate.proofs.Moving.{IsMove, pair_with, moved_pairs, moved_lists, here_other}
 use Rattle.unit_propagate.proofs.Moving.{pair_set_other, move_codes, kept_moved}
@@ -304,24 +306,23 @@ implied_here s at id f o kept here others = record {
   others = λ x c ne. others x c (λ e. ne (packed_same x o e));
 }
 
--- the look for another literal, read over the clause by its id and the other literal by itself
-pub move_of : (s : State) (at id code : ℕ) (f o to : Lit) (clause : List Lit) → IsHere s at id f o
-    → clause ≡ clause_at s.clauses id → code ≡ packed o → FindsWatch s.lits clause code (Some to)
-    → Contains s.lits (negation f) → VarsDiffer s.lits → IsMove s at id f o to
-move_of s at id code f o to clause here is code_is found false_now vars = record {
+-- the look for another literal, read over the other literal by itself
+pub move_of : (s : State) (at id code : ℕ) (f o : Lit) (found : Found) → IsHere s at id f o
+    → code ≡ packed o → FindsWatch s.lits (clause_at s.clauses id) code (Some found)
+    → Contains s.lits (negation f) → VarsDiffer s.lits → IsMove s at id f o found.lit
+move_of s at id code f o found here code_is h false_now vars = record {
   here = here;
-  there = subst (λ xs. Contains xs to) is found.0;
-  apart = λ e. found.1 (e ∙ sym code_is);
-  not_false = found.2;
+  there = h.0;
+  apart = λ e. h.1 (e ∙ sym code_is);
+  not_false = h.2;
   falsified = false_now;
   vars = vars;
 }
 
-pub others_of : (s : State) (id code : ℕ) (o : Lit) (clause : List Lit) → clause ≡ clause_at s.clauses id
-    → code ≡ packed o → FindsWatch s.lits clause code None
+pub others_of : (s : State) (id code : ℕ) (o : Lit) → code ≡ packed o
+    → FindsWatch s.lits (clause_at s.clauses id) code None
     → (x : Lit) → Contains (clause_at s.clauses id) x → packed x ≢ packed o → Contains s.lits (negation x)
-others_of s id code o clause is code_is found x c ne =
-    found x (subst (λ xs. Contains xs x) (sym is) c) (λ e. ne (e ∙ code_is))
+others_of s id code o code_is none x c ne = none x c (λ e. ne (e ∙ code_is))
 
 -- each literal of a clause has a list
 pub lit_listed : (s : State) (id : ℕ) (l : Lit) → IsKept s → IsNamed s.clauses id → Contains (clause_at s.clauses id) l
@@ -332,23 +333,21 @@ lit_listed s id l kept named c =
     omega arith
 
 -- the state and the visit after a move, by what it becomes
-pub moved_kept : (s new : State) (at id code code_to : ℕ) (f o to : Lit) → IsKept s → IsMove s at id f o to
-    → code ≡ packed f → code_to ≡ packed to → code < length s.lists
-    → new ≡ with_pair s id (pair_with o to) code at code_to → IsKept new
-moved_kept s new at id code code_to f o to kept m code_is to_is lt e =
+pub moved_kept : (s new : State) (at id code : ℕ) (f o to : Lit) → IsKept s → IsMove s at id f o to
+    → code ≡ packed f → code < length s.lists
+    → new ≡ with_pair s id (pair_with o to) code at (packed to) → IsKept new
+moved_kept s new at id code f o to kept m code_is lt e =
     let from : packed f < length s.lists = subst (λ k. k < length s.lists) code_is lt in
-    subst IsKept (sym (e ∙ (ap (λ k. with_pair s id (pair_with o to) k at code_to) code_is
-    ∙ ap (λ k. with_pair s id (pair_with o to) (packed f) at k) to_is)))
+    subst IsKept (sym (e ∙ ap (λ k. with_pair s id (pair_with o to) k at (packed to)) code_is))
     (kept_moved s at id f o to kept m from (lit_listed s id to kept m.here.named m.there))
 
-pub moved_visit : (s new : State) (at id code code_to : ℕ) (f o to : Lit) → IsKept s → IsMove s at id f o to
-    → (Contains s.lits o → ⊥) → AreDone s f at → code ≡ packed f → code_to ≡ packed to → code < length s.lists
-    → new ≡ with_pair s id (pair_with o to) code at code_to → IsVisit s new f at Moved
-moved_visit s new at id code code_to f o to kept m not_true done code_is to_is lt e =
+pub moved_visit : (s new : State) (at id code : ℕ) (f o to : Lit) → IsKept s → IsMove s at id f o to
+    → (Contains s.lits o → ⊥) → AreDone s f at → code ≡ packed f → code < length s.lists
+    → new ≡ with_pair s id (pair_with o to) code at (packed to) → IsVisit s new f at Moved
+moved_visit s new at id code f o to kept m not_true done code_is lt e =
     let from : packed f < length s.lists = subst (λ k. k < length s.lists) code_is lt in
     subst (λ n. IsVisit s n f at Moved)
-    (sym (e ∙ (ap (λ k. with_pair s id (pair_with o to) k at code_to) code_is
-    ∙ ap (λ k. with_pair s id (pair_with o to) (packed f) at k) to_is))) (
+    (sym (e ∙ ap (λ k. with_pair s id (pair_with o to) k at (packed to)) code_is)) (
       done_moved s at id f o to m not_true from done,
       moved_length s at id f o to m from
           (lit_listed s id to kept m.here.named m.there),

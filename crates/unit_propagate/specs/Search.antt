@@ -5,10 +5,11 @@ use Rattle.plain_lits.specs.declared.lit.Lit.{Lit}
 use Rattle.plain_lits.specs.Literals.{negation}
 use Rattle.plain_lits.specs.HintCheck.{clause_at, IsNamed, IsFalsified, IsUnit}
 use Rattle.plain_lits.specs.Trails.{VarsDiffer, AreLevels}
-use Rattle.unit_propagate.specs.declared.pair.Pair.{Pair}
+use Rattle.clause_watches.specs.declared.pair.Pair.{Pair}
 use Rattle.unit_propagate.specs.declared.propagator.Propagated.{Propagated}
 use Rattle.unit_propagate.specs.declared.propagator.Propagated.TheVariants.{Conflict, Quiet}
-use Rattle.unit_propagate.specs.Arenas.{pair_of}
+use Rattle.clause_watches.specs.Arenas.{pair_of}
+use Rattle.clause_watches.specs.Picks.{WatchesLast}
 
 -- the clauses in the order of their ids, which count from 1, each with its watched pair; the true literals in the
 -- order in which they came, how many there were before each level, and for each, by its index, the id of the clause
@@ -103,17 +104,19 @@ pub record StaysSearch (old new : Search) : Type 0 where
   pub pairs : new.pairs ≡ old.pairs
   pub assigned : StaysAssigned old new
 
--- there is one clause more, whose variables are known
+-- there is one clause more, whose variables are known, and which watches the literals that became false last
 pub record GainsClause (old new : Search) (clause : List Lit) (id : ℕ) : Type 0 where
   pub clauses : new.clauses ≡ old.clauses ++ clause ∷ []
   pub id_is : id ≡ length new.clauses
   pub known : (l : Lit) → Contains clause l → l.var < new.vars
+  pub watched : WatchesLast old.lits clause (pair_of new.pairs id)
   pub assigned : StaysAssigned old new
 
 -- there is one clause more, and its literal is true with it as its reason
 pub record Learns (old new : Search) (clause : List Lit) (lit : Lit) (id : ℕ) : Type 0 where
   pub clauses : new.clauses ≡ old.clauses ++ clause ∷ []
   pub id_is : id ≡ length new.clauses
+  pub watched : WatchesLast old.lits clause (pair_of new.pairs id)
   pub lits : new.lits ≡ old.lits ++ lit ∷ []
   pub starts : new.starts ≡ old.starts
   pub reasons : (i : ℕ) → i < length old.lits → slice_index new.reasons i ≡ slice_index old.reasons i

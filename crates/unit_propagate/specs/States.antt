@@ -7,12 +7,13 @@ use Rattle.plain_lits.specs.declared.lit.Lit.{Lit}
 use Rattle.plain_lits.specs.Literals.{negation}
 use Rattle.plain_lits.specs.Packed.{packed}
 use Rattle.plain_lits.specs.HintCheck.{clause_at, IsNamed}
-use Rattle.unit_propagate.specs.declared.pair.Pair.{Pair}
+use Rattle.clause_watches.specs.declared.pair.Pair.{Pair}
 use Rattle.unit_propagate.specs.declared.engine.Mark.{Mark}
 use Rattle.unit_propagate.specs.declared.engine.Engine.{Engine}
-use Rattle.unit_propagate.specs.Arenas.{pair_of}
+use Rattle.clause_watches.specs.Arenas.{pair_of}
 use Rattle.unit_propagate.specs.Search.{IsReason, Search}
-use Rattle.unit_propagate.specs.WatchLists.{Listed, list_at, ids_at, one, watches}
+use Rattle.clause_watches.specs.Picks.{IsPairOf}
+use Rattle.clause_watches.specs.WatchLists.{Listed, list_at, ids_at, one, watches}
 
 -- the clauses with their pairs, the watch lists by code, the ids of the clauses that watch nothing, the trail with
 -- its reasons, how far propagation had come when there were so many true literals as a mark's index and a level
@@ -65,12 +66,6 @@ mark_at marks n = slice_index_or marks n no_mark
 -- whether a clause holds the literal of a code
 abbrev pub has : ℕ → List Lit → Bool
 has code clause = list_any (λ l. packed l == code) clause
-
--- a pair's literals stand in the clause, and a pair of one literal has a clause of no other
-pub record IsPairOf (clause : List Lit) (p : Pair) : Type 0 where
-  pub first : p.first ≢ p.second → Contains clause p.first
-  pub second : p.first ≢ p.second → Contains clause p.second
-  pub alone : p.first ≡ p.second → (a b : Lit) → Contains clause a → Contains clause b → a ≡ b
 
 -- each list has just the clauses that watch its literal, each once, and room for all that hold the literal
 pub record IsWatching (clauses : List (List Lit)) (pairs : List Pair) (lists : List Listed) : Type 0 where

@@ -1,18 +1,20 @@
 -- These are a proof's inner states too: what one step of the propagator changes.
-use Rattle.std.specs.Prelude.{◌≡◌, ◌≢◌, ◌⊎◌, ℕ, ◌+◌, ◌*◌, ◌-◌, ◌^◌, ◌<◌, ◌≤◌, List, [], ◌∷◌, ◌++◌, length, take}
-use Rattle.std.specs.Prelude.{Contains, cond, slice_index, slice_index_or, slice_set, Option, Some, None, IsSome}
+use Rattle.std.specs.Prelude.{◌≡◌, ◌≢◌, ◌⊎◌, ℕ, ◌+◌, ◌*◌, ◌-◌, ◌^◌, ◌<◌, ◌≤◌, List, [], ◌∷◌, ◌++◌, length}
+use Rattle.std.specs.Prelude.{Contains, cond, slice_index, slice_index_or, slice_set, Option, Some, None}
 use Rattle.std.specs.Prelude.{count_by}
 use Rattle.plain_lits.specs.declared.lit.Lit.{Lit}
 use Rattle.plain_lits.specs.Literals.{negation}
 use Rattle.plain_lits.specs.Packed.{packed}
 use Rattle.plain_lits.specs.HintCheck.{clause_at, IsNamed}
-use Rattle.unit_propagate.specs.declared.pair.Pair.{Pair}
+use Rattle.clause_watches.specs.declared.pair.Pair.{Pair}
 use Rattle.unit_propagate.specs.declared.engine.Visit.{Visit}
 use Rattle.unit_propagate.specs.declared.engine.Visit.TheVariants.{Kept, Moved, Failed}
-use Rattle.unit_propagate.specs.Arenas.{pair_of}
+use Rattle.clause_watches.specs.Arenas.{pair_of}
 use Rattle.unit_propagate.specs.Search.{IsConflict, IsQuiet, AreGuarded, Learns}
-use Rattle.unit_propagate.specs.WatchLists.{Listed, list_at, ids_at, with_id, without, HasMoreRoom, Joins}
-use Rattle.unit_propagate.specs.States.{State, search_of, mark_at, has, no_mark, IsPairOf}
+use Rattle.clause_watches.specs.Picks.{IsUnfalse}
+use Rattle.clause_watches.specs.WatchLists.{Listed, list_at, ids_at, with_id, without, HasMoreRoom, Joins}
+use Rattle.unit_propagate.specs.States.{State, search_of, mark_at, has, no_mark}
+use Rattle.clause_watches.specs.Picks.{IsPairOf}
 use Rattle.unit_propagate.specs.declared.engine.Mark.{Mark}
 
 -- a literal has come with its reason
@@ -36,13 +38,6 @@ with_pair s id p from at to = record s {
   pairs = slice_set s.pairs (id - 1) p;
   lists = with_id (without s.lists from at) to id;
 }
-
--- what a look for another literal to watch gives: one that isn't false and isn't the other watched one
-abbrev pub FindsWatch : List Lit → List Lit → ℕ → Option Lit → Type 0
-FindsWatch lits clause other None =
-    (l : Lit) → Contains clause l → packed l ≢ other → Contains lits (negation l)
-FindsWatch lits clause other (Some l) =
-    Contains clause l × (packed l ≢ other) × (Contains lits (negation l) → ⊥)
 
 -- the clause at an index of the list of a false literal, with the two literals that it watches
 pub record IsHere (s : State) (at id : ℕ) (falsified other : Lit) : Type 0 where
@@ -113,12 +108,6 @@ pub record IsImplied (s : State) (l : Lit) (id : ℕ) : Type 0 where
   pub there : Contains (clause_at s.clauses id) l
   pub others : (x : Lit) → Contains (clause_at s.clauses id) x → x ≢ l → Contains s.lits (negation x)
 
--- the variables of a list are below a number, and can be packed
-pub record HasVars (lits : List Lit) (vars : ℕ) : Type 0 where
-  pub below : (l : Lit) → Contains lits l → l.var < vars
-  pub packs : (l : Lit) → Contains lits l → l.var < 2 ^ 31
-  pub fits : vars ≤ 2 ^ 31
-
 -- a list is longer, and what is read of it is the same
 pub record IsLonger {X : Type 0} (d : X) (old new : List X) : Type 0 where
   pub long : length old ≤ length new
@@ -134,32 +123,6 @@ pub record MakesRoom (old new : State) : Type 0 where
   pub lists_long : 2 * new.vars ≤ length new.lists
   pub reasons_long : new.vars ≤ length new.reasons
   pub marks_long : new.vars < length new.marks
-
--- each list of a clause's literals has room for one more
-pub record ClaimsAll (old new : List Listed) (clause : List Lit) : Type 0 where
-  pub room : HasMoreRoom old new
-  pub more : (l : Lit) → Contains clause l
-      → (list_at old (packed l)).uses + 1 ≤ (list_at new (packed l)).uses
-
--- a literal is the one that is passed over, if any
-abbrev pub IsOther : Option Lit → Lit → Type 0
-IsOther None l = ⊥
-IsOther (Some o) l = l ≡ o
-
--- what a look for a literal to watch gives
-abbrev pub IsPick : List Lit → Option Lit → Option Lit → Type 0
-IsPick clause other None = (l : Lit) → Contains clause l → IsOther other l
-IsPick clause other (Some l) = Contains clause l × (IsOther other l → ⊥)
-
--- what the next literal makes of the best so far: it is passed over, or it is the best, or the one before stays so
-abbrev pub Considers : Option Lit → Option Lit → Lit → Option Lit → Type 0
-Considers best other l result =
-    (IsOther other l × (result ≡ best))
-    ⊎ ((IsOther other l → ⊥) × ((result ≡ Some l) ⊎ ((result ≡ best) × IsSome best)))
-
--- a literal isn't false by the first true literals
-pub record IsUnfalse (lits : List Lit) (l : Lit) (index : ℕ) : Type 0 where
-  pub unfalse : Contains (take index lits) (negation l) → ⊥
 
 -- a mark is lowered to an index
 pub record LowersOne (old new : List Mark) (at index : ℕ) : Type 0 where

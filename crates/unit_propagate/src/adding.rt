@@ -8,33 +8,19 @@ ghost use Rattle.plain_lits.specs.Literals.{negation};
 ghost use Rattle.plain_lits.specs.Packed.{packed};
 ghost use Rattle.plain_lits.specs.Trails.{AreLevels};
 ghost use Rattle.unit_propagate.specs.Search.{StaysSearch, GainsClause, GainsBlock};
-ghost use Rattle.unit_propagate.specs.States.{state_of, search_of, IsKept, IsPairOf, mark_at, no_mark};
-ghost use Rattle.unit_propagate.specs.Steps.{HasVars, IsLonger, MakesRoom, ClaimsAll, IsOther, IsPick, IsUnfalse};
-ghost use Rattle.unit_propagate.specs.Steps.{Considers, LowersOne, LowersMarks, Lowers, HasRoomFor, IsLow, IsReady};
+ghost use Rattle.unit_propagate.specs.States.{state_of, search_of, IsKept, mark_at, no_mark};
+ghost use Rattle.clause_watches.specs.Picks.{IsPairOf, IsUnfalse, WatchesLast};
+ghost use Rattle.unit_propagate.specs.Steps.{IsLonger, MakesRoom};
+ghost use Rattle.unit_propagate.specs.Steps.{LowersOne, LowersMarks, Lowers, HasRoomFor, IsLow, IsReady};
 ghost use Rattle.unit_propagate.specs.Steps.{Inserts};
 ghost use Rattle.unit_propagate.specs.Steps.{with_mark, begun, Assumes, AssumesAll, HasLearned};
-ghost use Rattle.unit_propagate.specs.WatchLists.{list_at, ids_at, HasMoreRoom, HasPairRoom, Joins};
+ghost use Rattle.clause_watches.specs.WatchLists.{HasPairRoom, Joins};
 
-use crate::engine::{Engine, Mark, code_of, mark_in};
-use crate::pair::Pair;
-use crate::watch_list::{WatchList, claim_id, grow_lists, push_id};
+use crate::engine::{Engine, Mark, mark_in};
+use clause_watches::{Pair, claim_all, grow_lists, pick, pick_second, push_id, rank_of, vars_of};
 use plain_lists::Memory;
-use plain_lits::{Lit, PackedLit, Trail, Value};
+use plain_lits::{Lit, Value};
 use std::alloc::Global;
-
-/// The number above each variable of a list; more than can be packed is want of memory.
-fn vars_of(lits: &[Lit]) -> Result<usize, Memory>
-    ensures { IfOk result (HasVars lits.now) }
-{
-    let mut vars = 0;
-    for lit in lits {
-        if lit.var >= PackedLit::VARS {
-            return Err(Memory);
-        }
-        vars = larger(vars, lit.var + 1);
-    }
-    Ok(vars)
-}
 
 /// Makes a list of ids at least so long, with zeros.
 fn grow_ids(ids: &mut Vec<u32>, count: usize) -> Result<(), Memory>
@@ -58,119 +44,6 @@ fn grow_marks(marks: &mut Vec<Mark>, count: usize) -> Result<(), Memory>
     }
     marks.resize(count, Mark { head: 0, done: 0 })?;
     Ok(())
-}
-
-/// Makes room for a clause in the lists of its literals. After `Memory` there may be room for a part.
-fn claim_all(lists: &mut Vec<WatchList>, clause: &[Lit]) -> Result<(), Memory>
-    requires { (l : Lit) → Contains clause.now l → packed l < length lists.old.items }
-    ensures room { HasMoreRoom lists.old.items lists.new.items }
-    ensures ok { OnOk result (ClaimsAll lists.old.items lists.new.items clause.now) }
-{
-    let _count = lists.len();
-    for lit in clause {
-        claim_id(lists, code_of(*lit))?;
-    }
-    Ok(())
-}
-
-/// How many true literals there were before a literal became false, or how many there are where it isn't false.
-fn rank_of(trail: &Trail, lit: Lit) -> usize
-    ensures { IsUnfalse trail.now.lits lit result }
-{
-    match trail.value(lit) {
-        Value::False => trail.position(!lit),
-        _ => trail.len(),
-    }
-}
-
-/// Whether a literal is the one that is passed over.
-fn is_other(other: Option<Lit>, lit: Lit) -> bool
-    ensures { IsTrue result ↔ IsOther other lit }
-{
-    match other {
-        None => false,
-        Some(passed) => passed == lit,
-    }
-}
-
-/// The best literal so far, or the next one: where it isn't passed over, and isn't false or became false later.
-fn consider(trail: &Trail, best: Option<Lit>, other: Option<Lit>, lit: Lit) -> Option<Lit>
-    ensures { Considers best other lit result }
-{
-    if is_other(other, lit) {
-        return best;
-    }
-    match best {
-        None => Some(lit),
-        Some(held) => {
-            if rank_of(trail, lit) > rank_of(trail, held) {
-                return Some(lit);
-            }
-            Some(held)
-        }
-    }
-}
-
-/// The literal of the clause, but for one, that isn't false or became false last.
-fn pick_one(trail: &Trail, clause: &[Lit], other: Option<Lit>) -> Option<Lit>
-    ensures { IsPick clause.now other result }
-{
-    let mut best = None;
-    for lit in clause {
-        best = consider(trail, best, other, *lit);
-    }
-    best
-}
-
-/// A pair of two literals.
-fn pair_with(first: Lit, second: Lit) -> Pair
-    requires first { first.var < 2 ^ 31 }
-    requires second { second.var < 2 ^ 31 }
-    ensures first { result.first ≡ first }
-    ensures second { result.second ≡ second }
-{
-    Pair {
-        first: PackedLit::pack(first),
-        second: PackedLit::pack(second),
-    }
-}
-
-/// The pair of a literal and the best other one.
-fn pick_second(trail: &Trail, clause: &[Lit], first: Lit) -> Pair
-    requires packs { (l : Lit) → Contains clause.now l → l.var < 2 ^ 31 }
-    requires there { Contains clause.now first }
-    ensures pair { IsPairOf clause.now result }
-    ensures first { result.first ≡ first }
-{
-    match pick_one(trail, clause, Some(first)) {
-        None => pair_with(first, first),
-        Some(second) => pair_with(first, second),
-    }
-}
-
-/// The pair that a new clause watches: two different literals that aren't false or became false last. A clause
-/// without two different literals watches nothing.
-fn pick(trail: &Trail, clause: &[Lit]) -> Pair
-    requires { (l : Lit) → Contains clause.now l → l.var < 2 ^ 31 }
-    ensures { IsPairOf clause.now result }
-{
-    let none = Lit {
-        var: 0,
-        positive: false,
-    };
-    match pick_one(trail, clause, None) {
-        None => pair_with(none, none),
-        Some(first) => pick_second(trail, clause, first),
-    }
-}
-
-/// The greater of two numbers.
-fn larger(a: usize, b: usize) -> usize
-    ensures first { a ≤ result }
-    ensures second { b ≤ result }
-    ensures one_of { (result ≡ a) ⊎ (result ≡ b) }
-{
-    if a <= b { b } else { a }
 }
 
 /// The lesser of two numbers.
@@ -316,6 +189,7 @@ impl Engine {
         requires kept { IsKept (state_of self.old) }
         requires ready { IsReady (state_of self.old) clause.now }
         requires pair { IsPairOf clause.now pair }
+        requires last { WatchesLast self.old.trail.lits clause.now pair }
         ensures kept { IsKept (state_of self.new) }
         ensures ok { IfOk result (GainsClause (search_of (state_of self.old)) (search_of (state_of self.new))
             clause.now) }

@@ -10,13 +10,11 @@ ghost use Rattle.plain_lits.specs.Packed.{packed};
 ghost use Rattle.plain_lits.specs.Values.{IsValueIn};
 ghost use Rattle.unit_propagate.specs.Search.{IsConflict, IsSearch, IsWatchedBy, Decides, GoesBack};
 ghost use Rattle.unit_propagate.specs.States.{state_of, search_of, IsKept, IsShort, HasTrue, mark_at};
-ghost use Rattle.unit_propagate.specs.Steps.{with_literal, with_pair, with_mark, begun, FindsWatch, IsHere, AreDone};
+ghost use Rattle.unit_propagate.specs.Steps.{with_literal, with_pair, with_mark, begun, IsHere, AreDone};
 ghost use Rattle.unit_propagate.specs.Steps.{Grows, IsVisit, HasVisited, IsFound, IsOpened};
-ghost use Rattle.unit_propagate.specs.WatchLists.{list_at, ids_at, with_id, without};
+ghost use Rattle.clause_watches.specs.WatchLists.{list_at, ids_at, with_id, without};
 
-use crate::arena::Arena;
-use crate::pair::Pair;
-use crate::watch_list::{WatchList, ids_in, push_id, remove_id};
+use clause_watches::{Arena, Found, Pair, WatchList, code_of, ids_in, push_id, remove_id};
 use plain_lists::Memory;
 use plain_lits::{Lit, PackedLit, Trail, Value};
 use std::alloc::Global;
@@ -57,30 +55,6 @@ pub(crate) struct Engine {
     pub(crate) marks: Vec<Mark>,
     pub(crate) head: usize,
     pub(crate) done: usize,
-}
-
-/// A literal's code: twice its variable, and one more where it is positive.
-pub(crate) fn code_of(lit: Lit) -> usize
-    requires { 2 * lit.var + 1 < 2 ^ 64 }
-    ensures { result ≡ packed lit }
-{
-    let sign = if lit.positive { 1 } else { 0 };
-    2 * lit.var + sign
-}
-
-/// A literal of the clause that isn't false and isn't the other watched one.
-fn find_watch(trail: &Trail, clause: &[PackedLit], other: usize) -> Option<PackedLit>
-    ensures { FindsWatch trail.now.lits clause.now other result }
-{
-    for packed in clause {
-        if packed.code() != other {
-            match trail.value(packed.lit()) {
-                Value::False => {}
-                _ => return Some(*packed),
-            }
-        }
-    }
-    None
 }
 
 /// A clause's first literal.
@@ -188,19 +162,25 @@ impl Engine {
         }
     }
 
-    /// Has a clause watch another literal in the place of a false one.
-    fn move_watch(&mut self, id: u32, pair: Pair, from: usize, at: usize, to: usize)
-        requires named { IsNamed self.old.arena.clauses id }
+    /// Has a clause watch the literal that was found in the place of a false one.
+    fn move_watch(&mut self, here: Here, found: Found, from: usize, at: usize)
+        requires named { IsNamed self.old.arena.clauses here.id }
         requires from { from < length self.old.lists.items }
         requires at { at < length (ids_at self.old.lists.items from) }
-        requires to { to < length self.old.lists.items }
-        requires apart { from ≢ to }
-        requires room { length (ids_at self.old.lists.items to) < (list_at self.old.lists.items to).uses }
-        ensures { state_of self.new ≡ with_pair (state_of self.old) id pair from at to }
+        requires to { packed found.lit < length self.old.lists.items }
+        requires apart { from ≢ packed found.lit }
+        requires room { length (ids_at self.old.lists.items (packed found.lit))
+            < (list_at self.old.lists.items (packed found.lit)).uses }
+        ensures { state_of self.new ≡ with_pair (state_of self.old) here.id
+            (record { first = here.other; second = found.lit }) from at (packed found.lit) }
     {
-        self.arena.set_pair(id, pair);
+        let pair = Pair {
+            first: here.other,
+            second: found.lit,
+        };
+        self.arena.set_pair(here.id, pair, found.at);
         remove_id(&mut self.lists, from, at);
-        push_id(&mut self.lists, to, id);
+        push_id(&mut self.lists, found.lit.code(), here.id);
     }
 
     /// Visits a clause whose other watched literal isn't true: it watches another literal that isn't false, or its
@@ -228,13 +208,12 @@ impl Engine {
         ensures done_same { self.new.done ≡ self.old.done }
     {
         let _form = self.trail.len();
-        match find_watch(&self.trail, self.arena.clause(here.id), here.other.code()) {
-            Some(to) => {
-                let pair = Pair {
-                    first: here.other,
-                    second: to,
-                };
-                self.move_watch(here.id, pair, code, at, to.code());
+        match self
+            .arena
+            .find_watch(&self.trail, here.id, here.other.code())
+        {
+            Some(found) => {
+                self.move_watch(here, found, code, at);
                 Visit::Moved
             }
             None => match other {

@@ -2,10 +2,7 @@
 #![tactic(auto)]
 
 mod adding;
-mod arena;
 mod engine;
-mod pair;
 mod propagator;
-mod watch_list;
 
 pub use propagator::{Propagated, Propagator};

@@ -9,8 +9,7 @@ ghost use Rattle.plain_lits.specs.Values.{IsValueIn};
 ghost use Rattle.unit_propagate.specs.Search.{IsSearch, IsAnswer, IsGuarded, HasGrown, Decides, GoesBack, IsWatchedBy};
 ghost use Rattle.unit_propagate.specs.Search.{GainsClause, GainsBlock, Learns, StaysSearch};
 
-use crate::engine::{Engine, code_of};
-use crate::watch_list::ids_in;
+use crate::engine::Engine;
 use plain_lists::Memory;
 use plain_lits::{Lit, PackedLit, Value};
 use std::alloc::Global;
@@ -53,7 +52,8 @@ impl Propagator {
         Ok(Propagator { engine })
     }
 
-    /// Adds a clause, and gives its id. Its literals may have any values. After `Memory` no clause has come.
+    /// Adds a clause, and gives its id. Its literals may have any values: it watches two that aren't false, or became
+    /// false last. After `Memory` no clause has come.
     pub fn add(&mut self, clause: &[Lit]) -> Result<u32, Memory>
         ensures ok { IfOk result (GainsClause self.old self.new clause.now) }
         ensures err { OnErr result (StaysSearch self.old self.new) }

@@ -10,7 +10,8 @@ pub add_watching-requires : goal.add_watching-requires
 add_watching-requires c = record {
   kept = c.prepare.ensures.kept;
   ready = c.in_ok-prepare.ensures.ok;
-  pair = c.pick-pair.ensures;
+  pair = c.pick-pair.ensures.pair;
+  last = c.pick-pair.ensures.last;
 }
 
 pub returns : goal.returns

@@ -1,6 +1,9 @@
 use Rattle.std.proofs.Common.{[], ◌∷◌, ◌++◌, arith, ap, sym, subst, ◌∙◌, refl}
 use Rattle.plain_lits.specs.declared.value.Value.TheVariants.{Unset}
+use Rattle.plain_lits.specs.Literals.{negation}
 use Rattle.plain_lits.specs.Values.{IsValueIn}
+use Rattle.std.specs.Prelude.{Contains}
+use Rattle.clause_watches.proofs.Pairing.{outlasts_open}
 use Rattle.unit_propagate.specs.States.{State, state_of}
 use Rattle.unit_propagate.proofs.Growing.{stays_room, on_err, learned_implied, learns}
 use Rattle.unit_propagate.proofs.Learning.{stays_more, gains_more, kept_head}
@@ -8,13 +11,21 @@ use Rattle.unit_propagate.proofs.Visiting.{literal_kept}
 use Rattle.unit_propagate.proofs.engine.Engine.add_learned.Goals as goal
 
 pub pick_second-pair-requires : goal.pick_second-pair-requires
-pick_second-pair-requires c = record { packs = c.in_ok-prepare.ensures.ok.packs; there = c.requires.unit.there }
+pick_second-pair-requires c =
+    let same = stays_room (state_of c.args.self.now) (state_of c.prepare.new.self) c.prepare.ensures.room in
+    record {
+      packs = c.in_ok-prepare.ensures.ok.packs;
+      there = c.requires.unit.there;
+      best = λ l there. outlasts_open c.prepare.new.self.trail.lits c.args.lit l
+          (λ f. c.requires.unit.not_false (subst (λ xs. Contains xs (negation c.args.lit)) same.assigned.lits f));
+    }
 
 pub add_watching-requires : goal.add_watching-requires
 add_watching-requires c = record {
   kept = c.prepare.ensures.kept;
   ready = c.in_ok-prepare.ensures.ok;
   pair = c.pick_second-pair.ensures.pair;
+  last = c.pick_second-pair.ensures.last;
 }
 
 pub imply-requires : goal.imply-requires

@@ -2,7 +2,7 @@ use Rattle.std.proofs.Common.{◌+◌, [], ◌∷◌, ◌++◌, ap, ◌∙◌, s
 use Rattle.unit_propagate.specs.States.{State, state_of}
 use Rattle.unit_propagate.proofs.Learning.{stays}
 use Rattle.unit_propagate.proofs.Growing.{stays_lowered, stays_same, low_lowered, ready_lowered}
-use Rattle.unit_propagate.proofs.Growing.{unfalse_lowered, gains, on_err}
+use Rattle.unit_propagate.proofs.Growing.{unfalse_lowered, gains, watched_last, on_err}
 use Rattle.unit_propagate.proofs.engine.Engine.add_watching.Goals as goal
 
 pub insert-requires : goal.insert-requires
@@ -18,9 +18,9 @@ insert-requires c =
       id_is = c.in_ok-id.ensures ∙ ap (λ (s : State). length s.clauses + 1) (sym low.rest);
       low = low_lowered m w index low;
       first = unfalse_lowered m w index c.rank_of.result c.lit.result c.args.pair.first low
-          c.smaller-index.ensures.first c.lit.ensures.lit c.rank_of.ensures;
+          c.smaller-index.ensures.first c.lit.ensures.lit c.rank_of.ensures.before;
       second = unfalse_lowered m w index c.rank_of-2.result c.lit-2.result c.args.pair.second low
-          c.smaller-index.ensures.second c.lit-2.ensures.lit c.rank_of-2.ensures;
+          c.smaller-index.ensures.second c.lit-2.ensures.lit c.rank_of-2.ensures.before;
     }
 
 pub returns : goal.returns
@@ -33,7 +33,10 @@ returns c =
       ok = gains m w (state_of c.insert.new.self) c.args.clause.now c.in_ok-id.id
           (stays_lowered m m w c.smaller-index.result (stays m) low)
           c.in_ok-insert.ensures.ok (ready_lowered m w c.smaller-index.result c.args.clause.now low c.requires.ready)
-          (c.in_ok-id.ensures ∙ ap (λ (s : State). length s.clauses + 1) (sym low.rest));
+          (c.in_ok-id.ensures ∙ ap (λ (s : State). length s.clauses + 1) (sym low.rest))
+          (watched_last m (state_of c.insert.new.self) c.args.clause.now c.args.pair c.in_ok-id.id c.requires.kept
+          (c.in_ok-insert.ensures.pairs ∙ ap (λ (s : State). s.pairs ++ c.args.pair ∷ []) low.rest)
+          c.in_ok-id.ensures c.requires.last);
       pairs = c.in_ok-insert.ensures.pairs ∙ ap (λ (s : State). s.pairs ++ c.args.pair ∷ []) low.rest;
       err = tt;
     }

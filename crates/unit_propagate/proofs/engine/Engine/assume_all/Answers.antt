@@ -1,6 +1,6 @@
 use Rattle.std.proofs.Common.{get_or, arith}
 use Rattle.std.proofs.lemmas.List.Elements.{Contains-get_or}
-use Rattle.unit_propagate.specs.Arenas.{blank}
+use Rattle.clause_watches.specs.Arenas.{blank}
 use Rattle.unit_propagate.specs.States.{state_of}
 use Rattle.unit_propagate.proofs.Blocks.{assumes_none, assumes_next, still_open}
 use Rattle.unit_propagate.proofs.engine.Engine.assume_all.Goals as goal

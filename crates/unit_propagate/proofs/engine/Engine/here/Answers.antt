@@ -1,6 +1,6 @@
 use Rattle.std.proofs.Common.{get_or, ap, sym, ◌∙◌}
 use Rattle.unit_propagate.specs.States.{state_of}
-use Rattle.unit_propagate.specs.WatchLists.{ids_at}
+use Rattle.clause_watches.specs.WatchLists.{ids_at}
 use Rattle.unit_propagate.proofs.Lists.{IsSeen, listed_seen}
 use Rattle.unit_propagate.proofs.Moving.{here_first, here_second}
 use Rattle.unit_propagate.proofs.engine.Engine.here.Goals as goal

@@ -1,6 +1,6 @@
 use Rattle.std.proofs.Common.{◌≡◌, ◌<◌, length, ap, sym, ◌∙◌, refl, subst}
 use Rattle.plain_lits.specs.Packed.{packed}
-use Rattle.unit_propagate.specs.WatchLists.{with_id, ids_at, list_at, Joins}
+use Rattle.clause_watches.specs.WatchLists.{with_id, ids_at, list_at, Joins}
 use Rattle.unit_propagate.proofs.Growing.{joined_two, long_second, room_second}
 use Rattle.unit_propagate.proofs.engine.Engine.join.Goals as goal
 

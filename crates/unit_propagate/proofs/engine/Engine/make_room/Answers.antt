@@ -1,7 +1,8 @@
 use Rattle.std.proofs.Common.{refl, arith}
 use Rattle.unit_propagate.specs.States.{state_of, no_mark}
 use Rattle.unit_propagate.proofs.Growing.{IsRoomyFor, kept_roomy, makes_room}
-use Rattle.unit_propagate.proofs.Rooms.{longer_same, room_same}
+use Rattle.unit_propagate.proofs.Rooms.{longer_same}
+use Rattle.clause_watches.proofs.Pairing.{room_same}
 use Rattle.unit_propagate.proofs.engine.Engine.make_room.Goals as goal
 
 pub returns : goal.returns

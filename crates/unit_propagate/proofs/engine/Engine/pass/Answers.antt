@@ -1,7 +1,7 @@
 use Rattle.std.proofs.Common.{◌<◌, ◌+◌, length, arith, subst, sym, ap}
-use Rattle.unit_propagate.specs.Arenas.{blank}
+use Rattle.clause_watches.specs.Arenas.{blank}
 use Rattle.unit_propagate.specs.States.{state_of}
-use Rattle.unit_propagate.proofs.Fronts.{packed_low}
+use Rattle.clause_watches.proofs.Fronts.{packed_low}
 use Rattle.unit_propagate.proofs.Passing.{next_there, next_is, next_var, pass_kept}
 use Rattle.unit_propagate.proofs.Visiting.{grows_head}
 use Rattle.unit_propagate.proofs.engine.Engine.pass.Goals as goal

@@ -1,6 +1,6 @@
 use Rattle.std.proofs.Common.{arith}
 use Rattle.unit_propagate.specs.States.{state_of}
-use Rattle.unit_propagate.proofs.Fronts.{packed_low}
+use Rattle.clause_watches.proofs.Fronts.{packed_low}
 use Rattle.unit_propagate.proofs.Growing.{kept_lists, makes_claim, makes_same}
 use Rattle.unit_propagate.proofs.Rooms.{room_for}
 use Rattle.unit_propagate.proofs.engine.Engine.prepare.Goals as goal

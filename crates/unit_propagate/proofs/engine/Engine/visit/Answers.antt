@@ -1,6 +1,6 @@
 use Rattle.std.proofs.Common.{length, ap, ◌∙◌, arith, refl}
 use Rattle.unit_propagate.specs.States.{state_of}
-use Rattle.unit_propagate.specs.WatchLists.{ids_at}
+use Rattle.clause_watches.specs.WatchLists.{ids_at}
 use Rattle.unit_propagate.proofs.Visiting.{grows_same, grows_trans, grown_there, done_all, done_none, ids_are}
 use Rattle.unit_propagate.proofs.engine.Engine.visit.Goals as goal
 

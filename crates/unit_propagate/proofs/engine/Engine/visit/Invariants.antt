@@ -4,7 +4,7 @@ use Rattle.plain_lits.specs.Literals.{negation}
 use Rattle.plain_lits.specs.Packed.{packed}
 use Rattle.unit_propagate.specs.States.{state_of, IsKept}
 use Rattle.unit_propagate.specs.Steps.{Grows, AreDone}
-use Rattle.unit_propagate.specs.WatchLists.{ids_at}
+use Rattle.clause_watches.specs.WatchLists.{ids_at}
 use Rattle.unit_propagate.proofs.engine.Engine.visit.Given as goal
 
 abbrev pub invariant-ids : goal.invariant-ids

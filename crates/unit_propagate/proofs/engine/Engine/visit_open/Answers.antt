@@ -1,7 +1,6 @@
-use Rattle.std.proofs.Common.{◌<◌, length, subst, sym, refl}
+use Rattle.std.proofs.Common.{refl, sym, ◌∙◌}
 use Rattle.unit_propagate.specs.States.{state_of}
-use Rattle.unit_propagate.specs.WatchLists.{ids_at, list_at}
-use Rattle.unit_propagate.proofs.Moving.{IsMove, room_there, here_other}
+use Rattle.unit_propagate.proofs.Moving.{IsMove, room_there, here_other, move_codes}
 use Rattle.unit_propagate.proofs.Visiting.{move_of, others_of, lit_listed, moved_kept, moved_visit, implied_kept}
 use Rattle.unit_propagate.proofs.Visiting.{implied_visit}
 use Rattle.unit_propagate.proofs.Visiting.{grows_same, grown_literal, grown_moved, fails, false_value}
@@ -10,22 +9,27 @@ use Rattle.unit_propagate.proofs.engine.Engine.visit_open.Goals as goal
 pub move_watch-requires-clause-to : goal.move_watch-requires-clause-to
 move_watch-requires-clause-to c =
     let s = state_of c.args.self.now in
-    let m : IsMove s c.args.at c.args.here.id c.args.falsified c.args.here.other c.in-Some.to =
-    move_of s c.args.at c.args.here.id c.code.result c.args.falsified c.args.here.other c.in-Some.to c.clause.result.now
-    c.requires.here_is c.clause.ensures c.code.ensures.code c.in-Some.ensures c.requires.falsified_now
-    c.len-form.ensures.form.apart in
-    subst (λ k. k < length s.lists) (sym c.code-in-Some.ensures.code)
-    (lit_listed s c.args.here.id c.in-Some.to c.requires.kept m.here.named m.there)
+    let m : IsMove s c.args.at c.args.here.id c.args.falsified c.args.here.other c.in-Some.found.lit =
+    move_of s c.args.at c.args.here.id c.code.result c.args.falsified c.args.here.other c.in-Some.found
+    c.requires.here_is c.code.ensures.code c.in-Some.ensures c.requires.falsified_now c.len-form.ensures.form.apart in
+    lit_listed s c.args.here.id c.in-Some.found.lit c.requires.kept m.here.named m.there
 
 pub move_watch-requires-clause-room : goal.move_watch-requires-clause-room
 move_watch-requires-clause-room c =
     let s = state_of c.args.self.now in
-    let m : IsMove s c.args.at c.args.here.id c.args.falsified c.args.here.other c.in-Some.to =
-    move_of s c.args.at c.args.here.id c.code.result c.args.falsified c.args.here.other c.in-Some.to c.clause.result.now
-    c.requires.here_is c.clause.ensures c.code.ensures.code c.in-Some.ensures c.requires.falsified_now
-    c.len-form.ensures.form.apart in
-    subst (λ k. length (ids_at s.lists k) < (list_at s.lists k).uses) (sym c.code-in-Some.ensures.code)
-    (room_there s c.args.at c.args.here.id c.args.falsified c.args.here.other c.in-Some.to c.requires.kept m)
+    let m : IsMove s c.args.at c.args.here.id c.args.falsified c.args.here.other c.in-Some.found.lit =
+    move_of s c.args.at c.args.here.id c.code.result c.args.falsified c.args.here.other c.in-Some.found
+    c.requires.here_is c.code.ensures.code c.in-Some.ensures c.requires.falsified_now c.len-form.ensures.form.apart in
+    room_there s c.args.at c.args.here.id c.args.falsified c.args.here.other c.in-Some.found.lit c.requires.kept m
+
+pub move_watch-requires-clause-apart : goal.move_watch-requires-clause-apart
+move_watch-requires-clause-apart c =
+    let s = state_of c.args.self.now in
+    let m : IsMove s c.args.at c.args.here.id c.args.falsified c.args.here.other c.in-Some.found.lit =
+    move_of s c.args.at c.args.here.id c.code.result c.args.falsified c.args.here.other c.in-Some.found
+    c.requires.here_is c.code.ensures.code c.in-Some.ensures c.requires.falsified_now c.len-form.ensures.form.apart in
+    λ e. move_codes s c.args.at c.args.here.id c.args.falsified c.args.here.other c.in-Some.found.lit m
+    (sym c.requires.code_is ∙ e)
 
 pub imply-requires-clause-within : goal.imply-requires-clause-within
 imply-requires-clause-within c =
@@ -36,31 +40,26 @@ imply-requires-clause-within c =
 pub returns-in-Some-clause-kept : goal.returns-in-Some-clause-kept
 returns-in-Some-clause-kept c =
     let s = state_of c.args.self.now in
-    let m : IsMove s c.args.at c.args.here.id c.args.falsified c.args.here.other c.in-Some.to =
-    move_of s c.args.at c.args.here.id c.code.result c.args.falsified c.args.here.other c.in-Some.to c.clause.result.now
-    c.requires.here_is c.clause.ensures c.code.ensures.code c.in-Some.ensures c.requires.falsified_now
-    c.len-form.ensures.form.apart in
-    moved_kept s (state_of c.move_watch.new.self) c.args.at c.args.here.id c.args.code c.code-in-Some.result
-    c.args.falsified c.args.here.other c.in-Some.to
-    c.requires.kept m c.requires.code_is c.code-in-Some.ensures.code c.requires.inside c.move_watch.ensures
+    let m : IsMove s c.args.at c.args.here.id c.args.falsified c.args.here.other c.in-Some.found.lit =
+    move_of s c.args.at c.args.here.id c.code.result c.args.falsified c.args.here.other c.in-Some.found
+    c.requires.here_is c.code.ensures.code c.in-Some.ensures c.requires.falsified_now c.len-form.ensures.form.apart in
+    moved_kept s (state_of c.move_watch.new.self) c.args.at c.args.here.id c.args.code c.args.falsified c.args.here.other
+    c.in-Some.found.lit c.requires.kept m c.requires.code_is c.requires.inside c.move_watch.ensures
 
 pub returns-in-Some-clause-visit : goal.returns-in-Some-clause-visit
 returns-in-Some-clause-visit c =
     let s = state_of c.args.self.now in
-    let m : IsMove s c.args.at c.args.here.id c.args.falsified c.args.here.other c.in-Some.to =
-    move_of s c.args.at c.args.here.id c.code.result c.args.falsified c.args.here.other c.in-Some.to c.clause.result.now
-    c.requires.here_is c.clause.ensures c.code.ensures.code c.in-Some.ensures c.requires.falsified_now
-    c.len-form.ensures.form.apart in
-    moved_visit s (state_of c.move_watch.new.self) c.args.at c.args.here.id c.args.code c.code-in-Some.result
-    c.args.falsified c.args.here.other c.in-Some.to
-    c.requires.kept m c.requires.open c.requires.done c.requires.code_is c.code-in-Some.ensures.code c.requires.inside
-    c.move_watch.ensures
+    let m : IsMove s c.args.at c.args.here.id c.args.falsified c.args.here.other c.in-Some.found.lit =
+    move_of s c.args.at c.args.here.id c.code.result c.args.falsified c.args.here.other c.in-Some.found
+    c.requires.here_is c.code.ensures.code c.in-Some.ensures c.requires.falsified_now c.len-form.ensures.form.apart in
+    moved_visit s (state_of c.move_watch.new.self) c.args.at c.args.here.id c.args.code c.args.falsified
+    c.args.here.other c.in-Some.found.lit
+    c.requires.kept m c.requires.open c.requires.done c.requires.code_is c.requires.inside c.move_watch.ensures
 
 pub returns-in-Unset-clause-kept : goal.returns-in-Unset-clause-kept
 returns-in-Unset-clause-kept c =
     let s = state_of c.args.self.now in
-    let others = others_of s c.args.here.id c.code.result c.args.here.other c.clause.result.now c.clause.ensures
-    c.code.ensures.code c.in-None.ensures in
+    let others = others_of s c.args.here.id c.code.result c.args.here.other c.code.ensures.code c.in-None.ensures in
     implied_kept s (state_of c.imply.new.self) c.args.at c.args.here.id c.args.falsified c.args.here.other c.lit.result
     c.requires.kept c.requires.here_is others c.lit.ensures.lit c.len-form.ensures.form.levels c.imply.ensures.before
     c.imply.ensures.state
@@ -80,8 +79,7 @@ returns-in-Unset-clause-grown c =
 pub returns-in_default : goal.returns-in_default
 returns-in_default c =
     let s = state_of c.args.self.now in
-    let others = others_of s c.args.here.id c.code.result c.args.here.other c.clause.result.now c.clause.ensures
-    c.code.ensures.code c.in-None.ensures in
+    let others = others_of s c.args.here.id c.code.result c.args.here.other c.code.ensures.code c.in-None.ensures in
     record {
       kept = c.requires.kept;
       grown = grows_same s;

@@ -1,7 +1,7 @@
 use Rattle.std.proofs.Common.{◌<◌, ◌≤◌, length, arith, ap, ◌∙◌, subst, sym}
 use Rattle.unit_propagate.specs.States.{state_of}
-use Rattle.unit_propagate.specs.WatchLists.{ids_at}
-use Rattle.unit_propagate.proofs.Fronts.{packed_low}
+use Rattle.clause_watches.specs.WatchLists.{ids_at}
+use Rattle.clause_watches.proofs.Fronts.{packed_low}
 use Rattle.unit_propagate.proofs.Showing.{watched, unwatched}
 use Rattle.unit_propagate.proofs.engine.Engine.watchers.Goals as goal
 

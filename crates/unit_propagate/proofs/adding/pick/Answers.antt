@@ -1,7 +1,0 @@
-use Rattle.unit_propagate.specs.Arenas.{blank}
-use Rattle.unit_propagate.proofs.Rooms.{pair_empty}
-use Rattle.unit_propagate.proofs.adding.pick.Goals as goal
-
-pub returns-in-None : goal.returns-in-None
-returns-in-None c = pair_empty c.args.clause.now c.pair_with.result blank blank c.pair_with.ensures.first
-    c.pair_with.ensures.second c.in-None.ensures
