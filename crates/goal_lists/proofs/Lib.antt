@@ -1,1 +1,2 @@
+pub mod AskedGoals
 pub mod Lacking
