@@ -1,6 +1,7 @@
 -- What goals and side clauses about sets say, and that an oracle may be asked them.
 use Rattle.std.proofs.Common.{◌≡◌, inl, inr, ⊎_elim, ℕ, Bool, true, false, not, List, [], ◌∷◌, ◌++◌, map, filter, refl, ap, sym, subst, ◌∙◌}
-use Rattle.std.specs.Prelude.{Contains, ◌⊎◌}
+use Rattle.std.specs.Prelude.{Contains, ◌⊎◌, slice_index_or}
+use Rattle.std.proofs.lemmas.Bool.{not_from_false, false_from_ne_true}
 use Rattle.std.proofs.lemmas.List.Elements.{Contains-append_left, Contains-append_right, Contains-append_cases}
 use Rattle.plain_lists.specs.Members.{IsWithin}
 use Rattle.plain_lists.proofs.Filters.{Contains-filter}
@@ -14,10 +15,11 @@ use Rattle.meaning_atoms.specs.declared.atom.Atom.{Atom}
 use Rattle.meaning_atoms.specs.declared.atom.Atom.TheVariants.{Member, Range, Tail, Cf, Ad, Co, St, Ask}
 use Rattle.meaning_atoms.specs.declared.atom.AtomLit.{AtomLit}
 use Rattle.semantics.specs.Laws.{AttacksMember, HasSameMembers}
+use Rattle.meaning_atoms.specs.AtomText.{numbers_of}
 use Rattle.meaning_atoms.specs.Literals.{affirmed, denied, negated}
 use Rattle.meaning_atoms.specs.Worlds.{world_of, HoldsOf, Says, IsTrueAlone}
 use Rattle.certificate_claims.specs.Refutations.{Claim}
-use Rattle.certificate_claims.proofs.SetTests.{has_from, ranged_from}
+use Rattle.certificate_claims.proofs.SetTests.{has_from, has_gives, ranged_from}
 use Rattle.certificate_claims.specs.SetLiterals.{has, is_ranged, members, are_in, are_out, are_ranged, outside, differs, wider, struck, attacked}
 use Rattle.oracle_face.specs.Logs.{OracleLog, SideClause, IsNumberOf, IsSameClause, side_at}
 use Rattle.oracle_face.specs.Goals.{AreGoals, AsksSide, IsClaimSide, IsGoal, IsMode, IsOneSided, IsSide, IsWithinClaim, MakesTrue, SpeaksOf, Tells}
@@ -224,6 +226,18 @@ outside_form f e l c =
     let m = in_form (filter (λ x. not (has e x)) (members f)) l c in
     let k = (Contains-filter (λ x. not (has e x)) (members f) m.0).0 m.1 in
     (m.0, k.0, (λ h. lacks_not (has e m.0) (has_from e m.0 h) k.1), m.2)
+
+-- a member of the framework that is none of the set stands there
+pub in_outside : (f : Framework) (e : List ℕ) (x : ℕ) → Contains (members f) x → (Contains e x → ⊥)
+    → Contains (outside f e) (affirmed (Member x))
+in_outside f e x live out =
+    Contains-mapped (λ a. affirmed (Member a)) (filter (λ y. not (has e y)) (members f)) x
+    ((Contains-filter (λ y. not (has e y)) (members f) x).1
+    (live, not_from_false (has e x) (false_from_ne_true (has e x) (λ h. out (has_gives e x h)))))
+
+-- a literal of membership has one number
+pub member_of : (a x : ℕ) → affirmed (Member a) ≡ affirmed (Member x) → a ≡ x
+member_of a x e = ap (λ (l : AtomLit). slice_index_or (numbers_of l.atom) 0 0) e
 
 pub wider_form : (f : Framework) (e : List ℕ) (l : AtomLit) → Contains (wider f e) l
     → (a : ℕ) × Contains (members f) a × (is_ranged f e a ≡ true → ⊥) × (affirmed (Range a) ≡ l)

@@ -1,5 +1,5 @@
 -- The goals of the loops: a mode, members and what are none, what is in the range, and side clauses.
-use Rattle.std.specs.Prelude.{ℕ, Bool, true, false, List, ◌∷◌, ◌++◌, map, Contains}
+use Rattle.std.specs.Prelude.{◌≡◌, ℕ, ◌<◌, Bool, true, false, List, ◌∷◌, ◌++◌, length, map, Contains, slice_index_or}
 use Rattle.meaning_atoms.specs.declared.atom.Atom.{Atom}
 use Rattle.meaning_atoms.specs.declared.atom.Atom.TheVariants.{Member, Range, Cf, Ad, Co, St, Ask}
 use Rattle.meaning_atoms.specs.declared.atom.AtomLit.{AtomLit}
@@ -26,3 +26,7 @@ IsPlaced ins outs ranged asks Ad true = Unit {0}
 IsPlaced ins outs ranged asks Co true = Unit {0}
 IsPlaced ins outs ranged asks St true = Unit {0}
 IsPlaced ins outs ranged asks _ _ = ⊥
+
+-- no number stands twice
+pub record AreApart (asks : List ℕ) : Type 0 where
+  pub apart : (i j : ℕ) → i < j → j < length asks → slice_index_or asks i 0 ≡ slice_index_or asks j 0 → ⊥

@@ -1,2 +1,3 @@
+pub mod AllSets
 pub mod Asking
 pub mod Words
