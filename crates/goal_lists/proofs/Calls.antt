@@ -1,7 +1,8 @@
 -- What two calls of an oracle leave, and what a search for goals about sets finds.
 use Rattle.std.proofs.Common.{◌≡◌, inl, inr, ⊎_elim, ℕ, ◌+◌, ◌*◌, ◌<◌, ◌≤◌, Bool, true, false, not, List, [], ◌∷◌, ◌++◌, length, map, filter, refl, ap, sym, subst, ◌∙◌, eqb, arith}
 use Rattle.std.specs.Prelude.{Contains, slice_index_or, get_or, Option, None, Some, Result, Ok, Err, IfOk}
-use Rattle.std.proofs.lemmas.Bool.{cases_lt, eqb-true, ne_eqb}
+use Rattle.std.proofs.lemmas.Bool.{cases_lt, eqb-true, false≢true, ne_eqb}
+use Rattle.std.specs.Result.{IsErr, IsErrAnd}
 use Rattle.std.proofs.lemmas.List.{get_or_append_left, get_or_default, get_or_push, length-append}
 use Rattle.std.proofs.lemmas.Map.Keys.{IsDistinct-from_apart}
 use Rattle.std.proofs.lemmas.Map.Steps.{length-le_from_distinct_below}
@@ -119,3 +120,11 @@ found_ranged f log mode ins outs ranged asks set makes a c =
 -- an admissible set has members of the framework alone
 pub admissible_members : (f : Framework) (set : List ℕ) → HoldsOf f set Ad → IsWithin set (members f)
 admissible_members (af f) set h = h.conflict_free.live
+
+-- ---- errors
+
+-- what a halt that is handed on says
+pub handed_on : {T : Type 0} (P : Option Halt → Type 0) (r : Result T Halt) (halt : Halt)
+    → IsErr r × IsErrAnd r (λ x. x ≡ halt) → P (Some halt) → P (halt_of r)
+handed_on P (Ok x) halt is holds = absurd (false≢true is.0)
+handed_on P (Err x) halt is holds = subst (λ y. P (Some y)) (sym is.1) holds
