@@ -1,0 +1,128 @@
+//! Whether all preferred sets accept an argument.
+
+ghost use Rattle.std.specs.Prelude.{◌≡◌, ◌+◌, ◌*◌, length, Contains, IfOk};
+ghost use Rattle.meaning_atoms.specs.declared.atom.Atom.TheVariants.{Ad};
+ghost use Rattle.meaning_atoms.specs.Worlds.{HoldsOf};
+ghost use Rattle.certificate_claims.specs.Rights.{Accepts};
+ghost use Rattle.certificate_claims.specs.SetLiterals.{members};
+ghost use Rattle.oracle_face.specs.Logs.{IsKept};
+ghost use Rattle.oracle_face.specs.Growing.{HasRun, closes, halt_of};
+ghost use Rattle.cegar_preferred.specs.Covers.{Extends, IsAccepting, IsCover, IsUncovered};
+ghost use Rattle.cegar_preferred.specs.Largest.{MadeOutside};
+
+use crate::maximal::{Maximal, maximal_from};
+use goal_lists::{Wanted, goals_for, outside};
+use meaning_atoms::Atom;
+use oracle_face::{AskId, Budget, Found, Halt, Oracle, StepId};
+use plain_lists::Items;
+use set_lists::NumSet;
+use std::alloc::Global;
+
+/// What came of asking whether all preferred sets accept an argument.
+#[derive(Debug, Drop)]
+pub enum Accepting {
+    /// A preferred set that doesn't.
+    Counter(Maximal),
+    /// Admissible sets that accept it, in one of which each admissible set lies that doesn't, and the log step that shows
+    /// so: all preferred sets accept the argument.
+    Cover(Items<NumSet>, StepId),
+}
+
+/// Sets of a cover, and the side clauses that something lies outside each.
+#[derive(Debug, Drop)]
+struct Cover {
+    sets: Items<NumSet>,
+    asks: Items<AskId>,
+}
+
+/// Whether all preferred sets accept an argument. Where k preferred sets are found, it asks k + 1 times for a set that the
+/// cover lacks, besides what it asks to find them.
+pub fn accept_all<O: Oracle>(
+    alloc: Global,
+    oracle: &mut O,
+    budget: &mut Budget,
+    goal: u32,
+) -> Result<Accepting, Halt>
+    requires { Contains (members (O.framework oracle.old)) goal }
+    ensures accepting { IfOk result (IsAccepting (O.framework oracle.old) (O.log oracle.new) goal) }
+    ensures run { HasRun (MadeOutside (O.framework oracle.old)) (2 * length (O.log oracle.new).sides + 2)
+        (O.framework oracle.old) (O.log oracle.old) (O.log oracle.new) (O.pending oracle.new) budget.old budget.new
+        (halt_of result) }
+    ensures framework { O.framework oracle.new ≡ O.framework oracle.old }
+    ensures kept { IsKept (O.framework oracle.new) (O.log oracle.new) }
+    ensures follows { O.follows oracle.old oracle.new }
+{
+    let _members = oracle.members();
+    let mut cover = Cover {
+        sets: Items::new(alloc),
+        asks: Items::new(alloc),
+    };
+    loop {
+        match uncovered(alloc, oracle, budget, goal, &cover)? {
+            Found::Refuted(step) => return Ok(Accepting::Cover(cover.sets, step)),
+            Found::Set(set) => match extend(alloc, oracle, budget, goal, &mut cover, &set)? {
+                Some(counter) => return Ok(Accepting::Counter(counter)),
+                None => {}
+            },
+        }
+    }
+}
+
+/// An admissible set that doesn't accept the argument and lies in no set of the cover, or the step that shows that there
+/// is none.
+fn uncovered<O: Oracle>(
+    alloc: Global,
+    oracle: &mut O,
+    budget: &mut Budget,
+    goal: u32,
+    cover: &Cover,
+) -> Result<Found, Halt>
+    requires goal { Contains (members (O.framework oracle.old)) goal }
+    requires cover { IsCover (O.framework oracle.old) (O.log oracle.old) goal cover.now }
+    ensures uncovered { IfOk result (IsUncovered (O.framework oracle.old) (O.log oracle.new) goal cover.now) }
+    ensures run { HasRun (MadeOutside (O.framework oracle.old)) (closes result) (O.framework oracle.old)
+        (O.log oracle.old) (O.log oracle.new) (O.pending oracle.new) budget.old budget.new (halt_of result) }
+    ensures framework { O.framework oracle.new ≡ O.framework oracle.old }
+    ensures kept { IsKept (O.framework oracle.new) (O.log oracle.new) }
+    ensures follows { O.follows oracle.old oracle.new }
+{
+    let _members = oracle.members();
+    let wanted = Wanted {
+        ins: &[],
+        outs: &[goal],
+        ranged: &[],
+        asks: cover.asks.as_slice(),
+    };
+    let goals = goals_for(alloc, Atom::Ad, &wanted)?;
+    oracle.find(alloc, &goals, budget)
+}
+
+/// Takes a preferred set that holds the found one into the cover, or gives it back where it doesn't accept the argument.
+fn extend<O: Oracle>(
+    alloc: Global,
+    oracle: &mut O,
+    budget: &mut Budget,
+    goal: u32,
+    cover: &mut Cover,
+    set: &NumSet,
+) -> Result<Option<Maximal>, Halt>
+    requires cover { IsCover (O.framework oracle.old) (O.log oracle.old) goal cover.old }
+    requires set { IsUncovered (O.framework oracle.old) (O.log oracle.old) goal cover.old (Found.Set set.now) }
+    ensures extends { IfOk result (Extends (O.framework oracle.old) (O.log oracle.new) goal cover.old cover.new) }
+    ensures run { HasRun (MadeOutside (O.framework oracle.old)) 1 (O.framework oracle.old) (O.log oracle.old)
+        (O.log oracle.new) (O.pending oracle.new) budget.old budget.new (halt_of result) }
+    ensures framework { O.framework oracle.new ≡ O.framework oracle.old }
+    ensures kept { IsKept (O.framework oracle.new) (O.log oracle.new) }
+    ensures follows { O.follows oracle.old oracle.new }
+{
+    let maximal = maximal_from(alloc, oracle, budget, set)?;
+    let accepts = oracle.accepts(alloc, goal, &maximal.set)?;
+    if !accepts {
+        return Ok(Some(maximal));
+    }
+    let side = outside(alloc, oracle.members(), &maximal.set)?;
+    let ask = oracle.oblige(alloc, &side, &maximal.set, budget)?;
+    cover.asks.push(ask)?;
+    cover.sets.push(maximal.set)?;
+    Ok(None)
+}

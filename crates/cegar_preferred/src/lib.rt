@@ -1,0 +1,9 @@
+//! Preferred sets by an oracle: sets that lie in no larger admissible one, and whether all preferred sets accept an
+//! argument.
+#![tactic(auto)]
+
+mod accepting;
+mod maximal;
+
+pub use accepting::{Accepting, accept_all};
+pub use maximal::{Maximal, maximal_from};
