@@ -1,4 +1,4 @@
-use Rattle.std.proofs.Common.{◌+◌, ◌<◌, length, arith, ap, ◌∙◌}
+use Rattle.std.proofs.Common.{◌+◌, length, arith, ap, ◌∙◌}
 use Rattle.std.proofs.lemmas.List.{length_push}
 use Rattle.attack_index.proofs.OffsetLemmas.{neighbours_rise, counts_more, counts_all}
 use Rattle.attack_index.proofs.index.counts_in.Goals as goal

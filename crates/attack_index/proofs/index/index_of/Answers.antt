@@ -1,4 +1,4 @@
-use Rattle.std.proofs.Common.{◌≡◌, ◌+◌, ◌-◌, ◌<◌, ℕ, length, arith, sym, subst}
+use Rattle.std.proofs.Common.{◌≡◌, ◌-◌, length, arith, subst}
 use Rattle.attack_index.specs.Offsets.{AreBelow}
 use Rattle.attack_index.proofs.index.index_of.Goals as goal
 

@@ -1,4 +1,4 @@
-use Rattle.std.proofs.Common.{◌+◌, ◌<◌, length, arith}
+use Rattle.std.proofs.Common.{arith}
 use Rattle.attack_index.proofs.OffsetLemmas.{cut_at, offsets_rise, none_past}
 use Rattle.attack_index.proofs.index.pairs_from.Goals as goal
 
