@@ -54,6 +54,11 @@ abbrev pub IsFound : Framework → OracleLog → List AtomLit → Found → Type
 IsFound f log goals (Set set) = MakesTrue f log goals set
 IsFound f log goals (Refuted step) = RefutesGoals f log goals step
 
+-- how many steps a search logs that only end it: one where the goals are refuted, and else none
+abbrev pub closes : Result Found Halt → ℕ
+closes (Ok (Refuted step)) = 1
+closes _ = 0
+
 -- the log has the side clause under this number: it was there, or it is new and made from the set
 pub record Obliges (side : List AtomLit) (old new : OracleLog) (number : ℕ) : Type 0 where
   pub named : IsNumberOf new.sides number

@@ -6,7 +6,7 @@ ghost use Rattle.certificate_claims.specs.Rights.{Accepts};
 ghost use Rattle.certificate_claims.specs.SetLiterals.{members};
 ghost use Rattle.oracle_face.specs.Logs.{IsKept};
 ghost use Rattle.oracle_face.specs.Goals.{AreGoals, IsSide};
-ghost use Rattle.oracle_face.specs.Growing.{HasRun, IsFound, NoSide, Obliges, OnlySide, halt_of};
+ghost use Rattle.oracle_face.specs.Growing.{HasRun, IsFound, NoSide, Obliges, OnlySide, closes, halt_of};
 ghost use Rattle.oracle_face.specs.Kinds.{IsRanged, is_assumption_based};
 
 use crate::face::{AskId, Found};
@@ -45,13 +45,13 @@ pub trait Oracle {
         ensures { result ≡ is_assumption_based (framework self.now) };
 
     /// A set that makes each goal true, or a step of the log that refutes the goals: each of its literals is false by the
-    /// facts or by a goal, and it reaches no side clause but those that are among the goals. At most one step is logged
-    /// that only ends the search; every other step that is one's own takes a unit of the budget. After `Memory` the log
+    /// facts or by a goal, and it reaches no side clause but those that are among the goals. Where they are refuted, one step at
+    /// most is logged that only ends the search; every other step that is one's own takes a unit of the budget. After `Memory` the log
     /// may be longer by steps that no budget counts.
     fn find(&mut self, alloc: Global, goals: &[AtomLit], budget: &mut Budget) -> Result<Found, Halt>
         requires { AreGoals (framework self.old) (log self.old).sides goals.now }
         ensures found { IfOk result (IsFound (framework self.old) (log self.new) goals.now) }
-        ensures run { HasRun NoSide 1 (framework self.old) (log self.old) (log self.new) (pending self.new)
+        ensures run { HasRun NoSide (closes result) (framework self.old) (log self.old) (log self.new) (pending self.new)
             budget.old budget.new (halt_of result) }
         ensures framework { framework self.new ≡ framework self.old }
         ensures kept { IsKept (framework self.new) (log self.new) }

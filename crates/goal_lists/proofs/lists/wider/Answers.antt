@@ -1,0 +1,9 @@
+use Rattle.std.proofs.Common.{◌∙◌, ap, not, filter}
+use Rattle.certificate_claims.specs.SetLiterals.{are_ranged, has}
+use Rattle.goal_lists.proofs.Lacking.{lacks_range}
+use Rattle.goal_lists.proofs.lists.wider.Goals as goal
+
+pub returns : goal.returns
+returns c f set same range =
+    c.in_ok-clause.ensures ∙ (ap (λ xs. are_ranged (filter (λ x. not (has c.args.range.now x)) xs)) same
+    ∙ lacks_range f set c.args.range.now range)
