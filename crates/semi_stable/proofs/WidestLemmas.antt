@@ -1,31 +1,31 @@
 -- Wider ranges, in clauses and in lists.
-use Rattle.std.proofs.Common.{◌≡◌, ◌↔◌, inl, inr, ⊎_elim, ℕ, ◌+◌, ◌-◌, ◌<◌, ◌≤◌, Bool, true, false, not, List, [], ◌∷◌, ◌++◌, length, refl, ap, sym, subst, ◌∙◌, arith, tt}
-use Rattle.std.specs.Prelude.{Contains, filter, map, count_by, Option, None, Some, Ok, Err, Result}
-use Rattle.std.proofs.lemmas.Bool.{cases_Bool}
+use Rattle.std.proofs.Common.{◌≡◌, inl, inr, ⊎_elim, ℕ, ◌<◌, ◌≤◌, Bool, true, false, not, List, [], ◌∷◌, ◌++◌, refl, ap, sym, subst, ◌∙◌, arith, cond}
+use Rattle.std.specs.Prelude.{◌⊎◌, Contains, filter, count_by, Result, Ok, Err, IsErr}
+use Rattle.std.specs.Result.{IsErrAnd}
+use Rattle.plain_lits.specs.declared.halt.Halt.{Halt}
+use Rattle.std.proofs.lemmas.Bool.{cases_Bool, false≢true}
 use Rattle.std.proofs.lemmas.List.Elements.{Contains-append_cases, Contains-append_left, Contains-append_right}
 use Rattle.plain_lists.specs.Members.{IsSetOf, IsWithin}
+use Rattle.plain_lists.proofs.Counts.{count_by-cons, count_yes, count_no}
 use Rattle.plain_lists.proofs.Filters.{Contains-filter}
 use Rattle.plain_lists.proofs.Membership.{Contains-nil, Contains-head, Contains-tail, Contains-cons_cases}
 use Rattle.plain_lits.proofs.HintCheckLemmas.{Contains-mapped, Contains-from_mapped}
-use Rattle.plain_lits.specs.HintCheck.{IsTautology}
 use Rattle.semantics.specs.Arguments.{IsArgument}
-use Rattle.semantics.specs.Framework.{Af, IsInRange, IsConflictFree}
-use Rattle.semantics.specs.Frameworks.{Framework, af, IsNumbered, IsNumberedAf}
+use Rattle.semantics.specs.Frameworks.{Framework, af, IsNumbered}
 use Rattle.meaning_atoms.specs.declared.atom.Atom.{Atom}
 use Rattle.meaning_atoms.specs.declared.atom.Atom.TheVariants.{Member, Live, Attack, Gap, Tail, Unmet, Cf, Ad, Co, St, Range, Ask}
 use Rattle.meaning_atoms.specs.declared.atom.AtomLit.{AtomLit}
 use Rattle.meaning_atoms.specs.Literals.{affirmed, negated, AsksNothing}
 use Rattle.meaning_atoms.specs.Worlds.{HoldsOf, HoldsLit, IsAsk, IsSideTrue, IsTrueAlone, Says, world_of}
-use Rattle.certificate_claims.specs.Claims.{claim_of}
 use Rattle.certificate_claims.specs.SetLiterals.{are_ranged, is_ranged, members, range_of, wider}
 use Rattle.certificate_claims.proofs.SetTests.{ranged_gives, ranged_from}
 use Rattle.certificate_claims.proofs.RangeLists.{range_is}
-use Rattle.oracle_face.specs.Goals.{AreGoals, AsksSide, IsClaimSide, IsGoal, IsMode, IsOneSided, IsSide, IsWithinClaim, MakesTrue, Refutes, RefutesGoals, SpeaksOf, Tells}
-use Rattle.oracle_face.specs.Growing.{Making, NoSide, Obliges, OnlySide}
+use Rattle.oracle_face.specs.Goals.{AreGoals, AsksSide, IsGoal, IsMode, IsSide, MakesTrue, Refutes, RefutesGoals, Tells}
+use Rattle.oracle_face.specs.Growing.{Grows, Making, NoSide, Obliges, OnlySide}
 use Rattle.oracle_face.proofs.GrowingLemmas.{Makes}
 use Rattle.oracle_face.specs.Kinds.{IsRanged}
 use Rattle.oracle_face.specs.Logs.{IsNumberOf, IsSameClause, OracleLog, SideClause, literals_of, side_at}
-use Rattle.oracle_face.proofs.Refuting.{refutes_claim}
+use Rattle.oracle_face.proofs.Refuting.{grown_side, number_grown, refutes_claim}
 use Rattle.oracle_face.proofs.StepTruth.{side_literals}
 use Rattle.semi_stable.specs.Widest.{HasWiderRange, IsRangeIn, WiderSide, wider_claim}
 
@@ -50,6 +50,13 @@ mode_within (af f) s (Ask _) is h = elim is [ ]
 pub range_list : (f : Framework) (s r : List ℕ) → IsNumbered f → IsWithin s (members f) → IsSetOf (IsRanged f s) r
     → r ≡ range_of f s
 range_list (af f) s r ok live is = range_is f s r ok live is
+
+pub range_within : (f : Framework) (s r : List ℕ) → IsNumbered f → IsWithin s (members f) → IsSetOf (IsRanged f s) r
+    → IsWithin r (members f)
+range_within f s r ok live is a c =
+    let there : Contains (range_of f s) a =
+    subst (λ (xs : List ℕ). Contains xs a) (range_list f s r ok live is) c in
+    ((Contains-filter (is_ranged f s) (members f) a).0 there).0
 
 -- ---- what is asked
 
@@ -127,10 +134,12 @@ wider_goals_ok f sides mode e r n is ask within = record {
       (λ more. ⊎_elim
       (λ ranged. subst (λ (k : AtomLit). IsGoal f sides k.atom k.positive) ranged.2 (within ranged.0 ranged.1))
       (λ (last : affirmed (Ask n) ≡ l).
-      subst (λ (k : AtomLit). IsGoal f sides k.atom k.positive) last
-      (ask.named, λ k d.
-      let t = wider_tells f e k (ask.same.there k d) in
-      subst (λ (m : AtomLit). Tells (Contains (members f)) m.atom m.positive) t.2 t.1))
+      subst (λ (k : AtomLit). IsGoal f sides k.atom k.positive) last (
+        ask.named,
+        λ k d.
+            let t = wider_tells f e k (ask.same.there k d) in
+            subst (λ (m : AtomLit). Tells (Contains (members f)) m.atom m.positive) t.2 t.1,
+      ))
       more)
       (goals_affirm mode r n l c);
   moded = (mode, is, Contains-head (affirmed mode) (are_ranged r ++ affirmed (Ask n) ∷ []) (affirmed mode) refl);
@@ -157,6 +166,9 @@ mode_holds f s sides (Ask _) is h = elim is [ ]
 range_holds : (f : Framework) (s : List ℕ) (x : ℕ) → HoldsOf f s (Range x) → IsRanged f s x
 range_holds (af f) s x h = h
 
+range_test : (f : Framework) (s : List ℕ) (x : ℕ) → is_ranged f s x ≡ true → IsRanged f s x
+range_test (af f) s x e = ranged_gives f s x e
+
 ranged_test : (f : Framework) (s : List ℕ) (x : ℕ) → IsRanged f s x → is_ranged f s x ≡ true
 ranged_test (af f) s x h = ranged_from f s x h
 
@@ -180,10 +192,11 @@ widened f log mode e r next n is range ask makes =
     side.true_there in
     let m = Contains-from_mapped (λ a. affirmed (Range a)) (filter (λ x. not (is_ranged f e x)) (members f)) told.literal
     (ask.same.there told.literal told.member) in
-    let out = ((Contains-filter (λ x. not (is_ranged f e x)) (members f) m.0).0 m.1).1 in
+    let both = (Contains-filter (λ x. not (is_ranged f e x)) (members f) m.0).0 m.1 in
+    let listed = both.0 in
+    let out = both.1 in
     let more : HoldsOf f next (Range m.0) =
-    subst (λ (l : AtomLit). Says l.positive (HoldsOf f next l.atom)) (sym m.2) told.says in
-    (
+    subst (λ (l : AtomLit). Says l.positive (HoldsOf f next l.atom)) (sym m.2) told.says in (
       mode_holds f next sides mode is
           (makes (affirmed mode)
           (Contains-head (affirmed mode) (are_ranged r ++ affirmed (Ask n) ∷ []) (affirmed mode) refl)),
@@ -193,7 +206,7 @@ widened f log mode e r next n is range ask makes =
             (Contains-tail (affirmed mode) (are_ranged r ++ affirmed (Ask n) ∷ []) (affirmed (Range a))
             (Contains-append_left (are_ranged r) (affirmed (Ask n) ∷ []) (affirmed (Range a))
             (Contains-mapped (λ b. affirmed (Range b)) r a ((range.members a).1 h)))));
-        further = (m.0, range_holds f next m.0 more, not_ranged f e m.0 out);
+        further = (m.0, listed, range_holds f next m.0 more, not_ranged f e m.0 out);
       },
     )
 
@@ -265,3 +278,100 @@ makes_wider f mode e side h same literals set made = (
 
 pub makes_none : (P : Making) → Makes NoSide P
 makes_none P literals set made = absurd made
+
+-- ---- while the log grows
+
+pub ask_grown : (f : Framework) (P : Making) (old new : OracleLog) (e : List ℕ) (n : ℕ) → Grows P old new
+    → IsWiderAsk f old.sides e n → IsWiderAsk f new.sides e n
+ask_grown f P old new e n grows ask = record {
+  named = number_grown old.sides new.sides grows.more_sides.0 n grows.more_sides.1 ask.named;
+  same = subst (λ (side : SideClause). IsSameClause side.literals (wider f e))
+      (sym (grown_side P old new grows n ask.named)) ask.same;
+}
+
+-- what a look is about: the set, its range, and the side clause under its number
+pub record IsLook (f : Framework) (mode : Atom) (e r : List ℕ) (sides : List SideClause) (n : ℕ) (goals : List AtomLit)
+    : Type 0 where
+  pub numbered : IsNumbered f
+  pub mode_is : IsMode mode
+  pub holds : HoldsOf f e mode
+  pub range : IsSetOf (IsRanged f e) r
+  pub ask : IsWiderAsk f sides e n
+  pub asked : goals ≡ affirmed mode ∷ are_ranged r ++ affirmed (Ask n) ∷ []
+
+pub look_goals : (f : Framework) (mode : Atom) (e r : List ℕ) (sides : List SideClause) (n : ℕ) (goals : List AtomLit)
+    → IsLook f mode e r sides n goals → AreGoals f sides goals
+look_goals f mode e r sides n goals look =
+    subst (λ (list : List AtomLit). AreGoals f sides list) (sym look.asked)
+    (wider_goals_ok f sides mode e r n look.mode_is look.ask
+    (range_within f e r look.numbered (mode_within f e mode look.mode_is look.holds) look.range))
+
+pub look_wider : (f : Framework) (P : Making) (old new : OracleLog) (mode : Atom) (e r next : List ℕ) (n : ℕ)
+    (goals : List AtomLit) → IsLook f mode e r old.sides n goals → Grows P old new → MakesTrue f new goals next
+    → HoldsOf f next mode × HasWiderRange f e next
+look_wider f P old new mode e r next n goals look grows makes =
+    widened f new mode e r next n look.mode_is look.range (ask_grown f P old new e n grows look.ask)
+    (subst (λ (list : List AtomLit). MakesTrue f new list next) look.asked makes)
+
+pub look_refuted : (f : Framework) (P : Making) (old new : OracleLog) (mode : Atom) (e r : List ℕ) (n step : ℕ)
+    (goals : List AtomLit) → IsLook f mode e r old.sides n goals → Grows P old new → RefutesGoals f new goals step
+    → Refutes f new (wider_claim f mode e) step
+look_refuted f P old new mode e r n step goals look grows refuted =
+    none_wider f new mode e r n step look.mode_is
+    (range_list f e r look.numbered (mode_within f e mode look.mode_is look.holds) look.range)
+    (ask_grown f P old new e n grows look.ask)
+    (subst (λ (list : List AtomLit). RefutesGoals f new list step) look.asked refuted)
+
+-- an error that is handed on
+pub handed_on : {X : Type 0} (P : Result X Halt → Type 0) (r : Result X Halt) (halt : Halt)
+    → IsErr r × IsErrAnd r (λ x. x ≡ halt) → P (Err halt) → P r
+handed_on P (Ok x) halt is holds = absurd (false≢true is.0)
+handed_on P (Err x) halt is holds = subst (λ y. P (Err y)) (sym is.1) holds
+
+-- ---- how many numbers are in no range
+
+abbrev pub open_count : Framework → List ℕ → ℕ
+open_count f s = count_by (λ x. not (is_ranged f s x)) (members f)
+
+one_le : (b c : Bool) → (c ≡ true → b ≡ true) → cond c 1 0 ≤ cond b 1 0
+one_le true true h = omega arith
+one_le true false h = omega arith
+one_le false true h = absurd (false≢true (h refl))
+one_le false false h = omega arith
+
+count_le : (p q : ℕ → Bool) (xs : List ℕ) → ((x : ℕ) → q x ≡ true → p x ≡ true) → count_by q xs ≤ count_by p xs
+count_le p q [] h = omega arith
+count_le p q (x ∷ xs) h =
+    omega (arith, one_le (p x) (q x) (h x), count_le p q xs h, count_by-cons p x xs, count_by-cons q x xs)
+
+count_lt : (p q : ℕ → Bool) (xs : List ℕ) (a : ℕ) → ((x : ℕ) → q x ≡ true → p x ≡ true) → Contains xs a
+    → p a ≡ true → q a ≡ false → count_by q xs < count_by p xs
+count_lt p q [] a h c passes fails = absurd (Contains-nil a c)
+count_lt p q (x ∷ xs) a h c passes fails = ⊎_elim
+    (λ (e : x ≡ a).
+    omega (arith, count_yes p x xs (ap p e ∙ passes), count_no q x xs (ap q e ∙ fails), count_le p q xs h))
+    (λ later.
+    omega (
+      arith,
+      one_le (p x) (q x) (h x),
+      count_lt p q xs a h later passes fails,
+      count_by-cons p x xs,
+      count_by-cons q x xs,
+    ))
+    (Contains-cons_cases x xs a c)
+
+open_still : (f : Framework) (s t : List ℕ) → IsRangeIn f s t → (x : ℕ) → not (is_ranged f t x) ≡ true
+    → not (is_ranged f s x) ≡ true
+open_still f s t all x out = ⊎_elim
+    (λ (e : is_ranged f s x ≡ true). absurd (not_ranged f t x out (all x (range_test f s x e))))
+    (λ (e : is_ranged f s x ≡ false). ap not e)
+    (cases_Bool (is_ranged f s x))
+
+-- a wider range leaves fewer out
+pub fewer_open : (f : Framework) (s t : List ℕ) → HasWiderRange f s t → open_count f t < open_count f s
+fewer_open f s t h =
+    let w = h.further in
+    count_lt (λ x. not (is_ranged f s x)) (λ x. not (is_ranged f t x)) (members f) w.0 (open_still f s t h.all) w.1
+    (⊎_elim (λ (e : is_ranged f s w.0 ≡ true). absurd (w.3 (range_test f s w.0 e)))
+    (λ (e : is_ranged f s w.0 ≡ false). ap not e) (cases_Bool (is_ranged f s w.0)))
+    (ap not (ranged_test f t w.0 w.2))

@@ -7,12 +7,11 @@ use Rattle.plain_lits.specs.declared.halt.Halt.{Halt}
 use Rattle.plain_lists.specs.Members.{IsSetOf}
 use Rattle.semantics.specs.Frameworks.{Framework}
 use Rattle.meaning_atoms.specs.declared.atom.Atom.{Atom}
-use Rattle.meaning_atoms.specs.declared.atom.AtomLit.{AtomLit}
 use Rattle.meaning_atoms.specs.Literals.{affirmed}
 use Rattle.meaning_atoms.specs.Worlds.{HoldsOf}
 use Rattle.certificate_claims.specs.Claims.{claim_of}
 use Rattle.certificate_claims.specs.Refutations.{Claim}
-use Rattle.certificate_claims.specs.SetLiterals.{are_ranged, range_of, wider}
+use Rattle.certificate_claims.specs.SetLiterals.{are_ranged, members, range_of, wider}
 use Rattle.oracle_face.specs.Goals.{Refutes}
 use Rattle.oracle_face.specs.Growing.{Making}
 use Rattle.oracle_face.specs.Kinds.{IsRanged}
@@ -36,7 +35,7 @@ IsRangeIn f less more = (a : ℕ) → IsRanged f less a → IsRanged f more a
 -- and the other's has something more
 pub record HasWiderRange (f : Framework) (less more : List ℕ) : Type 0 where
   pub all : IsRangeIn f less more
-  pub further : (a : ℕ) × IsRanged f more a × ¬ IsRanged f less a
+  pub further : (a : ℕ) × Contains (members f) a × IsRanged f more a × ¬ IsRanged f less a
 
 -- a look for a wider range gave a set of the mode that has one, or the step that refutes that there is one
 abbrev pub Widens : Framework → OracleLog → Atom → List ℕ → Widening → Type 0

@@ -121,14 +121,14 @@ pub fn widest_from<O: Oracle>(
     ensures follows { O.follows oracle.old oracle.new }
 {
     let _members = oracle.members();
-    let mut set = set.copy(alloc)?;
+    let mut grown = set.copy(alloc)?;
     loop {
-        let range = oracle.range(alloc, &set)?;
-        match widen(alloc, oracle, mode, &set, &range, budget)? {
-            Widening::Wider(next) => set = next,
+        let range = oracle.range(alloc, &grown)?;
+        match widen(alloc, oracle, mode, &grown, &range, budget)? {
+            Widening::Wider(next) => grown = next,
             Widening::Widest(refutation) => {
                 return Ok(Widest {
-                    set,
+                    set: grown,
                     range,
                     refutation,
                 });

@@ -5,5 +5,6 @@ use Rattle.goal_lists.proofs.lists.wider.Goals as goal
 
 pub returns : goal.returns
 returns c f set same range =
-    c.in_ok-clause.ensures ∙ (ap (λ xs. are_ranged (filter (λ x. not (has c.args.range.now x)) xs)) same
+    c.in_ok-clause.ensures
+    ∙ (ap (λ xs. are_ranged (filter (λ x. not (has c.args.range.now x)) xs)) (c.as_slice.ensures.value ∙ same)
     ∙ lacks_range f set c.args.range.now range)
