@@ -1,1 +1,4 @@
+pub mod AskedGoals
+pub mod Calls
 pub mod Lacking
+pub mod Measures

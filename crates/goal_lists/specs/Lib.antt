@@ -1,1 +1,3 @@
+pub mod AllSets
+pub mod Asking
 pub mod Words

@@ -1,6 +1,8 @@
 //! Goals and side clauses about sets, as lists of literals, for the loops over an oracle.
 #![tactic(auto)]
 
+mod goals;
 mod lists;
 
+pub use goals::{Wanted, goals_for};
 pub use lists::{affirmed, attacked, differs, outside, push_in, push_out, push_ranged, wider};

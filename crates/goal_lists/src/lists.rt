@@ -92,7 +92,12 @@ fn lacks(set: &NumSet, number: u32) -> bool
 }
 
 /// Adds the literal that says so of a number, if it is no member.
-fn push_if_lacking(clause: &mut Vec<AtomLit>, word: Word, set: &NumSet, number: u32) -> Result<(), Memory>
+fn push_if_lacking(
+    clause: &mut Vec<AtomLit>,
+    word: Word,
+    set: &NumSet,
+    number: u32,
+) -> Result<(), Memory>
     ensures { OnOk result (clause.new.items
         ≡ clause.old.items ++ map (literal_of word) (filter (λ x. not (has set.now x)) (number ∷ []))) }
 {

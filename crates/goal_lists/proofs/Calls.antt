@@ -1,0 +1,121 @@
+-- What two calls of an oracle leave, and what a search for goals about sets finds.
+use Rattle.std.proofs.Common.{◌≡◌, inl, inr, ⊎_elim, ℕ, ◌+◌, ◌*◌, ◌<◌, ◌≤◌, Bool, true, false, not, List, [], ◌∷◌, ◌++◌, length, map, filter, refl, ap, sym, subst, ◌∙◌, eqb, arith}
+use Rattle.std.specs.Prelude.{Contains, slice_index_or, get_or, Option, None, Some, Result, Ok, Err, IfOk}
+use Rattle.std.proofs.lemmas.Bool.{cases_lt, eqb-true, ne_eqb}
+use Rattle.std.proofs.lemmas.List.{get_or_append_left, get_or_default, get_or_push, length-append}
+use Rattle.std.proofs.lemmas.Map.Keys.{IsDistinct-from_apart}
+use Rattle.std.proofs.lemmas.Map.Steps.{length-le_from_distinct_below}
+use Rattle.plain_lists.specs.Members.{IsWithin}
+use Rattle.plain_lists.proofs.ListTests.{any_gives}
+use Rattle.plain_lits.specs.declared.halt.Halt.{Halt}
+use Rattle.plain_lits.specs.declared.halt.Halt.TheVariants.{Memory}
+use Rattle.plain_lits.specs.Units.{Units}
+use Rattle.semantics.specs.Framework.{Af, IsInRange}
+use Rattle.semantics.specs.Frameworks.{Framework, af}
+use Rattle.meaning_atoms.specs.declared.atom.Atom.{Atom}
+use Rattle.meaning_atoms.specs.declared.atom.Atom.TheVariants.{Member, Range, Ad, Cf, Co, St}
+use Rattle.meaning_atoms.specs.declared.atom.AtomLit.{AtomLit}
+use Rattle.meaning_atoms.specs.Literals.{affirmed, denied}
+use Rattle.meaning_atoms.specs.Worlds.{world_of, Holds, HoldsOf, Says}
+use Rattle.certificate_claims.specs.SetLiterals.{members}
+use Rattle.oracle_face.specs.declared.face.Found.{Found}
+use Rattle.oracle_face.specs.declared.face.Pending.{Pending}
+use Rattle.oracle_face.specs.Goals.{IsMode, MakesTrue}
+use Rattle.oracle_face.specs.Growing.{Making, NoSide, OnlySide, HasRun, closes, halt_of}
+use Rattle.oracle_face.specs.Logs.{OracleLog, SideClause, IsNumberOf, literals_of}
+use Rattle.oracle_face.proofs.GrowingLemmas.{Makes, run_as, run_joined, run_refused}
+use Rattle.goal_lists.specs.Asking.{AreApart, goals_of}
+use Rattle.goal_lists.proofs.AskedGoals.{mode_there, in_there, out_there, ranged_there}
+
+-- ---- what calls leave
+
+pub makes_none : (P : Making) → Makes NoSide P
+makes_none P literals set h = absurd h
+
+pub makes_same : (P : Making) → Makes P P
+makes_same P literals set h = h
+
+-- a side clause was kept, and then a search was made
+pub obliged_found : (P : Making) (f g : Framework) (a b c : OracleLog) (p q : Option Pending) (u v w : Units)
+    (side : List AtomLit) (from : List ℕ) (r : Result Found Halt) → g ≡ f → Makes (OnlySide side from) P
+    → HasRun (OnlySide side from) 0 f a b p u v None → HasRun NoSide (closes r) g b c q v w (halt_of r)
+    → HasRun P (closes r) f a c q u w (halt_of r)
+obliged_found P f g a b c p q u v w side from r e makes h k =
+    run_joined (OnlySide side from) NoSide P 0 (closes r) (closes r) f a b c p q u v w (halt_of r) makes (makes_none P)
+    (omega arith) h
+    (subst (λ (x : Framework). HasRun NoSide (closes r) x b c q v w (halt_of r)) e k)
+
+-- a side clause was kept, and then memory was refused
+pub then_refused : (P Q : Making) (m most : ℕ) (f : Framework) (a b : OracleLog) (p : Option Pending) (u v : Units)
+    → Makes P Q → m ≤ most → HasRun P m f a b p u v None → HasRun Q most f a b p u v (Some Memory)
+then_refused P Q m most f a b p u v makes few h =
+    run_joined P P Q m 0 most f a b b p p u v v (Some Memory) makes makes (omega arith) h (run_refused P 0 f b p v)
+
+-- one more number that is none of them
+pub apart_pushed : (asks : List ℕ) (n : ℕ) → AreApart asks → (Contains asks n → ⊥) → AreApart (asks ++ n ∷ [])
+apart_pushed asks n h out = record {
+  apart = λ i j lt high e.
+      let len = length-append asks (n ∷ []) in
+      let there : slice_index_or (asks ++ n ∷ []) i 0 ≡ slice_index_or asks i 0 =
+      get_or_append_left asks (n ∷ []) 0 i (omega arith) in
+      ⊎_elim
+      (λ early. h.apart i j lt early (sym there ∙ (e ∙ get_or_append_left asks (n ∷ []) 0 j early)))
+      (λ late.
+      let at : j ≡ length asks = omega arith in
+      let last : slice_index_or (asks ++ n ∷ []) j 0 ≡ n = get_or_push asks n 0 j (sym at) in
+      out (i, omega arith, get_or_default asks i n 0 (omega arith) ∙ (sym there ∙ (e ∙ last))))
+      (cases_lt j (length asks));
+}
+
+-- as many different side clauses are named as there are, at most
+pub few_asks : (asks : List ℕ) (sides : List SideClause) → AreApart asks
+    → ((n : ℕ) → Contains asks n → IsNumberOf sides n) → length asks ≤ length sides + 1
+few_asks asks sides h named =
+    length-le_from_distinct_below asks (length sides + 1)
+    (IsDistinct-from_apart eqb asks (λ i j d lt high. ne_eqb (get_or asks i d) (get_or asks j d)
+    (λ e. h.apart i j lt high
+    (get_or_default asks i 0 d (omega arith) ∙ (e ∙ get_or_default asks j d 0 high)))))
+    (λ q t.
+    let m = any_gives (eqb q) asks t in
+    let is = named m.0 m.1 in
+    let high = is.within in
+    let same : q ≡ m.0 = eqb-true q m.0 m.2 in
+    omega arith)
+
+-- ---- what is found
+
+pub mode_of : (f : Framework) (set : List ℕ) (sides : List (List AtomLit)) (mode : Atom) → IsMode mode
+    → Says true (Holds (world_of f set) sides mode) → HoldsOf f set mode
+mode_of f set sides Cf moded h = h
+mode_of f set sides Ad moded h = h
+mode_of f set sides Co moded h = h
+mode_of f set sides St moded h = h
+mode_of f set sides _ moded h = absurd moded
+
+-- a set that makes the goals true has the mode
+pub found_mode : (f : Framework) (log : OracleLog) (mode : Atom) (ins outs ranged asks : List ℕ) (set : List ℕ)
+    → IsMode mode → MakesTrue f log (goals_of mode ins outs ranged asks) set → HoldsOf f set mode
+found_mode f log mode ins outs ranged asks set moded makes =
+    mode_of f set (literals_of log.sides) mode moded (makes (affirmed mode) (mode_there mode ins outs ranged asks))
+
+-- it has the members
+pub found_in : (f : Framework) (log : OracleLog) (mode : Atom) (ins outs ranged asks : List ℕ) (set : List ℕ)
+    → MakesTrue f log (goals_of mode ins outs ranged asks) set → IsWithin ins set
+found_in (af f) log mode ins outs ranged asks set makes a c =
+    makes (affirmed (Member a)) (in_there mode ins outs ranged asks a c)
+
+-- and none of those that it shall not have
+pub found_out : (f : Framework) (log : OracleLog) (mode : Atom) (ins outs ranged asks : List ℕ) (set : List ℕ)
+    → MakesTrue f log (goals_of mode ins outs ranged asks) set → (a : ℕ) → Contains outs a → Contains set a → ⊥
+found_out (af f) log mode ins outs ranged asks set makes a c =
+    makes (denied (Member a)) (out_there mode ins outs ranged asks a c)
+
+-- and these are in its range
+pub found_ranged : (f : Af) (log : OracleLog) (mode : Atom) (ins outs ranged asks : List ℕ) (set : List ℕ)
+    → MakesTrue (af f) log (goals_of mode ins outs ranged asks) set → (a : ℕ) → Contains ranged a → IsInRange f set a
+found_ranged f log mode ins outs ranged asks set makes a c =
+    makes (affirmed (Range a)) (ranged_there mode ins outs ranged asks a c)
+
+-- an admissible set has members of the framework alone
+pub admissible_members : (f : Framework) (set : List ℕ) → HoldsOf f set Ad → IsWithin set (members f)
+admissible_members (af f) set h = h.conflict_free.live

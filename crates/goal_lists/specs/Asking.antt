@@ -1,0 +1,32 @@
+-- The goals of the loops: a mode, members and what are none, what is in the range, and side clauses.
+use Rattle.std.specs.Prelude.{◌≡◌, ℕ, ◌<◌, Bool, true, false, List, ◌∷◌, ◌++◌, length, map, Contains, slice_index_or}
+use Rattle.meaning_atoms.specs.declared.atom.Atom.{Atom}
+use Rattle.meaning_atoms.specs.declared.atom.Atom.TheVariants.{Member, Range, Cf, Ad, Co, St, Ask}
+use Rattle.meaning_atoms.specs.declared.atom.AtomLit.{AtomLit}
+use Rattle.meaning_atoms.specs.Literals.{affirmed}
+use Rattle.certificate_claims.specs.SetLiterals.{are_in, are_out, are_ranged}
+
+-- for each number that the side clause of this number is true
+abbrev pub are_asked : List ℕ → List AtomLit
+are_asked asks = map (λ n. affirmed (Ask n)) asks
+
+-- a set of the mode with these members and without those, which has these in its range and makes the side clauses true
+abbrev pub goals_of : Atom → List ℕ → List ℕ → List ℕ → List ℕ → List AtomLit
+goals_of mode ins outs ranged asks =
+    affirmed mode ∷ (are_in ins ++ (are_out outs ++ (are_ranged ranged ++ are_asked asks)))
+
+-- where a literal stands in such goals
+abbrev pub IsPlaced : List ℕ → List ℕ → List ℕ → List ℕ → Atom → Bool → Type 0
+IsPlaced ins outs ranged asks (Member a) true = Contains ins a
+IsPlaced ins outs ranged asks (Member a) false = Contains outs a
+IsPlaced ins outs ranged asks (Range a) true = Contains ranged a
+IsPlaced ins outs ranged asks (Ask n) true = Contains asks n
+IsPlaced ins outs ranged asks Cf true = Unit {0}
+IsPlaced ins outs ranged asks Ad true = Unit {0}
+IsPlaced ins outs ranged asks Co true = Unit {0}
+IsPlaced ins outs ranged asks St true = Unit {0}
+IsPlaced ins outs ranged asks _ _ = ⊥
+
+-- no number stands twice
+pub record AreApart (asks : List ℕ) : Type 0 where
+  pub apart : (i j : ℕ) → i < j → j < length asks → slice_index_or asks i 0 ≡ slice_index_or asks j 0 → ⊥
