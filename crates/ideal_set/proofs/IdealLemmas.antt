@@ -1,0 +1,359 @@
+-- Attackers of a set, and the ideal set.
+use Rattle.std.proofs.Common.{◌≡◌, ◌↔◌, inl, inr, ⊎_elim, ℕ, ◌+◌, ◌*◌, ◌<◌, ◌≤◌, not, List, [], ◌∷◌, ◌++◌, length, filter, refl, ap, sym, subst, ◌∙◌, arith}
+use Rattle.std.specs.Prelude.{Contains, Result, Ok, Err, IfOk, Option, None, Some, ◌⊎◌, slice_index_or}
+use Rattle.std.specs.List.{list_any}
+use Rattle.std.specs.List.Sorted.{IsStrictlyIncreasing}
+use Rattle.meaning_atoms.specs.AtomText.{numbers_of}
+use Rattle.std.proofs.lemmas.List.{length-append}
+use Rattle.std.proofs.lemmas.List.Kept.{IsStrictlyIncreasing-filter}
+use Rattle.std.proofs.lemmas.List.Elements.{Contains-append_left, Contains-append_cases}
+use Rattle.plain_lists.specs.Members.{IsWithin, IsSetOf}
+use Rattle.plain_lists.proofs.Membership.{Contains-nil, Contains-head, Contains-pushed}
+use Rattle.plain_lits.specs.declared.halt.Halt.{Halt}
+use Rattle.plain_lits.specs.declared.halt.Halt.TheVariants.{Memory}
+use Rattle.plain_lits.specs.Units.{Units}
+use Rattle.plain_lits.proofs.HintCheckLemmas.{Contains-mapped, Contains-from_mapped}
+use Rattle.semantics.specs.Framework.{Af}
+use Rattle.semantics.specs.Frameworks.{Framework, af, IsNumbered}
+use Rattle.meaning_atoms.specs.declared.atom.Atom.TheVariants.{Tail, Ad}
+use Rattle.meaning_atoms.specs.declared.atom.AtomLit.{AtomLit}
+use Rattle.meaning_atoms.specs.Literals.{affirmed}
+use Rattle.meaning_atoms.specs.Worlds.{HoldsOf}
+use Rattle.iccma_tasks.specs.declared.task.Semantics.TheVariants.{Ideal}
+use Rattle.certificate_claims.specs.Refutations.{IsPlain}
+use Rattle.certificate_claims.specs.Rights.{IsExtension}
+use Rattle.certificate_claims.specs.SetLiterals.{attacked, has, hit_by_any, hits, members}
+use Rattle.certificate_claims.proofs.RangeLists.{same_rising}
+use Rattle.certificate_claims.proofs.SetTests.{in_hit_list}
+use Rattle.certificate_laws.proofs.GoalLists.{asks_cons, asks_nil, only_one, plain_mapped}
+use Rattle.certificate_laws.proofs.IdealSets.{shown_ideal}
+use Rattle.certificate_laws.proofs.SideClauses.{attacked_plain}
+use Rattle.oracle_face.specs.declared.face.Found.{Found}
+use Rattle.oracle_face.specs.declared.face.Found.TheVariants.{Set, Refuted}
+use Rattle.oracle_face.specs.Goals.{AreGoals, IsClaimSide, IsSide, Refutes, SpeaksOf}
+use Rattle.oracle_face.specs.declared.face.Pending.{Pending}
+use Rattle.oracle_face.specs.Growing.{Grows, HasRun, IsFound, Making, OnlySide}
+use Rattle.oracle_face.specs.Kinds.{IsRanged}
+use Rattle.oracle_face.specs.Logs.{IsKept, IsNumberOf, IsSameClause, OracleLog, SideClause, side_at}
+use Rattle.oracle_face.proofs.GrowingLemmas.{Makes, run_joined}
+use Rattle.oracle_face.proofs.Refuting.{claim_excluded, grown_side, number_grown, refutes_claim, refutes_grown}
+use Rattle.goal_lists.specs.Asking.{AreApart, goals_of}
+use Rattle.goal_lists.proofs.AskedGoals.{are_goals, asked_there, asked_true, attacked_side, attacked_speaks, attacks_one, speaks_same, within_claim}
+use Rattle.goal_lists.proofs.Calls.{apart_pushed, few_asks, found_mode, makes_same, then_refused}
+use Rattle.goal_lists.proofs.Measures.{fewer_outside}
+use Rattle.ideal_set.specs.Ideals.{AsksAttacked, Attacks, Hits, IsAsked, IsFree, IsHit, IsIdealFound, MadeForIdeal, attacked_claim, free_claim}
+use Rattle.ideal_set.specs.declared.searching.IdealSet.{IdealSet}
+use Rattle.ideal_set.proofs.FreeLemmas.{IsAskOf, free_plain}
+
+-- ---- what is asked
+
+pub attacked_from : (f : Framework) (side : List AtomLit) (e : List ℕ) → ((h : Af) → side ≡ attacked (af h) e)
+    → side ≡ attacked f e
+attacked_from (af h) side e is = is h
+
+pub attacked_is_side : (f : Framework) (e : List ℕ) (side : List AtomLit) → IsNumbered f → HoldsOf f e Ad
+    → side ≡ attacked f e → IsSide side
+attacked_is_side (af f) e side ok adm is = subst IsSide (sym is) (attacked_side f e ok adm.conflict_free.live)
+
+pub makes_attacked : (f : Framework) (e : List ℕ) (side : List AtomLit) → HoldsOf f e Ad → side ≡ attacked f e
+    → Makes (OnlySide side e) (MadeForIdeal f)
+makes_attacked f e side ok is literals set h = (
+  subst (λ (s : List ℕ). HoldsOf f s Ad) (sym h.1) ok,
+  inr (subst (λ (clause : List AtomLit). IsSameClause literals clause) (is ∙ ap (attacked f) (sym h.1)) h.0),
+)
+
+speaks_attacked : (f : Framework) (e : List ℕ) → HoldsOf f e Ad → SpeaksOf f (attacked f e)
+speaks_attacked (af f) e adm = attacked_speaks f e adm.conflict_free.live
+
+attack_goals : (f : Framework) (sides : List SideClause) (e : List ℕ) (n : ℕ) → HoldsOf f e Ad
+    → IsAskOf sides (attacked f e) n → AreGoals f sides (goals_of Ad [] [] [] (n ∷ []))
+attack_goals f sides e n adm ask = are_goals f sides Ad [] [] [] (n ∷ []) (record {
+  moded = tt;
+  in_members = λ a c. absurd (Contains-nil a c);
+  out_members = λ a c. absurd (Contains-nil a c);
+  ranged_members = λ a c. absurd (Contains-nil a c);
+  apart = λ a c. absurd (Contains-nil a c);
+  asked = λ m c. subst (λ (k : ℕ). IsNumberOf sides k × SpeaksOf f (side_at sides k).literals) (only_one n m c)
+      (ask.number, speaks_same f (side_at sides n).literals (attacked f e) ask.same (speaks_attacked f e adm));
+})
+
+pub may_ask_attack : (f g : Framework) (sides : List SideClause) (e : List ℕ) (n : ℕ) (goals : List AtomLit) → g ≡ f
+    → goals ≡ goals_of Ad [] [] [] (n ∷ []) → HoldsOf f e Ad → IsAskOf sides (attacked f e) n → AreGoals g sides goals
+may_ask_attack f g sides e n goals same is adm ask =
+    subst (λ (h : Framework). AreGoals h sides goals) (sym same)
+    (subst (AreGoals f sides) (sym is) (attack_goals f sides e n adm ask))
+
+-- ---- what is found
+
+attacked_claim_plain : (f : Framework) (e : List ℕ) → IsPlain (attacked_claim f e)
+attacked_claim_plain f e = plain_mapped (affirmed Ad ∷ []) (attacked f) (e ∷ [])
+    (asks_cons (affirmed Ad) [] (λ x. x) asks_nil) (attacked_plain f)
+
+attacks_there : (f : Framework) (log : OracleLog) (e : List ℕ) (n : ℕ) (set : List ℕ)
+    → IsAskOf log.sides (attacked f e) n → IsFound f log (goals_of Ad [] [] [] (n ∷ [])) (Set set)
+    → (a : ℕ) × Contains e a × Hits f set a
+attacks_there (af f) log e n set ask makes =
+    attacks_one f e set
+    (asked_true (af f) log (goals_of Ad [] [] [] (n ∷ [])) set n (attacked (af f) e)
+    (asked_there Ad [] [] [] (n ∷ []) n (Contains-head n [] n refl)) ask.number ask.same makes)
+
+found_attack : (f : Framework) (log : OracleLog) (e : List ℕ) (n : ℕ) → IsAskOf log.sides (attacked f e) n
+    → (found : Found) → IsFound f log (goals_of Ad [] [] [] (n ∷ [])) found → Attacks f log e found
+found_attack f log e n ask (Set set) makes = (
+  found_mode f log Ad [] [] [] (n ∷ []) set tt makes,
+  attacks_there f log e n set ask makes,
+)
+found_attack f log e n ask (Refuted step) refuted =
+    refutes_claim f log (attacked_claim f e) (goals_of Ad [] [] [] (n ∷ [])) step (attacked_claim_plain f e).goals
+    (within_claim log.sides (attacked_claim f e) Ad [] [] [] (n ∷ []) (record {
+      has_mode = Contains-head (affirmed Ad) [] (affirmed Ad) refl;
+      has_ins = λ a c. absurd (Contains-nil a c);
+      has_outs = λ a c. absurd (Contains-nil a c);
+      has_ranged = λ a c. absurd (Contains-nil a c);
+      has_asks = λ m c. subst (IsClaimSide log.sides (attacked_claim f e)) (only_one n m c) (record {
+        number = ask.number;
+        side = attacked f e;
+        there = Contains-head (attacked f e) [] (attacked f e) refl;
+        same = ask.same;
+      });
+    })) refuted
+
+pub if_attack : (f g : Framework) (log : OracleLog) (e : List ℕ) (n : ℕ) (goals : List AtomLit) → g ≡ f
+    → goals ≡ goals_of Ad [] [] [] (n ∷ []) → IsAskOf log.sides (attacked f e) n → (r : Result Found Halt)
+    → IfOk r (IsFound g log goals) → IfOk r (Attacks f log e)
+if_attack f g log e n goals same is ask (Ok found) h =
+    found_attack f log e n ask found
+    (subst (λ (k : Framework). IsFound k log (goals_of Ad [] [] [] (n ∷ [])) found) same
+    (subst (λ (k : List AtomLit). IsFound g log k found) is h))
+if_attack f g log e n goals same is ask (Err halt) h = h
+
+pub if_asked : (f : Framework) (log : OracleLog) (e : List ℕ) (n : ℕ) → IsAskOf log.sides (attacked f e) n
+    → (r : Result Found Halt) → IfOk r (IsAsked f log e)
+if_asked f log e n ask (Ok found) = (n, record { number = ask.number; same = ask.same })
+if_asked f log e n ask (Err halt) = tt
+
+-- ---- what sets attack
+
+-- what is in an admissible set's range and no member is what it attacks
+pub struck_by : (f : Framework) (s range : List ℕ) → HoldsOf f s Ad → IsSetOf (IsRanged f s) range → (a : ℕ)
+    → (Contains range a × (Contains s a → ⊥)) ↔ Hits f s a
+struck_by (af f) s range adm is a = (
+  λ h. ⊎_elim (λ k. absurd (h.1 k)) (λ k. k) ((is.members a).0 h.0),
+  λ k. ((is.members a).1 (inr k), λ c. adm.conflict_free.apart k.0 a k.1 c k.2),
+)
+
+pub hits_set : (f : Framework) (hit set range struck all : List ℕ) → HoldsOf f set Ad → IsSetOf (IsRanged f set) range
+    → IsSetOf (λ a. Contains range a × ¬ Contains set a) struck
+    → IsSetOf (λ a. Contains hit a ⊎ Contains struck a) all
+    → IsSetOf (λ a. Contains hit a ⊎ Hits f set a) all
+hits_set f hit set range struck all adm ranged less more = record {
+  rises = more.rises;
+  members = λ a. (
+    λ c. ⊎_elim (λ h. inl h) (λ s. inr ((struck_by f set range adm ranged a).0 ((less.members a).0 s)))
+        ((more.members a).0 c),
+    λ h. (more.members a).1
+        (⊎_elim (λ k. inl k) (λ s. inr ((less.members a).1 ((struck_by f set range adm ranged a).1 s))) h),
+  );
+}
+
+pub hits_members : (f : Framework) (s : List ℕ) (a : ℕ) → IsNumbered f → Hits f s a → Contains (members f) a
+hits_members (af f) s a ok k = (ok.form.ends k.0 a k.2).1
+
+-- ---- the search
+
+-- the sets found so far, what they attack, and different side clauses, one for each, of which each has something that is
+-- attacked
+pub record IsSearch (f : Framework) (log : OracleLog) (others : List (List ℕ)) (hit : List ℕ) : Type 0 where
+  pub admissible : (t : List ℕ) → Contains others t → HoldsOf f t Ad
+  pub hits : IsSetOf (IsHit f others) hit
+  pub asks : List ℕ
+  pub apart : AreApart asks
+  pub count : length asks ≡ length others
+  pub named : (n : ℕ) → Contains asks n → IsNumberOf log.sides n
+  pub spent : (n : ℕ) → Contains asks n
+      → (a : ℕ) × Contains hit a × Contains (side_at log.sides n).literals (affirmed (Tail a 1))
+
+pub search_begun : (f : Framework) (log : OracleLog) (others : List (List ℕ)) (hit : List ℕ) → others ≡ [] → hit ≡ []
+    → IsSearch f log others hit
+search_begun f log others hit none empty = record {
+  admissible = λ t c. absurd (Contains-nil t (subst (λ (xs : List (List ℕ)). Contains xs t) none c));
+  hits = record {
+    rises = subst IsStrictlyIncreasing (sym empty) (λ k high. absurd (omega arith));
+    members = λ a. (
+      λ c. absurd (Contains-nil a (subst (λ (xs : List ℕ). Contains xs a) empty c)),
+      λ h. absurd (Contains-nil h.0 (subst (λ (xs : List (List ℕ)). Contains xs h.0) none h.1)),
+    );
+  };
+  asks = [];
+  apart = record { apart = λ i j lt high e. absurd (omega arith) };
+  count = sym (ap length none);
+  named = λ n c. absurd (Contains-nil n c);
+  spent = λ n c. absurd (Contains-nil n c);
+}
+
+pub search_grown : (f : Framework) (P : Making) (old new : OracleLog) (others : List (List ℕ)) (hit : List ℕ)
+    → Grows P old new → IsSearch f old others hit → IsSearch f new others hit
+search_grown f P old new others hit grows h = record {
+  admissible = h.admissible;
+  hits = h.hits;
+  asks = h.asks;
+  apart = h.apart;
+  count = h.count;
+  named = λ n c. number_grown old.sides new.sides grows.more_sides.0 n grows.more_sides.1 (h.named n c);
+  spent = λ n c.
+      let m = h.spent n c in (
+        m.0,
+        m.1,
+        subst (λ (side : SideClause). Contains side.literals (affirmed (Tail m.0 1)))
+            (sym (grown_side P old new grows n (h.named n c))) m.2,
+      );
+}
+
+-- what some of the sets attack are members of the framework
+pub hit_within : (f : Framework) (log : OracleLog) (others : List (List ℕ)) (hit : List ℕ) → IsNumbered f
+    → IsSearch f log others hit → IsWithin hit (members f)
+hit_within f log others hit ok h a c = let m = (h.hits.members a).0 c in hits_members f m.0 a ok m.2
+
+attacked_literal : (f : Framework) (e : List ℕ) (a : ℕ) → Contains e a → Contains (attacked f e) (affirmed (Tail a 1))
+attacked_literal (af f) e a c = Contains-mapped (λ x. affirmed (Tail x 1)) e a c
+
+tail_number : (a x : ℕ) → affirmed (Tail a 1) ≡ affirmed (Tail x 1) → a ≡ x
+tail_number a x e = ap (λ (l : AtomLit). slice_index_or (numbers_of l.atom) 0 0) e
+
+attacked_form : (f : Framework) (e : List ℕ) (a : ℕ) → Contains (attacked f e) (affirmed (Tail a 1)) → Contains e a
+attacked_form (af f) e a c =
+    let m = Contains-from_mapped (λ x. affirmed (Tail x 1)) e (affirmed (Tail a 1)) c in
+    subst (λ (x : ℕ). Contains e x) (tail_number m.0 a m.2) m.1
+
+-- one more set, which attacks a set without what those before attack
+pub search_more : (f : Framework) (log : OracleLog) (others : List (List ℕ)) (hit e other more : List ℕ)
+    → IsSearch f log others hit → IsFree f hit e → HoldsOf f other Ad → ((a : ℕ) × Contains e a × Hits f other a)
+    → ((n : ℕ) × AsksAttacked f log.sides e n) → IsSetOf (λ a. Contains hit a ⊎ Hits f other a) more
+    → IsSearch f log (others ++ other ∷ []) more
+search_more f log others hit e other more h free adm attack ask all = record {
+  admissible = λ t c. ⊎_elim (λ k. h.admissible t k) (λ k. subst (λ (s : List ℕ). HoldsOf f s Ad) (only_one other t k) adm)
+      (Contains-append_cases others (other ∷ []) t c);
+  hits = record {
+    rises = all.rises;
+    members = λ a. (
+      λ c. ⊎_elim
+          (λ k. let m = (h.hits.members a).0 k in (m.0, Contains-append_left others (other ∷ []) m.0 m.1, m.2))
+          (λ k. (other, Contains-pushed others other other refl, k))
+          ((all.members a).0 c),
+      λ m. (all.members a).1
+          (⊎_elim (λ k. inl ((h.hits.members a).1 (m.0, k, m.2)))
+          (λ k. inr (subst (λ (s : List ℕ). Hits f s a) (sym (only_one other m.0 k)) m.2))
+          (Contains-append_cases others (other ∷ []) m.0 m.1)),
+    );
+  };
+  asks = h.asks ++ ask.0 ∷ [];
+  apart = apart_pushed h.asks ask.0 h.apart
+      (λ c. let m = h.spent ask.0 c in
+      free.apart m.0 (attacked_form f e m.0 (ask.1.same.there (affirmed (Tail m.0 1)) m.2)) m.1);
+  count = omega (
+    arith,
+    h.count,
+    length-append h.asks (ask.0 ∷ []),
+    length-append others (other ∷ []),
+  );
+  named = λ n c. ⊎_elim (λ k. h.named n k)
+      (λ k. subst (λ (m : ℕ). IsNumberOf log.sides m) (only_one ask.0 n k) ask.1.number)
+      (Contains-append_cases h.asks (ask.0 ∷ []) n c);
+  spent = λ n c. ⊎_elim
+      (λ k. let m = h.spent n k in (m.0, (all.members m.0).1 (inl m.1), m.2))
+      (λ k. (
+        attack.0,
+        (all.members attack.0).1 (inr attack.2),
+        subst (λ (m : ℕ). Contains (side_at log.sides m).literals (affirmed (Tail attack.0 1))) (only_one ask.0 n k)
+            (ask.1.same.back (affirmed (Tail attack.0 1)) (attacked_literal f e attack.0 attack.1)),
+      ))
+      (Contains-append_cases h.asks (ask.0 ∷ []) n c);
+}
+
+-- what is attacked grows by a member of the framework
+pub fewer_unhit : (f : Framework) (hit e other more : List ℕ) → IsNumbered f → IsFree f hit e
+    → ((a : ℕ) × Contains e a × Hits f other a) → IsWithin hit (members f)
+    → IsSetOf (λ a. Contains hit a ⊎ Hits f other a) more
+    → length (filter (λ x. not (has more x)) (members f)) < length (filter (λ x. not (has hit x)) (members f))
+fewer_unhit f hit e other more ok free attack live all =
+    fewer_outside (members f) hit more
+    (λ a c. ⊎_elim (λ k. live a k) (λ k. hits_members f other a ok k) ((all.members a).0 c))
+    (λ a c. (all.members a).1 (inl c))
+    (λ sub. free.apart attack.0 attack.1 (sub attack.0 ((all.members attack.0).1 (inr attack.2))))
+
+-- there are not many turns
+pub few_turns : (f : Framework) (P : Making) (old new : OracleLog) (others : List (List ℕ)) (hit : List ℕ)
+    → IsSearch f old others hit → Grows P old new → length others + 1 ≤ 2 * length new.sides + 2
+few_turns f P old new others hit h grows =
+    let few = few_asks h.asks old.sides h.apart h.named in
+    let count = h.count in
+    let more : length new.sides ≡ length (old.sides ++ grows.more_sides.0) = ap length grows.more_sides.1 in
+    omega (arith, few, count, more, length-append old.sides grows.more_sides.0)
+
+pub few_turns_at_end : (f : Framework) (P : Making) (old new : OracleLog) (others : List (List ℕ)) (hit e : List ℕ)
+    → IsSearch f old others hit → Grows P old new → ((n : ℕ) × AsksAttacked f new.sides e n)
+    → length others + 2 ≤ 2 * length new.sides + 2
+few_turns_at_end f P old new others hit e h grows ask =
+    let few = few_asks h.asks old.sides h.apart h.named in
+    let count = h.count in
+    let low = ask.1.number.from_one in
+    let high = ask.1.number.within in
+    let more : length new.sides ≡ length (old.sides ++ grows.more_sides.0) = ap length grows.more_sides.1 in
+    omega (arith, few, count, low, high, more, length-append old.sides grows.more_sides.0)
+
+-- ---- the ideal set
+
+hit_list : (f : Framework) (log : OracleLog) (others : List (List ℕ)) (hit : List ℕ) → IsNumbered f
+    → IsSearch f log others hit → hit ≡ hit_by_any f others
+hit_list (af f) log others hit ok h =
+    same_rising hit (hit_by_any (af f) others) h.hits.rises
+    (IsStrictlyIncreasing-filter (λ a. list_any (λ t. hits (af f) t a) others) f.live ok.form.live_rises)
+    (λ a. (
+      λ c. (in_hit_list f others a ok.form).1 ((h.hits.members a).0 c),
+      λ c. (h.hits.members a).1 ((in_hit_list f others a ok.form).0 c),
+    ))
+
+shown_set : (f : Framework) (log : OracleLog) (e : List ℕ) (others : List (List ℕ)) (first second : ℕ) → IsKept f log
+    → HoldsOf f e Ad → ((t : List ℕ) → Contains others t → HoldsOf f t Ad)
+    → Refutes f log (attacked_claim f e) first → Refutes f log (free_claim f (hit_by_any f others) e) second
+    → IsExtension f Ideal e
+shown_set (af f) log e others first second kept adm each one two =
+    shown_ideal f e others kept.numbered adm each
+    (claim_excluded (af f) log (attacked_claim (af f) e) first kept.form (attacked_claim_plain (af f) e) one)
+    (claim_excluded (af f) log (free_claim (af f) (hit_by_any (af f) others) e) second kept.form
+    (free_plain (af f) (hit_by_any (af f) others) e) two)
+
+-- an unattacked set without what the others attack, round which nothing larger is without it
+pub is_ideal : (f : Framework) (P : Making) (old log : OracleLog) (found : IdealSet) (hit : List ℕ) → IsKept f old
+    → IsKept f log → Grows P old log → IsSearch f old found.others hit → IsFree f hit found.set
+    → Refutes f old (free_claim f hit found.set) found.largest
+    → Refutes f log (attacked_claim f found.set) found.unattacked → IsIdealFound f log found
+is_ideal f P old log found hit before kept grows h free two one =
+    let there : Refutes f old (free_claim f (hit_by_any f found.others) found.set) found.largest =
+    subst (λ (xs : List ℕ). Refutes f old (free_claim f xs found.set) found.largest)
+    (hit_list f old found.others hit before.numbered h) two in
+    let largest = refutes_grown f P old log (free_claim f (hit_by_any f found.others) found.set) found.largest before.form
+    grows there in
+    record {
+      ideal = shown_set f log found.set found.others found.unattacked found.largest kept free.admissible h.admissible one
+          largest;
+      admissible = free.admissible;
+      others = h.admissible;
+      unattacked = one;
+      largest = largest;
+    }
+
+-- ---- what a turn leaves
+
+pub turn_run : (f w : Framework) (k m most : ℕ) (a b c : OracleLog) (p q : Option Pending) (u v x : Units)
+    (halt : Option Halt) → w ≡ f → k + m ≤ most → HasRun (MadeForIdeal f) k f a b p u v None
+    → HasRun (MadeForIdeal w) m w b c q v x halt → HasRun (MadeForIdeal f) most f a c q u x halt
+turn_run f w k m most a b c p q u v x halt same few h more =
+    run_joined (MadeForIdeal f) (MadeForIdeal f) (MadeForIdeal f) k m most f a b c p q u v x halt
+    (makes_same (MadeForIdeal f)) (makes_same (MadeForIdeal f)) few h
+    (subst (λ (g : Framework). HasRun (MadeForIdeal g) m g b c q v x halt) same more)
+
+pub turn_refused : (f : Framework) (k most : ℕ) (a b : OracleLog) (p : Option Pending) (u v : Units) → k ≤ most
+    → HasRun (MadeForIdeal f) k f a b p u v None → HasRun (MadeForIdeal f) most f a b p u v (Some Memory)
+turn_refused f k most a b p u v few h = then_refused (MadeForIdeal f) (MadeForIdeal f) k most f a b p u v
+    (makes_same (MadeForIdeal f)) few h

@@ -1,0 +1,83 @@
+//! Admissible sets that hold none of given numbers.
+
+ghost use Rattle.std.specs.Prelude.{◌≡◌, ℕ, Contains, IfOk};
+ghost use Rattle.plain_lists.specs.Members.{IsWithin};
+ghost use Rattle.meaning_atoms.specs.declared.atom.Atom.TheVariants.{Ad};
+ghost use Rattle.meaning_atoms.specs.Worlds.{HoldsOf};
+ghost use Rattle.certificate_claims.specs.SetLiterals.{members};
+ghost use Rattle.oracle_face.specs.Growing.{HasRun, closes, halt_of};
+ghost use Rattle.oracle_face.specs.Logs.{IsKept};
+ghost use Rattle.ideal_set.specs.Ideals.{IsFree, IsLargerFree, IsLargestFree, MadeForIdeal};
+
+use goal_lists::{Wanted, goals_for, outside};
+use meaning_atoms::Atom;
+use oracle_face::{Budget, Found, Halt, Oracle, StepId};
+use set_lists::NumSet;
+use std::alloc::Global;
+
+/// An admissible set that holds none of the numbers in hand, and the log step that refutes that there is a larger one.
+#[derive(Debug, Drop)]
+pub(crate) struct Free {
+    pub(crate) set: NumSet,
+    pub(crate) refutation: StepId,
+}
+
+/// An admissible set that holds a set, something more and none of the numbers; or the step that refutes that there is one.
+fn larger_free<O: Oracle>(
+    alloc: Global,
+    oracle: &mut O,
+    budget: &mut Budget,
+    hit: &NumSet,
+    set: &NumSet,
+) -> Result<Found, Halt>
+    requires hit { IsWithin hit.now (members (O.framework oracle.old)) }
+    requires free { IsFree (O.framework oracle.old) hit.now set.now }
+    ensures larger { IfOk result (IsLargerFree (O.framework oracle.old) (O.log oracle.new) hit.now set.now) }
+    ensures run { HasRun (MadeForIdeal (O.framework oracle.old)) (closes result) (O.framework oracle.old)
+        (O.log oracle.old) (O.log oracle.new) (O.pending oracle.new) budget.old budget.new (halt_of result) }
+    ensures framework { O.framework oracle.new ≡ O.framework oracle.old }
+    ensures kept { IsKept (O.framework oracle.new) (O.log oracle.new) }
+    ensures follows { O.follows oracle.old oracle.new }
+{
+    let side = outside(alloc, oracle.members(), set)?;
+    let ask = oracle.oblige(alloc, &side, set, budget)?;
+    let wanted = Wanted {
+        ins: set.as_slice(),
+        outs: hit.as_slice(),
+        ranged: &[],
+        asks: &[ask],
+    };
+    let goals = goals_for(alloc, Atom::Ad, &wanted)?;
+    oracle.find(alloc, &goals, budget)
+}
+
+/// An admissible set that holds none of the numbers and lies in no larger one that holds none. The search begins with the
+/// empty set and goes on from what each search finds: where the set grows k times, it asks k + 1 times.
+pub(crate) fn largest_free<O: Oracle>(
+    alloc: Global,
+    oracle: &mut O,
+    budget: &mut Budget,
+    hit: &NumSet,
+) -> Result<Free, Halt>
+    requires { IsWithin hit.now (members (O.framework oracle.old)) }
+    ensures largest { IfOk result (IsLargestFree (O.framework oracle.old) (O.log oracle.new) hit.now) }
+    ensures run { HasRun (MadeForIdeal (O.framework oracle.old)) 1 (O.framework oracle.old) (O.log oracle.old)
+        (O.log oracle.new) (O.pending oracle.new) budget.old budget.new (halt_of result) }
+    ensures framework { O.framework oracle.new ≡ O.framework oracle.old }
+    ensures kept { IsKept (O.framework oracle.new) (O.log oracle.new) }
+    ensures follows { O.follows oracle.old oracle.new }
+{
+    let _members = oracle.members();
+    let mut grown = NumSet::new(alloc);
+    loop {
+        match larger_free(alloc, oracle, budget, hit, &grown)? {
+            Found::Set(found) => grown = found,
+            Found::Refuted(refutation) => {
+                return Ok(Free {
+                    set: grown,
+                    refutation,
+                });
+            }
+        }
+    }
+}

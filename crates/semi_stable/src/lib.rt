@@ -1,0 +1,6 @@
+//! Sets with widest ranges: semi-stable sets, and stage sets by their mode.
+#![tactic(auto)]
+
+pub mod widest;
+
+pub use widest::{Widest, widest_from};
