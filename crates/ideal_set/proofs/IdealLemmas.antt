@@ -231,7 +231,8 @@ pub search_more : (f : Framework) (log : OracleLog) (others : List (List ℕ)) (
     → ((n : ℕ) × AsksAttacked f log.sides e n) → IsSetOf (λ a. Contains hit a ⊎ Hits f other a) more
     → IsSearch f log (others ++ other ∷ []) more
 search_more f log others hit e other more h free adm attack ask all = record {
-  admissible = λ t c. ⊎_elim (λ k. h.admissible t k) (λ k. subst (λ (s : List ℕ). HoldsOf f s Ad) (only_one other t k) adm)
+  admissible = λ t c. ⊎_elim (λ k. h.admissible t k) (λ k. subst (λ (s : List ℕ). HoldsOf f s Ad) (only_one other t k)
+      adm)
       (Contains-append_cases others (other ∷ []) t c);
   hits = record {
     rises = all.rises;
@@ -332,10 +333,12 @@ is_ideal f P old log found hit before kept grows h free two one =
     let there : Refutes f old (free_claim f (hit_by_any f found.others) found.set) found.largest =
     subst (λ (xs : List ℕ). Refutes f old (free_claim f xs found.set) found.largest)
     (hit_list f old found.others hit before.numbered h) two in
-    let largest = refutes_grown f P old log (free_claim f (hit_by_any f found.others) found.set) found.largest before.form
+    let largest = refutes_grown f P old log (free_claim f (hit_by_any f found.others) found.set) found.largest
+    before.form
     grows there in
     record {
-      ideal = shown_set f log found.set found.others found.unattacked found.largest kept free.admissible h.admissible one
+      ideal = shown_set f log found.set found.others found.unattacked found.largest kept free.admissible h.admissible
+          one
           largest;
       admissible = free.admissible;
       others = h.admissible;

@@ -22,7 +22,7 @@ pub(crate) struct Free {
     pub(crate) refutation: StepId,
 }
 
-/// An admissible set that holds a set, something more and none of the numbers; or the step that refutes that there is one.
+/// An admissible set that holds a set, something more and none of the numbers; or the step that refutes it.
 fn larger_free<O: Oracle>(
     alloc: Global,
     oracle: &mut O,
@@ -51,8 +51,8 @@ fn larger_free<O: Oracle>(
     oracle.find(alloc, &goals, budget)
 }
 
-/// An admissible set that holds none of the numbers and lies in no larger one that holds none. The search begins with the
-/// empty set and goes on from what each search finds: where the set grows k times, it asks k + 1 times.
+/// An admissible set that holds none of the numbers and lies in no larger one that holds none. The search begins with
+/// the empty set and goes on from what each search finds: where the set grows k times, it asks k + 1 times.
 pub(crate) fn largest_free<O: Oracle>(
     alloc: Global,
     oracle: &mut O,

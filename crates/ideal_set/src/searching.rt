@@ -16,8 +16,8 @@ use plain_lists::{Items, Memory};
 use set_lists::NumSet;
 use std::alloc::Global;
 
-/// The ideal set with what shows it: admissible sets, the log step that refutes that an admissible set attacks the ideal
-/// set, and the one that refutes that a larger admissible set holds nothing that those sets attack.
+/// The ideal set with what shows it: admissible sets, the log step that refutes that an admissible set attacks the
+/// ideal set, and the one that refutes that a larger admissible set holds nothing that those sets attack.
 #[derive(Debug, Drop)]
 pub struct IdealSet {
     pub set: NumSet,

@@ -190,7 +190,8 @@ widened f log mode e r next n is range ask makes =
     let told : IsTrueAlone (world_of f next) (side_at log.sides n).literals =
     subst (λ (clause : List AtomLit). IsTrueAlone (world_of f next) clause) (side_literals log.sides n ask.named)
     side.true_there in
-    let m = Contains-from_mapped (λ a. affirmed (Range a)) (filter (λ x. not (is_ranged f e x)) (members f)) told.literal
+    let m = Contains-from_mapped (λ a. affirmed (Range a)) (filter (λ x. not (is_ranged f e x)) (members f))
+    told.literal
     (ask.same.there told.literal told.member) in
     let both = (Contains-filter (λ x. not (is_ranged f e x)) (members f) m.0).0 m.1 in
     let listed = both.0 in

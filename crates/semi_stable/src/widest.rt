@@ -38,15 +38,16 @@ enum Widening {
 fn oblige_wider<O: Oracle>(
     alloc: Global,
     oracle: &mut O,
+    budget: &mut Budget,
     mode: Atom,
     set: &NumSet,
     range: &NumSet,
-    budget: &mut Budget,
 ) -> Result<AskId, Halt>
     requires mode { IsMode mode }
     requires holds { HoldsOf (O.framework oracle.old) set.now mode }
     requires range { IsSetOf (IsRanged (O.framework oracle.old) set.now) range.now }
-    ensures obliges { IfOk result (Obliges (wider (O.framework oracle.old) set.now) (O.log oracle.old) (O.log oracle.new)) }
+    ensures obliges { IfOk result (Obliges (wider (O.framework oracle.old) set.now) (O.log oracle.old)
+        (O.log oracle.new)) }
     ensures run { HasRun (WiderSide (O.framework oracle.old) mode) 0 (O.framework oracle.old) (O.log oracle.old)
         (O.log oracle.new) (O.pending oracle.new) budget.old budget.new (halt_of result) }
     ensures framework { O.framework oracle.new ≡ O.framework oracle.old }
@@ -78,10 +79,10 @@ fn wider_goals(
 fn widen<O: Oracle>(
     alloc: Global,
     oracle: &mut O,
+    budget: &mut Budget,
     mode: Atom,
     set: &NumSet,
     range: &NumSet,
-    budget: &mut Budget,
 ) -> Result<Widening, Halt>
     requires mode { IsMode mode }
     requires holds { HoldsOf (O.framework oracle.old) set.now mode }
@@ -93,7 +94,7 @@ fn widen<O: Oracle>(
     ensures kept { IsKept (O.framework oracle.new) (O.log oracle.new) }
     ensures follows { O.follows oracle.old oracle.new }
 {
-    let ask = oblige_wider(alloc, oracle, mode, set, range, budget)?;
+    let ask = oblige_wider(alloc, oracle, budget, mode, set, range)?;
     let goals = wider_goals(alloc, mode, range, ask)?;
     match oracle.find(alloc, goals.as_slice(), budget)? {
         Found::Set(next) => Ok(Widening::Wider(next)),
@@ -101,15 +102,15 @@ fn widen<O: Oracle>(
     }
 }
 
-/// Grows a set of a mode to one whose range holds that of the set and lies in no other's of the mode: by the mode `Ad` a
-/// semi-stable set, by `Cf` a stage set. Each set that the oracle finds is the next to grow, so the oracle is asked once
-/// more than ranges grow. The halt is the oracle's, or want of memory; the oracle keeps what it has learned.
+/// Grows a set of a mode to one whose range holds that of the set and is part of no other of the mode: by the mode `Ad`
+/// a semi-stable set, by `Cf` a stage set. The search goes on from what each search finds: where the range grows k times,
+/// it asks k + 1 times. The halt is the oracle's, or want of memory; the oracle keeps what it has learned.
 pub fn widest_from<O: Oracle>(
     alloc: Global,
     oracle: &mut O,
+    budget: &mut Budget,
     mode: Atom,
     set: &NumSet,
-    budget: &mut Budget,
 ) -> Result<Widest, Halt>
     requires mode { IsMode mode }
     requires holds { HoldsOf (O.framework oracle.old) set.now mode }
@@ -124,7 +125,7 @@ pub fn widest_from<O: Oracle>(
     let mut grown = set.copy(alloc)?;
     loop {
         let range = oracle.range(alloc, &grown)?;
-        match widen(alloc, oracle, mode, &grown, &range, budget)? {
+        match widen(alloc, oracle, budget, mode, &grown, &range)? {
             Widening::Wider(next) => grown = next,
             Widening::Widest(refutation) => {
                 return Ok(Widest {

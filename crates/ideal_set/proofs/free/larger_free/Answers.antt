@@ -31,7 +31,8 @@ find-requires g c =
     ∙ ap (λ h. goals_of Ad c.args.set.now h [] (c.in_ok-ask.ask ∷ [])) c.as_slice-2.ensures.value)) in
     may_ask_free f _ _ c.args.hit.now c.args.set.now c.in_ok-ask.ask c.deref-2.result.now c.in_ok-ask.ensures.framework
     asked c.requires.hit c.requires.free
-    (ask_of c.deref.result.now (outside f c.args.set.now) (g.O.Oracle.log c.args.oracle.now) (g.O.Oracle.log c.oblige.new.self) c.in_ok-ask.ask side c.in_ok-ask.ensures.obliges)
+    (ask_of c.deref.result.now (outside f c.args.set.now) (g.O.Oracle.log c.args.oracle.now) (g.O.Oracle.log
+    c.oblige.new.self) c.in_ok-ask.ask side c.in_ok-ask.ensures.obliges)
 
 pub returns-clause-larger : goal.returns-clause-larger
 returns-clause-larger g c =
@@ -46,7 +47,8 @@ returns-clause-larger g c =
     if_free f _ _ c.args.hit.now c.args.set.now c.in_ok-ask.ask c.deref-2.result.now c.in_ok-ask.ensures.framework asked
     (ask_grown _ (g.O.Oracle.log c.oblige.new.self) (g.O.Oracle.log c.find.new.self) (outside f c.args.set.now)
     c.in_ok-ask.ask c.find.ensures.run.grows
-    (ask_of c.deref.result.now (outside f c.args.set.now) (g.O.Oracle.log c.args.oracle.now) (g.O.Oracle.log c.oblige.new.self) c.in_ok-ask.ask side c.in_ok-ask.ensures.obliges))
+    (ask_of c.deref.result.now (outside f c.args.set.now) (g.O.Oracle.log c.args.oracle.now) (g.O.Oracle.log
+    c.oblige.new.self) c.in_ok-ask.ask side c.in_ok-ask.ensures.obliges))
     c.find.result c.find.ensures.found
 
 pub returns-clause-run : goal.returns-clause-run
@@ -68,9 +70,11 @@ returns-in_err-ask-clause-run g c =
     (g.O.Oracle.log c.args.oracle.now) (g.O.Oracle.log c.oblige.new.self) (g.O.Oracle.pending c.oblige.new.self)
     c.args.budget.now c.oblige.new.budget (halt_of result)) c.from_residual-in_err-ask.result c.in_err-ask.field-0.0
     c.from_residual-in_err-ask.ensures
-    (run_as (OnlySide c.deref.result.now c.args.set.now) (MadeForIdeal f) 0 0 f (g.O.Oracle.log c.args.oracle.now) (g.O.Oracle.log c.oblige.new.self)
+    (run_as (OnlySide c.deref.result.now c.args.set.now) (MadeForIdeal f) 0 0 f (g.O.Oracle.log c.args.oracle.now)
+    (g.O.Oracle.log c.oblige.new.self)
     (g.O.Oracle.pending c.oblige.new.self) c.args.budget.now c.oblige.new.budget (Some c.in_err-ask.field-0.0)
-    (makes_outside f c.args.set.now c.deref.result.now c.requires.free.admissible side) (omega arith) c.in_err-ask.ensures.run)
+    (makes_outside f c.args.set.now c.deref.result.now c.requires.free.admissible side) (omega arith)
+    c.in_err-ask.ensures.run)
 
 pub returns-in_err-goals-clause-run : goal.returns-in_err-goals-clause-run
 returns-in_err-goals-clause-run g c =
@@ -81,6 +85,8 @@ returns-in_err-goals-clause-run g c =
     (g.O.Oracle.log c.args.oracle.now) (g.O.Oracle.log c.oblige.new.self) (g.O.Oracle.pending c.oblige.new.self)
     c.args.budget.now c.oblige.new.budget (halt_of result)) c.from_residual-in_err-goals.result Memory
     c.from_residual-in_err-goals.ensures
-    (then_refused (OnlySide c.deref.result.now c.args.set.now) (MadeForIdeal f) 0 0 f (g.O.Oracle.log c.args.oracle.now) (g.O.Oracle.log c.oblige.new.self)
+    (then_refused (OnlySide c.deref.result.now c.args.set.now) (MadeForIdeal f) 0 0 f (g.O.Oracle.log
+    c.args.oracle.now) (g.O.Oracle.log c.oblige.new.self)
     (g.O.Oracle.pending c.oblige.new.self) c.args.budget.now c.oblige.new.budget
-    (makes_outside f c.args.set.now c.deref.result.now c.requires.free.admissible side) (omega arith) c.in_ok-ask.ensures.run)
+    (makes_outside f c.args.set.now c.deref.result.now c.requires.free.admissible side) (omega arith)
+    c.in_ok-ask.ensures.run)

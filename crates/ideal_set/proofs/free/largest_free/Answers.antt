@@ -26,7 +26,8 @@ pub loop-grown-init : goal.loop-grown-init
 loop-grown-init g c =
     let f = g.O.Oracle.framework c.args.oracle.now in
     record {
-      free = subst (λ (s : List ℕ). IsFree f c.args.hit.now s) (sym c.new-grown.ensures) (nothing_free f c.args.hit.now);
+      free = subst (λ (s : List ℕ). IsFree f c.args.hit.now s) (sym c.new-grown.ensures) (nothing_free f
+          c.args.hit.now);
       run = run_none (MadeForIdeal f) 0 f (g.O.Oracle.log c.args.oracle.now) (g.O.Oracle.pending c.args.oracle.now)
           c.args.budget.now;
       framework = refl;
@@ -46,7 +47,8 @@ returns-in_err-found-clause-run g c =
     run_joined (MadeForIdeal f) (MadeForIdeal f) (MadeForIdeal f) 0 0 1 f (g.O.Oracle.log c.args.oracle.now)
     (g.O.Oracle.log c.loop-grown.oracle) (g.O.Oracle.log c.larger_free.new.oracle)
     (g.O.Oracle.pending c.loop-grown.oracle) (g.O.Oracle.pending c.larger_free.new.oracle) c.args.budget.now
-    c.loop-grown.budget c.larger_free.new.budget (Some c.in_err-found.field-0.0) (makes_same (MadeForIdeal f)) (makes_same (MadeForIdeal f))
+    c.loop-grown.budget c.larger_free.new.budget (Some c.in_err-found.field-0.0) (makes_same (MadeForIdeal f))
+    (makes_same (MadeForIdeal f))
     (omega arith) c.loop-grown.invariant.run
     (subst (λ (w : Framework). HasRun (MadeForIdeal w) 0 w (g.O.Oracle.log c.loop-grown.oracle)
     (g.O.Oracle.log c.larger_free.new.oracle) (g.O.Oracle.pending c.larger_free.new.oracle) c.loop-grown.budget
@@ -105,7 +107,8 @@ loop-grown-preserved g c =
           (subst (λ (w : Framework). HasRun (MadeForIdeal w) 0 w (g.O.Oracle.log c.loop-grown.oracle)
           (g.O.Oracle.log c.larger_free.new.oracle) (g.O.Oracle.pending c.larger_free.new.oracle) c.loop-grown.budget
           c.larger_free.new.budget None) same
-          (subst (λ (found : Found). HasRun (MadeForIdeal now) (closes (Ok found)) now (g.O.Oracle.log c.loop-grown.oracle)
+          (subst (λ (found : Found). HasRun (MadeForIdeal now) (closes (Ok found)) now (g.O.Oracle.log
+          c.loop-grown.oracle)
           (g.O.Oracle.log c.larger_free.new.oracle) (g.O.Oracle.pending c.larger_free.new.oracle) c.loop-grown.budget
           c.larger_free.new.budget None) c.in-Set.is c.in_ok-found.ensures.run));
       framework = c.in_ok-found.ensures.framework ∙ same;

@@ -29,7 +29,8 @@ find-requires g c =
     c.deref-2.ensures.value ∙ c.in_ok-goals.ensures in
     may_ask_attack f _ _ c.args.set.now c.in_ok-ask.ask c.deref-2.result.now c.in_ok-ask.ensures.framework asked
     c.requires
-    (ask_of c.deref.result.now (attacked f c.args.set.now) (g.O.Oracle.log c.args.oracle.now) (g.O.Oracle.log c.oblige.new.self) c.in_ok-ask.ask side c.in_ok-ask.ensures.obliges)
+    (ask_of c.deref.result.now (attacked f c.args.set.now) (g.O.Oracle.log c.args.oracle.now) (g.O.Oracle.log
+    c.oblige.new.self) c.in_ok-ask.ask side c.in_ok-ask.ensures.obliges)
 
 pub returns-clause-attacks : goal.returns-clause-attacks
 returns-clause-attacks g c =
@@ -41,7 +42,8 @@ returns-clause-attacks g c =
     if_attack f _ _ c.args.set.now c.in_ok-ask.ask c.deref-2.result.now c.in_ok-ask.ensures.framework asked
     (ask_grown _ (g.O.Oracle.log c.oblige.new.self) (g.O.Oracle.log c.find.new.self) (attacked f c.args.set.now)
     c.in_ok-ask.ask c.find.ensures.run.grows
-    (ask_of c.deref.result.now (attacked f c.args.set.now) (g.O.Oracle.log c.args.oracle.now) (g.O.Oracle.log c.oblige.new.self) c.in_ok-ask.ask side c.in_ok-ask.ensures.obliges))
+    (ask_of c.deref.result.now (attacked f c.args.set.now) (g.O.Oracle.log c.args.oracle.now) (g.O.Oracle.log
+    c.oblige.new.self) c.in_ok-ask.ask side c.in_ok-ask.ensures.obliges))
     c.find.result c.find.ensures.found
 
 pub returns-clause-asked : goal.returns-clause-asked
@@ -52,7 +54,8 @@ returns-clause-asked g c =
     if_asked f (g.O.Oracle.log c.find.new.self) c.args.set.now c.in_ok-ask.ask
     (ask_grown _ (g.O.Oracle.log c.oblige.new.self) (g.O.Oracle.log c.find.new.self) (attacked f c.args.set.now)
     c.in_ok-ask.ask c.find.ensures.run.grows
-    (ask_of c.deref.result.now (attacked f c.args.set.now) (g.O.Oracle.log c.args.oracle.now) (g.O.Oracle.log c.oblige.new.self) c.in_ok-ask.ask side c.in_ok-ask.ensures.obliges))
+    (ask_of c.deref.result.now (attacked f c.args.set.now) (g.O.Oracle.log c.args.oracle.now) (g.O.Oracle.log
+    c.oblige.new.self) c.in_ok-ask.ask side c.in_ok-ask.ensures.obliges))
     c.find.result
 
 pub returns-clause-run : goal.returns-clause-run
@@ -73,7 +76,8 @@ returns-in_err-ask-clause-run g c =
     (g.O.Oracle.log c.args.oracle.now) (g.O.Oracle.log c.oblige.new.self) (g.O.Oracle.pending c.oblige.new.self)
     c.args.budget.now c.oblige.new.budget (halt_of result)) c.from_residual-in_err-ask.result c.in_err-ask.field-0.0
     c.from_residual-in_err-ask.ensures
-    (run_as (OnlySide c.deref.result.now c.args.set.now) (MadeForIdeal f) 0 0 f (g.O.Oracle.log c.args.oracle.now) (g.O.Oracle.log c.oblige.new.self)
+    (run_as (OnlySide c.deref.result.now c.args.set.now) (MadeForIdeal f) 0 0 f (g.O.Oracle.log c.args.oracle.now)
+    (g.O.Oracle.log c.oblige.new.self)
     (g.O.Oracle.pending c.oblige.new.self) c.args.budget.now c.oblige.new.budget (Some c.in_err-ask.field-0.0)
     (makes_attacked f c.args.set.now c.deref.result.now c.requires side) (omega arith) c.in_err-ask.ensures.run)
 
@@ -86,6 +90,7 @@ returns-in_err-goals-clause-run g c =
     (g.O.Oracle.log c.args.oracle.now) (g.O.Oracle.log c.oblige.new.self) (g.O.Oracle.pending c.oblige.new.self)
     c.args.budget.now c.oblige.new.budget (halt_of result)) c.from_residual-in_err-goals.result Memory
     c.from_residual-in_err-goals.ensures
-    (then_refused (OnlySide c.deref.result.now c.args.set.now) (MadeForIdeal f) 0 0 f (g.O.Oracle.log c.args.oracle.now) (g.O.Oracle.log c.oblige.new.self)
+    (then_refused (OnlySide c.deref.result.now c.args.set.now) (MadeForIdeal f) 0 0 f (g.O.Oracle.log
+    c.args.oracle.now) (g.O.Oracle.log c.oblige.new.self)
     (g.O.Oracle.pending c.oblige.new.self) c.args.budget.now c.oblige.new.budget
     (makes_attacked f c.args.set.now c.deref.result.now c.requires side) (omega arith) c.in_ok-ask.ensures.run)

@@ -14,7 +14,8 @@ oblige-requires g c =
     let f = g.O.Oracle.framework c.args.oracle.now in
     let same : c.as_slice.result.now ≡ wider f c.args.set.now =
     c.as_slice.ensures.value ∙ c.in_ok-side.ensures f c.args.set.now c.members.ensures.value c.requires.range in
-    subst (λ (side : List AtomLit). IsSide side) (sym same) (wider_side f c.args.set.now c.members.ensures.kept.numbered)
+    subst (λ (side : List AtomLit). IsSide side) (sym same) (wider_side f c.args.set.now
+    c.members.ensures.kept.numbered)
 
 pub returns-clause-obliges : goal.returns-clause-obliges
 returns-clause-obliges g c =

@@ -42,10 +42,12 @@ returns-in_err-next-clause-run g c =
     run_joined (WiderSide f c.args.mode) NoSide (WiderSide f c.args.mode) 0 0 0 f (g.O.Oracle.log c.args.oracle.now)
     (g.O.Oracle.log c.oblige_wider.new.oracle) (g.O.Oracle.log c.find.new.self)
     (g.O.Oracle.pending c.oblige_wider.new.oracle) (g.O.Oracle.pending c.find.new.self) c.args.budget.now
-    c.oblige_wider.new.budget c.find.new.budget (Some c.in_err-next.field-0.0) (λ literals set made. made) (makes_none (WiderSide f c.args.mode))
+    c.oblige_wider.new.budget c.find.new.budget (Some c.in_err-next.field-0.0) (λ literals set made. made) (makes_none
+    (WiderSide f c.args.mode))
     (omega arith) c.in_ok-ask.ensures.run
     (subst (λ (w : Framework). HasRun NoSide 0 w (g.O.Oracle.log c.oblige_wider.new.oracle)
-    (g.O.Oracle.log c.find.new.self) (g.O.Oracle.pending c.find.new.self) c.oblige_wider.new.budget c.find.new.budget (Some c.in_err-next.field-0.0))
+    (g.O.Oracle.log c.find.new.self) (g.O.Oracle.pending c.find.new.self) c.oblige_wider.new.budget c.find.new.budget
+    (Some c.in_err-next.field-0.0))
     same c.in_err-next.ensures.run))
 
 pub returns-in-Set-clause-widens : goal.returns-in-Set-clause-widens
@@ -64,7 +66,8 @@ returns-in-Set-clause-widens g c =
       asked = c.as_slice.ensures.value ∙ c.in_ok-goals.ensures;
     } in
     look_wider f NoSide (g.O.Oracle.log c.oblige_wider.new.oracle) (g.O.Oracle.log c.find.new.self) c.args.mode
-    c.args.set.now c.args.range.now c.in-Set.next c.in_ok-ask.ask c.as_slice.result.now look c.in_ok-next.ensures.run.grows
+    c.args.set.now c.args.range.now c.in-Set.next c.in_ok-ask.ask c.as_slice.result.now look
+    c.in_ok-next.ensures.run.grows
     (subst (λ (w : Framework). MakesTrue w (g.O.Oracle.log c.find.new.self) c.as_slice.result.now c.in-Set.next) same
     (subst (λ (found : Found). IsFound mid (g.O.Oracle.log c.find.new.self) c.as_slice.result.now found) c.in-Set.is
     c.in_ok-next.ensures.found))
@@ -80,7 +83,8 @@ returns-in-Set-clause-run g c =
     c.oblige_wider.new.budget c.find.new.budget None (λ literals set made. made) (makes_none (WiderSide f c.args.mode))
     (omega arith) c.in_ok-ask.ensures.run
     (subst (λ (w : Framework). HasRun NoSide 0 w (g.O.Oracle.log c.oblige_wider.new.oracle)
-    (g.O.Oracle.log c.find.new.self) (g.O.Oracle.pending c.find.new.self) c.oblige_wider.new.budget c.find.new.budget None)
+    (g.O.Oracle.log c.find.new.self) (g.O.Oracle.pending c.find.new.self) c.oblige_wider.new.budget c.find.new.budget
+    None)
     same
     (subst (λ (found : Found). HasRun NoSide (closes (Ok found)) mid (g.O.Oracle.log c.oblige_wider.new.oracle)
     (g.O.Oracle.log c.find.new.self) (g.O.Oracle.pending c.find.new.self) c.oblige_wider.new.budget c.find.new.budget
@@ -120,7 +124,8 @@ returns-clause-run g c =
     c.oblige_wider.new.budget c.find.new.budget None (λ literals set made. made) (makes_none (WiderSide f c.args.mode))
     (omega arith) c.in_ok-ask.ensures.run
     (subst (λ (w : Framework). HasRun NoSide 1 w (g.O.Oracle.log c.oblige_wider.new.oracle)
-    (g.O.Oracle.log c.find.new.self) (g.O.Oracle.pending c.find.new.self) c.oblige_wider.new.budget c.find.new.budget None)
+    (g.O.Oracle.log c.find.new.self) (g.O.Oracle.pending c.find.new.self) c.oblige_wider.new.budget c.find.new.budget
+    None)
     same
     (subst (λ (found : Found). HasRun NoSide (closes (Ok found)) mid (g.O.Oracle.log c.oblige_wider.new.oracle)
     (g.O.Oracle.log c.find.new.self) (g.O.Oracle.pending c.find.new.self) c.oblige_wider.new.budget c.find.new.budget

@@ -21,7 +21,8 @@ returns-in_err-next-clause-run g c =
     run_joined (WiderSide f c.args.mode) (WiderSide f c.args.mode) (WiderSide f c.args.mode) 0 0 1 f
     (g.O.Oracle.log c.args.oracle.now) (g.O.Oracle.log c.loop-grown.oracle) (g.O.Oracle.log c.widen.new.oracle)
     (g.O.Oracle.pending c.loop-grown.oracle) (g.O.Oracle.pending c.widen.new.oracle) c.args.budget.now
-    c.loop-grown.budget c.widen.new.budget (Some c.in_err-next.field-0.0) (λ literals set made. made) (λ literals set made. made) (omega arith)
+    c.loop-grown.budget c.widen.new.budget (Some c.in_err-next.field-0.0) (λ literals set made. made) (λ literals set
+    made. made) (omega arith)
     c.loop-grown.invariant.run
     (subst (λ (w : Framework). HasRun (WiderSide w c.args.mode) 0 w (g.O.Oracle.log c.loop-grown.oracle)
     (g.O.Oracle.log c.widen.new.oracle) (g.O.Oracle.pending c.widen.new.oracle) c.loop-grown.budget c.widen.new.budget
@@ -47,7 +48,8 @@ returns-in-Widest-clause-run g c =
 pub loop-grown-smaller : goal.loop-grown-smaller
 loop-grown-smaller g c =
     let now = g.O.Oracle.framework c.loop-grown.oracle in
-    let wider = subst (λ (found : Widening). Widens now (g.O.Oracle.log c.widen.new.oracle) c.args.mode c.loop-grown.grown
+    let wider = subst (λ (found : Widening). Widens now (g.O.Oracle.log c.widen.new.oracle) c.args.mode
+    c.loop-grown.grown
     found) c.in-Wider.is c.in_ok-next.ensures.widens in
     subst (λ (w : Framework). open_count w c.in-Wider.next < open_count now c.loop-grown.grown)
     (sym c.in_ok-next.ensures.framework) (fewer_open now c.loop-grown.grown c.in-Wider.next wider.1)
@@ -57,7 +59,8 @@ loop-grown-preserved g c =
     let f = g.O.Oracle.framework c.args.oracle.now in
     let now = g.O.Oracle.framework c.loop-grown.oracle in
     let same : now ≡ f = c.loop-grown.invariant.framework in
-    let wider = subst (λ (found : Widening). Widens now (g.O.Oracle.log c.widen.new.oracle) c.args.mode c.loop-grown.grown
+    let wider = subst (λ (found : Widening). Widens now (g.O.Oracle.log c.widen.new.oracle) c.args.mode
+    c.loop-grown.grown
     found) c.in-Wider.is c.in_ok-next.ensures.widens in
     record {
       framework = c.in_ok-next.ensures.framework ∙ same;
@@ -66,13 +69,16 @@ loop-grown-preserved g c =
           run_joined (WiderSide f c.args.mode) (WiderSide f c.args.mode) (WiderSide f c.args.mode) 0 0 0 f
           (g.O.Oracle.log c.args.oracle.now) (g.O.Oracle.log c.loop-grown.oracle) (g.O.Oracle.log c.widen.new.oracle)
           (g.O.Oracle.pending c.loop-grown.oracle) (g.O.Oracle.pending c.widen.new.oracle) c.args.budget.now
-          c.loop-grown.budget c.widen.new.budget None (λ literals set made. made) (λ literals set made. made) (omega arith)
+          c.loop-grown.budget c.widen.new.budget None (λ literals set made. made) (λ literals set made. made) (omega
+          arith)
           c.loop-grown.invariant.run
           (subst (λ (w : Framework). HasRun (WiderSide w c.args.mode) 0 w (g.O.Oracle.log c.loop-grown.oracle)
-          (g.O.Oracle.log c.widen.new.oracle) (g.O.Oracle.pending c.widen.new.oracle) c.loop-grown.budget c.widen.new.budget
+          (g.O.Oracle.log c.widen.new.oracle) (g.O.Oracle.pending c.widen.new.oracle) c.loop-grown.budget
+          c.widen.new.budget
           None) same
           (subst (λ (found : Widening). HasRun (WiderSide now c.args.mode) (closed_by (Ok found)) now
-          (g.O.Oracle.log c.loop-grown.oracle) (g.O.Oracle.log c.widen.new.oracle) (g.O.Oracle.pending c.widen.new.oracle)
+          (g.O.Oracle.log c.loop-grown.oracle) (g.O.Oracle.log c.widen.new.oracle) (g.O.Oracle.pending
+          c.widen.new.oracle)
           c.loop-grown.budget c.widen.new.budget None) c.in-Wider.is c.in_ok-next.ensures.run));
       follows = search rules;
       has_mode = subst (λ (w : Framework). HoldsOf w c.in-Wider.next c.args.mode) same wider.0;
