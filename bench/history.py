@@ -141,8 +141,8 @@ mod FirstLemmas
 """,
     "proofs/FirstLemmas.antt": """\
 -- What holds of each of some items, of which the first is lent.
-use Rattle.std.proofs.Common.{arith, ◌≡◌, ℕ, zero, suc, List, ◌∷◌, map, refl, sym, ap, subst, ◌∙◌}
-use Rattle.std.specs.Prelude.{All, ◌<◌, length}
+use Rattle.std.proofs.Common.{arith, ◌≡◌, ℕ, zero, suc, List, ◌∷◌, map, sym, ap, subst, ◌∙◌}
+use Rattle.std.specs.Prelude.{All}
 
 module _ {X : Type 0} (P : X → Type 0) where
   pub first_of : (xs : List X) (x : X) (rest : List X) → All P xs → xs ≡ x ∷ rest → P x
