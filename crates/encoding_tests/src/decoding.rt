@@ -30,29 +30,54 @@ fn is_read_as(alloc: Global, values: &[AtomLit], set: &[u32]) -> Result<bool, Me
     Ok(read.as_slice() == set && again.as_slice() == set)
 }
 
+/// Literals, and the set that they are read as.
+#[derive(Drop)]
+struct Row<'a> {
+    values: &'a [AtomLit],
+    set: &'a [u32],
+}
+
 /// A member counts where it is said to be live, whatever the order and the other literals: 9 isn't live, 3 is none.
 #[test]
 fn sets(rt: HostRuntime) -> Result<(), Fail> {
-    let alloc = rt.alloc();
-    let values = [
-        is(Ad),
-        is(Member(2)),
-        is(Member(9)),
-        not(Live(9)),
-        is(Live(2)),
-        is(Live(1)),
-        not(Member(3)),
-        is(Live(3)),
-        is(Range(3)),
-        is(Tail(3, 1)),
-        is(Member(1)),
-        is(Member(2)),
+    let rows = [
+        Row {
+            values: &[
+                is(Ad),
+                is(Member(2)),
+                is(Member(9)),
+                not(Live(9)),
+                is(Live(2)),
+                is(Live(1)),
+                not(Member(3)),
+                is(Live(3)),
+                is(Range(3)),
+                is(Tail(3, 1)),
+                is(Member(1)),
+                is(Member(2)),
+            ],
+            set: &[1, 2],
+        },
+        Row {
+            values: &[is(Member(1)), not(Live(1))],
+            set: &[],
+        },
+        Row {
+            values: &[is(Live(1)), not(Member(1))],
+            set: &[],
+        },
+        Row {
+            values: &[],
+            set: &[],
+        },
+        Row {
+            values: &[is(Member(7)), is(Live(7))],
+            set: &[7],
+        },
     ];
-    assert!(rt; is_read_as(alloc, &values, &[1, 2])?);
-    assert!(rt; is_read_as(alloc, &[is(Member(1)), not(Live(1))], &[])?);
-    assert!(rt; is_read_as(alloc, &[is(Live(1)), not(Member(1))], &[])?);
-    assert!(rt; is_read_as(alloc, &[], &[])?);
-    assert!(rt; is_read_as(alloc, &[is(Member(7)), is(Live(7))], &[7])?);
+    for row in &rows {
+        assert!(rt; is_read_as(rt.alloc(), row.values, row.set)?);
+    }
     Ok(())
 }
 

@@ -10,6 +10,7 @@ use meaning_atoms::{Atom, AtomLit, AxiomName};
 use plain_lits::{Budget, Clause, Lit};
 use sat_core::{Added, Solved, Solver};
 use std::alloc::Global;
+use std::process::Abort;
 use std::test::Fail;
 
 fn is(atom: Atom) -> AtomLit {
@@ -136,83 +137,106 @@ fn finds(alloc: Global, plain: &AfPlain, goals: &[AtomLit], set: Option<&[u32]>)
     }
 }
 
+/// Goals, and the set that their model is read as; none where they have no model.
+#[derive(Drop)]
+struct Row<'a> {
+    goals: &'a [AtomLit],
+    set: Option<&'a [u32]>,
+}
+
+fn check(rt: &impl Abort, alloc: Global, plain: &AfPlain, rows: &[Row]) -> Result<(), Fail> {
+    for (number, row) in rows.iter().enumerate() {
+        assert!(rt;
+            finds(alloc, plain, row.goals, row.set) == Some(true),
+            "row {number}"
+        );
+    }
+    Ok(())
+}
+
 /// 1 and 2 attack each other, and 2 attacks 3: 3 is defended by 1 alone.
 #[test]
-fn modes_and_places(rt: HostRuntime) -> Result<(), Fail> {
-    let alloc = rt.alloc();
-    let plain = AfPlain::of_lists(alloc, &[1, 2, 3], &[(1, 2), (2, 1), (2, 3)])?;
-    assert!(rt; finds(alloc, &plain, &[is(Ad), is(Member(3))], Some(&[1, 3])) == Some(true));
-    assert!(rt; finds(alloc, &plain, &[is(St), is(Member(2))], Some(&[2])) == Some(true));
-    assert!(rt; finds(alloc, &plain, &[is(St), not(Member(2))], Some(&[1, 3])) == Some(true));
-    assert!(rt;
-        finds(
-            alloc,
-            &plain,
-            &[is(Co), not(Member(1)), not(Member(2))],
-            Some(&[])
-        ) == Some(true)
-    );
-    assert!(rt;
-        finds(
-            alloc,
-            &plain,
-            &[is(Cf), is(Member(3)), not(Member(1))],
-            Some(&[3])
-        ) == Some(true)
-    );
-    assert!(rt;
-        finds(
-            alloc,
-            &plain,
-            &[is(Ad), is(Member(3)), not(Member(1))],
-            None
-        ) == Some(true)
-    );
-    assert!(rt;
-        finds(
-            alloc,
-            &plain,
-            &[is(Co), is(Member(1)), not(Member(3))],
-            None
-        ) == Some(true)
-    );
-    Ok(())
+fn modes(rt: HostRuntime) -> Result<(), Fail> {
+    let plain = AfPlain::of_lists(rt.alloc(), &[1, 2, 3], &[(1, 2), (2, 1), (2, 3)])?;
+    let rows = [
+        Row {
+            goals: &[is(Ad), is(Member(3))],
+            set: Some(&[1, 3]),
+        },
+        Row {
+            goals: &[is(St), is(Member(2))],
+            set: Some(&[2]),
+        },
+        Row {
+            goals: &[is(St), not(Member(2))],
+            set: Some(&[1, 3]),
+        },
+        Row {
+            goals: &[is(Co), not(Member(1)), not(Member(2))],
+            set: Some(&[]),
+        },
+        Row {
+            goals: &[is(Cf), is(Member(3)), not(Member(1))],
+            set: Some(&[3]),
+        },
+        Row {
+            goals: &[is(Ad), is(Member(3)), not(Member(1))],
+            set: None,
+        },
+        Row {
+            goals: &[is(Co), is(Member(1)), not(Member(3))],
+            set: None,
+        },
+    ];
+    check(&rt, rt.alloc(), &plain, &rows)
 }
 
 /// The same framework: who is in the range, and who is attacked.
 #[test]
 fn ranges(rt: HostRuntime) -> Result<(), Fail> {
-    let alloc = rt.alloc();
-    let plain = AfPlain::of_lists(alloc, &[1, 2, 3], &[(1, 2), (2, 1), (2, 3)])?;
-    assert!(rt;
-        finds(
-            alloc,
-            &plain,
-            &[is(Ad), is(Range(3)), not(Member(3))],
-            Some(&[2])
-        ) == Some(true)
-    );
-    assert!(rt; finds(alloc, &plain, &[is(Ad), is(Tail(1, 1))], Some(&[2])) == Some(true));
-    assert!(rt; finds(alloc, &plain, &[is(Ad), not(Range(1))], Some(&[])) == Some(true));
-    assert!(rt; finds(alloc, &plain, &[is(Ad), is(Member(1)), not(Range(2))], None) == Some(true));
-    assert!(rt;
-        finds(
-            alloc,
-            &plain,
-            &[is(Cf), is(Member(2)), not(Tail(3, 1))],
-            None
-        ) == Some(true)
-    );
-    Ok(())
+    let plain = AfPlain::of_lists(rt.alloc(), &[1, 2, 3], &[(1, 2), (2, 1), (2, 3)])?;
+    let rows = [
+        Row {
+            goals: &[is(Ad), is(Range(3)), not(Member(3))],
+            set: Some(&[2]),
+        },
+        Row {
+            goals: &[is(Ad), is(Tail(1, 1))],
+            set: Some(&[2]),
+        },
+        Row {
+            goals: &[is(Ad), not(Range(1))],
+            set: Some(&[]),
+        },
+        Row {
+            goals: &[is(Ad), is(Member(1)), not(Range(2))],
+            set: None,
+        },
+        Row {
+            goals: &[is(Cf), is(Member(2)), not(Tail(3, 1))],
+            set: None,
+        },
+    ];
+    check(&rt, rt.alloc(), &plain, &rows)
 }
 
 /// Three in a ring have no stable set, and the empty set alone is complete.
 #[test]
 fn a_ring(rt: HostRuntime) -> Result<(), Fail> {
-    let alloc = rt.alloc();
-    let plain = AfPlain::of_lists(alloc, &[1, 2, 3], &[(1, 2), (2, 3), (3, 1)])?;
-    assert!(rt; finds(alloc, &plain, &[is(St)], None) == Some(true));
-    assert!(rt; finds(alloc, &plain, &[is(Co)], Some(&[])) == Some(true));
-    assert!(rt; finds(alloc, &plain, &[is(Ad), is(Member(1))], None) == Some(true));
-    Ok(())
+    let plain = AfPlain::of_lists(rt.alloc(), &[1, 2, 3], &[(1, 2), (2, 3), (3, 1)])?;
+    let rows = [
+        Row {
+            goals: &[is(St)],
+            set: None,
+        },
+        Row {
+            goals: &[is(Co)],
+            set: Some(&[]),
+        },
+        Row {
+            goals: &[is(Ad), is(Member(1))],
+            set: None,
+        },
+    ];
+    check(&rt, rt.alloc(), &plain, &rows)
 }
