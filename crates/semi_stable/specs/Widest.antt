@@ -2,8 +2,7 @@
 --
 -- Sources: M. Caminada, "Semi-stable semantics", COMMA 2006, for admissible sets; B. Verheij, "Two approaches to
 -- dialectical argumentation: admissible sets and argumentation stages", NAIC 1996, for conflict-free ones.
-use Rattle.std.specs.Prelude.{ℕ, List, [], ◌∷◌, Contains, Result, Ok}
-use Rattle.plain_lits.specs.declared.halt.Halt.{Halt}
+use Rattle.std.specs.Prelude.{ℕ, List, [], ◌∷◌, Contains}
 use Rattle.plain_lists.specs.Members.{IsSetOf}
 use Rattle.semantics.specs.Frameworks.{Framework}
 use Rattle.meaning_atoms.specs.declared.atom.Atom.{Atom}
@@ -12,44 +11,37 @@ use Rattle.meaning_atoms.specs.Worlds.{HoldsOf}
 use Rattle.certificate_claims.specs.Claims.{claim_of}
 use Rattle.certificate_claims.specs.Refutations.{Claim}
 use Rattle.certificate_claims.specs.SetLiterals.{are_ranged, members, range_of, wider}
+use Rattle.oracle_face.specs.declared.face.Found.{Found}
+use Rattle.oracle_face.specs.declared.face.Found.TheVariants.{Set, Refuted}
 use Rattle.oracle_face.specs.Goals.{Refutes}
 use Rattle.oracle_face.specs.Growing.{Making}
 use Rattle.oracle_face.specs.Kinds.{IsRanged}
 use Rattle.oracle_face.specs.Logs.{IsSameClause, OracleLog}
-use Rattle.semi_stable.specs.declared.widest.Widening.{Widening}
-use Rattle.semi_stable.specs.declared.widest.Widening.TheVariants.{Wider, Widest as NoWider}
-use Rattle.semi_stable.specs.declared.widest.Widest.{Widest as WidestSet}
+use Rattle.semi_stable.specs.declared.widest.Widest.{Widest}
 
 -- the claim that no set of the mode has all of the set's range, and something more
 abbrev pub wider_claim : Framework → Atom → List ℕ → Claim
 wider_claim f mode e = claim_of (affirmed mode ∷ are_ranged (range_of f e)) (wider f e ∷ [])
 
--- a side clause that something is in the range that isn't in that of the set, which has the mode
-abbrev pub WiderSide : Framework → Atom → Making
-WiderSide f mode literals set = HoldsOf f set mode × IsSameClause literals (wider f set)
+-- the side clause that something is in the range that isn't in that of a set of the mode, made from that set
+abbrev pub MadeWider : Framework → Atom → Making
+MadeWider f mode literals set = HoldsOf f set mode × IsSameClause literals (wider f set)
 
 -- the one set's range lies in the other's
 abbrev pub IsRangeIn : Framework → List ℕ → List ℕ → Type 0
 IsRangeIn f less more = (a : ℕ) → IsRanged f less a → IsRanged f more a
 
--- and the other's has something more
-pub record HasWiderRange (f : Framework) (less more : List ℕ) : Type 0 where
-  pub all : IsRangeIn f less more
-  pub further : (a : ℕ) × Contains (members f) a × IsRanged f more a × ¬ IsRanged f less a
-
--- a look for a wider range gave a set of the mode that has one, or the step that refutes that there is one
-abbrev pub Widens : Framework → OracleLog → Atom → List ℕ → Widening → Type 0
-Widens f log mode set (Wider next) = HoldsOf f next mode × HasWiderRange f set next
-Widens f log mode set (NoWider step) = Refutes f log (wider_claim f mode set) step
-
--- how many steps a look for a wider range logs that only end it: one where there is none
-abbrev pub closed_by : Result Widening Halt → ℕ
-closed_by (Ok (NoWider step)) = 1
-closed_by _ = 0
+-- a set of the mode that has all of the set's range and more, or a step that refutes that there is one
+abbrev pub IsWider : Framework → OracleLog → Atom → List ℕ → Found → Type 0
+IsWider f log mode set (Set found) =
+    HoldsOf f found mode
+    × IsRangeIn f set found
+    × ((a : ℕ) × Contains (members f) a × IsRanged f found a × ¬ IsRanged f set a)
+IsWider f log mode set (Refuted step) = Refutes f log (wider_claim f mode set) step
 
 -- a set of the mode whose range holds the given one's, and the step that refutes that some set of the mode has a wider
 -- range
-pub record IsWidestFrom (f : Framework) (log : OracleLog) (mode : Atom) (given : List ℕ) (found : WidestSet)
+pub record IsWidestFrom (f : Framework) (log : OracleLog) (mode : Atom) (given : List ℕ) (found : Widest)
     : Type 0 where
   pub has_mode : HoldsOf f found.set mode
   pub range : IsSetOf (IsRanged f found.set) found.range
