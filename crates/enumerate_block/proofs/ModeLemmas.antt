@@ -1,20 +1,18 @@
 -- Lists of all sets of a mode.
-use Rattle.std.proofs.Common.{◌≡◌, inl, inr, ⊎_elim, ℕ, ◌+◌, ◌<◌, ◌≤◌, ◌&&◌, Bool, true, false, not, List, [], ◌∷◌, ◌++◌, length, map, filter, refl, ap, sym, subst, ◌∙◌, arith}
-use Rattle.std.specs.Prelude.{◌↔◌, ◌⊎◌, IsTrue, Contains, Option, None, Some, Result, Ok, Err, IfOk}
+use Rattle.std.proofs.Common.{◌≡◌, inl, inr, ⊎_elim, ℕ, ◌+◌, ◌<◌, ◌≤◌, ◌&&◌, Bool, true, false, not, List, [], ◌∷◌, ◌++◌, length, filter, refl, ap, sym, subst, ◌∙◌, arith}
+use Rattle.std.specs.Prelude.{◌↔◌, ◌⊎◌, Contains, Option, None, Result, Ok, Err, IfOk}
 use Rattle.std.specs.List.{list_any}
-use Rattle.std.proofs.lemmas.Bool.{and_from, and_parts, cases_Bool, not_from_false, false_from_ne_true}
+use Rattle.std.proofs.lemmas.Bool.{and_from, and_parts, not_from_false, false_from_ne_true}
 use Rattle.std.proofs.lemmas.List.Elements.{Contains-append_left, Contains-append_cases}
 use Rattle.plain_lists.specs.Members.{IsWithin}
 use Rattle.plain_lists.proofs.Filters.{Contains-filter}
 use Rattle.plain_lists.proofs.ListTests.{any_from, any_gives}
 use Rattle.plain_lists.proofs.Membership.{Contains-nil, Contains-head, Contains-pushed}
 use Rattle.plain_lits.specs.declared.halt.Halt.{Halt}
-use Rattle.plain_lits.specs.HintCheck.{IsTautology}
 use Rattle.plain_lits.specs.Units.{Units}
 use Rattle.plain_lits.proofs.HintCheckLemmas.{Contains-mapped}
 use Rattle.semantics.specs.Frameworks.{Framework, af, IsNumbered}
 use Rattle.semantics.specs.Laws.{HasSameMembers}
-use Rattle.semantics.specs.Sets.{IsListed}
 use Rattle.semantics.proofs.Extensions.{stable_largest}
 use Rattle.meaning_atoms.specs.declared.atom.Atom.{Atom}
 use Rattle.meaning_atoms.specs.declared.atom.Atom.TheVariants.{Member, Ad, Co, St}
@@ -22,7 +20,6 @@ use Rattle.meaning_atoms.specs.declared.atom.AtomLit.{AtomLit}
 use Rattle.meaning_atoms.specs.Literals.{affirmed, denied, negated}
 use Rattle.meaning_atoms.specs.Worlds.{HoldsOf, IsAsk}
 use Rattle.certificate_claims.specs.Refutations.{IsPlain}
-use Rattle.certificate_claims.specs.Rights.{SetsRise}
 use Rattle.certificate_claims.specs.SetLiterals.{differs, has, members}
 use Rattle.certificate_claims.proofs.SetTests.{has_from, has_gives}
 use Rattle.certificate_laws.proofs.GoalLists.{asks_cons, asks_nil, only_one, plain_mapped}
@@ -31,9 +28,9 @@ use Rattle.certificate_laws.proofs.SideClauses.{differs_plain, world_of_admissib
 use Rattle.oracle_face.specs.declared.face.Found.{Found}
 use Rattle.oracle_face.specs.declared.face.Found.TheVariants.{Set, Refuted}
 use Rattle.oracle_face.specs.declared.face.Pending.{Pending}
-use Rattle.oracle_face.specs.Goals.{AreGoals, IsMemberAtom, IsMode, IsSide, Refutes, SpeaksOf}
-use Rattle.oracle_face.specs.Growing.{Grows, HasRun, IsFound, Making, NoSide, Obliges, OnlySide, closes}
-use Rattle.oracle_face.specs.Logs.{IsKept, IsNumberOf, IsSameClause, OracleLog, SideClause, side_at}
+use Rattle.oracle_face.specs.Goals.{AreGoals, IsMemberAtom, IsMode, IsSide, Refutes}
+use Rattle.oracle_face.specs.Growing.{Grows, HasRun, IsFound, Making, Obliges, OnlySide, closes}
+use Rattle.oracle_face.specs.Logs.{IsKept, IsSameClause, OracleLog, SideClause, side_at}
 use Rattle.oracle_face.proofs.GrowingLemmas.{Makes, run_joined}
 use Rattle.oracle_face.proofs.Refuting.{claim_excluded, grown_side, number_grown, refutes_claim}
 use Rattle.goal_lists.specs.AllSets.{all_sets, is_part}

@@ -1,10 +1,9 @@
-use Rattle.std.proofs.Common.{◌≡◌, ◌∙◌, ◌+◌, ◌≤◌, refl, arith}
-use Rattle.std.specs.Prelude.{None}
+use Rattle.std.proofs.Common.{◌∙◌, ◌+◌, ◌≤◌, refl, arith}
 use Rattle.oracle_face.specs.Growing.{HasRun}
 use Rattle.oracle_face.proofs.GrowingLemmas.{run_none}
 use Rattle.goal_lists.proofs.Calls.{handed_on}
 use Rattle.enumerate_block.specs.Modes.{MadeDiffers}
-use Rattle.enumerate_block.proofs.ModeLemmas.{closes_refuted, closes_set, fewer_unlisted, further_refuted, further_set, listing_empty, listing_grown, listing_kept, mode_members, not_recorded, recorded, then_call}
+use Rattle.enumerate_block.proofs.ModeLemmas.{closes_refuted, closes_set, fewer_unlisted, further_refuted, further_set, listing_empty, listing_grown, listing_kept, mode_members, recorded, then_call}
 use Rattle.enumerate_block.proofs.with_mode.all_with_mode.Goals as goal
 
 pub returns-in_err-step-clause-run : goal.returns-in_err-step-clause-run

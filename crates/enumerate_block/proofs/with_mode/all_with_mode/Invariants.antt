@@ -1,4 +1,4 @@
-use Rattle.std.proofs.Common.{◌≡◌, length}
+use Rattle.std.proofs.Common.{◌≡◌}
 use Rattle.std.specs.Prelude.{None}
 use Rattle.oracle_face.specs.Logs.{IsKept}
 use Rattle.oracle_face.specs.Growing.{HasRun}

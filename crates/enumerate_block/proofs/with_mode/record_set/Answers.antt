@@ -1,5 +1,5 @@
-use Rattle.std.proofs.Common.{◌≡◌, ◌∙◌, ◌≤◌, ◌<◌, length, subst, sym, arith}
-use Rattle.std.specs.Prelude.{Contains, None, Some}
+use Rattle.std.proofs.Common.{◌∙◌, ◌≤◌, ◌<◌, length, subst, arith}
+use Rattle.std.specs.Prelude.{Contains}
 use Rattle.plain_lits.specs.declared.halt.Halt.TheVariants.{Memory}
 use Rattle.oracle_face.specs.Growing.{HasRun, OnlySide}
 use Rattle.oracle_face.proofs.GrowingLemmas.{run_as}
