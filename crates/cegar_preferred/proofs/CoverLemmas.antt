@@ -1,8 +1,8 @@
 -- Covers by sets that accept an argument.
-use Rattle.std.proofs.Common.{◌≡◌, inl, inr, ⊎_elim, ℕ, ◌+◌, ◌*◌, ◌<◌, ◌≤◌, Bool, true, false, not, List, [], ◌∷◌, ◌++◌, length, map, filter, refl, ap, sym, subst, ◌∙◌, arith}
-use Rattle.std.specs.Prelude.{◌↔◌, Contains, IsTrue, Option, None, Some, Result, Ok, Err, IfOk}
+use Rattle.std.proofs.Common.{◌≡◌, ⊎_elim, ℕ, ◌+◌, ◌*◌, ◌<◌, ◌≤◌, Bool, true, not, List, [], ◌∷◌, ◌++◌, length, filter, refl, ap, sym, subst, ◌∙◌, arith}
+use Rattle.std.specs.Prelude.{◌↔◌, Contains, IsTrue, Option, None, Result, Ok, Err, IfOk}
 use Rattle.std.specs.List.{list_any}
-use Rattle.std.proofs.lemmas.Bool.{cases_Bool, not_from_false, false_from_ne_true}
+use Rattle.std.proofs.lemmas.Bool.{not_from_false, false_from_ne_true}
 use Rattle.std.proofs.lemmas.List.{length-append}
 use Rattle.std.proofs.lemmas.List.Elements.{Contains-append_left, Contains-append_cases}
 use Rattle.plain_lists.specs.Members.{IsWithin}
@@ -27,10 +27,10 @@ use Rattle.certificate_laws.proofs.LargestSets.{covered_accepts}
 use Rattle.certificate_laws.proofs.SideClauses.{outside_plain}
 use Rattle.oracle_face.specs.declared.face.Found.{Found}
 use Rattle.oracle_face.specs.declared.face.Found.TheVariants.{Set, Refuted}
-use Rattle.oracle_face.specs.Goals.{AreGoals, IsClaimSide, Refutes, SpeaksOf}
+use Rattle.oracle_face.specs.Goals.{AreGoals, Refutes}
 use Rattle.oracle_face.specs.Growing.{Grows, Making, IsFound}
-use Rattle.oracle_face.specs.Logs.{IsKept, IsNumberOf, IsSameClause, OracleLog, SideClause, side_at}
-use Rattle.oracle_face.proofs.Refuting.{claim_excluded, refutes_claim, refutes_grown}
+use Rattle.oracle_face.specs.Logs.{IsKept, IsSameClause, OracleLog}
+use Rattle.oracle_face.proofs.Refuting.{claim_excluded, refutes_claim}
 use Rattle.goal_lists.specs.AllSets.{all_sets, is_part}
 use Rattle.goal_lists.specs.Asking.{AreApart, goals_of}
 use Rattle.goal_lists.proofs.AskedGoals.{are_goals, within_claim, asked_there, asked_true, in_outside, member_of, not_within, outside_form}

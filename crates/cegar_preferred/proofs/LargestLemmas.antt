@@ -1,6 +1,6 @@
 -- Sets that lie in no larger admissible one.
-use Rattle.std.proofs.Common.{◌≡◌, inl, inr, ⊎_elim, ℕ, ◌+◌, ◌<◌, ◌≤◌, Bool, true, false, not, List, [], ◌∷◌, ◌++◌, length, map, filter, refl, ap, sym, subst, ◌∙◌, arith}
-use Rattle.std.specs.Prelude.{Contains, Option, None, Some, Result, Ok, Err, IfOk}
+use Rattle.std.proofs.Common.{◌≡◌, ℕ, ◌+◌, ◌≤◌, List, [], ◌∷◌, refl, ap, sym, subst, ◌∙◌, arith}
+use Rattle.std.specs.Prelude.{Option, None, Result, Ok, Err, IfOk}
 use Rattle.plain_lists.specs.Members.{IsWithin}
 use Rattle.plain_lists.proofs.Membership.{Contains-nil, Contains-head, Contains-tail}
 use Rattle.plain_lits.specs.declared.halt.Halt.{Halt}
@@ -14,7 +14,7 @@ use Rattle.meaning_atoms.specs.Worlds.{HoldsOf}
 use Rattle.iccma_tasks.specs.declared.task.Semantics.TheVariants.{Preferred}
 use Rattle.certificate_claims.specs.Refutations.{IsPlain}
 use Rattle.certificate_claims.specs.Rights.{IsExtension}
-use Rattle.certificate_claims.specs.SetLiterals.{members, are_in, outside}
+use Rattle.certificate_claims.specs.SetLiterals.{are_in, outside}
 use Rattle.certificate_laws.proofs.GoalLists.{asks_cons, plain_mapped, only_one}
 use Rattle.certificate_laws.proofs.LargestSets.{largest_preferred}
 use Rattle.certificate_laws.proofs.SideClauses.{in_plain, outside_plain}
@@ -27,7 +27,7 @@ use Rattle.oracle_face.specs.Logs.{IsKept, IsNumberOf, IsSameClause, OracleLog, 
 use Rattle.oracle_face.proofs.GrowingLemmas.{Makes, run_joined}
 use Rattle.oracle_face.proofs.Refuting.{claim_excluded, grown_side, number_grown, refutes_claim}
 use Rattle.goal_lists.specs.Asking.{goals_of}
-use Rattle.goal_lists.proofs.AskedGoals.{IsAskable, are_goals, Covers, within_claim, outside_side, outside_speaks, speaks_same, asked_there, asked_true, not_within}
+use Rattle.goal_lists.proofs.AskedGoals.{are_goals, within_claim, outside_side, outside_speaks, speaks_same, asked_there, asked_true, not_within}
 use Rattle.goal_lists.proofs.Calls.{admissible_members, found_in, found_mode, makes_same}
 use Rattle.cegar_preferred.specs.Largest.{AsksOutside, MadeOutside, largest_claim, IsLarger, IsMaximalFrom}
 

@@ -3,7 +3,6 @@ use Rattle.std.specs.Prelude.{ℕ, List, [], ◌∷◌}
 use Rattle.plain_lists.specs.Members.{IsWithin}
 use Rattle.semantics.specs.Frameworks.{Framework}
 use Rattle.meaning_atoms.specs.declared.atom.Atom.TheVariants.{Ad}
-use Rattle.meaning_atoms.specs.declared.atom.AtomLit.{AtomLit}
 use Rattle.meaning_atoms.specs.Literals.{affirmed}
 use Rattle.meaning_atoms.specs.Worlds.{HoldsOf}
 use Rattle.iccma_tasks.specs.declared.task.Semantics.TheVariants.{Preferred}

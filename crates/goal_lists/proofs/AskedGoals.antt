@@ -1,11 +1,11 @@
 -- What goals and side clauses about sets say, and that an oracle may be asked them.
-use Rattle.std.proofs.Common.{◌≡◌, inl, inr, ⊎_elim, ℕ, Bool, true, false, not, List, [], ◌∷◌, ◌++◌, map, filter, refl, ap, sym, subst, ◌∙◌}
+use Rattle.std.proofs.Common.{◌≡◌, inl, inr, ⊎_elim, ℕ, Bool, true, false, not, List, ◌++◌, filter, refl, ap, sym, subst}
 use Rattle.std.specs.Prelude.{Contains, ◌⊎◌, slice_index_or}
 use Rattle.std.proofs.lemmas.Bool.{not_from_false, false_from_ne_true}
 use Rattle.std.proofs.lemmas.List.Elements.{Contains-append_left, Contains-append_right, Contains-append_cases}
 use Rattle.plain_lists.specs.Members.{IsWithin}
 use Rattle.plain_lists.proofs.Filters.{Contains-filter}
-use Rattle.plain_lists.proofs.Membership.{Contains-nil, Contains-head, Contains-tail, Contains-cons_cases}
+use Rattle.plain_lists.proofs.Membership.{Contains-head, Contains-tail, Contains-cons_cases}
 use Rattle.plain_lits.specs.HintCheck.{IsTautology}
 use Rattle.plain_lits.proofs.HintCheckLemmas.{Contains-mapped, Contains-from_mapped}
 use Rattle.semantics.specs.Arguments.{IsArgument}
@@ -20,7 +20,7 @@ use Rattle.meaning_atoms.specs.Literals.{affirmed, denied, negated}
 use Rattle.meaning_atoms.specs.Worlds.{world_of, HoldsOf, Says, IsTrueAlone}
 use Rattle.certificate_claims.specs.Refutations.{Claim}
 use Rattle.certificate_claims.proofs.SetTests.{has_from, has_gives, ranged_from}
-use Rattle.certificate_claims.specs.SetLiterals.{has, is_ranged, members, are_in, are_out, are_ranged, outside, differs, wider, struck, attacked}
+use Rattle.certificate_claims.specs.SetLiterals.{has, is_ranged, members, are_in, are_out, are_ranged, outside, differs, wider, attacked}
 use Rattle.oracle_face.specs.Logs.{OracleLog, SideClause, IsNumberOf, IsSameClause, side_at}
 use Rattle.oracle_face.specs.Goals.{AreGoals, AsksSide, IsClaimSide, IsGoal, IsMode, IsOneSided, IsSide, IsWithinClaim, MakesTrue, SpeaksOf, Tells}
 use Rattle.oracle_face.proofs.StepTruth.{side_literals}

@@ -1,6 +1,6 @@
 -- What two calls of an oracle leave, and what a search for goals about sets finds.
-use Rattle.std.proofs.Common.{◌≡◌, inl, inr, ⊎_elim, ℕ, ◌+◌, ◌*◌, ◌<◌, ◌≤◌, Bool, true, false, not, List, [], ◌∷◌, ◌++◌, length, map, filter, refl, ap, sym, subst, ◌∙◌, eqb, arith}
-use Rattle.std.specs.Prelude.{Contains, slice_index_or, get_or, Option, None, Some, Result, Ok, Err, IfOk}
+use Rattle.std.proofs.Common.{◌≡◌, ⊎_elim, ℕ, ◌+◌, ◌≤◌, true, List, [], ◌∷◌, ◌++◌, length, sym, subst, ◌∙◌, eqb, arith}
+use Rattle.std.specs.Prelude.{Contains, slice_index_or, get_or, Option, None, Some, Result, Ok, Err}
 use Rattle.std.proofs.lemmas.Bool.{cases_lt, eqb-true, false≢true, ne_eqb}
 use Rattle.std.specs.Result.{IsErr, IsErrAnd}
 use Rattle.std.proofs.lemmas.List.{get_or_append_left, get_or_default, get_or_push, length-append}
@@ -24,7 +24,7 @@ use Rattle.oracle_face.specs.declared.face.Pending.{Pending}
 use Rattle.oracle_face.specs.Goals.{IsMode, MakesTrue}
 use Rattle.oracle_face.specs.Growing.{Making, NoSide, OnlySide, HasRun, closes, halt_of}
 use Rattle.oracle_face.specs.Logs.{OracleLog, SideClause, IsNumberOf, literals_of}
-use Rattle.oracle_face.proofs.GrowingLemmas.{Makes, run_as, run_joined, run_refused}
+use Rattle.oracle_face.proofs.GrowingLemmas.{Makes, run_joined, run_refused}
 use Rattle.goal_lists.specs.Asking.{AreApart, goals_of}
 use Rattle.goal_lists.proofs.AskedGoals.{mode_there, in_there, out_there, ranged_there}
 

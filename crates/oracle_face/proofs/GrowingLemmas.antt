@@ -1,6 +1,6 @@
 -- What two calls leave, one after the other.
-use Rattle.std.proofs.Common.{◌≡◌, inl, inr, ⊎_elim, ℕ, ◌+◌, ◌-◌, ◌<◌, ◌≤◌, Bool, true, false, not, List, [], ◌++◌, length, take, refl, ap, sym, subst, ◌∙◌, arith}
-use Rattle.std.specs.Prelude.{Contains, slice_index_or, Option, None, Some}
+use Rattle.std.proofs.Common.{◌≡◌, ⊎_elim, ℕ, ◌+◌, ◌<◌, ◌≤◌, true, List, [], ◌++◌, length, take, refl, ap, sym, subst, ◌∙◌, arith}
+use Rattle.std.specs.Prelude.{slice_index_or, Option, None, Some}
 use Rattle.std.proofs.lemmas.Bool.{cases_lt}
 use Rattle.std.proofs.lemmas.List.{get_or_append_left, length-append, append-nil, append_assoc, take-append-le}
 use Rattle.plain_lits.specs.declared.halt.Halt.{Halt}
@@ -10,8 +10,8 @@ use Rattle.semantics.specs.Frameworks.{Framework}
 use Rattle.meaning_atoms.specs.declared.atom.AtomLit.{AtomLit}
 use Rattle.oracle_face.specs.declared.face.Pending.{Pending}
 use Rattle.oracle_face.specs.declared.face.Pending.TheVariants.{Side, Learned, Loop}
-use Rattle.oracle_face.specs.Logs.{LogStep, SideClause, OracleLog, IsNew, FactsAreFalse, working, is_unit, units_of, closings_of, no_side, no_step}
-use Rattle.oracle_face.specs.Growing.{Making, Grows, Works, UnlessMemory, IsFurther, IsSpent, IsStop, HasRun}
+use Rattle.oracle_face.specs.Logs.{LogStep, SideClause, OracleLog, IsNew, FactsAreFalse, working, is_unit, closings_of, no_side, no_step}
+use Rattle.oracle_face.specs.Growing.{Making, Grows, Works, UnlessMemory, IsFurther, IsStop, HasRun}
 
 -- each side clause that the one makes, the other makes too
 abbrev pub Makes : Making → Making → Type 0

@@ -1,20 +1,19 @@
 -- What a refuting step excludes, and how it stays one while the log grows.
-use Rattle.std.proofs.Common.{◌≡◌, inl, inr, ⊎_elim, ℕ, ◌+◌, ◌-◌, ◌<◌, ◌≤◌, Bool, true, false, not, List, [], ◌++◌, length, take, refl, ap, sym, subst, ◌∙◌, arith}
-use Rattle.std.specs.Prelude.{Contains, slice_index_or, IsTrue, Ok}
+use Rattle.std.proofs.Common.{◌≡◌, inl, inr, ⊎_elim, ℕ, ◌-◌, ◌<◌, Bool, true, false, not, List, ◌++◌, length, take, refl, ap, sym, subst, ◌∙◌, arith}
+use Rattle.std.specs.Prelude.{Contains}
 use Rattle.std.proofs.lemmas.List.{get_or_append_left, length-append, length-map, length-take-le, take_all}
-use Rattle.plain_lits.specs.HintCheck.{Checks}
 use Rattle.plain_lits.proofs.HintCheckLemmas.{taken_sound}
 use Rattle.semantics.specs.Frameworks.{Framework}
 use Rattle.meaning_atoms.specs.declared.atom.Atom.{Atom}
 use Rattle.meaning_atoms.specs.declared.atom.Atom.TheVariants.{Ask}
 use Rattle.meaning_atoms.specs.declared.atom.AtomLit.{AtomLit}
 use Rattle.meaning_atoms.specs.Literals.{affirmed, negated, AsksNothing}
-use Rattle.meaning_atoms.specs.Worlds.{world_of, IsWorldOf, Holds, HoldsOf, HoldsLit, Says, IsTrueAlone, IsTrueBeside}
-use Rattle.meaning_atoms.proofs.Clauses.{alone_holds, holds_alone, says_moved, from_alone}
+use Rattle.meaning_atoms.specs.Worlds.{world_of, IsWorldOf, Holds, HoldsOf, Says, IsTrueAlone}
+use Rattle.meaning_atoms.proofs.Clauses.{alone_holds, holds_alone, says_moved}
 use Rattle.af_axioms.specs.Facts.{IsFactValue}
-use Rattle.certificate_claims.specs.Refutations.{Claim, IsPlain, IsExcluded, MeetsGoals, MeetsSides}
+use Rattle.certificate_claims.specs.Refutations.{Claim, IsPlain, IsExcluded, MeetsSides}
 use Rattle.oracle_face.specs.Logs.{LogStep, SideClause, OracleLog, Source, by_axiom, by_side, by_hints, IsGiven, IsLog, IsNumberOf, IsSameClause, Reaches, itself, by_hint, hints_of, literals_of, clauses_of, step_at, side_at, no_side, no_step}
-use Rattle.oracle_face.specs.Goals.{MakesTrue, RefutesGoals, IsClaimSide, DeniesSide, AsksSide, IsWithinClaim, Refutes}
+use Rattle.oracle_face.specs.Goals.{MakesTrue, RefutesGoals, IsClaimSide, DeniesSide, IsWithinClaim, Refutes}
 use Rattle.oracle_face.specs.Growing.{Making, Grows}
 use Rattle.oracle_face.proofs.StepTruth.{steps_true, side_literals}
 

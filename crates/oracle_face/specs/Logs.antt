@@ -2,7 +2,7 @@
 -- they are made from.
 --
 -- Clauses are lists of literals, of which only the members count. Steps and side clauses are numbered from 1.
-use Rattle.std.specs.Prelude.{◌≡◌, ◌⊎◌, ℕ, ◌+◌, ◌-◌, ◌<◌, ◌≤◌, ◌&&◌, Bool, true, false, not, List, [], ◌∷◌, ◌++◌}
+use Rattle.std.specs.Prelude.{◌≡◌, ℕ, ◌-◌, ◌<◌, ◌≤◌, ◌&&◌, Bool, true, false, not, List, [], ◌∷◌}
 use Rattle.std.specs.Prelude.{length, map, filter, take, count_by, Contains, slice_index_or, Option, Some, None, Ok}
 use Rattle.plain_lits.specs.HintCheck.{Checks, IsTautology}
 use Rattle.semantics.specs.Frameworks.{Framework, IsNumbered}

@@ -1,5 +1,4 @@
-use Rattle.std.proofs.Common.{◌≡◌, ◌∙◌, ◌+◌, ◌*◌, ◌≤◌, length, arith}
-use Rattle.std.specs.Prelude.{None}
+use Rattle.std.proofs.Common.{◌∙◌, ◌+◌, ◌*◌, length, arith}
 use Rattle.oracle_face.specs.Growing.{HasRun}
 use Rattle.goal_lists.proofs.Calls.{handed_on}
 use Rattle.cegar_preferred.specs.Largest.{MadeOutside}

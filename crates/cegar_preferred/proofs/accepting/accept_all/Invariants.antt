@@ -1,6 +1,5 @@
 use Rattle.std.proofs.Common.{◌≡◌, length}
-use Rattle.std.specs.Prelude.{None, Contains}
-use Rattle.certificate_claims.specs.SetLiterals.{members}
+use Rattle.std.specs.Prelude.{None}
 use Rattle.oracle_face.specs.Logs.{IsKept}
 use Rattle.oracle_face.specs.Growing.{HasRun}
 use Rattle.cegar_preferred.specs.Covers.{IsCover}

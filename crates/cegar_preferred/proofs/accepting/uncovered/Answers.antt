@@ -1,4 +1,4 @@
-use Rattle.std.proofs.Common.{◌∙◌, ◌≤◌, ap, ◌∷◌, [], arith}
+use Rattle.std.proofs.Common.{◌∙◌, ap, ◌∷◌, [], arith}
 use Rattle.meaning_atoms.specs.declared.atom.Atom.TheVariants.{Ad}
 use Rattle.goal_lists.specs.Asking.{goals_of}
 use Rattle.oracle_face.proofs.GrowingLemmas.{run_as}

@@ -1,4 +1,4 @@
-use Rattle.std.proofs.Common.{◌≡◌, ℕ, not, length, filter}
+use Rattle.std.proofs.Common.{◌≡◌, not, length, filter}
 use Rattle.std.specs.Prelude.{None}
 use Rattle.plain_lists.specs.Members.{IsWithin}
 use Rattle.meaning_atoms.specs.declared.atom.Atom.TheVariants.{Ad}

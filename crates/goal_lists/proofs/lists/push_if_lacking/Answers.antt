@@ -1,4 +1,4 @@
-use Rattle.std.proofs.Common.{not, ◌∙◌, sym, ap, ◌++◌, ◌∷◌, [], map}
+use Rattle.std.proofs.Common.{not, ◌∙◌, sym, ap, ◌++◌, ◌∷◌, []}
 use Rattle.certificate_claims.specs.SetLiterals.{has}
 use Rattle.goal_lists.specs.Words.{literal_of}
 use Rattle.goal_lists.proofs.Lacking.{said_one, passed_one}
