@@ -1,7 +1,17 @@
--- No axiom's clause speaks of a side clause.
-use Rattle.std.proofs.Common.{◌≡◌, ◌==◌, ℕ, true, List, refl}
+-- No clause of an axiom, and no side clause, speaks of a side clause; the numbers of their literals are within bounds.
+use Rattle.std.proofs.Common.{◌≡◌, ◌==◌, ℕ, Bool, true, List, refl, sym, subst, arith}
 use Rattle.std.specs.List.{list_all}
+use Rattle.std.specs.Prelude.{Contains}
 use Rattle.std.proofs.lemmas.Bool.{cond_both}
+use Rattle.std.proofs.lemmas.List.Elements.{All-contains}
+use Rattle.semantics.specs.Arguments.{IsArgument}
+use Rattle.semantics.specs.Frameworks.{Framework, af}
+use Rattle.meaning_atoms.specs.declared.atom.Atom.{Atom}
+use Rattle.meaning_atoms.specs.declared.atom.Atom.TheVariants.{Member, Range, Tail, Ask}
+use Rattle.meaning_atoms.specs.Atoms.{IsAtom, IsLit, IsPosition}
+use Rattle.meaning_atoms.specs.Worlds.{IsAsk}
+use Rattle.af_axioms.proofs.Literals.{rows_fit}
+use Rattle.oracle_face.specs.Goals.{IsSide, Tells}
 use Rattle.meaning_atoms.specs.declared.atom.AtomLit.{AtomLit}
 use Rattle.meaning_atoms.specs.declared.axiom.AfAxiom.{AfAxiom}
 use Rattle.meaning_atoms.specs.declared.axiom.AfAxiom.TheVariants.{A1, A2, A3, A4, A5, A6, A7, A8, A9, A10, A11, A12, A13, A14}
@@ -10,7 +20,7 @@ use Rattle.meaning_atoms.specs.declared.axiom.AxiomName.TheVariants.{Af as OfAf}
 use Rattle.meaning_atoms.specs.Literals.{AsksNothing, not_ask}
 use Rattle.meaning_atoms.proofs.Clauses.{asks_nothing}
 use Rattle.af_axioms.specs.Table.{table_clause, notion_clause}
-use Rattle.certificate_claims.specs.Refutations.{axiom_clause}
+use Rattle.certificate_claims.specs.Refutations.{IsAxiomOf, axiom_clause}
 
 abbrev PassesTest : List AtomLit → Type 0
 PassesTest clause = list_all (λ (l : AtomLit). not_ask l.atom) clause ≡ true
@@ -38,3 +48,24 @@ row_plain (A14 part) = notion_plain part
 
 pub axiom_plain : (name : AxiomName) → AsksNothing (axiom_clause name)
 axiom_plain (OfAf name) = asks_nothing (table_clause name) (row_plain name)
+
+pub axiom_within : (f : Framework) (name : AxiomName) → IsAxiomOf f name → (l : AtomLit)
+    → Contains (axiom_clause name) l → IsLit l
+axiom_within (af f) (OfAf name) is l c = All-contains IsLit (table_clause name) l (rows_fit name is) c
+
+tells_no_ask : (P : ℕ → Type 0) (atom : Atom) (positive : Bool) → Tells P atom positive → IsAsk atom → ⊥
+tells_no_ask P (Ask n) positive tells ask = tells
+tells_no_ask P _ positive tells ask = ask
+
+pub side_plain : (side : List AtomLit) → IsSide side → AsksNothing side
+side_plain side is l c ask = tells_no_ask IsArgument l.atom l.positive (is.tells l c) ask
+
+tells_within : (atom : Atom) (positive : Bool) → Tells IsArgument atom positive → IsAtom atom
+tells_within (Member a) positive tells = tells
+tells_within (Range a) true tells = tells
+tells_within (Tail a i) true tells =
+    (tells.0, subst (λ (n : ℕ). IsPosition n) (sym tells.1) (record { low = omega arith; high = omega arith }))
+tells_within _ positive tells = absurd tells
+
+pub side_within : (side : List AtomLit) → IsSide side → (l : AtomLit) → Contains side l → IsLit l
+side_within side is l c = tells_within l.atom l.positive (is.tells l c)

@@ -162,9 +162,9 @@ working_step log clause c =
 ask_atom : (m n : ℕ) → denied (Ask m) ≡ affirmed (Ask n) → ⊥
 ask_atom m n e = false≢true (ap (λ (l : AtomLit). l.positive) e)
 
-side_plain : (side : List AtomLit) → IsSide side → (n : ℕ) (positive : Bool)
+asks_for_none : (side : List AtomLit) → IsSide side → (n : ℕ) (positive : Bool)
     → Contains side (record { atom = Ask n; positive = positive }) → ⊥
-side_plain side is n positive c = is.tells (record { atom = Ask n; positive = positive }) c
+asks_for_none side is n positive c = is.tells (record { atom = Ask n; positive = positive }) c
 
 no_clash : (side : List AtomLit) → IsSide side → IsTautology negated side → ⊥
 no_clash side is t = ⊎_elim
@@ -182,10 +182,10 @@ side_is_new f log side form guards is =
           ⊎_elim
           (λ (first : denied (Ask n) ≡ t.0). ⊎_elim
           (λ again. ask_atom n n (again ∙ ap negated (sym first)))
-          (λ there. side_plain side is n true (subst (λ (l : AtomLit). Contains side (negated l)) (sym first) there))
+          (λ there. asks_for_none side is n true (subst (λ (l : AtomLit). Contains side (negated l)) (sym first) there))
           (Contains-cons_cases (denied (Ask n)) side (negated t.0) t.2))
           (λ later. ⊎_elim
-          (λ (again : denied (Ask n) ≡ negated t.0). side_plain side is n (t.0).positive
+          (λ (again : denied (Ask n) ≡ negated t.0). asks_for_none side is n (t.0).positive
           (subst (λ (a : Atom). Contains side (record { atom = a; positive = (t.0).positive }))
           (sym (ap (λ (l : AtomLit). l.atom) again)) later))
           (λ there. no_clash side is (t.0, later, there))

@@ -9,6 +9,7 @@ use Rattle.semantics.specs.Frameworks.{Framework}
 use Rattle.meaning_atoms.specs.declared.atom.Atom.TheVariants.{Ask}
 use Rattle.meaning_atoms.specs.declared.atom.AtomLit.{AtomLit}
 use Rattle.meaning_atoms.specs.declared.axiom.AxiomName.{AxiomName}
+use Rattle.meaning_atoms.specs.Worlds.{IsAsk}
 use Rattle.meaning_atoms.specs.Literals.{affirmed, denied, AsksNothing}
 use Rattle.certificate_claims.specs.Refutations.{IsAxiomOf, axiom_clause}
 use Rattle.oracle_face.specs.declared.entry.EntryName.{EntryName}
@@ -16,7 +17,7 @@ use Rattle.oracle_face.specs.Logs.{LogStep, SideClause, OracleLog, by_axiom, by_
 use Rattle.oracle_face.specs.Growing.{NoSide, OnlySide}
 use Rattle.session_log.specs.Guards.{RestsOn, IsGuarded}
 use Rattle.session_log.specs.Steps.{GainsStep, TakesAxiom, TakesSide, FollowsByHints, Derives, StaysGuarded, own_step, derived_step, side_made}
-use Rattle.session_log.proofs.AxiomLemmas.{axiom_plain}
+use Rattle.session_log.proofs.AxiomLemmas.{axiom_plain, axiom_within, side_plain, side_within}
 use Rattle.session_log.proofs.StepLemmas.{AreSides, guarded_step, given_hints, top_step, top_named, side_step_still, rests_still, rests_back, same_sides_form, same_sides_grow, side_still, longer_form, longer_is}
 
 -- ---- where a step rests
@@ -69,6 +70,7 @@ axiom_stays f name clause old new form guards is takes =
             (rests_top_by step old.sides old new takes.gains n rests);
         rests_top = λ n c. absurd (no_ask_in name clause n _ takes.same c);
         unasked_top = λ n c. no_ask_in name clause n _ takes.same c;
+        within_top = λ l c plain. axiom_within f name is l (takes.same.there l c);
         stepped_all = λ n named. side_step_still step old.sides old new takes.gains n
             (guards.stepped n (subst (λ (sides : List SideClause). IsNumberOf sides n) takes.gains.sides_now named));
       });
@@ -113,6 +115,9 @@ derived_stays f clause hints imported closing old new form guards derives =
         unasked_top = λ n c.
             let from = follows.come (affirmed (Ask n)) c in
             guards.unasked from.hint n (hint_named f old clause hints from.hint follows from.listed) from.there;
+        within_top = λ l c plain.
+            let from = follows.come l c in
+            guards.within from.hint l (hint_named f old clause hints from.hint follows from.listed) from.there plain;
         stepped_all = λ n named. side_step_still step old.sides old new gains n
             (guards.stepped n (subst (λ (sides : List SideClause). IsNumberOf sides n) gains.sides_now named));
       });
@@ -188,6 +193,7 @@ pub side_stays : (f : Framework) (literals : List AtomLit) (set : List ℕ) (cla
     (old new : OracleLog) → IsLog f old → IsGuarded old → TakesSide literals set clause old new
     → StaysGuarded (OnlySide literals set) f old new
 side_stays f literals set clause old new form guards takes =
+    let plain = side_plain literals takes.is_side in
     let n = length old.sides + 1 in
     let side = side_made literals set in
     let more = side ∷ [] in
@@ -195,7 +201,7 @@ side_stays f literals set clause old new form guards takes =
     let gains = takes.gains in
     let sides = old.sides ++ more in
     let are : AreSides sides = sides_pushed old.sides side (record { plain = form.plain; apart = form.apart })
-    takes.plain takes.other in
+    plain takes.other in
     let given : IsGiven f sides old.steps clause (by_side n) = (
       record { from_one = omega arith; within = omega (arith, length_push old.sides side) },
       subst (λ (s : SideClause). IsSameClause clause (guarded n s.literals)) (sym (pushed_side old.sides side))
@@ -225,14 +231,18 @@ side_stays f literals set clause old new form guards takes =
             (λ by. absurd (Contains-nil by.0 by.1))
             (rests_top_by step sides old new gains m rests);
         rests_top = λ m c.
-            let e = guarded_denies n m literals takes.plain (takes.same.there (denied (Ask m)) c) in
+            let e = guarded_denies n m literals plain (takes.same.there (denied (Ask m)) c) in
             record {
               step = length old.steps + 1;
               reaches = itself (length old.steps + 1);
               source = ap (λ (s : LogStep). s.source) (top_step step sides old new gains)
                   ∙ ap (λ (k : ℕ). by_side k) e;
             };
-        unasked_top = λ m c. guarded_unasked n m literals takes.plain (takes.same.there (affirmed (Ask m)) c);
+        unasked_top = λ m c. guarded_unasked n m literals plain (takes.same.there (affirmed (Ask m)) c);
+        within_top = λ l c other. ⊎_elim
+            (λ (e : denied (Ask n) ≡ l). absurd (other (subst (λ (k : AtomLit). IsAsk k.atom) e tt)))
+            (λ there. side_within literals takes.is_side l there)
+            (Contains-cons_cases (denied (Ask n)) literals l (takes.same.there l c));
         stepped_all = λ m named. ⊎_elim
             (λ early. side_step_still step sides old new gains m (guards.stepped m early))
             (λ late. record {
@@ -246,3 +256,29 @@ side_stays f literals set clause old new form guards takes =
             (subst (λ (s : List SideClause). IsNumberOf s m) gains.sides_now named));
       });
     }
+
+-- ---- the log as it is opened
+
+no_number : {X : Type 0} (items : List X) (n : ℕ) → items ≡ [] → IsNumberOf items n → ⊥
+no_number items n none is =
+    let low = is.from_one in
+    let high = is.within in
+    omega (arith, ap length none)
+
+pub opened_guarded : (f : Framework) (log : OracleLog) → log.steps ≡ [] → log.sides ≡ []
+    → IsLog f log × IsGuarded log
+opened_guarded f log no_steps no_sides = (
+  record {
+    each = λ k lt. absurd (omega (arith, ap length no_steps));
+    plain = λ side c. absurd (Contains-nil side (subst (λ (sides : List SideClause). Contains sides side) no_sides c));
+    apart = λ m n is_m is_n same. absurd (no_number log.sides m no_sides is_m);
+    within = omega (arith, ap length no_steps);
+  },
+  record {
+    denies = λ number n is rests. absurd (no_number log.steps number no_steps is);
+    rests = λ number n is c. absurd (no_number log.steps number no_steps is);
+    unasked = λ number n is c. no_number log.steps number no_steps is;
+    within = λ number l is c plain. absurd (no_number log.steps number no_steps is);
+    stepped = λ n is. absurd (no_number log.sides n no_sides is);
+  },
+)

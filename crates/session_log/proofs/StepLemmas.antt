@@ -8,6 +8,8 @@ use Rattle.plain_lits.proofs.HintCheckLemmas.{taken_sound}
 use Rattle.semantics.specs.Frameworks.{Framework}
 use Rattle.meaning_atoms.specs.declared.atom.Atom.TheVariants.{Ask}
 use Rattle.meaning_atoms.specs.declared.atom.AtomLit.{AtomLit}
+use Rattle.meaning_atoms.specs.Atoms.{IsLit}
+use Rattle.meaning_atoms.specs.Worlds.{IsAsk}
 use Rattle.meaning_atoms.specs.Literals.{affirmed, denied, negated, AsksNothing}
 use Rattle.oracle_face.specs.Logs.{LogStep, SideClause, OracleLog, Source, by_axiom, by_side, by_hints, IsGiven, IsLog, IsNumberOf, IsSameClause, Reaches, itself, by_hint, hints_of, clauses_of, guarded, step_at, side_at, no_side, no_step}
 use Rattle.oracle_face.specs.Growing.{NoSide, Grows}
@@ -170,6 +172,7 @@ module _ (step : LogStep) (sides : List SideClause) (old new : OracleLog)
     pub denies_top : (n : ℕ) → RestsOn new top n → Contains step.clause (denied (Ask n))
     pub rests_top : (n : ℕ) → Contains step.clause (denied (Ask n)) → RestsOn new top n
     pub unasked_top : (n : ℕ) → Contains step.clause (affirmed (Ask n)) → ⊥
+    pub within_top : (l : AtomLit) → Contains step.clause l → (IsAsk l.atom → ⊥) → IsLit l
     pub stepped_all : (n : ℕ) → IsNumberOf new.sides n → HasSideStep new n
 
   pub guarded_step : (f : Framework) → IsLog f old → IsGuarded old → IsGuardedStep → IsGuarded new
@@ -197,6 +200,14 @@ module _ (step : LogStep) (sides : List SideClause) (old new : OracleLog)
         (λ (late : number ≡ top). fits.unasked_top n
         (subst (λ (s : LogStep). Contains s.clause (affirmed (Ask n))) top_step
         (subst (λ (m : ℕ). Contains (step_at new.steps m).clause (affirmed (Ask n))) late c)))
+        (old_or_top number is);
+    within = λ number l is c.
+        ⊎_elim
+        (λ early. guards.within number l early
+        (subst (λ (s : LogStep). Contains s.clause l) (old_step number early) c))
+        (λ (late : number ≡ top). fits.within_top l
+        (subst (λ (s : LogStep). Contains s.clause l) top_step
+        (subst (λ (m : ℕ). Contains (step_at new.steps m).clause l) late c)))
         (old_or_top number is);
     stepped = fits.stepped_all;
   }

@@ -1,7 +1,10 @@
 -- What a log keeps so that a step's clause tells which side clauses the step rests on.
 use Rattle.std.specs.Prelude.{◌≡◌, ℕ, false, Contains}
 use Rattle.meaning_atoms.specs.declared.atom.Atom.TheVariants.{Ask}
+use Rattle.meaning_atoms.specs.declared.atom.AtomLit.{AtomLit}
+use Rattle.meaning_atoms.specs.Atoms.{IsLit}
 use Rattle.meaning_atoms.specs.Literals.{affirmed, denied}
+use Rattle.meaning_atoms.specs.Worlds.{IsAsk}
 use Rattle.oracle_face.specs.Logs.{OracleLog, IsNumberOf, Reaches, by_side, step_at}
 
 -- the step reaches a step of the side clause
@@ -17,7 +20,8 @@ pub record HasSideStep (log : OracleLog) (n : ℕ) : Type 0 where
   pub source : (step_at log.steps number).source ≡ by_side n
   pub kept : (step_at log.steps number).closing ≡ false
 
--- a step denies just the side clauses that it rests on, and affirms none; each side clause has its step
+-- a step denies just the side clauses that it rests on, and affirms none; the numbers of its other literals are within
+-- their bounds; each side clause has its step
 pub record IsGuarded (log : OracleLog) : Type 0 where
   pub denies : (number n : ℕ) → IsNumberOf log.steps number → RestsOn log number n
       → Contains (step_at log.steps number).clause (denied (Ask n))
@@ -25,4 +29,6 @@ pub record IsGuarded (log : OracleLog) : Type 0 where
       → Contains (step_at log.steps number).clause (denied (Ask n)) → RestsOn log number n
   pub unasked : (number n : ℕ) → IsNumberOf log.steps number
       → Contains (step_at log.steps number).clause (affirmed (Ask n)) → ⊥
+  pub within : (number : ℕ) (l : AtomLit) → IsNumberOf log.steps number
+      → Contains (step_at log.steps number).clause l → (IsAsk l.atom → ⊥) → IsLit l
   pub stepped : (n : ℕ) → IsNumberOf log.sides n → HasSideStep log n

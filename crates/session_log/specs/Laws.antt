@@ -1,5 +1,5 @@
 -- Laws of a session's log.
-use Rattle.std.specs.Prelude.{◌⊎◌, ℕ, ◌+◌, Bool, not, List, length, Contains, Option}
+use Rattle.std.specs.Prelude.{◌≡◌, ◌⊎◌, ℕ, ◌+◌, Bool, not, List, [], length, Contains, Option}
 use Rattle.semantics.specs.Frameworks.{Framework}
 use Rattle.meaning_atoms.specs.declared.atom.AtomLit.{AtomLit}
 use Rattle.meaning_atoms.specs.declared.axiom.AxiomName.{AxiomName}
@@ -12,6 +12,10 @@ use Rattle.oracle_face.specs.Growing.{NoSide, OnlySide}
 use Rattle.oracle_face.specs.Logs.{OracleLog, IsLog, IsNew, IsNumberOf, guarded, step_at, working}
 use Rattle.session_log.specs.Guards.{IsGuarded}
 use Rattle.session_log.specs.Steps.{TakesAxiom, TakesSide, Derives, StaysGuarded}
+
+-- a log with no step and no side clause is a guarded one
+abbrev pub OpenedGuarded : Type 0
+OpenedGuarded = (f : Framework) (log : OracleLog) → log.steps ≡ [] → log.sides ≡ [] → IsLog f log × IsGuarded log
 
 -- a guarded log that takes an axiom is one still
 abbrev pub AxiomsStay : Type 0

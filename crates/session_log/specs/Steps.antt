@@ -4,10 +4,11 @@ use Rattle.plain_lits.specs.HintCheck.{Checks}
 use Rattle.semantics.specs.Frameworks.{Framework}
 use Rattle.meaning_atoms.specs.declared.atom.AtomLit.{AtomLit}
 use Rattle.meaning_atoms.specs.declared.axiom.AxiomName.{AxiomName}
-use Rattle.meaning_atoms.specs.Literals.{negated, AsksNothing}
+use Rattle.meaning_atoms.specs.Literals.{negated}
 use Rattle.certificate_claims.specs.Refutations.{axiom_clause}
 use Rattle.oracle_face.specs.declared.entry.EntryName.{EntryName}
 use Rattle.oracle_face.specs.Logs.{OracleLog, LogStep, SideClause, Source, by_axiom, by_side, by_hints, IsLog, IsNumberOf, IsSameClause, guarded, clauses_of, side_at, step_at}
+use Rattle.oracle_face.specs.Goals.{IsSide}
 use Rattle.oracle_face.specs.Growing.{Making, Grows}
 use Rattle.session_log.specs.Guards.{IsGuarded}
 
@@ -30,10 +31,10 @@ pub record TakesAxiom (name : AxiomName) (clause : List AtomLit) (old new : Orac
 abbrev pub side_made : List AtomLit → List ℕ → SideClause
 side_made literals set = record { literals = literals; set = set }
 
--- a side clause comes that asks for none and has not the literals of another, and its step with it
+-- a side clause comes that has not the literals of another, and its step with it
 pub record TakesSide (literals : List AtomLit) (set : List ℕ) (clause : List AtomLit)
     (old new : OracleLog) : Type 0 where
-  pub plain : AsksNothing literals
+  pub is_side : IsSide literals
   pub other : (n : ℕ) → IsNumberOf old.sides n → IsSameClause (side_at old.sides n).literals literals → ⊥
   pub same : IsSameClause clause (guarded (length old.sides + 1) literals)
   pub gains : GainsStep (own_step clause (by_side (length old.sides + 1))) (old.sides ++ side_made literals set ∷ [])

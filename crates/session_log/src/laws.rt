@@ -1,7 +1,12 @@
 //! What holds of a session's log. Each function does nothing; its contract is the law.
 
-ghost use Rattle.session_log.specs.Laws.{AxiomsStay, ClosedRefutesClaim, ClosedRefutesGoals, DerivedStay};
+ghost use Rattle.session_log.specs.Laws.{AxiomsStay, ClosedRefutesClaim, ClosedRefutesGoals, DerivedStay, OpenedGuarded};
 ghost use Rattle.session_log.specs.Laws.{SidesAreNew, SidesStay};
+
+/// A log with no step and no side clause is a guarded one.
+pub fn opened_logs_are_guarded()
+    ensures { OpenedGuarded }
+{}
 
 /// A guarded log stays one where an axiom comes.
 pub fn axioms_keep_the_guards()
