@@ -1,0 +1,41 @@
+-- What a refutation that is made from a log has to be.
+use Rattle.std.specs.Prelude.{ℕ, ◌-◌, ◌<◌, ◌≤◌, List, [], All, Contains, length, slice_index_or}
+use Rattle.semantics.specs.Frameworks.{Framework}
+use Rattle.certificate_claims.specs.declared.certificate.Step.{Step}
+use Rattle.certificate_claims.specs.declared.certificate.Step.TheVariants.{Axiom, Side, Derived}
+use Rattle.certificate_claims.specs.Refutations.{Claim, IsPlain, IsRefutationOf, no_step}
+use Rattle.certificate_text.specs.Written.{IsWritableStep}
+use Rattle.oracle_face.specs.Goals.{Refutes}
+use Rattle.oracle_face.specs.Logs.{OracleLog, IsLog}
+use Rattle.session_log.specs.Guards.{IsGuarded}
+use Rattle.log_certificates.specs.Trimmed.{ArePositions, IsTrimmed}
+
+-- a step of a certificate reaches itself, and what its hints reach; steps are numbered from 1
+abbrev pub hints_in : Step → List ℕ
+hints_in (Derived literals hints) = hints
+hints_in _ = []
+
+abbrev pub step_of : List Step → ℕ → Step
+step_of steps number = slice_index_or steps (number - 1) no_step
+
+pub data ReachesStep (steps : List Step) : ℕ → ℕ → Type 0 where
+  step_itself : (number : ℕ) → ReachesStep steps number number
+  step_by_hint : (number hint reached : ℕ) → Contains (hints_in (step_of steps number)) hint
+      → ReachesStep steps hint reached → ReachesStep steps number reached
+
+-- no step could be left out: the last one reaches each
+abbrev pub AreAllReached : List Step → Type 0
+AreAllReached steps = (number : ℕ) → 0 < number → number ≤ length steps → ReachesStep steps (length steps) number
+
+-- the steps refute the claim, none could be left out, and a text can hold them
+pub record AreRefuting (f : Framework) (claim : Claim) (steps : List Step) : Type 0 where
+  pub refutation : IsRefutationOf f claim steps
+  pub reached : AreAllReached steps
+  pub writable : All IsWritableStep steps
+
+-- what a step of a guarded log that refutes a claim reaches, moved into the claim, refutes it there
+abbrev pub TrimmedRefutes : Type 0
+TrimmedRefutes = (f : Framework) (log : OracleLog) (claim : Claim) (step : ℕ) (positions kept numbers : List ℕ)
+    (steps : List Step) → IsLog f log → IsGuarded log → IsPlain claim → Refutes f log claim step
+    → ArePositions log.sides claim positions → IsTrimmed log step positions kept numbers steps
+    → AreRefuting f claim steps

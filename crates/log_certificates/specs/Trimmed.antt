@@ -1,0 +1,67 @@
+-- A step of a log with all that it reaches, as the steps of a certificate: numbered anew from 1, and with the side
+-- clauses numbered as in a claim.
+use Rattle.std.specs.Prelude.{◌≡◌, ℕ, ◌+◌, ◌-◌, ◌<◌, ◌^◌, List, [], length, map, Contains, slice_index_or}
+use Rattle.plain_lists.specs.Members.{IsSetOf}
+use Rattle.meaning_atoms.specs.declared.atom.Atom.{Atom}
+use Rattle.meaning_atoms.specs.declared.atom.Atom.TheVariants.{Ask}
+use Rattle.meaning_atoms.specs.declared.atom.AtomLit.{AtomLit}
+use Rattle.certificate_claims.specs.declared.certificate.Step.{Step}
+use Rattle.certificate_claims.specs.declared.certificate.Step.TheVariants.{Axiom, Side, Derived}
+use Rattle.certificate_claims.specs.Refutations.{Claim, no_step}
+use Rattle.oracle_face.specs.Goals.{IsClaimSide}
+use Rattle.oracle_face.specs.Logs.{OracleLog, LogStep, SideClause, Source, by_axiom, by_side, by_hints, IsNumberOf, IsSameClause, Reaches, side_at, step_at}
+
+-- ---- side clauses
+
+-- where a side clause of the log stands among a claim's, counted from 1; 0 where it is none of them
+abbrev pub position_of : List ℕ → ℕ → ℕ
+position_of positions n = slice_index_or positions (n - 1) 0
+
+-- the claim has the side clause at this position
+pub record StandsAt (claim : Claim) (literals : List AtomLit) (position : ℕ) : Type 0 where
+  pub named : IsNumberOf claim.sides position
+  pub same : IsSameClause literals (slice_index_or claim.sides (position - 1) [])
+
+-- each side clause of the log has its position in the claim, or 0 where the claim has none with its literals
+pub record ArePositions (sides : List SideClause) (claim : Claim) (positions : List ℕ) : Type 0 where
+  pub stands : (n : ℕ) → IsNumberOf sides n → 0 < position_of positions n
+      → StandsAt claim (side_at sides n).literals (position_of positions n)
+  pub found : (n : ℕ) → IsClaimSide sides claim n → 0 < position_of positions n
+
+-- an atom, and a literal, of which a side clause has the number that it has in the claim
+abbrev pub moved_atom : List ℕ → Atom → Atom
+moved_atom positions (Ask n) = Ask (position_of positions n)
+moved_atom positions atom = atom
+
+abbrev pub moved_lit : List ℕ → AtomLit → AtomLit
+moved_lit positions l = record { atom = moved_atom positions l.atom; positive = l.positive }
+
+-- ---- steps
+
+-- the number that a step has in the certificate
+abbrev pub number_in : List ℕ → ℕ → ℕ
+number_in numbers step = slice_index_or numbers step 0
+
+-- the clause has just the literals of the other, moved
+abbrev pub IsMovedClause : List ℕ → List AtomLit → List AtomLit → Type 0
+IsMovedClause positions clause literals = IsSameClause literals (map (moved_lit positions) clause)
+
+-- the certificate's step says what a step of the log says that has this source and this clause
+abbrev pub IsMovedStep : (positions numbers : List ℕ) → Source → List AtomLit → Step → Type 0
+IsMovedStep positions numbers (by_axiom name) clause step = step ≡ Axiom name
+IsMovedStep positions numbers (by_side n) clause step = step ≡ Side (position_of positions n)
+IsMovedStep positions numbers (by_hints hints) clause step =
+    (literals : List AtomLit) × IsMovedClause positions clause literals
+    × (step ≡ Derived literals (map (number_in numbers) hints))
+
+-- the kept steps are those that the step reaches; they are numbered from 1, and each has its step in the certificate;
+-- all numbers have 32 bits
+pub record IsTrimmed (log : OracleLog) (step : ℕ) (positions kept numbers : List ℕ) (steps : List Step) : Type 0 where
+  pub reached : IsSetOf (Reaches log.steps step) kept
+  pub numbered : (i : ℕ) → i < length kept → number_in numbers (slice_index_or kept i 0) ≡ i + 1
+  pub long : length steps ≡ length kept
+  pub each : (i : ℕ) → i < length kept
+      → IsMovedStep positions numbers (step_at log.steps (slice_index_or kept i 0)).source
+      (step_at log.steps (slice_index_or kept i 0)).clause (slice_index_or steps i no_step)
+  pub step_fits : step < 2 ^ 32
+  pub positions_fit : (n : ℕ) → position_of positions n < 2 ^ 32
