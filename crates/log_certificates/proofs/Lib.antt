@@ -1,1 +1,4 @@
+pub mod MovingLemmas
+pub mod RefuteLemmas
 pub mod TrimmedLemmas
+pub mod WalkLemmas

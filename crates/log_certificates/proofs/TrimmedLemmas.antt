@@ -1,37 +1,37 @@
 -- What a refuting step reaches, moved into the claim, is a refutation.
-use Rattle.std.proofs.Common.{◌≡◌, inl, inr, ⊎_elim, ℕ, zero, suc, ◌+◌, ◌-◌, ◌<◌, ◌≤◌, ◌^◌, Bool, true, false, not, List, [], ◌∷◌, length, map, take, refl, ap, sym, subst, ◌∙◌, arith}
-use Rattle.std.specs.Prelude.{◌⊎◌, ◌↔◌, All, Contains, slice_index_or, Ok}
-use Rattle.std.proofs.lemmas.Bool.{cases_lt, cases_eq, false≢true}
+use Rattle.std.proofs.Common.{◌≡◌, inl, inr, ⊎_elim, ℕ, zero, suc, ◌+◌, ◌-◌, ◌<◌, ◌≤◌, Bool, true, false, not, List, [], length, map, take, refl, ap, sym, subst, ◌∙◌, arith}
+use Rattle.std.specs.Prelude.{◌⊎◌, All, Contains, slice_index_or, Ok}
+use Rattle.std.proofs.lemmas.Bool.{cases_lt, cases_eq}
 use Rattle.std.proofs.lemmas.List.{get_or_default, get_or-map, get_or-take, length-map, length-take-le}
 use Rattle.std.proofs.lemmas.List.Elements.{All-from_get_or, Contains-get_or}
 use Rattle.std.proofs.lemmas.List.Kept.{AllPairs-from_increasing}
 use Rattle.plain_lists.proofs.Membership.{Contains-nil, Contains-head, Contains-tail, Contains-cons_cases}
-use Rattle.plain_lits.specs.CheckLaws.{Renames, IsImage, IsMovedHint, IsMovedCheck}
-use Rattle.plain_lits.specs.HintCheck.{Checks, IsNamed, clause_at}
+use Rattle.plain_lits.specs.CheckLaws.{Renames, IsImage, IsMovedHint}
+use Rattle.plain_lits.specs.HintCheck.{clause_at}
 use Rattle.plain_lits.proofs.HintCheckLemmas.{Contains-mapped, Contains-from_mapped}
 use Rattle.plain_lits.proofs.Renaming.{checks_moved}
 use Rattle.semantics.specs.Frameworks.{Framework, af}
 use Rattle.meaning_atoms.specs.declared.atom.Atom.{Atom}
-use Rattle.meaning_atoms.specs.declared.atom.Atom.TheVariants.{Member, Live, Attack, Gap, Tail, Unmet, Range, Cf, Ad, Co, St, Ask}
+use Rattle.meaning_atoms.specs.declared.atom.Atom.TheVariants.{Ask}
 use Rattle.meaning_atoms.specs.declared.atom.AtomLit.{AtomLit}
 use Rattle.meaning_atoms.specs.declared.axiom.AxiomName.{AxiomName}
 use Rattle.meaning_atoms.specs.declared.axiom.AxiomName.TheVariants.{Af as OfAf}
 use Rattle.meaning_atoms.specs.Atoms.{IsAtom, IsLit}
-use Rattle.meaning_atoms.specs.Literals.{affirmed, denied, negated, AsksNothing}
+use Rattle.meaning_atoms.specs.Literals.{denied, negated, AsksNothing}
 use Rattle.meaning_atoms.specs.Worlds.{IsAsk, IsFact}
 use Rattle.af_axioms.specs.Facts.{IsFactValue}
 use Rattle.certificate_claims.specs.declared.certificate.Step.{Step}
-use Rattle.certificate_claims.specs.declared.certificate.Step.TheVariants.{Axiom, Side, Derived}
+use Rattle.certificate_claims.specs.declared.certificate.Step.TheVariants.{Axiom, Side}
 use Rattle.certificate_claims.specs.Refutations.{Claim, IsPlain, IsAxiomOf, IsClosed, IsNotAsked, StepHolds, axiom_clause, step_clause, step_clauses}
 use Rattle.certificate_claims.specs.Refutations.{no_step as no_cert_step}
 use Rattle.certificate_text.specs.Written.{IsOrdinal, IsWritableStep}
-use Rattle.oracle_face.specs.Goals.{IsClaimSide, DeniesSide, Refutes}
+use Rattle.oracle_face.specs.Goals.{DeniesSide, Refutes}
 use Rattle.oracle_face.specs.Logs.{OracleLog, LogStep, SideClause, Source, by_axiom, by_side, by_hints, IsGiven, IsLog, IsNumberOf, IsSameClause, Reaches, itself, by_hint, hints_of, clauses_of, guarded, step_at, side_at, no_side, no_step}
 use Rattle.session_log.specs.Guards.{IsGuarded}
 use Rattle.session_log.proofs.AxiomLemmas.{axiom_plain}
-use Rattle.session_log.proofs.StepLemmas.{given_hints, hint_before, reached_before, reached_named, side_step_named}
+use Rattle.session_log.proofs.StepLemmas.{hint_before, reached_before, reached_named}
 use Rattle.log_certificates.specs.Refuted.{ReachesStep, AreAllReached, AreRefuting, step_itself, step_by_hint, hints_in, step_of}
-use Rattle.log_certificates.specs.Trimmed.{StandsAt, ArePositions, IsMovedClause, IsMovedStep, IsTrimmed, moved_atom, moved_lit, number_in, position_of}
+use Rattle.log_certificates.specs.Trimmed.{ArePositions, IsMovedClause, IsMovedStep, IsTrimmed, moved_atom, moved_lit, number_in, position_of}
 
 -- ---- atoms
 
@@ -186,17 +186,17 @@ module _ (f : Framework) (log : OracleLog) (claim : Claim) (positions : List ℕ
       subst (λ (s : Step). IsImage (moved_lit positions) IsIn clause (step_clause claim.sides s)) (sym moved)
       (image_side n clause given.0 first.1 given.1)
   image_of numbers before (by_hints hints) clause step given moved movable =
-      subst (λ (s : Step). IsImage (moved_lit positions) IsIn clause (step_clause claim.sides s)) (sym moved.2)
-      (image_derived clause moved.0 movable moved.1)
+      subst (λ (s : Step). IsImage (moved_lit positions) IsIn clause (step_clause claim.sides s)) (sym moved.is)
+      (image_derived clause moved.literals movable moved.same)
 
 -- ---- what is reached
 
-reaches_on : (steps : List LogStep) (a b c : ℕ) → Reaches steps a b → Reaches steps b c → Reaches steps a c
+pub reaches_on : (steps : List LogStep) (a b c : ℕ) → Reaches steps a b → Reaches steps b c → Reaches steps a c
 reaches_on steps a b c (itself m) more = more
 reaches_on steps a b c (by_hint m hint reached at first) more =
     by_hint a hint c at (reaches_on steps hint b c first more)
 
-hint_reached : (steps : List LogStep) (a b hint : ℕ) → Reaches steps a b
+pub hint_reached : (steps : List LogStep) (a b hint : ℕ) → Reaches steps a b
     → Contains (hints_of (step_at steps b).source) hint → Reaches steps a hint
 hint_reached steps a b hint reach c = reaches_on steps a b hint reach (by_hint b hint hint c (itself hint))
 
@@ -255,7 +255,7 @@ module _ (f : Framework) (log : OracleLog) (claim : Claim) (step : ℕ) (positio
   number_of : (k : ℕ) → (reach : Reaches log.steps step k) → number_in numbers k ≡ (index_of k reach).0 + 1
   number_of k reach =
       let at = index_of k reach in
-      subst (λ (n : ℕ). number_in numbers n ≡ at.0 + 1) at.2 (trim.numbered at.0 at.1)
+      subst (λ (n : ℕ). number_in numbers n ≡ at.0 + 1) at.2 (trim.numbered.each at.0 at.1)
 
   rises : (i j : ℕ) → i < j → j < length kept → kept_at i < kept_at j
   rises i j lt within = AllPairs-from_increasing kept trim.reached.rises i j 0 lt within
@@ -312,7 +312,7 @@ module _ (f : Framework) (log : OracleLog) (claim : Claim) (step : ℕ) (positio
       (step_clause claim.sides (cert_at i))
   image i lt =
       image_of f log claim positions form are numbers (take (kept_at i - 1) log.steps) (at_index i).source
-      (at_index i).clause (cert_at i) (given_by_number f log (kept_at i) form (kept_named i lt)) (trim.each i lt)
+      (at_index i).clause (cert_at i) (given_by_number f log (kept_at i) form (kept_named i lt)) (trim.moved.each i lt)
       (lits_movable (kept_at i) (kept_reached i lt))
 
   -- ---- each step holds
@@ -333,13 +333,19 @@ module _ (f : Framework) (log : OracleLog) (claim : Claim) (step : ℕ) (positio
       let j = at.0 in
       let number = number_of hint reach in
       let sooner = earlier i j at.1 (omega (arith, at.2, below)) in
-      let long = trim.long in
+      let long = trim.moved.long in
       record {
         named = (
           λ is. record {
             from_one = omega (arith, number);
-            within = omega (arith, number, sooner, length-map (take i steps) (step_clause claim.sides), length-take-le i
-            steps (omega arith));
+            within = omega (
+              arith,
+              number,
+              sooner,
+              length-map (take i steps) (step_clause claim.sides),
+              length-take-le i
+                  steps (omega arith),
+            );
           },
           λ is. record {
             from_one = low;
@@ -378,24 +384,24 @@ module _ (f : Framework) (log : OracleLog) (claim : Claim) (step : ℕ) (positio
   holds_of i lt (by_hints hints) cert given source moved =
       let to = moved_lit positions in
       let there = IsIn f log claim positions form are in
-      let literals = moved.0 in
-      subst (λ (s : Step). StepHolds f claim.sides (take i steps) s) (sym moved.2) (
+      let literals = moved.literals in
+      subst (λ (s : Step). StepHolds f claim.sides (take i steps) s) (sym moved.is) (
         length hints,
         checks_moved negated negated to there (renames f log claim positions form are) (number_in numbers)
             (clauses_of (take (kept_at i - 1) log.steps)) (step_clauses claim.sides (take i steps))
             (at_index i).clause literals hints
             (record {
-          clause_image = image_derived f log claim positions form are (at_index i).clause literals
-              (lits_movable (kept_at i) (kept_reached i lt)) moved.1;
-          each = λ hint c. hint_moved i lt hint
-              (subst (λ (s : Source). Contains (hints_of s) hint) (sym source) c);
-        }) (Ok (length hints)) given.0,
+              clause_image = image_derived f log claim positions form are (at_index i).clause literals
+                  (lits_movable (kept_at i) (kept_reached i lt)) moved.same;
+              each = λ hint c. hint_moved i lt hint
+                  (subst (λ (s : Source). Contains (hints_of s) hint) (sym source) c);
+            }) (Ok (length hints)) given.0,
       )
 
   step_holds : (i : ℕ) → i < length kept → StepHolds f claim.sides (take i steps) (cert_at i)
   step_holds i lt =
       holds_of i lt (at_index i).source (cert_at i) (given_by_number f log (kept_at i) form (kept_named i lt)) refl
-      (trim.each i lt)
+      (trim.moved.each i lt)
 
   -- ---- the last step
 
@@ -405,7 +411,7 @@ module _ (f : Framework) (log : OracleLog) (claim : Claim) (step : ℕ) (positio
   top_is_last : length steps - 1 ≡ top.0
   top_is_last =
       let at = top in
-      let long = trim.long in
+      let long = trim.moved.long in
       let within = at.1 in
       ⊎_elim
       (λ less.
@@ -456,7 +462,7 @@ module _ (f : Framework) (log : OracleLog) (claim : Claim) (step : ℕ) (positio
   hints_there (by_axiom name) clause cert hint moved c = absurd (Contains-nil hint c)
   hints_there (by_side n) clause cert hint moved c = absurd (Contains-nil hint c)
   hints_there (by_hints hints) clause cert hint moved c =
-      subst (λ (s : Step). Contains (hints_in s) (number_in numbers hint)) (sym moved.2)
+      subst (λ (s : Step). Contains (hints_in s) (number_in numbers hint)) (sym moved.is)
       (Contains-mapped (number_in numbers) hints hint c)
 
   reaches_there : (a b : ℕ) → Reaches log.steps step a → Reaches log.steps a b
@@ -466,7 +472,7 @@ module _ (f : Framework) (log : OracleLog) (claim : Claim) (step : ℕ) (positio
       let at = index_of a reach in
       let index : number_in numbers a - 1 ≡ at.0 = omega (arith, number_of a reach) in
       let hinted : Contains (hints_in (cert_at at.0)) (number_in numbers hint) =
-      hints_there (at_index at.0).source (at_index at.0).clause (cert_at at.0) hint (trim.each at.0 at.1)
+      hints_there (at_index at.0).source (at_index at.0).clause (cert_at at.0) hint (trim.moved.each at.0 at.1)
       (subst (λ (k : ℕ). Contains (hints_of (step_at log.steps k).source) hint) (sym at.2) c) in
       step_by_hint (number_in numbers a) (number_in numbers hint) (number_in numbers b)
       (subst (λ (n : ℕ). Contains (hints_in (slice_index_or steps n no_cert_step)) (number_in numbers hint)) (sym index)
@@ -475,7 +481,7 @@ module _ (f : Framework) (log : OracleLog) (claim : Claim) (step : ℕ) (positio
 
   all_reached : AreAllReached steps
   all_reached number low high =
-      let long = trim.long in
+      let long = trim.moved.long in
       let at = top in
       let last = top_is_last in
       let within = at.1 in
@@ -483,9 +489,9 @@ module _ (f : Framework) (log : OracleLog) (claim : Claim) (step : ℕ) (positio
       let there = reaches_there step (kept_at (number - 1)) (itself step) (kept_reached (number - 1) lt) in
       let top_number : number_in numbers step ≡ length steps =
       subst (λ (k : ℕ). number_in numbers k ≡ length steps) at.2
-      (trim.numbered at.0 at.1 ∙ omega arith) in
+      (trim.numbered.each at.0 at.1 ∙ omega arith) in
       let its_number : number_in numbers (kept_at (number - 1)) ≡ number =
-      trim.numbered (number - 1) lt ∙ omega arith in
+      trim.numbered.each (number - 1) lt ∙ omega arith in
       subst (λ (n : ℕ). ReachesStep steps (length steps) n) its_number
       (subst (λ (n : ℕ). ReachesStep steps n (number_in numbers (kept_at (number - 1)))) top_number there)
 
@@ -535,9 +541,9 @@ module _ (f : Framework) (log : OracleLog) (claim : Claim) (step : ℕ) (positio
   writable_of i lt (by_hints hints) cert given source moved =
       let reach = kept_reached i lt in
       let clause = (at_index i).clause in
-      subst (λ (s : Step). IsWritableStep s) (sym moved.2) (
-        all_from IsLit moved.0 (λ m c.
-            let from = Contains-from_mapped (moved_lit positions) clause m (moved.1.there m c) in
+      subst (λ (s : Step). IsWritableStep s) (sym moved.is) (
+        all_from IsLit moved.literals (λ m c.
+            let from = Contains-from_mapped (moved_lit positions) clause m (moved.same.there m c) in
             subst (λ (k : AtomLit). IsLit k) from.2 (lit_fits (kept_at i) reach from.0 from.1)),
         all_from IsOrdinal (map (number_in numbers) hints) (λ m c.
             let from = Contains-from_mapped (number_in numbers) hints m c in
@@ -548,7 +554,7 @@ module _ (f : Framework) (log : OracleLog) (claim : Claim) (step : ℕ) (positio
 
   pub trimmed_are_refuting : AreRefuting f claim steps
   trimmed_are_refuting =
-      let long = trim.long in
+      let long = trim.moved.long in
       let at = top in
       let within = at.1 in
       record {
@@ -561,7 +567,7 @@ module _ (f : Framework) (log : OracleLog) (claim : Claim) (step : ℕ) (positio
         writable = All-from_get_or IsWritableStep steps no_cert_step (λ i lt.
             let inside : i < length kept = omega arith in
             writable_of i inside (at_index i).source (cert_at i)
-            (given_by_number f log (kept_at i) form (kept_named i inside)) refl (trim.each i inside));
+            (given_by_number f log (kept_at i) form (kept_named i inside)) refl (trim.moved.each i inside));
       }
 
 pub trimmed_refutes : (f : Framework) (log : OracleLog) (claim : Claim) (step : ℕ) (positions kept numbers : List ℕ)

@@ -1,3 +1,5 @@
+pub mod Marks
+pub mod Moving
 pub mod Origins
 pub mod Refuted
 pub mod Trimmed

@@ -2,7 +2,7 @@
 use Rattle.std.specs.Prelude.{ℕ, ◌-◌, ◌<◌, ◌≤◌, List, [], All, Contains, length, slice_index_or}
 use Rattle.semantics.specs.Frameworks.{Framework}
 use Rattle.certificate_claims.specs.declared.certificate.Step.{Step}
-use Rattle.certificate_claims.specs.declared.certificate.Step.TheVariants.{Axiom, Side, Derived}
+use Rattle.certificate_claims.specs.declared.certificate.Step.TheVariants.{Derived}
 use Rattle.certificate_claims.specs.Refutations.{Claim, IsPlain, IsRefutationOf, no_step}
 use Rattle.certificate_text.specs.Written.{IsWritableStep}
 use Rattle.oracle_face.specs.Goals.{Refutes}

@@ -1,6 +1,6 @@
 -- A step of a log with all that it reaches, as the steps of a certificate: numbered anew from 1, and with the side
 -- clauses numbered as in a claim.
-use Rattle.std.specs.Prelude.{◌≡◌, ℕ, ◌+◌, ◌-◌, ◌<◌, ◌^◌, List, [], length, map, Contains, slice_index_or}
+use Rattle.std.specs.Prelude.{◌≡◌, ℕ, ◌+◌, ◌-◌, ◌<◌, ◌^◌, List, [], length, map, slice_index_or}
 use Rattle.plain_lists.specs.Members.{IsSetOf}
 use Rattle.meaning_atoms.specs.declared.atom.Atom.{Atom}
 use Rattle.meaning_atoms.specs.declared.atom.Atom.TheVariants.{Ask}
@@ -9,7 +9,7 @@ use Rattle.certificate_claims.specs.declared.certificate.Step.{Step}
 use Rattle.certificate_claims.specs.declared.certificate.Step.TheVariants.{Axiom, Side, Derived}
 use Rattle.certificate_claims.specs.Refutations.{Claim, no_step}
 use Rattle.oracle_face.specs.Goals.{IsClaimSide}
-use Rattle.oracle_face.specs.Logs.{OracleLog, LogStep, SideClause, Source, by_axiom, by_side, by_hints, IsNumberOf, IsSameClause, Reaches, side_at, step_at}
+use Rattle.oracle_face.specs.Logs.{OracleLog, SideClause, Source, by_axiom, by_side, by_hints, IsNumberOf, IsSameClause, Reaches, side_at, step_at}
 
 -- ---- side clauses
 
@@ -46,22 +46,34 @@ number_in numbers step = slice_index_or numbers step 0
 abbrev pub IsMovedClause : List ℕ → List AtomLit → List AtomLit → Type 0
 IsMovedClause positions clause literals = IsSameClause literals (map (moved_lit positions) clause)
 
+-- the certificate's step is derived, of the literals of the clause, by the hints
+pub record IsMovedDerived (positions numbers hints : List ℕ) (clause : List AtomLit) (step : Step) : Type 0 where
+  pub literals : List AtomLit
+  pub same : IsMovedClause positions clause literals
+  pub is : step ≡ Derived literals (map (number_in numbers) hints)
+
 -- the certificate's step says what a step of the log says that has this source and this clause
 abbrev pub IsMovedStep : (positions numbers : List ℕ) → Source → List AtomLit → Step → Type 0
 IsMovedStep positions numbers (by_axiom name) clause step = step ≡ Axiom name
 IsMovedStep positions numbers (by_side n) clause step = step ≡ Side (position_of positions n)
-IsMovedStep positions numbers (by_hints hints) clause step =
-    (literals : List AtomLit) × IsMovedClause positions clause literals
-    × (step ≡ Derived literals (map (number_in numbers) hints))
+IsMovedStep positions numbers (by_hints hints) clause step = IsMovedDerived positions numbers hints clause step
+
+-- the first so many of the kept steps are numbered from 1
+pub record AreNumbered (kept numbers : List ℕ) (count : ℕ) : Type 0 where
+  pub each : (i : ℕ) → i < count → number_in numbers (slice_index_or kept i 0) ≡ i + 1
+
+-- the first so many of the kept steps have their steps in the certificate
+pub record AreMoved (log : OracleLog) (positions kept numbers : List ℕ) (count : ℕ) (steps : List Step) : Type 0 where
+  pub long : length steps ≡ count
+  pub each : (i : ℕ) → i < count
+      → IsMovedStep positions numbers (step_at log.steps (slice_index_or kept i 0)).source
+      (step_at log.steps (slice_index_or kept i 0)).clause (slice_index_or steps i no_step)
 
 -- the kept steps are those that the step reaches; they are numbered from 1, and each has its step in the certificate;
 -- all numbers have 32 bits
 pub record IsTrimmed (log : OracleLog) (step : ℕ) (positions kept numbers : List ℕ) (steps : List Step) : Type 0 where
   pub reached : IsSetOf (Reaches log.steps step) kept
-  pub numbered : (i : ℕ) → i < length kept → number_in numbers (slice_index_or kept i 0) ≡ i + 1
-  pub long : length steps ≡ length kept
-  pub each : (i : ℕ) → i < length kept
-      → IsMovedStep positions numbers (step_at log.steps (slice_index_or kept i 0)).source
-      (step_at log.steps (slice_index_or kept i 0)).clause (slice_index_or steps i no_step)
+  pub numbered : AreNumbered kept numbers (length kept)
+  pub moved : AreMoved log positions kept numbers (length kept) steps
   pub step_fits : step < 2 ^ 32
   pub positions_fit : (n : ℕ) → position_of positions n < 2 ^ 32

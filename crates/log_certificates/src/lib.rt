@@ -2,6 +2,10 @@
 #![tactic(auto)]
 
 pub mod laws;
+mod moved;
+mod reached;
 pub mod read_log;
+pub mod refute;
 
 pub use read_log::{ReadLog, StepOrigin};
+pub use refute::refutation;

@@ -1,0 +1,149 @@
+-- A walk down the numbers of steps finds what a step of a log reaches.
+use Rattle.std.proofs.Common.{◌≡◌, ⊎_elim, ℕ, zero, suc, ◌+◌, ◌-◌, ◌<◌, ◌≤◌, Bool, true, false, List, [], ◌++◌, length, take, get_or, refl, ap, sym, subst, ◌∙◌, arith}
+use Rattle.std.specs.Prelude.{◌↔◌, Contains, replicate}
+use Rattle.std.proofs.Math.ListN.{set, length-set, length-replicate}
+use Rattle.std.proofs.lemmas.Bool.{cases_eq, false≢true}
+use Rattle.std.proofs.lemmas.List.{get_or-set_same, get_or-set_other}
+use Rattle.semantics.specs.Frameworks.{Framework}
+use Rattle.hinted_log.specs.Trimming.{IsMarked, MarksHints}
+use Rattle.hinted_log.proofs.TrimmingLemmas.{none_marked}
+use Rattle.oracle_face.specs.Logs.{OracleLog, IsLog, IsNumberOf, Reaches, itself, by_hint, hints_of, step_at}
+use Rattle.session_log.proofs.StepLemmas.{hint_before, reached_before}
+use Rattle.log_certificates.proofs.TrimmedLemmas.{hint_reached}
+use Rattle.log_certificates.specs.Marks.{IsWalk}
+
+marked_once : (last j : ℕ) → IsMarked (set (replicate (last + 1) false) last true) j → last ≡ j
+marked_once last j h =
+    ⊎_elim (λ e. sym e)
+    (λ ne. absurd (none_marked (last + 1) j
+    (sym (get_or-set_other (replicate (last + 1) false) last j true false (λ e. let same : j ≡ last = e in omega (arith, ne)))
+    ∙ h)))
+    (cases_eq j last)
+
+walk_begins : (log : OracleLog) (last : ℕ) (marks : List Bool) → marks ≡ set (replicate (last + 1) false) last true
+    → IsWalk log last last marks
+walk_begins log last marks made =
+    let blank : List Bool = replicate (last + 1) false in
+    let long : length blank ≡ last + 1 = length-replicate (last + 1) false in
+    rw made (record {
+      long = omega (arith, long, length-set {A = Bool});
+      within = omega arith;
+      start = get_or-set_same blank last true false (omega (arith, long));
+      sound = λ j m. subst (λ (k : ℕ). Reaches log.steps last k) (marked_once last j m) (itself last);
+      closed = λ j hint lt m c. absurd (let e = marked_once last j m in omega arith);
+    })
+
+-- the hints of the walk's number have marks
+walk_hint : (f : Framework) (log : OracleLog) (last number hint : ℕ) (marks : List Bool) → IsLog f log
+    → IsNumberOf log.steps last → IsWalk log last number marks → 0 < number
+    → Contains (hints_of (step_at log.steps number).source) hint → hint < length marks
+walk_hint f log last number hint marks form named w pos c =
+    let high = named.within in
+    let le = w.within in
+    let below = (hint_before f log number hint form (record { from_one = pos; within = omega arith }) c).1 in
+    let long = w.long in
+    omega arith
+
+-- the walk goes on below a number that is marked
+walk_marked : (f : Framework) (log : OracleLog) (last number : ℕ) (marks new : List Bool) (hints : List ℕ)
+    → IsLog f log → IsNumberOf log.steps last → IsWalk log last number marks → 0 < number → IsMarked marks number
+    → hints ≡ hints_of (step_at log.steps number).source → MarksHints hints marks new
+    → IsWalk log last (number - 1) new
+walk_marked f log last number marks new hints form named w pos here e h =
+    let le = w.within in
+    let high = named.within in
+    let its = λ (j : ℕ) (c : Contains hints j).
+    let k : Contains (hints_of (step_at log.steps number).source) j = subst (λ (xs : List ℕ). Contains xs j) e c in k in
+    record {
+      long = h.long ∙ w.long;
+      within = omega arith;
+      start = h.kept last w.start;
+      sound = λ j m. ⊎_elim (w.sound j)
+          (λ c. hint_reached log.steps last number j (w.sound number here) (its j c)) (h.there j m);
+      closed = λ j hint lt m c. ⊎_elim
+          (λ (same : j ≡ number). h.back hint (subst (λ (xs : List ℕ). Contains xs hint) (sym e)
+          (subst (λ (k : ℕ). Contains (hints_of (step_at log.steps k).source) hint) same c)))
+          (λ ne. ⊎_elim
+          (λ old. h.kept hint (w.closed j hint (omega arith) old c))
+          (λ k. let below = (hint_before f log number j form (record { from_one = pos; within = omega arith })
+          (its j k)).1 in absurd (omega arith))
+          (h.there j m))
+          (cases_eq j number);
+    }
+
+-- and below one that isn't
+walk_unmarked : (log : OracleLog) (last number : ℕ) (marks : List Bool) → IsWalk log last number marks → 0 < number
+    → get_or marks number false ≡ false → IsWalk log last (number - 1) marks
+walk_unmarked log last number marks w pos low =
+    let le = w.within in
+    record {
+      long = w.long;
+      within = omega arith;
+      start = w.start;
+      sound = w.sound;
+      closed = λ j hint lt m c. ⊎_elim
+          (λ (same : j ≡ number). absurd (false≢true (sym low ∙ subst (λ (k : ℕ). IsMarked marks k) same m)))
+          (λ ne. w.closed j hint (omega arith) m c)
+          (cases_eq j number);
+    }
+
+-- marks that hold the hints of what is marked hold what it reaches
+reach_within : (log : OracleLog) (marks : List Bool)
+    → ((x hint : ℕ) → IsMarked marks x → Contains (hints_of (step_at log.steps x).source) hint → IsMarked marks hint)
+    → (number reached : ℕ) → Reaches log.steps number reached → IsMarked marks number → IsMarked marks reached
+reach_within log marks closed number reached (itself n) m = m
+reach_within log marks closed number reached (by_hint n hint r c more) m =
+    reach_within log marks closed hint reached more (closed number hint m c)
+
+take_none : (n : ℕ) → let none : List Bool = [] in take n none ≡ none
+take_none zero = refl
+take_none (suc n) = refl
+
+-- ---- in the order of the loop, which counts how far down it is
+
+pub walk_first : (log : OracleLog) (last : ℕ) (old made marks : List Bool) (m : ℕ) → old ≡ [] → m ≡ 0
+    → made ≡ take (last + 1) old ++ replicate (last + 1 - m) false → marks ≡ set made last true
+    → IsWalk log last (last - 0) marks
+walk_first log last old made marks m none zero_ e set_ =
+    let count : last + 1 - m ≡ last + 1 = omega (arith, zero_) in
+    let front : made ≡ take (last + 1) old ++ replicate (last + 1) false = rw count at e in
+    let whole : made ≡ replicate (last + 1) false = rw (none, take_none (last + 1)) at front in
+    let here : last - 0 ≡ last = omega arith in
+    rw here (walk_begins log last marks (rw whole at set_))
+
+pub walk_next_hint : (f : Framework) (log : OracleLog) (last down number hint : ℕ) (marks : List Bool) (hints : List ℕ)
+    → IsLog f log → IsNumberOf log.steps last → down < last → IsWalk log last (last - down) marks
+    → number ≡ last - down → hints ≡ hints_of (step_at log.steps number).source → Contains hints hint
+    → hint < length marks
+walk_next_hint f log last down number hint marks hints form named lt w is e c =
+    walk_hint f log last (last - down) hint marks form named w (omega arith)
+    (subst (λ (k : ℕ). Contains (hints_of (step_at log.steps k).source) hint) is
+    (subst (λ (xs : List ℕ). Contains xs hint) e c))
+
+pub walk_next_marked : (f : Framework) (log : OracleLog) (last down number : ℕ) (marks new : List Bool)
+    (hints : List ℕ) → IsLog f log → IsNumberOf log.steps last → down < last → IsWalk log last (last - down) marks
+    → IsMarked marks (last - down) → number ≡ last - down → hints ≡ hints_of (step_at log.steps number).source
+    → MarksHints hints marks new → IsWalk log last (last - (down + 1)) new
+walk_next_marked f log last down number marks new hints form named lt w here is e h =
+    let next : last - (down + 1) ≡ last - down - 1 = omega arith in
+    rw next (walk_marked f log last (last - down) marks new hints form named w (omega arith) here
+    (e ∙ ap (λ (k : ℕ). hints_of (step_at log.steps k).source) is) h)
+
+pub walk_next_unmarked : (log : OracleLog) (last down : ℕ) (marks : List Bool) → down < last
+    → IsWalk log last (last - down) marks → get_or marks (last - down) false ≡ false
+    → IsWalk log last (last - (down + 1)) marks
+walk_next_unmarked log last down marks lt w low =
+    let next : last - (down + 1) ≡ last - down - 1 = omega arith in
+    rw next (walk_unmarked log last (last - down) marks w (omega arith) low)
+
+-- at the end just what the step reaches is marked
+pub walk_last : (f : Framework) (log : OracleLog) (last down : ℕ) (marks : List Bool) → IsLog f log
+    → IsNumberOf log.steps last → last ≤ down → IsWalk log last (last - down) marks → (j : ℕ)
+    → IsMarked marks j ↔ Reaches log.steps last j
+walk_last f log last down marks form named le w j = (
+  w.sound j,
+  λ r. reach_within log marks
+      (λ x hint m c. let pos = (reached_before f log last x form named (w.sound x m)).0 in
+      w.closed x hint (omega arith) m c)
+      last j r w.start,
+)
