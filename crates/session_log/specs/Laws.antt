@@ -1,15 +1,19 @@
 -- Laws of a session's log.
 use Rattle.std.specs.Prelude.{◌≡◌, ◌⊎◌, ℕ, ◌+◌, Bool, not, List, [], length, Contains, Option}
-use Rattle.semantics.specs.Frameworks.{Framework}
+use Rattle.semantics.specs.Frameworks.{Framework, IsNumbered}
 use Rattle.meaning_atoms.specs.declared.atom.AtomLit.{AtomLit}
 use Rattle.meaning_atoms.specs.declared.axiom.AxiomName.{AxiomName}
 use Rattle.meaning_atoms.specs.Literals.{negated, AsksNothing}
 use Rattle.af_axioms.specs.Facts.{IsFactValue}
+use Rattle.iccma_tasks.specs.declared.answer.Answer.{Answer}
+use Rattle.iccma_tasks.specs.Tasks.{Asked}
+use Rattle.certificate_claims.specs.Rights.{IsRight}
 use Rattle.certificate_claims.specs.Refutations.{Claim, IsAxiomOf}
 use Rattle.oracle_face.specs.declared.entry.EntryName.{EntryName}
 use Rattle.oracle_face.specs.Goals.{IsSide, RefutesGoals, DeniesSide, Refutes}
 use Rattle.oracle_face.specs.Growing.{NoSide, OnlySide}
 use Rattle.oracle_face.specs.Logs.{OracleLog, IsLog, IsNew, IsNumberOf, guarded, step_at, working}
+use Rattle.session_log.specs.Ends.{IsShownBy}
 use Rattle.session_log.specs.Guards.{IsGuarded}
 use Rattle.session_log.specs.Steps.{TakesAxiom, TakesSide, Derives, StaysGuarded}
 
@@ -55,3 +59,8 @@ ClosedRefutesClaim = (f : Framework) (log : OracleLog) (claim : Claim) (number :
     → IsFactValue f l.atom (not l.positive)
     ⊎ (Contains claim.goals (negated l) ⊎ DeniesSide log.sides claim l.atom l.positive))
     → Refutes f log claim number
+
+-- an answer that the log shows is right
+abbrev pub ShownAnswersAreRight : Type 0
+ShownAnswersAreRight = (f : Framework) (asked : Asked) (answer : Answer) (sets : List (List ℕ)) (log : OracleLog)
+    → IsNumbered f → IsLog f log → IsShownBy f asked answer sets log → IsRight f asked answer

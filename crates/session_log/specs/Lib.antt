@@ -1,3 +1,4 @@
+pub mod Ends
 pub mod Guards
 pub mod Laws
 pub mod Steps

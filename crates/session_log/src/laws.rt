@@ -1,7 +1,7 @@
 //! What holds of a session's log. Each function does nothing; its contract is the law.
 
 ghost use Rattle.session_log.specs.Laws.{AxiomsStay, ClosedRefutesClaim, ClosedRefutesGoals, DerivedStay, OpenedGuarded};
-ghost use Rattle.session_log.specs.Laws.{SidesAreNew, SidesStay};
+ghost use Rattle.session_log.specs.Laws.{ShownAnswersAreRight, SidesAreNew, SidesStay};
 
 /// A log with no step and no side clause is a guarded one.
 pub fn opened_logs_are_guarded()
@@ -36,4 +36,9 @@ pub fn closed_steps_refute_goals()
 /// A step whose literals are all false by the facts, by a claim's goals or by its side clauses refutes the claim.
 pub fn closed_steps_refute_claims()
     ensures { ClosedRefutesClaim }
+{}
+
+/// An answer whose direct tests pass, and whose claims are refuted by steps of the log, is right.
+pub fn shown_answers_are_right()
+    ensures { ShownAnswersAreRight }
 {}

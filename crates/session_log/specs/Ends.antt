@@ -1,0 +1,147 @@
+-- How a query may end: what serves it while it is worked on, and what an answer or a stop rests on.
+use Rattle.std.specs.Prelude.{◌≡◌, ℕ, ◌+◌, ◌*◌, ◌<◌, ◌≤◌, true, false, List, [], ◌∷◌, length, take, Contains, slice_index_or, Option, Some, None, Ok}
+use Rattle.plain_lits.specs.declared.halt.Halt.{Halt}
+use Rattle.plain_lits.specs.declared.halt.Halt.TheVariants.{Spent, LogFull, Memory}
+use Rattle.plain_lits.specs.HintCheck.{Checks}
+use Rattle.plain_lits.specs.Units.{Units}
+use Rattle.semantics.specs.Frameworks.{Framework}
+use Rattle.meaning_atoms.specs.declared.atom.Atom.TheVariants.{Ad}
+use Rattle.meaning_atoms.specs.declared.atom.AtomLit.{AtomLit}
+use Rattle.meaning_atoms.specs.declared.axiom.AxiomName.{AxiomName}
+use Rattle.meaning_atoms.specs.Literals.{negated}
+use Rattle.meaning_atoms.specs.Worlds.{HoldsOf}
+use Rattle.iccma_tasks.specs.declared.answer.Answer.{Answer}
+use Rattle.iccma_tasks.specs.declared.answer.Answer.TheVariants.{Sets}
+use Rattle.iccma_tasks.specs.declared.task.Problem.{Problem}
+use Rattle.iccma_tasks.specs.declared.task.Problem.TheVariants.{Sceptical, SomeExtension, AllExtensions}
+use Rattle.iccma_tasks.specs.declared.task.Semantics.{Semantics}
+use Rattle.iccma_tasks.specs.declared.task.Semantics.TheVariants.{Complete, Grounded, Preferred, Stable, SemiStable, Ideal}
+use Rattle.iccma_tasks.specs.Tasks.{Asked, task_of}
+use Rattle.certificate_claims.specs.Acceptance.{Tests, no_claim}
+use Rattle.certificate_claims.specs.Claims.{claims, row_of, sets_of}
+use Rattle.certificate_claims.specs.Refutations.{Claim, axiom_clause}
+use Rattle.certificate_claims.specs.Rights.{SetsRise}
+use Rattle.certificate_claims.specs.SetLiterals.{outside, differs, wider, attacked}
+use Rattle.oracle_face.specs.declared.face.Pending.{Pending}
+use Rattle.oracle_face.specs.declared.face.Pending.TheVariants.{Loop}
+use Rattle.oracle_face.specs.Goals.{Refutes}
+use Rattle.oracle_face.specs.Growing.{Making, HasRun}
+use Rattle.oracle_face.specs.Logs.{OracleLog, LogStep, IsSameClause, by_axiom, clauses_of, is_loop, no_step, step_at}
+use Rattle.edit_rules.specs.declared.query_fault.QueryFault.{QueryFault}
+use Rattle.edit_rules.specs.Fitting.{Fits, IsFaultOf}
+
+-- ---- what serves a query
+
+-- the side clauses that the table of certificates has for a problem and a semantics, made from a set
+abbrev pub sides_for : Framework → Problem → Semantics → List ℕ → List (List AtomLit)
+sides_for f problem Preferred e = outside f e ∷ []
+sides_for f AllExtensions SemiStable e = wider f e ∷ differs f e ∷ []
+sides_for f problem SemiStable e = wider f e ∷ []
+sides_for f problem Ideal e = outside f e ∷ attacked f e ∷ []
+sides_for f AllExtensions Complete e = differs f e ∷ []
+sides_for f AllExtensions Stable e = differs f e ∷ []
+sides_for f problem semantics e = []
+
+-- the side clause is one of these, and made from an admissible set
+pub record SideServes (f : Framework) (asked : Asked) (literals : List AtomLit) (set : List ℕ) : Type 0 where
+  pub side : List AtomLit
+  pub listed : Contains (sides_for f asked.task.problem asked.task.semantics set) side
+  pub same : IsSameClause literals side
+  pub admissible : HoldsOf f set Ad
+
+-- the side clauses that may be made for a query
+abbrev pub MadeFor : Framework → Asked → Making
+MadeFor f asked literals set = SideServes f asked literals set
+
+-- the check takes the clause with no hints that searches use
+pub record IsTakenByNone (steps : List LogStep) (clause : List AtomLit) : Type 0 where
+  pub none : (hints : List ℕ) → ((hint : ℕ) → Contains hints hint → (step_at steps hint).closing ≡ false)
+      → Checks negated (clauses_of steps) clause hints (Ok (length hints)) → ⊥
+
+-- each loop clause that was gained was taken by no hints when it came
+pub record LoopsServe (old new : OracleLog) : Type 0 where
+  pub each : (k : ℕ) (name : AxiomName) → length old.steps ≤ k → k < length new.steps
+      → (slice_index_or new.steps k no_step).source ≡ by_axiom name → is_loop name ≡ true
+      → IsTakenByNone (take k new.steps) (axiom_clause name)
+
+-- so is a loop clause in hand
+abbrev pub LoopInHand : OracleLog → Option Pending → Type 0
+LoopInHand log (Some (Loop name)) = IsTakenByNone log.steps (axiom_clause name)
+LoopInHand log _ = Unit {0}
+
+-- ---- the course of a query
+
+-- the log before a query and behind it, the clause in hand when the budget was spent, and the budget before and after
+pub record Course : Type 0 where
+  pub old : OracleLog
+  pub new : OracleLog
+  pub pending : Option Pending
+  pub before : Units
+  pub after : Units
+
+-- what was added serves the query, whatever it comes to: each unit was new and is counted, a halt has its cause, and of
+-- steps that only ended a search there are at most two for each side clause and two more
+pub record WorksFor (f : Framework) (asked : Asked) (course : Course) (halt : Option Halt) : Type 0 where
+  pub run : HasRun (MadeFor f asked) (2 * length course.new.sides + 2) f course.old course.new course.pending
+      course.before course.after halt
+  pub loops : LoopsServe course.old course.new
+  pub in_hand : LoopInHand course.new course.pending
+  pub within : course.after.used ≤ course.after.limit
+
+-- ---- what an answer rests on
+
+-- a step of the log refutes the claim
+pub record HasRefuting (f : Framework) (log : OracleLog) (claim : Claim) : Type 0 where
+  pub number : ℕ
+  pub refutes : Refutes f log claim number
+
+-- the direct tests of the answer and of the certificate's sets pass, and steps of the log refute its claims
+pub record IsShownBy (f : Framework) (asked : Asked) (answer : Answer) (sets : List (List ℕ))
+    (log : OracleLog) : Type 0 where
+  pub tests : Tests f asked (row_of f asked answer) (sets_of answer) sets
+  pub refuted : (k : ℕ) → k < length (claims f (row_of f asked answer) sets)
+      → HasRefuting f log (slice_index_or (claims f (row_of f asked answer) sets) k no_claim)
+
+-- the query for one extension
+abbrev pub some_asked : Semantics → Asked
+some_asked semantics = record { task = task_of SomeExtension semantics; number = None }
+
+-- more extensions than so many, each shown as an answer to the query for one
+pub record HasTooMany (f : Framework) (asked : Asked) (most : ℕ) (log : OracleLog) : Type 0 where
+  pub all : asked.task.problem ≡ AllExtensions
+  pub sets : List (List ℕ)
+  pub more : most < length sets
+  pub rise : SetsRise sets
+  pub each : (e : List ℕ) → Contains sets e → (others : List (List ℕ))
+      × IsShownBy f (some_asked asked.task.semantics) (Sets (e ∷ [])) others log
+
+-- ---- how it ends
+
+-- the grounded set answers the task, which takes no step of the log
+abbrev pub IsByGrounded : Problem → Semantics → Type 0
+IsByGrounded problem Grounded = Unit {0}
+IsByGrounded Sceptical Complete = Unit {0}
+IsByGrounded SomeExtension Complete = Unit {0}
+IsByGrounded problem semantics = ⊥
+
+-- what may stop a query: want of memory, or a spent budget or a full log where the grounded set doesn't answer
+abbrev pub MayStop : Asked → Halt → Type 0
+MayStop asked Memory = Unit {0}
+MayStop asked halt = IsByGrounded asked.task.problem asked.task.semantics → ⊥
+
+-- a fault; an answer with the sets of its certificate; a halt; or more extensions than may be listed
+pub data Ending : Type 0 where
+  refused : QueryFault → Ending
+  definite : Answer → List (List ℕ) → Ending
+  stopped : Halt → Ending
+  too_many : Ending
+
+-- a query may end so: it has that first fault, or else fits the framework, and what was added serves it; an answer is
+-- shown by the log, a halt has its cause, and of extensions there are more than so many
+abbrev pub IsEnd : Framework → Asked → ℕ → Course → Ending → Type 0
+IsEnd f asked most course (refused fault) = IsFaultOf f asked fault
+IsEnd f asked most course (definite answer sets) =
+    Fits f asked × WorksFor f asked course None × IsShownBy f asked answer sets course.new
+IsEnd f asked most course (stopped halt) = Fits f asked × WorksFor f asked course (Some halt) × MayStop asked halt
+IsEnd f asked most course too_many =
+    Fits f asked × WorksFor f asked course None × HasTooMany f asked most course.new
