@@ -30,8 +30,8 @@ use Rattle.oracle_face.specs.Logs.{OracleLog, LogStep, SideClause, Source, by_ax
 use Rattle.session_log.specs.Guards.{IsGuarded}
 use Rattle.session_log.proofs.AxiomLemmas.{axiom_plain}
 use Rattle.session_log.proofs.StepLemmas.{hint_before, reached_before, reached_named}
-use Rattle.log_certificates.specs.Refuted.{ReachesStep, AreAllReached, AreRefuting, step_itself, step_by_hint, hints_in, step_of}
-use Rattle.log_certificates.specs.Trimmed.{ArePositions, IsMovedClause, IsMovedStep, IsTrimmed, moved_atom, moved_lit, number_in, position_of}
+use Rattle.log_certificates.specs.Refuted.{ReachesStep, AreAllReached, AreRefuting, IsRefutingStep, step_itself, step_by_hint, hints_in, step_of}
+use Rattle.log_certificates.specs.Trimmed.{HaveSmallNumbers, ArePositions, IsMovedClause, IsMovedStep, IsTrimmed, moved_atom, moved_lit, number_in, position_of}
 
 -- ---- atoms
 
@@ -227,9 +227,23 @@ no_ask_fact (af f) (Ask n) fact ask = fact
 no_ask_fact (af f) _ fact ask = ask
 
 module _ (f : Framework) (log : OracleLog) (claim : Claim) (step : ℕ) (positions kept numbers : List ℕ)
-    (steps : List Step) (form : IsLog f log) (guards : IsGuarded log) (plain : IsPlain claim)
-    (refutes : Refutes f log claim step) (are : ArePositions log.sides claim positions)
+    (steps : List Step) (refuting : IsRefutingStep f log claim step positions)
     (trim : IsTrimmed log step positions kept numbers steps) where
+  abbrev form : IsLog f log
+  form = refuting.form
+
+  abbrev guards : IsGuarded log
+  guards = refuting.guards
+
+  abbrev plain : IsPlain claim
+  plain = refuting.plain
+
+  abbrev refutes : Refutes f log claim step
+  refutes = refuting.refutes
+
+  abbrev are : ArePositions log.sides claim positions
+  are = refuting.places
+
   abbrev kept_at : ℕ → ℕ
   kept_at i = slice_index_or kept i 0
 
@@ -497,29 +511,29 @@ module _ (f : Framework) (log : OracleLog) (claim : Claim) (step : ℕ) (positio
 
   -- ---- a text can hold the steps
 
-  position_fits : (n : ℕ) → 0 < position_of positions n → IsAtom (Ask (position_of positions n))
-  position_fits n found =
-      let fits = trim.positions_fit n in
+  position_fits : HaveSmallNumbers step positions → (n : ℕ) → 0 < position_of positions n → IsAtom (Ask (position_of positions n))
+  position_fits small n found =
+      let fits = small.positions_fit n in
       (found, omega arith)
 
-  lit_fits : (k : ℕ) → Reaches log.steps step k → (l : AtomLit) → Contains (step_at log.steps k).clause l
+  lit_fits : HaveSmallNumbers step positions → (k : ℕ) → Reaches log.steps step k → (l : AtomLit) → Contains (step_at log.steps k).clause l
       → IsLit (moved_lit positions l)
-  lit_fits k reach l c =
+  lit_fits small k reach l c =
       ⊎_elim
       (λ ask.
       let movable = subst (λ (a : Atom). IsMovable log.sides positions a) ask.1 (lits_movable k reach l c) in
-      subst (λ (a : Atom). IsAtom (moved_atom positions a)) (sym ask.1) (position_fits ask.0 movable.1))
+      subst (λ (a : Atom). IsAtom (moved_atom positions a)) (sym ask.1) (position_fits small ask.0 movable.1))
       (λ none. subst (λ (m : AtomLit). IsLit m) (sym (same_lit positions l none))
       (guards.within k l (reached_named f log step k form refutes.step reach) c none))
       (ask_or_not l.atom)
 
-  number_fits : (k : ℕ) → Reaches log.steps step k → IsOrdinal (number_in numbers k)
-  number_fits k reach =
+  number_fits : HaveSmallNumbers step positions → (k : ℕ) → Reaches log.steps step k → IsOrdinal (number_in numbers k)
+  number_fits small k reach =
       let at = index_of k reach in
       let number = number_of k reach in
       let below = index_below at.0 at.1 in
       let within = kept_within at.0 at.1 in
-      let fits = trim.step_fits in
+      let fits = small.step_fits in
       record { from_one = omega arith; fits = omega arith }
 
   axiom_named : (g : Framework) (name : AxiomName) → IsAxiomOf g name → IsWritableStep (Axiom name)
@@ -528,32 +542,32 @@ module _ (f : Framework) (log : OracleLog) (claim : Claim) (step : ℕ) (positio
   all_from : {X : Type 0} (P : X → Type 0) (xs : List X) → ((x : X) → Contains xs x → P x) → All P xs
   all_from P xs each k d lt = each (slice_index_or xs k d) (Contains-get_or xs k d lt)
 
-  writable_of : (i : ℕ) → i < length kept → (source : Source) (cert : Step)
+  writable_of : HaveSmallNumbers step positions → (i : ℕ) → i < length kept → (source : Source) (cert : Step)
       → IsGiven f log.sides (take (kept_at i - 1) log.steps) (at_index i).clause source
       → (at_index i).source ≡ source → IsMovedStep positions numbers source (at_index i).clause cert
       → IsWritableStep cert
-  writable_of i lt (by_axiom name) cert given source moved =
+  writable_of small i lt (by_axiom name) cert given source moved =
       subst (λ (s : Step). IsWritableStep s) (sym moved) (axiom_named f name given.0)
-  writable_of i lt (by_side n) cert given source moved =
+  writable_of small i lt (by_side n) cert given source moved =
       let found = side_found (kept_at i) n (kept_reached i lt) source in
       subst (λ (s : Step). IsWritableStep s) (sym moved)
-      (record { from_one = found.1; fits = trim.positions_fit n })
-  writable_of i lt (by_hints hints) cert given source moved =
+      (record { from_one = found.1; fits = small.positions_fit n })
+  writable_of small i lt (by_hints hints) cert given source moved =
       let reach = kept_reached i lt in
       let clause = (at_index i).clause in
       subst (λ (s : Step). IsWritableStep s) (sym moved.is) (
         all_from IsLit moved.literals (λ m c.
             let from = Contains-from_mapped (moved_lit positions) clause m (moved.same.there m c) in
-            subst (λ (k : AtomLit). IsLit k) from.2 (lit_fits (kept_at i) reach from.0 from.1)),
+            subst (λ (k : AtomLit). IsLit k) from.2 (lit_fits small (kept_at i) reach from.0 from.1)),
         all_from IsOrdinal (map (number_in numbers) hints) (λ m c.
             let from = Contains-from_mapped (number_in numbers) hints m c in
             subst (λ (n : ℕ). IsOrdinal n) from.2
-            (number_fits from.0 (hint_reached log.steps step (kept_at i) from.0 reach
+            (number_fits small from.0 (hint_reached log.steps step (kept_at i) from.0 reach
             (subst (λ (s : Source). Contains (hints_of s) from.0) (sym source) from.1)))),
       )
 
-  pub trimmed_are_refuting : AreRefuting f claim steps
-  trimmed_are_refuting =
+  pub trimmed_refutes : AreRefuting f claim steps
+  trimmed_refutes =
       let long = trim.moved.long in
       let at = top in
       let within = at.1 in
@@ -564,14 +578,11 @@ module _ (f : Framework) (log : OracleLog) (claim : Claim) (step : ℕ) (positio
           closed = closed_last;
         };
         reached = all_reached;
-        writable = All-from_get_or IsWritableStep steps no_cert_step (λ i lt.
-            let inside : i < length kept = omega arith in
-            writable_of i inside (at_index i).source (cert_at i)
-            (given_by_number f log (kept_at i) form (kept_named i inside)) refl (trim.moved.each i inside));
       }
 
-pub trimmed_refutes : (f : Framework) (log : OracleLog) (claim : Claim) (step : ℕ) (positions kept numbers : List ℕ)
-    (steps : List Step) → IsLog f log → IsGuarded log → IsPlain claim → Refutes f log claim step
-    → ArePositions log.sides claim positions → IsTrimmed log step positions kept numbers steps
-    → AreRefuting f claim steps
-trimmed_refutes = trimmed_are_refuting
+  pub trimmed_fits : HaveSmallNumbers step positions → All IsWritableStep steps
+  trimmed_fits small = All-from_get_or IsWritableStep steps no_cert_step (λ i lt.
+      let long = trim.moved.long in
+      let inside : i < length kept = omega arith in
+      writable_of small i inside (at_index i).source (cert_at i)
+      (given_by_number f log (kept_at i) form (kept_named i inside)) refl (trim.moved.each i inside))

@@ -8,7 +8,7 @@ use Rattle.certificate_text.specs.Written.{IsWritableStep}
 use Rattle.oracle_face.specs.Goals.{Refutes}
 use Rattle.oracle_face.specs.Logs.{OracleLog, IsLog}
 use Rattle.session_log.specs.Guards.{IsGuarded}
-use Rattle.log_certificates.specs.Trimmed.{ArePositions, IsTrimmed}
+use Rattle.log_certificates.specs.Trimmed.{ArePositions, HaveSmallNumbers, IsTrimmed}
 
 -- a step of a certificate reaches itself, and what its hints reach; steps are numbered from 1
 abbrev pub hints_in : Step → List ℕ
@@ -27,15 +27,28 @@ pub data ReachesStep (steps : List Step) : ℕ → ℕ → Type 0 where
 abbrev pub AreAllReached : List Step → Type 0
 AreAllReached steps = (number : ℕ) → 0 < number → number ≤ length steps → ReachesStep steps (length steps) number
 
--- the steps refute the claim, none could be left out, and a text can hold them
+-- the steps refute the claim, and none could be left out
 pub record AreRefuting (f : Framework) (claim : Claim) (steps : List Step) : Type 0 where
   pub refutation : IsRefutationOf f claim steps
   pub reached : AreAllReached steps
-  pub writable : All IsWritableStep steps
 
--- what a step of a guarded log that refutes a claim reaches, moved into the claim, refutes it there
+-- a step of a guarded log refutes a claim, in which the log's side clauses have these positions
+pub record IsRefutingStep (f : Framework) (log : OracleLog) (claim : Claim) (step : ℕ)
+    (positions : List ℕ) : Type 0 where
+  pub form : IsLog f log
+  pub guards : IsGuarded log
+  pub plain : IsPlain claim
+  pub refutes : Refutes f log claim step
+  pub places : ArePositions log.sides claim positions
+
+-- what such a step reaches, moved into the claim, refutes it there
 abbrev pub TrimmedRefutes : Type 0
 TrimmedRefutes = (f : Framework) (log : OracleLog) (claim : Claim) (step : ℕ) (positions kept numbers : List ℕ)
-    (steps : List Step) → IsLog f log → IsGuarded log → IsPlain claim → Refutes f log claim step
-    → ArePositions log.sides claim positions → IsTrimmed log step positions kept numbers steps
-    → AreRefuting f claim steps
+    (steps : List Step) → IsRefutingStep f log claim step positions
+    → IsTrimmed log step positions kept numbers steps → AreRefuting f claim steps
+
+-- a text can hold it where the numbers have 32 bits
+abbrev pub TrimmedFits : Type 0
+TrimmedFits = (f : Framework) (log : OracleLog) (claim : Claim) (step : ℕ) (positions kept numbers : List ℕ)
+    (steps : List Step) → IsRefutingStep f log claim step positions
+    → IsTrimmed log step positions kept numbers steps → HaveSmallNumbers step positions → All IsWritableStep steps

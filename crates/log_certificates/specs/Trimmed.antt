@@ -69,11 +69,13 @@ pub record AreMoved (log : OracleLog) (positions kept numbers : List ℕ) (count
       → IsMovedStep positions numbers (step_at log.steps (slice_index_or kept i 0)).source
       (step_at log.steps (slice_index_or kept i 0)).clause (slice_index_or steps i no_step)
 
--- the kept steps are those that the step reaches; they are numbered from 1, and each has its step in the certificate;
--- all numbers have 32 bits
+-- the kept steps are those that the step reaches; they are numbered from 1, and each has its step in the certificate
 pub record IsTrimmed (log : OracleLog) (step : ℕ) (positions kept numbers : List ℕ) (steps : List Step) : Type 0 where
   pub reached : IsSetOf (Reaches log.steps step) kept
   pub numbered : AreNumbered kept numbers (length kept)
   pub moved : AreMoved log positions kept numbers (length kept) steps
+
+-- the step's number and the positions have 32 bits
+pub record HaveSmallNumbers (step : ℕ) (positions : List ℕ) : Type 0 where
   pub step_fits : step < 2 ^ 32
   pub positions_fit : (n : ℕ) → position_of positions n < 2 ^ 32

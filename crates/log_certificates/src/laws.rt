@@ -1,8 +1,13 @@
-//! The law that makes a log worth keeping. Its function does nothing; its contract is the law.
+//! The laws that make a log worth keeping. Each function does nothing; its contract is the law.
 
-ghost use Rattle.log_certificates.specs.Refuted.{TrimmedRefutes};
+ghost use Rattle.log_certificates.specs.Refuted.{TrimmedFits, TrimmedRefutes};
 
 /// What a refuting step reaches, numbered anew and with the claim's numbers of side clauses, is a refutation.
 pub fn trimmed_steps_refute()
     ensures { TrimmedRefutes }
+{}
+
+/// A text can hold it where the numbers have 32 bits.
+pub fn trimmed_steps_fit()
+    ensures { TrimmedFits }
 {}

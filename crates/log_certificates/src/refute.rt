@@ -1,13 +1,13 @@
 //! Refutations made from a log.
 
-ghost use Rattle.std.specs.Prelude.{ℕ, ◌<◌, length, Contains, IfOk};
+ghost use Rattle.std.specs.Prelude.{ℕ, ◌<◌, length, All, Contains, IfOk};
 ghost use Rattle.std.specs.List.Sorted.{IsStrictlyIncreasing};
 ghost use Rattle.plain_lists.specs.Members.{IsSetOf};
-ghost use Rattle.certificate_claims.specs.Refutations.{Claim, IsPlain};
-ghost use Rattle.oracle_face.specs.Goals.{Refutes};
+ghost use Rattle.certificate_claims.specs.Refutations.{Claim};
+ghost use Rattle.certificate_text.specs.Written.{IsWritableStep};
 ghost use Rattle.oracle_face.specs.Logs.{IsLog, IsNumberOf, Reaches};
-ghost use Rattle.log_certificates.specs.Refuted.{AreRefuting};
-ghost use Rattle.log_certificates.specs.Trimmed.{AreMoved, ArePositions};
+ghost use Rattle.log_certificates.specs.Refuted.{AreRefuting, IsRefutingStep};
+ghost use Rattle.log_certificates.specs.Trimmed.{AreMoved};
 
 use crate::moved::moved_step;
 use crate::reached::{numbers_of, reached_steps};
@@ -49,9 +49,12 @@ pub fn refutation<L: ReadLog>(
     positions: &[u32],
 ) -> Result<Refutation, Memory>
     requires { IsNumberOf (L.log log.now).steps step }
-    ensures { IfOk result (λ made. (claim : Claim) → IsPlain claim → Refutes (L.framework log.now) (L.log log.now) claim step
-        → ArePositions (L.log log.now).sides claim positions.now
+    ensures refutes { IfOk result (λ made. (claim : Claim)
+        → IsRefutingStep (L.framework log.now) (L.log log.now) claim step positions.now
         → AreRefuting (L.framework log.now) claim made.steps) }
+    ensures writable { IfOk result (λ made. (claim : Claim)
+        → IsRefutingStep (L.framework log.now) (L.log log.now) claim step positions.now
+        → All IsWritableStep made.steps) }
 {
     let in_log = step.number() as usize <= log.len();
     prove!(in_log);

@@ -1,7 +1,7 @@
 use Rattle.std.proofs.Common.{◌-◌, arith}
 use Rattle.std.specs.Prelude.{Contains}
 use Rattle.log_certificates.proofs.RefuteLemmas.{kept_bounds, kept_named}
-use Rattle.log_certificates.proofs.TrimmedLemmas.{trimmed_refutes}
+use Rattle.log_certificates.proofs.TrimmedLemmas.{trimmed_fits, trimmed_refutes}
 use Rattle.log_certificates.proofs.refute.refutation.Goals as goal
 
 pub numbers_of-requires-clause-within : goal.numbers_of-requires-clause-within
@@ -23,14 +23,23 @@ moved_steps-requires-clause-within g c = λ k h.
     let high = bounds.1 in
     omega (arith, c.as_slice-3.ensures.len, c.in_ok-numbers.ensures.long)
 
-pub returns : goal.returns
-returns g c = λ claim plain refutes are.
+pub returns-clause-refutes : goal.returns-clause-refutes
+returns-clause-refutes g c = λ claim refuting.
     trimmed_refutes (g.L.ReadLog.framework c.args.log.now) (g.L.ReadLog.log c.args.log.now) claim c.args.step
-    c.args.positions.now c.in_ok-kept.kept.items c.in_ok-numbers.numbers.items c.in_ok-steps.steps c.len.ensures.form
-    c.len.ensures.guards plain refutes are (record {
+    c.args.positions.now c.in_ok-kept.kept.items c.in_ok-numbers.numbers.items c.in_ok-steps.steps refuting (record {
       reached = c.in_ok-kept.ensures;
       numbered = rw c.as_slice.ensures.value at c.in_ok-numbers.ensures.numbered;
       moved = rw (c.as_slice-2.ensures.value, c.as_slice-3.ensures.value) at c.in_ok-steps.ensures;
+    })
+
+pub returns-clause-writable : goal.returns-clause-writable
+returns-clause-writable g c = λ claim refuting.
+    trimmed_fits (g.L.ReadLog.framework c.args.log.now) (g.L.ReadLog.log c.args.log.now) claim c.args.step
+    c.args.positions.now c.in_ok-kept.kept.items c.in_ok-numbers.numbers.items c.in_ok-steps.steps refuting (record {
+      reached = c.in_ok-kept.ensures;
+      numbered = rw c.as_slice.ensures.value at c.in_ok-numbers.ensures.numbered;
+      moved = rw (c.as_slice-2.ensures.value, c.as_slice-3.ensures.value) at c.in_ok-steps.ensures;
+    }) (record {
       step_fits = omega (arith, c.number.ensures);
       positions_fit = λ n. let fits = c.type_inv.positions (n - 1) in omega (arith, fits);
     })
