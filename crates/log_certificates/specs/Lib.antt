@@ -1,3 +1,4 @@
+pub mod Accepted
 pub mod Marks
 pub mod Moving
 pub mod Origins
