@@ -1,5 +1,6 @@
 pub mod Existing
 pub mod MovingLemmas
+pub mod PlacingLemmas
 pub mod PlainClaims
 pub mod RefuteLemmas
 pub mod TrimmedLemmas

@@ -3,9 +3,11 @@
 
 pub mod laws;
 mod moved;
+pub mod positions;
 mod reached;
 pub mod read_log;
 pub mod refute;
 
+pub use positions::positions_of;
 pub use read_log::{ReadLog, StepOrigin};
 pub use refute::refutation;

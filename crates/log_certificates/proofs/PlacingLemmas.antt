@@ -1,0 +1,135 @@
+-- The numbers that a claim's side clauses have in a log give their positions.
+use Rattle.std.proofs.Common.{◌≡◌, ◌≢◌, ⊎_elim, ℕ, ◌+◌, ◌-◌, ◌<◌, ◌≤◌, List, [], length, get_or, refl, ap, sym, subst, ◌∙◌, arith}
+use Rattle.std.specs.Prelude.{Contains, IfSome, slice_index_or, Option, Some, None, replicate}
+use Rattle.std.proofs.Math.ListN.{length-replicate, length-set, set}
+use Rattle.std.proofs.lemmas.Bool.{cases_eq, cases_lt}
+use Rattle.std.proofs.lemmas.List.{get_or_default, get_or-set_same, get_or-set_other}
+use Rattle.std.proofs.lemmas.List.Elements.{Contains-get_or}
+use Rattle.semantics.specs.Frameworks.{Framework}
+use Rattle.certificate_claims.specs.Refutations.{Claim}
+use Rattle.oracle_face.specs.Goals.{IsClaimSide}
+use Rattle.oracle_face.specs.Logs.{OracleLog, SideClause, IsLog, IsNumberOf, IsSameClause, side_at}
+use Rattle.log_certificates.specs.Placing.{AreAsksOf, AreWithin, ArePlaced, ArePositionsIn, IsAskOf, Places, PlacesAt}
+use Rattle.log_certificates.specs.Trimmed.{ArePositions, StandsAt, position_of}
+
+pub ask_within : (asks : List (Option ℕ)) (sides index : ℕ) (positions : List ℕ) (ask d : Option ℕ)
+    → AreWithin asks sides → index < length asks → ask ≡ get_or asks index d → length positions ≡ sides
+    → IfSome ask (λ n. (0 < n) × (n ≤ length positions))
+ask_within asks sides index positions None d within lt at room = tt
+ask_within asks sides index positions (Some n) d within lt at room =
+    let bounds = within.each n (index, lt, get_or_default asks index (Some n) d lt ∙ sym at) in
+    (bounds.0, omega (arith, bounds.1))
+
+some_number : (m n : ℕ) → Some m ≡ Some n → m ≡ n
+some_number m n e = cc
+
+-- one more is placed
+placed_next : (asks : List (Option ℕ)) (sides from index : ℕ) (old new : List ℕ) (ask : Option ℕ) → from ≡ index + 1
+    → from ≤ length asks → slice_index_or asks index None ≡ ask → AreWithin asks sides → ArePlaced asks sides from old
+    → Places ask from old new → ArePlaced asks sides index new
+placed_next asks sides from index old new None is le at within placed places =
+    subst (λ (positions : List ℕ). ArePlaced asks sides index positions) (sym places) (record {
+      room = placed.room;
+      back = λ n low pos. let b = placed.back n low pos in let above = b.0 in (omega arith, b.1, b.2);
+      first = λ i n high lt here. ⊎_elim
+          (λ (e : i ≡ index).
+          let none : None ≡ Some n = sym at
+          ∙ subst (λ (j : ℕ). slice_index_or asks j None ≡ Some n) e here in
+          absurd (cc))
+          (λ ne. placed.first i n (omega arith) lt here)
+          (cases_eq i index);
+    })
+placed_next asks sides from index old new (Some m) is le at within placed places =
+    let low_m = (within.each m (index, omega arith,
+    get_or_default asks index (Some m) None (omega arith) ∙ at)).0 in
+    record {
+      room = places.long ∙ placed.room;
+      back = λ n low pos. ⊎_elim
+          (λ (e : n ≡ m).
+          let here : position_of new n ≡ from = ap (position_of new) e ∙ places.here in
+          let before : position_of new n - 1 ≡ index = omega (arith, here, is) in
+          (
+            omega (arith, here),
+            omega (arith, here),
+            ap (λ (j : ℕ). slice_index_or asks j None) before ∙ (at ∙ ap (λ (j : ℕ). Some j) (sym e)),
+          ))
+          (λ ne.
+          let same = places.others n low ne in
+          let b = placed.back n low (omega (arith, same, pos)) in
+          let above = b.0 in
+          let high = b.1 in
+          (
+            omega (arith, same),
+            omega (arith, same),
+            subst (λ (p : ℕ). slice_index_or asks (p - 1) None ≡ Some n) (sym same) b.2,
+          ))
+          (cases_eq n m);
+      first = λ i n high lt here. ⊎_elim
+          (λ (e : n ≡ m).
+          let at_m : position_of new n ≡ from = ap (position_of new) e ∙ places.here in
+          (omega (arith, at_m), omega (arith, at_m)))
+          (λ ne. ⊎_elim
+          (λ (e : i ≡ index).
+          let same : m ≡ n = some_number m n (sym at
+          ∙ subst (λ (j : ℕ). slice_index_or asks j None ≡ Some n) e here) in
+          absurd (ne (sym same)))
+          (λ later.
+          let low = (within.each n (i, lt, get_or_default asks i (Some n) None lt ∙ here)).0 in
+          let same = places.others n low ne in
+          let b = placed.first i n (omega arith) lt here in
+          let pos = b.0 in
+          let bound = b.1 in
+          (omega (arith, same), omega (arith, same)))
+          (cases_eq i index))
+          (cases_eq n m);
+    }
+
+-- in the order of the loop, which counts down from the last
+pub placed_down : (asks : List (Option ℕ)) (sides down index : ℕ) (old new : List ℕ) (ask d : Option ℕ)
+    → down < length asks → index ≡ length asks - 1 - down → ask ≡ get_or asks index d → AreWithin asks sides
+    → ArePlaced asks sides (length asks - down) old → Places ask (index + 1) old new
+    → ArePlaced asks sides (length asks - (down + 1)) new
+placed_down asks sides down index old new ask d lt is at within placed places =
+    let from : length asks - down ≡ index + 1 = omega arith in
+    let next : length asks - (down + 1) ≡ index = omega arith in
+    subst (λ (k : ℕ). ArePlaced asks sides k new) (sym next)
+    (placed_next asks sides (length asks - down) index old new ask from (omega arith)
+    (get_or_default asks index None d (omega arith) ∙ sym at) within placed
+    (subst (λ (k : ℕ). Places ask k old new) (sym from) places))
+
+ask_found : (f : Framework) (log : OracleLog) (claim : Claim) (asks : List (Option ℕ)) (sides : ℕ) (positions : List ℕ)
+    (n i : ℕ) (ask : Option ℕ) → IsLog f log → IsClaimSide log.sides claim n → i < length asks
+    → slice_index_or asks i None ≡ ask → IsSameClause (side_at log.sides n).literals (slice_index_or claim.sides i [])
+    → IsAskOf log.sides (slice_index_or claim.sides i []) ask → ArePlaced asks sides 0 positions
+    → 0 < position_of positions n
+ask_found f log claim asks sides positions n i None form is lt at same ask placed = absurd (ask n is.number same)
+ask_found f log claim asks sides positions n i (Some m) form is lt at same ask placed =
+    let one : m ≡ n = form.apart m n ask.0 is.number (record {
+      there = λ l c. same.back l (ask.1.there l c);
+      back = λ l c. ask.1.back l (same.there l c);
+    }) in
+    (placed.first i n (omega arith) lt (at ∙ ap (λ (j : ℕ). Some j) one)).0
+
+-- what is placed so are the positions
+pub placed_positions : (asks : List (Option ℕ)) (sides : ℕ) (positions : List ℕ) → ArePlaced asks sides 0 positions
+    → ArePositionsIn asks positions
+placed_positions asks sides positions placed f log claim form are = record {
+  stands = λ n is pos.
+      let b = placed.back n is.from_one pos in
+      let p = position_of positions n in
+      let high = b.1 in
+      let ask = subst (λ (a : Option ℕ). IsAskOf log.sides (slice_index_or claim.sides (p - 1) []) a) b.2
+      (are.each (p - 1) (omega arith)) in
+      record {
+        named = record { from_one = pos; within = omega (arith, are.long) };
+        same = ask.1;
+      };
+  found = λ n is.
+      let c = is.there in
+      let lt = c.1 in
+      let side = get_or_default claim.sides c.0 [] is.side c.1 ∙ c.2 in
+      let inside : c.0 < length asks = omega (arith, are.long) in
+      ask_found f log claim asks sides positions n c.0 (slice_index_or asks c.0 None) form is inside refl
+      (subst (λ clause. IsSameClause (side_at log.sides n).literals clause) (sym side) is.same)
+      (are.each c.0 inside) placed;
+}
