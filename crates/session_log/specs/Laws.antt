@@ -1,5 +1,5 @@
 -- Laws of a session's log.
-use Rattle.std.specs.Prelude.{◌≡◌, ◌⊎◌, ℕ, ◌+◌, Bool, not, List, [], length, Contains, Option}
+use Rattle.std.specs.Prelude.{◌≡◌, ◌⊎◌, ℕ, ◌+◌, Bool, true, false, not, List, [], length, Contains, Option, Some, None}
 use Rattle.semantics.specs.Frameworks.{Framework, IsNumbered}
 use Rattle.meaning_atoms.specs.declared.atom.AtomLit.{AtomLit}
 use Rattle.meaning_atoms.specs.declared.axiom.AxiomName.{AxiomName}
@@ -12,10 +12,10 @@ use Rattle.certificate_claims.specs.Refutations.{Claim, IsAxiomOf}
 use Rattle.oracle_face.specs.declared.entry.EntryName.{EntryName}
 use Rattle.oracle_face.specs.Goals.{IsSide, RefutesGoals, DeniesSide, Refutes}
 use Rattle.oracle_face.specs.Growing.{NoSide, OnlySide}
-use Rattle.oracle_face.specs.Logs.{OracleLog, IsLog, IsNew, IsNumberOf, guarded, step_at, working}
+use Rattle.oracle_face.specs.Logs.{OracleLog, FactsAreFalse, IsLog, IsNew, IsNumberOf, guarded, is_loop, step_at, working}
 use Rattle.session_log.specs.Ends.{IsShownBy}
 use Rattle.session_log.specs.Guards.{IsGuarded}
-use Rattle.session_log.specs.Steps.{TakesAxiom, TakesSide, Derives, StaysGuarded}
+use Rattle.session_log.specs.Steps.{TakesAxiom, TakesSide, Derives, Spends, StaysGuarded}
 
 -- a log with no step and no side clause is a guarded one
 abbrev pub OpenedGuarded : Type 0
@@ -37,6 +37,32 @@ abbrev pub DerivedStay : Type 0
 DerivedStay = (f : Framework) (clause : List AtomLit) (hints : List ℕ) (imported : Option EntryName) (closing : Bool)
     (old new : OracleLog) → IsLog f old → IsGuarded old → Derives clause hints imported closing old new
     → StaysGuarded NoSide f old new
+
+-- an axiom that isn't a loop clause spends nothing
+abbrev pub AxiomsSpendNothing : Type 0
+AxiomsSpendNothing = (f : Framework) (name : AxiomName) (clause : List AtomLit) (old new : OracleLog)
+    → is_loop name ≡ false → TakesAxiom name clause old new → Spends f old new 0 0
+
+-- a side clause spends a unit
+abbrev pub SidesSpendOne : Type 0
+SidesSpendOne = (f : Framework) (literals : List AtomLit) (set : List ℕ) (clause : List AtomLit) (old new : OracleLog)
+    → IsLog f old → IsGuarded old → TakesSide literals set clause old new → Spends f old new 1 0
+
+-- a clause of one's own that is new, and says no fact but a false one, spends a unit
+abbrev pub LearnedSpendOne : Type 0
+LearnedSpendOne = (f : Framework) (clause : List AtomLit) (hints : List ℕ) (old new : OracleLog)
+    → IsNew (working old.steps) clause → FactsAreFalse f clause → Derives clause hints None false old new
+    → Spends f old new 1 0
+
+-- a step that only ends a search spends no unit, and is counted as such
+abbrev pub ClosingSpendsNone : Type 0
+ClosingSpendsNone = (f : Framework) (clause : List AtomLit) (hints : List ℕ) (imported : Option EntryName)
+    (old new : OracleLog) → Derives clause hints imported true old new → Spends f old new 0 1
+
+-- an imported clause spends nothing
+abbrev pub ImportedSpendNothing : Type 0
+ImportedSpendNothing = (f : Framework) (clause : List AtomLit) (hints : List ℕ) (name : EntryName)
+    (old new : OracleLog) → Derives clause hints (Some name) false old new → Spends f old new 0 0
 
 -- a further side clause that an oracle may be asked to keep is new to what searches use, whatever its literals
 abbrev pub SidesAreNew : Type 0

@@ -1,15 +1,16 @@
 -- How a log grows by one step: an axiom comes, a side clause comes with its step, or a clause is derived.
 use Rattle.std.specs.Prelude.{◌≡◌, ◌⊎◌, ℕ, ◌+◌, ◌<◌, Bool, false, List, [], ◌∷◌, ◌++◌, length, Contains, Option, None, Ok}
 use Rattle.plain_lits.specs.HintCheck.{Checks}
+use Rattle.plain_lits.specs.Units.{Units}
 use Rattle.semantics.specs.Frameworks.{Framework}
 use Rattle.meaning_atoms.specs.declared.atom.AtomLit.{AtomLit}
 use Rattle.meaning_atoms.specs.declared.axiom.AxiomName.{AxiomName}
 use Rattle.meaning_atoms.specs.Literals.{negated}
 use Rattle.certificate_claims.specs.Refutations.{axiom_clause}
 use Rattle.oracle_face.specs.declared.entry.EntryName.{EntryName}
-use Rattle.oracle_face.specs.Logs.{OracleLog, LogStep, SideClause, Source, by_axiom, by_side, by_hints, IsLog, IsNumberOf, IsSameClause, guarded, clauses_of, side_at, step_at}
+use Rattle.oracle_face.specs.Logs.{OracleLog, LogStep, SideClause, Source, by_axiom, by_side, by_hints, IsLog, IsNumberOf, IsSameClause, guarded, clauses_of, closings_of, side_at, step_at}
 use Rattle.oracle_face.specs.Goals.{IsSide}
-use Rattle.oracle_face.specs.Growing.{Making, Grows}
+use Rattle.oracle_face.specs.Growing.{Making, Grows, Works}
 use Rattle.session_log.specs.Guards.{IsGuarded}
 
 -- the log had room, and has this step behind the others; these are its side clauses now
@@ -70,3 +71,9 @@ pub record StaysGuarded (P : Making) (f : Framework) (old new : OracleLog) : Typ
   pub grows : Grows P old new
   pub form : IsLog f new
   pub guards : IsGuarded new
+
+-- what a step spends: so many units of the budget, each new and no fact but a false one, and so many steps that only
+-- ended a search
+pub record Spends (f : Framework) (old new : OracleLog) (units closings : ℕ) : Type 0 where
+  pub works : (before after : Units) → after.used ≡ before.used + units → Works f old new before after
+  pub closes : closings_of new ≡ closings_of old + closings

@@ -1,7 +1,8 @@
 //! What holds of a session's log. Each function does nothing; its contract is the law.
 
-ghost use Rattle.session_log.specs.Laws.{AxiomsStay, ClosedRefutesClaim, ClosedRefutesGoals, DerivedStay, OpenedGuarded};
-ghost use Rattle.session_log.specs.Laws.{ShownAnswersAreRight, SidesAreNew, SidesStay};
+ghost use Rattle.session_log.specs.Laws.{AxiomsSpendNothing, AxiomsStay, ClosedRefutesClaim, ClosedRefutesGoals};
+ghost use Rattle.session_log.specs.Laws.{ClosingSpendsNone, DerivedStay, ImportedSpendNothing, LearnedSpendOne};
+ghost use Rattle.session_log.specs.Laws.{OpenedGuarded, ShownAnswersAreRight, SidesAreNew, SidesSpendOne, SidesStay};
 
 /// A log with no step and no side clause is a guarded one.
 pub fn opened_logs_are_guarded()
@@ -21,6 +22,31 @@ pub fn sides_keep_the_guards()
 /// A guarded log stays one where a clause is derived.
 pub fn derived_steps_keep_the_guards()
     ensures { DerivedStay }
+{}
+
+/// An axiom that isn't a loop clause spends nothing.
+pub fn axioms_spend_nothing()
+    ensures { AxiomsSpendNothing }
+{}
+
+/// A side clause spends a unit.
+pub fn sides_spend_one()
+    ensures { SidesSpendOne }
+{}
+
+/// A learned clause that is new spends a unit.
+pub fn learned_steps_spend_one()
+    ensures { LearnedSpendOne }
+{}
+
+/// A step that only ends a search spends no unit.
+pub fn closing_steps_spend_none()
+    ensures { ClosingSpendsNone }
+{}
+
+/// An imported clause spends nothing.
+pub fn imported_steps_spend_nothing()
+    ensures { ImportedSpendNothing }
 {}
 
 /// A further side clause is new, since each step is true in a world where the side clause is false.
