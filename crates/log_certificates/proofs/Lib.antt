@@ -1,7 +1,4 @@
-pub mod Existing
 pub mod MovingLemmas
 pub mod PlacingLemmas
-pub mod PlainClaims
 pub mod RefuteLemmas
-pub mod TrimmedLemmas
 pub mod WalkLemmas

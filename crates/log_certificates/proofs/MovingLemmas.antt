@@ -1,19 +1,18 @@
 -- Loops that move literals, and that number the kept steps.
-use Rattle.std.proofs.Common.{◌≡◌, ⊎_elim, ℕ, zero, suc, true, ◌+◌, ◌<◌, ◌≤◌, List, [], ◌∷◌, ◌++◌, length, map, get_or, refl, ap, sym, subst, ◌∙◌, arith}
+use Rattle.std.proofs.Common.{◌≡◌, ⊎_elim, ℕ, true, ◌+◌, ◌<◌, ◌≤◌, List, [], ◌∷◌, ◌++◌, length, map, get_or, refl, ap}
+use Rattle.std.proofs.Common.{sym, subst, ◌∙◌, arith}
 use Rattle.std.specs.Prelude.{Contains, slice_index_or}
-use Rattle.std.specs.List.Sorted.{IsStrictlyIncreasing}
 use Rattle.std.proofs.Math.ListN.{set, length-set}
 use Rattle.std.proofs.lemmas.Bool.{cases_eq, cases_lt}
-use Rattle.std.proofs.lemmas.List.{get_or-set_same, get_or-set_other, get_or-map, get_or_default, length-map, ext_get_or, get_or_append_left, get_or_push, length_push}
-use Rattle.std.proofs.lemmas.List.Elements.{Contains-get_or}
-use Rattle.std.proofs.lemmas.List.Kept.{AllPairs-from_increasing}
+use Rattle.std.proofs.lemmas.List.{get_or-set_same, get_or-set_other, get_or-map, get_or_default, length-map}
+use Rattle.std.proofs.lemmas.List.{ext_get_or, get_or_append_left, get_or_push, length_push}
 use Rattle.meaning_atoms.specs.declared.atom.Atom.TheVariants.{Cf}
 use Rattle.meaning_atoms.specs.declared.atom.AtomLit.{AtomLit}
 use Rattle.certificate_claims.specs.declared.certificate.Step.{Step}
 use Rattle.certificate_claims.specs.Refutations.{no_step}
 use Rattle.oracle_face.specs.Logs.{OracleLog, step_at}
-use Rattle.log_certificates.specs.Moving.{AreMovedTo, IsNumbering}
-use Rattle.log_certificates.specs.Trimmed.{AreMoved, IsMovedStep, moved_lit, number_in}
+use Rattle.log_certificates.specs.Moving.{AreMovedTo}
+use Rattle.log_refutations.specs.Trimmed.{AreMoved, IsMovedStep, moved_lit}
 
 -- ---- literals in place
 
@@ -54,46 +53,6 @@ moved_all positions old now count le h =
     ext_get_or no_lit now (map (moved_lit positions) old) (long ∙ sym (length-map old (moved_lit positions)))
     (λ j lt. h.front j no_lit (omega arith) (omega arith)
     ∙ sym (get_or-map (moved_lit positions) old j no_lit no_lit (omega arith)))
-
--- ---- numbers
-
-rising_below : (kept : List ℕ) → IsStrictlyIncreasing kept → ((k : ℕ) → Contains kept k → 0 < k) → (i : ℕ)
-    → i < length kept → i < slice_index_or kept i 0
-rising_below kept rises low zero lt = low (slice_index_or kept 0 0) (Contains-get_or kept 0 0 lt)
-rising_below kept rises low (suc i) lt =
-    let before = rising_below kept rises low i (omega arith) in
-    let up = AllPairs-from_increasing kept rises i (suc i) 0 (omega arith) lt in
-    omega arith
-
--- the number of a kept step is at most the last's
-pub number_within : (kept : List ℕ) (last i : ℕ) → IsStrictlyIncreasing kept
-    → ((k : ℕ) → Contains kept k → (0 < k) × (k ≤ last)) → i < length kept → i + 1 ≤ last
-number_within kept last i rises within lt =
-    let up = rising_below kept rises (λ k c. (within k c).0) i lt in
-    let high = (within (slice_index_or kept i 0) (Contains-get_or kept i 0 lt)).1 in
-    omega arith
-
-pub numbering_next : (kept now new : List ℕ) (last index k d : ℕ) → IsStrictlyIncreasing kept
-    → index < length kept → k ≡ slice_index_or kept index d → k < length now → IsNumbering kept last index now
-    → new ≡ set now k (index + 1) → IsNumbering kept last (index + 1) new
-numbering_next kept now new last index k d rises lt is within h made =
-    let here : k ≡ slice_index_or kept index 0 = is ∙ get_or_default kept index d 0 lt in
-    rw made (record {
-      room = omega (arith, h.room, length-set {A = ℕ});
-      so_far = record {
-        each = λ i low. ⊎_elim
-            (λ (same : i ≡ index).
-            subst (λ (j : ℕ). number_in (set now k (index + 1)) (slice_index_or kept j 0) ≡ j + 1) (sym same)
-            (subst (λ (j : ℕ). slice_index_or (set now k (index + 1)) j 0 ≡ index + 1) here
-            (get_or-set_same now k (index + 1) 0 within)))
-            (λ ne.
-            let up = AllPairs-from_increasing kept rises i index 0 (omega arith) lt in
-            get_or-set_other now k (slice_index_or kept i 0) (index + 1) 0
-            (λ (e : slice_index_or kept i 0 ≡ k). omega (arith, up, e, here))
-            ∙ h.so_far.each i (omega arith))
-            (cases_eq i index);
-      };
-    })
 
 -- ---- steps
 

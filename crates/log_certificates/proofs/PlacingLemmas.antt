@@ -1,16 +1,15 @@
 -- The numbers that a claim's side clauses have in a log give their positions.
-use Rattle.std.proofs.Common.{◌≡◌, ◌≢◌, ⊎_elim, ℕ, ◌+◌, ◌-◌, ◌<◌, ◌≤◌, List, [], length, get_or, refl, ap, sym, subst, ◌∙◌, arith}
-use Rattle.std.specs.Prelude.{Contains, IfSome, slice_index_or, Option, Some, None, replicate}
-use Rattle.std.proofs.Math.ListN.{length-replicate, length-set, set}
-use Rattle.std.proofs.lemmas.Bool.{cases_eq, cases_lt}
-use Rattle.std.proofs.lemmas.List.{get_or_default, get_or-set_same, get_or-set_other}
-use Rattle.std.proofs.lemmas.List.Elements.{Contains-get_or}
+use Rattle.std.proofs.Common.{◌≡◌, ⊎_elim, ℕ, ◌+◌, ◌-◌, ◌<◌, ◌≤◌, List, [], length, get_or, refl, ap, sym, subst, ◌∙◌}
+use Rattle.std.proofs.Common.{arith}
+use Rattle.std.specs.Prelude.{IfSome, slice_index_or, Option, Some, None}
+use Rattle.std.proofs.lemmas.Bool.{cases_eq}
+use Rattle.std.proofs.lemmas.List.{get_or_default}
 use Rattle.semantics.specs.Frameworks.{Framework}
 use Rattle.certificate_claims.specs.Refutations.{Claim}
 use Rattle.oracle_face.specs.Goals.{IsClaimSide}
-use Rattle.oracle_face.specs.Logs.{OracleLog, SideClause, IsLog, IsNumberOf, IsSameClause, side_at}
-use Rattle.log_certificates.specs.Placing.{AreAsksOf, AreWithin, ArePlaced, ArePositionsIn, IsAskOf, Places, PlacesAt}
-use Rattle.log_certificates.specs.Trimmed.{ArePositions, StandsAt, position_of}
+use Rattle.oracle_face.specs.Logs.{OracleLog, IsLog, IsSameClause, side_at}
+use Rattle.log_certificates.specs.Placing.{AreWithin, ArePlaced, ArePositionsIn, IsAskOf, Places}
+use Rattle.log_refutations.specs.Trimmed.{position_of}
 
 pub ask_within : (asks : List (Option ℕ)) (sides index : ℕ) (positions : List ℕ) (ask d : Option ℕ)
     → AreWithin asks sides → index < length asks → ask ≡ get_or asks index d → length positions ≡ sides
@@ -40,15 +39,17 @@ placed_next asks sides from index old new None is le at within placed places =
           (cases_eq i index);
     })
 placed_next asks sides from index old new (Some m) is le at within placed places =
-    let low_m = (within.each m (index, omega arith,
-    get_or_default asks index (Some m) None (omega arith) ∙ at)).0 in
+    let low_m = (within.each m (
+      index,
+      omega arith,
+      get_or_default asks index (Some m) None (omega arith) ∙ at,
+    )).0 in
     record {
       room = places.long ∙ placed.room;
       back = λ n low pos. ⊎_elim
           (λ (e : n ≡ m).
           let here : position_of new n ≡ from = ap (position_of new) e ∙ places.here in
-          let before : position_of new n - 1 ≡ index = omega (arith, here, is) in
-          (
+          let before : position_of new n - 1 ≡ index = omega (arith, here, is) in (
             omega (arith, here),
             omega (arith, here),
             ap (λ (j : ℕ). slice_index_or asks j None) before ∙ (at ∙ ap (λ (j : ℕ). Some j) (sym e)),
@@ -57,8 +58,7 @@ placed_next asks sides from index old new (Some m) is le at within placed places
           let same = places.others n low ne in
           let b = placed.back n low (omega (arith, same, pos)) in
           let above = b.0 in
-          let high = b.1 in
-          (
+          let high = b.1 in (
             omega (arith, same),
             omega (arith, same),
             subst (λ (p : ℕ). slice_index_or asks (p - 1) None ≡ Some n) (sym same) b.2,

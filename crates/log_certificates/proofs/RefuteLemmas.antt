@@ -1,29 +1,13 @@
 -- What a refutation is made of, as the code makes it.
-use Rattle.std.proofs.Common.{◌≡◌, ℕ, ◌<◌, ◌≤◌, List, length, map, ap, sym, subst, ◌∙◌, arith}
+use Rattle.std.proofs.Common.{◌≡◌, ℕ, ◌<◌, List, length, map, ap, sym, subst, ◌∙◌, arith}
 use Rattle.std.specs.Prelude.{Contains}
-use Rattle.plain_lists.specs.Members.{IsSetOf}
 use Rattle.plain_lits.proofs.HintCheckLemmas.{Contains-mapped, Contains-from_mapped}
 use Rattle.semantics.specs.Frameworks.{Framework}
 use Rattle.meaning_atoms.specs.declared.atom.AtomLit.{AtomLit}
 use Rattle.certificate_claims.specs.declared.certificate.Step.TheVariants.{Derived}
-use Rattle.oracle_face.specs.Logs.{OracleLog, IsLog, IsNumberOf, IsSameClause, Reaches, hints_of, step_at}
-use Rattle.session_log.proofs.StepLemmas.{hint_before, reached_before}
-use Rattle.log_certificates.specs.Trimmed.{IsMovedClause, IsMovedDerived, moved_lit, number_in}
-
--- the steps that are kept are no later than the last
-pub kept_bounds : (f : Framework) (log : OracleLog) (step : ℕ) (kept : List ℕ) → IsLog f log
-    → IsNumberOf log.steps step → IsSetOf (Reaches log.steps step) kept → (k : ℕ) → Contains kept k
-    → (0 < k) × (k ≤ step)
-kept_bounds f log step kept form is reached k c = reached_before f log step k form is ((reached.members k).0 c)
-
-pub kept_named : (f : Framework) (log : OracleLog) (step : ℕ) (kept : List ℕ) → IsLog f log
-    → IsNumberOf log.steps step → IsSetOf (Reaches log.steps step) kept → (k : ℕ) → Contains kept k
-    → IsNumberOf log.steps k
-kept_named f log step kept form is reached k c =
-    let bounds = kept_bounds f log step kept form is reached k c in
-    let high = bounds.1 in
-    let within = is.within in
-    record { from_one = bounds.0; within = omega arith }
+use Rattle.oracle_face.specs.Logs.{OracleLog, IsLog, IsNumberOf, IsSameClause, hints_of, step_at}
+use Rattle.session_log.proofs.StepLemmas.{hint_before}
+use Rattle.log_refutations.specs.Trimmed.{IsMovedClause, IsMovedDerived, moved_lit, number_in}
 
 -- the hints of a step have their numbers
 pub hints_within : (f : Framework) (log : OracleLog) (step : ℕ) (hints numbers : List ℕ) → IsLog f log

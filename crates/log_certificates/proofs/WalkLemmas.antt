@@ -1,5 +1,6 @@
 -- A walk down the numbers of steps finds what a step of a log reaches.
-use Rattle.std.proofs.Common.{◌≡◌, ⊎_elim, ℕ, zero, suc, ◌+◌, ◌-◌, ◌<◌, ◌≤◌, Bool, true, false, List, [], ◌++◌, length, take, get_or, refl, ap, sym, subst, ◌∙◌, arith}
+use Rattle.std.proofs.Common.{◌≡◌, ⊎_elim, ℕ, zero, suc, ◌+◌, ◌-◌, ◌<◌, ◌≤◌, Bool, true, false, List, [], ◌++◌, length}
+use Rattle.std.proofs.Common.{take, get_or, refl, ap, sym, subst, ◌∙◌, arith}
 use Rattle.std.specs.Prelude.{◌↔◌, Contains, replicate}
 use Rattle.std.proofs.Math.ListN.{set, length-set, length-replicate}
 use Rattle.std.proofs.lemmas.Bool.{cases_eq, false≢true}
@@ -9,7 +10,7 @@ use Rattle.hinted_log.specs.Trimming.{IsMarked, MarksHints}
 use Rattle.hinted_log.proofs.TrimmingLemmas.{none_marked}
 use Rattle.oracle_face.specs.Logs.{OracleLog, IsLog, IsNumberOf, Reaches, itself, by_hint, hints_of, step_at}
 use Rattle.session_log.proofs.StepLemmas.{hint_before, reached_before}
-use Rattle.log_certificates.proofs.TrimmedLemmas.{hint_reached}
+use Rattle.log_refutations.proofs.TrimmedLemmas.{hint_reached}
 use Rattle.log_certificates.specs.Marks.{IsWalk}
 
 marked_once : (last j : ℕ) → IsMarked (set (replicate (last + 1) false) last true) j → last ≡ j

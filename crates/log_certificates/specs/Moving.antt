@@ -1,7 +1,7 @@
 -- The inner state of loops that move a step, which no caller sees.
-use Rattle.std.specs.Prelude.{◌≡◌, ℕ, ◌+◌, ◌<◌, ◌≤◌, List, length, slice_index_or}
+use Rattle.std.specs.Prelude.{◌≡◌, ℕ, ◌<◌, ◌≤◌, List, length, slice_index_or}
 use Rattle.meaning_atoms.specs.declared.atom.AtomLit.{AtomLit}
-use Rattle.log_certificates.specs.Trimmed.{AreNumbered, moved_lit}
+use Rattle.log_refutations.specs.Trimmed.{moved_lit}
 
 -- the first so many literals are moved, and the others are as they were
 pub record AreMovedTo (positions : List ℕ) (old : List AtomLit) (count : ℕ) (now : List AtomLit) : Type 0 where
@@ -9,8 +9,3 @@ pub record AreMovedTo (positions : List ℕ) (old : List AtomLit) (count : ℕ) 
   pub front : (j : ℕ) (d : AtomLit) → j < count → j < length old
       → slice_index_or now j d ≡ moved_lit positions (slice_index_or old j d)
   pub rest : (j : ℕ) (d : AtomLit) → count ≤ j → slice_index_or now j d ≡ slice_index_or old j d
-
--- the first so many kept steps are numbered, in an array with room for all numbers up to the last
-pub record IsNumbering (kept : List ℕ) (last count : ℕ) (numbers : List ℕ) : Type 0 where
-  pub room : length numbers ≡ last + 1
-  pub so_far : AreNumbered kept numbers count

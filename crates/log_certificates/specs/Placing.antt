@@ -1,10 +1,11 @@
 -- Where the side clauses of a log stand in a claim, from the numbers that the claim's side clauses have in the log.
-use Rattle.std.specs.Prelude.{◌≡◌, ◌≢◌, ℕ, ◌+◌, ◌-◌, ◌<◌, ◌≤◌, List, [], length, Contains, slice_index_or, Option, Some, None}
+use Rattle.std.specs.Prelude.{◌≡◌, ◌≢◌, ℕ, ◌+◌, ◌-◌, ◌<◌, ◌≤◌, List, [], length, Contains, slice_index_or, Option, Some}
+use Rattle.std.specs.Prelude.{None}
 use Rattle.semantics.specs.Frameworks.{Framework}
 use Rattle.meaning_atoms.specs.declared.atom.AtomLit.{AtomLit}
 use Rattle.certificate_claims.specs.Refutations.{Claim}
 use Rattle.oracle_face.specs.Logs.{OracleLog, SideClause, IsLog, IsNumberOf, IsSameClause, side_at}
-use Rattle.log_certificates.specs.Trimmed.{ArePositions, position_of}
+use Rattle.log_refutations.specs.Trimmed.{ArePositions, position_of}
 
 -- the number of the side clause of the log that has the literals, if there is one
 abbrev pub IsAskOf : List SideClause → List AtomLit → Option ℕ → Type 0

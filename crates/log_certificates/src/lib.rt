@@ -1,7 +1,6 @@
 //! Refutations of a certificate, made from steps of a session's log.
 #![tactic(auto)]
 
-pub mod laws;
 mod moved;
 pub mod positions;
 mod reached;

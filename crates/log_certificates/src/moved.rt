@@ -2,7 +2,7 @@
 
 ghost use Rattle.std.specs.Prelude.{◌≡◌, ◌<◌, ℕ, length, map, Contains, IfOk};
 ghost use Rattle.oracle_face.specs.Logs.{IsLog, IsNumberOf, hints_of, step_at};
-ghost use Rattle.log_certificates.specs.Trimmed.{IsMovedDerived, IsMovedStep, moved_lit, number_in, position_of};
+ghost use Rattle.log_refutations.specs.Trimmed.{IsMovedDerived, IsMovedStep, moved_lit, number_in, position_of};
 
 use crate::read_log::{ReadLog, StepOrigin};
 use certificate_claims::Step;

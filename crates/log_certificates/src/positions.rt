@@ -20,11 +20,7 @@ fn place(positions: &mut Vec<u32>, ask: Option<AskId>, position: u32)
 /// For each of so many side clauses of a log its position among the side clauses of a claim, counted from 1, or 0 where
 /// the claim has none with its literals. `asks` has for each side clause of the claim the number that the log has it
 /// under, or None. Of side clauses of the claim with the same literals the first gives the position.
-pub fn positions_of(
-    alloc: Global,
-    sides: usize,
-    asks: &[Option<AskId>],
-) -> Result<Vec<u32>, Memory>
+pub fn positions_of(alloc: Global, sides: usize, asks: &[Option<AskId>]) -> Result<Vec<u32>, Memory>
     requires within { AreWithin asks.now sides }
     requires fits { length asks.now < 2 ^ 32 }
     ensures placed { IfOk result (λ positions. ArePlaced asks.now sides 0 positions.items) }

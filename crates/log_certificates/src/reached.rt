@@ -5,7 +5,7 @@ ghost use Rattle.std.specs.List.Sorted.{IsStrictlyIncreasing};
 ghost use Rattle.plain_lists.specs.Members.{IsSetOf};
 ghost use Rattle.hinted_log.specs.Trimming.{IsMarked, MarksHints};
 ghost use Rattle.oracle_face.specs.Logs.{IsLog, IsNumberOf, Reaches};
-ghost use Rattle.log_certificates.specs.Trimmed.{AreNumbered};
+ghost use Rattle.log_refutations.specs.Trimmed.{AreNumbered};
 
 use crate::read_log::ReadLog;
 use plain_lists::Memory;

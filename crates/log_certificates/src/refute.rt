@@ -6,8 +6,8 @@ ghost use Rattle.plain_lists.specs.Members.{IsSetOf};
 ghost use Rattle.certificate_claims.specs.Refutations.{Claim};
 ghost use Rattle.certificate_text.specs.Written.{IsWritableStep};
 ghost use Rattle.oracle_face.specs.Logs.{IsLog, IsNumberOf, Reaches};
-ghost use Rattle.log_certificates.specs.Refuted.{AreRefuting, IsRefutingStep};
-ghost use Rattle.log_certificates.specs.Trimmed.{AreMoved};
+ghost use Rattle.log_refutations.specs.Refuted.{AreRefuting, IsRefutingStep};
+ghost use Rattle.log_refutations.specs.Trimmed.{AreMoved};
 
 use crate::moved::moved_step;
 use crate::reached::{numbers_of, reached_steps};

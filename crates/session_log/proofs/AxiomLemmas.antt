@@ -14,7 +14,8 @@ use Rattle.af_axioms.proofs.Literals.{rows_fit}
 use Rattle.oracle_face.specs.Goals.{IsSide, Tells}
 use Rattle.meaning_atoms.specs.declared.atom.AtomLit.{AtomLit}
 use Rattle.meaning_atoms.specs.declared.axiom.AfAxiom.{AfAxiom}
-use Rattle.meaning_atoms.specs.declared.axiom.AfAxiom.TheVariants.{A1, A2, A3, A4, A5, A6, A7, A8, A9, A10, A11, A12, A13, A14}
+use Rattle.meaning_atoms.specs.declared.axiom.AfAxiom.TheVariants.{A1, A2, A3, A4, A5, A6, A7, A8, A9, A10, A11, A12}
+use Rattle.meaning_atoms.specs.declared.axiom.AfAxiom.TheVariants.{A13, A14}
 use Rattle.meaning_atoms.specs.declared.axiom.AxiomName.{AxiomName}
 use Rattle.meaning_atoms.specs.declared.axiom.AxiomName.TheVariants.{Af as OfAf}
 use Rattle.meaning_atoms.specs.Literals.{AsksNothing, not_ask}

@@ -1,5 +1,6 @@
 -- A further side clause is new to what searches use: each step's clause is true in some world where it is false.
-use Rattle.std.proofs.Common.{◌≡◌, ⊎_elim, ℕ, ◌+◌, ◌<◌, Bool, true, false, not, List, [], length, map, filter, refl, ap, sym, subst, ◌∙◌, arith}
+use Rattle.std.proofs.Common.{◌≡◌, ⊎_elim, ℕ, ◌+◌, ◌<◌, Bool, true, false, not, List, [], length, map, filter, refl, ap}
+use Rattle.std.proofs.Common.{sym, subst, ◌∙◌, arith}
 use Rattle.std.specs.Prelude.{Contains, slice_index_or}
 use Rattle.std.proofs.lemmas.Bool.{false≢true}
 use Rattle.std.proofs.lemmas.List.{get_or_default}
@@ -17,7 +18,8 @@ use Rattle.meaning_atoms.specs.declared.axiom.AxiomName.TheVariants.{Af as OfAf}
 use Rattle.meaning_atoms.specs.Literals.{affirmed, denied, negated}
 use Rattle.meaning_atoms.specs.Worlds.{world_of, IsWorldOf, Holds, HoldsLit, Says}
 use Rattle.oracle_face.specs.Goals.{IsSide, IsMemberAtom, Tells}
-use Rattle.oracle_face.specs.Logs.{LogStep, SideClause, OracleLog, Source, by_axiom, by_side, by_hints, IsGiven, IsLog, IsNumberOf, IsNew, guarded, literals_of, working, step_at, no_step}
+use Rattle.oracle_face.specs.Logs.{LogStep, SideClause, OracleLog, Source, by_axiom, by_side, by_hints, IsGiven, IsLog}
+use Rattle.oracle_face.specs.Logs.{IsNumberOf, IsNew, guarded, literals_of, working, step_at, no_step}
 use Rattle.oracle_face.proofs.StepTruth.{steps_true}
 use Rattle.session_log.specs.Guards.{IsGuarded}
 use Rattle.session_log.proofs.StepLemmas.{rests_on_named}

@@ -1,18 +1,16 @@
 -- What the log shows is right, and stays shown while the log grows.
-use Rattle.std.proofs.Common.{◌≡◌, ℕ, ◌<◌, true, List, length, take}
-use Rattle.std.specs.Prelude.{slice_index_or}
+use Rattle.std.proofs.Common.{◌≡◌, ℕ, true, List}
 use Rattle.semantics.specs.Frameworks.{Framework, IsNumbered}
 use Rattle.meaning_atoms.specs.declared.axiom.AxiomName.{AxiomName}
 use Rattle.meaning_atoms.specs.declared.axiom.AxiomName.TheVariants.{Af as OfAf}
 use Rattle.iccma_tasks.specs.declared.answer.Answer.{Answer}
 use Rattle.iccma_tasks.specs.Tasks.{Asked}
-use Rattle.certificate_claims.specs.Claims.{claims, row_of}
 use Rattle.certificate_claims.specs.Rights.{IsRight}
 use Rattle.certificate_laws.proofs.Right.{shown_right}
 use Rattle.oracle_face.specs.Growing.{Making, Grows}
 use Rattle.oracle_face.specs.Logs.{OracleLog, IsLog, is_loop}
 use Rattle.oracle_face.proofs.Refuting.{claim_excluded, refutes_grown}
-use Rattle.session_log.specs.Ends.{HasRefuting, IsShownBy, LoopsServe}
+use Rattle.session_log.specs.Ends.{IsShownBy, LoopsServe}
 
 pub shown_answer_right : (f : Framework) (asked : Asked) (answer : Answer) (sets : List (List ℕ)) (log : OracleLog)
     → IsNumbered f → IsLog f log → IsShownBy f asked answer sets log → IsRight f asked answer

@@ -1,6 +1,7 @@
 -- What a step that a log gains spends.
-use Rattle.std.proofs.Common.{◌≡◌, ⊎_elim, ℕ, ◌+◌, ◌-◌, ◌<◌, ◌≤◌, Bool, true, false, not, List, [], ◌∷◌, ◌++◌, length, take, cond, refl, ap, sym, subst, ◌∙◌, arith}
-use Rattle.std.specs.Prelude.{◌&&◌, Contains, count_by, slice_index_or, Option, Some, None}
+use Rattle.std.proofs.Common.{◌≡◌, ⊎_elim, ℕ, ◌+◌, ◌<◌, ◌≤◌, Bool, true, false, List, [], ◌∷◌, ◌++◌, length, take, cond}
+use Rattle.std.proofs.Common.{refl, ap, sym, subst, ◌∙◌, arith}
+use Rattle.std.specs.Prelude.{◌&&◌, count_by, slice_index_or, Option, Some, None}
 use Rattle.std.proofs.lemmas.Bool.{false≢true}
 use Rattle.std.proofs.lemmas.List.{get_or_push, length_push, take_all, take-append-le}
 use Rattle.plain_lists.proofs.Counts.{count_by-cons}
@@ -17,7 +18,8 @@ use Rattle.meaning_atoms.specs.Worlds.{IsFact}
 use Rattle.oracle_face.specs.declared.entry.EntryName.{EntryName}
 use Rattle.oracle_face.specs.Goals.{IsSide, Tells}
 use Rattle.oracle_face.specs.Growing.{Works}
-use Rattle.oracle_face.specs.Logs.{OracleLog, LogStep, SideClause, by_axiom, by_side, by_hints, FactsAreFalse, HasPart, IsLog, IsNew, IsSameClause, closings_of, guarded, is_loop, is_unit, no_step, units_of, working}
+use Rattle.oracle_face.specs.Logs.{OracleLog, LogStep, SideClause, by_axiom, by_side, FactsAreFalse, IsLog, IsNew}
+use Rattle.oracle_face.specs.Logs.{IsSameClause, closings_of, guarded, is_loop, is_unit, no_step, units_of, working}
 use Rattle.session_log.specs.Guards.{IsGuarded}
 use Rattle.session_log.specs.Steps.{GainsStep, TakesAxiom, TakesSide, Derives, Spends, derived_step, own_step}
 use Rattle.session_log.proofs.NewSides.{side_is_new}

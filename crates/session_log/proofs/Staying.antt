@@ -1,5 +1,6 @@
 -- A guarded log stays one, whichever step it gains.
-use Rattle.std.proofs.Common.{◌≡◌, inl, inr, ⊎_elim, ℕ, ◌+◌, ◌-◌, Bool, List, [], ◌∷◌, ◌++◌, length, refl, ap, sym, subst, ◌∙◌, arith}
+use Rattle.std.proofs.Common.{◌≡◌, inl, inr, ⊎_elim, ℕ, ◌+◌, ◌-◌, Bool, List, [], ◌∷◌, ◌++◌, length, refl, ap, sym}
+use Rattle.std.proofs.Common.{subst, ◌∙◌, arith}
 use Rattle.std.specs.Prelude.{◌⊎◌, Contains, slice_index_or, Option}
 use Rattle.std.proofs.lemmas.Bool.{cases_lt, false≢true}
 use Rattle.std.proofs.lemmas.List.{length_push, get_or_push}
@@ -13,12 +14,17 @@ use Rattle.meaning_atoms.specs.Worlds.{IsAsk}
 use Rattle.meaning_atoms.specs.Literals.{affirmed, denied, AsksNothing}
 use Rattle.certificate_claims.specs.Refutations.{IsAxiomOf, axiom_clause}
 use Rattle.oracle_face.specs.declared.entry.EntryName.{EntryName}
-use Rattle.oracle_face.specs.Logs.{LogStep, SideClause, OracleLog, by_axiom, by_side, by_hints, IsGiven, IsLog, IsNumberOf, IsSameClause, Reaches, itself, by_hint, hints_of, guarded, step_at, side_at, no_side}
+use Rattle.oracle_face.specs.Logs.{LogStep, SideClause, OracleLog, by_axiom, by_side, by_hints, IsGiven, IsLog}
+use Rattle.oracle_face.specs.Logs.{IsNumberOf, IsSameClause, Reaches, itself, by_hint, hints_of, guarded, step_at}
+use Rattle.oracle_face.specs.Logs.{side_at, no_side}
 use Rattle.oracle_face.specs.Growing.{NoSide, OnlySide}
 use Rattle.session_log.specs.Guards.{RestsOn, IsGuarded}
-use Rattle.session_log.specs.Steps.{GainsStep, TakesAxiom, TakesSide, FollowsByHints, Derives, StaysGuarded, own_step, derived_step, side_made}
+use Rattle.session_log.specs.Steps.{GainsStep, TakesAxiom, TakesSide, FollowsByHints, Derives, StaysGuarded, own_step}
+use Rattle.session_log.specs.Steps.{derived_step, side_made}
 use Rattle.session_log.proofs.AxiomLemmas.{axiom_plain, axiom_within, side_plain, side_within}
-use Rattle.session_log.proofs.StepLemmas.{AreSides, guarded_step, given_hints, top_step, top_named, side_step_still, rests_still, rests_back, same_sides_form, same_sides_grow, side_still, longer_form, longer_is}
+use Rattle.session_log.proofs.StepLemmas.{AreSides, guarded_step, given_hints, top_step, top_named, side_step_still}
+use Rattle.session_log.proofs.StepLemmas.{rests_still, rests_back, same_sides_form, same_sides_grow, side_still}
+use Rattle.session_log.proofs.StepLemmas.{longer_form, longer_is}
 
 -- ---- where a step rests
 

@@ -1,8 +1,10 @@
 -- What a log keeps where it gains a step.
-use Rattle.std.proofs.Common.{◌≡◌, inl, inr, ⊎_elim, ℕ, ◌+◌, ◌-◌, ◌<◌, ◌≤◌, List, [], ◌∷◌, ◌++◌, length, take, ap, sym, subst, ◌∙◌, arith}
+use Rattle.std.proofs.Common.{◌≡◌, inl, inr, ⊎_elim, ℕ, ◌+◌, ◌-◌, ◌<◌, ◌≤◌, List, [], ◌∷◌, ◌++◌, length, take, ap, sym}
+use Rattle.std.proofs.Common.{subst, ◌∙◌, arith}
 use Rattle.std.specs.Prelude.{◌⊎◌, Contains, slice_index_or}
 use Rattle.std.proofs.lemmas.Bool.{cases_lt}
-use Rattle.std.proofs.lemmas.List.{get_or_append_left, length-append, length-map, length-take-le, take_all, take-append-le, append-nil, get_or_push, length_push}
+use Rattle.std.proofs.lemmas.List.{get_or_append_left, length-append, length-map, length-take-le, take_all}
+use Rattle.std.proofs.lemmas.List.{take-append-le, append-nil, get_or_push, length_push}
 use Rattle.plain_lists.proofs.Membership.{Contains-nil}
 use Rattle.plain_lits.proofs.HintCheckLemmas.{taken_sound}
 use Rattle.semantics.specs.Frameworks.{Framework}
@@ -11,7 +13,9 @@ use Rattle.meaning_atoms.specs.declared.atom.AtomLit.{AtomLit}
 use Rattle.meaning_atoms.specs.Atoms.{IsLit}
 use Rattle.meaning_atoms.specs.Worlds.{IsAsk}
 use Rattle.meaning_atoms.specs.Literals.{affirmed, denied, negated, AsksNothing}
-use Rattle.oracle_face.specs.Logs.{LogStep, SideClause, OracleLog, Source, by_axiom, by_side, by_hints, IsGiven, IsLog, IsNumberOf, IsSameClause, Reaches, itself, by_hint, hints_of, clauses_of, guarded, step_at, side_at, no_side, no_step}
+use Rattle.oracle_face.specs.Logs.{LogStep, SideClause, OracleLog, Source, by_axiom, by_side, by_hints, IsGiven, IsLog}
+use Rattle.oracle_face.specs.Logs.{IsNumberOf, IsSameClause, Reaches, itself, by_hint, hints_of, clauses_of, guarded}
+use Rattle.oracle_face.specs.Logs.{step_at, side_at, no_side, no_step}
 use Rattle.oracle_face.specs.Growing.{NoSide, Grows}
 use Rattle.session_log.specs.Guards.{RestsOn, HasSideStep, IsGuarded}
 use Rattle.session_log.specs.Steps.{GainsStep}

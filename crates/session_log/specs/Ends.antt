@@ -1,7 +1,8 @@
 -- How a query may end: what serves it while it is worked on, and what an answer or a stop rests on.
-use Rattle.std.specs.Prelude.{◌≡◌, ℕ, ◌+◌, ◌*◌, ◌<◌, ◌≤◌, true, false, List, [], ◌∷◌, length, take, Contains, slice_index_or, Option, Some, None, Ok}
+use Rattle.std.specs.Prelude.{◌≡◌, ℕ, ◌+◌, ◌*◌, ◌<◌, ◌≤◌, true, false, List, [], ◌∷◌, length, take, Contains}
+use Rattle.std.specs.Prelude.{slice_index_or, Option, Some, None, Ok}
 use Rattle.plain_lits.specs.declared.halt.Halt.{Halt}
-use Rattle.plain_lits.specs.declared.halt.Halt.TheVariants.{Spent, LogFull, Memory}
+use Rattle.plain_lits.specs.declared.halt.Halt.TheVariants.{Memory}
 use Rattle.plain_lits.specs.HintCheck.{Checks}
 use Rattle.plain_lits.specs.Units.{Units}
 use Rattle.semantics.specs.Frameworks.{Framework}
@@ -15,7 +16,8 @@ use Rattle.iccma_tasks.specs.declared.answer.Answer.TheVariants.{Sets}
 use Rattle.iccma_tasks.specs.declared.task.Problem.{Problem}
 use Rattle.iccma_tasks.specs.declared.task.Problem.TheVariants.{Sceptical, SomeExtension, AllExtensions}
 use Rattle.iccma_tasks.specs.declared.task.Semantics.{Semantics}
-use Rattle.iccma_tasks.specs.declared.task.Semantics.TheVariants.{Complete, Grounded, Preferred, Stable, SemiStable, Ideal}
+use Rattle.iccma_tasks.specs.declared.task.Semantics.TheVariants.{Complete, Grounded, Preferred, Stable, SemiStable}
+use Rattle.iccma_tasks.specs.declared.task.Semantics.TheVariants.{Ideal}
 use Rattle.iccma_tasks.specs.Tasks.{Asked, task_of}
 use Rattle.certificate_claims.specs.Acceptance.{Tests, no_claim}
 use Rattle.certificate_claims.specs.Claims.{claims, row_of, sets_of}

@@ -12,7 +12,8 @@ use Rattle.certificate_claims.specs.Refutations.{Claim, IsAxiomOf}
 use Rattle.oracle_face.specs.declared.entry.EntryName.{EntryName}
 use Rattle.oracle_face.specs.Goals.{IsSide, RefutesGoals, DeniesSide, Refutes}
 use Rattle.oracle_face.specs.Growing.{NoSide, OnlySide}
-use Rattle.oracle_face.specs.Logs.{OracleLog, FactsAreFalse, IsLog, IsNew, IsNumberOf, guarded, is_loop, step_at, working}
+use Rattle.oracle_face.specs.Logs.{OracleLog, FactsAreFalse, IsLog, IsNew, IsNumberOf, guarded, is_loop, step_at}
+use Rattle.oracle_face.specs.Logs.{working}
 use Rattle.session_log.specs.Ends.{IsShownBy}
 use Rattle.session_log.specs.Guards.{IsGuarded}
 use Rattle.session_log.specs.Steps.{TakesAxiom, TakesSide, Derives, Spends, StaysGuarded}

@@ -1,5 +1,6 @@
 -- How a log grows by one step: an axiom comes, a side clause comes with its step, or a clause is derived.
-use Rattle.std.specs.Prelude.{◌≡◌, ◌⊎◌, ℕ, ◌+◌, ◌<◌, Bool, false, List, [], ◌∷◌, ◌++◌, length, Contains, Option, None, Ok}
+use Rattle.std.specs.Prelude.{◌≡◌, ◌⊎◌, ℕ, ◌+◌, ◌<◌, Bool, false, List, [], ◌∷◌, ◌++◌, length, Contains, Option, None}
+use Rattle.std.specs.Prelude.{Ok}
 use Rattle.plain_lits.specs.HintCheck.{Checks}
 use Rattle.plain_lits.specs.Units.{Units}
 use Rattle.semantics.specs.Frameworks.{Framework}
@@ -8,7 +9,8 @@ use Rattle.meaning_atoms.specs.declared.axiom.AxiomName.{AxiomName}
 use Rattle.meaning_atoms.specs.Literals.{negated}
 use Rattle.certificate_claims.specs.Refutations.{axiom_clause}
 use Rattle.oracle_face.specs.declared.entry.EntryName.{EntryName}
-use Rattle.oracle_face.specs.Logs.{OracleLog, LogStep, SideClause, Source, by_axiom, by_side, by_hints, IsLog, IsNumberOf, IsSameClause, guarded, clauses_of, closings_of, side_at, step_at}
+use Rattle.oracle_face.specs.Logs.{OracleLog, LogStep, SideClause, Source, by_axiom, by_side, by_hints, IsLog}
+use Rattle.oracle_face.specs.Logs.{IsNumberOf, IsSameClause, guarded, clauses_of, closings_of, side_at, step_at}
 use Rattle.oracle_face.specs.Goals.{IsSide}
 use Rattle.oracle_face.specs.Growing.{Making, Grows, Works}
 use Rattle.session_log.specs.Guards.{IsGuarded}

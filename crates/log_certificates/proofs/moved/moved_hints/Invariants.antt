@@ -1,5 +1,5 @@
 use Rattle.std.proofs.Common.{◌≡◌, map, take}
-use Rattle.log_certificates.specs.Trimmed.{number_in}
+use Rattle.log_refutations.specs.Trimmed.{number_in}
 use Rattle.log_certificates.proofs.moved.moved_hints.Given as goal
 
 abbrev pub invariant-loop-hint : goal.invariant-loop-hint

@@ -1,6 +1,7 @@
 use Rattle.std.proofs.Common.{ℕ, refl, sym, subst, arith}
 use Rattle.oracle_face.specs.Logs.{IsNumberOf}
-use Rattle.log_certificates.proofs.WalkLemmas.{walk_first, walk_next_hint, walk_next_marked, walk_next_unmarked, walk_last}
+use Rattle.log_certificates.proofs.WalkLemmas.{walk_first, walk_next_hint, walk_next_marked, walk_next_unmarked}
+use Rattle.log_certificates.proofs.WalkLemmas.{walk_last}
 use Rattle.log_certificates.proofs.reached.mark_reached.Goals as goal
 use Rattle.log_certificates.proofs.reached.mark_reached.Goals.{then-reached, else-reached}
 

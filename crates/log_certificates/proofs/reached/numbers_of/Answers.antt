@@ -1,5 +1,6 @@
 use Rattle.std.proofs.Common.{refl, ◌∙◌, arith}
-use Rattle.log_certificates.proofs.MovingLemmas.{number_within, numbering_next, item_listed}
+use Rattle.log_certificates.proofs.MovingLemmas.{item_listed}
+use Rattle.log_refutations.proofs.Numbering.{number_within, numbering_next}
 use Rattle.log_certificates.proofs.reached.numbers_of.Goals as goal
 
 pub overflow_cast-index : goal.overflow_cast-index

@@ -1,4 +1,4 @@
-use Rattle.log_certificates.specs.Moving.{IsNumbering}
+use Rattle.log_refutations.specs.Trimmed.{IsNumbering}
 use Rattle.log_certificates.proofs.reached.numbers_of.Given as goal
 
 abbrev pub invariant-loop-index : goal.invariant-loop-index

@@ -1,4 +1,4 @@
-use Rattle.log_certificates.specs.Trimmed.{AreMoved}
+use Rattle.log_refutations.specs.Trimmed.{AreMoved}
 use Rattle.log_certificates.proofs.refute.moved_steps.Given as goal
 
 abbrev pub invariant-loop-step : goal.invariant-loop-step

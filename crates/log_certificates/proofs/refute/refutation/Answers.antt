@@ -1,7 +1,7 @@
 use Rattle.std.proofs.Common.{◌-◌, arith}
 use Rattle.std.specs.Prelude.{Contains}
-use Rattle.log_certificates.proofs.RefuteLemmas.{kept_bounds, kept_named}
-use Rattle.log_certificates.proofs.TrimmedLemmas.{trimmed_fits, trimmed_refutes}
+use Rattle.log_refutations.proofs.Numbering.{kept_bounds, kept_named}
+use Rattle.log_refutations.proofs.TrimmedLemmas.{trimmed_fits, trimmed_refutes}
 use Rattle.log_certificates.proofs.refute.refutation.Goals as goal
 
 pub numbers_of-requires-clause-within : goal.numbers_of-requires-clause-within

@@ -1,11 +1,11 @@
 -- The claims of an answer ask for no side clause.
-use Rattle.std.proofs.Common.{◌≡◌, ⊎_elim, ℕ, Bool, true, false, List, [], ◌∷◌, ◌++◌, length, map, filter, subst, sym}
+use Rattle.std.proofs.Common.{⊎_elim, ℕ, Bool, true, false, List, [], ◌∷◌, ◌++◌, map, filter, subst}
 use Rattle.std.specs.Prelude.{Contains, Option, Some, None}
 use Rattle.plain_lists.proofs.Membership.{Contains-nil, Contains-cons_cases}
 use Rattle.plain_lits.proofs.HintCheckLemmas.{Contains-from_mapped}
 use Rattle.semantics.specs.Frameworks.{Framework, af}
 use Rattle.meaning_atoms.specs.declared.atom.Atom.{Atom}
-use Rattle.meaning_atoms.specs.declared.atom.Atom.TheVariants.{Ad, Co, St}
+use Rattle.meaning_atoms.specs.declared.atom.Atom.TheVariants.{Ad, St}
 use Rattle.meaning_atoms.specs.declared.atom.AtomLit.{AtomLit}
 use Rattle.meaning_atoms.specs.Literals.{affirmed, negated, AsksNothing}
 use Rattle.meaning_atoms.specs.Worlds.{IsAsk}
@@ -14,15 +14,22 @@ use Rattle.iccma_tasks.specs.declared.answer.Answer.TheVariants.{Yes, No, Sets}
 use Rattle.iccma_tasks.specs.declared.task.Problem.{Problem}
 use Rattle.iccma_tasks.specs.declared.task.Problem.TheVariants.{Credulous, Sceptical, SomeExtension, AllExtensions}
 use Rattle.iccma_tasks.specs.declared.task.Semantics.{Semantics}
-use Rattle.iccma_tasks.specs.declared.task.Semantics.TheVariants.{Complete, Grounded, Preferred, Stable, SemiStable, Ideal as IdealSets}
+use Rattle.iccma_tasks.specs.declared.task.Semantics.TheVariants.{Complete, Grounded, Preferred, Stable, SemiStable}
+use Rattle.iccma_tasks.specs.declared.task.Semantics.TheVariants.{Ideal as IdealSets}
 use Rattle.iccma_tasks.specs.Tasks.{Asked}
 use Rattle.certificate_claims.specs.declared.row.Row.{Row}
-use Rattle.certificate_claims.specs.declared.row.Row.TheVariants.{Misshapen, Tested, Largest, Widest, Excluded, ByGrounded, Covered, Ranged, Ideal, AllTested, AllLargest, AllWidest}
-use Rattle.certificate_claims.specs.Claims.{all_row, all_shown, claim_of, claims, credulous_row, each_accepts, first_ranged, ideal_claims, none_accepts, range_cover, range_free, range_listed, row_for, row_of, sceptical_row, shown, some_row, there_is_none}
+use Rattle.certificate_claims.specs.declared.row.Row.TheVariants.{Largest, Widest, Excluded, Covered, Ranged, Ideal}
+use Rattle.certificate_claims.specs.declared.row.Row.TheVariants.{AllTested, AllLargest, AllWidest}
+use Rattle.certificate_claims.specs.Claims.{all_row, all_shown, claim_of, claims, credulous_row, each_accepts}
+use Rattle.certificate_claims.specs.Claims.{first_ranged, ideal_claims, none_accepts, range_cover, range_free}
+use Rattle.certificate_claims.specs.Claims.{range_listed, row_for, row_of, sceptical_row, shown, some_row}
+use Rattle.certificate_claims.specs.Claims.{there_is_none}
 use Rattle.certificate_claims.specs.Refutations.{Claim, IsPlain}
-use Rattle.certificate_claims.specs.SetLiterals.{are_in, are_out, are_ranged, attacked, differs, goal, hit_by_any, outside, range_of, same_range, wider}
+use Rattle.certificate_claims.specs.SetLiterals.{are_in, are_out, are_ranged, attacked, differs, goal, hit_by_any}
+use Rattle.certificate_claims.specs.SetLiterals.{outside, range_of, same_range, wider}
 use Rattle.certificate_laws.proofs.GoalLists.{asks_append, asks_cons, asks_nil, plain_mapped}
-use Rattle.certificate_laws.proofs.SideClauses.{attacked_plain, differs_plain, in_plain, out_plain, outside_plain, ranged_plain, wider_plain}
+use Rattle.certificate_laws.proofs.SideClauses.{attacked_plain, differs_plain, in_plain, out_plain, outside_plain}
+use Rattle.certificate_laws.proofs.SideClauses.{ranged_plain, wider_plain}
 
 abbrev AllPlain : List Claim → Type 0
 AllPlain list = (claim : Claim) → Contains list claim → IsPlain claim

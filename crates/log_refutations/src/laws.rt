@@ -1,7 +1,7 @@
 //! The laws that make a log worth keeping. Each function does nothing; its contract is the law.
 
-ghost use Rattle.log_certificates.specs.Accepted.{ShownIsAccepted};
-ghost use Rattle.log_certificates.specs.Refuted.{TrimmedFits, TrimmedRefutes};
+ghost use Rattle.log_refutations.specs.Accepted.{ShownIsAccepted};
+ghost use Rattle.log_refutations.specs.Refuted.{TrimmedFits, TrimmedRefutes};
 
 /// What a refuting step reaches, numbered anew and with the claim's numbers of side clauses, is a refutation.
 pub fn trimmed_steps_refute()

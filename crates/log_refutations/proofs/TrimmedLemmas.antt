@@ -1,5 +1,6 @@
 -- What a refuting step reaches, moved into the claim, is a refutation.
-use Rattle.std.proofs.Common.{◌≡◌, inl, inr, ⊎_elim, ℕ, zero, suc, ◌+◌, ◌-◌, ◌<◌, ◌≤◌, Bool, true, false, not, List, [], length, map, take, refl, ap, sym, subst, ◌∙◌, arith}
+use Rattle.std.proofs.Common.{◌≡◌, inl, inr, ⊎_elim, ℕ, zero, suc, ◌+◌, ◌-◌, ◌<◌, ◌≤◌, Bool, true, false, not, List, []}
+use Rattle.std.proofs.Common.{length, map, take, refl, ap, sym, subst, ◌∙◌, arith}
 use Rattle.std.specs.Prelude.{◌⊎◌, All, Contains, slice_index_or, Ok}
 use Rattle.std.proofs.lemmas.Bool.{cases_lt, cases_eq}
 use Rattle.std.proofs.lemmas.List.{get_or_default, get_or-map, get_or-take, length-map, length-take-le}
@@ -22,16 +23,21 @@ use Rattle.meaning_atoms.specs.Worlds.{IsAsk, IsFact}
 use Rattle.af_axioms.specs.Facts.{IsFactValue}
 use Rattle.certificate_claims.specs.declared.certificate.Step.{Step}
 use Rattle.certificate_claims.specs.declared.certificate.Step.TheVariants.{Axiom, Side}
-use Rattle.certificate_claims.specs.Refutations.{Claim, IsPlain, IsAxiomOf, IsClosed, IsNotAsked, StepHolds, axiom_clause, step_clause, step_clauses}
+use Rattle.certificate_claims.specs.Refutations.{Claim, IsPlain, IsAxiomOf, IsClosed, IsNotAsked, StepHolds}
+use Rattle.certificate_claims.specs.Refutations.{axiom_clause, step_clause, step_clauses}
 use Rattle.certificate_claims.specs.Refutations.{no_step as no_cert_step}
 use Rattle.certificate_text.specs.Written.{IsOrdinal, IsWritableStep}
 use Rattle.oracle_face.specs.Goals.{DeniesSide, Refutes}
-use Rattle.oracle_face.specs.Logs.{OracleLog, LogStep, SideClause, Source, by_axiom, by_side, by_hints, IsGiven, IsLog, IsNumberOf, IsSameClause, Reaches, itself, by_hint, hints_of, clauses_of, guarded, step_at, side_at, no_side, no_step}
+use Rattle.oracle_face.specs.Logs.{OracleLog, LogStep, SideClause, Source, by_axiom, by_side, by_hints, IsGiven, IsLog}
+use Rattle.oracle_face.specs.Logs.{IsNumberOf, IsSameClause, Reaches, itself, by_hint, hints_of, clauses_of, guarded}
+use Rattle.oracle_face.specs.Logs.{step_at, side_at, no_side, no_step}
 use Rattle.session_log.specs.Guards.{IsGuarded}
 use Rattle.session_log.proofs.AxiomLemmas.{axiom_plain}
 use Rattle.session_log.proofs.StepLemmas.{hint_before, reached_before, reached_named}
-use Rattle.log_certificates.specs.Refuted.{ReachesStep, AreAllReached, AreRefuting, IsRefutingStep, step_itself, step_by_hint, hints_in, step_of}
-use Rattle.log_certificates.specs.Trimmed.{HaveSmallNumbers, ArePositions, IsMovedClause, IsMovedStep, IsTrimmed, moved_atom, moved_lit, number_in, position_of}
+use Rattle.log_refutations.specs.Refuted.{ReachesStep, AreAllReached, AreRefuting, IsRefutingStep, step_itself}
+use Rattle.log_refutations.specs.Refuted.{step_by_hint, hints_in, step_of}
+use Rattle.log_refutations.specs.Trimmed.{HaveSmallNumbers, ArePositions, IsMovedClause, IsMovedStep, IsTrimmed}
+use Rattle.log_refutations.specs.Trimmed.{moved_atom, moved_lit, number_in, position_of}
 
 -- ---- atoms
 

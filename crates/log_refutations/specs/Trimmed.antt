@@ -9,7 +9,8 @@ use Rattle.certificate_claims.specs.declared.certificate.Step.{Step}
 use Rattle.certificate_claims.specs.declared.certificate.Step.TheVariants.{Axiom, Side, Derived}
 use Rattle.certificate_claims.specs.Refutations.{Claim, no_step}
 use Rattle.oracle_face.specs.Goals.{IsClaimSide}
-use Rattle.oracle_face.specs.Logs.{OracleLog, SideClause, Source, by_axiom, by_side, by_hints, IsNumberOf, IsSameClause, Reaches, side_at, step_at}
+use Rattle.oracle_face.specs.Logs.{OracleLog, SideClause, Source, by_axiom, by_side, by_hints, IsNumberOf, IsSameClause}
+use Rattle.oracle_face.specs.Logs.{Reaches, side_at, step_at}
 
 -- ---- side clauses
 
@@ -61,6 +62,11 @@ IsMovedStep positions numbers (by_hints hints) clause step = IsMovedDerived posi
 -- the first so many of the kept steps are numbered from 1
 pub record AreNumbered (kept numbers : List ℕ) (count : ℕ) : Type 0 where
   pub each : (i : ℕ) → i < count → number_in numbers (slice_index_or kept i 0) ≡ i + 1
+
+-- the first so many kept steps are numbered, in an array with room for all numbers up to the last
+pub record IsNumbering (kept : List ℕ) (last count : ℕ) (numbers : List ℕ) : Type 0 where
+  pub room : length numbers ≡ last + 1
+  pub so_far : AreNumbered kept numbers count
 
 -- the first so many of the kept steps have their steps in the certificate
 pub record AreMoved (log : OracleLog) (positions kept numbers : List ℕ) (count : ℕ) (steps : List Step) : Type 0 where

@@ -1,5 +1,6 @@
 -- A refuting step has a refutation, and a shown answer an accepted certificate.
-use Rattle.std.proofs.Common.{◌≡◌, inl, inr, ⊎_elim, ℕ, zero, suc, ◌+◌, ◌-◌, ◌<◌, ◌≤◌, List, [], ◌∷◌, ◌++◌, length, map, refl, ap, sym, subst, ◌∙◌, arith}
+use Rattle.std.proofs.Common.{◌≡◌, inl, inr, ⊎_elim, ℕ, zero, suc, ◌+◌, ◌-◌, ◌<◌, ◌≤◌, List, [], ◌∷◌, ◌++◌, length, map}
+use Rattle.std.proofs.Common.{refl, ap, sym, subst, ◌∙◌, arith}
 use Rattle.std.specs.Prelude.{◌⊎◌, ◌↔◌, Contains, slice_index_or, replicate}
 use Rattle.std.specs.List.Sorted.{IsStrictlyIncreasing}
 use Rattle.std.proofs.Math.ListN.{length-replicate, set}
@@ -8,10 +9,11 @@ use Rattle.std.proofs.lemmas.List.{get_or_append_left, get_or_default, get_or_pu
 use Rattle.std.proofs.Math.Seq.{get_or-append_seam}
 use Rattle.std.proofs.lemmas.List.Elements.{Contains-append_left, Contains-get_or, Contains-push_cases}
 use Rattle.plain_lists.specs.Members.{IsSetOf}
-use Rattle.plain_lists.proofs.Membership.{Contains-nil, Contains-head, Contains-tail, Contains-cons_cases, Contains-pushed}
+use Rattle.plain_lists.proofs.Membership.{Contains-nil, Contains-head, Contains-tail, Contains-cons_cases}
+use Rattle.plain_lists.proofs.Membership.{Contains-pushed}
 use Rattle.set_lists.proofs.Rising.{rises_append}
 use Rattle.semantics.specs.Frameworks.{Framework}
-use Rattle.semantics.proofs.Decided.{Decided, decide_contains, decide_each, search_list, found_in}
+use Rattle.semantics.proofs.Decided.{Decided, decide_contains, decide_each, search_list}
 use Rattle.meaning_atoms.specs.declared.atom.AtomLit.{AtomLit}
 use Rattle.meaning_atoms.proofs.SameAtoms.{same_literal}
 use Rattle.iccma_tasks.specs.declared.answer.Answer.{Answer}
@@ -22,19 +24,19 @@ use Rattle.certificate_claims.specs.declared.certificate.Step.TheVariants.{Axiom
 use Rattle.certificate_claims.specs.Acceptance.{no_claim, no_refutation}
 use Rattle.certificate_claims.specs.Claims.{claims, row_of}
 use Rattle.certificate_claims.specs.Refutations.{Claim, no_step as no_cert_step}
-use Rattle.oracle_face.specs.Goals.{IsClaimSide, Refutes}
-use Rattle.oracle_face.specs.Logs.{OracleLog, LogStep, SideClause, Source, by_axiom, by_side, by_hints, IsLog, IsNumberOf, IsSameClause, Reaches, itself, by_hint, hints_of, side_at, step_at}
+use Rattle.oracle_face.specs.Goals.{IsClaimSide}
+use Rattle.oracle_face.specs.Logs.{OracleLog, LogStep, SideClause, Source, by_axiom, by_side, by_hints, IsLog}
+use Rattle.oracle_face.specs.Logs.{IsNumberOf, IsSameClause, Reaches, itself, by_hint, hints_of, side_at, step_at}
 use Rattle.session_log.specs.Ends.{IsShownBy}
 use Rattle.session_log.specs.Guards.{IsGuarded}
 use Rattle.session_log.proofs.StepLemmas.{hint_before, reached_before}
-use Rattle.log_certificates.specs.Accepted.{HasAccepted}
-use Rattle.log_certificates.specs.Moving.{IsNumbering}
-use Rattle.log_certificates.specs.Refuted.{AreAllReached, AreRefuting, IsRefutingStep}
-use Rattle.log_certificates.specs.Trimmed.{StandsAt, ArePositions, AreMoved, IsMovedStep, IsTrimmed, moved_lit, number_in, position_of}
-use Rattle.log_certificates.proofs.MovingLemmas.{numbering_next}
-use Rattle.log_certificates.proofs.PlainClaims.{claims_plain}
-use Rattle.log_certificates.proofs.RefuteLemmas.{kept_bounds}
-use Rattle.log_certificates.proofs.TrimmedLemmas.{trimmed_refutes}
+use Rattle.log_refutations.specs.Accepted.{HasAccepted}
+use Rattle.log_refutations.specs.Refuted.{AreAllReached, AreRefuting, IsRefutingStep}
+use Rattle.log_refutations.specs.Trimmed.{IsNumbering, StandsAt, ArePositions, AreMoved, IsMovedStep, moved_lit}
+use Rattle.log_refutations.specs.Trimmed.{number_in, position_of}
+use Rattle.log_refutations.proofs.PlainClaims.{claims_plain}
+use Rattle.log_refutations.proofs.Numbering.{kept_bounds, numbering_next}
+use Rattle.log_refutations.proofs.TrimmedLemmas.{trimmed_refutes}
 
 -- ---- lists of what there is
 
@@ -147,8 +149,7 @@ kept_exists : (f : Framework) (log : OracleLog) (step : ℕ) → IsLog f log →
     → (kept : List ℕ) × IsSetOf (Reaches log.steps step) kept
 kept_exists f log step form is =
     let below = set_below (λ (j : ℕ). Reaches log.steps step j)
-    (λ j. decide_reaches f log form step step j (omega arith) is) (step + 1) in
-    (
+    (λ j. decide_reaches f log form step step j (omega arith) is) (step + 1) in (
       below.items,
       record {
         rises = below.rises;
@@ -178,8 +179,7 @@ numbers_exist kept last (suc count) rises within le =
     let room = front.1.room in
     let next = numbering_next kept front.0 (set front.0 k (count + 1)) last count k 0 rises (omega arith) refl
     (omega arith) front.1 refl in
-    let more : count + 1 ≡ suc count = omega arith in
-    (
+    let more : count + 1 ≡ suc count = omega arith in (
       set front.0 k (count + 1),
       subst (λ (n : ℕ). IsNumbering kept last n (set front.0 k (count + 1))) more next,
     )
@@ -204,8 +204,7 @@ position_exists sides claim n =
     let at : slice_index_or claim.sides (length w.before + 1 - 1) [] ≡ w.item =
     ap (λ (i : ℕ). slice_index_or claim.sides i []) (omega arith)
     ∙ (ap (λ (xs : List (List AtomLit)). slice_index_or xs (length w.before) []) w.parts
-    ∙ get_or-append_seam w.before w.item w.after []) in
-    (
+    ∙ get_or-append_seam w.before w.item w.after []) in (
       length w.before + 1,
       record {
         stands = λ pos. record {
@@ -234,8 +233,7 @@ positions_exist sides claim =
     let low = is.from_one in
     let high = is.within in
     let same : n - 1 + 1 ≡ n = omega arith in
-    subst (λ (m : ℕ). IsPositionAt sides claim m (position_of all.items n)) same (all.each (n - 1) (omega arith)) in
-    (
+    subst (λ (m : ℕ). IsPositionAt sides claim m (position_of all.items n)) same (all.each (n - 1) (omega arith)) in (
       all.items,
       record {
         stands = λ n is pos. (at n is).stands pos;
@@ -276,8 +274,7 @@ refutation_exists f log claim step positions refuting =
     let kept = kept_exists f log step refuting.form is in
     let numbers = numbers_exist kept.0 step (length kept.0) kept.1.rises
     (kept_bounds f log step kept.0 refuting.form is kept.1) (omega arith) in
-    let steps = steps_exist log positions kept.0 numbers.0 in
-    (
+    let steps = steps_exist log positions kept.0 numbers.0 in (
       steps.0,
       trimmed_refutes f log claim step positions kept.0 numbers.0 steps.0 refuting
           (record { reached = kept.1; numbered = numbers.1.so_far; moved = steps.1 }),

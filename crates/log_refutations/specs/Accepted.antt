@@ -9,7 +9,7 @@ use Rattle.certificate_claims.specs.Acceptance.{IsAccepted}
 use Rattle.oracle_face.specs.Logs.{OracleLog, IsLog}
 use Rattle.session_log.specs.Ends.{IsShownBy}
 use Rattle.session_log.specs.Guards.{IsGuarded}
-use Rattle.log_certificates.specs.Refuted.{AreAllReached}
+use Rattle.log_refutations.specs.Refuted.{AreAllReached}
 
 abbrev pub certificate_of : List (List ℕ) → List Refutation → Certificate
 certificate_of sets refutations = record { sets = sets; refutations = refutations }

@@ -8,7 +8,7 @@ use Rattle.certificate_text.specs.Written.{IsWritableStep}
 use Rattle.oracle_face.specs.Goals.{Refutes}
 use Rattle.oracle_face.specs.Logs.{OracleLog, IsLog}
 use Rattle.session_log.specs.Guards.{IsGuarded}
-use Rattle.log_certificates.specs.Trimmed.{ArePositions, HaveSmallNumbers, IsTrimmed}
+use Rattle.log_refutations.specs.Trimmed.{ArePositions, HaveSmallNumbers, IsTrimmed}
 
 -- a step of a certificate reaches itself, and what its hints reach; steps are numbered from 1
 abbrev pub hints_in : Step → List ℕ

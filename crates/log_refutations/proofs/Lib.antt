@@ -1,0 +1,4 @@
+pub mod Existing
+pub mod Numbering
+pub mod PlainClaims
+pub mod TrimmedLemmas
