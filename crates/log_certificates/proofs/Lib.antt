@@ -1,4 +1,4 @@
+pub mod ClaimSideLemmas
 pub mod MovingLemmas
-pub mod PlacingLemmas
 pub mod RefuteLemmas
 pub mod WalkLemmas

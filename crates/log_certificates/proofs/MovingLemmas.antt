@@ -64,18 +64,20 @@ pub steps_next : (log : OracleLog) (positions kept numbers : List ℕ) (index k 
 steps_next log positions kept numbers index k d steps new step lt is h moved made =
     let here : k ≡ slice_index_or kept index 0 = is ∙ get_or_default kept index d 0 lt in
     let long = h.long in
+    let source = λ (j : ℕ). (step_at log.steps j).source in
+    let clause = λ (j : ℕ). (step_at log.steps j).clause in
     rw made (record {
       long = omega (arith, long, length_push steps step);
       each = λ i low. ⊎_elim
-          (λ early. subst (λ (s : Step). IsMovedStep positions numbers (step_at log.steps (slice_index_or kept i 0)).source
-          (step_at log.steps (slice_index_or kept i 0)).clause s)
+          (λ early. subst (λ (s : Step). IsMovedStep positions numbers (source (slice_index_or kept i 0))
+          (clause (slice_index_or kept i 0)) s)
           (sym (get_or_append_left steps (step ∷ []) no_step i (omega arith))) (h.each i early))
           (λ late.
           let same : index ≡ i = omega arith in
-          subst (λ (s : Step). IsMovedStep positions numbers (step_at log.steps (slice_index_or kept i 0)).source
-          (step_at log.steps (slice_index_or kept i 0)).clause s)
+          subst (λ (s : Step). IsMovedStep positions numbers (source (slice_index_or kept i 0))
+          (clause (slice_index_or kept i 0)) s)
           (sym (get_or_push steps step no_step i (omega arith)))
-          (subst (λ (j : ℕ). IsMovedStep positions numbers (step_at log.steps j).source (step_at log.steps j).clause step)
+          (subst (λ (j : ℕ). IsMovedStep positions numbers (source j) (clause j) step)
           (here ∙ ap (λ (j : ℕ). slice_index_or kept j 0) same) moved))
           (cases_lt i index);
     })

@@ -17,7 +17,8 @@ marked_once : (last j : ℕ) → IsMarked (set (replicate (last + 1) false) last
 marked_once last j h =
     ⊎_elim (λ e. sym e)
     (λ ne. absurd (none_marked (last + 1) j
-    (sym (get_or-set_other (replicate (last + 1) false) last j true false (λ e. let same : j ≡ last = e in omega (arith, ne)))
+    (sym (get_or-set_other (replicate (last + 1) false) last j true false
+    (λ e. let same : j ≡ last = e in omega (arith, ne)))
     ∙ h)))
     (cases_eq j last)
 

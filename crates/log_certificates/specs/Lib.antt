@@ -1,4 +1,4 @@
+pub mod ClaimSides
 pub mod Marks
 pub mod Moving
 pub mod Origins
-pub mod Placing

@@ -1,16 +1,16 @@
 //! Where the side clauses of a log stand in a claim.
 
 ghost use Rattle.std.specs.Prelude.{◌≡◌, ◌<◌, ◌≤◌, ◌^◌, length, IfOk, IfSome};
-ghost use Rattle.log_certificates.specs.Placing.{ArePlaced, ArePositionsIn, AreWithin, Places};
+ghost use Rattle.log_certificates.specs.ClaimSides.{ArePositionsIn, AreWithin, GivesTo, HavePositions};
 
 use oracle_face::AskId;
 use plain_lists::Memory;
 use std::alloc::Global;
 
 /// Gives the side clause of a number its position, if there is one.
-fn place(positions: &mut Vec<u32>, ask: Option<AskId>, position: u32)
+fn give_position(positions: &mut Vec<u32>, ask: Option<AskId>, position: u32)
     requires { IfSome ask (λ n. (0 < n) × (n ≤ length positions.old.items)) }
-    ensures { Places ask position positions.old.items positions.new.items }
+    ensures { GivesTo ask position positions.old.items positions.new.items }
 {
     if let Some(side) = ask {
         positions[side.number() as usize - 1] = position;
@@ -23,14 +23,14 @@ fn place(positions: &mut Vec<u32>, ask: Option<AskId>, position: u32)
 pub fn positions_of(alloc: Global, sides: usize, asks: &[Option<AskId>]) -> Result<Vec<u32>, Memory>
     requires within { AreWithin asks.now sides }
     requires fits { length asks.now < 2 ^ 32 }
-    ensures placed { IfOk result (λ positions. ArePlaced asks.now sides 0 positions.items) }
+    ensures each { IfOk result (λ positions. HavePositions asks.now sides 0 positions.items) }
     ensures positions { IfOk result (λ positions. ArePositionsIn asks.now positions.items) }
 {
     let mut positions = Vec::new(alloc);
     positions.resize(sides, 0)?;
     for down in 0..asks.len() {
         let index = asks.len() - 1 - down;
-        place(&mut positions, asks[index], (index + 1) as u32);
+        give_position(&mut positions, asks[index], (index + 1) as u32);
     }
     Ok(positions)
 }

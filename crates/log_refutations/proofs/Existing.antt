@@ -296,7 +296,7 @@ shown_is_accepted f asked answer sets log form guards shown =
       guards = guards;
       plain = claims_plain f asked answer sets claim (Contains-get_or list k no_claim lt);
       refutes = has.refutes;
-      places = positions.1;
+      stands = positions.1;
     }) in
     (record { steps = made.0 }, made.1)) in
     let long = all.long in

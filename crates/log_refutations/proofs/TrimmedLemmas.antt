@@ -248,7 +248,7 @@ module _ (f : Framework) (log : OracleLog) (claim : Claim) (step : ℕ) (positio
   refutes = refuting.refutes
 
   abbrev are : ArePositions log.sides claim positions
-  are = refuting.places
+  are = refuting.stands
 
   abbrev kept_at : ℕ → ℕ
   kept_at i = slice_index_or kept i 0
@@ -517,13 +517,14 @@ module _ (f : Framework) (log : OracleLog) (claim : Claim) (step : ℕ) (positio
 
   -- ---- a text can hold the steps
 
-  position_fits : HaveSmallNumbers step positions → (n : ℕ) → 0 < position_of positions n → IsAtom (Ask (position_of positions n))
+  position_fits : HaveSmallNumbers step positions → (n : ℕ) → 0 < position_of positions n
+      → IsAtom (Ask (position_of positions n))
   position_fits small n found =
       let fits = small.positions_fit n in
       (found, omega arith)
 
-  lit_fits : HaveSmallNumbers step positions → (k : ℕ) → Reaches log.steps step k → (l : AtomLit) → Contains (step_at log.steps k).clause l
-      → IsLit (moved_lit positions l)
+  lit_fits : HaveSmallNumbers step positions → (k : ℕ) → Reaches log.steps step k → (l : AtomLit)
+      → Contains (step_at log.steps k).clause l → IsLit (moved_lit positions l)
   lit_fits small k reach l c =
       ⊎_elim
       (λ ask.

@@ -39,7 +39,7 @@ pub record IsRefutingStep (f : Framework) (log : OracleLog) (claim : Claim) (ste
   pub guards : IsGuarded log
   pub plain : IsPlain claim
   pub refutes : Refutes f log claim step
-  pub places : ArePositions log.sides claim positions
+  pub stands : ArePositions log.sides claim positions
 
 -- what such a step reaches, moved into the claim, refutes it there
 abbrev pub TrimmedRefutes : Type 0

@@ -8,7 +8,7 @@ use Rattle.semantics.specs.Frameworks.{Framework}
 use Rattle.certificate_claims.specs.Refutations.{Claim}
 use Rattle.oracle_face.specs.Goals.{IsClaimSide}
 use Rattle.oracle_face.specs.Logs.{OracleLog, IsLog, IsSameClause, side_at}
-use Rattle.log_certificates.specs.Placing.{AreWithin, ArePlaced, ArePositionsIn, IsAskOf, Places}
+use Rattle.log_certificates.specs.ClaimSides.{AreWithin, HavePositions, ArePositionsIn, IsAskOf, GivesTo}
 use Rattle.log_refutations.specs.Trimmed.{position_of}
 
 pub ask_within : (asks : List (Option ℕ)) (sides index : ℕ) (positions : List ℕ) (ask d : Option ℕ)
@@ -22,41 +22,41 @@ ask_within asks sides index positions (Some n) d within lt at room =
 some_number : (m n : ℕ) → Some m ≡ Some n → m ≡ n
 some_number m n e = cc
 
--- one more is placed
-placed_next : (asks : List (Option ℕ)) (sides from index : ℕ) (old new : List ℕ) (ask : Option ℕ) → from ≡ index + 1
-    → from ≤ length asks → slice_index_or asks index None ≡ ask → AreWithin asks sides → ArePlaced asks sides from old
-    → Places ask from old new → ArePlaced asks sides index new
-placed_next asks sides from index old new None is le at within placed places =
-    subst (λ (positions : List ℕ). ArePlaced asks sides index positions) (sym places) (record {
-      room = placed.room;
-      back = λ n low pos. let b = placed.back n low pos in let above = b.0 in (omega arith, b.1, b.2);
+-- one more has its position
+positions_next : (asks : List (Option ℕ)) (sides from index : ℕ) (old new : List ℕ) (ask : Option ℕ) → from ≡ index + 1
+    → from ≤ length asks → slice_index_or asks index None ≡ ask → AreWithin asks sides → HavePositions asks sides from old
+    → GivesTo ask from old new → HavePositions asks sides index new
+positions_next asks sides from index old new None is le at within had gives =
+    subst (λ (positions : List ℕ). HavePositions asks sides index positions) (sym gives) (record {
+      room = had.room;
+      back = λ n low pos. let b = had.back n low pos in let above = b.0 in (omega arith, b.1, b.2);
       first = λ i n high lt here. ⊎_elim
           (λ (e : i ≡ index).
           let none : None ≡ Some n = sym at
           ∙ subst (λ (j : ℕ). slice_index_or asks j None ≡ Some n) e here in
           absurd (cc))
-          (λ ne. placed.first i n (omega arith) lt here)
+          (λ ne. had.first i n (omega arith) lt here)
           (cases_eq i index);
     })
-placed_next asks sides from index old new (Some m) is le at within placed places =
+positions_next asks sides from index old new (Some m) is le at within had gives =
     let low_m = (within.each m (
       index,
       omega arith,
       get_or_default asks index (Some m) None (omega arith) ∙ at,
     )).0 in
     record {
-      room = places.long ∙ placed.room;
+      room = gives.long ∙ had.room;
       back = λ n low pos. ⊎_elim
           (λ (e : n ≡ m).
-          let here : position_of new n ≡ from = ap (position_of new) e ∙ places.here in
+          let here : position_of new n ≡ from = ap (position_of new) e ∙ gives.here in
           let before : position_of new n - 1 ≡ index = omega (arith, here, is) in (
             omega (arith, here),
             omega (arith, here),
             ap (λ (j : ℕ). slice_index_or asks j None) before ∙ (at ∙ ap (λ (j : ℕ). Some j) (sym e)),
           ))
           (λ ne.
-          let same = places.others n low ne in
-          let b = placed.back n low (omega (arith, same, pos)) in
+          let same = gives.others n low ne in
+          let b = had.back n low (omega (arith, same, pos)) in
           let above = b.0 in
           let high = b.1 in (
             omega (arith, same),
@@ -66,7 +66,7 @@ placed_next asks sides from index old new (Some m) is le at within placed places
           (cases_eq n m);
       first = λ i n high lt here. ⊎_elim
           (λ (e : n ≡ m).
-          let at_m : position_of new n ≡ from = ap (position_of new) e ∙ places.here in
+          let at_m : position_of new n ≡ from = ap (position_of new) e ∙ gives.here in
           (omega (arith, at_m), omega (arith, at_m)))
           (λ ne. ⊎_elim
           (λ (e : i ≡ index).
@@ -75,8 +75,8 @@ placed_next asks sides from index old new (Some m) is le at within placed places
           absurd (ne (sym same)))
           (λ later.
           let low = (within.each n (i, lt, get_or_default asks i (Some n) None lt ∙ here)).0 in
-          let same = places.others n low ne in
-          let b = placed.first i n (omega arith) lt here in
+          let same = gives.others n low ne in
+          let b = had.first i n (omega arith) lt here in
           let pos = b.0 in
           let bound = b.1 in
           (omega (arith, same), omega (arith, same)))
@@ -85,37 +85,37 @@ placed_next asks sides from index old new (Some m) is le at within placed places
     }
 
 -- in the order of the loop, which counts down from the last
-pub placed_down : (asks : List (Option ℕ)) (sides down index : ℕ) (old new : List ℕ) (ask d : Option ℕ)
+pub positions_down : (asks : List (Option ℕ)) (sides down index : ℕ) (old new : List ℕ) (ask d : Option ℕ)
     → down < length asks → index ≡ length asks - 1 - down → ask ≡ get_or asks index d → AreWithin asks sides
-    → ArePlaced asks sides (length asks - down) old → Places ask (index + 1) old new
-    → ArePlaced asks sides (length asks - (down + 1)) new
-placed_down asks sides down index old new ask d lt is at within placed places =
+    → HavePositions asks sides (length asks - down) old → GivesTo ask (index + 1) old new
+    → HavePositions asks sides (length asks - (down + 1)) new
+positions_down asks sides down index old new ask d lt is at within had gives =
     let from : length asks - down ≡ index + 1 = omega arith in
     let next : length asks - (down + 1) ≡ index = omega arith in
-    subst (λ (k : ℕ). ArePlaced asks sides k new) (sym next)
-    (placed_next asks sides (length asks - down) index old new ask from (omega arith)
-    (get_or_default asks index None d (omega arith) ∙ sym at) within placed
-    (subst (λ (k : ℕ). Places ask k old new) (sym from) places))
+    subst (λ (k : ℕ). HavePositions asks sides k new) (sym next)
+    (positions_next asks sides (length asks - down) index old new ask from (omega arith)
+    (get_or_default asks index None d (omega arith) ∙ sym at) within had
+    (subst (λ (k : ℕ). GivesTo ask k old new) (sym from) gives))
 
 ask_found : (f : Framework) (log : OracleLog) (claim : Claim) (asks : List (Option ℕ)) (sides : ℕ) (positions : List ℕ)
     (n i : ℕ) (ask : Option ℕ) → IsLog f log → IsClaimSide log.sides claim n → i < length asks
     → slice_index_or asks i None ≡ ask → IsSameClause (side_at log.sides n).literals (slice_index_or claim.sides i [])
-    → IsAskOf log.sides (slice_index_or claim.sides i []) ask → ArePlaced asks sides 0 positions
+    → IsAskOf log.sides (slice_index_or claim.sides i []) ask → HavePositions asks sides 0 positions
     → 0 < position_of positions n
-ask_found f log claim asks sides positions n i None form is lt at same ask placed = absurd (ask n is.number same)
-ask_found f log claim asks sides positions n i (Some m) form is lt at same ask placed =
+ask_found f log claim asks sides positions n i None form is lt at same ask had = absurd (ask n is.number same)
+ask_found f log claim asks sides positions n i (Some m) form is lt at same ask had =
     let one : m ≡ n = form.apart m n ask.0 is.number (record {
       there = λ l c. same.back l (ask.1.there l c);
       back = λ l c. ask.1.back l (same.there l c);
     }) in
-    (placed.first i n (omega arith) lt (at ∙ ap (λ (j : ℕ). Some j) one)).0
+    (had.first i n (omega arith) lt (at ∙ ap (λ (j : ℕ). Some j) one)).0
 
--- what is placed so are the positions
-pub placed_positions : (asks : List (Option ℕ)) (sides : ℕ) (positions : List ℕ) → ArePlaced asks sides 0 positions
+-- where all have them, these are the positions
+pub positions_are : (asks : List (Option ℕ)) (sides : ℕ) (positions : List ℕ) → HavePositions asks sides 0 positions
     → ArePositionsIn asks positions
-placed_positions asks sides positions placed f log claim form are = record {
+positions_are asks sides positions had f log claim form are = record {
   stands = λ n is pos.
-      let b = placed.back n is.from_one pos in
+      let b = had.back n is.from_one pos in
       let p = position_of positions n in
       let high = b.1 in
       let ask = subst (λ (a : Option ℕ). IsAskOf log.sides (slice_index_or claim.sides (p - 1) []) a) b.2
@@ -131,5 +131,5 @@ placed_positions asks sides positions placed f log claim form are = record {
       let inside : c.0 < length asks = omega (arith, are.long) in
       ask_found f log claim asks sides positions n c.0 (slice_index_or asks c.0 None) form is inside refl
       (subst (λ clause. IsSameClause (side_at log.sides n).literals clause) (sym side) is.same)
-      (are.each c.0 inside) placed;
+      (are.each c.0 inside) had;
 }

@@ -24,7 +24,7 @@ pub record AreWithin (asks : List (Option ℕ)) (sides : ℕ) : Type 0 where
   pub each : (n : ℕ) → Contains asks (Some n) → (0 < n) × (n ≤ sides)
 
 -- from an index on, the numbers have their positions, each the first where it stands
-pub record ArePlaced (asks : List (Option ℕ)) (sides from : ℕ) (positions : List ℕ) : Type 0 where
+pub record HavePositions (asks : List (Option ℕ)) (sides from : ℕ) (positions : List ℕ) : Type 0 where
   pub room : length positions ≡ sides
   pub back : (n : ℕ) → 0 < n → 0 < position_of positions n
       → (from < position_of positions n) × (position_of positions n ≤ length asks)
@@ -33,17 +33,17 @@ pub record ArePlaced (asks : List (Option ℕ)) (sides from : ℕ) (positions : 
       → (0 < position_of positions n) × (position_of positions n ≤ i + 1)
 
 -- the side clause of the number has this position, and all others keep theirs
-pub record PlacesAt (n position : ℕ) (old new : List ℕ) : Type 0 where
+pub record GivesPosition (n position : ℕ) (old new : List ℕ) : Type 0 where
   pub long : length new ≡ length old
   pub here : position_of new n ≡ position
   pub others : (m : ℕ) → 0 < m → m ≢ n → position_of new m ≡ position_of old m
 
 -- so has that of a number, if there is one
-abbrev pub Places : Option ℕ → ℕ → List ℕ → List ℕ → Type 0
-Places None position old new = new ≡ old
-Places (Some n) position old new = PlacesAt n position old new
+abbrev pub GivesTo : Option ℕ → ℕ → List ℕ → List ℕ → Type 0
+GivesTo None position old new = new ≡ old
+GivesTo (Some n) position old new = GivesPosition n position old new
 
--- all numbers of a claim that a log has are placed: then these are its positions
+-- these are the positions in each claim whose side clauses have these numbers in a log
 abbrev pub ArePositionsIn : List (Option ℕ) → List ℕ → Type 0
 ArePositionsIn asks positions = (f : Framework) (log : OracleLog) (claim : Claim) → IsLog f log
     → AreAsksOf log.sides claim asks → ArePositions log.sides claim positions
