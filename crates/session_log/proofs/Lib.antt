@@ -5,3 +5,4 @@ pub mod Showing
 pub mod Spending
 pub mod Staying
 pub mod StepLemmas
+pub mod StepWorlds

@@ -14,15 +14,15 @@ use Rattle.semantics.specs.Frameworks.{Framework, af, IsNumberedAf}
 use Rattle.meaning_atoms.specs.declared.atom.Atom.{Atom}
 use Rattle.meaning_atoms.specs.declared.atom.Atom.TheVariants.{Member, Range, Tail, Ask}
 use Rattle.meaning_atoms.specs.declared.atom.AtomLit.{AtomLit}
-use Rattle.meaning_atoms.specs.declared.axiom.AxiomName.TheVariants.{Af as OfAf}
 use Rattle.meaning_atoms.specs.Literals.{affirmed, denied, negated}
 use Rattle.meaning_atoms.specs.Worlds.{world_of, IsWorldOf, Holds, HoldsLit, Says}
 use Rattle.oracle_face.specs.Goals.{IsSide, IsMemberAtom, Tells}
-use Rattle.oracle_face.specs.Logs.{LogStep, SideClause, OracleLog, Source, by_axiom, by_side, by_hints, IsGiven, IsLog}
+use Rattle.oracle_face.specs.Logs.{LogStep, OracleLog, IsLog}
 use Rattle.oracle_face.specs.Logs.{IsNumberOf, IsNew, guarded, literals_of, working, step_at, no_step}
 use Rattle.oracle_face.proofs.StepTruth.{steps_true}
 use Rattle.session_log.specs.Guards.{IsGuarded}
 use Rattle.session_log.proofs.StepLemmas.{rests_on_named}
+use Rattle.session_log.proofs.StepWorlds.{log_of_any}
 
 -- ---- a world in which a side clause is false
 
@@ -133,22 +133,6 @@ false_somewhere : (side : List AtomLit) → IsSide side → (s : List ℕ) × Is
 false_somewhere side is = ⊎_elim (λ all. ([], empty_false side is.tells all))
     (λ about. (denied_members side, denied_false side is.tells about.0 about.1)) is.one_sided
 
--- ---- the log of one framework is a log of any other of its kind
-
-given_there : (f g : Af) (sides : List SideClause) (before : List LogStep) (clause : List AtomLit) (source : Source)
-    → IsGiven (af f) sides before clause source → IsGiven (af g) sides before clause source
-given_there f g sides before clause (by_axiom (OfAf name)) given = given
-given_there f g sides before clause (by_side n) given = given
-given_there f g sides before clause (by_hints hints) given = given
-
-log_there : (f : Framework) (log : OracleLog) → IsLog f log → IsLog (af no_af) log
-log_there (af f) log form = record {
-  each = λ k lt. given_there f no_af log.sides _ _ _ (form.each k lt);
-  plain = form.plain;
-  apart = form.apart;
-  within = form.within;
-}
-
 -- ---- newness
 
 -- a clause that searches use is that of a step
@@ -199,7 +183,7 @@ side_is_new f log side form guards is =
           let world = false_somewhere side is in
           let s = world.0 in
           let sides = literals_of log.sides in
-          let t = steps_true (af no_af) s log world.1.world (log_there f log form) at.0 at.1 in
+          let t = steps_true (af no_af) s log world.1.world (log_of_any f (af no_af) log form) at.0 at.1 in
           let there : Contains part.part t.literal =
           subst (λ (clause : List AtomLit). Contains clause t.literal) at.2 t.member in
           ⊎_elim

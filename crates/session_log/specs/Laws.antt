@@ -16,6 +16,7 @@ use Rattle.oracle_face.specs.Logs.{OracleLog, FactsAreFalse, IsLog, IsNew, IsNum
 use Rattle.oracle_face.specs.Logs.{working}
 use Rattle.session_log.specs.Ends.{IsShownBy}
 use Rattle.session_log.specs.Guards.{IsGuarded}
+use Rattle.session_log.specs.Truth.{IsTrueOfWorlds, MayBeShared}
 use Rattle.session_log.specs.Steps.{TakesAxiom, TakesSide, Derives, Spends, StaysGuarded}
 
 -- a log with no step and no side clause is a guarded one
@@ -64,6 +65,16 @@ ClosingSpendsNone = (f : Framework) (clause : List AtomLit) (hints : List ℕ) (
 abbrev pub ImportedSpendNothing : Type 0
 ImportedSpendNothing = (f : Framework) (clause : List AtomLit) (hints : List ℕ) (name : EntryName)
     (old new : OracleLog) → Derives clause hints (Some name) false old new → Spends f old new 0 0
+
+-- each step is true in every world beside the log's side clauses
+abbrev pub StepsAreTrue : Type 0
+StepsAreTrue = (f : Framework) (log : OracleLog) (number : ℕ) → IsLog f log → IsNumberOf log.steps number
+    → IsTrueOfWorlds log number
+
+-- a step of a guarded log that asks for no side clause may be handed to others
+abbrev pub PlainStepsMayBeShared : Type 0
+PlainStepsMayBeShared = (f : Framework) (log : OracleLog) (number : ℕ) → IsLog f log → IsGuarded log
+    → IsNumberOf log.steps number → AsksNothing (step_at log.steps number).clause → MayBeShared log number
 
 -- a further side clause that an oracle may be asked to keep is new to what searches use, whatever its literals
 abbrev pub SidesAreNew : Type 0

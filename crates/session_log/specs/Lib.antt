@@ -2,3 +2,4 @@ pub mod Ends
 pub mod Guards
 pub mod Laws
 pub mod Steps
+pub mod Truth

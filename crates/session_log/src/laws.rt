@@ -2,7 +2,8 @@
 
 ghost use Rattle.session_log.specs.Laws.{AxiomsSpendNothing, AxiomsStay, ClosedRefutesClaim, ClosedRefutesGoals};
 ghost use Rattle.session_log.specs.Laws.{ClosingSpendsNone, DerivedStay, ImportedSpendNothing, LearnedSpendOne};
-ghost use Rattle.session_log.specs.Laws.{OpenedGuarded, ShownAnswersAreRight, SidesAreNew, SidesSpendOne, SidesStay};
+ghost use Rattle.session_log.specs.Laws.{OpenedGuarded, PlainStepsMayBeShared, ShownAnswersAreRight, SidesAreNew};
+ghost use Rattle.session_log.specs.Laws.{SidesSpendOne, SidesStay, StepsAreTrue};
 
 /// A log with no step and no side clause is a guarded one.
 pub fn opened_logs_are_guarded()
@@ -47,6 +48,16 @@ pub fn closing_steps_spend_none()
 /// An imported clause spends nothing.
 pub fn imported_steps_spend_nothing()
     ensures { ImportedSpendNothing }
+{}
+
+/// Each step is true in every world beside the side clauses, and valid where it asks for none.
+pub fn steps_are_true()
+    ensures { StepsAreTrue }
+{}
+
+/// A step of a guarded log that asks for no side clause may be handed to others.
+pub fn plain_steps_may_be_shared()
+    ensures { PlainStepsMayBeShared }
 {}
 
 /// A further side clause is new, since each step is true in a world where the side clause is false.
