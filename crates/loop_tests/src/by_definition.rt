@@ -73,16 +73,14 @@ fn some_meets(
     Some(false)
 }
 
-/// Whether a search for a set of the mode, with an argument or without it, gives one that meets the notion, or none where
-/// there is none.
-fn search_agrees(
+/// What a search for a set of the mode gives, with an argument or without it.
+fn find(
     alloc: Global,
     framework: &Worked<'_>,
-    pair: (Atom, Notion),
+    mode: Atom,
     argument: u32,
     wanted: bool,
-) -> Option<bool> {
-    let (mode, notion) = pair;
+) -> Option<Found> {
     let mut oracle = oracle_for(alloc, framework, 1_000)?;
     let goals = [
         is(mode),
@@ -95,7 +93,20 @@ fn search_agrees(
         return None;
     }
     let mut budget = Budget::new(100);
-    match oracle.find(alloc, &goals, &mut budget).ok()? {
+    oracle.find(alloc, &goals, &mut budget).ok()
+}
+
+/// Whether a search for a set of the mode, with an argument or without it, gives one that meets the notion, or none where
+/// there is none.
+fn search_agrees(
+    alloc: Global,
+    framework: &Worked<'_>,
+    pair: (Atom, Notion),
+    argument: u32,
+    wanted: bool,
+) -> Option<bool> {
+    let (mode, notion) = pair;
+    match find(alloc, framework, mode, argument, wanted)? {
         Found::Set(set) => {
             let met = meets(alloc, framework, set.as_slice(), notion)?;
             Some(met && set.contains(argument) == wanted)
@@ -148,13 +159,18 @@ fn growing_agrees(alloc: Global, framework: &Worked<'_>, oracle: &mut SmallOracl
     Some(preferred && semi_stable)
 }
 
-/// Whether the same oracle, whose log goes on, then finds the ideal set.
+/// Whether the ideal set is found.
+fn ideal_agrees(alloc: Global, framework: &Worked<'_>, oracle: &mut SmallOracle) -> Option<bool> {
+    let mut budget = Budget::new(100);
+    let found = ideal(alloc, oracle, &mut budget).ok()?;
+    meets(alloc, framework, found.set.as_slice(), Notion::Ideal)
+}
+
+/// Whether both is so of one oracle, whose log goes on.
 fn loops_agree(alloc: Global, framework: &Worked<'_>) -> Option<bool> {
     let mut oracle = oracle_for(alloc, framework, 1_000)?;
-    let grown = growing_agrees(alloc, framework, &mut oracle)?;
-    let mut budget = Budget::new(100);
-    let found = ideal(alloc, &mut oracle, &mut budget).ok()?;
-    let ideal = meets(alloc, framework, found.set.as_slice(), Notion::Ideal)?;
+    let grown = growing_agrees(alloc, framework, &mut oracle) == Some(true);
+    let ideal = ideal_agrees(alloc, framework, &mut oracle) == Some(true);
     Some(grown && ideal)
 }
 

@@ -44,7 +44,12 @@ fn are(found: &[NumSet], sets: &[&[u32]]) -> bool {
 
 fn holds(alloc: Global, row: &Row) -> Option<bool> {
     let mut oracle = oracle_for(alloc, &row.framework, 1_000)?;
-    match list(alloc, &mut oracle, row).ok()? {
+    lists_so(alloc, &mut oracle, row)
+}
+
+/// Whether an oracle for the row's framework gives its sets.
+fn lists_so(alloc: Global, oracle: &mut SmallOracle, row: &Row) -> Option<bool> {
+    match list(alloc, oracle, row).ok()? {
         Listed::Whole(found, _) => match row.sets {
             Some(sets) => Some(are(found.as_slice(), sets)),
             None => Some(false),

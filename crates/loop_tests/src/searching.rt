@@ -32,10 +32,15 @@ fn find(
     Some(oracle.find(alloc, goals, &mut budget))
 }
 
-/// Whether the goals are made true by the row's set, or refuted.
+/// Whether an oracle for the row's framework answers it.
 fn holds(alloc: Global, row: &Row) -> Option<bool> {
     let mut oracle = oracle_for(alloc, &row.framework, 1_000)?;
-    match find(alloc, &mut oracle, row.goals, 100)?.ok()? {
+    answers(alloc, &mut oracle, row)
+}
+
+/// Whether the goals are made true by the row's set, or refuted.
+fn answers(alloc: Global, oracle: &mut SmallOracle, row: &Row) -> Option<bool> {
+    match find(alloc, oracle, row.goals, 100)?.ok()? {
         Found::Set(set) => Some(row.set == Some(set.as_slice())),
         Found::Refuted(step) => Some(row.set.is_none() && step.number() as usize == oracle.steps()),
     }
@@ -112,8 +117,7 @@ fn goals(rt: HostRuntime) -> Result<(), Fail> {
 }
 
 /// Keeps the side clause that 1 is a member, made from the set of 2 alone, and asks for an admissible set by it.
-fn found_by_side(alloc: Global) -> Option<bool> {
-    let mut oracle = oracle_for(alloc, &FLOATING, 1_000)?;
+fn found_by_side(alloc: Global, oracle: &mut SmallOracle) -> Option<bool> {
     let side = [is(Member(1))];
     if !is_side(&side) {
         return None;
@@ -125,15 +129,14 @@ fn found_by_side(alloc: Global) -> Option<bool> {
     if again != ask || budget.used() != 1 {
         return Some(false);
     }
-    match find(alloc, &mut oracle, &[is(Ad), ask.goal()], 100)?.ok()? {
+    match find(alloc, oracle, &[is(Ad), ask.goal()], 100)?.ok()? {
         Found::Set(set) => Some(set.contains(1)),
         Found::Refuted(_) => Some(false),
     }
 }
 
 /// Asks for the range of 1, and for what 1 and 4 accept.
-fn ranges_and_accepts(alloc: Global) -> Option<bool> {
-    let oracle = oracle_for(alloc, &FLOATING, 1_000)?;
+fn ranges_and_accepts(alloc: Global, oracle: &SmallOracle) -> Option<bool> {
     let range = oracle.range(alloc, &set_of(alloc, &[1])?).ok()?;
     let both = set_of(alloc, &[1, 4])?;
     let four = oracle.accepts(alloc, 4, &both).ok()?;
@@ -142,9 +145,8 @@ fn ranges_and_accepts(alloc: Global) -> Option<bool> {
 }
 
 /// No unit is left for a clause to learn from, and none for a side clause.
-fn spent(alloc: Global) -> Option<bool> {
-    let mut oracle = oracle_for(alloc, &RING, 1_000)?;
-    let learning = find(alloc, &mut oracle, &[is(St)], 0)?.err();
+fn spent(alloc: Global, oracle: &mut SmallOracle) -> Option<bool> {
+    let learning = find(alloc, oracle, &[is(St)], 0)?.err();
     let learned = matches!(oracle.pending(), Some(Pending::Learned(_, _)));
     let side = [is(Member(1))];
     if !is_side(&side) {
@@ -161,17 +163,30 @@ fn spent(alloc: Global) -> Option<bool> {
 /// Three in a ring need 42 axioms: a log of 41 steps has no room for them, and one of 42 none for what refutes.
 fn full(alloc: Global) -> Option<bool> {
     let mut oracle = oracle_for(alloc, &RING, 42)?;
-    let halt = find(alloc, &mut oracle, &[is(St)], 100)?.err();
-    let none = oracle_for(alloc, &RING, 41).is_none();
-    Some(halt == Some(Halt::LogFull) && none)
+    let full = find(alloc, &mut oracle, &[is(St)], 100).map(|found| found.err()
+        == Some(Halt::LogFull));
+    Some(full == Some(true) && oracle_for(alloc, &RING, 41).is_none())
+}
+
+/// Whether an oracle for the floating framework answers so.
+fn floating(alloc: Global) -> Option<bool> {
+    let mut oracle = oracle_for(alloc, &FLOATING, 1_000)?;
+    let ranges = ranges_and_accepts(alloc, &oracle) == Some(true);
+    let found = found_by_side(alloc, &mut oracle) == Some(true);
+    Some(ranges && found)
+}
+
+/// Whether an oracle for the ring stops so.
+fn stopped(alloc: Global) -> Option<bool> {
+    let mut oracle = oracle_for(alloc, &RING, 1_000)?;
+    spent(alloc, &mut oracle)
 }
 
 #[test]
 fn sides_ranges_and_halts(rt: HostRuntime) -> Result<(), Fail> {
     let alloc = rt.alloc();
-    assert!(rt; found_by_side(alloc) == Some(true));
-    assert!(rt; ranges_and_accepts(alloc) == Some(true));
-    assert!(rt; spent(alloc) == Some(true));
+    assert!(rt; floating(alloc) == Some(true));
+    assert!(rt; stopped(alloc) == Some(true));
     assert!(rt; full(alloc) == Some(true));
     Ok(())
 }

@@ -37,6 +37,12 @@ pub(crate) const SELVES: Worked = Worked {
     attacks: &[(1, 2), (2, 1), (2, 3), (3, 3), (4, 4)],
 };
 
+/// 1 attacks itself, and 1 and 2 attack each other.
+pub(crate) const SELF_RIVAL: Worked = Worked {
+    arguments: &[1, 2],
+    attacks: &[(1, 1), (1, 2), (2, 1)],
+};
+
 /// The oracle for a framework, whose log may have so many steps. None where it can't be made.
 pub(crate) fn oracle_for(alloc: Global, worked: &Worked<'_>, limit: usize) -> Option<SmallOracle> {
     let plain = AfPlain::of_lists(alloc, worked.arguments, worked.attacks).ok()?;
