@@ -133,12 +133,12 @@ pub(crate) fn keep_side(
 {
     match number_like(book.sides.as_slice(), side)? {
         None => add_side(alloc, framework, book, side, from, budget),
-        Some(number) => {
-            let stepped = has_step(book.steps.as_slice(), number)?;
+        Some(old) => {
+            let stepped = has_step(book.steps.as_slice(), old)?;
             if !stepped {
                 return Err(Halt::Memory);
             }
-            Ok(AskId::new(number))
+            Ok(AskId::new(old))
         }
     }
 }
