@@ -1,0 +1,187 @@
+//! Searches and loops beside the slow program that decides notions from their words, on frameworks with three arguments.
+
+use crate::worked::{RING, RIVALS, Worked, is, oracle_for, set_of};
+use cegar_preferred::maximal_from;
+use ideal_set::ideal;
+use meaning_atoms::{Atom, AtomLit};
+use oracle_face::{Found, Oracle};
+use plain_lits::Budget;
+use semantics::{AfLists, Notion, decide};
+use semi_stable::widest_from;
+use small_oracle::SmallOracle;
+use std::alloc::Global;
+use std::process::Abort;
+use std::test::Fail;
+
+/// The two rivals, the ring, a chain, and one that attacks itself before a chain.
+const FRAMEWORKS: [Worked; 4] = [
+    RIVALS,
+    RING,
+    Worked {
+        arguments: &[1, 2, 3],
+        attacks: &[(1, 2), (2, 3)],
+    },
+    Worked {
+        arguments: &[1, 2, 3],
+        attacks: &[(1, 1), (1, 2), (2, 3)],
+    },
+];
+
+/// The modes, each with its notion.
+const MODES: [(Atom, Notion); 4] = [
+    (Atom::Cf, Notion::ConflictFree),
+    (Atom::Ad, Notion::Admissible),
+    (Atom::Co, Notion::Complete),
+    (Atom::St, Notion::Stable),
+];
+
+/// Whether a set meets a notion.
+fn meets(alloc: Global, framework: &Worked<'_>, set: &[u32], notion: Notion) -> Option<bool> {
+    let lists = AfLists {
+        live: framework.arguments,
+        attacks: framework.attacks,
+    };
+    decide(alloc, &lists, set, notion).ok()
+}
+
+/// The members of 1 to 3 whose bit is set, 1 being the lowest.
+fn subset(alloc: Global, bits: u32) -> Option<Vec<u32>> {
+    let mut set = Vec::new(alloc);
+    for argument in 1..4u32 {
+        if bits >> (argument - 1) & 1 == 1 {
+            set.push(argument).ok()?;
+        }
+    }
+    Some(set)
+}
+
+/// Whether some set meets the notion, and has the argument or not.
+fn some_meets(
+    alloc: Global,
+    framework: &Worked<'_>,
+    notion: Notion,
+    argument: u32,
+    wanted: bool,
+) -> Option<bool> {
+    for bits in 0..8 {
+        let set = subset(alloc, bits)?;
+        let met = meets(alloc, framework, set.as_slice(), notion)?;
+        if met && set.contains(&argument) == wanted {
+            return Some(true);
+        }
+    }
+    Some(false)
+}
+
+/// What a search for a set of the mode gives, with an argument or without it.
+fn find(
+    alloc: Global,
+    framework: &Worked<'_>,
+    mode: Atom,
+    argument: u32,
+    wanted: bool,
+) -> Option<Found> {
+    let mut oracle = oracle_for(alloc, framework, 1_000)?;
+    let goals = [
+        is(mode),
+        AtomLit {
+            atom: Atom::Member(argument),
+            positive: wanted,
+        },
+    ];
+    if !oracle.may_find(&goals) {
+        return None;
+    }
+    let mut budget = Budget::new(100);
+    oracle.find(alloc, &goals, &mut budget).ok()
+}
+
+/// Whether a search for a set of the mode, with an argument or without it, gives one that meets the notion, or none where
+/// there is none.
+fn search_agrees(
+    alloc: Global,
+    framework: &Worked<'_>,
+    pair: (Atom, Notion),
+    argument: u32,
+    wanted: bool,
+) -> Option<bool> {
+    let (mode, notion) = pair;
+    match find(alloc, framework, mode, argument, wanted)? {
+        Found::Set(set) => {
+            let met = meets(alloc, framework, set.as_slice(), notion)?;
+            Some(met && set.contains(argument) == wanted)
+        }
+        Found::Refuted(_) => Some(!some_meets(alloc, framework, notion, argument, wanted)?),
+    }
+}
+
+/// Whether that is so of each argument, with it and without it.
+fn searches_agree(alloc: Global, framework: &Worked<'_>, pair: (Atom, Notion)) -> Option<bool> {
+    for argument in 1..4 {
+        let with = search_agrees(alloc, framework, pair, argument, true)?;
+        let without = search_agrees(alloc, framework, pair, argument, false)?;
+        if !with || !without {
+            return Some(false);
+        }
+    }
+    Some(true)
+}
+
+#[test]
+fn searches(rt: HostRuntime) -> Result<(), Fail> {
+    for framework in &FRAMEWORKS {
+        for pair in &MODES {
+            assert!(rt;
+                searches_agree(rt.alloc(), framework, *pair) == Some(true),
+                "{:?} {:?}",
+                framework.attacks,
+                pair.1
+            );
+        }
+    }
+    Ok(())
+}
+
+/// Whether the empty set grows to a preferred and to a semi-stable set.
+fn growing_agrees(alloc: Global, framework: &Worked<'_>, oracle: &mut SmallOracle) -> Option<bool> {
+    let from = set_of(alloc, &[])?;
+    if !oracle.has_mode(Atom::Ad, &from) {
+        return None;
+    }
+    let mut budget = Budget::new(100);
+    let maximal = maximal_from(alloc, oracle, &mut budget, &from).ok()?;
+    if !oracle.has_mode(Atom::Ad, &from) {
+        return None;
+    }
+    let widest = widest_from(alloc, oracle, &mut budget, Atom::Ad, &from).ok()?;
+    let preferred = meets(alloc, framework, maximal.set.as_slice(), Notion::Preferred)?;
+    let semi_stable = meets(alloc, framework, widest.set.as_slice(), Notion::SemiStable)?;
+    Some(preferred && semi_stable)
+}
+
+/// Whether the ideal set is found.
+fn ideal_agrees(alloc: Global, framework: &Worked<'_>, oracle: &mut SmallOracle) -> Option<bool> {
+    let mut budget = Budget::new(100);
+    let found = ideal(alloc, oracle, &mut budget).ok()?;
+    meets(alloc, framework, found.set.as_slice(), Notion::Ideal)
+}
+
+/// Whether both is so of one oracle, whose log goes on.
+fn loops_agree(alloc: Global, framework: &Worked<'_>) -> Option<bool> {
+    let mut oracle = oracle_for(alloc, framework, 1_000)?;
+    let grown = growing_agrees(alloc, framework, &mut oracle) == Some(true);
+    let ideal = ideal_agrees(alloc, framework, &mut oracle) == Some(true);
+    Some(grown && ideal)
+}
+
+#[test]
+fn loops(rt: HostRuntime) -> Result<(), Fail> {
+    for framework in &FRAMEWORKS {
+        assert!(rt;
+            loops_agree(rt.alloc(), framework) == Some(true),
+            "{:?}",
+            framework.attacks
+        );
+    }
+    Ok(())
+}

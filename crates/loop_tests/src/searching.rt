@@ -1,0 +1,192 @@
+//! What an oracle is asked for, and what it answers.
+
+use crate::worked::{FLOATING, RING, RIVALS, Worked, is, not, oracle_for, set_of};
+use meaning_atoms::Atom::{Ad, Ask, Cf, Co, Member, Range, St, Tail};
+use meaning_atoms::AtomLit;
+use oracle_face::{Found, Oracle, Pending};
+use plain_lits::{Budget, Halt};
+use small_oracle::{SmallOracle, is_side};
+use std::alloc::Global;
+use std::process::Abort;
+use std::test::Fail;
+
+/// Goals, and the only set that makes them true; none where no set does.
+#[derive(Drop)]
+struct Row<'a> {
+    framework: Worked<'a>,
+    goals: &'a [AtomLit],
+    set: Option<&'a [u32]>,
+}
+
+/// Asks an oracle for goals that it may be asked.
+fn find(
+    alloc: Global,
+    oracle: &mut SmallOracle,
+    goals: &[AtomLit],
+    units: u64,
+) -> Option<Result<Found, Halt>> {
+    if !oracle.may_find(goals) {
+        return None;
+    }
+    let mut budget = Budget::new(units);
+    Some(oracle.find(alloc, goals, &mut budget))
+}
+
+/// Whether an oracle for the row's framework answers it.
+fn holds(alloc: Global, row: &Row) -> Option<bool> {
+    let mut oracle = oracle_for(alloc, &row.framework, 1_000)?;
+    answers(alloc, &mut oracle, row)
+}
+
+/// Whether the goals are made true by the row's set, or refuted.
+fn answers(alloc: Global, oracle: &mut SmallOracle, row: &Row) -> Option<bool> {
+    match find(alloc, oracle, row.goals, 100)?.ok()? {
+        Found::Set(set) => Some(row.set == Some(set.as_slice())),
+        Found::Refuted(step) => Some(row.set.is_none() && step.number() as usize == oracle.steps()),
+    }
+}
+
+#[test]
+fn goals(rt: HostRuntime) -> Result<(), Fail> {
+    let rows = [
+        Row {
+            framework: FLOATING,
+            goals: &[is(Ad), is(Member(3))],
+            set: None,
+        },
+        Row {
+            framework: FLOATING,
+            goals: &[is(Ad), is(Member(4)), not(Member(2))],
+            set: Some(&[1, 4]),
+        },
+        Row {
+            framework: RIVALS,
+            goals: &[is(Ad), is(Member(3))],
+            set: Some(&[1, 3]),
+        },
+        Row {
+            framework: RIVALS,
+            goals: &[is(Ad), is(Member(3)), not(Member(1))],
+            set: None,
+        },
+        Row {
+            framework: RIVALS,
+            goals: &[is(Co), is(Member(1)), not(Member(3))],
+            set: None,
+        },
+        Row {
+            framework: RIVALS,
+            goals: &[is(Cf), is(Member(3)), not(Member(1))],
+            set: Some(&[3]),
+        },
+        Row {
+            framework: RIVALS,
+            goals: &[is(St), not(Member(2))],
+            set: Some(&[1, 3]),
+        },
+        Row {
+            framework: RIVALS,
+            goals: &[is(Ad), is(Tail(1, 1))],
+            set: Some(&[2]),
+        },
+        Row {
+            framework: RIVALS,
+            goals: &[is(Ad), is(Range(3)), not(Member(3))],
+            set: Some(&[2]),
+        },
+        Row {
+            framework: RING,
+            goals: &[is(St)],
+            set: None,
+        },
+        Row {
+            framework: RING,
+            goals: &[is(Co)],
+            set: Some(&[]),
+        },
+        Row {
+            framework: RING,
+            goals: &[is(Ad), is(Range(2))],
+            set: None,
+        },
+    ];
+    for (number, row) in rows.iter().enumerate() {
+        assert!(rt; holds(rt.alloc(), row) == Some(true), "row {number}");
+    }
+    Ok(())
+}
+
+/// Keeps the side clause that 1 is a member, made from the set of 2 alone, and asks for an admissible set by it.
+fn found_by_side(alloc: Global, oracle: &mut SmallOracle) -> Option<bool> {
+    let side = [is(Member(1))];
+    if !is_side(&side) {
+        return None;
+    }
+    let from = set_of(alloc, &[2])?;
+    let mut budget = Budget::new(100);
+    let ask = oracle.oblige(alloc, &side, &from, &mut budget).ok()?;
+    let again = oracle.oblige(alloc, &side, &from, &mut budget).ok()?;
+    if again != ask || budget.used() != 1 {
+        return Some(false);
+    }
+    match find(alloc, oracle, &[is(Ad), ask.goal()], 100)?.ok()? {
+        Found::Set(set) => Some(set.contains(1)),
+        Found::Refuted(_) => Some(false),
+    }
+}
+
+/// Asks for the range of 1, and for what 1 and 4 accept.
+fn ranges_and_accepts(alloc: Global, oracle: &SmallOracle) -> Option<bool> {
+    let range = oracle.range(alloc, &set_of(alloc, &[1])?).ok()?;
+    let both = set_of(alloc, &[1, 4])?;
+    let four = oracle.accepts(alloc, 4, &both).ok()?;
+    let three = oracle.accepts(alloc, 3, &both).ok()?;
+    Some(range.as_slice() == [1, 2, 3].as_slice() && four && !three)
+}
+
+/// No unit is left for a clause to learn from, and none for a side clause.
+fn spent(alloc: Global, oracle: &mut SmallOracle) -> Option<bool> {
+    let learning = find(alloc, oracle, &[is(St)], 0)?.err();
+    let learned = matches!(oracle.pending(), Some(Pending::Learned(_, _)));
+    let side = [is(Member(1))];
+    if !is_side(&side) {
+        return None;
+    }
+    let from = set_of(alloc, &[])?;
+    let mut budget = Budget::new(0);
+    let keeping = oracle.oblige(alloc, &side, &from, &mut budget).err();
+    let kept = matches!(oracle.pending(), Some(Pending::Side(_, _)));
+    let none = Some(Halt::Spent(0));
+    Some(learning == none && learned && keeping == none && kept)
+}
+
+/// Three in a ring need 42 axioms: a log of 41 steps has no room for them, and one of 42 none for what refutes.
+fn full(alloc: Global) -> Option<bool> {
+    let mut oracle = oracle_for(alloc, &RING, 42)?;
+    let full = find(alloc, &mut oracle, &[is(St)], 100).map(|found| found.err()
+        == Some(Halt::LogFull));
+    Some(full == Some(true) && oracle_for(alloc, &RING, 41).is_none())
+}
+
+/// Whether an oracle for the floating framework answers so.
+fn floating(alloc: Global) -> Option<bool> {
+    let mut oracle = oracle_for(alloc, &FLOATING, 1_000)?;
+    let ranges = ranges_and_accepts(alloc, &oracle) == Some(true);
+    let found = found_by_side(alloc, &mut oracle) == Some(true);
+    Some(ranges && found)
+}
+
+/// Whether an oracle for the ring stops so.
+fn stopped(alloc: Global) -> Option<bool> {
+    let mut oracle = oracle_for(alloc, &RING, 1_000)?;
+    spent(alloc, &mut oracle)
+}
+
+#[test]
+fn sides_ranges_and_halts(rt: HostRuntime) -> Result<(), Fail> {
+    let alloc = rt.alloc();
+    assert!(rt; floating(alloc) == Some(true));
+    assert!(rt; stopped(alloc) == Some(true));
+    assert!(rt; full(alloc) == Some(true));
+    Ok(())
+}
