@@ -24,7 +24,7 @@ use Rattle.certificate_claims.specs.SetLiterals.{has, is_ranged, members, are_in
 use Rattle.oracle_face.specs.Logs.{OracleLog, SideClause, IsNumberOf, IsSameClause, side_at}
 use Rattle.oracle_face.specs.Goals.{AreGoals, AsksSide, IsClaimSide, IsGoal, IsMode, IsOneSided, IsSide, IsWithinClaim, MakesTrue, SpeaksOf, Tells}
 use Rattle.oracle_face.proofs.StepTruth.{side_literals}
-use Rattle.goal_lists.specs.Asking.{are_asked, goals_of, IsPlaced}
+use Rattle.goal_lists.specs.Asking.{are_asked, goals_of, IsAskable, IsPlaced}
 
 lacks_not : (b : Bool) → b ≡ true → not b ≡ true → ⊥
 lacks_not true h k = absurd (cc)
@@ -126,16 +126,6 @@ asked_there mode ins outs ranged asks n c =
     (Contains-mapped (λ x. affirmed (Ask x)) asks n c))))
 
 -- ---- goals that an oracle may be asked
-
--- a goal that is no side clause's, and asks for members of the framework alone; its side clauses speak of such members
-pub record IsAskable (f : Framework) (sides : List SideClause) (mode : Atom)
-    (ins outs ranged asks : List ℕ) : Type 0 where
-  pub moded : IsMode mode
-  pub in_members : IsWithin ins (members f)
-  pub out_members : IsWithin outs (members f)
-  pub ranged_members : IsWithin ranged (members f)
-  pub apart : (a : ℕ) → Contains ins a → Contains outs a → ⊥
-  pub asked : (n : ℕ) → Contains asks n → IsNumberOf sides n × SpeaksOf f (side_at sides n).literals
 
 placed_goal : (f : Framework) (sides : List SideClause) (mode : Atom) (ins outs ranged asks : List ℕ)
     → IsAskable f sides mode ins outs ranged asks → (atom : Atom) (positive : Bool)
