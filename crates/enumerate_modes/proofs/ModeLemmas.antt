@@ -239,11 +239,12 @@ meets_ranged : (f : Af) (s range : List ℕ) → ((a : ℕ) → Contains range a
     → MeetsGoals (af f) s (are_ranged range)
 meets_ranged f s range h = meets_mapped (af f) s (λ a. affirmed (Range a)) range h
 
-pub all_listed : (f : Framework) (log : OracleLog) (mode : Atom) (range : List ℕ) (listing : Listing) (step : ℕ)
+pub all_listed : (f : Framework) (log : OracleLog) (mode : Atom) (range : List ℕ) (limit : ℕ) (listing : Listing)
+    (step : ℕ)
     → IsKept f log → IsListMode mode → IsListing f log mode range listing
     → Refutes f log (mode_claim f mode range listing.sets.items) step
-    → IsAllOf f log mode range listing.sets.items step
-all_listed (af f) log mode range listing step kept listed h refuted = record {
+    → length listing.sets.items ≤ limit → IsAllOf f log mode range limit listing.sets.items step
+all_listed (af f) log mode range limit listing step kept listed h refuted room = record {
   each = h.each;
   all = λ e is.
       let ok = mode_admissible (af f) e mode kept.numbered listed is.has_mode in
@@ -256,6 +257,7 @@ all_listed (af f) log mode range listing step kept listed h refuted = record {
       record { set = r.0; member = r.1; same = same_where_false f r.0 e ok.conflict_free.live r.2 };
   rise = h.rise;
   one_form = h.one_form;
+  within = room;
   refuted = refuted;
 }
 
@@ -297,13 +299,14 @@ then_call f g m n most a b c p q u v w halt e few h k =
     then_made (MadeDiffers f) (MadeDiffers g) f g m n most a b c p q u v w halt e
     (subst (λ (x : Framework). Makes (MadeDiffers x) (MadeDiffers f)) (sym e) (makes_same (MadeDiffers f))) few h k
 
-pub further_refuted : (f g h : Framework) (log : OracleLog) (mode : Atom) (range : List ℕ) (listing : Listing)
-    (r : Found) (step : ℕ) → g ≡ f → h ≡ f → IsKept h log → IsListMode mode → IsListing f log mode range listing
-    → r ≡ Refuted step → IsFurtherOf g log mode range listing r → IsAllOf f log mode range listing.sets.items step
-further_refuted f g h log mode range listing r step left right kept listed is same found =
-    all_listed f log mode range listing step (subst (λ (x : Framework). IsKept x log) right kept) listed is
+pub further_refuted : (f g h : Framework) (log : OracleLog) (mode : Atom) (range : List ℕ) (limit : ℕ)
+    (listing : Listing) (r : Found) (step : ℕ) → g ≡ f → h ≡ f → IsKept h log → IsListMode mode → IsListing f log mode range listing
+    → r ≡ Refuted step → IsFurtherOf g log mode range listing r → length listing.sets.items ≤ limit
+    → IsAllOf f log mode range limit listing.sets.items step
+further_refuted f g h log mode range limit listing r step left right kept listed is same found room =
+    all_listed f log mode range limit listing step (subst (λ (x : Framework). IsKept x log) right kept) listed is
     (subst (λ (x : Framework). IsFurtherOf x log mode range listing (Refuted step)) left
-    (subst (IsFurtherOf g log mode range listing) same found))
+    (subst (IsFurtherOf g log mode range listing) same found)) room
 
 pub further_set : (f g : Framework) (log : OracleLog) (mode : Atom) (range : List ℕ) (listing : Listing) (r : Found)
     (set : List ℕ) → g ≡ f → r ≡ Set set → IsFurtherOf g log mode range listing r

@@ -1,5 +1,5 @@
 -- Lists of all sets of a mode.
-use Rattle.std.specs.Prelude.{ℕ, true, false, Bool, List, [], ◌∷◌, map, Contains}
+use Rattle.std.specs.Prelude.{ℕ, ◌≤◌, length, true, false, Bool, List, [], ◌∷◌, map, Contains}
 use Rattle.semantics.specs.Frameworks.{Framework}
 use Rattle.semantics.specs.Laws.{HasSameMembers}
 use Rattle.semantics.specs.Sets.{IsListed}
@@ -60,19 +60,20 @@ IsFurtherOf f log mode range listing (Refuted step) = Refutes f log (mode_claim 
 -- the set is listed, or the list is longer than the limit then
 abbrev pub Records : Framework → OracleLog → Atom → List ℕ → ℕ → List ℕ → Listing → Listing → Bool → Type 0
 Records f log mode range limit set old new true =
-    IsListing f log mode range new × GainsInOrder set old.sets.items new.sets.items
+    IsListing f log mode range new × GainsInOrder set old.sets.items new.sets.items × length new.sets.items ≤ limit
 Records f log mode range limit set old new false = HasMore (IsAmong f mode range) limit
 
--- the list of all such sets, in order, with the evidence that its certificate asks for
-pub record IsAllOf (f : Framework) (log : OracleLog) (mode : Atom) (range : List ℕ) (sets : List (List ℕ)) (step : ℕ)
-    : Type 0 where
+-- the list of all such sets, no more than the limit, in order, with the evidence that its certificate asks for
+pub record IsAllOf (f : Framework) (log : OracleLog) (mode : Atom) (range : List ℕ) (limit : ℕ)
+    (sets : List (List ℕ)) (step : ℕ) : Type 0 where
   pub each : (e : List ℕ) → Contains sets e → IsAmong f mode range e
   pub all : (e : List ℕ) → IsAmong f mode range e → IsListed sets e
   pub rise : SetsRise sets
   pub one_form : HaveOneForm sets
+  pub within : length sets ≤ limit
   pub refuted : Refutes f log (mode_claim f mode range sets) step
 
 -- all such sets, or that there are more than the limit
 abbrev pub IsAllOrMore : Framework → OracleLog → Atom → List ℕ → ℕ → Listed → Type 0
-IsAllOrMore f log mode range limit (Whole sets step) = IsAllOf f log mode range sets.items step
+IsAllOrMore f log mode range limit (Whole sets step) = IsAllOf f log mode range limit sets.items step
 IsAllOrMore f log mode range limit TooMany = HasMore (IsAmong f mode range) limit

@@ -1,6 +1,6 @@
 //! All sets of a mode.
 
-ghost use Rattle.std.specs.Prelude.{◌≡◌, [], IfOk};
+ghost use Rattle.std.specs.Prelude.{◌≡◌, ◌≤◌, [], length, IfOk};
 ghost use Rattle.plain_lists.specs.Members.{IsWithin};
 ghost use Rattle.meaning_atoms.specs.declared.atom.Atom.TheVariants.{Ad};
 ghost use Rattle.certificate_claims.specs.SetLiterals.{members};
@@ -100,6 +100,7 @@ fn list_on<O: Oracle>(
     requires mode { IsListMode mode }
     requires range { IsWithin range.now (members (O.framework oracle.old)) }
     requires start { IsListing (O.framework oracle.old) (O.log oracle.old) mode range.now start }
+    requires room { length start.sets.items ≤ limit }
     ensures listed { IfOk result (IsAllOrMore (O.framework oracle.old) (O.log oracle.new) mode range.now limit) }
     ensures run { HasRun (MadeDiffers (O.framework oracle.old)) 1 (O.framework oracle.old) (O.log oracle.old)
         (O.log oracle.new) (O.pending oracle.new) budget.old budget.new (halt_of result) }

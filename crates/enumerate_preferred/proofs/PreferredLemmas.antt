@@ -145,11 +145,12 @@ has_more f log limit found e new h is out gains more = record {
   more = more;
 }
 
-pub gains_one : (f : Framework) (log : OracleLog) (old new : Preferred) (e : List ℕ) (n : ℕ) → AreFound f log old
+pub gains_one : (f : Framework) (log : OracleLog) (limit : ℕ) (old new : Preferred) (e : List ℕ) (n : ℕ)
+    → AreFound f log old
     → IsExtension f Largest e → ((d : List ℕ) → Contains old.sets.items d → IsWithin e d → ⊥)
     → GainsInOrder e old.sets.items new.sets.items → new.asks ≡ old.asks ++ n ∷ []
-    → IsAskOf log.sides (outside f e) n → Gains f log old new
-gains_one f log old new e n h is out gains asks ask = record {
+    → IsAskOf log.sides (outside f e) n → length new.sets.items ≤ limit → Gains f log limit old new
+gains_one f log limit old new e n h is out gains asks ask room = record {
   set = e;
   number = n;
   sets = gains;
@@ -165,6 +166,7 @@ gains_one f log old new e n h is out gains asks ask = record {
     rise = gains.rise;
     one_form = one_form_more e old.sets.items new.sets.items h.one_form (λ d c same. out d c same.back) gains;
   };
+  room = room;
 }
 
 -- ---- how many are left
@@ -173,9 +175,9 @@ gains_one f log old new e n h is out gains asks ask = record {
 abbrev pub open_sets : Framework → List (List ℕ) → ℕ
 open_sets f sets = left_open is_part (members f) sets
 
-pub fewer_open : (f : Framework) (log : OracleLog) (old new : Preferred) → Gains f log old new
+pub fewer_open : (f : Framework) (log : OracleLog) (limit : ℕ) (old new : Preferred) → Gains f log limit old new
     → open_sets f new.sets.items < open_sets f old.sets.items
-fewer_open f log old new h =
+fewer_open f log limit old new h =
     let e = h.set in
     let last = (h.sets.members e).1 (inr refl) in
     let same = same_as_kept (members f) e
@@ -195,27 +197,35 @@ none_within (af f) sets each s t c d sub = (each s c).maximal t (each t d).admis
 pub cover_plain : (f : Framework) (sets : List (List ℕ)) → IsPlain (cover_claim f sets)
 cover_plain f sets = plain_mapped (affirmed Ad ∷ []) (outside f) sets wanted.plain (outside_plain f)
 
-all_found : (f : Framework) (log : OracleLog) (found : Preferred) (step : ℕ) → IsKept f log → AreFound f log found
-    → Refutes f log (cover_claim f found.sets.items) step → IsAllPreferred f log found.sets.items step
-all_found (af f) log found step kept h refuted =
+all_found : (f : Framework) (log : OracleLog) (limit : ℕ) (found : Preferred) (step : ℕ) → IsKept f log
+    → AreFound f log found → length found.sets.items ≤ limit → Refutes f log (cover_claim f found.sets.items) step
+    → IsAllPreferred f log limit found.sets.items step
+all_found (af f) log limit found step kept h room refuted =
     let sets = found.sets.items in
     let exact = all_preferred f sets kept.numbered (λ e c. preferred_admissible (af f) e (h.each e c))
     (none_within (af f) sets h.each)
     (claim_excluded (af f) log (cover_claim (af f) sets) step kept.form (cover_plain (af f) sets) refuted) in
-    record { each = h.each; all = exact.all; rise = h.rise; one_form = h.one_form; refuted = refuted }
+    record {
+      each = h.each;
+      all = exact.all;
+      rise = h.rise;
+      one_form = h.one_form;
+      within = room;
+      refuted = refuted;
+    }
 
-pub all_refuted : (f g h : Framework) (log : OracleLog) (found : Preferred) (r : Found) (step : ℕ) → g ≡ f → h ≡ f
-    → IsKept h log → AreFound f log found → r ≡ Refuted step → IsUncovered g log found r
-    → IsAllPreferred f log found.sets.items step
-all_refuted f g h log found r step left right kept are is last =
-    all_found f log found step (subst (λ (x : Framework). IsKept x log) right kept) are
+pub all_refuted : (f g h : Framework) (log : OracleLog) (limit : ℕ) (found : Preferred) (r : Found) (step : ℕ)
+    → g ≡ f → h ≡ f → IsKept h log → AreFound f log found → length found.sets.items ≤ limit → r ≡ Refuted step → IsUncovered g log found r
+    → IsAllPreferred f log limit found.sets.items step
+all_refuted f g h log limit found r step left right kept are room is last =
+    all_found f log limit found step (subst (λ (x : Framework). IsKept x log) right kept) are room
     (subst (λ (x : Framework). IsUncovered x log found (Refuted step)) left
     (subst (IsUncovered g log found) is last))
 
 pub recorded : (f g : Framework) (log : OracleLog) (limit : ℕ) (old new : Preferred) (room : Bool) → g ≡ f
-    → room ≡ true → Records g log limit old new room → Gains f log old new
+    → room ≡ true → Records g log limit old new room → Gains f log limit old new
 recorded f g log limit old new room same is h =
-    subst (λ (x : Framework). Gains x log old new) same (subst (Records g log limit old new) is h)
+    subst (λ (x : Framework). Gains x log limit old new) same (subst (Records g log limit old new) is h)
 
 pub not_recorded : (f g : Framework) (log : OracleLog) (limit : ℕ) (old new : Preferred) (room : Bool) → g ≡ f
     → room ≡ false → Records g log limit old new room → HasMore (IsExtension f Largest) limit

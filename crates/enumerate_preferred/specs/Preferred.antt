@@ -1,5 +1,5 @@
 -- Lists of all preferred sets.
-use Rattle.std.specs.Prelude.{◌≡◌, ℕ, true, false, Bool, List, [], ◌∷◌, ◌++◌, map, Contains}
+use Rattle.std.specs.Prelude.{◌≡◌, ℕ, ◌≤◌, length, true, false, Bool, List, [], ◌∷◌, ◌++◌, map, Contains}
 use Rattle.plain_lists.specs.Members.{IsWithin}
 use Rattle.semantics.specs.Frameworks.{Framework}
 use Rattle.semantics.specs.Sets.{IsListed}
@@ -41,28 +41,30 @@ IsUncovered f log found (Set set) =
 IsUncovered f log found (Refuted step) = Refutes f log (cover_claim f found.sets.items) step
 
 -- one preferred set more, which lay in none of those before, with its side clause
-pub record Gains (f : Framework) (log : OracleLog) (old new : Preferred) : Type 0 where
+pub record Gains (f : Framework) (log : OracleLog) (limit : ℕ) (old new : Preferred) : Type 0 where
   pub set : List ℕ
   pub number : ℕ
   pub sets : GainsInOrder set old.sets.items new.sets.items
   pub asks : new.asks ≡ old.asks ++ number ∷ []
   pub outside_all : (e : List ℕ) → Contains old.sets.items e → IsWithin set e → ⊥
   pub found : AreFound f log new
+  pub room : length new.sets.items ≤ limit
 
 -- one preferred set more is listed, or the list is longer than the limit then
 abbrev pub Records : Framework → OracleLog → ℕ → Preferred → Preferred → Bool → Type 0
-Records f log limit old new true = Gains f log old new
+Records f log limit old new true = Gains f log limit old new
 Records f log limit old new false = HasMore (IsExtension f Largest) limit
 
--- all preferred sets, in order, with the evidence that their certificate asks for
-pub record IsAllPreferred (f : Framework) (log : OracleLog) (sets : List (List ℕ)) (step : ℕ) : Type 0 where
+-- all preferred sets, no more than the limit, in order, with the evidence that their certificate asks for
+pub record IsAllPreferred (f : Framework) (log : OracleLog) (limit : ℕ) (sets : List (List ℕ)) (step : ℕ) : Type 0 where
   pub each : (e : List ℕ) → Contains sets e → IsExtension f Largest e
   pub all : (e : List ℕ) → IsExtension f Largest e → IsListed sets e
   pub rise : SetsRise sets
   pub one_form : HaveOneForm sets
+  pub within : length sets ≤ limit
   pub refuted : Refutes f log (cover_claim f sets) step
 
 -- all preferred sets, or that there are more than the limit
 abbrev pub IsAllOrMore : Framework → OracleLog → ℕ → Listed → Type 0
-IsAllOrMore f log limit (Whole sets step) = IsAllPreferred f log sets.items step
+IsAllOrMore f log limit (Whole sets step) = IsAllPreferred f log limit sets.items step
 IsAllOrMore f log limit TooMany = HasMore (IsExtension f Largest) limit

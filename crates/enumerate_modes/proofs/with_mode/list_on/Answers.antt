@@ -25,11 +25,11 @@ returns-in-Refuted-clause-listed g c =
     let h = g.O.Oracle.framework c.loop-listing.oracle in
     let inv = c.loop-listing.invariant in
     further_refuted f h (g.O.Oracle.framework c.further.new.oracle) (g.O.Oracle.log c.further.new.oracle) c.args.mode
-    c.args.range.now c.loop-listing.listing c.in_ok-step.field-0 c.in-Refuted.step inv.framework
+    c.args.range.now c.args.limit c.loop-listing.listing c.in_ok-step.field-0 c.in-Refuted.step inv.framework
     (c.in_ok-step.ensures.framework ∙ inv.framework) c.in_ok-step.ensures.kept c.requires.mode
     (listing_grown f (MadeDiffers h) (g.O.Oracle.log c.loop-listing.oracle) (g.O.Oracle.log c.further.new.oracle)
     c.args.mode c.args.range.now c.loop-listing.listing c.in_ok-step.ensures.run.grows inv.listing)
-    c.in-Refuted.is c.in_ok-step.ensures.further
+    c.in-Refuted.is c.in_ok-step.ensures.further inv.room
 
 pub returns-in-Refuted-clause-run : goal.returns-in-Refuted-clause-run
 returns-in-Refuted-clause-run g c =
@@ -112,6 +112,7 @@ loop-listing-preserved g c =
     c.in_ok-room-in-Set.ensures.records in
     record {
       listing = more.0;
+      room = more.2;
       run = then_call f k 0 0 0 _ _ _ _ _ _ _ _ _ same few
           (then_call f h 0 _ 0 _ _ _ _ _ _ _ _ _ inv.framework
           (omega (arith, closes_set c.in_ok-step.field-0 c.in-Set.set c.in-Set.is)) inv.run c.in_ok-step.ensures.run)

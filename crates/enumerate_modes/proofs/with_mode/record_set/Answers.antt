@@ -63,6 +63,7 @@ returns-clause-records g c =
     let e = c.args.set.now in
     let log = g.O.Oracle.log c.oblige.new.self in
     let new = c.insert_in_order.new.sets.items in
+    let room : length new ≤ c.args.limit = omega (arith, c.len.ensures, c.if-len-limit.false) in
     let gains = subst (λ s. GainsInOrder s c.args.listing.now.sets.items new) c.in_ok-copy.ensures.same
     c.in_ok-insert_in_order.ensures.gains in (
       listing_more f log c.args.mode c.args.range.now e c.in_ok-ask.ask c.args.listing.now
@@ -73,6 +74,7 @@ returns-clause-records g c =
           (ask_of c.deref.result.now (differs f e) _ log c.in_ok-ask.ask
           (c.deref.ensures.value ∙ c.in_ok-side.ensures f c.members.ensures.value) c.in_ok-ask.ensures.obliges),
       gains,
+      room,
     )
 
 pub returns-clause-run : goal.returns-clause-run

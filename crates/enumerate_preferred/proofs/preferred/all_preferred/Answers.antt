@@ -26,10 +26,10 @@ returns-in-Refuted-clause-listed g c =
     let h = g.O.Oracle.framework c.loop-found.oracle in
     let inv = c.loop-found.invariant in
     all_refuted f h (g.O.Oracle.framework c.uncovered.new.oracle) (g.O.Oracle.log c.uncovered.new.oracle)
-    c.loop-found.found c.in_ok-step.field-0 c.in-Refuted.step inv.framework
+    c.args.limit c.loop-found.found c.in_ok-step.field-0 c.in-Refuted.step inv.framework
     (c.in_ok-step.ensures.framework ∙ inv.framework) c.in_ok-step.ensures.kept
     (found_grown f (MadeOutside h) (g.O.Oracle.log c.loop-found.oracle) (g.O.Oracle.log c.uncovered.new.oracle)
-    c.loop-found.found c.in_ok-step.ensures.run.grows inv.found)
+    c.loop-found.found c.in_ok-step.ensures.run.grows inv.found) inv.room
     c.in-Refuted.is c.in_ok-step.ensures.uncovered
 
 pub returns-in-Refuted-clause-run : goal.returns-in-Refuted-clause-run
@@ -109,7 +109,7 @@ loop-found-smaller g c =
     c.record_grown.new.found c.in_ok-room-in-Set.room
     (c.in_ok-step.ensures.framework ∙ c.loop-found.invariant.framework) c.if-not-room.false
     c.in_ok-room-in-Set.ensures.records in
-    fewer_open f log c.loop-found.found c.record_grown.new.found more
+    fewer_open f log c.args.limit c.loop-found.found c.record_grown.new.found more
 
 pub loop-found-preserved : goal.loop-found-preserved
 loop-found-preserved g c =
@@ -123,6 +123,7 @@ loop-found-preserved g c =
     c.record_grown.new.found c.in_ok-room-in-Set.room same c.if-not-room.false c.in_ok-room-in-Set.ensures.records in
     record {
       found = more.found;
+      room = more.room;
       run = then_call f k (length asks) 1 (length c.record_grown.new.found.asks) _ _ _ _ _ _ _ _ _ same
           (one_more asks c.record_grown.new.found.asks more.number more.asks)
           (then_call f h (length asks) _ (length asks) _ _ _ _ _ _ _ _ _ inv.framework

@@ -1,4 +1,4 @@
-use Rattle.std.proofs.Common.{◌≡◌, length}
+use Rattle.std.proofs.Common.{◌≡◌, ◌≤◌, length}
 use Rattle.std.specs.Prelude.{None}
 use Rattle.oracle_face.specs.Logs.{IsKept}
 use Rattle.oracle_face.specs.Growing.{HasRun}
@@ -10,6 +10,7 @@ use Rattle.enumerate_preferred.proofs.preferred.all_preferred.Given as goal
 abbrev pub invariant-loop-found : goal.invariant-loop-found
 invariant-loop-found g l = record {
   found : AreFound (g.O.Oracle.framework l.fn.oracle) (g.O.Oracle.log l.oracle) l.found;
+  room : length l.found.sets.items ≤ l.limit;
   run : HasRun (MadeOutside (g.O.Oracle.framework l.fn.oracle)) (length l.found.asks)
       (g.O.Oracle.framework l.fn.oracle) (g.O.Oracle.log l.fn.oracle) (g.O.Oracle.log l.oracle)
       (g.O.Oracle.pending l.oracle) l.fn.budget l.budget None;

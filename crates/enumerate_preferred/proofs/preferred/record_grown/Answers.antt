@@ -70,7 +70,7 @@ returns-clause-records g c =
     let new = c.insert_in_order.new.sets.items in
     let side = c.deref.ensures.value ∙ (c.in_ok-side.ensures h c.members.ensures.value
     ∙ ap (λ x. outside x e) c.in_ok-maximal.ensures.framework) in
-    gains_one f log found (record { sets = c.insert_in_order.new.sets; asks = c.push.new.self }) e c.in_ok-ask.ask
+    gains_one f log c.args.limit found (record { sets = c.insert_in_order.new.sets; asks = c.push.new.self }) e c.in_ok-ask.ask
     (found_grown f (OnlySide c.deref.result.now e) middle log found c.in_ok-ask.ensures.run.grows
     (found_grown f (MadeOutside f) first middle found c.in_ok-maximal.ensures.run.grows c.requires.found))
     c.in_ok-maximal.ensures.maximal.preferred
@@ -78,6 +78,7 @@ returns-clause-records g c =
     (subst (λ s. GainsInOrder s found.sets.items new) c.in_ok-copy.ensures.same c.in_ok-insert_in_order.ensures.gains)
     c.in_ok-push.ensures.ok
     (ask_of c.deref.result.now (outside f e) middle log c.in_ok-ask.ask side c.in_ok-ask.ensures.obliges)
+    (omega (arith, c.len.ensures, c.if-len-limit.false))
 
 pub returns-clause-run : goal.returns-clause-run
 returns-clause-run g c =
