@@ -1,0 +1,6 @@
+//! All extensions by an oracle, in the order of their lists, with the steps that refute the claims of their certificate.
+#![tactic(auto)]
+
+mod extensions;
+
+pub use extensions::{Extensions, all};
