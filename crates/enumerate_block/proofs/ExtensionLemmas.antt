@@ -1,18 +1,18 @@
 -- Lists of all extensions by each semantics.
-use Rattle.std.proofs.Common.{◌≡◌, inl, inr, ℕ, ◌+◌, ◌*◌, ◌<◌, ◌≤◌, List, [], ◌∷◌, length, refl, ap, sym, subst, ◌∙◌, arith}
-use Rattle.std.specs.Prelude.{Contains, slice_index_or, Option, None, Some, Result, Ok, Err, IfOk}
+use Rattle.std.proofs.Common.{◌≡◌, inl, inr, ℕ, ◌+◌, ◌*◌, ◌<◌, List, [], ◌∷◌, length, refl, subst, arith}
+use Rattle.std.specs.Prelude.{Contains, slice_index_or, Option}
 use Rattle.std.proofs.lemmas.List.{get_or_default}
 use Rattle.plain_lists.proofs.Membership.{Contains-nil}
 use Rattle.plain_lits.specs.declared.halt.Halt.{Halt}
 use Rattle.plain_lits.specs.Units.{Units}
 use Rattle.semantics.specs.Framework.{Af, IsAdmissible}
-use Rattle.semantics.specs.Frameworks.{Framework, af, IsNumberedAf}
+use Rattle.semantics.specs.Frameworks.{Framework, af}
 use Rattle.semantics.proofs.Grounded.{grounded_exists}
 use Rattle.meaning_atoms.specs.declared.atom.Atom.{Atom}
 use Rattle.meaning_atoms.specs.declared.atom.Atom.TheVariants.{Ad, Co, St}
 use Rattle.meaning_atoms.specs.declared.atom.AtomLit.{AtomLit}
 use Rattle.meaning_atoms.specs.Literals.{affirmed, AsksNothing}
-use Rattle.meaning_atoms.specs.Worlds.{HoldsOf, IsAsk, IsAfWorld}
+use Rattle.meaning_atoms.specs.Worlds.{HoldsOf, IsAsk}
 use Rattle.iccma_tasks.specs.declared.task.Semantics.{Semantics}
 use Rattle.iccma_tasks.specs.declared.task.Semantics.TheVariants.{Complete, Grounded, Preferred, Stable, SemiStable, Ideal}
 use Rattle.iccma_tasks.specs.declared.task.Kind.TheVariants.{Af as OfAf}
@@ -22,7 +22,7 @@ use Rattle.iccma_tasks.specs.declared.task.Task.{Task}
 use Rattle.iccma_tasks.specs.Tasks.{HasTask}
 use Rattle.certificate_claims.specs.declared.row.Row.TheVariants.{AllTested, AllLargest, AllWidest, Excluded}
 use Rattle.certificate_claims.specs.Acceptance.{Tests}
-use Rattle.certificate_claims.specs.Claims.{claim_of, first_ranged, range_cover}
+use Rattle.certificate_claims.specs.Claims.{claim_of}
 use Rattle.certificate_claims.specs.Rights.{IsExtension, SetsRise}
 use Rattle.certificate_claims.specs.SetLiterals.{differs, outside, wider}
 use Rattle.certificate_laws.proofs.GoalLists.{asks_cons, asks_nil, fails_mapped, meets_cons, meets_nil, plain_mapped}
@@ -38,13 +38,13 @@ use Rattle.cegar_preferred.specs.Largest.{MadeOutside}
 use Rattle.enumerate_modes.specs.declared.with_mode.Listed.{Listed}
 use Rattle.enumerate_modes.specs.declared.with_mode.Listed.TheVariants.{Whole, TooMany as MoreThanListed}
 use Rattle.enumerate_modes.specs.Modes.{IsAllOf, IsAllOrMore as IsModeList, IsAmong, IsListMode, MadeDiffers}
-use Rattle.enumerate_modes.specs.Ordered.{HasMore, TheyDiffer}
+use Rattle.enumerate_modes.specs.Ordered.{HasMore}
 use Rattle.enumerate_modes.proofs.OrderedLemmas.{they_differ}
 use Rattle.enumerate_preferred.specs.Preferred.{IsAllPreferred, IsAllOrMore as IsPreferredList}
 use Rattle.enumerate_preferred.proofs.PreferredLemmas.{none_within}
 use Rattle.enumerate_ranges.specs.declared.ranges.Ranged.{Ranged}
 use Rattle.enumerate_ranges.specs.declared.ranges.Ranged.TheVariants.{Whole as WholeRanged, TooMany as MoreThanRanged}
-use Rattle.enumerate_ranges.specs.Ranges.{AreRefuted, IsAllSemiStable, IsAllOrMore as IsRangedList, MadeForRanges}
+use Rattle.enumerate_ranges.specs.Ranges.{IsAllSemiStable, IsAllOrMore as IsRangedList, MadeForRanges}
 use Rattle.enumerate_ranges.proofs.RangeLemmas.{no_range_within, semi_admissible}
 use Rattle.enumerate_ranges.proofs.StepLemmas.{refuted_first, refuted_none}
 use Rattle.enumerate_block.specs.Extensions.{AreExtensions, IsListOf, IsListTask, IsModeOf, MadeForAll, asked_all, with_step, with_steps}

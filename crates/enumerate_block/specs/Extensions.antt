@@ -39,8 +39,8 @@ IsModeOf Complete Co = Unit {0}
 IsModeOf Stable St = Unit {0}
 IsModeOf _ _ = ⊥
 
--- a side clause made from an admissible set: that something lies outside it, that something is in the range that isn't in
--- its range, or that a set differs from it
+-- a side clause made from an admissible set: that something lies outside it, that something is in the range that isn't
+-- in its range, or that a set differs from it
 abbrev pub MadeForAll : Framework → Making
 MadeForAll f literals set =
     HoldsOf f set Ad
@@ -62,8 +62,8 @@ answer_of (e ∷ more) = Sets (e ∷ more)
 abbrev pub row_all : Framework → Semantics → List (List ℕ) → Row
 row_all f semantics sets = row_of f (asked_all semantics) (answer_of sets)
 
--- the sets are all extensions, no more than the limit, in order and different. With the steps, each of which refutes the
--- claim at its place, they show so: the direct tests of a certificate without sets pass, and its claims are these.
+-- the sets are all extensions, no more than the limit, in order and different. With the steps, each of which refutes
+-- the claim at its place, they show so: the direct tests of a certificate without sets pass, and its claims are these.
 pub record AreExtensions (f : Framework) (log : OracleLog) (semantics : Semantics) (limit : ℕ)
     (sets : List (List ℕ)) (steps : List ℕ) : Type 0 where
   pub all : AreAll f semantics sets

@@ -19,16 +19,17 @@ use std::alloc::Global;
 /// What came of listing all extensions.
 #[derive(Debug, Drop)]
 pub enum Extensions {
-    /// All of them, in the order of their lists, and the log steps that refute the claims of their certificate, in order.
+    /// All of them, in the order of their lists, and the log steps that refute the claims of their certificate, in
+    /// order.
     All(Items<NumSet>, Items<StepId>),
     /// More than the limit were found.
     TooMany,
 }
 
-/// All extensions, at most so many. Where there are k, it asks k + 1 times for a complete or a stable set; for a preferred
-/// set that lies in none of those found also k + 1 times, besides what it asks to grow each; and where semi-stable sets
-/// have r ranges, r + 1 times for a range that lies in none of those found and k times for sets with these ranges, besides
-/// what it asks to grow each range.
+/// All extensions, at most so many. Where there are k, it asks k + 1 times for a complete or a stable set; for a
+/// preferred set that lies in none of those found also k + 1 times, besides what it asks to grow each; and where
+/// semi-stable sets have r ranges, r + 1 times for a range that lies in none of those found and k times for sets with
+/// these ranges, besides what it asks to grow each range.
 pub fn all<O: Oracle>(
     alloc: Global,
     oracle: &mut O,

@@ -1,4 +1,5 @@
-//! All extensions by an oracle, in the order of their lists, with the steps that refute the claims of their certificate.
+//! All extensions by an oracle, in the order of their lists, with the steps that refute the claims of their
+//! certificate.
 #![tactic(auto)]
 
 mod extensions;

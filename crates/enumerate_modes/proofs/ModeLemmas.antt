@@ -283,7 +283,8 @@ pub fewer_unlisted : (f : Framework) (set : List ℕ) (old new : List (List ℕ)
 fewer_unlisted f set old new live none gains =
     let s = filter (has set) (members f) in
     let same = same_as_kept (members f) set live in
-    fewer_left is_alike (members f) old new set s (λ d c. (gains.members d).1 (inl c)) ((gains.members set).1 (inr refl))
+    fewer_left is_alike (members f) old new set s (λ d c. (gains.members d).1 (inl c)) ((gains.members set).1 (inr
+    refl))
     (kept_is_set (has set) (members f)) (alike_from s set same.0 same.1)
     (λ d c alike. let m = alike_gives s d alike in none d c (record {
       there = λ x k. same.0 x (m.there x k);
@@ -300,7 +301,8 @@ then_call f g m n most a b c p q u v w halt e few h k =
     (subst (λ (x : Framework). Makes (MadeDiffers x) (MadeDiffers f)) (sym e) (makes_same (MadeDiffers f))) few h k
 
 pub further_refuted : (f g h : Framework) (log : OracleLog) (mode : Atom) (range : List ℕ) (limit : ℕ)
-    (listing : Listing) (r : Found) (step : ℕ) → g ≡ f → h ≡ f → IsKept h log → IsListMode mode → IsListing f log mode range listing
+    (listing : Listing) (r : Found) (step : ℕ) → g ≡ f → h ≡ f → IsKept h log → IsListMode mode
+    → IsListing f log mode range listing
     → r ≡ Refuted step → IsFurtherOf g log mode range listing r → length listing.sets.items ≤ limit
     → IsAllOf f log mode range limit listing.sets.items step
 further_refuted f g h log mode range limit listing r step left right kept listed is same found room =

@@ -1,5 +1,5 @@
 -- Lists of all sets of a mode.
-use Rattle.std.specs.Prelude.{ℕ, ◌≤◌, length, true, false, Bool, List, [], ◌∷◌, map, Contains}
+use Rattle.std.specs.Prelude.{ℕ, ◌≤◌, length, true, false, Bool, List, ◌∷◌, map, Contains}
 use Rattle.semantics.specs.Frameworks.{Framework}
 use Rattle.semantics.specs.Laws.{HasSameMembers}
 use Rattle.semantics.specs.Sets.{IsListed}

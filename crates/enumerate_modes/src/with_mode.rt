@@ -56,8 +56,8 @@ pub fn all_with_mode<O: Oracle>(
     list_on(alloc, oracle, budget, mode, &[], limit, listing)
 }
 
-/// All admissible sets with these members of the framework in their range, of which one is known, at most so many. Where
-/// there are k, it asks k times.
+/// All admissible sets with these members of the framework in their range, of which one is known, at most so many.
+/// Where there are k, it asks k times.
 pub fn all_with_range<O: Oracle>(
     alloc: Global,
     oracle: &mut O,
@@ -80,7 +80,16 @@ pub fn all_with_range<O: Oracle>(
         sets: Vec::new(alloc),
         asks: Items::new(alloc),
     };
-    let room = record_set(alloc, oracle, budget, Atom::Ad, range, limit, &mut listing, known)?;
+    let room = record_set(
+        alloc,
+        oracle,
+        budget,
+        Atom::Ad,
+        range,
+        limit,
+        &mut listing,
+        known,
+    )?;
     if !room {
         return Ok(Listed::TooMany);
     }
@@ -114,7 +123,16 @@ fn list_on<O: Oracle>(
         match further(alloc, oracle, budget, mode, range, &listing)? {
             Found::Refuted(step) => return Ok(Listed::Whole(listing.sets, step)),
             Found::Set(set) => {
-                let room = record_set(alloc, oracle, budget, mode, range, limit, &mut listing, &set)?;
+                let room = record_set(
+                    alloc,
+                    oracle,
+                    budget,
+                    mode,
+                    range,
+                    limit,
+                    &mut listing,
+                    &set,
+                )?;
                 if !room {
                     return Ok(Listed::TooMany);
                 }
@@ -165,7 +183,8 @@ fn record_set<O: Oracle>(
 ) -> Result<bool, Halt>
     requires mode { IsListMode mode }
     requires listing { IsListing (O.framework oracle.old) (O.log oracle.old) mode range.now listing.old }
-    requires set { IsFurtherOf (O.framework oracle.old) (O.log oracle.old) mode range.now listing.old (Found.Set set.now) }
+    requires set { IsFurtherOf (O.framework oracle.old) (O.log oracle.old) mode range.now listing.old
+        (Found.Set set.now) }
     ensures records { IfOk result (Records (O.framework oracle.old) (O.log oracle.new) mode range.now limit set.now
         listing.old listing.new) }
     ensures run { HasRun (MadeDiffers (O.framework oracle.old)) 0 (O.framework oracle.old) (O.log oracle.old)

@@ -1,12 +1,11 @@
 -- Lists of all preferred sets.
-use Rattle.std.proofs.Common.{◌≡◌, inl, inr, ⊎_elim, ℕ, ◌+◌, ◌*◌, ◌<◌, ◌≤◌, true, false, Bool, List, [], ◌∷◌, ◌++◌, length, filter, refl, ap, sym, subst, ◌∙◌, arith}
+use Rattle.std.proofs.Common.{◌≡◌, inl, inr, ℕ, ◌+◌, ◌*◌, ◌<◌, ◌≤◌, true, false, Bool, List, [], ◌∷◌, ◌++◌, length, filter, refl, ap, sym, subst, ◌∙◌, arith}
 use Rattle.std.specs.Prelude.{Contains, Result, Ok, Err, IfOk}
 use Rattle.std.proofs.lemmas.List.{length-append}
 use Rattle.plain_lists.specs.Members.{IsWithin}
 use Rattle.plain_lists.proofs.Membership.{Contains-nil, Contains-head}
 use Rattle.plain_lits.specs.declared.halt.Halt.{Halt}
 use Rattle.semantics.specs.Frameworks.{Framework, af}
-use Rattle.semantics.specs.Laws.{HasSameMembers}
 use Rattle.meaning_atoms.specs.declared.atom.Atom.TheVariants.{Ad}
 use Rattle.meaning_atoms.specs.Literals.{affirmed}
 use Rattle.meaning_atoms.specs.Worlds.{HoldsOf}
@@ -215,7 +214,8 @@ all_found (af f) log limit found step kept h room refuted =
     }
 
 pub all_refuted : (f g h : Framework) (log : OracleLog) (limit : ℕ) (found : Preferred) (r : Found) (step : ℕ)
-    → g ≡ f → h ≡ f → IsKept h log → AreFound f log found → length found.sets.items ≤ limit → r ≡ Refuted step → IsUncovered g log found r
+    → g ≡ f → h ≡ f → IsKept h log → AreFound f log found → length found.sets.items ≤ limit → r ≡ Refuted step
+    → IsUncovered g log found r
     → IsAllPreferred f log limit found.sets.items step
 all_refuted f g h log limit found r step left right kept are room is last =
     all_found f log limit found step (subst (λ (x : Framework). IsKept x log) right kept) are room

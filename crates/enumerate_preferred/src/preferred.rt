@@ -22,8 +22,8 @@ struct Preferred {
     asks: Items<AskId>,
 }
 
-/// All preferred sets, at most so many. Where there are k, it asks k + 1 times for a set that lies in none of those found,
-/// besides what it asks to grow each.
+/// All preferred sets, at most so many. Where there are k, it asks k + 1 times for a set that lies in none of those
+/// found, besides what it asks to grow each.
 pub fn all_preferred<O: Oracle>(
     alloc: Global,
     oracle: &mut O,

@@ -33,7 +33,7 @@ use Rattle.certificate_laws.proofs.WidestSets.{all_semi_stable, widest_semi_stab
 use Rattle.oracle_face.specs.declared.face.Found.{Found}
 use Rattle.oracle_face.specs.declared.face.Found.TheVariants.{Set, Refuted}
 use Rattle.oracle_face.specs.declared.face.Pending.{Pending}
-use Rattle.oracle_face.specs.Goals.{DeniesSide, IsClaimSide, Refutes}
+use Rattle.oracle_face.specs.Goals.{DeniesSide, Refutes}
 use Rattle.oracle_face.specs.Growing.{Grows, HasRun, IsFound, Making, OnlySide}
 use Rattle.oracle_face.specs.Kinds.{IsRanged}
 use Rattle.oracle_face.specs.Logs.{IsKept, IsLog, IsSameClause, OracleLog, SideClause}
@@ -54,7 +54,7 @@ use Rattle.enumerate_modes.specs.Modes.{IsAllOf, IsAllOrMore as IsListedOrMore, 
 use Rattle.enumerate_modes.specs.Ordered.{HasMore, Precedes, TheyDiffer}
 use Rattle.enumerate_modes.proofs.OrderedLemmas.{not_both_ways, not_itself, they_differ}
 use Rattle.enumerate_ranges.specs.declared.ranges.Ranges.{Ranges}
-use Rattle.enumerate_ranges.specs.Marks.{GainsFirst, IsNewPair, IsPaired, mark_at, marked_steps}
+use Rattle.enumerate_ranges.specs.Marks.{GainsFirst, IsPaired, mark_at, marked_steps}
 use Rattle.enumerate_ranges.specs.Ranges.{AreFound, AreRefuted, Gains, GrowsRange, IsAllSemiStable, IsMark, IsUncovered, MadeForRanges, Records}
 use Rattle.enumerate_ranges.proofs.StepLemmas.{first_of, firsts_refuted, refuted_first, refuted_member}
 
@@ -363,7 +363,8 @@ old_mark : (f : Framework) (log : OracleLog) (old : Ranges) (w range : List ℕ)
     → ((x : List ℕ) → Contains more x → IsAmong f Ad range x) → Contains old.sets.items s → (mark : Option ℕ)
     → IsMark f log old.sets.items s mark → IsMark f log new s mark
 old_mark f log old w range n new more s h are m each c (Some step) is = (
-  refutes_more f log (affirmed Ad ∷ are_ranged (range_of f s)) (map (differs f) (filter (same_range f s) old.sets.items))
+  refutes_more f log (affirmed Ad ∷ are_ranged (range_of f s)) (map (differs f) (filter (same_range f s)
+      old.sets.items))
       (map (differs f) (filter (same_range f s) new)) step
       (λ side k.
       let from = Contains-from_mapped (differs f) (filter (same_range f s) old.sets.items) side k in
@@ -440,7 +441,8 @@ range_asks f log old w range x n new more asks h are m each c is =
     (group_alike f log old w range y w n h among own) in
     let ask : IsAskOf log.sides (wider f x) n =
     subst (λ (clause : List AtomLit). IsAskOf log.sides clause n) (alike x (each x c)) h.ask in
-    let middle = asks_more (wider f) log.sides sets (sets ++ x ∷ []) x old.asks asks n (pushed sets x) is ask are.asks in
+    let middle = asks_more (wider f) log.sides sets (sets ++ x ∷ []) x old.asks asks n (pushed sets x) is ask are.asks
+    in
     asks_again (wider f) log.sides (sets ++ x ∷ []) new asks
     (λ s k. ⊎_elim (λ o. m.keeps s o)
     (λ e. subst (λ (y : List ℕ). Contains new y) (sym e) (m.gains x c)) ((pushed sets x s).0 k))
@@ -660,7 +662,8 @@ pub then_call : (f g : Framework) (m n most : ℕ) (a b c : OracleLog) (p q : Op
     → HasRun (MadeForRanges g) n g b c q v w halt → HasRun (MadeForRanges f) most f a c q u w halt
 then_call f g m n most a b c p q u v w halt e few h k =
     then_made (MadeForRanges f) (MadeForRanges g) f g m n most a b c p q u v w halt e
-    (subst (λ (x : Framework). Makes (MadeForRanges x) (MadeForRanges f)) (sym e) (makes_same (MadeForRanges f))) few h k
+    (subst (λ (x : Framework). Makes (MadeForRanges x) (MadeForRanges f)) (sym e) (makes_same (MadeForRanges f))) few h
+    k
 
 pub then_listed : (f g : Framework) (m n most : ℕ) (a b c : OracleLog) (p q : Option Pending) (u v w : Units)
     (halt : Option Halt) → g ≡ f → m + n ≤ most → HasRun (MadeForRanges f) m f a b p u v None
@@ -734,13 +737,15 @@ pub apart_grown : (f h : Framework) (first log after : OracleLog) (old mid : Ran
     → (s : List ℕ) → Contains mid.sets.items s → Contains more s → ⊥
 apart_grown f h first log after old mid set range widest room step sets more r same kept later_kept open_set are grows
     later g is whole all list s c d =
-    let state = grown f h (MadeDiffers h) first log after old mid set widest same kept later_kept open_set are grows later g in
+    let state = grown f h (MadeDiffers h) first log after old mid set widest same kept later_kept open_set are grows
+    later g in
     apart_from_old f after old widest.set widest.range g.number sets.items state.range
     (listed_all f h after range widest.range room step sets r same is whole all).each s
     (subst (λ (v : Vec (List ℕ) Global). Contains v.items s) g.sets c)
     (subst (λ (xs : List (List ℕ)). Contains xs s) list d)
 
-pub gains_grown : (f h : Framework) (first log after : OracleLog) (limit : ℕ) (old mid new : Ranges) (set range : List ℕ)
+pub gains_grown : (f h : Framework) (first log after : OracleLog) (limit : ℕ) (old mid new : Ranges) (set
+    range : List ℕ)
     (widest : Widest) (room step : ℕ) (sets : Vec (List ℕ) Global) (more : List (List ℕ)) (r : Listed) → h ≡ f
     → IsKept f first → IsKept h log → IsUncovered f first old (Set set) → AreFound f first old
     → Grows (MadeForRanges f) first log → Grows (MadeDiffers h) log after → GrowsRange f log set old mid widest
@@ -748,9 +753,11 @@ pub gains_grown : (f h : Framework) (first log after : OracleLog) (limit : ℕ) 
     → length mid.sets.items + room ≤ limit
     → GainsFirst more (length more) step mid.sets.items new.sets.items mid.marks.items new.marks.items
     → new.asks ≡ mid.asks → Gains f after limit old new
-gains_grown f h first log after limit old mid new set range widest room step sets more r same kept later_kept open_set are
+gains_grown f h first log after limit old mid new set range widest room step sets more r same kept later_kept open_set
+    are
     grows later g is whole all list fits gains asks =
-    let state = grown f h (MadeDiffers h) first log after old mid set widest same kept later_kept open_set are grows later g in
+    let state = grown f h (MadeDiffers h) first log after old mid set widest same kept later_kept open_set are grows
+    later g in
     gains_range f after limit room old new widest.set widest.range g.number step sets.items state.range state.found
     (listed_all f h after range widest.range room step sets r same is whole all)
     (omega (arith, ap (λ (v : Vec (List ℕ) Global). length v.items) g.sets, fits))
@@ -768,15 +775,18 @@ pub more_grown : (f h : Framework) (first log after : OracleLog) (limit : ℕ) (
     → Grows (MadeForRanges f) first log → Grows (MadeDiffers h) log after → GrowsRange f log set old mid widest
     → range ≡ widest.range → r ≡ TooMany → IsListedOrMore h after Ad range room r
     → limit ≤ length mid.sets.items + room → HasMore (IsExtension f SemiStable) limit
-more_grown f h first log after limit old mid set range widest room r same kept later_kept open_set are grows later g is many
+more_grown f h first log after limit old mid set range widest room r same kept later_kept open_set are grows later g is
+    many
     all fits =
-    let state = grown f h (MadeDiffers h) first log after old mid set widest same kept later_kept open_set are grows later g in
+    let state = grown f h (MadeDiffers h) first log after old mid set widest same kept later_kept open_set are grows
+    later g in
     has_more f after limit room old widest.set widest.range g.number state.range state.found
     (omega (arith, ap (λ (v : Vec (List ℕ) Global). length v.items) g.sets, fits))
     (listed_more f h after range widest.range room r same is many all)
 
 -- a set with a widest range stays one while the log grows
-pub widest_kept : (f : Framework) (before after : OracleLog) (P : Making) (h : Framework) (set : List ℕ) (widest : Widest)
+pub widest_kept : (f : Framework) (before after : OracleLog) (P : Making) (h : Framework) (set : List ℕ)
+    (widest : Widest)
     → h ≡ f → IsKept h before → Grows P before after → IsWidestFrom f before Ad set widest
     → IsWidestFrom f after Ad set widest
 widest_kept f before after P h set widest same kept grows is = record {

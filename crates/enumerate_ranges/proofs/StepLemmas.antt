@@ -1,9 +1,8 @@
 -- The steps that refute the claims of a list of semi-stable sets.
-use Rattle.std.proofs.Common.{◌≡◌, inl, inr, ⊎_elim, ℕ, zero, suc, ◌+◌, ◌-◌, ◌<◌, ◌≤◌, ◌&&◌, if◌then◌else◌, Bool, true, false, not, List, [], ◌∷◌, ◌++◌, length, take, map, filter, refl, ap, sym, subst, ◌∙◌, arith}
-use Rattle.std.specs.Prelude.{◌⊎◌, Contains, slice_index_or, Option, Some, None}
-use Rattle.std.specs.List.{list_any}
+use Rattle.std.proofs.Common.{◌≡◌, ⊎_elim, ℕ, zero, suc, ◌+◌, ◌<◌, ◌≤◌, true, false, not, List, [], ◌∷◌, ◌++◌, length, take, map, filter, refl, ap, sym, subst, ◌∙◌, arith}
+use Rattle.std.specs.Prelude.{Contains, slice_index_or, Option, Some, None}
 use Rattle.std.proofs.lemmas.Bool.{and_from, and_parts, cases_Bool, cases_eq, cases_lt, false_from_ne_true, not_from_false}
-use Rattle.std.proofs.lemmas.List.{append-nil, get_or_append_left, get_or_default, get_or_push, get_or-take, length-append, length-map, length-take-le, map-append, take_all, take_more}
+use Rattle.std.proofs.lemmas.List.{append-nil, get_or_append_left, get_or_default, get_or_push, get_or-take, length-append, length-take-le, map-append, take_all, take_more}
 use Rattle.plain_lists.proofs.Filters.{Contains-filter}
 use Rattle.plain_lists.proofs.ListTests.{any_from, any_gives}
 use Rattle.plain_lists.proofs.Membership.{Contains-nil, Contains-head, Contains-tail, Contains-cons_cases}
@@ -119,7 +118,8 @@ stands_before sets i j rise low high less =
     (cases_eq i j)))
     (cases_lt i j)
 
-in_front : (sets : List (List ℕ)) (n j : ℕ) → n ≤ length sets → j < n → Contains (take n sets) (slice_index_or sets j [])
+in_front : (sets : List (List ℕ)) (n j : ℕ) → n ≤ length sets → j < n
+    → Contains (take n sets) (slice_index_or sets j [])
 in_front sets n j within lt =
     let long = length-take-le n sets within in (
       j,
@@ -139,7 +139,8 @@ front_index sets n s within c =
 abbrev front_claims : Framework → List (List ℕ) → ℕ → List Claim
 front_claims f sets n = map (range_listed f sets) (first_ranged f (take n sets))
 
-next_front : (f : Framework) (sets : List (List ℕ)) (n : ℕ) (s : List ℕ) → n < length sets → slice_index_or sets n [] ≡ s
+next_front : (f : Framework) (sets : List (List ℕ)) (n : ℕ) (s : List ℕ) → n < length sets
+    → slice_index_or sets n [] ≡ s
     → take (n + 1) sets ≡ take n sets ++ s ∷ []
 next_front f sets n s lt is = take_more sets n [] lt ∙ ap (λ (x : List ℕ). take n sets ++ x ∷ []) is
 
@@ -210,7 +211,8 @@ pub firsts_refuted : (f : Framework) (log : OracleLog) (sets : List (List ℕ)) 
     → AreRefuted f log (map (range_listed f sets) (first_ranged f sets)) (marked_steps marks)
 firsts_refuted f log sets marks rise same are =
     let h = fronts_refuted f log sets marks rise same are (length sets) (omega arith) in
-    subst (λ (xs : List (List ℕ)). AreRefuted f log (map (range_listed f sets) (first_ranged f xs)) (marked_steps marks))
+    subst (λ (xs : List (List ℕ)). AreRefuted f log (map (range_listed f sets) (first_ranged f xs)) (marked_steps
+    marks))
     (take_all (length sets) sets (omega arith))
     (subst (λ (xs : List (Option ℕ)). AreRefuted f log (front_claims f sets (length sets)) (marked_steps xs))
     (take_all (length sets) marks (omega arith)) h)

@@ -25,8 +25,8 @@ use Rattle.enumerate_ranges.specs.declared.ranges.Ranged.TheVariants.{Whole, Too
 use Rattle.enumerate_ranges.specs.declared.ranges.Ranges.{Ranges}
 use Rattle.enumerate_ranges.specs.Marks.{IsPaired}
 
--- a side clause made from an admissible set: that something is in the range that isn't in its range, or that a set differs
--- from it
+-- a side clause made from an admissible set: that something is in the range that isn't in its range, or that a set
+-- differs from it
 abbrev pub MadeForRanges : Framework → Making
 MadeForRanges f literals set =
     HoldsOf f set Ad × (IsSameClause literals (wider f set) ⊎ IsSameClause literals (differs f set))
@@ -46,8 +46,8 @@ IsMark f log sets s (Some step) =
     × ((t : List ℕ) → Contains sets t → same_range f t s ≡ true → Precedes t s → ⊥)
 IsMark f log sets s None = (t : List ℕ) × Contains sets t × (same_range f t s ≡ true) × Precedes t s
 
--- semi-stable sets, in order and marked, all with each range that one of them has; and different side clauses, each that
--- something is in the range that isn't in that of one of the sets
+-- semi-stable sets, in order and marked, all with each range that one of them has; and different side clauses, each
+-- that something is in the range that isn't in that of one of the sets
 pub record AreFound (f : Framework) (log : OracleLog) (found : Ranges) : Type 0 where
   pub each : (e : List ℕ) → Contains found.sets.items e → IsExtension f SemiStable e
   pub asks : AreAsksOf (wider f) log.sides found.sets.items found.asks
@@ -100,8 +100,8 @@ pub record IsAllSemiStable (f : Framework) (log : OracleLog) (limit : ℕ) (sets
   pub rise : SetsRise sets
   pub one_form : HaveOneForm sets
   pub within : length sets ≤ limit
-  pub refuted : AreRefuted f log (range_cover f [] (first_ranged f sets) ∷ map (range_listed f sets) (first_ranged f sets))
-      steps
+  pub refuted : AreRefuted f log
+      (range_cover f [] (first_ranged f sets) ∷ map (range_listed f sets) (first_ranged f sets)) steps
 
 -- all semi-stable sets, or that there are more than the limit
 abbrev pub IsAllOrMore : Framework → OracleLog → ℕ → Ranged → Type 0

@@ -18,16 +18,17 @@ use std::alloc::Global;
 /// What came of listing semi-stable sets.
 #[derive(Debug, Drop)]
 pub enum Ranged {
-    /// All of them, in the order of their lists; then the log step that shows that each admissible set's range lies in one
-    /// of theirs, and for each set that is the first with its range the one that shows that no other has that range.
+    /// All of them, in the order of their lists; then the log step that shows that each admissible set's range lies in
+    /// one of theirs, and for each set that is the first with its range the one that shows that no other has that
+    /// range.
     Whole(Vec<NumSet>, Items<StepId>),
     /// More than the limit were found.
     TooMany,
 }
 
-/// Semi-stable sets found, in the order of their lists, all with each range that is there. Each that is the first with its
-/// range is marked with the log step that shows that no other has the range. The side clauses are those that something is
-/// in the range that isn't in one of these ranges.
+/// Semi-stable sets found, in the order of their lists, all with each range that is there. Each that is the first with
+/// its range is marked with the log step that shows that no other has the range. The side clauses are those that
+/// something is in the range that isn't in one of these ranges.
 #[derive(Debug, Drop)]
 struct Ranges {
     sets: Vec<NumSet>,
@@ -35,8 +36,8 @@ struct Ranges {
     asks: Items<AskId>,
 }
 
-/// All semi-stable sets, at most so many. Where they have k ranges, it asks k + 1 times for a range that lies in none of
-/// those found, and within each range as often as there are sets with it, besides what it asks to grow each range.
+/// All semi-stable sets, at most so many. Where they have k ranges, it asks k + 1 times for a range that lies in none
+/// of those found, and within each range as often as there are sets with it, besides what it asks to grow each range.
 pub fn all_semi_stable<O: Oracle>(
     alloc: Global,
     oracle: &mut O,
@@ -121,8 +122,8 @@ fn grow_range<O: Oracle>(
     Ok(widest)
 }
 
-/// Lists all sets with a widest range that holds that of the one that was found. False says that the list is longer than
-/// the limit then.
+/// Lists all sets with a widest range that holds that of the one that was found. False says that the list is longer
+/// than the limit then.
 fn record_range<O: Oracle>(
     alloc: Global,
     oracle: &mut O,
@@ -144,10 +145,23 @@ fn record_range<O: Oracle>(
     let _members = oracle.members();
     let widest = grow_range(alloc, oracle, budget, found, set)?;
     let room = limit - found.sets.len();
-    match all_with_range(alloc, oracle, budget, widest.range.as_slice(), room, &widest.set)? {
+    match all_with_range(
+        alloc,
+        oracle,
+        budget,
+        widest.range.as_slice(),
+        room,
+        &widest.set,
+    )? {
         Listed::TooMany => Ok(false),
         Listed::Whole(sets, step) => {
-            insert_all(alloc, &mut found.sets, &mut found.marks, sets.as_slice(), step)?;
+            insert_all(
+                alloc,
+                &mut found.sets,
+                &mut found.marks,
+                sets.as_slice(),
+                step,
+            )?;
             Ok(true)
         }
     }

@@ -236,7 +236,8 @@ pub same_outside : (f : Framework) (d e : List ℕ) → IsSameClause (outside f 
 same_outside f d e same live x c =
     ⊎_elim (λ k. k)
     (λ out.
-    let m = outside_form f e (affirmed (Member x)) (same.there (affirmed (Member x)) (in_outside f d x (live x c) out)) in
+    let m = outside_form f e (affirmed (Member x)) (same.there (affirmed (Member x)) (in_outside f d x (live x c) out))
+    in
     absurd (m.2 (subst (λ (y : ℕ). Contains e y) (sym (member_of m.0 x m.3)) c)))
     (decide_member d x)
 

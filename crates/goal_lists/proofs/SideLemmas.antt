@@ -6,7 +6,7 @@ use Rattle.plain_lists.proofs.Membership.{Contains-nil, Contains-cons_cases, Con
 use Rattle.plain_lits.proofs.HintCheckLemmas.{Contains-mapped}
 use Rattle.semantics.specs.Frameworks.{Framework}
 use Rattle.meaning_atoms.specs.declared.atom.Atom.{Atom}
-use Rattle.meaning_atoms.specs.declared.atom.Atom.TheVariants.{Member, Range, Ask}
+use Rattle.meaning_atoms.specs.declared.atom.Atom.TheVariants.{Member, Range}
 use Rattle.meaning_atoms.specs.declared.atom.AtomLit.{AtomLit}
 use Rattle.meaning_atoms.specs.Literals.{affirmed, denied, AsksNothing}
 use Rattle.meaning_atoms.specs.Worlds.{world_of, IsTrueAlone}
@@ -125,7 +125,8 @@ pub asks_true : (f : Framework) (log : OracleLog) (side : List ℕ → List Atom
     → IsTrueAlone (world_of f set) (side e)
 asks_true f log side sets mode ins outs ranged asks set h makes e c =
     let m = h.all e c in
-    asked_true f log (goals_of mode ins outs ranged asks) set m.0 (side e) (asked_there mode ins outs ranged asks m.0 m.1)
+    asked_true f log (goals_of mode ins outs ranged asks) set m.0 (side e) (asked_there mode ins outs ranged asks m.0
+    m.1)
     m.2.number m.2.same makes
 
 -- the claim's goals have what is asked beside them

@@ -1,7 +1,6 @@
-use Rattle.std.proofs.Common.{◌≡◌, ◌+◌, ◌*◌, ◌≤◌, length, subst, sym, arith}
-use Rattle.plain_lits.specs.declared.halt.Halt.TheVariants.{Memory}
+use Rattle.std.proofs.Common.{◌+◌, ◌*◌, length, subst, sym}
 use Rattle.iccma_tasks.specs.declared.task.Semantics.TheVariants.{SemiStable}
-use Rattle.goal_lists.proofs.Calls.{makes_same, run_handed, then_refused}
+use Rattle.goal_lists.proofs.Calls.{run_handed}
 use Rattle.enumerate_block.specs.Extensions.{IsListOf, MadeForAll}
 use Rattle.enumerate_block.proofs.ExtensionLemmas.{is_widest, run_widest}
 use Rattle.enumerate_block.proofs.extensions.all_widest.Goals as goal

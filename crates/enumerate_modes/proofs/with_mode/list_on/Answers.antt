@@ -1,4 +1,4 @@
-use Rattle.std.proofs.Common.{◌∙◌, ◌+◌, ◌≤◌, subst, sym, refl, arith}
+use Rattle.std.proofs.Common.{◌∙◌, ◌+◌, ◌≤◌, subst, sym, arith}
 use Rattle.plain_lists.specs.Members.{IsWithin}
 use Rattle.certificate_claims.specs.SetLiterals.{members}
 use Rattle.goal_lists.proofs.Calls.{closes_refuted, closes_set, run_handed}

@@ -39,7 +39,8 @@ pub returns-in_err-ask-clause-run : goal.returns-in_err-ask-clause-run
 returns-in_err-ask-clause-run g c =
     let f = g.O.Oracle.framework c.args.oracle.now in
     let e = c.args.set.now in
-    let ok = mode_admissible f e c.args.mode c.members.ensures.kept.numbered c.requires.mode c.requires.set.0.has_mode in
+    let ok = mode_admissible f e c.args.mode c.members.ensures.kept.numbered c.requires.mode c.requires.set.0.has_mode
+    in
     let makes = makes_differs f e c.deref.result.now ok
     (c.deref.ensures.value ∙ c.in_ok-side.ensures f c.members.ensures.value) in
     let few : 0 ≤ 0 = omega arith in
@@ -50,7 +51,8 @@ pub returns-in_err-push-clause-run : goal.returns-in_err-push-clause-run
 returns-in_err-push-clause-run g c =
     let f = g.O.Oracle.framework c.args.oracle.now in
     let e = c.args.set.now in
-    let ok = mode_admissible f e c.args.mode c.members.ensures.kept.numbered c.requires.mode c.requires.set.0.has_mode in
+    let ok = mode_admissible f e c.args.mode c.members.ensures.kept.numbered c.requires.mode c.requires.set.0.has_mode
+    in
     let makes = makes_differs f e c.deref.result.now ok
     (c.deref.ensures.value ∙ c.in_ok-side.ensures f c.members.ensures.value) in
     let few : 0 ≤ 0 = omega arith in
@@ -81,7 +83,8 @@ pub returns-clause-run : goal.returns-clause-run
 returns-clause-run g c =
     let f = g.O.Oracle.framework c.args.oracle.now in
     let e = c.args.set.now in
-    let ok = mode_admissible f e c.args.mode c.members.ensures.kept.numbered c.requires.mode c.requires.set.0.has_mode in
+    let ok = mode_admissible f e c.args.mode c.members.ensures.kept.numbered c.requires.mode c.requires.set.0.has_mode
+    in
     let makes = makes_differs f e c.deref.result.now ok
     (c.deref.ensures.value ∙ c.in_ok-side.ensures f c.members.ensures.value) in
     let few : 0 ≤ 0 = omega arith in

@@ -70,7 +70,8 @@ returns-clause-records g c =
     let new = c.insert_in_order.new.sets.items in
     let side = c.deref.ensures.value ∙ (c.in_ok-side.ensures h c.members.ensures.value
     ∙ ap (λ x. outside x e) c.in_ok-maximal.ensures.framework) in
-    gains_one f log c.args.limit found (record { sets = c.insert_in_order.new.sets; asks = c.push.new.self }) e c.in_ok-ask.ask
+    gains_one f log c.args.limit found (record { sets = c.insert_in_order.new.sets; asks = c.push.new.self }) e
+    c.in_ok-ask.ask
     (found_grown f (OnlySide c.deref.result.now e) middle log found c.in_ok-ask.ensures.run.grows
     (found_grown f (MadeOutside f) first middle found c.in_ok-maximal.ensures.run.grows c.requires.found))
     c.in_ok-maximal.ensures.maximal.preferred

@@ -1,4 +1,4 @@
-use Rattle.std.proofs.Common.{◌≡◌, ◌∷◌, ◌∙◌, ◌+◌, ◌*◌, ◌≤◌, ap, length, arith}
+use Rattle.std.proofs.Common.{◌∷◌, ◌∙◌, ◌+◌, ◌*◌, ◌≤◌, ap, length, arith}
 use Rattle.plain_lits.specs.declared.halt.Halt.TheVariants.{Memory}
 use Rattle.goal_lists.proofs.Calls.{closes_refuted, closes_set, makes_same, run_handed, then_refused}
 use Rattle.enumerate_ranges.specs.Marks.{marked_steps}

@@ -1,4 +1,4 @@
-use Rattle.std.proofs.Common.{◌≡◌, ◌∙◌, ◌≤◌, ap, refl, subst, sym, arith}
+use Rattle.std.proofs.Common.{◌∙◌, ◌≤◌, ap, refl, subst, sym, arith}
 use Rattle.plain_lists.specs.Members.{IsSetOf}
 use Rattle.plain_lits.specs.declared.halt.Halt.TheVariants.{Memory}
 use Rattle.certificate_claims.specs.SetLiterals.{wider}
