@@ -1,2 +1,1 @@
-pub mod ModeLemmas
-pub mod OrderedLemmas
+pub mod ExtensionLemmas

@@ -1,7 +1,7 @@
-//! All extensions by an oracle, in the order of their lists.
+//! All extensions by an oracle, in the order of their lists, with the steps that refute the claims of their
+//! certificate.
 #![tactic(auto)]
 
-mod ordered;
-mod with_mode;
+mod extensions;
 
-pub use with_mode::{Listed, all_with_mode};
+pub use extensions::{Extensions, all};

@@ -1,7 +1,7 @@
 -- What goals and side clauses about sets say, and that an oracle may be asked them.
 use Rattle.std.proofs.Common.{◌≡◌, inl, inr, ⊎_elim, ℕ, Bool, true, false, not, List, ◌++◌, filter, refl, ap, sym, subst}
 use Rattle.std.specs.Prelude.{Contains, ◌⊎◌, slice_index_or}
-use Rattle.std.proofs.lemmas.Bool.{not_from_false, false_from_ne_true}
+use Rattle.std.proofs.lemmas.Bool.{cases_Bool, not_from_false, false_from_ne_true}
 use Rattle.std.proofs.lemmas.List.Elements.{Contains-append_left, Contains-append_right, Contains-append_cases}
 use Rattle.plain_lists.specs.Members.{IsWithin}
 use Rattle.plain_lists.proofs.Filters.{Contains-filter}
@@ -11,6 +11,7 @@ use Rattle.plain_lits.proofs.HintCheckLemmas.{Contains-mapped, Contains-from_map
 use Rattle.semantics.specs.Arguments.{IsArgument}
 use Rattle.semantics.specs.Framework.{Af, IsRangeWithin}
 use Rattle.semantics.specs.Frameworks.{Framework, af, IsNumbered, IsNumberedAf}
+use Rattle.semantics.proofs.Decided.{decide_member}
 use Rattle.meaning_atoms.specs.declared.atom.Atom.{Atom}
 use Rattle.meaning_atoms.specs.declared.atom.Atom.TheVariants.{Member, Range, Tail, Cf, Ad, Co, St, Ask}
 use Rattle.meaning_atoms.specs.declared.atom.AtomLit.{AtomLit}
@@ -24,7 +25,7 @@ use Rattle.certificate_claims.specs.SetLiterals.{has, is_ranged, members, are_in
 use Rattle.oracle_face.specs.Logs.{OracleLog, SideClause, IsNumberOf, IsSameClause, side_at}
 use Rattle.oracle_face.specs.Goals.{AreGoals, AsksSide, IsClaimSide, IsGoal, IsMode, IsOneSided, IsSide, IsWithinClaim, MakesTrue, SpeaksOf, Tells}
 use Rattle.oracle_face.proofs.StepTruth.{side_literals}
-use Rattle.goal_lists.specs.Asking.{are_asked, goals_of, IsPlaced}
+use Rattle.goal_lists.specs.Asking.{are_asked, goals_of, IsAskable, IsPlaced}
 
 lacks_not : (b : Bool) → b ≡ true → not b ≡ true → ⊥
 lacks_not true h k = absurd (cc)
@@ -126,16 +127,6 @@ asked_there mode ins outs ranged asks n c =
     (Contains-mapped (λ x. affirmed (Ask x)) asks n c))))
 
 -- ---- goals that an oracle may be asked
-
--- a goal that is no side clause's, and asks for members of the framework alone; its side clauses speak of such members
-pub record IsAskable (f : Framework) (sides : List SideClause) (mode : Atom)
-    (ins outs ranged asks : List ℕ) : Type 0 where
-  pub moded : IsMode mode
-  pub in_members : IsWithin ins (members f)
-  pub out_members : IsWithin outs (members f)
-  pub ranged_members : IsWithin ranged (members f)
-  pub apart : (a : ℕ) → Contains ins a → Contains outs a → ⊥
-  pub asked : (n : ℕ) → Contains asks n → IsNumberOf sides n × SpeaksOf f (side_at sides n).literals
 
 placed_goal : (f : Framework) (sides : List SideClause) (mode : Atom) (ins outs ranged asks : List ℕ)
     → IsAskable f sides mode ins outs ranged asks → (atom : Atom) (positive : Bool)
@@ -239,12 +230,39 @@ in_outside f e x live out =
 pub member_of : (a x : ℕ) → affirmed (Member a) ≡ affirmed (Member x) → a ≡ x
 member_of a x e = ap (λ (l : AtomLit). slice_index_or (numbers_of l.atom) 0 0) e
 
+-- of two sets with the same side clause the one lies in the other
+pub same_outside : (f : Framework) (d e : List ℕ) → IsSameClause (outside f d) (outside f e) → IsWithin e (members f)
+    → IsWithin e d
+same_outside f d e same live x c =
+    ⊎_elim (λ k. k)
+    (λ out.
+    let m = outside_form f e (affirmed (Member x)) (same.there (affirmed (Member x)) (in_outside f d x (live x c) out))
+    in
+    absurd (m.2 (subst (λ (y : ℕ). Contains e y) (sym (member_of m.0 x m.3)) c)))
+    (decide_member d x)
+
 pub wider_form : (f : Framework) (e : List ℕ) (l : AtomLit) → Contains (wider f e) l
     → (a : ℕ) × Contains (members f) a × (is_ranged f e a ≡ true → ⊥) × (affirmed (Range a) ≡ l)
 wider_form f e l c =
     let m = ranged_form (filter (λ x. not (is_ranged f e x)) (members f)) l c in
     let k = (Contains-filter (λ x. not (is_ranged f e x)) (members f) m.0).0 m.1 in
     (m.0, k.0, (λ h. lacks_not (is_ranged f e m.0) h k.1), m.2)
+
+-- a literal of the range has one number
+pub ranged_of : (a x : ℕ) → affirmed (Range a) ≡ affirmed (Range x) → a ≡ x
+ranged_of a x e = ap (λ (l : AtomLit). slice_index_or (numbers_of l.atom) 0 0) e
+
+-- of two sets with the same side clause the one's range lies in the other's
+pub same_wider : (f : Framework) (d e : List ℕ) → IsSameClause (wider f d) (wider f e) → (x : ℕ)
+    → Contains (members f) x → is_ranged f e x ≡ true → is_ranged f d x ≡ true
+same_wider f d e same x live h =
+    ⊎_elim (λ k. k)
+    (λ out.
+    let there = Contains-mapped (λ a. affirmed (Range a)) (filter (λ y. not (is_ranged f d y)) (members f)) x
+    ((Contains-filter (λ y. not (is_ranged f d y)) (members f) x).1 (live, not_from_false (is_ranged f d x) out)) in
+    let m = wider_form f e (affirmed (Range x)) (same.there (affirmed (Range x)) there) in
+    absurd (m.2 (subst (λ (y : ℕ). is_ranged f e y ≡ true) (sym (ranged_of m.0 x m.3)) h)))
+    (cases_Bool (is_ranged f d x))
 
 pub outside_speaks : (f : Framework) (e : List ℕ) → SpeaksOf f (outside f e)
 outside_speaks f e l c =

@@ -1,13 +1,15 @@
 -- What two calls of an oracle leave, and what a search for goals about sets finds.
-use Rattle.std.proofs.Common.{◌≡◌, ⊎_elim, ℕ, ◌+◌, ◌≤◌, true, List, [], ◌∷◌, ◌++◌, length, sym, subst, ◌∙◌, eqb, arith}
+use Rattle.std.proofs.Common.{◌≡◌, ⊎_elim, ℕ, ◌+◌, ◌<◌, ◌≤◌, true, List, [], ◌∷◌, ◌++◌, length, ap, sym, subst, ◌∙◌, eqb, arith}
 use Rattle.std.specs.Prelude.{Contains, slice_index_or, get_or, Option, None, Some, Result, Ok, Err}
 use Rattle.std.proofs.lemmas.Bool.{cases_lt, eqb-true, false≢true, ne_eqb}
 use Rattle.std.specs.Result.{IsErr, IsErrAnd}
+use Rattle.std.proofs.lemmas.List.Elements.{Contains-append_cases}
 use Rattle.std.proofs.lemmas.List.{get_or_append_left, get_or_default, get_or_push, length-append}
 use Rattle.std.proofs.lemmas.Map.Keys.{IsDistinct-from_apart}
 use Rattle.std.proofs.lemmas.Map.Steps.{length-le_from_distinct_below}
 use Rattle.plain_lists.specs.Members.{IsWithin}
 use Rattle.plain_lists.proofs.ListTests.{any_gives}
+use Rattle.plain_lists.proofs.Membership.{Contains-nil, Contains-cons_cases}
 use Rattle.plain_lits.specs.declared.halt.Halt.{Halt}
 use Rattle.plain_lits.specs.declared.halt.Halt.TheVariants.{Memory}
 use Rattle.plain_lits.specs.Units.{Units}
@@ -20,6 +22,7 @@ use Rattle.meaning_atoms.specs.Literals.{affirmed, denied}
 use Rattle.meaning_atoms.specs.Worlds.{world_of, Holds, HoldsOf, Says}
 use Rattle.certificate_claims.specs.SetLiterals.{members}
 use Rattle.oracle_face.specs.declared.face.Found.{Found}
+use Rattle.oracle_face.specs.declared.face.Found.TheVariants.{Set, Refuted}
 use Rattle.oracle_face.specs.declared.face.Pending.{Pending}
 use Rattle.oracle_face.specs.Goals.{IsMode, MakesTrue}
 use Rattle.oracle_face.specs.Growing.{Making, NoSide, OnlySide, HasRun, closes, halt_of}
@@ -52,6 +55,28 @@ pub then_refused : (P Q : Making) (m most : ℕ) (f : Framework) (a b : OracleLo
 then_refused P Q m most f a b p u v makes few h =
     run_joined P P Q m 0 most f a b b p p u v v (Some Memory) makes makes (omega arith) h (run_refused P 0 f b p v)
 
+-- what was left, and then a call that makes side clauses of the kind
+pub then_made : (P Q : Making) (f g : Framework) (m n most : ℕ) (a b c : OracleLog) (p q : Option Pending)
+    (u v w : Units) (halt : Option Halt) → g ≡ f → Makes Q P → m + n ≤ most → HasRun P m f a b p u v None
+    → HasRun Q n g b c q v w halt → HasRun P most f a c q u w halt
+then_made P Q f g m n most a b c p q u v w halt e makes few h k =
+    run_joined P Q P m n most f a b c p q u v w halt (makes_same P) makes few h
+    (subst (λ (x : Framework). HasRun Q n x b c q v w halt) e k)
+
+-- a call that makes no side clause
+pub then_search : (P : Making) (f g : Framework) (m n most : ℕ) (a b c : OracleLog) (p q : Option Pending)
+    (u v w : Units) (halt : Option Halt) → g ≡ f → m + n ≤ most → HasRun P m f a b p u v None
+    → HasRun NoSide n g b c q v w halt → HasRun P most f a c q u w halt
+then_search P f g m n most a b c p q u v w halt e few h k =
+    then_made P NoSide f g m n most a b c p q u v w halt e (makes_none P) few h k
+
+-- how many steps a search logs that only end it, by what it found
+pub closes_set : (r : Found) (set : List ℕ) → r ≡ Set set → closes (Ok r) ≡ 0
+closes_set r set e = ap (λ (x : Found). closes (Ok x)) e
+
+pub closes_refuted : (r : Found) (step : ℕ) → r ≡ Refuted step → closes (Ok r) ≡ 1
+closes_refuted r step e = ap (λ (x : Found). closes (Ok x)) e
+
 -- one more number that is none of them
 pub apart_pushed : (asks : List ℕ) (n : ℕ) → AreApart asks → (Contains asks n → ⊥) → AreApart (asks ++ n ∷ [])
 apart_pushed asks n h out = record {
@@ -68,20 +93,34 @@ apart_pushed asks n h out = record {
       (cases_lt j (length asks));
 }
 
--- as many different side clauses are named as there are, at most
-pub few_asks : (asks : List ℕ) (sides : List SideClause) → AreApart asks
-    → ((n : ℕ) → Contains asks n → IsNumberOf sides n) → length asks ≤ length sides + 1
-few_asks asks sides h named =
-    length-le_from_distinct_below asks (length sides + 1)
-    (IsDistinct-from_apart eqb asks (λ i j d lt high. ne_eqb (get_or asks i d) (get_or asks j d)
+-- as many different numbers as there are below a bound, at most
+few_below : (numbers : List ℕ) (bound : ℕ) → AreApart numbers → ((n : ℕ) → Contains numbers n → n < bound)
+    → length numbers ≤ bound
+few_below numbers bound h below =
+    length-le_from_distinct_below numbers bound
+    (IsDistinct-from_apart eqb numbers (λ i j d lt high. ne_eqb (get_or numbers i d) (get_or numbers j d)
     (λ e. h.apart i j lt high
-    (get_or_default asks i 0 d (omega arith) ∙ (e ∙ get_or_default asks j d 0 high)))))
+    (get_or_default numbers i 0 d (omega arith) ∙ (e ∙ get_or_default numbers j d 0 high)))))
     (λ q t.
-    let m = any_gives (eqb q) asks t in
-    let is = named m.0 m.1 in
-    let high = is.within in
+    let m = any_gives (eqb q) numbers t in
+    let high = below m.0 m.1 in
     let same : q ≡ m.0 = eqb-true q m.0 m.2 in
     omega arith)
+
+-- as many different side clauses are named as there are, at most
+pub asks_fit : (asks : List ℕ) (sides : List SideClause) → AreApart asks
+    → ((n : ℕ) → Contains asks n → IsNumberOf sides n) → length asks ≤ length sides
+asks_fit asks sides h named =
+    let none : Contains asks 0 → ⊥ = λ c. let low = (named 0 c).from_one in absurd (omega arith) in
+    let few = few_below (asks ++ 0 ∷ []) (length sides + 1) (apart_pushed asks 0 h none)
+    (λ n c. ⊎_elim (λ k. let high = (named n k).within in omega arith)
+    (λ k. ⊎_elim (λ (e : 0 ≡ n). omega arith) (λ no. absurd (Contains-nil n no)) (Contains-cons_cases 0 [] n k))
+    (Contains-append_cases asks (0 ∷ []) n c)) in
+    omega (arith, few, length-append asks (0 ∷ []))
+
+pub few_asks : (asks : List ℕ) (sides : List SideClause) → AreApart asks
+    → ((n : ℕ) → Contains asks n → IsNumberOf sides n) → length asks ≤ length sides + 1
+few_asks asks sides h named = let few = asks_fit asks sides h named in omega (arith, few)
 
 -- ---- what is found
 
@@ -128,3 +167,14 @@ pub handed_on : {T : Type 0} (P : Option Halt → Type 0) (r : Result T Halt) (h
     → IsErr r × IsErrAnd r (λ x. x ≡ halt) → P (Some halt) → P (halt_of r)
 handed_on P (Ok x) halt is holds = absurd (false≢true is.0)
 handed_on P (Err x) halt is holds = subst (λ y. P (Some y)) (sym is.1) holds
+
+pub handed_as : {T : Type 0} (P : Result T Halt → Type 0) (r : Result T Halt) (halt : Halt)
+    → IsErr r × IsErrAnd r (λ x. x ≡ halt) → P (Err halt) → P r
+handed_as P (Ok x) halt is holds = absurd (false≢true is.0)
+handed_as P (Err x) halt is holds = subst (λ y. P (Err y)) (sym is.1) holds
+
+-- what a call leaves whose halt is handed on
+pub run_handed : {T : Type 0} (P : Making) (most : ℕ) (f : Framework) (a b : OracleLog) (p : Option Pending)
+    (u v : Units) (r : Result T Halt) (halt : Halt) → IsErr r × IsErrAnd r (λ x. x ≡ halt)
+    → HasRun P most f a b p u v (Some halt) → HasRun P most f a b p u v (halt_of r)
+run_handed P most f a b p u v r halt is h = handed_on (λ x. HasRun P most f a b p u v x) r halt is h

@@ -1,10 +1,12 @@
 -- What falls with each turn of a loop.
 use Rattle.std.proofs.Common.{◌≡◌, ⊎_elim, ℕ, ◌<◌, ◌≤◌, Bool, true, false, not, List, [], ◌∷◌, length, map, filter, refl, ap, subst, ◌∙◌, arith}
 use Rattle.std.specs.Prelude.{Contains}
+use Rattle.std.specs.List.{list_any}
 use Rattle.std.proofs.lemmas.Bool.{cases_Bool, not_from_false, false_from_ne_true}
 use Rattle.std.proofs.lemmas.List.Elements.{Contains-append_left, Contains-append_right}
 use Rattle.plain_lists.specs.Members.{IsWithin}
-use Rattle.plain_lists.proofs.ListTests.{all_from, all_gives}
+use Rattle.plain_lists.proofs.Filters.{Contains-filter}
+use Rattle.plain_lists.proofs.ListTests.{all_from, all_gives, any_from, any_gives}
 use Rattle.plain_lists.proofs.Membership.{Contains-nil, Contains-head, Contains-cons_cases}
 use Rattle.plain_lits.proofs.HintCheckLemmas.{Contains-mapped}
 use Rattle.semantics.proofs.Decided.{search_list, found_in, decide_not, decide_member}
@@ -108,3 +110,32 @@ part_from s t sub = all_from (has t) s (λ x c. has_from t x (sub x c))
 
 pub part_gives : (s t : List ℕ) → is_part s t ≡ true → IsWithin s t
 part_gives s t h x c = has_gives t x (all_gives (has t) s h x c)
+
+-- ---- sets that no listed set covers
+
+-- how many sets of the numbers no listed set covers, as the test says
+abbrev pub left_open : (List ℕ → List ℕ → Bool) → List ℕ → List (List ℕ) → ℕ
+left_open covered numbers sets = length (filter (λ s. not (list_any (covered s) sets)) (all_sets numbers))
+
+-- fewer where more are listed, of which one covers a set that none of those before did
+pub fewer_left : (covered : List ℕ → List ℕ → Bool) (numbers : List ℕ) (old new : List (List ℕ)) (e s : List ℕ)
+    → ((d : List ℕ) → Contains old d → Contains new d) → Contains new e → Contains (all_sets numbers) s
+    → covered s e ≡ true → ((d : List ℕ) → Contains old d → covered s d ≡ true → ⊥)
+    → left_open covered numbers new < left_open covered numbers old
+fewer_left covered numbers old new e s more last there covers none =
+    strictly_fewer (λ t. not (list_any (covered t) old)) (λ t. not (list_any (covered t) new)) (all_sets numbers) s
+    (λ t still. not_from_false (list_any (covered t) old) (false_from_ne_true (list_any (covered t) old)
+    (λ h. let m = any_gives (covered t) old h in
+    not_both (list_any (covered t) new) (any_from (covered t) new m.0 (more m.0 m.1) m.2) still)))
+    there
+    (not_from_false (list_any (covered s) old) (false_from_ne_true (list_any (covered s) old)
+    (λ h. let m = any_gives (covered s) old h in none m.0 m.1 m.2)))
+    (not_true (list_any (covered s) new) (any_from (covered s) new e last covers))
+
+-- the members of a set as one of the framework's sets
+pub same_as_kept : (numbers e : List ℕ) → IsWithin e numbers
+    → IsWithin (filter (has e) numbers) e × IsWithin e (filter (has e) numbers)
+same_as_kept numbers e live = (
+  λ x c. has_gives e x ((Contains-filter (has e) numbers x).0 c).1,
+  λ x c. (Contains-filter (has e) numbers x).1 (live x c, has_from e x c),
+)

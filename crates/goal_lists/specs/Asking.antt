@@ -1,10 +1,14 @@
 -- The goals of the loops: a mode, members and what are none, what is in the range, and side clauses.
 use Rattle.std.specs.Prelude.{◌≡◌, ℕ, ◌<◌, Bool, true, false, List, ◌∷◌, ◌++◌, length, map, Contains, slice_index_or}
+use Rattle.plain_lists.specs.Members.{IsWithin}
+use Rattle.semantics.specs.Frameworks.{Framework}
 use Rattle.meaning_atoms.specs.declared.atom.Atom.{Atom}
 use Rattle.meaning_atoms.specs.declared.atom.Atom.TheVariants.{Member, Range, Cf, Ad, Co, St, Ask}
 use Rattle.meaning_atoms.specs.declared.atom.AtomLit.{AtomLit}
 use Rattle.meaning_atoms.specs.Literals.{affirmed}
-use Rattle.certificate_claims.specs.SetLiterals.{are_in, are_out, are_ranged}
+use Rattle.certificate_claims.specs.SetLiterals.{are_in, are_out, are_ranged, members}
+use Rattle.oracle_face.specs.Goals.{IsMode, SpeaksOf}
+use Rattle.oracle_face.specs.Logs.{IsNumberOf, SideClause, side_at}
 
 -- for each number that the side clause of this number is true
 abbrev pub are_asked : List ℕ → List AtomLit
@@ -30,3 +34,14 @@ IsPlaced ins outs ranged asks _ _ = ⊥
 -- no number stands twice
 pub record AreApart (asks : List ℕ) : Type 0 where
   pub apart : (i j : ℕ) → i < j → j < length asks → slice_index_or asks i 0 ≡ slice_index_or asks j 0 → ⊥
+
+-- such goals may be asked: they speak of members of the framework alone, none is in the set and not in it, and the side
+-- clauses are in the log and speak of such members
+pub record IsAskable (f : Framework) (sides : List SideClause) (mode : Atom)
+    (ins outs ranged asks : List ℕ) : Type 0 where
+  pub moded : IsMode mode
+  pub in_members : IsWithin ins (members f)
+  pub out_members : IsWithin outs (members f)
+  pub ranged_members : IsWithin ranged (members f)
+  pub apart : (a : ℕ) → Contains ins a → Contains outs a → ⊥
+  pub asked : (n : ℕ) → Contains asks n → IsNumberOf sides n × SpeaksOf f (side_at sides n).literals

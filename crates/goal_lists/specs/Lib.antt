@@ -1,3 +1,4 @@
 pub mod AllSets
 pub mod Asking
+pub mod Sides
 pub mod Words

@@ -9,7 +9,8 @@ use oracle_face::AskId;
 use plain_lists::Memory;
 use std::alloc::Global;
 
-/// What a set has to be like: its members and what are none, what is in its range, and which side clauses it makes true.
+/// What a set has to be like: its members and what are none, what is in its range, and which side clauses it makes
+/// true.
 #[derive(Clone, Copy, Debug)]
 pub struct Wanted<'a> {
     pub ins: &'a [u32],

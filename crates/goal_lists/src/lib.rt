@@ -3,6 +3,8 @@
 
 mod goals;
 mod lists;
+mod search;
 
 pub use goals::{Wanted, goals_for};
 pub use lists::{affirmed, attacked, differs, outside, push_in, push_out, push_ranged, wider};
+pub use search::search_for;

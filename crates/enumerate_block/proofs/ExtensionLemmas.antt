@@ -1,0 +1,315 @@
+-- Lists of all extensions by each semantics.
+use Rattle.std.proofs.Common.{◌≡◌, inl, inr, ℕ, ◌+◌, ◌*◌, ◌<◌, List, [], ◌∷◌, length, refl, subst, arith}
+use Rattle.std.specs.Prelude.{Contains, slice_index_or, Option}
+use Rattle.std.proofs.lemmas.List.{get_or_default}
+use Rattle.plain_lists.proofs.Membership.{Contains-nil}
+use Rattle.plain_lits.specs.declared.halt.Halt.{Halt}
+use Rattle.plain_lits.specs.Units.{Units}
+use Rattle.semantics.specs.Framework.{Af, IsAdmissible}
+use Rattle.semantics.specs.Frameworks.{Framework, af}
+use Rattle.semantics.proofs.Grounded.{grounded_exists}
+use Rattle.meaning_atoms.specs.declared.atom.Atom.{Atom}
+use Rattle.meaning_atoms.specs.declared.atom.Atom.TheVariants.{Ad, Co, St}
+use Rattle.meaning_atoms.specs.declared.atom.AtomLit.{AtomLit}
+use Rattle.meaning_atoms.specs.Literals.{affirmed, AsksNothing}
+use Rattle.meaning_atoms.specs.Worlds.{HoldsOf, IsAsk}
+use Rattle.iccma_tasks.specs.declared.task.Semantics.{Semantics}
+use Rattle.iccma_tasks.specs.declared.task.Semantics.TheVariants.{Complete, Grounded, Preferred, Stable, SemiStable, Ideal}
+use Rattle.iccma_tasks.specs.declared.task.Kind.TheVariants.{Af as OfAf}
+use Rattle.iccma_tasks.specs.declared.task.Problem.{Problem}
+use Rattle.iccma_tasks.specs.declared.task.Problem.TheVariants.{AllExtensions}
+use Rattle.iccma_tasks.specs.declared.task.Task.{Task}
+use Rattle.iccma_tasks.specs.Tasks.{HasTask}
+use Rattle.certificate_claims.specs.declared.row.Row.TheVariants.{AllTested, AllLargest, AllWidest, Excluded}
+use Rattle.certificate_claims.specs.Acceptance.{Tests}
+use Rattle.certificate_claims.specs.Claims.{claim_of}
+use Rattle.certificate_claims.specs.Rights.{IsExtension, SetsRise}
+use Rattle.certificate_claims.specs.SetLiterals.{differs, outside, wider}
+use Rattle.certificate_laws.proofs.GoalLists.{asks_cons, asks_nil, fails_mapped, meets_cons, meets_nil, plain_mapped}
+use Rattle.certificate_laws.proofs.KindFacts.{preferred_admissible}
+use Rattle.certificate_laws.proofs.SideClauses.{differs_plain, outside_plain, wider_plain, world_of_admissible}
+use Rattle.oracle_face.specs.declared.face.Pending.{Pending}
+use Rattle.oracle_face.specs.Goals.{Refutes}
+use Rattle.oracle_face.specs.Growing.{HasRun}
+use Rattle.oracle_face.specs.Logs.{IsKept, OracleLog}
+use Rattle.oracle_face.proofs.GrowingLemmas.{Makes, run_as}
+use Rattle.oracle_face.proofs.Refuting.{claim_excluded}
+use Rattle.cegar_preferred.specs.Largest.{MadeOutside}
+use Rattle.enumerate_modes.specs.declared.with_mode.Listed.{Listed}
+use Rattle.enumerate_modes.specs.declared.with_mode.Listed.TheVariants.{Whole, TooMany as MoreThanListed}
+use Rattle.enumerate_modes.specs.Modes.{IsAllOf, IsAllOrMore as IsModeList, IsAmong, IsListMode, MadeDiffers}
+use Rattle.enumerate_modes.specs.Ordered.{HasMore}
+use Rattle.enumerate_modes.proofs.OrderedLemmas.{they_differ}
+use Rattle.enumerate_preferred.specs.Preferred.{IsAllPreferred, IsAllOrMore as IsPreferredList}
+use Rattle.enumerate_preferred.proofs.PreferredLemmas.{none_within}
+use Rattle.enumerate_ranges.specs.declared.ranges.Ranged.{Ranged}
+use Rattle.enumerate_ranges.specs.declared.ranges.Ranged.TheVariants.{Whole as WholeRanged, TooMany as MoreThanRanged}
+use Rattle.enumerate_ranges.specs.Ranges.{IsAllSemiStable, IsAllOrMore as IsRangedList, MadeForRanges}
+use Rattle.enumerate_ranges.proofs.RangeLemmas.{no_range_within, semi_admissible}
+use Rattle.enumerate_ranges.proofs.StepLemmas.{refuted_first, refuted_none}
+use Rattle.enumerate_block.specs.Extensions.{AreExtensions, IsListOf, IsListTask, IsModeOf, MadeForAll, asked_all, with_step, with_steps}
+
+-- ---- the direct tests
+
+index_there : (sets : List (List ℕ)) (i : ℕ) → i < length sets → Contains sets (slice_index_or sets i [])
+index_there sets i lt = (i, lt, get_or_default sets i (slice_index_or sets i []) [] lt)
+
+complete_tests : (f : Framework) (sets : List (List ℕ)) → ((e : List ℕ) → Contains sets e → IsExtension f Complete e)
+    → SetsRise sets → Tests f (asked_all Complete) (AllTested Co sets) sets []
+complete_tests f sets each rise = record {
+  shape = tt;
+  witnesses = λ k lt. each (slice_index_or sets k []) (index_there sets k lt);
+  order = rise;
+  grounded = tt;
+  count = refl;
+  each_set = λ k lt. absurd (omega arith);
+}
+
+stable_tests : (f : Framework) (sets : List (List ℕ)) → ((e : List ℕ) → Contains sets e → IsExtension f Stable e)
+    → SetsRise sets → Tests f (asked_all Stable) (AllTested St sets) sets []
+stable_tests f sets each rise = record {
+  shape = tt;
+  witnesses = λ k lt. each (slice_index_or sets k []) (index_there sets k lt);
+  order = rise;
+  grounded = tt;
+  count = refl;
+  each_set = λ k lt. absurd (omega arith);
+}
+
+none_tests : (f : Framework) → Tests f (asked_all Stable) (Excluded (affirmed St ∷ [])) [] []
+none_tests f = record {
+  shape = tt;
+  witnesses = λ k lt. absurd (omega arith);
+  order = tt;
+  grounded = tt;
+  count = refl;
+  each_set = λ k lt. absurd (omega arith);
+}
+
+preferred_tests : (f : Framework) (sets : List (List ℕ))
+    → ((e : List ℕ) → Contains sets e → IsExtension f Preferred e) → SetsRise sets
+    → Tests f (asked_all Preferred) (AllLargest sets) sets []
+preferred_tests f sets each rise = record {
+  shape = tt;
+  witnesses = λ k lt. preferred_admissible f (slice_index_or sets k [])
+      (each (slice_index_or sets k []) (index_there sets k lt));
+  order = (rise, none_within f sets each);
+  grounded = tt;
+  count = refl;
+  each_set = λ k lt. absurd (omega arith);
+}
+
+semi_stable_tests : (f : Af) (sets : List (List ℕ))
+    → ((e : List ℕ) → Contains sets e → IsExtension (af f) SemiStable e) → SetsRise sets
+    → Tests (af f) (asked_all SemiStable) (AllWidest sets) sets []
+semi_stable_tests f sets each rise = record {
+  shape = tt;
+  witnesses = λ k lt. semi_admissible (af f) (slice_index_or sets k [])
+      (each (slice_index_or sets k []) (index_there sets k lt));
+  order = (rise, no_range_within f sets each);
+  grounded = tt;
+  count = refl;
+  each_set = λ k lt. absurd (omega arith);
+}
+
+-- ---- only stable sets may be none
+
+nothing_admissible : (f : Af) → IsAdmissible f []
+nothing_admissible f = record {
+  conflict_free = record {
+    live = λ a c. absurd (Contains-nil a c);
+    apart = λ b a c. absurd (Contains-nil b c);
+  };
+  defended = λ a c. absurd (Contains-nil a c);
+}
+
+-- where a set has the mode, no step refutes that one has
+not_refuted : (f : Af) (log : OracleLog) (mode : Atom) (side : List ℕ → List AtomLit) (s : List ℕ) (step : ℕ)
+    → IsKept (af f) log → (IsAsk mode → ⊥) → ((e : List ℕ) → AsksNothing (side e))
+    → Refutes (af f) log (claim_of (affirmed mode ∷ []) []) step → IsAdmissible f s → HoldsOf (af f) s mode → ⊥
+not_refuted f log mode side s step kept no_ask plain refuted ok holds =
+    let excluded = claim_excluded (af f) log (claim_of (affirmed mode ∷ []) []) step kept.form
+    (plain_mapped (affirmed mode ∷ []) side [] (asks_cons (affirmed mode) [] no_ask asks_nil) plain) refuted in
+    let r = fails_mapped (af f) (affirmed mode ∷ []) side [] excluded s (world_of_admissible f s kept.numbered ok)
+    (meets_cons (af f) s (affirmed mode) [] holds (meets_nil (af f) s)) in
+    Contains-nil r.0 r.1
+
+-- ---- each semantics
+
+among : (f : Framework) (mode : Atom) (e : List ℕ) → HoldsOf f e mode → IsAmong f mode [] e
+among f mode e h = record { has_mode = h; ranged = λ a c. absurd (Contains-nil a c) }
+
+complete_list : (f : Framework) (log : OracleLog) (limit : ℕ) (sets : List (List ℕ)) (step : ℕ) → IsKept f log
+    → IsAllOf f log Co [] limit sets step → AreExtensions f log Complete limit sets (step ∷ [])
+complete_list (af f) log limit [] step kept h =
+    let g = grounded_exists f in
+    absurd (not_refuted f log Co (differs (af f)) g.0 step kept (λ x. x) (differs_plain (af f)) h.refuted
+    g.1.complete.admissible g.1.complete)
+complete_list (af f) log limit (e ∷ more) step kept h = record {
+  all = record {
+    each = λ s c. (h.each s c).has_mode;
+    all = λ s is. h.all s (among (af f) Co s is);
+    rise = h.rise;
+  };
+  differ = they_differ (e ∷ more) h.rise h.one_form;
+  within = h.within;
+  tests = complete_tests (af f) (e ∷ more) (λ s c. (h.each s c).has_mode) h.rise;
+  refuted = refuted_first (af f) log _ step [] [] h.refuted (refuted_none (af f) log);
+}
+
+stable_list : (f : Framework) (log : OracleLog) (limit : ℕ) (sets : List (List ℕ)) (step : ℕ)
+    → IsAllOf f log St [] limit sets step → AreExtensions f log Stable limit sets (step ∷ [])
+stable_list (af f) log limit [] step h = record {
+  all = record {
+    each = λ s c. absurd (Contains-nil s c);
+    all = λ s is. h.all s (among (af f) St s is);
+    rise = h.rise;
+  };
+  differ = they_differ [] h.rise h.one_form;
+  within = h.within;
+  tests = none_tests (af f);
+  refuted = refuted_first (af f) log _ step [] [] h.refuted (refuted_none (af f) log);
+}
+stable_list (af f) log limit (e ∷ more) step h = record {
+  all = record {
+    each = λ s c. (h.each s c).has_mode;
+    all = λ s is. h.all s (among (af f) St s is);
+    rise = h.rise;
+  };
+  differ = they_differ (e ∷ more) h.rise h.one_form;
+  within = h.within;
+  tests = stable_tests (af f) (e ∷ more) (λ s c. (h.each s c).has_mode) h.rise;
+  refuted = refuted_first (af f) log _ step [] [] h.refuted (refuted_none (af f) log);
+}
+
+preferred_list : (f : Framework) (log : OracleLog) (limit : ℕ) (sets : List (List ℕ)) (step : ℕ) → IsKept f log
+    → IsAllPreferred f log limit sets step → AreExtensions f log Preferred limit sets (step ∷ [])
+preferred_list (af f) log limit [] step kept h =
+    absurd (not_refuted f log Ad (outside (af f)) [] step kept (λ x. x) (outside_plain (af f)) h.refuted
+    (nothing_admissible f) (nothing_admissible f))
+preferred_list (af f) log limit (e ∷ more) step kept h = record {
+  all = record { each = h.each; all = h.all; rise = h.rise };
+  differ = they_differ (e ∷ more) h.rise h.one_form;
+  within = h.within;
+  tests = preferred_tests (af f) (e ∷ more) h.each h.rise;
+  refuted = refuted_first (af f) log _ step [] [] h.refuted (refuted_none (af f) log);
+}
+
+semi_stable_list : (f : Framework) (log : OracleLog) (limit : ℕ) (sets : List (List ℕ)) (steps : List ℕ) → IsKept f log
+    → IsAllSemiStable f log limit sets steps → AreExtensions f log SemiStable limit sets steps
+semi_stable_list (af f) log limit [] steps kept h =
+    absurd (not_refuted f log Ad (wider (af f)) [] (slice_index_or steps 0 0) kept (λ x. x) (wider_plain (af f))
+    (h.refuted.each 0 (omega (arith, h.refuted.number))) (nothing_admissible f) (nothing_admissible f))
+semi_stable_list (af f) log limit (e ∷ more) steps kept h = record {
+  all = record { each = h.each; all = h.all; rise = h.rise };
+  differ = they_differ (e ∷ more) h.rise h.one_form;
+  within = h.within;
+  tests = semi_stable_tests f (e ∷ more) h.each h.rise;
+  refuted = h.refuted;
+}
+
+-- ---- lists, or more than the limit
+
+more_as : (P Q : List ℕ → Type 0) (limit : ℕ) → ((e : List ℕ) → P e → Q e) → HasMore P limit → HasMore Q limit
+more_as P Q limit all h = record {
+  sets = h.sets;
+  each = λ e c. all e (h.each e c);
+  differ = h.differ;
+  more = h.more;
+}
+
+-- the mode of a complete or stable set
+mode_extension : (f : Framework) (semantics : Semantics) (mode : Atom) (e : List ℕ) → IsModeOf semantics mode
+    → IsAmong f mode [] e → IsExtension f semantics e
+mode_extension (af f) Complete Co e ok h = h.has_mode
+mode_extension (af f) Stable St e ok h = h.has_mode
+mode_extension f _ _ e ok h = absurd ok
+
+mode_list : (f : Framework) (log : OracleLog) (semantics : Semantics) (mode : Atom) (limit : ℕ) (sets : List (List ℕ))
+    (step : ℕ) → IsKept f log → IsModeOf semantics mode → IsAllOf f log mode [] limit sets step
+    → AreExtensions f log semantics limit sets (step ∷ [])
+mode_list f log Complete Co limit sets step kept ok h = complete_list f log limit sets step kept h
+mode_list f log Stable St limit sets step kept ok h = stable_list f log limit sets step h
+mode_list f log _ _ limit sets step kept ok h = absurd ok
+
+tested : (f : Framework) (log : OracleLog) (semantics : Semantics) (mode : Atom) (limit : ℕ) → IsKept f log
+    → IsModeOf semantics mode → (listed : Listed) → IsModeList f log mode [] limit listed
+    → IsListOf f log semantics limit (with_step listed)
+tested f log semantics mode limit kept ok (Whole sets step) h =
+    mode_list f log semantics mode limit sets.items step kept ok h
+tested f log semantics mode limit kept ok MoreThanListed h =
+    more_as (IsAmong f mode []) (IsExtension f semantics) limit (λ e. mode_extension f semantics mode e ok) h
+
+pub is_tested : (f g : Framework) (log : OracleLog) (semantics : Semantics) (mode : Atom) (limit : ℕ)
+    (listed : Listed) → g ≡ f → IsKept g log → IsModeOf semantics mode → IsModeList f log mode [] limit listed
+    → IsListOf f log semantics limit (with_step listed)
+is_tested f g log semantics mode limit listed same kept ok h =
+    tested f log semantics mode limit (subst (λ (x : Framework). IsKept x log) same kept) ok listed h
+
+largest : (f : Framework) (log : OracleLog) (limit : ℕ) → IsKept f log → (listed : Listed)
+    → IsPreferredList f log limit listed → IsListOf f log Preferred limit (with_step listed)
+largest f log limit kept (Whole sets step) h = preferred_list f log limit sets.items step kept h
+largest f log limit kept MoreThanListed h = h
+
+pub is_largest : (f g : Framework) (log : OracleLog) (limit : ℕ) (listed : Listed) → g ≡ f → IsKept g log
+    → IsPreferredList f log limit listed → IsListOf f log Preferred limit (with_step listed)
+is_largest f g log limit listed same kept h =
+    largest f log limit (subst (λ (x : Framework). IsKept x log) same kept) listed h
+
+widest : (f : Framework) (log : OracleLog) (limit : ℕ) → IsKept f log → (ranged : Ranged)
+    → IsRangedList f log limit ranged → IsListOf f log SemiStable limit (with_steps ranged)
+widest f log limit kept (WholeRanged sets steps) h = semi_stable_list f log limit sets.items steps kept h
+widest f log limit kept MoreThanRanged h = h
+
+pub is_widest : (f g : Framework) (log : OracleLog) (limit : ℕ) (ranged : Ranged) → g ≡ f → IsKept g log
+    → IsRangedList f log limit ranged → IsListOf f log SemiStable limit (with_steps ranged)
+is_widest f g log limit ranged same kept h =
+    widest f log limit (subst (λ (x : Framework). IsKept x log) same kept) ranged h
+
+-- ---- tasks
+
+has_task : (f : Af) (task : Task) (semantics : Semantics) → IsListTask (af f) task → task.semantics ≡ semantics
+    → HasTask OfAf AllExtensions semantics
+has_task f task semantics h is =
+    subst (HasTask OfAf AllExtensions) is
+    (subst (λ (p : Problem). HasTask OfAf p task.semantics) h.problem h.has)
+
+pub no_grounded : (f : Framework) (task : Task) → IsListTask f task → task.semantics ≡ Grounded → ⊥
+no_grounded (af f) task h is = has_task f task Grounded h is
+
+pub no_ideal : (f : Framework) (task : Task) → IsListTask f task → task.semantics ≡ Ideal → ⊥
+no_ideal (af f) task h is = has_task f task Ideal h is
+
+-- ---- what calls leave
+
+made_differs : (f : Framework) → Makes (MadeDiffers f) (MadeForAll f)
+made_differs f literals set h = (h.1, inr (inr h.0))
+
+made_outside : (f : Framework) → Makes (MadeOutside f) (MadeForAll f)
+made_outside f literals set h = (h.1, inl h.0)
+
+made_ranges : (f : Framework) → Makes (MadeForRanges f) (MadeForAll f)
+made_ranges f literals set h = (h.0, inr h.1)
+
+pub run_tested : (f : Framework) (a b : OracleLog) (p : Option Pending) (u v : Units) (halt : Option Halt)
+    → HasRun (MadeDiffers f) 1 f a b p u v halt
+    → HasRun (MadeForAll f) (2 * length b.sides + 2) f a b p u v halt
+run_tested f a b p u v halt h =
+    run_as (MadeDiffers f) (MadeForAll f) 1 (2 * length b.sides + 2) f a b p u v halt (made_differs f) (omega arith) h
+
+pub run_largest : (f : Framework) (most : ℕ) (a b : OracleLog) (p : Option Pending) (u v : Units) (halt : Option Halt)
+    → HasRun (MadeOutside f) most f a b p u v halt → HasRun (MadeForAll f) most f a b p u v halt
+run_largest f most a b p u v halt h =
+    run_as (MadeOutside f) (MadeForAll f) most most f a b p u v halt (made_outside f) (omega arith) h
+
+pub run_widest : (f : Framework) (most : ℕ) (a b : OracleLog) (p : Option Pending) (u v : Units) (halt : Option Halt)
+    → HasRun (MadeForRanges f) most f a b p u v halt → HasRun (MadeForAll f) most f a b p u v halt
+run_widest f most a b p u v halt h =
+    run_as (MadeForRanges f) (MadeForAll f) most most f a b p u v halt (made_ranges f) (omega arith) h
+
+-- ---- modes
+
+pub list_mode : (semantics : Semantics) (mode : Atom) → IsModeOf semantics mode → IsListMode mode
+list_mode Complete Co h = tt
+list_mode Stable St h = tt
+list_mode _ _ h = absurd h

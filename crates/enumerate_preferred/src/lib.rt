@@ -1,0 +1,6 @@
+//! All preferred sets by an oracle, in the order of their lists.
+#![tactic(auto)]
+
+mod preferred;
+
+pub use preferred::all_preferred;

@@ -1,0 +1,34 @@
+//! A search for goals about sets.
+
+ghost use Rattle.std.specs.Prelude.{◌≡◌, IfOk};
+ghost use Rattle.oracle_face.specs.Growing.{HasRun, IsFound, NoSide, closes, halt_of};
+ghost use Rattle.oracle_face.specs.Logs.{IsKept};
+ghost use Rattle.goal_lists.specs.Asking.{IsAskable, goals_of};
+
+use crate::goals::{Wanted, goals_for};
+use meaning_atoms::Atom;
+use oracle_face::{Budget, Found, Halt, Oracle};
+use std::alloc::Global;
+
+/// A set of the mode that is as wanted, or the step that refutes that there is one. It asks the oracle once.
+pub fn search_for<O: Oracle>(
+    alloc: Global,
+    oracle: &mut O,
+    budget: &mut Budget,
+    mode: Atom,
+    wanted: &Wanted<'_>,
+) -> Result<Found, Halt>
+    requires { IsAskable (O.framework oracle.old) (O.log oracle.old).sides mode wanted.now.ins.now wanted.now.outs.now
+        wanted.now.ranged.now wanted.now.asks.now }
+    ensures found { IfOk result (IsFound (O.framework oracle.old) (O.log oracle.new)
+        (goals_of mode wanted.now.ins.now wanted.now.outs.now wanted.now.ranged.now wanted.now.asks.now)) }
+    ensures run { HasRun NoSide (closes result) (O.framework oracle.old) (O.log oracle.old) (O.log oracle.new)
+        (O.pending oracle.new) budget.old budget.new (halt_of result) }
+    ensures framework { O.framework oracle.new ≡ O.framework oracle.old }
+    ensures kept { IsKept (O.framework oracle.new) (O.log oracle.new) }
+    ensures follows { O.follows oracle.old oracle.new }
+{
+    let _members = oracle.members();
+    let goals = goals_for(alloc, mode, wanted)?;
+    oracle.find(alloc, &goals, budget)
+}
