@@ -1,5 +1,5 @@
 -- A parse of the command of a query gives its two required options a value.
-use Rattle.std.proofs.Common.{◌≡◌, ◌≢◌, ◌∙◌, ◌+◌, ◌<◌, ◌≤◌, ℕ, Bool, true, false, not, zero, suc, refl, sym, ap, subst}
+use Rattle.std.proofs.Common.{◌≡◌, ◌≢◌, ◌∙◌, ◌+◌, ◌⊎◌, ⊎_elim, ◌<◌, ◌≤◌, ℕ, Bool, true, false, not, zero, suc, refl, sym, ap, subst}
 use Rattle.std.proofs.Common.{arith, inl, inr, List, [], ◌∷◌, map, length, Option, Some, None, is_some}
 use Rattle.std.proofs.Common.{true≢false, codes, slice_index}
 use Rattle.std.specs.Prelude.{IsSome}
@@ -60,12 +60,15 @@ solve_rules = value_option (codes "task") 112 ∷ value_option (codes "file") 10
 at_place : (k : ℕ) (xs ys : List Rule) → xs ≡ ys → slice_index_or xs k (new_rule []) ≡ slice_index_or ys k (new_rule [])
 at_place k xs ys e = ap (λ rules. slice_index_or rules k (new_rule [])) e
 
+other_length : (n : ℕ) → n ≡ 5 → (n < 5) ⊎ (5 < n) → ⊥
+other_length n e h = ⊎_elim (λ less. absurd (omega arith)) (λ more. absurd (omega arith)) h
+
 has_five : (args : List Arg) → map rule_of args ≡ solve_rules → SolveRules args
 has_five [] e = cc
-has_five (a ∷ []) e = let n : 1 ≡ 5 = ap length e in absurd (omega arith)
-has_five (a ∷ b ∷ []) e = let n : 2 ≡ 5 = ap length e in absurd (omega arith)
-has_five (a ∷ b ∷ c ∷ []) e = let n : 3 ≡ 5 = ap length e in absurd (omega arith)
-has_five (a ∷ b ∷ c ∷ d ∷ []) e = let n : 4 ≡ 5 = ap length e in absurd (omega arith)
+has_five (a ∷ []) e = absurd (other_length 1 (ap length e) (inl (omega arith)))
+has_five (a ∷ b ∷ []) e = absurd (other_length 2 (ap length e) (inl (omega arith)))
+has_five (a ∷ b ∷ c ∷ []) e = absurd (other_length 3 (ap length e) (inl (omega arith)))
+has_five (a ∷ b ∷ c ∷ d ∷ []) e = absurd (other_length 4 (ap length e) (inl (omega arith)))
 has_five (a ∷ b ∷ c ∷ d ∷ f ∷ []) e = record {
   task = a;
   file = b;
@@ -80,7 +83,7 @@ has_five (a ∷ b ∷ c ∷ d ∷ f ∷ []) e = record {
   certificate_is = at_place 4 (map rule_of (a ∷ b ∷ c ∷ d ∷ f ∷ [])) solve_rules e;
 }
 has_five (a ∷ b ∷ c ∷ d ∷ f ∷ g ∷ more) e =
-    let n : 6 + length (map rule_of more) ≡ 5 = ap length e in absurd (omega arith)
+    absurd (other_length (length (map rule_of (a ∷ b ∷ c ∷ d ∷ f ∷ g ∷ more))) (ap length e) (inr (omega arith)))
 
 pub has_rules : {args : List Arg} → map rule_of args ≡ solve_rules → SolveRules args
 has_rules {args} e = has_five args e
