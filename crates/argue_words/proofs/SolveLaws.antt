@@ -10,7 +10,7 @@ use Rattle.clap.specs.declared.parser.matches.ArgMatches.{ArgMatches}
 use Rattle.clap.proofs.WalkLemmas.{first_value-rows}
 use Rattle.argue_words.specs.Words.{check_app, check_value, option_of, solve_app, solve_value, task_app, value_option}
 use Rattle.argue_words.proofs.NoFault.{takes_if}
-use Rattle.argue_words.proofs.ValuesGiven.{SolveRules, has_rules, solve_rules, values_given}
+use Rattle.argue_words.proofs.ValuesGiven.{solve_rules, values_given}
 
 -- ---- the command
 
@@ -64,7 +64,7 @@ pub given_at : (c : Command) (r : Result ArgMatches Error) → app_of c ≡ solv
     → IfOk r (λ m. IsSome (first_value (found_of m) (codes "task")) × IsSome (first_value (found_of m) (codes "file")))
 given_at c r is = IfOk-weaker r _ _ (λ m p.
     let fields = solve_is_plain (app_of c) is in
-    values_given c m (has_rules (rules_of_solve (app_of c) is)) fields.0 fields.1 p)
+    values_given c m (rules_of_solve (app_of c) is) fields.0 fields.1 p)
 
 -- ---- the same of the command of a check
 
