@@ -1,12 +1,12 @@
 -- What the words ask for, in terms of clap's `takes`.
-use Rattle.std.proofs.Common.{◌≡◌, ◌≢◌, ◌∙◌, ◌⊎◌, Bool, true, false, true≢false, refl, sym, ap, subst, inl, inr, List, [], ◌∷◌, Option, Some, None, Result, Ok, Err, IfOk}
+use Rattle.std.proofs.Common.{◌≡◌, ◌≢◌, ◌∙◌, Bool, true, false, true≢false, refl, sym, ap, subst, inl, inr, List, [], ◌∷◌, Option, Some, None, Result, Ok, Err, IfOk}
 use Rattle.std.specs.Prelude.{codes, if◌then◌else◌}
 use Rattle.std.specs.Str.{bytes_eq}
 use Rattle.std.proofs.lemmas.Slice.Eq.{bytes_eq-Decides}
 use Rattle.clap.specs.Words.{App, Text, takes}
 use Rattle.clap.proofs.OnLiterals.{clap_on_literals}
 use Rattle.argue_words.specs.declared.words.Command.{Command}
-use Rattle.argue_words.specs.declared.words.Command.TheVariants.{Version, Problems, Solve, Check, Unknown}
+use Rattle.argue_words.specs.declared.words.Command.TheVariants.{Unknown}
 use Rattle.argue_words.specs.Words.{AreUnknown, AreWords, CheckTexts, HasCheckTexts, HasSolveTexts, IsCheckQuery, IsSolveQuery, RefusesOthers, Request, version, problems, solving, checking, unknown, SolveTexts, check_app, check_request, check_requested, check_value, is_check, other_requested, request_of, requested, solve_app, solve_request, solve_requested, solve_value, task_app, words_are_problems}
 
 -- ---- requests by the command that they belong to

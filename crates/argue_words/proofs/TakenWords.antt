@@ -1,8 +1,8 @@
 -- Words that clap takes for a query or a check, and words that it does not.
 use Rattle.std.proofs.Common.{◌≡◌, ◌≢◌, ◌∙◌, ◌&&◌, Bool, true, false, true≢false, refl, sym, ap, subst}
-use Rattle.std.proofs.Common.{arith, slice_index, List, [], ◌∷◌, Option, None, Some, codes}
+use Rattle.std.proofs.Common.{List, [], ◌∷◌, None, Some, codes}
 use Rattle.std.specs.List.{list_all}
-use Rattle.std.specs.Prelude.{fold, slice_get, unwrap_or}
+use Rattle.std.specs.Prelude.{fold, slice_get}
 use Rattle.clap.specs.Walk.{Held, Walk, finished, nothing_held, walk, walked}
 use Rattle.clap.specs.Takes.{default_passes, is_valid, settle_passes, walk_passes}
 use Rattle.clap.specs.Words.{Shape, Text, built, first_of, takes}

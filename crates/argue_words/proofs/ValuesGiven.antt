@@ -1,9 +1,9 @@
 -- A parse of the command of a query gives its two required options a value.
-use Rattle.std.proofs.Common.{◌≡◌, ◌≢◌, ◌∙◌, ◌+◌, ◌⊎◌, ⊎_elim, ◌<◌, ◌≤◌, ℕ, Bool, true, false, not, zero, suc, refl, sym, ap, subst}
+use Rattle.std.proofs.Common.{◌≡◌, ◌≢◌, ◌∙◌, ◌<◌, ◌≤◌, ℕ, true, false, not, zero, suc, refl, sym, ap, subst}
 use Rattle.std.proofs.Common.{arith, inl, inr, List, [], ◌∷◌, map, length, Option, Some, None, is_some}
 use Rattle.std.proofs.Common.{true≢false, codes, slice_index}
 use Rattle.std.specs.Prelude.{IsSome}
-use Rattle.std.specs.List.{All, slice_index_or}
+use Rattle.std.specs.List.{slice_index_or}
 use Rattle.std.specs.Str.{bytes_eq}
 use Rattle.std.proofs.lemmas.List.{get_or-map, length-map}
 use Rattle.clap.specs.Facts.{args_of, least_values, unwrap_or_range}
