@@ -5,7 +5,8 @@ ghost use Rattle.certificate_claims.specs.Rights.{IsExtension};
 ghost use Rattle.certificate_claims.specs.SetLiterals.{has};
 ghost use Rattle.iccma_tasks.specs.Tasks.{FitsTask};
 ghost use Rattle.edit_rules.specs.Kinds.{framework_of};
-ghost use Rattle.oracle_core.specs.Answers.{IsShownBy, answer_by, is_by_grounded, no_certificate};
+ghost use Rattle.oracle_core.specs.Answers.{IsShownBy, answer_by, no_certificate};
+ghost use Rattle.oracle_core.specs.Answers as answers;
 
 use crate::reply::Answered;
 use certificate_claims::Certificate;
@@ -17,8 +18,8 @@ use std::alloc::Global;
 
 /// Whether the grounded set answers a task: those of the grounded semantics, whether all complete sets accept an argument,
 /// and some complete set.
-fn is_answered(task: Task) -> bool
-    ensures { result ≡ is_by_grounded task.problem task.semantics }
+pub fn is_by_grounded(task: Task) -> bool
+    ensures { result ≡ answers.is_by_grounded task.problem task.semantics }
 {
     match (task.problem, task.semantics) {
         (Problem::AllExtensions, _) => false,
@@ -107,10 +108,10 @@ pub fn answer_by_grounded(
         a.certificate)) }
     ensures units { IfOk result (λ found. IfSome found (λ a. a.units ≡ 0)) }
     ensures others { IfOk result (λ found. IsNone found
-        ↔ (is_by_grounded query.now.task.problem query.now.task.semantics ≡ false)) }
+        ↔ (answers.is_by_grounded query.now.task.problem query.now.task.semantics ≡ false)) }
 {
     let task = query.task();
-    let answered = is_answered(task);
+    let answered = is_by_grounded(task);
     if !answered {
         return Ok(None);
     }

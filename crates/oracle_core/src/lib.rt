@@ -4,5 +4,5 @@
 mod by_grounded;
 pub mod reply;
 
-pub use by_grounded::answer_by_grounded;
+pub use by_grounded::{answer_by_grounded, is_by_grounded};
 pub use reply::Answered;
