@@ -6,16 +6,15 @@ use Rattle.argue_outside.specs.declared.Role.{Role}
 use Rattle.argue_outside.specs.declared.Role.TheVariants as role
 use Rattle.argue_words.specs.Words.{CheckTexts, Request, version, problems, solving, checking, unknown, SolveTexts, requested}
 use Rattle.argue_words.proofs.RequestLaws.{none_requested}
-use Rattle.argue_program.specs.Inputs.{EndsReading, Follow, Input, Reading, StopsAt, input}
-use Rattle.argue_program.specs.Rows.{CountsReads, EndsAnswered, EndsCommand, HasNoInput, IsEndingOf, Row, certificate_files, check_row, file_text, files_beside, nothing_kept, reply_files, reply_text, row_of, solve_row, unknown_row}
+use Rattle.argue_program.specs.Inputs.{EndsReading, Follow, Input, Reading, input}
+use Rattle.argue_program.specs.Rows.{CountsReads, EndsAnswered, EndsCommand, IsEndingOf, Row, check_row, nothing_kept, row_of, solve_row, unknown_row}
 use Rattle.iccma_tasks.specs.Tasks.{Asked}
-use Rattle.argue_program.specs.Checks.{ChecksFiles, EndsChecking, check_inputs}
+use Rattle.argue_program.specs.Checks.{ChecksFiles, EndsChecking}
 use Rattle.argue_program.specs.Queries.{asked_by, solving_by}
 use Rattle.argue_program.specs.Solves.{EndsSolving, SolvesFile}
 use Rattle.argue_program.specs.declared.query.Solving.{Solving}
 use Rattle.argue_program.specs.declared.ended.Refusal.TheVariants.{Line, Query}
 use Rattle.oracle_core.specs.declared.reply.Answered.{Answered}
-use Rattle.iccma_tasks.specs.WrittenText.{text_of as answer_text}
 use Rattle.argue_program.specs.Texts.{IsRefusal, common_text, text_bytes}
 use Rattle.argue_program.specs.declared.decision.Ending.{Ending}
 use Rattle.argue_program.specs.declared.ended.Status.{Status}

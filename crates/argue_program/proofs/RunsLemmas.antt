@@ -1,7 +1,7 @@
 -- What follows of a run, in the words of its query.
-use Rattle.std.proofs.Common.{◌≡◌, ◌≢◌, ◌∙◌, ◌⊎◌, ◌<◌, ◌≤◌, ℕ, List, [], ◌∷◌, zero, suc, length, refl, sym, ap, subst, inl, inr, ⊎_elim, true, false, arith, Option, None, Some, Ok, map}
+use Rattle.std.proofs.Common.{◌≡◌, ◌≢◌, ◌∙◌, ◌⊎◌, ◌<◌, ◌≤◌, ℕ, List, [], ◌∷◌, length, refl, sym, ap, subst, inl, inr, ⊎_elim, true, false, arith, Option, None, Some, Ok, map}
 use Rattle.std.specs.Prelude.{Contains}
-use Rattle.argue_outside.specs.Outside.{FaultCounted, HoldsWhole, IsLonger, KnownFile, OtherCountsKept}
+use Rattle.argue_outside.specs.Outside.{FaultCounted, HoldsWhole, IsLonger, KnownFile}
 use Rattle.argue_outside.specs.declared.Role.{Role}
 use Rattle.argue_outside.specs.declared.Role.TheVariants.{Framework}
 use Rattle.argue_words.specs.Words.{AreWords, CheckTexts, IsCheckQuery, IsSolveQuery, Request, version, problems, solving, checking, unknown, SolveTexts, requested, words_are_problems}
@@ -9,12 +9,10 @@ use Rattle.argue_words.proofs.RequestLaws.{query_requested, requested_list, requ
 use Rattle.af_format.specs.AfText.{IsReadable, ReadsAs}
 use Rattle.af_format.proofs.Readings.{ReadsAs-faultless, ReadsAs-same}
 use Rattle.argue_program.specs.Inputs.{HasBytes, HasFirstFault, HasReadFault, Input, IsFirstFaultIn, IsFrameworkOf, Reading, StopsAt, StopsAtFirst, input}
-use Rattle.argue_program.specs.Rows.{EndsCommand, EndsSolved, FileText, HasNoInput, IsEndingOf, Row, certificate_files, check_row, file_text, files_beside, nothing_kept, problems_row, reply_files, row_of, solve_row, unknown_row, version_row}
-use Rattle.certificate_claims.specs.declared.verdict.Cause.{Cause as Failure}
-use Rattle.edit_rules.specs.declared.query_fault.QueryFault.{QueryFault}
+use Rattle.argue_program.specs.Rows.{EndsCommand, EndsSolved, FileText, HasNoInput, IsEndingOf, Row, check_row, file_text, files_beside, nothing_kept, problems_row, reply_files, row_of, solve_row, unknown_row, version_row}
 use Rattle.iccma_tasks.specs.Tasks.{Asked}
 use Rattle.argue_program.specs.Queries.{asked_by, solving_by}
-use Rattle.argue_program.specs.Solves.{RefusesBy, RefusesQuery, SolvesFile}
+use Rattle.argue_program.specs.Solves.{SolvesFile}
 use Rattle.argue_program.specs.declared.query.Solving.{Solving}
 use Rattle.edit_rules.specs.Fitting.{Fits, IsFaultOf}
 use Rattle.oracle_core.specs.declared.reply.Answered.{Answered}
@@ -33,7 +31,7 @@ use Rattle.certificate_text.specs.Reading.{ReadsAs as CertReadsAs}
 use Rattle.certificate_text.proofs.OneOutcome.{one_reading}
 use Rattle.argue_program.specs.Runs.{AnswersRight, AnswersWords, ChecksContents, HasText, IsCheckEnd, IsDoneOrMemory, IsFaulty, IsRunOf, IsSolveEnd, NamesCertificate, QueriesBytes, RefusesBytes, RefusesLength, RefusesWords, SolvesContents}
 use Rattle.argue_program.specs.Texts.{common_text}
-use Rattle.argue_program.specs.Writing.{BreaksFiles, BreaksOff, BreaksReplacing, IsWritten, Output, Replaces, WritesFiles}
+use Rattle.argue_program.specs.Writing.{BreaksFiles, BreaksOff, BreaksReplacing, IsWritten, Output, WritesFiles}
 use Rattle.argue_program.specs.declared.decision.Ending.{Ending}
 use Rattle.argue_program.specs.declared.ended.Cause.{Cause}
 use Rattle.argue_program.specs.declared.ended.Cause.TheVariants as cause

@@ -10,6 +10,7 @@ use Rattle.iccma_tasks.specs.Tasks.{Asked, all_tasks, task_name}
 use Rattle.argue_words.specs.Words.{SolveTexts}
 use Rattle.oracle_core.specs.Answers.{is_by_grounded}
 use Rattle.argue_program.specs.declared.query.Solving.{Solving}
+use Rattle.argue_program.specs.declared.query.TheConstants.{DEFAULT_BUDGET}
 
 -- the first of the tasks that has the name
 unfoldable pub first_named : List Task → List ℕ → Option Task
@@ -64,7 +65,7 @@ problems_text = codes "[" ++ join_with_byte 44 (map task_name (filter is_solved 
 
 -- the budget of units: 1,000,000 where no text is given
 abbrev pub budget_of : Option (List ℕ) → Option ℕ
-budget_of None = Some 1000000
+budget_of None = Some DEFAULT_BUDGET
 budget_of (Some text) = number_of text
 
 -- a query with a budget, where the program solves its task

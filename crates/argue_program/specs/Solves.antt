@@ -1,5 +1,5 @@
 -- Answers to the query in a run's words, and how a run that looks for one may end.
-use Rattle.std.specs.Prelude.{◌≡◌, ◌⊎◌, ℕ, ◌≤◌, List}
+use Rattle.std.specs.Prelude.{ℕ, ◌≤◌, List}
 use Rattle.argue_outside.specs.Outside.{KnownFile}
 use Rattle.argue_outside.specs.declared.Role.TheVariants as role
 use Rattle.semantics.specs.Framework.{Af}

@@ -132,7 +132,11 @@ fn decide_command<F: Files>(alloc: Global, command: Command, files: &mut F) -> E
     ensures writes { F.write_count files.new ≡ F.write_count files.old }
 {
     match command {
-        Command::Version => done(alloc, Transcript { reply: None }, Text::Fixed("argue 1.0\n")),
+        Command::Version => done(
+            alloc,
+            Transcript { reply: None },
+            Text::Fixed("argue 1.0\n"),
+        ),
         Command::Problems => done(alloc, Transcript { reply: None }, Text::Fixed(PROBLEMS)),
         Command::Solve(words) => solve(alloc, files, words),
         Command::Check(words) => check(alloc, files, words),

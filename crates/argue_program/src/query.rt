@@ -13,7 +13,7 @@ use num_text::decimal;
 use oracle_core::is_by_grounded as needs_no_search;
 
 /// The units of a budget where none is given.
-const DEFAULT_BUDGET: u32 = 1_000_000;
+pub const DEFAULT_BUDGET: u32 = 1_000_000;
 
 /// A query to be solved, and the budget of units for its answer.
 #[derive(Debug, Drop)]
