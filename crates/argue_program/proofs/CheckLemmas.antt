@@ -1,18 +1,17 @@
 -- The inputs of a check, read one after the other.
-use Rattle.std.proofs.Common.{◌≡◌, ◌≢◌, ◌∙◌, ◌⊎◌, ◌<◌, ℕ, zero, suc, arith, List, [], ◌∷◌, refl, sym, ap, subst, inl, inr, ⊎_elim, true, Err, Ok}
+use Rattle.std.proofs.Common.{◌≡◌, ◌≢◌, ◌∙◌, ◌⊎◌, ◌<◌, ℕ, zero, suc, arith, List, [], ◌∷◌, refl, sym, subst, inl, inr, ⊎_elim, Err, Ok}
 use Rattle.std.specs.Prelude.{Contains, IsSome, IfErr, OnOk, Result}
 use Rattle.argue_outside.specs.Outside.{HoldsStill, KnownFile}
 use Rattle.argue_outside.specs.declared.Role.{Role}
 use Rattle.argue_outside.specs.declared.Role.TheVariants as role
 use Rattle.argue_words.specs.Words.{CheckTexts}
 use Rattle.semantics.specs.Framework.{Af}
-use Rattle.semantics.specs.Frameworks.{Framework, af}
 use Rattle.af_format.specs.AfText.{ReadsAs}
 use Rattle.af_format.proofs.Readings.{ReadsAs-faultless}
 use Rattle.af_format.specs.Faults.{IfLine, IsFirstFault}
 use Rattle.af_format.specs.declared.fault.ReadFault.{ReadFault as AfFault}
 use Rattle.af_format.specs.declared.fault.ReadFault.TheVariants as fault
-use Rattle.iccma_tasks.specs.AnswerText.{filled_fields, IsFaultOf, IsToldOf, ReadsAs as AnswerReadsAs}
+use Rattle.iccma_tasks.specs.AnswerText.{filled_fields, IsToldOf, ReadsAs as AnswerReadsAs}
 use Rattle.iccma_tasks.specs.Tasks.{Asked}
 use Rattle.iccma_tasks.specs.declared.answer.Answer.{Answer}
 use Rattle.iccma_tasks.specs.declared.fault.AnswerFault.{AnswerFault}
@@ -24,12 +23,11 @@ use Rattle.certificate_claims.specs.declared.certificate.Certificate.{Certificat
 use Rattle.certificate_text.specs.declared.fault.CertFault.{CertFault}
 use Rattle.certificate_text.specs.declared.fault.CertFault.TheVariants as certificate_fault
 use Rattle.argue_program.specs.Checks.{CheckEnds, ChecksFiles, EndsChecking, HasCheckBytes, IsChecked, IsSoundIn, IsTextFault, answer_status, certificate_status, check_inputs}
-use Rattle.argue_program.specs.Inputs.{EndsReading, Follow, HasBytes, Input, IsFirstFaultIn, IsRead, IsSound, IsUnrefused, Passes, Reading, StopsAt, StopsAtFirst, StopsReading, input, reading, status_of_fault}
+use Rattle.argue_program.specs.Inputs.{EndsReading, Follow, Input, IsRead, IsUnrefused, Passes, Reading, StopsAt, StopsAtFirst, StopsReading, input, reading, status_of_fault}
 use Rattle.argue_program.specs.Texts.{common_text}
 use Rattle.argue_program.specs.declared.checking.CheckBytes.{CheckBytes}
 use Rattle.argue_program.specs.declared.checking.Checked.{Checked}
 use Rattle.edit_rules.specs.Kinds.{framework_of}
-use Rattle.argue_program.specs.declared.ended.Cause.{Cause}
 use Rattle.argue_program.specs.declared.ended.Cause.TheVariants as cause
 use Rattle.argue_program.specs.declared.ended.Limit.TheVariants as limit
 use Rattle.argue_program.specs.declared.ended.Refusal.TheVariants.{Line, Query}

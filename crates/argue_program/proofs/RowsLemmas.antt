@@ -4,13 +4,17 @@ use Rattle.std.specs.Prelude.{Contains, IsSome, IsTrue}
 use Rattle.argue_outside.specs.Outside.{KnownFile, OtherCountsKept}
 use Rattle.argue_outside.specs.declared.Role.{Role}
 use Rattle.argue_outside.specs.declared.Role.TheVariants as role
-use Rattle.argue_words.specs.Words.{CheckTexts, Request, version, grounded, checking, unknown, requested}
+use Rattle.argue_words.specs.Words.{CheckTexts, Request, version, problems, solving, checking, unknown, SolveTexts, requested}
 use Rattle.argue_words.proofs.RequestLaws.{none_requested}
 use Rattle.argue_program.specs.Inputs.{EndsReading, Follow, Input, Reading, input}
-use Rattle.argue_program.specs.Rows.{CountsReads, EndsCommand, HasNoInput, IsEndingOf, Row, check_row, grounded_row, nothing_kept, row_of, unknown_row}
+use Rattle.argue_program.specs.Rows.{CountsReads, EndsAnswered, EndsCommand, IsEndingOf, Row, check_row, nothing_kept, row_of, solve_row, unknown_row}
 use Rattle.iccma_tasks.specs.Tasks.{Asked}
-use Rattle.argue_program.specs.Checks.{ChecksFiles, EndsChecking, check_inputs}
-use Rattle.argue_program.specs.Queries.{asked_by}
+use Rattle.argue_program.specs.Checks.{ChecksFiles, EndsChecking}
+use Rattle.argue_program.specs.Queries.{asked_by, solving_by}
+use Rattle.argue_program.specs.Solves.{EndsSolving, SolvesFile}
+use Rattle.argue_program.specs.declared.query.Solving.{Solving}
+use Rattle.argue_program.specs.declared.ended.Refusal.TheVariants.{Line, Query}
+use Rattle.oracle_core.specs.declared.reply.Answered.{Answered}
 use Rattle.argue_program.specs.Texts.{IsRefusal, common_text, text_bytes}
 use Rattle.argue_program.specs.declared.decision.Ending.{Ending}
 use Rattle.argue_program.specs.declared.ended.Status.{Status}
@@ -32,25 +36,8 @@ follow_none found WantOfMemory = tt
 follow_none found (Limit limit) = tt
 follow_none found (Rejected failure refutation step) = tt
 
--- the status of a run that its one input ends is one of its row
-pub EndsCommand-reading : (found : Reading) (holds : List ℕ → KnownFile) (file : List ℕ) (end : Status)
-    → EndsReading found (input (role.Framework 1) file) end
-    → EndsCommand found (grounded_row holds file) nothing_kept end
-EndsCommand-reading found holds file end (inl stops) = inl (refl, inl (inl (stops, follow_none found end)))
-EndsCommand-reading found holds file end (inr memory) = inl (refl, inr (memory, refl))
-
 one_in : (x : Input) → Contains (x ∷ []) x
 one_in x = (0, omega arith, refl)
-
--- faults are counted in the role of the one input, and only where it ends the run by one
-pub CountsReads-reading : (found : Reading) (holds : List ℕ → KnownFile) (file : List ℕ) (end : Status)
-    → (end ≢ ReadFault (role.Framework 1) → found.new_count ≡ found.old_count)
-    → OtherCountsKept (role.Framework 1) found.old_count found.new_count
-    → CountsReads found (grounded_row holds file) end
-CountsReads-reading found holds file end quiet others = record {
-  quiet = λ none. quiet (none (role.Framework 1));
-  others = λ other none. others other (none (input (role.Framework 1) file) (one_in (input (role.Framework 1) file)));
-}
 
 -- an input ends a run with a status that has a text of its own
 pub common_text-reading : (found : Reading) (one : Input) (end : Status) → EndsReading found one end
@@ -113,11 +100,17 @@ check_takes : (holds : List ℕ → KnownFile) (asked : Option Asked) (texts : C
 check_takes holds None texts = refl
 check_takes holds (Some asked) texts = refl
 
+solve_takes : (holds : List ℕ → KnownFile) (query : Option Solving) (texts : SolveTexts)
+    → IsTrue (solve_row holds query texts).takes_memory
+solve_takes holds None texts = refl
+solve_takes holds (Some query) texts = refl
+
 takes_unless : (holds : List ℕ → KnownFile) (words : List (List ℕ)) (request : Request) → requested words ≡ request
     → words ≢ []
     → IsTrue (row_of holds request).takes_memory
 takes_unless holds words version is some = absurd (some (none_requested words is))
-takes_unless holds words (grounded file) is some = refl
+takes_unless holds words problems is some = refl
+takes_unless holds words (solving texts) is some = solve_takes holds (solving_by texts) texts
 takes_unless holds words (checking texts) is some = check_takes holds (asked_by texts.task texts.number) texts
 takes_unless holds words unknown is some = refl
 
@@ -197,6 +190,107 @@ pub check_unasked : (found : Reading) (by : Option Asked) (texts : CheckTexts) (
     → IsEndingOf found (check_row found.holds by texts) ending
 check_unasked found by texts ending is quiet status kept text files =
     let P : Option Asked → Type 0 = λ o. IsEndingOf found (check_row found.holds o texts) ending in
+    subst P (sym is)
+    (IsEndingOf-stopped found unknown_row ending Usage (inr (refl, refl)) refl status kept text files
+    (CountsReads-none found unknown_row Usage quiet))
+
+-- ---- queries
+
+-- a call that looks for the answer ends a run as its row says
+solve_cause : (found : Reading) (query : Solving) (texts : SolveTexts) (end : Status)
+    → EndsSolving found query texts.file end
+    → EndsCommand found (solve_row found.holds (Some query) texts) nothing_kept end
+solve_cause found query texts (InputRefused (Query fault)) ends = inr (refl, ends)
+solve_cause found query texts (InputRefused (Line of line c)) ends =
+    inl (refl, inl (inl (ends, follow_none found (InputRefused (Line of line c)))))
+solve_cause found query texts (ReadFault of) ends = inl (refl, inl (inl (ends, tt)))
+solve_cause found query texts (Limit limit) ends = inl (refl, inl (inl (ends, tt)))
+solve_cause found query texts WantOfMemory ends = inl (refl, inr (refl, refl))
+solve_cause found query texts Done ends = absurd ends
+solve_cause found query texts Usage ends = absurd ends
+solve_cause found query texts WriteFault ends = absurd ends
+solve_cause found query texts (Rejected failure r s) ends = absurd ends
+
+-- an end of a call that looks for the answer has a text of its own
+pub common_text-solving : (found : Reading) (query : Solving) (file : List ℕ) (end : Status)
+    → EndsSolving found query file end → IsSome (common_text end)
+common_text-solving found query file (InputRefused refusal) ends = refl
+common_text-solving found query file (ReadFault of) ends = refl
+common_text-solving found query file (Limit limit) ends = refl
+common_text-solving found query file WantOfMemory ends = refl
+common_text-solving found query file Done ends = absurd ends
+common_text-solving found query file Usage ends = refl
+common_text-solving found query file WriteFault ends = refl
+common_text-solving found query file (Rejected failure r s) ends = refl
+
+-- an end of reading the file is one of a call that reads it and answers
+pub EndsSolving-reading : (found : Reading) (query : Solving) (file : List ℕ) (end : Status)
+    → EndsReading found (input (role.Framework 1) file) end → EndsSolving found query file end
+EndsSolving-reading found query file (InputRefused (Line of line c)) (inl stops) = stops
+EndsSolving-reading found query file (InputRefused (Query fault)) (inl stops) = absurd stops
+EndsSolving-reading found query file (ReadFault of) (inl stops) = stops
+EndsSolving-reading found query file (Limit limit) (inl stops) = stops
+EndsSolving-reading found query file WantOfMemory h = tt
+EndsSolving-reading found query file Done (inl stops) = stops
+EndsSolving-reading found query file Usage (inl stops) = stops
+EndsSolving-reading found query file WriteFault (inl stops) = stops
+EndsSolving-reading found query file (Rejected failure r s) (inl stops) = stops
+EndsSolving-reading found query file (InputRefused refusal) (inr memory) = absurd (cc)
+EndsSolving-reading found query file (ReadFault of) (inr memory) = absurd (cc)
+EndsSolving-reading found query file (Limit limit) (inr memory) = absurd (cc)
+EndsSolving-reading found query file Done (inr memory) = absurd (cc)
+EndsSolving-reading found query file Usage (inr memory) = absurd (cc)
+EndsSolving-reading found query file WriteFault (inr memory) = absurd (cc)
+EndsSolving-reading found query file (Rejected failure r s) (inr memory) = absurd (cc)
+
+-- faults are counted in the role of the one input, and only where it ends the run by one
+solve_counts : (found : Reading) (query : Solving) (texts : SolveTexts) (end : Status)
+    → (end ≢ ReadFault (role.Framework 1) → found.new_count ≡ found.old_count)
+    → OtherCountsKept (role.Framework 1) found.old_count found.new_count
+    → CountsReads found (solve_row found.holds (Some query) texts) end
+solve_counts found query texts end quiet others = record {
+  quiet = λ none. quiet (none (role.Framework 1));
+  others = λ other none. others other
+      (none (input (role.Framework 1) texts.file) (one_in (input (role.Framework 1) texts.file)));
+}
+
+module _ (found : Reading) (by : Option Solving) (query : Solving) (texts : SolveTexts) (ending : Ending)
+    (is : by ≡ Some query) where
+  abbrev IsEndingBy : Option Solving → Type 0
+  IsEndingBy o = IsEndingOf found (solve_row found.holds o texts) ending
+
+  -- a query that stopped ends as its row says
+  pub solve_stopped : (end : Status) → EndsSolving found query texts.file end
+      → (end ≢ ReadFault (role.Framework 1) → found.new_count ≡ found.old_count)
+      → OtherCountsKept (role.Framework 1) found.old_count found.new_count
+      → (ending.status ≡ end) ⊎ ((ending.status ≡ WantOfMemory) × IsRefusal end) → ending.kept ≡ nothing_kept
+      → Some (text_bytes ending.text) ≡ common_text ending.status → ending.files ≡ []
+      → IsEndingOf found (solve_row found.holds by texts) ending
+  solve_stopped end ends quiet others status kept text files =
+      subst IsEndingBy (sym is)
+      (IsEndingOf-stopped found (solve_row found.holds (Some query) texts) ending end (solve_cause found query texts end ends)
+      refl status kept text files (solve_counts found query texts end quiet others))
+
+  -- a query that is answered ends as its row says
+  pub solve_done : (reply : Answered) → SolvesFile (found.holds texts.file) query reply
+      → found.new_count ≡ found.old_count → EndsAnswered reply texts.certificate ending
+      → IsEndingOf found (solve_row found.holds by texts) ending
+  solve_done reply solves quiet done =
+      subst IsEndingBy (sym is) (record {
+        cause = rw done.done (inr (reply, done.keeps, solves));
+        text = rw done.done (rw done.keeps done.text);
+        files = rw done.done (rw done.keeps done.files);
+        counts = CountsReads-none found (solve_row found.holds (Some query) texts) ending.status quiet;
+      })
+
+-- words that ask no query are refused
+pub solve_unasked : (found : Reading) (by : Option Solving) (texts : SolveTexts) (ending : Ending) → by ≡ None
+    → found.new_count ≡ found.old_count
+    → (ending.status ≡ Usage) ⊎ ((ending.status ≡ WantOfMemory) × IsRefusal Usage) → ending.kept ≡ nothing_kept
+    → Some (text_bytes ending.text) ≡ common_text ending.status → ending.files ≡ []
+    → IsEndingOf found (solve_row found.holds by texts) ending
+solve_unasked found by texts ending is quiet status kept text files =
+    let P : Option Solving → Type 0 = λ o. IsEndingOf found (solve_row found.holds o texts) ending in
     subst P (sym is)
     (IsEndingOf-stopped found unknown_row ending Usage (inr (refl, refl)) refl status kept text files
     (CountsReads-none found unknown_row Usage quiet))

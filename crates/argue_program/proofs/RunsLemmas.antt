@@ -1,19 +1,21 @@
 -- What follows of a run, in the words of its query.
-use Rattle.std.proofs.Common.{◌≡◌, ◌≢◌, ◌∙◌, ◌⊎◌, ◌<◌, ◌≤◌, ℕ, List, [], ◌∷◌, zero, suc, length, refl, sym, ap, subst, inl, inr, ⊎_elim, true, false, arith, Option, None, Some, Ok, map}
+use Rattle.std.proofs.Common.{◌≡◌, ◌≢◌, ◌∙◌, ◌⊎◌, ◌<◌, ◌≤◌, ℕ, List, [], ◌∷◌, length, refl, sym, ap, subst, inl, inr, ⊎_elim, true, false, arith, Option, None, Some, Ok, map}
 use Rattle.std.specs.Prelude.{Contains}
-use Rattle.argue_outside.specs.Outside.{FaultCounted, HoldsWhole, IsLonger, KnownFile, OtherCountsKept}
+use Rattle.argue_outside.specs.Outside.{FaultCounted, HoldsWhole, IsLonger, KnownFile}
 use Rattle.argue_outside.specs.declared.Role.{Role}
 use Rattle.argue_outside.specs.declared.Role.TheVariants.{Framework}
-use Rattle.argue_words.specs.Words.{AreWords, CheckTexts, IsCheckQuery, IsGroundedQuery, Request, version, grounded, checking, unknown, requested}
-use Rattle.argue_words.proofs.RequestLaws.{query_requested, requested_texts, requested_none, requested_query, requested_unknown}
+use Rattle.argue_words.specs.Words.{AreWords, CheckTexts, IsCheckQuery, IsSolveQuery, Request, version, problems, solving, checking, unknown, SolveTexts, requested, words_are_problems}
+use Rattle.argue_words.proofs.RequestLaws.{query_requested, requested_list, requested_texts, requested_none, requested_query, requested_unknown}
 use Rattle.af_format.specs.AfText.{IsReadable, ReadsAs}
 use Rattle.af_format.proofs.Readings.{ReadsAs-faultless, ReadsAs-same}
 use Rattle.argue_program.specs.Inputs.{HasBytes, HasFirstFault, HasReadFault, Input, IsFirstFaultIn, IsFrameworkOf, Reading, StopsAt, StopsAtFirst, input}
-use Rattle.argue_program.specs.Rows.{AnswersFile, EndsCommand, check_row, FileText, HasNoInput, IsEndingOf, KeepsAnswer, Row, file_text, files_beside, grounded_row, nothing_kept, row_of, unknown_row, version_row}
-use Rattle.certificate_claims.specs.declared.verdict.Cause.{Cause as Failure}
-use Rattle.edit_rules.specs.declared.query_fault.QueryFault.{QueryFault}
+use Rattle.argue_program.specs.Rows.{EndsCommand, EndsSolved, FileText, HasNoInput, IsEndingOf, Row, check_row, file_text, files_beside, nothing_kept, problems_row, reply_files, row_of, solve_row, unknown_row, version_row}
 use Rattle.iccma_tasks.specs.Tasks.{Asked}
-use Rattle.argue_program.specs.Queries.{asked_by}
+use Rattle.argue_program.specs.Queries.{asked_by, solving_by}
+use Rattle.argue_program.specs.Solves.{SolvesFile}
+use Rattle.argue_program.specs.declared.query.Solving.{Solving}
+use Rattle.edit_rules.specs.Fitting.{Fits, IsFaultOf}
+use Rattle.oracle_core.specs.declared.reply.Answered.{Answered}
 use Rattle.argue_program.specs.Checks.{CheckEnds, ChecksFiles, IsAnswerOf, IsCertificateOf, IsSoundIn, check_inputs}
 use Rattle.argue_program.proofs.CheckLemmas.{answer_sound, certificate_sound, framework_sound, stops_told}
 use Rattle.semantics.specs.Framework.{Af}
@@ -27,9 +29,9 @@ use Rattle.certificate_laws.proofs.Right.{accepted_right}
 use Rattle.certificate_laws.proofs.Verdicts.{accepted_is_verdict}
 use Rattle.certificate_text.specs.Reading.{ReadsAs as CertReadsAs}
 use Rattle.certificate_text.proofs.OneOutcome.{one_reading}
-use Rattle.argue_program.specs.Runs.{AnswersRight, ChecksContents, HasText, IsCheckEnd, IsDoneOrMemory, IsFaulty, IsRightFor, IsRunOf, QueriesBytes, RefusesBytes, RefusesLength, RefusesWords}
+use Rattle.argue_program.specs.Runs.{AnswersRight, AnswersWords, ChecksContents, HasText, IsCheckEnd, IsDoneOrMemory, IsFaulty, IsRunOf, IsSolveEnd, NamesCertificate, QueriesBytes, RefusesBytes, RefusesLength, RefusesWords, SolvesContents}
 use Rattle.argue_program.specs.Texts.{common_text}
-use Rattle.argue_program.specs.Writing.{BreaksFiles, BreaksInText, BreaksOff, IsWritten, Output, WritesFiles}
+use Rattle.argue_program.specs.Writing.{BreaksFiles, BreaksOff, BreaksReplacing, IsWritten, Output, WritesFiles}
 use Rattle.argue_program.specs.declared.decision.Ending.{Ending}
 use Rattle.argue_program.specs.declared.ended.Cause.{Cause}
 use Rattle.argue_program.specs.declared.ended.Cause.TheVariants as cause
@@ -43,35 +45,21 @@ use Rattle.num_text.specs.declared.limit.TheConstants.{INPUT_LIMIT}
 
 -- ---- the row of a query
 
--- why a query for the grounded set of a file may end so
-abbrev pub EndsQuery : Reading → List ℕ → Transcript → Status → Type 0
-EndsQuery found file kept end =
-    StopsAt found end (input (Framework 1) file) ⊎ ((end ≡ WantOfMemory) ⊎ (KeepsAnswer (found.holds file) kept ×
-    (end ≡ Done)))
+-- why the run of a query may end so
+abbrev pub EndsQuery : Reading → SolveTexts → Solving → Transcript → Status → Type 0
+EndsQuery found texts query kept end =
+    StopsAt found end (input (Framework 1) texts.file)
+    ⊎ ((end ≡ WantOfMemory) ⊎ EndsSolved (found.holds texts.file) query kept end)
 
-ends_query : (found : Reading) (file : List ℕ) (kept : Transcript) (end : Status)
-    → EndsCommand found (grounded_row found.holds file) kept end → EndsQuery found file kept end
-ends_query found file kept end (inl (nothing, inl (inl (stops, follow)))) = inl stops
-ends_query found file kept end (inl (nothing, inl (inr (passes, more)))) = absurd more
-ends_query found file kept end (inl (nothing, inr memory)) = inr (inl memory.0)
-ends_query found file kept end (inr answered) = inr (inr answered)
-
--- a query that is neither done nor wants memory stopped at its file
-stops_query : (found : Reading) (file : List ℕ) (kept : Transcript) (end : Status) → end ≢ WantOfMemory → end ≢ Done
-    → EndsQuery found file kept end → StopsAt found end (input (Framework 1) file)
-stops_query found file kept end wants done (inl stops) = stops
-stops_query found file kept end wants done (inr (inl is)) = absurd (wants is)
-stops_query found file kept end wants done (inr (inr answered)) = absurd (done answered.1)
+ends_query : (found : Reading) (texts : SolveTexts) (query : Solving) (kept : Transcript) (end : Status)
+    → EndsCommand found (solve_row found.holds (Some query) texts) kept end → EndsQuery found texts query kept end
+ends_query found texts query kept end (inl (nothing, inl (inl (stops, follow)))) = inl stops
+ends_query found texts query kept end (inl (nothing, inl (inr (passes, more)))) = absurd more
+ends_query found texts query kept end (inl (nothing, inr memory)) = inr (inl memory.0)
+ends_query found texts query kept end (inr answered) = inr (inr answered)
 
 done_no_memory : Done ≢ WantOfMemory
 done_no_memory e = cc
-
--- a query that is done answers on the file's bytes
-answer_query : (found : Reading) (file : List ℕ) (kept : Transcript) → EndsQuery found file kept Done
-    → KeepsAnswer (found.holds file) kept
-answer_query found file kept (inl stops) = absurd stops
-answer_query found file kept (inr (inl is)) = absurd (done_no_memory is)
-answer_query found file kept (inr (inr answered)) = answered.0
 
 -- ---- bytes that are known
 
@@ -109,106 +97,131 @@ first_at : (found : Reading) (file bytes : List ℕ) (line : ℕ) (c : Cause) �
 first_at found file bytes line c is h =
     subst (λ bs. IsFirstFaultIn (Framework 1) bs line c) (bytes_at (found.holds file) bytes h.bytes is h.has) h.first
 
-answer_reads : (known : KnownFile) (bytes : List ℕ) (kept : Transcript) → known ≡ Some (Some bytes)
-    → KeepsAnswer known kept → IsReadable bytes
-answer_reads known bytes kept is keeps = (
-  keeps.answers.framework,
-  subst (λ bs. ReadsAs bs keeps.answers.framework)
-      (bytes_at known bytes keeps.answers.bytes is keeps.answers.has) keeps.answers.reads,
-)
+framework_reads : (known : KnownFile) (bytes : List ℕ) (f : Af) → known ≡ Some (Some bytes) → IsFrameworkOf known f
+    → IsReadable bytes
+framework_reads known bytes f is of_framework =
+    (f, subst (λ bs. ReadsAs bs f) (bytes_at known bytes of_framework.bytes is of_framework.has) of_framework.reads)
 
-no_read_fault : (found : Reading) (words : List (List ℕ)) (file bytes : List ℕ) → QueriesBytes found words file bytes
-    → ¬ HasReadFault found (input (Framework 1) file)
-no_read_fault found words file bytes query h =
-    ⊎_elim (λ served. h.unserved served) (λ uncounted. uncounted h.counted) query.no_fault
+no_read_fault : (found : Reading) (words : List (List ℕ)) (texts : SolveTexts) (query : Solving) (bytes : List ℕ)
+    → QueriesBytes found words texts query bytes → ¬ HasReadFault found (input (Framework 1) texts.file)
+no_read_fault found words texts query bytes asks h =
+    ⊎_elim (λ served. h.unserved served) (λ uncounted. uncounted h.counted) asks.no_fault
 
 -- a query is no row of other words
-at_query : (holds : List ℕ → KnownFile) (found : Reading) (words : List (List ℕ)) (file : List ℕ) (kept : Transcript)
-    (end : Status)
-    → IsGroundedQuery words file → EndsCommand found (row_of holds (requested words)) kept end
-    → EndsCommand found (grounded_row holds file) kept end
-at_query holds found words file kept end query cause =
-    let P : Request → Type 0 = λ r. EndsCommand found (row_of holds r) kept end in
-    subst P (requested_query words file query) cause
+at_query : (found : Reading) (words : List (List ℕ)) (texts : SolveTexts) (by : Option Solving) (kept : Transcript)
+    (end : Status) → IsSolveQuery words texts → solving_by texts ≡ by
+    → EndsCommand found (row_of found.holds (requested words)) kept end
+    → EndsCommand found (solve_row found.holds by texts) kept end
+at_query found words texts by kept end asks query_is cause =
+    let P : Request → Type 0 = λ r. EndsCommand found (row_of found.holds r) kept end in
+    let Q : Option Solving → Type 0 = λ o. EndsCommand found (solve_row found.holds o texts) kept end in
+    subst Q query_is (subst P (requested_query words texts asks) cause)
 
 -- ---- the laws of a query
 
-module _ (found : Reading) (words : List (List ℕ)) (file bytes : List ℕ) (kept : Transcript)
-    (query : QueriesBytes found words file bytes) where
-  -- a query that was refused for a line has the first fault of its bytes
-  refused_first : (r : Role) (line : ℕ) (c : Cause) → EndsQuery found file kept (InputRefused (Line r line c))
-      → (r ≡ Framework 1) × IsFirstFaultIn (Framework 1) bytes line c
-  refused_first r line c ends =
-      let stops = stops_query found file kept (InputRefused (Line r line c)) (λ e. cc) (λ e. cc) ends in
-      (stops.0, first_at found file bytes line c query.known stops.1)
-
-  refused_within : (r : Role) (line : ℕ) (c : Cause) → EndsQuery found file kept (InputRefused (Line r line c))
-      → length bytes ≤ INPUT_LIMIT
-  refused_within r line c ends =
-      let stops = stops_query found file kept (InputRefused (Line r line c)) (λ e. cc) (λ e. cc) ends in
-      within_at (found.holds file) bytes stops.1.bytes query.known stops.1.has
-
-  never_unread : (r : Role) → ¬ EndsQuery found file kept (ReadFault r)
-  never_unread r ends =
-      no_read_fault found words file bytes query (stops_query found file kept (ReadFault r) (λ e. cc) (λ e. cc) ends).1
-
-  longer_query : EndsQuery found file kept (Limit limit.Input) → INPUT_LIMIT < length bytes
-  longer_query ends =
-      longer_at (found.holds file) bytes query.known (stops_query found file kept (Limit limit.Input) (λ e. cc)
-      (λ e. cc) ends)
-
-  never_usage : ¬ EndsQuery found file kept Usage
-  never_usage ends = stops_query found file kept Usage (λ e. cc) (λ e. cc) ends
-
-  never_query : (fault : QueryFault) → ¬ EndsQuery found file kept (InputRefused (Query fault))
-  never_query fault ends = stops_query found file kept (InputRefused (Query fault)) (λ e. cc) (λ e. cc) ends
-
-  never_rejected : (failure : Failure) (r s : ℕ) → ¬ EndsQuery found file kept (Rejected failure r s)
-  never_rejected failure r s ends = stops_query found file kept (Rejected failure r s) (λ e. cc) (λ e. cc) ends
-
-  -- readable bytes within the limit are answered, but for want of memory
-  pub done_or_memory : (end : Status) → IsReadable bytes → length bytes ≤ INPUT_LIMIT → end ≢ WriteFault
-      → EndsQuery found file kept end → IsDoneOrMemory end
-  done_or_memory Done reads short whole ends = tt
-  done_or_memory Usage reads short whole ends = absurd (never_usage ends)
-  done_or_memory (InputRefused (Line r line c)) reads short whole ends =
-      absurd (readable_sound bytes line c reads (refused_first r line c ends).1)
-  done_or_memory (InputRefused (Query fault)) reads short whole ends = absurd (never_query fault ends)
-  done_or_memory (Rejected failure r s) reads short whole ends = absurd (never_rejected failure r s ends)
-  done_or_memory (ReadFault r) reads short whole ends = absurd (never_unread r ends)
-  done_or_memory WriteFault reads short whole ends = absurd (whole refl)
-  done_or_memory WantOfMemory reads short whole ends = tt
-  done_or_memory (Limit limit.Input) reads short whole ends = let long = longer_query ends in absurd (omega arith)
-
+module _ (found : Reading) (words : List (List ℕ)) (texts : SolveTexts) (query : Solving) (bytes : List ℕ)
+    (kept : Transcript) (asks : QueriesBytes found words texts query bytes) where
   -- faulty bytes within the limit are refused
   pub refuses_bytes : (end : Status) → IsFaulty bytes → length bytes ≤ INPUT_LIMIT → (end ≢ WriteFault
-      → EndsQuery found file kept end)
-      → RefusesBytes bytes end
-  refuses_bytes Done faulty short ends =
-      absurd (readable_or_faulty bytes (answer_reads (found.holds file) bytes kept query.known
-      (answer_query found file kept (ends (λ e. cc)))) faulty)
-  refuses_bytes Usage faulty short ends = absurd (never_usage (ends (λ e. cc)))
-  refuses_bytes (InputRefused (Line r line c)) faulty short ends = refused_first r line c (ends (λ e. cc))
-  refuses_bytes (InputRefused (Query fault)) faulty short ends = absurd (never_query fault (ends (λ e. cc)))
-  refuses_bytes (Rejected failure r s) faulty short ends = absurd (never_rejected failure r s (ends (λ e. cc)))
-  refuses_bytes (ReadFault r) faulty short ends = absurd (never_unread r (ends (λ e. cc)))
+      → EndsQuery found texts query kept end) → RefusesBytes bytes end
+  refuses_bytes Done faulty short ends = not_done (ends (λ e. cc))
+    where
+      not_done : EndsQuery found texts query kept Done → ⊥
+      not_done (inl stops) = stops
+      not_done (inr (inl is)) = done_no_memory is
+      not_done (inr (inr (reply, keeps, solves))) =
+          readable_or_faulty bytes
+          (framework_reads (found.holds texts.file) bytes solves.framework asks.known solves.of_framework) faulty
+  refuses_bytes (InputRefused (Query fault)) faulty short ends = not_query (ends (λ e. cc))
+    where
+      not_query : EndsQuery found texts query kept (InputRefused (Query fault)) → ⊥
+      not_query (inl stops) = stops
+      not_query (inr (inl is)) = absurd (cc)
+      not_query (inr (inr (nothing, refuses))) =
+          readable_or_faulty bytes
+          (framework_reads (found.holds texts.file) bytes refuses.framework asks.known refuses.of_framework) faulty
+  refuses_bytes (InputRefused (Line r line c)) faulty short ends = at_first (ends (λ e. cc))
+    where
+      at_first : EndsQuery found texts query kept (InputRefused (Line r line c))
+          → (r ≡ Framework 1) × IsFirstFaultIn (Framework 1) bytes line c
+      at_first (inl stops) = (stops.0, first_at found texts.file bytes line c asks.known stops.1)
+      at_first (inr (inl is)) = absurd (cc)
+      at_first (inr (inr none)) = absurd none
+  refuses_bytes Usage faulty short ends = not_usage (ends (λ e. cc))
+    where
+      not_usage : EndsQuery found texts query kept Usage → ⊥
+      not_usage (inl stops) = stops
+      not_usage (inr (inl is)) = absurd (cc)
+      not_usage (inr (inr none)) = none
+  refuses_bytes (Rejected failure r s) faulty short ends = not_rejected (ends (λ e. cc))
+    where
+      not_rejected : EndsQuery found texts query kept (Rejected failure r s) → ⊥
+      not_rejected (inl stops) = stops
+      not_rejected (inr (inl is)) = absurd (cc)
+      not_rejected (inr (inr none)) = none
+  refuses_bytes (ReadFault r) faulty short ends = not_unread (ends (λ e. cc))
+    where
+      not_unread : EndsQuery found texts query kept (ReadFault r) → ⊥
+      not_unread (inl stops) = no_read_fault found words texts query bytes asks stops.1
+      not_unread (inr (inl is)) = absurd (cc)
+      not_unread (inr (inr none)) = none
   refuses_bytes WriteFault faulty short ends = tt
   refuses_bytes WantOfMemory faulty short ends = tt
-  refuses_bytes (Limit limit.Input) faulty short ends = let long = longer_query (ends (λ e. cc)) in absurd (omega arith)
+  refuses_bytes (Limit limit.Input) faulty short ends = not_longer (ends (λ e. cc))
+    where
+      not_longer : EndsQuery found texts query kept (Limit limit.Input) → ⊥
+      not_longer (inl stops) =
+          let long = longer_at (found.holds texts.file) bytes asks.known stops in absurd (omega arith)
+      not_longer (inr (inl is)) = absurd (cc)
+      not_longer (inr (inr none)) = none
 
   -- bytes over the limit are refused
   pub refuses_length : (end : Status) → INPUT_LIMIT < length bytes → (end ≢ WriteFault
-      → EndsQuery found file kept end) → RefusesLength end
-  refuses_length Done long ends =
-      let keeps = answer_query found file kept (ends (λ e. cc)) in
-      let short = within_at (found.holds file) bytes keeps.answers.bytes query.known keeps.answers.has in
-      absurd (omega arith)
-  refuses_length Usage long ends = absurd (never_usage (ends (λ e. cc)))
-  refuses_length (InputRefused (Line r line c)) long ends =
-      let short = refused_within r line c (ends (λ e. cc)) in absurd (omega arith)
-  refuses_length (InputRefused (Query fault)) long ends = absurd (never_query fault (ends (λ e. cc)))
-  refuses_length (Rejected failure r s) long ends = absurd (never_rejected failure r s (ends (λ e. cc)))
-  refuses_length (ReadFault r) long ends = absurd (never_unread r (ends (λ e. cc)))
+      → EndsQuery found texts query kept end) → RefusesLength end
+  refuses_length Done long ends = not_done (ends (λ e. cc))
+    where
+      not_done : EndsQuery found texts query kept Done → ⊥
+      not_done (inl stops) = stops
+      not_done (inr (inl is)) = done_no_memory is
+      not_done (inr (inr (reply, keeps, solves))) =
+          let of = solves.of_framework in
+          let short = within_at (found.holds texts.file) bytes of.bytes asks.known of.has in
+          absurd (omega arith)
+  refuses_length (InputRefused (Query fault)) long ends = not_query (ends (λ e. cc))
+    where
+      not_query : EndsQuery found texts query kept (InputRefused (Query fault)) → ⊥
+      not_query (inl stops) = stops
+      not_query (inr (inl is)) = absurd (cc)
+      not_query (inr (inr (nothing, refuses))) =
+          let of = refuses.of_framework in
+          let short = within_at (found.holds texts.file) bytes of.bytes asks.known of.has in
+          absurd (omega arith)
+  refuses_length (InputRefused (Line r line c)) long ends = not_line (ends (λ e. cc))
+    where
+      not_line : EndsQuery found texts query kept (InputRefused (Line r line c)) → ⊥
+      not_line (inl stops) =
+          let short = within_at (found.holds texts.file) bytes stops.1.bytes asks.known stops.1.has in
+          absurd (omega arith)
+      not_line (inr (inl is)) = absurd (cc)
+      not_line (inr (inr none)) = none
+  refuses_length Usage long ends = not_usage (ends (λ e. cc))
+    where
+      not_usage : EndsQuery found texts query kept Usage → ⊥
+      not_usage (inl stops) = stops
+      not_usage (inr (inl is)) = absurd (cc)
+      not_usage (inr (inr none)) = none
+  refuses_length (Rejected failure r s) long ends = not_rejected (ends (λ e. cc))
+    where
+      not_rejected : EndsQuery found texts query kept (Rejected failure r s) → ⊥
+      not_rejected (inl stops) = stops
+      not_rejected (inr (inl is)) = absurd (cc)
+      not_rejected (inr (inr none)) = none
+  refuses_length (ReadFault r) long ends = not_unread (ends (λ e. cc))
+    where
+      not_unread : EndsQuery found texts query kept (ReadFault r) → ⊥
+      not_unread (inl stops) = no_read_fault found words texts query bytes asks stops.1
+      not_unread (inr (inl is)) = absurd (cc)
+      not_unread (inr (inr none)) = none
   refuses_length WriteFault long ends = tt
   refuses_length WantOfMemory long ends = tt
   refuses_length (Limit limit.Input) long ends = tt
@@ -221,6 +234,13 @@ version_done : (found : Reading) (kept : Transcript) (end : Status) → EndsComm
 version_done found kept end (inl (nothing, inl stops)) = absurd stops
 version_done found kept end (inl (nothing, inr (is, takes))) = absurd (let e : false ≡ true = takes in cc)
 version_done found kept end (inr done) = done.1
+
+-- the list of tasks is done, but for want of memory
+problems_done : (found : Reading) (kept : Transcript) (end : Status) → EndsCommand found problems_row kept end
+    → IsDoneOrMemory end
+problems_done found kept end (inl (nothing, inl stops)) = absurd stops
+problems_done found kept end (inl (nothing, inr memory)) = subst IsDoneOrMemory (sym memory.0) tt
+problems_done found kept end (inr done) = subst IsDoneOrMemory (sym done.1) tt
 
 ends_unknown : (found : Reading) (kept : Transcript) (end : Status) → end ≢ Usage → end ≢ WantOfMemory
     → ¬ EndsCommand found unknown_row kept end
@@ -355,35 +375,102 @@ module _ (found : Reading) (words : List (List ℕ)) (texts : CheckTexts) (asked
       let P : Status → Type 0 = IsCheckEnd f asked answer certificate in subst P (sym memory.0) tt
   ends_check kept end (inr checks) = checks_end end checks.1
 
+-- ---- the ends of a query
+
+module _ (found : Reading) (words : List (List ℕ)) (texts : SolveTexts) (query : Solving) (f : Af)
+    (contents : SolvesContents found words texts query f) where
+  same_read : (g : Af) → IsFrameworkOf (found.holds texts.file) g → g ≡ f
+  same_read g is =
+      let has = contents.of_framework in
+      ReadsAs-same has.bytes g f
+      (subst (λ bs. ReadsAs bs g) (bytes_at (found.holds texts.file) has.bytes is.bytes has.known is.has) is.reads) has.reads
+
+  solved_end : (kept : Transcript) (end : Status) → EndsSolved (found.holds texts.file) query kept end
+      → IsSolveEnd f query end
+  solved_end kept Done (reply, keeps, solves) =
+      subst (λ g. Fits (af g) query.query) (same_read solves.framework solves.of_framework) solves.replies.fits
+  solved_end kept (InputRefused (Query fault)) (nothing, refuses) =
+      subst (λ g. IsFaultOf (af g) query.query fault) (same_read refuses.framework refuses.of_framework) refuses.fault_is
+  solved_end kept (InputRefused (Line r line c)) none = none
+  solved_end kept Usage none = none
+  solved_end kept (ReadFault r) none = none
+  solved_end kept WriteFault none = tt
+  solved_end kept WantOfMemory none = tt
+  solved_end kept (Limit l) none = none
+  solved_end kept (Rejected failure r s) none = none
+
+  pub ends_solve : (kept : Transcript) (end : Status) → EndsQuery found texts query kept end → IsSolveEnd f query end
+  ends_solve kept end (inl stops) =
+      absurd (no_stop found _ _ (λ bytes reads. framework_sound bytes f reads) contents.of_framework end stops)
+  ends_solve kept end (inr (inl is)) =
+      let P : Status → Type 0 = IsSolveEnd f query in subst P (sym is) tt
+  ends_solve kept end (inr (inr ends)) = solved_end kept end ends
+
 -- ---- runs
 
 some_is : {X : Type 0} {x y : X} → Some x ≡ Some y → x ≡ y
 some_is e = cc
 
-no_check_files : (holds : List ℕ → KnownFile) (asked : Option Asked) (texts : CheckTexts) (kept : Transcript)
-    (end : Status) (text : Option (List ℕ)) → files_beside text ((check_row holds asked texts).files kept end) ≡ []
-no_check_files holds None texts kept end None = refl
-no_check_files holds None texts kept end (Some text) = refl
-no_check_files holds (Some asked) texts kept end None = refl
-no_check_files holds (Some asked) texts kept end (Some text) = refl
+-- each of the files has another name
+abbrev HaveOtherNames : List ℕ → List FileText → Type 0
+HaveOtherNames name [] = Unit {0}
+HaveOtherNames name (file ∷ more) = (name ≡ file.name → ⊥) × HaveOtherNames name more
 
--- a check keeps nothing
-check_keeps : (holds : List ℕ → KnownFile) (asked : Option Asked) (texts : CheckTexts) (kept : Transcript) (end : Status)
-    → (check_row holds asked texts).Ends kept end → kept ≡ nothing_kept
-check_keeps holds None texts kept end unasked = unasked.0
-check_keeps holds (Some asked) texts kept end checks = checks.0
+beside_other : (name : List ℕ) (text : Option (List ℕ)) (files : List FileText) → HaveOtherNames name files
+    → HaveOtherNames name (files_beside text files)
+beside_other name None files other = other
+beside_other name (Some text) files other = tt
 
--- no row writes a file today
-no_files : (holds : List ℕ → KnownFile) (request : Request) (kept : Transcript) (end : Status) (text : Option (List ℕ))
-    → files_beside text ((row_of holds request).files kept end) ≡ []
-no_files holds version kept end None = refl
-no_files holds version kept end (Some text) = refl
-no_files holds (grounded file) kept end None = refl
-no_files holds (grounded file) kept end (Some text) = refl
-no_files holds (checking texts) kept end text =
-    no_check_files holds (asked_by texts.task texts.number) texts kept end text
-no_files holds unknown kept end None = refl
-no_files holds unknown kept end (Some text) = refl
+reply_other : (name : List ℕ) (certificate : Option (List ℕ)) (reply : Option Answered)
+    → (certificate ≡ Some name → ⊥) → HaveOtherNames name (reply_files certificate reply)
+reply_other name certificate None other = tt
+reply_other name None (Some reply) other = tt
+reply_other name (Some file) (Some reply) other = (λ e. other (ap Some (sym e)), tt)
+
+solve_other : (holds : List ℕ → KnownFile) (query : Option Solving) (texts : SolveTexts) (kept : Transcript)
+    (end : Status) (name : List ℕ) → (texts.certificate ≡ Some name → ⊥)
+    → HaveOtherNames name ((solve_row holds query texts).files kept end)
+solve_other holds None texts kept end name other = tt
+solve_other holds (Some query) texts kept end name other = reply_other name texts.certificate kept.reply other
+
+check_other : (holds : List ℕ → KnownFile) (asked : Option Asked) (texts : CheckTexts) (kept : Transcript)
+    (end : Status) (name : List ℕ) → HaveOtherNames name ((check_row holds asked texts).files kept end)
+check_other holds None texts kept end name = tt
+check_other holds (Some asked) texts kept end name = tt
+
+-- a row writes no file but that of a query's certificate
+row_other : (holds : List ℕ → KnownFile) (words : List (List ℕ)) (request : Request) (kept : Transcript) (end : Status)
+    (name : List ℕ) → requested words ≡ request → ¬ NamesCertificate words name
+    → HaveOtherNames name ((row_of holds request).files kept end)
+row_other holds words version kept end name is other = tt
+row_other holds words problems kept end name is other = tt
+row_other holds words (solving texts) kept end name is other =
+    solve_other holds (solving_by texts) texts kept end name
+    (λ e. other (record { texts = texts; asks = query_requested words texts is; named = e }))
+row_other holds words (checking texts) kept end name is other =
+    check_other holds (asked_by texts.task texts.number) texts kept end name
+row_other holds words unknown kept end name is other = tt
+
+-- files of other names stay
+written_other : (name : List ℕ) (files : List FileText) (old new : List ℕ → KnownFile) → HaveOtherNames name files
+    → WritesFiles files old new → new name ≡ old name
+written_other name [] old new other written = ap (λ (holds : List ℕ → KnownFile). holds name) written
+written_other name (file ∷ more) old new other (mid, replaced, rest) =
+    written_other name more mid new other.1 rest
+    ∙ replaced.added_alone name other.0 ∙ replaced.cleared_alone name other.0
+
+breaking_other : (name : List ℕ) (file : FileText) (old new : List ℕ → KnownFile) → (name ≡ file.name → ⊥)
+    → BreaksReplacing file old new → new name ≡ old name
+breaking_other name file old new other (inl same) = ap (λ (holds : List ℕ → KnownFile). holds name) same
+breaking_other name file old new other (inr part) = part.added_alone name other ∙ part.cleared_alone name other
+
+broken_other : (name : List ℕ) (files : List FileText) (old new : List ℕ → KnownFile) → HaveOtherNames name files
+    → BreaksFiles files old new → new name ≡ old name
+broken_other name [] old new other broken = absurd broken
+broken_other name (file ∷ more) old new other (inl breaking) = breaking_other name file old new other.0 breaking
+broken_other name (file ∷ more) old new other (inr (mid, replaced, rest)) =
+    broken_other name more mid new other.1 rest
+    ∙ replaced.added_alone name other.0 ∙ replaced.cleared_alone name other.0
 
 write_fault_or : (end : Status) → (end ≡ WriteFault) ⊎ (end ≢ WriteFault)
 write_fault_or WriteFault = inl refl
@@ -419,29 +506,72 @@ IsRunOf-written found holds count row ended writes old new ending decided reads 
       broken = λ b. subst (λ (o : Output). BreaksOff ending o new) is (broken b);
     }
 
--- nothing is kept, and so no set
-none_kept : (found : Reading) (words : List (List ℕ)) (kept : Transcript) (set : List ℕ) → kept ≡ nothing_kept
-    → kept.set ≡ Some set
-    → IsRightFor words found.holds set
-none_kept found words kept set nothing is =
-    absurd (let e : None ≡ Some set = sym (ap (λ (k : Transcript). k.set) nothing) ∙ is in cc)
+-- nothing is kept, and so no answer
+none_kept : (found : Reading) (words : List (List ℕ)) (kept : Transcript) (reply : Answered) → kept ≡ nothing_kept
+    → kept.reply ≡ Some reply → AnswersWords words found.holds reply
+none_kept found words kept reply nothing is =
+    absurd (let e : None ≡ Some reply = sym (ap (λ (k : Transcript). k.reply) nothing) ∙ is in cc)
+
+-- a check keeps nothing
+check_keeps : (holds : List ℕ → KnownFile) (asked : Option Asked) (texts : CheckTexts) (kept : Transcript) (end : Status)
+    → (check_row holds asked texts).Ends kept end → kept ≡ nothing_kept
+check_keeps holds None texts kept end unasked = unasked.0
+check_keeps holds (Some asked) texts kept end checks = checks.0
+
+right_solved : (found : Reading) (words : List (List ℕ)) (texts : SolveTexts) (query : Solving) (kept : Transcript)
+    (end : Status) (reply : Answered) → IsSolveQuery words texts → solving_by texts ≡ Some query
+    → EndsSolved (found.holds texts.file) query kept end → kept.reply ≡ Some reply
+    → AnswersWords words found.holds reply
+right_solved found words texts query kept Done reply asks query_is (given, keeps, solves) is = record {
+  texts = texts;
+  asks = asks;
+  query = query;
+  query_is = query_is;
+  solves =
+      let e : given ≡ reply = some_is (sym keeps ∙ is) in subst (SolvesFile (found.holds texts.file) query) e solves;
+}
+right_solved found words texts query kept (InputRefused (Query fault)) reply asks query_is (nothing, refuses) is =
+    none_kept found words kept reply nothing is
+right_solved found words texts query kept (InputRefused (Line r line c)) reply asks query_is none is = absurd none
+right_solved found words texts query kept Usage reply asks query_is none is = absurd none
+right_solved found words texts query kept (ReadFault r) reply asks query_is none is = absurd none
+right_solved found words texts query kept WriteFault reply asks query_is none is = absurd none
+right_solved found words texts query kept WantOfMemory reply asks query_is none is = absurd none
+right_solved found words texts query kept (Limit l) reply asks query_is none is = absurd none
+right_solved found words texts query kept (Rejected failure r s) reply asks query_is none is = absurd none
+
+right_by : (found : Reading) (words : List (List ℕ)) (texts : SolveTexts) (by : Option Solving) (kept : Transcript)
+    (end : Status) (reply : Answered) → IsSolveQuery words texts → solving_by texts ≡ by
+    → (solve_row found.holds by texts).Ends kept end → kept.reply ≡ Some reply → AnswersWords words found.holds reply
+right_by found words texts None kept end reply asks query_is unasked is =
+    none_kept found words kept reply unasked.0 is
+right_by found words texts (Some query) kept end reply asks query_is ends is =
+    right_solved found words texts query kept end reply asks query_is ends is
 
 right_at : (found : Reading) (words : List (List ℕ)) (request : Request) (kept : Transcript) (end : Status)
-    (set : List ℕ)
-    → requested words ≡ request → EndsCommand found (row_of found.holds request) kept end → kept.set ≡ Some set
-    → IsRightFor words found.holds set
-right_at found words request kept end set asked (inl (nothing, why)) is = none_kept found words kept set nothing is
-right_at found words version kept end set asked (inr done) is = none_kept found words kept set done.0 is
-right_at found words (checking texts) kept end set asked (inr checks) is =
-    none_kept found words kept set (check_keeps found.holds (asked_by texts.task texts.number) texts kept end checks) is
-right_at found words unknown kept end set asked (inr unasked) is = none_kept found words kept set unasked.0 is
-right_at found words (grounded file) kept end set asked (inr answered) is = record {
-  file = file;
-  query = query_requested words file asked;
-  answers =
-      let e : answered.0.set ≡ set = some_is (sym answered.0.kept_set ∙ is) in
-      subst (AnswersFile (found.holds file)) e answered.0.answers;
-}
+    (reply : Answered) → requested words ≡ request → EndsCommand found (row_of found.holds request) kept end
+    → kept.reply ≡ Some reply → AnswersWords words found.holds reply
+right_at found words request kept end reply asked (inl (nothing, why)) is =
+    none_kept found words kept reply nothing is
+right_at found words version kept end reply asked (inr done) is = none_kept found words kept reply done.0 is
+right_at found words problems kept end reply asked (inr done) is = none_kept found words kept reply done.0 is
+right_at found words (checking texts) kept end reply asked (inr checks) is =
+    none_kept found words kept reply
+    (check_keeps found.holds (asked_by texts.task texts.number) texts kept end checks) is
+right_at found words unknown kept end reply asked (inr unasked) is = none_kept found words kept reply unasked.0 is
+right_at found words (solving texts) kept end reply asked (inr ends) is =
+    right_by found words texts (solving_by texts) kept end reply (query_requested words texts asked) refl ends is
+
+-- a status that is neither done nor a write fault has a text of its own, and so no files
+no_files : (files : List FileText) (end : Status) → end ≢ Done → files_beside (common_text end) files ≡ []
+no_files files Done other = absurd (other refl)
+no_files files Usage other = refl
+no_files files (InputRefused refusal) other = refl
+no_files files (ReadFault r) other = refl
+no_files files WriteFault other = refl
+no_files files WantOfMemory other = refl
+no_files files (Limit l) other = refl
+no_files files (Rejected failure r s) other = refl
 
 module _ (found : Reading) (words : List (List ℕ)) (ended : Ended) (old new : Output)
     (run : IsRunOf found (row_of found.holds (requested words)) ended old new) where
@@ -451,50 +581,48 @@ module _ (found : Reading) (words : List (List ℕ)) (ended : Ended) (old new : 
       let Q : Status → Type 0 = EndsCommand found (row_of found.holds (requested words)) ended.kept in
       subst Q (sym (run.whole whole).0) (subst P (sym run.kept) run.decided.cause)
 
-  ends_on : (file : List ℕ) → IsGroundedQuery words file → ended.status ≢ WriteFault
-      → EndsQuery found file ended.kept ended.status
-  ends_on file query whole =
-      ends_query found file ended.kept ended.status
-      (at_query found.holds found words file ended.kept ended.status query (ends whole))
+  ends_on : (texts : SolveTexts) (query : Solving) → IsSolveQuery words texts → solving_by texts ≡ Some query
+      → ended.status ≢ WriteFault → EndsQuery found texts query ended.kept ended.status
+  ends_on texts query asks query_is whole =
+      ends_query found texts query ended.kept ended.status
+      (at_query found words texts (Some query) ended.kept ended.status asks query_is (ends whole))
 
-  none_written : map file_text run.ending.files ≡ []
-  none_written =
-      run.decided.files ∙ no_files found.holds (requested words) run.ending.kept run.ending.status
-      (common_text run.ending.status)
-
-  same_files : WritesFiles (map file_text run.ending.files) old.holds new.holds → new.holds ≡ old.holds
-  same_files written =
-      let P : List FileText → Type 0 = λ files. WritesFiles files old.holds new.holds in subst P none_written written
-
-  in_text : BreaksOff run.ending old new → BreaksInText run.ending old new
-  in_text (inl broken) =
-      let P : List FileText → Type 0 = λ files. BreaksFiles files old.holds new.holds in
-      absurd (subst P none_written broken.files)
-  in_text (inr broken) = broken
-
-  -- a set that the run keeps is right
-  pub right_set : (set : List ℕ) → ended.kept.set ≡ Some set → IsRightFor words found.holds set
-  right_set set is =
+  -- an answer that the run keeps is right
+  pub right_reply : (reply : Answered) → ended.kept.reply ≡ Some reply → AnswersWords words found.holds reply
+  right_reply reply is =
       let P : Transcript → Type 0 = λ k. EndsCommand found (row_of found.holds (requested words)) k run.ending.status in
-      right_at found words (requested words) ended.kept run.ending.status set refl (subst P
+      right_at found words (requested words) ended.kept run.ending.status reply refl (subst P
       (sym run.kept) run.decided.cause) is
 
-  pub complete : (file bytes : List ℕ) → QueriesBytes found words file bytes → IsReadable bytes
-      → length bytes ≤ INPUT_LIMIT
-      → ended.status ≢ WriteFault → IsDoneOrMemory ended.status
-  complete file bytes query reads short whole =
-      done_or_memory found words file bytes ended.kept query ended.status reads short whole
-      (ends_on file query.query whole)
+  pub complete : (texts : SolveTexts) (query : Solving) (f : Af) → SolvesContents found words texts query f
+      → IsSolveEnd f query ended.status
+  complete texts query f contents = ⊎_elim
+      (λ broken. let P : Status → Type 0 = IsSolveEnd f query in subst P (sym broken) tt)
+      (λ whole. ends_solve found words texts query f contents ended.kept ended.status
+      (ends_on texts query contents.asks contents.query_is whole)) (write_fault_or ended.status)
 
-  pub faulty : (file bytes : List ℕ) → QueriesBytes found words file bytes → IsFaulty bytes → length bytes ≤ INPUT_LIMIT
-      → RefusesBytes bytes ended.status
-  faulty file bytes query bad short =
-      refuses_bytes found words file bytes ended.kept query ended.status bad short (ends_on file query.query)
+  pub faulty : (texts : SolveTexts) (query : Solving) (bytes : List ℕ) → QueriesBytes found words texts query bytes
+      → IsFaulty bytes → length bytes ≤ INPUT_LIMIT → RefusesBytes bytes ended.status
+  faulty texts query bytes asks bad short =
+      refuses_bytes found words texts query bytes ended.kept asks ended.status bad short
+      (ends_on texts query asks.asks asks.query_is)
 
-  pub too_long : (file bytes : List ℕ) → QueriesBytes found words file bytes → INPUT_LIMIT < length bytes
-      → RefusesLength ended.status
-  too_long file bytes query long =
-      refuses_length found words file bytes ended.kept query ended.status long (ends_on file query.query)
+  pub too_long : (texts : SolveTexts) (query : Solving) (bytes : List ℕ) → QueriesBytes found words texts query bytes
+      → INPUT_LIMIT < length bytes → RefusesLength ended.status
+  too_long texts query bytes asks long =
+      refuses_length found words texts query bytes ended.kept asks ended.status long
+      (ends_on texts query asks.asks asks.query_is)
+
+  -- a query that there isn't is refused
+  pub no_query : (texts : SolveTexts) → IsSolveQuery words texts → solving_by texts ≡ None → RefusesWords ended.status
+  no_query texts asks none =
+      refuses_words found ended.kept ended.status
+      (λ whole. at_query found words texts None ended.kept ended.status asks none (ends whole))
+
+  pub problems_told : words_are_problems words ≡ true → ended.status ≢ WriteFault → IsDoneOrMemory ended.status
+  problems_told listed whole =
+      let P : Request → Type 0 = λ r. EndsCommand found (row_of found.holds r) ended.kept ended.status in
+      problems_done found ended.kept ended.status (subst P (requested_list words listed) (ends whole))
 
   pub usage : ¬ AreWords words → RefusesWords ended.status
   usage other =
@@ -506,14 +634,42 @@ module _ (found : Reading) (words : List (List ℕ)) (ended : Ended) (old new : 
       let P : Request → Type 0 = λ r. EndsCommand found (row_of found.holds r) ended.kept ended.status in
       version_done found ended.kept ended.status (subst P (requested_none words none) (ends whole))
 
-  pub write_fault : ended.status ≡ WriteFault → FaultCounted old.fault_count new.fault_count
-  write_fault broken = (in_text (run.broken broken)).counted
+  pub write_fault : ended.status ≡ WriteFault
+      → FaultCounted old.fault_count new.fault_count ⊎ FaultCounted old.write_count new.write_count
+  write_fault broken = ⊎_elim (λ files. inr files.counted) (λ text. inl text.counted) (run.broken broken)
 
-  pub files_stay : (new.holds ≡ old.holds) × (new.write_count ≡ old.write_count)
-  files_stay = ⊎_elim
-      (λ broken. let text = in_text (run.broken broken) in (same_files text.files, text.no_fault))
-      (λ whole. let written = (run.whole whole).1 in (same_files written.files, written.no_fault.0))
+  pub no_write : ended.status ≢ WriteFault → new.write_count ≡ old.write_count
+  no_write whole = (run.whole whole).1.no_fault.0
+
+  -- the files that the ending has to write have other names than one that names no certificate
+  named_otherwise : (name : List ℕ) → ¬ NamesCertificate words name
+      → HaveOtherNames name (map file_text run.ending.files)
+  named_otherwise name other =
+      subst (HaveOtherNames name) (sym run.decided.files)
+      (beside_other name (common_text run.ending.status)
+      ((row_of found.holds (requested words)).files run.ending.kept run.ending.status)
+      (row_other found.holds words (requested words) run.ending.kept run.ending.status name refl other))
+
+  pub other_files : (name : List ℕ) → ¬ NamesCertificate words name → new.holds name ≡ old.holds name
+  other_files name other =
+      let names = named_otherwise name other in
+      ⊎_elim
+      (λ broken. ⊎_elim
+      (λ in_files. broken_other name (map file_text run.ending.files) old.holds new.holds names in_files.files)
+      (λ in_text. written_other name (map file_text run.ending.files) old.holds new.holds names in_text.files)
+      (run.broken broken))
+      (λ whole. written_other name (map file_text run.ending.files) old.holds new.holds names (run.whole whole).1.files)
       (write_fault_or ended.status)
+
+  pub untouched : ended.status ≢ Done → ended.status ≢ WriteFault → new.holds ≡ old.holds
+  untouched other whole =
+      let both = run.whole whole in
+      let P : List FileText → Type 0 = λ files. WritesFiles files old.holds new.holds in
+      let none : map file_text run.ending.files ≡ [] =
+      run.decided.files
+      ∙ no_files ((row_of found.holds (requested words)).files run.ending.kept run.ending.status) run.ending.status
+      (λ done. other (both.0 ∙ done)) in
+      subst P none both.1.files
 
   pub other_counts : (other : Role) → HasNoInput (row_of found.holds (requested words)) other
       → found.new_count other ≡ found.old_count other

@@ -3,6 +3,7 @@ pub mod Inputs
 pub mod Queries
 pub mod Rows
 pub mod Runs
+pub mod Solves
 pub mod Statuses
 pub mod Texts
 pub mod Writing

@@ -1,12 +1,16 @@
--- The query that the name of a task and the text of a number ask.
-use Rattle.std.specs.Prelude.{ℕ, ◌&&◌, ◌^◌, Bool, true, false, List, [], ◌∷◌, length, Option, Some, None, if◌then◌else◌, nat_le, nat_lt}
-use Rattle.std.specs.List.{list_all}
+-- The queries that words ask, and those that the program solves.
+use Rattle.std.specs.Prelude.{ℕ, ◌++◌, ◌&&◌, codes, filter, map, ◌^◌, Bool, true, false, List, [], ◌∷◌, length, Option, Some, None, if◌then◌else◌, nat_le, nat_lt}
+use Rattle.std.specs.List.{join_with_byte, list_all}
 use Rattle.std.specs.Str.{bytes_eq}
 use Rattle.num_text.specs.Number.{digits_value}
 use Rattle.iccma_tasks.specs.declared.task.Problem.{Problem}
 use Rattle.iccma_tasks.specs.declared.task.Problem.TheVariants.{Credulous, Sceptical, SomeExtension, AllExtensions}
 use Rattle.iccma_tasks.specs.declared.task.Task.{Task}
 use Rattle.iccma_tasks.specs.Tasks.{Asked, all_tasks, task_name}
+use Rattle.argue_words.specs.Words.{SolveTexts}
+use Rattle.oracle_core.specs.Answers.{is_by_grounded}
+use Rattle.argue_program.specs.declared.query.Solving.{Solving}
+use Rattle.argue_program.specs.declared.query.TheConstants.{DEFAULT_BUDGET}
 
 -- the first of the tasks that has the name
 unfoldable pub first_named : List Task → List ℕ → Option Task
@@ -48,3 +52,28 @@ asked_of (Some task) (Some text) = asked_about task (number_of text)
 -- the query, where there is such a task, the text is a number, and the task wants what is given
 unfoldable pub asked_by : List ℕ → Option (List ℕ) → Option Asked
 asked_by task number = asked_of (first_named all_tasks task) number
+
+-- ---- what the program solves
+
+-- the tasks that need no search
+abbrev pub is_solved : Task → Bool
+is_solved task = is_by_grounded task.problem task.semantics
+
+-- the names of the tasks that the program solves, in the order of all tasks, with commas between, in brackets, and LF
+abbrev pub problems_text : List ℕ
+problems_text = codes "[" ++ join_with_byte 44 (map task_name (filter is_solved all_tasks)) ++ codes "]\n"
+
+-- the budget of units: 1,000,000 where no text is given
+abbrev pub budget_of : Option (List ℕ) → Option ℕ
+budget_of None = Some DEFAULT_BUDGET
+budget_of (Some text) = number_of text
+
+-- a query with a budget, where the program solves its task
+abbrev pub solving_with : Option Asked → Option ℕ → Option Solving
+solving_with (Some asked) (Some budget) =
+    if is_solved asked.task then Some (record { query = asked; budget = budget }) else None
+solving_with _ _ = None
+
+-- the query that the texts of a query's words ask, with its budget
+unfoldable pub solving_by : SolveTexts → Option Solving
+solving_by texts = solving_with (asked_by texts.task texts.number) (budget_of texts.budget)

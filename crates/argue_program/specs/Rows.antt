@@ -1,23 +1,26 @@
 -- The table of commands: what each reads, how it may end, and what it then writes.
 use Rattle.std.specs.Prelude.{◌≡◌, ◌≢◌, Contains, ℕ, ◌⊎◌, Bool, true, false, List, [], ◌∷◌, Option, None, Some, IsTrue, codes, map}
 use Rattle.std.specs.Option.{unwrap_or}
-use Rattle.std.specs.List.Sorted.{IsStrictlyIncreasing}
 use Rattle.std.specs.String.{string_bytes}
-use Rattle.semantics.specs.Framework.{Af, IsGrounded}
 use Rattle.argue_outside.specs.Outside.{KnownFile}
-use Rattle.iccma_tasks.specs.WrittenText.{set_line}
+use Rattle.iccma_tasks.specs.WrittenText.{text_of as answer_text}
+use Rattle.certificate_claims.specs.declared.certificate.Certificate.{Certificate}
+use Rattle.certificate_text.specs.Written.{certificate_text}
+use Rattle.oracle_core.specs.declared.reply.Answered.{Answered}
 use Rattle.argue_outside.specs.declared.Role.{Role}
 use Rattle.argue_outside.specs.declared.Role.TheVariants.{Framework}
-use Rattle.argue_words.specs.Words.{CheckTexts, Request, version, grounded, checking, unknown}
+use Rattle.argue_words.specs.Words.{CheckTexts, Request, version, problems, solving, checking, unknown, SolveTexts}
 use Rattle.iccma_tasks.specs.Tasks.{Asked}
 use Rattle.argue_program.specs.Checks.{ChecksFiles, check_inputs}
-use Rattle.argue_program.specs.Queries.{asked_by}
-use Rattle.af_format.specs.AfText.{ReadsAs}
-use Rattle.argue_program.specs.Inputs.{HasBytes, Input, Reading, StopsAtFirst}
+use Rattle.argue_program.specs.Queries.{asked_by, problems_text, solving_by}
+use Rattle.argue_program.specs.Solves.{RefusesQuery, SolvesFile}
+use Rattle.argue_program.specs.declared.query.Solving.{Solving}
+use Rattle.argue_program.specs.declared.ended.Refusal.TheVariants.{Query}
+use Rattle.argue_program.specs.Inputs.{Input, Reading, StopsAtFirst, input}
 use Rattle.argue_program.specs.Texts.{common_text, text_bytes}
 use Rattle.argue_program.specs.declared.decision.Ending.{Ending}
 use Rattle.argue_program.specs.declared.ended.Status.{Status}
-use Rattle.argue_program.specs.declared.ended.Status.TheVariants.{Done, Usage, ReadFault, WantOfMemory}
+use Rattle.argue_program.specs.declared.ended.Status.TheVariants.{Done, Usage, InputRefused, ReadFault, WantOfMemory}
 use Rattle.argue_program.specs.declared.ended.Transcript.{Transcript}
 use Rattle.argue_program.specs.declared.writing.Written.{Written}
 
@@ -36,28 +39,9 @@ pub record Row : Type 1 where
 
 -- a run that keeps nothing
 abbrev pub nothing_kept : Transcript
-nothing_kept = record { set = None }
+nothing_kept = record { reply = None }
 
 -- ---- the rows
-
--- the right answer to the query for the grounded set: it is that set, as a rising list
-pub record IsRightAnswer (framework : Af) (set : List ℕ) : Type 0 where
-  pub rises : IsStrictlyIncreasing set
-  pub grounded : IsGrounded framework set
-
--- the set is the right answer on the framework that the file's bytes read as
-pub record AnswersFile (known : KnownFile) (set : List ℕ) : Type 0 where
-  pub bytes : List ℕ
-  pub has : HasBytes known bytes
-  pub framework : Af
-  pub reads : ReadsAs bytes framework
-  pub right : IsRightAnswer framework set
-
--- a set that answers the query for the grounded set of the file is kept
-pub record KeepsAnswer (known : KnownFile) (kept : Transcript) : Type 0 where
-  pub set : List ℕ
-  pub kept_set : kept.set ≡ Some set
-  pub answers : AnswersFile known set
 
 -- it is done, and keeps nothing
 abbrev pub EndsDone : Transcript → Status → Type 0
@@ -67,14 +51,26 @@ EndsDone kept end = (kept ≡ nothing_kept) × (end ≡ Done)
 abbrev pub EndsUnasked : Transcript → Status → Type 0
 EndsUnasked kept end = (kept ≡ nothing_kept) × (end ≡ Usage)
 
--- it is done, and keeps the answer
-abbrev pub EndsAnswered : KnownFile → Transcript → Status → Type 0
-EndsAnswered known kept end = KeepsAnswer known kept × (end ≡ Done)
+-- it is done, and keeps the answer to the query; or the query is refused, and it keeps nothing
+abbrev pub EndsSolved : KnownFile → Solving → Transcript → Status → Type 0
+EndsSolved known query kept Done = (reply : Answered) × (kept.reply ≡ Some reply) × SolvesFile known query reply
+EndsSolved known query kept (InputRefused (Query fault)) = (kept ≡ nothing_kept) × RefusesQuery known query fault
+EndsSolved known query kept _ = ⊥
 
--- the line of the set that is kept
-abbrev pub kept_text : Option (List ℕ) → List ℕ
-kept_text None = []
-kept_text (Some set) = set_line set
+-- the text of the answer that is kept
+abbrev pub reply_text : Option Answered → List ℕ
+reply_text None = []
+reply_text (Some reply) = answer_text reply.answer
+
+-- the file of the certificate, where one is named
+abbrev pub certificate_files : Option (List ℕ) → Certificate → List FileText
+certificate_files None certificate = []
+certificate_files (Some name) certificate = record { name = name; bytes = certificate_text certificate } ∷ []
+
+-- the file of the certificate of the answer that is kept
+abbrev pub reply_files : Option (List ℕ) → Option Answered → List FileText
+reply_files name None = []
+reply_files name (Some reply) = certificate_files name reply.certificate
 
 abbrev pub version_row : Row
 version_row = record {
@@ -94,13 +90,25 @@ unknown_row = record {
   files = λ kept end. [];
 }
 
-abbrev pub grounded_row : (List ℕ → KnownFile) → List ℕ → Row
-grounded_row holds file = record {
-  inputs = record { role = Framework 1; file = file } ∷ [];
+-- `--problems`: the list of the tasks that there are
+abbrev pub problems_row : Row
+problems_row = record {
+  inputs = [];
   takes_memory = true;
-  Ends = EndsAnswered (holds file);
-  text = λ kept end. kept_text kept.set;
+  Ends = EndsDone;
+  text = λ kept end. problems_text;
   files = λ kept end. [];
+}
+
+-- the answer to a query, or words that ask none
+abbrev pub solve_row : (List ℕ → KnownFile) → Option Solving → SolveTexts → Row
+solve_row holds None texts = unknown_row
+solve_row holds (Some query) texts = record {
+  inputs = input (Framework 1) texts.file ∷ [];
+  takes_memory = true;
+  Ends = EndsSolved (holds texts.file) query;
+  text = λ kept end. reply_text kept.reply;
+  files = λ kept end. reply_files texts.certificate kept.reply;
 }
 
 -- it keeps nothing, and ends as the check of the files does
@@ -121,7 +129,8 @@ check_row holds (Some asked) texts = record {
 -- the table: what is known of the files matters to some rows
 abbrev pub row_of : (List ℕ → KnownFile) → Request → Row
 row_of holds version = version_row
-row_of holds (grounded file) = grounded_row holds file
+row_of holds problems = problems_row
+row_of holds (solving texts) = solve_row holds (solving_by texts) texts
 row_of holds (checking texts) = check_row holds (asked_by texts.task texts.number) texts
 row_of holds unknown = unknown_row
 
@@ -163,9 +172,9 @@ pub record IsEndingOf (found : Reading) (row : Row) (ending : Ending) : Type 0 w
       map file_text ending.files ≡ files_beside (common_text ending.status) (row.files ending.kept ending.status)
   pub counts : CountsReads found row ending.status
 
--- the ending of a query for the grounded set of a file that was answered
-pub record AnswersQuery (holds : List ℕ → KnownFile) (file : List ℕ) (ending : Ending) : Type 0 where
+-- the ending with an answer: it is done, keeps the answer, and writes its text and the file of its certificate
+pub record EndsAnswered (reply : Answered) (name : Option (List ℕ)) (ending : Ending) : Type 0 where
   pub done : ending.status ≡ Done
-  pub keeps : KeepsAnswer (holds file) ending.kept
-  pub text : text_bytes ending.text ≡ kept_text ending.kept.set
-  pub no_file : ending.files ≡ []
+  pub keeps : ending.kept.reply ≡ Some reply
+  pub text : text_bytes ending.text ≡ answer_text reply.answer
+  pub files : map file_text ending.files ≡ certificate_files name reply.certificate

@@ -5,7 +5,7 @@ use Rattle.argue_outside.specs.declared.Role.TheVariants as role
 use Rattle.semantics.specs.Framework.{Af}
 use Rattle.semantics.specs.Frameworks.{af}
 use Rattle.num_text.specs.declared.limit.TheConstants.{INPUT_LIMIT}
-use Rattle.argue_words.specs.Words.{CheckTexts, IsCheckQuery, IsGroundedQuery}
+use Rattle.argue_words.specs.Words.{CheckTexts, IsCheckQuery, IsSolveQuery, SolveTexts}
 use Rattle.iccma_tasks.specs.AnswerText.{filled_fields, ReadsAs as AnswerReadsAs}
 use Rattle.iccma_tasks.specs.Tasks.{Asked}
 use Rattle.iccma_tasks.specs.declared.answer.Answer.{Answer}
@@ -14,11 +14,15 @@ use Rattle.certificate_claims.specs.declared.certificate.Certificate.{Certificat
 use Rattle.certificate_text.specs.Reading.{ReadsAs as CertReadsAs}
 use Rattle.af_format.specs.AfText.{ReadsAs}
 use Rattle.argue_program.specs.Checks.{CheckEnds, IsAnswerOf}
-use Rattle.argue_program.specs.Queries.{asked_by}
+use Rattle.argue_program.specs.Queries.{asked_by, solving_by}
+use Rattle.argue_program.specs.Solves.{RefusesBy, SolvesFile}
+use Rattle.argue_program.specs.declared.query.Solving.{Solving}
+use Rattle.edit_rules.specs.Fitting.{Fits}
+use Rattle.oracle_core.specs.declared.reply.Answered.{Answered}
 use Rattle.af_format.specs.Faults.{HasFault}
 use Rattle.af_format.specs.declared.fault.LineCause.{LineCause}
 use Rattle.argue_program.specs.Inputs.{Input, IsFirstFaultIn, IsFrameworkOf, Reading, input}
-use Rattle.argue_program.specs.Rows.{AnswersFile, IsEndingOf, Row}
+use Rattle.argue_program.specs.Rows.{IsEndingOf, Row}
 use Rattle.argue_program.specs.Writing.{BreaksOff, IsWritten, Output}
 use Rattle.argue_program.specs.declared.decision.Ending.{Ending}
 use Rattle.argue_program.specs.declared.ended.Ended.{Ended}
@@ -37,23 +41,38 @@ pub record IsRunOf (found : Reading) (row : Row) (ended : Ended) (old new : Outp
 
 -- ---- what follows
 
--- the words ask for the grounded set of a file, and this set is the right answer
-pub record IsRightFor (words : List (List ℕ)) (holds : List ℕ → KnownFile) (set : List ℕ) : Type 0 where
-  pub file : List ℕ
-  pub query : IsGroundedQuery words file
-  pub answers : AnswersFile (holds file) set
+-- the words ask a query, and this is a right answer to it, with an accepted certificate, on the framework in its file
+pub record AnswersWords (words : List (List ℕ)) (holds : List ℕ → KnownFile) (reply : Answered) : Type 0 where
+  pub texts : SolveTexts
+  pub asks : IsSolveQuery words texts
+  pub query : Solving
+  pub query_is : solving_by texts ≡ Some query
+  pub solves : SolvesFile (holds texts.file) query reply
 
--- the words ask for the grounded set of a file with these bytes, of which no read fails: it is served, or no fault is
--- counted
-pub record QueriesBytes (found : Reading) (words : List (List ℕ)) (file bytes : List ℕ) : Type 0 where
-  pub query : IsGroundedQuery words file
-  pub known : found.holds file ≡ Some (Some bytes)
-  pub no_fault :
-      found.Serves file ⊎ ¬ FaultCounted (found.old_count (role.Framework 1)) (found.new_count (role.Framework 1))
+-- the words ask this query of a file with these bytes, of which no read fails: it is served, or no fault is counted
+pub record QueriesBytes (found : Reading) (words : List (List ℕ)) (texts : SolveTexts) (query : Solving)
+    (bytes : List ℕ) : Type 0 where
+  pub asks : IsSolveQuery words texts
+  pub query_is : solving_by texts ≡ Some query
+  pub known : found.holds texts.file ≡ Some (Some bytes)
+  pub no_fault : found.Serves texts.file
+      ⊎ ¬ FaultCounted (found.old_count (role.Framework 1)) (found.new_count (role.Framework 1))
+
+-- the name is that of the file for the certificate of the words' query
+pub record NamesCertificate (words : List (List ℕ)) (name : List ℕ) : Type 0 where
+  pub texts : SolveTexts
+  pub asks : IsSolveQuery words texts
+  pub named : texts.certificate ≡ Some name
 
 -- some line of the bytes has a fault
 abbrev pub IsFaulty : List ℕ → Type 0
 IsFaulty bytes = (line : ℕ) × (cause : LineCause) × HasFault bytes line cause
+
+-- a query ends as its framework says, but for want of memory or a write fault: where it fits, it is answered
+abbrev pub IsSolveEnd : Af → Solving → Status → Type 0
+IsSolveEnd f query Done = Fits (af f) query.query
+IsSolveEnd f query WriteFault = Unit {0}
+IsSolveEnd f query end = RefusesBy (af f) query end
 
 -- the run is done, or wanted memory
 abbrev pub IsDoneOrMemory : Status → Type 0
@@ -117,3 +136,12 @@ abbrev pub IsCheckEnd : Af → Asked → Answer → Certificate → Status → T
 IsCheckEnd f asked answer certificate WantOfMemory = Unit {0}
 IsCheckEnd f asked answer certificate WriteFault = Unit {0}
 IsCheckEnd f asked answer certificate end = CheckEnds (af f) asked answer certificate end
+
+-- ---- queries
+
+-- the words ask this query, and the file reads as this framework
+pub record SolvesContents (found : Reading) (words : List (List ℕ)) (texts : SolveTexts) (query : Solving) (f : Af)
+    : Type 0 where
+  pub asks : IsSolveQuery words texts
+  pub query_is : solving_by texts ≡ Some query
+  pub of_framework : HasText found (input (role.Framework 1) texts.file) (λ bytes. ReadsAs bytes f)

@@ -19,12 +19,13 @@ use Rattle.argue_program.specs.declared.ended.Refusal.TheVariants.{Line, Query}
 use Rattle.argue_program.specs.declared.ended.Status.{Status}
 use Rattle.argue_program.specs.declared.ended.Status.TheVariants as status
 use Rattle.argue_program.specs.declared.texts.Text.{Text}
-use Rattle.argue_program.specs.declared.texts.Text.TheVariants.{Fixed, Made}
+use Rattle.argue_program.specs.declared.texts.Text.TheVariants.{Fixed, Made, Answer}
 
 -- the bytes of a text
 abbrev pub text_bytes : Text → List ℕ
 text_bytes (Fixed text) = text.now
 text_bytes (Made text) = string_bytes text
+text_bytes (Answer bytes) = bytes
 
 -- the name of a role
 abbrev pub role_text : Role → List ℕ

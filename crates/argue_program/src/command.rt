@@ -1,19 +1,20 @@
 //! The top call.
 
-ghost use Rattle.std.specs.Prelude.{◌≡◌, ◌≢◌, ℕ, ◌<◌, ◌≤◌, List, [], None, Some, length, map};
+ghost use Rattle.std.specs.Prelude.{◌≡◌, ◌≢◌, ◌⊎◌, ℕ, ◌<◌, ◌≤◌, List, [], None, Some, length, map, true};
 ghost use Rattle.std.specs.String.{string_bytes};
 ghost use Rattle.argue_outside.specs.Outside.{FaultCounted};
 ghost use Rattle.argue_outside.specs.declared.Role.{Role as ARole};
 ghost use Rattle.semantics.specs.Framework.{Af};
-ghost use Rattle.argue_words.specs.Words.{AreWords, CheckTexts, IsCheckQuery, requested};
+ghost use Rattle.argue_words.specs.Words.{AreWords, CheckTexts, IsCheckQuery, IsSolveQuery, SolveTexts, requested, words_are_problems};
 ghost use Rattle.iccma_tasks.specs.Tasks.{Asked};
 ghost use Rattle.iccma_tasks.specs.declared.answer.Answer.{Answer};
 ghost use Rattle.certificate_claims.specs.declared.certificate.Certificate.{Certificate};
-ghost use Rattle.argue_program.specs.Queries.{asked_by};
-ghost use Rattle.af_format.specs.AfText.{IsReadable};
+ghost use Rattle.oracle_core.specs.declared.reply.Answered.{Answered};
+ghost use Rattle.argue_program.specs.Queries.{asked_by, solving_by};
+ghost use Rattle.argue_program.specs.declared.query.Solving.{Solving};
 ghost use Rattle.argue_program.specs.Inputs.{reading};
 ghost use Rattle.argue_program.specs.Rows.{HasNoInput, row_of};
-ghost use Rattle.argue_program.specs.Runs.{AnswersRight, ChecksContents, IsCheckEnd, IsDoneOrMemory, IsFaulty, IsRightFor, IsRunOf, QueriesBytes, RefusesBytes, RefusesLength, RefusesWords};
+ghost use Rattle.argue_program.specs.Runs.{AnswersRight, AnswersWords, ChecksContents, IsCheckEnd, IsDoneOrMemory, IsFaulty, IsRunOf, IsSolveEnd, NamesCertificate, QueriesBytes, RefusesBytes, RefusesLength, RefusesWords, SolvesContents};
 ghost use Rattle.argue_program.specs.Writing.{output};
 ghost use Rattle.num_text.specs.declared.limit.TheConstants.{INPUT_LIMIT};
 
@@ -40,28 +41,32 @@ pub fn execute<F: Files, O: Sink>(
         (output (F.holds files.old) (F.write_count files.old) (O.contents out.old) (O.fault_count out.old))
         (output (F.holds files.new) (F.write_count files.new) (O.contents out.new) (O.fault_count out.new)) }
 
-    // The headline, for the one query there is: a set that the run keeps is the right answer.
-    ensures right { (set : List ℕ) → result.kept.set ≡ Some set
-        → IsRightFor (map string_bytes words.now) (F.holds files.old) set }
+    // The headline, for the one query there is: an answer that the run keeps is right, and its certificate is accepted.
+    ensures right { (reply : Answered) → result.kept.reply ≡ Some reply
+        → AnswersWords (map string_bytes words.now) (F.holds files.old) reply }
 
     // Completeness: with well-formed words and input and no fault, the run does what was asked, or wants memory.
     ensures version { map string_bytes words.now ≡ [] → result.status ≢ Status.WriteFault
         → result.status ≡ Status.Done }
-    ensures complete { (file bytes : List ℕ) → QueriesBytes
-        (reading (F.holds files.old) (F.serves files.old) (F.read_count files.old) (F.read_count files.new))
-        (map string_bytes words.now) file bytes
-        → IsReadable bytes → length bytes ≤ INPUT_LIMIT → result.status ≢ Status.WriteFault
+    ensures problems { words_are_problems (map string_bytes words.now) ≡ true → result.status ≢ Status.WriteFault
         → IsDoneOrMemory result.status }
+    ensures complete { (texts : SolveTexts) (query : Solving) (f : Af) → SolvesContents
+        (reading (F.holds files.old) (F.serves files.old) (F.read_count files.old) (F.read_count files.new))
+        (map string_bytes words.now) texts query f
+        → IsSolveEnd f query result.status }
 
-    // The converses: words that aren't well-formed are refused, and so is a file with a fault and one over the limit.
+    // The converses: words that aren't well-formed, or that ask a query which there isn't, are refused, and so is a file
+    // with a fault and one over the limit.
     ensures usage { ¬ AreWords (map string_bytes words.now) → RefusesWords result.status }
-    ensures faulty { (file bytes : List ℕ) → QueriesBytes
+    ensures no_query { (texts : SolveTexts) → IsSolveQuery (map string_bytes words.now) texts
+        → solving_by texts ≡ None → RefusesWords result.status }
+    ensures faulty { (texts : SolveTexts) (query : Solving) (bytes : List ℕ) → QueriesBytes
         (reading (F.holds files.old) (F.serves files.old) (F.read_count files.old) (F.read_count files.new))
-        (map string_bytes words.now) file bytes
+        (map string_bytes words.now) texts query bytes
         → IsFaulty bytes → length bytes ≤ INPUT_LIMIT → RefusesBytes bytes result.status }
-    ensures too_long { (file bytes : List ℕ) → QueriesBytes
+    ensures too_long { (texts : SolveTexts) (query : Solving) (bytes : List ℕ) → QueriesBytes
         (reading (F.holds files.old) (F.serves files.old) (F.read_count files.old) (F.read_count files.new))
-        (map string_bytes words.now) file bytes
+        (map string_bytes words.now) texts query bytes
         → INPUT_LIMIT < length bytes → RefusesLength result.status }
 
     // Of a check: done only where the answer is right; with files that read as something and no fault, it ends as these
@@ -76,11 +81,16 @@ pub fn execute<F: Files, O: Sink>(
     ensures unasked { (texts : CheckTexts) → IsCheckQuery (map string_bytes words.now) texts
         → asked_by texts.task texts.number ≡ None → RefusesWords result.status }
 
-    // A write fault was counted. No file changes, and no other count of faults does.
+    // A write fault was counted. No file changes but that of a query's certificate, and that one only where the run is done
+    // or its writing fails; and no other count of faults does.
     ensures write_fault { result.status ≡ Status.WriteFault
-        → FaultCounted (O.fault_count out.old) (O.fault_count out.new) }
-    ensures contents_stay { F.holds files.new ≡ F.holds files.old }
-    ensures no_write { F.write_count files.new ≡ F.write_count files.old }
+        → FaultCounted (O.fault_count out.old) (O.fault_count out.new)
+        ⊎ FaultCounted (F.write_count files.old) (F.write_count files.new) }
+    ensures other_files { (name : List ℕ) → ¬ NamesCertificate (map string_bytes words.now) name
+        → F.holds files.new name ≡ F.holds files.old name }
+    ensures untouched { result.status ≢ Status.Done → result.status ≢ Status.WriteFault
+        → F.holds files.new ≡ F.holds files.old }
+    ensures no_write { result.status ≢ Status.WriteFault → F.write_count files.new ≡ F.write_count files.old }
     ensures no_other_read { (role : ARole)
         → HasNoInput (row_of (F.holds files.old) (requested (map string_bytes words.now))) role
         → F.read_count files.new role ≡ F.read_count files.old role }
@@ -106,28 +116,32 @@ pub fn run<F: Files, O: Sink, P: Pace + Sync, R: Threads + Wait + Sync>(
         (output (F.holds files.old) (F.write_count files.old) (O.contents out.old) (O.fault_count out.old))
         (output (F.holds files.new) (F.write_count files.new) (O.contents out.new) (O.fault_count out.new)) }
 
-    // The headline, for the one query there is: a set that the run keeps is the right answer.
-    ensures right { (set : List ℕ) → result.kept.set ≡ Some set
-        → IsRightFor (map string_bytes words.now) (F.holds files.old) set }
+    // The headline, for the one query there is: an answer that the run keeps is right, and its certificate is accepted.
+    ensures right { (reply : Answered) → result.kept.reply ≡ Some reply
+        → AnswersWords (map string_bytes words.now) (F.holds files.old) reply }
 
     // Completeness: with well-formed words and input and no fault, the run does what was asked, or wants memory.
     ensures version { map string_bytes words.now ≡ [] → result.status ≢ Status.WriteFault
         → result.status ≡ Status.Done }
-    ensures complete { (file bytes : List ℕ) → QueriesBytes
-        (reading (F.holds files.old) (F.serves files.old) (F.read_count files.old) (F.read_count files.new))
-        (map string_bytes words.now) file bytes
-        → IsReadable bytes → length bytes ≤ INPUT_LIMIT → result.status ≢ Status.WriteFault
+    ensures problems { words_are_problems (map string_bytes words.now) ≡ true → result.status ≢ Status.WriteFault
         → IsDoneOrMemory result.status }
+    ensures complete { (texts : SolveTexts) (query : Solving) (f : Af) → SolvesContents
+        (reading (F.holds files.old) (F.serves files.old) (F.read_count files.old) (F.read_count files.new))
+        (map string_bytes words.now) texts query f
+        → IsSolveEnd f query result.status }
 
-    // The converses: words that aren't well-formed are refused, and so is a file with a fault and one over the limit.
+    // The converses: words that aren't well-formed, or that ask a query which there isn't, are refused, and so is a file
+    // with a fault and one over the limit.
     ensures usage { ¬ AreWords (map string_bytes words.now) → RefusesWords result.status }
-    ensures faulty { (file bytes : List ℕ) → QueriesBytes
+    ensures no_query { (texts : SolveTexts) → IsSolveQuery (map string_bytes words.now) texts
+        → solving_by texts ≡ None → RefusesWords result.status }
+    ensures faulty { (texts : SolveTexts) (query : Solving) (bytes : List ℕ) → QueriesBytes
         (reading (F.holds files.old) (F.serves files.old) (F.read_count files.old) (F.read_count files.new))
-        (map string_bytes words.now) file bytes
+        (map string_bytes words.now) texts query bytes
         → IsFaulty bytes → length bytes ≤ INPUT_LIMIT → RefusesBytes bytes result.status }
-    ensures too_long { (file bytes : List ℕ) → QueriesBytes
+    ensures too_long { (texts : SolveTexts) (query : Solving) (bytes : List ℕ) → QueriesBytes
         (reading (F.holds files.old) (F.serves files.old) (F.read_count files.old) (F.read_count files.new))
-        (map string_bytes words.now) file bytes
+        (map string_bytes words.now) texts query bytes
         → INPUT_LIMIT < length bytes → RefusesLength result.status }
 
     // Of a check: done only where the answer is right; with files that read as something and no fault, it ends as these
@@ -142,11 +156,16 @@ pub fn run<F: Files, O: Sink, P: Pace + Sync, R: Threads + Wait + Sync>(
     ensures unasked { (texts : CheckTexts) → IsCheckQuery (map string_bytes words.now) texts
         → asked_by texts.task texts.number ≡ None → RefusesWords result.status }
 
-    // A write fault was counted. No file changes, and no other count of faults does.
+    // A write fault was counted. No file changes but that of a query's certificate, and that one only where the run is done
+    // or its writing fails; and no other count of faults does.
     ensures write_fault { result.status ≡ Status.WriteFault
-        → FaultCounted (O.fault_count out.old) (O.fault_count out.new) }
-    ensures contents_stay { F.holds files.new ≡ F.holds files.old }
-    ensures no_write { F.write_count files.new ≡ F.write_count files.old }
+        → FaultCounted (O.fault_count out.old) (O.fault_count out.new)
+        ⊎ FaultCounted (F.write_count files.old) (F.write_count files.new) }
+    ensures other_files { (name : List ℕ) → ¬ NamesCertificate (map string_bytes words.now) name
+        → F.holds files.new name ≡ F.holds files.old name }
+    ensures untouched { result.status ≢ Status.Done → result.status ≢ Status.WriteFault
+        → F.holds files.new ≡ F.holds files.old }
+    ensures no_write { result.status ≢ Status.WriteFault → F.write_count files.new ≡ F.write_count files.old }
     ensures no_other_read { (role : ARole)
         → HasNoInput (row_of (F.holds files.old) (requested (map string_bytes words.now))) role
         → F.read_count files.new role ≡ F.read_count files.old role }

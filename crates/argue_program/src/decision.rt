@@ -1,24 +1,28 @@
 //! What a run ends with: decided here, and written elsewhere.
 
 ghost use Rattle.std.specs.Prelude.{◌≡◌, ◌⊎◌, ℕ, List, [], IfErr, IfOk, IsErrOf, IsSome, Some, map};
+ghost use Rattle.std.specs.Option.{option_map};
 ghost use Rattle.std.specs.String.{string_bytes};
-ghost use Rattle.argue_outside.specs.Outside.{OtherCountsKept};
-ghost use Rattle.argue_words.specs.Words.{check_texts, checking, request_of, requested};
-ghost use Rattle.argue_program.specs.Inputs.{EndsReading, input, reading};
-ghost use Rattle.argue_program.specs.Rows.{AnswersQuery, IsEndingOf, grounded_row, nothing_kept, row_of};
+ghost use Rattle.argue_words.specs.Words.{check_texts, checking, request_of, requested, solve_texts, solving};
+ghost use Rattle.argue_program.specs.Inputs.{reading};
+ghost use Rattle.argue_program.specs.Rows.{EndsAnswered, IsEndingOf, nothing_kept, row_of};
 ghost use Rattle.argue_program.specs.Texts.{IsRefusal, common_text, text_bytes};
 
 use crate::checking::check_files;
 use crate::ended::{Status, Transcript};
-use crate::input::read_framework;
-use crate::query::query_of;
+use crate::query::{query_of, solving_of};
+use crate::solving::{certificate_file, solve_file};
 use crate::texts::{Text, status_text};
 use crate::writing::Written;
-use argue_outside::{Files, Role};
-use argue_words::{CheckWords, Command, read_words};
-use iccma_tasks::push_set;
+use argue_outside::Files;
+use argue_words::{CheckWords, Command, SolveWords, read_words};
+use iccma_tasks::answer_text;
+use oracle_core::Answered;
 use plain_lists::{Items, Memory};
 use std::alloc::Global;
+
+/// The line of `--problems`.
+const PROBLEMS: &str = "[DC-GR,DS-CO,DS-GR,SE-CO,SE-GR]\n";
 
 /// How a run ends, what it keeps, and what it has to write: its files first, each cleared before, and then its
 /// text.
@@ -38,7 +42,7 @@ pub(crate) fn stopped(alloc: Global, status: Status) -> Ending
     ensures text { Some (text_bytes result.text) ≡ common_text result.status }
     ensures files { result.files ≡ [] }
 {
-    let kept = Transcript { set: None };
+    let kept = Transcript { reply: None };
     let files = Items::new(alloc);
     match status_text(alloc, status) {
         Ok(text) => Ending {
@@ -71,36 +75,35 @@ fn done(alloc: Global, kept: Transcript, text: Text) -> Ending
     }
 }
 
-/// The answer to the query for the grounded set of a file's framework, or the status of the run that stops.
-fn answer_grounded<F: Files>(alloc: Global, files: &mut F, name: &str) -> Result<Ending, Status>
-    ensures ok { IfOk result (AnswersQuery (F.holds files.old) name.now) }
-    ensures err { IfErr result (EndsReading (reading (F.holds files.old) (F.serves files.old) (F.read_count files.old)
-        (F.read_count files.new)) (input (Role.Framework 1) name.now)) }
-    ensures quiet { (IsErrOf result (Status.ReadFault (Role.Framework 1)) → ⊥)
-        → F.read_count files.new ≡ F.read_count files.old }
-    ensures others { OtherCountsKept (Role.Framework 1) (F.read_count files.old) (F.read_count files.new) }
-    ensures same { F.holds files.new ≡ F.holds files.old }
-    ensures writes { F.write_count files.new ≡ F.write_count files.old }
+/// The ending with an answer: its text, and the file of its certificate where one is named.
+fn answered(alloc: Global, reply: Answered, certificate: Option<&str>) -> Result<Ending, Memory>
+    ensures { IfOk result (EndsAnswered reply (option_map (λ text. text.now) certificate.entry)) }
 {
-    let framework = read_framework(alloc, files, 1, name)?;
-    let grounded = framework.grounded(alloc)?;
-    let mut line = String::new(alloc);
-    push_set(&mut line, &grounded.set)?;
-    let kept = Transcript {
-        set: Some(grounded.set),
-    };
-    Ok(done(alloc, kept, Text::Made(line)))
+    let text = answer_text(alloc, &reply.answer)?;
+    let files = certificate_file(alloc, certificate, &reply.certificate)?;
+    Ok(Ending {
+        status: Status::Done,
+        kept: Transcript { reply: Some(reply) },
+        text: Text::Answer(text),
+        files,
+    })
 }
 
-/// The ending of a query for the grounded set of a file's framework.
-fn solve<F: Files>(alloc: Global, files: &mut F, name: &str) -> Ending
+/// The ending of a query.
+fn solve<F: Files>(alloc: Global, files: &mut F, words: SolveWords<'_>) -> Ending
     ensures ending { IsEndingOf (reading (F.holds files.old) (F.serves files.old) (F.read_count files.old)
-        (F.read_count files.new)) (grounded_row (F.holds files.old) name.now) result }
+        (F.read_count files.new)) (row_of (F.holds files.old) (solving (solve_texts words.entry))) result }
     ensures same { F.holds files.new ≡ F.holds files.old }
     ensures writes { F.write_count files.new ≡ F.write_count files.old }
 {
-    match answer_grounded(alloc, files, name) {
-        Ok(ending) => ending,
+    let Some(query) = solving_of(&words) else {
+        return stopped(alloc, Status::Usage);
+    };
+    match solve_file(alloc, files, &query, &words) {
+        Ok(reply) => match answered(alloc, reply, words.certificate) {
+            Ok(ending) => ending,
+            Err(Memory) => stopped(alloc, Status::WantOfMemory),
+        },
         Err(status) => stopped(alloc, status),
     }
 }
@@ -116,7 +119,7 @@ fn check<F: Files>(alloc: Global, files: &mut F, words: CheckWords<'_>) -> Endin
         return stopped(alloc, Status::Usage);
     };
     match check_files(alloc, files, &query, &words) {
-        Ok(()) => done(alloc, Transcript { set: None }, Text::Fixed("ACCEPTED\n")),
+        Ok(()) => done(alloc, Transcript { reply: None }, Text::Fixed("ACCEPTED\n")),
         Err(status) => stopped(alloc, status),
     }
 }
@@ -129,8 +132,13 @@ fn decide_command<F: Files>(alloc: Global, command: Command, files: &mut F) -> E
     ensures writes { F.write_count files.new ≡ F.write_count files.old }
 {
     match command {
-        Command::Version => done(alloc, Transcript { set: None }, Text::Fixed("argue 1.0\n")),
-        Command::Grounded(file) => solve(alloc, files, file),
+        Command::Version => done(
+            alloc,
+            Transcript { reply: None },
+            Text::Fixed("argue 1.0\n"),
+        ),
+        Command::Problems => done(alloc, Transcript { reply: None }, Text::Fixed(PROBLEMS)),
+        Command::Solve(words) => solve(alloc, files, words),
         Command::Check(words) => check(alloc, files, words),
         Command::Unknown => stopped(alloc, Status::Usage),
     }

@@ -9,7 +9,7 @@ use certificate_claims::Cause as Failure;
 use certificate_text::CertCause;
 use edit_rules::QueryFault;
 use iccma_tasks::AnswerCause;
-use set_lists::NumSet;
+use oracle_core::Answered;
 
 /// What is wrong with a line of an input: a variant for each kind of text.
 #[derive(Clone, Copy, Debug, PartialEq, Eq)]
@@ -77,10 +77,10 @@ impl Status {
     }
 }
 
-/// What a run keeps of its sessions: the set that answered the query, where one did.
+/// What a run keeps of its sessions: the answer to its query with the certificate, where it got one.
 #[derive(Debug, Drop)]
 pub struct Transcript {
-    pub set: Option<NumSet>,
+    pub reply: Option<Answered>,
 }
 
 /// How a run ended, and what it keeps.

@@ -11,7 +11,8 @@ pub mod decision;
 pub mod ended;
 pub mod input;
 pub mod process;
-mod query;
+pub mod query;
+mod solving;
 pub mod texts;
 pub mod writing;
 

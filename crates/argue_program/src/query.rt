@@ -1,12 +1,26 @@
-//! The query of a check's words.
+//! The queries of words.
 
 ghost use Rattle.std.specs.Prelude.{◌≡◌};
 ghost use Rattle.std.specs.Option.{option_map};
+ghost use Rattle.argue_words.specs.Words.{solve_texts};
 ghost use Rattle.iccma_tasks.specs.Tasks.{all_tasks};
-ghost use Rattle.argue_program.specs.Queries.{asked_by, asked_with, first_named, number_of};
+ghost use Rattle.oracle_core.specs.Answers.{is_by_grounded};
+ghost use Rattle.argue_program.specs.Queries.{asked_by, asked_with, budget_of, first_named, number_of, solving_by, solving_with};
 
+use argue_words::SolveWords;
 use iccma_tasks::{Query, Task};
 use num_text::decimal;
+use oracle_core::is_by_grounded as needs_no_search;
+
+/// The units of a budget where none is given.
+pub const DEFAULT_BUDGET: u32 = 1_000_000;
+
+/// A query to be solved, and the budget of units for its answer.
+#[derive(Debug, Drop)]
+pub struct Solving {
+    pub query: Query,
+    pub budget: u32,
+}
 
 // The task of a name.
 fn task_named(name: &str) -> Option<Task>
@@ -44,4 +58,37 @@ pub(crate) fn query_of<'a>(task: &'a str, number: Option<&'a str>) -> Option<Que
     };
     let number = number_in(text)?;
     asked_with(task, Some(number))
+}
+
+// The budget that a text spells, or the one where no text is given.
+fn budget_in(text: Option<&str>) -> Option<u32>
+    ensures { result ≡ budget_of (option_map (λ text. text.now) text.entry) }
+{
+    match text {
+        None => Some(DEFAULT_BUDGET),
+        Some(text) => number_in(text),
+    }
+}
+
+// A query with a budget, where the program solves its task.
+fn with_budget(query: Query, budget: u32) -> Option<Solving>
+    ensures { result ≡ solving_with (Some query) (Some budget) }
+{
+    let task = query.task();
+    let solved = needs_no_search(task);
+    if !solved {
+        return None;
+    }
+    Some(Solving { query, budget })
+}
+
+/// The query of a query's words, with its budget. `None` where there is no such task or the program doesn't solve it, a
+/// text is no number, or the task wants a number and there is none, or wants none and there is one.
+#[tactic(auto, unfolding(crate::specs::Queries::solving_by))]
+pub(crate) fn solving_of(words: &SolveWords<'_>) -> Option<Solving>
+    ensures { result ≡ solving_by (solve_texts words.now) }
+{
+    let query = query_of(words.task, words.number)?;
+    let budget = budget_in(words.budget)?;
+    with_budget(query, budget)
 }

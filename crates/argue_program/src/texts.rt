@@ -9,7 +9,7 @@ use crate::ended::{Cause, Limit, Refusal, Status};
 use argue_outside::Role;
 use certificate_claims::Cause as Failure;
 use edit_rules::QueryFault;
-use plain_lists::Memory;
+use plain_lists::{Bytes, Memory};
 use std::alloc::{AllocError, Global};
 
 /// A text to be written. A fixed one takes no memory.
@@ -17,6 +17,7 @@ use std::alloc::{AllocError, Global};
 pub enum Text {
     Fixed(&'static str),
     Made(String),
+    Answer(Bytes),
 }
 
 impl Text {
@@ -27,6 +28,7 @@ impl Text {
         match self {
             Text::Fixed(text) => text.as_bytes(),
             Text::Made(text) => text.as_bytes(),
+            Text::Answer(bytes) => bytes.as_slice(),
         }
     }
 }

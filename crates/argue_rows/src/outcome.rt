@@ -1,8 +1,11 @@
 //! One run over files in memory, told as a line.
 
-use argue_outside::{Files, MemFiles, MemSink, append_all};
+use argue_outside::{Files, MemFiles, MemSink, Role, append_all, read_all};
 use argue_program::execute;
 use std::alloc::{AllocError, Global};
+
+/// More bytes than any file of a row has.
+const MOST_BYTES: u64 = 1_000_000;
 
 /// The text with ends of lines in place of `;`.
 pub fn with_ends(alloc: Global, text: &str) -> Result<String, AllocError> {
@@ -29,7 +32,14 @@ fn hold(files: &mut MemFiles, name: &str, bytes: &[u8]) -> Result<(), AllocError
     }
 }
 
-/// The exit status of a run with the files a, b and c, and what it writes, with `;` for the end of a line.
+/// The text of bytes, with `;` in place of the ends of lines.
+fn with_semicolons(alloc: Global, bytes: &[u8]) -> Result<String, AllocError> {
+    let text = String::from_utf8_lossy(alloc, bytes)?;
+    text.as_str().replace(alloc, "\n", ";")
+}
+
+/// The exit status of a run with the files a, b and c, and what it writes, with `;` for the end of a line; and behind
+/// `c:` what it wrote to the file c, where it did.
 pub fn run(
     alloc: Global,
     line: &str,
@@ -49,7 +59,14 @@ pub fn run(
     let code = execute(alloc, words.as_slice(), &mut files, &mut out)
         .status
         .code();
-    let text = String::from_utf8_lossy(alloc, out.bytes())?;
-    let text = text.as_str().replace(alloc, "\n", ";")?;
-    format!(in alloc; "{code} {text}")
+    let text = with_semicolons(alloc, out.bytes())?;
+    let held = match read_all(alloc, &mut files, Role::Certificate, "c", MOST_BYTES) {
+        Ok(bytes) => bytes,
+        Err(_) => return Err(AllocError),
+    };
+    if held.as_slice() == certificate {
+        return format!(in alloc; "{code} {text}");
+    }
+    let written = with_semicolons(alloc, held.as_slice())?;
+    format!(in alloc; "{code} {text} c: {written}")
 }

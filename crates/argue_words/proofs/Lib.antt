@@ -1,5 +1,5 @@
 mod NoFault
-mod FileGiven
+mod ValuesGiven
 mod SolveLaws
 mod ValueWords
 pub mod RequestLaws

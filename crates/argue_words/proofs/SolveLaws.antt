@@ -3,27 +3,27 @@ use Rattle.std.proofs.Common.{◌≡◌, ◌≢◌, ◌∙◌, ◌==◌, true, f
 use Rattle.std.proofs.Common.{List, [], ◌∷◌, Result, Ok, Err, IfOk, IfErr, IsSome, codes}
 use Rattle.std.proofs.lemmas.Result.{IfOk-weaker}
 use Rattle.clap.specs.Words.{App, FailsBy, HasMatchesOf, IsParsedFrom, Text, app_of, fault_of, first_value}
-use Rattle.clap.specs.Words.{first_of, found_of, is_simple, is_simple_and_free, matches_of, rule_of, takes, with_rule, Rule}
+use Rattle.clap.specs.Words.{first_of, found_of, is_simple, is_simple_and_free, matches_of, takes, with_rule, Rule}
 use Rattle.clap.specs.declared.builder.command.Command.{Command}
 use Rattle.clap.specs.declared.error.Error.{Error}
 use Rattle.clap.specs.declared.parser.matches.ArgMatches.{ArgMatches}
 use Rattle.clap.proofs.WalkLemmas.{first_value-rows}
-use Rattle.argue_words.specs.Words.{check_app, check_value, option_of, solve_app, value_of, value_option}
+use Rattle.argue_words.specs.Words.{check_app, check_value, option_of, solve_app, solve_value, task_app, value_option}
 use Rattle.argue_words.proofs.NoFault.{takes_if}
-use Rattle.argue_words.proofs.FileGiven.{file_given, two_of}
+use Rattle.argue_words.proofs.ValuesGiven.{solve_rules, values_given}
 
 -- ---- the command
 
 solve_is_simple : is_simple solve_app ≡ true
-unfolding solve_app
+unfolding solve_app task_app
 solve_is_simple = refl
 
 solve_is_free : is_simple_and_free solve_app ≡ true
-unfolding solve_app
+unfolding solve_app task_app
 solve_is_free = refl
 
 solve_takes_if : (words : List Text) → fault_of solve_app words ≡ [] → takes solve_app words ≡ true
-unfolding solve_app
+unfolding solve_app task_app
 solve_takes_if words e = takes_if solve_app words refl refl refl refl e
 
 -- ---- what a parse tells
@@ -38,7 +38,7 @@ taken_at app words (Ok m) is h =
 
 pub values_at : (app : App) (words : List Text) (r : Result ArgMatches Error) → app ≡ solve_app
     → IfOk r (HasMatchesOf app words)
-    → IfOk r (λ m. (id : Text) → first_value (found_of m) id ≡ value_of words id)
+    → IfOk r (λ m. (id : Text) → first_value (found_of m) id ≡ solve_value words id)
 values_at app words r is = IfOk-weaker r _ _ (λ m h id.
     first_value-rows (found_of m) id
     ∙ ap (first_of id) ((h (ap is_simple is ∙ solve_is_simple)).0
@@ -50,36 +50,34 @@ pub refused_at : {T : Type 0} (K : Error → Type 0) (app : App) (words : List T
 refused_at K app words (Ok m) is h = tt
 refused_at K app words (Err e) is h = λ taken. h (ap (λ (a : App). takes a words) is ∙ taken)
 
-solve_rules : (app : App) → app ≡ solve_app
-    → app.top.rules ≡ value_option (codes "task") 112 ∷ value_option (codes "file") 102 ∷ []
-unfolding solve_app
-solve_rules app is = ap (λ (a : App). a.top.rules) is
+rules_of_solve : (app : App) → app ≡ solve_app → app.top.rules ≡ solve_rules
+unfolding solve_app task_app
+rules_of_solve app is = ap (λ (a : App). a.top.rules) is
 
 solve_is_plain : (app : App) → app ≡ solve_app
     → (app.top.is_plain ≡ true) × (app.top.subcommand_negates_reqs ≡ false)
-unfolding solve_app
+unfolding solve_app task_app
 solve_is_plain app is =
     (ap (λ (a : App). a.top.is_plain) is, ap (λ (a : App). a.top.subcommand_negates_reqs) is)
 
-pub file_at : (c : Command) (r : Result ArgMatches Error) → app_of c ≡ solve_app → IfOk r (IsParsedFrom c)
-    → IfOk r (λ m. IsSome (first_value (found_of m) (codes "file")))
-file_at c r is = IfOk-weaker r _ _ (λ m p.
-    let args = two_of rule_of _ _ _ (solve_rules (app_of c) is) in
+pub given_at : (c : Command) (r : Result ArgMatches Error) → app_of c ≡ solve_app → IfOk r (IsParsedFrom c)
+    → IfOk r (λ m. IsSome (first_value (found_of m) (codes "task")) × IsSome (first_value (found_of m) (codes "file")))
+given_at c r is = IfOk-weaker r _ _ (λ m p.
     let fields = solve_is_plain (app_of c) is in
-    file_given args.0 args.1 args.3 args.4 c m args.2 fields.0 fields.1 p)
+    values_given c m (rules_of_solve (app_of c) is) fields.0 fields.1 p)
 
 -- ---- the same of the command of a check
 
 check_is_simple : is_simple check_app ≡ true
-unfolding check_app solve_app
+unfolding check_app task_app
 check_is_simple = refl
 
 check_is_free : is_simple_and_free check_app ≡ true
-unfolding check_app solve_app
+unfolding check_app task_app
 check_is_free = refl
 
 check_takes_if : (words : List Text) → fault_of check_app words ≡ [] → takes check_app words ≡ true
-unfolding check_app solve_app
+unfolding check_app task_app
 check_takes_if words e = takes_if check_app words refl refl refl refl e
 
 pub check_taken_at : {T : Type 0} (app : App) (words : List Text) (r : Result T Error) → app ≡ check_app
@@ -104,23 +102,38 @@ pub check_refused_at : {T : Type 0} (K : Error → Type 0) (app : App) (words : 
 check_refused_at K app words (Ok m) is h = tt
 check_refused_at K app words (Err e) is h = λ taken. h (ap (λ (a : App). takes a words) is ∙ taken)
 
--- the options of a check behind those of a query
-pub check_app_is : (first second third fourth : App) (a b d : Rule) → first ≡ solve_app → second ≡ with_rule first a
-    → third ≡ with_rule second b → fourth ≡ with_rule third d → a ≡ value_option (codes "answer") 114
-    → b ≡ value_option (codes "certificate") 99 → d ≡ option_of (codes "number") 97 false → fourth ≡ check_app
-unfolding check_app
-check_app_is first second third fourth a b d is then and last e f g =
-    last ∙ ap (λ r. with_rule third r) g ∙ ap (λ x. with_rule x (option_of (codes "number") 97 false))
-    (and ∙ ap (λ r. with_rule second r) f ∙ ap (λ x. with_rule x (value_option (codes "certificate") 99))
-    (then ∙ ap (λ r. with_rule first r) e ∙ ap (λ x. with_rule x (value_option (codes "answer") 114)) is))
+-- the options behind those of a task and a file
+pub app_is : (first second third fourth : App) (a b d x y z : Rule) → first ≡ task_app → second ≡ with_rule first a
+    → third ≡ with_rule second b → fourth ≡ with_rule third d → a ≡ x → b ≡ y → d ≡ z
+    → fourth ≡ with_rule (with_rule (with_rule task_app x) y) z
+app_is first second third fourth a b d x y z is then and last e f g =
+    last ∙ ap (λ r. with_rule third r) g ∙ ap (λ app. with_rule app z)
+    (and ∙ ap (λ r. with_rule second r) f ∙ ap (λ app. with_rule app y)
+    (then ∙ ap (λ r. with_rule first r) e ∙ ap (λ app. with_rule app x) is))
 
-pub check_built : {E : Type 0} (r : Result Command E) (first second third : App) (a b d : Rule) → first ≡ solve_app
+built_of : {E : Type 0} (r : Result Command E) (first second third : App) (a b d x y z : Rule) → first ≡ task_app
+    → second ≡ with_rule first a → third ≡ with_rule second b → a ≡ x → b ≡ y → d ≡ z
+    → IfOk r (λ c. app_of c ≡ with_rule third d)
+    → IfOk r (λ c. app_of c ≡ with_rule (with_rule (with_rule task_app x) y) z)
+built_of (Err e) first second third a b d x y z is then and e' f g last = tt
+built_of (Ok c) first second third a b d x y z is then and e' f g last =
+    app_is first second third (app_of c) a b d x y z is then and last e' f g
+
+pub check_built : {E : Type 0} (r : Result Command E) (first second third : App) (a b d : Rule) → first ≡ task_app
     → second ≡ with_rule first a → third ≡ with_rule second b → a ≡ value_option (codes "answer") 114
     → b ≡ value_option (codes "certificate") 99 → d ≡ option_of (codes "number") 97 false
     → IfOk r (λ c. app_of c ≡ with_rule third d) → IfOk r (λ c. app_of c ≡ check_app)
-check_built (Err e) first second third a b d is then and e' f g last = tt
-check_built (Ok c) first second third a b d is then and e' f g last =
-    check_app_is first second third (app_of c) a b d is then and last e' f g
+unfolding check_app
+check_built r first second third a b d is then and e f g last =
+    built_of r first second third a b d _ _ _ is then and e f g last
+
+pub solve_built : {E : Type 0} (r : Result Command E) (first second third : App) (a b d : Rule) → first ≡ task_app
+    → second ≡ with_rule first a → third ≡ with_rule second b → a ≡ option_of (codes "number") 97 false
+    → b ≡ option_of (codes "budget") 98 false → d ≡ option_of (codes "certificate") 99 false
+    → IfOk r (λ c. app_of c ≡ with_rule third d) → IfOk r (λ c. app_of c ≡ solve_app)
+unfolding solve_app
+solve_built r first second third a b d is then and e f g last =
+    built_of r first second third a b d _ _ _ is then and e f g last
 
 -- ---- words
 

@@ -1,13 +1,14 @@
 -- What the words after the program's name ask for.
-use Rattle.std.specs.Prelude.{◌≡◌, ◌≢◌, ◌⊎◌, ℕ, Bool, List, [], ◌∷◌, Option, Some, None, true, false, codes, if◌then◌else◌}
+use Rattle.std.specs.Prelude.{◌≡◌, ◌≢◌, ◌⊎◌, ℕ, Bool, List, [], ◌∷◌, Option, Some, true, false, codes, if◌then◌else◌}
 use Rattle.std.specs.Option.{option_map}
 use Rattle.std.specs.Str.{bytes_eq}
 use Rattle.clap.specs.Words.{App, Rule, Text, first_of, matches_of, new_app, new_rule, takes}
 use Rattle.clap.specs.Words.{with_rule}
 use Rattle.clap.specs.declared.builder.ArgAction.TheVariants.{Set}
 use Rattle.argue_words.specs.declared.words.Command.{Command}
-use Rattle.argue_words.specs.declared.words.Command.TheVariants.{Version, Grounded, Check, Unknown}
+use Rattle.argue_words.specs.declared.words.Command.TheVariants.{Version, Problems, Solve, Check, Unknown}
 use Rattle.argue_words.specs.declared.words.CheckWords.{CheckWords}
+use Rattle.argue_words.specs.declared.words.SolveWords.{SolveWords}
 
 -- an option of one value, written as a hyphen and one letter
 abbrev pub option_of : Text → ℕ → Bool → Rule
@@ -28,36 +29,60 @@ bare_app = record (new_app (codes "argue")) {
 }
 
 -- the command of `-p TASK` and `-f FILE`
+unfoldable pub task_app : App
+task_app = with_rule (with_rule bare_app (value_option (codes "task") 112)) (value_option (codes "file") 102)
+
+-- the command of a query: besides these, `-a N`, `-b BUDGET` and `-c CERT`, each of which may be left out
 unfoldable pub solve_app : App
-solve_app = with_rule (with_rule bare_app (value_option (codes "task") 112))
-    (value_option (codes "file") 102)
+solve_app = with_rule (with_rule (with_rule task_app (option_of (codes "number") 97 false))
+    (option_of (codes "budget") 98 false)) (option_of (codes "certificate") 99 false)
 
 -- the command of `-p TASK`, `-f FILE`, `-r ANSWER` and `-c CERT`, and `-a N`, which may be left out
 unfoldable pub check_app : App
-check_app = with_rule (with_rule (with_rule solve_app (value_option (codes "answer") 114))
+check_app = with_rule (with_rule (with_rule task_app (value_option (codes "answer") 114))
     (value_option (codes "certificate") 99)) (option_of (codes "number") 97 false)
-
--- the value that clap matches on the words for the option of this id
-abbrev pub value_of : List Text → Text → Option Text
-value_of words id = first_of id (matches_of solve_app words)
-
-abbrev pub task_of : List Text → Option Text
-task_of words = value_of words (codes "task")
-
-abbrev pub file_of : List Text → Option Text
-file_of words = value_of words (codes "file")
 
 -- the first word is the name of the command
 abbrev pub is_check : List Text → Bool
 is_check [] = false
 is_check (word ∷ more) = bytes_eq word (codes "check")
 
--- the words name no command, clap takes them, and they ask for the grounded set of the framework in this file
-pub record IsGroundedQuery (words : List Text) (file : Text) : Type 0 where
-  pub solves : is_check words ≡ false
+-- the words are `--problems` alone
+abbrev pub words_are_problems : List Text → Bool
+words_are_problems (word ∷ []) = bytes_eq word (codes "--problems")
+words_are_problems _ = false
+
+-- ---- queries
+
+-- the texts of a query: a task, the name of the framework's file, and a number, a budget and the name of a file for the
+-- certificate, where they are given
+pub record SolveTexts : Type 0 where
+  pub task : Text
+  pub file : Text
+  pub number : Option Text
+  pub budget : Option Text
+  pub certificate : Option Text
+
+-- the value that clap matches on the words of a query for the option of this id
+abbrev pub solve_value : List Text → Text → Option Text
+solve_value words id = first_of id (matches_of solve_app words)
+
+-- the words, which clap takes, have these texts
+pub record HasSolveTexts (words : List Text) (texts : SolveTexts) : Type 0 where
   pub taken : takes solve_app words ≡ true
-  pub asks : task_of words ≡ Some (codes "SE-GR")
-  pub names : file_of words ≡ Some file
+  pub task : solve_value words (codes "task") ≡ Some texts.task
+  pub file : solve_value words (codes "file") ≡ Some texts.file
+  pub number : solve_value words (codes "number") ≡ texts.number
+  pub budget : solve_value words (codes "budget") ≡ texts.budget
+  pub certificate : solve_value words (codes "certificate") ≡ texts.certificate
+
+-- the words name no command, and ask a query with these texts
+pub record IsSolveQuery (words : List Text) (texts : SolveTexts) : Type 0 where
+  pub no_check : is_check words ≡ false
+  pub no_list : words_are_problems words ≡ false
+  pub has : HasSolveTexts words texts
+
+-- ---- checks
 
 -- the texts of a check: a task, a number where there is one, and the names of three files
 pub record CheckTexts : Type 0 where
@@ -86,33 +111,40 @@ pub record IsCheckQuery (words : List Text) (texts : CheckTexts) : Type 0 where
   pub words_are : words ≡ codes "check" ∷ rest
   pub has : HasCheckTexts rest texts
 
--- the words are well-formed, whatever the task and the number of a check: there is none, or they ask for a grounded set
--- or for a check
+-- ---- all words
+
+-- the words are well-formed, whatever the task, the number and the budget: there is none, or they ask for the list of
+-- tasks, a query or a check
 abbrev pub AreWords : List Text → Type 0
 AreWords words =
-    (words ≡ []) ⊎ (((file : Text) × IsGroundedQuery words file) ⊎ ((texts : CheckTexts) × IsCheckQuery words texts))
+    (words ≡ [])
+    ⊎ ((words_are_problems words ≡ true)
+    ⊎ (((texts : SolveTexts) × IsSolveQuery words texts) ⊎ ((texts : CheckTexts) × IsCheckQuery words texts)))
 
--- clap refuses the words for a query, or finds another task in them
-abbrev pub HasOtherTask : List Text → Type 0
-HasOtherTask words = takes solve_app words ≡ true → task_of words ≢ Some (codes "SE-GR")
+-- the words aren't `--problems` alone, and clap refuses them for a query
+pub record RefusesOthers (words : List Text) : Type 0 where
+  pub no_list : words_are_problems words ≢ true
+  pub refused : takes solve_app words ≢ true
 
--- there are words that ask for no check and, where they name no command, for no grounded set
+-- there are words that ask for no check and, where they name no command, neither for the list of tasks nor for a query
 pub record AreUnknown (words : List Text) : Type 0 where
   pub some_words : words ≢ []
   pub no_check : (texts : CheckTexts) → ¬ IsCheckQuery words texts
-  pub other_task : is_check words ≡ false → HasOtherTask words
+  pub others : is_check words ≡ false → RefusesOthers words
 
 -- what words ask for: a row for each command
 pub data Request : Type 0 where
   version : Request
-  grounded : Text → Request
+  problems : Request
+  solving : SolveTexts → Request
   checking : CheckTexts → Request
   unknown : Request
 
--- what a task and a file's name ask for
-abbrev pub task_request : Option Text → Option Text → Request
-task_request (Some task) (Some file) = if bytes_eq task (codes "SE-GR") then grounded file else unknown
-task_request _ _ = unknown
+-- what the values of a query's options ask for
+abbrev pub solve_request : Option Text → Option Text → Option Text → Option Text → Option Text → Request
+solve_request (Some task) (Some file) number budget certificate = solving
+    (record { task = task; file = file; number = number; budget = budget; certificate = certificate })
+solve_request _ _ _ _ _ = unknown
 
 -- what the values of a check's options ask for
 abbrev pub check_request : Option Text → Option Text → Option Text → Option Text → Option Text → Request
@@ -127,16 +159,32 @@ check_requested words =
     (check_value words (codes "file")) (check_value words (codes "answer")) (check_value words (codes "certificate"))
     else unknown
 
--- what words that name no command ask for
-abbrev pub solve_requested : List Text → Request
-solve_requested words = if takes solve_app words then task_request (task_of words) (file_of words) else unknown
+-- what the words of a query ask for
+unfoldable pub solve_requested : List Text → Request
+solve_requested words =
+    if takes solve_app words then solve_request (solve_value words (codes "task")) (solve_value words (codes "file"))
+    (solve_value words (codes "number")) (solve_value words (codes "budget")) (solve_value words (codes "certificate"))
+    else unknown
 
--- what the words ask for: the version where there is none, what their command says, or what their task says where clap
--- takes them
+-- what words that name no command ask for
+abbrev pub other_requested : List Text → Request
+other_requested words = if words_are_problems words then problems else solve_requested words
+
+-- what the words ask for: the version where there is none, what their command says, or else the list of tasks or a query
 abbrev pub requested : List Text → Request
 requested [] = version
 requested (word ∷ more) =
-    if bytes_eq word (codes "check") then check_requested more else solve_requested (word ∷ more)
+    if bytes_eq word (codes "check") then check_requested more else other_requested (word ∷ more)
+
+-- the texts of a query's words
+abbrev pub solve_texts : SolveWords → SolveTexts
+solve_texts words = record {
+  task = words.task.now;
+  file = words.file.now;
+  number = option_map (λ text. text.now) words.number;
+  budget = option_map (λ text. text.now) words.budget;
+  certificate = option_map (λ text. text.now) words.certificate;
+}
 
 -- the texts of a check's words
 abbrev pub check_texts : CheckWords → CheckTexts
@@ -151,13 +199,7 @@ check_texts words = record {
 -- what a command asks for
 abbrev pub request_of : Command → Request
 request_of Version = version
-request_of (Grounded file) = grounded file.now
+request_of Problems = problems
+request_of (Solve words) = solving (solve_texts words)
 request_of (Check words) = checking (check_texts words)
 request_of Unknown = unknown
-
--- the command that a task and a file's name make, where clap has taken the words
-abbrev pub IsQueryOf : Option Text → Option Text → Command → Type 0
-IsQueryOf task file Version = ⊥
-IsQueryOf task file (Grounded name) = (task ≡ Some (codes "SE-GR")) × (file ≡ Some name.now)
-IsQueryOf task file (Check words) = ⊥
-IsQueryOf task file Unknown = (file ≡ None) ⊎ (task ≢ Some (codes "SE-GR"))

@@ -1,8 +1,8 @@
-//! The words after the program's name: none, or `check` and its options, or the options `-p TASK` and `-f FILE`, in any
+//! The words after the program's name: none, `--problems`, `check` and its options, or the options of a query, in any
 //! order, as clap takes them.
 #![tactic(auto)]
 
 mod options;
 pub mod words;
 
-pub use words::{CheckWords, Command, read_words};
+pub use words::{CheckWords, Command, SolveWords, read_words};

@@ -2,7 +2,7 @@
 
 ghost use Rattle.std.specs.Prelude.{◌≡◌, IfOk, codes, false};
 ghost use Rattle.clap.specs.Words.{app_of, rule_of, with_rule};
-ghost use Rattle.argue_words.specs.Words.{bare_app, check_app, option_of, solve_app};
+ghost use Rattle.argue_words.specs.Words.{bare_app, check_app, option_of, solve_app, task_app};
 
 use clap::{Arg, ArgAction, Command};
 use std::alloc::{AllocError, Global};
@@ -31,13 +31,24 @@ fn bare_command<'a>(alloc: Global) -> Command<'a>
     Command::new(alloc, "argue").no_binary_name(true)
 }
 
-#[tactic(auto, unfolding(crate::specs::Words::solve_app))]
 /// The command of `-p TASK` and `-f FILE`, whose words begin after the program's name.
-pub(crate) fn solve_command<'a>(alloc: Global) -> Result<Command<'a>, AllocError>
-    ensures { IfOk result (λ c. app_of c ≡ solve_app) }
+#[tactic(auto, unfolding(crate::specs::Words::task_app))]
+fn task_command<'a>(alloc: Global) -> Result<Command<'a>, AllocError>
+    ensures { IfOk result (λ c. app_of c ≡ task_app) }
 {
     let command = with_arg(bare_command(alloc), value_arg(alloc, "task", 'p', true))?;
     with_arg(command, value_arg(alloc, "file", 'f', true))
+}
+
+/// The command of `-p TASK`, `-f FILE` and perhaps `-a N`, `-b BUDGET` and `-c CERT`, whose words begin after the program's
+/// name.
+pub(crate) fn solve_command<'a>(alloc: Global) -> Result<Command<'a>, AllocError>
+    ensures { IfOk result (λ c. app_of c ≡ solve_app) }
+{
+    let command = task_command(alloc)?;
+    let command = with_arg(command, value_arg(alloc, "number", 'a', false))?;
+    let command = with_arg(command, value_arg(alloc, "budget", 'b', false))?;
+    with_arg(command, value_arg(alloc, "certificate", 'c', false))
 }
 
 /// The command of `-p TASK`, `-f FILE`, `-r ANSWER`, `-c CERT` and perhaps `-a N`, whose words begin after the name of the
@@ -45,7 +56,7 @@ pub(crate) fn solve_command<'a>(alloc: Global) -> Result<Command<'a>, AllocError
 pub(crate) fn check_command<'a>(alloc: Global) -> Result<Command<'a>, AllocError>
     ensures { IfOk result (λ c. app_of c ≡ check_app) }
 {
-    let command = solve_command(alloc)?;
+    let command = task_command(alloc)?;
     let command = with_arg(command, value_arg(alloc, "answer", 'r', true))?;
     let command = with_arg(command, value_arg(alloc, "certificate", 'c', true))?;
     with_arg(command, value_arg(alloc, "number", 'a', false))

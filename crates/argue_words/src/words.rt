@@ -3,7 +3,7 @@
 ghost use Rattle.std.specs.Prelude.{◌≡◌, ◌≢◌, IfErr, IfOk, IsErr, IsSome, List, [], ℕ, codes, map};
 ghost use Rattle.std.specs.Prelude.{string_bytes, true};
 ghost use Rattle.clap.specs.Words.{first_value, found_of, kind_of, takes};
-ghost use Rattle.argue_words.specs.Words.{AreUnknown, HasOtherTask, IsQueryOf, check_app, check_request, check_requested, check_value, request_of, requested, solve_app, solve_requested, value_of};
+ghost use Rattle.argue_words.specs.Words.{AreUnknown, RefusesOthers, check_app, check_request, check_requested, check_value, other_requested, request_of, requested, solve_app, solve_request, solve_requested, solve_value, words_are_problems};
 
 use crate::options::{check_command, solve_command};
 use clap::ArgMatches;
@@ -16,12 +16,26 @@ use std::alloc::Global;
 pub enum Command<'a> {
     /// No words: the program's name and version.
     Version,
-    /// The grounded set of the framework in the file of this name.
-    Grounded(&'a str),
+    /// `--problems` alone: the list of tasks.
+    Problems,
+    /// An answer to a query.
+    Solve(SolveWords<'a>),
     /// A check of an answer with its certificate.
     Check(CheckWords<'a>),
-    /// Words that clap refuses, or a query for a task other than `SE-GR`.
+    /// Words that clap refuses.
     Unknown,
+}
+
+/// The words of a query: the task's name, the name of the framework's file, the number that is asked about and the budget
+/// where they are given, and the name of a file for the certificate where one is wanted. Whether there is such a task,
+/// whether it wants the number, and whether the budget is one, is for the caller to see.
+#[derive(Clone, Copy, Debug, PartialEq, Eq)]
+pub struct SolveWords<'a> {
+    pub task: &'a str,
+    pub file: &'a str,
+    pub number: Option<&'a str>,
+    pub budget: Option<&'a str>,
+    pub certificate: Option<&'a str>,
 }
 
 /// The words of a check: the task's name, the number that is asked about where one is given, and the names of the files
@@ -36,12 +50,12 @@ pub struct CheckWords<'a> {
     pub certificate: &'a str,
 }
 
-/// Reads the words after the program's name. No words ask for the version. Where the first is `check`, those behind it
-/// are read by clap as the options `-p TASK`, `-f FILE`, `-r ANSWER`, `-c CERT` and perhaps `-a N`, in any order: `Check`
-/// comes exactly where clap takes them. All others are read by clap as the options `-p TASK` and `-f FILE`, both required,
-/// each with one value, in any order: `Grounded` comes exactly where clap takes them and the task is `SE-GR`, with the
-/// value of `-f`. `Unknown` comes for all other words, also for those that ask for help. `Memory` is want of memory
-/// and no fault of the words; it comes only where there are words.
+/// Reads the words after the program's name. No words ask for the version, and `--problems` alone for the list of tasks.
+/// Where the first is `check`, those behind it are read by clap as the options `-p TASK`, `-f FILE`, `-r ANSWER`, `-c CERT`
+/// and perhaps `-a N`, in any order: `Check` comes exactly where clap takes them. All others are read by clap as the
+/// options `-p TASK` and `-f FILE`, both required, and perhaps `-a N`, `-b BUDGET` and `-c CERT`, each with one value, in
+/// any order: `Solve` comes exactly where clap takes them. `Unknown` comes for all other words, also for those that ask
+/// for help. `Memory` is want of memory and no fault of the words; it comes only where there are words.
 pub fn read_words<'a>(alloc: Global, words: &'a [String]) -> Result<Command<'a>, Memory>
     ensures request { IfOk result (λ c. request_of c ≡ requested (map string_bytes words.now)) }
     ensures unknown { IfOk result (λ c. c ≡ Command.Unknown → AreUnknown (map string_bytes words.now)) }
@@ -53,17 +67,36 @@ pub fn read_words<'a>(alloc: Global, words: &'a [String]) -> Result<Command<'a>,
     if first.as_str() == "check" {
         read_check(alloc, rest)
     } else {
-        read_solve(alloc, words)
+        read_other(alloc, words)
     }
 }
 
+// Whether the words are `--problems` alone.
+fn is_problems(words: &[String]) -> bool
+    ensures { result ≡ words_are_problems (map string_bytes words.now) }
+{
+    words.len() == 1 && words[0].as_str() == "--problems"
+}
+
 // What words that name no command ask for.
+fn read_other<'a>(alloc: Global, words: &'a [String]) -> Result<Command<'a>, Memory>
+    ensures request { IfOk result (λ c. request_of c ≡ other_requested (map string_bytes words.now)) }
+    ensures unknown { IfOk result (λ c. c ≡ Command.Unknown → RefusesOthers (map string_bytes words.now)) }
+{
+    let listed = is_problems(words);
+    if listed {
+        return Ok(Command::Problems);
+    }
+    read_solve(alloc, words)
+}
+
+// What the words of a query ask for.
 fn read_solve<'a>(alloc: Global, words: &'a [String]) -> Result<Command<'a>, Memory>
     ensures request { IfOk result (λ c. request_of c ≡ solve_requested (map string_bytes words.now)) }
-    ensures unknown { IfOk result (λ c. c ≡ Command.Unknown → HasOtherTask (map string_bytes words.now)) }
+    ensures unknown { IfOk result (λ c. c ≡ Command.Unknown → takes solve_app (map string_bytes words.now) ≢ true) }
 {
     match solve_matches(alloc, words) {
-        Ok(matches) => Ok(query_of(&matches)),
+        Ok(matches) => Ok(solve_of(&matches)),
         Err(error) => refusal(&error),
     }
 }
@@ -82,8 +115,9 @@ fn read_check<'a>(alloc: Global, words: &'a [String]) -> Result<Command<'a>, Mem
 fn solve_matches<'a>(alloc: Global, words: &'a [String]) -> Result<ArgMatches<'a>, clap::Error>
     ensures taken { IfOk result (λ _. takes solve_app (map string_bytes words.now) ≡ true) }
     ensures values { IfOk result (λ m. (id : List ℕ)
-        → first_value (found_of m) id ≡ value_of (map string_bytes words.now) id) }
-    ensures file { IfOk result (λ m. IsSome (first_value (found_of m) (codes "file"))) }
+        → first_value (found_of m) id ≡ solve_value (map string_bytes words.now) id) }
+    ensures given { IfOk result (λ m. IsSome (first_value (found_of m) (codes "task"))
+        × IsSome (first_value (found_of m) (codes "file"))) }
     ensures refused { IfErr result (λ e. takes solve_app (map string_bytes words.now) ≡ true
         → kind_of e ≡ ErrorKind.OutOfMemory) }
 {
@@ -133,18 +167,28 @@ fn check_of<'a>(matches: &ArgMatches<'a>) -> Command<'a>
 }
 
 // The query of words that clap takes.
-fn query_of<'a>(matches: &ArgMatches<'a>) -> Command<'a>
-    ensures { IsQueryOf (first_value (found_of matches.now) (codes "task"))
-        (first_value (found_of matches.now) (codes "file")) result }
+fn solve_of<'a>(matches: &ArgMatches<'a>) -> Command<'a>
+    requires { IsSome (first_value (found_of matches.now) (codes "task"))
+        × IsSome (first_value (found_of matches.now) (codes "file")) }
+    ensures request { request_of result ≡ solve_request (first_value (found_of matches.now) (codes "task"))
+        (first_value (found_of matches.now) (codes "file")) (first_value (found_of matches.now) (codes "number"))
+        (first_value (found_of matches.now) (codes "budget"))
+        (first_value (found_of matches.now) (codes "certificate")) }
+    ensures known { result ≢ Command.Unknown }
 {
-    let Some(file) = matches.get_str("file") else {
-        return Command::Unknown;
+    let Some(task) = matches.get_str("task") else {
+        unreachable!()
     };
-    if matches.get_str("task") == Some("SE-GR") {
-        Command::Grounded(file)
-    } else {
-        Command::Unknown
-    }
+    let Some(file) = matches.get_str("file") else {
+        unreachable!()
+    };
+    Command::Solve(SolveWords {
+        task,
+        file,
+        number: matches.get_str("number"),
+        budget: matches.get_str("budget"),
+        certificate: matches.get_str("certificate"),
+    })
 }
 
 // Why clap gave no matches: want of memory, or words that it refuses.

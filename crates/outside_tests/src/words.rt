@@ -1,4 +1,4 @@
-use argue_words::{CheckWords, Command, read_words};
+use argue_words::{CheckWords, Command, SolveWords, read_words};
 use std::alloc::{AllocError, Global};
 use std::test::Fail;
 
@@ -10,27 +10,52 @@ fn words_in(alloc: Global, line: &str) -> Result<Vec<String>, AllocError> {
     Ok(words)
 }
 
+/// A query for a task and a file alone.
+fn query<'a>(task: &'a str, file: &'a str) -> Command<'a> {
+    Command::Solve(SolveWords {
+        task,
+        file,
+        number: None,
+        budget: None,
+        certificate: None,
+    })
+}
+
 #[test]
 fn words_of_each_kind(rt: HostRuntime) -> Result<(), Fail> {
     let alloc = rt.alloc();
     let rows = [
         ("", Command::Version),
-        ("-p SE-GR -f x", Command::Grounded("x")),
-        ("-f x -p SE-GR", Command::Grounded("x")),
-        ("-pSE-GR -fx", Command::Grounded("x")),
-        ("-p=SE-GR -f=x", Command::Grounded("x")),
-        ("-f a.af -pSE-GR", Command::Grounded("a.af")),
+        ("-p SE-GR -f x", query("SE-GR", "x")),
+        ("-f x -p SE-GR", query("SE-GR", "x")),
+        ("-pSE-GR -fx", query("SE-GR", "x")),
+        ("-p=SE-GR -f=x", query("SE-GR", "x")),
+        ("-f a.af -pSE-GR", query("SE-GR", "a.af")),
         ("-p SE-GR", Command::Unknown),
         ("-f x", Command::Unknown),
         ("-p SE-GR -f", Command::Unknown),
-        ("-p SE-ST -f x", Command::Unknown),
-        ("-p se-gr -f x", Command::Unknown),
+        ("-p SE-ST -f x", query("SE-ST", "x")),
+        ("-p se-gr -f x", query("se-gr", "x")),
         ("-p SE-GR -f x y", Command::Unknown),
         ("-p SE-GR -p SE-GR -f x", Command::Unknown),
         ("-p SE-GR -f x -f y", Command::Unknown),
         ("-p SE-GR -f -x", Command::Unknown),
         ("-p SE-GR -f x --all", Command::Unknown),
         ("SE-GR x", Command::Unknown),
+        ("--problems", Command::Problems),
+        ("--problems -p SE-GR", Command::Unknown),
+        (
+            "-c c -b 10 -a 3 -f a -p DC-CO",
+            Command::Solve(SolveWords {
+                task: "DC-CO",
+                file: "a",
+                number: Some("3"),
+                budget: Some("10"),
+                certificate: Some("c"),
+            }),
+        ),
+        ("-p DC-CO -f a -a 3 -a 4", Command::Unknown),
+        ("-p DC-CO -f a -r b", Command::Unknown),
         ("--help", Command::Unknown),
         ("-h", Command::Unknown),
         ("-p SE-GR -f x --help", Command::Unknown),
@@ -60,7 +85,7 @@ fn words_of_each_kind(rt: HostRuntime) -> Result<(), Fail> {
         ("check -p SE-ST -f a -r b -c c x", Command::Unknown),
         ("check --help", Command::Unknown),
         ("check", Command::Unknown),
-        ("-p SE-GR -f check", Command::Grounded("check")),
+        ("-p SE-GR -f check", query("SE-GR", "check")),
     ];
     for (line, wanted) in rows {
         let words = words_in(alloc, line)?;

@@ -1,6 +1,6 @@
 //! What no clause says: that memory suffices. Whole runs over memory, each compared with what was worked out by hand.
 
-use argue_outside::{Files, MemFiles, MemSink, NoPace, append_all};
+use argue_outside::{Files, MemFiles, MemSink, NoPace, Role, append_all, read_all};
 use argue_program::command::{execute, run};
 use plain_lists::Items;
 use std::alloc::{AllocError, Global};
@@ -53,6 +53,32 @@ fn faults(rt: HostRuntime) -> Result<(), Fail> {
         let ended = code_of(alloc, QUERY, &mut files, &mut out)?;
         assert!(rt; ended == code, "status at {output:?}");
         assert!(rt; out.bytes() == output.as_bytes(), "output at {output:?}");
+    }
+    Ok(())
+}
+
+#[test]
+fn certificate_faults(rt: HostRuntime) -> Result<(), Fail> {
+    let alloc = rt.alloc();
+    // The call of the files that fails, the call of the sink that fails, the output, the certificate's file, and the
+    // status. Three calls write the framework, four read it, the next clears the file, and two more write it.
+    let rows = [
+        (0, 0, "w 1 3\n", "cert 1\nend\n", 0),
+        (9, 0, "", "old", 4),
+        (10, 0, "", "", 4),
+        (11, 0, "", "cert 1\n", 4),
+        (0, 1, "", "cert 1\nend\n", 4),
+    ];
+    for (file, put, output, certificate, code) in rows {
+        let mut files = MemFiles::failing(alloc, only(alloc, file)?, 7);
+        let mut out = MemSink::failing(alloc, only(alloc, put)?, 7);
+        append_all(&mut files, "a", b"p af 3\n1 2\n2 3\n")?;
+        append_all(&mut files, "c", b"old")?;
+        let ended = code_of(alloc, "-p SE-GR -f a -c c", &mut files, &mut out)?;
+        let held = read_all(alloc, &mut files, Role::Certificate, "c", 100)?;
+        assert!(rt; ended == code, "status at {output:?}");
+        assert!(rt; out.bytes() == output.as_bytes(), "output at {certificate:?}");
+        assert!(rt; held.as_slice() == certificate.as_bytes(), "file at {certificate:?}");
     }
     Ok(())
 }

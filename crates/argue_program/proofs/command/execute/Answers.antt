@@ -1,6 +1,6 @@
 use Rattle.std.proofs.Common.{map}
 use Rattle.std.specs.String.{string_bytes}
-use Rattle.argue_program.proofs.RunsLemmas.{IsRunOf-written, accepted, checked, complete, faulty, other_counts, right_set, too_long, unasked, usage}
+use Rattle.argue_program.proofs.RunsLemmas.{IsRunOf-written, accepted, checked, complete, faulty, no_query, no_write, other_counts, other_files, problems_told, right_reply, too_long, unasked, untouched, usage, write_fault}
 use Rattle.argue_program.proofs.command.execute.Goals as goal
 
 pub returns-clause-run : goal.returns-clause-run
@@ -10,7 +10,7 @@ returns-clause-run g c =
     c.decide-ending.ensures.writes
 
 pub returns-clause-right : goal.returns-clause-right
-returns-clause-right g c = right_set _ _ _ _ _ (returns-clause-run g c)
+returns-clause-right g c = right_reply _ _ _ _ _ (returns-clause-run g c)
 
 pub returns-clause-complete : goal.returns-clause-complete
 returns-clause-complete g c = complete _ _ _ _ _ (returns-clause-run g c)
@@ -36,3 +36,21 @@ returns-clause-checked g c = checked _ (map string_bytes c.args.words.now) _ _ _
 
 pub returns-clause-unasked : goal.returns-clause-unasked
 returns-clause-unasked g c = unasked _ (map string_bytes c.args.words.now) _ _ _ (returns-clause-run g c)
+
+pub returns-clause-problems : goal.returns-clause-problems
+returns-clause-problems g c = problems_told _ (map string_bytes c.args.words.now) _ _ _ (returns-clause-run g c)
+
+pub returns-clause-no_query : goal.returns-clause-no_query
+returns-clause-no_query g c = no_query _ (map string_bytes c.args.words.now) _ _ _ (returns-clause-run g c)
+
+pub returns-clause-write_fault : goal.returns-clause-write_fault
+returns-clause-write_fault g c = write_fault _ (map string_bytes c.args.words.now) _ _ _ (returns-clause-run g c)
+
+pub returns-clause-other_files : goal.returns-clause-other_files
+returns-clause-other_files g c = other_files _ (map string_bytes c.args.words.now) _ _ _ (returns-clause-run g c)
+
+pub returns-clause-untouched : goal.returns-clause-untouched
+returns-clause-untouched g c = untouched _ (map string_bytes c.args.words.now) _ _ _ (returns-clause-run g c)
+
+pub returns-clause-no_write : goal.returns-clause-no_write
+returns-clause-no_write g c = no_write _ (map string_bytes c.args.words.now) _ _ _ (returns-clause-run g c)

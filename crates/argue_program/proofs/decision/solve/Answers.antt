@@ -1,16 +1,20 @@
-use Rattle.std.proofs.Common.{◌≡◌, refl, Err}
+use Rattle.std.proofs.Common.{◌≡◌, ◌∙◌, sym, Err}
 use Rattle.argue_outside.specs.declared.Role.TheVariants.{Framework}
+use Rattle.argue_words.specs.Words.{solve_texts}
 use Rattle.argue_program.specs.declared.ended.Status.TheVariants.{ReadFault}
-use Rattle.argue_program.proofs.RowsLemmas.{CountsReads-reading, EndsCommand-reading, IsEndingOf-stopped}
+use Rattle.argue_program.proofs.QueryLemmas.{solving_solves}
+use Rattle.argue_program.proofs.RowsLemmas.{solve_stopped}
 use Rattle.argue_program.proofs.decision.solve.Goals as goal
+
+pub solve_file-requires : goal.solve_file-requires
+solve_file-requires g c =
+    solving_solves (solve_texts c.args.words) c.in-Some.query (sym c.solving_of.ensures ∙ c.in-Some.is)
 
 pub returns-in-Err-clause-ending : goal.returns-in-Err-clause-ending
 returns-in-Err-clause-ending g c =
-    let holds = g.F.Files.holds c.args.files.now in
-    IsEndingOf-stopped _ _ c.stopped.result c.in-Err.status
-    (EndsCommand-reading _ holds c.args.name.now _ c.in-Err.ensures.err) refl
-    c.stopped.ensures.status c.stopped.ensures.kept c.stopped.ensures.text c.stopped.ensures.files
-    (CountsReads-reading _ holds c.args.name.now _
+    solve_stopped _ _ c.in-Some.query _ c.stopped-in-Err.result (sym c.solving_of.ensures ∙ c.in-Some.is) c.in-Err.status
+    c.in-Err.ensures.err
     (λ other. c.in-Err.ensures.quiet (λ e. other (let is : Err c.in-Err.status ≡ Err (ReadFault (Framework 1)) =
     e in cc)))
-    c.in-Err.ensures.others)
+    c.in-Err.ensures.others c.stopped-in-Err.ensures.status c.stopped-in-Err.ensures.kept c.stopped-in-Err.ensures.text
+    c.stopped-in-Err.ensures.files

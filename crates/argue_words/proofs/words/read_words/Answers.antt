@@ -1,7 +1,7 @@
 use Rattle.std.proofs.Common.{codes, sym, map, ap, rules, ◌∙◌}
 use Rattle.std.specs.Str.{bytes_eq}
 use Rattle.std.specs.String.{string_bytes}
-use Rattle.argue_words.proofs.RequestLaws.{check_unknown, solve_unknown}
+use Rattle.argue_words.proofs.RequestLaws.{check_unknown, others_unknown}
 use Rattle.argue_words.proofs.words.read_words.Goals as goal
 
 pub returns-then-eq-clause-unknown : goal.returns-then-eq-clause-unknown
@@ -12,6 +12,6 @@ returns-then-eq-clause-unknown c =
 
 pub returns-else-eq-clause-unknown : goal.returns-else-eq-clause-unknown
 returns-else-eq-clause-unknown c =
-    solve_unknown (map string_bytes c.args.words.now) (map string_bytes c.in-Some.rest.now) (string_bytes c.in-Some.first.now)
-    c.read_solve.result (search rules)
-    (ap (λ b. bytes_eq b (codes "check")) (sym c.as_str.ensures.value) ∙ sym c.if-eq.ensures) c.read_solve.ensures.request c.read_solve.ensures.unknown
+    others_unknown (map string_bytes c.args.words.now) (map string_bytes c.in-Some.rest.now) (string_bytes c.in-Some.first.now)
+    c.read_other.result (search rules)
+    (ap (λ b. bytes_eq b (codes "check")) (sym c.as_str.ensures.value) ∙ sym c.if-eq.ensures) c.read_other.ensures.request c.read_other.ensures.unknown

@@ -1,0 +1,180 @@
+-- A model of the needed axioms and the goals is read as a set that makes the goals true.
+use Rattle.std.proofs.Common.{◌≡◌, ◌∙◌, ◌⊎◌, inl, inr, ⊎_elim, ℕ, ◌-◌, ◌<◌, ◌≤◌, zero, suc, Bool, true, false, not, List, [], ◌∷◌, length, map, take, refl, sym, ap, subst, arith}
+use Rattle.std.specs.Prelude.{Contains, filter, slice_index_or, Result, Ok, Err}
+use Rattle.std.proofs.lemmas.List.{length-map, length-take-le, take_all}
+use Rattle.std.proofs.lemmas.List.Elements.{Contains-get_or}
+use Rattle.plain_lists.proofs.Membership.{Contains-cons_cases}
+use Rattle.plain_lists.proofs.Filters.{Contains-filter}
+use Rattle.plain_lists.specs.Members.{IsSetOf}
+use Rattle.plain_lits.specs.HintCheck.{IsTautology}
+use Rattle.plain_lits.proofs.HintCheckLemmas.{Contains-mapped}
+use Rattle.semantics.specs.Frameworks.{Framework, af, IsNumbered}
+use Rattle.meaning_atoms.specs.declared.atom.Atom.{Atom}
+use Rattle.meaning_atoms.specs.declared.atom.Atom.TheVariants.{Member, Live, Attack, Gap, Tail, Unmet, Range, Cf, Ad, Co, St, Ask}
+use Rattle.meaning_atoms.specs.declared.atom.AtomLit.{AtomLit}
+use Rattle.meaning_atoms.specs.Literals.{affirmed, denied, negated}
+use Rattle.meaning_atoms.specs.Worlds.{world_of, IsTrueAlone, HoldsLit, HoldsOf, Holds, IsFact, Says}
+use Rattle.certificate_claims.specs.SetLiterals.{members}
+use Rattle.oracle_face.specs.Decoding.{IsDecoded, IsModelOf, IsReadBack, ReadsBack}
+use Rattle.oracle_face.specs.Goals.{AreGoals, IsGoal, IsMode, MakesTrue, RefutesGoals, SpeaksOf, Tells}
+use Rattle.oracle_face.specs.Growing.{IsFound}
+use Rattle.oracle_face.specs.Logs.{OracleLog, LogStep, SideClause, IsGiven, IsLog, IsNumberOf, IsSameClause, Source, by_axiom, by_side, by_hints, clauses_of, guarded, literals_of, no_side, no_step, side_at, step_at, working}
+use Rattle.oracle_face.proofs.StepTruth.{side_literals}
+use Rattle.oracle_face.specs.declared.face.Found.{Found}
+use Rattle.oracle_face.specs.declared.face.Found.TheVariants.{Set, Refuted}
+use Rattle.session_log.specs.Guards.{IsGuarded, HasSideStep}
+use Rattle.af_encoding.proofs.Readings.{model_reads_back}
+use Rattle.atom_solver.specs.States.{IsGuardedLog}
+use Rattle.atom_solver.specs.Searches.{AreUnfixed, Satisfies}
+use Rattle.oracle_face.specs.Kinds.{IsRanged}
+use Rattle.oracle_core.specs.Engines.{AreInForce, HasAxiom, HasRange}
+
+-- ---- goals
+
+unfixed_goal : (f : Framework) (sides : List SideClause) (atom : Atom) (positive : Bool) → IsGoal f sides atom positive
+    → IsFact f atom → ⊥
+unfixed_goal (af f) sides (Live a) true goal fact = goal
+unfixed_goal (af f) sides (Live a) false goal fact = goal
+unfixed_goal (af f) sides (Attack b a) true goal fact = goal
+unfixed_goal (af f) sides (Attack b a) false goal fact = goal
+unfixed_goal (af f) sides (Gap a i j) true goal fact = goal
+unfixed_goal (af f) sides (Gap a i j) false goal fact = goal
+unfixed_goal (af f) sides _ positive goal fact = absurd fact
+
+-- no goal is a fact
+pub unfixed_goals : (f : Framework) (sides : List SideClause) (goals : List AtomLit) → AreGoals f sides goals
+    → AreUnfixed f goals
+unfixed_goals f sides goals are =
+    record { each = λ l there. unfixed_goal f sides l.atom l.positive (are.each l there) }
+
+-- ---- models
+
+-- literals that satisfy the log and the goals are a model of the axioms in force
+model_of : (f : Framework) (log : OracleLog) (goals values : List AtomLit) → AreInForce f log
+    → Satisfies f log goals values → IsModelOf f values
+model_of f log goals values force ok = record {
+  plain = ok.plain;
+  axioms = λ name needed.
+      let has = force name needed in
+      let true_there = ok.clauses has.clause has.there in
+      (true_there.0, has.same.there true_there.0 true_there.1, true_there.2);
+  facts = ok.facts;
+  told = λ name l needed there fact.
+      let has = force name needed in
+      ok.told has.clause l has.there (has.same.back l there) fact;
+}
+
+reads_back : (f : Framework) (values : List AtomLit) (set : List ℕ) → IsNumbered f → IsModelOf f values
+    → IsSetOf (IsDecoded Live values) set → ReadsBack f values set
+reads_back (af f) values set numbered model decoded = model_reads_back f values set numbered model decoded
+
+-- ---- side clauses
+
+-- a step that didn't only end a search is one of those that searches use
+in_working : (steps : List LogStep) (step : LogStep) → Contains steps step → step.closing ≡ false
+    → Contains (working steps) step.clause
+in_working steps step there kept =
+    Contains-mapped (λ (s : LogStep). s.clause) (filter (λ (s : LogStep). not s.closing) steps) step
+    ((Contains-filter (λ (s : LogStep). not s.closing) steps step).1 (there, ap not kept))
+
+side_given : (f : Framework) (sides : List SideClause) (before : List LogStep) (clause : List AtomLit) (source : Source)
+    (n : ℕ) → IsGiven f sides before clause source → source ≡ by_side n
+    → IsSameClause clause (guarded n (side_at sides n).literals)
+side_given f sides before clause (by_axiom name) n given is = cc
+side_given f sides before clause (by_side m) n given is =
+    let e : m ≡ n = cc in
+    subst (λ k. IsSameClause clause (guarded k (side_at sides k).literals)) e given.1
+side_given f sides before clause (by_hints hints) n given is = cc
+
+-- searches use the clause of each side clause's step
+side_used : (f : Framework) (log : OracleLog) (n : ℕ) → IsGuardedLog f log → IsNumberOf log.sides n
+    → (clause : List AtomLit) × Contains (working log.steps) clause
+    × IsSameClause clause (guarded n (side_at log.sides n).literals)
+side_used f log n guarded_log named =
+    let has = guarded_log.guards.stepped n named in
+    let low = has.named.from_one in
+    let high = has.named.within in
+    let step = step_at log.steps has.number in
+    let given = guarded_log.form.each (has.number - 1) (omega arith) in (
+      step.clause,
+      in_working log.steps step (Contains-get_or log.steps (has.number - 1) no_step (omega arith)) has.kept,
+      side_given f log.sides (take (has.number - 1) log.steps) step.clause step.source n given has.source,
+    )
+
+-- ---- what is read back
+
+module _ (f : Framework) (log : OracleLog) (goals values : List AtomLit) (set : List ℕ) (numbered : IsNumbered f)
+    (guarded_log : IsGuardedLog f log) (force : AreInForce f log) (are : AreGoals f log.sides goals)
+    (ok : Satisfies f log goals values) (decoded : IsSetOf (IsDecoded Live values) set) where
+  back : ReadsBack f values set
+  back = reads_back f values set numbered (model_of f log goals values force ok) decoded
+
+  -- what may be said of members is read back, and so is its literal in the world of the set
+  tells_read : (atom : Atom) (positive : Bool) → Tells (Contains (members f)) atom positive
+      → IsReadBack f atom positive
+  tells_read (Member a) positive tells = tells
+  tells_read (Range a) true tells = tells
+  tells_read (Range a) false tells = absurd tells
+  tells_read (Tail a i) true tells = tells
+  tells_read (Tail a i) false tells = absurd tells
+  tells_read _ positive tells = absurd tells
+
+  tells_holds : (l : AtomLit) → Tells (Contains (members f)) l.atom l.positive → Contains values l
+      → Says l.positive (HoldsOf f set l.atom)
+  tells_holds l tells there = back.says l there (tells_read l.atom l.positive tells)
+
+  -- a side clause that is affirmed is true of the set
+  side_true : (n : ℕ) → IsNumberOf log.sides n → SpeaksOf f (side_at log.sides n).literals
+      → Contains values (affirmed (Ask n)) → HoldsLit (world_of f set) (literals_of log.sides) (affirmed (Ask n))
+  side_true n named speaks there =
+      let used = side_used f log n guarded_log named in
+      let found = ok.clauses used.0 used.1 in
+      let low = named.from_one in
+      let high = named.within in
+      let sides = literals_of log.sides in
+      ⊎_elim
+      (λ denies. absurd (ok.plain (affirmed (Ask n), there, subst (λ l. Contains values l) (sym denies) found.2)))
+      (λ member.
+      record {
+        low = omega arith;
+        high = omega (arith, length-map log.sides (λ (side : SideClause). side.literals));
+        true_there = subst (λ clause. IsTrueAlone (world_of f set) clause) (sym (side_literals log.sides n named)) (record {
+          literal = found.0;
+          member = member;
+          says = tells_holds found.0 (speaks found.0 member) found.2;
+        });
+      })
+      (Contains-cons_cases (denied (Ask n)) (side_at log.sides n).literals found.0 (used.2.there found.0 found.1))
+
+  goal_holds : (atom : Atom) (positive : Bool) → IsGoal f log.sides atom positive
+      → Contains values (record { atom = atom; positive = positive })
+      → HoldsLit (world_of f set) (literals_of log.sides) (record { atom = atom; positive = positive })
+  goal_holds (Ask n) true goal there = side_true n goal.0 goal.1 there
+  goal_holds (Ask n) false goal there = absurd goal
+  goal_holds Cf true goal there = back.says (affirmed Cf) there tt
+  goal_holds Cf false goal there = absurd goal
+  goal_holds Ad true goal there = back.says (affirmed Ad) there tt
+  goal_holds Ad false goal there = absurd goal
+  goal_holds Co true goal there = back.says (affirmed Co) there tt
+  goal_holds Co false goal there = absurd goal
+  goal_holds St true goal there = back.says (affirmed St) there tt
+  goal_holds St false goal there = absurd goal
+  goal_holds (Member a) positive goal there =
+      tells_holds (record { atom = Member a; positive = positive }) goal there
+  goal_holds (Range a) positive goal there =
+      tells_holds (record { atom = Range a; positive = positive }) goal there
+  goal_holds (Tail a i) positive goal there =
+      tells_holds (record { atom = Tail a i; positive = positive }) goal there
+  goal_holds (Live a) positive goal there = absurd goal
+  goal_holds (Attack b a) positive goal there = absurd goal
+  goal_holds (Gap a i j) positive goal there = absurd goal
+  goal_holds (Unmet a i) positive goal there = absurd goal
+
+  -- the set makes each goal true
+  pub makes_true : MakesTrue f log goals set
+  makes_true = λ l there. goal_holds l.atom l.positive (are.each l there) (ok.met l there)
+
+-- ---- ranges
+
+pub has_range : (f : Framework) (set range : List ℕ) → HasRange f set range → IsSetOf (IsRanged f set) range
+has_range (af f) set range h = h

@@ -1,0 +1,251 @@
+-- The axioms that a framework needs come into the log, and stay in it.
+use Rattle.std.proofs.Common.{◌≡◌, ◌∙◌, ◌⊎◌, inl, inr, ⊎_elim, ℕ, ◌+◌, ◌<◌, ◌≤◌, zero, suc, Bool, true, false, not, true≢false, List, [], ◌∷◌, ◌++◌, length, map, refl, sym, ap, subst, arith, Option, None, Some, Result, Ok, Err}
+use Rattle.std.specs.Prelude.{Contains, cond, drop, filter, count_by, slice_index_or}
+use Rattle.plain_lists.proofs.Counts.{count_by-cons}
+use Rattle.std.proofs.lemmas.List.{drop_all, get_or-append-add, length-append, map-append}
+use Rattle.std.proofs.Math.Seq.{drop-cons}
+use Rattle.std.proofs.lemmas.List.Sums.{sum_by-append}
+use Rattle.std.proofs.lemmas.List.Elements.{Contains-get_or, Contains-append_left, Contains-append_right, filter-append}
+use Rattle.plain_lists.proofs.Membership.{Contains-head, Contains-nil, Contains-cons_cases}
+use Rattle.plain_lits.specs.declared.halt.Halt.{Halt}
+use Rattle.plain_lits.specs.declared.halt.Halt.TheVariants.{Spent, LogFull, Memory}
+use Rattle.plain_lits.specs.Units.{Units}
+use Rattle.semantics.specs.Frameworks.{Framework, af}
+use Rattle.meaning_atoms.specs.declared.atom.AtomLit.{AtomLit}
+use Rattle.meaning_atoms.specs.declared.axiom.AxiomName.{AxiomName}
+use Rattle.meaning_atoms.specs.declared.axiom.AxiomName.TheVariants.{Af as OfAf}
+use Rattle.certificate_claims.specs.Refutations.{IsAxiomOf}
+use Rattle.edit_rules.specs.Kinds.{framework_of}
+use Rattle.oracle_face.specs.declared.face.Pending.{Pending}
+use Rattle.oracle_face.specs.Logs.{OracleLog, LogStep, IsSameClause, by_axiom, clauses_of, is_unit, no_step, working, units_of, closings_of}
+use Rattle.oracle_face.specs.Needed.{IsNeeded}
+use Rattle.oracle_face.specs.Growing.{Making, NoSide, Grows, Works, HasRun, IsStop, halt_of}
+use Rattle.oracle_face.proofs.GrowingLemmas.{run_joined, run_none, run_refused}
+use Rattle.session_log.specs.Steps.{TakesAxiom, own_step}
+use Rattle.session_log.proofs.Staying.{axiom_stays}
+use Rattle.atom_solver.specs.States.{AtomState, AddsAxiom, IsAxiomName, IsGuardedLog}
+use Rattle.oracle_core.specs.declared.parts.Parts.{Parts}
+use Rattle.oracle_core.specs.Engines.{HasAxiom, AreInForce, AreUsedOrWait, IsWhole}
+
+-- ---- what searches use
+
+abbrev is_kept : LogStep → Bool
+is_kept step = not step.closing
+
+working_more : (old more : List LogStep) → working (old ++ more) ≡ working old ++ working more
+working_more old more =
+    ap clauses_of (filter-append is_kept old more)
+    ∙ map-append (λ (s : LogStep). s.clause) (filter is_kept old) (filter is_kept more)
+
+-- what is used once stays in use
+pub working_grown : (P : Making) (old new : OracleLog) (clause : List AtomLit) → Grows P old new
+    → Contains (working old.steps) clause → Contains (working new.steps) clause
+working_grown P old new clause grows there =
+    let more = grows.more_steps in
+    subst (λ steps. Contains (working steps) clause) (sym more.1)
+    (subst (λ clauses. Contains clauses clause) (sym (working_more old.steps more.0))
+    (Contains-append_left (working old.steps) (working more.0) clause there))
+
+pub axiom_grown : (P : Making) (old new : OracleLog) (name : AxiomName) → Grows P old new → HasAxiom old name
+    → HasAxiom new name
+axiom_grown P old new name grows has =
+    record { clause = has.clause; there = working_grown P old new has.clause grows has.there; same = has.same }
+
+pub force_grown : (P : Making) (f : Framework) (old new : OracleLog) → Grows P old new → AreInForce f old
+    → AreInForce f new
+force_grown P f old new grows all = λ name needed. axiom_grown P old new name grows (all name needed)
+
+waits_grown : (P : Making) (f : Framework) (old new : OracleLog) (names : List AxiomName) (taken : ℕ) → Grows P old new
+    → AreUsedOrWait f old names taken → AreUsedOrWait f new names taken
+waits_grown P f old new names taken grows all = λ name needed. ⊎_elim
+    (λ has. inl (axiom_grown P old new name grows has)) (λ waits. inr waits) (all name needed)
+
+-- the parts of an engine whose solver has gone on
+pub whole_with : (P : Making) (p : Parts) (s : AtomState) → IsWhole p → IsGuardedLog (framework_of p.framework) s.log
+    → Grows P p.solver.log s.log → IsWhole (record p { solver = s })
+whole_with P p s whole guarded grows = record {
+  numbered = whole.numbered;
+  members_are = whole.members_are;
+  guarded = guarded;
+  axioms = whole.axioms;
+  taken_few = whole.taken_few;
+  waits = λ begun.
+      waits_grown P (framework_of p.framework) p.solver.log s.log p.needed p.taken grows (whole.waits begun);
+}
+
+-- ---- one axiom more
+
+no_loop : (name : AxiomName) (clause : List AtomLit) → is_unit (own_step clause (by_axiom name)) ≡ false
+no_loop (OfAf name) clause = refl
+
+one_there : (old : List LogStep) (step : LogStep) (k : ℕ) → length old ≤ k → k < length (old ++ step ∷ [])
+    → slice_index_or (old ++ step ∷ []) k no_step ≡ step
+one_there old step k low high =
+    let here : k ≡ length old + 0 = omega (arith, length-append old (step ∷ [])) in
+    ap (λ i. slice_index_or (old ++ step ∷ []) i no_step) here ∙ get_or-append-add old (step ∷ []) 0 no_step
+
+one_more : (p : LogStep → Bool) (old : List LogStep) (step : LogStep) → p step ≡ false
+    → count_by p (old ++ step ∷ []) ≡ count_by p old
+one_more p [] step fails = count_by-cons p step [] ∙ ap (λ b. cond b 1 0 + 0) fails
+one_more p (s ∷ more) step fails =
+    count_by-cons p s (more ++ step ∷ [])
+    ∙ ap (λ n. cond (p s) 1 0 + n) (one_more p more step fails) ∙ sym (count_by-cons p s more)
+
+module _ (f : Framework) (name : AxiomName) (old new : AtomState) (is : IsAxiomOf f name)
+    (guarded : IsGuardedLog f old.log) (adds : AddsAxiom name old new) where
+  abbrev step : LogStep
+  step = own_step adds.clause (by_axiom name)
+
+  steps_are : new.log.steps ≡ old.log.steps ++ step ∷ []
+  steps_are = adds.takes.gains.steps
+
+  axiom_grows : Grows NoSide old.log new.log
+  axiom_grows = (axiom_stays f name adds.clause old.log new.log guarded.form guarded.guards is adds.takes).grows
+
+  no_unit : (k : ℕ) → length old.log.steps ≤ k → k < length new.log.steps
+      → is_unit (slice_index_or new.log.steps k no_step) ≡ true → ⊥
+  no_unit k low high unit =
+      let there : slice_index_or new.log.steps k no_step ≡ step =
+      ap (λ steps. slice_index_or steps k no_step) steps_are
+      ∙ one_there old.log.steps step k low (subst (λ steps. k < length steps) steps_are high) in
+      true≢false (sym unit ∙ (ap is_unit there ∙ no_loop name adds.clause))
+
+  -- an axiom takes no unit, and doesn't only end a search
+  pub axiom_run : (units : Units) → HasRun NoSide 0 f old.log new.log new.pending units units None
+  axiom_run units =
+      let same_units : units_of new.log ≡ units_of old.log =
+      ap (λ steps. count_by is_unit steps) steps_are
+      ∙ one_more is_unit old.log.steps step (no_loop name adds.clause) in
+      let same_closings : closings_of new.log ≡ closings_of old.log =
+      ap (λ steps. count_by (λ (s : LogStep). s.closing) steps) steps_are
+      ∙ one_more (λ (s : LogStep). s.closing) old.log.steps step refl in
+      record {
+        grows = axiom_grows;
+        limit = refl;
+        works = record {
+          fresh = λ k low high unit. absurd (no_unit k low high unit);
+          facts = λ k low high unit. absurd (no_unit k low high unit);
+          counted = omega (arith, same_units);
+        };
+        closing = omega (arith, same_closings);
+        stop = tt;
+      }
+
+  -- and is used then
+  pub axiom_used : HasAxiom new.log name
+  axiom_used = record {
+    clause = adds.clause;
+    there =
+        subst (λ steps. Contains (working steps) adds.clause) (sym steps_are)
+        (subst (λ clauses. Contains clauses adds.clause) (sym (working_more old.log.steps (step ∷ [])))
+        (Contains-append_right (working old.log.steps) (adds.clause ∷ []) adds.clause
+        (Contains-head adds.clause [] adds.clause refl)));
+    same = adds.takes.same;
+  }
+
+-- ---- the loop over the axioms that wait
+
+axiom_named : (f : Framework) (name : AxiomName) → IsAxiomOf f name → IsAxiomName name
+axiom_named (af f) (OfAf name) is = is
+
+pub waiting_there : (p : Parts) (names : List AxiomName) (d : AxiomName) → names ≡ p.needed
+    → p.taken < length p.needed → Contains p.needed (slice_index_or names p.taken d)
+waiting_there p names d are lt =
+    subst (λ list. Contains p.needed (slice_index_or list p.taken d)) (sym are)
+    (Contains-get_or p.needed p.taken d lt)
+
+pub waiting_is : (p : Parts) (names : List AxiomName) (d : AxiomName) → names ≡ p.needed
+    → slice_index_or names p.taken d ≡ slice_index_or p.needed p.taken d
+waiting_is p names d are = ap (λ list. slice_index_or list p.taken d) are
+
+pub named_at : (p : Parts) (name : AxiomName) → IsWhole p → Contains p.needed name → IsAxiomName name
+named_at p name whole there = axiom_named (framework_of p.framework) name (whole.axioms name there)
+
+drop_one : {X : Type 0} (xs : List X) (i : ℕ) (x d : X) → i < length xs → x ≡ slice_index_or xs i d
+    → drop i xs ≡ x ∷ drop (i + 1) xs
+drop_one xs i x d lt is =
+    let next : suc i ≡ i + 1 = omega arith in
+    drop-cons xs i d lt ∙ ap (λ y. y ∷ drop (suc i) xs) (sym is) ∙ ap (λ n. x ∷ drop n xs) next
+
+-- how far the loop over the axioms has come
+pub record HasTaken (first now : Parts) : Type 0 where
+  pub whole : IsWhole now
+  pub begun : now.begun ≡ true
+  pub framework : now.framework ≡ first.framework
+  pub run : (units : Units) → HasRun NoSide 0 (framework_of first.framework) first.solver.log now.solver.log
+      now.solver.pending units units None
+
+pub taken_none : (p : Parts) → IsWhole p → p.begun ≡ true → HasTaken p p
+taken_none p whole begun = record {
+  whole = whole;
+  begun = begun;
+  framework = refl;
+  run = λ units. run_none NoSide 0 (framework_of p.framework) p.solver.log p.solver.pending units;
+}
+
+-- the log and the parts after one axiom more
+pub taken_more : (first now : Parts) (s : AtomState) (name d : AxiomName) → HasTaken first now
+    → now.taken < length now.needed → name ≡ slice_index_or now.needed now.taken d → Contains now.needed name
+    → AddsAxiom name now.solver s
+    → ((f : Framework) → IsAxiomOf f name → IsGuardedLog f now.solver.log → IsGuardedLog f s.log)
+    → HasTaken first (record now { solver = s; taken = now.taken + 1 })
+taken_more first now s name d has lt is there adds stays =
+    let f = framework_of now.framework in
+    let whole = has.whole in
+    let known = whole.axioms name there in
+    let guarded = stays f known whole.guarded in
+    let grows = axiom_grows f name now.solver s known whole.guarded adds in
+    let same : f ≡ framework_of first.framework = ap framework_of has.framework in
+    record {
+      whole = record {
+        numbered = whole.numbered;
+        members_are = whole.members_are;
+        guarded = guarded;
+        axioms = whole.axioms;
+        taken_few = omega arith;
+        waits = λ begun. λ other needed. ⊎_elim
+            (λ used. inl (axiom_grown NoSide now.solver.log s.log other grows used))
+            (λ waits. ⊎_elim
+            (λ same_name. inl (subst (λ n. HasAxiom s.log n) same_name
+            (axiom_used f name now.solver s known whole.guarded adds)))
+            (λ behind. inr behind)
+            (Contains-cons_cases name (drop (now.taken + 1) now.needed) other
+            (subst (λ names. Contains names other) (drop_one now.needed now.taken name d lt is) waits)))
+            (whole.waits begun other needed);
+      };
+      begun = has.begun;
+      framework = has.framework;
+      run = λ units. run_joined NoSide NoSide NoSide 0 0 0 (framework_of first.framework) first.solver.log now.solver.log
+          s.log now.solver.pending s.pending units units units None (λ literals set h. h) (λ literals set h. h) (omega arith)
+          (has.run units)
+          (subst (λ g. HasRun NoSide 0 g now.solver.log s.log s.pending units units None) same
+          (axiom_run f name now.solver s known whole.guarded adds units));
+    }
+
+-- a halt before an axiom came
+pub taken_halted : (first now : Parts) (s : AtomState) (halt : Halt) → HasTaken first now → s ≡ now.solver
+    → (halt ≡ LogFull → length now.solver.log.steps ≡ now.solver.log.limit)
+    → ((count : ℕ) → halt ≡ Spent count → ⊥) → (units : Units)
+    → HasRun NoSide 0 (framework_of first.framework) first.solver.log s.log s.pending units units (Some halt)
+taken_halted first now s halt has is full unspent units =
+    let f = framework_of first.framework in
+    let P : AtomState → Type 0 = λ t. HasRun NoSide 0 f first.solver.log t.log t.pending units units (Some halt) in
+    subst P (sym is) (go halt full unspent)
+  where
+    go : (halt : Halt) → (halt ≡ LogFull → length now.solver.log.steps ≡ now.solver.log.limit)
+        → ((count : ℕ) → halt ≡ Spent count → ⊥)
+        → HasRun NoSide 0 (framework_of first.framework) first.solver.log now.solver.log now.solver.pending units units
+        (Some halt)
+    go Memory full unspent =
+        let h = has.run units in
+        record { grows = h.grows; limit = refl; works = tt; closing = tt; stop = tt }
+    go LogFull full unspent =
+        let h = has.run units in
+        record { grows = h.grows; limit = refl; works = h.works; closing = h.closing; stop = full refl }
+    go (Spent count) full unspent = absurd (unspent count refl)
+
+pub taken_all : (first now : Parts) → HasTaken first now → length now.needed ≤ now.taken
+    → AreInForce (framework_of now.framework) now.solver.log
+taken_all first now has all = λ name needed. ⊎_elim (λ used. used)
+    (λ waits. absurd (Contains-nil name (subst (λ names. Contains names name) (drop_all now.taken now.needed all) waits)))
+    (has.whole.waits has.begun name needed)

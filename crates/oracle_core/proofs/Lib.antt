@@ -1,0 +1,4 @@
+pub mod GroundedLemmas
+pub mod Forcing
+pub mod Finding
+pub mod Joining

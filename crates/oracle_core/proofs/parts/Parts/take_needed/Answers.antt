@@ -1,0 +1,25 @@
+use Rattle.std.proofs.Common.{◌<◌, ◌≡◌, ap, subst, Err}
+use Rattle.oracle_core.proofs.Forcing.{named_at, taken_halted, taken_more, waiting_is, waiting_there}
+use Rattle.oracle_core.proofs.Joining.{halted_any}
+use Rattle.oracle_core.proofs.parts.Parts.take_needed.Goals as goal
+
+pub take_axiom-requires : goal.take_axiom-requires
+take_axiom-requires c =
+    named_at c.loop-self.self _ c.loop-self.invariant.whole
+    (waiting_there c.loop-self.self c.as_slice.result.now _ c.as_slice.ensures
+    (subst (λ n. c.loop-self.self.taken < n) c.len.ensures c.loop-self-test.true))
+
+pub returns-in_err-take_axiom-clause-run : goal.returns-in_err-take_axiom-clause-run
+returns-in_err-take_axiom-clause-run c = λ units.
+    halted_any _ _ _ _ units units c.from_residual.result c.in_err-take_axiom.field-0.0 c.from_residual.ensures
+    (taken_halted c.args.self.now c.loop-self.self c.take_axiom.new.self c.in_err-take_axiom.field-0.0
+    c.loop-self.invariant c.in_err-take_axiom.ensures.err (λ e. c.in_err-take_axiom.ensures.full (ap Err e))
+    (λ count e. c.in_err-take_axiom.ensures.unspent count (ap Err e)) units)
+
+pub loop-self-preserved : goal.loop-self-preserved
+loop-self-preserved c =
+    let lt = subst (λ n. c.loop-self.self.taken < n) c.len.ensures c.loop-self-test.true in
+    taken_more c.args.self.now c.loop-self.self c.take_axiom.new.self _ _ c.loop-self.invariant lt
+    (waiting_is c.loop-self.self c.as_slice.result.now _ c.as_slice.ensures)
+    (waiting_there c.loop-self.self c.as_slice.result.now _ c.as_slice.ensures lt) c.in_ok-take_axiom.ensures.ok
+    c.in_ok-take_axiom.ensures.log

@@ -1,0 +1,62 @@
+-- What contracts see of an engine, and what it keeps of the axioms that its framework needs.
+use Rattle.std.specs.Prelude.{◌≡◌, ◌⊎◌, ℕ, ◌≤◌, Bool, true, List, drop, length, Contains, Option}
+use Rattle.plain_lists.specs.Members.{IsSetOf}
+use Rattle.semantics.specs.Framework.{IsInRange}
+use Rattle.semantics.specs.Frameworks.{Framework, IsNumbered, af}
+use Rattle.meaning_atoms.specs.declared.atom.AtomLit.{AtomLit}
+use Rattle.meaning_atoms.specs.declared.axiom.AxiomName.{AxiomName}
+use Rattle.certificate_claims.specs.Refutations.{IsAxiomOf, axiom_clause}
+use Rattle.certificate_claims.specs.SetLiterals.{members}
+use Rattle.edit_rules.specs.Kinds.{framework_of}
+use Rattle.oracle_face.specs.declared.face.Pending.{Pending}
+use Rattle.oracle_face.specs.Logs.{OracleLog, IsSameClause, working}
+use Rattle.oracle_face.specs.Needed.{IsNeeded}
+use Rattle.atom_solver.specs.States.{IsGuardedLog}
+use Rattle.oracle_core.specs.declared.parts.Parts.{Parts}
+
+-- the number by which its entries are named, the framework, the log, and the clause that was in hand when the last budget
+-- was spent
+pub record EngineState : Type 0 where
+  pub number : ℕ
+  pub framework : Framework
+  pub log : OracleLog
+  pub pending : Option Pending
+
+-- searches use the axiom
+pub record HasAxiom (log : OracleLog) (name : AxiomName) : Type 0 where
+  pub clause : List AtomLit
+  pub there : Contains (working log.steps) clause
+  pub same : IsSameClause clause (axiom_clause name)
+
+-- searches use each axiom that the framework needs
+abbrev pub AreInForce : Framework → OracleLog → Type 0
+AreInForce f log = (name : AxiomName) → IsNeeded f name → HasAxiom log name
+
+-- the range of a set of the framework: its members and what they attack
+abbrev pub HasRange : Framework → List ℕ → List ℕ → Type 0
+HasRange (af f) set range = IsSetOf (IsInRange f set) range
+
+-- ---- the inner state, which no caller sees
+
+-- each axiom that the framework needs is used, or waits behind so many of a list
+abbrev pub AreUsedOrWait : Framework → OracleLog → List AxiomName → ℕ → Type 0
+AreUsedOrWait f log names taken =
+    (name : AxiomName) → IsNeeded f name → HasAxiom log name ⊎ Contains (drop taken names) name
+
+-- the parts of an engine: a framework in its form, its members, a guarded log beside it, and the axioms that it needs
+pub record IsWhole (p : Parts) : Type 0 where
+  pub numbered : IsNumbered (framework_of p.framework)
+  pub members_are : p.members ≡ members (framework_of p.framework)
+  pub guarded : IsGuardedLog (framework_of p.framework) p.solver.log
+  pub axioms : (name : AxiomName) → Contains p.needed name → IsAxiomOf (framework_of p.framework) name
+  pub taken_few : p.taken ≤ length p.needed
+  pub waits : p.begun ≡ true → AreUsedOrWait (framework_of p.framework) p.solver.log p.needed p.taken
+
+-- the engine of a number, whose parts are these
+abbrev pub engine_state : ℕ → Parts → EngineState
+engine_state number p = record {
+  number = number;
+  framework = framework_of p.framework;
+  log = p.solver.log;
+  pending = p.solver.pending;
+}

@@ -1,0 +1,3 @@
+pub mod Answers
+pub mod Engines
+pub mod Needing

@@ -1,0 +1,107 @@
+//! The engine: an oracle over a kept solver.
+
+ghost use Rattle.std.specs.Prelude.{◌≡◌, ◌↔◌, ◌≤◌, IfOk, IsTrue, None};
+ghost use Rattle.certificate_claims.specs.Rights.{Accepts};
+ghost use Rattle.edit_rules.specs.Kinds.{framework_of};
+ghost use Rattle.hinted_log.specs.declared.log.TheConstants.{MOST_STEPS};
+ghost use Rattle.atom_solver.specs.States.{empty_log};
+
+use crate::parts::{Parts, range_of};
+use edit_rules::Framework;
+use hinted_log::MOST_STEPS;
+use meaning_atoms::AtomLit;
+use oracle_face::{AskId, Found, Oracle};
+use plain_lists::Memory;
+use plain_lits::{Budget, Halt};
+use set_lists::NumSet;
+use std::alloc::Global;
+use std::marker::Model;
+
+/// An oracle for one framework, over a solver that is kept from one search to the next with what it has learned. It means
+/// its number, by which its entries are named, the framework, the log, and the clause that was in hand when the last budget
+/// was spent.
+#[derive(Drop)]
+pub struct Engine {
+    number: u32,
+    parts: Parts,
+}
+
+impl Model for Engine {
+    ghost use Rattle.oracle_core.specs.Engines.{EngineState, IsWhole, engine_state};
+
+    ghost Value = { EngineState };
+
+    ghost view = { λ e. engine_state e.number e.parts };
+
+    ghost invariant = { λ e. IsWhole e.parts };
+}
+
+impl Engine {
+    /// The engine of a number for a framework, with an empty log for at most so many steps. No axiom is in the log before
+    /// the first search.
+    pub fn new(alloc: Global, number: u32, framework: Framework, log_limit: u64) -> Result<Engine, Memory>
+        requires { log_limit ≤ MOST_STEPS }
+        ensures number { IfOk result (λ e. e.number ≡ number) }
+        ensures framework { IfOk result (λ e. e.framework ≡ framework_of framework) }
+        ensures log { IfOk result (λ e. e.log ≡ empty_log log_limit) }
+        ensures pending { IfOk result (λ e. e.pending ≡ None) }
+    {
+        let parts = Parts::open(alloc, framework, log_limit)?;
+        Ok(Engine { number, parts })
+    }
+}
+
+/// Whether a set of a framework accepts a number.
+fn accepts(framework: &Framework, goal: u32, set: &NumSet) -> bool
+    ensures { IsTrue result ↔ Accepts (framework_of framework.now) set.now goal }
+{
+    match framework {
+        Framework::Af(_) => set.contains(goal),
+    }
+}
+
+impl Oracle for Engine {
+    ghost use Rattle.std.proofs.Common.{◌≡◌, ◌∙◌, refl};
+
+    ghost framework = { λ e. e.framework };
+
+    ghost log = { λ e. e.log };
+
+    ghost pending = { λ e. e.pending };
+
+    ghost follows = { λ before after. after.number ≡ before.number };
+
+    fn members(&self) -> &NumSet {
+        &self.parts.members
+    }
+
+    fn is_aba(&self) -> bool {
+        false
+    }
+
+    fn find(&mut self, alloc: Global, goals: &[AtomLit], budget: &mut Budget) -> Result<Found, Halt> {
+        self.parts.find(alloc, goals, budget)
+    }
+
+    fn oblige(
+        &mut self,
+        alloc: Global,
+        side: &[AtomLit],
+        from: &NumSet,
+        budget: &mut Budget,
+    ) -> Result<AskId, Halt> {
+        self.parts.oblige(alloc, side, from, budget)
+    }
+
+    fn range(&self, alloc: Global, set: &NumSet) -> Result<NumSet, Memory> {
+        range_of(alloc, &self.parts.framework, set)
+    }
+
+    fn accepts(&self, _alloc: Global, goal: u32, set: &NumSet) -> Result<bool, Memory> {
+        Ok(accepts(&self.parts.framework, goal, set))
+    }
+
+    ghost stays = { λ e. refl };
+
+    ghost joins = { λ before between after first second. second ∙ first };
+}

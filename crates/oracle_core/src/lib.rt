@@ -1,0 +1,11 @@
+//! Answers to queries, each with the certificate that shows it, and the engine that searches for them.
+#![tactic(auto)]
+
+mod by_grounded;
+pub mod engine;
+pub(crate) mod parts;
+pub mod reply;
+
+pub use by_grounded::{answer_by_grounded, is_by_grounded};
+pub use engine::Engine;
+pub use reply::Answered;

@@ -1,0 +1,194 @@
+//! What an engine is made of.
+
+ghost use Rattle.std.specs.Prelude.{◌≡◌, ℕ, ◌≤◌, IfOk, OnOk, None, true};
+ghost use Rattle.plain_lits.specs.HintCheck.{IsTautology};
+ghost use Rattle.plain_lits.specs.Units.{Units};
+ghost use Rattle.meaning_atoms.specs.Literals.{negated};
+ghost use Rattle.certificate_claims.specs.SetLiterals as set_literals;
+ghost use Rattle.edit_rules.specs.Kinds.{framework_of};
+ghost use Rattle.hinted_log.specs.declared.log.TheConstants.{MOST_STEPS};
+ghost use Rattle.oracle_face.specs.Goals.{AreGoals, IsSide};
+ghost use Rattle.oracle_face.specs.Growing.{HasRun, IsFound, NoSide, Obliges, OnlySide, closes, halt_of};
+ghost use Rattle.atom_solver.specs.Searches.{AreUnfixed, IsAnswer, ends_in};
+ghost use Rattle.oracle_core.specs.Engines.{AreInForce, HasRange, IsWhole};
+ghost use Rattle.oracle_core.specs.Needing.{AreNeeded};
+ghost use Rattle.atom_solver.specs.States.{empty_log};
+
+use af_encoding::{AfEncoding, decode, needed};
+use atom_solver::{AtomSolver, Searched};
+use edit_rules::Framework;
+use hinted_log::MOST_STEPS;
+use meaning_atoms::{AtomLit, AxiomName};
+use oracle_face::{AskId, Found};
+use plain_lists::{Items, Memory};
+use plain_lits::{Budget, Halt};
+use set_lists::NumSet;
+use std::alloc::Global;
+
+/// The framework with its members, the solver, and the axioms that the framework needs with the number of those that the
+/// solver has already.
+#[derive(Drop)]
+pub(crate) struct Parts {
+    pub(crate) framework: Framework,
+    pub(crate) members: NumSet,
+    pub(crate) solver: AtomSolver,
+    pub(crate) needed: Items<AxiomName>,
+    pub(crate) taken: usize,
+    pub(crate) begun: bool,
+}
+
+/// The numbers that sets of a framework are made of.
+fn members_of(alloc: Global, framework: &Framework) -> Result<NumSet, Memory>
+    ensures { IfOk result (λ members. members ≡ set_literals.members (framework_of framework.now)) }
+{
+    match framework {
+        Framework::Af(plain) => NumSet::from_rising(alloc, plain.live()),
+    }
+}
+
+/// The axioms that a framework needs.
+fn needed_of(alloc: Global, framework: &Framework) -> Result<Items<AxiomName>, Memory>
+    ensures { IfOk result (AreNeeded (framework_of framework.now)) }
+{
+    match framework {
+        Framework::Af(plain) => needed(alloc, plain),
+    }
+}
+
+/// A set with the members of the framework that it attacks.
+pub(crate) fn range_of(alloc: Global, framework: &Framework, set: &NumSet) -> Result<NumSet, Memory>
+    ensures { IfOk result (HasRange (framework_of framework.now) set.now) }
+{
+    match framework {
+        Framework::Af(plain) => {
+            let range = plain.range_of(alloc, set)?;
+            Ok(range)
+        }
+    }
+}
+
+impl Parts {
+    /// An empty log for at most so many steps.
+    pub(crate) fn open(alloc: Global, framework: Framework, log_limit: u64) -> Result<Parts, Memory>
+        requires { log_limit ≤ MOST_STEPS }
+        ensures whole { IfOk result IsWhole }
+        ensures framework { IfOk result (λ p. p.framework ≡ framework) }
+        ensures log { IfOk result (λ p. p.solver.log ≡ empty_log log_limit) }
+        ensures pending { IfOk result (λ p. p.solver.pending ≡ None) }
+    {
+        let _form = framework.kind();
+        let members = members_of(alloc, &framework)?;
+        let solver = AtomSolver::open(alloc, log_limit)?;
+        Ok(Parts {
+            framework,
+            members,
+            solver,
+            needed: Items::new(alloc),
+            taken: 0,
+            begun: false,
+        })
+    }
+
+    /// Works out which axioms the framework needs, where that isn't done.
+    fn begin(&mut self, alloc: Global) -> Result<(), Memory>
+        requires { IsWhole self.old }
+        ensures whole { IsWhole self.new }
+        ensures begun { OnOk result (self.new.begun ≡ true) }
+        ensures framework { self.new.framework ≡ self.old.framework }
+        ensures solver { self.new.solver ≡ self.old.solver }
+    {
+        if self.begun {
+            return Ok(());
+        }
+        self.needed = needed_of(alloc, &self.framework)?;
+        self.taken = 0;
+        self.begun = true;
+        Ok(())
+    }
+
+    /// Hands the axioms that still wait to the solver.
+    fn take_needed(&mut self, alloc: Global) -> Result<(), Halt>
+        requires whole { IsWhole self.old }
+        requires begun { self.old.begun ≡ true }
+        ensures whole { IsWhole self.new }
+        ensures in_force { OnOk result (AreInForce (framework_of self.new.framework) self.new.solver.log) }
+        ensures framework { self.new.framework ≡ self.old.framework }
+        ensures run { (units : Units) → HasRun NoSide 0 (framework_of self.old.framework) self.old.solver.log
+            self.new.solver.log self.new.solver.pending units units (halt_of result) }
+    {
+        while self.taken < self.needed.len() {
+            let name = self.needed.as_slice()[self.taken];
+            self.solver.take_axiom(alloc, name)?;
+            self.taken += 1;
+        }
+        Ok(())
+    }
+
+    /// Searches under the facts of the framework and goals.
+    fn search(
+        &mut self,
+        alloc: Global,
+        goals: &[AtomLit],
+        budget: &mut Budget,
+    ) -> Result<Searched, Halt>
+        requires whole { IsWhole self.old }
+        requires plain { IsTautology negated goals.now → ⊥ }
+        requires unfixed { AreUnfixed (framework_of self.old.framework) goals.now }
+        ensures whole { IsWhole self.new }
+        ensures framework { self.new.framework ≡ self.old.framework }
+        ensures answer { IfOk result (IsAnswer (framework_of self.old.framework) self.new.solver.log goals.now) }
+        ensures in_force { AreInForce (framework_of self.old.framework) self.old.solver.log
+            → AreInForce (framework_of self.old.framework) self.new.solver.log }
+        ensures run { HasRun NoSide (ends_in result) (framework_of self.old.framework) self.old.solver.log
+            self.new.solver.log self.new.solver.pending budget.old budget.new (halt_of result) }
+    {
+        match &self.framework {
+            Framework::Af(plain) => self.solver.search::<AfEncoding>(alloc, plain, goals, budget),
+        }
+    }
+
+    /// The number of a side clause.
+    pub(crate) fn oblige(
+        &mut self,
+        alloc: Global,
+        side: &[AtomLit],
+        from: &NumSet,
+        budget: &mut Budget,
+    ) -> Result<AskId, Halt>
+        requires whole { IsWhole self.old }
+        requires side { IsSide side.now }
+        ensures whole { IsWhole self.new }
+        ensures framework { self.new.framework ≡ self.old.framework }
+        ensures obliges { IfOk result (Obliges side.now self.old.solver.log self.new.solver.log) }
+        ensures run { HasRun (OnlySide side.now from.now) 0 (framework_of self.old.framework) self.old.solver.log
+            self.new.solver.log self.new.solver.pending budget.old budget.new (halt_of result) }
+    {
+        self.solver.oblige(alloc, side, from, budget)
+    }
+
+    /// A set that makes each goal true, or a step that refutes the goals.
+    pub(crate) fn find(
+        &mut self,
+        alloc: Global,
+        goals: &[AtomLit],
+        budget: &mut Budget,
+    ) -> Result<Found, Halt>
+        requires whole { IsWhole self.old }
+        requires goals { AreGoals (framework_of self.old.framework) self.old.solver.log.sides goals.now }
+        ensures whole { IsWhole self.new }
+        ensures framework { self.new.framework ≡ self.old.framework }
+        ensures found { IfOk result (IsFound (framework_of self.old.framework) self.new.solver.log goals.now) }
+        ensures run { HasRun NoSide (closes result) (framework_of self.old.framework) self.old.solver.log
+            self.new.solver.log self.new.solver.pending budget.old budget.new (halt_of result) }
+    {
+        self.begin(alloc)?;
+        self.take_needed(alloc)?;
+        match self.search(alloc, goals, budget)? {
+            Searched::Model(values) => {
+                let set = decode(alloc, values.as_slice())?;
+                Ok(Found::Set(set))
+            }
+            Searched::Refuted(step) => Ok(Found::Refuted(step)),
+        }
+    }
+}
