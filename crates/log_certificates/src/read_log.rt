@@ -3,6 +3,7 @@
 ghost use Rattle.std.specs.Prelude.{◌≡◌, IfOk, length};
 ghost use Rattle.oracle_face.specs.Logs.{IsLog, IsNumberOf, IsSameClause, hints_of, step_at};
 ghost use Rattle.session_log.specs.Guards.{IsGuarded};
+ghost use Rattle.log_certificates.specs.ClaimSides.{IsAskOf};
 ghost use Rattle.log_certificates.specs.Origins.{IsOrigin};
 
 use meaning_atoms::{AtomLit, AxiomName};
@@ -49,4 +50,12 @@ pub trait ReadLog {
     fn hints(&self, step: StepId) -> &[StepId]
         requires { IsNumberOf (log self.now).steps step }
         ensures { result.now ≡ hints_of (step_at (log self.now).steps step).source };
+
+    /// The number of side clauses.
+    fn sides(&self) -> usize
+        ensures { result ≡ length (log self.now).sides };
+
+    /// The number of the side clause that has these literals, whatever their order, if there is one.
+    fn ask_of(&self, alloc: Global, literals: &[AtomLit]) -> Result<Option<AskId>, Memory>
+        ensures { IfOk result (IsAskOf (log self.now).sides literals.now) };
 }
