@@ -11,7 +11,7 @@ ghost use Rattle.cegar_preferred.specs.Covers.{Extends, IsAccepting, IsCover, Is
 ghost use Rattle.cegar_preferred.specs.Largest.{MadeOutside};
 
 use crate::maximal::{Maximal, maximal_from};
-use goal_lists::{Wanted, goals_for, outside};
+use goal_lists::{Wanted, outside, search_for};
 use meaning_atoms::Atom;
 use oracle_face::{AskId, Budget, Found, Halt, Oracle, StepId};
 use plain_lists::Items;
@@ -93,8 +93,7 @@ fn uncovered<O: Oracle>(
         ranged: &[],
         asks: cover.asks.as_slice(),
     };
-    let goals = goals_for(alloc, Atom::Ad, &wanted)?;
-    oracle.find(alloc, &goals, budget)
+    search_for(alloc, oracle, budget, Atom::Ad, &wanted)
 }
 
 /// Takes a preferred set that holds the found one into the cover, or gives it back where it doesn't accept the argument.

@@ -1,10 +1,9 @@
 use Rattle.std.proofs.Common.{◌∙◌, ◌+◌, ◌≤◌, arith}
 use Rattle.certificate_claims.specs.SetLiterals.{members}
-use Rattle.oracle_face.specs.Growing.{HasRun}
-use Rattle.goal_lists.proofs.Calls.{admissible_members, handed_on}
+use Rattle.goal_lists.proofs.Calls.{admissible_members, closes_refuted, closes_set, run_handed}
 use Rattle.goal_lists.proofs.Measures.{fewer_outside}
 use Rattle.cegar_preferred.specs.Largest.{MadeOutside}
-use Rattle.cegar_preferred.proofs.LargestLemmas.{closes_refuted, closes_set, larger_set, maximal_found, then_call}
+use Rattle.cegar_preferred.proofs.LargestLemmas.{larger_set, maximal_found, then_call}
 use Rattle.cegar_preferred.proofs.maximal.maximal_from.Goals as goal
 
 pub returns-in_err-found-clause-run : goal.returns-in_err-found-clause-run
@@ -12,9 +11,7 @@ returns-in_err-found-clause-run g c =
     let f = g.O.Oracle.framework c.args.oracle.now in
     let inv = c.loop-grown.invariant in
     let few : 0 + 0 ≤ 1 = omega arith in
-    handed_on (λ x. HasRun (MadeOutside f) 1 f (g.O.Oracle.log c.args.oracle.now) (g.O.Oracle.log c.larger.new.oracle)
-    (g.O.Oracle.pending c.larger.new.oracle) c.args.budget.now c.larger.new.budget x)
-    c.from_residual-in_err-found.result c.in_err-found.field-0.0 c.from_residual-in_err-found.ensures
+    run_handed (MadeOutside f) 1 f _ _ _ _ _ _ c.in_err-found.field-0.0 c.from_residual-in_err-found.ensures
     (then_call f (g.O.Oracle.framework c.loop-grown.oracle) 0 0 1 _ _ _ _ _ _ _ _ _ inv.framework few inv.run
     c.in_err-found.ensures.run)
 
