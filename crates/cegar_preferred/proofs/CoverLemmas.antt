@@ -73,7 +73,8 @@ pub cover_extended : (f : Framework) (log : OracleLog) (q : ℕ) (old new : Cove
     → IsCover f log q old → IsExtended f log q old new e n → IsCover f log q new
 cover_extended f log q old new e n cover h =
     let gains : (s : List ℕ) → Contains new.sets s ↔ (Contains old.sets s ⊎ (s ≡ e)) = λ s.
-    subst (λ (xs : List (List ℕ)). Contains xs s ↔ (Contains old.sets s ⊎ (s ≡ e))) (sym h.sets) (pushed old.sets e s) in
+    subst (λ (xs : List (List ℕ)). Contains xs s ↔ (Contains old.sets s ⊎ (s ≡ e))) (sym h.sets) (pushed old.sets e s)
+    in
     record {
       each = λ d c. ⊎_elim (λ k. cover.each d k) (λ same. subst (IsCovering f q) (sym same) h.covering) ((gains d).0 c);
       asks = asks_more (outside f) log.sides old.sets new.sets e old.asks new.asks n gains h.asks h.asks_it cover.asks;
@@ -123,7 +124,8 @@ may_ask_uncovered f log q cover asks is live h =
 
 cover_wanted : (q : ℕ) → HasWanted (affirmed Ad ∷ denied (Member q) ∷ []) Ad [] (q ∷ []) []
 cover_wanted q = record {
-  plain = asks_cons (affirmed Ad) (denied (Member q) ∷ []) (λ x. x) (asks_cons (denied (Member q)) [] (λ x. x) asks_nil);
+  plain = asks_cons (affirmed Ad) (denied (Member q) ∷ []) (λ x. x) (asks_cons (denied (Member q)) [] (λ x. x)
+  asks_nil);
   has_mode = Contains-head (affirmed Ad) (denied (Member q) ∷ []) (affirmed Ad) refl;
   has_ins = λ a c. absurd (Contains-nil a c);
   has_outs = this_one (λ (a : ℕ). Contains (affirmed Ad ∷ denied (Member q) ∷ []) (denied (Member a))) q
@@ -194,7 +196,8 @@ pub accepting_found : (f g h : Framework) (log : OracleLog) (q : ℕ) (cover : C
 accepting_found f g h log q cover r step left right kept each is found =
     let refuted : Refutes f log (cover_claim f q cover.sets) step = subst
     (λ (x : Framework). IsUncovered x log q cover (Refuted step)) left (subst (IsUncovered g log q cover) is found) in
-    (each, refuted, all_accept f log q cover.sets step (subst (λ (x : Framework). IsKept x log) right kept) each refuted)
+    (each, refuted, all_accept f log q cover.sets step (subst (λ (x : Framework). IsKept x log) right kept) each
+    refuted)
 
 pub cover_kept : (f g h : Framework) (P : Making) (old new : OracleLog) (q : ℕ) (cover : Cover) → g ≡ f → h ≡ g
     → Grows P old new → IsCover f old q cover → IsCover h new q cover

@@ -64,7 +64,8 @@ claim_plain : (f : Framework) (e : List ℕ) → IsPlain (largest_claim f e)
 claim_plain f e = plain_mapped (affirmed Ad ∷ are_in e) (outside f) (e ∷ [])
     (asks_cons (affirmed Ad) (are_in e) (λ x. x) (in_plain e)) (outside_plain f)
 
-found_larger : (f : Framework) (log : OracleLog) (e : List ℕ) (n : ℕ) → IsAskOf log.sides (outside f e) n → (found : Found)
+found_larger : (f : Framework) (log : OracleLog) (e : List ℕ) (n : ℕ) → IsAskOf log.sides (outside f e) n
+    → (found : Found)
     → IsFound f log (goals_of Ad e [] [] (n ∷ [])) found → IsLarger f log e found
 found_larger f log e n asks (Set set) makes = (
   found_mode f log Ad e [] [] (n ∷ []) set tt makes,
@@ -102,14 +103,6 @@ is_preferred (af f) log e step kept ok refuted =
     (claim_excluded (af f) log (largest_claim (af f) e) step kept.form (claim_plain (af f) e) refuted)
 
 -- ---- one call after the other
-
--- what was left, and then a call of the same kind on the same framework
-pub then_call : (f g : Framework) (m n most : ℕ) (a b c : OracleLog) (p q : Option Pending) (u v w : Units)
-    (halt : Option Halt) → g ≡ f → m + n ≤ most → HasRun (MadeOutside f) m f a b p u v None
-    → HasRun (MadeOutside g) n g b c q v w halt → HasRun (MadeOutside f) most f a c q u w halt
-then_call f g m n most a b c p q u v w halt e few h k =
-    then_made (MadeOutside f) (MadeOutside g) f g m n most a b c p q u v w halt e
-    (subst (λ (x : Framework). Makes (MadeOutside x) (MadeOutside f)) (sym e) (makes_same (MadeOutside f))) few h k
 
 -- what was left, and then the side clause of a set was kept
 pub then_oblige : (f g : Framework) (m : ℕ) (a b c : OracleLog) (p q : Option Pending) (u v w : Units)

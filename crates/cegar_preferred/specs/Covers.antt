@@ -37,8 +37,8 @@ pub record IsCover (f : Framework) (log : OracleLog) (q : ℕ) (cover : Cover) :
   pub asks : AreAsksOf (outside f) log.sides cover.sets cover.asks
   pub apart : AreApart cover.asks
 
--- an admissible set that doesn't accept the argument and lies in no set of the cover, or a step that refutes that there is
--- one
+-- an admissible set that doesn't accept the argument and lies in no set of the cover, or a step that refutes that there
+-- is one
 abbrev pub IsUncovered : Framework → OracleLog → ℕ → Cover → Found → Type 0
 IsUncovered f log q cover (Set set) =
     HoldsOf f set Ad

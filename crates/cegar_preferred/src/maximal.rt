@@ -20,8 +20,9 @@ pub struct Maximal {
     pub refutation: StepId,
 }
 
-/// A preferred set that holds an admissible one. The search goes on from what each search finds, outside it, until there is
-/// nothing larger: where the set grows k times, it asks k + 1 times. Each side clause is made from an admissible set.
+/// A preferred set that holds an admissible one. The search goes on from what each search finds, outside it, until
+/// there is nothing larger: where the set grows k times, it asks k + 1 times. Each side clause is made from an
+/// admissible set.
 pub fn maximal_from<O: Oracle>(
     alloc: Global,
     oracle: &mut O,

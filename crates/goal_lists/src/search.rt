@@ -36,8 +36,9 @@ pub fn search_for<O: Oracle>(
     oracle.find(alloc, &goals, budget)
 }
 
-/// A set of the mode that is as wanted and makes a side clause true, or the step that refutes that there is one. The side
-/// clause is kept with the set that it is made from, and stands in place of those of `wanted`. It asks the oracle once.
+/// A set of the mode that is as wanted and makes a side clause true, or the step that refutes that there is one. The
+/// side clause is kept with the set that it is made from, and stands in place of those of `wanted`. It asks the oracle
+/// once.
 pub fn search_beside<O: Oracle>(
     alloc: Global,
     oracle: &mut O,

@@ -118,13 +118,6 @@ nothing_free (af f) hit = record {
 
 -- ---- one call after the other
 
-pub then_call : (f g : Framework) (m n most : ℕ) (a b c : OracleLog) (p q : Option Pending) (u v w : Units)
-    (halt : Option Halt) → g ≡ f → m + n ≤ most → HasRun (MadeForIdeal f) m f a b p u v None
-    → HasRun (MadeForIdeal g) n g b c q v w halt → HasRun (MadeForIdeal f) most f a c q u w halt
-then_call f g m n most a b c p q u v w halt e few h k =
-    then_made (MadeForIdeal f) (MadeForIdeal g) f g m n most a b c p q u v w halt e
-    (subst (λ (x : Framework). Makes (MadeForIdeal x) (MadeForIdeal f)) (sym e) (makes_same (MadeForIdeal f))) few h k
-
 pub larger_set : (f g : Framework) (log : OracleLog) (hit e : List ℕ) (r : Found) (set : List ℕ) → g ≡ f → r ≡ Set set
     → IsLargerFree g log hit e r → IsLargerFree f log hit e (Set set)
 larger_set f g log hit e r set same is h =

@@ -40,13 +40,13 @@ use Rattle.oracle_face.proofs.Refuting.{claim_excluded, grown_side, number_grown
 use Rattle.goal_lists.specs.Asking.{AreApart, goals_of, IsAskableBeside}
 use Rattle.goal_lists.specs.Sides.{IsAskOf, IsFoundBeside}
 use Rattle.goal_lists.proofs.AskedGoals.{asked_there, asked_true, attacked_side, attacked_speaks, attacks_one, within_claim}
-use Rattle.goal_lists.proofs.Calls.{apart_pushed, few_asks, found_mode, makes_same, then_refused}
+use Rattle.goal_lists.proofs.Calls.{apart_pushed, few_asks, found_mode, makes_same, then_refused, then_same}
 use Rattle.goal_lists.proofs.Measures.{fewer_outside}
 use Rattle.goal_lists.proofs.SideLemmas.{ask_claim, beside_means, this_one}
 use Rattle.ideal_set.specs.declared.free.Free.{Free}
 use Rattle.ideal_set.specs.Ideals.{Attacks, Hits, IsAsked, IsFree, IsHit, IsIdealFound, IsLargestFree, MadeForIdeal, attacked_claim, free_claim}
 use Rattle.ideal_set.specs.declared.searching.IdealSet.{IdealSet}
-use Rattle.ideal_set.proofs.FreeLemmas.{free_plain, then_call}
+use Rattle.ideal_set.proofs.FreeLemmas.{free_plain}
 
 -- ---- what is asked
 
@@ -151,8 +151,8 @@ hits_members (af f) s a ok k = (ok.form.ends k.0 a k.2).1
 
 -- ---- the search
 
--- the sets found so far, what they attack, and different side clauses, one for each, of which each has something that is
--- attacked
+-- the sets found so far, what they attack, and different side clauses, one for each, of which each has something that
+-- is attacked
 pub record IsSearch (f : Framework) (log : OracleLog) (others : List (List ℕ)) (hit : List ℕ) : Type 0 where
   pub admissible : (t : List ℕ) → Contains others t → HoldsOf f t Ad
   pub hits : IsSetOf (IsHit f others) hit
@@ -347,7 +347,8 @@ pub grown_turn : (f g : Framework) (a b c : OracleLog) (p q : Option Pending) (u
     → IsSearch f b others hit → HasRun (MadeForIdeal g) 1 g b c q v w None → IsLargestFree g c hit free
     → HasGrown f a c q u w others hit free
 grown_turn f g a b c p q u v w others hit free same before h run largest = record {
-  ran = then_call f g (length others) 1 (length others + 1) a b c p q u v w None same (omega arith) before run;
+  ran = then_same MadeForIdeal f g (length others) 1 (length others + 1) a b c p q u v w None same (omega arith) before
+  run;
   searched = search_grown f (MadeForIdeal g) b c others hit run.grows h;
   largest = subst (λ (x : Framework). IsLargestFree x c hit free) same largest;
 }
@@ -366,7 +367,7 @@ pub asked_turn : (f g : Framework) (a b c : OracleLog) (p q : Option Pending) (u
     → HasRun (MadeForIdeal g) (closes (Ok r)) g b c q v w None → Attacks g c free.set r → IsAsked g c free.set r
     → r ≡ found → closes (Ok r) ≡ m → HasAsked f a c q u w others hit free m found
 asked_turn f g a b c p q u v w others hit free r found m same kept h run attacks asked is count = record {
-  ran = then_call f g (length others + 1) (closes (Ok r)) (length others + 1 + m) a b c p q u v w None same
+  ran = then_same MadeForIdeal f g (length others + 1) (closes (Ok r)) (length others + 1 + m) a b c p q u v w None same
       (omega (arith, count)) h.ran run;
   searched = search_grown f (MadeForIdeal g) b c others hit run.grows h.searched;
   largest = record {
@@ -385,8 +386,11 @@ pub fits : (f : Framework) (first log : OracleLog) (p : Option Pending) (u v : U
 fits f first log p u v others hit free found h =
     run_as (MadeForIdeal f) (MadeForIdeal f) (length others + 1 + 1) (2 * length log.sides + 2) f first log p u v None
     (makes_same (MadeForIdeal f))
-    (omega (arith, few_turns_at_end f (MadeForIdeal f) log log others hit free.set h.searched
-    (grows_same (MadeForIdeal f) log) h.asked)) h.ran
+    (omega (
+      arith,
+      few_turns_at_end f (MadeForIdeal f) log log others hit free.set h.searched
+          (grows_same (MadeForIdeal f) log) h.asked,
+    )) h.ran
 
 pub fits_refused : (f : Framework) (first log : OracleLog) (p : Option Pending) (u v : Units)
     (others : List (List ℕ)) (hit : List ℕ) (free : Free) (found : Found)

@@ -178,15 +178,6 @@ if_wider f log mode e r ranged side is made look found h =
     (λ n one asks k. found_wider f log mode e r n look asks one k) found
     (subst (λ (xs : List ℕ). IfOk found (IsFoundBeside f log mode [] [] xs side)) is h)
 
--- what was left, and then a call of the same kind on the same framework
-pub then_call : (f g : Framework) (mode : Atom) (m n most : ℕ) (a b c : OracleLog) (p q : Option Pending)
-    (u v w : Units) (halt : Option Halt) → g ≡ f → m + n ≤ most → HasRun (MadeWider f mode) m f a b p u v None
-    → HasRun (MadeWider g mode) n g b c q v w halt → HasRun (MadeWider f mode) most f a c q u w halt
-then_call f g mode m n most a b c p q u v w halt e few h k =
-    then_made (MadeWider f mode) (MadeWider g mode) f g m n most a b c p q u v w halt e
-    (subst (λ (x : Framework). Makes (MadeWider x mode) (MadeWider f mode)) (sym e) (makes_same (MadeWider f mode))) few
-    h k
-
 pub wider_set : (f g : Framework) (log : OracleLog) (mode : Atom) (e : List ℕ) (r : Found) (set : List ℕ) → g ≡ f
     → r ≡ Set set → IsWider g log mode e r → IsWider f log mode e (Set set)
 wider_set f g log mode e r set same is h =

@@ -54,8 +54,8 @@ fn wider<O: Oracle>(
 }
 
 /// Grows a set of a mode to one whose range holds that of the set and is part of no other of the mode: by the mode `Ad`
-/// a semi-stable set, by `Cf` a stage set. The search goes on from what each search finds: where the range grows k times,
-/// it asks k + 1 times. The halt is the oracle's, or want of memory; the oracle keeps what it has learned.
+/// a semi-stable set, by `Cf` a stage set. The search goes on from what each search finds: where the range grows k
+/// times, it asks k + 1 times. The halt is the oracle's, or want of memory; the oracle keeps what it has learned.
 pub fn widest_from<O: Oracle>(
     alloc: Global,
     oracle: &mut O,

@@ -3,10 +3,10 @@ use Rattle.plain_lists.specs.Members.{IsWithin}
 use Rattle.semantics.specs.Frameworks.{Framework}
 use Rattle.certificate_claims.specs.SetLiterals.{members}
 use Rattle.oracle_face.proofs.GrowingLemmas.{run_none}
-use Rattle.goal_lists.proofs.Calls.{admissible_members, closes_refuted, closes_set, run_handed}
+use Rattle.goal_lists.proofs.Calls.{admissible_members, closes_refuted, closes_set, run_handed, then_same}
 use Rattle.goal_lists.proofs.Measures.{fewer_outside}
 use Rattle.ideal_set.specs.Ideals.{IsFree, MadeForIdeal}
-use Rattle.ideal_set.proofs.FreeLemmas.{larger_set, nothing_free, then_call}
+use Rattle.ideal_set.proofs.FreeLemmas.{larger_set, nothing_free}
 use Rattle.ideal_set.proofs.free.largest_free.Goals as goal
 
 pub larger_free-requires-clause-hit : goal.larger_free-requires-clause-hit
@@ -37,14 +37,15 @@ returns-in_err-found-clause-run g c =
     let inv = c.loop-grown.invariant in
     let few : 0 + 0 ≤ 1 = omega arith in
     run_handed (MadeForIdeal f) 1 f _ _ _ _ _ _ c.in_err-found.field-0.0 c.from_residual.ensures
-    (then_call f (g.O.Oracle.framework c.loop-grown.oracle) 0 0 1 _ _ _ _ _ _ _ _ _ inv.framework few inv.run
+    (then_same MadeForIdeal f (g.O.Oracle.framework c.loop-grown.oracle) 0 0 1 _ _ _ _ _ _ _ _ _ inv.framework few
+    inv.run
     c.in_err-found.ensures.run)
 
 pub returns-in-Refuted-clause-run : goal.returns-in-Refuted-clause-run
 returns-in-Refuted-clause-run g c =
     let f = g.O.Oracle.framework c.args.oracle.now in
     let inv = c.loop-grown.invariant in
-    then_call f (g.O.Oracle.framework c.loop-grown.oracle) 0 _ 1 _ _ _ _ _ _ _ _ _ inv.framework
+    then_same MadeForIdeal f (g.O.Oracle.framework c.loop-grown.oracle) 0 _ 1 _ _ _ _ _ _ _ _ _ inv.framework
     (omega (arith, closes_refuted c.in_ok-found.field-0 c.in-Refuted.refutation c.in-Refuted.is)) inv.run
     c.in_ok-found.ensures.run
 
@@ -66,7 +67,7 @@ loop-grown-preserved g c =
     c.in_ok-found.field-0 c.in-Set.found inv.framework c.in-Set.is c.in_ok-found.ensures.larger in
     record {
       free = larger.0;
-      run = then_call f h 0 _ 0 _ _ _ _ _ _ _ _ _ inv.framework
+      run = then_same MadeForIdeal f h 0 _ 0 _ _ _ _ _ _ _ _ _ inv.framework
           (omega (arith, closes_set c.in_ok-found.field-0 c.in-Set.found c.in-Set.is)) inv.run
           c.in_ok-found.ensures.run;
       framework = c.in_ok-found.ensures.framework ∙ inv.framework;

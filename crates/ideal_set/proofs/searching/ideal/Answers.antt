@@ -7,9 +7,8 @@ use Rattle.plain_lits.specs.declared.halt.Halt.TheVariants.{Memory}
 use Rattle.certificate_claims.specs.SetLiterals.{members}
 use Rattle.oracle_face.specs.declared.face.Found.TheVariants.{Set, Refuted}
 use Rattle.oracle_face.proofs.GrowingLemmas.{run_as}
-use Rattle.goal_lists.proofs.Calls.{closes_refuted, closes_set, makes_same, run_handed}
+use Rattle.goal_lists.proofs.Calls.{closes_refuted, closes_set, makes_same, run_handed, then_same}
 use Rattle.ideal_set.specs.Ideals.{Hits, MadeForIdeal}
-use Rattle.ideal_set.proofs.FreeLemmas.{then_call}
 use Rattle.ideal_set.proofs.IdealLemmas.{IsSearch, asked_turn, few_turns, fewer_unhit, fits, fits_refused, grown_turn, hit_within, is_ideal, search_more}
 use Rattle.ideal_set.proofs.searching.ideal.Goals as goal
 
@@ -28,7 +27,7 @@ returns-in_err-free-clause-run g c =
     let inv = c.loop-hit.invariant in
     let most = 2 * length (g.O.Oracle.log c.largest_free.new.oracle).sides + 2 in
     run_handed (MadeForIdeal f) most f _ _ _ _ _ _ c.in_err-free.field-0.0 c.from_residual.ensures
-    (then_call f h (length c.loop-hit.others) 1 most _ _ _ _ _ _ _ _ _ inv.framework
+    (then_same MadeForIdeal f h (length c.loop-hit.others) 1 most _ _ _ _ _ _ _ _ _ inv.framework
     (few_turns f _ (g.O.Oracle.log c.loop-hit.oracle) (g.O.Oracle.log c.largest_free.new.oracle) c.loop-hit.others
     c.loop-hit.hit inv.searched c.in_err-free.ensures.run.grows)
     inv.run c.in_err-free.ensures.run)
@@ -43,10 +42,13 @@ returns-in_err-unattacked-clause-run g c =
     let most = 2 * length (g.O.Oracle.log c.attacker.new.oracle).sides + 2 in
     run_handed (MadeForIdeal f) most f _ _ _ _ _ _ c.in_err-unattacked.field-0.0
     c.from_residual-in_err-unattacked.ensures
-    (then_call f (g.O.Oracle.framework c.largest_free.new.oracle) (length c.loop-hit.others + 1) 0 most
+    (then_same MadeForIdeal f (g.O.Oracle.framework c.largest_free.new.oracle) (length c.loop-hit.others + 1) 0 most
     _ _ _ _ _ _ _ _ _ (c.in_ok-free.ensures.framework ∙ inv.framework)
-    (omega (arith, few_turns f _ (g.O.Oracle.log c.largest_free.new.oracle) (g.O.Oracle.log c.attacker.new.oracle)
-    c.loop-hit.others c.loop-hit.hit grown.searched c.in_err-unattacked.ensures.run.grows))
+    (omega (
+      arith,
+      few_turns f _ (g.O.Oracle.log c.largest_free.new.oracle) (g.O.Oracle.log c.attacker.new.oracle)
+          c.loop-hit.others c.loop-hit.hit grown.searched c.in_err-unattacked.ensures.run.grows,
+    ))
     grown.ran c.in_err-unattacked.ensures.run)
 
 pub returns-in-Refuted-clause-ideal : goal.returns-in-Refuted-clause-ideal
