@@ -26,10 +26,12 @@ use Rattle.oracle_face.specs.Growing.{Grows, HasRun, Making, Obliges, OnlySide, 
 use Rattle.oracle_face.specs.Logs.{IsKept, IsNumberOf, IsSameClause, OracleLog, SideClause, side_at}
 use Rattle.oracle_face.proofs.GrowingLemmas.{Makes, run_joined}
 use Rattle.oracle_face.proofs.Refuting.{claim_excluded, grown_side, number_grown, refutes_claim}
-use Rattle.goal_lists.specs.Asking.{goals_of}
+use Rattle.goal_lists.specs.Asking.{goals_of, IsAskableBeside}
+use Rattle.goal_lists.specs.Sides.{IsAskOf, IsFoundBeside}
 use Rattle.goal_lists.proofs.AskedGoals.{are_goals, within_claim, outside_side, outside_speaks, speaks_same, asked_there, asked_true, not_within}
-use Rattle.goal_lists.proofs.Calls.{admissible_members, found_in, found_mode, makes_same}
-use Rattle.cegar_preferred.specs.Largest.{AsksOutside, MadeOutside, largest_claim, IsLarger, IsMaximalFrom}
+use Rattle.goal_lists.proofs.Calls.{admissible_members, found_in, found_mode, makes_same, then_made}
+use Rattle.goal_lists.proofs.SideLemmas.{ask_claim, beside_means, this_one}
+use Rattle.cegar_preferred.specs.Largest.{MadeOutside, largest_claim, IsLarger, IsMaximalFrom}
 
 -- ---- what is asked
 
@@ -44,49 +46,17 @@ makes_outside f e side ok is literals set h = (
   subst (λ (s : List ℕ). HoldsOf f s Ad) (sym h.1) ok,
 )
 
-pub asks_for : (f : Framework) (e : List ℕ) (side : List AtomLit) (old log : OracleLog) (n : ℕ)
-    → side ≡ outside f e → Obliges side old log n → AsksOutside f log.sides n e
-asks_for f e side old log n is obliges = record {
-  number = obliges.named;
-  same = subst (λ (clause : List AtomLit). IsSameClause (side_at log.sides n).literals clause) is obliges.same;
-}
-
-pub asks_grown : (f : Framework) (P : Making) (old new : OracleLog) (n : ℕ) (e : List ℕ) → Grows P old new
-    → AsksOutside f old.sides n e → AsksOutside f new.sides n e
-asks_grown f P old new n e grows h = record {
-  number = number_grown old.sides new.sides grows.more_sides.0 n grows.more_sides.1 h.number;
-  same = subst (λ (side : SideClause). IsSameClause side.literals (outside f e))
-      (sym (grown_side P old new grows n h.number)) h.same;
-}
-
-pub asks_same : (f g : Framework) (sides : List SideClause) (n : ℕ) (e : List ℕ) → g ≡ f → AsksOutside g sides n e
-    → AsksOutside f sides n e
-asks_same f g sides n e same h = subst (λ (x : Framework). AsksOutside x sides n e) same h
-
-pub asks_speaks : (f : Framework) (sides : List SideClause) (n : ℕ) (e : List ℕ) → AsksOutside f sides n e
-    → IsNumberOf sides n × SpeaksOf f (side_at sides n).literals
-asks_speaks f sides n e h = (
-  h.number,
-  speaks_same f (side_at sides n).literals (outside f e) h.same (outside_speaks f e),
-)
-
-larger_goals : (f : Framework) (sides : List SideClause) (e : List ℕ) (n : ℕ) → HoldsOf f e Ad → AsksOutside f sides n e
-    → AreGoals f sides (goals_of Ad e [] [] (n ∷ []))
-larger_goals f sides e n ok asks = are_goals f sides Ad e [] [] (n ∷ []) (record {
-  moded = tt;
-  in_members = admissible_members f e ok;
-  out_members = λ a c. absurd (Contains-nil a c);
-  ranged_members = λ a c. absurd (Contains-nil a c);
-  apart = λ a c d. absurd (Contains-nil a d);
-  asked = λ m c. subst (λ (k : ℕ). IsNumberOf sides k × SpeaksOf f (side_at sides k).literals) (only_one n m c)
-      (asks_speaks f sides n e asks);
-})
-
-pub may_ask_larger : (f g : Framework) (sides : List SideClause) (e : List ℕ) (n : ℕ) (goals : List AtomLit) → g ≡ f
-    → goals ≡ goals_of Ad e [] [] (n ∷ []) → HoldsOf f e Ad → AsksOutside f sides n e → AreGoals g sides goals
-may_ask_larger f g sides e n goals same is ok asks =
-    subst (λ (h : Framework). AreGoals h sides goals) (sym same)
-    (subst (AreGoals f sides) (sym is) (larger_goals f sides e n ok asks))
+pub larger_beside : (f : Framework) (e ins : List ℕ) (side : List AtomLit) → ins ≡ e → side ≡ outside f e
+    → HoldsOf f e Ad → IsAskableBeside f Ad ins [] [] side
+larger_beside f e ins side is made ok =
+    subst (λ (xs : List ℕ). IsAskableBeside f Ad xs [] [] side) (sym is) (record {
+      moded = tt;
+      in_members = admissible_members f e ok;
+      out_members = λ a c. absurd (Contains-nil a c);
+      ranged_members = λ a c. absurd (Contains-nil a c);
+      apart = λ a c d. absurd (Contains-nil a d);
+      speaks = subst (SpeaksOf f) (sym made) (outside_speaks f e);
+    })
 
 -- ---- what is found
 
@@ -94,7 +64,8 @@ claim_plain : (f : Framework) (e : List ℕ) → IsPlain (largest_claim f e)
 claim_plain f e = plain_mapped (affirmed Ad ∷ are_in e) (outside f) (e ∷ [])
     (asks_cons (affirmed Ad) (are_in e) (λ x. x) (in_plain e)) (outside_plain f)
 
-found_larger : (f : Framework) (log : OracleLog) (e : List ℕ) (n : ℕ) → AsksOutside f log.sides n e → (found : Found)
+found_larger : (f : Framework) (log : OracleLog) (e : List ℕ) (n : ℕ) → IsAskOf log.sides (outside f e) n
+    → (found : Found)
     → IsFound f log (goals_of Ad e [] [] (n ∷ [])) found → IsLarger f log e found
 found_larger f log e n asks (Set set) makes = (
   found_mode f log Ad e [] [] (n ∷ []) set tt makes,
@@ -111,22 +82,18 @@ found_larger f log e n asks (Refuted step) refuted =
           (Contains-mapped (λ x. affirmed (Member x)) e a c);
       has_outs = λ a c. absurd (Contains-nil a c);
       has_ranged = λ a c. absurd (Contains-nil a c);
-      has_asks = λ m c. subst (IsClaimSide log.sides (largest_claim f e)) (only_one n m c) (record {
-        number = asks.number;
-        side = outside f e;
-        there = Contains-head (outside f e) [] (outside f e) refl;
-        same = asks.same;
-      });
+      has_asks = this_one (IsClaimSide log.sides (largest_claim f e)) n
+          (ask_claim log.sides (largest_claim f e) (outside f e) n
+          (Contains-head (outside f e) [] (outside f e) refl) asks);
     })) refuted
 
-pub if_larger : (f g : Framework) (log : OracleLog) (e : List ℕ) (n : ℕ) (goals : List AtomLit) → g ≡ f
-    → goals ≡ goals_of Ad e [] [] (n ∷ []) → AsksOutside f log.sides n e → (r : Result Found Halt)
-    → IfOk r (IsFound g log goals) → IfOk r (IsLarger f log e)
-if_larger f g log e n goals same is asks (Ok found) h =
-    found_larger f log e n asks found
-    (subst (λ (k : Framework). IsFound k log (goals_of Ad e [] [] (n ∷ [])) found) same
-    (subst (λ (k : List AtomLit). IsFound g log k found) is h))
-if_larger f g log e n goals same is asks (Err halt) h = h
+pub if_larger : (f : Framework) (log : OracleLog) (e ins : List ℕ) (side : List AtomLit) → ins ≡ e
+    → side ≡ outside f e → (r : Result Found Halt) → IfOk r (IsFoundBeside f log Ad ins [] [] side)
+    → IfOk r (IsLarger f log e)
+if_larger f log e ins side is made r h =
+    beside_means f log Ad e [] [] side (outside f e) (IsLarger f log e) made
+    (λ n found ask k. found_larger f log e n ask found k) r
+    (subst (λ (xs : List ℕ). IfOk r (IsFoundBeside f log Ad xs [] [] side)) is h)
 
 -- an admissible set round which a step refutes that there is a larger one
 pub is_preferred : (f : Framework) (log : OracleLog) (e : List ℕ) (step : ℕ) → IsKept f log → HoldsOf f e Ad
@@ -137,30 +104,14 @@ is_preferred (af f) log e step kept ok refuted =
 
 -- ---- one call after the other
 
--- what was left, and then a call of the same kind on the same framework
-pub then_call : (f g : Framework) (m n most : ℕ) (a b c : OracleLog) (p q : Option Pending) (u v w : Units)
-    (halt : Option Halt) → g ≡ f → m + n ≤ most → HasRun (MadeOutside f) m f a b p u v None
-    → HasRun (MadeOutside g) n g b c q v w halt → HasRun (MadeOutside f) most f a c q u w halt
-then_call f g m n most a b c p q u v w halt e few h k =
-    run_joined (MadeOutside f) (MadeOutside f) (MadeOutside f) m n most f a b c p q u v w halt
-    (makes_same (MadeOutside f)) (makes_same (MadeOutside f)) few h
-    (subst (λ (x : Framework). HasRun (MadeOutside x) n x b c q v w halt) e k)
-
 -- what was left, and then the side clause of a set was kept
 pub then_oblige : (f g : Framework) (m : ℕ) (a b c : OracleLog) (p q : Option Pending) (u v w : Units)
     (halt : Option Halt) (e : List ℕ) (side : List AtomLit) → g ≡ f → HoldsOf f e Ad → side ≡ outside g e
     → HasRun (MadeOutside f) m f a b p u v None → HasRun (OnlySide side e) 0 g b c q v w halt
     → HasRun (MadeOutside f) m f a c q u w halt
 then_oblige f g m a b c p q u v w halt e side same ok is h k =
-    run_joined (MadeOutside f) (OnlySide side e) (MadeOutside f) m 0 m f a b c p q u v w halt
-    (makes_same (MadeOutside f)) (makes_outside f e side ok (is ∙ ap (λ (x : Framework). outside x e) same))
-    (omega arith) h (subst (λ (x : Framework). HasRun (OnlySide side e) 0 x b c q v w halt) same k)
-
-pub closes_set : (r : Found) (set : List ℕ) → r ≡ Set set → closes (Ok r) ≡ 0
-closes_set r set e = ap (λ (x : Found). closes (Ok x)) e
-
-pub closes_refuted : (r : Found) (step : ℕ) → r ≡ Refuted step → closes (Ok r) ≡ 1
-closes_refuted r step e = ap (λ (x : Found). closes (Ok x)) e
+    then_made (MadeOutside f) (OnlySide side e) f g m 0 m a b c p q u v w halt same
+    (makes_outside f e side ok (is ∙ ap (λ (x : Framework). outside x e) same)) (omega arith) h k
 
 pub larger_set : (f g : Framework) (log : OracleLog) (e : List ℕ) (r : Found) (set : List ℕ) → g ≡ f → r ≡ Set set
     → IsLarger g log e r → IsLarger f log e (Set set)

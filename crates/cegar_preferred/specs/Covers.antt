@@ -15,11 +15,12 @@ use Rattle.oracle_face.specs.declared.face.Found.TheVariants.{Set, Refuted}
 use Rattle.oracle_face.specs.Goals.{Refutes}
 use Rattle.oracle_face.specs.Logs.{OracleLog}
 use Rattle.goal_lists.specs.Asking.{AreApart}
+use Rattle.goal_lists.specs.Sides.{AreAsksOf, IsAskOf}
 use Rattle.cegar_preferred.specs.declared.accepting.Accepting.{Accepting}
 use Rattle.cegar_preferred.specs.declared.accepting.Accepting.TheVariants.{Counter, Cover as Covered}
 use Rattle.cegar_preferred.specs.declared.accepting.Cover.{Cover}
 use Rattle.cegar_preferred.specs.declared.maximal.Maximal.{Maximal}
-use Rattle.cegar_preferred.specs.Largest.{AsksOutside, IsMaximalFrom}
+use Rattle.cegar_preferred.specs.Largest.{IsMaximalFrom}
 
 -- each admissible set that doesn't accept the argument lies in one of the sets
 abbrev pub cover_claim : Framework → ℕ → List (List ℕ) → Claim
@@ -33,12 +34,11 @@ pub record IsCovering (f : Framework) (q : ℕ) (e : List ℕ) : Type 0 where
 -- sets that may be a cover, and numbers of side clauses, each that something lies outside one of the sets
 pub record IsCover (f : Framework) (log : OracleLog) (q : ℕ) (cover : Cover) : Type 0 where
   pub each : (e : List ℕ) → Contains cover.sets e → IsCovering f q e
-  pub asked : (n : ℕ) → Contains cover.asks n → (e : List ℕ) × Contains cover.sets e × AsksOutside f log.sides n e
-  pub has_ask : (e : List ℕ) → Contains cover.sets e → (n : ℕ) × Contains cover.asks n × AsksOutside f log.sides n e
+  pub asks : AreAsksOf (outside f) log.sides cover.sets cover.asks
   pub apart : AreApart cover.asks
 
--- an admissible set that doesn't accept the argument and lies in no set of the cover, or a step that refutes that there is
--- one
+-- an admissible set that doesn't accept the argument and lies in no set of the cover, or a step that refutes that there
+-- is one
 abbrev pub IsUncovered : Framework → OracleLog → ℕ → Cover → Found → Type 0
 IsUncovered f log q cover (Set set) =
     HoldsOf f set Ad
@@ -51,7 +51,7 @@ pub record IsExtended (f : Framework) (log : OracleLog) (q : ℕ) (old new : Cov
   pub sets : new.sets ≡ old.sets ++ e ∷ []
   pub asks : new.asks ≡ old.asks ++ n ∷ []
   pub covering : IsCovering f q e
-  pub asks_it : AsksOutside f log.sides n e
+  pub asks_it : IsAskOf log.sides (outside f e) n
   pub outside_all : (d : List ℕ) → Contains old.sets d → IsWithin e d → ⊥
 
 -- a preferred set that doesn't accept the argument, or one more set in the cover, which lay in none of those before

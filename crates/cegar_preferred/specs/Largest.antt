@@ -14,17 +14,12 @@ use Rattle.oracle_face.specs.declared.face.Found.{Found}
 use Rattle.oracle_face.specs.declared.face.Found.TheVariants.{Set, Refuted}
 use Rattle.oracle_face.specs.Goals.{Refutes}
 use Rattle.oracle_face.specs.Growing.{Making}
-use Rattle.oracle_face.specs.Logs.{OracleLog, SideClause, IsNumberOf, IsSameClause, side_at}
+use Rattle.oracle_face.specs.Logs.{OracleLog, IsSameClause}
 use Rattle.cegar_preferred.specs.declared.maximal.Maximal.{Maximal}
 
 -- the side clause that something lies outside an admissible set, made from that set
 abbrev pub MadeOutside : Framework → Making
 MadeOutside f literals set = IsSameClause literals (outside f set) × HoldsOf f set Ad
-
--- the number is that of the side clause that something lies outside the set
-pub record AsksOutside (f : Framework) (sides : List SideClause) (n : ℕ) (e : List ℕ) : Type 0 where
-  pub number : IsNumberOf sides n
-  pub same : IsSameClause (side_at sides n).literals (outside f e)
 
 -- no admissible set holds this one and has a member outside it
 abbrev pub largest_claim : Framework → List ℕ → Claim

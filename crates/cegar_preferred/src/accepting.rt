@@ -11,7 +11,7 @@ ghost use Rattle.cegar_preferred.specs.Covers.{Extends, IsAccepting, IsCover, Is
 ghost use Rattle.cegar_preferred.specs.Largest.{MadeOutside};
 
 use crate::maximal::{Maximal, maximal_from};
-use goal_lists::{Wanted, goals_for, outside};
+use goal_lists::{Wanted, outside, search_for};
 use meaning_atoms::Atom;
 use oracle_face::{AskId, Budget, Found, Halt, Oracle, StepId};
 use plain_lists::Items;
@@ -23,8 +23,8 @@ use std::alloc::Global;
 pub enum Accepting {
     /// A preferred set that doesn't.
     Counter(Maximal),
-    /// Admissible sets that accept it, in one of which each admissible set lies that doesn't, and the log step that shows
-    /// so: all preferred sets accept the argument.
+    /// Admissible sets that accept it, in one of which each admissible set lies that doesn't, and the log step that
+    /// shows so: all preferred sets accept the argument.
     Cover(Items<NumSet>, StepId),
 }
 
@@ -35,8 +35,8 @@ struct Cover {
     asks: Items<AskId>,
 }
 
-/// Whether all preferred sets accept an argument. Where k preferred sets are found, it asks k + 1 times for a set that the
-/// cover lacks, besides what it asks to find them.
+/// Whether all preferred sets accept an argument. Where k preferred sets are found, it asks k + 1 times for a set that
+/// the cover lacks, besides what it asks to find them.
 pub fn accept_all<O: Oracle>(
     alloc: Global,
     oracle: &mut O,
@@ -68,8 +68,8 @@ pub fn accept_all<O: Oracle>(
     }
 }
 
-/// An admissible set that doesn't accept the argument and lies in no set of the cover, or the step that shows that there
-/// is none.
+/// An admissible set that doesn't accept the argument and lies in no set of the cover, or the step that shows that
+/// there is none.
 fn uncovered<O: Oracle>(
     alloc: Global,
     oracle: &mut O,
@@ -93,11 +93,11 @@ fn uncovered<O: Oracle>(
         ranged: &[],
         asks: cover.asks.as_slice(),
     };
-    let goals = goals_for(alloc, Atom::Ad, &wanted)?;
-    oracle.find(alloc, &goals, budget)
+    search_for(alloc, oracle, budget, Atom::Ad, &wanted)
 }
 
-/// Takes a preferred set that holds the found one into the cover, or gives it back where it doesn't accept the argument.
+/// Takes a preferred set that holds the found one into the cover, or gives it back where it doesn't accept the
+/// argument.
 fn extend<O: Oracle>(
     alloc: Global,
     oracle: &mut O,

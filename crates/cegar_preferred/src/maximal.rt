@@ -7,7 +7,7 @@ ghost use Rattle.oracle_face.specs.Logs.{IsKept};
 ghost use Rattle.oracle_face.specs.Growing.{HasRun, closes, halt_of};
 ghost use Rattle.cegar_preferred.specs.Largest.{IsLarger, IsMaximalFrom, MadeOutside};
 
-use goal_lists::{Wanted, goals_for, outside};
+use goal_lists::{Wanted, outside, search_beside};
 use meaning_atoms::Atom;
 use oracle_face::{Budget, Found, Halt, Oracle, StepId};
 use set_lists::NumSet;
@@ -20,8 +20,9 @@ pub struct Maximal {
     pub refutation: StepId,
 }
 
-/// A preferred set that holds an admissible one. The search goes on from what each search finds, outside it, until there is
-/// nothing larger: where the set grows k times, it asks k + 1 times. Each side clause is made from an admissible set.
+/// A preferred set that holds an admissible one. The search goes on from what each search finds, outside it, until
+/// there is nothing larger: where the set grows k times, it asks k + 1 times. Each side clause is made from an
+/// admissible set.
 pub fn maximal_from<O: Oracle>(
     alloc: Global,
     oracle: &mut O,
@@ -67,13 +68,11 @@ fn larger<O: Oracle>(
     ensures follows { O.follows oracle.old oracle.new }
 {
     let side = outside(alloc, oracle.members(), set)?;
-    let ask = oracle.oblige(alloc, &side, set, budget)?;
     let wanted = Wanted {
         ins: set.as_slice(),
         outs: &[],
         ranged: &[],
-        asks: &[ask],
+        asks: &[],
     };
-    let goals = goals_for(alloc, Atom::Ad, &wanted)?;
-    oracle.find(alloc, &goals, budget)
+    search_beside(alloc, oracle, budget, Atom::Ad, &wanted, &side, set)
 }

@@ -293,13 +293,6 @@ fewer_unlisted f set old new live none gains =
 
 -- ---- one call after the other
 
-pub then_call : (f g : Framework) (m n most : ℕ) (a b c : OracleLog) (p q : Option Pending) (u v w : Units)
-    (halt : Option Halt) → g ≡ f → m + n ≤ most → HasRun (MadeDiffers f) m f a b p u v None
-    → HasRun (MadeDiffers g) n g b c q v w halt → HasRun (MadeDiffers f) most f a c q u w halt
-then_call f g m n most a b c p q u v w halt e few h k =
-    then_made (MadeDiffers f) (MadeDiffers g) f g m n most a b c p q u v w halt e
-    (subst (λ (x : Framework). Makes (MadeDiffers x) (MadeDiffers f)) (sym e) (makes_same (MadeDiffers f))) few h k
-
 pub further_refuted : (f g h : Framework) (log : OracleLog) (mode : Atom) (range : List ℕ) (limit : ℕ)
     (listing : Listing) (r : Found) (step : ℕ) → g ≡ f → h ≡ f → IsKept h log → IsListMode mode
     → IsListing f log mode range listing

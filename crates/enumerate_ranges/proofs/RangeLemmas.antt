@@ -657,14 +657,6 @@ side_makes : (f : Framework) (e : List ℕ) (side : List AtomLit) → HoldsOf f 
     → Makes (OnlySide side e) (MadeForRanges f)
 side_makes f e side ok is literals set h = widest_makes f literals set (makes_wider f Ad e side ok is literals set h)
 
-pub then_call : (f g : Framework) (m n most : ℕ) (a b c : OracleLog) (p q : Option Pending) (u v w : Units)
-    (halt : Option Halt) → g ≡ f → m + n ≤ most → HasRun (MadeForRanges f) m f a b p u v None
-    → HasRun (MadeForRanges g) n g b c q v w halt → HasRun (MadeForRanges f) most f a c q u w halt
-then_call f g m n most a b c p q u v w halt e few h k =
-    then_made (MadeForRanges f) (MadeForRanges g) f g m n most a b c p q u v w halt e
-    (subst (λ (x : Framework). Makes (MadeForRanges x) (MadeForRanges f)) (sym e) (makes_same (MadeForRanges f))) few h
-    k
-
 pub then_listed : (f g : Framework) (m n most : ℕ) (a b c : OracleLog) (p q : Option Pending) (u v w : Units)
     (halt : Option Halt) → g ≡ f → m + n ≤ most → HasRun (MadeForRanges f) m f a b p u v None
     → HasRun (MadeDiffers g) n g b c q v w halt → HasRun (MadeForRanges f) most f a c q u w halt

@@ -63,6 +63,14 @@ then_made P Q f g m n most a b c p q u v w halt e makes few h k =
     run_joined P Q P m n most f a b c p q u v w halt (makes_same P) makes few h
     (subst (λ (x : Framework). HasRun Q n x b c q v w halt) e k)
 
+-- a call that makes side clauses of the same kind on the same framework
+pub then_same : (P : Framework → Making) (f g : Framework) (m n most : ℕ) (a b c : OracleLog) (p q : Option Pending)
+    (u v w : Units) (halt : Option Halt) → g ≡ f → m + n ≤ most → HasRun (P f) m f a b p u v None
+    → HasRun (P g) n g b c q v w halt → HasRun (P f) most f a c q u w halt
+then_same P f g m n most a b c p q u v w halt e few h k =
+    then_made (P f) (P g) f g m n most a b c p q u v w halt e
+    (subst (λ (x : Framework). Makes (P x) (P f)) (sym e) (makes_same (P f))) few h k
+
 -- a call that makes no side clause
 pub then_search : (P : Making) (f g : Framework) (m n most : ℕ) (a b c : OracleLog) (p q : Option Pending)
     (u v w : Units) (halt : Option Halt) → g ≡ f → m + n ≤ most → HasRun P m f a b p u v None

@@ -1,9 +1,10 @@
 -- What is known of side clauses by their numbers.
 use Rattle.std.proofs.Common.{◌≡◌, ⊎_elim, inl, inr, ℕ, List, [], ◌∷◌, ◌++◌, map, refl, sym, subst}
-use Rattle.std.specs.Prelude.{Contains, ◌⊎◌, ◌↔◌}
+use Rattle.std.specs.Prelude.{Contains, ◌⊎◌, ◌↔◌, Result, Ok, Err, IfOk}
 use Rattle.std.proofs.lemmas.List.Elements.{Contains-append_left, Contains-append_cases}
 use Rattle.plain_lists.proofs.Membership.{Contains-nil, Contains-cons_cases, Contains-pushed}
 use Rattle.plain_lits.proofs.HintCheckLemmas.{Contains-mapped}
+use Rattle.plain_lits.specs.declared.halt.Halt.{Halt}
 use Rattle.semantics.specs.Frameworks.{Framework}
 use Rattle.meaning_atoms.specs.declared.atom.Atom.{Atom}
 use Rattle.meaning_atoms.specs.declared.atom.Atom.TheVariants.{Member, Range}
@@ -13,11 +14,12 @@ use Rattle.meaning_atoms.specs.Worlds.{world_of, IsTrueAlone}
 use Rattle.certificate_claims.specs.Claims.{claim_of}
 use Rattle.certificate_claims.specs.Refutations.{Claim}
 use Rattle.oracle_face.specs.Goals.{IsClaimSide, MakesTrue, Refutes, RefutesGoals, SpeaksOf}
-use Rattle.oracle_face.specs.Growing.{Grows, Making, Obliges}
+use Rattle.oracle_face.specs.declared.face.Found.{Found}
+use Rattle.oracle_face.specs.Growing.{Grows, IsFound, Making, Obliges}
 use Rattle.oracle_face.specs.Logs.{IsNumberOf, IsSameClause, OracleLog, SideClause, side_at}
 use Rattle.oracle_face.proofs.Refuting.{grown_side, number_grown, refutes_claim}
-use Rattle.goal_lists.specs.Asking.{goals_of}
-use Rattle.goal_lists.specs.Sides.{AreAsksOf, IsAskOf}
+use Rattle.goal_lists.specs.Asking.{goals_of, IsAskable, IsAskableBeside}
+use Rattle.goal_lists.specs.Sides.{AreAsksOf, IsAskOf, IsFoundBeside}
 use Rattle.goal_lists.proofs.AskedGoals.{asked_there, asked_true, speaks_same, within_claim}
 
 -- ---- one side clause
@@ -58,6 +60,14 @@ same_number sides left right n h k = record {
 
 pub this_one : {X : Type 0} (P : X → Type 0) (y : X) → P y → (x : X) → Contains (y ∷ []) x → P x
 this_one P y h x c = ⊎_elim (λ e. subst P e h) (λ none. absurd (Contains-nil x none)) (Contains-cons_cases y [] x c)
+
+-- what is in a list that gained one at its end
+pub pushed : {X : Type 0} (xs : List X) (x y : X) → Contains (xs ++ x ∷ []) y ↔ (Contains xs y ⊎ (y ≡ x))
+pushed xs x y = (
+  λ c. ⊎_elim (λ k. inl k) (λ k. inr (this_one (λ z. z ≡ x) x refl y k)) (Contains-append_cases xs (x ∷ []) y c),
+  λ h. ⊎_elim (λ k. Contains-append_left xs (x ∷ []) y k)
+      (λ e. subst (λ z. Contains (xs ++ x ∷ []) z) (sym e) (Contains-pushed xs x x refl)) h,
+)
 
 -- ---- those of sets
 
@@ -153,3 +163,40 @@ asks_refuted f log side sets goals mode ins outs ranged asks step has h refuted 
       has_asks = λ n c.
           let m = h.each n c in ask_claim log.sides claim (side m.0) n (Contains-mapped side sets m.0 m.1) m.2;
     })) refuted
+
+-- ---- a side clause is kept, and then a set is searched for that makes it true
+
+pub beside_askable : (f g : Framework) (old log : OracleLog) (mode : Atom) (ins outs ranged : List ℕ)
+    (side : List AtomLit) (n : ℕ) → g ≡ f → IsAskableBeside f mode ins outs ranged side → Obliges side old log n
+    → IsAskable g log.sides mode ins outs ranged (n ∷ [])
+beside_askable f g old log mode ins outs ranged side n same ok obliges =
+    subst (λ (x : Framework). IsAskable x log.sides mode ins outs ranged (n ∷ [])) (sym same) (record {
+      moded = ok.moded;
+      in_members = ok.in_members;
+      out_members = ok.out_members;
+      ranged_members = ok.ranged_members;
+      apart = ok.apart;
+      asked = this_one (λ (m : ℕ). IsNumberOf log.sides m × SpeaksOf f (side_at log.sides m).literals) n
+          (ask_speaks f log.sides side n ok.speaks (ask_of side side old log n refl obliges));
+    })
+
+pub if_beside : (f g : Framework) (P : Making) (before log after : OracleLog) (mode : Atom) (ins outs ranged : List ℕ)
+    (side : List AtomLit) (n : ℕ) → g ≡ f → Obliges side before log n → Grows P log after → (r : Result Found Halt)
+    → IfOk r (IsFound g after (goals_of mode ins outs ranged (n ∷ [])))
+    → IfOk r (IsFoundBeside f after mode ins outs ranged side)
+if_beside f g P before log after mode ins outs ranged side n same obliges grows (Ok found) h = (
+  n,
+  ask_grown P log after side n grows (ask_of side side before log n refl obliges),
+  subst (λ (x : Framework). IsFound x after (goals_of mode ins outs ranged (n ∷ [])) found) same h,
+)
+if_beside f g P before log after mode ins outs ranged side n same obliges grows (Err halt) h = h
+
+-- what is found for each of such numbers is what is found
+pub beside_means : (f : Framework) (log : OracleLog) (mode : Atom) (ins outs ranged : List ℕ)
+    (side clause : List AtomLit) (P : Found → Type 0) → side ≡ clause
+    → ((n : ℕ) (found : Found) → IsAskOf log.sides clause n
+    → IsFound f log (goals_of mode ins outs ranged (n ∷ [])) found → P found)
+    → (r : Result Found Halt) → IfOk r (IsFoundBeside f log mode ins outs ranged side) → IfOk r P
+beside_means f log mode ins outs ranged side clause P is means (Ok found) h =
+    means h.0 found (subst (λ (x : List AtomLit). IsAskOf log.sides x h.0) is h.1) h.2
+beside_means f log mode ins outs ranged side clause P is means (Err halt) h = h

@@ -45,3 +45,13 @@ pub record IsAskable (f : Framework) (sides : List SideClause) (mode : Atom)
   pub ranged_members : IsWithin ranged (members f)
   pub apart : (a : ℕ) → Contains ins a → Contains outs a → ⊥
   pub asked : (n : ℕ) → Contains asks n → IsNumberOf sides n × SpeaksOf f (side_at sides n).literals
+
+-- such goals may be asked beside a side clause, which speaks of members of the framework alone
+pub record IsAskableBeside (f : Framework) (mode : Atom) (ins outs ranged : List ℕ) (side : List AtomLit)
+    : Type 0 where
+  pub moded : IsMode mode
+  pub in_members : IsWithin ins (members f)
+  pub out_members : IsWithin outs (members f)
+  pub ranged_members : IsWithin ranged (members f)
+  pub apart : (a : ℕ) → Contains ins a → Contains outs a → ⊥
+  pub speaks : SpeaksOf f side

@@ -1,13 +1,16 @@
 //! A search for goals about sets.
 
 ghost use Rattle.std.specs.Prelude.{◌≡◌, IfOk};
-ghost use Rattle.oracle_face.specs.Growing.{HasRun, IsFound, NoSide, closes, halt_of};
+ghost use Rattle.oracle_face.specs.Goals.{IsSide};
+ghost use Rattle.oracle_face.specs.Growing.{HasRun, IsFound, NoSide, OnlySide, closes, halt_of};
 ghost use Rattle.oracle_face.specs.Logs.{IsKept};
-ghost use Rattle.goal_lists.specs.Asking.{IsAskable, goals_of};
+ghost use Rattle.goal_lists.specs.Asking.{IsAskable, IsAskableBeside, goals_of};
+ghost use Rattle.goal_lists.specs.Sides.{IsFoundBeside};
 
 use crate::goals::{Wanted, goals_for};
-use meaning_atoms::Atom;
+use meaning_atoms::{Atom, AtomLit};
 use oracle_face::{Budget, Found, Halt, Oracle};
+use set_lists::NumSet;
 use std::alloc::Global;
 
 /// A set of the mode that is as wanted, or the step that refutes that there is one. It asks the oracle once.
@@ -31,4 +34,37 @@ pub fn search_for<O: Oracle>(
     let _members = oracle.members();
     let goals = goals_for(alloc, mode, wanted)?;
     oracle.find(alloc, &goals, budget)
+}
+
+/// A set of the mode that is as wanted and makes a side clause true, or the step that refutes that there is one. The
+/// side clause is kept with the set that it is made from, and stands in place of those of `wanted`. It asks the oracle
+/// once.
+pub fn search_beside<O: Oracle>(
+    alloc: Global,
+    oracle: &mut O,
+    budget: &mut Budget,
+    mode: Atom,
+    wanted: &Wanted<'_>,
+    side: &[AtomLit],
+    from: &NumSet,
+) -> Result<Found, Halt>
+    requires side { IsSide side.now }
+    requires beside { IsAskableBeside (O.framework oracle.old) mode wanted.now.ins.now wanted.now.outs.now
+        wanted.now.ranged.now side.now }
+    ensures found { IfOk result (IsFoundBeside (O.framework oracle.old) (O.log oracle.new) mode wanted.now.ins.now
+        wanted.now.outs.now wanted.now.ranged.now side.now) }
+    ensures run { HasRun (OnlySide side.now from.now) (closes result) (O.framework oracle.old) (O.log oracle.old)
+        (O.log oracle.new) (O.pending oracle.new) budget.old budget.new (halt_of result) }
+    ensures framework { O.framework oracle.new ≡ O.framework oracle.old }
+    ensures kept { IsKept (O.framework oracle.new) (O.log oracle.new) }
+    ensures follows { O.follows oracle.old oracle.new }
+{
+    let ask = oracle.oblige(alloc, side, from, budget)?;
+    let beside = Wanted {
+        ins: wanted.ins,
+        outs: wanted.outs,
+        ranged: wanted.ranged,
+        asks: &[ask],
+    };
+    search_for(alloc, oracle, budget, mode, &beside)
 }

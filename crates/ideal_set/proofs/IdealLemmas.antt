@@ -1,6 +1,6 @@
 -- Attackers of a set, and the ideal set.
 use Rattle.std.proofs.Common.{◌≡◌, ◌↔◌, inl, inr, ⊎_elim, ℕ, ◌+◌, ◌*◌, ◌<◌, ◌≤◌, not, List, [], ◌∷◌, ◌++◌, length, filter, refl, ap, sym, subst, ◌∙◌, arith}
-use Rattle.std.specs.Prelude.{Contains, Result, Ok, Err, IfOk, Option, None, Some, ◌⊎◌, slice_index_or}
+use Rattle.std.specs.Prelude.{Contains, Result, Ok, IfOk, Option, None, Some, ◌⊎◌, slice_index_or}
 use Rattle.std.specs.List.{list_any}
 use Rattle.std.specs.List.Sorted.{IsStrictlyIncreasing}
 use Rattle.meaning_atoms.specs.AtomText.{numbers_of}
@@ -30,20 +30,23 @@ use Rattle.certificate_laws.proofs.IdealSets.{shown_ideal}
 use Rattle.certificate_laws.proofs.SideClauses.{attacked_plain}
 use Rattle.oracle_face.specs.declared.face.Found.{Found}
 use Rattle.oracle_face.specs.declared.face.Found.TheVariants.{Set, Refuted}
-use Rattle.oracle_face.specs.Goals.{AreGoals, IsClaimSide, IsSide, Refutes, SpeaksOf}
+use Rattle.oracle_face.specs.Goals.{IsClaimSide, IsSide, Refutes, SpeaksOf}
 use Rattle.oracle_face.specs.declared.face.Pending.{Pending}
-use Rattle.oracle_face.specs.Growing.{Grows, HasRun, IsFound, Making, OnlySide}
+use Rattle.oracle_face.specs.Growing.{Grows, HasRun, IsFound, Making, OnlySide, closes}
 use Rattle.oracle_face.specs.Kinds.{IsRanged}
 use Rattle.oracle_face.specs.Logs.{IsKept, IsNumberOf, IsSameClause, OracleLog, SideClause, side_at}
-use Rattle.oracle_face.proofs.GrowingLemmas.{Makes, run_joined}
+use Rattle.oracle_face.proofs.GrowingLemmas.{Makes, grows_same, run_as}
 use Rattle.oracle_face.proofs.Refuting.{claim_excluded, grown_side, number_grown, refutes_claim, refutes_grown}
-use Rattle.goal_lists.specs.Asking.{AreApart, goals_of}
-use Rattle.goal_lists.proofs.AskedGoals.{are_goals, asked_there, asked_true, attacked_side, attacked_speaks, attacks_one, speaks_same, within_claim}
-use Rattle.goal_lists.proofs.Calls.{apart_pushed, few_asks, found_mode, makes_same, then_refused}
+use Rattle.goal_lists.specs.Asking.{AreApart, goals_of, IsAskableBeside}
+use Rattle.goal_lists.specs.Sides.{IsAskOf, IsFoundBeside}
+use Rattle.goal_lists.proofs.AskedGoals.{asked_there, asked_true, attacked_side, attacked_speaks, attacks_one, within_claim}
+use Rattle.goal_lists.proofs.Calls.{apart_pushed, few_asks, found_mode, makes_same, then_refused, then_same}
 use Rattle.goal_lists.proofs.Measures.{fewer_outside}
-use Rattle.ideal_set.specs.Ideals.{AsksAttacked, Attacks, Hits, IsAsked, IsFree, IsHit, IsIdealFound, MadeForIdeal, attacked_claim, free_claim}
+use Rattle.goal_lists.proofs.SideLemmas.{ask_claim, beside_means, this_one}
+use Rattle.ideal_set.specs.declared.free.Free.{Free}
+use Rattle.ideal_set.specs.Ideals.{Attacks, Hits, IsAsked, IsFree, IsHit, IsIdealFound, IsLargestFree, MadeForIdeal, attacked_claim, free_claim}
 use Rattle.ideal_set.specs.declared.searching.IdealSet.{IdealSet}
-use Rattle.ideal_set.proofs.FreeLemmas.{IsAskOf, free_plain}
+use Rattle.ideal_set.proofs.FreeLemmas.{free_plain}
 
 -- ---- what is asked
 
@@ -65,23 +68,16 @@ makes_attacked f e side ok is literals set h = (
 speaks_attacked : (f : Framework) (e : List ℕ) → HoldsOf f e Ad → SpeaksOf f (attacked f e)
 speaks_attacked (af f) e adm = attacked_speaks f e adm.conflict_free.live
 
-attack_goals : (f : Framework) (sides : List SideClause) (e : List ℕ) (n : ℕ) → HoldsOf f e Ad
-    → IsAskOf sides (attacked f e) n → AreGoals f sides (goals_of Ad [] [] [] (n ∷ []))
-attack_goals f sides e n adm ask = are_goals f sides Ad [] [] [] (n ∷ []) (record {
+pub attack_beside : (f : Framework) (e : List ℕ) (side : List AtomLit) → side ≡ attacked f e → HoldsOf f e Ad
+    → IsAskableBeside f Ad [] [] [] side
+attack_beside f e side made adm = record {
   moded = tt;
   in_members = λ a c. absurd (Contains-nil a c);
   out_members = λ a c. absurd (Contains-nil a c);
   ranged_members = λ a c. absurd (Contains-nil a c);
   apart = λ a c. absurd (Contains-nil a c);
-  asked = λ m c. subst (λ (k : ℕ). IsNumberOf sides k × SpeaksOf f (side_at sides k).literals) (only_one n m c)
-      (ask.number, speaks_same f (side_at sides n).literals (attacked f e) ask.same (speaks_attacked f e adm));
-})
-
-pub may_ask_attack : (f g : Framework) (sides : List SideClause) (e : List ℕ) (n : ℕ) (goals : List AtomLit) → g ≡ f
-    → goals ≡ goals_of Ad [] [] [] (n ∷ []) → HoldsOf f e Ad → IsAskOf sides (attacked f e) n → AreGoals g sides goals
-may_ask_attack f g sides e n goals same is adm ask =
-    subst (λ (h : Framework). AreGoals h sides goals) (sym same)
-    (subst (AreGoals f sides) (sym is) (attack_goals f sides e n adm ask))
+  speaks = subst (SpeaksOf f) (sym made) (speaks_attacked f e adm);
+}
 
 -- ---- what is found
 
@@ -110,27 +106,21 @@ found_attack f log e n ask (Refuted step) refuted =
       has_ins = λ a c. absurd (Contains-nil a c);
       has_outs = λ a c. absurd (Contains-nil a c);
       has_ranged = λ a c. absurd (Contains-nil a c);
-      has_asks = λ m c. subst (IsClaimSide log.sides (attacked_claim f e)) (only_one n m c) (record {
-        number = ask.number;
-        side = attacked f e;
-        there = Contains-head (attacked f e) [] (attacked f e) refl;
-        same = ask.same;
-      });
+      has_asks = this_one (IsClaimSide log.sides (attacked_claim f e)) n
+          (ask_claim log.sides (attacked_claim f e) (attacked f e) n
+          (Contains-head (attacked f e) [] (attacked f e) refl) ask);
     })) refuted
 
-pub if_attack : (f g : Framework) (log : OracleLog) (e : List ℕ) (n : ℕ) (goals : List AtomLit) → g ≡ f
-    → goals ≡ goals_of Ad [] [] [] (n ∷ []) → IsAskOf log.sides (attacked f e) n → (r : Result Found Halt)
-    → IfOk r (IsFound g log goals) → IfOk r (Attacks f log e)
-if_attack f g log e n goals same is ask (Ok found) h =
-    found_attack f log e n ask found
-    (subst (λ (k : Framework). IsFound k log (goals_of Ad [] [] [] (n ∷ [])) found) same
-    (subst (λ (k : List AtomLit). IsFound g log k found) is h))
-if_attack f g log e n goals same is ask (Err halt) h = h
+pub if_attack : (f : Framework) (log : OracleLog) (e : List ℕ) (side : List AtomLit) → side ≡ attacked f e
+    → (r : Result Found Halt) → IfOk r (IsFoundBeside f log Ad [] [] [] side) → IfOk r (Attacks f log e)
+if_attack f log e side made r h =
+    beside_means f log Ad [] [] [] side (attacked f e) (Attacks f log e) made
+    (λ n found ask k. found_attack f log e n ask found k) r h
 
-pub if_asked : (f : Framework) (log : OracleLog) (e : List ℕ) (n : ℕ) → IsAskOf log.sides (attacked f e) n
-    → (r : Result Found Halt) → IfOk r (IsAsked f log e)
-if_asked f log e n ask (Ok found) = (n, record { number = ask.number; same = ask.same })
-if_asked f log e n ask (Err halt) = tt
+pub if_asked : (f : Framework) (log : OracleLog) (e : List ℕ) (side : List AtomLit) → side ≡ attacked f e
+    → (r : Result Found Halt) → IfOk r (IsFoundBeside f log Ad [] [] [] side) → IfOk r (IsAsked f log e)
+if_asked f log e side made r h =
+    beside_means f log Ad [] [] [] side (attacked f e) (IsAsked f log e) made (λ n found ask k. (n, ask)) r h
 
 -- ---- what sets attack
 
@@ -161,8 +151,8 @@ hits_members (af f) s a ok k = (ok.form.ends k.0 a k.2).1
 
 -- ---- the search
 
--- the sets found so far, what they attack, and different side clauses, one for each, of which each has something that is
--- attacked
+-- the sets found so far, what they attack, and different side clauses, one for each, of which each has something that
+-- is attacked
 pub record IsSearch (f : Framework) (log : OracleLog) (others : List (List ℕ)) (hit : List ℕ) : Type 0 where
   pub admissible : (t : List ℕ) → Contains others t → HoldsOf f t Ad
   pub hits : IsSetOf (IsHit f others) hit
@@ -228,7 +218,7 @@ attacked_form (af f) e a c =
 -- one more set, which attacks a set without what those before attack
 pub search_more : (f : Framework) (log : OracleLog) (others : List (List ℕ)) (hit e other more : List ℕ)
     → IsSearch f log others hit → IsFree f hit e → HoldsOf f other Ad → ((a : ℕ) × Contains e a × Hits f other a)
-    → ((n : ℕ) × AsksAttacked f log.sides e n) → IsSetOf (λ a. Contains hit a ⊎ Hits f other a) more
+    → ((n : ℕ) × IsAskOf log.sides (attacked f e) n) → IsSetOf (λ a. Contains hit a ⊎ Hits f other a) more
     → IsSearch f log (others ++ other ∷ []) more
 search_more f log others hit e other more h free adm attack ask all = record {
   admissible = λ t c. ⊎_elim (λ k. h.admissible t k) (λ k. subst (λ (s : List ℕ). HoldsOf f s Ad) (only_one other t k)
@@ -292,7 +282,7 @@ few_turns f P old new others hit h grows =
     omega (arith, few, count, more, length-append old.sides grows.more_sides.0)
 
 pub few_turns_at_end : (f : Framework) (P : Making) (old new : OracleLog) (others : List (List ℕ)) (hit e : List ℕ)
-    → IsSearch f old others hit → Grows P old new → ((n : ℕ) × AsksAttacked f new.sides e n)
+    → IsSearch f old others hit → Grows P old new → ((n : ℕ) × IsAskOf new.sides (attacked f e) n)
     → length others + 2 ≤ 2 * length new.sides + 2
 few_turns_at_end f P old new others hit e h grows ask =
     let few = few_asks h.asks old.sides h.apart h.named in
@@ -325,21 +315,18 @@ shown_set (af f) log e others first second kept adm each one two =
     (free_plain (af f) (hit_by_any (af f) others) e) two)
 
 -- an unattacked set without what the others attack, round which nothing larger is without it
-pub is_ideal : (f : Framework) (P : Making) (old log : OracleLog) (found : IdealSet) (hit : List ℕ) → IsKept f old
-    → IsKept f log → Grows P old log → IsSearch f old found.others hit → IsFree f hit found.set
-    → Refutes f old (free_claim f hit found.set) found.largest
+pub is_ideal : (f g : Framework) (log : OracleLog) (found : IdealSet) (hit : List ℕ) → g ≡ f → IsKept g log
+    → IsSearch f log found.others hit → IsFree f hit found.set
+    → Refutes f log (free_claim f hit found.set) found.largest
     → Refutes f log (attacked_claim f found.set) found.unattacked → IsIdealFound f log found
-is_ideal f P old log found hit before kept grows h free two one =
-    let there : Refutes f old (free_claim f (hit_by_any f found.others) found.set) found.largest =
-    subst (λ (xs : List ℕ). Refutes f old (free_claim f xs found.set) found.largest)
-    (hit_list f old found.others hit before.numbered h) two in
-    let largest = refutes_grown f P old log (free_claim f (hit_by_any f found.others) found.set) found.largest
-    before.form
-    grows there in
+is_ideal f g log found hit same was h free two one =
+    let kept = subst (λ (x : Framework). IsKept x log) same was in
+    let largest : Refutes f log (free_claim f (hit_by_any f found.others) found.set) found.largest =
+    subst (λ (xs : List ℕ). Refutes f log (free_claim f xs found.set) found.largest)
+    (hit_list f log found.others hit kept.numbered h) two in
     record {
       ideal = shown_set f log found.set found.others found.unattacked found.largest kept free.admissible h.admissible
-          one
-          largest;
+          one largest;
       admissible = free.admissible;
       others = h.admissible;
       unattacked = one;
@@ -348,15 +335,68 @@ is_ideal f P old log found hit before kept grows h free two one =
 
 -- ---- what a turn leaves
 
-pub turn_run : (f w : Framework) (k m most : ℕ) (a b c : OracleLog) (p q : Option Pending) (u v x : Units)
-    (halt : Option Halt) → w ≡ f → k + m ≤ most → HasRun (MadeForIdeal f) k f a b p u v None
-    → HasRun (MadeForIdeal w) m w b c q v x halt → HasRun (MadeForIdeal f) most f a c q u x halt
-turn_run f w k m most a b c p q u v x halt same few h more =
-    run_joined (MadeForIdeal f) (MadeForIdeal f) (MadeForIdeal f) k m most f a b c p q u v x halt
-    (makes_same (MadeForIdeal f)) (makes_same (MadeForIdeal f)) few h
-    (subst (λ (g : Framework). HasRun (MadeForIdeal g) m g b c q v x halt) same more)
+-- after a set has been grown without what is attacked: one closing step more, at most, and the search is where it was
+pub record HasGrown (f : Framework) (first log : OracleLog) (p : Option Pending) (u v : Units) (others : List (List ℕ))
+    (hit : List ℕ) (free : Free) : Type 0 where
+  pub ran : HasRun (MadeForIdeal f) (length others + 1) f first log p u v None
+  pub searched : IsSearch f log others hit
+  pub largest : IsLargestFree f log hit free
 
-pub turn_refused : (f : Framework) (k most : ℕ) (a b : OracleLog) (p : Option Pending) (u v : Units) → k ≤ most
-    → HasRun (MadeForIdeal f) k f a b p u v None → HasRun (MadeForIdeal f) most f a b p u v (Some Memory)
-turn_refused f k most a b p u v few h = then_refused (MadeForIdeal f) (MadeForIdeal f) k most f a b p u v
-    (makes_same (MadeForIdeal f)) few h
+pub grown_turn : (f g : Framework) (a b c : OracleLog) (p q : Option Pending) (u v w : Units) (others : List (List ℕ))
+    (hit : List ℕ) (free : Free) → g ≡ f → HasRun (MadeForIdeal f) (length others) f a b p u v None
+    → IsSearch f b others hit → HasRun (MadeForIdeal g) 1 g b c q v w None → IsLargestFree g c hit free
+    → HasGrown f a c q u w others hit free
+grown_turn f g a b c p q u v w others hit free same before h run largest = record {
+  ran = then_same MadeForIdeal f g (length others) 1 (length others + 1) a b c p q u v w None same (omega arith) before
+  run;
+  searched = search_grown f (MadeForIdeal g) b c others hit run.grows h;
+  largest = subst (λ (x : Framework). IsLargestFree x c hit free) same largest;
+}
+
+-- after an admissible set has been searched for that attacks the grown one: so many closing steps more
+pub record HasAsked (f : Framework) (first log : OracleLog) (p : Option Pending) (u v : Units) (others : List (List ℕ))
+    (hit : List ℕ) (free : Free) (m : ℕ) (found : Found) : Type 0 where
+  pub ran : HasRun (MadeForIdeal f) (length others + 1 + m) f first log p u v None
+  pub searched : IsSearch f log others hit
+  pub largest : IsLargestFree f log hit free
+  pub attacks : Attacks f log free.set found
+  pub asked : (n : ℕ) × IsAskOf log.sides (attacked f free.set) n
+
+pub asked_turn : (f g : Framework) (a b c : OracleLog) (p q : Option Pending) (u v w : Units) (others : List (List ℕ))
+    (hit : List ℕ) (free : Free) (r found : Found) (m : ℕ) → g ≡ f → IsKept g b → HasGrown f a b p u v others hit free
+    → HasRun (MadeForIdeal g) (closes (Ok r)) g b c q v w None → Attacks g c free.set r → IsAsked g c free.set r
+    → r ≡ found → closes (Ok r) ≡ m → HasAsked f a c q u w others hit free m found
+asked_turn f g a b c p q u v w others hit free r found m same kept h run attacks asked is count = record {
+  ran = then_same MadeForIdeal f g (length others + 1) (closes (Ok r)) (length others + 1 + m) a b c p q u v w None same
+      (omega (arith, count)) h.ran run;
+  searched = search_grown f (MadeForIdeal g) b c others hit run.grows h.searched;
+  largest = record {
+    is_free = h.largest.is_free;
+    refuted = refutes_grown f (MadeForIdeal g) b c (free_claim f hit free.set) free.refutation
+        (subst (λ (x : Framework). IsKept x b) same kept).form run.grows h.largest.refuted;
+  };
+  attacks = subst (Attacks f c free.set) is (subst (λ (x : Framework). Attacks x c free.set r) same attacks);
+  asked = subst (λ (x : Framework). (n : ℕ) × IsAskOf c.sides (attacked x free.set) n) same asked;
+}
+
+-- the turn fits the bound, while it goes on and at its end
+pub fits : (f : Framework) (first log : OracleLog) (p : Option Pending) (u v : Units) (others : List (List ℕ))
+    (hit : List ℕ) (free : Free) (found : Found) → HasAsked f first log p u v others hit free 1 found
+    → HasRun (MadeForIdeal f) (2 * length log.sides + 2) f first log p u v None
+fits f first log p u v others hit free found h =
+    run_as (MadeForIdeal f) (MadeForIdeal f) (length others + 1 + 1) (2 * length log.sides + 2) f first log p u v None
+    (makes_same (MadeForIdeal f))
+    (omega (
+      arith,
+      few_turns_at_end f (MadeForIdeal f) log log others hit free.set h.searched
+          (grows_same (MadeForIdeal f) log) h.asked,
+    )) h.ran
+
+pub fits_refused : (f : Framework) (first log : OracleLog) (p : Option Pending) (u v : Units)
+    (others : List (List ℕ)) (hit : List ℕ) (free : Free) (found : Found)
+    → HasAsked f first log p u v others hit free 0 found
+    → HasRun (MadeForIdeal f) (2 * length log.sides + 2) f first log p u v (Some Memory)
+fits_refused f first log p u v others hit free found h =
+    then_refused (MadeForIdeal f) (MadeForIdeal f) (length others + 1 + 0) (2 * length log.sides + 2) f first log p u v
+    (makes_same (MadeForIdeal f))
+    (omega (arith, few_turns f (MadeForIdeal f) log log others hit h.searched (grows_same (MadeForIdeal f) log))) h.ran

@@ -18,7 +18,8 @@ use Rattle.oracle_face.specs.declared.face.Found.{Found}
 use Rattle.oracle_face.specs.declared.face.Found.TheVariants.{Set, Refuted}
 use Rattle.oracle_face.specs.Goals.{Refutes}
 use Rattle.oracle_face.specs.Growing.{Making}
-use Rattle.oracle_face.specs.Logs.{IsNumberOf, IsSameClause, OracleLog, SideClause, side_at}
+use Rattle.oracle_face.specs.Logs.{IsSameClause, OracleLog}
+use Rattle.goal_lists.specs.Sides.{IsAskOf}
 use Rattle.ideal_set.specs.declared.free.Free.{Free}
 use Rattle.ideal_set.specs.declared.searching.IdealSet.{IdealSet}
 
@@ -68,14 +69,9 @@ abbrev pub Attacks : Framework → OracleLog → List ℕ → Found → Type 0
 Attacks f log e (Set found) = HoldsOf f found Ad × ((a : ℕ) × Contains e a × Hits f found a)
 Attacks f log e (Refuted step) = Refutes f log (attacked_claim f e) step
 
--- the number is that of the side clause that the set is attacked
-pub record AsksAttacked (f : Framework) (sides : List SideClause) (e : List ℕ) (n : ℕ) : Type 0 where
-  pub number : IsNumberOf sides n
-  pub same : IsSameClause (side_at sides n).literals (attacked f e)
-
 -- the log has the side clause that the set is attacked
 abbrev pub IsAsked : Framework → OracleLog → List ℕ → Found → Type 0
-IsAsked f log e found = (n : ℕ) × AsksAttacked f log.sides e n
+IsAsked f log e found = (n : ℕ) × IsAskOf log.sides (attacked f e) n
 
 -- ---- the ideal set
 

@@ -9,7 +9,7 @@ ghost use Rattle.oracle_face.specs.Growing.{HasRun, closes, halt_of};
 ghost use Rattle.oracle_face.specs.Logs.{IsKept};
 ghost use Rattle.ideal_set.specs.Ideals.{IsFree, IsLargerFree, IsLargestFree, MadeForIdeal};
 
-use goal_lists::{Wanted, goals_for, outside};
+use goal_lists::{Wanted, outside, search_beside};
 use meaning_atoms::Atom;
 use oracle_face::{Budget, Found, Halt, Oracle, StepId};
 use set_lists::NumSet;
@@ -40,15 +40,13 @@ fn larger_free<O: Oracle>(
     ensures follows { O.follows oracle.old oracle.new }
 {
     let side = outside(alloc, oracle.members(), set)?;
-    let ask = oracle.oblige(alloc, &side, set, budget)?;
     let wanted = Wanted {
         ins: set.as_slice(),
         outs: hit.as_slice(),
         ranged: &[],
-        asks: &[ask],
+        asks: &[],
     };
-    let goals = goals_for(alloc, Atom::Ad, &wanted)?;
-    oracle.find(alloc, &goals, budget)
+    search_beside(alloc, oracle, budget, Atom::Ad, &wanted, &side, set)
 }
 
 /// An admissible set that holds none of the numbers and lies in no larger one that holds none. The search begins with

@@ -9,7 +9,7 @@ ghost use Rattle.oracle_face.specs.Logs.{IsKept};
 ghost use Rattle.ideal_set.specs.Ideals.{Attacks, Hits, IsIdealFound, IsAsked, MadeForIdeal};
 
 use crate::free::largest_free;
-use goal_lists::{Wanted, attacked, goals_for};
+use goal_lists::{Wanted, attacked, search_beside};
 use meaning_atoms::Atom;
 use oracle_face::{Budget, Found, Halt, Oracle, StepId};
 use plain_lists::{Items, Memory};
@@ -44,15 +44,13 @@ fn attacker<O: Oracle>(
 {
     let _members = oracle.members();
     let side = attacked(alloc, set)?;
-    let ask = oracle.oblige(alloc, &side, set, budget)?;
     let wanted = Wanted {
         ins: &[],
         outs: &[],
         ranged: &[],
-        asks: &[ask],
+        asks: &[],
     };
-    let goals = goals_for(alloc, Atom::Ad, &wanted)?;
-    oracle.find(alloc, &goals, budget)
+    search_beside(alloc, oracle, budget, Atom::Ad, &wanted, &side, set)
 }
 
 /// The numbers, and what an admissible set attacks: what is in its range and no member.

@@ -1,12 +1,12 @@
 -- Wider ranges, in goals and in lists.
-use Rattle.std.proofs.Common.{◌≡◌, ⊎_elim, ℕ, ◌<◌, true, not, List, [], ◌∷◌, length, filter, refl, ap, sym, subst, ◌∙◌}
-use Rattle.std.specs.Prelude.{Contains, Result, Ok, Err, IfOk, IsErr}
-use Rattle.std.specs.Result.{IsErrAnd}
+use Rattle.std.proofs.Common.{◌≡◌, ⊎_elim, ℕ, ◌+◌, ◌<◌, ◌≤◌, true, not, List, [], ◌∷◌, length, filter, refl, ap, sym, subst, ◌∙◌}
+use Rattle.std.specs.Prelude.{Contains, Option, None, Result, IfOk}
 use Rattle.std.proofs.lemmas.Bool.{false≢true, not_from_false, false_from_ne_true}
 use Rattle.plain_lists.specs.Members.{IsSetOf, IsWithin}
 use Rattle.plain_lists.proofs.Filters.{Contains-filter}
 use Rattle.plain_lists.proofs.Membership.{Contains-nil, Contains-head, Contains-tail, Contains-cons_cases}
 use Rattle.plain_lits.specs.declared.halt.Halt.{Halt}
+use Rattle.plain_lits.specs.Units.{Units}
 use Rattle.plain_lits.proofs.HintCheckLemmas.{Contains-mapped}
 use Rattle.semantics.specs.Frameworks.{Framework, af, IsNumbered}
 use Rattle.meaning_atoms.specs.declared.atom.Atom.{Atom}
@@ -19,16 +19,19 @@ use Rattle.certificate_claims.proofs.SetTests.{ranged_from, ranged_gives}
 use Rattle.certificate_claims.proofs.RangeLists.{range_is}
 use Rattle.oracle_face.specs.declared.face.Found.{Found}
 use Rattle.oracle_face.specs.declared.face.Found.TheVariants.{Set, Refuted}
-use Rattle.oracle_face.specs.Goals.{AreGoals, IsClaimSide, IsMode, IsSide, SpeaksOf}
-use Rattle.oracle_face.specs.Growing.{Grows, IsFound, Making, Obliges, OnlySide}
+use Rattle.oracle_face.specs.declared.face.Pending.{Pending}
+use Rattle.oracle_face.specs.Goals.{IsClaimSide, IsMode, IsSide, SpeaksOf}
+use Rattle.oracle_face.specs.Growing.{HasRun, IsFound, OnlySide}
 use Rattle.oracle_face.specs.Kinds.{IsRanged}
-use Rattle.oracle_face.specs.Logs.{IsNumberOf, IsSameClause, OracleLog, SideClause, side_at}
+use Rattle.oracle_face.specs.Logs.{IsSameClause, OracleLog}
 use Rattle.oracle_face.proofs.GrowingLemmas.{Makes}
-use Rattle.oracle_face.proofs.Refuting.{grown_side, number_grown, refutes_claim}
-use Rattle.goal_lists.specs.Asking.{goals_of}
-use Rattle.goal_lists.proofs.AskedGoals.{are_goals, asked_there, asked_true, ranged_form, speaks_same, wider_form, wider_side, wider_speaks, within_claim}
-use Rattle.goal_lists.proofs.Calls.{found_mode, found_ranged}
+use Rattle.oracle_face.proofs.Refuting.{refutes_claim}
+use Rattle.goal_lists.specs.Asking.{goals_of, IsAskableBeside}
+use Rattle.goal_lists.specs.Sides.{IsAskOf, IsFoundBeside}
+use Rattle.goal_lists.proofs.AskedGoals.{asked_there, asked_true, ranged_form, wider_form, wider_side, wider_speaks, within_claim}
+use Rattle.goal_lists.proofs.Calls.{found_mode, found_ranged, makes_same, then_made}
 use Rattle.goal_lists.proofs.Measures.{not_true, strictly_fewer}
+use Rattle.goal_lists.proofs.SideLemmas.{ask_claim, beside_means, this_one}
 use Rattle.semi_stable.specs.Widest.{IsRangeIn, IsWider, MadeWider, wider_claim}
 
 -- ---- sets and ranges
@@ -62,26 +65,6 @@ range_within f s r ok live is a c =
 
 -- ---- what is asked
 
--- the number is that of the side clause that something is in the range that isn't in the set's
-pub record AsksWider (f : Framework) (sides : List SideClause) (e : List ℕ) (n : ℕ) : Type 0 where
-  pub number : IsNumberOf sides n
-  pub same : IsSameClause (side_at sides n).literals (wider f e)
-
-pub asks_for : (f : Framework) (e : List ℕ) (side : List AtomLit) (old log : OracleLog) (n : ℕ) → side ≡ wider f e
-    → Obliges side old log n → AsksWider f log.sides e n
-asks_for f e side old log n is obliges = record {
-  number = obliges.named;
-  same = subst (λ (clause : List AtomLit). IsSameClause (side_at log.sides n).literals clause) is obliges.same;
-}
-
-pub asks_grown : (f : Framework) (P : Making) (old new : OracleLog) (e : List ℕ) (n : ℕ) → Grows P old new
-    → AsksWider f old.sides e n → AsksWider f new.sides e n
-asks_grown f P old new e n grows h = record {
-  number = number_grown old.sides new.sides grows.more_sides.0 n grows.more_sides.1 h.number;
-  same = subst (λ (side : SideClause). IsSameClause side.literals (wider f e))
-      (sym (grown_side P old new grows n h.number)) h.same;
-}
-
 pub wider_is_side : (f : Framework) (e : List ℕ) (side : List AtomLit) → IsNumbered f → side ≡ wider f e → IsSide side
 wider_is_side f e side ok is = subst IsSide (sym is) (wider_side f e ok)
 
@@ -92,9 +75,6 @@ makes_wider f mode e side h same literals set made = (
   subst (λ (clause : List AtomLit). IsSameClause literals clause) (same ∙ ap (wider f) (sym made.1)) made.0,
 )
 
-only_this : (n m : ℕ) → Contains (n ∷ []) m → n ≡ m
-only_this n m c = ⊎_elim (λ e. e) (λ none. absurd (Contains-nil m none)) (Contains-cons_cases n [] m c)
-
 -- what a look is about: a set of a mode with its range, in a framework in its form
 pub record IsLook (f : Framework) (mode : Atom) (e r : List ℕ) : Type 0 where
   pub numbered : IsNumbered f
@@ -102,24 +82,17 @@ pub record IsLook (f : Framework) (mode : Atom) (e r : List ℕ) : Type 0 where
   pub holds : HoldsOf f e mode
   pub range : IsSetOf (IsRanged f e) r
 
-look_goals : (f : Framework) (sides : List SideClause) (mode : Atom) (e r : List ℕ) (n : ℕ) → IsLook f mode e r
-    → AsksWider f sides e n → AreGoals f sides (goals_of mode [] [] r (n ∷ []))
-look_goals f sides mode e r n look asks = are_goals f sides mode [] [] r (n ∷ []) (record {
-  moded = look.mode_is;
-  in_members = λ a c. absurd (Contains-nil a c);
-  out_members = λ a c. absurd (Contains-nil a c);
-  ranged_members = range_within f e r look.numbered (mode_within f e mode look.mode_is look.holds) look.range;
-  apart = λ a c. absurd (Contains-nil a c);
-  asked = λ m c. subst (λ (k : ℕ). IsNumberOf sides k × SpeaksOf f (side_at sides k).literals) (only_this n m c)
-      (asks.number, speaks_same f (side_at sides n).literals (wider f e) asks.same (wider_speaks f e));
-})
-
-pub may_ask_wider : (f g : Framework) (sides : List SideClause) (mode : Atom) (e r : List ℕ) (n : ℕ)
-    (goals : List AtomLit) → g ≡ f → goals ≡ goals_of mode [] [] r (n ∷ []) → IsLook f mode e r
-    → AsksWider f sides e n → AreGoals g sides goals
-may_ask_wider f g sides mode e r n goals same is look asks =
-    subst (λ (h : Framework). AreGoals h sides goals) (sym same)
-    (subst (AreGoals f sides) (sym is) (look_goals f sides mode e r n look asks))
+pub look_beside : (f : Framework) (mode : Atom) (e r ranged : List ℕ) (side : List AtomLit) → ranged ≡ r
+    → side ≡ wider f e → IsLook f mode e r → IsAskableBeside f mode [] [] ranged side
+look_beside f mode e r ranged side is made look =
+    subst (λ (xs : List ℕ). IsAskableBeside f mode [] [] xs side) (sym is) (record {
+      moded = look.mode_is;
+      in_members = λ a c. absurd (Contains-nil a c);
+      out_members = λ a c. absurd (Contains-nil a c);
+      ranged_members = range_within f e r look.numbered (mode_within f e mode look.mode_is look.holds) look.range;
+      apart = λ a c d. absurd (Contains-nil a c);
+      speaks = subst (SpeaksOf f) (sym made) (wider_speaks f e);
+    })
 
 -- ---- what is found
 
@@ -171,7 +144,7 @@ claim_plain mode r is l c ask = ⊎_elim
     (Contains-cons_cases (affirmed mode) (are_ranged r) l c)
 
 found_wider : (f : Framework) (log : OracleLog) (mode : Atom) (e r : List ℕ) (n : ℕ) → IsLook f mode e r
-    → AsksWider f log.sides e n → (found : Found) → IsFound f log (goals_of mode [] [] r (n ∷ [])) found
+    → IsAskOf log.sides (wider f e) n → (found : Found) → IsFound f log (goals_of mode [] [] r (n ∷ [])) found
     → IsWider f log mode e found
 found_wider f log mode e r n look asks (Set set) makes = (
   found_mode f log mode [] [] r (n ∷ []) set look.mode_is makes,
@@ -192,28 +165,23 @@ found_wider f log mode e r n look asks (Refuted step) refuted =
       has_ranged = λ a c. Contains-tail (affirmed mode) ranged (affirmed (Range a))
           (Contains-mapped (λ x. affirmed (Range x)) (range_of f e) a
           (subst (λ (xs : List ℕ). Contains xs a) same c));
-      has_asks = λ m c. subst (IsClaimSide log.sides (wider_claim f mode e)) (only_this n m c) (record {
-        number = asks.number;
-        side = wider f e;
-        there = Contains-head (wider f e) [] (wider f e) refl;
-        same = asks.same;
-      });
+      has_asks = this_one (IsClaimSide log.sides (wider_claim f mode e)) n
+          (ask_claim log.sides (wider_claim f mode e) (wider f e) n
+          (Contains-head (wider f e) [] (wider f e) refl) asks);
     })) refuted
 
-pub if_wider : (f g : Framework) (log : OracleLog) (mode : Atom) (e r : List ℕ) (n : ℕ) (goals : List AtomLit) → g ≡ f
-    → goals ≡ goals_of mode [] [] r (n ∷ []) → IsLook f mode e r → AsksWider f log.sides e n
-    → (found : Result Found Halt) → IfOk found (IsFound g log goals) → IfOk found (IsWider f log mode e)
-if_wider f g log mode e r n goals same is look asks (Ok found) h =
-    found_wider f log mode e r n look asks found
-    (subst (λ (k : Framework). IsFound k log (goals_of mode [] [] r (n ∷ [])) found) same
-    (subst (λ (k : List AtomLit). IsFound g log k found) is h))
-if_wider f g log mode e r n goals same is look asks (Err halt) h = h
+pub if_wider : (f : Framework) (log : OracleLog) (mode : Atom) (e r ranged : List ℕ) (side : List AtomLit)
+    → ranged ≡ r → side ≡ wider f e → IsLook f mode e r → (found : Result Found Halt)
+    → IfOk found (IsFoundBeside f log mode [] [] ranged side) → IfOk found (IsWider f log mode e)
+if_wider f log mode e r ranged side is made look found h =
+    beside_means f log mode [] [] r side (wider f e) (IsWider f log mode e) made
+    (λ n one asks k. found_wider f log mode e r n look asks one k) found
+    (subst (λ (xs : List ℕ). IfOk found (IsFoundBeside f log mode [] [] xs side)) is h)
 
--- an error that is handed on
-pub handed_on : {X : Type 0} (P : Result X Halt → Type 0) (r : Result X Halt) (halt : Halt)
-    → IsErr r × IsErrAnd r (λ x. x ≡ halt) → P (Err halt) → P r
-handed_on P (Ok x) halt is holds = absurd (false≢true is.0)
-handed_on P (Err x) halt is holds = subst (λ y. P (Err y)) (sym is.1) holds
+pub wider_set : (f g : Framework) (log : OracleLog) (mode : Atom) (e : List ℕ) (r : Found) (set : List ℕ) → g ≡ f
+    → r ≡ Set set → IsWider g log mode e r → IsWider f log mode e (Set set)
+wider_set f g log mode e r set same is h =
+    subst (λ (x : Framework). IsWider x log mode e (Set set)) same (subst (IsWider g log mode e) is h)
 
 -- ---- how many numbers are not in the range
 

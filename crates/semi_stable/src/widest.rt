@@ -9,7 +9,7 @@ ghost use Rattle.oracle_face.specs.Kinds.{IsRanged};
 ghost use Rattle.oracle_face.specs.Logs.{IsKept};
 ghost use Rattle.semi_stable.specs.Widest.{IsWider, IsWidestFrom, MadeWider};
 
-use goal_lists::{Wanted, goals_for, wider as wider_than};
+use goal_lists::{Wanted, search_beside, wider as wider_than};
 use meaning_atoms::Atom;
 use oracle_face::{Budget, Found, Halt, Oracle, StepId};
 use set_lists::NumSet;
@@ -44,20 +44,18 @@ fn wider<O: Oracle>(
     ensures follows { O.follows oracle.old oracle.new }
 {
     let side = wider_than(alloc, oracle.members(), range)?;
-    let ask = oracle.oblige(alloc, &side, set, budget)?;
     let wanted = Wanted {
         ins: &[],
         outs: &[],
         ranged: range.as_slice(),
-        asks: &[ask],
+        asks: &[],
     };
-    let goals = goals_for(alloc, mode, &wanted)?;
-    oracle.find(alloc, &goals, budget)
+    search_beside(alloc, oracle, budget, mode, &wanted, &side, set)
 }
 
 /// Grows a set of a mode to one whose range holds that of the set and is part of no other of the mode: by the mode `Ad`
-/// a semi-stable set, by `Cf` a stage set. The search goes on from what each search finds: where the range grows k times,
-/// it asks k + 1 times. The halt is the oracle's, or want of memory; the oracle keeps what it has learned.
+/// a semi-stable set, by `Cf` a stage set. The search goes on from what each search finds: where the range grows k
+/// times, it asks k + 1 times. The halt is the oracle's, or want of memory; the oracle keeps what it has learned.
 pub fn widest_from<O: Oracle>(
     alloc: Global,
     oracle: &mut O,

@@ -1,9 +1,7 @@
 use Rattle.std.proofs.Common.{◌∙◌, ◌+◌, ◌*◌, length, arith}
-use Rattle.oracle_face.specs.Growing.{HasRun}
-use Rattle.goal_lists.proofs.Calls.{handed_on}
+use Rattle.goal_lists.proofs.Calls.{closes_refuted, closes_set, run_handed, then_same}
 use Rattle.cegar_preferred.specs.Largest.{MadeOutside}
 use Rattle.cegar_preferred.proofs.CoverLemmas.{accepting_found, cover_extended, cover_grown, cover_kept, extended_of, few_closings, fewer_open, one_more}
-use Rattle.cegar_preferred.proofs.LargestLemmas.{closes_refuted, closes_set, then_call}
 use Rattle.cegar_preferred.proofs.accepting.accept_all.Goals as goal
 
 pub returns-in_err-step-clause-run : goal.returns-in_err-step-clause-run
@@ -12,15 +10,13 @@ returns-in_err-step-clause-run g c =
     let h = g.O.Oracle.framework c.loop-cover.oracle in
     let inv = c.loop-cover.invariant in
     let most = 2 * length (g.O.Oracle.log c.uncovered.new.oracle).sides + 2 in
-    handed_on (λ x. HasRun (MadeOutside f) most f (g.O.Oracle.log c.args.oracle.now)
-    (g.O.Oracle.log c.uncovered.new.oracle) (g.O.Oracle.pending c.uncovered.new.oracle) c.args.budget.now
-    c.uncovered.new.budget x)
-    c.from_residual.result c.in_err-step.field-0.0 c.from_residual.ensures
-    (then_call f h (length c.loop-cover.cover.asks) 0 most _ _ _ _ _ _ _ _ _ inv.framework
+    run_handed (MadeOutside f) most f _ _ _ _ _ _ c.in_err-step.field-0.0 c.from_residual.ensures
+    (then_same MadeOutside f h (length c.loop-cover.cover.asks) 0 most _ _ _ _ _ _ _ _ _ inv.framework
     (omega (
       arith,
       few_closings f (MadeOutside h) (g.O.Oracle.log c.loop-cover.oracle)
-          (g.O.Oracle.log c.uncovered.new.oracle) c.args.goal c.loop-cover.cover inv.cover c.in_err-step.ensures.run.grows,
+          (g.O.Oracle.log c.uncovered.new.oracle) c.args.goal c.loop-cover.cover inv.cover
+          c.in_err-step.ensures.run.grows,
     ))
     inv.run c.in_err-step.ensures.run)
 
@@ -39,7 +35,8 @@ returns-in-Refuted-clause-run g c =
     let f = g.O.Oracle.framework c.args.oracle.now in
     let h = g.O.Oracle.framework c.loop-cover.oracle in
     let inv = c.loop-cover.invariant in
-    then_call f h (length c.loop-cover.cover.asks) _ (2 * length (g.O.Oracle.log c.uncovered.new.oracle).sides + 2)
+    then_same MadeOutside f h (length c.loop-cover.cover.asks) _ (2 * length (g.O.Oracle.log
+    c.uncovered.new.oracle).sides + 2)
     _ _ _ _ _ _ _ _ _ inv.framework
     (omega (
       arith,
@@ -69,15 +66,12 @@ returns-in_err-counter-in-Set-clause-run g c =
     let most = 2 * length (g.O.Oracle.log c.extend.new.oracle).sides + 2 in
     let cover = cover_grown f (MadeOutside h) (g.O.Oracle.log c.loop-cover.oracle)
     (g.O.Oracle.log c.uncovered.new.oracle) c.args.goal c.loop-cover.cover c.in_ok-step.ensures.run.grows inv.cover in
-    handed_on (λ x. HasRun (MadeOutside f) most f (g.O.Oracle.log c.args.oracle.now)
-    (g.O.Oracle.log c.extend.new.oracle) (g.O.Oracle.pending c.extend.new.oracle) c.args.budget.now
-    c.extend.new.budget x)
-    c.from_residual-in_err-counter-in-Set.result c.in_err-counter-in-Set.field-0.0
+    run_handed (MadeOutside f) most f _ _ _ _ _ _ c.in_err-counter-in-Set.field-0.0
     c.from_residual-in_err-counter-in-Set.ensures
-    (then_call f k (length asks) 1 most _ _ _ _ _ _ _ _ _ same
+    (then_same MadeOutside f k (length asks) 1 most _ _ _ _ _ _ _ _ _ same
     (few_closings f (MadeOutside k) (g.O.Oracle.log c.uncovered.new.oracle) (g.O.Oracle.log c.extend.new.oracle)
     c.args.goal c.loop-cover.cover cover c.in_err-counter-in-Set.ensures.run.grows)
-    (then_call f h (length asks) _ (length asks) _ _ _ _ _ _ _ _ _ inv.framework
+    (then_same MadeOutside f h (length asks) _ (length asks) _ _ _ _ _ _ _ _ _ inv.framework
     (omega (arith, closes_set c.in_ok-step.field-0 c.in-Set.set c.in-Set.is)) inv.run c.in_ok-step.ensures.run)
     c.in_err-counter-in-Set.ensures.run)
 
@@ -91,10 +85,11 @@ returns-in-Some-clause-run g c =
     let same = c.in_ok-step.ensures.framework ∙ inv.framework in
     let cover = cover_grown f (MadeOutside h) (g.O.Oracle.log c.loop-cover.oracle)
     (g.O.Oracle.log c.uncovered.new.oracle) c.args.goal c.loop-cover.cover c.in_ok-step.ensures.run.grows inv.cover in
-    then_call f k (length asks) 1 (2 * length (g.O.Oracle.log c.extend.new.oracle).sides + 2) _ _ _ _ _ _ _ _ _ same
+    then_same MadeOutside f k (length asks) 1 (2 * length (g.O.Oracle.log c.extend.new.oracle).sides + 2) _ _ _ _ _ _ _
+    _ _ same
     (few_closings f (MadeOutside k) (g.O.Oracle.log c.uncovered.new.oracle) (g.O.Oracle.log c.extend.new.oracle)
     c.args.goal c.loop-cover.cover cover c.in_ok-counter-in-Set.ensures.run.grows)
-    (then_call f h (length asks) _ (length asks) _ _ _ _ _ _ _ _ _ inv.framework
+    (then_same MadeOutside f h (length asks) _ (length asks) _ _ _ _ _ _ _ _ _ inv.framework
     (omega (arith, closes_set c.in_ok-step.field-0 c.in-Set.set c.in-Set.is)) inv.run c.in_ok-step.ensures.run)
     c.in_ok-counter-in-Set.ensures.run
 
@@ -125,9 +120,9 @@ loop-cover-preserved g c =
     c.loop-cover.cover c.in_ok-counter-in-Set.ensures.run.grows cover in
     record {
       cover = cover_extended f log c.args.goal c.loop-cover.cover c.extend.new.cover more.0 more.1 later more.2;
-      run = then_call f k (length asks) 1 (length c.extend.new.cover.asks) _ _ _ _ _ _ _ _ _ same
+      run = then_same MadeOutside f k (length asks) 1 (length c.extend.new.cover.asks) _ _ _ _ _ _ _ _ _ same
           (one_more asks c.extend.new.cover.asks more.1 more.2.asks)
-          (then_call f h (length asks) _ (length asks) _ _ _ _ _ _ _ _ _ inv.framework
+          (then_same MadeOutside f h (length asks) _ (length asks) _ _ _ _ _ _ _ _ _ inv.framework
           (omega (arith, closes_set c.in_ok-step.field-0 c.in-Set.set c.in-Set.is)) inv.run c.in_ok-step.ensures.run)
           c.in_ok-counter-in-Set.ensures.run;
       framework = c.in_ok-counter-in-Set.ensures.framework ∙ same;

@@ -1,10 +1,11 @@
-use Rattle.std.proofs.Common.{◌∙◌, ◌≤◌, arith}
+use Rattle.std.proofs.Common.{◌∙◌, ◌≤◌, ap, arith}
 use Rattle.plain_lits.specs.declared.halt.Halt.TheVariants.{Memory}
-use Rattle.oracle_face.specs.Growing.{HasRun}
-use Rattle.goal_lists.proofs.Calls.{handed_on, makes_same, then_refused}
+use Rattle.certificate_claims.specs.SetLiterals.{outside}
+use Rattle.goal_lists.proofs.Calls.{makes_same, run_handed, then_refused}
+use Rattle.goal_lists.proofs.SideLemmas.{ask_of}
 use Rattle.cegar_preferred.specs.Largest.{MadeOutside}
 use Rattle.cegar_preferred.proofs.CoverLemmas.{extended}
-use Rattle.cegar_preferred.proofs.LargestLemmas.{asks_for, asks_same, outside_is_side, then_oblige}
+use Rattle.cegar_preferred.proofs.LargestLemmas.{outside_is_side, then_oblige}
 use Rattle.cegar_preferred.proofs.accepting.extend.Goals as goal
 
 pub oblige-requires : goal.oblige-requires
@@ -17,9 +18,7 @@ pub returns-in_err-ask-clause-run : goal.returns-in_err-ask-clause-run
 returns-in_err-ask-clause-run g c =
     let f = g.O.Oracle.framework c.args.oracle.now in
     let h = g.O.Oracle.framework c.maximal_from.new.oracle in
-    handed_on (λ x. HasRun (MadeOutside f) 1 f (g.O.Oracle.log c.args.oracle.now) (g.O.Oracle.log c.oblige.new.self)
-    (g.O.Oracle.pending c.oblige.new.self) c.args.budget.now c.oblige.new.budget x)
-    c.from_residual-in_err-ask.result c.in_err-ask.field-0.0 c.from_residual-in_err-ask.ensures
+    run_handed (MadeOutside f) 1 f _ _ _ _ _ _ c.in_err-ask.field-0.0 c.from_residual-in_err-ask.ensures
     (then_oblige f h 1 _ _ _ _ _ _ _ _ _ c.in_ok-maximal.maximal.set c.deref.result.now
     c.in_ok-maximal.ensures.framework c.in_ok-maximal.ensures.maximal.admissible
     (c.deref.ensures.value ∙ c.in_ok-side.ensures h c.members.ensures.value)
@@ -30,9 +29,7 @@ returns-in_err-push-clause-run g c =
     let f = g.O.Oracle.framework c.args.oracle.now in
     let h = g.O.Oracle.framework c.maximal_from.new.oracle in
     let few : 1 ≤ 1 = omega arith in
-    handed_on (λ x. HasRun (MadeOutside f) 1 f (g.O.Oracle.log c.args.oracle.now) (g.O.Oracle.log c.oblige.new.self)
-    (g.O.Oracle.pending c.oblige.new.self) c.args.budget.now c.oblige.new.budget x)
-    c.from_residual-in_err-push.result Memory c.from_residual-in_err-push.ensures
+    run_handed (MadeOutside f) 1 f _ _ _ _ _ _ Memory c.from_residual-in_err-push.ensures
     (then_refused (MadeOutside f) (MadeOutside f) 1 1 f _ _ _ _ _ (makes_same (MadeOutside f)) few
     (then_oblige f h 1 _ _ _ _ _ _ _ _ _ c.in_ok-maximal.maximal.set c.deref.result.now
     c.in_ok-maximal.ensures.framework c.in_ok-maximal.ensures.maximal.admissible
@@ -44,9 +41,7 @@ returns-in_err-push-2-clause-run g c =
     let f = g.O.Oracle.framework c.args.oracle.now in
     let h = g.O.Oracle.framework c.maximal_from.new.oracle in
     let few : 1 ≤ 1 = omega arith in
-    handed_on (λ x. HasRun (MadeOutside f) 1 f (g.O.Oracle.log c.args.oracle.now) (g.O.Oracle.log c.oblige.new.self)
-    (g.O.Oracle.pending c.oblige.new.self) c.args.budget.now c.oblige.new.budget x)
-    c.from_residual-in_err-push-2.result Memory c.from_residual-in_err-push-2.ensures
+    run_handed (MadeOutside f) 1 f _ _ _ _ _ _ Memory c.from_residual-in_err-push-2.ensures
     (then_refused (MadeOutside f) (MadeOutside f) 1 1 f _ _ _ _ _ (makes_same (MadeOutside f)) few
     (then_oblige f h 1 _ _ _ _ _ _ _ _ _ c.in_ok-maximal.maximal.set c.deref.result.now
     c.in_ok-maximal.ensures.framework c.in_ok-maximal.ensures.maximal.admissible
@@ -64,9 +59,9 @@ returns-clause-extends g c =
           (record { sets = c.push-2.new.self; asks = c.push.new.self }) c.args.set.now e c.in_ok-ask.ask
           c.in_ok-accepts.accepts c.in_ok-maximal.ensures.framework c.requires.set c.in_ok-maximal.ensures.maximal.holds
           c.in_ok-maximal.ensures.maximal.admissible c.in_ok-accepts.ensures c.if-not-accepts.false
-          (asks_same f h (g.O.Oracle.log c.oblige.new.self).sides c.in_ok-ask.ask e c.in_ok-maximal.ensures.framework
-          (asks_for h e c.deref.result.now _ (g.O.Oracle.log c.oblige.new.self) c.in_ok-ask.ask
-          (c.deref.ensures.value ∙ c.in_ok-side.ensures h c.members.ensures.value) c.in_ok-ask.ensures.obliges))
+          (ask_of c.deref.result.now (outside f e) _ (g.O.Oracle.log c.oblige.new.self) c.in_ok-ask.ask
+          (c.deref.ensures.value ∙ (c.in_ok-side.ensures h c.members.ensures.value
+          ∙ ap (λ x. outside x e) c.in_ok-maximal.ensures.framework)) c.in_ok-ask.ensures.obliges)
           c.in_ok-push-2.ensures.ok c.in_ok-push.ensures.ok,
     )
 

@@ -1,10 +1,9 @@
 use Rattle.std.proofs.Common.{◌∙◌, ◌+◌, ◌≤◌, arith}
 use Rattle.certificate_claims.specs.SetLiterals.{members}
-use Rattle.oracle_face.specs.Growing.{HasRun}
-use Rattle.goal_lists.proofs.Calls.{admissible_members, handed_on}
+use Rattle.goal_lists.proofs.Calls.{admissible_members, closes_refuted, closes_set, run_handed, then_same}
 use Rattle.goal_lists.proofs.Measures.{fewer_outside}
 use Rattle.cegar_preferred.specs.Largest.{MadeOutside}
-use Rattle.cegar_preferred.proofs.LargestLemmas.{closes_refuted, closes_set, larger_set, maximal_found, then_call}
+use Rattle.cegar_preferred.proofs.LargestLemmas.{larger_set, maximal_found}
 use Rattle.cegar_preferred.proofs.maximal.maximal_from.Goals as goal
 
 pub returns-in_err-found-clause-run : goal.returns-in_err-found-clause-run
@@ -12,10 +11,9 @@ returns-in_err-found-clause-run g c =
     let f = g.O.Oracle.framework c.args.oracle.now in
     let inv = c.loop-grown.invariant in
     let few : 0 + 0 ≤ 1 = omega arith in
-    handed_on (λ x. HasRun (MadeOutside f) 1 f (g.O.Oracle.log c.args.oracle.now) (g.O.Oracle.log c.larger.new.oracle)
-    (g.O.Oracle.pending c.larger.new.oracle) c.args.budget.now c.larger.new.budget x)
-    c.from_residual-in_err-found.result c.in_err-found.field-0.0 c.from_residual-in_err-found.ensures
-    (then_call f (g.O.Oracle.framework c.loop-grown.oracle) 0 0 1 _ _ _ _ _ _ _ _ _ inv.framework few inv.run
+    run_handed (MadeOutside f) 1 f _ _ _ _ _ _ c.in_err-found.field-0.0 c.from_residual-in_err-found.ensures
+    (then_same MadeOutside f (g.O.Oracle.framework c.loop-grown.oracle) 0 0 1 _ _ _ _ _ _ _ _ _ inv.framework few
+    inv.run
     c.in_err-found.ensures.run)
 
 pub loop-grown-smaller : goal.loop-grown-smaller
@@ -35,7 +33,7 @@ loop-grown-preserved g c =
     record {
       admissible = larger.0;
       holds = λ x k. larger.1 x (inv.holds x k);
-      run = then_call f (g.O.Oracle.framework c.loop-grown.oracle) 0 _ 0 _ _ _ _ _ _ _ _ _ inv.framework
+      run = then_same MadeOutside f (g.O.Oracle.framework c.loop-grown.oracle) 0 _ 0 _ _ _ _ _ _ _ _ _ inv.framework
           (omega (arith, closes_set c.in_ok-found.field-0 c.in-Set.found c.in-Set.is)) inv.run
           c.in_ok-found.ensures.run;
       framework = c.in_ok-found.ensures.framework ∙ inv.framework;
@@ -56,6 +54,6 @@ pub returns-in-Refuted-clause-run : goal.returns-in-Refuted-clause-run
 returns-in-Refuted-clause-run g c =
     let f = g.O.Oracle.framework c.args.oracle.now in
     let inv = c.loop-grown.invariant in
-    then_call f (g.O.Oracle.framework c.loop-grown.oracle) 0 _ 1 _ _ _ _ _ _ _ _ _ inv.framework
+    then_same MadeOutside f (g.O.Oracle.framework c.loop-grown.oracle) 0 _ 1 _ _ _ _ _ _ _ _ _ inv.framework
     (omega (arith, closes_refuted c.in_ok-found.field-0 c.in-Refuted.refutation c.in-Refuted.is)) inv.run
     c.in_ok-found.ensures.run

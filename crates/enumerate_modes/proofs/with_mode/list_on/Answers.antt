@@ -1,9 +1,9 @@
 use Rattle.std.proofs.Common.{◌∙◌, ◌+◌, ◌≤◌, subst, sym, arith}
 use Rattle.plain_lists.specs.Members.{IsWithin}
 use Rattle.certificate_claims.specs.SetLiterals.{members}
-use Rattle.goal_lists.proofs.Calls.{closes_refuted, closes_set, run_handed}
+use Rattle.goal_lists.proofs.Calls.{closes_refuted, closes_set, run_handed, then_same}
 use Rattle.enumerate_modes.specs.Modes.{MadeDiffers}
-use Rattle.enumerate_modes.proofs.ModeLemmas.{fewer_unlisted, further_refuted, further_set, listing_grown, listing_kept, mode_members, not_recorded, recorded, then_call}
+use Rattle.enumerate_modes.proofs.ModeLemmas.{fewer_unlisted, further_refuted, further_set, listing_grown, listing_kept, mode_members, not_recorded, recorded}
 use Rattle.enumerate_modes.proofs.with_mode.list_on.Goals as goal
 
 pub further-requires-clause-range : goal.further-requires-clause-range
@@ -16,7 +16,8 @@ returns-in_err-step-clause-run g c =
     let inv = c.loop-listing.invariant in
     let few : 0 + 0 ≤ 1 = omega arith in
     run_handed (MadeDiffers f) 1 f _ _ _ _ _ _ c.in_err-step.field-0.0 c.from_residual.ensures
-    (then_call f (g.O.Oracle.framework c.loop-listing.oracle) 0 0 1 _ _ _ _ _ _ _ _ _ inv.framework few inv.run
+    (then_same MadeDiffers f (g.O.Oracle.framework c.loop-listing.oracle) 0 0 1 _ _ _ _ _ _ _ _ _ inv.framework few
+    inv.run
     c.in_err-step.ensures.run)
 
 pub returns-in-Refuted-clause-listed : goal.returns-in-Refuted-clause-listed
@@ -35,7 +36,7 @@ pub returns-in-Refuted-clause-run : goal.returns-in-Refuted-clause-run
 returns-in-Refuted-clause-run g c =
     let f = g.O.Oracle.framework c.args.oracle.now in
     let inv = c.loop-listing.invariant in
-    then_call f (g.O.Oracle.framework c.loop-listing.oracle) 0 _ 1 _ _ _ _ _ _ _ _ _ inv.framework
+    then_same MadeDiffers f (g.O.Oracle.framework c.loop-listing.oracle) 0 _ 1 _ _ _ _ _ _ _ _ _ inv.framework
     (omega (arith, closes_refuted c.in_ok-step.field-0 c.in-Refuted.step c.in-Refuted.is)) inv.run
     c.in_ok-step.ensures.run
 
@@ -57,8 +58,8 @@ returns-in_err-room-in-Set-clause-run g c =
     let same = c.in_ok-step.ensures.framework ∙ inv.framework in
     let few : 0 + 0 ≤ 1 = omega arith in
     run_handed (MadeDiffers f) 1 f _ _ _ _ _ _ c.in_err-room-in-Set.field-0.0 c.from_residual-in_err-room-in-Set.ensures
-    (then_call f k 0 0 1 _ _ _ _ _ _ _ _ _ same few
-    (then_call f h 0 _ 0 _ _ _ _ _ _ _ _ _ inv.framework
+    (then_same MadeDiffers f k 0 0 1 _ _ _ _ _ _ _ _ _ same few
+    (then_same MadeDiffers f h 0 _ 0 _ _ _ _ _ _ _ _ _ inv.framework
     (omega (arith, closes_set c.in_ok-step.field-0 c.in-Set.set c.in-Set.is)) inv.run c.in_ok-step.ensures.run)
     c.in_err-room-in-Set.ensures.run)
 
@@ -79,8 +80,8 @@ returns-then-not-room-clause-run g c =
     let inv = c.loop-listing.invariant in
     let same = c.in_ok-step.ensures.framework ∙ inv.framework in
     let few : 0 + 0 ≤ 1 = omega arith in
-    then_call f k 0 0 1 _ _ _ _ _ _ _ _ _ same few
-    (then_call f h 0 _ 0 _ _ _ _ _ _ _ _ _ inv.framework
+    then_same MadeDiffers f k 0 0 1 _ _ _ _ _ _ _ _ _ same few
+    (then_same MadeDiffers f h 0 _ 0 _ _ _ _ _ _ _ _ _ inv.framework
     (omega (arith, closes_set c.in_ok-step.field-0 c.in-Set.set c.in-Set.is)) inv.run c.in_ok-step.ensures.run)
     c.in_ok-room-in-Set.ensures.run
 
@@ -113,8 +114,8 @@ loop-listing-preserved g c =
     record {
       listing = more.0;
       room = more.2;
-      run = then_call f k 0 0 0 _ _ _ _ _ _ _ _ _ same few
-          (then_call f h 0 _ 0 _ _ _ _ _ _ _ _ _ inv.framework
+      run = then_same MadeDiffers f k 0 0 0 _ _ _ _ _ _ _ _ _ same few
+          (then_same MadeDiffers f h 0 _ 0 _ _ _ _ _ _ _ _ _ inv.framework
           (omega (arith, closes_set c.in_ok-step.field-0 c.in-Set.set c.in-Set.is)) inv.run c.in_ok-step.ensures.run)
           c.in_ok-room-in-Set.ensures.run;
       framework = c.in_ok-room-in-Set.ensures.framework ∙ same;

@@ -1,7 +1,6 @@
 use Rattle.std.proofs.Common.{◌∙◌, ◌+◌, ◌*◌, length, arith}
-use Rattle.goal_lists.proofs.Calls.{closes_refuted, closes_set, run_handed}
+use Rattle.goal_lists.proofs.Calls.{closes_refuted, closes_set, run_handed, then_same}
 use Rattle.cegar_preferred.specs.Largest.{MadeOutside}
-use Rattle.cegar_preferred.proofs.LargestLemmas.{then_call}
 use Rattle.enumerate_preferred.proofs.PreferredLemmas.{all_refuted, few_closings, fewer_open, found_grown, found_kept, not_recorded, one_more, recorded}
 use Rattle.enumerate_preferred.proofs.preferred.all_preferred.Goals as goal
 
@@ -12,7 +11,7 @@ returns-in_err-step-clause-run g c =
     let inv = c.loop-found.invariant in
     let most = 2 * length (g.O.Oracle.log c.uncovered.new.oracle).sides + 2 in
     run_handed (MadeOutside f) most f _ _ _ _ _ _ c.in_err-step.field-0.0 c.from_residual.ensures
-    (then_call f h (length c.loop-found.found.asks) 0 most _ _ _ _ _ _ _ _ _ inv.framework
+    (then_same MadeOutside f h (length c.loop-found.found.asks) 0 most _ _ _ _ _ _ _ _ _ inv.framework
     (omega (
       arith,
       few_closings f (MadeOutside h) (g.O.Oracle.log c.loop-found.oracle) (g.O.Oracle.log c.uncovered.new.oracle)
@@ -37,7 +36,8 @@ returns-in-Refuted-clause-run g c =
     let f = g.O.Oracle.framework c.args.oracle.now in
     let h = g.O.Oracle.framework c.loop-found.oracle in
     let inv = c.loop-found.invariant in
-    then_call f h (length c.loop-found.found.asks) _ (2 * length (g.O.Oracle.log c.uncovered.new.oracle).sides + 2)
+    then_same MadeOutside f h (length c.loop-found.found.asks) _ (2 * length (g.O.Oracle.log
+    c.uncovered.new.oracle).sides + 2)
     _ _ _ _ _ _ _ _ _ inv.framework
     (omega (
       arith,
@@ -69,10 +69,10 @@ returns-in_err-room-in-Set-clause-run g c =
     (g.O.Oracle.log c.uncovered.new.oracle) c.loop-found.found c.in_ok-step.ensures.run.grows inv.found in
     run_handed (MadeOutside f) most f _ _ _ _ _ _ c.in_err-room-in-Set.field-0.0
     c.from_residual-in_err-room-in-Set.ensures
-    (then_call f k (length asks) 1 most _ _ _ _ _ _ _ _ _ same
+    (then_same MadeOutside f k (length asks) 1 most _ _ _ _ _ _ _ _ _ same
     (few_closings f (MadeOutside k) (g.O.Oracle.log c.uncovered.new.oracle) (g.O.Oracle.log c.record_grown.new.oracle)
     c.loop-found.found found c.in_err-room-in-Set.ensures.run.grows)
-    (then_call f h (length asks) _ (length asks) _ _ _ _ _ _ _ _ _ inv.framework
+    (then_same MadeOutside f h (length asks) _ (length asks) _ _ _ _ _ _ _ _ _ inv.framework
     (omega (arith, closes_set c.in_ok-step.field-0 c.in-Set.set c.in-Set.is)) inv.run c.in_ok-step.ensures.run)
     c.in_err-room-in-Set.ensures.run)
 
@@ -93,11 +93,11 @@ returns-then-not-room-clause-run g c =
     let same = c.in_ok-step.ensures.framework ∙ inv.framework in
     let found = found_grown f (MadeOutside h) (g.O.Oracle.log c.loop-found.oracle)
     (g.O.Oracle.log c.uncovered.new.oracle) c.loop-found.found c.in_ok-step.ensures.run.grows inv.found in
-    then_call f k (length asks) 1 (2 * length (g.O.Oracle.log c.record_grown.new.oracle).sides + 2)
+    then_same MadeOutside f k (length asks) 1 (2 * length (g.O.Oracle.log c.record_grown.new.oracle).sides + 2)
     _ _ _ _ _ _ _ _ _ same
     (few_closings f (MadeOutside k) (g.O.Oracle.log c.uncovered.new.oracle) (g.O.Oracle.log c.record_grown.new.oracle)
     c.loop-found.found found c.in_ok-room-in-Set.ensures.run.grows)
-    (then_call f h (length asks) _ (length asks) _ _ _ _ _ _ _ _ _ inv.framework
+    (then_same MadeOutside f h (length asks) _ (length asks) _ _ _ _ _ _ _ _ _ inv.framework
     (omega (arith, closes_set c.in_ok-step.field-0 c.in-Set.set c.in-Set.is)) inv.run c.in_ok-step.ensures.run)
     c.in_ok-room-in-Set.ensures.run
 
@@ -124,9 +124,9 @@ loop-found-preserved g c =
     record {
       found = more.found;
       room = more.room;
-      run = then_call f k (length asks) 1 (length c.record_grown.new.found.asks) _ _ _ _ _ _ _ _ _ same
+      run = then_same MadeOutside f k (length asks) 1 (length c.record_grown.new.found.asks) _ _ _ _ _ _ _ _ _ same
           (one_more asks c.record_grown.new.found.asks more.number more.asks)
-          (then_call f h (length asks) _ (length asks) _ _ _ _ _ _ _ _ _ inv.framework
+          (then_same MadeOutside f h (length asks) _ (length asks) _ _ _ _ _ _ _ _ _ inv.framework
           (omega (arith, closes_set c.in_ok-step.field-0 c.in-Set.set c.in-Set.is)) inv.run c.in_ok-step.ensures.run)
           c.in_ok-room-in-Set.ensures.run;
       framework = c.in_ok-room-in-Set.ensures.framework ∙ same;

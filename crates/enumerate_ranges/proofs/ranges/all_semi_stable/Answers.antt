@@ -1,9 +1,9 @@
 use Rattle.std.proofs.Common.{◌∷◌, ◌∙◌, ◌+◌, ◌*◌, ◌≤◌, ap, length, arith}
 use Rattle.plain_lits.specs.declared.halt.Halt.TheVariants.{Memory}
-use Rattle.goal_lists.proofs.Calls.{closes_refuted, closes_set, makes_same, run_handed, then_refused}
+use Rattle.goal_lists.proofs.Calls.{closes_refuted, closes_set, makes_same, run_handed, then_refused, then_same}
 use Rattle.enumerate_ranges.specs.Marks.{marked_steps}
 use Rattle.enumerate_ranges.specs.Ranges.{MadeForRanges}
-use Rattle.enumerate_ranges.proofs.RangeLemmas.{all_refuted, few_closings, fewer_open, found_grown, found_kept, log_kept, not_recorded, recorded, then_call, two_more}
+use Rattle.enumerate_ranges.proofs.RangeLemmas.{all_refuted, few_closings, fewer_open, found_grown, found_kept, log_kept, not_recorded, recorded, two_more}
 use Rattle.enumerate_ranges.proofs.ranges.all_semi_stable.Goals as goal
 
 pub returns-in_err-step-clause-run : goal.returns-in_err-step-clause-run
@@ -13,7 +13,7 @@ returns-in_err-step-clause-run g c =
     let inv = c.loop-found.invariant in
     let most = 2 * length (g.O.Oracle.log c.uncovered.new.oracle).sides + 2 in
     run_handed (MadeForRanges f) most f _ _ _ _ _ _ c.in_err-step.field-0.0 c.from_residual.ensures
-    (then_call f h (2 * length c.loop-found.found.asks) 0 most _ _ _ _ _ _ _ _ _ inv.framework
+    (then_same MadeForRanges f h (2 * length c.loop-found.found.asks) 0 most _ _ _ _ _ _ _ _ _ inv.framework
     (omega (
       arith,
       few_closings f (MadeForRanges h) (g.O.Oracle.log c.loop-found.oracle) (g.O.Oracle.log c.uncovered.new.oracle)
@@ -30,7 +30,7 @@ returns-in_err-steps-in-Refuted-clause-run g c =
     let same : most ≤ most = omega arith in
     run_handed (MadeForRanges f) most f _ _ _ _ _ _ Memory c.from_residual-in_err-steps-in-Refuted.ensures
     (then_refused (MadeForRanges f) (MadeForRanges f) most most f _ _ _ _ _ (makes_same (MadeForRanges f)) same
-    (then_call f h (2 * length c.loop-found.found.asks) _ most _ _ _ _ _ _ _ _ _ inv.framework
+    (then_same MadeForRanges f h (2 * length c.loop-found.found.asks) _ most _ _ _ _ _ _ _ _ _ inv.framework
     (omega (
       arith,
       closes_refuted c.in_ok-step.field-0 c.in-Refuted.step c.in-Refuted.is,
@@ -58,7 +58,8 @@ returns-in-Refuted-clause-run g c =
     let f = g.O.Oracle.framework c.args.oracle.now in
     let h = g.O.Oracle.framework c.loop-found.oracle in
     let inv = c.loop-found.invariant in
-    then_call f h (2 * length c.loop-found.found.asks) _ (2 * length (g.O.Oracle.log c.uncovered.new.oracle).sides + 2)
+    then_same MadeForRanges f h (2 * length c.loop-found.found.asks) _ (2 * length (g.O.Oracle.log
+    c.uncovered.new.oracle).sides + 2)
     _ _ _ _ _ _ _ _ _ inv.framework
     (omega (
       arith,
@@ -92,10 +93,10 @@ returns-in_err-room-in-Set-clause-run g c =
     inv.found in
     run_handed (MadeForRanges f) most f _ _ _ _ _ _ c.in_err-room-in-Set.field-0.0
     c.from_residual-in_err-room-in-Set.ensures
-    (then_call f k (2 * length asks) 2 most _ _ _ _ _ _ _ _ _ same
+    (then_same MadeForRanges f k (2 * length asks) 2 most _ _ _ _ _ _ _ _ _ same
     (few_closings f (MadeForRanges k) (g.O.Oracle.log c.uncovered.new.oracle) (g.O.Oracle.log c.record_range.new.oracle)
     c.loop-found.found found c.in_err-room-in-Set.ensures.run.grows)
-    (then_call f h (2 * length asks) _ (2 * length asks) _ _ _ _ _ _ _ _ _ inv.framework
+    (then_same MadeForRanges f h (2 * length asks) _ (2 * length asks) _ _ _ _ _ _ _ _ _ inv.framework
     (omega (arith, closes_set c.in_ok-step.field-0 c.in-Set.set c.in-Set.is)) inv.run c.in_ok-step.ensures.run)
     c.in_err-room-in-Set.ensures.run)
 
@@ -118,11 +119,11 @@ returns-then-not-room-clause-run g c =
     (g.O.Oracle.log c.uncovered.new.oracle) c.loop-found.found
     (log_kept f h (g.O.Oracle.log c.loop-found.oracle) inv.framework inv.kept) c.in_ok-step.ensures.run.grows
     inv.found in
-    then_call f k (2 * length asks) 2 (2 * length (g.O.Oracle.log c.record_range.new.oracle).sides + 2)
+    then_same MadeForRanges f k (2 * length asks) 2 (2 * length (g.O.Oracle.log c.record_range.new.oracle).sides + 2)
     _ _ _ _ _ _ _ _ _ same
     (few_closings f (MadeForRanges k) (g.O.Oracle.log c.uncovered.new.oracle) (g.O.Oracle.log c.record_range.new.oracle)
     c.loop-found.found found c.in_ok-room-in-Set.ensures.run.grows)
-    (then_call f h (2 * length asks) _ (2 * length asks) _ _ _ _ _ _ _ _ _ inv.framework
+    (then_same MadeForRanges f h (2 * length asks) _ (2 * length asks) _ _ _ _ _ _ _ _ _ inv.framework
     (omega (arith, closes_set c.in_ok-step.field-0 c.in-Set.set c.in-Set.is)) inv.run c.in_ok-step.ensures.run)
     c.in_ok-room-in-Set.ensures.run
 
@@ -150,9 +151,10 @@ loop-found-preserved g c =
     record {
       found = more.found;
       room = more.room;
-      run = then_call f k (2 * length asks) 2 (2 * length c.record_range.new.found.asks) _ _ _ _ _ _ _ _ _ same
+      run = then_same MadeForRanges f k (2 * length asks) 2 (2 * length c.record_range.new.found.asks) _ _ _ _ _ _ _ _ _
+      same
           (two_more asks c.record_range.new.found.asks more.number more.asks)
-          (then_call f h (2 * length asks) _ (2 * length asks) _ _ _ _ _ _ _ _ _ inv.framework
+          (then_same MadeForRanges f h (2 * length asks) _ (2 * length asks) _ _ _ _ _ _ _ _ _ inv.framework
           (omega (arith, closes_set c.in_ok-step.field-0 c.in-Set.set c.in-Set.is)) inv.run c.in_ok-step.ensures.run)
           c.in_ok-room-in-Set.ensures.run;
       framework = c.in_ok-room-in-Set.ensures.framework ∙ same;
