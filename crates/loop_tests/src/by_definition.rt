@@ -11,7 +11,6 @@ use semantics::{AfLists, Notion, decide};
 use semi_stable::widest_from;
 use small_oracle::SmallOracle;
 use std::alloc::Global;
-use std::process::Abort;
 use std::test::Fail;
 
 /// The two rivals, the ring, a chain, and one that attacks itself before a chain.
