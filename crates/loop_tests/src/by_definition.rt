@@ -1,4 +1,5 @@
-//! Searches and loops beside the slow program that decides notions from their words, on frameworks with three arguments.
+//! Searches and loops beside the slow program that decides notions from their words, on frameworks with three
+//! arguments.
 
 use crate::worked::{RING, RIVALS, Worked, is, oracle_for, set_of};
 use cegar_preferred::maximal_from;
@@ -10,7 +11,6 @@ use semantics::{AfLists, Notion, decide};
 use semi_stable::widest_from;
 use small_oracle::SmallOracle;
 use std::alloc::Global;
-use std::process::Abort;
 use std::test::Fail;
 
 /// The two rivals, the ring, a chain, and one that attacks itself before a chain.
@@ -96,8 +96,8 @@ fn find(
     oracle.find(alloc, &goals, &mut budget).ok()
 }
 
-/// Whether a search for a set of the mode, with an argument or without it, gives one that meets the notion, or none where
-/// there is none.
+/// Whether a search for a set of the mode, with an argument or without it, gives one that meets the notion, or none
+/// where there is none.
 fn search_agrees(
     alloc: Global,
     framework: &Worked<'_>,

@@ -1,6 +1,6 @@
-//! Tests of the loops over an oracle: each is run over the small oracle, which answers by the definitions, and gives what
-//! was worked out by hand from them; and what searches and loops give is compared with the slow program that decides each
-//! notion from its words.
+//! Tests of the loops over an oracle: each is run over the small oracle, which answers by the definitions, and gives
+//! what was worked out by hand from them; and what searches and loops give is compared with the slow program that
+//! decides each notion from its words.
 #![tactic(auto)]
 
 #[cfg(test)]

@@ -1,13 +1,12 @@
 //! What an oracle is asked for, and what it answers.
 
 use crate::worked::{FLOATING, RING, RIVALS, Worked, is, not, oracle_for, set_of};
-use meaning_atoms::Atom::{Ad, Ask, Cf, Co, Member, Range, St, Tail};
+use meaning_atoms::Atom::{Ad, Cf, Co, Member, Range, St, Tail};
 use meaning_atoms::AtomLit;
 use oracle_face::{Found, Oracle, Pending};
 use plain_lits::{Budget, Halt};
 use small_oracle::{SmallOracle, is_side};
 use std::alloc::Global;
-use std::process::Abort;
 use std::test::Fail;
 
 /// Goals, and the only set that makes them true; none where no set does.

@@ -122,6 +122,12 @@ number_cases items x n is =
 turned : (left right : List AtomLit) → IsSameClause left right → IsSameClause right left
 turned left right h = record { there = h.back; back = h.there }
 
+same_as : (sides : List SideClause) (m n : ℕ) (a b : SideClause) → side_at sides m ≡ a → side_at sides n ≡ b
+    → IsSameClause (side_at sides m).literals (side_at sides n).literals → IsSameClause a.literals b.literals
+same_as sides m n a b e1 e2 same =
+    subst (λ (s : SideClause). IsSameClause s.literals b.literals) e1
+    (subst (λ (s : SideClause). IsSameClause (side_at sides m).literals s.literals) e2 same)
+
 pub side_kept : (f : Framework) (log : OracleLog) (side : SideClause) → IsKept f log → AsksNothing side.literals
     → IsNoSide log.sides side.literals → IsKept f (with_side log side)
 side_kept f log side kept asks other =
@@ -137,19 +143,16 @@ side_kept f log side kept asks other =
         apart = λ m n is_m is_n same. ⊎_elim
             (λ old_m. ⊎_elim
             (λ old_n. kept.form.apart m n old_m old_n
-            (subst (λ (s : SideClause). IsSameClause s.literals (side_at sides n).literals) (side_more sides side m old_m)
-            (subst (λ (s : SideClause). IsSameClause (side_at more m).literals s.literals) (side_more sides side n old_n)
-            same)))
+            (same_as more m n (side_at sides m) (side_at sides n) (side_more sides side m old_m)
+            (side_more sides side n old_n) same))
             (λ new_n. absurd (other.none m old_m
-            (subst (λ (s : SideClause). IsSameClause s.literals side.literals) (side_more sides side m old_m)
-            (subst (λ (s : SideClause). IsSameClause (side_at more m).literals s.literals) (side_last sides side n new_n)
-            same))))
+            (same_as more m n (side_at sides m) side (side_more sides side m old_m) (side_last sides side n new_n)
+            same)))
             (number_cases sides side n is_n))
             (λ new_m. ⊎_elim
             (λ old_n. absurd (other.none n old_n (turned side.literals (side_at sides n).literals
-            (subst (λ (s : SideClause). IsSameClause s.literals (side_at sides n).literals) (side_last sides side m new_m)
-            (subst (λ (s : SideClause). IsSameClause (side_at more m).literals s.literals) (side_more sides side n old_n)
-            same)))))
+            (same_as more m n side (side_at sides n) (side_last sides side m new_m) (side_more sides side n old_n)
+            same))))
             (λ new_n. new_m ∙ sym new_n)
             (number_cases sides side n is_n))
             (number_cases sides side m is_m);

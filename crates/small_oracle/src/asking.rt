@@ -1,14 +1,13 @@
 //! Tests of what may be asked of an oracle, for tests that have goals, sets and side clauses as data.
 
-ghost use Rattle.std.specs.Prelude.{◌≡◌, true, Contains};
+ghost use Rattle.std.specs.Prelude.{Contains};
 ghost use Rattle.std.specs.Bool.{OnTrue};
-ghost use Rattle.semantics.specs.Arguments.{IsArgument};
 ghost use Rattle.semantics.specs.Frameworks.{af};
 ghost use Rattle.meaning_atoms.specs.declared.atom.Atom.TheVariants.{Ask};
 ghost use Rattle.meaning_atoms.specs.declared.atom.AtomLit.{AtomLit};
 ghost use Rattle.meaning_atoms.specs.Literals.{affirmed};
-ghost use Rattle.oracle_face.specs.Goals.{AreGoals, IsMemberAtom, IsMode, IsOneSided, IsSide, SpeaksOf, Tells};
-ghost use Rattle.small_oracle.specs.Asking.{HasMode, IsGoalAt, IsModeGoal, IsOfMode};
+ghost use Rattle.oracle_face.specs.Goals.{AreGoals, IsMode, IsSide, SpeaksOf, Tells};
+ghost use Rattle.small_oracle.specs.Asking.{HasMode, IsGoalAt, IsModeGoal, IsOfMode, IsSideLiteral};
 
 use crate::literals::is_plain;
 use crate::steps::{Side, item_of};
@@ -137,89 +136,28 @@ pub(crate) fn is_of_mode(framework: &AfPlain, mode: Atom, set: &NumSet) -> bool
     is_so(framework, set, &goal)
 }
 
-/// Whether a literal says of an argument what a side clause may say.
-fn tells_argument(literal: &AtomLit) -> bool
-    ensures { OnTrue result (Tells IsArgument literal.now.atom literal.now.positive) }
+/// Whether a literal affirms of an argument what a side clause may say.
+fn affirms_argument(literal: &AtomLit) -> bool
+    ensures { OnTrue result (IsSideLiteral literal.now) }
 {
     match (literal.atom, literal.positive) {
-        (Atom::Member(argument), _) => is_argument(argument),
+        (Atom::Member(argument), true) => is_argument(argument),
         (Atom::Range(argument), true) => is_argument(argument),
         (Atom::Tail(argument, 1), true) => is_argument(argument),
         _ => false,
     }
 }
 
-/// Whether all literals do.
-fn all_tell(side: &[AtomLit]) -> bool
-    ensures { OnTrue result ((l : AtomLit) → Contains side.now l → Tells IsArgument l.atom l.positive) }
+/// Whether an oracle may be asked to keep this side clause, which affirms each of its atoms. False comes also for those
+/// that deny some.
+pub fn is_side(side: &[AtomLit]) -> bool
+    ensures { OnTrue result (IsSide side.now) }
 {
     for literal in side {
-        let tells = tells_argument(literal);
-        if !tells {
-            return false;
-        }
-    }
-    true
-}
-
-/// Whether all literals affirm.
-fn all_affirm(side: &[AtomLit]) -> bool
-    ensures { OnTrue result ((l : AtomLit) → Contains side.now l → l.positive ≡ true) }
-{
-    for literal in side {
-        let affirms = literal.positive;
+        let affirms = affirms_argument(literal);
         if !affirms {
             return false;
         }
     }
     true
-}
-
-/// Whether a literal is about membership.
-fn is_of_member(literal: &AtomLit) -> bool
-    ensures { OnTrue result (IsMemberAtom literal.now.atom) }
-{
-    match literal.atom {
-        Atom::Member(_) => true,
-        _ => false,
-    }
-}
-
-/// Whether all literals are.
-fn all_of_members(side: &[AtomLit]) -> bool
-    ensures { OnTrue result ((l : AtomLit) → Contains side.now l → IsMemberAtom l.atom) }
-{
-    for literal in side {
-        let of_member = is_of_member(literal);
-        if !of_member {
-            return false;
-        }
-    }
-    true
-}
-
-/// Whether all literals affirm, or all are about membership and none stands beside its negation.
-fn is_one_sided(side: &[AtomLit]) -> bool
-    ensures { OnTrue result (IsOneSided side.now) }
-{
-    let affirm = all_affirm(side);
-    if affirm {
-        return true;
-    }
-    let of_members = all_of_members(side);
-    if !of_members {
-        return false;
-    }
-    is_plain(side)
-}
-
-/// Whether an oracle may be asked to keep this side clause.
-pub fn is_side(side: &[AtomLit]) -> bool
-    ensures { OnTrue result (IsSide side.now) }
-{
-    let tell = all_tell(side);
-    if !tell {
-        return false;
-    }
-    is_one_sided(side)
 }

@@ -1,5 +1,5 @@
-//! Clauses that follow from a log, as a search would learn them. Nothing rests on this: whatever is drafted is tested before
-//! it is logged.
+//! Clauses that follow from a log, as a search would learn them. Nothing rests on this: whatever is drafted is tested
+//! before it is logged.
 
 use crate::checking::{Status, clause_status};
 use crate::literals::{has, opposite};

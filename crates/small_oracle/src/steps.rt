@@ -34,7 +34,12 @@ impl Model for Step {
 
     ghost Value = { LogStep };
 
-    ghost view = { λ s. record { clause = s.clause; source = source_of s.origin; imported = None; closing = s.closing } };
+    ghost view = { λ s. record {
+      clause = s.clause;
+      source = source_of s.origin;
+      imported = None;
+      closing = s.closing;
+    } };
 }
 
 /// A side clause with the set that it is made from.

@@ -5,4 +5,6 @@ use Rattle.oracle_face.specs.Goals.{Tells}
 use Rattle.small_oracle.proofs.asking.speaks.Given as goal
 
 abbrev pub invariant-loop-literal : goal.invariant-loop-literal
-invariant-loop-literal l = (x : AtomLit) → Contains (take l.literal-index l.clause) x → Tells (Contains l.framework.live) x.atom x.positive
+invariant-loop-literal l =
+    (x : AtomLit) → Contains (take l.literal-index l.clause) x
+    → Tells (Contains l.framework.live) x.atom x.positive

@@ -1,8 +1,0 @@
-use Rattle.std.proofs.Common.{take}
-use Rattle.std.specs.Prelude.{Contains}
-use Rattle.meaning_atoms.specs.declared.atom.AtomLit.{AtomLit}
-use Rattle.oracle_face.specs.Goals.{IsMemberAtom}
-use Rattle.small_oracle.proofs.asking.all_of_members.Given as goal
-
-abbrev pub invariant-loop-literal : goal.invariant-loop-literal
-invariant-loop-literal l = (x : AtomLit) → Contains (take l.literal-index l.side) x → IsMemberAtom x.atom
