@@ -1,0 +1,4 @@
+pub mod Lifted
+pub mod Searches
+pub mod Sides
+pub mod States

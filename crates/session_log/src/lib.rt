@@ -1,0 +1,2 @@
+//! What one session's log means, and what follows from it.
+#![tactic(auto)]
