@@ -1,5 +1,5 @@
 -- The log over atoms that a solver's log stands for, which no caller sees.
-use Rattle.std.specs.Prelude.{◌≡◌, ℕ, ◌+◌, ◌==◌, ◌≤◌, Bool, true, not, zero, suc, List, [], ◌∷◌, ◌++◌, length, Contains, Option, None, Some}
+use Rattle.std.specs.Prelude.{ℕ, zero, suc, ◌+◌, ◌==◌, ◌≤◌, Bool, not, List, [], ◌∷◌, ◌++◌, length, Option, None}
 use Rattle.std.specs.Prelude.{slice_index_or}
 use Rattle.std.specs.List.{list_any}
 use Rattle.plain_lits.specs.declared.lit.Lit.{Lit}
@@ -11,7 +11,6 @@ use Rattle.meaning_atoms.specs.declared.atom.Atom.TheVariants.{Cf}
 use Rattle.meaning_atoms.specs.declared.atom.AtomLit.{AtomLit}
 use Rattle.oracle_face.specs.declared.face.Pending.{Pending}
 use Rattle.oracle_face.specs.Logs.{OracleLog, LogStep, SideClause, Source, by_axiom, by_side, by_hints}
-use Rattle.session_log.specs.Guards.{IsGuarded}
 use Rattle.atom_solver.specs.declared.origin.Origin.{Origin}
 use Rattle.atom_solver.specs.declared.origin.Origin.TheVariants.{Axiom, Side, Hints}
 use Rattle.atom_solver.specs.States.{AtomState}
@@ -56,20 +55,21 @@ abbrev pub lifted_at : List Atom → SolverState → List Origin → ℕ → Log
 lifted_at atoms s origins k =
     lifted_step atoms (slice_index_or s.log.steps k no_step) (slice_index_or origins k Hints) (in_use s.active (k + 1))
 
--- the log that a solver's log stands for
-abbrev pub log_over : List Atom → SolverState → List Origin → List SideClause → OracleLog
-log_over atoms s origins sides = record {
+-- the log that so many steps of a solver's log stand for, and the one that all of them do
+abbrev pub log_upto : List Atom → SolverState → List Origin → List SideClause → ℕ → OracleLog
+log_upto atoms s origins sides count = record {
   limit = s.log.limit;
-  steps = listed (lifted_at atoms s origins) (length s.log.steps);
+  steps = listed (lifted_at atoms s origins) count;
   sides = sides;
 }
+
+abbrev pub log_over : List Atom → SolverState → List Origin → List SideClause → OracleLog
+log_over atoms s origins sides = log_upto atoms s origins sides (length s.log.steps)
 
 abbrev pub state_over : List Atom → SolverState → List Origin → List SideClause → Option Pending → AtomState
 state_over atoms s origins sides pending = record { log = log_over atoms s origins sides; pending = pending }
 
--- each variable has an atom, and the log that is stood for keeps its guards
-pub record IsLifting (atoms : List Atom) (s : SolverState) (origins : List Origin)
-    (sides : List SideClause) : Type 0 where
+-- each variable of a clause has an atom, and no step that is still to come has an origin
+pub record IsLifting (atoms : List Atom) (s : SolverState) (origins : List Origin) : Type 0 where
   pub room : HaveRoomFor (length atoms) (clauses_of s.log.steps)
   pub marked : length origins ≤ length s.log.steps
-  pub guarded : IsGuarded (log_over atoms s origins sides)

@@ -6,11 +6,10 @@ ghost use Rattle.plain_lits.specs.HintCheck.{IsTautology};
 ghost use Rattle.semantics.specs.Frameworks.{Framework};
 ghost use Rattle.meaning_atoms.specs.Literals.{negated};
 ghost use Rattle.hinted_log.specs.declared.log.TheConstants.{MOST_STEPS};
-ghost use Rattle.oracle_face.specs.Logs.{IsLog, IsNumberOf, step_at, side_at, hints_of};
+ghost use Rattle.oracle_face.specs.Logs.{IsNumberOf, step_at, side_at, hints_of};
 ghost use Rattle.oracle_face.specs.Goals.{IsSide};
 ghost use Rattle.oracle_face.specs.Growing.{HasRun, NoSide, Obliges, OnlySide, halt_of};
-ghost use Rattle.session_log.specs.Guards.{IsGuarded};
-ghost use Rattle.atom_solver.specs.States.{TakesAxiom, StaysLog, IsAxiomName, empty_log};
+ghost use Rattle.atom_solver.specs.States.{AddsAxiom, IsGuardedLog, StaysLog, IsAxiomName, empty_log};
 ghost use Rattle.atom_solver.specs.Searches.{IsAnswer, AreUnfixed, ends_in};
 ghost use Rattle.atom_solver.specs.Lifted.{source_of};
 
@@ -51,7 +50,7 @@ impl Model for AtomSolver {
 
     ghost view = { λ s. state_over s.table s.solver s.origins.items s.sides.items s.pending };
 
-    ghost invariant = { λ s. IsLifting s.table s.solver s.origins.items s.sides.items };
+    ghost invariant = { λ s. IsLifting s.table s.solver s.origins.items };
 }
 
 impl AtomSolver {
@@ -75,12 +74,11 @@ impl AtomSolver {
     /// Takes an axiom: its step comes and is in use, and no unit is spent. `LogFull` comes exactly at a full log.
     pub fn take_axiom(&mut self, alloc: Global, name: AxiomName) -> Result<(), Halt>
         requires { IsAxiomName name }
-        ensures ok { OnOk result (TakesAxiom name self.old self.new) }
+        ensures ok { OnOk result (AddsAxiom name self.old self.new) }
         ensures full { (result ≡ Err Halt.LogFull) ↔ (length self.old.log.steps ≡ self.old.log.limit) }
         ensures unspent { (count : ℕ) → result ≡ Err (Halt.Spent count) → ⊥ }
         ensures err { OnErr result (self.new ≡ self.old) }
-        ensures log { (f : Framework) → IsAxiomOf f name → IsLog f self.old.log → IsLog f self.new.log }
-        ensures guarded { IsGuarded self.new.log }
+        ensures log { (f : Framework) → IsAxiomOf f name → IsGuardedLog f self.old.log → IsGuardedLog f self.new.log }
     {
         Err(Halt::Memory)
     }
@@ -96,11 +94,11 @@ impl AtomSolver {
         budget: &mut Budget,
     ) -> Result<AskId, Halt>
         requires { IsSide side.now }
-        ensures obliges { IfOk result (Obliges side.now self.old.log self.new.log) }
-        ensures run { (f : Framework) → IsLog f self.old.log → HasRun (OnlySide side.now from.now) 0 f self.old.log
-            self.new.log self.new.pending budget.old budget.new (halt_of result) }
+        ensures obliges { (f : Framework) → IsGuardedLog f self.old.log
+            → IfOk result (Obliges side.now self.old.log self.new.log) }
+        ensures run { (f : Framework) → IsGuardedLog f self.old.log → HasRun (OnlySide side.now from.now) 0 f
+            self.old.log self.new.log self.new.pending budget.old budget.new (halt_of result) }
         ensures log { StaysLog self.old.log self.new.log }
-        ensures guarded { IsGuarded self.new.log }
     {
         Err(Halt::Memory)
     }
@@ -118,11 +116,11 @@ impl AtomSolver {
     ) -> Result<Searched, Halt>
         requires plain { IsTautology negated goals.now → ⊥ }
         requires unfixed { AreUnfixed (E.framework plain.now) goals.now }
-        ensures answer { IfOk result (IsAnswer (E.framework plain.now) self.new.log goals.now) }
+        ensures answer { IsGuardedLog (E.framework plain.now) self.old.log
+            → IfOk result (IsAnswer (E.framework plain.now) self.new.log goals.now) }
         ensures run { HasRun NoSide (ends_in result) (E.framework plain.now) self.old.log self.new.log
             self.new.pending budget.old budget.new (halt_of result) }
         ensures log { StaysLog self.old.log self.new.log }
-        ensures guarded { IsGuarded self.new.log }
     {
         Err(Halt::Memory)
     }
@@ -138,7 +136,7 @@ impl AtomSolver {
     /// The number of steps.
     pub fn len(&self) -> usize
         ensures len { result ≡ length self.now.log.steps }
-        ensures guarded { IsGuarded self.now.log }
+        ensures within { length self.now.log.steps ≤ self.now.log.limit }
     {
         self.solver.log().len()
     }

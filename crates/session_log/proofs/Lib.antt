@@ -1,0 +1,5 @@
+pub mod AxiomLemmas
+pub mod Closing
+pub mod NewSides
+pub mod Staying
+pub mod StepLemmas
