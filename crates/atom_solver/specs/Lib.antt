@@ -1,3 +1,4 @@
+pub mod Assumed
 pub mod Lifted
 pub mod Searches
 pub mod Sides

@@ -1,5 +1,5 @@
 -- The log over atoms that a solver's log stands for, which no caller sees.
-use Rattle.std.specs.Prelude.{ℕ, zero, suc, ◌+◌, ◌==◌, ◌≤◌, Bool, not, List, [], ◌∷◌, ◌++◌, length, Option, None}
+use Rattle.std.specs.Prelude.{ℕ, zero, suc, ◌+◌, ◌==◌, ◌≤◌, Bool, not, List, [], ◌∷◌, ◌++◌, length, map, Option, None}
 use Rattle.std.specs.Prelude.{slice_index_or}
 use Rattle.std.specs.List.{list_any}
 use Rattle.plain_lits.specs.declared.lit.Lit.{Lit}
@@ -23,8 +23,7 @@ abbrev pub lit_of : List Atom → Lit → AtomLit
 lit_of atoms l = record { atom = atom_at atoms l.var; positive = l.positive }
 
 abbrev pub atoms_of : List Atom → List Lit → List AtomLit
-atoms_of atoms [] = []
-atoms_of atoms (l ∷ clause) = lit_of atoms l ∷ atoms_of atoms clause
+atoms_of atoms clause = map (lit_of atoms) clause
 
 -- where a step comes from
 abbrev pub source_of : Origin → List ℕ → Source

@@ -84,7 +84,7 @@ taken_back old mid new clause number r e =
 
 -- ---- and what comes is shown
 
-shown_as : (s t : SolverState) (clause : List Lit) (hints : List ℕ) → t.log.steps ≡ s.log.steps
+pub shown_as : (s t : SolverState) (clause : List Lit) (hints : List ℕ) → t.log.steps ≡ s.log.steps
     → ((number : ℕ) → Contains s.active number → Contains t.active number) → IsShown s clause hints
     → IsShown t clause hints
 shown_as s t clause hints e more h = record {
