@@ -1,5 +1,8 @@
+pub mod Assuming
 pub mod Deriving
 pub mod Learning
 pub mod Lifting
 pub mod Listing
+pub mod Running
 pub mod Searching
+pub mod TableLemmas

@@ -3,9 +3,12 @@
 
 pub mod kept_side;
 pub mod origin;
+pub(crate) mod parts;
 pub mod searched;
 pub mod solver;
+pub(crate) mod tables;
 
+pub use kept_side::KeptSide;
 pub use origin::Origin;
 pub use searched::Searched;
 pub use solver::AtomSolver;
