@@ -95,7 +95,11 @@ impl Parts {
         ensures log { StaysLog (state_of self.old).log (state_of self.new).log }
     {
         self.solver.reset_phases();
-        match self.solver.solve(self.assumed.as_slice(), budget) {
+        let _different = self.table.len();
+        let _before = self.solver.log().len();
+        let end = self.solver.solve(self.assumed.as_slice(), budget);
+        let _after = self.solver.log().len();
+        match end {
             Ok(solved) => {
                 let found = searched(alloc, &self.table, solved)?;
                 Ok(found)
