@@ -1,8 +1,15 @@
 -- The inner state of a solver over atoms, which no caller sees.
-use Rattle.std.specs.Prelude.{◌≡◌, List, Option, None, Some}
+use Rattle.std.specs.Prelude.{◌≡◌, ℕ, ◌≤◌, List, length, slice_index_or, Option, None, Some}
+use Rattle.atom_solver.specs.declared.origin.Origin.{Origin}
+use Rattle.atom_solver.specs.declared.origin.Origin.TheVariants.{Hints}
 use Rattle.meaning_atoms.specs.declared.atom.Atom.{Atom}
 use Rattle.oracle_face.specs.declared.face.Pending.{Pending as Kept}
 use Rattle.oracle_face.specs.declared.face.Pending.TheVariants.{Learned}
+use Rattle.oracle_face.specs.Logs.{Source}
+use Rattle.session_log.specs.Steps.{GainsStep, own_step}
+use Rattle.meaning_atoms.specs.declared.atom.AtomLit.{AtomLit}
+use Rattle.sat_core.specs.declared.answer.Added.{Added}
+use Rattle.sat_core.specs.declared.answer.Added.TheVariants.{Axiom, Side, Derived}
 use Rattle.sat_core.specs.declared.answer.Pending.{Pending}
 use Rattle.sat_core.specs.declared.answer.Solved.{Solved}
 use Rattle.sat_core.specs.declared.answer.Solved.TheVariants.{Model as Satisfied, Core}
@@ -38,3 +45,19 @@ pub record KeepsInHand (old new : Parts) : Type 0 where
   pub solver : new.solver ≡ begun old.solver
   pub origins : new.origins ≡ old.origins
   pub sides : new.sides ≡ old.sides
+
+-- a clause comes that no hints show
+abbrev pub NeedsNoHints : Added → Type 0
+NeedsNoHints Axiom = Unit {0}
+NeedsNoHints Side = Unit {0}
+NeedsNoHints (Derived hints) = ⊥
+
+-- the log has one step more, which is in use, and nothing else has changed
+pub record GainsGiven (clause : List AtomLit) (source : Source) (old new : AtomState) : Type 0 where
+  pub gains : GainsStep (own_step clause source) old.log.sides old.log new.log
+  pub pending_same : new.pending ≡ old.pending
+
+-- so many steps at most have origins of their own, and they have those that they had
+pub record IsFilled (old new : List Origin) (steps : ℕ) : Type 0 where
+  pub within : length new ≤ steps
+  pub same : (k : ℕ) → slice_index_or new k Hints ≡ slice_index_or old k Hints

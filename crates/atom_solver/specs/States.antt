@@ -1,5 +1,5 @@
 -- What contracts see of a solver over atoms, and what it leaves where an axiom comes.
-use Rattle.std.specs.Prelude.{◌≡◌, ℕ, List, [], Option}
+use Rattle.std.specs.Prelude.{◌≡◌, ℕ, List, [], Option, None}
 use Rattle.semantics.specs.Frameworks.{Framework}
 use Rattle.meaning_atoms.specs.declared.atom.AtomLit.{AtomLit}
 use Rattle.meaning_atoms.specs.declared.axiom.AxiomName.{AxiomName}
@@ -18,6 +18,9 @@ pub record AtomState : Type 0 where
 -- a log without steps and side clauses
 abbrev pub empty_log : ℕ → OracleLog
 empty_log limit = record { limit = limit; steps = []; sides = [] }
+
+abbrev pub empty_state : ℕ → AtomState
+empty_state limit = record { log = empty_log limit; pending = None }
 
 -- a log beside a framework, with its guards
 pub record IsGuardedLog (f : Framework) (log : OracleLog) : Type 0 where

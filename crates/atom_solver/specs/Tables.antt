@@ -5,6 +5,7 @@ use Rattle.plain_lits.specs.declared.lit.Lit.{Lit}
 use Rattle.plain_lits.specs.Checking.{HasRoomFor}
 use Rattle.meaning_atoms.specs.declared.atom.Atom.{Atom}
 use Rattle.meaning_atoms.specs.declared.atom.AtomLit.{AtomLit}
+use Rattle.oracle_face.specs.Logs.{IsSameClause}
 use Rattle.atom_solver.specs.Lifted.{atoms_of}
 
 -- some literal of a list is about the atom
@@ -33,3 +34,8 @@ has_atom atoms l = nat_lt l.var (length atoms)
 -- the literals that have atoms, over atoms
 abbrev pub told : List Atom → List Lit → List AtomLit
 told atoms lits = atoms_of atoms (filter (has_atom atoms) lits)
+
+-- a clause stands for literals: it has just those that stand for theirs
+pub record StandsFor (atoms : List Atom) (literals : List AtomLit) (clause : List Lit) : Type 0 where
+  pub known : HasRoomFor (length atoms) clause
+  pub same : IsSameClause (atoms_of atoms clause) literals

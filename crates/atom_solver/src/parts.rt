@@ -1,18 +1,22 @@
 //! What a solver over atoms is made of.
 
-ghost use Rattle.std.specs.Prelude.{◌≡◌, ◌↔◌, ℕ, ◌≤◌, length, List, IfOk, OnOk, OnErr, Contains};
+ghost use Rattle.std.specs.Prelude.{◌≡◌, ◌↔◌, ℕ, ◌≤◌, [], length, List, IfOk, OnOk, OnErr, Contains, ◌<◌, vec_len, vec_capacity};
 ghost use Rattle.plain_lits.specs.declared.lit.Lit.{Lit as ALit};
 ghost use Rattle.plain_lits.specs.HintCheck.{IsTautology};
 ghost use Rattle.plain_lits.specs.Literals.{negation};
 ghost use Rattle.semantics.specs.Frameworks.{Framework};
-ghost use Rattle.certificate_claims.specs.Refutations.{IsAxiomOf};
+ghost use Rattle.hinted_log.specs.declared.log.TheConstants.{MOST_STEPS};
+ghost use Rattle.certificate_claims.specs.Refutations.{axiom_clause};
+ghost use Rattle.plain_lits.specs.Checking.{HasRoomFor};
 ghost use Rattle.meaning_atoms.specs.declared.atom.AtomLit.{AtomLit as AnAtomLit};
 ghost use Rattle.meaning_atoms.specs.Literals.{negated};
 ghost use Rattle.oracle_face.specs.Growing.{HasRun, NoSide, halt_of};
 ghost use Rattle.atom_solver.specs.Assumed.{AreAssumed};
-ghost use Rattle.atom_solver.specs.Inner.{state_of, IsKept, IsWhole, KeepsInHand, Tells};
+ghost use Rattle.atom_solver.specs.Inner.{state_of, GainsGiven, IsFilled, IsKept, IsWhole, KeepsInHand, NeedsNoHints, Tells};
 ghost use Rattle.atom_solver.specs.Searches.{IsAnswer, AreUnfixed, ends_in};
-ghost use Rattle.atom_solver.specs.States.{AddsAxiom, IsAxiomName, IsGuardedLog, StaysLog};
+ghost use Rattle.atom_solver.specs.Lifted.{atoms_of, source_of};
+ghost use Rattle.atom_solver.specs.States.{AddsAxiom, IsAxiomName, IsGuardedLog, StaysLog, empty_state};
+ghost use Rattle.atom_solver.specs.Tables.{StandsFor};
 
 use crate::kept_side::KeptSide;
 use crate::origin::Origin;
@@ -20,11 +24,12 @@ use crate::searched::Searched;
 use crate::tables::{assume_facts, over_atoms, push_lits_for};
 use af_axioms::clause_of;
 use atom_table::AtomTable;
-use hinted_log::LogFault;
+use hinted_log::{LogFault, MOST_STEPS};
 use meaning_atoms::{AtomLit, AxiomName};
-use oracle_face::{Encoding, Pending};
+use oracle_face::{AskId, Encoding, Pending};
 use plain_lists::{Items, Memory};
-use plain_lits::{Budget, Clause, Halt, Lit};
+use plain_lits::{Budget, Clause, Halt, Lit, StepId};
+use set_lists::NumSet;
 use sat_core::{Added, Solved, Solver};
 use std::alloc::Global;
 
@@ -39,6 +44,30 @@ pub(crate) struct Parts {
     pub(crate) pending: Option<Pending>,
     /// The assumptions of the last search, and room for those of the next.
     pub(crate) assumed: Vec<Lit>,
+    /// Room for the literals of a clause that comes.
+    pub(crate) given: Vec<Lit>,
+}
+
+/// Says of all steps so far where they come from, and makes room for one more.
+fn fill(origins: &mut Vec<Origin>, steps: usize) -> Result<(), Memory>
+    requires { length origins.old.items ≤ steps }
+    ensures filled { IsFilled origins.old.items origins.new.items steps }
+    ensures ok { OnOk result (length origins.new.items ≡ steps) }
+    ensures room { OnOk result (vec_len origins.new < vec_capacity origins.new) }
+{
+    origins.resize(steps, Origin::Hints)?;
+    origins.reserve(1)?;
+    Ok(())
+}
+
+/// The literals of an axiom.
+fn axiom_literals(alloc: Global, name: &AxiomName) -> Result<Items<AtomLit>, Memory>
+    requires { IsAxiomName name.now }
+    ensures { IfOk result (λ literals. literals ≡ axiom_clause name.now) }
+{
+    match name {
+        AxiomName::Af(name) => clause_of(alloc, name),
+    }
 }
 
 /// What a search found, over atoms.
@@ -55,6 +84,83 @@ fn searched(alloc: Global, table: &AtomTable, solved: Solved) -> Result<Searched
 }
 
 impl Parts {
+    /// No clause, and a log for at most so many steps.
+    pub(crate) fn open(alloc: Global, log_limit: u64) -> Result<Parts, Memory>
+        requires { log_limit ≤ MOST_STEPS }
+        ensures whole { IfOk result IsWhole }
+        ensures state { IfOk result (λ parts. state_of parts ≡ empty_state log_limit) }
+    {
+        let solver = Solver::open(alloc, log_limit)?;
+        Ok(Parts {
+            table: AtomTable::new(alloc),
+            solver,
+            origins: Vec::new(alloc),
+            sides: Vec::new(alloc),
+            pending: None,
+            assumed: Vec::new(alloc),
+            given: Vec::new(alloc),
+        })
+    }
+
+    /// The clause that stands for literals, of which each atom gets a variable.
+    fn stand_for(&mut self, alloc: Global, literals: &[AtomLit]) -> Result<Clause, Memory>
+        requires whole { IsWhole self.old }
+        ensures whole { IsWhole self.new }
+        ensures state { state_of self.new ≡ state_of self.old }
+        ensures sides { self.new.sides ≡ self.old.sides }
+        ensures clause { IfOk result (StandsFor self.new.table literals.now) }
+    {
+        self.given.clear();
+        push_lits_for(&mut self.table, &mut self.solver, literals, &mut self.given)?;
+        Clause::from_slice(alloc, self.given.as_slice())
+    }
+
+    /// Adds a clause that is given, with where it comes from.
+    fn add_given(&mut self, clause: Clause, how: Added, origin: Origin) -> Result<(), Halt>
+        requires whole { IsWhole self.old }
+        requires room { HasRoomFor (length self.old.table) clause }
+        requires how { NeedsNoHints how }
+        ensures whole { IsWhole self.new }
+        ensures ok { OnOk result (GainsGiven (atoms_of self.old.table clause) (source_of origin []) (state_of self.old)
+            (state_of self.new)) }
+        ensures full { result ≡ Err Halt.LogFull
+            → length self.old.solver.log.steps ≡ self.old.solver.log.limit }
+        ensures unspent { (count : ℕ) → result ≡ Err (Halt.Spent count) → ⊥ }
+        ensures err { OnErr result (state_of self.new ≡ state_of self.old) }
+        ensures sides { self.new.sides ≡ self.old.sides }
+    {
+        let steps = self.solver.log().len();
+        fill(&mut self.origins, steps)?;
+        match self.solver.add(clause, how) {
+            Ok(_) => {
+                let _ = self.origins.push(origin);
+                Ok(())
+            }
+            Err(LogFault::Memory) => Err(Halt::Memory),
+            Err(LogFault::LogFull) => Err(Halt::LogFull),
+            Err(LogFault::Rejected(_)) => unreachable!(),
+        }
+    }
+
+    /// Takes an axiom.
+    pub(crate) fn take_axiom(&mut self, alloc: Global, name: AxiomName) -> Result<(), Halt>
+        requires whole { IsWhole self.old }
+        requires name { IsAxiomName name }
+        ensures whole { IsWhole self.new }
+        ensures ok { OnOk result (AddsAxiom name (state_of self.old) (state_of self.new)) }
+        ensures full { (result ≡ Err Halt.LogFull)
+            ↔ (length self.old.solver.log.steps ≡ self.old.solver.log.limit) }
+        ensures unspent { (count : ℕ) → result ≡ Err (Halt.Spent count) → ⊥ }
+        ensures err { OnErr result (state_of self.new ≡ state_of self.old) }
+    {
+        if self.solver.log().is_full() {
+            return Err(Halt::LogFull);
+        }
+        let literals = axiom_literals(alloc, &name)?;
+        let clause = self.stand_for(alloc, literals.as_slice())?;
+        self.add_given(clause, Added::Axiom, Origin::Axiom(name))
+    }
+
     /// Assumes the facts of all atoms with a variable, and the goals.
     fn assume<E: Encoding>(&mut self, plain: &E::Plain, goals: &[AtomLit]) -> Result<(), Memory>
         requires whole { IsWhole self.old }
@@ -66,6 +172,30 @@ impl Parts {
         assume_facts::<E>(&self.table, plain, &mut self.assumed)?;
         push_lits_for(&mut self.table, &mut self.solver, goals, &mut self.assumed)?;
         Ok(())
+    }
+
+    /// The number of a side clause.
+    pub(crate) fn oblige(
+        &mut self,
+        alloc: Global,
+        side: &[AtomLit],
+        from: &NumSet,
+        budget: &mut Budget,
+    ) -> Result<AskId, Halt>
+    {
+        Err(Halt::Memory)
+    }
+
+    /// The clause of a step.
+    pub(crate) fn clause(&self, alloc: Global, step: StepId) -> Result<Items<AtomLit>, Memory>
+    {
+        Err(Memory)
+    }
+
+    /// Where a step comes from.
+    pub(crate) fn origin(&self, step: StepId) -> Origin
+    {
+        Origin::Hints
     }
 
     /// Keeps the clause that was in hand when a search's budget was spent.

@@ -15,42 +15,34 @@ ghost use Rattle.atom_solver.specs.Lifted.{source_of};
 
 use crate::kept_side::KeptSide;
 use crate::origin::Origin;
+use crate::parts::Parts;
 use crate::searched::Searched;
-use atom_table::AtomTable;
 use hinted_log::MOST_STEPS;
 use meaning_atoms::{AtomLit, AxiomName};
 use oracle_face::{AskId, Encoding, Pending};
 use plain_lists::{Items, Memory};
-use plain_lits::{Budget, Halt, Lit, StepId};
-use sat_core::Solver;
+use plain_lits::{Budget, Halt, StepId};
 use set_lists::NumSet;
 use std::alloc::Global;
 use std::marker::Model;
 
 /// A solver whose clauses are over atoms. It means the log of an oracle, and the clause that was in hand when the last
-/// budget was spent. No framework is kept in it: whatever a call answers, what was a log beside a framework still is,
-/// and the log keeps its guards.
+/// budget was spent. No framework is kept in it: whatever a call answers, what was a guarded log beside a framework
+/// still is.
 #[derive(Drop)]
 pub struct AtomSolver {
-    table: AtomTable,
-    solver: Solver,
-    /// Where the first steps come from; all others follow from their hints.
-    origins: Vec<Origin>,
-    sides: Vec<KeptSide>,
-    pending: Option<Pending>,
-    /// The assumptions of the last search.
-    assumed: Vec<Lit>,
+    parts: Parts,
 }
 
 impl Model for AtomSolver {
     ghost use Rattle.atom_solver.specs.States.{AtomState};
-    ghost use Rattle.atom_solver.specs.Lifted.{state_over, IsLifting};
+    ghost use Rattle.atom_solver.specs.Inner.{state_of, IsWhole};
 
     ghost Value = { AtomState };
 
-    ghost view = { λ s. state_over s.table s.solver s.origins.items s.sides.items s.pending };
+    ghost view = { λ s. state_of s.parts };
 
-    ghost invariant = { λ s. IsLifting s.table s.solver s.origins.items };
+    ghost invariant = { λ s. IsWhole s.parts };
 }
 
 impl AtomSolver {
@@ -60,15 +52,8 @@ impl AtomSolver {
         ensures log { IfOk result (λ s. s.log ≡ empty_log log_limit) }
         ensures pending { IfOk result (λ s. s.pending ≡ None) }
     {
-        let solver = Solver::open(alloc, log_limit)?;
-        Ok(AtomSolver {
-            table: AtomTable::new(alloc),
-            solver,
-            origins: Vec::new(alloc),
-            sides: Vec::new(alloc),
-            pending: None,
-            assumed: Vec::new(alloc),
-        })
+        let parts = Parts::open(alloc, log_limit)?;
+        Ok(AtomSolver { parts })
     }
 
     /// Takes an axiom: its step comes and is in use, and no unit is spent. `LogFull` comes exactly at a full log.
@@ -80,7 +65,7 @@ impl AtomSolver {
         ensures err { OnErr result (self.new ≡ self.old) }
         ensures log { (f : Framework) → IsAxiomOf f name → IsGuardedLog f self.old.log → IsGuardedLog f self.new.log }
     {
-        Err(Halt::Memory)
+        self.parts.take_axiom(alloc, name)
     }
 
     /// The number of a side clause, which is kept with the set that it is made from. Where there is one with the same
@@ -100,7 +85,7 @@ impl AtomSolver {
             self.old.log self.new.log self.new.pending budget.old budget.new (halt_of result) }
         ensures log { StaysLog self.old.log self.new.log }
     {
-        Err(Halt::Memory)
+        self.parts.oblige(alloc, side, from, budget)
     }
 
     /// Searches for literals under which each clause in use and each goal is true, where facts are as the framework has
@@ -122,7 +107,7 @@ impl AtomSolver {
             self.new.pending budget.old budget.new (halt_of result) }
         ensures log { StaysLog self.old.log self.new.log }
     {
-        Err(Halt::Memory)
+        self.parts.search::<E>(alloc, plain, goals, budget)
     }
 
     /// Takes the clause that was in hand when the last budget was spent.
@@ -130,7 +115,7 @@ impl AtomSolver {
         ensures pending { result ≡ self.old.pending }
         ensures rest { self.new ≡ record { log = self.old.log; pending = None } }
     {
-        self.pending.take()
+        self.parts.pending.take()
     }
 
     /// The number of steps.
@@ -138,7 +123,7 @@ impl AtomSolver {
         ensures len { result ≡ length self.now.log.steps }
         ensures within { length self.now.log.steps ≤ self.now.log.limit }
     {
-        self.solver.log().len()
+        self.parts.solver.log().len()
     }
 
     /// The clause of a step.
@@ -146,7 +131,7 @@ impl AtomSolver {
         requires { IsNumberOf self.now.log.steps step }
         ensures { IfOk result (λ clause. clause ≡ (step_at self.now.log.steps step).clause) }
     {
-        Err(Memory)
+        self.parts.clause(alloc, step)
     }
 
     /// Where a step comes from.
@@ -155,7 +140,7 @@ impl AtomSolver {
         ensures { (step_at self.now.log.steps step).source
             ≡ source_of result (hints_of (step_at self.now.log.steps step).source) }
     {
-        Origin::Hints
+        self.parts.origin(step)
     }
 
     /// The side clause of a number.
@@ -163,6 +148,6 @@ impl AtomSolver {
         requires { IsNumberOf self.now.log.sides number }
         ensures { result.now ≡ side_at self.now.log.sides number }
     {
-        &self.sides[number.number() as usize - 1]
+        &self.parts.sides[number.number() as usize - 1]
     }
 }
