@@ -1,6 +1,6 @@
 -- A clause that is given comes, and is in use.
 use Rattle.std.proofs.Common.{◌≡◌, ℕ, suc, ◌+◌, ◌-◌, ◌<◌, ◌≤◌, List, [], ◌∷◌, ◌++◌, length, take, map, get_or, ap, sym, subst, ◌∙◌, refl, arith, inl, inr, ⊎_elim, add-one}
-use Rattle.std.specs.Prelude.{◌⊎◌, Contains, None, Option, slice_index_or, true, false, not}
+use Rattle.std.specs.Prelude.{◌⊎◌, Contains, Result, Ok, Err, IfOk, OnOk, OnErr, None, Option, slice_index_or, true, false, not}
 use Rattle.std.proofs.lemmas.Bool.{cases_lt}
 use Rattle.std.proofs.lemmas.List.{length_push, get_or_push, get_or_append_left, append-nil}
 use Rattle.std.proofs.lemmas.List.Elements.{Contains-append_left, Contains-push, Contains-push_cases}
@@ -9,6 +9,15 @@ use Rattle.plain_lits.specs.Literals.{IsClauseOf}
 use Rattle.plain_lits.specs.Checking.{HasRoomFor, HaveRoomFor}
 use Rattle.plain_lits.proofs.HintCheckLemmas.{Contains-mapped, Contains-from_mapped}
 use Rattle.hinted_log.specs.Logs.{Step, LogState, clauses_of, no_step, given_step, with_step}
+use Rattle.plain_lists.specs.declared.memory.Memory.{Memory}
+use Rattle.plain_lits.specs.declared.halt.Halt.{Halt}
+use Rattle.hinted_log.specs.declared.fault.LogFault.{LogFault}
+use Rattle.hinted_log.specs.declared.fault.LogFault.TheVariants.{LogFull}
+use Rattle.semantics.specs.Frameworks.{Framework}
+use Rattle.meaning_atoms.specs.declared.axiom.AxiomName.{AxiomName}
+use Rattle.certificate_claims.specs.Refutations.{IsAxiomOf}
+use Rattle.session_log.proofs.Staying.{axiom_stays}
+use Rattle.atom_solver.specs.States.{AtomState, AddsAxiom, IsGuardedLog}
 use Rattle.hinted_log.specs.declared.kind.Kind.{Kind}
 use Rattle.hinted_log.specs.declared.kind.Kind.TheVariants as kind
 use Rattle.sat_core.specs.declared.answer.Added.{Added}
@@ -170,3 +179,27 @@ stands atoms literals lits clause adds of =
             ((of.members w.0).1 (subst (λ xs. Contains xs w.0) (sym is) w.1)));
       };
     }
+
+abbrev pub added : ℕ → Result ℕ LogFault
+added number = Ok number
+
+abbrev pub refused_full : Result ℕ LogFault
+refused_full = Err LogFull
+
+pub ok_not_full : (number : ℕ) → added number ≡ refused_full → ⊥
+ok_not_full number e = cc
+
+-- ---- axioms
+
+pub axiom_guarded : (r : Result (Unit {0}) Halt) (name : AxiomName) (old new : AtomState) (f : Framework)
+    → OnOk r (AddsAxiom name old new) → OnErr r (new ≡ old) → IsAxiomOf f name → IsGuardedLog f old.log
+    → IsGuardedLog f new.log
+axiom_guarded (Ok u) name old new f ok err is h =
+    let stays = axiom_stays f name ok.clause old.log new.log h.form h.guards is ok.takes in
+    record { form = stays.form; guards = stays.guards }
+axiom_guarded (Err halt) name old new f ok err is h = subst (λ (s : AtomState). IsGuardedLog f s.log) (sym err) h
+
+pub stands_if : (atoms : List Atom) (literals : List AtomLit) (lits : List Lit) (r : Result (List Lit) Memory)
+    → AddsLits atoms literals [] lits → IfOk r (IsClauseOf lits) → IfOk r (StandsFor atoms literals)
+stands_if atoms literals lits (Ok clause) adds of = stands atoms literals lits clause adds of
+stands_if atoms literals lits (Err m) adds of = of

@@ -107,6 +107,7 @@ impl Parts {
         requires whole { IsWhole self.old }
         ensures whole { IsWhole self.new }
         ensures state { state_of self.new ≡ state_of self.old }
+        ensures solver { self.new.solver ≡ self.old.solver }
         ensures sides { self.new.sides ≡ self.old.sides }
         ensures clause { IfOk result (StandsFor self.new.table literals.now) }
     {
