@@ -183,10 +183,10 @@ stands atoms literals lits clause adds of =
 abbrev pub added : ℕ → Result ℕ LogFault
 added number = Ok number
 
-abbrev pub refused_full : Result ℕ LogFault
-refused_full = Err LogFull
+abbrev pub refused : LogFault → Result ℕ LogFault
+refused fault = Err fault
 
-pub ok_not_full : (number : ℕ) → added number ≡ refused_full → ⊥
+pub ok_not_full : (number : ℕ) → added number ≡ refused LogFull → ⊥
 ok_not_full number e = cc
 
 -- ---- axioms

@@ -6,4 +6,5 @@ pub mod Lifting
 pub mod Listing
 pub mod Running
 pub mod Searching
+pub mod Siding
 pub mod TableLemmas

@@ -57,7 +57,7 @@ listed_more at m (suc n) le =
     (cases_lt m (suc n))
 
 -- how many are counted from a number on, where all are and where none is
-counted_push : {X : Type 0} (p : X → Bool) (xs : List X) (x : X)
+pub counted_push : {X : Type 0} (p : X → Bool) (xs : List X) (x : X)
     → count_by p (xs ++ x ∷ []) ≡ count_by p xs + cond (p x) 1 0
 counted_push p xs x = sum_by_push (λ y. cond (p y) 1 0) xs x
 

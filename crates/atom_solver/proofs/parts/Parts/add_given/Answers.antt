@@ -1,13 +1,14 @@
-use Rattle.std.proofs.Common.{◌≡◌, ◌++◌, ◌∷◌, [], ◌<◌, length, rules, sym, subst, ◌∙◌, ⊎_elim, arith}
+use Rattle.std.proofs.Common.{◌≡◌, ◌++◌, ◌∷◌, [], ◌<◌, length, rules, ap, sym, subst, ◌∙◌, ⊎_elim, arith}
 use Rattle.std.proofs.lemmas.Bool.{cases_lt}
 use Rattle.atom_solver.specs.Inner.{IsFilled}
 use Rattle.atom_solver.specs.Lifted.{IsLifting}
-use Rattle.atom_solver.proofs.Giving.{gains_of, not_rejected, given_gains, given_whole, filled_whole, ok_not_full}
+use Rattle.atom_solver.proofs.Giving.{gains_of, not_rejected, given_gains, given_whole, filled_whole, ok_not_full, refused}
 use Rattle.atom_solver.proofs.parts.Parts.add_given.Goals as goal
 
 pub unreachable-requires : goal.unreachable-requires
-unreachable-requires c = not_rejected _ _ c.args.how _ c.requires.how
-    (let h = c.in-Err-Rejected.ensures.rejected in let e = c.in-Err-Rejected.field-0-is in ?)
+unreachable-requires c =
+    not_rejected c.args.self.now.solver.log c.args.clause c.args.how c.in-Err-Rejected.field-0-0 c.requires.how
+    (c.in-Err-Rejected.ensures.rejected c.in-Err-Rejected.field-0-0 (ap refused c.in-Err-Rejected.field-0-is))
 
 pub returns-in-Ok-clause-whole : goal.returns-in-Ok-clause-whole
 returns-in-Ok-clause-whole c =

@@ -1,0 +1,9 @@
+use Rattle.std.proofs.Common.{ap, sym, ◌∙◌}
+use Rattle.oracle_face.specs.Logs.{SideClause}
+use Rattle.atom_solver.proofs.Siding.{literals_decide, told_same}
+use Rattle.atom_solver.proofs.kept_side.KeptSide.is.Goals as goal
+
+pub returns : goal.returns
+returns c =
+    let same = c.as_slice.ensures ∙ ap (λ (s : SideClause). s.literals) c.self.view_is in
+    told_same c.eq.result c.as_slice.result.now c.args.self.now.literals c.args.literals.now c.eq.ensures same
