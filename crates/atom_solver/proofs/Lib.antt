@@ -4,6 +4,8 @@ pub mod Giving
 pub mod Learning
 pub mod Lifting
 pub mod Listing
+pub mod Obliging
+pub mod Reading
 pub mod Running
 pub mod Searching
 pub mod Siding

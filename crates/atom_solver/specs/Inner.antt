@@ -1,12 +1,15 @@
 -- The inner state of a solver over atoms, which no caller sees.
-use Rattle.std.specs.Prelude.{◌≡◌, ℕ, ◌≤◌, List, length, slice_index_or, Option, None, Some}
+use Rattle.std.specs.Prelude.{◌≡◌, ℕ, ◌+◌, ◌≤◌, List, [], ◌∷◌, ◌++◌, length, slice_index_or, Option, None, Some}
 use Rattle.atom_solver.specs.declared.origin.Origin.{Origin}
 use Rattle.atom_solver.specs.declared.origin.Origin.TheVariants.{Hints}
 use Rattle.meaning_atoms.specs.declared.atom.Atom.{Atom}
 use Rattle.oracle_face.specs.declared.face.Pending.{Pending as Kept}
-use Rattle.oracle_face.specs.declared.face.Pending.TheVariants.{Learned}
-use Rattle.oracle_face.specs.Logs.{Source}
-use Rattle.session_log.specs.Steps.{GainsStep, own_step}
+use Rattle.oracle_face.specs.declared.face.Pending.TheVariants.{Learned, Side as OfSide}
+use Rattle.oracle_face.specs.Logs.{Source, IsSameClause, by_side, guarded}
+use Rattle.plain_lits.specs.Units.{Units}
+use Rattle.plain_lits.specs.declared.halt.Halt.{Halt}
+use Rattle.plain_lits.specs.declared.halt.Halt.TheVariants.{Spent, LogFull, Memory}
+use Rattle.session_log.specs.Steps.{GainsStep, own_step, side_made}
 use Rattle.meaning_atoms.specs.declared.atom.AtomLit.{AtomLit}
 use Rattle.sat_core.specs.declared.answer.Added.{Added}
 use Rattle.sat_core.specs.declared.answer.Added.TheVariants.{Axiom, Side, Derived}
@@ -61,3 +64,30 @@ pub record GainsGiven (clause : List AtomLit) (source : Source) (old new : AtomS
 pub record IsFilled (old new : List Origin) (steps : ℕ) : Type 0 where
   pub within : length new ≤ steps
   pub same : (k : ℕ) → slice_index_or new k Hints ≡ slice_index_or old k Hints
+
+-- a side clause comes with its step, which is in use
+pub record KeepsSide (literals : List AtomLit) (set : List ℕ) (old new : AtomState) (number : ℕ) : Type 0 where
+  pub next : number ≡ length old.log.sides + 1
+  pub clause : List AtomLit
+  pub same : IsSameClause clause (guarded number literals)
+  pub gains : GainsStep (own_step clause (by_side number)) (old.log.sides ++ side_made literals set ∷ []) old.log
+      new.log
+
+-- the budget was spent, and the side clause is kept
+pub record IsSideSpent (literals : List AtomLit) (set : List ℕ) (new : AtomState) (before after : Units)
+    (count : ℕ) : Type 0 where
+  pub is_limit : count ≡ after.limit
+  pub is_used : count ≡ after.used
+  pub unspent : after.used ≡ before.used
+  pub kept : new.pending ≡ Some (OfSide literals set)
+
+-- the log is full, and nothing was spent
+pub record IsSideFull (new : AtomState) (before after : Units) : Type 0 where
+  pub full : length new.log.steps ≡ new.log.limit
+  pub unspent : after.used ≡ before.used
+
+-- why a side clause wasn't added
+abbrev pub StopsSide : List AtomLit → List ℕ → AtomState → Units → Units → Halt → Type 0
+StopsSide literals set new before after (Spent count) = IsSideSpent literals set new before after count
+StopsSide literals set new before after LogFull = IsSideFull new before after
+StopsSide literals set new before after Memory = Unit {0}

@@ -1,6 +1,6 @@
 //! What a solver over atoms is made of.
 
-ghost use Rattle.std.specs.Prelude.{◌≡◌, ◌↔◌, ℕ, ◌≤◌, [], length, List, IfOk, OnOk, OnErr, Contains, ◌<◌, vec_len, vec_capacity};
+ghost use Rattle.std.specs.Prelude.{◌+◌, ◌-◌, IfErr, slice_index_or, ◌≡◌, ◌↔◌, ℕ, ◌≤◌, [], length, List, IfOk, OnOk, OnErr, Contains, ◌<◌, vec_len, vec_capacity};
 ghost use Rattle.plain_lits.specs.declared.lit.Lit.{Lit as ALit};
 ghost use Rattle.plain_lits.specs.HintCheck.{IsTautology};
 ghost use Rattle.plain_lits.specs.Literals.{negation};
@@ -10,18 +10,23 @@ ghost use Rattle.certificate_claims.specs.Refutations.{axiom_clause};
 ghost use Rattle.plain_lits.specs.Checking.{HasRoomFor};
 ghost use Rattle.meaning_atoms.specs.declared.atom.AtomLit.{AtomLit as AnAtomLit};
 ghost use Rattle.meaning_atoms.specs.Literals.{negated};
-ghost use Rattle.oracle_face.specs.Growing.{HasRun, NoSide, halt_of};
+ghost use Rattle.oracle_face.specs.Goals.{IsSide};
+ghost use Rattle.oracle_face.specs.Growing.{HasRun, NoSide, Obliges, OnlySide, halt_of};
+ghost use Rattle.oracle_face.specs.Logs.{IsNumberOf, step_at};
+ghost use Rattle.atom_solver.specs.Sides.{IsOrdered};
+ghost use Rattle.atom_solver.specs.declared.origin.Origin.TheVariants.{Hints};
 ghost use Rattle.atom_solver.specs.Assumed.{AreAssumed};
-ghost use Rattle.atom_solver.specs.Inner.{state_of, GainsGiven, IsFilled, IsKept, IsWhole, KeepsInHand, NeedsNoHints, Tells};
+ghost use Rattle.atom_solver.specs.Inner.{state_of, GainsGiven, IsFilled, IsKept, IsWhole};
+ghost use Rattle.atom_solver.specs.Inner.{KeepsInHand, KeepsSide, NeedsNoHints, StopsSide, Tells};
 ghost use Rattle.atom_solver.specs.Searches.{IsAnswer, AreUnfixed, ends_in};
 ghost use Rattle.atom_solver.specs.Lifted.{atoms_of, source_of};
 ghost use Rattle.atom_solver.specs.States.{AddsAxiom, IsAxiomName, IsGuardedLog, StaysLog, empty_state};
 ghost use Rattle.atom_solver.specs.Tables.{StandsFor};
 
-use crate::kept_side::KeptSide;
+use crate::kept_side::{KeptSide, find, guarded_literals, in_order, number_at};
 use crate::origin::Origin;
 use crate::searched::Searched;
-use crate::tables::{assume_facts, over_atoms, push_lits_for};
+use crate::tables::{assume_facts, over_atoms, packed_over_atoms, push_lits_for};
 use af_axioms::clause_of;
 use atom_table::AtomTable;
 use hinted_log::{LogFault, MOST_STEPS};
@@ -57,6 +62,15 @@ fn fill(origins: &mut Vec<Origin>, steps: usize) -> Result<(), Memory>
 {
     origins.resize(steps, Origin::Hints)?;
     origins.reserve(1)?;
+    Ok(())
+}
+
+/// Makes room for one more side clause.
+fn make_room(sides: &mut Vec<KeptSide>) -> Result<(), Memory>
+    ensures same { sides.new.items ≡ sides.old.items }
+    ensures room { OnOk result (vec_len sides.new < vec_capacity sides.new) }
+{
+    sides.reserve(1)?;
     Ok(())
 }
 
@@ -175,6 +189,59 @@ impl Parts {
         Ok(())
     }
 
+    /// Keeps a side clause with its step.
+    fn keep_side(
+        &mut self,
+        alloc: Global,
+        literals: Items<AtomLit>,
+        set: NumSet,
+    ) -> Result<AskId, Halt>
+        requires whole { IsWhole self.old }
+        requires ordered { IsOrdered literals }
+        ensures whole { IsWhole self.new }
+        ensures ok { IfOk result (KeepsSide literals set (state_of self.old) (state_of self.new)) }
+        ensures full { result ≡ Err Halt.LogFull
+            → length self.old.solver.log.steps ≡ self.old.solver.log.limit }
+        ensures unspent { (count : ℕ) → result ≡ Err (Halt.Spent count) → ⊥ }
+        ensures err { OnErr result (state_of self.new ≡ state_of self.old) }
+    {
+        let number = number_at(self.sides.len())?;
+        let guarded = guarded_literals(alloc, number, literals.as_slice())?;
+        let clause = self.stand_for(alloc, guarded.as_slice())?;
+        make_room(&mut self.sides)?;
+        self.add_given(clause, Added::Side, Origin::Side(number))?;
+        let _ = self.sides.push(KeptSide { literals, set });
+        Ok(number)
+    }
+
+    /// Adds a side clause that isn't there, for which a unit is spent.
+    fn add_side(
+        &mut self,
+        alloc: Global,
+        literals: Items<AtomLit>,
+        from: &NumSet,
+        budget: &mut Budget,
+    ) -> Result<AskId, Halt>
+        requires whole { IsWhole self.old }
+        requires ordered { IsOrdered literals }
+        ensures whole { IsWhole self.new }
+        ensures ok { IfOk result (KeepsSide literals from.now (state_of self.old) (state_of self.new)) }
+        ensures spent { OnOk result (budget.new.used ≡ budget.old.used + 1) }
+        ensures limit { budget.new.limit ≡ budget.old.limit }
+        ensures log { OnErr result ((state_of self.new).log ≡ (state_of self.old).log) }
+        ensures stops { IfErr result (StopsSide literals from.now (state_of self.new) budget.old budget.new) }
+    {
+        if self.solver.log().is_full() {
+            return Err(Halt::LogFull);
+        }
+        let set = from.copy(alloc)?;
+        if !budget.spend() {
+            self.pending = Some(Pending::Side(literals, set));
+            return Err(Halt::Spent(budget.used()));
+        }
+        self.keep_side(alloc, literals, set)
+    }
+
     /// The number of a side clause.
     pub(crate) fn oblige(
         &mut self,
@@ -183,19 +250,44 @@ impl Parts {
         from: &NumSet,
         budget: &mut Budget,
     ) -> Result<AskId, Halt>
+        requires whole { IsWhole self.old }
+        requires side { IsSide side.now }
+        ensures whole { IsWhole self.new }
+        ensures obliges { (f : Framework) → IsGuardedLog f (state_of self.old).log
+            → IfOk result (Obliges side.now (state_of self.old).log (state_of self.new).log) }
+        ensures run { (f : Framework) → IsGuardedLog f (state_of self.old).log
+            → HasRun (OnlySide side.now from.now) 0 f (state_of self.old).log (state_of self.new).log self.new.pending
+            budget.old budget.new (halt_of result) }
+        ensures log { StaysLog (state_of self.old).log (state_of self.new).log }
     {
-        Err(Halt::Memory)
+        let literals = in_order(alloc, side)?;
+        match find(self.sides.as_slice(), literals.as_slice()) {
+            Some(index) => {
+                let number = number_at(index)?;
+                Ok(number)
+            }
+            None => self.add_side(alloc, literals, from, budget),
+        }
     }
 
     /// The clause of a step.
     pub(crate) fn clause(&self, alloc: Global, step: StepId) -> Result<Items<AtomLit>, Memory>
+        requires whole { IsWhole self.now }
+        requires step { IsNumberOf (state_of self.now).log.steps step }
+        ensures { IfOk result (λ clause. clause ≡ (step_at (state_of self.now).log.steps step).clause) }
     {
-        Err(Memory)
+        packed_over_atoms(alloc, &self.table, self.solver.log().clause(step))
     }
 
     /// Where a step comes from.
     pub(crate) fn origin(&self, step: StepId) -> Origin
+        requires { 0 < step }
+        ensures { result ≡ slice_index_or self.now.origins.items (step - 1) Hints }
     {
+        let index = step.number() as usize - 1;
+        if index < self.origins.len() {
+            return self.origins[index];
+        }
         Origin::Hints
     }
 

@@ -10,7 +10,7 @@ use atom_table::AtomTable;
 use meaning_atoms::{Atom, AtomLit};
 use oracle_face::Encoding;
 use plain_lists::{Items, Memory};
-use plain_lits::Lit;
+use plain_lits::{Lit, PackedLit};
 use sat_core::Solver;
 use std::alloc::Global;
 
@@ -24,6 +24,27 @@ pub(crate) fn over_atoms(
 {
     let mut literals = Items::new(alloc);
     for lit in lits {
+        if lit.var < table.len() {
+            literals.push(AtomLit {
+                atom: table.atom_at(lit.var),
+                positive: lit.positive,
+            })?;
+        }
+    }
+    Ok(literals)
+}
+
+/// The literals of a clause of the log that have atoms, over atoms.
+pub(crate) fn packed_over_atoms(
+    alloc: Global,
+    table: &AtomTable,
+    clause: &[PackedLit],
+) -> Result<Items<AtomLit>, Memory>
+    ensures { IfOk result (λ literals. literals ≡ told table.now clause.now) }
+{
+    let mut literals = Items::new(alloc);
+    for packed in clause {
+        let lit = packed.lit();
         if lit.var < table.len() {
             literals.push(AtomLit {
                 atom: table.atom_at(lit.var),
