@@ -68,7 +68,7 @@ spent_not_memory count e = cc
 full_not_memory : halted LogFull ≡ halted Memory → ⊥
 full_not_memory e = cc
 
-unless_all : (P : Type 0) (halt : Option Halt) → P → UnlessMemory halt P
+pub unless_all : (P : Type 0) (halt : Option Halt) → P → UnlessMemory halt P
 unless_all P None p = p
 unless_all P (Some (Spent count)) p = p
 unless_all P (Some LogFull) p = p

@@ -20,6 +20,7 @@ pub record IsSideAt (sides : List SideClause) (literals : List AtomLit) (index :
   pub within : index < length sides
   pub is : (slice_index_or sides index no_side).literals ≡ literals
 
--- no side clause has these literals, in their order
+-- each side clause has its literals in order, and none has these
 pub record IsNowhere (sides : List SideClause) (literals : List AtomLit) : Type 0 where
+  pub ordered : (k : ℕ) → k < length sides → IsOrdered (slice_index_or sides k no_side).literals
   pub none : (k : ℕ) → k < length sides → (slice_index_or sides k no_side).literals ≢ literals

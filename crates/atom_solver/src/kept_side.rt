@@ -3,7 +3,7 @@
 ghost use Rattle.std.specs.Prelude.{◌≡◌, ◌↔◌, ◌+◌, IfNone, IfOk, IfSome, IsTrue};
 ghost use Rattle.meaning_atoms.specs.declared.atom.Atom.TheVariants.{Ask};
 ghost use Rattle.oracle_face.specs.Logs.{guarded};
-ghost use Rattle.atom_solver.specs.Sides.{IsOrderOf, IsSideAt, IsNowhere};
+ghost use Rattle.atom_solver.specs.Sides.{IsOrderOf, IsOrdered, IsSideAt, IsNowhere};
 
 use meaning_atoms::{Atom, AtomLit};
 use oracle_face::AskId;
@@ -50,7 +50,8 @@ pub(crate) fn in_order(alloc: Global, literals: &[AtomLit]) -> Result<Items<Atom
 impl KeptSide {
     /// Whether the side clause has these literals.
     fn is(&self, literals: &[AtomLit]) -> bool
-        ensures { IsTrue result ↔ (self.now.literals ≡ literals.now) }
+        ensures same { IsTrue result ↔ (self.now.literals ≡ literals.now) }
+        ensures ordered { IsOrdered self.now.literals }
     {
         self.literals.as_slice() == literals
     }
