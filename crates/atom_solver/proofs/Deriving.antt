@@ -45,7 +45,6 @@ front_clause steps k n low high =
 
 module _ (atoms : List Atom) (s : SolverState) (origins : List Origin) (different : AreDifferent atoms)
     (room : HaveRoomFor (length atoms) (clauses_of s.log.steps)) where
-
   abbrev pub lifted_upto : ℕ → List LogStep
   lifted_upto k = listed (lifted_at atoms s origins) k
 
@@ -230,9 +229,11 @@ room_upto vars old new room derives (suc n) le k lt =
     (get_or new.log.steps n no_step).hints from.0 h.taken from.1 in
     let low = named.from_one in
     let high = named.within in
-    let long : length (clauses_of (take n new.log.steps)) ≡ n = omega
-    (arith, length-map (take n new.log.steps) (λ (x : Step). x.clause),
-    length-take-le n new.log.steps (omega arith)) in
+    let long : length (clauses_of (take n new.log.steps)) ≡ n = omega (
+      arith,
+      length-map (take n new.log.steps) (λ (x : Step). x.clause),
+      length-take-le n new.log.steps (omega arith),
+    ) in
     let lower : from.0 - 1 < n = omega arith in
     before (from.0 - 1) lower l
     (subst (λ clause. Contains clause l) (front_clause new.log.steps n from.0 low (omega arith)) from.2))

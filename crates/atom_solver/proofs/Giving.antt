@@ -68,7 +68,6 @@ not_rejected log clause (Derived hints) place needs h = needs
 module _ (atoms : List Atom) (old new : SolverState) (clause : List Lit) (g : Gains old new clause)
     (origins filled pushed : List Origin) (origin : Origin) (same : IsFilled origins filled (length old.log.steps))
     (long : length filled ≡ length old.log.steps) (is : pushed ≡ filled ++ origin ∷ []) where
-
   step_old : (k : ℕ) → k < length old.log.steps → get_or new.log.steps k no_step ≡ get_or old.log.steps k no_step
   step_old k lt = ap (λ xs. get_or xs k no_step) g.steps
       ∙ get_or_append_left old.log.steps (given_step clause g.kind_is ∷ []) no_step k lt
@@ -137,8 +136,13 @@ module _ (atoms : List Atom) (old new : SolverState) (clause : List Lit) (g : Ga
         (subst (λ xs. Contains xs l) (sym (ap (λ (x : Step). x.clause) last ∙ w.2)) c_l))
         (Contains-push_cases old.log.steps (given_step clause g.kind_is) w.0
         (subst (λ xs. Contains xs w.0) g.steps w.1));
-    marked = omega (arith, ap length g.steps, length_push old.log.steps (given_step clause g.kind_is), ap length is,
-        length_push filled origin);
+    marked = omega (
+      arith,
+      ap length g.steps,
+      length_push old.log.steps (given_step clause g.kind_is),
+      ap length is,
+      length_push filled origin,
+    );
   }
 
 -- origins that were said again

@@ -97,8 +97,7 @@ lit_back atoms clause l different room known c =
 pub tautology_back : (atoms : List Atom) (clause : List Lit) → AreDifferent atoms → HasRoomFor (length atoms) clause
     → IsTautology negated (atoms_of atoms clause) → IsTautology negation clause
 tautology_back atoms clause different room t =
-    let w = Contains-from_mapped (lit_of atoms) clause t.0 t.1 in
-    (
+    let w = Contains-from_mapped (lit_of atoms) clause t.0 t.1 in (
       w.0,
       w.1,
       lit_back atoms clause (negation w.0) different room (room w.0 w.1)

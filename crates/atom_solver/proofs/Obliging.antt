@@ -129,8 +129,7 @@ side_works f side literals set clause old new before after guarded_log is same_s
     let facts = side_facts f n side clause is to_side in
     let units = ap (count_by is_unit) steps ∙ counted_push is_unit old.steps step in
     let closings = ap (count_by (λ (s : LogStep). s.closing)) steps
-    ∙ counted_push (λ (s : LogStep). s.closing) old.steps step in
-    (
+    ∙ counted_push (λ (s : LogStep). s.closing) old.steps step in (
       record {
         fresh = λ k low high unit.
             let is_last : length old.steps ≡ k = omega arith in
@@ -166,100 +165,99 @@ obliged_found side literals log f index order at h =
 
 module _ (side literals : List AtomLit) (from : List ℕ) (old new : AtomState) (f : Framework) (is : IsSide side)
     (order : IsOrderOf side literals) (none : IsNowhere old.log.sides literals) (guarded_log : IsGuardedLog f old.log)
-    where
+  where
+    pub added_guarded : (r : Result ℕ Halt) → IfOk r (KeepsSide literals from old new) → OnErr r (new.log ≡ old.log)
+        → IsGuardedLog f new.log
+    added_guarded (Ok number) ok err =
+        let takes = takes_side side literals from old new number is order none ok in
+        let stays = side_stays f literals from ok.clause old.log new.log guarded_log.form guarded_log.guards takes in
+        record { form = stays.form; guards = stays.guards }
+    added_guarded (Err halt) ok err = subst (IsGuardedLog f) (sym err) guarded_log
 
-  pub added_guarded : (r : Result ℕ Halt) → IfOk r (KeepsSide literals from old new) → OnErr r (new.log ≡ old.log)
-      → IsGuardedLog f new.log
-  added_guarded (Ok number) ok err =
-      let takes = takes_side side literals from old new number is order none ok in
-      let stays = side_stays f literals from ok.clause old.log new.log guarded_log.form guarded_log.guards takes in
-      record { form = stays.form; guards = stays.guards }
-  added_guarded (Err halt) ok err = subst (IsGuardedLog f) (sym err) guarded_log
+    pub added_obliges : (r : Result ℕ Halt) → IfOk r (KeepsSide literals from old new)
+        → IfOk r (Obliges side old.log new.log)
+    added_obliges (Ok number) ok =
+        let takes = takes_side side literals from old new number is order none ok in
+        let stays = side_stays f literals from ok.clause old.log new.log guarded_log.form guarded_log.guards takes in
+        let sides = takes.gains.sides_now in
+        let next = ok.next in
+        let named : IsNumberOf new.log.sides number = record {
+          from_one = omega arith;
+          within = omega (arith, ap length sides, length_push old.log.sides (side_made literals from));
+        } in
+        let has = stays.guards.stepped number named in
+        let here : side_at new.log.sides number ≡ side_made literals from =
+        ap (λ xs. side_at xs number) sides
+        ∙ get_or_push old.log.sides (side_made literals from) no_side (number - 1) (omega arith) in
+        record {
+          named = named;
+          same = subst (λ (s : SideClause). IsSameClause s.literals side) (sym here) order.same;
+          stepped = (has.number, has.named, has.source);
+          there = λ n other same. absurd (takes.other n other
+              (chained (side_at old.log.sides n).literals side literals same (turned literals side order.same)));
+        }
+    added_obliges (Err halt) ok = tt
 
-  pub added_obliges : (r : Result ℕ Halt) → IfOk r (KeepsSide literals from old new)
-      → IfOk r (Obliges side old.log new.log)
-  added_obliges (Ok number) ok =
-      let takes = takes_side side literals from old new number is order none ok in
-      let stays = side_stays f literals from ok.clause old.log new.log guarded_log.form guarded_log.guards takes in
-      let sides = takes.gains.sides_now in
-      let next = ok.next in
-      let named : IsNumberOf new.log.sides number = record {
-        from_one = omega arith;
-        within = omega (arith, ap length sides, length_push old.log.sides (side_made literals from));
-      } in
-      let has = stays.guards.stepped number named in
-      let here : side_at new.log.sides number ≡ side_made literals from =
-      ap (λ xs. side_at xs number) sides
-      ∙ get_or_push old.log.sides (side_made literals from) no_side (number - 1) (omega arith) in
-      record {
-        named = named;
-        same = subst (λ (s : SideClause). IsSameClause s.literals side) (sym here) order.same;
-        stepped = (has.number, has.named, has.source);
-        there = λ n other same. absurd (takes.other n other
-            (chained (side_at old.log.sides n).literals side literals same (turned literals side order.same)));
-      }
-  added_obliges (Err halt) ok = tt
+    same_run : (before after : Units) (pending : Option Pending) (halt : Option Halt) → new.log ≡ old.log
+        → after.limit ≡ before.limit → after.used ≡ before.used
+        → IsStop (OnlySide side from) f new.log pending after halt
+        → HasRun (OnlySide side from) 0 f old.log new.log pending before after halt
+    same_run before after pending halt e limit used stop = record {
+      grows = subst (Grows (OnlySide side from) old.log) (sym e) (grows_same (OnlySide side from) old.log);
+      limit = limit;
+      works = unless_all _ halt (subst (λ (g : OracleLog). Works f old.log g before after) (sym e) (record {
+        fresh = λ k low high unit. absurd (omega arith);
+        facts = λ k low high unit. absurd (omega arith);
+        counted = omega arith;
+      }));
+      closing = unless_all _ halt (let same : closings_of new.log ≡ closings_of old.log = ap closings_of e in
+          omega arith);
+      stop = stop;
+    }
 
-  same_run : (before after : Units) (pending : Option Pending) (halt : Option Halt) → new.log ≡ old.log
-      → after.limit ≡ before.limit → after.used ≡ before.used
-      → IsStop (OnlySide side from) f new.log pending after halt
-      → HasRun (OnlySide side from) 0 f old.log new.log pending before after halt
-  same_run before after pending halt e limit used stop = record {
-    grows = subst (Grows (OnlySide side from) old.log) (sym e) (grows_same (OnlySide side from) old.log);
-    limit = limit;
-    works = unless_all _ halt (subst (λ (g : OracleLog). Works f old.log g before after) (sym e) (record {
-      fresh = λ k low high unit. absurd (omega arith);
-      facts = λ k low high unit. absurd (omega arith);
-      counted = omega arith;
-    }));
-    closing = unless_all _ halt (let same : closings_of new.log ≡ closings_of old.log = ap closings_of e in
-        omega arith);
-    stop = stop;
-  }
-
-  pub added_run : (r : Result ℕ Halt) (before after : Units) → IfOk r (KeepsSide literals from old new)
-      → OnOk r (after.used ≡ before.used + 1) → after.limit ≡ before.limit → OnErr r (new.log ≡ old.log)
-      → IfErr r (StopsSide literals from new before after)
-      → HasRun (OnlySide side from) 0 f old.log new.log new.pending before after (halt_of r)
-  added_run (Ok number) before after ok spent limit err stops =
-      let takes = takes_side side literals from old new number is order none ok in
-      let stays = side_stays f literals from ok.clause old.log new.log guarded_log.form guarded_log.guards takes in
-      let works = side_works f side literals from ok.clause old.log new.log before after guarded_log is order.same takes
-      spent in
-      let closings = works.1 in
-      record {
-        grows = grows_as (OnlySide literals from) (OnlySide side from) old.log new.log
-            (λ ls set made. (chained ls literals side made.0 order.same, made.1)) stays.grows;
-        limit = limit;
-        works = works.0;
-        closing = omega arith;
-        stop = tt;
-      }
-  added_run (Err (Spent count)) before after ok spent limit err stops =
-      same_run before after new.pending (Some (Spent count)) err limit stops.unspent (record {
-        is_limit = stops.is_limit;
-        is_used = stops.is_used;
-        in_hand = OfSide literals from;
-        kept = stops.kept;
-        further = (
-          (order.same, refl),
-          λ n named same.
-              let low = named.from_one in
-              let sides : new.log.sides ≡ old.log.sides = ap (λ (g : OracleLog). g.sides) err in
-              let there = subst (λ xs. IsNumberOf xs n) sides named in
-              let high = there.within in
-              none.none (n - 1) (omega arith)
-              (same_literals (side_at old.log.sides n).literals literals (none.ordered (n - 1) (omega arith))
-              order.ordered_is
-              (subst (λ xs. IsSameClause (side_at xs n).literals literals) sides same)),
-        );
-      })
-  added_run (Err LogFull) before after ok spent limit err stops =
-      same_run before after new.pending (Some LogFull) err limit stops.unspent stops.full
-  added_run (Err Memory) before after ok spent limit err stops = record {
-    grows = subst (Grows (OnlySide side from) old.log) (sym err) (grows_same (OnlySide side from) old.log);
-    limit = limit;
-    works = tt;
-    closing = tt;
-    stop = tt;
-  }
+    pub added_run : (r : Result ℕ Halt) (before after : Units) → IfOk r (KeepsSide literals from old new)
+        → OnOk r (after.used ≡ before.used + 1) → after.limit ≡ before.limit → OnErr r (new.log ≡ old.log)
+        → IfErr r (StopsSide literals from new before after)
+        → HasRun (OnlySide side from) 0 f old.log new.log new.pending before after (halt_of r)
+    added_run (Ok number) before after ok spent limit err stops =
+        let takes = takes_side side literals from old new number is order none ok in
+        let stays = side_stays f literals from ok.clause old.log new.log guarded_log.form guarded_log.guards takes in
+        let works = side_works f side literals from ok.clause old.log new.log before after guarded_log is order.same takes
+        spent in
+        let closings = works.1 in
+        record {
+          grows = grows_as (OnlySide literals from) (OnlySide side from) old.log new.log
+              (λ ls set made. (chained ls literals side made.0 order.same, made.1)) stays.grows;
+          limit = limit;
+          works = works.0;
+          closing = omega arith;
+          stop = tt;
+        }
+    added_run (Err (Spent count)) before after ok spent limit err stops =
+        same_run before after new.pending (Some (Spent count)) err limit stops.unspent (record {
+          is_limit = stops.is_limit;
+          is_used = stops.is_used;
+          in_hand = OfSide literals from;
+          kept = stops.kept;
+          further = (
+            (order.same, refl),
+            λ n named same.
+                let low = named.from_one in
+                let sides : new.log.sides ≡ old.log.sides = ap (λ (g : OracleLog). g.sides) err in
+                let there = subst (λ xs. IsNumberOf xs n) sides named in
+                let high = there.within in
+                none.none (n - 1) (omega arith)
+                (same_literals (side_at old.log.sides n).literals literals (none.ordered (n - 1) (omega arith))
+                order.ordered_is
+                (subst (λ xs. IsSameClause (side_at xs n).literals literals) sides same)),
+          );
+        })
+    added_run (Err LogFull) before after ok spent limit err stops =
+        same_run before after new.pending (Some LogFull) err limit stops.unspent stops.full
+    added_run (Err Memory) before after ok spent limit err stops = record {
+      grows = subst (Grows (OnlySide side from) old.log) (sym err) (grows_same (OnlySide side from) old.log);
+      limit = limit;
+      works = tt;
+      closing = tt;
+      stop = tt;
+    }

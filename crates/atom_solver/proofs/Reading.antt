@@ -48,6 +48,11 @@ source_again (Axiom name) hints = refl
 source_again (Side n) hints = refl
 source_again Hints hints = refl
 
+none_of : (origin : Origin) (hints : List ℕ) → (origin ≡ Hints → ⊥) → [] ≡ hints_of (source_of origin hints)
+none_of (Axiom name) hints ne = refl
+none_of (Side n) hints ne = refl
+none_of Hints hints ne = absurd (ne refl)
+
 pub source_read : (atoms : List Atom) (s : SolverState) (origins : List Origin) (number : ℕ) (origin : Origin)
     → IsNumberOf (listed (lifted_at atoms s origins) (length s.log.steps)) number
     → origin ≡ get_or origins (number - 1) Hints
@@ -61,3 +66,24 @@ source_read atoms s origins number origin is e =
     ∙ (ap (λ o. source_of o (hints_of (source_of (get_or origins (number - 1) Hints)
     (get_or s.log.steps (number - 1) hinted.no_step).hints))) (sym e)
     ∙ ap (λ src. source_of origin (hints_of src)) (sym here)))
+
+pub hints_none : (atoms : List Atom) (s : SolverState) (origins : List Origin) (number : ℕ) (origin : Origin)
+    → IsNumberOf (listed (lifted_at atoms s origins) (length s.log.steps)) number
+    → origin ≡ get_or origins (number - 1) Hints → (origin ≡ Hints → ⊥)
+    → [] ≡ hints_of (step_at (listed (lifted_at atoms s origins) (length s.log.steps)) number).source
+hints_none atoms s origins number origin is e ne =
+    let step = step_named atoms s origins number is in
+    none_of origin (get_or s.log.steps (number - 1) hinted.no_step).hints ne
+    ∙ sym (ap (λ (x : LogStep). hints_of x.source)
+    (step_lifted atoms s origins (length s.log.steps) number step.from_one step.within)
+    ∙ ap (λ o. hints_of (source_of o (get_or s.log.steps (number - 1) hinted.no_step).hints)) (sym e))
+
+pub hints_read : (atoms : List Atom) (s : SolverState) (origins : List Origin) (number : ℕ) (hints : List ℕ)
+    → IsNumberOf (listed (lifted_at atoms s origins) (length s.log.steps)) number
+    → Hints ≡ get_or origins (number - 1) Hints → hints ≡ (hinted.step_at s.log.steps number).hints
+    → hints ≡ hints_of (step_at (listed (lifted_at atoms s origins) (length s.log.steps)) number).source
+hints_read atoms s origins number hints is e read =
+    let step = step_named atoms s origins number is in
+    read ∙ sym (ap (λ (x : LogStep). hints_of x.source)
+    (step_lifted atoms s origins (length s.log.steps) number step.from_one step.within)
+    ∙ ap (λ o. hints_of (source_of o (get_or s.log.steps (number - 1) hinted.no_step).hints)) (sym e))

@@ -116,7 +116,6 @@ module _ (atoms : List Atom) (old new : SolverState) (origins : List Origin) (si
     (room : HaveRoomFor (length atoms) (clauses_of new.log.steps)) (marked : length origins ≤ length old.log.steps)
     (are : AreAssumed f atoms goals assumed) (named : AreNamed old) (keeps : Keeps old new)
     (before after : Units) (limit : after.limit ≡ before.limit) where
-
   pub run_of : (learned : SolverState) (count most : ℕ) (pending : Option Pending) (halt : Option Halt)
       → Learns assumed (begun old) learned count → LeavesAs learned new → after.used ≡ before.used + count
       → length new.log.steps ≤ length old.log.steps + count + most
@@ -127,7 +126,7 @@ module _ (atoms : List Atom) (old new : SolverState) (origins : List Origin) (si
       let gained = gained_of atoms old learned new origins different room assumed count learns named marked left in
       let front = front_same atoms old new origins sides keeps in
       let closings : closings_of (log_over atoms new origins sides)
-          ≡ closings_of (log_over atoms old origins sides) + (length new.log.steps - (length old.log.steps + count)) =
+      ≡ closings_of (log_over atoms old origins sides) + (length new.log.steps - (length old.log.steps + count)) =
       subst (λ (g : OracleLog). closings_of (log_over atoms new origins sides)
       ≡ closings_of g + (length new.log.steps - (length old.log.steps + count))) front
       (gained_closings atoms new origins different room assumed sides (length old.log.steps)

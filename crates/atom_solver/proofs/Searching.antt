@@ -72,7 +72,6 @@ facts_false f atoms goals assumed clause are room unassumed = record {
 
 module _ (atoms : List Atom) (s : SolverState) (origins : List Origin) (different : AreDifferent atoms)
     (room : HaveRoomFor (length atoms) (clauses_of s.log.steps)) where
-
   abbrev pub lifted_to : ℕ → List LogStep
   lifted_to k = listed (lifted_at atoms s origins) k
 
@@ -85,8 +84,7 @@ module _ (atoms : List Atom) (s : SolverState) (origins : List Origin) (differen
       let kept = (Contains-filter (λ (x : LogStep). not x.closing) (lifted_to n) w.0).0 w.1 in
       let at = Contains-listed (lifted_at atoms s origins) n w.0 kept.0 in
       let used : not (not (in_use s.active (at.0 + 1))) ≡ true =
-      ap (λ (x : LogStep). not x.closing) at.2 ∙ kept.1 in
-      (
+      ap (λ (x : LogStep). not x.closing) at.2 ∙ kept.1 in (
         at.0,
         at.1,
         in_use_gives s.active (at.0 + 1) (twice (in_use s.active (at.0 + 1)) used),
@@ -150,7 +148,7 @@ module _ (atoms : List Atom) (s : SolverState) (origins : List Origin) (differen
       let no = none_counted is_unit at learned n within
       (λ k low high. unit_used k (omega arith) ∙ ap (λ b. not (not b)) (gained.unused k low high)) in
       let is_learned : (k : ℕ) → first ≤ k → k < n → is_unit (get_or (lifted_to n) k face.no_step) ≡ true
-          → IsLearnedAt assumed s k =
+      → IsLearnedAt assumed s k =
       λ k low high unit.
       ⊎_elim (λ lt. gained.each k low lt)
       (λ ge. absurd (false≢true (sym (unit_used k (omega arith)
@@ -206,7 +204,7 @@ module _ (atoms : List Atom) (s : SolverState) (origins : List Origin) (differen
   model_satisfies f goals assumed lits values sides are model read =
       let n = length s.log.steps in
       let fact_there : (v : ℕ) → v < length atoms → IsFact f (atom_at atoms v)
-          → (p : Bool) × Contains lits (of_var v p) × IsFactValue f (atom_at atoms v) p =
+      → (p : Bool) × Contains lits (of_var v p) × IsFactValue f (atom_at atoms v) p =
       λ v lt fact.
       let is = are.facts v lt fact in
       (is.value, model.assumed (of_var v is.value) is.there, is.so) in
@@ -229,8 +227,7 @@ module _ (atoms : List Atom) (s : SolverState) (origins : List Origin) (differen
             let one = model.satisfied (at.0 + 1) at.2 in
             let here : at.0 + 1 - 1 ≡ at.0 = omega arith in
             let there : Contains (get_or s.log.steps at.0 no_step).clause one.0 =
-            subst (λ i. Contains (get_or s.log.steps i no_step).clause one.0) here one.1 in
-            (
+            subst (λ i. Contains (get_or s.log.steps i no_step).clause one.0) here one.1 in (
               lit_of atoms one.0,
               subst (λ xs. Contains xs (lit_of atoms one.0)) at.3
                   (Contains-mapped (lit_of atoms) (get_or s.log.steps at.0 no_step).clause one.0 there),
@@ -283,8 +280,7 @@ module _ (atoms : List Atom) (s : SolverState) (origins : List Origin) (differen
   unit_further f goals assumed clause hints sides are unit clause_room =
       let n = length s.log.steps in
       let follows = shown_follows atoms s origins different room n clause hints (omega arith) clause_room
-      (shown_as s (front s n) clause hints (take_all n s.log.steps (omega arith)) (λ number c. c) unit.shown) in
-      (
+      (shown_as s (front s n) clause hints (take_all n s.log.steps (omega arith)) (λ number c. c) unit.shown) in (
         new_there n clause (omega arith) clause_room unit.fresh.plain
             (λ number c le holds. unit.fresh.holds_none number c holds),
         facts_false f atoms goals assumed clause are clause_room unit.unassumed,

@@ -48,7 +48,6 @@ tail_rises R x xs h = λ i j d lt within. h (suc i) (suc j) d (omega arith) (ome
 
 module _ {K : Type 0} (R : K → K → Ordering) (o : IsTotalOrder R) (equal : (x y : K) → (R x y ≡ Equal) ↔ (x ≡ y))
     (E : K → K → Bool) (decides : (x y : K) → (E x y ≡ true) ↔ (x ≡ y)) where
-
   behind : (x : K) (xs : List K) → Rise R (x ∷ xs) → (y : K) → Contains xs y → R x y ≡ Less
   behind x xs h y c =
       let within = c.1 in

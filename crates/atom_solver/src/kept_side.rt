@@ -48,6 +48,20 @@ pub(crate) fn in_order(alloc: Global, literals: &[AtomLit]) -> Result<Items<Atom
 }
 
 impl KeptSide {
+    /// The literals, in rising order and each once.
+    pub fn literals(&self) -> &[AtomLit]
+        ensures { result.now ≡ self.now.literals }
+    {
+        self.literals.as_slice()
+    }
+
+    /// The set that the side clause is made from.
+    pub fn set(&self) -> &NumSet
+        ensures { result.now ≡ self.now.set }
+    {
+        &self.set
+    }
+
     /// Whether the side clause has these literals.
     fn is(&self, literals: &[AtomLit]) -> bool
         ensures same { IsTrue result ↔ (self.now.literals ≡ literals.now) }

@@ -12,7 +12,7 @@ ghost use Rattle.meaning_atoms.specs.declared.atom.AtomLit.{AtomLit as AnAtomLit
 ghost use Rattle.meaning_atoms.specs.Literals.{negated};
 ghost use Rattle.oracle_face.specs.Goals.{IsSide};
 ghost use Rattle.oracle_face.specs.Growing.{HasRun, NoSide, Obliges, OnlySide, halt_of};
-ghost use Rattle.oracle_face.specs.Logs.{IsNumberOf, step_at};
+ghost use Rattle.oracle_face.specs.Logs.{IsNumberOf, hints_of, step_at};
 ghost use Rattle.atom_solver.specs.Sides.{IsOrdered};
 ghost use Rattle.atom_solver.specs.declared.origin.Origin.TheVariants.{Hints};
 ghost use Rattle.atom_solver.specs.Assumed.{AreAssumed};
@@ -34,8 +34,8 @@ use meaning_atoms::{AtomLit, AxiomName};
 use oracle_face::{AskId, Encoding, Pending};
 use plain_lists::{Items, Memory};
 use plain_lits::{Budget, Clause, Halt, Lit, StepId};
-use set_lists::NumSet;
 use sat_core::{Added, Solved, Solver};
+use set_lists::NumSet;
 use std::alloc::Global;
 
 /// The solver with the table of its atoms, and what its log over atoms has besides.
@@ -289,6 +289,17 @@ impl Parts {
             return self.origins[index];
         }
         Origin::Hints
+    }
+
+    /// The steps that a step follows from.
+    pub(crate) fn hints(&self, step: StepId) -> &[StepId]
+        requires { IsNumberOf (state_of self.now).log.steps step }
+        ensures { result.now ≡ hints_of (step_at (state_of self.now).log.steps step).source }
+    {
+        match self.origin(step) {
+            Origin::Hints => self.solver.log().hints(step),
+            _ => &[],
+        }
     }
 
     /// Keeps the clause that was in hand when a search's budget was spent.

@@ -143,6 +143,14 @@ impl AtomSolver {
         self.parts.origin(step)
     }
 
+    /// The steps that a step follows from; none where it is an axiom or the step of a side clause.
+    pub fn hints(&self, step: StepId) -> &[StepId]
+        requires { IsNumberOf self.now.log.steps step }
+        ensures { result.now ≡ hints_of (step_at self.now.log.steps step).source }
+    {
+        self.parts.hints(step)
+    }
+
     /// The side clause of a number.
     pub fn side(&self, number: AskId) -> &KeptSide
         requires { IsNumberOf self.now.log.sides number }

@@ -17,11 +17,11 @@ loop-var-preserved g c =
     let var = c.loop-var.var in
     let there = atom_there table var c.atom_at-atom.result c.atom_at-atom.ensures in
     elim c.match-fact.branch [
-      in-Some+in_ok-push w ↦
-        rw w.assumed-is (facts_yes f table var w.in-Some.positive c.loop-var.assumed.items w.push.new.self.items
-        (subst (λ atom. IsFactValue f atom w.in-Some.positive) there w.in-Some.ensures.some)
-        w.in_ok-push.ensures.items c.loop-var.invariant)
+      | in-Some+in_ok-push w ↦
+          rw w.assumed-is (facts_yes f table var w.in-Some.positive c.loop-var.assumed.items w.push.new.self.items
+          (subst (λ atom. IsFactValue f atom w.in-Some.positive) there w.in-Some.ensures.some)
+          w.in_ok-push.ensures.items c.loop-var.invariant)
       | in_default w ↦
-        rw w.assumed-is (facts_no f table var c.loop-var.assumed.items
-        (λ fact. w.in_default.ensures.none (subst (IsFact f) (sym there) fact)) c.loop-var.invariant)
+          rw w.assumed-is (facts_no f table var c.loop-var.assumed.items
+          (λ fact. w.in_default.ensures.none (subst (IsFact f) (sym there) fact)) c.loop-var.invariant)
     ]

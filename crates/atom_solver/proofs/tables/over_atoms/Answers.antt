@@ -18,17 +18,17 @@ loop-lit-preserved c =
     let is : get_or c.args.lits.now i l ≡ l = get_or_default c.args.lits.now i l blank c.loop-lit-test.true in
     let table = c.len.ensures.len in
     elim c.if-lit-len.branch [
-      then-lit-len+in_ok-push w ↦
-        let known : l.var < length c.args.table.now = omega (arith, w.if-lit-len.true, table) in
-        let pushed = w.in_ok-push.ensures.ok
-        ∙ ap (λ atom. c.loop-lit.literals ++ (record { atom = atom; positive = l.positive }) ∷ [])
-        (atom_there c.args.table.now l.var w.atom_at.result w.atom_at.ensures) in
-        told_yes c.args.table.now c.args.lits.now i l c.loop-lit.literals c.if-lit-len.literals c.loop-lit-test.true is
-        known c.loop-lit.invariant (w.literals-is ∙ pushed)
+      | then-lit-len+in_ok-push w ↦
+          let known : l.var < length c.args.table.now = omega (arith, w.if-lit-len.true, table) in
+          let pushed = w.in_ok-push.ensures.ok
+          ∙ ap (λ atom. c.loop-lit.literals ++ (record { atom = atom; positive = l.positive }) ∷ [])
+          (atom_there c.args.table.now l.var w.atom_at.result w.atom_at.ensures) in
+          told_yes c.args.table.now c.args.lits.now i l c.loop-lit.literals c.if-lit-len.literals c.loop-lit-test.true is
+          known c.loop-lit.invariant (w.literals-is ∙ pushed)
       | else-lit-len w ↦
-        w.literals-is
-        ∙ told_no c.args.table.now c.args.lits.now i l c.loop-lit.literals c.loop-lit-test.true is
-        (omega (arith, w.if-lit-len.false, table)) c.loop-lit.invariant
+          w.literals-is
+          ∙ told_no c.args.table.now c.args.lits.now i l c.loop-lit.literals c.loop-lit-test.true is
+          (omega (arith, w.if-lit-len.false, table)) c.loop-lit.invariant
     ]
 
 pub returns : goal.returns

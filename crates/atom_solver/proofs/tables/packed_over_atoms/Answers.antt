@@ -18,17 +18,17 @@ loop-packed-preserved c =
     ∙ (sym c.packed-item.is ∙ sym e) in
     let table = c.len.ensures.len in
     elim c.if-lit-len.branch [
-      then-lit-len+in_ok-push w ↦
-        let known : l.var < length c.args.table.now = omega (arith, w.if-lit-len.true, table) in
-        let pushed = w.in_ok-push.ensures.ok
-        ∙ ap (λ atom. c.loop-packed.literals ++ (record { atom = atom; positive = l.positive }) ∷ [])
-        (atom_there c.args.table.now l.var w.atom_at.result w.atom_at.ensures) in
-        told_yes c.args.table.now clause i l c.loop-packed.literals c.if-lit-len.literals c.loop-packed-test.true at
-        known c.loop-packed.invariant (w.literals-is ∙ pushed)
+      | then-lit-len+in_ok-push w ↦
+          let known : l.var < length c.args.table.now = omega (arith, w.if-lit-len.true, table) in
+          let pushed = w.in_ok-push.ensures.ok
+          ∙ ap (λ atom. c.loop-packed.literals ++ (record { atom = atom; positive = l.positive }) ∷ [])
+          (atom_there c.args.table.now l.var w.atom_at.result w.atom_at.ensures) in
+          told_yes c.args.table.now clause i l c.loop-packed.literals c.if-lit-len.literals c.loop-packed-test.true at
+          known c.loop-packed.invariant (w.literals-is ∙ pushed)
       | else-lit-len w ↦
-        w.literals-is
-        ∙ told_no c.args.table.now clause i l c.loop-packed.literals c.loop-packed-test.true at
-        (omega (arith, w.if-lit-len.false, table)) c.loop-packed.invariant
+          w.literals-is
+          ∙ told_no c.args.table.now clause i l c.loop-packed.literals c.loop-packed-test.true at
+          (omega (arith, w.if-lit-len.false, table)) c.loop-packed.invariant
     ]
 
 pub returns : goal.returns
