@@ -1,5 +1,7 @@
 -- Steps by their parts, side by side.
-use Rattle.std.proofs.Common.{◌≡◌, ℕ, zero, suc, ◌<◌, List, [], ◌∷◌, ◌++◌, length, get_or, arith, ap, refl}
+use Rattle.std.proofs.Common.{◌≡◌, ℕ, zero, suc, ◌<◌, ◌-◌, List, [], ◌∷◌, ◌++◌, length, get_or, take, arith, ap, refl}
+use Rattle.std.proofs.Common.{◌∙◌}
+use Rattle.std.proofs.lemmas.List.{length-take-le}
 use Rattle.std.proofs.Common.{false}
 use Rattle.std.specs.Prelude.{Result, Ok, Err, OnOk}
 use Rattle.std.specs.Result.{is_err}
@@ -66,6 +68,35 @@ pub pushed_step : (cs ncs : List (List Lit)) (ks nks : List Kind) (hs nhs : List
     → AreParts cs ks hs → ncs ≡ cs ++ c ∷ [] → nks ≡ ks ++ k ∷ [] → nhs ≡ hs ++ h ∷ []
     → steps_of ncs nks nhs ≡ steps_of cs ks hs ++ step_of c k h ∷ []
 pushed_step cs ncs ks nks hs nhs c k h p e1 e2 e3 = rw (e1, e2, e3) (steps_of-push cs ks hs c k h p)
+
+-- the first steps, by the first parts
+pub steps_of-take : (n : ℕ) (cs : List (List Lit)) (ks : List Kind) (hs : List (List ℕ)) → AreParts cs ks hs
+    → steps_of (take n cs) (take n ks) (take n hs) ≡ take n (steps_of cs ks hs)
+steps_of-take zero cs ks hs p = refl
+steps_of-take (suc n) [] ks hs p = refl
+steps_of-take (suc n) (c ∷ cs) [] hs p = absurd (no_kinds c cs hs p)
+steps_of-take (suc n) (c ∷ cs) (k ∷ ks) [] p = absurd (no_hints c cs (k ∷ ks) p)
+steps_of-take (suc n) (c ∷ cs) (k ∷ ks) (h ∷ hs) p =
+    ap (λ rest. step_of c k h ∷ rest) (steps_of-take n cs ks hs (rest_parts c cs k ks h hs p))
+
+-- the parts after a pop, and the steps, by what the parts become
+pub popped_parts : (cs ncs : List (List Lit)) (ks nks : List Kind) (hs nhs : List (List ℕ)) → AreParts cs ks hs
+    → 0 < length cs → ncs ≡ take (length cs - 1) cs → nks ≡ take (length cs - 1) ks → nhs ≡ take (length hs - 1) hs
+    → AreParts ncs nks nhs
+popped_parts cs ncs ks nks hs nhs p some e1 e2 e3 =
+    let a = p.kinds_long in
+    let b = p.hints_long in
+    let l1 = ap length e1 ∙ length-take-le (length cs - 1) cs (omega arith) in
+    let l2 = ap length e2 ∙ length-take-le (length cs - 1) ks (omega arith) in
+    let l3 = ap length e3 ∙ length-take-le (length hs - 1) hs (omega arith) in
+    record { kinds_long = omega arith; hints_long = omega arith }
+
+pub popped_steps : (cs ncs : List (List Lit)) (ks nks : List Kind) (hs nhs : List (List ℕ)) → AreParts cs ks hs
+    → ncs ≡ take (length cs - 1) cs → nks ≡ take (length cs - 1) ks → nhs ≡ take (length hs - 1) hs
+    → steps_of ncs nks nhs ≡ take (length (steps_of cs ks hs) - 1) (steps_of cs ks hs)
+popped_steps cs ncs ks nks hs nhs p e1 e2 e3 =
+    let b : length hs ≡ length cs = p.hints_long in
+    rw (e1, e2, e3, b, length-steps_of cs ks hs p) (steps_of-take (length cs - 1) cs ks hs p)
 
 -- what a success promises, where there was no error
 pub given_ok : {T E : Type 0} (r : Result T E) (P : Type 0) → OnOk r P → false ≡ is_err r → P

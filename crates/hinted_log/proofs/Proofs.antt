@@ -1,11 +1,12 @@
 -- Logs as proofs, as steps are added.
 use Rattle.std.proofs.Common.{◌≡◌, ◌≢◌, ℕ, ◌≤◌, ◌-◌, List, [], ◌∷◌, ◌++◌, length, length-append, get_or}
-use Rattle.std.proofs.Common.{arith, ap, sym, ◌∙◌, refl, ⊎_elim, Ok, take, Bool, false}
-use Rattle.std.specs.Prelude.{◌↔◌, IsTrue}
+use Rattle.std.proofs.Common.{◌<◌, arith, ap, sym, subst, ◌∙◌, refl, ⊎_elim, Ok, take, drop, Bool, false}
+use Rattle.std.specs.Prelude.{◌↔◌, Contains, IsTrue}
 use Rattle.std.proofs.lemmas.Bool.{cases_lt, false≢true}
 use Rattle.std.proofs.lemmas.List.{get_or_append_left, get_or-append_right, take-append-le, length-take-le}
+use Rattle.std.proofs.lemmas.List.{take-take, get_or-take, take-map, take-append-drop}
 use Rattle.std.proofs.Math.Seq.{take-append_seam}
-use Rattle.std.proofs.lemmas.List.Elements.{Contains-push_cases}
+use Rattle.std.proofs.lemmas.List.Elements.{Contains-push_cases, Contains-append_left}
 use Rattle.plain_lits.specs.declared.lit.Lit.{Lit}
 use Rattle.plain_lits.specs.Literals.{negation}
 use Rattle.plain_lits.specs.HintCheck.{Checks}
@@ -81,6 +82,30 @@ stored_more limit steps new step truths now vars more h e le ne given room is_ne
           (λ (last : step.clause ≡ clause). room l (rw (← last) at k))
           (Contains-push_cases (clauses_of steps) step.clause clause (rw (clauses_of-push steps step) at c));
     })
+
+-- and with fewer steps
+pub stored_less : (log : LogState) (truths : List Lit) (vars n : ℕ) → IsStored log truths vars → n ≤ length log.steps
+    → IsStored (log_of log.limit (take n log.steps)) truths vars
+stored_less log truths vars n h le =
+    let long : length (take n log.steps) ≡ n = length-take-le n log.steps le in
+    let within = h.form.within in
+    record {
+      form = record {
+        proof = record {
+          each = λ k lt.
+              let below : k < n = omega arith in
+              rw (take-take k n log.steps (omega arith), get_or-take n log.steps k no_step below)
+              (h.form.proof.each k (omega arith));
+        };
+        within = omega arith;
+        small = h.form.small;
+      };
+      clear = h.clear;
+      room = λ clause c. h.room clause
+          (subst (λ xs. Contains xs clause) (take-append-drop n (clauses_of log.steps))
+          (Contains-append_left (take n (clauses_of log.steps)) (drop n (clauses_of log.steps)) clause
+          (subst (λ xs. Contains xs clause) (sym (take-map (λ (s : Step). s.clause) n log.steps)) c)));
+    }
 
 -- a test that came out false says that its fact doesn't hold
 pub not_so : (b : Bool) (P : Type 0) → (IsTrue b ↔ P) → b ≡ false → P → ⊥

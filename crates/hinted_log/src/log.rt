@@ -6,7 +6,7 @@ ghost use Rattle.plain_lists.specs.Members.{IsSetOf};
 ghost use Rattle.plain_lits.specs.Literals.{negation};
 ghost use Rattle.plain_lits.specs.HintCheck.{Checks};
 ghost use Rattle.hinted_log.specs.Logs.{IsLog, IsGiven, IsStepOf, AddsStep, Reaches, AddsDerived, clauses_of};
-ghost use Rattle.hinted_log.specs.Logs.{step_at, given_step, derived_step};
+ghost use Rattle.hinted_log.specs.Logs.{log_of, step_at, given_step, derived_step};
 ghost use Rattle.hinted_log.specs.Follows.{FollowsFromHints, FollowsFromReached};
 ghost use Rattle.plain_lits.specs.Checking.{HasRoomFor, IsPackable};
 ghost use Rattle.hinted_log.specs.declared.log.TheConstants.{MOST_STEPS};
@@ -152,6 +152,14 @@ impl Log {
                 Ok(StepId::new(self.steps.len() as u32))
             }
         }
+    }
+
+    /// Takes the last step away.
+    pub fn take_back(&mut self)
+        requires { 0 < length self.old.steps }
+        ensures { self.new ≡ log_of self.old.limit (take (length self.old.steps - 1) self.old.steps) }
+    {
+        self.steps.pop();
     }
 
     /// The clause of a step.

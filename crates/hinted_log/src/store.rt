@@ -1,6 +1,6 @@
 //! Steps in flat storage.
 
-ghost use Rattle.std.specs.Prelude.{◌≡◌, ◌<◌, [], ◌∷◌, ◌++◌, length, OnOk, OnErr, slice_index_or};
+ghost use Rattle.std.specs.Prelude.{◌≡◌, ◌<◌, ◌-◌, [], ◌∷◌, ◌++◌, length, take, OnOk, OnErr, slice_index_or};
 ghost use Rattle.hinted_log.specs.Logs.{no_step, clauses_of};
 
 use crate::kind::Kind;
@@ -99,5 +99,16 @@ impl Store {
         }
         let _ = self.kinds.push(kind);
         Ok(())
+    }
+
+    /// Takes the last step away.
+    pub(crate) fn pop(&mut self)
+        requires { 0 < length self.old }
+        ensures { self.new ≡ take (length self.old - 1) self.old }
+    {
+        let kept = self.clauses.len() - 1;
+        self.clauses.pop();
+        self.kinds.truncate(kept);
+        self.hints.pop();
     }
 }

@@ -21,7 +21,7 @@ use Rattle.sat_core.specs.Solving.{SolverState, Learns, one_more, IsModel}
 use Rattle.sat_core.specs.Solving.{HasSearched, IsSolver, begun, Records}
 use Rattle.sat_core.specs.Mirrors.{IsMirror}
 use Rattle.sat_core.specs.Turns.{state_of, LearnsOne, EndsAt, StopsAt, HasRun, Tells}
-use Rattle.sat_core.proofs.Mirroring.{mirror_more, mirror_grown, id_of}
+use Rattle.sat_core.proofs.Mirroring.{mirror_more, id_of}
 
 -- one clause more is learned
 pub learns_more : (old mid new : SolverState) (assumptions : List Lit) (count : ℕ) → Learns assumptions old mid count
@@ -121,13 +121,13 @@ mirror_recorded clauses new_clauses active new_active log new_log clause number 
     (sym r.steps)
     (mirror_more clauses active log.steps r.step m)))
 
-pub mirror_unused : (clauses new_clauses : List (List Lit)) (active new_active : List ℕ) (log new_log : LogState)
-    (clause : List Lit) (number : ℕ) → Recorded log new_log clause number → new_clauses ≡ clauses
-    → new_active ≡ active → IsMirror clauses active log.steps → IsMirror new_clauses new_active new_log.steps
-mirror_unused clauses new_clauses active new_active log new_log clause number r e1 e2 m =
+pub mirror_as : (clauses new_clauses : List (List Lit)) (active new_active : List ℕ) (log new_log : LogState)
+    → new_clauses ≡ clauses → new_active ≡ active → new_log ≡ log → IsMirror clauses active log.steps
+    → IsMirror new_clauses new_active new_log.steps
+mirror_as clauses new_clauses active new_active log new_log e1 e2 e3 m =
     subst (λ xs. IsMirror xs new_active new_log.steps) (sym e1)
     (subst (λ xs. IsMirror clauses xs new_log.steps) (sym e2)
-    (subst (λ xs. IsMirror clauses active xs) (sym r.steps) (mirror_grown clauses active log.steps r.step m)))
+    (subst (λ (g : LogState). IsMirror clauses active g.steps) (sym e3) m))
 
 -- what callers see of it
 pub solver_form : (s : SolverState) (clauses : List (List Lit)) → IsLog s.log → IsMirror clauses s.active s.log.steps

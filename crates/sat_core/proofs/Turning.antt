@@ -137,6 +137,12 @@ core_served state s assumptions clause number shallow run assumed served = recor
   closed = inl refl;
 }
 
+pub core_shown : (state : SolverState) (s : Search) (clause : List Lit) (ids hints : List ℕ)
+    → IsMirror s.clauses state.active state.log.steps → IsLearned s.clauses s.lits clause ids
+    → hints ≡ map (step_of state.active) ids → IsShown state clause hints
+core_shown state s clause ids hints m l e =
+    subst (IsShown state clause) (sym e) (shown_of state s.clauses clause ids m l.taken l.used l.from_hints)
+
 pub core_derived : (state : SolverState) (log : LogState) (s : Search) (assumptions clause : List Lit)
     (ids hints : List ℕ) (number : ℕ)
     → IsMirror s.clauses state.active state.log.steps → length s.starts ≤ 1 → IsRun assumptions s
@@ -159,8 +165,7 @@ core_derived state log s assumptions clause ids hints number m shallow run l ass
       closed = inr (record {
         clause = clause;
         hints = hints;
-        shown = subst (IsShown state clause) (sym e)
-            (shown_of state s.clauses clause ids m l.taken l.used l.from_hints);
+        shown = core_shown state s clause ids hints m l e;
         holds_none = none;
         next = d.next;
         log_is = d.log_is;

@@ -1,6 +1,6 @@
 -- What contracts see of a solver, and what a search tells and leaves.
-use Rattle.std.specs.Prelude.{◌≡◌, ◌⊎◌, ℕ, ◌+◌, List, [], ◌∷◌, ◌++◌, length, Contains, Option, None, Some}
-use Rattle.std.specs.Prelude.{Result, Ok, Err}
+use Rattle.std.specs.Prelude.{◌≡◌, ◌⊎◌, ℕ, ◌+◌, ◌<◌, ◌≤◌, List, [], ◌∷◌, ◌++◌, length, take, Contains, Option, None, Some}
+use Rattle.std.specs.Prelude.{Result, Ok, Err, slice_index_or}
 use Rattle.std.specs.List.Sorted.{IsStrictlyIncreasing}
 use Rattle.plain_lits.specs.declared.lit.Lit.{Lit}
 use Rattle.plain_lits.specs.declared.halt.Halt.{Halt}
@@ -8,7 +8,7 @@ use Rattle.plain_lits.specs.declared.halt.Halt.TheVariants.{Spent, LogFull, Memo
 use Rattle.plain_lits.specs.Literals.{negation}
 use Rattle.plain_lits.specs.HintCheck.{IsTautology, Checks}
 use Rattle.plain_lits.specs.Units.{Units}
-use Rattle.hinted_log.specs.Logs.{Step, LogState, IsLog, IsStepOf, step_at, clauses_of, given_step, derived_step}
+use Rattle.hinted_log.specs.Logs.{Step, LogState, log_of, no_step, IsLog, IsStepOf, step_at, clauses_of, given_step, derived_step}
 use Rattle.hinted_log.specs.Logs.{AddsStep, AddsDerived}
 use Rattle.hinted_log.specs.declared.kind.Kind.TheVariants as kind
 use Rattle.sat_core.specs.declared.answer.Added.{Added}
@@ -141,11 +141,27 @@ pub record HasSearched (old new : SolverState) (assumptions : List Lit) (before 
   pub spent : after.used ≡ before.used + count
   pub ends : EndsAs learned new assumptions after result
 
--- whatever a call tells, the log and the steps in use are the same from the front on
+-- whatever a call tells, the log and the steps in use are the same from the front on, and what comes into use is new
 pub record Keeps (old new : SolverState) : Type 0 where
   pub limit : new.log.limit ≡ old.log.limit
   pub more_steps : (more : List Step) × (new.log.steps ≡ old.log.steps ++ more)
   pub more_active : (more : List ℕ) × (new.active ≡ old.active ++ more)
+  pub later : (number : ℕ) → Contains new.active number → Contains old.active number
+      ⊎ (length old.log.steps < number)
+
+-- a solver with so many of its first steps
+abbrev pub front : SolverState → ℕ → SolverState
+front s k = record { log = log_of s.log.limit (take k s.log.steps); active = s.active; pending = s.pending }
+
+-- the step at an index is shown by steps in use before it
+pub record IsShownAt (s : SolverState) (k : ℕ) : Type 0 where
+  pub shown : IsShown (front s k) (slice_index_or s.log.steps k no_step).clause
+      (slice_index_or s.log.steps k no_step).hints
+
+-- whatever a search tells, each step that comes is shown by steps in use before it
+pub record Derives (old new : SolverState) : Type 0 where
+  pub keeps : Keeps old new
+  pub each : (k : ℕ) → length old.log.steps ≤ k → k < length new.log.steps → IsShownAt new k
 
 -- a log gains a clause as one that is given or derived, and the step gets the next number
 abbrev pub Records : LogState → LogState → List Lit → Added → ℕ → Type 0

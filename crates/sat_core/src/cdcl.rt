@@ -6,7 +6,7 @@ ghost use Rattle.plain_lits.specs.Literals.{negation};
 ghost use Rattle.hinted_log.specs.declared.log.TheConstants.{MOST_STEPS};
 ghost use Rattle.unit_propagate.specs.Search.{IsConflict};
 ghost use Rattle.sat_core.specs.Runs.{IsRun};
-ghost use Rattle.sat_core.specs.Solving.{IsUnitOf, EndsCore, HasSearched, AddsTo, IsRejected, Keeps, with_unit};
+ghost use Rattle.sat_core.specs.Solving.{IsUnitOf, EndsCore, HasSearched, AddsTo, IsRejected, Keeps, Derives, with_unit};
 ghost use Rattle.sat_core.specs.Turns.{state_of, IsKept, IsAtRest, IsAsserting, IsTurn, HasRun, StopsAt, Goes, Tells};
 
 use crate::answer::{Added, Pending, Solved};
@@ -90,7 +90,7 @@ impl Cdcl {
     }
 
     /// Takes a learned clause: the log gains it, and at the level where it is unit its literal becomes true.
-    #[tactic(auto, using(crate::proofs::Keeping::keeps_logs))]
+    #[tactic(auto, using(crate::proofs::Keeping::derives_logs))]
     fn take(
         &mut self,
         assumptions: &[Lit],
@@ -105,7 +105,7 @@ impl Cdcl {
         requires asserting { IsAsserting self.old.descent.search learned.now.level learned.now.clause
             learned.now.asserting }
         ensures kept { IsKept self.new }
-        ensures keeps { Keeps (state_of self.old) (state_of self.new) }
+        ensures derives { Derives (state_of self.old) (state_of self.new) }
         ensures run { OnOk result (IsRun assumptions.now self.new.descent.search) }
         ensures state { OnOk result (state_of self.new ≡ with_unit (state_of self.old) learned.now.clause hints.now) }
     {
@@ -124,7 +124,7 @@ impl Cdcl {
     }
 
     /// Learns from a conflict above the first level, where the budget has a unit for that.
-    #[tactic(auto, using(crate::proofs::Keeping::keeps_logs))]
+    #[tactic(auto, using(crate::proofs::Keeping::derives_logs))]
     fn learn_from(
         &mut self,
         assumptions: &[Lit],
@@ -136,7 +136,7 @@ impl Cdcl {
         requires deep { 1 < length self.old.descent.search.starts }
         requires conflict { IsConflict self.old.descent.search.clauses self.old.descent.search.lits conflict }
         ensures kept { IsKept self.new }
-        ensures keeps { Keeps (state_of self.old) (state_of self.new) }
+        ensures derives { Derives (state_of self.old) (state_of self.new) }
         ensures goes { OnOk result (Goes (state_of self.old) self.new assumptions.now budget.old budget.new) }
         ensures stops { IfErr result (StopsAt (state_of self.old) self.new assumptions.now budget.old budget.new) }
         ensures limit { budget.new.limit ≡ budget.old.limit }
@@ -164,14 +164,14 @@ impl Cdcl {
     }
 
     /// Ends a search by a step that refutes the assumptions: one that is there, or one that is derived.
-    #[tactic(auto, using(crate::proofs::Keeping::keeps_logs))]
+    #[tactic(auto, using(crate::proofs::Keeping::derives_logs))]
     fn close(&mut self, assumptions: &[Lit], conflict: u32) -> Result<StepId, Halt>
         requires kept { IsKept self.old }
         requires run { IsRun assumptions.now self.old.descent.search }
         requires shallow { length self.old.descent.search.starts ≤ 1 }
         requires conflict { IsConflict self.old.descent.search.clauses self.old.descent.search.lits conflict }
         ensures kept { IsKept self.new }
-        ensures keeps { Keeps (state_of self.old) (state_of self.new) }
+        ensures derives { Derives (state_of self.old) (state_of self.new) }
         ensures core { IfOk result (EndsCore (state_of self.old) (state_of self.new) assumptions.now) }
         ensures full { result ≡ Err Halt.LogFull → (state_of self.new ≡ state_of self.old)
             × (length self.new.ledger.log.steps ≡ self.new.ledger.log.limit) }
@@ -193,13 +193,13 @@ impl Cdcl {
     }
 
     /// Resolves a conflict: it ends the search on the first level, and else a clause is learned.
-    #[tactic(auto, using(crate::proofs::Keeping::keeps_logs))]
+    #[tactic(auto, using(crate::proofs::Keeping::derives_logs))]
     fn resolve(&mut self, assumptions: &[Lit], conflict: u32, budget: &mut Budget) -> Option<End>
         requires kept { IsKept self.old }
         requires run { IsRun assumptions.now self.old.descent.search }
         requires conflict { IsConflict self.old.descent.search.clauses self.old.descent.search.lits conflict }
         ensures kept { IsKept self.new }
-        ensures keeps { Keeps (state_of self.old) (state_of self.new) }
+        ensures derives { Derives (state_of self.old) (state_of self.new) }
         ensures turn { IsTurn (state_of self.old) self.new assumptions.now budget.old budget.new result }
         ensures limit { budget.new.limit ≡ budget.old.limit }
     {
@@ -219,12 +219,12 @@ impl Cdcl {
     }
 
     /// Goes on until a conflict is resolved or all variables have values.
-    #[tactic(auto, using(crate::proofs::Keeping::keeps_logs))]
+    #[tactic(auto, using(crate::proofs::Keeping::derives_logs))]
     fn turn(&mut self, assumptions: &[Lit], budget: &mut Budget) -> Option<End>
         requires kept { IsKept self.old }
         requires run { IsRun assumptions.now self.old.descent.search }
         ensures kept { IsKept self.new }
-        ensures keeps { Keeps (state_of self.old) (state_of self.new) }
+        ensures derives { Derives (state_of self.old) (state_of self.new) }
         ensures turn { IsTurn (state_of self.old) self.new assumptions.now budget.old budget.new result }
         ensures limit { budget.new.limit ≡ budget.old.limit }
     {
@@ -238,12 +238,12 @@ impl Cdcl {
     }
 
     /// Searches until an end. Each turn but the last spends a unit of the budget.
-    #[tactic(auto, using(crate::proofs::Keeping::keeps_logs))]
+    #[tactic(auto, using(crate::proofs::Keeping::derives_logs))]
     pub(crate) fn run(&mut self, assumptions: &[Lit], budget: &mut Budget) -> End
         requires kept { IsKept self.old }
         requires run { IsRun assumptions.now self.old.descent.search }
         ensures kept { IsKept self.new }
-        ensures keeps { Keeps (state_of self.old) (state_of self.new) }
+        ensures derives { Derives (state_of self.old) (state_of self.new) }
         ensures run { HasRun (state_of self.old) self.new assumptions.now budget.old budget.new result }
         ensures limit { budget.new.limit ≡ budget.old.limit }
     {
@@ -257,7 +257,7 @@ impl Cdcl {
         }
     }
 
-    /// Adds a clause to the log and to the propagator.
+    /// Adds a clause to the log and to the propagator, or to neither.
     #[tactic(auto, using(crate::proofs::Keeping::keeps_logs))]
     pub(crate) fn add(&mut self, clause: Clause, how: Added) -> Result<StepId, LogFault>
         requires rest { IsAtRest self.old }
@@ -268,7 +268,7 @@ impl Cdcl {
             self.old.ledger.log.limit) }
         ensures rejected { (place : ℕ) → result ≡ Err (LogFault.Rejected place)
             → IsRejected self.old.ledger.log clause how place }
-        ensures refused { result ≢ Err LogFault.Memory → OnErr result (state_of self.new ≡ state_of self.old) }
+        ensures refused { OnErr result (state_of self.new ≡ state_of self.old) }
     {
         if self.ledger.log.is_full() {
             return Err(LogFault::LogFull);
@@ -279,18 +279,24 @@ impl Cdcl {
         }
         let kept = clause.copy(self.alloc)?;
         let step = record(&mut self.ledger.log, clause, how)?;
-        let _ = self.descent.search.add(kept.as_slice())?;
+        match self.descent.search.add(kept.as_slice()) {
+            Ok(_) => {}
+            Err(_) => {
+                self.ledger.log.take_back();
+                return Err(LogFault::Memory);
+            }
+        }
         let _ = self.ledger.active.push(step);
         Ok(step)
     }
 
     /// Searches under assumptions, which are taken back whatever comes of it.
-    #[tactic(auto, using(crate::proofs::Keeping::keeps_logs))]
+    #[tactic(auto, using(crate::proofs::Keeping::derives_logs))]
     pub(crate) fn solve(&mut self, assumptions: &[Lit], budget: &mut Budget) -> Result<Solved, Halt>
         requires rest { IsAtRest self.old }
         requires plain { (l : Lit) → Contains assumptions.now l → Contains assumptions.now (negation l) → ⊥ }
         ensures rest { IsAtRest self.new }
-        ensures keeps { Keeps (state_of self.old) (state_of self.new) }
+        ensures derives { Derives (state_of self.old) (state_of self.new) }
         ensures searched { result ≢ Err Halt.Memory → HasSearched (state_of self.old) (state_of self.new)
             assumptions.now budget.old budget.new result }
         ensures limit { budget.new.limit ≡ budget.old.limit }

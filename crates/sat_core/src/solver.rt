@@ -4,7 +4,7 @@ ghost use Rattle.std.specs.Prelude.{◌≡◌, ◌≢◌, ◌↔◌, ℕ, ◌≤
 ghost use Rattle.plain_lits.specs.declared.lit.Lit.{Lit};
 ghost use Rattle.plain_lits.specs.Literals.{negation};
 ghost use Rattle.hinted_log.specs.declared.log.TheConstants.{MOST_STEPS};
-ghost use Rattle.sat_core.specs.Solving.{IsSolver, AddsTo, IsRejected, HasSearched, Keeps, begun};
+ghost use Rattle.sat_core.specs.Solving.{IsSolver, AddsTo, IsRejected, HasSearched, Keeps, Derives, begun};
 
 use crate::answer::{Added, Pending, Solved};
 use crate::cdcl::Cdcl;
@@ -46,14 +46,13 @@ impl Solver {
     }
 
     /// Adds a clause. `LogFull` comes exactly at a full log, and is tested first; `Rejected` comes exactly where the
-    /// check of the hints rejects the clause at that place; then nothing has changed. After `Memory` the log may have
-    /// the step, which isn't in use then.
+    /// check of the hints rejects the clause at that place. Where it is refused, nothing has changed.
     pub fn add(&mut self, clause: Clause, how: Added) -> Result<StepId, LogFault>
         ensures ok { IfOk result (AddsTo self.old self.new clause how) }
         ensures full { (result ≡ Err LogFault.LogFull) ↔ (length self.old.log.steps ≡ self.old.log.limit) }
         ensures rejected { (place : ℕ) → result ≡ Err (LogFault.Rejected place)
             → IsRejected self.old.log clause how place }
-        ensures refused { result ≢ Err LogFault.Memory → OnErr result (self.new ≡ self.old) }
+        ensures refused { OnErr result (self.new ≡ self.old) }
         ensures keeps { Keeps self.old self.new }
     {
         self.cdcl.add(clause, how)
@@ -82,7 +81,7 @@ impl Solver {
         requires { (l : Lit) → Contains assumptions.now l → Contains assumptions.now (negation l) → ⊥ }
         ensures searched { result ≢ Err Halt.Memory
             → HasSearched self.old self.new assumptions.now budget.old budget.new result }
-        ensures keeps { Keeps self.old self.new }
+        ensures derives { Derives self.old self.new }
         ensures limit { budget.new.limit ≡ budget.old.limit }
     {
         self.cdcl.solve(assumptions, budget)

@@ -1,22 +1,34 @@
-use Rattle.std.proofs.Common.{◌≡◌, ◌++◌, ◌∷◌, [], ap, ◌∙◌, rules}
+use Rattle.std.proofs.Common.{◌≡◌, ◌++◌, ◌∷◌, [], length, length-append, ap, ◌∙◌, arith, rules}
 use Rattle.sat_core.proofs.Running.{resting_stays, resting_more}
-use Rattle.sat_core.proofs.Searching.{recorded_of, mirror_unused, mirror_recorded}
-use Rattle.sat_core.proofs.Keeping.{keeps_recorded, unused}
+use Rattle.sat_core.proofs.Searching.{recorded_of, mirror_as, mirror_recorded}
+use Rattle.sat_core.proofs.Keeping.{keeps_logs, keeps_recorded, taken_back}
 use Rattle.sat_core.proofs.cdcl.Cdcl.add.Goals as goal
 
-pub returns-in_err-add-clause-rest : goal.returns-in_err-add-clause-rest
-returns-in_err-add-clause-rest c =
-    let stays = c.in_err-add.ensures.err in
+pub take_back-requires : goal.take_back-requires
+take_back-requires c =
     let r = recorded_of _ _ c.args.clause c.args.how _ c.in_ok-step.ensures.ok in
+    omega (arith, ap length r.steps, length-append c.args.self.now.ledger.log.steps (r.step ∷ []))
+
+pub returns-in-Err-add-clause-rest : goal.returns-in-Err-add-clause-rest
+returns-in-Err-add-clause-rest c =
+    let stays = c.in-Err-add.ensures.err in
+    let r = recorded_of _ _ c.args.clause c.args.how _ c.in_ok-step.ensures.ok in
+    let log = taken_back c.args.self.now.ledger.log _ _ c.args.clause _ r c.take_back.ensures in
     record {
-      mirror = mirror_unused c.args.self.now.descent.search.clauses _ c.args.self.now.ledger.active.items _ _ _ _ _ r
-          stays.clauses c.in-Ok.ensures.items c.requires.rest.mirror;
+      mirror = mirror_as c.args.self.now.descent.search.clauses _ c.args.self.now.ledger.active.items _
+          c.args.self.now.ledger.log _ stays.clauses c.reserve.ensures.items log c.requires.rest.mirror;
       resting = resting_stays _ _ stays c.requires.rest.resting;
     }
 
+pub returns-in-Err-add-clause-keeps : goal.returns-in-Err-add-clause-keeps
+returns-in-Err-add-clause-keeps c =
+    let r = recorded_of _ _ c.args.clause c.args.how _ c.in_ok-step.ensures.ok in
+    keeps_logs _ _ (taken_back c.args.self.now.ledger.log _ _ c.args.clause _ r c.take_back.ensures)
+    c.reserve.ensures.items
+
 pub returns-clause-rest : goal.returns-clause-rest
 returns-clause-rest c =
-    let gains = c.in_ok-add.ensures.ok in
+    let gains = c.in-Ok-add.ensures.ok in
     let r = recorded_of _ _ c.args.clause c.args.how _ c.in_ok-step.ensures.ok in
     let clause_is : c.as_slice.result.now ≡ c.args.clause = c.as_slice.ensures.lits ∙ c.in_ok-kept.ensures in
     let pushed : c.push.new.self.items ≡ c.args.self.now.ledger.active.items ++ c.in_ok-step.step ∷ [] =
@@ -28,13 +40,8 @@ returns-clause-rest c =
       resting = resting_more _ _ _ _ gains c.requires.rest.resting;
     }
 
-pub returns-in_err-add-clause-keeps : goal.returns-in_err-add-clause-keeps
-returns-in_err-add-clause-keeps c = keeps_recorded _ _ c.args.clause _
-    (recorded_of _ _ c.args.clause c.args.how _ c.in_ok-step.ensures.ok) (unused _ _ c.in-Ok.ensures.items)
-
 pub returns-clause-keeps : goal.returns-clause-keeps
 returns-clause-keeps c =
     let pushed : c.push.new.self.items ≡ c.args.self.now.ledger.active.items ++ c.in_ok-step.step ∷ [] =
     search rules in
-    keeps_recorded _ _ c.args.clause _ (recorded_of _ _ c.args.clause c.args.how _ c.in_ok-step.ensures.ok)
-    (c.in_ok-step.step ∷ [], pushed)
+    keeps_recorded _ _ c.args.clause _ (recorded_of _ _ c.args.clause c.args.how _ c.in_ok-step.ensures.ok) pushed

@@ -2,8 +2,8 @@ use Rattle.std.proofs.Common.{◌≡◌, arith, subst, refl, map}
 use Rattle.std.specs.Prelude.{Contains}
 use Rattle.sat_core.specs.Mirrors.{IsServed, HoldsNone, step_of}
 use Rattle.sat_core.specs.Turns.{state_of}
-use Rattle.sat_core.proofs.Turning.{known_of, ids_of, moved_to, core_served, core_derived, mirror_derived}
-use Rattle.sat_core.proofs.Keeping.{keeps_derived, keeps_logs}
+use Rattle.sat_core.proofs.Turning.{known_of, ids_of, moved_to, core_served, core_derived, core_shown, mirror_derived}
+use Rattle.sat_core.proofs.Keeping.{derives_derived, derives_logs}
 use Rattle.sat_core.proofs.cdcl.Cdcl.close.Goals as goal
 
 pub serving-requires-clause-room : goal.serving-requires-clause-room
@@ -61,8 +61,15 @@ returns-clause-core c =
     (subst (λ xs. HoldsNone c.args.self.now.ledger.log.steps xs) c.as_slice.ensures.lits none) hints
     c.in_ok-step.ensures.ok
 
-pub returns-clause-keeps : goal.returns-clause-keeps
-returns-clause-keeps c = keeps_derived _ _ _ _ _ c.in_ok-step.ensures.ok refl
+pub returns-clause-derives : goal.returns-clause-derives
+returns-clause-derives c =
+    let s = c.args.self.now.descent.search in
+    let hints : c.as_slice-3.result.now ≡ map (step_of c.args.self.now.ledger.active.items)
+    c.in_ok-clause.field-0.hints =
+    rw (c.as_slice-3.ensures, c.in_ok-hints.ensures, c.deref.ensures.value, c.as_slice-2.ensures) refl in
+    derives_derived (state_of c.args.self.now) _ _ _ _
+    (core_shown (state_of c.args.self.now) s _ _ _ c.requires.kept.mirror c.in_ok-clause.ensures.learned hints)
+    c.in_ok-step.ensures.ok refl
 
-pub returns-in_err-step-clause-keeps : goal.returns-in_err-step-clause-keeps
-returns-in_err-step-clause-keeps c = keeps_logs _ _ c.in_err-step.ensures.err refl
+pub returns-in_err-step-clause-derives : goal.returns-in_err-step-clause-derives
+returns-in_err-step-clause-derives c = derives_logs _ _ c.in_err-step.ensures.err refl

@@ -1,7 +1,7 @@
 use Rattle.std.proofs.Common.{◌+◌, arith, refl, ◌∙◌}
 use Rattle.sat_core.specs.Solving.{nothing}
 use Rattle.sat_core.specs.Turns.{state_of}
-use Rattle.sat_core.proofs.Keeping.{keeps_logs, keeps_trans}
+use Rattle.sat_core.proofs.Keeping.{derives_logs, derives_trans}
 use Rattle.sat_core.proofs.Searching.{learns_more, counted_more}
 use Rattle.sat_core.proofs.cdcl.Cdcl.run.Goals as goal
 
@@ -10,7 +10,7 @@ conflicts-init c = record {
   kept = c.requires.kept;
   run = c.requires.run;
   learns = (0, nothing (state_of c.args.self.now), omega arith);
-  keeps = keeps_logs _ _ refl refl;
+  derives = derives_logs _ _ refl refl;
   limit = refl;
 }
 
@@ -22,9 +22,9 @@ conflicts-preserved c =
       kept = c.in-None.ensures.kept;
       run = g.run;
       learns = (w.0 + 1, learns_more _ _ _ _ w.0 w.1 g.learns, counted_more _ _ _ _ w.2 g.spent);
-      keeps = keeps_trans _ _ _ c.conflicts.invariant.keeps c.in-None.ensures.keeps;
+      derives = derives_trans _ _ _ c.conflicts.invariant.derives c.in-None.ensures.derives;
       limit = c.in-None.ensures.limit ∙ c.conflicts.invariant.limit;
     }
 
-pub returns-in-Some-clause-keeps : goal.returns-in-Some-clause-keeps
-returns-in-Some-clause-keeps c = keeps_trans _ _ _ c.conflicts.invariant.keeps c.in-Some.ensures.keeps
+pub returns-in-Some-clause-derives : goal.returns-in-Some-clause-derives
+returns-in-Some-clause-derives c = derives_trans _ _ _ c.conflicts.invariant.derives c.in-Some.ensures.derives

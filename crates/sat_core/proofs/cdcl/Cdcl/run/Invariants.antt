@@ -1,6 +1,6 @@
 use Rattle.std.proofs.Common.{◌≡◌, ℕ, ◌+◌, ◌-◌}
 use Rattle.sat_core.specs.Runs.{IsRun}
-use Rattle.sat_core.specs.Solving.{Learns, Keeps}
+use Rattle.sat_core.specs.Solving.{Learns, Derives}
 use Rattle.sat_core.specs.Turns.{state_of, IsKept}
 use Rattle.sat_core.proofs.cdcl.Cdcl.run.Given as goal
 
@@ -10,7 +10,7 @@ invariant-conflicts l = record {
   run : IsRun l.assumptions l.self.descent.search;
   learns : (count : ℕ) × Learns l.assumptions (state_of l.initial.self) (state_of l.self) count
       × (l.budget.used ≡ l.initial.budget.used + count);
-  keeps : Keeps (state_of l.initial.self) (state_of l.self);
+  derives : Derives (state_of l.initial.self) (state_of l.self);
   limit : l.budget.limit ≡ l.initial.budget.limit;
 }
 

@@ -1,7 +1,7 @@
 use Rattle.sat_core.specs.Turns.{state_of}
 use Rattle.sat_core.proofs.Running.{based_of, begins, rests, resting_stays}
 use Rattle.std.proofs.Common.{refl}
-use Rattle.sat_core.proofs.Keeping.{keeps_logs, keeps_trans}
+use Rattle.sat_core.proofs.Keeping.{derives_logs, derives_trans}
 use Rattle.sat_core.proofs.Searching.{mirror_same, searched_of}
 use Rattle.sat_core.proofs.cdcl.Cdcl.solve.Goals as goal
 
@@ -35,5 +35,5 @@ returns-clause-searched c = λ ne. searched_of (state_of c.args.self.now) c.run-
     _ _ _ _
     c.run-end.ensures.run c.told_of-told.ensures ne
 
-pub returns-clause-keeps : goal.returns-clause-keeps
-returns-clause-keeps c = keeps_trans _ _ _ (keeps_logs _ _ refl refl) c.run-end.ensures.keeps
+pub returns-clause-derives : goal.returns-clause-derives
+returns-clause-derives c = derives_trans _ _ _ (derives_logs _ _ refl refl) c.run-end.ensures.derives

@@ -5,7 +5,8 @@ use Rattle.sat_core.proofs.Running.{based_of, stays_run}
 use Rattle.sat_core.proofs.Turning.{target_within, unit_after, run_after, run_learned, mirror_derived, mirror_learned}
 use Rattle.sat_core.proofs.Turning.{state_learned}
 use Rattle.sat_core.specs.Turns.{state_of}
-use Rattle.sat_core.proofs.Keeping.{keeps_derived, keeps_unit}
+use Rattle.sat_core.specs.Solving.{IsShown}
+use Rattle.sat_core.proofs.Keeping.{derives_logs, derives_derived, derives_unit}
 use Rattle.sat_core.proofs.cdcl.Cdcl.take.Goals as goal
 
 pub back_to-requires : goal.back_to-requires
@@ -78,12 +79,21 @@ returns-clause-run c =
     c.kept_level.ensures.positive c.kept_level.ensures.low lt c.back_to.ensures
     (rw c.as_slice.ensures.lits at learns) c.requires.run
 
-pub returns-in_err-add_learned-clause-keeps : goal.returns-in_err-add_learned-clause-keeps
-returns-in_err-add_learned-clause-keeps c = keeps_derived _ _ _ _ _ c.in_ok-step.ensures.ok c.reserve.ensures.items
+pub returns-in_err-step-clause-derives : goal.returns-in_err-step-clause-derives
+returns-in_err-step-clause-derives c = derives_logs _ _ c.in_err-step.ensures.err c.reserve.ensures.items
 
-pub returns-clause-keeps : goal.returns-clause-keeps
-returns-clause-keeps c =
+pub returns-in_err-add_learned-clause-derives : goal.returns-in_err-add_learned-clause-derives
+returns-in_err-add_learned-clause-derives c = derives_derived (state_of c.args.self.now) _ c.in_ok-clause.clause
+    c.args.hints.now _
+    (subst (λ xs. IsShown (state_of c.args.self.now) xs c.args.hints.now) (sym c.in_ok-clause.ensures)
+    c.requires.shown.shown)
+    c.in_ok-step.ensures.ok c.reserve.ensures.items
+
+pub returns-clause-derives : goal.returns-clause-derives
+returns-clause-derives c =
     let pushed : c.push.new.self.items ≡ c.args.self.now.ledger.active.items ++ c.in_ok-step.step ∷ [] =
     search rules in
-    keeps_unit _ _ c.in_ok-clause.clause c.args.hints.now
+    derives_unit (state_of c.args.self.now) _ c.in_ok-clause.clause c.args.hints.now
+    (subst (λ xs. IsShown (state_of c.args.self.now) xs c.args.hints.now) (sym c.in_ok-clause.ensures)
+    c.requires.shown.shown)
     (state_learned (state_of c.args.self.now) _ _ _ _ _ c.in_ok-step.ensures.ok pushed)

@@ -1,0 +1,209 @@
+-- A clause that is given comes, and is in use.
+use Rattle.std.proofs.Common.{◌≡◌, ℕ, suc, ◌+◌, ◌-◌, ◌<◌, ◌≤◌, List, [], ◌∷◌, ◌++◌, length, take, map, get_or, ap, sym, subst, ◌∙◌, refl, arith, inl, inr, ⊎_elim, add-one}
+use Rattle.std.specs.Prelude.{◌⊎◌, Contains, Result, Ok, Err, IfOk, OnOk, OnErr, None, Option, slice_index_or, true, false, not}
+use Rattle.std.proofs.lemmas.Bool.{cases_lt}
+use Rattle.std.proofs.lemmas.List.{length_push, get_or_push, get_or_append_left, append-nil}
+use Rattle.std.proofs.lemmas.List.Elements.{Contains-append_left, Contains-push, Contains-push_cases}
+use Rattle.plain_lits.specs.declared.lit.Lit.{Lit}
+use Rattle.plain_lits.specs.Literals.{IsClauseOf}
+use Rattle.plain_lits.specs.Checking.{HasRoomFor, HaveRoomFor}
+use Rattle.plain_lits.proofs.HintCheckLemmas.{Contains-mapped, Contains-from_mapped}
+use Rattle.hinted_log.specs.Logs.{Step, LogState, clauses_of, no_step, given_step, with_step}
+use Rattle.plain_lists.specs.declared.memory.Memory.{Memory}
+use Rattle.plain_lits.specs.declared.halt.Halt.{Halt}
+use Rattle.hinted_log.specs.declared.fault.LogFault.{LogFault}
+use Rattle.hinted_log.specs.declared.fault.LogFault.TheVariants.{LogFull}
+use Rattle.semantics.specs.Frameworks.{Framework}
+use Rattle.meaning_atoms.specs.declared.axiom.AxiomName.{AxiomName}
+use Rattle.certificate_claims.specs.Refutations.{IsAxiomOf}
+use Rattle.session_log.proofs.Staying.{axiom_stays}
+use Rattle.atom_solver.specs.States.{AtomState, AddsAxiom, IsGuardedLog}
+use Rattle.hinted_log.specs.declared.kind.Kind.{Kind}
+use Rattle.hinted_log.specs.declared.kind.Kind.TheVariants as kind
+use Rattle.sat_core.specs.declared.answer.Added.{Added}
+use Rattle.sat_core.specs.declared.answer.Added.TheVariants.{Axiom, Side, Derived}
+use Rattle.sat_core.specs.Solving.{SolverState, AddsTo, IsRejected}
+use Rattle.meaning_atoms.specs.declared.atom.Atom.{Atom}
+use Rattle.meaning_atoms.specs.declared.atom.AtomLit.{AtomLit}
+use Rattle.oracle_face.specs.declared.face.Pending.{Pending}
+use Rattle.oracle_face.specs.Logs.{LogStep, SideClause, IsSameClause}
+use Rattle.session_log.specs.Steps.{GainsStep, own_step}
+use Rattle.atom_solver.specs.declared.origin.Origin.{Origin}
+use Rattle.atom_solver.specs.declared.origin.Origin.TheVariants.{Hints}
+use Rattle.atom_solver.specs.Inner.{GainsGiven, IsFilled, NeedsNoHints}
+use Rattle.atom_solver.specs.Lifted.{IsLifting, lit_of, atoms_of, source_of, in_use, lifted_step, lifted_at, listed, log_over, state_over}
+use Rattle.atom_solver.specs.Tables.{AddsLits, StandsFor}
+use Rattle.atom_solver.proofs.Lifting.{in_use_yes, in_use_same}
+use Rattle.atom_solver.proofs.Listing.{length-listed, listed_same}
+
+-- a solver with one given step more
+pub record Gains (old new : SolverState) (clause : List Lit) : Type 0 where
+  pub kind_is : Kind
+  pub steps : new.log.steps ≡ old.log.steps ++ given_step clause kind_is ∷ []
+  pub limit : new.log.limit ≡ old.log.limit
+  pub active : new.active ≡ old.active ++ (length old.log.steps + 1) ∷ []
+
+pub gains_of : (old new : SolverState) (clause : List Lit) (how : Added) (number : ℕ) → NeedsNoHints how
+    → AddsTo old new clause how number → Gains old new clause
+gains_of old new clause Axiom number needs h = record {
+  kind_is = kind.Axiom;
+  steps = ap (λ (g : LogState). g.steps) h.recorded.new_log;
+  limit = ap (λ (g : LogState). g.limit) h.recorded.new_log;
+  active = h.in_use ∙ ap (λ n. old.active ++ n ∷ []) h.recorded.next;
+}
+gains_of old new clause Side number needs h = record {
+  kind_is = kind.Side;
+  steps = ap (λ (g : LogState). g.steps) h.recorded.new_log;
+  limit = ap (λ (g : LogState). g.limit) h.recorded.new_log;
+  active = h.in_use ∙ ap (λ n. old.active ++ n ∷ []) h.recorded.next;
+}
+gains_of old new clause (Derived hints) number needs h = absurd needs
+
+pub not_rejected : (log : LogState) (clause : List Lit) (how : Added) (place : ℕ) → NeedsNoHints how
+    → IsRejected log clause how place → ⊥
+not_rejected log clause Axiom place needs h = h
+not_rejected log clause Side place needs h = h
+not_rejected log clause (Derived hints) place needs h = needs
+
+module _ (atoms : List Atom) (old new : SolverState) (clause : List Lit) (g : Gains old new clause)
+    (origins filled pushed : List Origin) (origin : Origin) (same : IsFilled origins filled (length old.log.steps))
+    (long : length filled ≡ length old.log.steps) (is : pushed ≡ filled ++ origin ∷ []) where
+  step_old : (k : ℕ) → k < length old.log.steps → get_or new.log.steps k no_step ≡ get_or old.log.steps k no_step
+  step_old k lt = ap (λ xs. get_or xs k no_step) g.steps
+      ∙ get_or_append_left old.log.steps (given_step clause g.kind_is ∷ []) no_step k lt
+
+  lifted_old : (k : ℕ) → k < length old.log.steps → lifted_at atoms new pushed k ≡ lifted_at atoms old origins k
+  lifted_old k lt =
+      let origin_old : get_or pushed k Hints ≡ get_or origins k Hints =
+      ap (λ xs. get_or xs k Hints) is
+      ∙ (get_or_append_left filled (origin ∷ []) Hints k (omega arith) ∙ same.same k) in
+      let used : in_use new.active (k + 1) ≡ in_use old.active (k + 1) =
+      in_use_same new.active old.active (k + 1)
+      (λ c. ⊎_elim (λ there. there) (λ (last : length old.log.steps + 1 ≡ k + 1). absurd (omega arith))
+      (Contains-push_cases old.active (length old.log.steps + 1) (k + 1)
+      (subst (λ xs. Contains xs (k + 1)) g.active c)))
+      (λ c. subst (λ xs. Contains xs (k + 1)) (sym g.active)
+      (Contains-append_left old.active ((length old.log.steps + 1) ∷ []) (k + 1) c)) in
+      ap (λ x. lifted_step atoms x (slice_index_or pushed k Hints) (in_use new.active (k + 1))) (step_old k lt)
+      ∙ (ap (λ o. lifted_step atoms (get_or old.log.steps k no_step) o (in_use new.active (k + 1))) origin_old
+      ∙ ap (λ b. lifted_step atoms (get_or old.log.steps k no_step) (slice_index_or origins k Hints) b) used)
+
+  lifted_last : lifted_at atoms new pushed (length old.log.steps)
+      ≡ own_step (atoms_of atoms clause) (source_of origin [])
+  lifted_last =
+      let n = length old.log.steps in
+      let step : get_or new.log.steps n no_step ≡ given_step clause g.kind_is =
+      ap (λ xs. get_or xs n no_step) g.steps
+      ∙ get_or_push old.log.steps (given_step clause g.kind_is) no_step n refl in
+      let origin_new : get_or pushed n Hints ≡ origin =
+      ap (λ xs. get_or xs n Hints) is ∙ get_or_push filled origin Hints n long in
+      let used : in_use new.active (n + 1) ≡ true =
+      in_use_yes new.active (n + 1) (subst (λ xs. Contains xs (n + 1)) (sym g.active)
+      (Contains-push old.active (n + 1))) in
+      ap (λ x. lifted_step atoms x (slice_index_or pushed n Hints) (in_use new.active (n + 1))) step
+      ∙ (ap (λ o. lifted_step atoms (given_step clause g.kind_is) o (in_use new.active (n + 1))) origin_new
+      ∙ ap (λ b. lifted_step atoms (given_step clause g.kind_is) origin b) used)
+
+  pub given_gains : (sides : List SideClause) (pending : Option Pending)
+      → length old.log.steps < old.log.limit
+      → GainsGiven (atoms_of atoms clause) (source_of origin []) (state_over atoms old origins sides pending)
+      (state_over atoms new pushed sides pending)
+  given_gains sides pending room =
+      let n = length old.log.steps in
+      let count : length new.log.steps ≡ suc n =
+      ap length g.steps ∙ (length_push old.log.steps (given_step clause g.kind_is) ∙ add-one n) in
+      record {
+        gains = record {
+          room = omega (arith, length-listed (lifted_at atoms old origins) n);
+          limit = g.limit;
+          steps = ap (listed (lifted_at atoms new pushed)) count
+              ∙ (ap (λ xs. xs ++ lifted_at atoms new pushed n ∷ [])
+              (listed_same (lifted_at atoms new pushed) (lifted_at atoms old origins) n lifted_old)
+              ∙ ap (λ x. listed (lifted_at atoms old origins) n ++ x ∷ []) lifted_last);
+          sides_now = refl;
+        };
+        pending_same = refl;
+      }
+
+  pub given_whole : HasRoomFor (length atoms) clause → IsLifting atoms old origins → IsLifting atoms new pushed
+  given_whole room h = record {
+    room = λ c there l c_l.
+        let w = Contains-from_mapped (λ (x : Step). x.clause) new.log.steps c there in
+        ⊎_elim
+        (λ early. h.room c (subst (λ xs. Contains (clauses_of old.log.steps) xs) w.2
+        (Contains-mapped (λ (x : Step). x.clause) old.log.steps w.0 early)) l c_l)
+        (λ (last : given_step clause g.kind_is ≡ w.0). room l
+        (subst (λ xs. Contains xs l) (sym (ap (λ (x : Step). x.clause) last ∙ w.2)) c_l))
+        (Contains-push_cases old.log.steps (given_step clause g.kind_is) w.0
+        (subst (λ xs. Contains xs w.0) g.steps w.1));
+    marked = omega (
+      arith,
+      ap length g.steps,
+      length_push old.log.steps (given_step clause g.kind_is),
+      ap length is,
+      length_push filled origin,
+    );
+  }
+
+-- origins that were said again
+pub filled_whole : (atoms : List Atom) (s : SolverState) (origins filled : List Origin) → IsLifting atoms s origins
+    → IsFilled origins filled (length s.log.steps) → IsLifting atoms s filled
+filled_whole atoms s origins filled h f = record { room = h.room; marked = f.within }
+
+pub filled_state : (atoms : List Atom) (s : SolverState) (origins filled : List Origin) (sides : List SideClause)
+    (pending : Option Pending) → IsFilled origins filled (length s.log.steps)
+    → state_over atoms s filled sides pending ≡ state_over atoms s origins sides pending
+filled_state atoms s origins filled sides pending f =
+    ap (λ steps. record {
+      log = record { limit = s.log.limit; steps = steps; sides = sides };
+      pending = pending;
+    })
+    (listed_same (lifted_at atoms s filled) (lifted_at atoms s origins) (length s.log.steps)
+    (λ k lt. ap (λ o. lifted_step atoms (get_or s.log.steps k no_step) o (in_use s.active (k + 1))) (f.same k)))
+
+-- the clause of literals that were found
+pub stands : (atoms : List Atom) (literals : List AtomLit) (lits clause : List Lit) → AddsLits atoms literals [] lits
+    → IsClauseOf lits clause → StandsFor atoms literals clause
+stands atoms literals lits clause adds of =
+    let is : lits ≡ adds.more = adds.is in
+    record {
+      known = λ l c. adds.known l (subst (λ xs. Contains xs l) is ((of.members l).0 c));
+      same = record {
+        there = λ m c.
+            let w = Contains-from_mapped (lit_of atoms) clause m c in
+            subst (λ xs. Contains xs m) adds.stand
+            (subst (λ x. Contains (atoms_of atoms adds.more) x) w.2
+            (Contains-mapped (lit_of atoms) adds.more w.0
+            (subst (λ xs. Contains xs w.0) is ((of.members w.0).0 w.1))));
+        back = λ m c.
+            let w = Contains-from_mapped (lit_of atoms) adds.more m
+            (subst (λ xs. Contains xs m) (sym adds.stand) c) in
+            subst (λ x. Contains (atoms_of atoms clause) x) w.2
+            (Contains-mapped (lit_of atoms) clause w.0
+            ((of.members w.0).1 (subst (λ xs. Contains xs w.0) (sym is) w.1)));
+      };
+    }
+
+abbrev pub added : ℕ → Result ℕ LogFault
+added number = Ok number
+
+abbrev pub refused : LogFault → Result ℕ LogFault
+refused fault = Err fault
+
+pub ok_not_full : (number : ℕ) → added number ≡ refused LogFull → ⊥
+ok_not_full number e = cc
+
+-- ---- axioms
+
+pub axiom_guarded : (r : Result (Unit {0}) Halt) (name : AxiomName) (old new : AtomState) (f : Framework)
+    → OnOk r (AddsAxiom name old new) → OnErr r (new ≡ old) → IsAxiomOf f name → IsGuardedLog f old.log
+    → IsGuardedLog f new.log
+axiom_guarded (Ok u) name old new f ok err is h =
+    let stays = axiom_stays f name ok.clause old.log new.log h.form h.guards is ok.takes in
+    record { form = stays.form; guards = stays.guards }
+axiom_guarded (Err halt) name old new f ok err is h = subst (λ (s : AtomState). IsGuardedLog f s.log) (sym err) h
+
+pub stands_if : (atoms : List Atom) (literals : List AtomLit) (lits : List Lit) (r : Result (List Lit) Memory)
+    → AddsLits atoms literals [] lits → IfOk r (IsClauseOf lits) → IfOk r (StandsFor atoms literals)
+stands_if atoms literals lits (Ok clause) adds of = stands atoms literals lits clause adds of
+stands_if atoms literals lits (Err m) adds of = of

@@ -1,0 +1,12 @@
+pub mod Assuming
+pub mod Deriving
+pub mod Giving
+pub mod Learning
+pub mod Lifting
+pub mod Listing
+pub mod Obliging
+pub mod Reading
+pub mod Running
+pub mod Searching
+pub mod Siding
+pub mod TableLemmas

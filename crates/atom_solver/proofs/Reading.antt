@@ -1,0 +1,89 @@
+-- Steps as they are read.
+use Rattle.std.proofs.Common.{◌≡◌, ℕ, ◌+◌, ◌-◌, ◌<◌, ◌≤◌, List, [], length, get_or, ap, sym, subst, ◌∙◌, refl, arith}
+use Rattle.std.specs.Prelude.{Result, Ok, Err, IfOk}
+use Rattle.plain_lists.specs.declared.memory.Memory.{Memory}
+use Rattle.plain_lits.specs.declared.lit.Lit.{Lit}
+use Rattle.plain_lits.specs.Checking.{HaveRoomFor, HasRoomFor}
+use Rattle.hinted_log.specs.Logs as hinted
+use Rattle.hinted_log.specs.Logs.{IsStepOf, clauses_of}
+use Rattle.sat_core.specs.Solving.{SolverState}
+use Rattle.meaning_atoms.specs.declared.atom.Atom.{Atom}
+use Rattle.meaning_atoms.specs.declared.atom.AtomLit.{AtomLit}
+use Rattle.oracle_face.specs.Logs.{LogStep, IsNumberOf, Source, step_at, hints_of}
+use Rattle.atom_solver.specs.declared.origin.Origin.{Origin}
+use Rattle.atom_solver.specs.declared.origin.Origin.TheVariants.{Axiom, Side, Hints}
+use Rattle.atom_solver.specs.Lifted.{atoms_of, lifted_at, listed, source_of}
+use Rattle.atom_solver.specs.Tables.{told}
+use Rattle.atom_solver.proofs.Listing.{length-listed}
+use Rattle.atom_solver.proofs.Lifting.{room_at, step_lifted}
+use Rattle.atom_solver.proofs.TableLemmas.{told_whole}
+
+pub step_named : (atoms : List Atom) (s : SolverState) (origins : List Origin) (number : ℕ)
+    → IsNumberOf (listed (lifted_at atoms s origins) (length s.log.steps)) number → IsStepOf s.log.steps number
+step_named atoms s origins number is =
+    let high = is.within in
+    record {
+      from_one = is.from_one;
+      within = omega (arith, length-listed (lifted_at atoms s origins) (length s.log.steps));
+    }
+
+pub clause_read : (atoms : List Atom) (s : SolverState) (origins : List Origin) (number : ℕ) (clause : List Lit)
+    (r : Result (List AtomLit) Memory) → HaveRoomFor (length atoms) (clauses_of s.log.steps)
+    → IsNumberOf (listed (lifted_at atoms s origins) (length s.log.steps)) number
+    → clause ≡ (hinted.step_at s.log.steps number).clause → IfOk r (λ literals. literals ≡ told atoms clause)
+    → IfOk r (λ literals. literals ≡ (step_at (listed (lifted_at atoms s origins) (length s.log.steps)) number).clause)
+clause_read atoms s origins number clause (Ok literals) room is e read =
+    let step = step_named atoms s origins number is in
+    let low = step.from_one in
+    let high = step.within in
+    read ∙ (ap (told atoms) e
+    ∙ (told_whole atoms (hinted.step_at s.log.steps number).clause
+    (room_at (length atoms) s.log.steps (number - 1) room (omega arith))
+    ∙ sym (ap (λ (x : LogStep). x.clause) (step_lifted atoms s origins (length s.log.steps) number low high))))
+clause_read atoms s origins number clause (Err m) room is e read = tt
+
+source_again : (origin : Origin) (hints : List ℕ)
+    → source_of origin hints ≡ source_of origin (hints_of (source_of origin hints))
+source_again (Axiom name) hints = refl
+source_again (Side n) hints = refl
+source_again Hints hints = refl
+
+none_of : (origin : Origin) (hints : List ℕ) → (origin ≡ Hints → ⊥) → [] ≡ hints_of (source_of origin hints)
+none_of (Axiom name) hints ne = refl
+none_of (Side n) hints ne = refl
+none_of Hints hints ne = absurd (ne refl)
+
+pub source_read : (atoms : List Atom) (s : SolverState) (origins : List Origin) (number : ℕ) (origin : Origin)
+    → IsNumberOf (listed (lifted_at atoms s origins) (length s.log.steps)) number
+    → origin ≡ get_or origins (number - 1) Hints
+    → (step_at (listed (lifted_at atoms s origins) (length s.log.steps)) number).source
+    ≡ source_of origin (hints_of (step_at (listed (lifted_at atoms s origins) (length s.log.steps)) number).source)
+source_read atoms s origins number origin is e =
+    let step = step_named atoms s origins number is in
+    let here = ap (λ (x : LogStep). x.source)
+    (step_lifted atoms s origins (length s.log.steps) number step.from_one step.within) in
+    here ∙ (source_again (get_or origins (number - 1) Hints) (get_or s.log.steps (number - 1) hinted.no_step).hints
+    ∙ (ap (λ o. source_of o (hints_of (source_of (get_or origins (number - 1) Hints)
+    (get_or s.log.steps (number - 1) hinted.no_step).hints))) (sym e)
+    ∙ ap (λ src. source_of origin (hints_of src)) (sym here)))
+
+pub hints_none : (atoms : List Atom) (s : SolverState) (origins : List Origin) (number : ℕ) (origin : Origin)
+    → IsNumberOf (listed (lifted_at atoms s origins) (length s.log.steps)) number
+    → origin ≡ get_or origins (number - 1) Hints → (origin ≡ Hints → ⊥)
+    → [] ≡ hints_of (step_at (listed (lifted_at atoms s origins) (length s.log.steps)) number).source
+hints_none atoms s origins number origin is e ne =
+    let step = step_named atoms s origins number is in
+    none_of origin (get_or s.log.steps (number - 1) hinted.no_step).hints ne
+    ∙ sym (ap (λ (x : LogStep). hints_of x.source)
+    (step_lifted atoms s origins (length s.log.steps) number step.from_one step.within)
+    ∙ ap (λ o. hints_of (source_of o (get_or s.log.steps (number - 1) hinted.no_step).hints)) (sym e))
+
+pub hints_read : (atoms : List Atom) (s : SolverState) (origins : List Origin) (number : ℕ) (hints : List ℕ)
+    → IsNumberOf (listed (lifted_at atoms s origins) (length s.log.steps)) number
+    → Hints ≡ get_or origins (number - 1) Hints → hints ≡ (hinted.step_at s.log.steps number).hints
+    → hints ≡ hints_of (step_at (listed (lifted_at atoms s origins) (length s.log.steps)) number).source
+hints_read atoms s origins number hints is e read =
+    let step = step_named atoms s origins number is in
+    read ∙ sym (ap (λ (x : LogStep). hints_of x.source)
+    (step_lifted atoms s origins (length s.log.steps) number step.from_one step.within)
+    ∙ ap (λ o. hints_of (source_of o (get_or s.log.steps (number - 1) hinted.no_step).hints)) (sym e))

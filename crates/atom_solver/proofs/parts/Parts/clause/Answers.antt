@@ -1,0 +1,18 @@
+use Rattle.std.proofs.Common.{◌≡◌, ◌-◌, ◌≤◌, ◌<◌, length, get_or, ap, sym, subst, ◌∙◌, arith}
+use Rattle.hinted_log.specs.Logs.{LogState, IsStepOf, no_step}
+use Rattle.atom_solver.specs.Lifted.{lifted_at}
+use Rattle.atom_solver.proofs.Listing.{length-listed}
+use Rattle.atom_solver.proofs.Lifting.{room_at}
+use Rattle.atom_solver.proofs.Reading.{step_named, clause_read}
+use Rattle.atom_solver.proofs.parts.Parts.clause.Goals as goal
+
+pub clause-requires : goal.clause-requires
+clause-requires c =
+    let p = c.args.self.now in
+    rw c.log.ensures.log (step_named p.table p.solver p.origins.items c.args.step c.requires.step)
+
+pub returns : goal.returns
+returns c =
+    let p = c.args.self.now in
+    clause_read p.table p.solver p.origins.items c.args.step c.clause.result.now c.packed_over_atoms.result
+    c.requires.whole.room c.requires.step (rw c.log.ensures.log at c.clause.ensures.clause) c.packed_over_atoms.ensures

@@ -1,0 +1,19 @@
+use Rattle.atom_solver.proofs.Reading.{step_named, hints_none, hints_read}
+use Rattle.atom_solver.proofs.parts.Parts.hints.Goals as goal
+
+pub hints-requires : goal.hints-requires
+hints-requires c =
+    let p = c.args.self.now in
+    rw c.log.ensures.log (step_named p.table p.solver p.origins.items c.args.step c.requires)
+
+pub returns-in-Hints : goal.returns-in-Hints
+returns-in-Hints c =
+    let p = c.args.self.now in
+    hints_read p.table p.solver p.origins.items c.args.step c.hints.result.now c.requires c.in-Hints.ensures
+    (rw c.log.ensures.log at c.hints.ensures.hints)
+
+pub returns-in_default : goal.returns-in_default
+returns-in_default c =
+    let p = c.args.self.now in
+    hints_none p.table p.solver p.origins.items c.args.step c.origin.result c.requires c.origin.ensures
+    (λ e. c.in_default.not-Hints e)

@@ -1,0 +1,10 @@
+use Rattle.atom_solver.proofs.solver.AtomSolver.oblige.Goals as goal
+
+pub returns-clause-obliges : goal.returns-clause-obliges
+returns-clause-obliges c = rw (← c.self.view_is) c.oblige.ensures.obliges
+
+pub returns-clause-run : goal.returns-clause-run
+returns-clause-run c = rw (← c.self.view_is) c.oblige.ensures.run
+
+pub returns-clause-log : goal.returns-clause-log
+returns-clause-log c = rw (← c.self.view_is) c.oblige.ensures.log

@@ -1,0 +1,7 @@
+pub mod Assumed
+pub mod Inner
+pub mod Lifted
+pub mod Searches
+pub mod Sides
+pub mod States
+pub mod Tables

@@ -1,0 +1,42 @@
+-- What contracts see of a solver over atoms, and what it leaves where an axiom comes.
+use Rattle.std.specs.Prelude.{◌≡◌, ℕ, List, [], Option, None}
+use Rattle.semantics.specs.Frameworks.{Framework}
+use Rattle.meaning_atoms.specs.declared.atom.AtomLit.{AtomLit}
+use Rattle.meaning_atoms.specs.declared.axiom.AxiomName.{AxiomName}
+use Rattle.meaning_atoms.specs.declared.axiom.AxiomName.TheVariants.{Af as OfAf}
+use Rattle.meaning_atoms.specs.Axioms.{IsAfAxiom}
+use Rattle.oracle_face.specs.declared.face.Pending.{Pending}
+use Rattle.oracle_face.specs.Logs.{OracleLog, IsLog}
+use Rattle.session_log.specs.Guards.{IsGuarded}
+use Rattle.session_log.specs.Steps.{TakesAxiom}
+
+-- the log, and the clause that was in hand when the last budget was spent
+pub record AtomState : Type 0 where
+  pub log : OracleLog
+  pub pending : Option Pending
+
+-- a log without steps and side clauses
+abbrev pub empty_log : ℕ → OracleLog
+empty_log limit = record { limit = limit; steps = []; sides = [] }
+
+abbrev pub empty_state : ℕ → AtomState
+empty_state limit = record { log = empty_log limit; pending = None }
+
+-- a log beside a framework, with its guards
+pub record IsGuardedLog (f : Framework) (log : OracleLog) : Type 0 where
+  pub form : IsLog f log
+  pub guards : IsGuarded log
+
+-- where the one is a guarded log beside a framework, the other is one too
+abbrev pub StaysLog : OracleLog → OracleLog → Type 0
+StaysLog old new = (f : Framework) → IsGuardedLog f old → IsGuardedLog f new
+
+-- the arguments of an axiom fit its row
+abbrev pub IsAxiomName : AxiomName → Type 0
+IsAxiomName (OfAf name) = IsAfAxiom name
+
+-- the log has one step more, which is this axiom and in use
+pub record AddsAxiom (name : AxiomName) (old new : AtomState) : Type 0 where
+  pub clause : List AtomLit
+  pub takes : TakesAxiom name clause old.log new.log
+  pub pending_same : new.pending ≡ old.pending

@@ -1,0 +1,14 @@
+//! A solver over atoms, which keeps a log of its steps as an oracle does.
+#![tactic(auto)]
+
+pub mod kept_side;
+pub mod origin;
+pub(crate) mod parts;
+pub mod searched;
+pub mod solver;
+pub(crate) mod tables;
+
+pub use kept_side::KeptSide;
+pub use origin::Origin;
+pub use searched::Searched;
+pub use solver::AtomSolver;

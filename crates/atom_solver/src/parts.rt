@@ -1,0 +1,369 @@
+//! What a solver over atoms is made of.
+
+ghost use Rattle.std.specs.Prelude.{◌+◌, ◌-◌, IfErr, slice_index_or, ◌≡◌, ◌↔◌, ℕ, ◌≤◌, [], length, List, IfOk, OnOk, OnErr, Contains, ◌<◌, vec_len, vec_capacity};
+ghost use Rattle.plain_lits.specs.declared.lit.Lit.{Lit as ALit};
+ghost use Rattle.plain_lits.specs.HintCheck.{IsTautology};
+ghost use Rattle.plain_lits.specs.Literals.{negation};
+ghost use Rattle.semantics.specs.Frameworks.{Framework};
+ghost use Rattle.hinted_log.specs.declared.log.TheConstants.{MOST_STEPS};
+ghost use Rattle.certificate_claims.specs.Refutations.{axiom_clause};
+ghost use Rattle.plain_lits.specs.Checking.{HasRoomFor};
+ghost use Rattle.meaning_atoms.specs.declared.atom.AtomLit.{AtomLit as AnAtomLit};
+ghost use Rattle.meaning_atoms.specs.Literals.{negated};
+ghost use Rattle.oracle_face.specs.Goals.{IsSide};
+ghost use Rattle.oracle_face.specs.Growing.{HasRun, NoSide, Obliges, OnlySide, halt_of};
+ghost use Rattle.oracle_face.specs.Logs.{IsNumberOf, hints_of, step_at};
+ghost use Rattle.atom_solver.specs.Sides.{IsOrdered};
+ghost use Rattle.atom_solver.specs.declared.origin.Origin.TheVariants.{Hints};
+ghost use Rattle.atom_solver.specs.Assumed.{AreAssumed};
+ghost use Rattle.atom_solver.specs.Inner.{state_of, GainsGiven, IsFilled, IsKept, IsWhole};
+ghost use Rattle.atom_solver.specs.Inner.{KeepsInHand, KeepsSide, NeedsNoHints, StopsSide, Tells};
+ghost use Rattle.atom_solver.specs.Searches.{IsAnswer, AreUnfixed, ends_in};
+ghost use Rattle.atom_solver.specs.Lifted.{atoms_of, source_of};
+ghost use Rattle.atom_solver.specs.States.{AddsAxiom, IsAxiomName, IsGuardedLog, StaysLog, empty_state};
+ghost use Rattle.atom_solver.specs.Tables.{StandsFor};
+
+use crate::kept_side::{KeptSide, find, guarded_literals, in_order, number_at};
+use crate::origin::Origin;
+use crate::searched::Searched;
+use crate::tables::{assume_facts, over_atoms, packed_over_atoms, push_lits_for};
+use af_axioms::clause_of;
+use atom_table::AtomTable;
+use hinted_log::{LogFault, MOST_STEPS};
+use meaning_atoms::{AtomLit, AxiomName};
+use oracle_face::{AskId, Encoding, Pending};
+use plain_lists::{Items, Memory};
+use plain_lits::{Budget, Clause, Halt, Lit, StepId};
+use sat_core::{Added, Solved, Solver};
+use set_lists::NumSet;
+use std::alloc::Global;
+
+/// The solver with the table of its atoms, and what its log over atoms has besides.
+#[derive(Drop)]
+pub(crate) struct Parts {
+    pub(crate) table: AtomTable,
+    pub(crate) solver: Solver,
+    /// Where the first steps come from; all others follow from their hints.
+    pub(crate) origins: Vec<Origin>,
+    pub(crate) sides: Vec<KeptSide>,
+    pub(crate) pending: Option<Pending>,
+    /// The assumptions of the last search, and room for those of the next.
+    pub(crate) assumed: Vec<Lit>,
+    /// Room for the literals of a clause that comes.
+    pub(crate) given: Vec<Lit>,
+}
+
+/// Says of all steps so far where they come from, and makes room for one more.
+fn fill(origins: &mut Vec<Origin>, steps: usize) -> Result<(), Memory>
+    requires { length origins.old.items ≤ steps }
+    ensures filled { IsFilled origins.old.items origins.new.items steps }
+    ensures ok { OnOk result (length origins.new.items ≡ steps) }
+    ensures room { OnOk result (vec_len origins.new < vec_capacity origins.new) }
+{
+    origins.resize(steps, Origin::Hints)?;
+    origins.reserve(1)?;
+    Ok(())
+}
+
+/// Makes room for one more side clause.
+fn make_room(sides: &mut Vec<KeptSide>) -> Result<(), Memory>
+    ensures same { sides.new.items ≡ sides.old.items }
+    ensures room { OnOk result (vec_len sides.new < vec_capacity sides.new) }
+{
+    sides.reserve(1)?;
+    Ok(())
+}
+
+/// The literals of an axiom.
+fn axiom_literals(alloc: Global, name: &AxiomName) -> Result<Items<AtomLit>, Memory>
+    requires { IsAxiomName name.now }
+    ensures { IfOk result (λ literals. literals ≡ axiom_clause name.now) }
+{
+    match name {
+        AxiomName::Af(name) => clause_of(alloc, name),
+    }
+}
+
+/// What a search found, over atoms.
+fn searched(alloc: Global, table: &AtomTable, solved: Solved) -> Result<Searched, Memory>
+    ensures { IfOk result (Tells table.now solved) }
+{
+    match solved {
+        Solved::Model(lits) => {
+            let values = over_atoms(alloc, table, lits.as_slice())?;
+            Ok(Searched::Model(values))
+        }
+        Solved::Core(step) => Ok(Searched::Refuted(step)),
+    }
+}
+
+impl Parts {
+    /// No clause, and a log for at most so many steps.
+    pub(crate) fn open(alloc: Global, log_limit: u64) -> Result<Parts, Memory>
+        requires { log_limit ≤ MOST_STEPS }
+        ensures whole { IfOk result IsWhole }
+        ensures state { IfOk result (λ parts. state_of parts ≡ empty_state log_limit) }
+    {
+        let solver = Solver::open(alloc, log_limit)?;
+        Ok(Parts {
+            table: AtomTable::new(alloc),
+            solver,
+            origins: Vec::new(alloc),
+            sides: Vec::new(alloc),
+            pending: None,
+            assumed: Vec::new(alloc),
+            given: Vec::new(alloc),
+        })
+    }
+
+    /// The clause that stands for literals, of which each atom gets a variable.
+    fn stand_for(&mut self, alloc: Global, literals: &[AtomLit]) -> Result<Clause, Memory>
+        requires whole { IsWhole self.old }
+        ensures whole { IsWhole self.new }
+        ensures state { state_of self.new ≡ state_of self.old }
+        ensures solver { self.new.solver ≡ self.old.solver }
+        ensures sides { self.new.sides ≡ self.old.sides }
+        ensures clause { IfOk result (StandsFor self.new.table literals.now) }
+    {
+        self.given.clear();
+        push_lits_for(&mut self.table, &mut self.solver, literals, &mut self.given)?;
+        Clause::from_slice(alloc, self.given.as_slice())
+    }
+
+    /// Adds a clause that is given, with where it comes from.
+    fn add_given(&mut self, clause: Clause, how: Added, origin: Origin) -> Result<(), Halt>
+        requires whole { IsWhole self.old }
+        requires room { HasRoomFor (length self.old.table) clause }
+        requires how { NeedsNoHints how }
+        ensures whole { IsWhole self.new }
+        ensures ok { OnOk result (GainsGiven (atoms_of self.old.table clause) (source_of origin []) (state_of self.old)
+            (state_of self.new)) }
+        ensures full { result ≡ Err Halt.LogFull
+            → length self.old.solver.log.steps ≡ self.old.solver.log.limit }
+        ensures unspent { (count : ℕ) → result ≡ Err (Halt.Spent count) → ⊥ }
+        ensures err { OnErr result (state_of self.new ≡ state_of self.old) }
+        ensures sides { self.new.sides ≡ self.old.sides }
+    {
+        let steps = self.solver.log().len();
+        fill(&mut self.origins, steps)?;
+        match self.solver.add(clause, how) {
+            Ok(_) => {
+                let _ = self.origins.push(origin);
+                Ok(())
+            }
+            Err(LogFault::Memory) => Err(Halt::Memory),
+            Err(LogFault::LogFull) => Err(Halt::LogFull),
+            Err(LogFault::Rejected(_)) => unreachable!(),
+        }
+    }
+
+    /// Takes an axiom.
+    pub(crate) fn take_axiom(&mut self, alloc: Global, name: AxiomName) -> Result<(), Halt>
+        requires whole { IsWhole self.old }
+        requires name { IsAxiomName name }
+        ensures whole { IsWhole self.new }
+        ensures ok { OnOk result (AddsAxiom name (state_of self.old) (state_of self.new)) }
+        ensures full { (result ≡ Err Halt.LogFull)
+            ↔ (length self.old.solver.log.steps ≡ self.old.solver.log.limit) }
+        ensures unspent { (count : ℕ) → result ≡ Err (Halt.Spent count) → ⊥ }
+        ensures err { OnErr result (state_of self.new ≡ state_of self.old) }
+    {
+        if self.solver.log().is_full() {
+            return Err(Halt::LogFull);
+        }
+        let literals = axiom_literals(alloc, &name)?;
+        let clause = self.stand_for(alloc, literals.as_slice())?;
+        self.add_given(clause, Added::Axiom, Origin::Axiom(name))
+    }
+
+    /// Assumes the facts of all atoms with a variable, and the goals.
+    fn assume<E: Encoding>(&mut self, plain: &E::Plain, goals: &[AtomLit]) -> Result<(), Memory>
+        requires whole { IsWhole self.old }
+        requires unfixed { AreUnfixed (E.framework plain.now) goals.now }
+        ensures whole { IsWhole self.new }
+        ensures state { state_of self.new ≡ state_of self.old }
+        ensures ok { OnOk result (AreAssumed (E.framework plain.now) self.new.table goals.now self.new.assumed.items) }
+    {
+        assume_facts::<E>(&self.table, plain, &mut self.assumed)?;
+        push_lits_for(&mut self.table, &mut self.solver, goals, &mut self.assumed)?;
+        Ok(())
+    }
+
+    /// Keeps a side clause with its step.
+    fn keep_side(
+        &mut self,
+        alloc: Global,
+        literals: Items<AtomLit>,
+        set: NumSet,
+    ) -> Result<AskId, Halt>
+        requires whole { IsWhole self.old }
+        requires ordered { IsOrdered literals }
+        ensures whole { IsWhole self.new }
+        ensures ok { IfOk result (KeepsSide literals set (state_of self.old) (state_of self.new)) }
+        ensures full { result ≡ Err Halt.LogFull
+            → length self.old.solver.log.steps ≡ self.old.solver.log.limit }
+        ensures unspent { (count : ℕ) → result ≡ Err (Halt.Spent count) → ⊥ }
+        ensures err { OnErr result (state_of self.new ≡ state_of self.old) }
+    {
+        let number = number_at(self.sides.len())?;
+        let guarded = guarded_literals(alloc, number, literals.as_slice())?;
+        let clause = self.stand_for(alloc, guarded.as_slice())?;
+        make_room(&mut self.sides)?;
+        self.add_given(clause, Added::Side, Origin::Side(number))?;
+        let _ = self.sides.push(KeptSide { literals, set });
+        Ok(number)
+    }
+
+    /// Adds a side clause that isn't there, for which a unit is spent.
+    fn add_side(
+        &mut self,
+        alloc: Global,
+        literals: Items<AtomLit>,
+        from: &NumSet,
+        budget: &mut Budget,
+    ) -> Result<AskId, Halt>
+        requires whole { IsWhole self.old }
+        requires ordered { IsOrdered literals }
+        ensures whole { IsWhole self.new }
+        ensures ok { IfOk result (KeepsSide literals from.now (state_of self.old) (state_of self.new)) }
+        ensures spent { OnOk result (budget.new.used ≡ budget.old.used + 1) }
+        ensures limit { budget.new.limit ≡ budget.old.limit }
+        ensures log { OnErr result ((state_of self.new).log ≡ (state_of self.old).log) }
+        ensures stops { IfErr result (StopsSide literals from.now (state_of self.new) budget.old budget.new) }
+    {
+        if self.solver.log().is_full() {
+            return Err(Halt::LogFull);
+        }
+        let set = from.copy(alloc)?;
+        if !budget.spend() {
+            self.pending = Some(Pending::Side(literals, set));
+            return Err(Halt::Spent(budget.used()));
+        }
+        self.keep_side(alloc, literals, set)
+    }
+
+    /// The number of a side clause.
+    pub(crate) fn oblige(
+        &mut self,
+        alloc: Global,
+        side: &[AtomLit],
+        from: &NumSet,
+        budget: &mut Budget,
+    ) -> Result<AskId, Halt>
+        requires whole { IsWhole self.old }
+        requires side { IsSide side.now }
+        ensures whole { IsWhole self.new }
+        ensures obliges { (f : Framework) → IsGuardedLog f (state_of self.old).log
+            → IfOk result (Obliges side.now (state_of self.old).log (state_of self.new).log) }
+        ensures run { (f : Framework) → IsGuardedLog f (state_of self.old).log
+            → HasRun (OnlySide side.now from.now) 0 f (state_of self.old).log (state_of self.new).log self.new.pending
+            budget.old budget.new (halt_of result) }
+        ensures log { StaysLog (state_of self.old).log (state_of self.new).log }
+    {
+        let literals = in_order(alloc, side)?;
+        match find(self.sides.as_slice(), literals.as_slice()) {
+            Some(index) => {
+                let number = number_at(index)?;
+                Ok(number)
+            }
+            None => self.add_side(alloc, literals, from, budget),
+        }
+    }
+
+    /// The clause of a step.
+    pub(crate) fn clause(&self, alloc: Global, step: StepId) -> Result<Items<AtomLit>, Memory>
+        requires whole { IsWhole self.now }
+        requires step { IsNumberOf (state_of self.now).log.steps step }
+        ensures { IfOk result (λ clause. clause ≡ (step_at (state_of self.now).log.steps step).clause) }
+    {
+        packed_over_atoms(alloc, &self.table, self.solver.log().clause(step))
+    }
+
+    /// Where a step comes from.
+    pub(crate) fn origin(&self, step: StepId) -> Origin
+        requires { 0 < step }
+        ensures { result ≡ slice_index_or self.now.origins.items (step - 1) Hints }
+    {
+        let index = step.number() as usize - 1;
+        if index < self.origins.len() {
+            return self.origins[index];
+        }
+        Origin::Hints
+    }
+
+    /// The steps that a step follows from.
+    pub(crate) fn hints(&self, step: StepId) -> &[StepId]
+        requires { IsNumberOf (state_of self.now).log.steps step }
+        ensures { result.now ≡ hints_of (step_at (state_of self.now).log.steps step).source }
+    {
+        match self.origin(step) {
+            Origin::Hints => self.solver.log().hints(step),
+            _ => &[],
+        }
+    }
+
+    /// Keeps the clause that was in hand when a search's budget was spent.
+    fn keep_in_hand(&mut self, alloc: Global) -> Result<(), Memory>
+        ensures rest { KeepsInHand self.old self.new }
+        ensures kept { OnOk result (IsKept self.old.table self.old.solver.pending self.new.pending) }
+    {
+        if let Some(in_hand) = self.solver.take_pending() {
+            let literals = over_atoms(alloc, &self.table, in_hand.clause.as_slice())?;
+            self.pending = Some(Pending::Learned(literals, in_hand.hints));
+        }
+        Ok(())
+    }
+
+    /// Searches under what is assumed.
+    fn search_assumed(&mut self, alloc: Global, budget: &mut Budget) -> Result<Searched, Halt>
+        requires whole { IsWhole self.old }
+        requires plain { (l : ALit) → Contains self.old.assumed.items l
+            → Contains self.old.assumed.items (negation l) → ⊥ }
+        ensures whole { IsWhole self.new }
+        ensures answer { (f : Framework) (goals : List AnAtomLit)
+            → AreAssumed f self.old.table goals self.old.assumed.items → IsGuardedLog f (state_of self.old).log
+            → IfOk result (IsAnswer f (state_of self.new).log goals) }
+        ensures run { (f : Framework) (goals : List AnAtomLit)
+            → AreAssumed f self.old.table goals self.old.assumed.items → HasRun NoSide (ends_in result) f
+            (state_of self.old).log (state_of self.new).log self.new.pending budget.old budget.new (halt_of result) }
+        ensures log { StaysLog (state_of self.old).log (state_of self.new).log }
+    {
+        self.solver.reset_phases();
+        let _different = self.table.len();
+        let _before = self.solver.log().len();
+        let end = self.solver.solve(self.assumed.as_slice(), budget);
+        let _after = self.solver.log().len();
+        match end {
+            Ok(solved) => {
+                let found = searched(alloc, &self.table, solved)?;
+                Ok(found)
+            }
+            Err(halt) => {
+                self.keep_in_hand(alloc)?;
+                Err(halt)
+            }
+        }
+    }
+
+    /// Searches under facts and goals.
+    pub(crate) fn search<E: Encoding>(
+        &mut self,
+        alloc: Global,
+        plain: &E::Plain,
+        goals: &[AtomLit],
+        budget: &mut Budget,
+    ) -> Result<Searched, Halt>
+        requires whole { IsWhole self.old }
+        requires plain { IsTautology negated goals.now → ⊥ }
+        requires unfixed { AreUnfixed (E.framework plain.now) goals.now }
+        ensures whole { IsWhole self.new }
+        ensures answer { IsGuardedLog (E.framework plain.now) (state_of self.old).log
+            → IfOk result (IsAnswer (E.framework plain.now) (state_of self.new).log goals.now) }
+        ensures run { HasRun NoSide (ends_in result) (E.framework plain.now) (state_of self.old).log
+            (state_of self.new).log self.new.pending budget.old budget.new (halt_of result) }
+        ensures log { StaysLog (state_of self.old).log (state_of self.new).log }
+    {
+        self.assume::<E>(plain, goals)?;
+        self.search_assumed(alloc, budget)
+    }
+}

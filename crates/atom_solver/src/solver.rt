@@ -1,0 +1,161 @@
+//! The solver, as callers see it.
+
+ghost use Rattle.std.specs.Prelude.{◌≡◌, ◌↔◌, ℕ, ◌≤◌, length, IfOk, OnOk, OnErr, None};
+ghost use Rattle.certificate_claims.specs.Refutations.{IsAxiomOf};
+ghost use Rattle.plain_lits.specs.HintCheck.{IsTautology};
+ghost use Rattle.semantics.specs.Frameworks.{Framework};
+ghost use Rattle.meaning_atoms.specs.Literals.{negated};
+ghost use Rattle.hinted_log.specs.declared.log.TheConstants.{MOST_STEPS};
+ghost use Rattle.oracle_face.specs.Logs.{IsNumberOf, step_at, side_at, hints_of};
+ghost use Rattle.oracle_face.specs.Goals.{IsSide};
+ghost use Rattle.oracle_face.specs.Growing.{HasRun, NoSide, Obliges, OnlySide, halt_of};
+ghost use Rattle.atom_solver.specs.States.{AddsAxiom, IsGuardedLog, StaysLog, IsAxiomName, empty_log};
+ghost use Rattle.atom_solver.specs.Searches.{IsAnswer, AreUnfixed, ends_in};
+ghost use Rattle.atom_solver.specs.Lifted.{source_of};
+
+use crate::kept_side::KeptSide;
+use crate::origin::Origin;
+use crate::parts::Parts;
+use crate::searched::Searched;
+use hinted_log::MOST_STEPS;
+use meaning_atoms::{AtomLit, AxiomName};
+use oracle_face::{AskId, Encoding, Pending};
+use plain_lists::{Items, Memory};
+use plain_lits::{Budget, Halt, StepId};
+use set_lists::NumSet;
+use std::alloc::Global;
+use std::marker::Model;
+
+/// A solver whose clauses are over atoms. It means the log of an oracle, and the clause that was in hand when the last
+/// budget was spent. No framework is kept in it: whatever a call answers, what was a guarded log beside a framework
+/// still is.
+#[derive(Drop)]
+pub struct AtomSolver {
+    parts: Parts,
+}
+
+impl Model for AtomSolver {
+    ghost use Rattle.atom_solver.specs.States.{AtomState};
+    ghost use Rattle.atom_solver.specs.Inner.{state_of, IsWhole};
+
+    ghost Value = { AtomState };
+
+    ghost view = { λ s. state_of s.parts };
+
+    ghost invariant = { λ s. IsWhole s.parts };
+}
+
+impl AtomSolver {
+    /// No clause, and a log for at most so many steps.
+    pub fn open(alloc: Global, log_limit: u64) -> Result<AtomSolver, Memory>
+        requires { log_limit ≤ MOST_STEPS }
+        ensures log { IfOk result (λ s. s.log ≡ empty_log log_limit) }
+        ensures pending { IfOk result (λ s. s.pending ≡ None) }
+    {
+        let parts = Parts::open(alloc, log_limit)?;
+        Ok(AtomSolver { parts })
+    }
+
+    /// Takes an axiom: its step comes and is in use, and no unit is spent. `LogFull` comes exactly at a full log.
+    pub fn take_axiom(&mut self, alloc: Global, name: AxiomName) -> Result<(), Halt>
+        requires { IsAxiomName name }
+        ensures ok { OnOk result (AddsAxiom name self.old self.new) }
+        ensures full { (result ≡ Err Halt.LogFull) ↔ (length self.old.log.steps ≡ self.old.log.limit) }
+        ensures unspent { (count : ℕ) → result ≡ Err (Halt.Spent count) → ⊥ }
+        ensures err { OnErr result (self.new ≡ self.old) }
+        ensures log { (f : Framework) → IsAxiomOf f name → IsGuardedLog f self.old.log → IsGuardedLog f self.new.log }
+    {
+        self.parts.take_axiom(alloc, name)
+    }
+
+    /// The number of a side clause, which is kept with the set that it is made from. Where there is one with the same
+    /// literals, that one's number is given, and nothing changes. A new one takes a unit of the budget. The log's room
+    /// is looked at first; where the budget is spent, the side clause is kept as `pending`.
+    pub fn oblige(
+        &mut self,
+        alloc: Global,
+        side: &[AtomLit],
+        from: &NumSet,
+        budget: &mut Budget,
+    ) -> Result<AskId, Halt>
+        requires { IsSide side.now }
+        ensures obliges { (f : Framework) → IsGuardedLog f self.old.log
+            → IfOk result (Obliges side.now self.old.log self.new.log) }
+        ensures run { (f : Framework) → IsGuardedLog f self.old.log → HasRun (OnlySide side.now from.now) 0 f
+            self.old.log self.new.log self.new.pending budget.old budget.new (halt_of result) }
+        ensures log { StaysLog self.old.log self.new.log }
+    {
+        self.parts.oblige(alloc, side, from, budget)
+    }
+
+    /// Searches for literals under which each clause in use and each goal is true, where facts are as the framework has
+    /// them. Each clause that is learned takes a unit of the budget; where it has none, the further clause is kept as
+    /// `pending`. Where the goals are refuted, one step at most is logged that only ends the search. After `Memory` the
+    /// log may have learned steps that no budget counts.
+    pub fn search<E: Encoding>(
+        &mut self,
+        alloc: Global,
+        plain: &E::Plain,
+        goals: &[AtomLit],
+        budget: &mut Budget,
+    ) -> Result<Searched, Halt>
+        requires plain { IsTautology negated goals.now → ⊥ }
+        requires unfixed { AreUnfixed (E.framework plain.now) goals.now }
+        ensures answer { IsGuardedLog (E.framework plain.now) self.old.log
+            → IfOk result (IsAnswer (E.framework plain.now) self.new.log goals.now) }
+        ensures run { HasRun NoSide (ends_in result) (E.framework plain.now) self.old.log self.new.log
+            self.new.pending budget.old budget.new (halt_of result) }
+        ensures log { StaysLog self.old.log self.new.log }
+    {
+        self.parts.search::<E>(alloc, plain, goals, budget)
+    }
+
+    /// Takes the clause that was in hand when the last budget was spent.
+    pub fn take_pending(&mut self) -> Option<Pending>
+        ensures pending { result ≡ self.old.pending }
+        ensures rest { self.new ≡ record { log = self.old.log; pending = None } }
+    {
+        self.parts.pending.take()
+    }
+
+    /// The number of steps.
+    pub fn len(&self) -> usize
+        ensures len { result ≡ length self.now.log.steps }
+        ensures within { length self.now.log.steps ≤ self.now.log.limit }
+    {
+        self.parts.solver.log().len()
+    }
+
+    /// The clause of a step.
+    pub fn clause(&self, alloc: Global, step: StepId) -> Result<Items<AtomLit>, Memory>
+        requires { IsNumberOf self.now.log.steps step }
+        ensures { IfOk result (λ clause. clause ≡ (step_at self.now.log.steps step).clause) }
+    {
+        self.parts.clause(alloc, step)
+    }
+
+    /// Where a step comes from.
+    pub fn origin(&self, step: StepId) -> Origin
+        requires { IsNumberOf self.now.log.steps step }
+        ensures { (step_at self.now.log.steps step).source
+            ≡ source_of result (hints_of (step_at self.now.log.steps step).source) }
+    {
+        self.parts.origin(step)
+    }
+
+    /// The steps that a step follows from; none where it is an axiom or the step of a side clause.
+    pub fn hints(&self, step: StepId) -> &[StepId]
+        requires { IsNumberOf self.now.log.steps step }
+        ensures { result.now ≡ hints_of (step_at self.now.log.steps step).source }
+    {
+        self.parts.hints(step)
+    }
+
+    /// The side clause of a number.
+    pub fn side(&self, number: AskId) -> &KeptSide
+        requires { IsNumberOf self.now.log.sides number }
+        ensures { result.now ≡ side_at self.now.log.sides number }
+    {
+        &self.parts.sides[number.number() as usize - 1]
+    }
+}
