@@ -54,8 +54,17 @@ turned left right same = record { there = same.back; back = same.there }
 chained : (a b c : List AtomLit) → IsSameClause a b → IsSameClause b c → IsSameClause a c
 chained a b c h k = record { there = λ l x. k.there l (h.there l x); back = λ l x. h.back l (k.back l x) }
 
-side_plain : (side literals : List AtomLit) → IsSide side → IsSameClause literals side → AsksNothing literals
-side_plain side literals is same l c ask = tells_no_ask l.atom l.positive (is.tells l (same.there l c)) ask
+still_no_tautology : (side literals : List AtomLit) → IsSameClause literals side → (IsTautology negated side → ⊥)
+    → IsTautology negated literals → ⊥
+still_no_tautology side literals same none t =
+    none (t.0, same.there t.0 t.1, same.there (negated t.0) t.2)
+
+side_in_order : (side literals : List AtomLit) → IsSide side → IsSameClause literals side → IsSide literals
+side_in_order side literals is same = record {
+  tells = λ l c. is.tells l (same.there l c);
+  one_sided = ⊎_elim (λ h. inl (λ l c. h l (same.there l c)))
+      (λ h. inr ((λ l c. h.0 l (same.there l c)), still_no_tautology side literals same h.1)) is.one_sided;
+}
 
 -- ---- the step of a side clause
 
@@ -97,7 +106,7 @@ takes_side : (side literals : List AtomLit) (set : List ℕ) (old new : AtomStat
     → (keeps : KeepsSide literals set old new number)
     → TakesSide literals set keeps.clause old.log new.log
 takes_side side literals set old new number is order none keeps = record {
-  plain = side_plain side literals is order.same;
+  is_side = side_in_order side literals is order.same;
   other = λ n named same.
       let low = named.from_one in
       let high = named.within in
