@@ -66,6 +66,33 @@ side_in_order side literals is same = record {
       (λ h. inr ((λ l c. h.0 l (same.there l c)), still_no_tautology side literals same h.1)) is.one_sided;
 }
 
+-- ---- a side clause that is there, or isn't
+
+pub is_there : (given literals : List AtomLit) (sides : List SideClause) (index : ℕ) → IsOrderOf given literals
+    → IsSideAt sides literals index
+    → IsNumberOf sides (index + 1) × IsSameClause (side_at sides (index + 1)).literals given
+is_there given literals sides index order at =
+    let within = at.within in
+    let here : index + 1 - 1 ≡ index = omega arith in (
+      record { from_one = omega arith; within = omega arith },
+      subst (λ xs. IsSameClause xs given)
+          (sym (ap (λ i. (slice_index_or sides i no_side).literals) here ∙ at.is)) order.same,
+    )
+
+not_there : (given literals : List AtomLit) (sides : List SideClause) → IsOrderOf given literals
+    → IsNowhere sides literals → (n : ℕ) → IsNumberOf sides n → IsSameClause (side_at sides n).literals literals → ⊥
+not_there given literals sides order none n named same =
+    let low = named.from_one in
+    let high = named.within in
+    none.none (n - 1) (omega arith)
+    (same_literals (side_at sides n).literals literals (none.ordered (n - 1) (omega arith)) order.ordered_is same)
+
+pub is_nowhere : (given literals : List AtomLit) (sides : List SideClause) → IsOrderOf given literals
+    → IsNowhere sides literals → (n : ℕ) → IsNumberOf sides n → IsSameClause (side_at sides n).literals given → ⊥
+is_nowhere given literals sides order none n named same =
+    not_there given literals sides order none n named
+    (chained (side_at sides n).literals given literals same (turned literals given order.same))
+
 -- ---- the step of a side clause
 
 new_same : (list : List (List AtomLit)) (clause other : List AtomLit) → IsSameClause clause other → IsNew list other
@@ -107,12 +134,7 @@ takes_side : (side literals : List AtomLit) (set : List ℕ) (old new : AtomStat
     → TakesSide literals set keeps.clause old.log new.log
 takes_side side literals set old new number is order none keeps = record {
   is_side = side_in_order side literals is order.same;
-  other = λ n named same.
-      let low = named.from_one in
-      let high = named.within in
-      none.none (n - 1) (omega arith)
-      (same_literals (side_at old.log.sides n).literals literals (none.ordered (n - 1) (omega arith)) order.ordered_is
-      same);
+  other = not_there side literals old.log.sides order none;
   same = subst (λ m. IsSameClause keeps.clause (guarded m literals)) keeps.next keeps.same;
   gains = subst (λ m. GainsStep (own_step keeps.clause (by_side m)) (old.log.sides ++ side_made literals set ∷ []) old.log
       new.log) keeps.next keeps.gains;
@@ -160,14 +182,11 @@ pub obliged_found : (side literals : List AtomLit) (log : OracleLog) (f : Framew
     → IsOrderOf side literals → IsSideAt log.sides literals index → IsGuardedLog f log
     → Obliges side log log (index + 1)
 obliged_found side literals log f index order at h =
-    let within = at.within in
-    let named : IsNumberOf log.sides (index + 1) = record { from_one = omega arith; within = omega arith } in
-    let has = h.guards.stepped (index + 1) named in
-    let here : index + 1 - 1 ≡ index = omega arith in
+    let there = is_there side literals log.sides index order at in
+    let has = h.guards.stepped (index + 1) there.0 in
     record {
-      named = named;
-      same = subst (λ xs. IsSameClause xs side)
-          (sym (ap (λ i. (slice_index_or log.sides i no_side).literals) here ∙ at.is)) order.same;
+      named = there.0;
+      same = there.1;
       stepped = (has.number, has.named, has.source);
       there = λ n other same. refl;
     }
@@ -251,14 +270,9 @@ module _ (side literals : List AtomLit) (from : List ℕ) (old new : AtomState) 
           further = (
             (order.same, refl),
             λ n named same.
-                let low = named.from_one in
                 let sides : new.log.sides ≡ old.log.sides = ap (λ (g : OracleLog). g.sides) err in
-                let there = subst (λ xs. IsNumberOf xs n) sides named in
-                let high = there.within in
-                none.none (n - 1) (omega arith)
-                (same_literals (side_at old.log.sides n).literals literals (none.ordered (n - 1) (omega arith))
-                order.ordered_is
-                (subst (λ xs. IsSameClause (side_at xs n).literals literals) sides same)),
+                not_there side literals old.log.sides order none n (subst (λ xs. IsNumberOf xs n) sides named)
+                (subst (λ xs. IsSameClause (side_at xs n).literals literals) sides same),
           );
         })
     added_run (Err LogFull) before after ok spent limit err stops =

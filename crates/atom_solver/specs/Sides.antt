@@ -3,7 +3,7 @@ use Rattle.std.specs.Prelude.{◌≡◌, ◌≢◌, ℕ, ◌<◌, List, length, 
 use Rattle.std.specs.declared.cmp.Ordering.TheVariants.{Less}
 use Rattle.meaning_atoms.specs.declared.atom.AtomLit.{AtomLit}
 use Rattle.meaning_atoms.specs.contracts.atom.AtomLitOrd.TheImpl.{cmp-value}
-use Rattle.oracle_face.specs.Logs.{SideClause, IsSameClause, no_side}
+use Rattle.oracle_face.specs.Logs.{SideClause, IsNumberOf, IsSameClause, no_side, side_at}
 
 -- each literal comes before those after it, so that none is repeated
 pub record IsOrdered (literals : List AtomLit) : Type 0 where
@@ -24,3 +24,13 @@ pub record IsSideAt (sides : List SideClause) (literals : List AtomLit) (index :
 pub record IsNowhere (sides : List SideClause) (literals : List AtomLit) : Type 0 where
   pub ordered : (k : ℕ) → k < length sides → IsOrdered (slice_index_or sides k no_side).literals
   pub none : (k : ℕ) → k < length sides → (slice_index_or sides k no_side).literals ≢ literals
+
+-- the number is that of the side clause with these literals, whatever their order
+abbrev pub IsSideOf : List SideClause → List AtomLit → ℕ → Type 0
+IsSideOf sides literals number =
+    IsNumberOf sides number × IsSameClause (side_at sides number).literals literals
+
+-- no side clause has these literals
+abbrev pub HasNoSide : List SideClause → List AtomLit → Type 0
+HasNoSide sides literals =
+    (n : ℕ) → IsNumberOf sides n → IsSameClause (side_at sides n).literals literals → ⊥

@@ -1,6 +1,6 @@
 //! What a solver over atoms is made of.
 
-ghost use Rattle.std.specs.Prelude.{◌+◌, ◌-◌, IfErr, slice_index_or, ◌≡◌, ◌↔◌, ℕ, ◌≤◌, [], length, List, IfOk, OnOk, OnErr, Contains, ◌<◌, vec_len, vec_capacity};
+ghost use Rattle.std.specs.Prelude.{◌+◌, ◌-◌, IfErr, IfNone, IfSome, slice_index_or, ◌≡◌, ◌↔◌, ℕ, ◌≤◌, [], length, List, IfOk, OnOk, OnErr, Contains, ◌<◌, vec_len, vec_capacity};
 ghost use Rattle.plain_lits.specs.declared.lit.Lit.{Lit as ALit};
 ghost use Rattle.plain_lits.specs.HintCheck.{IsTautology};
 ghost use Rattle.plain_lits.specs.Literals.{negation};
@@ -13,7 +13,7 @@ ghost use Rattle.meaning_atoms.specs.Literals.{negated};
 ghost use Rattle.oracle_face.specs.Goals.{IsSide};
 ghost use Rattle.oracle_face.specs.Growing.{HasRun, NoSide, Obliges, OnlySide, halt_of};
 ghost use Rattle.oracle_face.specs.Logs.{IsNumberOf, hints_of, step_at};
-ghost use Rattle.atom_solver.specs.Sides.{IsOrdered};
+ghost use Rattle.atom_solver.specs.Sides.{HasNoSide, IsOrdered, IsSideOf};
 ghost use Rattle.atom_solver.specs.declared.origin.Origin.TheVariants.{Hints};
 ghost use Rattle.atom_solver.specs.Assumed.{AreAssumed};
 ghost use Rattle.atom_solver.specs.Inner.{state_of, GainsGiven, IsFilled, IsKept, IsWhole};
@@ -365,5 +365,25 @@ impl Parts {
     {
         self.assume::<E>(plain, goals)?;
         self.search_assumed(alloc, budget)
+    }
+
+    /// The number of the side clause with these literals, if there is one.
+    pub(crate) fn ask_of(
+        &self,
+        alloc: Global,
+        literals: &[AtomLit],
+    ) -> Result<Option<AskId>, Memory>
+        requires { IsWhole self.now }
+        ensures some { IfOk result (λ found. IfSome found (IsSideOf (state_of self.now).log.sides literals.now)) }
+        ensures none { IfOk result (λ found. IfNone found (HasNoSide (state_of self.now).log.sides literals.now)) }
+    {
+        let ordered = in_order(alloc, literals)?;
+        match find(self.sides.as_slice(), ordered.as_slice()) {
+            Some(index) => {
+                let number = number_at(index)?;
+                Ok(Some(number))
+            }
+            None => Ok(None),
+        }
     }
 }

@@ -1,6 +1,6 @@
 //! The solver, as callers see it.
 
-ghost use Rattle.std.specs.Prelude.{◌≡◌, ◌↔◌, ℕ, ◌≤◌, length, IfOk, OnOk, OnErr, None};
+ghost use Rattle.std.specs.Prelude.{◌≡◌, ◌↔◌, ℕ, ◌≤◌, length, IfNone, IfOk, IfSome, OnOk, OnErr, None};
 ghost use Rattle.certificate_claims.specs.Refutations.{IsAxiomOf};
 ghost use Rattle.plain_lits.specs.HintCheck.{IsTautology};
 ghost use Rattle.semantics.specs.Frameworks.{Framework};
@@ -12,6 +12,7 @@ ghost use Rattle.oracle_face.specs.Growing.{HasRun, NoSide, Obliges, OnlySide, h
 ghost use Rattle.atom_solver.specs.States.{AddsAxiom, IsGuardedLog, StaysLog, IsAxiomName, empty_log};
 ghost use Rattle.atom_solver.specs.Searches.{IsAnswer, AreUnfixed, ends_in};
 ghost use Rattle.atom_solver.specs.Lifted.{source_of};
+ghost use Rattle.atom_solver.specs.Sides.{HasNoSide, IsSideOf};
 
 use crate::kept_side::KeptSide;
 use crate::origin::Origin;
@@ -157,5 +158,20 @@ impl AtomSolver {
         ensures { result.now ≡ side_at self.now.log.sides number }
     {
         &self.parts.sides[number.number() as usize - 1]
+    }
+
+    /// The number of side clauses.
+    pub fn sides(&self) -> usize
+        ensures { result ≡ length self.now.log.sides }
+    {
+        self.parts.sides.len()
+    }
+
+    /// The number of the side clause that has these literals, whatever their order; None exactly where there is none.
+    pub fn ask_of(&self, alloc: Global, literals: &[AtomLit]) -> Result<Option<AskId>, Memory>
+        ensures some { IfOk result (λ found. IfSome found (IsSideOf self.now.log.sides literals.now)) }
+        ensures none { IfOk result (λ found. IfNone found (HasNoSide self.now.log.sides literals.now)) }
+    {
+        self.parts.ask_of(alloc, literals)
     }
 }
