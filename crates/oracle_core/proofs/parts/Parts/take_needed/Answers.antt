@@ -13,7 +13,7 @@ pub returns-in_err-take_axiom-clause-run : goal.returns-in_err-take_axiom-clause
 returns-in_err-take_axiom-clause-run c = λ units.
     halted_any _ _ _ _ units units c.from_residual.result c.in_err-take_axiom.field-0.0 c.from_residual.ensures
     (taken_halted c.args.self.now c.loop-self.self c.take_axiom.new.self c.in_err-take_axiom.field-0.0
-    c.loop-self.invariant c.in_err-take_axiom.ensures.err (λ e. c.in_err-take_axiom.ensures.full (ap Err e))
+    c.loop-self.invariant c.in_err-take_axiom.ensures.err (λ e. c.in_err-take_axiom.ensures.full.0 (ap Err e))
     (λ count e. c.in_err-take_axiom.ensures.unspent count (ap Err e)) units)
 
 pub loop-self-preserved : goal.loop-self-preserved
