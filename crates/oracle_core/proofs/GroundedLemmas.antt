@@ -23,7 +23,8 @@ use Rattle.certificate_claims.specs.SetLiterals.{has}
 use Rattle.certificate_claims.specs.declared.row.Row.TheVariants.{Tested, ByGrounded}
 use Rattle.certificate_claims.proofs.SetTests.{has_from, has_gives}
 use Rattle.certificate_laws.proofs.Right.{accepted_right}
-use Rattle.oracle_core.specs.Answers.{IsShownBy, answer_by, is_by_grounded, no_certificate}
+use Rattle.query_answers.specs.Answers.{is_by_grounded}
+use Rattle.oracle_core.specs.Answers.{IsShownBy, answer_by, no_certificate}
 
 -- ---- certificates without claims
 

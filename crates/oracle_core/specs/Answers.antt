@@ -1,12 +1,10 @@
 -- What an answer is shown by, and the answers that the grounded set gives.
-use Rattle.std.specs.Prelude.{ℕ, Bool, true, false, List, [], ◌∷◌, Option, Some, None, if◌then◌else◌}
+use Rattle.std.specs.Prelude.{ℕ, List, [], ◌∷◌, Option, Some, None, if◌then◌else◌}
 use Rattle.semantics.specs.Frameworks.{Framework}
 use Rattle.iccma_tasks.specs.declared.answer.Answer.{Answer}
 use Rattle.iccma_tasks.specs.declared.answer.Answer.TheVariants.{Yes, No, Sets}
 use Rattle.iccma_tasks.specs.declared.task.Problem.{Problem}
-use Rattle.iccma_tasks.specs.declared.task.Problem.TheVariants.{Credulous, Sceptical, SomeExtension}
-use Rattle.iccma_tasks.specs.declared.task.Semantics.{Semantics}
-use Rattle.iccma_tasks.specs.declared.task.Semantics.TheVariants.{Complete, Grounded}
+use Rattle.iccma_tasks.specs.declared.task.Problem.TheVariants.{Sceptical}
 use Rattle.iccma_tasks.specs.Tasks.{Asked}
 use Rattle.iccma_tasks.specs.WrittenText.{IsWritable as IsWritableAnswer}
 use Rattle.certificate_claims.specs.declared.certificate.Certificate.{Certificate}
@@ -23,16 +21,6 @@ pub record IsShownBy (f : Framework) (asked : Asked) (answer : Answer) (certific
   pub writable : IsWritable certificate
 
 -- ---- the grounded set
-
--- the tasks that need no search: the grounded set is the one extension of its semantics, and it is part of each complete
--- set and one itself (Dung 1995, theorem 25)
-abbrev pub is_by_grounded : Problem → Semantics → Bool
-is_by_grounded Credulous Grounded = true
-is_by_grounded Sceptical Grounded = true
-is_by_grounded SomeExtension Grounded = true
-is_by_grounded Sceptical Complete = true
-is_by_grounded SomeExtension Complete = true
-is_by_grounded problem semantics = false
 
 -- the answer that the grounded set gives
 abbrev pub answer_by : Problem → Option ℕ → List ℕ → Answer

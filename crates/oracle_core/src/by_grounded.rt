@@ -6,7 +6,7 @@ ghost use Rattle.certificate_claims.specs.SetLiterals.{has};
 ghost use Rattle.iccma_tasks.specs.Tasks.{FitsTask};
 ghost use Rattle.edit_rules.specs.Kinds.{framework_of};
 ghost use Rattle.oracle_core.specs.Answers.{IsShownBy, answer_by, no_certificate};
-ghost use Rattle.oracle_core.specs.Answers as answers;
+ghost use Rattle.query_answers.specs.Answers as answers;
 
 use crate::reply::Answered;
 use certificate_claims::Certificate;

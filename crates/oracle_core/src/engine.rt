@@ -5,14 +5,17 @@ ghost use Rattle.certificate_claims.specs.Rights.{Accepts};
 ghost use Rattle.edit_rules.specs.Kinds.{framework_of};
 ghost use Rattle.hinted_log.specs.declared.log.TheConstants.{MOST_STEPS};
 ghost use Rattle.atom_solver.specs.States.{empty_log};
+ghost use Rattle.oracle_core.specs.Answering.{told_origin};
 
 use crate::parts::{Parts, range_of};
+use atom_solver::Origin;
 use edit_rules::Framework;
 use hinted_log::MOST_STEPS;
+use log_certificates::{ReadLog, StepOrigin};
 use meaning_atoms::AtomLit;
 use oracle_face::{AskId, Found, Oracle};
-use plain_lists::Memory;
-use plain_lits::{Budget, Halt};
+use plain_lists::{Items, Memory};
+use plain_lits::{Budget, Halt, StepId};
 use set_lists::NumSet;
 use std::alloc::Global;
 use std::marker::Model;
@@ -23,7 +26,7 @@ use std::marker::Model;
 #[derive(Drop)]
 pub struct Engine {
     number: u32,
-    parts: Parts,
+    pub(crate) parts: Parts,
 }
 
 impl Model for Engine {
@@ -104,4 +107,45 @@ impl Oracle for Engine {
     ghost stays = { λ e. refl };
 
     ghost joins = { λ before between after first second. second ∙ first };
+}
+
+/// Where a step comes from, as a certificate tells it.
+fn told(origin: Origin) -> StepOrigin
+    ensures { result ≡ told_origin origin }
+{
+    match origin {
+        Origin::Axiom(name) => StepOrigin::Axiom(name),
+        Origin::Side(side) => StepOrigin::Side(side),
+        Origin::Hints => StepOrigin::Derived,
+    }
+}
+
+impl ReadLog for Engine {
+    ghost framework = { λ e. e.framework };
+
+    ghost log = { λ e. e.log };
+
+    fn len(&self) -> usize {
+        self.parts.solver.len()
+    }
+
+    fn clause(&self, alloc: Global, step: StepId) -> Result<Items<AtomLit>, Memory> {
+        self.parts.solver.clause(alloc, step)
+    }
+
+    fn origin(&self, step: StepId) -> StepOrigin {
+        told(self.parts.solver.origin(step))
+    }
+
+    fn hints(&self, step: StepId) -> &[StepId] {
+        self.parts.solver.hints(step)
+    }
+
+    fn sides(&self) -> usize {
+        self.parts.solver.sides()
+    }
+
+    fn ask_of(&self, alloc: Global, literals: &[AtomLit]) -> Result<Option<AskId>, Memory> {
+        self.parts.solver.ask_of(alloc, literals)
+    }
 }

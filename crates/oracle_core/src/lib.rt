@@ -1,6 +1,7 @@
 //! Answers to queries, each with the certificate that shows it, and the engine that searches for them.
 #![tactic(auto)]
 
+mod answering;
 mod by_grounded;
 pub mod engine;
 pub(crate) mod parts;
@@ -8,4 +9,4 @@ pub mod reply;
 
 pub use by_grounded::{answer_by_grounded, is_by_grounded};
 pub use engine::Engine;
-pub use reply::Answered;
+pub use reply::{AnswerStop, Answered};

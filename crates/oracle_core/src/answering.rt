@@ -1,0 +1,110 @@
+//! Answers to queries.
+
+ghost use Rattle.std.specs.Prelude.{◌≡◌, ◌+◌, ◌*◌, true, false, length, IfErr, IfOk};
+ghost use Rattle.edit_rules.specs.Fitting.{Fits};
+ghost use Rattle.oracle_face.specs.Growing.{HasRun};
+ghost use Rattle.session_log.specs.Ends.{MadeFor};
+ghost use Rattle.query_answers.specs.Answers.{IsCovered, IsEvidence, is_by_grounded};
+ghost use Rattle.oracle_core.specs.Answers.{IsShownBy};
+ghost use Rattle.oracle_core.specs.Answering.{IsCause, NeedsSearch, halt_behind};
+
+use crate::by_grounded::answer_by_grounded;
+use crate::engine::Engine;
+use crate::reply::{AnswerStop, Answered};
+use certificate_making::certificate_for;
+use edit_rules::query_fits;
+use iccma_tasks::Query;
+use plain_lists::Memory;
+use plain_lits::Budget;
+use query_answers::{Evidence, Outcome, answer};
+use std::alloc::Global;
+
+impl Engine {
+    /// The answer with the certificate that steps of the log make.
+    fn certified(
+        &self,
+        alloc: Global,
+        query: &Query,
+        evidence: Evidence,
+        units: u64,
+    ) -> Result<Answered, Memory>
+        requires { IsEvidence self.now.framework query.now self.now.log evidence }
+        ensures shown { IfOk result (λ a. IsShownBy self.now.framework query.now a.answer a.certificate) }
+        ensures units { IfOk result (λ a. a.units ≡ units) }
+    {
+        let _form = self.parts.framework.kind();
+        let Evidence { answer, sets, steps } = evidence;
+        let certificate = certificate_for(
+            alloc,
+            self,
+            &self.parts.framework,
+            query,
+            &answer,
+            sets,
+            steps.as_slice(),
+        )?;
+        Ok(Answered {
+            answer,
+            certificate,
+            units,
+        })
+    }
+
+    /// The answer that a search shows.
+    fn answer_by_search(
+        &mut self,
+        alloc: Global,
+        query: &Query,
+        budget: &mut Budget,
+        limit: u32,
+    ) -> Result<Answered, AnswerStop>
+        requires search { NeedsSearch self.old.framework query.now }
+        requires covered { IsCovered query.now.task }
+        ensures shown { IfOk result (λ a. IsShownBy self.old.framework query.now a.answer a.certificate) }
+        ensures units { IfOk result (λ a. a.units ≡ budget.new.used) }
+        ensures cause { IfErr result (IsCause self.old.framework query.now limit) }
+        ensures run { HasRun (MadeFor self.old.framework query.now) (2 * length self.new.log.sides + 2)
+            self.old.framework self.old.log self.new.log self.new.pending budget.old budget.new (halt_behind result) }
+        ensures framework { self.new.framework ≡ self.old.framework }
+        ensures number { self.new.number ≡ self.old.number }
+    {
+        match answer(alloc, self, budget, query, limit as usize)? {
+            Outcome::Shown(evidence) => {
+                let answered = self.certified(alloc, query, evidence, budget.used())?;
+                Ok(answered)
+            }
+            Outcome::TooMany => Err(AnswerStop::TooMany),
+        }
+    }
+
+    /// Answers a query, with the certificate that shows the answer and the units that it took. All extensions are listed
+    /// where they are at most so many. Where the grounded set answers, no step is taken, and neither `Spent` nor `LogFull`
+    /// comes. What is added to the log serves the query: each unit was new when it came, and the side clauses are those that
+    /// its certificate may have. The engine stays usable whatever comes; after a stop other than `Query` its log may be
+    /// longer.
+    pub fn answer(
+        &mut self,
+        alloc: Global,
+        query: &Query,
+        budget: &mut Budget,
+        limit: u32,
+    ) -> Result<Answered, AnswerStop>
+        requires covered { IsCovered query.now.task }
+        requires unused { budget.old.used ≡ 0 }
+        ensures shown { IfOk result (λ a. IsShownBy self.old.framework query.now a.answer a.certificate) }
+        ensures units { IfOk result (λ a. a.units ≡ budget.new.used) }
+        ensures cause { IfErr result (IsCause self.old.framework query.now limit) }
+        ensures run { HasRun (MadeFor self.old.framework query.now) (2 * length self.new.log.sides + 2)
+            self.old.framework self.old.log self.new.log self.new.pending budget.old budget.new (halt_behind result) }
+        ensures by_grounded { is_by_grounded query.now.task.problem query.now.task.semantics ≡ true
+            → (self.new ≡ self.old) × (budget.new ≡ budget.old) }
+        ensures framework { self.new.framework ≡ self.old.framework }
+        ensures number { self.new.number ≡ self.old.number }
+    {
+        query_fits(&self.parts.framework, query)?;
+        if let Some(answered) = answer_by_grounded(alloc, &self.parts.framework, query)? {
+            return Ok(answered);
+        }
+        self.answer_by_search(alloc, query, budget, limit)
+    }
+}
