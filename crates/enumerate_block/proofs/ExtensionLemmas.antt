@@ -1,5 +1,5 @@
 -- Lists of all extensions by each semantics.
-use Rattle.std.proofs.Common.{◌≡◌, inl, inr, ℕ, ◌+◌, ◌*◌, ◌<◌, List, [], ◌∷◌, length, refl, subst, arith}
+use Rattle.std.proofs.Common.{◌≡◌, ℕ, ◌+◌, ◌*◌, ◌<◌, List, [], ◌∷◌, length, refl, subst, arith}
 use Rattle.std.specs.Prelude.{Contains, slice_index_or, Option}
 use Rattle.std.proofs.lemmas.List.{get_or_default}
 use Rattle.plain_lists.proofs.Membership.{Contains-nil}
@@ -282,30 +282,34 @@ no_ideal (af f) task h is = has_task f task Ideal h is
 
 -- ---- what calls leave
 
-made_differs : (f : Framework) → Makes (MadeDiffers f) (MadeForAll f)
-made_differs f literals set h = (h.1, inr (inr h.0))
+made_differs : (f : Framework) (semantics : Semantics) (mode : Atom) → IsModeOf semantics mode
+    → Makes (MadeDiffers f) (MadeForAll f semantics)
+made_differs f Complete Co ok literals set h = (h.1, h.0)
+made_differs f Stable St ok literals set h = (h.1, h.0)
+made_differs f _ _ ok literals set h = absurd ok
 
-made_outside : (f : Framework) → Makes (MadeOutside f) (MadeForAll f)
-made_outside f literals set h = (h.1, inl h.0)
+made_outside : (f : Framework) → Makes (MadeOutside f) (MadeForAll f Preferred)
+made_outside f literals set h = (h.1, h.0)
 
-made_ranges : (f : Framework) → Makes (MadeForRanges f) (MadeForAll f)
-made_ranges f literals set h = (h.0, inr h.1)
+made_ranges : (f : Framework) → Makes (MadeForRanges f) (MadeForAll f SemiStable)
+made_ranges f literals set h = h
 
-pub run_tested : (f : Framework) (a b : OracleLog) (p : Option Pending) (u v : Units) (halt : Option Halt)
-    → HasRun (MadeDiffers f) 1 f a b p u v halt
-    → HasRun (MadeForAll f) (2 * length b.sides + 2) f a b p u v halt
-run_tested f a b p u v halt h =
-    run_as (MadeDiffers f) (MadeForAll f) 1 (2 * length b.sides + 2) f a b p u v halt (made_differs f) (omega arith) h
+pub run_tested : (f : Framework) (semantics : Semantics) (mode : Atom) (a b : OracleLog) (p : Option Pending)
+    (u v : Units) (halt : Option Halt) → IsModeOf semantics mode → HasRun (MadeDiffers f) 1 f a b p u v halt
+    → HasRun (MadeForAll f semantics) (2 * length b.sides + 2) f a b p u v halt
+run_tested f semantics mode a b p u v halt ok h =
+    run_as (MadeDiffers f) (MadeForAll f semantics) 1 (2 * length b.sides + 2) f a b p u v halt
+    (made_differs f semantics mode ok) (omega arith) h
 
 pub run_largest : (f : Framework) (most : ℕ) (a b : OracleLog) (p : Option Pending) (u v : Units) (halt : Option Halt)
-    → HasRun (MadeOutside f) most f a b p u v halt → HasRun (MadeForAll f) most f a b p u v halt
+    → HasRun (MadeOutside f) most f a b p u v halt → HasRun (MadeForAll f Preferred) most f a b p u v halt
 run_largest f most a b p u v halt h =
-    run_as (MadeOutside f) (MadeForAll f) most most f a b p u v halt (made_outside f) (omega arith) h
+    run_as (MadeOutside f) (MadeForAll f Preferred) most most f a b p u v halt (made_outside f) (omega arith) h
 
 pub run_widest : (f : Framework) (most : ℕ) (a b : OracleLog) (p : Option Pending) (u v : Units) (halt : Option Halt)
-    → HasRun (MadeForRanges f) most f a b p u v halt → HasRun (MadeForAll f) most f a b p u v halt
+    → HasRun (MadeForRanges f) most f a b p u v halt → HasRun (MadeForAll f SemiStable) most f a b p u v halt
 run_widest f most a b p u v halt h =
-    run_as (MadeForRanges f) (MadeForAll f) most most f a b p u v halt (made_ranges f) (omega arith) h
+    run_as (MadeForRanges f) (MadeForAll f SemiStable) most most f a b p u v halt (made_ranges f) (omega arith) h
 
 -- ---- modes
 

@@ -8,7 +8,7 @@ use Rattle.iccma_tasks.specs.declared.answer.Answer.{Answer}
 use Rattle.iccma_tasks.specs.declared.answer.Answer.TheVariants.{No, Sets}
 use Rattle.iccma_tasks.specs.declared.task.Problem.TheVariants.{AllExtensions}
 use Rattle.iccma_tasks.specs.declared.task.Semantics.{Semantics}
-use Rattle.iccma_tasks.specs.declared.task.Semantics.TheVariants.{Complete, Stable}
+use Rattle.iccma_tasks.specs.declared.task.Semantics.TheVariants.{Complete, Stable, Preferred, SemiStable}
 use Rattle.iccma_tasks.specs.declared.task.Task.{Task}
 use Rattle.iccma_tasks.specs.Tasks.{Asked, IsTaskOf, task_of}
 use Rattle.certificate_claims.specs.declared.row.Row.{Row}
@@ -39,13 +39,15 @@ IsModeOf Complete Co = Unit {0}
 IsModeOf Stable St = Unit {0}
 IsModeOf _ _ = ⊥
 
--- a side clause made from an admissible set: that something lies outside it, that something is in the range that isn't
--- in its range, or that a set differs from it
-abbrev pub MadeForAll : Framework → Making
-MadeForAll f literals set =
-    HoldsOf f set Ad
-    × (IsSameClause literals (outside f set)
-    ⊎ (IsSameClause literals (wider f set) ⊎ IsSameClause literals (differs f set)))
+-- a side clause made from an admissible set, by the semantics: that a set differs from it; that something lies outside
+-- it; or either that something is in the range that isn't in its range, or that a set differs from it
+abbrev pub MadeForAll : Framework → Semantics → Making
+MadeForAll f Complete literals set = HoldsOf f set Ad × IsSameClause literals (differs f set)
+MadeForAll f Stable literals set = HoldsOf f set Ad × IsSameClause literals (differs f set)
+MadeForAll f Preferred literals set = HoldsOf f set Ad × IsSameClause literals (outside f set)
+MadeForAll f SemiStable literals set =
+    HoldsOf f set Ad × (IsSameClause literals (wider f set) ⊎ IsSameClause literals (differs f set))
+MadeForAll f _ literals set = ⊥
 
 -- ---- the answer
 

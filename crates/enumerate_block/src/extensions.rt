@@ -39,7 +39,7 @@ pub fn all<O: Oracle>(
 ) -> Result<Extensions, Halt>
     requires { IsListTask (O.framework oracle.old) task }
     ensures listed { IfOk result (IsListOf (O.framework oracle.old) (O.log oracle.new) task.semantics limit) }
-    ensures run { HasRun (MadeForAll (O.framework oracle.old)) (2 * length (O.log oracle.new).sides + 2)
+    ensures run { HasRun (MadeForAll (O.framework oracle.old) task.semantics) (2 * length (O.log oracle.new).sides + 2)
         (O.framework oracle.old) (O.log oracle.old) (O.log oracle.new) (O.pending oracle.new) budget.old budget.new
         (halt_of result) }
     ensures framework { O.framework oracle.new ≡ O.framework oracle.old }
@@ -68,7 +68,7 @@ fn all_tested<O: Oracle>(
 ) -> Result<Extensions, Halt>
     requires { IsModeOf semantics mode }
     ensures listed { IfOk result (IsListOf (O.framework oracle.old) (O.log oracle.new) semantics limit) }
-    ensures run { HasRun (MadeForAll (O.framework oracle.old)) (2 * length (O.log oracle.new).sides + 2)
+    ensures run { HasRun (MadeForAll (O.framework oracle.old) semantics) (2 * length (O.log oracle.new).sides + 2)
         (O.framework oracle.old) (O.log oracle.old) (O.log oracle.new) (O.pending oracle.new) budget.old budget.new
         (halt_of result) }
     ensures framework { O.framework oracle.new ≡ O.framework oracle.old }
@@ -88,9 +88,9 @@ fn all_largest<O: Oracle>(
     limit: usize,
 ) -> Result<Extensions, Halt>
     ensures listed { IfOk result (IsListOf (O.framework oracle.old) (O.log oracle.new) Semantics.Preferred limit) }
-    ensures run { HasRun (MadeForAll (O.framework oracle.old)) (2 * length (O.log oracle.new).sides + 2)
-        (O.framework oracle.old) (O.log oracle.old) (O.log oracle.new) (O.pending oracle.new) budget.old budget.new
-        (halt_of result) }
+    ensures run { HasRun (MadeForAll (O.framework oracle.old) Semantics.Preferred)
+        (2 * length (O.log oracle.new).sides + 2) (O.framework oracle.old) (O.log oracle.old) (O.log oracle.new)
+        (O.pending oracle.new) budget.old budget.new (halt_of result) }
     ensures framework { O.framework oracle.new ≡ O.framework oracle.old }
     ensures kept { IsKept (O.framework oracle.new) (O.log oracle.new) }
     ensures follows { O.follows oracle.old oracle.new }
@@ -108,9 +108,9 @@ fn all_widest<O: Oracle>(
     limit: usize,
 ) -> Result<Extensions, Halt>
     ensures listed { IfOk result (IsListOf (O.framework oracle.old) (O.log oracle.new) Semantics.SemiStable limit) }
-    ensures run { HasRun (MadeForAll (O.framework oracle.old)) (2 * length (O.log oracle.new).sides + 2)
-        (O.framework oracle.old) (O.log oracle.old) (O.log oracle.new) (O.pending oracle.new) budget.old budget.new
-        (halt_of result) }
+    ensures run { HasRun (MadeForAll (O.framework oracle.old) Semantics.SemiStable)
+        (2 * length (O.log oracle.new).sides + 2) (O.framework oracle.old) (O.log oracle.old) (O.log oracle.new)
+        (O.pending oracle.new) budget.old budget.new (halt_of result) }
     ensures framework { O.framework oracle.new ≡ O.framework oracle.old }
     ensures kept { IsKept (O.framework oracle.new) (O.log oracle.new) }
     ensures follows { O.follows oracle.old oracle.new }

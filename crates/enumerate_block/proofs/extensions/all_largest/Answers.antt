@@ -10,7 +10,7 @@ pub returns-in_err-listed-clause-run : goal.returns-in_err-listed-clause-run
 returns-in_err-listed-clause-run g c =
     let f = g.O.Oracle.framework c.args.oracle.now in
     let most = 2 * length (g.O.Oracle.log c.all_preferred.new.oracle).sides + 2 in
-    run_handed (MadeForAll f) most f _ _ _ _ _ _ c.in_err-listed.field-0.0 c.from_residual.ensures
+    run_handed (MadeForAll f Preferred) most f _ _ _ _ _ _ c.in_err-listed.field-0.0 c.from_residual.ensures
     (run_largest f most _ _ _ _ _ _ c.in_err-listed.ensures.run)
 
 pub returns-in_err-extensions-clause-run : goal.returns-in_err-extensions-clause-run
@@ -18,8 +18,8 @@ returns-in_err-extensions-clause-run g c =
     let f = g.O.Oracle.framework c.args.oracle.now in
     let most = 2 * length (g.O.Oracle.log c.all_preferred.new.oracle).sides + 2 in
     let same : most ≤ most = omega arith in
-    run_handed (MadeForAll f) most f _ _ _ _ _ _ Memory c.from_residual-in_err-extensions.ensures
-    (then_refused (MadeForAll f) (MadeForAll f) most most f _ _ _ _ _ (makes_same (MadeForAll f)) same
+    run_handed (MadeForAll f Preferred) most f _ _ _ _ _ _ Memory c.from_residual-in_err-extensions.ensures
+    (then_refused (MadeForAll f Preferred) (MadeForAll f Preferred) most most f _ _ _ _ _ (makes_same (MadeForAll f Preferred)) same
     (run_largest f most _ _ _ _ _ _ c.in_ok-listed.ensures.run))
 
 pub returns-clause-listed : goal.returns-clause-listed

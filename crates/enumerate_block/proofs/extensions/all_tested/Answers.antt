@@ -12,17 +12,17 @@ pub returns-in_err-listed-clause-run : goal.returns-in_err-listed-clause-run
 returns-in_err-listed-clause-run g c =
     let f = g.O.Oracle.framework c.args.oracle.now in
     let most = 2 * length (g.O.Oracle.log c.all_with_mode.new.oracle).sides + 2 in
-    run_handed (MadeForAll f) most f _ _ _ _ _ _ c.in_err-listed.field-0.0 c.from_residual.ensures
-    (run_tested f _ _ _ _ _ _ c.in_err-listed.ensures.run)
+    run_handed (MadeForAll f c.args.semantics) most f _ _ _ _ _ _ c.in_err-listed.field-0.0 c.from_residual.ensures
+    (run_tested f c.args.semantics c.args.mode _ _ _ _ _ _ c.requires c.in_err-listed.ensures.run)
 
 pub returns-in_err-extensions-clause-run : goal.returns-in_err-extensions-clause-run
 returns-in_err-extensions-clause-run g c =
     let f = g.O.Oracle.framework c.args.oracle.now in
     let most = 2 * length (g.O.Oracle.log c.all_with_mode.new.oracle).sides + 2 in
     let same : most ≤ most = omega arith in
-    run_handed (MadeForAll f) most f _ _ _ _ _ _ Memory c.from_residual-in_err-extensions.ensures
-    (then_refused (MadeForAll f) (MadeForAll f) most most f _ _ _ _ _ (makes_same (MadeForAll f)) same
-    (run_tested f _ _ _ _ _ _ c.in_ok-listed.ensures.run))
+    run_handed (MadeForAll f c.args.semantics) most f _ _ _ _ _ _ Memory c.from_residual-in_err-extensions.ensures
+    (then_refused (MadeForAll f c.args.semantics) (MadeForAll f c.args.semantics) most most f _ _ _ _ _ (makes_same (MadeForAll f c.args.semantics)) same
+    (run_tested f c.args.semantics c.args.mode _ _ _ _ _ _ c.requires c.in_ok-listed.ensures.run))
 
 pub returns-clause-listed : goal.returns-clause-listed
 returns-clause-listed g c =
@@ -37,4 +37,4 @@ pub returns-clause-run : goal.returns-clause-run
 returns-clause-run g c =
     let f = g.O.Oracle.framework c.args.oracle.now in
     let most = 2 * length (g.O.Oracle.log c.all_with_mode.new.oracle).sides + 2 in
-    run_tested f _ _ _ _ _ _ c.in_ok-listed.ensures.run
+    run_tested f c.args.semantics c.args.mode _ _ _ _ _ _ c.requires c.in_ok-listed.ensures.run

@@ -9,7 +9,7 @@ pub returns-in_err-ranged-clause-run : goal.returns-in_err-ranged-clause-run
 returns-in_err-ranged-clause-run g c =
     let f = g.O.Oracle.framework c.args.oracle.now in
     let most = 2 * length (g.O.Oracle.log c.all_semi_stable.new.oracle).sides + 2 in
-    run_handed (MadeForAll f) most f _ _ _ _ _ _ c.in_err-ranged.field-0.0 c.from_residual.ensures
+    run_handed (MadeForAll f SemiStable) most f _ _ _ _ _ _ c.in_err-ranged.field-0.0 c.from_residual.ensures
     (run_widest f most _ _ _ _ _ _ c.in_err-ranged.ensures.run)
 
 pub returns-clause-listed : goal.returns-clause-listed
