@@ -2,3 +2,4 @@ pub mod GroundedLemmas
 pub mod Forcing
 pub mod Finding
 pub mod Joining
+pub mod Writing

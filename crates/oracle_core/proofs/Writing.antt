@@ -1,0 +1,92 @@
+-- An answer that is right can be written.
+use Rattle.std.proofs.Common.{◌≡◌, ℕ, ◌<◌, List, [], ◌∷◌, length, arith, Option, Some, None}
+use Rattle.std.specs.Prelude.{Contains, All, slice_index_or}
+use Rattle.std.proofs.lemmas.List.{get_or_default}
+use Rattle.std.proofs.lemmas.List.Elements.{All-nil, All-cons}
+use Rattle.plain_lists.specs.Members.{IsWithin}
+use Rattle.semantics.specs.Framework.{Af}
+use Rattle.semantics.specs.Frameworks.{Framework, af, IsNumbered, IsNumberedAf}
+use Rattle.iccma_tasks.specs.declared.answer.Answer.{Answer}
+use Rattle.iccma_tasks.specs.declared.answer.Answer.TheVariants.{Yes, No, Sets}
+use Rattle.iccma_tasks.specs.declared.task.Problem.{Problem}
+use Rattle.iccma_tasks.specs.declared.task.Problem.TheVariants.{Credulous, Sceptical, SomeExtension, AllExtensions}
+use Rattle.iccma_tasks.specs.declared.task.Semantics.{Semantics}
+use Rattle.iccma_tasks.specs.declared.task.Semantics.TheVariants.{Complete, Grounded, Preferred, Stable, SemiStable, Ideal}
+use Rattle.iccma_tasks.specs.Tasks.{Asked}
+use Rattle.iccma_tasks.specs.WrittenText.{HasArguments, IsWritable as IsWritableAnswer}
+use Rattle.certificate_claims.specs.declared.certificate.Certificate.{Certificate}
+use Rattle.certificate_claims.specs.Acceptance.{IsAccepted}
+use Rattle.certificate_claims.specs.Rights.{IsExtension, IsRightOf}
+use Rattle.certificate_text.specs.Written.{IsWritable}
+use Rattle.certificate_laws.proofs.Right.{accepted_right}
+use Rattle.oracle_core.specs.Answers.{IsShownBy}
+
+-- extensions are of the framework's arguments
+are_live : (f : Af) (semantics : Semantics) (e : List ℕ) → IsExtension (af f) semantics e → IsWithin e f.live
+are_live f Complete e h = h.admissible.conflict_free.live
+are_live f Grounded e h = h.complete.admissible.conflict_free.live
+are_live f Preferred e h = h.admissible.conflict_free.live
+are_live f Stable e h = h.conflict_free.live
+are_live f SemiStable e h = h.admissible.conflict_free.live
+are_live f Ideal e h = h.in_all.admissible.conflict_free.live
+
+stands : {X : Type 0} (xs : List X) (k : ℕ) (d : X) → k < length xs → Contains xs (slice_index_or xs k d)
+stands xs k d lt = (k, lt, get_or_default xs k (slice_index_or xs k d) d lt)
+
+module _ (f : Af) (numbered : IsNumberedAf f) (semantics : Semantics) where
+  arguments : (e : List ℕ) → IsExtension (af f) semantics e → HasArguments e
+  arguments e h = λ k d lt. numbered.live (slice_index_or e k d)
+      (are_live f semantics e h (slice_index_or e k d) (stands e k d lt))
+
+  all_arguments : (sets : List (List ℕ)) → ((e : List ℕ) → Contains sets e → IsExtension (af f) semantics e)
+      → All HasArguments sets
+  all_arguments sets each =
+      λ k d lt. arguments (slice_index_or sets k d) (each (slice_index_or sets k d) (stands sets k d lt))
+
+  written : (problem : Problem) (number : Option ℕ) (answer : Answer)
+      → IsRightOf (af f) problem semantics number answer → IsWritableAnswer answer
+  written Credulous (Some q) (Yes (Some e)) h = arguments e h.0
+  written Credulous (Some q) (Yes None) h = tt
+  written Credulous (Some q) (No None) h = tt
+  written Credulous (Some q) (No (Some e)) h = absurd h
+  written Credulous (Some q) (Sets sets) h = absurd h
+  written Credulous None answer h = absurd h
+  written Sceptical (Some q) (Yes None) h = tt
+  written Sceptical (Some q) (Yes (Some e)) h = absurd h
+  written Sceptical (Some q) (No (Some e)) h = arguments e h.0
+  written Sceptical (Some q) (No None) h = tt
+  written Sceptical (Some q) (Sets sets) h = absurd h
+  written Sceptical None answer h = absurd h
+  written SomeExtension (Some q) answer h = absurd h
+  written SomeExtension None (Sets []) h = absurd h
+  written SomeExtension None (Sets (e ∷ [])) h =
+      (omega arith, All-cons HasArguments e [] (arguments e h) (All-nil HasArguments))
+  written SomeExtension None (Sets (e ∷ other ∷ more)) h = absurd h
+  written SomeExtension None (Yes None) h = tt
+  written SomeExtension None (Yes (Some e)) h = absurd h
+  written SomeExtension None (No None) h = tt
+  written SomeExtension None (No (Some e)) h = absurd h
+  written AllExtensions (Some q) answer h = absurd h
+  written AllExtensions None (Sets []) h = absurd h
+  written AllExtensions None (Sets (e ∷ more)) h = (omega arith, all_arguments (e ∷ more) h.each)
+  written AllExtensions None (Yes None) h = tt
+  written AllExtensions None (Yes (Some e)) h = absurd h
+  written AllExtensions None (No None) h = tt
+  written AllExtensions None (No (Some e)) h = absurd h
+
+written_any : (f : Framework) (asked : Asked) (answer : Answer) → IsNumbered f
+    → IsRightOf f asked.task.problem asked.task.semantics asked.number answer → IsWritableAnswer answer
+written_any (af f) asked answer numbered h =
+    written f numbered asked.task.semantics asked.task.problem asked.number answer h
+
+-- an answer with an accepted certificate that a text can hold is shown by it
+pub shown_by : (f : Framework) (asked : Asked) (answer : Answer) (certificate : Certificate) → IsNumbered f
+    → IsAccepted f asked answer certificate → IsWritable certificate → IsShownBy f asked answer certificate
+shown_by f asked answer certificate numbered accepted writable =
+    let right = accepted_right f asked answer certificate numbered accepted in
+    record {
+      right = right;
+      accepted = accepted;
+      writable_answer = written_any f asked answer numbered right;
+      writable = writable;
+    }
