@@ -45,7 +45,7 @@ use Rattle.semi_stable.specs.declared.widest.Widest.{Widest}
 use Rattle.semi_stable.specs.Widest.{IsRangeIn, IsWidestFrom, MadeWider, wider_claim}
 use Rattle.semi_stable.proofs.WidestLemmas.{range_list, range_within}
 use Rattle.enumerate_ranges.specs.Ranges.{AreRefuted}
-use Rattle.enumerate_ranges.proofs.RangeLemmas.{open_ranges, widest_kept}
+use Rattle.enumerate_ranges.proofs.RangeLemmas.{log_kept, open_ranges, widest_kept}
 use Rattle.enumerate_ranges.proofs.StepLemmas.{refuted_first, refuted_member, refuted_none}
 use Rattle.semi_stable_query.specs.declared.deciding.Cover.{Cover}
 use Rattle.semi_stable_query.specs.Witnesses.{Extends, HasRange, IsCover, IsExtended, IsMadeWithin, IsNoWitness, IsUncovered, IsWitness, MakesIt, Takes, ins_of, literal_of, outs_of}
@@ -198,9 +198,6 @@ cover_grown f P old new q accepted cover form grows h = record {
   apart = h.apart;
 }
 
-pub log_kept : (f h : Framework) (log : OracleLog) → h ≡ f → IsKept h log → IsLog f log
-log_kept f h log same kept = subst (λ (x : Framework). IsLog x log) same kept.form
-
 pub cover_kept : (f g h : Framework) (P : Making) (old new : OracleLog) (q : ℕ) (accepted : Bool) (cover : Cover)
     → g ≡ f → h ≡ g → IsKept g old → Grows P old new → IsCover f old q accepted cover
     → IsCover h new q accepted cover
@@ -215,9 +212,6 @@ few_closings f P old new q accepted cover h grows =
     let few = asks_fit cover.asks old.sides h.apart (λ n c. (h.asks.each n c).2.number) in
     let more : length new.sides ≡ length (old.sides ++ grows.more_sides.0) = ap length grows.more_sides.1 in
     omega (arith, few, more, length-append old.sides grows.more_sides.0)
-
-pub two_more : (asks new : List ℕ) (n : ℕ) → new ≡ asks ++ n ∷ [] → 2 * length asks + 2 ≤ 2 * length new
-two_more asks new n e = omega (arith, ap length e, length-append asks (n ∷ []))
 
 -- ---- a set that is not covered
 
@@ -427,13 +421,14 @@ fewer_open (af f) log q accepted old new e step n ok h =
 
 -- ---- a turn of the search
 
-pub taken : (f g h : Framework) (before first mid log : OracleLog) (P : Making) (q : ℕ) (accepted : Bool) (old new : Cover)
-    (given : List ℕ) (widest : Widest) (found : Found) (step : ℕ) → g ≡ f → h ≡ g → IsKept h mid → Grows P mid log
+pub taken : (f g h : Framework) (before first mid log : OracleLog) (P : Making) (q : ℕ) (accepted : Bool)
+    (old new : Cover) (given : List ℕ) (widest : Widest) (found : Found) (step : ℕ) → g ≡ f → h ≡ g → IsKept h mid
+    → Grows P mid log
     → IsUncovered f before q accepted old (Set given) → IsWidestFrom f first Ad given widest
     → found ≡ Refuted step → IsMadeWithin g mid q accepted widest.set found → Takes h log widest step old new
     → Extends f log q accepted old new None
-taken f g h before first mid log P q accepted old new given widest found step left right kept grows open_set is last made
-    takes =
+taken f g h before first mid log P q accepted old new given widest found step left right kept grows open_set is last
+    made takes =
     let same = right ∙ left in
     let free : Refutes f mid (range_free f (literal_of f q accepted) widest.set) step =
     subst (λ (x : Framework). IsMadeWithin x mid q accepted widest.set (Refuted step)) left

@@ -92,7 +92,8 @@ IsUncovered f log q accepted cover (Set set) =
 IsUncovered f log q accepted cover (Refuted step) =
     Refutes f log (range_cover f (literal_of f q accepted ∷ []) cover.sets) step
 
--- an admissible set that makes the literal true and has all of the set's range, or a step that refutes that there is one
+-- an admissible set that makes the literal true and has all of the set's range, or a step that refutes that there is
+-- one
 abbrev pub IsMadeWithin : Framework → OracleLog → ℕ → Bool → List ℕ → Found → Type 0
 IsMadeWithin f log q accepted e (Set set) = HoldsOf f set Ad × MakesIt f q accepted set × IsRangeIn f e set
 IsMadeWithin f log q accepted e (Refuted step) = Refutes f log (range_free f (literal_of f q accepted) e) step

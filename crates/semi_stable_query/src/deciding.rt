@@ -6,7 +6,8 @@ ghost use Rattle.certificate_claims.specs.SetLiterals.{members};
 ghost use Rattle.oracle_face.specs.Logs.{IsKept};
 ghost use Rattle.oracle_face.specs.Growing.{HasRun, closes, halt_of};
 ghost use Rattle.semi_stable.specs.Widest.{MadeWider};
-ghost use Rattle.semi_stable_query.specs.Witnesses.{Extends, HasRange, IsCover, IsDecided, IsMadeWithin, IsUncovered, Takes, ins_of, outs_of};
+ghost use Rattle.semi_stable_query.specs.Witnesses.{Extends, HasRange, IsCover, IsDecided, IsMadeWithin};
+ghost use Rattle.semi_stable_query.specs.Witnesses.{IsUncovered, Takes, ins_of, outs_of};
 
 use goal_lists::{Wanted, search_for, wider};
 use meaning_atoms::Atom;
@@ -19,12 +20,12 @@ use std::alloc::Global;
 /// What came of asking whether a semi-stable set makes a literal about membership true.
 #[derive(Debug, Drop)]
 pub enum Deciding {
-    /// A semi-stable set that does, its range, and the log step that refutes that another admissible set has all of that
-    /// range and more.
+    /// A semi-stable set that does, its range, and the log step that refutes that another admissible set has all of
+    /// that range and more.
     Witness(Widest),
     /// Admissible sets, in one of whose ranges lies the range of each admissible set that makes the literal true. The
-    /// first step shows that; then there is one for each set in order, which shows that no admissible set that makes the
-    /// literal true has all of its range.
+    /// first step shows that; then there is one for each set in order, which shows that no admissible set that makes
+    /// the literal true has all of its range.
     NoWitness(Items<NumSet>, Items<StepId>),
 }
 
@@ -38,8 +39,8 @@ struct Cover {
 }
 
 /// Whether a semi-stable set accepts an argument, or where `accepted` is false, whether one doesn't. Where r ranges of
-/// semi-stable sets are found, it asks r + 1 times at most for a set whose range lies in none of them, and r times for a
-/// set with one of them, besides what it asks to grow each range.
+/// semi-stable sets are found, it asks r + 1 times at most for a set whose range lies in none of them, and r times for
+/// a set that has one of them, besides what it asks to grow each range.
 pub fn decide<O: Oracle>(
     alloc: Global,
     oracle: &mut O,
@@ -141,7 +142,8 @@ fn uncovered<O: Oracle>(
     search_for(alloc, oracle, budget, Atom::Ad, &wanted)
 }
 
-/// An admissible set that makes the literal true and has all of a set's range, or the step that shows that there is none.
+/// An admissible set that makes the literal true and has all of a set's range, or the step that shows that there is
+/// none.
 fn within_range<O: Oracle>(
     alloc: Global,
     oracle: &mut O,

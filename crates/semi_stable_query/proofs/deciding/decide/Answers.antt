@@ -3,7 +3,8 @@ use Rattle.meaning_atoms.specs.declared.atom.Atom.TheVariants.{Ad}
 use Rattle.plain_lits.specs.declared.halt.Halt.TheVariants.{Memory}
 use Rattle.goal_lists.proofs.Calls.{closes_refuted, closes_set, makes_same, run_handed, then_refused}
 use Rattle.semi_stable.specs.Widest.{MadeWider}
-use Rattle.semi_stable_query.proofs.WitnessLemmas.{cover_extended, cover_grown, extended_of, few_closings, fewer_open, log_kept, no_witness, then_call, two_more, witness_of}
+use Rattle.enumerate_ranges.proofs.RangeLemmas.{log_kept, two_more}
+use Rattle.semi_stable_query.proofs.WitnessLemmas.{cover_extended, cover_grown, extended_of, few_closings, fewer_open, no_witness, then_call, witness_of}
 use Rattle.semi_stable_query.proofs.deciding.decide.Goals as goal
 
 pub returns-in_err-step-clause-run : goal.returns-in_err-step-clause-run
