@@ -1,4 +1,4 @@
--- The numbers that a walk over a log keeps for each step, which no caller sees: first a mark, and then the step's number
+-- The number that a walk over a log keeps for each step, which no caller sees: first a mark, and then the step's number
 -- in a certificate.
 use Rattle.std.specs.Prelude.{◌≡◌, ◌↔◌, ◌⊎◌, ℕ, ◌+◌, ◌<◌, ◌≤◌, List, ◌∷◌, [], ◌++◌, length, Contains, slice_set}
 use Rattle.std.specs.List.Sorted.{IsStrictlyIncreasing}
