@@ -13,8 +13,7 @@ use Rattle.oracle_face.specs.declared.entry.EntryName.{EntryName}
 use Rattle.oracle_face.specs.Goals.{IsSide, RefutesGoals, DeniesSide, Refutes}
 use Rattle.oracle_face.specs.Growing.{NoSide, OnlySide}
 use Rattle.oracle_face.specs.Logs.{OracleLog, FactsAreFalse, IsLog, IsNew, IsNumberOf, Reaches, guarded, is_loop}
-use Rattle.oracle_face.specs.Logs.{step_at}
-use Rattle.oracle_face.specs.Logs.{working}
+use Rattle.oracle_face.specs.Logs.{step_at, working}
 use Rattle.session_log.specs.Ends.{IsShownBy}
 use Rattle.session_log.specs.Guards.{IsGuarded}
 use Rattle.session_log.specs.Truth.{IsTrueOfWorlds, MayBeShared}
