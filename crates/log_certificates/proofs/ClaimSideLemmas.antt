@@ -24,7 +24,8 @@ some_number m n e = cc
 
 -- one more has its position
 positions_next : (asks : List (Option ℕ)) (sides from index : ℕ) (old new : List ℕ) (ask : Option ℕ) → from ≡ index + 1
-    → from ≤ length asks → slice_index_or asks index None ≡ ask → AreWithin asks sides → HavePositions asks sides from old
+    → from ≤ length asks → slice_index_or asks index None ≡ ask → AreWithin asks sides
+    → HavePositions asks sides from old
     → GivesTo ask from old new → HavePositions asks sides index new
 positions_next asks sides from index old new None is le at within had gives =
     subst (λ (positions : List ℕ). HavePositions asks sides index positions) (sym gives) (record {

@@ -1,31 +1,21 @@
 -- Loops that move literals, and that number the kept steps.
-use Rattle.std.proofs.Common.{◌≡◌, ⊎_elim, ℕ, true, ◌+◌, ◌<◌, ◌≤◌, List, [], ◌∷◌, ◌++◌, length, map, get_or, refl, ap}
+use Rattle.std.proofs.Common.{◌≡◌, ⊎_elim, ℕ, true, ◌+◌, ◌<◌, ◌≤◌, List, length, map, get_or, ap}
 use Rattle.std.proofs.Common.{sym, subst, ◌∙◌, arith}
 use Rattle.std.specs.Prelude.{Contains, slice_index_or}
 use Rattle.std.proofs.Math.ListN.{set, length-set}
-use Rattle.std.proofs.lemmas.Bool.{cases_eq, cases_lt}
+use Rattle.std.proofs.lemmas.Bool.{cases_eq}
 use Rattle.std.proofs.lemmas.List.{get_or-set_same, get_or-set_other, get_or-map, get_or_default, length-map}
-use Rattle.std.proofs.lemmas.List.{ext_get_or, get_or_append_left, get_or_push, length_push}
+use Rattle.std.proofs.lemmas.List.{ext_get_or}
 use Rattle.meaning_atoms.specs.declared.atom.Atom.TheVariants.{Cf}
 use Rattle.meaning_atoms.specs.declared.atom.AtomLit.{AtomLit}
-use Rattle.certificate_claims.specs.declared.certificate.Step.{Step}
-use Rattle.certificate_claims.specs.Refutations.{no_step}
-use Rattle.oracle_face.specs.Logs.{OracleLog, step_at}
 use Rattle.log_certificates.specs.Moving.{AreMovedTo}
-use Rattle.log_refutations.specs.Trimmed.{AreMoved, IsMovedStep, moved_lit}
+use Rattle.log_refutations.specs.Trimmed.{moved_lit}
 
 -- ---- literals in place
 
 -- a literal to stand where there is none
 abbrev no_lit : AtomLit
 no_lit = record { atom = Cf; positive = true }
-
-pub moved_none : (positions : List ℕ) (old : List AtomLit) → AreMovedTo positions old 0 old
-moved_none positions old = record {
-  long = refl;
-  front = λ j d lt within. absurd (omega arith);
-  rest = λ j d le. refl;
-}
 
 pub moved_next : (positions : List ℕ) (old now new : List AtomLit) (index : ℕ) (d value : AtomLit) → index < length now
     → AreMovedTo positions old index now → value ≡ moved_lit positions (slice_index_or now index d)
@@ -53,34 +43,6 @@ moved_all positions old now count le h =
     ext_get_or no_lit now (map (moved_lit positions) old) (long ∙ sym (length-map old (moved_lit positions)))
     (λ j lt. h.front j no_lit (omega arith) (omega arith)
     ∙ sym (get_or-map (moved_lit positions) old j no_lit no_lit (omega arith)))
-
--- ---- steps
-
-pub steps_next : (log : OracleLog) (positions kept numbers : List ℕ) (index k d : ℕ) (steps new : List Step)
-    (step : Step) → index < length kept → k ≡ slice_index_or kept index d
-    → AreMoved log positions kept numbers index steps
-    → IsMovedStep positions numbers (step_at log.steps k).source (step_at log.steps k).clause step
-    → new ≡ steps ++ step ∷ [] → AreMoved log positions kept numbers (index + 1) new
-steps_next log positions kept numbers index k d steps new step lt is h moved made =
-    let here : k ≡ slice_index_or kept index 0 = is ∙ get_or_default kept index d 0 lt in
-    let long = h.long in
-    let source = λ (j : ℕ). (step_at log.steps j).source in
-    let clause = λ (j : ℕ). (step_at log.steps j).clause in
-    rw made (record {
-      long = omega (arith, long, length_push steps step);
-      each = λ i low. ⊎_elim
-          (λ early. subst (λ (s : Step). IsMovedStep positions numbers (source (slice_index_or kept i 0))
-          (clause (slice_index_or kept i 0)) s)
-          (sym (get_or_append_left steps (step ∷ []) no_step i (omega arith))) (h.each i early))
-          (λ late.
-          let same : index ≡ i = omega arith in
-          subst (λ (s : Step). IsMovedStep positions numbers (source (slice_index_or kept i 0))
-          (clause (slice_index_or kept i 0)) s)
-          (sym (get_or_push steps step no_step i (omega arith)))
-          (subst (λ (j : ℕ). IsMovedStep positions numbers (source j) (clause j) step)
-          (here ∙ ap (λ (j : ℕ). slice_index_or kept j 0) same) moved))
-          (cases_lt i index);
-    })
 
 -- an item of a list is a member
 pub item_listed : (xs : List ℕ) (i x : ℕ) → i < length xs → x ≡ get_or xs i x → Contains xs x

@@ -1,38 +1,69 @@
 //! Refutations made from a log.
 
-ghost use Rattle.std.specs.Prelude.{ℕ, ◌<◌, length, All, Contains, IfOk};
-ghost use Rattle.std.specs.List.Sorted.{IsStrictlyIncreasing};
-ghost use Rattle.plain_lists.specs.Members.{IsSetOf};
+ghost use Rattle.std.specs.Prelude.{ℕ, ◌+◌, ◌<◌, length, All, IfOk, OnOk};
 ghost use Rattle.certificate_claims.specs.Refutations.{Claim};
 ghost use Rattle.certificate_text.specs.Written.{IsWritableStep};
-ghost use Rattle.oracle_face.specs.Logs.{IsLog, IsNumberOf, Reaches};
+ghost use Rattle.oracle_face.specs.Logs.{IsLog, IsNumberOf};
 ghost use Rattle.log_refutations.specs.Refuted.{AreRefuting, IsRefutingStep};
-ghost use Rattle.log_refutations.specs.Trimmed.{AreMoved};
+ghost use Rattle.log_certificates.specs.Marks.{AreMarks, IsMarked, IsWriting, MayWrite, Writes};
 
 use crate::moved::moved_step;
-use crate::reached::{numbers_of, reached_steps};
+use crate::reached::mark_reached;
 use crate::read_log::ReadLog;
 use certificate_claims::{Refutation, Step};
 use plain_lists::{Items, Memory};
 use plain_lits::StepId;
 use std::alloc::Global;
 
-/// The kept steps of the log as those of the certificate.
-fn moved_steps<L: ReadLog>(
+/// Writes a step that is marked behind the others, and gives it its number in place of the mark.
+fn write_step<L: ReadLog>(
     alloc: Global,
     log: &L,
-    kept: &[StepId],
+    step: StepId,
     positions: &[u32],
-    numbers: &[u32],
+    numbers: &mut Vec<u32>,
+    steps: &mut Items<Step>,
+) -> Result<(), Memory>
+    requires form { IsLog (L.framework log.now) (L.log log.now) }
+    requires room { step < length numbers.old.items }
+    requires marked { IsMarked numbers.old.items step → MayWrite (L.log log.now) step steps.old }
+    ensures { OnOk result (Writes (L.log log.now) positions.now step numbers.old.items numbers.new.items
+        steps.old steps.new) }
+{
+    let index = step.number() as usize;
+    let mark = numbers.as_slice()[index];
+    if mark == 0 {
+        return Ok(());
+    }
+    numbers[index] = steps.len() as u32 + 1;
+    let moved = moved_step(alloc, log, step, positions, numbers.as_slice())?;
+    steps.push(moved)?;
+    Ok(())
+}
+
+/// Writes the marked steps in rising order.
+fn write_steps<L: ReadLog>(
+    alloc: Global,
+    log: &L,
+    step: StepId,
+    positions: &[u32],
+    numbers: &mut Vec<u32>,
 ) -> Result<Items<Step>, Memory>
     requires form { IsLog (L.framework log.now) (L.log log.now) }
-    requires steps { (k : ℕ) → Contains kept.now k → IsNumberOf (L.log log.now).steps k }
-    requires within { (k : ℕ) → Contains kept.now k → k < length numbers.now }
-    ensures { IfOk result (AreMoved (L.log log.now) positions.now kept.now numbers.now (length kept.now)) }
+    requires step { IsNumberOf (L.log log.now).steps step }
+    requires marks { AreMarks (L.log log.now) step numbers.old.items }
+    ensures { IfOk result (IsWriting (L.log log.now) step positions.now (step + 1) numbers.new.items) }
 {
     let mut steps = Items::new(alloc);
-    for step in kept {
-        steps.push(moved_step(alloc, log, *step, positions, numbers)?)?;
+    for number in 0..numbers.len() {
+        write_step(
+            alloc,
+            log,
+            StepId::new(number as u32),
+            positions,
+            numbers,
+            &mut steps,
+        )?;
     }
     Ok(steps)
 }
@@ -58,8 +89,7 @@ pub fn refutation<L: ReadLog>(
 {
     let in_log = step.number() as usize <= log.len();
     prove!(in_log);
-    let kept = reached_steps(alloc, log, step)?;
-    let numbers = numbers_of(alloc, kept.as_slice(), step)?;
-    let steps = moved_steps(alloc, log, kept.as_slice(), positions, numbers.as_slice())?;
+    let mut numbers = mark_reached(alloc, log, step)?;
+    let steps = write_steps(alloc, log, step, positions, &mut numbers)?;
     Ok(Refutation { steps })
 }

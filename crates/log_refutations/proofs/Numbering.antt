@@ -19,31 +19,14 @@ pub kept_bounds : (f : Framework) (log : OracleLog) (step : ℕ) (kept : List �
     → (0 < k) × (k ≤ step)
 kept_bounds f log step kept form is reached k c = reached_before f log step k form is ((reached.members k).0 c)
 
-pub kept_named : (f : Framework) (log : OracleLog) (step : ℕ) (kept : List ℕ) → IsLog f log
-    → IsNumberOf log.steps step → IsSetOf (Reaches log.steps step) kept → (k : ℕ) → Contains kept k
-    → IsNumberOf log.steps k
-kept_named f log step kept form is reached k c =
-    let bounds = kept_bounds f log step kept form is reached k c in
-    let high = bounds.1 in
-    let within = is.within in
-    record { from_one = bounds.0; within = omega arith }
-
 -- ---- numbers
 
-rising_below : (kept : List ℕ) → IsStrictlyIncreasing kept → ((k : ℕ) → Contains kept k → 0 < k) → (i : ℕ)
+pub rising_below : (kept : List ℕ) → IsStrictlyIncreasing kept → ((k : ℕ) → Contains kept k → 0 < k) → (i : ℕ)
     → i < length kept → i < slice_index_or kept i 0
 rising_below kept rises low zero lt = low (slice_index_or kept 0 0) (Contains-get_or kept 0 0 lt)
 rising_below kept rises low (suc i) lt =
     let before = rising_below kept rises low i (omega arith) in
     let up = AllPairs-from_increasing kept rises i (suc i) 0 (omega arith) lt in
-    omega arith
-
--- the number of a kept step is at most the last's
-pub number_within : (kept : List ℕ) (last i : ℕ) → IsStrictlyIncreasing kept
-    → ((k : ℕ) → Contains kept k → (0 < k) × (k ≤ last)) → i < length kept → i + 1 ≤ last
-number_within kept last i rises within lt =
-    let up = rising_below kept rises (λ k c. (within k c).0) i lt in
-    let high = (within (slice_index_or kept i 0) (Contains-get_or kept i 0 lt)).1 in
     omega arith
 
 pub numbering_next : (kept now new : List ℕ) (last index k d : ℕ) → IsStrictlyIncreasing kept

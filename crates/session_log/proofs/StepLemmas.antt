@@ -1,9 +1,10 @@
 -- What a log keeps where it gains a step.
-use Rattle.std.proofs.Common.{◌≡◌, inl, inr, ⊎_elim, ℕ, ◌+◌, ◌-◌, ◌<◌, ◌≤◌, List, [], ◌∷◌, ◌++◌, length, take, ap, sym}
+use Rattle.std.proofs.Common.{◌≡◌, inl, inr, ⊎_elim, ℕ, ◌+◌, ◌-◌, ◌<◌, ◌≤◌, false, refl, List, [], ◌∷◌, ◌++◌, length}
+use Rattle.std.proofs.Common.{take, ap, sym}
 use Rattle.std.proofs.Common.{subst, ◌∙◌, arith}
 use Rattle.std.specs.Prelude.{◌⊎◌, Contains, slice_index_or}
 use Rattle.std.proofs.lemmas.Bool.{cases_lt}
-use Rattle.std.proofs.lemmas.List.{get_or_append_left, length-append, length-map, length-take-le, take_all}
+use Rattle.std.proofs.lemmas.List.{get_or-take, get_or_append_left, length-append, length-map, length-take-le, take_all}
 use Rattle.std.proofs.lemmas.List.{take-append-le, append-nil, get_or_push, length_push}
 use Rattle.plain_lists.proofs.Membership.{Contains-nil}
 use Rattle.plain_lits.proofs.HintCheckLemmas.{taken_sound}
@@ -68,6 +69,42 @@ reached_named f log number reached form is reach =
     let last = r.1 in
     let within = is.within in
     record { from_one = r.0; within = omega arith }
+
+-- no hint only ended a search
+given_used : (f : Framework) (sides : List SideClause) (before : List LogStep) (clause : List AtomLit)
+    (source : Source) → IsGiven f sides before clause source → (hint : ℕ) → Contains (hints_of source) hint
+    → (step_at before hint).closing ≡ false
+given_used f sides before clause (by_axiom name) given hint c = absurd (Contains-nil hint c)
+given_used f sides before clause (by_side n) given hint c = absurd (Contains-nil hint c)
+given_used f sides before clause (by_hints hints) given hint c = given.1 hint c
+
+hint_used : (f : Framework) (log : OracleLog) (number hint : ℕ) → IsLog f log → IsNumberOf log.steps number
+    → Contains (hints_of (step_at log.steps number).source) hint → (step_at log.steps hint).closing ≡ false
+hint_used f log number hint form is c =
+    let low = is.from_one in
+    let high = is.within in
+    let order = hint_before f log number hint form is c in
+    let pos = order.0 in
+    let below = order.1 in
+    let here = get_or-take (number - 1) log.steps (hint - 1) no_step (omega arith) in
+    sym (ap (λ (s : LogStep). s.closing) here)
+    ∙ given_used f log.sides (take (number - 1) log.steps) (step_at log.steps number).clause
+    (step_at log.steps number).source (form.each (number - 1) (omega arith)) hint c
+
+-- what a step reaches besides itself didn't only end a search
+pub reached_used : (f : Framework) (log : OracleLog) (number reached : ℕ) → IsLog f log → IsNumberOf log.steps number
+    → Reaches log.steps number reached → (number ≡ reached) ⊎ ((step_at log.steps reached).closing ≡ false)
+reached_used f log number reached form is (itself m) = inl refl
+reached_used f log number reached form is (by_hint m hint k c more) =
+    let order = hint_before f log number hint form is c in
+    let low = order.0 in
+    let below = order.1 in
+    let within = is.within in
+    ⊎_elim
+    (λ (e : hint ≡ reached). inr (subst (λ (n : ℕ). (step_at log.steps n).closing ≡ false) e
+    (hint_used f log number hint form is c)))
+    (λ used. inr used)
+    (reached_used f log hint reached form (record { from_one = low; within = omega arith }) more)
 
 -- the side clause of a side step is there, and the step has its literals
 pub side_step_named : (f : Framework) (log : OracleLog) (number n : ℕ) → IsLog f log → IsNumberOf log.steps number

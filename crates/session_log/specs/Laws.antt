@@ -12,8 +12,8 @@ use Rattle.certificate_claims.specs.Refutations.{Claim, IsAxiomOf}
 use Rattle.oracle_face.specs.declared.entry.EntryName.{EntryName}
 use Rattle.oracle_face.specs.Goals.{IsSide, RefutesGoals, DeniesSide, Refutes}
 use Rattle.oracle_face.specs.Growing.{NoSide, OnlySide}
-use Rattle.oracle_face.specs.Logs.{OracleLog, FactsAreFalse, IsLog, IsNew, IsNumberOf, guarded, is_loop, step_at}
-use Rattle.oracle_face.specs.Logs.{working}
+use Rattle.oracle_face.specs.Logs.{OracleLog, FactsAreFalse, IsLog, IsNew, IsNumberOf, Reaches, guarded, is_loop}
+use Rattle.oracle_face.specs.Logs.{step_at, working}
 use Rattle.session_log.specs.Ends.{IsShownBy}
 use Rattle.session_log.specs.Guards.{IsGuarded}
 use Rattle.session_log.specs.Truth.{IsTrueOfWorlds, MayBeShared}
@@ -75,6 +75,11 @@ StepsAreTrue = (f : Framework) (log : OracleLog) (number : ℕ) → IsLog f log 
 abbrev pub PlainStepsMayBeShared : Type 0
 PlainStepsMayBeShared = (f : Framework) (log : OracleLog) (number : ℕ) → IsLog f log → IsGuarded log
     → IsNumberOf log.steps number → AsksNothing (step_at log.steps number).clause → MayBeShared log number
+
+-- what a step reaches besides itself was used by searches: no such step only ended one
+abbrev pub ReachedAreUsed : Type 0
+ReachedAreUsed = (f : Framework) (log : OracleLog) (number reached : ℕ) → IsLog f log → IsNumberOf log.steps number
+    → Reaches log.steps number reached → (number ≡ reached) ⊎ ((step_at log.steps reached).closing ≡ false)
 
 -- a further side clause that an oracle may be asked to keep is new to what searches use, whatever its literals
 abbrev pub SidesAreNew : Type 0

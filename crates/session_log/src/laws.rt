@@ -2,8 +2,8 @@
 
 ghost use Rattle.session_log.specs.Laws.{AxiomsSpendNothing, AxiomsStay, ClosedRefutesClaim, ClosedRefutesGoals};
 ghost use Rattle.session_log.specs.Laws.{ClosingSpendsNone, DerivedStay, ImportedSpendNothing, LearnedSpendOne};
-ghost use Rattle.session_log.specs.Laws.{OpenedGuarded, PlainStepsMayBeShared, ShownAnswersAreRight, SidesAreNew};
-ghost use Rattle.session_log.specs.Laws.{SidesSpendOne, SidesStay, StepsAreTrue};
+ghost use Rattle.session_log.specs.Laws.{OpenedGuarded, PlainStepsMayBeShared, ReachedAreUsed, ShownAnswersAreRight};
+ghost use Rattle.session_log.specs.Laws.{SidesAreNew, SidesSpendOne, SidesStay, StepsAreTrue};
 
 /// A log with no step and no side clause is a guarded one.
 pub fn opened_logs_are_guarded()
@@ -58,6 +58,11 @@ pub fn steps_are_true()
 /// A step of a guarded log that asks for no side clause may be handed to others.
 pub fn plain_steps_may_be_shared()
     ensures { PlainStepsMayBeShared }
+{}
+
+/// What a step reaches besides itself didn't only end a search.
+pub fn reached_steps_are_used()
+    ensures { ReachedAreUsed }
 {}
 
 /// A further side clause is new, since each step is true in a world where the side clause is false.

@@ -4,7 +4,8 @@ use Rattle.log_certificates.proofs.ClaimSideLemmas.{ask_within, positions_down, 
 use Rattle.log_certificates.proofs.positions.positions_of.Goals as goal
 
 pub give_position-requires : goal.give_position-requires
-give_position-requires c = ask_within c.args.asks.now c.args.sides _ c.loop-down.positions.items c.index-asks-index.result
+give_position-requires c = ask_within c.args.asks.now c.args.sides _ c.loop-down.positions.items
+    c.index-asks-index.result
     _ c.requires.within (omega (arith, c.loop-down-test.true)) c.index-asks-index.is c.loop-down.invariant.room
 
 pub loop-down-preserved : goal.loop-down-preserved

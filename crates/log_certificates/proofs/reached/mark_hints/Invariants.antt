@@ -1,5 +1,5 @@
 use Rattle.std.proofs.Common.{take}
-use Rattle.hinted_log.specs.Trimming.{MarksHints}
+use Rattle.log_certificates.specs.Marks.{MarksHints}
 use Rattle.log_certificates.proofs.reached.mark_hints.Given as goal
 
 abbrev pub invariant-loop-hint : goal.invariant-loop-hint
