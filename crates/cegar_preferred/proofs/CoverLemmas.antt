@@ -1,36 +1,28 @@
 -- Covers by sets that accept an argument.
-use Rattle.std.proofs.Common.{◌≡◌, inl, inr, ⊎_elim, ℕ, ◌+◌, ◌*◌, ◌<◌, ◌≤◌, Bool, true, not, List, [], ◌∷◌, ◌++◌, length, filter, refl, ap, sym, subst, ◌∙◌, arith}
+use Rattle.std.proofs.Common.{◌≡◌, ⊎_elim, ℕ, ◌+◌, ◌*◌, ◌<◌, ◌≤◌, Bool, true, List, [], ◌∷◌, ◌++◌, length, filter, refl, ap, sym, subst, ◌∙◌, arith}
 use Rattle.std.specs.Prelude.{◌↔◌, ◌⊎◌, Contains, IsTrue, Option, None, Result, Ok, Err, IfOk}
-use Rattle.std.specs.List.{list_any}
-use Rattle.std.proofs.lemmas.Bool.{not_from_false, false_from_ne_true}
 use Rattle.std.proofs.lemmas.List.{length-append}
-use Rattle.std.proofs.lemmas.List.Elements.{Contains-append_left, Contains-append_cases}
+use Rattle.std.proofs.lemmas.List.Elements.{Contains-append_left}
 use Rattle.plain_lists.specs.Members.{IsWithin}
-use Rattle.plain_lists.proofs.Filters.{Contains-filter}
-use Rattle.plain_lists.proofs.ListTests.{any_from, any_gives}
 use Rattle.plain_lists.proofs.Membership.{Contains-nil, Contains-head, Contains-tail, Contains-pushed}
 use Rattle.plain_lits.specs.declared.halt.Halt.{Halt}
-use Rattle.plain_lits.proofs.HintCheckLemmas.{Contains-mapped}
 use Rattle.semantics.specs.Frameworks.{Framework, af}
-use Rattle.semantics.proofs.Decided.{decide_member}
 use Rattle.meaning_atoms.specs.declared.atom.Atom.TheVariants.{Member, Ad}
-use Rattle.meaning_atoms.specs.declared.atom.AtomLit.{AtomLit}
-use Rattle.meaning_atoms.specs.Literals.{affirmed, denied, negated}
+use Rattle.meaning_atoms.specs.Literals.{affirmed, denied}
 use Rattle.meaning_atoms.specs.Worlds.{HoldsOf}
 use Rattle.iccma_tasks.specs.declared.task.Semantics.TheVariants.{Preferred}
 use Rattle.certificate_claims.specs.Refutations.{IsPlain}
 use Rattle.certificate_claims.specs.Rights.{Accepts, IsExtension}
-use Rattle.certificate_claims.specs.SetLiterals.{goal, has, members, outside}
-use Rattle.certificate_claims.proofs.SetTests.{has_from, has_gives}
-use Rattle.certificate_laws.proofs.GoalLists.{asks_cons, asks_nil, plain_mapped, only_one}
+use Rattle.certificate_claims.specs.SetLiterals.{has, members, outside}
+use Rattle.certificate_laws.proofs.GoalLists.{asks_cons, asks_nil, plain_mapped}
 use Rattle.certificate_laws.proofs.LargestSets.{covered_accepts}
 use Rattle.certificate_laws.proofs.SideClauses.{outside_plain}
 use Rattle.oracle_face.specs.declared.face.Found.{Found}
 use Rattle.oracle_face.specs.declared.face.Found.TheVariants.{Set, Refuted}
-use Rattle.oracle_face.specs.Goals.{AreGoals, Refutes}
+use Rattle.oracle_face.specs.Goals.{Refutes}
 use Rattle.oracle_face.specs.Growing.{Grows, Making, IsFound}
-use Rattle.oracle_face.specs.Logs.{IsKept, IsSameClause, OracleLog}
-use Rattle.oracle_face.proofs.Refuting.{claim_excluded, refutes_claim}
+use Rattle.oracle_face.specs.Logs.{IsKept, OracleLog}
+use Rattle.oracle_face.proofs.Refuting.{claim_excluded}
 use Rattle.goal_lists.specs.AllSets.{is_part}
 use Rattle.goal_lists.specs.Asking.{AreApart, goals_of, IsAskable}
 use Rattle.goal_lists.specs.Sides.{IsAskOf}
@@ -125,7 +117,7 @@ may_ask_uncovered f log q cover asks is live h =
 cover_wanted : (q : ℕ) → HasWanted (affirmed Ad ∷ denied (Member q) ∷ []) Ad [] (q ∷ []) []
 cover_wanted q = record {
   plain = asks_cons (affirmed Ad) (denied (Member q) ∷ []) (λ x. x) (asks_cons (denied (Member q)) [] (λ x. x)
-  asks_nil);
+      asks_nil);
   has_mode = Contains-head (affirmed Ad) (denied (Member q) ∷ []) (affirmed Ad) refl;
   has_ins = λ a c. absurd (Contains-nil a c);
   has_outs = this_one (λ (a : ℕ). Contains (affirmed Ad ∷ denied (Member q) ∷ []) (denied (Member a))) q
@@ -195,9 +187,12 @@ pub accepting_found : (f g h : Framework) (log : OracleLog) (q : ℕ) (cover : C
     → IsUncovered g log q cover r → IsAccepting f log q (Covered cover.sets step)
 accepting_found f g h log q cover r step left right kept each is found =
     let refuted : Refutes f log (cover_claim f q cover.sets) step = subst
-    (λ (x : Framework). IsUncovered x log q cover (Refuted step)) left (subst (IsUncovered g log q cover) is found) in
-    (each, refuted, all_accept f log q cover.sets step (subst (λ (x : Framework). IsKept x log) right kept) each
-    refuted)
+    (λ (x : Framework). IsUncovered x log q cover (Refuted step)) left (subst (IsUncovered g log q cover) is found) in (
+      each,
+      refuted,
+      all_accept f log q cover.sets step (subst (λ (x : Framework). IsKept x log) right kept) each
+          refuted,
+    )
 
 pub cover_kept : (f g h : Framework) (P : Making) (old new : OracleLog) (q : ℕ) (cover : Cover) → g ≡ f → h ≡ g
     → Grows P old new → IsCover f old q cover → IsCover h new q cover

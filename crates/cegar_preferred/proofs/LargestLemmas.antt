@@ -1,6 +1,6 @@
 -- Sets that lie in no larger admissible one.
-use Rattle.std.proofs.Common.{◌≡◌, ℕ, ◌+◌, ◌≤◌, List, [], ◌∷◌, refl, ap, sym, subst, ◌∙◌, arith}
-use Rattle.std.specs.Prelude.{Option, None, Result, Ok, Err, IfOk}
+use Rattle.std.proofs.Common.{◌≡◌, ℕ, List, [], ◌∷◌, refl, ap, sym, subst, ◌∙◌, arith}
+use Rattle.std.specs.Prelude.{Option, None, Result, IfOk}
 use Rattle.plain_lists.specs.Members.{IsWithin}
 use Rattle.plain_lists.proofs.Membership.{Contains-nil, Contains-head, Contains-tail}
 use Rattle.plain_lits.specs.declared.halt.Halt.{Halt}
@@ -15,21 +15,21 @@ use Rattle.iccma_tasks.specs.declared.task.Semantics.TheVariants.{Preferred}
 use Rattle.certificate_claims.specs.Refutations.{IsPlain}
 use Rattle.certificate_claims.specs.Rights.{IsExtension}
 use Rattle.certificate_claims.specs.SetLiterals.{are_in, outside}
-use Rattle.certificate_laws.proofs.GoalLists.{asks_cons, plain_mapped, only_one}
+use Rattle.certificate_laws.proofs.GoalLists.{asks_cons, plain_mapped}
 use Rattle.certificate_laws.proofs.LargestSets.{largest_preferred}
 use Rattle.certificate_laws.proofs.SideClauses.{in_plain, outside_plain}
 use Rattle.oracle_face.specs.declared.face.Found.{Found}
 use Rattle.oracle_face.specs.declared.face.Pending.{Pending}
 use Rattle.oracle_face.specs.declared.face.Found.TheVariants.{Set, Refuted}
-use Rattle.oracle_face.specs.Goals.{AreGoals, IsClaimSide, IsSide, Refutes, SpeaksOf}
-use Rattle.oracle_face.specs.Growing.{Grows, HasRun, Making, Obliges, OnlySide, IsFound, closes}
-use Rattle.oracle_face.specs.Logs.{IsKept, IsNumberOf, IsSameClause, OracleLog, SideClause, side_at}
-use Rattle.oracle_face.proofs.GrowingLemmas.{Makes, run_joined}
-use Rattle.oracle_face.proofs.Refuting.{claim_excluded, grown_side, number_grown, refutes_claim}
+use Rattle.oracle_face.specs.Goals.{IsClaimSide, IsSide, Refutes, SpeaksOf}
+use Rattle.oracle_face.specs.Growing.{HasRun, OnlySide, IsFound}
+use Rattle.oracle_face.specs.Logs.{IsKept, IsSameClause, OracleLog}
+use Rattle.oracle_face.proofs.GrowingLemmas.{Makes}
+use Rattle.oracle_face.proofs.Refuting.{claim_excluded, refutes_claim}
 use Rattle.goal_lists.specs.Asking.{goals_of, IsAskableBeside}
 use Rattle.goal_lists.specs.Sides.{IsAskOf, IsFoundBeside}
-use Rattle.goal_lists.proofs.AskedGoals.{are_goals, within_claim, outside_side, outside_speaks, speaks_same, asked_there, asked_true, not_within}
-use Rattle.goal_lists.proofs.Calls.{admissible_members, found_in, found_mode, makes_same, then_made}
+use Rattle.goal_lists.proofs.AskedGoals.{within_claim, outside_side, outside_speaks, asked_there, asked_true, not_within}
+use Rattle.goal_lists.proofs.Calls.{admissible_members, found_in, found_mode, then_made}
 use Rattle.goal_lists.proofs.SideLemmas.{ask_claim, beside_means, this_one}
 use Rattle.cegar_preferred.specs.Largest.{MadeOutside, largest_claim, IsLarger, IsMaximalFrom}
 

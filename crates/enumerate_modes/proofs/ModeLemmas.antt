@@ -1,11 +1,10 @@
 -- Lists of all sets of a mode.
-use Rattle.std.proofs.Common.{◌≡◌, inl, inr, ⊎_elim, ℕ, ◌+◌, ◌<◌, ◌≤◌, ◌&&◌, Bool, true, false, List, [], ◌∷◌, ◌++◌, length, filter, refl, ap, sym, subst, ◌∙◌, arith}
-use Rattle.std.specs.Prelude.{Contains, Option, None, Result, Ok, Err, IfOk}
+use Rattle.std.proofs.Common.{◌≡◌, inl, inr, ⊎_elim, ℕ, ◌<◌, ◌≤◌, ◌&&◌, Bool, true, false, List, [], ◌∷◌, ◌++◌, length, filter, refl, ap, sym, subst, ◌∙◌, arith}
+use Rattle.std.specs.Prelude.{Contains, Result, Ok, Err, IfOk}
 use Rattle.std.proofs.lemmas.Bool.{and_from, and_parts}
 use Rattle.plain_lists.specs.Members.{IsWithin}
 use Rattle.plain_lists.proofs.Membership.{Contains-nil, Contains-head, Contains-tail}
 use Rattle.plain_lits.specs.declared.halt.Halt.{Halt}
-use Rattle.plain_lits.specs.Units.{Units}
 use Rattle.plain_lits.proofs.HintCheckLemmas.{Contains-mapped}
 use Rattle.semantics.specs.Framework.{Af}
 use Rattle.semantics.specs.Frameworks.{Framework, af, IsNumbered}
@@ -22,9 +21,8 @@ use Rattle.certificate_laws.proofs.GoalLists.{asks_cons, fails_mapped, meets_con
 use Rattle.certificate_laws.proofs.SideClauses.{differs_plain, ranged_plain, same_where_false, world_of_admissible}
 use Rattle.oracle_face.specs.declared.face.Found.{Found}
 use Rattle.oracle_face.specs.declared.face.Found.TheVariants.{Set, Refuted}
-use Rattle.oracle_face.specs.declared.face.Pending.{Pending}
 use Rattle.oracle_face.specs.Goals.{IsMemberAtom, IsMode, IsSide, MakesTrue, Refutes}
-use Rattle.oracle_face.specs.Growing.{Grows, HasRun, IsFound, Making, OnlySide}
+use Rattle.oracle_face.specs.Growing.{Grows, IsFound, Making, OnlySide}
 use Rattle.oracle_face.specs.Kinds.{IsRanged}
 use Rattle.oracle_face.specs.Logs.{IsKept, IsSameClause, OracleLog}
 use Rattle.oracle_face.proofs.GrowingLemmas.{Makes}
@@ -33,7 +31,7 @@ use Rattle.goal_lists.specs.AllSets.{is_part}
 use Rattle.goal_lists.specs.Asking.{goals_of, IsAskable}
 use Rattle.goal_lists.specs.Sides.{IsAskOf}
 use Rattle.goal_lists.proofs.AskedGoals.{differs_form, differs_speaks, member_of, not_same, plain_from, speaks_side}
-use Rattle.goal_lists.proofs.Calls.{admissible_members, found_mode, found_ranged, makes_same, then_made}
+use Rattle.goal_lists.proofs.Calls.{admissible_members, found_mode, found_ranged}
 use Rattle.goal_lists.proofs.Measures.{fewer_left, kept_is_set, left_open, part_from, part_gives, same_as_kept}
 use Rattle.goal_lists.proofs.SideLemmas.{HasWanted, asks_kept, asks_more, asks_none, asks_refuted, asks_speak, asks_true}
 use Rattle.enumerate_modes.specs.declared.with_mode.Listing.{Listing}

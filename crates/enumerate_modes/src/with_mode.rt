@@ -32,7 +32,7 @@ struct Listing {
     asks: Items<AskId>,
 }
 
-/// All complete sets, or all stable ones, as the mode says, at most so many. Where there are k, it asks k + 1 times.
+/// All admissible, complete or stable sets, as the mode says, at most so many. Where there are k, it asks k + 1 times.
 pub fn all_with_mode<O: Oracle>(
     alloc: Global,
     oracle: &mut O,

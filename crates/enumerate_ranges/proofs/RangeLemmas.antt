@@ -42,7 +42,7 @@ use Rattle.oracle_face.proofs.Refuting.{claim_excluded, refutes_grown}
 use Rattle.goal_lists.specs.Asking.{AreApart, goals_of, IsAskable}
 use Rattle.goal_lists.specs.Sides.{AreAsksOf, IsAskOf}
 use Rattle.goal_lists.proofs.AskedGoals.{not_range_within, same_wider, wider_speaks}
-use Rattle.goal_lists.proofs.Calls.{admissible_members, apart_pushed, asks_fit, found_mode, makes_same, then_made}
+use Rattle.goal_lists.proofs.Calls.{admissible_members, apart_pushed, asks_fit, found_mode, then_made}
 use Rattle.goal_lists.proofs.Measures.{fewer_left, kept_is_set, left_open, same_as_kept}
 use Rattle.goal_lists.proofs.SideLemmas.{HasWanted, ask_grown, asks_again, asks_kept, asks_more, asks_none, asks_refuted, asks_speak, asks_true, same_number}
 use Rattle.semi_stable.specs.declared.widest.Widest.{Widest}

@@ -1,11 +1,10 @@
 -- Admissible sets that hold none of given numbers.
-use Rattle.std.proofs.Common.{◌≡◌, inl, ℕ, ◌+◌, ◌≤◌, List, [], ◌∷◌, ◌++◌, refl, ap, sym, subst, ◌∙◌}
-use Rattle.std.specs.Prelude.{Option, None, Result, IfOk}
+use Rattle.std.proofs.Common.{◌≡◌, inl, ℕ, List, [], ◌∷◌, ◌++◌, refl, ap, sym, subst, ◌∙◌}
+use Rattle.std.specs.Prelude.{Result, IfOk}
 use Rattle.std.proofs.lemmas.List.Elements.{Contains-append_left, Contains-append_right}
 use Rattle.plain_lists.specs.Members.{IsWithin}
 use Rattle.plain_lists.proofs.Membership.{Contains-nil, Contains-head, Contains-tail}
 use Rattle.plain_lits.specs.declared.halt.Halt.{Halt}
-use Rattle.plain_lits.specs.Units.{Units}
 use Rattle.plain_lits.proofs.HintCheckLemmas.{Contains-mapped}
 use Rattle.semantics.specs.Frameworks.{Framework, af, IsNumbered}
 use Rattle.meaning_atoms.specs.declared.atom.Atom.TheVariants.{Member, Ad}
@@ -18,16 +17,15 @@ use Rattle.certificate_laws.proofs.GoalLists.{asks_append, asks_cons, plain_mapp
 use Rattle.certificate_laws.proofs.SideClauses.{in_plain, out_plain, outside_plain}
 use Rattle.oracle_face.specs.declared.face.Found.{Found}
 use Rattle.oracle_face.specs.declared.face.Found.TheVariants.{Set, Refuted}
-use Rattle.oracle_face.specs.declared.face.Pending.{Pending}
 use Rattle.oracle_face.specs.Goals.{IsClaimSide, IsSide, SpeaksOf}
-use Rattle.oracle_face.specs.Growing.{HasRun, IsFound, OnlySide}
+use Rattle.oracle_face.specs.Growing.{IsFound, OnlySide}
 use Rattle.oracle_face.specs.Logs.{IsSameClause, OracleLog}
 use Rattle.oracle_face.proofs.GrowingLemmas.{Makes}
 use Rattle.oracle_face.proofs.Refuting.{refutes_claim}
 use Rattle.goal_lists.specs.Asking.{goals_of, IsAskableBeside}
 use Rattle.goal_lists.specs.Sides.{IsAskOf, IsFoundBeside}
 use Rattle.goal_lists.proofs.AskedGoals.{asked_there, asked_true, not_within, outside_side, outside_speaks, within_claim}
-use Rattle.goal_lists.proofs.Calls.{admissible_members, found_in, found_mode, found_out, makes_same, then_made}
+use Rattle.goal_lists.proofs.Calls.{admissible_members, found_in, found_mode, found_out}
 use Rattle.goal_lists.proofs.SideLemmas.{ask_claim, beside_means, this_one}
 use Rattle.ideal_set.specs.Ideals.{IsFree, IsLargerFree, MadeForIdeal, free_claim}
 

@@ -348,7 +348,7 @@ pub grown_turn : (f g : Framework) (a b c : OracleLog) (p q : Option Pending) (u
     → HasGrown f a c q u w others hit free
 grown_turn f g a b c p q u v w others hit free same before h run largest = record {
   ran = then_same MadeForIdeal f g (length others) 1 (length others + 1) a b c p q u v w None same (omega arith) before
-  run;
+      run;
   searched = search_grown f (MadeForIdeal g) b c others hit run.grows h;
   largest = subst (λ (x : Framework). IsLargestFree x c hit free) same largest;
 }

@@ -1,12 +1,11 @@
 -- Wider ranges, in goals and in lists.
-use Rattle.std.proofs.Common.{◌≡◌, ⊎_elim, ℕ, ◌+◌, ◌<◌, ◌≤◌, true, not, List, [], ◌∷◌, length, filter, refl, ap, sym, subst, ◌∙◌}
-use Rattle.std.specs.Prelude.{Contains, Option, None, Result, IfOk}
+use Rattle.std.proofs.Common.{◌≡◌, ⊎_elim, ℕ, ◌<◌, true, not, List, [], ◌∷◌, length, filter, refl, ap, sym, subst, ◌∙◌}
+use Rattle.std.specs.Prelude.{Contains, Result, IfOk}
 use Rattle.std.proofs.lemmas.Bool.{false≢true, not_from_false, false_from_ne_true}
 use Rattle.plain_lists.specs.Members.{IsSetOf, IsWithin}
 use Rattle.plain_lists.proofs.Filters.{Contains-filter}
 use Rattle.plain_lists.proofs.Membership.{Contains-nil, Contains-head, Contains-tail, Contains-cons_cases}
 use Rattle.plain_lits.specs.declared.halt.Halt.{Halt}
-use Rattle.plain_lits.specs.Units.{Units}
 use Rattle.plain_lits.proofs.HintCheckLemmas.{Contains-mapped}
 use Rattle.semantics.specs.Frameworks.{Framework, af, IsNumbered}
 use Rattle.meaning_atoms.specs.declared.atom.Atom.{Atom}
@@ -19,9 +18,8 @@ use Rattle.certificate_claims.proofs.SetTests.{ranged_from, ranged_gives}
 use Rattle.certificate_claims.proofs.RangeLists.{range_is}
 use Rattle.oracle_face.specs.declared.face.Found.{Found}
 use Rattle.oracle_face.specs.declared.face.Found.TheVariants.{Set, Refuted}
-use Rattle.oracle_face.specs.declared.face.Pending.{Pending}
 use Rattle.oracle_face.specs.Goals.{IsClaimSide, IsMode, IsSide, SpeaksOf}
-use Rattle.oracle_face.specs.Growing.{HasRun, IsFound, OnlySide}
+use Rattle.oracle_face.specs.Growing.{IsFound, OnlySide}
 use Rattle.oracle_face.specs.Kinds.{IsRanged}
 use Rattle.oracle_face.specs.Logs.{IsSameClause, OracleLog}
 use Rattle.oracle_face.proofs.GrowingLemmas.{Makes}
@@ -29,7 +27,7 @@ use Rattle.oracle_face.proofs.Refuting.{refutes_claim}
 use Rattle.goal_lists.specs.Asking.{goals_of, IsAskableBeside}
 use Rattle.goal_lists.specs.Sides.{IsAskOf, IsFoundBeside}
 use Rattle.goal_lists.proofs.AskedGoals.{asked_there, asked_true, ranged_form, wider_form, wider_side, wider_speaks, within_claim}
-use Rattle.goal_lists.proofs.Calls.{found_mode, found_ranged, makes_same, then_made}
+use Rattle.goal_lists.proofs.Calls.{found_mode, found_ranged}
 use Rattle.goal_lists.proofs.Measures.{not_true, strictly_fewer}
 use Rattle.goal_lists.proofs.SideLemmas.{ask_claim, beside_means, this_one}
 use Rattle.semi_stable.specs.Widest.{IsRangeIn, IsWider, MadeWider, wider_claim}

@@ -152,7 +152,7 @@ loop-found-preserved g c =
       found = more.found;
       room = more.room;
       run = then_same MadeForRanges f k (2 * length asks) 2 (2 * length c.record_range.new.found.asks) _ _ _ _ _ _ _ _ _
-      same
+          same
           (two_more asks c.record_range.new.found.asks more.number more.asks)
           (then_same MadeForRanges f h (2 * length asks) _ (2 * length asks) _ _ _ _ _ _ _ _ _ inv.framework
           (omega (arith, closes_set c.in_ok-step.field-0 c.in-Set.set c.in-Set.is)) inv.run c.in_ok-step.ensures.run)
