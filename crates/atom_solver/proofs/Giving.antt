@@ -13,11 +13,12 @@ use Rattle.plain_lists.specs.declared.memory.Memory.{Memory}
 use Rattle.plain_lits.specs.declared.halt.Halt.{Halt}
 use Rattle.hinted_log.specs.declared.fault.LogFault.{LogFault}
 use Rattle.hinted_log.specs.declared.fault.LogFault.TheVariants.{LogFull}
-use Rattle.semantics.specs.Frameworks.{Framework}
+use Rattle.semantics.specs.Frameworks.{Framework, af}
 use Rattle.meaning_atoms.specs.declared.axiom.AxiomName.{AxiomName}
+use Rattle.meaning_atoms.specs.declared.axiom.AxiomName.TheVariants.{Af as OfAf}
 use Rattle.certificate_claims.specs.Refutations.{IsAxiomOf}
 use Rattle.session_log.proofs.Staying.{axiom_stays}
-use Rattle.atom_solver.specs.States.{AtomState, AddsAxiom, IsGuardedLog}
+use Rattle.atom_solver.specs.States.{AtomState, AddsAxiom, IsAxiomName, IsGuardedLog}
 use Rattle.hinted_log.specs.declared.kind.Kind.{Kind}
 use Rattle.hinted_log.specs.declared.kind.Kind.TheVariants as kind
 use Rattle.sat_core.specs.declared.answer.Added.{Added}
@@ -194,6 +195,10 @@ pub ok_not_full : (number : ℕ) → added number ≡ refused LogFull → ⊥
 ok_not_full number e = cc
 
 -- ---- axioms
+
+-- an axiom of a framework's kind has arguments that fit its row
+pub axiom_name : (f : Framework) (name : AxiomName) → IsAxiomOf f name → IsAxiomName name
+axiom_name (af f) (OfAf name) is = is
 
 pub axiom_guarded : (r : Result (Unit {0}) Halt) (name : AxiomName) (old new : AtomState) (f : Framework)
     → OnOk r (AddsAxiom name old new) → OnErr r (new ≡ old) → IsAxiomOf f name → IsGuardedLog f old.log
