@@ -1,9 +1,9 @@
 -- What is assumed: facts, and then goals.
-use Rattle.std.proofs.Common.{◌≡◌, ℕ, ◌+◌, ◌-◌, ◌<◌, ◌≤◌, List, [], ◌∷◌, ◌++◌, length, get_or, ap, sym, subst, ◌∙◌, refl, arith, inl, inr, ⊎_elim, Bool, true, false, not}
-use Rattle.std.specs.Prelude.{◌⊎◌, Contains, IsTrue, slice_get, Some}
+use Rattle.std.proofs.Common.{◌≡◌, ℕ, ◌+◌, ◌-◌, ◌<◌, List, [], ◌∷◌, ◌++◌, length, get_or, ap, sym, subst, ◌∙◌, refl, arith, inl, inr, ⊎_elim, Bool, true, false, not}
+use Rattle.std.specs.Prelude.{Contains, slice_get, Some}
 use Rattle.std.proofs.lemmas.Bool.{cases_lt, false≢true}
 use Rattle.std.proofs.lemmas.Option.{get_or_from_slice_get}
-use Rattle.std.proofs.lemmas.List.{append-nil, length-append, get_or_append_left, get_or-append_right}
+use Rattle.std.proofs.lemmas.List.{length-append, get_or_append_left, get_or-append_right}
 use Rattle.std.proofs.lemmas.List.Elements.{Contains-append_left, Contains-append_right, Contains-append_cases, Contains-push_cases, Contains-push, Contains-get_or}
 use Rattle.plain_lists.proofs.Membership.{Contains-nil}
 use Rattle.plain_lits.specs.declared.lit.Lit.{Lit}
@@ -19,7 +19,7 @@ use Rattle.meaning_atoms.specs.Worlds.{IsFact}
 use Rattle.af_axioms.specs.Facts.{IsFactValue}
 use Rattle.atom_solver.specs.Searches.{AreUnfixed}
 use Rattle.atom_solver.specs.Assumed.{of_var, IsFactAssumed, AreFacts, AreAssumed}
-use Rattle.atom_solver.specs.Lifted.{atom_at, lit_of, atoms_of}
+use Rattle.atom_solver.specs.Lifted.{atom_at, lit_of}
 use Rattle.atom_solver.specs.Tables.{Extends, AddsLits}
 
 pub facts_none : (f : Framework) (atoms : List Atom) → AreFacts f atoms 0 []

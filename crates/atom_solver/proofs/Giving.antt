@@ -1,23 +1,23 @@
 -- A clause that is given comes, and is in use.
-use Rattle.std.proofs.Common.{◌≡◌, ℕ, suc, ◌+◌, ◌-◌, ◌<◌, ◌≤◌, List, [], ◌∷◌, ◌++◌, length, take, map, get_or, ap, sym, subst, ◌∙◌, refl, arith, inl, inr, ⊎_elim, add-one}
-use Rattle.std.specs.Prelude.{◌⊎◌, Contains, Result, Ok, Err, IfOk, OnOk, OnErr, None, Option, slice_index_or, true, false, not}
-use Rattle.std.proofs.lemmas.Bool.{cases_lt}
-use Rattle.std.proofs.lemmas.List.{length_push, get_or_push, get_or_append_left, append-nil}
+use Rattle.std.proofs.Common.{◌≡◌, ℕ, suc, ◌+◌, ◌<◌, List, [], ◌∷◌, ◌++◌, length, get_or, ap, sym, subst, ◌∙◌, refl, arith, ⊎_elim, add-one}
+use Rattle.std.specs.Prelude.{Contains, Result, Ok, Err, IfOk, OnOk, OnErr, Option, slice_index_or, true}
+use Rattle.std.proofs.lemmas.List.{length_push, get_or_push, get_or_append_left}
 use Rattle.std.proofs.lemmas.List.Elements.{Contains-append_left, Contains-push, Contains-push_cases}
 use Rattle.plain_lits.specs.declared.lit.Lit.{Lit}
 use Rattle.plain_lits.specs.Literals.{IsClauseOf}
-use Rattle.plain_lits.specs.Checking.{HasRoomFor, HaveRoomFor}
+use Rattle.plain_lits.specs.Checking.{HasRoomFor}
 use Rattle.plain_lits.proofs.HintCheckLemmas.{Contains-mapped, Contains-from_mapped}
-use Rattle.hinted_log.specs.Logs.{Step, LogState, clauses_of, no_step, given_step, with_step}
+use Rattle.hinted_log.specs.Logs.{Step, LogState, clauses_of, no_step, given_step}
 use Rattle.plain_lists.specs.declared.memory.Memory.{Memory}
 use Rattle.plain_lits.specs.declared.halt.Halt.{Halt}
 use Rattle.hinted_log.specs.declared.fault.LogFault.{LogFault}
 use Rattle.hinted_log.specs.declared.fault.LogFault.TheVariants.{LogFull}
-use Rattle.semantics.specs.Frameworks.{Framework}
+use Rattle.semantics.specs.Frameworks.{Framework, af}
 use Rattle.meaning_atoms.specs.declared.axiom.AxiomName.{AxiomName}
+use Rattle.meaning_atoms.specs.declared.axiom.AxiomName.TheVariants.{Af as OfAf}
 use Rattle.certificate_claims.specs.Refutations.{IsAxiomOf}
 use Rattle.session_log.proofs.Staying.{axiom_stays}
-use Rattle.atom_solver.specs.States.{AtomState, AddsAxiom, IsGuardedLog}
+use Rattle.atom_solver.specs.States.{AtomState, AddsAxiom, IsAxiomName, IsGuardedLog}
 use Rattle.hinted_log.specs.declared.kind.Kind.{Kind}
 use Rattle.hinted_log.specs.declared.kind.Kind.TheVariants as kind
 use Rattle.sat_core.specs.declared.answer.Added.{Added}
@@ -26,12 +26,12 @@ use Rattle.sat_core.specs.Solving.{SolverState, AddsTo, IsRejected}
 use Rattle.meaning_atoms.specs.declared.atom.Atom.{Atom}
 use Rattle.meaning_atoms.specs.declared.atom.AtomLit.{AtomLit}
 use Rattle.oracle_face.specs.declared.face.Pending.{Pending}
-use Rattle.oracle_face.specs.Logs.{LogStep, SideClause, IsSameClause}
-use Rattle.session_log.specs.Steps.{GainsStep, own_step}
+use Rattle.oracle_face.specs.Logs.{SideClause}
+use Rattle.session_log.specs.Steps.{own_step}
 use Rattle.atom_solver.specs.declared.origin.Origin.{Origin}
 use Rattle.atom_solver.specs.declared.origin.Origin.TheVariants.{Hints}
 use Rattle.atom_solver.specs.Inner.{GainsGiven, IsFilled, NeedsNoHints}
-use Rattle.atom_solver.specs.Lifted.{IsLifting, lit_of, atoms_of, source_of, in_use, lifted_step, lifted_at, listed, log_over, state_over}
+use Rattle.atom_solver.specs.Lifted.{IsLifting, lit_of, atoms_of, source_of, in_use, lifted_step, lifted_at, listed, state_over}
 use Rattle.atom_solver.specs.Tables.{AddsLits, StandsFor}
 use Rattle.atom_solver.proofs.Lifting.{in_use_yes, in_use_same}
 use Rattle.atom_solver.proofs.Listing.{length-listed, listed_same}
@@ -194,6 +194,10 @@ pub ok_not_full : (number : ℕ) → added number ≡ refused LogFull → ⊥
 ok_not_full number e = cc
 
 -- ---- axioms
+
+-- an axiom of a framework's kind has arguments that fit its row
+pub axiom_name : (f : Framework) (name : AxiomName) → IsAxiomOf f name → IsAxiomName name
+axiom_name (af f) (OfAf name) is = is
 
 pub axiom_guarded : (r : Result (Unit {0}) Halt) (name : AxiomName) (old new : AtomState) (f : Framework)
     → OnOk r (AddsAxiom name old new) → OnErr r (new ≡ old) → IsAxiomOf f name → IsGuardedLog f old.log

@@ -1,20 +1,20 @@
 -- The log that a solver's log stands for, as the table of atoms and the log grow.
-use Rattle.std.proofs.Common.{◌≡◌, ◌≢◌, ℕ, ◌+◌, ◌-◌, ◌<◌, ◌≤◌, List, [], ◌∷◌, ◌++◌, length, take, map, get_or, ap, sym, subst, ◌∙◌, refl, arith, inl, inr, ⊎_elim, Bool, true, false, not, Ok, Result}
-use Rattle.std.specs.Prelude.{◌⊎◌, ◌==◌, Contains, slice_index_or, None}
+use Rattle.std.proofs.Common.{◌≡◌, ℕ, ◌-◌, ◌<◌, ◌≤◌, List, [], ◌∷◌, ◌++◌, length, take, get_or, ap, sym, subst, ◌∙◌, refl, arith, ⊎_elim, true, false, Result}
+use Rattle.std.specs.Prelude.{◌==◌, Contains}
 use Rattle.std.proofs.lemmas.Bool.{cases_lt, cases_Bool, eq-eqb, eqb-true, false≢true}
-use Rattle.std.proofs.lemmas.List.{get_or_append_left, get_or-append_right, get_or-map, get_or-take, length-map, length-take-le, length-append, map-id, append-nil}
-use Rattle.std.proofs.lemmas.List.Elements.{Contains-get_or, Contains-append_left}
+use Rattle.std.proofs.lemmas.List.{get_or_append_left, get_or-map, get_or-take, length-map, length-take-le, map-id}
+use Rattle.std.proofs.lemmas.List.Elements.{Contains-get_or}
 use Rattle.plain_lists.proofs.ListTests.{any_gives, any_from}
-use Rattle.plain_lists.proofs.Membership.{Contains-nil, Contains-head, Contains-tail}
+use Rattle.plain_lists.proofs.Membership.{Contains-head, Contains-tail}
 use Rattle.plain_lits.specs.declared.lit.Lit.{Lit}
 use Rattle.plain_lits.specs.Literals.{negation}
-use Rattle.plain_lits.specs.HintCheck.{Checks, IsNamed, IsTautology, clause_at}
-use Rattle.plain_lits.specs.CheckLaws.{Renames, IsImage, IsMovedHint}
+use Rattle.plain_lits.specs.HintCheck.{Checks, IsTautology, clause_at}
+use Rattle.plain_lits.specs.CheckLaws.{Renames, IsImage}
 use Rattle.plain_lits.specs.Checking.{HasRoomFor, HaveRoomFor}
-use Rattle.plain_lits.proofs.HintCheckLemmas.{Contains-mapped, Contains-from_mapped, taken_sound}
+use Rattle.plain_lits.proofs.HintCheckLemmas.{Contains-mapped, Contains-from_mapped}
 use Rattle.plain_lits.proofs.Renaming.{checks_moved}
-use Rattle.hinted_log.specs.Logs.{Step, clauses_of, no_step, step_at}
-use Rattle.sat_core.specs.Solving.{SolverState, IsShownAt, front, clause_of, Keeps}
+use Rattle.hinted_log.specs.Logs.{Step, clauses_of, no_step}
+use Rattle.sat_core.specs.Solving.{SolverState}
 use Rattle.atom_table.specs.Numbering.{AreDifferent}
 use Rattle.meaning_atoms.specs.declared.atom.Atom.{Atom}
 use Rattle.meaning_atoms.specs.declared.atom.Atom.TheVariants.{Cf}
@@ -22,10 +22,8 @@ use Rattle.meaning_atoms.specs.declared.atom.AtomLit.{AtomLit}
 use Rattle.meaning_atoms.specs.Literals.{negated}
 use Rattle.oracle_face.specs.Logs as face
 use Rattle.oracle_face.specs.Logs.{LogStep, SideClause, OracleLog}
-use Rattle.session_log.specs.Steps.{FollowsByHints, StandsInHint}
 use Rattle.atom_solver.specs.declared.origin.Origin.{Origin}
-use Rattle.atom_solver.specs.declared.origin.Origin.TheVariants.{Hints}
-use Rattle.atom_solver.specs.Lifted.{atom_at, lit_of, atoms_of, in_use, lifted_step, lifted_at, listed, log_upto, log_over}
+use Rattle.atom_solver.specs.Lifted.{atom_at, lit_of, atoms_of, in_use, lifted_at, listed, log_upto}
 use Rattle.atom_solver.proofs.Listing.{length-listed, get_or-listed, listed_same}
 
 -- ---- steps in use

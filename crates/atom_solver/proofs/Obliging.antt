@@ -1,11 +1,10 @@
 -- What it leaves that a side clause is kept, or was there.
-use Rattle.std.proofs.Common.{◌≡◌, ℕ, ◌+◌, ◌-◌, ◌<◌, ◌≤◌, List, [], ◌∷◌, ◌++◌, length, take, get_or, ap, sym, subst, ◌∙◌, refl, arith, inl, inr, ⊎_elim, Bool, true, false, not}
-use Rattle.std.specs.Prelude.{◌⊎◌, Contains, count_by, filter, slice_index_or, Option, None, Some, Result, Ok, Err, IfOk, IfErr, OnOk, OnErr}
+use Rattle.std.proofs.Common.{◌≡◌, ℕ, ◌+◌, ◌-◌, List, [], ◌∷◌, ◌++◌, length, take, get_or, ap, sym, subst, ◌∙◌, refl, arith, ⊎_elim, Bool}
+use Rattle.std.specs.Prelude.{count_by, slice_index_or, Option, Some, Result, Ok, Err, IfOk, IfErr, OnOk, OnErr}
 use Rattle.std.proofs.Math.Seq.{take-append_seam}
 use Rattle.std.proofs.lemmas.List.{length_push, get_or_push}
-use Rattle.std.proofs.lemmas.List.Elements.{Contains-get_or, Contains-append_right}
+use Rattle.std.proofs.lemmas.List.Elements.{Contains-append_right}
 use Rattle.plain_lists.proofs.Membership.{Contains-head, Contains-cons_cases}
-use Rattle.plain_lits.specs.HintCheck.{IsTautology}
 use Rattle.plain_lits.specs.Units.{Units}
 use Rattle.plain_lits.specs.declared.halt.Halt.{Halt}
 use Rattle.plain_lits.specs.declared.halt.Halt.TheVariants.{Spent, LogFull, Memory}
@@ -16,18 +15,17 @@ use Rattle.meaning_atoms.specs.declared.atom.Atom.TheVariants.{Live, Attack, Gap
 use Rattle.meaning_atoms.specs.declared.atom.AtomLit.{AtomLit}
 use Rattle.meaning_atoms.specs.Literals.{denied, negated, AsksNothing}
 use Rattle.meaning_atoms.specs.Worlds.{IsAsk, IsFact}
-use Rattle.af_axioms.specs.Facts.{IsFactValue}
 use Rattle.oracle_face.specs.declared.face.Pending.{Pending}
 use Rattle.oracle_face.specs.declared.face.Pending.TheVariants.{Side as OfSide}
 use Rattle.oracle_face.specs.Goals.{IsSide, Tells}
 use Rattle.oracle_face.specs.Growing.{Grows, HasRun, IsStop, Works, Obliges, OnlySide, halt_of}
-use Rattle.oracle_face.specs.Logs.{OracleLog, LogStep, SideClause, IsNew, FactsAreFalse, IsNumberOf, IsSameClause, by_side, guarded, is_unit, units_of, closings_of, no_step, no_side, side_at, step_at, working}
+use Rattle.oracle_face.specs.Logs.{OracleLog, LogStep, SideClause, IsNew, FactsAreFalse, IsNumberOf, IsSameClause, by_side, guarded, is_unit, closings_of, no_step, no_side, side_at, working}
 use Rattle.oracle_face.proofs.GrowingLemmas.{grows_same, grows_as}
 use Rattle.session_log.specs.Steps.{TakesSide, GainsStep, own_step, side_made}
 use Rattle.session_log.proofs.Staying.{side_stays}
 use Rattle.session_log.proofs.NewSides.{side_is_new}
 use Rattle.atom_solver.specs.States.{AtomState, IsGuardedLog}
-use Rattle.atom_solver.specs.Sides.{IsOrdered, IsOrderOf, IsSideAt, IsNowhere}
+use Rattle.atom_solver.specs.Sides.{IsOrderOf, IsSideAt, IsNowhere}
 use Rattle.atom_solver.specs.Inner.{KeepsSide, StopsSide}
 use Rattle.atom_solver.proofs.Listing.{counted_push}
 use Rattle.atom_solver.proofs.Running.{unless_all}

@@ -1,18 +1,18 @@
 -- Steps as they are read.
-use Rattle.std.proofs.Common.{◌≡◌, ℕ, ◌+◌, ◌-◌, ◌<◌, ◌≤◌, List, [], length, get_or, ap, sym, subst, ◌∙◌, refl, arith}
+use Rattle.std.proofs.Common.{◌≡◌, ℕ, ◌-◌, List, [], length, get_or, ap, sym, ◌∙◌, refl, arith}
 use Rattle.std.specs.Prelude.{Result, Ok, Err, IfOk}
 use Rattle.plain_lists.specs.declared.memory.Memory.{Memory}
 use Rattle.plain_lits.specs.declared.lit.Lit.{Lit}
-use Rattle.plain_lits.specs.Checking.{HaveRoomFor, HasRoomFor}
+use Rattle.plain_lits.specs.Checking.{HaveRoomFor}
 use Rattle.hinted_log.specs.Logs as hinted
 use Rattle.hinted_log.specs.Logs.{IsStepOf, clauses_of}
 use Rattle.sat_core.specs.Solving.{SolverState}
 use Rattle.meaning_atoms.specs.declared.atom.Atom.{Atom}
 use Rattle.meaning_atoms.specs.declared.atom.AtomLit.{AtomLit}
-use Rattle.oracle_face.specs.Logs.{LogStep, IsNumberOf, Source, step_at, hints_of}
+use Rattle.oracle_face.specs.Logs.{LogStep, IsNumberOf, step_at, hints_of}
 use Rattle.atom_solver.specs.declared.origin.Origin.{Origin}
 use Rattle.atom_solver.specs.declared.origin.Origin.TheVariants.{Axiom, Side, Hints}
-use Rattle.atom_solver.specs.Lifted.{atoms_of, lifted_at, listed, source_of}
+use Rattle.atom_solver.specs.Lifted.{lifted_at, listed, source_of}
 use Rattle.atom_solver.specs.Tables.{told}
 use Rattle.atom_solver.proofs.Listing.{length-listed}
 use Rattle.atom_solver.proofs.Lifting.{room_at, step_lifted}

@@ -1,6 +1,6 @@
 -- What a search leaves, whatever it answers.
-use Rattle.std.proofs.Common.{◌≡◌, ◌≢◌, ℕ, ◌+◌, ◌-◌, ◌≤◌, List, length, ap, sym, subst, ◌∙◌, refl, arith, inl, inr, ⊎_elim, Vec, Global}
-use Rattle.std.specs.Prelude.{◌⊎◌, ◌<◌, Contains, filter, Option, None, Some, Result, Ok, Err}
+use Rattle.std.proofs.Common.{◌≡◌, ◌≢◌, ℕ, ◌+◌, ◌-◌, ◌≤◌, List, length, ap, sym, subst, ◌∙◌, arith, inl, inr, ⊎_elim, Vec, Global}
+use Rattle.std.specs.Prelude.{filter, Option, None, Some, Result, Ok, Err}
 use Rattle.std.specs.Result.{IsErr, IsErrAnd}
 use Rattle.std.proofs.lemmas.Bool.{false≢true, lt-ltb, ltb-true}
 use Rattle.std.proofs.lemmas.List.{length-map, length-append}

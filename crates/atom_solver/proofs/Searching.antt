@@ -1,18 +1,18 @@
 -- What a search leaves and tells, over atoms.
-use Rattle.std.proofs.Common.{◌≡◌, ◌≢◌, ℕ, suc, ◌+◌, ◌-◌, ◌<◌, ◌≤◌, List, [], ◌∷◌, ◌++◌, length, take, map, get_or, ap, sym, subst, ◌∙◌, refl, arith, inl, inr, ⊎_elim, Bool, true, false, not, Ok}
-use Rattle.std.specs.Prelude.{◌⊎◌, Contains, filter, count_by, slice_index_or}
-use Rattle.std.proofs.lemmas.Bool.{cases_lt, cases_Bool, false≢true}
+use Rattle.std.proofs.Common.{◌≡◌, ℕ, ◌+◌, ◌-◌, ◌<◌, ◌≤◌, List, [], ◌∷◌, ◌++◌, length, get_or, ap, sym, subst, ◌∙◌, refl, arith, inl, inr, ⊎_elim, Bool, true, false, not}
+use Rattle.std.specs.Prelude.{◌⊎◌, Contains, filter}
+use Rattle.std.proofs.lemmas.Bool.{cases_lt, false≢true}
 use Rattle.std.proofs.lemmas.List.{length_push, length-append, take_all}
 use Rattle.plain_lists.proofs.Filters.{Contains-filter}
 use Rattle.plain_lits.specs.declared.lit.Lit.{Lit}
 use Rattle.plain_lits.specs.Literals.{negation}
 use Rattle.plain_lits.specs.Units.{Units}
-use Rattle.plain_lits.specs.HintCheck.{Checks, IsTautology}
+use Rattle.plain_lits.specs.HintCheck.{IsTautology}
 use Rattle.plain_lits.specs.Checking.{HasRoomFor, HaveRoomFor}
 use Rattle.plain_lits.proofs.HintCheckLemmas.{Contains-mapped, Contains-from_mapped}
 use Rattle.semantics.specs.Frameworks.{Framework}
-use Rattle.hinted_log.specs.Logs.{Step, LogState, IsStepOf, clauses_of, no_step, derived_step}
-use Rattle.sat_core.specs.Solving.{SolverState, IsShown, IsUnitOf, IsModel, IsCore, Closes, Learns, Keeps, Holds, clause_of, front, begun}
+use Rattle.hinted_log.specs.Logs.{LogState, clauses_of, no_step, derived_step}
+use Rattle.sat_core.specs.Solving.{SolverState, IsUnitOf, IsModel, IsCore, Closes, Learns, Keeps, Holds, clause_of, front, begun}
 use Rattle.sat_core.proofs.Keeping.{shown_as, keeps_logs, derives_derived}
 use Rattle.atom_table.specs.Numbering.{AreDifferent}
 use Rattle.meaning_atoms.specs.declared.atom.Atom.{Atom}
@@ -29,11 +29,11 @@ use Rattle.session_log.specs.Guards.{IsGuarded}
 use Rattle.session_log.proofs.Closing.{closed_refutes_goals}
 use Rattle.atom_solver.specs.declared.origin.Origin.{Origin}
 use Rattle.atom_solver.specs.Searches.{Satisfies}
-use Rattle.atom_solver.specs.Assumed.{of_var, IsFactAssumed, AreAssumed}
+use Rattle.atom_solver.specs.Assumed.{of_var, AreAssumed}
 use Rattle.atom_solver.specs.Lifted.{atom_at, lit_of, atoms_of, in_use, lifted_at, listed, log_upto, log_over}
 use Rattle.atom_solver.proofs.Listing.{length-listed, get_or-listed, take-listed, Contains-listed, all_counted, none_counted}
 use Rattle.atom_solver.proofs.Lifting.{in_use_yes, in_use_gives, in_use_no, IsKnown, same_lits, lit_back, tautology_back, step_lifted, room_at}
-use Rattle.atom_solver.proofs.Deriving.{hint_named, shown_follows, derived_at, front_same}
+use Rattle.atom_solver.proofs.Deriving.{shown_follows, derived_at}
 use Rattle.atom_solver.proofs.Learning.{IsLearnedAt, AreNamed, learned_still, has_learned}
 
 -- ---- facts

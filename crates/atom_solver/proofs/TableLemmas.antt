@@ -1,21 +1,20 @@
 -- The table as literals over atoms get variables, and literals as they are read back.
-use Rattle.std.proofs.Common.{◌≡◌, ℕ, ◌+◌, ◌<◌, ◌≤◌, List, [], ◌∷◌, ◌++◌, length, take, map, get_or, ap, sym, subst, ◌∙◌, refl, arith, inl, inr, ⊎_elim, Bool, true, false, cond}
-use Rattle.std.specs.Prelude.{◌⊎◌, Contains, filter, nat_lt}
-use Rattle.std.proofs.lemmas.Bool.{cases_Bool, lt-ltb, ltb-true, cases_lt}
+use Rattle.std.proofs.Common.{◌≡◌, ℕ, ◌+◌, ◌<◌, ◌≤◌, List, [], ◌∷◌, ◌++◌, length, take, get_or, ap, sym, subst, ◌∙◌, refl, arith, ⊎_elim, false}
+use Rattle.std.specs.Prelude.{Contains, filter, nat_lt}
+use Rattle.std.proofs.lemmas.Bool.{lt-ltb}
 use Rattle.std.proofs.lemmas.Bool.Decides.{nat_tests}
 use Rattle.std.proofs.lemmas.List.{take_more, take_all, map-append, append-nil, append_assoc, length-append}
 use Rattle.std.proofs.lemmas.List.Elements.{filter-append, Contains-get_or, Contains-append_cases}
-use Rattle.plain_lists.proofs.Filters.{Contains-filter, filter_whole}
+use Rattle.plain_lists.proofs.Filters.{filter_whole}
 use Rattle.plain_lists.proofs.Membership.{Contains-nil, Contains-cons_cases, Contains-pushed}
 use Rattle.plain_lits.specs.declared.lit.Lit.{Lit}
 use Rattle.plain_lits.specs.Checking.{HasRoomFor}
-use Rattle.plain_lits.proofs.HintCheckLemmas.{Contains-mapped, Contains-from_mapped}
 use Rattle.clause_watches.proofs.Fronts.{from_front, longer_front}
 use Rattle.meaning_atoms.specs.declared.atom.Atom.{Atom}
 use Rattle.meaning_atoms.specs.declared.atom.AtomLit.{AtomLit}
 use Rattle.atom_solver.specs.Lifted.{lit_of, atoms_of}
-use Rattle.atom_solver.specs.Tables.{IsAbout, Extends, AddsLits, has_atom, told}
-use Rattle.atom_solver.proofs.Lifting.{IsKnown, atoms_grow}
+use Rattle.atom_solver.specs.Tables.{Extends, AddsLits, has_atom, told}
+use Rattle.atom_solver.proofs.Lifting.{atoms_grow}
 
 -- ---- literals that are read back
 

@@ -1,5 +1,5 @@
 -- What a search under goals tells.
-use Rattle.std.specs.Prelude.{◌⊎◌, ℕ, List, Contains, Result, Ok, Err}
+use Rattle.std.specs.Prelude.{◌⊎◌, ℕ, List, Contains, Result, Ok}
 use Rattle.plain_lits.specs.declared.halt.Halt.{Halt}
 use Rattle.plain_lits.specs.HintCheck.{IsTautology}
 use Rattle.semantics.specs.Frameworks.{Framework}

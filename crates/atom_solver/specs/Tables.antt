@@ -1,5 +1,5 @@
 -- How the table of atoms grows where literals over atoms get variables.
-use Rattle.std.specs.Prelude.{◌≡◌, ◌++◌, List, length, map, filter, Bool, Contains}
+use Rattle.std.specs.Prelude.{◌≡◌, ◌++◌, List, length, filter, Bool, Contains}
 use Rattle.std.specs.Prelude.{nat_lt}
 use Rattle.plain_lits.specs.declared.lit.Lit.{Lit}
 use Rattle.plain_lits.specs.Checking.{HasRoomFor}

@@ -1,4 +1,4 @@
-use Rattle.std.proofs.Common.{◌≡◌, ℕ, get_or, ap, sym, subst, ◌∙◌, below_more}
+use Rattle.std.proofs.Common.{◌≡◌, get_or, ap, sym, subst, ◌∙◌, below_more}
 use Rattle.std.proofs.lemmas.Bool.{false≢true}
 use Rattle.std.proofs.lemmas.List.{get_or_default}
 use Rattle.oracle_face.specs.Logs.{SideClause, no_side}

@@ -1,8 +1,6 @@
 use Rattle.std.proofs.Common.{subst, sym}
 use Rattle.meaning_atoms.specs.Worlds.{IsFact}
-use Rattle.plain_lits.specs.declared.lit.Lit.{Lit}
 use Rattle.af_axioms.specs.Facts.{IsFactValue}
-use Rattle.atom_solver.specs.Assumed.{AreFacts}
 use Rattle.atom_solver.proofs.Assuming.{facts_none, facts_yes, facts_no, atom_there}
 use Rattle.atom_solver.proofs.tables.assume_facts.Goals as goal
 use Rattle.atom_solver.proofs.tables.assume_facts.Goals.{in-Some+in_ok-push, in_default}

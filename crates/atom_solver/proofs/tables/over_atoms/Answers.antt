@@ -1,7 +1,6 @@
-use Rattle.std.proofs.Common.{◌≡◌, ◌<◌, [], ◌∷◌, ◌++◌, length, get_or, ap, sym, subst, ◌∙◌, arith, false}
+use Rattle.std.proofs.Common.{◌≡◌, ◌<◌, [], ◌∷◌, ◌++◌, length, get_or, ap, ◌∙◌, arith, false}
 use Rattle.std.proofs.lemmas.List.{get_or_default, take_all}
 use Rattle.plain_lits.specs.declared.lit.Lit.{Lit}
-use Rattle.meaning_atoms.specs.declared.atom.AtomLit.{AtomLit}
 use Rattle.atom_solver.specs.Tables.{told}
 use Rattle.atom_solver.proofs.Assuming.{atom_there}
 use Rattle.atom_solver.proofs.TableLemmas.{told_yes, told_no}

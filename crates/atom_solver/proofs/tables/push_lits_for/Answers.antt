@@ -1,9 +1,8 @@
 use Rattle.std.proofs.Common.{◌≡◌, ◌∙◌, get_or, refl, false}
-use Rattle.std.proofs.lemmas.List.{get_or_default, take_all}
-use Rattle.clause_watches.proofs.Fronts.{from_front}
+use Rattle.std.proofs.lemmas.List.{get_or_default}
 use Rattle.meaning_atoms.specs.declared.atom.Atom.TheVariants.{Member}
 use Rattle.meaning_atoms.specs.declared.atom.AtomLit.{AtomLit}
-use Rattle.atom_solver.proofs.TableLemmas.{extends_none, extends_wider, extends_more, extends_front, adds_none, adds_more, adds_all}
+use Rattle.atom_solver.proofs.TableLemmas.{extends_none, extends_more, extends_front, adds_none, adds_more}
 use Rattle.atom_solver.proofs.tables.push_lits_for.Goals as goal
 
 abbrev blank : AtomLit

@@ -1,6 +1,6 @@
-use Rattle.std.proofs.Common.{ap, sym, ◌∙◌}
+use Rattle.std.proofs.Common.{ap, ◌∙◌}
 use Rattle.oracle_face.specs.Logs.{SideClause}
-use Rattle.atom_solver.proofs.Siding.{literals_decide, told_same}
+use Rattle.atom_solver.proofs.Siding.{told_same}
 use Rattle.atom_solver.proofs.kept_side.KeptSide.is.Goals as goal
 
 pub returns-clause-same : goal.returns-clause-same

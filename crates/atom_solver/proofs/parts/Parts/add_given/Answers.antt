@@ -1,7 +1,6 @@
-use Rattle.std.proofs.Common.{◌≡◌, ◌++◌, ◌∷◌, [], ◌<◌, length, rules, ap, sym, subst, ◌∙◌, ⊎_elim, arith}
+use Rattle.std.proofs.Common.{◌≡◌, ◌++◌, ◌∷◌, [], ◌<◌, length, rules, ap, subst, ◌∙◌, ⊎_elim, arith}
 use Rattle.std.proofs.lemmas.Bool.{cases_lt}
 use Rattle.atom_solver.specs.Inner.{IsFilled}
-use Rattle.atom_solver.specs.Lifted.{IsLifting}
 use Rattle.atom_solver.proofs.Giving.{gains_of, not_rejected, given_gains, given_whole, filled_whole, ok_not_full, refused}
 use Rattle.atom_solver.proofs.parts.Parts.add_given.Goals as goal
 

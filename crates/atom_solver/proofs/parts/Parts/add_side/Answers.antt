@@ -1,4 +1,4 @@
-use Rattle.std.proofs.Common.{length, sym, ◌∙◌, refl}
+use Rattle.std.proofs.Common.{length, ◌∙◌, refl}
 use Rattle.atom_solver.specs.Lifted.{lifted_at}
 use Rattle.atom_solver.proofs.Listing.{length-listed}
 use Rattle.atom_solver.proofs.parts.Parts.add_side.Goals as goal

@@ -1,8 +1,3 @@
-use Rattle.std.proofs.Common.{◌≡◌, ◌-◌, ◌≤◌, ◌<◌, length, get_or, ap, sym, subst, ◌∙◌, arith}
-use Rattle.hinted_log.specs.Logs.{LogState, IsStepOf, no_step}
-use Rattle.atom_solver.specs.Lifted.{lifted_at}
-use Rattle.atom_solver.proofs.Listing.{length-listed}
-use Rattle.atom_solver.proofs.Lifting.{room_at}
 use Rattle.atom_solver.proofs.Reading.{step_named, clause_read}
 use Rattle.atom_solver.proofs.parts.Parts.clause.Goals as goal
 

@@ -1,6 +1,5 @@
 use Rattle.std.proofs.Common.{sym, subst}
 use Rattle.oracle_face.specs.Growing.{Obliges}
-use Rattle.oracle_face.specs.Logs.{OracleLog}
 use Rattle.atom_solver.specs.Inner.{state_of}
 use Rattle.atom_solver.specs.Lifted.{log_over}
 use Rattle.atom_solver.proofs.Obliging.{obliged_found, added_guarded, added_obliges, added_run}

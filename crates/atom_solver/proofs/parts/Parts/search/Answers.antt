@@ -1,6 +1,4 @@
-use Rattle.std.proofs.Common.{ap, sym, subst}
-use Rattle.oracle_face.specs.Logs.{OracleLog}
-use Rattle.atom_solver.specs.Inner.{state_of}
+use Rattle.std.proofs.Common.{sym, subst}
 use Rattle.atom_solver.specs.States.{AtomState, IsGuardedLog}
 use Rattle.atom_solver.proofs.Assuming.{assumed_plain}
 use Rattle.atom_solver.proofs.parts.Parts.search.Goals as goal

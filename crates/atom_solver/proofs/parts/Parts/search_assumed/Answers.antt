@@ -1,10 +1,6 @@
-use Rattle.std.proofs.Common.{◌≡◌, ◌≢◌, List, sym, subst, Ok, Err}
-use Rattle.std.specs.Prelude.{Some, Result}
-use Rattle.plain_lits.specs.declared.lit.Lit.{Lit}
-use Rattle.plain_lits.specs.declared.halt.Halt.{Halt}
+use Rattle.std.proofs.Common.{sym, subst}
+use Rattle.std.specs.Prelude.{Some}
 use Rattle.plain_lits.specs.declared.halt.Halt.TheVariants.{Memory}
-use Rattle.sat_core.specs.declared.answer.Solved.{Solved}
-use Rattle.sat_core.specs.Solving.{HasSearched}
 use Rattle.oracle_face.specs.Growing.{HasRun, NoSide}
 use Rattle.oracle_face.specs.Logs.{OracleLog}
 use Rattle.atom_solver.specs.States.{IsGuardedLog}

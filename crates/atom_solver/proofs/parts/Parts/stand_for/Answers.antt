@@ -1,7 +1,3 @@
-use Rattle.std.proofs.Common.{◌≡◌, List, [], subst, ◌∙◌, Ok, Err}
-use Rattle.plain_lits.specs.declared.lit.Lit.{Lit}
-use Rattle.plain_lits.specs.Literals.{IsClauseOf}
-use Rattle.atom_solver.specs.Tables.{AddsLits}
 use Rattle.atom_solver.proofs.Giving.{stands_if}
 use Rattle.atom_solver.proofs.Running.{whole_grown, state_grown}
 use Rattle.atom_solver.proofs.parts.Parts.stand_for.Goals as goal

@@ -1,4 +1,4 @@
-use Rattle.std.proofs.Common.{sym, subst}
+use Rattle.std.proofs.Common.{subst}
 use Rattle.std.specs.Prelude.{◌≡◌, length}
 use Rattle.hinted_log.proofs.Proofs.{not_so}
 use Rattle.sat_core.specs.Solving.{SolverState}

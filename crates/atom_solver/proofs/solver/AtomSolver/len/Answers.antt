@@ -1,4 +1,4 @@
-use Rattle.std.proofs.Common.{◌≡◌, ◌≤◌, length, sym, subst, ◌∙◌, ap, arith}
+use Rattle.std.proofs.Common.{length, sym, ◌∙◌, ap, arith}
 use Rattle.hinted_log.specs.Logs.{LogState}
 use Rattle.atom_solver.specs.Lifted.{lifted_at}
 use Rattle.atom_solver.proofs.Listing.{length-listed}
