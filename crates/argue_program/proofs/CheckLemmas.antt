@@ -32,7 +32,7 @@ use Rattle.argue_program.specs.declared.ended.Cause.TheVariants as cause
 use Rattle.argue_program.specs.declared.ended.Limit.TheVariants as limit
 use Rattle.argue_program.specs.declared.ended.Refusal.TheVariants.{Line, Query}
 use Rattle.argue_program.specs.declared.ended.Status.{Status}
-use Rattle.argue_program.specs.declared.ended.Status.TheVariants.{Done, Usage, InputRefused, ReadFault, WriteFault, WantOfMemory, Limit, Rejected}
+use Rattle.argue_program.specs.declared.ended.Status.TheVariants.{Done, Usage, InputRefused, ReadFault, WriteFault, WantOfMemory, Unknown, Limit, Rejected}
 
 -- ---- reading
 
@@ -43,6 +43,7 @@ follow_unrefused found more (InputRefused refusal) h = absurd h
 follow_unrefused found more (ReadFault of) h = tt
 follow_unrefused found more WriteFault h = tt
 follow_unrefused found more WantOfMemory h = tt
+follow_unrefused found more Unknown h = tt
 follow_unrefused found more (Limit l) h = tt
 follow_unrefused found more (Rejected failure refutation step) h = tt
 
@@ -54,6 +55,7 @@ passes_unrefused found one (InputRefused refusal) h r = absurd h
 passes_unrefused found one (ReadFault of) h r = r
 passes_unrefused found one WriteFault h r = r
 passes_unrefused found one WantOfMemory h r = r
+passes_unrefused found one Unknown h r = r
 passes_unrefused found one (Limit l) h r = r
 passes_unrefused found one (Rejected failure refutation step) h r = r
 
@@ -78,6 +80,9 @@ still_stops h S S' c n one (InputRefused (Query fault)) still stops = absurd sto
 still_stops h S S' c n one (ReadFault of) still stops =
     (stops.0, record { counted = stops.1.counted; unserved = λ served. stops.1.unserved (still one.file served) })
 still_stops h S S' c n one (Limit limit.Input) still stops = stops
+still_stops h S S' c n one (Limit limit.Extensions) still stops = absurd stops
+still_stops h S S' c n one (Limit limit.Log) still stops = absurd stops
+still_stops h S S' c n one Unknown still stops = absurd stops
 still_stops h S S' c n one Done still stops = absurd stops
 still_stops h S S' c n one Usage still stops = absurd stops
 still_stops h S S' c n one WriteFault still stops = absurd stops
@@ -171,6 +176,7 @@ text_stops found texts bytes (InputRefused (Line of line c)) has (inr (inr third
     ))
 text_stops found texts bytes (InputRefused (Query fault)) has is = absurd is
 text_stops found texts bytes WantOfMemory has is = inr refl
+text_stops found texts bytes Unknown has is = absurd is
 text_stops found texts bytes Done has is = absurd is
 text_stops found texts bytes Usage has is = absurd is
 text_stops found texts bytes (ReadFault of) has is = absurd is
@@ -191,6 +197,7 @@ not_done_told (InputRefused refusal) other = refl
 not_done_told (ReadFault of) other = refl
 not_done_told WriteFault other = refl
 not_done_told WantOfMemory other = refl
+not_done_told Unknown other = refl
 not_done_told (Limit l) other = refl
 not_done_told (Rejected failure refutation step) other = refl
 

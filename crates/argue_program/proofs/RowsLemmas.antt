@@ -13,12 +13,13 @@ use Rattle.argue_program.specs.Checks.{ChecksFiles, EndsChecking}
 use Rattle.argue_program.specs.Queries.{asked_by, solving_by}
 use Rattle.argue_program.specs.Solves.{EndsSolving, SolvesFile}
 use Rattle.argue_program.specs.declared.query.Solving.{Solving}
+use Rattle.argue_program.specs.declared.ended.Limit.TheVariants as bound
 use Rattle.argue_program.specs.declared.ended.Refusal.TheVariants.{Line, Query}
 use Rattle.oracle_core.specs.declared.reply.Answered.{Answered}
 use Rattle.argue_program.specs.Texts.{IsRefusal, common_text, text_bytes}
 use Rattle.argue_program.specs.declared.decision.Ending.{Ending}
 use Rattle.argue_program.specs.declared.ended.Status.{Status}
-use Rattle.argue_program.specs.declared.ended.Status.TheVariants.{Done, Usage, InputRefused, ReadFault, WriteFault, WantOfMemory, Limit, Rejected}
+use Rattle.argue_program.specs.declared.ended.Status.TheVariants.{Done, Usage, InputRefused, ReadFault, WriteFault, WantOfMemory, Unknown, Limit, Rejected}
 use Rattle.argue_program.specs.declared.ended.Transcript.{Transcript}
 
 -- ---- a run with one input
@@ -33,6 +34,7 @@ follow_none found Usage = tt
 follow_none found (ReadFault role) = tt
 follow_none found WriteFault = tt
 follow_none found WantOfMemory = tt
+follow_none found Unknown = tt
 follow_none found (Limit limit) = tt
 follow_none found (Rejected failure refutation step) = tt
 
@@ -46,6 +48,7 @@ common_text-reading found one Usage h = refl
 common_text-reading found one (InputRefused refusal) h = refl
 common_text-reading found one (ReadFault role) h = refl
 common_text-reading found one WantOfMemory h = refl
+common_text-reading found one Unknown h = refl
 common_text-reading found one (Limit limit) h = refl
 common_text-reading found one Done (inl stops) = absurd stops
 common_text-reading found one Done (inr memory) = cc
@@ -63,6 +66,7 @@ no_read_fault Usage h role = absurd h
 no_read_fault (ReadFault other) h role = absurd h
 no_read_fault WriteFault h role = absurd h
 no_read_fault WantOfMemory h role = absurd h
+no_read_fault Unknown h role = absurd h
 no_read_fault (Limit limit) h role = absurd h
 
 module _ (found : Reading) (row : Row) (ending : Ending) (end : Status) where
@@ -204,7 +208,10 @@ solve_cause found query texts (InputRefused (Query fault)) ends = inr (refl, end
 solve_cause found query texts (InputRefused (Line of line c)) ends =
     inl (refl, inl (inl (ends, follow_none found (InputRefused (Line of line c)))))
 solve_cause found query texts (ReadFault of) ends = inl (refl, inl (inl (ends, tt)))
-solve_cause found query texts (Limit limit) ends = inl (refl, inl (inl (ends, tt)))
+solve_cause found query texts Unknown ends = inr (refl, ends)
+solve_cause found query texts (Limit bound.Input) ends = inl (refl, inl (inl (ends, tt)))
+solve_cause found query texts (Limit bound.Extensions) ends = inr (refl, ends)
+solve_cause found query texts (Limit bound.Log) ends = inr (refl, ends)
 solve_cause found query texts WantOfMemory ends = inl (refl, inr (refl, refl))
 solve_cause found query texts Done ends = absurd ends
 solve_cause found query texts Usage ends = absurd ends
@@ -218,6 +225,7 @@ common_text-solving found query file (InputRefused refusal) ends = refl
 common_text-solving found query file (ReadFault of) ends = refl
 common_text-solving found query file (Limit limit) ends = refl
 common_text-solving found query file WantOfMemory ends = refl
+common_text-solving found query file Unknown ends = refl
 common_text-solving found query file Done ends = absurd ends
 common_text-solving found query file Usage ends = refl
 common_text-solving found query file WriteFault ends = refl
@@ -229,7 +237,10 @@ pub EndsSolving-reading : (found : Reading) (query : Solving) (file : List ℕ) 
 EndsSolving-reading found query file (InputRefused (Line of line c)) (inl stops) = stops
 EndsSolving-reading found query file (InputRefused (Query fault)) (inl stops) = absurd stops
 EndsSolving-reading found query file (ReadFault of) (inl stops) = stops
-EndsSolving-reading found query file (Limit limit) (inl stops) = stops
+EndsSolving-reading found query file Unknown (inl stops) = absurd stops
+EndsSolving-reading found query file (Limit bound.Input) (inl stops) = stops
+EndsSolving-reading found query file (Limit bound.Extensions) (inl stops) = absurd stops
+EndsSolving-reading found query file (Limit bound.Log) (inl stops) = absurd stops
 EndsSolving-reading found query file WantOfMemory h = tt
 EndsSolving-reading found query file Done (inl stops) = stops
 EndsSolving-reading found query file Usage (inl stops) = stops
@@ -237,6 +248,7 @@ EndsSolving-reading found query file WriteFault (inl stops) = stops
 EndsSolving-reading found query file (Rejected failure r s) (inl stops) = stops
 EndsSolving-reading found query file (InputRefused refusal) (inr memory) = absurd (cc)
 EndsSolving-reading found query file (ReadFault of) (inr memory) = absurd (cc)
+EndsSolving-reading found query file Unknown (inr memory) = absurd (cc)
 EndsSolving-reading found query file (Limit limit) (inr memory) = absurd (cc)
 EndsSolving-reading found query file Done (inr memory) = absurd (cc)
 EndsSolving-reading found query file Usage (inr memory) = absurd (cc)

@@ -12,7 +12,7 @@ use Rattle.argue_program.specs.Inputs.{HasBytes, HasFirstFault, HasReadFault, In
 use Rattle.argue_program.specs.Rows.{EndsCommand, EndsSolved, FileText, HasNoInput, IsEndingOf, Row, check_row, file_text, files_beside, nothing_kept, problems_row, reply_files, row_of, solve_row, unknown_row, version_row}
 use Rattle.iccma_tasks.specs.Tasks.{Asked}
 use Rattle.argue_program.specs.Queries.{asked_by, solving_by}
-use Rattle.argue_program.specs.Solves.{SolvesFile}
+use Rattle.argue_program.specs.Solves.{RefusesBy, SolvesFile, StopsOn}
 use Rattle.argue_program.specs.declared.query.Solving.{Solving}
 use Rattle.edit_rules.specs.Fitting.{Fits, IsFaultOf}
 use Rattle.oracle_core.specs.declared.reply.Answered.{Answered}
@@ -39,7 +39,7 @@ use Rattle.argue_program.specs.declared.ended.Ended.{Ended}
 use Rattle.argue_program.specs.declared.ended.Limit.TheVariants as limit
 use Rattle.argue_program.specs.declared.ended.Refusal.TheVariants.{Line, Query}
 use Rattle.argue_program.specs.declared.ended.Status.{Status}
-use Rattle.argue_program.specs.declared.ended.Status.TheVariants.{Done, Usage, InputRefused, ReadFault, WriteFault, WantOfMemory, Limit, Rejected}
+use Rattle.argue_program.specs.declared.ended.Status.TheVariants.{Done, Usage, InputRefused, ReadFault, WriteFault, WantOfMemory, Unknown, Limit, Rejected}
 use Rattle.argue_program.specs.declared.ended.Transcript.{Transcript}
 use Rattle.num_text.specs.declared.limit.TheConstants.{INPUT_LIMIT}
 
@@ -165,6 +165,30 @@ module _ (found : Reading) (words : List (List ℕ)) (texts : SolveTexts) (query
       not_unread (inl stops) = no_read_fault found words texts query bytes asks stops.1
       not_unread (inr (inl is)) = absurd (cc)
       not_unread (inr (inr none)) = none
+  refuses_bytes Unknown faulty short ends = not_unknown (ends (λ e. cc))
+    where
+      not_unknown : EndsQuery found texts query kept Unknown → ⊥
+      not_unknown (inl stops) = stops
+      not_unknown (inr (inl is)) = absurd (cc)
+      not_unknown (inr (inr (nothing, on))) =
+          readable_or_faulty bytes
+          (framework_reads (found.holds texts.file) bytes on.framework asks.known on.of_framework) faulty
+  refuses_bytes (Limit limit.Extensions) faulty short ends = not_many (ends (λ e. cc))
+    where
+      not_many : EndsQuery found texts query kept (Limit limit.Extensions) → ⊥
+      not_many (inl stops) = stops
+      not_many (inr (inl is)) = absurd (cc)
+      not_many (inr (inr (nothing, on))) =
+          readable_or_faulty bytes
+          (framework_reads (found.holds texts.file) bytes on.framework asks.known on.of_framework) faulty
+  refuses_bytes (Limit limit.Log) faulty short ends = not_full (ends (λ e. cc))
+    where
+      not_full : EndsQuery found texts query kept (Limit limit.Log) → ⊥
+      not_full (inl stops) = stops
+      not_full (inr (inl is)) = absurd (cc)
+      not_full (inr (inr (nothing, on))) =
+          readable_or_faulty bytes
+          (framework_reads (found.holds texts.file) bytes on.framework asks.known on.of_framework) faulty
   refuses_bytes WriteFault faulty short ends = tt
   refuses_bytes WantOfMemory faulty short ends = tt
   refuses_bytes (Limit limit.Input) faulty short ends = not_longer (ends (λ e. cc))
@@ -222,6 +246,33 @@ module _ (found : Reading) (words : List (List ℕ)) (texts : SolveTexts) (query
       not_unread (inl stops) = no_read_fault found words texts query bytes asks stops.1
       not_unread (inr (inl is)) = absurd (cc)
       not_unread (inr (inr none)) = none
+  refuses_length Unknown long ends = not_unknown (ends (λ e. cc))
+    where
+      not_unknown : EndsQuery found texts query kept Unknown → ⊥
+      not_unknown (inl stops) = stops
+      not_unknown (inr (inl is)) = absurd (cc)
+      not_unknown (inr (inr (nothing, on))) =
+          let of = on.of_framework in
+          let short = within_at (found.holds texts.file) bytes of.bytes asks.known of.has in
+          absurd (omega arith)
+  refuses_length (Limit limit.Extensions) long ends = not_many (ends (λ e. cc))
+    where
+      not_many : EndsQuery found texts query kept (Limit limit.Extensions) → ⊥
+      not_many (inl stops) = stops
+      not_many (inr (inl is)) = absurd (cc)
+      not_many (inr (inr (nothing, on))) =
+          let of = on.of_framework in
+          let short = within_at (found.holds texts.file) bytes of.bytes asks.known of.has in
+          absurd (omega arith)
+  refuses_length (Limit limit.Log) long ends = not_full (ends (λ e. cc))
+    where
+      not_full : EndsQuery found texts query kept (Limit limit.Log) → ⊥
+      not_full (inl stops) = stops
+      not_full (inr (inl is)) = absurd (cc)
+      not_full (inr (inr (nothing, on))) =
+          let of = on.of_framework in
+          let short = within_at (found.holds texts.file) bytes of.bytes asks.known of.has in
+          absurd (omega arith)
   refuses_length WriteFault long ends = tt
   refuses_length WantOfMemory long ends = tt
   refuses_length (Limit limit.Input) long ends = tt
@@ -261,6 +312,8 @@ refuses_words found kept (Rejected failure r s) ends =
     absurd (ends_unknown found kept (Rejected failure r s) (λ e. cc) (λ e. cc) (ends (λ e. cc)))
 refuses_words found kept WriteFault ends = tt
 refuses_words found kept WantOfMemory ends = tt
+refuses_words found kept Unknown ends =
+    absurd (ends_unknown found kept Unknown (λ e. cc) (λ e. cc) (ends (λ e. cc)))
 refuses_words found kept (Limit l) ends =
     absurd (ends_unknown found kept (Limit l) (λ e. cc) (λ e. cc) (ends (λ e. cc)))
 
@@ -311,6 +364,9 @@ no_stop found one P sound has (Limit limit.Input) stops =
     let long = longer_at (found.holds one.file) has.bytes has.known stops in
     let short = has.within in
     omega arith
+no_stop found one P sound has (Limit limit.Extensions) stops = stops
+no_stop found one P sound has (Limit limit.Log) stops = stops
+no_stop found one P sound has Unknown stops = stops
 no_stop found one P sound has Done stops = stops
 no_stop found one P sound has Usage stops = stops
 no_stop found one P sound has WriteFault stops = stops
@@ -325,6 +381,7 @@ check_end f asked answer certificate (InputRefused refusal) ends = ends
 check_end f asked answer certificate (ReadFault r) ends = ends
 check_end f asked answer certificate WriteFault ends = tt
 check_end f asked answer certificate WantOfMemory ends = tt
+check_end f asked answer certificate Unknown ends = ends
 check_end f asked answer certificate (Limit l) ends = ends
 check_end f asked answer certificate (Rejected failure r s) ends = ends
 
@@ -385,6 +442,9 @@ module _ (found : Reading) (words : List (List ℕ)) (texts : SolveTexts) (query
       ReadsAs-same has.bytes g f
       (subst (λ bs. ReadsAs bs g) (bytes_at (found.holds texts.file) has.bytes is.bytes has.known is.has) is.reads) has.reads
 
+  stops_here : (end : Status) → StopsOn (found.holds texts.file) query end → RefusesBy (af f) query end
+  stops_here end on = subst (λ g. RefusesBy (af g) query end) (same_read on.framework on.of_framework) on.stops
+
   solved_end : (kept : Transcript) (end : Status) → EndsSolved (found.holds texts.file) query kept end
       → IsSolveEnd f query end
   solved_end kept Done (reply, keeps, solves) =
@@ -396,7 +456,10 @@ module _ (found : Reading) (words : List (List ℕ)) (texts : SolveTexts) (query
   solved_end kept (ReadFault r) none = none
   solved_end kept WriteFault none = tt
   solved_end kept WantOfMemory none = tt
-  solved_end kept (Limit l) none = none
+  solved_end kept Unknown (nothing, on) = stops_here Unknown on
+  solved_end kept (Limit limit.Input) none = none
+  solved_end kept (Limit limit.Extensions) (nothing, on) = stops_here (Limit limit.Extensions) on
+  solved_end kept (Limit limit.Log) (nothing, on) = stops_here (Limit limit.Log) on
   solved_end kept (Rejected failure r s) none = none
 
   pub ends_solve : (kept : Transcript) (end : Status) → EndsQuery found texts query kept end → IsSolveEnd f query end
@@ -479,6 +542,7 @@ write_fault_or Usage = inr (λ e. cc)
 write_fault_or (InputRefused refusal) = inr (λ e. cc)
 write_fault_or (ReadFault r) = inr (λ e. cc)
 write_fault_or WantOfMemory = inr (λ e. cc)
+write_fault_or Unknown = inr (λ e. cc)
 write_fault_or (Limit l) = inr (λ e. cc)
 write_fault_or (Rejected failure r s) = inr (λ e. cc)
 
@@ -537,7 +601,13 @@ right_solved found words texts query kept Usage reply asks query_is none is = ab
 right_solved found words texts query kept (ReadFault r) reply asks query_is none is = absurd none
 right_solved found words texts query kept WriteFault reply asks query_is none is = absurd none
 right_solved found words texts query kept WantOfMemory reply asks query_is none is = absurd none
-right_solved found words texts query kept (Limit l) reply asks query_is none is = absurd none
+right_solved found words texts query kept Unknown reply asks query_is (nothing, on) is =
+    none_kept found words kept reply nothing is
+right_solved found words texts query kept (Limit limit.Input) reply asks query_is none is = absurd none
+right_solved found words texts query kept (Limit limit.Extensions) reply asks query_is (nothing, on) is =
+    none_kept found words kept reply nothing is
+right_solved found words texts query kept (Limit limit.Log) reply asks query_is (nothing, on) is =
+    none_kept found words kept reply nothing is
 right_solved found words texts query kept (Rejected failure r s) reply asks query_is none is = absurd none
 
 right_by : (found : Reading) (words : List (List ℕ)) (texts : SolveTexts) (by : Option Solving) (kept : Transcript)
@@ -570,6 +640,7 @@ no_files files (InputRefused refusal) other = refl
 no_files files (ReadFault r) other = refl
 no_files files WriteFault other = refl
 no_files files WantOfMemory other = refl
+no_files files Unknown other = refl
 no_files files (Limit l) other = refl
 no_files files (Rejected failure r s) other = refl
 

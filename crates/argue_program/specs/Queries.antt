@@ -5,10 +5,11 @@ use Rattle.std.specs.Str.{bytes_eq}
 use Rattle.num_text.specs.Number.{digits_value}
 use Rattle.iccma_tasks.specs.declared.task.Problem.{Problem}
 use Rattle.iccma_tasks.specs.declared.task.Problem.TheVariants.{Credulous, Sceptical, SomeExtension, AllExtensions}
+use Rattle.iccma_tasks.specs.declared.task.Semantics.{Semantics}
+use Rattle.iccma_tasks.specs.declared.task.Semantics.TheVariants.{SemiStable}
 use Rattle.iccma_tasks.specs.declared.task.Task.{Task}
 use Rattle.iccma_tasks.specs.Tasks.{Asked, all_tasks, task_name}
 use Rattle.argue_words.specs.Words.{SolveTexts}
-use Rattle.oracle_core.specs.Answers.{is_by_grounded}
 use Rattle.argue_program.specs.declared.query.Solving.{Solving}
 use Rattle.argue_program.specs.declared.query.TheConstants.{DEFAULT_BUDGET}
 
@@ -55,9 +56,14 @@ asked_by task number = asked_of (first_named all_tasks task) number
 
 -- ---- what the program solves
 
--- the tasks that need no search
+-- all but whether some semi-stable set accepts an argument, and whether each does
+abbrev pub is_solved_by : Problem → Semantics → Bool
+is_solved_by Credulous SemiStable = false
+is_solved_by Sceptical SemiStable = false
+is_solved_by problem semantics = true
+
 abbrev pub is_solved : Task → Bool
-is_solved task = is_by_grounded task.problem task.semantics
+is_solved task = is_solved_by task.problem task.semantics
 
 -- the names of the tasks that the program solves, in the order of all tasks, with commas between, in brackets, and LF
 abbrev pub problems_text : List ℕ

@@ -13,14 +13,15 @@ use Rattle.argue_words.specs.Words.{CheckTexts, Request, version, problems, solv
 use Rattle.iccma_tasks.specs.Tasks.{Asked}
 use Rattle.argue_program.specs.Checks.{ChecksFiles, check_inputs}
 use Rattle.argue_program.specs.Queries.{asked_by, problems_text, solving_by}
-use Rattle.argue_program.specs.Solves.{RefusesQuery, SolvesFile}
+use Rattle.argue_program.specs.Solves.{RefusesQuery, SolvesFile, StopsOn}
 use Rattle.argue_program.specs.declared.query.Solving.{Solving}
 use Rattle.argue_program.specs.declared.ended.Refusal.TheVariants.{Query}
 use Rattle.argue_program.specs.Inputs.{Input, Reading, StopsAtFirst, input}
 use Rattle.argue_program.specs.Texts.{common_text, text_bytes}
 use Rattle.argue_program.specs.declared.decision.Ending.{Ending}
+use Rattle.argue_program.specs.declared.ended.Limit.TheVariants as limit
 use Rattle.argue_program.specs.declared.ended.Status.{Status}
-use Rattle.argue_program.specs.declared.ended.Status.TheVariants.{Done, Usage, InputRefused, ReadFault, WantOfMemory}
+use Rattle.argue_program.specs.declared.ended.Status.TheVariants.{Done, Usage, InputRefused, ReadFault, WantOfMemory, Limit, Unknown}
 use Rattle.argue_program.specs.declared.ended.Transcript.{Transcript}
 use Rattle.argue_program.specs.declared.writing.Written.{Written}
 
@@ -51,10 +52,15 @@ EndsDone kept end = (kept ≡ nothing_kept) × (end ≡ Done)
 abbrev pub EndsUnasked : Transcript → Status → Type 0
 EndsUnasked kept end = (kept ≡ nothing_kept) × (end ≡ Usage)
 
--- it is done, and keeps the answer to the query; or the query is refused, and it keeps nothing
+-- it is done, and keeps the answer to the query; or the query is refused, the budget was spent or a bound was met, and it
+-- keeps nothing
 abbrev pub EndsSolved : KnownFile → Solving → Transcript → Status → Type 0
 EndsSolved known query kept Done = (reply : Answered) × (kept.reply ≡ Some reply) × SolvesFile known query reply
 EndsSolved known query kept (InputRefused (Query fault)) = (kept ≡ nothing_kept) × RefusesQuery known query fault
+EndsSolved known query kept Unknown = (kept ≡ nothing_kept) × StopsOn known query Unknown
+EndsSolved known query kept (Limit limit.Extensions) =
+    (kept ≡ nothing_kept) × StopsOn known query (Limit limit.Extensions)
+EndsSolved known query kept (Limit limit.Log) = (kept ≡ nothing_kept) × StopsOn known query (Limit limit.Log)
 EndsSolved known query kept _ = ⊥
 
 -- the text of the answer that is kept

@@ -72,6 +72,8 @@ rejection_text failure refutation step =
 -- the line of a bound that was met
 abbrev pub limit_text : Limit → List ℕ
 limit_text limit.Input = codes "error: limit input\n"
+limit_text limit.Extensions = codes "error: limit extensions\n"
+limit_text limit.Log = codes "error: limit log\n"
 
 -- the text of a status that says the same in every command; a run that is done writes what its command says
 abbrev pub common_text : Status → Option (List ℕ)
@@ -81,6 +83,7 @@ common_text (status.InputRefused refusal) = Some (refusal_text refusal)
 common_text (status.ReadFault role) = Some (codes "error: read " ++ role_text role ++ codes "\n")
 common_text status.WriteFault = Some []
 common_text status.WantOfMemory = Some []
+common_text status.Unknown = Some (codes "UNKNOWN\n")
 common_text (status.Limit limit) = Some (limit_text limit)
 common_text (status.Rejected failure refutation step) = Some (rejection_text failure refutation step)
 

@@ -22,7 +22,10 @@ use plain_lists::{Items, Memory};
 use std::alloc::Global;
 
 /// The line of `--problems`.
-const PROBLEMS: &str = "[DC-GR,DS-CO,DS-GR,SE-CO,SE-GR]\n";
+const PROBLEMS: &str = concat!(
+    "[DC-CO,DC-GR,DC-PR,DC-ST,DC-ID,DS-CO,DS-GR,DS-PR,DS-ST,DS-ID,",
+    "SE-CO,SE-GR,SE-PR,SE-ST,SE-SST,SE-ID,EE-CO,EE-PR,EE-ST,EE-SST]\n",
+);
 
 /// How a run ends, what it keeps, and what it has to write: its files first, each cleared before, and then its
 /// text.

@@ -36,6 +36,10 @@ pub enum Refusal {
 pub enum Limit {
     /// An input has more than `INPUT_LIMIT` bytes.
     Input,
+    /// There are more than `EXTENSION_LIMIT` extensions.
+    Extensions,
+    /// The log of the search has `LOG_LIMIT` steps.
+    Log,
 }
 
 /// How a run ended, as its exit status says it.
@@ -53,6 +57,8 @@ pub enum Status {
     WriteFault,
     /// Memory was refused.
     WantOfMemory,
+    /// The budget of new clauses was spent.
+    Unknown,
     /// A bound was met.
     Limit(Limit),
     /// The certificate isn't accepted for the answer: why, and the numbers of the refutation and of the step or the set.
@@ -71,6 +77,7 @@ impl Status {
             Status::ReadFault(_) => 3,
             Status::WriteFault => 4,
             Status::WantOfMemory => 5,
+            Status::Unknown => 6,
             Status::Limit(_) => 7,
             Status::Rejected(_, _, _) => 8,
         }

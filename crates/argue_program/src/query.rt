@@ -4,16 +4,20 @@ ghost use Rattle.std.specs.Prelude.{◌≡◌};
 ghost use Rattle.std.specs.Option.{option_map};
 ghost use Rattle.argue_words.specs.Words.{solve_texts};
 ghost use Rattle.iccma_tasks.specs.Tasks.{all_tasks};
-ghost use Rattle.oracle_core.specs.Answers.{is_by_grounded};
-ghost use Rattle.argue_program.specs.Queries.{asked_by, asked_with, budget_of, first_named, number_of, solving_by, solving_with};
+ghost use Rattle.argue_program.specs.Queries.{asked_by, asked_with, budget_of, first_named, is_solved, number_of, solving_by, solving_with};
 
 use argue_words::SolveWords;
-use iccma_tasks::{Query, Task};
+use iccma_tasks::{Problem, Query, Semantics, Task};
 use num_text::decimal;
-use oracle_core::is_by_grounded as needs_no_search;
 
 /// The units of a budget where none is given.
 pub const DEFAULT_BUDGET: u32 = 1_000_000;
+
+/// How many extensions are listed at most.
+pub const EXTENSION_LIMIT: u32 = 10_000;
+
+/// How many steps the log of a search has at most.
+pub const LOG_LIMIT: u64 = 50_000_000;
 
 /// A query to be solved, and the budget of units for its answer.
 #[derive(Debug, Drop)]
@@ -70,12 +74,22 @@ fn budget_in(text: Option<&str>) -> Option<u32>
     }
 }
 
+// Whether the program solves a task: all but whether some semi-stable set accepts an argument, and whether each does.
+fn solves(task: Task) -> bool
+    ensures { result ≡ is_solved task }
+{
+    match (task.problem, task.semantics) {
+        (Problem::Credulous | Problem::Sceptical, Semantics::SemiStable) => false,
+        _ => true,
+    }
+}
+
 // A query with a budget, where the program solves its task.
 fn with_budget(query: Query, budget: u32) -> Option<Solving>
     ensures { result ≡ solving_with (Some query) (Some budget) }
 {
     let task = query.task();
-    let solved = needs_no_search(task);
+    let solved = solves(task);
     if !solved {
         return None;
     }

@@ -7,36 +7,49 @@ ghost use Rattle.edit_rules.specs.Kinds.{framework_of};
 ghost use Rattle.argue_program.specs.Inputs.{reading};
 ghost use Rattle.argue_program.specs.Queries.{is_solved};
 ghost use Rattle.argue_program.specs.Rows.{certificate_files, file_text};
-ghost use Rattle.argue_program.specs.Solves.{EndsSolving, IsReplyTo, RefusesBy, SolvesFile};
+ghost use Rattle.argue_program.specs.Solves.{EndsSolving, IsReplyTo, RefusesBy, SolvesFile, status_after};
 ghost use Rattle.argue_program.specs.Texts.{common_text};
 
-use crate::ended::{Refusal, Status};
+use crate::ended::{Limit, Refusal, Status};
 use crate::input::read_framework;
-use crate::query::Solving;
+use crate::query::{EXTENSION_LIMIT, LOG_LIMIT, Solving};
 use crate::writing::Written;
 use argue_outside::{Files, Role};
 use argue_words::SolveWords;
 use certificate_claims::Certificate;
 use certificate_text::write_certificate;
-use edit_rules::{Framework, query_fits};
-use oracle_core::{Answered, answer_by_grounded};
+use edit_rules::Framework;
+use oracle_core::{AnswerStop, Answered, Engine};
 use plain_lists::{Items, Memory};
+use plain_lits::Budget;
 use std::alloc::Global;
 
-/// The answer to a query on a framework, or the status of the run that stops: the query doesn't fit the framework, or want
-/// of memory.
-fn answer(alloc: Global, framework: &Framework, solving: &Solving) -> Result<Answered, Status>
-    requires { is_solved solving.now.query.task ≡ true }
-    ensures ok { IfOk result (IsReplyTo (framework_of framework.now) solving.now) }
-    ensures err { IfErr result (RefusesBy (framework_of framework.now) solving.now) }
+/// The status of a run whose query has no answer for this reason.
+fn status_of(stop: AnswerStop) -> Status
+    ensures { result ≡ status_after stop }
 {
-    match query_fits(framework, &solving.query) {
-        Ok(()) => {}
-        Err(fault) => return Err(Status::InputRefused(Refusal::Query(fault))),
+    match stop {
+        AnswerStop::Query(fault) => Status::InputRefused(Refusal::Query(fault)),
+        AnswerStop::Spent(_) => Status::Unknown,
+        AnswerStop::TooMany => Status::Limit(Limit::Extensions),
+        AnswerStop::LogFull => Status::Limit(Limit::Log),
+        AnswerStop::Memory => Status::WantOfMemory,
     }
-    match answer_by_grounded(alloc, framework, &solving.query)? {
-        Some(reply) => Ok(reply),
-        None => unreachable!(),
+}
+
+/// The answer to a query on a framework, or the status of the run that stops.
+fn answer(alloc: Global, framework: Framework, solving: &Solving) -> Result<Answered, Status>
+    requires { is_solved solving.now.query.task ≡ true }
+    ensures ok { IfOk result (IsReplyTo (framework_of framework) solving.now) }
+    ensures err { IfErr result (RefusesBy (framework_of framework) solving.now) }
+{
+    let mut engine = Engine::new(alloc, 1, framework, LOG_LIMIT)?;
+    let mut budget = Budget::new(solving.budget as u64);
+    let end = engine.answer(alloc, &solving.query, &mut budget, EXTENSION_LIMIT);
+    let _spent = budget.used();
+    match end {
+        Ok(reply) => Ok(reply),
+        Err(stop) => Err(status_of(stop)),
     }
 }
 
@@ -83,5 +96,5 @@ pub(crate) fn solve_file<F: Files>(
         Err(status) => return Err(status),
     };
     let framework = Framework::Af(plain);
-    answer(alloc, &framework, solving)
+    answer(alloc, framework, solving)
 }

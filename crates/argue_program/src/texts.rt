@@ -95,6 +95,8 @@ fn limit_line(limit: Limit) -> &'static str
 {
     match limit {
         Limit::Input => "error: limit input\n",
+        Limit::Extensions => "error: limit extensions\n",
+        Limit::Log => "error: limit log\n",
     }
 }
 
@@ -149,6 +151,7 @@ pub fn status_text(alloc: Global, status: Status) -> Result<Text, Memory>
             alloc, failure, refutation, step,
         )?)),
         Status::ReadFault(role) => Ok(Text::Fixed(read_line(role))),
+        Status::Unknown => Ok(Text::Fixed("UNKNOWN\n")),
         Status::Limit(limit) => Ok(Text::Fixed(limit_line(limit))),
         Status::Done | Status::WriteFault | Status::WantOfMemory => Ok(Text::Fixed("")),
     }

@@ -1,10 +1,11 @@
 -- What it leaves that a side clause is kept, or was there.
-use Rattle.std.proofs.Common.{◌≡◌, ℕ, ◌+◌, ◌-◌, List, [], ◌∷◌, ◌++◌, length, take, get_or, ap, sym, subst, ◌∙◌, refl, arith, ⊎_elim, Bool}
+use Rattle.std.proofs.Common.{◌≡◌, ℕ, ◌+◌, ◌-◌, List, [], ◌∷◌, ◌++◌, length, take, get_or, ap, sym, subst, ◌∙◌, refl, arith, inl, inr, ⊎_elim, Bool}
 use Rattle.std.specs.Prelude.{count_by, slice_index_or, Option, Some, Result, Ok, Err, IfOk, IfErr, OnOk, OnErr}
 use Rattle.std.proofs.Math.Seq.{take-append_seam}
 use Rattle.std.proofs.lemmas.List.{length_push, get_or_push}
 use Rattle.std.proofs.lemmas.List.Elements.{Contains-append_right}
 use Rattle.plain_lists.proofs.Membership.{Contains-head, Contains-cons_cases}
+use Rattle.plain_lits.specs.HintCheck.{IsTautology}
 use Rattle.plain_lits.specs.Units.{Units}
 use Rattle.plain_lits.specs.declared.halt.Halt.{Halt}
 use Rattle.plain_lits.specs.declared.halt.Halt.TheVariants.{Spent, LogFull, Memory}
@@ -13,8 +14,8 @@ use Rattle.semantics.specs.Frameworks.{Framework, af}
 use Rattle.meaning_atoms.specs.declared.atom.Atom.{Atom}
 use Rattle.meaning_atoms.specs.declared.atom.Atom.TheVariants.{Live, Attack, Gap, Ask}
 use Rattle.meaning_atoms.specs.declared.atom.AtomLit.{AtomLit}
-use Rattle.meaning_atoms.specs.Literals.{denied, negated, AsksNothing}
-use Rattle.meaning_atoms.specs.Worlds.{IsAsk, IsFact}
+use Rattle.meaning_atoms.specs.Literals.{denied, negated}
+use Rattle.meaning_atoms.specs.Worlds.{IsFact}
 use Rattle.oracle_face.specs.declared.face.Pending.{Pending}
 use Rattle.oracle_face.specs.declared.face.Pending.TheVariants.{Side as OfSide}
 use Rattle.oracle_face.specs.Goals.{IsSide, Tells}
@@ -32,10 +33,6 @@ use Rattle.atom_solver.proofs.Running.{unless_all}
 use Rattle.atom_solver.proofs.Siding.{same_literals}
 
 -- ---- what side clauses may say
-
-tells_no_ask : (atom : Atom) (positive : Bool) → Tells IsArgument atom positive → IsAsk atom → ⊥
-tells_no_ask (Ask n) positive t a = t
-tells_no_ask _ positive t a = absurd a
 
 tells_no_fact : (f : Framework) (atom : Atom) (positive : Bool) → Tells IsArgument atom positive → IsFact f atom → ⊥
 tells_no_fact (af g) (Live a) positive t h = t

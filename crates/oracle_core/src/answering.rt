@@ -1,6 +1,6 @@
 //! Answers to queries.
 
-ghost use Rattle.std.specs.Prelude.{◌≡◌, ◌+◌, ◌*◌, true, false, length, IfErr, IfOk};
+ghost use Rattle.std.specs.Prelude.{◌≡◌, ◌+◌, ◌*◌, true, false, length, IfErr, IfOk, OnOk};
 ghost use Rattle.edit_rules.specs.Fitting.{Fits};
 ghost use Rattle.oracle_face.specs.Growing.{HasRun};
 ghost use Rattle.session_log.specs.Ends.{MadeFor};
@@ -91,6 +91,7 @@ impl Engine {
     ) -> Result<Answered, AnswerStop>
         requires covered { IsCovered query.now.task }
         requires unused { budget.old.used ≡ 0 }
+        ensures fits { OnOk result (Fits self.old.framework query.now) }
         ensures shown { IfOk result (λ a. IsShownBy self.old.framework query.now a.answer a.certificate) }
         ensures units { IfOk result (λ a. a.units ≡ budget.new.used) }
         ensures cause { IfErr result (IsCause self.old.framework query.now limit) }
