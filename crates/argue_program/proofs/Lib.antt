@@ -3,3 +3,4 @@ pub mod RowsLemmas
 pub mod RunsLemmas
 pub mod WritingLemmas
 mod QueryLemmas
+pub mod SolveLemmas
