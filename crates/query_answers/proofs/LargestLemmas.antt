@@ -1,0 +1,143 @@
+-- Answers by preferred sets.
+use Rattle.std.proofs.Common.{◌≡◌, ℕ, List, [], ◌∷◌, refl, sym, subst, arith}
+use Rattle.std.specs.Prelude.{Option, Some, None, slice_index_or}
+use Rattle.plain_lists.specs.Members.{IsWithin}
+use Rattle.plain_lists.proofs.Membership.{Contains-head}
+use Rattle.semantics.specs.Framework.{Af}
+use Rattle.semantics.specs.Frameworks.{Framework, af}
+use Rattle.semantics.proofs.Existence.{empty_admissible}
+use Rattle.meaning_atoms.specs.declared.atom.Atom.TheVariants.{Ad}
+use Rattle.meaning_atoms.specs.Worlds.{HoldsOf}
+use Rattle.iccma_tasks.specs.declared.task.Problem.{Problem}
+use Rattle.iccma_tasks.specs.declared.task.Problem.TheVariants.{Credulous, Sceptical, SomeExtension, AllExtensions}
+use Rattle.iccma_tasks.specs.declared.task.Semantics.{Semantics}
+use Rattle.iccma_tasks.specs.declared.task.Semantics.TheVariants.{Complete, Preferred}
+use Rattle.iccma_tasks.specs.declared.task.Task.{Task}
+use Rattle.iccma_tasks.specs.Tasks.{Asked, FitsTask, task_of}
+use Rattle.certificate_claims.specs.declared.row.Row.TheVariants.{Covered, Largest}
+use Rattle.certificate_claims.specs.SetLiterals.{members}
+use Rattle.oracle_face.specs.declared.face.Found.{Found}
+use Rattle.oracle_face.specs.declared.face.Found.TheVariants.{Set, Refuted}
+use Rattle.oracle_face.specs.Growing.{IsFound}
+use Rattle.oracle_face.specs.Logs.{OracleLog}
+use Rattle.edit_rules.specs.Fitting.{Fits}
+use Rattle.goal_lists.specs.Asking.{goals_of}
+use Rattle.goal_lists.proofs.Calls.{found_in, found_mode}
+use Rattle.cegar_preferred.specs.declared.accepting.Accepting.{Accepting}
+use Rattle.cegar_preferred.specs.declared.accepting.Accepting.TheVariants.{Counter, Cover}
+use Rattle.cegar_preferred.specs.declared.maximal.Maximal.{Maximal}
+use Rattle.cegar_preferred.specs.Covers.{IsAccepting, cover_claim}
+use Rattle.cegar_preferred.specs.Largest.{IsMaximalFrom, largest_claim}
+use Rattle.query_answers.specs.Answers.{AsksAbout, AsksBy, BeginsLargest, HoldsQuery, IsEvidence, IsOne}
+use Rattle.query_answers.specs.Forms.{evidence_of, evidence_with, sceptical_evidence}
+use Rattle.query_answers.proofs.ExcludedLemmas.{admissible_without, asked_about}
+use Rattle.query_answers.proofs.TestLemmas.{asked_of, index_there, refuted_one, tests_one}
+
+-- ---- the set begun with
+
+empty_of : (f : Framework) → HoldsOf f [] Ad
+empty_of (af f) = empty_admissible f
+
+pub empty_holds : (f : Framework) (set : List ℕ) → set ≡ [] → HoldsOf f set Ad
+empty_holds f set is = subst (λ (s : List ℕ). HoldsOf f s Ad) (sym is) (empty_of f)
+
+none_holds : (f : Framework) (problem : Problem) (number : Option ℕ) (set : List ℕ) → IsOne problem
+    → FitsTask problem number → number ≡ None → HoldsQuery f problem number set
+none_holds f SomeExtension None set one fits is = tt
+none_holds f Credulous None set one fits is = absurd fits
+none_holds f Sceptical None set one fits is = absurd fits
+none_holds f AllExtensions None set one fits is = absurd one
+none_holds f problem (Some q) set one fits is = absurd (cc)
+
+pub begins_empty : (f : Framework) (asked : Asked) (set : List ℕ) → AsksBy f asked Preferred
+    → FitsTask asked.task.problem asked.number → asked.number ≡ None → set ≡ [] → BeginsLargest f asked set
+begins_empty f asked set h fits none is = record {
+  same = h.same;
+  admissible = empty_holds f set is;
+  holds = none_holds f asked.task.problem asked.number set h.query.one fits none;
+}
+
+accepted : (f : Framework) (q : ℕ) (set : List ℕ) → IsWithin (q ∷ []) set
+    → HoldsQuery f Credulous (Some q) set
+accepted (af f) q set inside = inside q (Contains-head q [] q refl)
+
+begins_at : (f : Framework) (log : OracleLog) (q : ℕ) (set : List ℕ)
+    → IsFound f log (goals_of Ad (q ∷ []) [] [] []) (Set set)
+    → BeginsLargest f (asked_of Credulous Preferred (Some q)) set
+begins_at f log q set makes = record {
+  same = refl;
+  admissible = found_mode f log Ad (q ∷ []) [] [] [] set tt makes;
+  holds = accepted f q set (found_in f log Ad (q ∷ []) [] [] [] set makes);
+}
+
+pub begins_found : (f g : Framework) (log : OracleLog) (asked : Asked) (q : ℕ) (r : Found) (set : List ℕ) → g ≡ f
+    → r ≡ Set set → AsksAbout f asked Credulous Preferred q → IsFound f log (goals_of Ad (q ∷ []) [] [] []) r
+    → BeginsLargest g asked set
+begins_found f g log asked q r set same is h found =
+    subst (λ (x : Framework). BeginsLargest x asked set) (sym same)
+    (subst (λ (x : Asked). BeginsLargest f x set) (sym (asked_about f asked Credulous Preferred q h))
+    (begins_at f log q set (subst (IsFound f log (goals_of Ad (q ∷ []) [] [] [])) is found)))
+
+-- ---- one preferred set
+
+largest_with : (f : Framework) (log : OracleLog) (problem : Problem) (number : Option ℕ) (set : List ℕ)
+    (found : Maximal) → HoldsQuery f problem number set → IsMaximalFrom f log set found
+    → IsEvidence f (asked_of problem Preferred number) log (evidence_with problem found.set found.refutation)
+largest_with (af f) log Credulous (Some q) set found holds h = record {
+  tests = tests_one (af f) (asked_of Credulous Preferred (Some q)) (Largest found.set) found.set tt
+      (h.admissible, h.holds q holds) tt tt refl;
+  refuted = refuted_one (af f) log (largest_claim (af f) found.set) found.refutation h.refuted;
+}
+largest_with (af f) log SomeExtension None set found holds h = record {
+  tests = tests_one (af f) (asked_of SomeExtension Preferred None) (Largest found.set) found.set tt
+      (h.admissible, tt) tt tt refl;
+  refuted = refuted_one (af f) log (largest_claim (af f) found.set) found.refutation h.refuted;
+}
+largest_with f log _ _ set found holds h = absurd holds
+
+pub largest_evidence : (f : Framework) (log : OracleLog) (asked : Asked) (set : List ℕ) (found : Maximal)
+    → BeginsLargest f asked set → IsMaximalFrom f log set found
+    → IsEvidence f asked log (evidence_with asked.task.problem found.set found.refutation)
+largest_evidence f log asked set found h is =
+    subst (λ (s : Semantics). IsEvidence f (asked_of asked.task.problem s asked.number) log
+    (evidence_with asked.task.problem found.set found.refutation)) (sym h.same)
+    (largest_with f log asked.task.problem asked.number set found h.holds is)
+
+-- no admissible set accepts the query
+pub refuted_evidence : (f : Framework) (log : OracleLog) (asked : Asked) (q : ℕ) (r : Found) (step : ℕ)
+    → r ≡ Refuted step → AsksAbout f asked Credulous Preferred q
+    → IsFound f log (goals_of Ad (q ∷ []) [] [] []) r → IsEvidence f asked log (evidence_of Credulous (Refuted step))
+refuted_evidence f log asked q r step is h found =
+    subst (λ (x : Asked). IsEvidence f x log (evidence_of Credulous (Refuted step)))
+    (sym (asked_about f asked Credulous Preferred q h))
+    (admissible_without f log q step (subst (IsFound f log (goals_of Ad (q ∷ []) [] [] [])) is found)).1
+
+-- ---- each preferred set
+
+each_found : (f : Framework) (log : OracleLog) (q : ℕ) (accepting : Accepting) → IsAccepting f log q accepting
+    → IsEvidence f (asked_of Sceptical Preferred (Some q)) log (sceptical_evidence accepting)
+each_found (af f) log q (Counter found) h = record {
+  tests = tests_one (af f) (asked_of Sceptical Preferred (Some q)) (Largest found.set) found.set tt
+      (h.0.admissible, h.1) tt tt refl;
+  refuted = refuted_one (af f) log (largest_claim (af f) found.set) found.refutation h.0.refuted;
+}
+each_found (af f) log q (Cover sets step) h = record {
+  tests = record {
+    shape = tt;
+    witnesses = λ k lt. absurd (omega arith);
+    order = tt;
+    grounded = tt;
+    count = tt;
+    each_set = λ k lt.
+        let m = h.0 (slice_index_or sets k []) (index_there sets k lt) in (m.admissible, m.accepts);
+  };
+  refuted = refuted_one (af f) log (cover_claim (af f) q sets) step h.1;
+}
+
+pub sceptical_shown : (f : Framework) (log : OracleLog) (asked : Asked) (q : ℕ) (accepting : Accepting)
+    → AsksAbout f asked Sceptical Preferred q → IsAccepting f log q accepting
+    → IsEvidence f asked log (sceptical_evidence accepting)
+sceptical_shown f log asked q accepting h is =
+    subst (λ (x : Asked). IsEvidence f x log (sceptical_evidence accepting))
+    (sym (asked_about f asked Sceptical Preferred q h))
+    (each_found f log q accepting is)

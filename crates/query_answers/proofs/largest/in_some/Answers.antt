@@ -1,0 +1,33 @@
+use Rattle.std.proofs.Common.{sym, subst}
+use Rattle.meaning_atoms.specs.declared.atom.Atom.TheVariants.{Ad}
+use Rattle.query_answers.specs.Answers.{IsEvidence}
+use Rattle.query_answers.proofs.CallLemmas.{run_found}
+use Rattle.query_answers.proofs.ExcludedLemmas.{about_member, may_ask_in}
+use Rattle.query_answers.proofs.LargestLemmas.{begins_found, refuted_evidence}
+use Rattle.query_answers.proofs.largest.in_some.Goals as goal
+
+pub search_for-requires : goal.search_for-requires
+search_for-requires g c =
+    let f = g.O.Oracle.framework c.args.oracle.now in
+    may_ask_in f (g.O.Oracle.log c.args.oracle.now).sides Ad c.args.goal tt
+    (about_member f c.args.query.now c.args.goal c.requires.fits c.requires.about)
+
+pub largest-requires : goal.largest-requires
+largest-requires g c =
+    begins_found (g.O.Oracle.framework c.args.oracle.now) (g.O.Oracle.framework c.search_for.new.oracle)
+    (g.O.Oracle.log c.search_for.new.oracle) c.args.query.now c.args.goal c.in_ok-set.field-0 c.in-Set.set
+    c.in_ok-set.ensures.framework c.in-Set.is c.requires c.in_ok-set.ensures.found
+
+pub returns-in-Set-clause-run : goal.returns-in-Set-clause-run
+returns-in-Set-clause-run g c =
+    run_found (g.O.Oracle.framework c.args.oracle.now) (g.O.Oracle.framework c.search_for.new.oracle) c.args.query.now
+    c.in_ok-set.field-0 c.in-Set.set _ _ _ _ _ _ _ _ _ c.in_ok-set.ensures.framework c.in-Set.is
+    c.in_ok-set.ensures.run c.largest.ensures.run
+
+pub returns-in_ok-evidence-in-Refuted-clause-shown : goal.returns-in_ok-evidence-in-Refuted-clause-shown
+returns-in_ok-evidence-in-Refuted-clause-shown g c =
+    let f = g.O.Oracle.framework c.args.oracle.now in
+    let log = g.O.Oracle.log c.search_for.new.oracle in
+    subst (IsEvidence f c.args.query.now log) (sym c.in_ok-evidence-in-Refuted.ensures)
+    (refuted_evidence f log c.args.query.now c.args.goal c.in_ok-set.field-0 c.in-Refuted.step c.in-Refuted.is c.requires
+    c.in_ok-set.ensures.found)

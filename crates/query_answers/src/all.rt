@@ -1,0 +1,64 @@
+//! All extensions.
+
+ghost use Rattle.std.specs.Prelude.{◌≡◌, ◌+◌, ◌*◌, length, IfOk};
+ghost use Rattle.enumerate_block.specs.Extensions.{answer_of};
+ghost use Rattle.oracle_face.specs.Growing.{HasRun, halt_of};
+ghost use Rattle.oracle_face.specs.Logs.{IsKept};
+ghost use Rattle.session_log.specs.Ends.{MadeFor};
+ghost use Rattle.query_answers.specs.Answers.{AsksAll, IsOutcome};
+ghost use Rattle.query_answers.specs.Forms.{all_outcome};
+
+use crate::evidence::{Evidence, Outcome};
+use enumerate_block::{Extensions, all};
+use iccma_tasks::{Answer, Query};
+use oracle_face::{Budget, Halt, Oracle};
+use plain_lists::Items;
+use set_lists::NumSet;
+use std::alloc::Global;
+
+/// All extensions, at most so many.
+pub(crate) fn all_extensions<O: Oracle>(
+    alloc: Global,
+    oracle: &mut O,
+    budget: &mut Budget,
+    query: &Query,
+    most: usize,
+) -> Result<Outcome, Halt>
+    requires { AsksAll (O.framework oracle.old) query.now }
+    ensures outcome { IfOk result (IsOutcome (O.framework oracle.old) query.now most (O.log oracle.new)) }
+    ensures run { HasRun (MadeFor (O.framework oracle.old) query.now) (2 * length (O.log oracle.new).sides + 2)
+        (O.framework oracle.old) (O.log oracle.old) (O.log oracle.new) (O.pending oracle.new) budget.old budget.new
+        (halt_of result) }
+    ensures framework { O.framework oracle.new ≡ O.framework oracle.old }
+    ensures kept { IsKept (O.framework oracle.new) (O.log oracle.new) }
+    ensures follows { O.follows oracle.old oracle.new }
+{
+    let _number = query.number();
+    let extensions = all(alloc, oracle, budget, query.task(), most)?;
+    Ok(outcome_of(alloc, extensions))
+}
+
+/// The outcome of a list.
+fn outcome_of(alloc: Global, extensions: Extensions) -> Outcome
+    ensures { result ≡ all_outcome extensions }
+{
+    match extensions {
+        Extensions::All(sets, steps) => Outcome::Shown(Evidence {
+            answer: listed(sets),
+            sets: Items::new(alloc),
+            steps,
+        }),
+        Extensions::TooMany => Outcome::TooMany,
+    }
+}
+
+/// The answer that lists the sets, or says that there are none.
+fn listed(sets: Items<NumSet>) -> Answer
+    ensures { result ≡ answer_of sets }
+{
+    if sets.is_empty() {
+        Answer::No(None)
+    } else {
+        Answer::Sets(sets)
+    }
+}

@@ -1,0 +1,74 @@
+//! The answer to a query.
+
+ghost use Rattle.std.specs.Prelude.{◌≡◌, ◌+◌, ◌*◌, false, length, IfOk};
+ghost use Rattle.edit_rules.specs.Fitting.{Fits};
+ghost use Rattle.oracle_face.specs.Growing.{HasRun, halt_of};
+ghost use Rattle.oracle_face.specs.Logs.{IsKept};
+ghost use Rattle.session_log.specs.Ends.{MadeFor};
+ghost use Rattle.query_answers.specs.Answers.{AsksOne, IsCovered, IsEvidence, IsOutcome, is_by_grounded};
+
+use crate::all::all_extensions;
+use crate::evidence::{Evidence, Outcome};
+use crate::excluded::{complete, stable};
+use crate::ideal::by_ideal_set;
+use crate::largest::preferred;
+use crate::widest::semi_stable_set;
+use iccma_tasks::{Problem, Query, Semantics};
+use oracle_face::{Budget, Halt, Oracle};
+use std::alloc::Global;
+
+/// Answers a query that needs a search, with what shows the answer; all extensions are listed where they are at most so
+/// many. The side clauses that it has the oracle keep are those that the query's certificate may have, each made from an
+/// admissible set. The halt is the oracle's, or want of memory; the oracle keeps what it has learned.
+pub fn answer<O: Oracle>(
+    alloc: Global,
+    oracle: &mut O,
+    budget: &mut Budget,
+    query: &Query,
+    most: usize,
+) -> Result<Outcome, Halt>
+    requires fits { Fits (O.framework oracle.old) query.now }
+    requires by_search { is_by_grounded query.now.task.problem query.now.task.semantics ≡ false }
+    requires covered { IsCovered query.now.task }
+    ensures outcome { IfOk result (IsOutcome (O.framework oracle.old) query.now most (O.log oracle.new)) }
+    ensures run { HasRun (MadeFor (O.framework oracle.old) query.now) (2 * length (O.log oracle.new).sides + 2)
+        (O.framework oracle.old) (O.log oracle.old) (O.log oracle.new) (O.pending oracle.new) budget.old budget.new
+        (halt_of result) }
+    ensures framework { O.framework oracle.new ≡ O.framework oracle.old }
+    ensures kept { IsKept (O.framework oracle.new) (O.log oracle.new) }
+    ensures follows { O.follows oracle.old oracle.new }
+{
+    match query.task().problem {
+        Problem::AllExtensions => all_extensions(alloc, oracle, budget, query, most),
+        Problem::Credulous | Problem::Sceptical | Problem::SomeExtension => {
+            let evidence = one(alloc, oracle, budget, query)?;
+            Ok(Outcome::Shown(evidence))
+        }
+    }
+}
+
+/// The answer that one set shows, or that there is none.
+fn one<O: Oracle>(
+    alloc: Global,
+    oracle: &mut O,
+    budget: &mut Budget,
+    query: &Query,
+) -> Result<Evidence, Halt>
+    requires { AsksOne (O.framework oracle.old) query.now }
+    ensures shown { IfOk result (IsEvidence (O.framework oracle.old) query.now (O.log oracle.new)) }
+    ensures run { HasRun (MadeFor (O.framework oracle.old) query.now) (2 * length (O.log oracle.new).sides + 2)
+        (O.framework oracle.old) (O.log oracle.old) (O.log oracle.new) (O.pending oracle.new) budget.old budget.new
+        (halt_of result) }
+    ensures framework { O.framework oracle.new ≡ O.framework oracle.old }
+    ensures kept { IsKept (O.framework oracle.new) (O.log oracle.new) }
+    ensures follows { O.follows oracle.old oracle.new }
+{
+    match query.task().semantics {
+        Semantics::Complete => complete(alloc, oracle, budget, query),
+        Semantics::Stable => stable(alloc, oracle, budget, query),
+        Semantics::Preferred => preferred(alloc, oracle, budget, query),
+        Semantics::SemiStable => semi_stable_set(alloc, oracle, budget, query),
+        Semantics::Ideal => by_ideal_set(alloc, oracle, budget, query),
+        Semantics::Grounded => unreachable!(),
+    }
+}

@@ -1,0 +1,54 @@
+//! Answers by the ideal set.
+
+ghost use Rattle.std.specs.Prelude.{◌≡◌, ◌+◌, ◌*◌, length, IfOk};
+ghost use Rattle.iccma_tasks.specs.declared.task.Semantics.TheVariants.{Ideal};
+ghost use Rattle.oracle_face.specs.Growing.{HasRun, halt_of};
+ghost use Rattle.oracle_face.specs.Logs.{IsKept};
+ghost use Rattle.session_log.specs.Ends.{MadeFor};
+ghost use Rattle.query_answers.specs.Answers.{AsksBy, IsEvidence, IsSaid};
+
+use crate::evidence::{Evidence, of_ideal};
+use iccma_tasks::Query;
+use ideal_set::ideal as ideal_set_of;
+use oracle_face::{Budget, Halt, Oracle};
+use plain_lists::Memory;
+use set_lists::NumSet;
+use std::alloc::Global;
+
+/// By the ideal set: whether it accepts the query, or the set itself.
+pub(crate) fn by_ideal_set<O: Oracle>(
+    alloc: Global,
+    oracle: &mut O,
+    budget: &mut Budget,
+    query: &Query,
+) -> Result<Evidence, Halt>
+    requires { AsksBy (O.framework oracle.old) query.now Ideal }
+    ensures shown { IfOk result (IsEvidence (O.framework oracle.old) query.now (O.log oracle.new)) }
+    ensures run { HasRun (MadeFor (O.framework oracle.old) query.now) (2 * length (O.log oracle.new).sides + 2)
+        (O.framework oracle.old) (O.log oracle.old) (O.log oracle.new) (O.pending oracle.new) budget.old budget.new
+        (halt_of result) }
+    ensures framework { O.framework oracle.new ≡ O.framework oracle.old }
+    ensures kept { IsKept (O.framework oracle.new) (O.log oracle.new) }
+    ensures follows { O.follows oracle.old oracle.new }
+{
+    let _number = query.number();
+    let found = ideal_set_of(alloc, oracle, budget)?;
+    let accepts = accepts_query(alloc, oracle, query, &found.set)?;
+    let evidence = of_ideal(alloc, query.task().problem, accepts, found)?;
+    Ok(evidence)
+}
+
+/// Whether a set accepts the query, where one is asked about.
+fn accepts_query<O: Oracle>(
+    alloc: Global,
+    oracle: &O,
+    query: &Query,
+    set: &NumSet,
+) -> Result<bool, Memory>
+    ensures { IfOk result (IsSaid (O.framework oracle.now) query.now.number set.now) }
+{
+    match query.number() {
+        Some(goal) => oracle.accepts(alloc, goal, set),
+        None => Ok(true),
+    }
+}
