@@ -28,7 +28,7 @@ use Rattle.certificate_laws.proofs.SideClauses.{world_of_admissible}
 use Rattle.edit_rules.specs.Fitting.{Fits, IsKnown}
 use Rattle.oracle_face.specs.declared.face.Found.{Found}
 use Rattle.oracle_face.specs.declared.face.Found.TheVariants.{Set, Refuted}
-use Rattle.oracle_face.specs.Goals.{IsMode, MakesTrue, RefutesGoals}
+use Rattle.oracle_face.specs.Goals.{IsMode, MakesTrue, Refutes, RefutesGoals}
 use Rattle.oracle_face.specs.Growing.{Grows, IsFound, Making, NoSide}
 use Rattle.oracle_face.specs.Logs.{IsKept, OracleLog, SideClause, literals_of}
 use Rattle.oracle_face.proofs.Refuting.{goals_excluded, refutes_grown}
@@ -216,25 +216,15 @@ asked_about f asked problem semantics q h =
     ap (λ (t : Task). asked_with t asked.number) h.same
     ∙ ap (λ (n : Option ℕ). asked_with (task_of problem semantics) n) h.about
 
--- no admissible set accepts the query, by complete or preferred sets
-pub admissible_without : (f : Framework) (log : OracleLog) (q step : ℕ)
-    → RefutesGoals f log (goals_of Ad (q ∷ []) [] [] []) step
-    → IsEvidence f (asked_of Credulous Complete (Some q)) log (evidence_of Credulous (Refuted step))
-    × IsEvidence f (asked_of Credulous Preferred (Some q)) log (evidence_of Credulous (Refuted step))
-admissible_without (af f) log q step refuted =
+-- goals for an admissible set that accepts a number, as a claim that a step refutes
+pub admissible_refuted : (f : Af) (log : OracleLog) (q step : ℕ)
+    → RefutesGoals (af f) log (goals_of Ad (q ∷ []) [] [] []) step
+    → Refutes (af f) log (claim_of (affirmed Ad ∷ affirmed (Member q) ∷ []) []) step
+admissible_refuted f log q step refuted =
     let goals : List AtomLit = affirmed Ad ∷ affirmed (Member q) ∷ [] in
     let plain : AsksNothing goals = asks_cons (affirmed Ad) (affirmed (Member q) ∷ []) (λ x. x)
     (asks_cons (affirmed (Member q)) [] (λ x. x) asks_nil) in
-    let claimed = refuted_one (af f) log (claim_of goals []) step (goals_refuted (af f) log goals step plain refuted) in (
-      record {
-        tests = tests_none (af f) (asked_of Credulous Complete (Some q)) goals;
-        refuted = claimed;
-      },
-      record {
-        tests = tests_none (af f) (asked_of Credulous Preferred (Some q)) goals;
-        refuted = claimed;
-      },
-    )
+    goals_refuted (af f) log goals step plain refuted
 
 complete_found : (f : Framework) (q : ℕ) (a b : OracleLog) (found grown : Found) → IsKept f a → Grows NoSide a b
     → IsFound f a (goals_of Ad (q ∷ []) [] [] []) found → IsCompleted f found grown
@@ -247,10 +237,8 @@ complete_found (af f) q a b (Set set) (Set c) kept grows makes h =
     }
 complete_found (af f) q a b (Refuted step) (Refuted same) kept grows refuted h =
     let goals : List AtomLit = affirmed Ad ∷ affirmed (Member q) ∷ [] in
-    let plain : AsksNothing goals = asks_cons (affirmed Ad) (affirmed (Member q) ∷ []) (λ x. x)
-    (asks_cons (affirmed (Member q)) [] (λ x. x) asks_nil) in
     let claimed = refutes_grown (af f) NoSide a b (claim_of goals []) step kept.form grows
-    (goals_refuted (af f) a goals step plain refuted) in
+    (admissible_refuted f a q step refuted) in
     subst (λ (n : ℕ). IsEvidence (af f) (asked_of Credulous Complete (Some q)) b (evidence_of Credulous (Refuted n)))
     (sym h)
     (record {

@@ -6,7 +6,9 @@ use Rattle.plain_lists.proofs.Membership.{Contains-head}
 use Rattle.semantics.specs.Framework.{Af}
 use Rattle.semantics.specs.Frameworks.{Framework, af}
 use Rattle.semantics.proofs.Existence.{empty_admissible}
-use Rattle.meaning_atoms.specs.declared.atom.Atom.TheVariants.{Ad}
+use Rattle.meaning_atoms.specs.declared.atom.Atom.TheVariants.{Member, Ad}
+use Rattle.meaning_atoms.specs.declared.atom.AtomLit.{AtomLit}
+use Rattle.meaning_atoms.specs.Literals.{affirmed}
 use Rattle.meaning_atoms.specs.Worlds.{HoldsOf}
 use Rattle.iccma_tasks.specs.declared.task.Problem.{Problem}
 use Rattle.iccma_tasks.specs.declared.task.Problem.TheVariants.{Credulous, Sceptical, SomeExtension, AllExtensions}
@@ -15,9 +17,10 @@ use Rattle.iccma_tasks.specs.declared.task.Semantics.TheVariants.{Complete, Pref
 use Rattle.iccma_tasks.specs.declared.task.Task.{Task}
 use Rattle.iccma_tasks.specs.Tasks.{Asked, FitsTask, task_of}
 use Rattle.certificate_claims.specs.declared.row.Row.TheVariants.{Covered, Largest}
-use Rattle.certificate_claims.specs.SetLiterals.{members}
+use Rattle.certificate_claims.specs.Claims.{claim_of}
 use Rattle.oracle_face.specs.declared.face.Found.{Found}
 use Rattle.oracle_face.specs.declared.face.Found.TheVariants.{Set, Refuted}
+use Rattle.oracle_face.specs.Goals.{RefutesGoals}
 use Rattle.oracle_face.specs.Growing.{IsFound}
 use Rattle.oracle_face.specs.Logs.{OracleLog}
 use Rattle.edit_rules.specs.Fitting.{Fits}
@@ -30,8 +33,8 @@ use Rattle.cegar_preferred.specs.Covers.{IsAccepting, cover_claim}
 use Rattle.cegar_preferred.specs.Largest.{IsMaximalFrom, largest_claim}
 use Rattle.query_answers.specs.Answers.{AsksAbout, AsksBy, BeginsLargest, HoldsQuery, IsEvidence, IsOne}
 use Rattle.query_answers.specs.Forms.{evidence_of, evidence_with, sceptical_evidence}
-use Rattle.query_answers.proofs.ExcludedLemmas.{admissible_without, asked_about}
-use Rattle.query_answers.proofs.TestLemmas.{asked_of, index_there, refuted_one, tests_one}
+use Rattle.query_answers.proofs.ExcludedLemmas.{admissible_refuted, asked_about}
+use Rattle.query_answers.proofs.TestLemmas.{asked_of, index_there, refuted_one, tests_none, tests_one}
 
 -- ---- the set begun with
 
@@ -104,13 +107,22 @@ largest_evidence f log asked set found h is =
     (largest_with f log asked.task.problem asked.number set found h.holds is)
 
 -- no admissible set accepts the query
+without : (f : Framework) (log : OracleLog) (q step : ℕ) → RefutesGoals f log (goals_of Ad (q ∷ []) [] [] []) step
+    → IsEvidence f (asked_of Credulous Preferred (Some q)) log (evidence_of Credulous (Refuted step))
+without (af f) log q step refuted =
+    let goals : List AtomLit = affirmed Ad ∷ affirmed (Member q) ∷ [] in
+    record {
+      tests = tests_none (af f) (asked_of Credulous Preferred (Some q)) goals;
+      refuted = refuted_one (af f) log (claim_of goals []) step (admissible_refuted f log q step refuted);
+    }
+
 pub refuted_evidence : (f : Framework) (log : OracleLog) (asked : Asked) (q : ℕ) (r : Found) (step : ℕ)
     → r ≡ Refuted step → AsksAbout f asked Credulous Preferred q
     → IsFound f log (goals_of Ad (q ∷ []) [] [] []) r → IsEvidence f asked log (evidence_of Credulous (Refuted step))
 refuted_evidence f log asked q r step is h found =
     subst (λ (x : Asked). IsEvidence f x log (evidence_of Credulous (Refuted step)))
     (sym (asked_about f asked Credulous Preferred q h))
-    (admissible_without f log q step (subst (IsFound f log (goals_of Ad (q ∷ []) [] [] [])) is found)).1
+    (without f log q step (subst (IsFound f log (goals_of Ad (q ∷ []) [] [] [])) is found))
 
 -- ---- each preferred set
 
