@@ -235,10 +235,12 @@ found_admissible f g log q (Set set) same makes =
     subst (λ (x : Framework). HoldsOf x set Ad) (sym same) (found_mode f log Ad (q ∷ []) [] [] [] set tt makes)
 found_admissible f g log q (Refuted step) same refuted = tt
 
-pub may_ask_complete : (f : Framework) (sides : List SideClause) (found : Found) (set : List ℕ) → found ≡ Set set
-    → IsAdmissibleIn f found → IsAskable f sides Co set [] [] []
-may_ask_complete f sides found set is ok =
-    may_ask f sides Co set [] tt (admissible_members f set (subst (IsAdmissibleIn f) is ok))
+pub may_ask_round : (f : Framework) (sides : List SideClause) (mode : Atom) (found : Found) (set ins : List ℕ)
+    → IsMode mode → ins ≡ set → found ≡ Set set → IsAdmissibleIn f found → IsAskable f sides mode ins [] [] []
+may_ask_round f sides mode found set ins moded same is ok =
+    may_ask f sides mode ins [] moded
+    (subst (λ (xs : List ℕ). IsWithin xs (members f)) (sym same)
+    (admissible_members f set (subst (IsAdmissibleIn f) is ok)))
     (λ a c. absurd (Contains-nil a c)) (λ a c d. Contains-nil a d)
 
 -- a complete set that holds the other makes such goals true
