@@ -1,3 +1,4 @@
+<<<<<<< HEAD
 -- Answers that list all extensions, and which queries come to which search.
 use Rattle.std.proofs.Common.{◌≡◌, ℕ, false, refl, sym, subst}
 use Rattle.std.specs.Prelude.{Option, Some, None}
@@ -6,12 +7,25 @@ use Rattle.iccma_tasks.specs.declared.task.Problem.{Problem}
 use Rattle.iccma_tasks.specs.declared.task.Problem.TheVariants.{Credulous, Sceptical, SomeExtension, AllExtensions}
 use Rattle.iccma_tasks.specs.declared.task.Semantics.{Semantics}
 use Rattle.iccma_tasks.specs.declared.task.Semantics.TheVariants.{Grounded}
+=======
+-- Answers that list all extensions.
+use Rattle.std.proofs.Common.{◌≡◌, ℕ, refl, sym, subst}
+use Rattle.std.specs.Prelude.{Option, Some, None}
+use Rattle.semantics.specs.Frameworks.{Framework}
+use Rattle.iccma_tasks.specs.declared.task.Problem.{Problem}
+use Rattle.iccma_tasks.specs.declared.task.Problem.TheVariants.{AllExtensions}
+use Rattle.iccma_tasks.specs.declared.task.Semantics.{Semantics}
+>>>>>>> 6ac04e541438623a57d2353ff36a2da445323423
 use Rattle.iccma_tasks.specs.Tasks.{Asked, FitsTask}
 use Rattle.oracle_face.specs.Logs.{OracleLog}
 use Rattle.enumerate_block.specs.declared.extensions.Extensions.{Extensions}
 use Rattle.enumerate_block.specs.declared.extensions.Extensions.TheVariants.{All, TooMany as MoreThanListed}
 use Rattle.enumerate_block.specs.Extensions.{IsListOf, IsListTask}
+<<<<<<< HEAD
 use Rattle.query_answers.specs.Answers.{AsksAll, AsksOne, IsOne, IsOutcome, is_by_grounded}
+=======
+use Rattle.query_answers.specs.Answers.{AsksAll, IsOutcome}
+>>>>>>> 6ac04e541438623a57d2353ff36a2da445323423
 use Rattle.query_answers.specs.Forms.{all_outcome}
 use Rattle.query_answers.proofs.TestLemmas.{asked_of}
 
@@ -38,6 +52,7 @@ all_listed f log asked most extensions h fits is =
     (subst (λ (n : Option ℕ). IsOutcome f (asked_of AllExtensions asked.task.semantics n) most log
     (all_outcome extensions)) (sym none)
     (listed f log asked.task.semantics most extensions is))
+<<<<<<< HEAD
 
 -- ---- queries of the grounded set don't come here
 
@@ -51,3 +66,5 @@ pub never_grounded : (f : Framework) (asked : Asked) → AsksOne f asked → ask
 never_grounded f asked h is =
     not_grounded asked.task.problem h.one
     (subst (λ (s : Semantics). is_by_grounded asked.task.problem s ≡ false) is h.by_search)
+=======
+>>>>>>> 6ac04e541438623a57d2353ff36a2da445323423
