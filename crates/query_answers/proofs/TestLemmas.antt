@@ -1,11 +1,6 @@
 -- The direct tests of answers that show one set or none, and steps that refute one claim.
-<<<<<<< HEAD
-use Rattle.std.proofs.Common.{◌≡◌, inl, ℕ, zero, suc, ◌<◌, List, [], ◌∷◌, length, refl, arith}
-use Rattle.std.specs.Prelude.{Contains, slice_index_or, Option, Some, None}
-=======
 use Rattle.std.proofs.Common.{inl, ℕ, zero, suc, ◌<◌, List, [], ◌∷◌, length, refl, arith}
 use Rattle.std.specs.Prelude.{Contains, slice_index_or, Option}
->>>>>>> 6ac04e541438623a57d2353ff36a2da445323423
 use Rattle.std.proofs.lemmas.List.{get_or_default}
 use Rattle.semantics.specs.Frameworks.{Framework}
 use Rattle.meaning_atoms.specs.declared.atom.AtomLit.{AtomLit}

@@ -1,9 +1,5 @@
 -- Answers by semi-stable sets.
-<<<<<<< HEAD
-use Rattle.std.proofs.Common.{◌≡◌, ℕ, List, [], ◌∷◌, refl, sym, subst}
-=======
 use Rattle.std.proofs.Common.{◌≡◌, ℕ, List, refl, sym, subst}
->>>>>>> 6ac04e541438623a57d2353ff36a2da445323423
 use Rattle.std.specs.Prelude.{Option, Some, None}
 use Rattle.semantics.specs.Frameworks.{Framework, af}
 use Rattle.meaning_atoms.specs.declared.atom.Atom.TheVariants.{Ad}

@@ -43,13 +43,6 @@ fn outcome_of(alloc: Global, extensions: Extensions) -> Outcome
     ensures { result ≡ all_outcome extensions }
 {
     match extensions {
-<<<<<<< HEAD
-        Extensions::All(sets, steps) => Outcome::Shown(Evidence {
-            answer: listed(sets),
-            sets: Items::new(alloc),
-            steps,
-        }),
-=======
         Extensions::All(sets, steps) => {
             let evidence = Evidence {
                 answer: listed(sets),
@@ -58,7 +51,6 @@ fn outcome_of(alloc: Global, extensions: Extensions) -> Outcome
             };
             Outcome::Shown(evidence)
         }
->>>>>>> 6ac04e541438623a57d2353ff36a2da445323423
         Extensions::TooMany => Outcome::TooMany,
     }
 }

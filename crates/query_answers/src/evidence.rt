@@ -13,13 +13,8 @@ use plain_lists::{Items, Memory};
 use set_lists::NumSet;
 use std::alloc::Global;
 
-<<<<<<< HEAD
-/// An answer, the sets of its certificate, and for each claim of its row in the table of certificates, in order, the log
-/// step that refutes it.
-=======
 /// An answer, the sets of its certificate, and for each claim of its row in the table of certificates, in order, the
 /// log step that refutes it.
->>>>>>> 6ac04e541438623a57d2353ff36a2da445323423
 #[derive(Debug, Drop)]
 pub struct Evidence {
     pub answer: Answer,
@@ -80,15 +75,7 @@ fn by_step(
 }
 
 /// The answer that a found set shows, or that a step shows which refutes that there is one.
-<<<<<<< HEAD
-pub(crate) fn of_found(
-    alloc: Global,
-    problem: Problem,
-    found: Found,
-) -> Result<Evidence, Memory>
-=======
 pub(crate) fn of_found(alloc: Global, problem: Problem, found: Found) -> Result<Evidence, Memory>
->>>>>>> 6ac04e541438623a57d2353ff36a2da445323423
     ensures { IfOk result (λ evidence. evidence ≡ evidence_of problem found) }
 {
     match found {
@@ -129,16 +116,7 @@ pub(crate) fn of_accepting(alloc: Global, accepting: Accepting) -> Result<Eviden
 }
 
 /// The answer of the ideal set, which accepts the query or doesn't.
-<<<<<<< HEAD
-fn by_ideal(
-    alloc: Global,
-    problem: Problem,
-    accepts: bool,
-    set: NumSet,
-) -> Result<Answer, Memory>
-=======
 fn by_ideal(alloc: Global, problem: Problem, accepts: bool, set: NumSet) -> Result<Answer, Memory>
->>>>>>> 6ac04e541438623a57d2353ff36a2da445323423
     ensures { IfOk result (λ answer. answer ≡ ideal_answer problem accepts set) }
 {
     match (problem, accepts) {

@@ -73,13 +73,8 @@ fn stable_with<O: Oracle>(
     Ok(evidence)
 }
 
-<<<<<<< HEAD
-/// Whether a complete set accepts the query: one that holds an admissible set which does. It asks the oracle twice where
-/// there is one, and else once.
-=======
 /// Whether a complete set accepts the query: one that holds an admissible set which does. It asks the oracle twice
 /// where there is one, and else once.
->>>>>>> 6ac04e541438623a57d2353ff36a2da445323423
 pub(crate) fn complete<O: Oracle>(
     alloc: Global,
     oracle: &mut O,
@@ -101,11 +96,7 @@ pub(crate) fn complete<O: Oracle>(
     }
 }
 
-<<<<<<< HEAD
-/// The same where the query asks about this number.
-=======
 /// Whether a complete set accepts the number that the query asks about.
->>>>>>> 6ac04e541438623a57d2353ff36a2da445323423
 fn complete_with<O: Oracle>(
     alloc: Global,
     oracle: &mut O,
@@ -134,13 +125,8 @@ fn complete_with<O: Oracle>(
     Ok(evidence)
 }
 
-<<<<<<< HEAD
-/// A complete set that holds the found admissible one. Where none was found, the step that refutes it stays. It asks the
-/// oracle once where one was.
-=======
 /// A complete set that holds the found admissible one. Where none was found, the step that refutes it stays. It asks
 /// the oracle once where one was.
->>>>>>> 6ac04e541438623a57d2353ff36a2da445323423
 fn completed<O: Oracle>(
     alloc: Global,
     oracle: &mut O,

@@ -48,13 +48,8 @@ pub(crate) fn preferred<O: Oracle>(
     }
 }
 
-<<<<<<< HEAD
-/// Whether a preferred set accepts the query: one that holds an admissible set which does. No preferred set does where no
-/// admissible one does.
-=======
 /// Whether a preferred set accepts the query: one that holds an admissible set which does. No preferred set does where
 /// no admissible one does.
->>>>>>> 6ac04e541438623a57d2353ff36a2da445323423
 fn in_some<O: Oracle>(
     alloc: Global,
     oracle: &mut O,
