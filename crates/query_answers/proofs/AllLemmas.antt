@@ -1,17 +1,16 @@
--- Answers that list all extensions, and which queries come to which search.
-use Rattle.std.proofs.Common.{◌≡◌, ℕ, false, refl, sym, subst}
+-- Answers that list all extensions.
+use Rattle.std.proofs.Common.{◌≡◌, ℕ, refl, sym, subst}
 use Rattle.std.specs.Prelude.{Option, Some, None}
 use Rattle.semantics.specs.Frameworks.{Framework}
 use Rattle.iccma_tasks.specs.declared.task.Problem.{Problem}
-use Rattle.iccma_tasks.specs.declared.task.Problem.TheVariants.{Credulous, Sceptical, SomeExtension, AllExtensions}
+use Rattle.iccma_tasks.specs.declared.task.Problem.TheVariants.{AllExtensions}
 use Rattle.iccma_tasks.specs.declared.task.Semantics.{Semantics}
-use Rattle.iccma_tasks.specs.declared.task.Semantics.TheVariants.{Grounded}
 use Rattle.iccma_tasks.specs.Tasks.{Asked, FitsTask}
 use Rattle.oracle_face.specs.Logs.{OracleLog}
 use Rattle.enumerate_block.specs.declared.extensions.Extensions.{Extensions}
 use Rattle.enumerate_block.specs.declared.extensions.Extensions.TheVariants.{All, TooMany as MoreThanListed}
 use Rattle.enumerate_block.specs.Extensions.{IsListOf, IsListTask}
-use Rattle.query_answers.specs.Answers.{AsksAll, AsksOne, IsOne, IsOutcome, is_by_grounded}
+use Rattle.query_answers.specs.Answers.{AsksAll, IsOutcome}
 use Rattle.query_answers.specs.Forms.{all_outcome}
 use Rattle.query_answers.proofs.TestLemmas.{asked_of}
 
@@ -38,16 +37,3 @@ all_listed f log asked most extensions h fits is =
     (subst (λ (n : Option ℕ). IsOutcome f (asked_of AllExtensions asked.task.semantics n) most log
     (all_outcome extensions)) (sym none)
     (listed f log asked.task.semantics most extensions is))
-
--- ---- queries of the grounded set don't come here
-
-not_grounded : (problem : Problem) → IsOne problem → is_by_grounded problem Grounded ≡ false → ⊥
-not_grounded Credulous one search = absurd (cc)
-not_grounded Sceptical one search = absurd (cc)
-not_grounded SomeExtension one search = absurd (cc)
-not_grounded AllExtensions one search = one
-
-pub never_grounded : (f : Framework) (asked : Asked) → AsksOne f asked → asked.task.semantics ≡ Grounded → ⊥
-never_grounded f asked h is =
-    not_grounded asked.task.problem h.one
-    (subst (λ (s : Semantics). is_by_grounded asked.task.problem s ≡ false) is h.by_search)

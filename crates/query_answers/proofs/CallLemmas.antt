@@ -60,7 +60,8 @@ outside_ideal f Sceptical e = first_side (outside f e) (attacked f e ∷ [])
 outside_ideal f SomeExtension e = first_side (outside f e) (attacked f e ∷ [])
 outside_ideal f AllExtensions e = first_side (outside f e) (attacked f e ∷ [])
 
-attacked_ideal : (f : Framework) (problem : Problem) (e : List ℕ) → Contains (sides_for f problem Ideal e) (attacked f e)
+attacked_ideal : (f : Framework) (problem : Problem) (e : List ℕ)
+    → Contains (sides_for f problem Ideal e) (attacked f e)
 attacked_ideal f Credulous e = second_side (outside f e) (attacked f e)
 attacked_ideal f Sceptical e = second_side (outside f e) (attacked f e)
 attacked_ideal f SomeExtension e = second_side (outside f e) (attacked f e)
@@ -137,7 +138,8 @@ pub run_no_memory : (f : Framework) (asked : Asked) (a b : OracleLog) (p : Optio
 run_no_memory f asked a b p u v h =
     let most = 2 * length b.sides + 2 in
     run_joined (MadeFor f asked) (MadeFor f asked) (MadeFor f asked) most 0 most f a b b p p u v v (Some Memory)
-    (makes_same (MadeFor f asked)) (makes_same (MadeFor f asked)) (omega arith) h (run_refused (MadeFor f asked) 0 f b p v)
+    (makes_same (MadeFor f asked)) (makes_same (MadeFor f asked)) (omega arith) h
+    (run_refused (MadeFor f asked) 0 f b p v)
 
 -- two searches, of which the second is closed at most once
 pub run_searches : (f g : Framework) (asked : Asked) (r : Result Found Halt) (a b c : OracleLog) (p q : Option Pending)
@@ -157,6 +159,6 @@ pub run_found : (f g : Framework) (asked : Asked) (r : Found) (set : List ℕ) (
 run_found f g asked r set a b c p q u v w halt same is h k =
     let first : HasRun NoSide 0 f a b p u v None = subst
     (λ (x : Found). HasRun NoSide (closes (Ok x)) f a b p u v None) is h in
-    run_joined NoSide (MadeFor f asked) (MadeFor f asked) 0 (2 * length c.sides + 2) (2 * length c.sides + 2) f a b c p q
-    u v w halt (makes_none (MadeFor f asked)) (makes_same (MadeFor f asked)) (omega arith) first
+    run_joined NoSide (MadeFor f asked) (MadeFor f asked) 0 (2 * length c.sides + 2) (2 * length c.sides + 2) f a b c p
+    q u v w halt (makes_none (MadeFor f asked)) (makes_same (MadeFor f asked)) (omega arith) first
     (subst (λ (x : Framework). HasRun (MadeFor x asked) (2 * length c.sides + 2) x b c q v w halt) same k)

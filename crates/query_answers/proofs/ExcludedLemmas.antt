@@ -1,6 +1,6 @@
 -- Answers by stable and complete sets.
-use Rattle.std.proofs.Common.{◌≡◌, ⊎_elim, ℕ, true, List, [], ◌∷◌, ◌++◌, refl, ap, sym, subst, ◌∙◌}
-use Rattle.std.specs.Prelude.{Contains, false, IfOk, Option, Some, None, Result, Ok, Err}
+use Rattle.std.proofs.Common.{◌≡◌, ⊎_elim, ℕ, List, [], ◌∷◌, ◌++◌, refl, ap, sym, subst, ◌∙◌}
+use Rattle.std.specs.Prelude.{Contains, IfOk, Option, Some, None, Result, Ok, Err}
 use Rattle.std.proofs.lemmas.List.Elements.{Contains-append_cases}
 use Rattle.plain_lists.specs.Members.{IsWithin}
 use Rattle.plain_lists.proofs.Membership.{Contains-cons_cases, Contains-head, Contains-nil}
@@ -15,28 +15,28 @@ use Rattle.meaning_atoms.specs.declared.atom.AtomLit.{AtomLit}
 use Rattle.meaning_atoms.specs.Literals.{affirmed, denied, AsksNothing}
 use Rattle.meaning_atoms.specs.Worlds.{world_of, HoldsLit, HoldsOf}
 use Rattle.iccma_tasks.specs.declared.task.Problem.{Problem}
-use Rattle.iccma_tasks.specs.declared.task.Problem.TheVariants.{Credulous, Sceptical, SomeExtension, AllExtensions}
+use Rattle.iccma_tasks.specs.declared.task.Problem.TheVariants.{Credulous, Sceptical, SomeExtension}
 use Rattle.iccma_tasks.specs.declared.task.Semantics.{Semantics}
-use Rattle.iccma_tasks.specs.declared.task.Semantics.TheVariants.{Complete, Preferred, Stable}
+use Rattle.iccma_tasks.specs.declared.task.Semantics.TheVariants.{Complete, Stable}
 use Rattle.iccma_tasks.specs.declared.task.Task.{Task}
-use Rattle.iccma_tasks.specs.Tasks.{Asked, FitsTask, task_of}
+use Rattle.iccma_tasks.specs.Tasks.{Asked, task_of}
 use Rattle.certificate_claims.specs.declared.row.Row.TheVariants.{Tested}
 use Rattle.certificate_claims.specs.Claims.{claim_of}
-use Rattle.certificate_claims.specs.SetLiterals.{are_in, are_out, members}
+use Rattle.certificate_claims.specs.SetLiterals.{are_in, members}
 use Rattle.certificate_laws.proofs.GoalLists.{asks_cons, asks_nil}
 use Rattle.certificate_laws.proofs.SideClauses.{world_of_admissible}
 use Rattle.edit_rules.specs.Fitting.{Fits, IsKnown}
 use Rattle.oracle_face.specs.declared.face.Found.{Found}
 use Rattle.oracle_face.specs.declared.face.Found.TheVariants.{Set, Refuted}
-use Rattle.oracle_face.specs.Goals.{IsMode, MakesTrue, RefutesGoals}
-use Rattle.oracle_face.specs.Growing.{Grows, IsFound, Making, NoSide}
+use Rattle.oracle_face.specs.Goals.{IsMode, MakesTrue, Refutes, RefutesGoals}
+use Rattle.oracle_face.specs.Growing.{Grows, IsFound, NoSide}
 use Rattle.oracle_face.specs.Logs.{IsKept, OracleLog, SideClause, literals_of}
 use Rattle.oracle_face.proofs.Refuting.{goals_excluded, refutes_grown}
 use Rattle.goal_lists.specs.Asking.{IsAskable, goals_of}
 use Rattle.goal_lists.proofs.AskedGoals.{in_form}
 use Rattle.goal_lists.proofs.Calls.{admissible_members, found_in, found_mode, found_out}
 use Rattle.enumerate_ranges.proofs.StepLemmas.{refuted_none}
-use Rattle.query_answers.specs.Answers.{AsksAbout, AsksStable, IsAdmissibleIn, IsCompleted, IsEvidence, IsOne, IsShownIn, is_by_grounded}
+use Rattle.query_answers.specs.Answers.{AsksAbout, AsksStable, IsAdmissibleIn, IsCompleted, IsEvidence, IsShownIn}
 use Rattle.query_answers.specs.Forms.{evidence_of}
 use Rattle.query_answers.proofs.TestLemmas.{asked_of, goals_refuted, refuted_one, tests_none, tests_one}
 
@@ -97,30 +97,6 @@ pub may_ask_stable : (f : Framework) (sides : List SideClause) (asked : Asked) (
     → AsksStable f asked ins outs → IsAskable f sides St ins outs [] []
 may_ask_stable f sides asked ins outs h =
     wanted_members f asked.task.problem asked.number ins outs (λ n is. about_member f asked n h.fits is) h.wanted sides
-
--- ---- what is wanted, by the query
-
-pub wants_none : (problem : Problem) (number : Option ℕ) → IsOne problem → FitsTask problem number → number ≡ None
-    → IsShownIn problem number [] []
-wants_none SomeExtension None one fits is = (refl, refl)
-wants_none Credulous None one fits is = absurd fits
-wants_none Sceptical None one fits is = absurd fits
-wants_none AllExtensions None one fits is = absurd one
-wants_none problem (Some q) one fits is = absurd (cc)
-
-pub wants_out : (problem : Problem) (number : Option ℕ) (q : ℕ) → number ≡ Some q → problem ≡ Sceptical
-    → IsShownIn problem number [] (q ∷ [])
-wants_out problem number q is sceptical =
-    subst (λ (p : Problem). IsShownIn p number [] (q ∷ [])) (sym sceptical)
-    (subst (λ (n : Option ℕ). IsShownIn Sceptical n [] (q ∷ [])) (sym is) (refl, refl))
-
-pub wants_in : (problem : Problem) (number : Option ℕ) (q : ℕ) → IsOne problem → FitsTask problem number
-    → number ≡ Some q → (problem ≡ Sceptical → ⊥) → IsShownIn problem number (q ∷ []) []
-wants_in Credulous number q one fits is other =
-    subst (λ (n : Option ℕ). IsShownIn Credulous n (q ∷ []) []) (sym is) (refl, refl)
-wants_in Sceptical number q one fits is other = absurd (other refl)
-wants_in SomeExtension number q one fits is other = absurd (subst (FitsTask SomeExtension) is fits)
-wants_in AllExtensions number q one fits is other = absurd one
 
 -- ---- stable sets
 
@@ -200,13 +176,6 @@ stable_evidence f log asked ins outs found h is =
 
 -- ---- complete sets
 
-pub only_credulous : (problem : Problem) → IsOne problem → is_by_grounded problem Complete ≡ false
-    → problem ≡ Credulous
-only_credulous Credulous one search = refl
-only_credulous Sceptical one search = absurd (cc)
-only_credulous SomeExtension one search = absurd (cc)
-only_credulous AllExtensions one search = absurd one
-
 abbrev asked_with : Task → Option ℕ → Asked
 asked_with task number = record { task = task; number = number }
 
@@ -216,25 +185,15 @@ asked_about f asked problem semantics q h =
     ap (λ (t : Task). asked_with t asked.number) h.same
     ∙ ap (λ (n : Option ℕ). asked_with (task_of problem semantics) n) h.about
 
--- no admissible set accepts the query, by complete or preferred sets
-pub admissible_without : (f : Framework) (log : OracleLog) (q step : ℕ)
-    → RefutesGoals f log (goals_of Ad (q ∷ []) [] [] []) step
-    → IsEvidence f (asked_of Credulous Complete (Some q)) log (evidence_of Credulous (Refuted step))
-    × IsEvidence f (asked_of Credulous Preferred (Some q)) log (evidence_of Credulous (Refuted step))
-admissible_without (af f) log q step refuted =
+-- goals for an admissible set that accepts a number, as a claim that a step refutes
+pub admissible_refuted : (f : Af) (log : OracleLog) (q step : ℕ)
+    → RefutesGoals (af f) log (goals_of Ad (q ∷ []) [] [] []) step
+    → Refutes (af f) log (claim_of (affirmed Ad ∷ affirmed (Member q) ∷ []) []) step
+admissible_refuted f log q step refuted =
     let goals : List AtomLit = affirmed Ad ∷ affirmed (Member q) ∷ [] in
     let plain : AsksNothing goals = asks_cons (affirmed Ad) (affirmed (Member q) ∷ []) (λ x. x)
     (asks_cons (affirmed (Member q)) [] (λ x. x) asks_nil) in
-    let claimed = refuted_one (af f) log (claim_of goals []) step (goals_refuted (af f) log goals step plain refuted) in (
-      record {
-        tests = tests_none (af f) (asked_of Credulous Complete (Some q)) goals;
-        refuted = claimed;
-      },
-      record {
-        tests = tests_none (af f) (asked_of Credulous Preferred (Some q)) goals;
-        refuted = claimed;
-      },
-    )
+    goals_refuted (af f) log goals step plain refuted
 
 complete_found : (f : Framework) (q : ℕ) (a b : OracleLog) (found grown : Found) → IsKept f a → Grows NoSide a b
     → IsFound f a (goals_of Ad (q ∷ []) [] [] []) found → IsCompleted f found grown
@@ -247,10 +206,8 @@ complete_found (af f) q a b (Set set) (Set c) kept grows makes h =
     }
 complete_found (af f) q a b (Refuted step) (Refuted same) kept grows refuted h =
     let goals : List AtomLit = affirmed Ad ∷ affirmed (Member q) ∷ [] in
-    let plain : AsksNothing goals = asks_cons (affirmed Ad) (affirmed (Member q) ∷ []) (λ x. x)
-    (asks_cons (affirmed (Member q)) [] (λ x. x) asks_nil) in
     let claimed = refutes_grown (af f) NoSide a b (claim_of goals []) step kept.form grows
-    (goals_refuted (af f) a goals step plain refuted) in
+    (admissible_refuted f a q step refuted) in
     subst (λ (n : ℕ). IsEvidence (af f) (asked_of Credulous Complete (Some q)) b (evidence_of Credulous (Refuted n)))
     (sym h)
     (record {
@@ -278,10 +235,12 @@ found_admissible f g log q (Set set) same makes =
     subst (λ (x : Framework). HoldsOf x set Ad) (sym same) (found_mode f log Ad (q ∷ []) [] [] [] set tt makes)
 found_admissible f g log q (Refuted step) same refuted = tt
 
-pub may_ask_complete : (f : Framework) (sides : List SideClause) (found : Found) (set : List ℕ) → found ≡ Set set
-    → IsAdmissibleIn f found → IsAskable f sides Co set [] [] []
-may_ask_complete f sides found set is ok =
-    may_ask f sides Co set [] tt (admissible_members f set (subst (IsAdmissibleIn f) is ok))
+pub may_ask_round : (f : Framework) (sides : List SideClause) (mode : Atom) (found : Found) (set ins : List ℕ)
+    → IsMode mode → ins ≡ set → found ≡ Set set → IsAdmissibleIn f found → IsAskable f sides mode ins [] [] []
+may_ask_round f sides mode found set ins moded same is ok =
+    may_ask f sides mode ins [] moded
+    (subst (λ (xs : List ℕ). IsWithin xs (members f)) (sym same)
+    (admissible_members f set (subst (IsAdmissibleIn f) is ok)))
     (λ a c. absurd (Contains-nil a c)) (λ a c d. Contains-nil a d)
 
 -- a complete set that holds the other makes such goals true

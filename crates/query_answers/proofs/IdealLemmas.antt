@@ -1,9 +1,7 @@
 -- Answers by the ideal set.
-use Rattle.std.proofs.Common.{◌≡◌, ℕ, zero, suc, ◌<◌, Bool, true, false, List, [], ◌∷◌, length, refl, sym, subst, arith}
+use Rattle.std.proofs.Common.{ℕ, zero, suc, ◌<◌, Bool, true, false, List, [], ◌∷◌, length, refl, sym, subst, arith}
 use Rattle.std.specs.Prelude.{Option, Some, None, slice_index_or}
-use Rattle.semantics.specs.Frameworks.{Framework, af}
-use Rattle.meaning_atoms.specs.declared.atom.Atom.TheVariants.{Ad}
-use Rattle.meaning_atoms.specs.Worlds.{HoldsOf}
+use Rattle.semantics.specs.Frameworks.{Framework}
 use Rattle.iccma_tasks.specs.declared.task.Problem.{Problem}
 use Rattle.iccma_tasks.specs.declared.task.Problem.TheVariants.{Credulous, Sceptical, SomeExtension, AllExtensions}
 use Rattle.iccma_tasks.specs.declared.task.Semantics.{Semantics}
@@ -19,7 +17,7 @@ use Rattle.certificate_claims.specs.SetLiterals.{hit_by_any}
 use Rattle.enumerate_ranges.specs.Ranges.{AreRefuted}
 use Rattle.enumerate_ranges.proofs.StepLemmas.{refuted_first}
 use Rattle.query_answers.specs.Answers.{AsksBy, IsEvidence, IsOne, IsSaid}
-use Rattle.query_answers.specs.Forms.{ideal_answer, ideal_evidence}
+use Rattle.query_answers.specs.Forms.{ideal_evidence}
 use Rattle.query_answers.proofs.TestLemmas.{asked_of, index_there, refuted_one}
 
 -- the steps refute the two claims

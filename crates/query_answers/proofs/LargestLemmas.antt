@@ -3,24 +3,24 @@ use Rattle.std.proofs.Common.{◌≡◌, ℕ, List, [], ◌∷◌, refl, sym, su
 use Rattle.std.specs.Prelude.{Option, Some, None, slice_index_or}
 use Rattle.plain_lists.specs.Members.{IsWithin}
 use Rattle.plain_lists.proofs.Membership.{Contains-head}
-use Rattle.semantics.specs.Framework.{Af}
 use Rattle.semantics.specs.Frameworks.{Framework, af}
 use Rattle.semantics.proofs.Existence.{empty_admissible}
-use Rattle.meaning_atoms.specs.declared.atom.Atom.TheVariants.{Ad}
+use Rattle.meaning_atoms.specs.declared.atom.Atom.TheVariants.{Member, Ad}
+use Rattle.meaning_atoms.specs.declared.atom.AtomLit.{AtomLit}
+use Rattle.meaning_atoms.specs.Literals.{affirmed}
 use Rattle.meaning_atoms.specs.Worlds.{HoldsOf}
 use Rattle.iccma_tasks.specs.declared.task.Problem.{Problem}
-use Rattle.iccma_tasks.specs.declared.task.Problem.TheVariants.{Credulous, Sceptical, SomeExtension, AllExtensions}
+use Rattle.iccma_tasks.specs.declared.task.Problem.TheVariants.{Credulous, Sceptical, SomeExtension}
 use Rattle.iccma_tasks.specs.declared.task.Semantics.{Semantics}
-use Rattle.iccma_tasks.specs.declared.task.Semantics.TheVariants.{Complete, Preferred}
-use Rattle.iccma_tasks.specs.declared.task.Task.{Task}
-use Rattle.iccma_tasks.specs.Tasks.{Asked, FitsTask, task_of}
-use Rattle.certificate_claims.specs.declared.row.Row.TheVariants.{Covered, Largest}
-use Rattle.certificate_claims.specs.SetLiterals.{members}
+use Rattle.iccma_tasks.specs.declared.task.Semantics.TheVariants.{Preferred}
+use Rattle.iccma_tasks.specs.Tasks.{Asked}
+use Rattle.certificate_claims.specs.declared.row.Row.TheVariants.{Largest}
+use Rattle.certificate_claims.specs.Claims.{claim_of}
 use Rattle.oracle_face.specs.declared.face.Found.{Found}
 use Rattle.oracle_face.specs.declared.face.Found.TheVariants.{Set, Refuted}
+use Rattle.oracle_face.specs.Goals.{RefutesGoals}
 use Rattle.oracle_face.specs.Growing.{IsFound}
 use Rattle.oracle_face.specs.Logs.{OracleLog}
-use Rattle.edit_rules.specs.Fitting.{Fits}
 use Rattle.goal_lists.specs.Asking.{goals_of}
 use Rattle.goal_lists.proofs.Calls.{found_in, found_mode}
 use Rattle.cegar_preferred.specs.declared.accepting.Accepting.{Accepting}
@@ -28,10 +28,10 @@ use Rattle.cegar_preferred.specs.declared.accepting.Accepting.TheVariants.{Count
 use Rattle.cegar_preferred.specs.declared.maximal.Maximal.{Maximal}
 use Rattle.cegar_preferred.specs.Covers.{IsAccepting, cover_claim}
 use Rattle.cegar_preferred.specs.Largest.{IsMaximalFrom, largest_claim}
-use Rattle.query_answers.specs.Answers.{AsksAbout, AsksBy, BeginsLargest, HoldsQuery, IsEvidence, IsOne}
+use Rattle.query_answers.specs.Answers.{AsksAbout, BeginsLargest, HoldsQuery, IsEvidence}
 use Rattle.query_answers.specs.Forms.{evidence_of, evidence_with, sceptical_evidence}
-use Rattle.query_answers.proofs.ExcludedLemmas.{admissible_without, asked_about}
-use Rattle.query_answers.proofs.TestLemmas.{asked_of, index_there, refuted_one, tests_one}
+use Rattle.query_answers.proofs.ExcludedLemmas.{admissible_refuted, asked_about}
+use Rattle.query_answers.proofs.TestLemmas.{asked_of, index_there, refuted_one, tests_none, tests_one}
 
 -- ---- the set begun with
 
@@ -40,22 +40,6 @@ empty_of (af f) = empty_admissible f
 
 pub empty_holds : (f : Framework) (set : List ℕ) → set ≡ [] → HoldsOf f set Ad
 empty_holds f set is = subst (λ (s : List ℕ). HoldsOf f s Ad) (sym is) (empty_of f)
-
-none_holds : (f : Framework) (problem : Problem) (number : Option ℕ) (set : List ℕ) → IsOne problem
-    → FitsTask problem number → number ≡ None → HoldsQuery f problem number set
-none_holds f SomeExtension None set one fits is = tt
-none_holds f Credulous None set one fits is = absurd fits
-none_holds f Sceptical None set one fits is = absurd fits
-none_holds f AllExtensions None set one fits is = absurd one
-none_holds f problem (Some q) set one fits is = absurd (cc)
-
-pub begins_empty : (f : Framework) (asked : Asked) (set : List ℕ) → AsksBy f asked Preferred
-    → FitsTask asked.task.problem asked.number → asked.number ≡ None → set ≡ [] → BeginsLargest f asked set
-begins_empty f asked set h fits none is = record {
-  same = h.same;
-  admissible = empty_holds f set is;
-  holds = none_holds f asked.task.problem asked.number set h.query.one fits none;
-}
 
 accepted : (f : Framework) (q : ℕ) (set : List ℕ) → IsWithin (q ∷ []) set
     → HoldsQuery f Credulous (Some q) set
@@ -104,13 +88,22 @@ largest_evidence f log asked set found h is =
     (largest_with f log asked.task.problem asked.number set found h.holds is)
 
 -- no admissible set accepts the query
+without : (f : Framework) (log : OracleLog) (q step : ℕ) → RefutesGoals f log (goals_of Ad (q ∷ []) [] [] []) step
+    → IsEvidence f (asked_of Credulous Preferred (Some q)) log (evidence_of Credulous (Refuted step))
+without (af f) log q step refuted =
+    let goals : List AtomLit = affirmed Ad ∷ affirmed (Member q) ∷ [] in
+    record {
+      tests = tests_none (af f) (asked_of Credulous Preferred (Some q)) goals;
+      refuted = refuted_one (af f) log (claim_of goals []) step (admissible_refuted f log q step refuted);
+    }
+
 pub refuted_evidence : (f : Framework) (log : OracleLog) (asked : Asked) (q : ℕ) (r : Found) (step : ℕ)
     → r ≡ Refuted step → AsksAbout f asked Credulous Preferred q
     → IsFound f log (goals_of Ad (q ∷ []) [] [] []) r → IsEvidence f asked log (evidence_of Credulous (Refuted step))
 refuted_evidence f log asked q r step is h found =
     subst (λ (x : Asked). IsEvidence f x log (evidence_of Credulous (Refuted step)))
     (sym (asked_about f asked Credulous Preferred q h))
-    (admissible_without f log q step (subst (IsFound f log (goals_of Ad (q ∷ []) [] [] [])) is found)).1
+    (without f log q step (subst (IsFound f log (goals_of Ad (q ∷ []) [] [] [])) is found))
 
 -- ---- each preferred set
 

@@ -43,8 +43,8 @@ IsOutcome f asked most log TooMany = AreTooMany f asked most
 
 -- ---- tasks
 
--- the tasks that need no search: the grounded set is the one extension of its semantics, and it is part of each complete
--- set and one itself (Dung 1995, theorem 25)
+-- the tasks that need no search: the grounded set is the one extension of its semantics, and it is part of each
+-- complete set and one itself (Dung 1995, theorem 25)
 abbrev pub is_by_grounded : Problem → Semantics → Bool
 is_by_grounded Credulous Grounded = true
 is_by_grounded Sceptical Grounded = true
@@ -86,10 +86,10 @@ pub record AsksAll (f : Framework) (asked : Asked) : Type 0 where
 
 -- the query of a problem and a semantics about this number
 pub record AsksAbout (f : Framework) (asked : Asked) (problem : Problem) (semantics : Semantics) (goal : ℕ) : Type 0
-    where
-  pub fits : Fits f asked
-  pub same : asked.task ≡ task_of problem semantics
-  pub about : asked.number ≡ Some goal
+  where
+    pub fits : Fits f asked
+    pub same : asked.task ≡ task_of problem semantics
+    pub about : asked.number ≡ Some goal
 
 -- ---- what is searched for
 

@@ -43,11 +43,14 @@ fn outcome_of(alloc: Global, extensions: Extensions) -> Outcome
     ensures { result ≡ all_outcome extensions }
 {
     match extensions {
-        Extensions::All(sets, steps) => Outcome::Shown(Evidence {
-            answer: listed(sets),
-            sets: Items::new(alloc),
-            steps,
-        }),
+        Extensions::All(sets, steps) => {
+            let evidence = Evidence {
+                answer: listed(sets),
+                sets: Items::new(alloc),
+                steps,
+            };
+            Outcome::Shown(evidence)
+        }
         Extensions::TooMany => Outcome::TooMany,
     }
 }

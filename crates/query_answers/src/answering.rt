@@ -18,8 +18,8 @@ use oracle_face::{Budget, Halt, Oracle};
 use std::alloc::Global;
 
 /// Answers a query that needs a search, with what shows the answer; all extensions are listed where they are at most so
-/// many. The side clauses that it has the oracle keep are those that the query's certificate may have, each made from an
-/// admissible set. The halt is the oracle's, or want of memory; the oracle keeps what it has learned.
+/// many. The side clauses that it has the oracle keep are those that the query's certificate may have, each made from
+/// an admissible set. The halt is the oracle's, or want of memory; the oracle keeps what it has learned.
 pub fn answer<O: Oracle>(
     alloc: Global,
     oracle: &mut O,

@@ -13,8 +13,8 @@ use plain_lists::{Items, Memory};
 use set_lists::NumSet;
 use std::alloc::Global;
 
-/// An answer, the sets of its certificate, and for each claim of its row in the table of certificates, in order, the log
-/// step that refutes it.
+/// An answer, the sets of its certificate, and for each claim of its row in the table of certificates, in order, the
+/// log step that refutes it.
 #[derive(Debug, Drop)]
 pub struct Evidence {
     pub answer: Answer,
@@ -75,11 +75,7 @@ fn by_step(
 }
 
 /// The answer that a found set shows, or that a step shows which refutes that there is one.
-pub(crate) fn of_found(
-    alloc: Global,
-    problem: Problem,
-    found: Found,
-) -> Result<Evidence, Memory>
+pub(crate) fn of_found(alloc: Global, problem: Problem, found: Found) -> Result<Evidence, Memory>
     ensures { IfOk result (λ evidence. evidence ≡ evidence_of problem found) }
 {
     match found {
@@ -120,12 +116,7 @@ pub(crate) fn of_accepting(alloc: Global, accepting: Accepting) -> Result<Eviden
 }
 
 /// The answer of the ideal set, which accepts the query or doesn't.
-fn by_ideal(
-    alloc: Global,
-    problem: Problem,
-    accepts: bool,
-    set: NumSet,
-) -> Result<Answer, Memory>
+fn by_ideal(alloc: Global, problem: Problem, accepts: bool, set: NumSet) -> Result<Answer, Memory>
     ensures { IfOk result (λ answer. answer ≡ ideal_answer problem accepts set) }
 {
     match (problem, accepts) {

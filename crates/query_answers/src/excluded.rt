@@ -73,8 +73,8 @@ fn stable_with<O: Oracle>(
     Ok(evidence)
 }
 
-/// Whether a complete set accepts the query: one that holds an admissible set which does. It asks the oracle twice where
-/// there is one, and else once.
+/// Whether a complete set accepts the query: one that holds an admissible set which does. It asks the oracle twice
+/// where there is one, and else once.
 pub(crate) fn complete<O: Oracle>(
     alloc: Global,
     oracle: &mut O,
@@ -96,7 +96,7 @@ pub(crate) fn complete<O: Oracle>(
     }
 }
 
-/// The same where the query asks about this number.
+/// Whether a complete set accepts the number that the query asks about.
 fn complete_with<O: Oracle>(
     alloc: Global,
     oracle: &mut O,
@@ -125,8 +125,8 @@ fn complete_with<O: Oracle>(
     Ok(evidence)
 }
 
-/// A complete set that holds the found admissible one. Where none was found, the step that refutes it stays. It asks the
-/// oracle once where one was.
+/// A complete set that holds the found admissible one. Where none was found, the step that refutes it stays. It asks
+/// the oracle once where one was.
 fn completed<O: Oracle>(
     alloc: Global,
     oracle: &mut O,

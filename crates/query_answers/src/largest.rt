@@ -48,8 +48,8 @@ pub(crate) fn preferred<O: Oracle>(
     }
 }
 
-/// Whether a preferred set accepts the query: one that holds an admissible set which does. No preferred set does where no
-/// admissible one does.
+/// Whether a preferred set accepts the query: one that holds an admissible set which does. No preferred set does where
+/// no admissible one does.
 fn in_some<O: Oracle>(
     alloc: Global,
     oracle: &mut O,

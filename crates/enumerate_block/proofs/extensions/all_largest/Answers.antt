@@ -19,7 +19,8 @@ returns-in_err-extensions-clause-run g c =
     let most = 2 * length (g.O.Oracle.log c.all_preferred.new.oracle).sides + 2 in
     let same : most ≤ most = omega arith in
     run_handed (MadeForAll f Preferred) most f _ _ _ _ _ _ Memory c.from_residual-in_err-extensions.ensures
-    (then_refused (MadeForAll f Preferred) (MadeForAll f Preferred) most most f _ _ _ _ _ (makes_same (MadeForAll f Preferred)) same
+    (then_refused (MadeForAll f Preferred) (MadeForAll f Preferred) most most f _ _ _ _ _
+    (makes_same (MadeForAll f Preferred)) same
     (run_largest f most _ _ _ _ _ _ c.in_ok-listed.ensures.run))
 
 pub returns-clause-listed : goal.returns-clause-listed

@@ -21,7 +21,8 @@ returns-in_err-extensions-clause-run g c =
     let most = 2 * length (g.O.Oracle.log c.all_with_mode.new.oracle).sides + 2 in
     let same : most ≤ most = omega arith in
     run_handed (MadeForAll f c.args.semantics) most f _ _ _ _ _ _ Memory c.from_residual-in_err-extensions.ensures
-    (then_refused (MadeForAll f c.args.semantics) (MadeForAll f c.args.semantics) most most f _ _ _ _ _ (makes_same (MadeForAll f c.args.semantics)) same
+    (then_refused (MadeForAll f c.args.semantics) (MadeForAll f c.args.semantics) most most f _ _ _ _ _
+    (makes_same (MadeForAll f c.args.semantics)) same
     (run_tested f c.args.semantics c.args.mode _ _ _ _ _ _ c.requires c.in_ok-listed.ensures.run))
 
 pub returns-clause-listed : goal.returns-clause-listed

@@ -61,5 +61,5 @@ returns-clause-shown g c =
 pub returns-clause-run : goal.returns-clause-run
 returns-clause-run g c =
     run_searches (g.O.Oracle.framework c.args.oracle.now) (g.O.Oracle.framework c.search_for.new.oracle)
-    c.args.query.now (Ok c.in_ok-found.found) _ _ _ _ _ _ _ _ _ c.in_ok-found.ensures.framework c.in_ok-found.ensures.run
-    c.in_ok-grown.ensures.run
+    c.args.query.now (Ok c.in_ok-found.found) _ _ _ _ _ _ _ _ _ c.in_ok-found.ensures.framework
+    c.in_ok-found.ensures.run c.in_ok-grown.ensures.run

@@ -1,20 +1,18 @@
-use Rattle.std.proofs.Common.{[], sym, subst}
+use Rattle.std.proofs.Common.{[], subst}
 use Rattle.std.specs.Prelude.{ℕ, List, IfOk}
 use Rattle.meaning_atoms.specs.declared.atom.Atom.TheVariants.{Co}
 use Rattle.oracle_face.specs.Growing.{IsFound, NoSide}
 use Rattle.oracle_face.proofs.GrowingLemmas.{run_as}
-use Rattle.goal_lists.specs.Asking.{IsAskable, goals_of}
+use Rattle.goal_lists.specs.Asking.{goals_of}
 use Rattle.goal_lists.proofs.Calls.{makes_same}
 use Rattle.query_answers.proofs.CallLemmas.{closes_few}
-use Rattle.query_answers.proofs.ExcludedLemmas.{completed_from, may_ask_complete}
+use Rattle.query_answers.proofs.ExcludedLemmas.{completed_from, may_ask_round}
 use Rattle.query_answers.proofs.excluded.completed.Goals as goal
 
 pub search_for-requires : goal.search_for-requires
 search_for-requires g c =
-    let f = g.O.Oracle.framework c.args.oracle.now in
-    let sides = (g.O.Oracle.log c.args.oracle.now).sides in
-    subst (λ (xs : List ℕ). IsAskable f sides Co xs [] [] []) (sym c.as_slice.ensures.value)
-    (may_ask_complete f sides c.args.found c.in-Set.set c.in-Set.is c.requires.found)
+    may_ask_round (g.O.Oracle.framework c.args.oracle.now) (g.O.Oracle.log c.args.oracle.now).sides _ c.args.found
+    c.in-Set.set c.as_slice.result.now tt c.as_slice.ensures.value c.in-Set.is c.requires.found
 
 pub returns-in-Set-clause-completed : goal.returns-in-Set-clause-completed
 returns-in-Set-clause-completed g c =

@@ -29,5 +29,5 @@ returns-in_ok-evidence-in-Refuted-clause-shown g c =
     let f = g.O.Oracle.framework c.args.oracle.now in
     let log = g.O.Oracle.log c.search_for.new.oracle in
     subst (IsEvidence f c.args.query.now log) (sym c.in_ok-evidence-in-Refuted.ensures)
-    (refuted_evidence f log c.args.query.now c.args.goal c.in_ok-set.field-0 c.in-Refuted.step c.in-Refuted.is c.requires
-    c.in_ok-set.ensures.found)
+    (refuted_evidence f log c.args.query.now c.args.goal c.in_ok-set.field-0 c.in-Refuted.step c.in-Refuted.is
+    c.requires c.in_ok-set.ensures.found)
