@@ -33,7 +33,11 @@ impl Engine {
         ensures units { IfOk result (λ a. a.units ≡ units) }
     {
         let _form = self.parts.framework.kind();
-        let Evidence { answer, sets, steps } = evidence;
+        let Evidence {
+            answer,
+            sets,
+            steps,
+        } = evidence;
         let certificate = certificate_for(
             alloc,
             self,

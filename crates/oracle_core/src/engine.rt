@@ -42,7 +42,12 @@ impl Model for Engine {
 impl Engine {
     /// The engine of a number for a framework, with an empty log for at most so many steps. No axiom is in the log before
     /// the first search.
-    pub fn new(alloc: Global, number: u32, framework: Framework, log_limit: u64) -> Result<Engine, Memory>
+    pub fn new(
+        alloc: Global,
+        number: u32,
+        framework: Framework,
+        log_limit: u64,
+    ) -> Result<Engine, Memory>
         requires { log_limit ≤ MOST_STEPS }
         ensures number { IfOk result (λ e. e.number ≡ number) }
         ensures framework { IfOk result (λ e. e.framework ≡ framework_of framework) }
@@ -82,7 +87,12 @@ impl Oracle for Engine {
         false
     }
 
-    fn find(&mut self, alloc: Global, goals: &[AtomLit], budget: &mut Budget) -> Result<Found, Halt> {
+    fn find(
+        &mut self,
+        alloc: Global,
+        goals: &[AtomLit],
+        budget: &mut Budget,
+    ) -> Result<Found, Halt> {
         self.parts.find(alloc, goals, budget)
     }
 

@@ -143,7 +143,9 @@ impl Parts {
             self.new.solver.log self.new.solver.pending budget.old budget.new (halt_of result) }
     {
         match &self.framework {
-            Framework::Af(plain) => self.solver.search::<AfEncoding>(alloc, plain, goals, budget),
+            Framework::Af(plain) => self
+                .solver
+                .search::<AfEncoding>(alloc, plain, goals, budget),
         }
     }
 

@@ -77,8 +77,14 @@ fn certificate_faults(rt: HostRuntime) -> Result<(), Fail> {
         let ended = code_of(alloc, "-p SE-GR -f a -c c", &mut files, &mut out)?;
         let held = read_all(alloc, &mut files, Role::Certificate, "c", 100)?;
         assert!(rt; ended == code, "status at {output:?}");
-        assert!(rt; out.bytes() == output.as_bytes(), "output at {certificate:?}");
-        assert!(rt; held.as_slice() == certificate.as_bytes(), "file at {certificate:?}");
+        assert!(rt;
+            out.bytes() == output.as_bytes(),
+            "output at {certificate:?}"
+        );
+        assert!(rt;
+            held.as_slice() == certificate.as_bytes(),
+            "file at {certificate:?}"
+        );
     }
     Ok(())
 }
