@@ -1,7 +1,7 @@
 //! All sets of a mode.
 
 use crate::worked::{FLOATING, RING, RIVALS, Worked, oracle_for};
-use enumerate_block::{Listed, all_with_mode};
+use enumerate_modes::{Listed, all_with_mode};
 use meaning_atoms::Atom;
 use plain_lits::{Budget, Halt};
 use set_lists::NumSet;
@@ -21,7 +21,7 @@ enum Kind {
 struct Row<'a> {
     framework: Worked<'a>,
     kind: Kind,
-    limit: u32,
+    limit: usize,
     sets: Option<&'a [&'a [u32]]>,
 }
 
