@@ -2,8 +2,8 @@
 """Measures what a certificate costs: each task plain, with -c, and its check, on frameworks of three kinds.
 
 It writes frameworks (the same on each run), has the built program answer each of the 22 tasks on them, plainly and with
--c, and check what it wrote, and prints the seconds of each, the certificate's bytes, and the ratios. A check that doesn't
-print ACCEPTED ends the run. A query that ends without an answer is told with its status.
+-c, and check what it wrote, and prints the seconds of each, the certificate's bytes, and the ratios. A check that
+doesn't print ACCEPTED ends the run. A query that ends without an answer is told with its status.
 
 usage: bench/tasks.py [--program PATH] [--runs K] [--budget UNITS]
 """

@@ -4,8 +4,8 @@
     examples/draw.py examples/hearing.af SE-GR docs/pictures/hearing-GR.svg
 
 The extensions are what `./argue -p TASK -f FILE` prints. Dark: each of them holds the argument; light: some do; grey:
-each attacks it. Arguments stand on a circle by their numbers; an arrow is an attack. A comment `# N: TEXT` is the tooltip
-of argument N."""
+each attacks it. Arguments stand on a circle by their numbers; an arrow is an attack. A comment `# N: TEXT` is the
+tooltip of argument N."""
 import math
 import os
 import re
