@@ -16,9 +16,7 @@ use Rattle.iccma_tasks.specs.declared.task.Semantics.{Semantics}
 use Rattle.iccma_tasks.specs.declared.task.Semantics.TheVariants.{Complete, Grounded, Preferred, Stable, SemiStable, Ideal}
 use Rattle.iccma_tasks.specs.declared.task.Task.{Task}
 use Rattle.iccma_tasks.specs.Tasks.{Asked, FitsTask, HasTask, IsTask, all_tasks, task_name, task_of}
-use Rattle.argue_words.specs.Words.{SolveTexts}
-use Rattle.argue_program.specs.declared.query.Solving.{Solving}
-use Rattle.argue_program.specs.Queries.{asked_by, asked_with, budget_of, first_named, fits_task, is_solved, number_of, solving_by, solving_with, spells_number}
+use Rattle.argue_program.specs.Queries.{asked_with, first_named, fits_task, number_of, spells_number}
 
 -- ---- tasks
 
@@ -171,25 +169,3 @@ query_found task number None some none = elim (cases_Bool (fits_task task.proble
   | inl fits ↦ absurd (none.0 refl (fits_from task.problem number fits))
   | inr other ↦ sym (cond-false _ (Some (record { task = task; number = number })) None other)
 ]
-
--- ---- what the program solves
-
-solves_if : (b : Bool) (asked : Asked) (budget : ℕ) (query : Solving) → is_solved asked.task ≡ b
-    → (if b then Some (record { query = asked; budget = budget }) else None) ≡ Some query
-    → is_solved query.query.task ≡ true
-solves_if true asked budget query solved is =
-    let e : asked ≡ query.query = ap (λ (o : Option Solving). elim o [ Some q ↦ q.query | None ↦ asked ]) is in
-    subst (λ (a : Asked). is_solved a.task ≡ true) e solved
-solves_if false asked budget query solved is = cc
-
-solves_with : (asked : Option Asked) (budget : Option ℕ) (query : Solving) → solving_with asked budget ≡ Some query
-    → is_solved query.query.task ≡ true
-solves_with None budget query is = cc
-solves_with (Some asked) None query is = cc
-solves_with (Some asked) (Some budget) query is = solves_if (is_solved asked.task) asked budget query refl is
-
--- the task of a query that the texts ask is one that the program solves
-pub solving_solves : (texts : SolveTexts) (query : Solving) → solving_by texts ≡ Some query
-    → is_solved query.query.task ≡ true
-unfolding solving_by
-solving_solves texts query is = solves_with (asked_by texts.task texts.number) (budget_of texts.budget) query is

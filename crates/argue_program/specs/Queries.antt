@@ -1,12 +1,10 @@
--- The queries that words ask, and those that the program solves.
-use Rattle.std.specs.Prelude.{ℕ, ◌++◌, ◌&&◌, codes, filter, map, ◌^◌, Bool, true, false, List, [], ◌∷◌, length, Option, Some, None, if◌then◌else◌, nat_le, nat_lt}
-use Rattle.std.specs.List.{join_with_byte, list_all}
+-- The queries that words ask, and the budgets for their answers.
+use Rattle.std.specs.Prelude.{ℕ, ◌&&◌, ◌^◌, Bool, true, false, List, [], ◌∷◌, length, Option, Some, None, if◌then◌else◌, nat_le, nat_lt}
+use Rattle.std.specs.List.{list_all}
 use Rattle.std.specs.Str.{bytes_eq}
 use Rattle.num_text.specs.Number.{digits_value}
 use Rattle.iccma_tasks.specs.declared.task.Problem.{Problem}
 use Rattle.iccma_tasks.specs.declared.task.Problem.TheVariants.{Credulous, Sceptical, SomeExtension, AllExtensions}
-use Rattle.iccma_tasks.specs.declared.task.Semantics.{Semantics}
-use Rattle.iccma_tasks.specs.declared.task.Semantics.TheVariants.{SemiStable}
 use Rattle.iccma_tasks.specs.declared.task.Task.{Task}
 use Rattle.iccma_tasks.specs.Tasks.{Asked, all_tasks, task_name}
 use Rattle.argue_words.specs.Words.{SolveTexts}
@@ -54,30 +52,16 @@ asked_of (Some task) (Some text) = asked_about task (number_of text)
 unfoldable pub asked_by : List ℕ → Option (List ℕ) → Option Asked
 asked_by task number = asked_of (first_named all_tasks task) number
 
--- ---- what the program solves
-
--- all but whether some semi-stable set accepts an argument, and whether each does
-abbrev pub is_solved_by : Problem → Semantics → Bool
-is_solved_by Credulous SemiStable = false
-is_solved_by Sceptical SemiStable = false
-is_solved_by problem semantics = true
-
-abbrev pub is_solved : Task → Bool
-is_solved task = is_solved_by task.problem task.semantics
-
--- the names of the tasks that the program solves, in the order of all tasks, with commas between, in brackets, and LF
-abbrev pub problems_text : List ℕ
-problems_text = codes "[" ++ join_with_byte 44 (map task_name (filter is_solved all_tasks)) ++ codes "]\n"
+-- ---- budgets
 
 -- the budget of units: 1,000,000 where no text is given
 abbrev pub budget_of : Option (List ℕ) → Option ℕ
 budget_of None = Some DEFAULT_BUDGET
 budget_of (Some text) = number_of text
 
--- a query with a budget, where the program solves its task
+-- a query with a budget
 abbrev pub solving_with : Option Asked → Option ℕ → Option Solving
-solving_with (Some asked) (Some budget) =
-    if is_solved asked.task then Some (record { query = asked; budget = budget }) else None
+solving_with (Some asked) (Some budget) = Some (record { query = asked; budget = budget })
 solving_with _ _ = None
 
 -- the query that the texts of a query's words ask, with its budget

@@ -10,9 +10,9 @@ use Rattle.oracle_core.specs.declared.reply.Answered.{Answered}
 use Rattle.argue_outside.specs.declared.Role.{Role}
 use Rattle.argue_outside.specs.declared.Role.TheVariants.{Framework}
 use Rattle.argue_words.specs.Words.{CheckTexts, Request, version, problems, solving, checking, unknown, SolveTexts}
-use Rattle.iccma_tasks.specs.Tasks.{Asked}
+use Rattle.iccma_tasks.specs.Tasks.{Asked, tasks_line}
 use Rattle.argue_program.specs.Checks.{ChecksFiles, check_inputs}
-use Rattle.argue_program.specs.Queries.{asked_by, problems_text, solving_by}
+use Rattle.argue_program.specs.Queries.{asked_by, solving_by}
 use Rattle.argue_program.specs.Solves.{RefusesQuery, SolvesFile, StopsOn}
 use Rattle.argue_program.specs.declared.query.Solving.{Solving}
 use Rattle.argue_program.specs.declared.ended.Refusal.TheVariants.{Query}
@@ -102,7 +102,7 @@ problems_row = record {
   inputs = [];
   takes_memory = true;
   Ends = EndsDone;
-  text = λ kept end. problems_text;
+  text = λ kept end. tasks_line;
   files = λ kept end. [];
 }
 

@@ -23,7 +23,7 @@ use std::alloc::Global;
 
 /// The line of `--problems`.
 const PROBLEMS: &str = concat!(
-    "[DC-CO,DC-GR,DC-PR,DC-ST,DC-ID,DS-CO,DS-GR,DS-PR,DS-ST,DS-ID,",
+    "[DC-CO,DC-GR,DC-PR,DC-ST,DC-SST,DC-ID,DS-CO,DS-GR,DS-PR,DS-ST,DS-SST,DS-ID,",
     "SE-CO,SE-GR,SE-PR,SE-ST,SE-SST,SE-ID,EE-CO,EE-PR,EE-ST,EE-SST]\n",
 );
 

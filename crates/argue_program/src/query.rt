@@ -4,10 +4,10 @@ ghost use Rattle.std.specs.Prelude.{◌≡◌};
 ghost use Rattle.std.specs.Option.{option_map};
 ghost use Rattle.argue_words.specs.Words.{solve_texts};
 ghost use Rattle.iccma_tasks.specs.Tasks.{all_tasks};
-ghost use Rattle.argue_program.specs.Queries.{asked_by, asked_with, budget_of, first_named, is_solved, number_of, solving_by, solving_with};
+ghost use Rattle.argue_program.specs.Queries.{asked_by, asked_with, budget_of, first_named, number_of, solving_by};
 
 use argue_words::SolveWords;
-use iccma_tasks::{Problem, Query, Semantics, Task};
+use iccma_tasks::{Query, Task};
 use num_text::decimal;
 
 /// The units of a budget where none is given.
@@ -74,35 +74,13 @@ fn budget_in(text: Option<&str>) -> Option<u32>
     }
 }
 
-// Whether the program solves a task: all but whether some semi-stable set accepts an argument, and whether each does.
-fn solves(task: Task) -> bool
-    ensures { result ≡ is_solved task }
-{
-    match (task.problem, task.semantics) {
-        (Problem::Credulous | Problem::Sceptical, Semantics::SemiStable) => false,
-        _ => true,
-    }
-}
-
-// A query with a budget, where the program solves its task.
-fn with_budget(query: Query, budget: u32) -> Option<Solving>
-    ensures { result ≡ solving_with (Some query) (Some budget) }
-{
-    let task = query.task();
-    let solved = solves(task);
-    if !solved {
-        return None;
-    }
-    Some(Solving { query, budget })
-}
-
-/// The query of a query's words, with its budget. `None` where there is no such task or the program doesn't solve it, a
-/// text is no number, or the task wants a number and there is none, or wants none and there is one.
+/// The query of a query's words, with its budget. `None` where there is no such task, a text is no number, or the
+/// task wants a number and there is none, or wants none and there is one.
 #[tactic(auto, unfolding(crate::specs::Queries::solving_by))]
 pub(crate) fn solving_of(words: &SolveWords<'_>) -> Option<Solving>
     ensures { result ≡ solving_by (solve_texts words.now) }
 {
     let query = query_of(words.task, words.number)?;
     let budget = budget_in(words.budget)?;
-    with_budget(query, budget)
+    Some(Solving { query, budget })
 }

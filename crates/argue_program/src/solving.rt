@@ -1,11 +1,10 @@
 //! The answer to a query on the framework in a file.
 
-ghost use Rattle.std.specs.Prelude.{◌≡◌, IfErr, IfOk, IsErrOf, IsSome, map, true};
+ghost use Rattle.std.specs.Prelude.{◌≡◌, IfErr, IfOk, IsErrOf, IsSome, map};
 ghost use Rattle.std.specs.Option.{option_map};
 ghost use Rattle.argue_outside.specs.Outside.{OtherCountsKept};
 ghost use Rattle.edit_rules.specs.Kinds.{framework_of};
 ghost use Rattle.argue_program.specs.Inputs.{reading};
-ghost use Rattle.argue_program.specs.Queries.{is_solved};
 ghost use Rattle.argue_program.specs.Rows.{certificate_files, file_text};
 ghost use Rattle.argue_program.specs.Solves.{EndsSolving, IsReplyTo, RefusesBy, SolvesFile, status_after};
 ghost use Rattle.argue_program.specs.Texts.{common_text};
@@ -39,7 +38,6 @@ fn status_of(stop: AnswerStop) -> Status
 
 /// The answer to a query on a framework, or the status of the run that stops.
 fn answer(alloc: Global, framework: Framework, solving: &Solving) -> Result<Answered, Status>
-    requires { is_solved solving.now.query.task ≡ true }
     ensures ok { IfOk result (IsReplyTo (framework_of framework) solving.now) }
     ensures err { IfErr result (RefusesBy (framework_of framework) solving.now) }
 {
@@ -80,7 +78,6 @@ pub(crate) fn solve_file<F: Files>(
     solving: &Solving,
     words: &SolveWords<'_>,
 ) -> Result<Answered, Status>
-    requires { is_solved solving.now.query.task ≡ true }
     ensures ok { IfOk result (SolvesFile (F.holds files.old words.now.file.now) solving.now) }
     ensures err { IfErr result (EndsSolving (reading (F.holds files.old) (F.serves files.old) (F.read_count files.old)
         (F.read_count files.new)) solving.now words.now.file.now) }

@@ -4,7 +4,7 @@ ghost use Rattle.std.specs.Prelude.{◌≡◌, ◌+◌, ◌*◌, true, false, le
 ghost use Rattle.edit_rules.specs.Fitting.{Fits};
 ghost use Rattle.oracle_face.specs.Growing.{HasRun};
 ghost use Rattle.session_log.specs.Ends.{MadeFor};
-ghost use Rattle.query_answers.specs.Answers.{IsCovered, IsEvidence, is_by_grounded};
+ghost use Rattle.query_answers.specs.Answers.{IsEvidence, is_by_grounded};
 ghost use Rattle.oracle_core.specs.Answers.{IsShownBy};
 ghost use Rattle.oracle_core.specs.Answering.{IsCause, NeedsSearch, halt_behind};
 
@@ -62,8 +62,7 @@ impl Engine {
         budget: &mut Budget,
         limit: u32,
     ) -> Result<Answered, AnswerStop>
-        requires search { NeedsSearch self.old.framework query.now }
-        requires covered { IsCovered query.now.task }
+        requires { NeedsSearch self.old.framework query.now }
         ensures shown { IfOk result (λ a. IsShownBy self.old.framework query.now a.answer a.certificate) }
         ensures units { IfOk result (λ a. a.units ≡ budget.new.used) }
         ensures cause { IfErr result (IsCause self.old.framework query.now limit) }
@@ -93,8 +92,7 @@ impl Engine {
         budget: &mut Budget,
         limit: u32,
     ) -> Result<Answered, AnswerStop>
-        requires covered { IsCovered query.now.task }
-        requires unused { budget.old.used ≡ 0 }
+        requires { budget.old.used ≡ 0 }
         ensures fits { OnOk result (Fits self.old.framework query.now) }
         ensures shown { IfOk result (λ a. IsShownBy self.old.framework query.now a.answer a.certificate) }
         ensures units { IfOk result (λ a. a.units ≡ budget.new.used) }

@@ -54,6 +54,12 @@ in_largest f Sceptical e = first_side (outside f e) []
 in_largest f SomeExtension e = first_side (outside f e) []
 in_largest f AllExtensions e = first_side (outside f e) []
 
+in_widest : (f : Framework) (problem : Problem) (e : List ℕ) → Contains (sides_for f problem SemiStable e) (wider f e)
+in_widest f Credulous e = first_side (wider f e) []
+in_widest f Sceptical e = first_side (wider f e) []
+in_widest f SomeExtension e = first_side (wider f e) []
+in_widest f AllExtensions e = first_side (wider f e) (differs f e ∷ [])
+
 outside_ideal : (f : Framework) (problem : Problem) (e : List ℕ) → Contains (sides_for f problem Ideal e) (outside f e)
 outside_ideal f Credulous e = first_side (outside f e) (attacked f e ∷ [])
 outside_ideal f Sceptical e = first_side (outside f e) (attacked f e ∷ [])
@@ -73,11 +79,11 @@ makes_largest f asked is literals set h =
     serves f asked asked.task.problem Preferred literals set (outside f set) refl is
     (in_largest f asked.task.problem set) h.0 h.1
 
-pub makes_widest : (f : Framework) (asked : Asked) → asked.task.problem ≡ SomeExtension
-    → asked.task.semantics ≡ SemiStable → Makes (MadeWider f Ad) (MadeFor f asked)
-makes_widest f asked left right literals set h =
-    serves f asked SomeExtension SemiStable literals set (wider f set) left right
-    (first_side (wider f set) []) h.1 h.0
+pub makes_widest : (f : Framework) (asked : Asked) → asked.task.semantics ≡ SemiStable
+    → Makes (MadeWider f Ad) (MadeFor f asked)
+makes_widest f asked is literals set h =
+    serves f asked asked.task.problem SemiStable literals set (wider f set) refl is
+    (in_widest f asked.task.problem set) h.1 h.0
 
 pub makes_ideal : (f : Framework) (asked : Asked) → asked.task.semantics ≡ Ideal
     → Makes (MadeForIdeal f) (MadeFor f asked)

@@ -1,32 +1,28 @@
 -- Answers by semi-stable sets.
-use Rattle.std.proofs.Common.{◌≡◌, ℕ, List, refl, sym, subst}
-use Rattle.std.specs.Prelude.{Option, Some, None}
+use Rattle.std.proofs.Common.{◌≡◌, ℕ, Bool, true, false, List, [], refl, sym, subst, arith}
+use Rattle.std.specs.Prelude.{Option, Some, None, slice_index_or}
 use Rattle.semantics.specs.Frameworks.{Framework, af}
 use Rattle.meaning_atoms.specs.declared.atom.Atom.TheVariants.{Ad}
 use Rattle.iccma_tasks.specs.declared.task.Problem.{Problem}
-use Rattle.iccma_tasks.specs.declared.task.Problem.TheVariants.{Credulous, Sceptical, SomeExtension, AllExtensions}
-use Rattle.iccma_tasks.specs.declared.task.Semantics.{Semantics}
+use Rattle.iccma_tasks.specs.declared.task.Problem.TheVariants.{SomeExtension}
 use Rattle.iccma_tasks.specs.declared.task.Semantics.TheVariants.{SemiStable}
-use Rattle.iccma_tasks.specs.Tasks.{Asked, FitsTask}
+use Rattle.iccma_tasks.specs.declared.task.Task.{Task}
+use Rattle.iccma_tasks.specs.Tasks.{Asked, FitsTask, task_of}
+use Rattle.certificate_claims.specs.Acceptance.{Tests}
+use Rattle.certificate_claims.specs.Claims.{row_of, sets_of}
 use Rattle.certificate_claims.specs.declared.row.Row.TheVariants.{Widest as WidestRow}
 use Rattle.oracle_face.specs.Logs.{OracleLog}
 use Rattle.semi_stable.specs.declared.widest.Widest.{Widest}
 use Rattle.semi_stable.specs.Widest.{IsWidestFrom, wider_claim}
-use Rattle.query_answers.specs.Answers.{AsksBy, IsCoveredBy, IsEvidence, IsOne}
-use Rattle.query_answers.specs.Forms.{evidence_with}
-use Rattle.query_answers.proofs.TestLemmas.{asked_of, refuted_one, tests_one}
+use Rattle.semi_stable_query.specs.declared.deciding.Deciding.{Deciding}
+use Rattle.semi_stable_query.specs.declared.deciding.Deciding.TheVariants.{Witness, NoWitness}
+use Rattle.semi_stable_query.specs.Witnesses.{IsDecided}
+use Rattle.query_answers.specs.Answers.{AsksAbout, AsksSemiStable, IsEvidence, problem_of}
+use Rattle.query_answers.specs.Forms.{decided_evidence, evidence_with}
+use Rattle.query_answers.proofs.ExcludedLemmas.{asked_about}
+use Rattle.query_answers.proofs.TestLemmas.{asked_of, index_there, refuted_one, tests_one}
 
--- of these queries one alone comes here
-only_some : (problem : Problem) → IsOne problem → IsCoveredBy problem SemiStable → problem ≡ SomeExtension
-only_some Credulous one covered = absurd covered
-only_some Sceptical one covered = absurd covered
-only_some SomeExtension one covered = refl
-only_some AllExtensions one covered = absurd one
-
-pub is_some : (f : Framework) (asked : Asked) → AsksBy f asked SemiStable → asked.task.problem ≡ SomeExtension
-is_some f asked h =
-    only_some asked.task.problem h.query.one
-    (subst (λ (s : Semantics). IsCoveredBy asked.task.problem s) h.same h.query.covered)
+-- ---- one semi-stable set
 
 no_number : (number : Option ℕ) → FitsTask SomeExtension number → number ≡ None
 no_number None fits = refl
@@ -42,13 +38,70 @@ widest_with (af f) log set found h = record {
 }
 
 pub widest_evidence : (f : Framework) (log : OracleLog) (asked : Asked) (set : List ℕ) (found : Widest)
-    → AsksBy f asked SemiStable → FitsTask asked.task.problem asked.number → IsWidestFrom f log Ad set found
+    → AsksSemiStable f asked → FitsTask asked.task.problem asked.number → IsWidestFrom f log Ad set found
     → IsEvidence f asked log (evidence_with SomeExtension found.set found.refutation)
 widest_evidence f log asked set found h fits is =
     let shown = evidence_with SomeExtension found.set found.refutation in
-    let single = is_some f asked h in
-    let none = no_number asked.number (subst (λ (p : Problem). FitsTask p asked.number) single fits) in
-    subst (λ (p : Problem). IsEvidence f (asked_of p asked.task.semantics asked.number) log shown) (sym single)
-    (subst (λ (s : Semantics). IsEvidence f (asked_of SomeExtension s asked.number) log shown) (sym h.same)
+    let none = no_number asked.number (subst (λ (t : Task). FitsTask t.problem asked.number) h.same fits) in
+    subst (λ (t : Task). IsEvidence f (record { task = t; number = asked.number }) log shown) (sym h.same)
     (subst (λ (n : Option ℕ). IsEvidence f (asked_of SomeExtension SemiStable n) log shown) (sym none)
-    (widest_with f log set found is)))
+    (widest_with f log set found is))
+
+-- ---- whether one makes the literal true
+
+witness_shown : (f : Framework) (log : OracleLog) (q : ℕ) (accepted : Bool) (found : Widest)
+    → IsDecided f log q accepted (Witness found)
+    → IsEvidence f (asked_of (problem_of accepted) SemiStable (Some q)) log
+    (decided_evidence (problem_of accepted) (Witness found))
+witness_shown (af f) log q true found h = record {
+  tests = tests_one (af f) (asked_of (problem_of true) SemiStable (Some q)) (WidestRow found.set) found.set tt
+      (h.has_range.admissible, h.makes_it) tt tt refl;
+  refuted = refuted_one (af f) log (wider_claim (af f) Ad found.set) found.refutation h.refuted;
+}
+witness_shown (af f) log q false found h = record {
+  tests = tests_one (af f) (asked_of (problem_of false) SemiStable (Some q)) (WidestRow found.set) found.set tt
+      (h.has_range.admissible, h.makes_it) tt tt refl;
+  refuted = refuted_one (af f) log (wider_claim (af f) Ad found.set) found.refutation h.refuted;
+}
+
+cover_shown : (f : Framework) (log : OracleLog) (q : ℕ) (accepted : Bool) (sets : List (List ℕ)) (steps : List ℕ)
+    → IsDecided f log q accepted (NoWitness sets steps)
+    → IsEvidence f (asked_of (problem_of accepted) SemiStable (Some q)) log
+    (decided_evidence (problem_of accepted) (NoWitness sets steps))
+cover_shown (af f) log q true sets steps h = record {
+  tests = record {
+    shape = tt;
+    witnesses = λ k lt. absurd (omega arith);
+    order = tt;
+    grounded = tt;
+    count = tt;
+    each_set = λ k lt. h.each (slice_index_or sets k []) (index_there sets k lt);
+  };
+  refuted = h.refuted;
+}
+cover_shown (af f) log q false sets steps h = record {
+  tests = record {
+    shape = tt;
+    witnesses = λ k lt. absurd (omega arith);
+    order = tt;
+    grounded = tt;
+    count = tt;
+    each_set = λ k lt. h.each (slice_index_or sets k []) (index_there sets k lt);
+  };
+  refuted = h.refuted;
+}
+
+decided_shown : (f : Framework) (log : OracleLog) (q : ℕ) (accepted : Bool) (deciding : Deciding)
+    → IsDecided f log q accepted deciding
+    → IsEvidence f (asked_of (problem_of accepted) SemiStable (Some q)) log
+    (decided_evidence (problem_of accepted) deciding)
+decided_shown f log q accepted (Witness found) h = witness_shown f log q accepted found h
+decided_shown f log q accepted (NoWitness sets steps) h = cover_shown f log q accepted sets steps h
+
+pub semi_stable_shown : (f : Framework) (log : OracleLog) (asked : Asked) (q : ℕ) (accepted : Bool)
+    (deciding : Deciding) → AsksAbout f asked (problem_of accepted) SemiStable q → IsDecided f log q accepted deciding
+    → IsEvidence f asked log (decided_evidence asked.task.problem deciding)
+semi_stable_shown f log asked q accepted deciding h is =
+    subst (λ (x : Asked). IsEvidence f x log (decided_evidence x.task.problem deciding))
+    (sym (asked_about f asked (problem_of accepted) SemiStable q h))
+    (decided_shown f log q accepted deciding is)

@@ -8,7 +8,6 @@ use Rattle.iccma_tasks.specs.declared.task.Problem.{Problem}
 use Rattle.iccma_tasks.specs.declared.task.Problem.TheVariants.{Credulous, Sceptical, SomeExtension, AllExtensions}
 use Rattle.iccma_tasks.specs.declared.task.Semantics.{Semantics}
 use Rattle.iccma_tasks.specs.declared.task.Semantics.TheVariants.{Complete, Grounded, Preferred, Stable, SemiStable}
-use Rattle.iccma_tasks.specs.declared.task.Task.{Task}
 use Rattle.iccma_tasks.specs.Tasks.{Asked, task_of}
 use Rattle.certificate_claims.specs.Acceptance.{Tests}
 use Rattle.certificate_claims.specs.Claims.{claims, row_of, sets_of}
@@ -53,15 +52,6 @@ is_by_grounded Sceptical Complete = true
 is_by_grounded SomeExtension Complete = true
 is_by_grounded problem semantics = false
 
--- whether a semi-stable set accepts a query, or each does, is not answered here
-abbrev pub IsCoveredBy : Problem → Semantics → Type 0
-IsCoveredBy Credulous SemiStable = ⊥
-IsCoveredBy Sceptical SemiStable = ⊥
-IsCoveredBy _ _ = Unit {0}
-
-abbrev pub IsCovered : Task → Type 0
-IsCovered task = IsCoveredBy task.problem task.semantics
-
 -- one set answers the problem, or that there is none
 abbrev pub IsOne : Problem → Type 0
 IsOne AllExtensions = ⊥
@@ -72,7 +62,6 @@ pub record AsksOne (f : Framework) (asked : Asked) : Type 0 where
   pub fits : Fits f asked
   pub one : IsOne asked.task.problem
   pub by_search : is_by_grounded asked.task.problem asked.task.semantics ≡ false
-  pub covered : IsCovered asked.task
 
 -- such a query by this semantics
 pub record AsksBy (f : Framework) (asked : Asked) (semantics : Semantics) : Type 0 where
@@ -90,6 +79,16 @@ pub record AsksAbout (f : Framework) (asked : Asked) (problem : Problem) (semant
     pub fits : Fits f asked
     pub same : asked.task ≡ task_of problem semantics
     pub about : asked.number ≡ Some goal
+
+-- the query for one semi-stable set
+pub record AsksSemiStable (f : Framework) (asked : Asked) : Type 0 where
+  pub fits : Fits f asked
+  pub same : asked.task ≡ task_of SomeExtension SemiStable
+
+-- a set that accepts the number shows YES to DC, and one that doesn't shows NO to DS
+abbrev pub problem_of : Bool → Problem
+problem_of true = Credulous
+problem_of false = Sceptical
 
 -- ---- what is searched for
 

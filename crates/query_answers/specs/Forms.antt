@@ -12,6 +12,8 @@ use Rattle.ideal_set.specs.declared.searching.IdealSet.{IdealSet}
 use Rattle.enumerate_block.specs.declared.extensions.Extensions.{Extensions}
 use Rattle.enumerate_block.specs.declared.extensions.Extensions.TheVariants.{All, TooMany as MoreThanListed}
 use Rattle.enumerate_block.specs.Extensions.{answer_of}
+use Rattle.semi_stable_query.specs.declared.deciding.Deciding.{Deciding}
+use Rattle.semi_stable_query.specs.declared.deciding.Deciding.TheVariants.{Witness, NoWitness}
 use Rattle.query_answers.specs.declared.evidence.Evidence.{Evidence}
 use Rattle.query_answers.specs.declared.evidence.Outcome.{Outcome}
 use Rattle.query_answers.specs.declared.evidence.Outcome.TheVariants.{Shown, TooMany}
@@ -39,6 +41,12 @@ evidence_with problem set step = record { answer = shown_with problem set; sets 
 abbrev pub sceptical_evidence : Accepting → Evidence
 sceptical_evidence (Counter found) = evidence_with Sceptical found.set found.refutation
 sceptical_evidence (Cover sets step) = record { answer = shown_without Sceptical; sets = sets; steps = step ∷ [] }
+
+-- a semi-stable set that shows the answer, or a cover of ranges that shows the other
+abbrev pub decided_evidence : Problem → Deciding → Evidence
+decided_evidence problem (Witness found) = evidence_with problem found.set found.refutation
+decided_evidence problem (NoWitness sets steps) =
+    record { answer = shown_without problem; sets = sets; steps = steps }
 
 -- the ideal set shows that it accepts the query, or that it doesn't, and else the answer names no set
 abbrev pub ideal_answer : Problem → Bool → List ℕ → Answer

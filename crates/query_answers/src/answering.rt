@@ -5,14 +5,14 @@ ghost use Rattle.edit_rules.specs.Fitting.{Fits};
 ghost use Rattle.oracle_face.specs.Growing.{HasRun, halt_of};
 ghost use Rattle.oracle_face.specs.Logs.{IsKept};
 ghost use Rattle.session_log.specs.Ends.{MadeFor};
-ghost use Rattle.query_answers.specs.Answers.{AsksOne, IsCovered, IsEvidence, IsOutcome, is_by_grounded};
+ghost use Rattle.query_answers.specs.Answers.{AsksOne, IsEvidence, IsOutcome, is_by_grounded};
 
 use crate::all::all_extensions;
 use crate::evidence::{Evidence, Outcome};
 use crate::excluded::{complete, stable};
 use crate::ideal::by_ideal_set;
 use crate::largest::preferred;
-use crate::widest::semi_stable_set;
+use crate::widest::semi_stable;
 use iccma_tasks::{Problem, Query, Semantics};
 use oracle_face::{Budget, Halt, Oracle};
 use std::alloc::Global;
@@ -29,7 +29,6 @@ pub fn answer<O: Oracle>(
 ) -> Result<Outcome, Halt>
     requires fits { Fits (O.framework oracle.old) query.now }
     requires by_search { is_by_grounded query.now.task.problem query.now.task.semantics ≡ false }
-    requires covered { IsCovered query.now.task }
     ensures outcome { IfOk result (IsOutcome (O.framework oracle.old) query.now most (O.log oracle.new)) }
     ensures run { HasRun (MadeFor (O.framework oracle.old) query.now) (2 * length (O.log oracle.new).sides + 2)
         (O.framework oracle.old) (O.log oracle.old) (O.log oracle.new) (O.pending oracle.new) budget.old budget.new
@@ -67,7 +66,7 @@ fn one<O: Oracle>(
         Semantics::Complete => complete(alloc, oracle, budget, query),
         Semantics::Stable => stable(alloc, oracle, budget, query),
         Semantics::Preferred => preferred(alloc, oracle, budget, query),
-        Semantics::SemiStable => semi_stable_set(alloc, oracle, budget, query),
+        Semantics::SemiStable => semi_stable(alloc, oracle, budget, query),
         Semantics::Ideal => by_ideal_set(alloc, oracle, budget, query),
         Semantics::Grounded => unreachable!(),
     }

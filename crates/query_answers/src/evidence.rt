@@ -2,14 +2,15 @@
 
 ghost use Rattle.std.specs.Prelude.{◌≡◌, [], ◌∷◌, IfOk};
 ghost use Rattle.iccma_tasks.specs.declared.task.Problem.TheVariants.{Sceptical};
-ghost use Rattle.query_answers.specs.Forms.{evidence_of, evidence_with, ideal_answer, ideal_evidence};
-ghost use Rattle.query_answers.specs.Forms.{sceptical_evidence, shown_with, shown_without};
+ghost use Rattle.query_answers.specs.Forms.{decided_evidence, evidence_of, evidence_with, ideal_answer};
+ghost use Rattle.query_answers.specs.Forms.{ideal_evidence, sceptical_evidence, shown_with, shown_without};
 
 use cegar_preferred::Accepting;
 use iccma_tasks::{Answer, Problem};
 use ideal_set::IdealSet;
 use oracle_face::{Found, StepId};
 use plain_lists::{Items, Memory};
+use semi_stable_query::Deciding;
 use set_lists::NumSet;
 use std::alloc::Global;
 
@@ -112,6 +113,24 @@ pub(crate) fn of_accepting(alloc: Global, accepting: Accepting) -> Result<Eviden
         Accepting::Cover(sets, step) => {
             by_step(alloc, without_set(Problem::Sceptical), sets, step)
         }
+    }
+}
+
+/// Whether a semi-stable set shows the answer: by one that does, or a cover of ranges that shows that none does.
+pub(crate) fn of_deciding(
+    alloc: Global,
+    problem: Problem,
+    deciding: Deciding,
+) -> Result<Evidence, Memory>
+    ensures { IfOk result (λ evidence. evidence ≡ decided_evidence problem deciding) }
+{
+    match deciding {
+        Deciding::Witness(found) => of_set(alloc, problem, found.set, found.refutation),
+        Deciding::NoWitness(sets, steps) => Ok(Evidence {
+            answer: without_set(problem),
+            sets,
+            steps,
+        }),
     }
 }
 

@@ -1,14 +1,8 @@
 use Rattle.std.proofs.Common.{◌≡◌, ◌∙◌, sym, Err}
 use Rattle.argue_outside.specs.declared.Role.TheVariants.{Framework}
-use Rattle.argue_words.specs.Words.{solve_texts}
 use Rattle.argue_program.specs.declared.ended.Status.TheVariants.{ReadFault}
-use Rattle.argue_program.proofs.QueryLemmas.{solving_solves}
 use Rattle.argue_program.proofs.RowsLemmas.{solve_stopped}
 use Rattle.argue_program.proofs.decision.solve.Goals as goal
-
-pub solve_file-requires : goal.solve_file-requires
-solve_file-requires g c =
-    solving_solves (solve_texts c.args.words) c.in-Some.query (sym c.solving_of.ensures ∙ c.in-Some.is)
 
 pub returns-in-Err-clause-ending : goal.returns-in-Err-clause-ending
 returns-in-Err-clause-ending g c =
