@@ -3,11 +3,11 @@ use Rattle.std.proofs.Common.{◌≡◌, inl, inr, ⊎_elim, ℕ, List, refl, sy
 use Rattle.std.specs.Prelude.{◌↔◌, Contains}
 use Rattle.plain_lists.specs.Members.{IsSetOf, IsWithin}
 use Rattle.semantics.specs.Framework.{Af, IsAf, Attacks, IsAttackedBy, IsConflictFree, IsAdmissible, IsComplete, IsGrounded, IsInRange}
-use Rattle.semantics.proofs.Decided.{Decided, decide_attacked, decide_both, decide_not, decide_some}
+use Rattle.semantics.proofs.Decided.{decide_attacked, decide_both, decide_not, decide_some}
 use Rattle.semantics.proofs.Existence.{preferred_round}
 use Rattle.semantics.proofs.Extensions.{preferred_complete}
 use Rattle.std.proofs.lemmas.Bool.{cases_eq}
-use Rattle.admissible_part.specs.Parts.{IsAdmissiblePart, IsLargestPart}
+use Rattle.admissible_part.specs.Parts.{IsLargestPart}
 use Rattle.admissible_part.specs.Rounds.{IsRound}
 
 -- the members that are left are those that the grounded set doesn't attack

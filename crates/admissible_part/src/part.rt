@@ -34,11 +34,7 @@ fn add_attacks_of(
 }
 
 /// The attacks that have an end in a set.
-fn attacks_round(
-    alloc: Global,
-    plain: &AfPlain,
-    set: &NumSet,
-) -> Result<Vec<(u32, u32)>, Memory>
+fn attacks_round(alloc: Global, plain: &AfPlain, set: &NumSet) -> Result<Vec<(u32, u32)>, Memory>
     ensures { IfOk result (λ found. (p : ℕ × ℕ) → Contains found.items p ↔ HasEndIn plain.now set.now p) }
 {
     let mut found = Vec::new(alloc);

@@ -1,9 +1,9 @@
 -- What is left of a set without what admissible sets attack.
-use Rattle.std.proofs.Common.{◌≡◌, ◌≢◌, ◌∙◌, inl, inr, ⊎_elim, ℕ, ◌+◌, List, [], ◌∷◌, ◌++◌, length, refl, sym, subst}
+use Rattle.std.proofs.Common.{◌≡◌, ◌≢◌, ℕ, List, [], ◌∷◌, ◌++◌, sym, subst}
 use Rattle.std.specs.Prelude.{◌⊎◌, Contains, Result, Ok, Err, IfOk}
 use Rattle.plain_lists.specs.Members.{IsSetOf, IsWithin}
 use Rattle.plain_lists.specs.declared.memory.Memory.{Memory}
-use Rattle.semantics.specs.Framework.{Af, Attacks, IsAdmissible, IsConflictFree}
+use Rattle.semantics.specs.Framework.{Af, IsAdmissible, IsConflictFree}
 use Rattle.semantics.specs.Frameworks.{Framework, af}
 use Rattle.meaning_atoms.specs.declared.atom.Atom.TheVariants.{Ad}
 use Rattle.meaning_atoms.specs.Worlds.{HoldsOf}

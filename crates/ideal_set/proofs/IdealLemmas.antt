@@ -1,6 +1,6 @@
 -- Attackers of a set, and the ideal set.
 use Rattle.std.proofs.Common.{◌≡◌, ◌↔◌, inl, inr, ⊎_elim, ℕ, ◌+◌, ◌*◌, ◌<◌, ◌≤◌, not, List, [], ◌∷◌, ◌++◌, length, filter, refl, ap, sym, subst, ◌∙◌, arith}
-use Rattle.std.specs.Prelude.{Contains, Result, Ok, IfOk, Option, None, Some, ◌⊎◌, slice_index_or}
+use Rattle.std.specs.Prelude.{Contains, Result, Ok, IfOk, Option, None, ◌⊎◌, slice_index_or}
 use Rattle.std.specs.List.{list_any}
 use Rattle.std.specs.List.Sorted.{IsStrictlyIncreasing}
 use Rattle.meaning_atoms.specs.AtomText.{numbers_of}
@@ -10,7 +10,6 @@ use Rattle.std.proofs.lemmas.List.Elements.{Contains-append_left, Contains-appen
 use Rattle.plain_lists.specs.Members.{IsWithin, IsSetOf}
 use Rattle.plain_lists.proofs.Membership.{Contains-nil, Contains-head, Contains-pushed}
 use Rattle.plain_lits.specs.declared.halt.Halt.{Halt}
-use Rattle.plain_lits.specs.declared.halt.Halt.TheVariants.{Memory}
 use Rattle.plain_lits.specs.Units.{Units}
 use Rattle.plain_lits.proofs.HintCheckLemmas.{Contains-mapped, Contains-from_mapped}
 use Rattle.semantics.specs.Framework.{Af}
@@ -35,9 +34,9 @@ use Rattle.oracle_face.specs.declared.face.Pending.{Pending}
 use Rattle.oracle_face.specs.Growing.{Grows, HasRun, IsFound, Making, OnlySide, closes}
 use Rattle.oracle_face.specs.Kinds.{IsRanged}
 use Rattle.oracle_face.specs.Logs.{IsKept, IsNumberOf, IsSameClause, OracleLog, SideClause, side_at}
-use Rattle.oracle_face.proofs.GrowingLemmas.{Makes, grows_same, run_as}
+use Rattle.oracle_face.proofs.GrowingLemmas.{Makes}
 use Rattle.oracle_face.proofs.Refuting.{claim_excluded, grown_side, number_grown, refutes_claim, refutes_grown}
-use Rattle.goal_lists.specs.Asking.{AreApart, goals_of, IsAskableBeside}
+use Rattle.goal_lists.specs.Asking.{goals_of, IsAskableBeside}
 use Rattle.goal_lists.specs.Sides.{IsAskOf, IsFoundBeside}
 use Rattle.goal_lists.proofs.AskedGoals.{asked_there, asked_true, attacked_side, attacked_speaks, attacks_one, within_claim}
 use Rattle.goal_lists.proofs.Calls.{apart_pushed, asks_fit, found_mode, then_same}
@@ -45,7 +44,7 @@ use Rattle.goal_lists.proofs.Measures.{fewer_outside}
 use Rattle.goal_lists.proofs.SideLemmas.{ask_claim, beside_means, this_one}
 use Rattle.ideal_set.specs.declared.attackers.Attackers.{Attackers}
 use Rattle.ideal_set.specs.declared.free.Free.{Free}
-use Rattle.ideal_set.specs.Ideals.{Attacks, Hits, IsAsked, IsCut, IsFree, IsHit, IsIdealFound, IsLargestFree, IsSearch, MadeForIdeal, attacked_claim, free_claim}
+use Rattle.ideal_set.specs.Ideals.{Attacks, Hits, IsAsked, IsCut, IsFree, IsIdealFound, IsLargestFree, IsSearch, MadeForIdeal, attacked_claim, free_claim}
 use Rattle.ideal_set.specs.declared.searching.IdealSet.{IdealSet}
 use Rattle.ideal_set.proofs.FreeLemmas.{free_plain}
 

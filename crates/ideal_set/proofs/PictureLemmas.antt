@@ -46,7 +46,7 @@ pairs_more b targets n old new lt before p =
       λ h. ⊎_elim (λ o. Contains-append_left new ((b, t) ∷ []) p ((before p).1 (inl o)))
           (λ w. ⊎_elim (λ k. Contains-append_left new ((b, t) ∷ []) p ((before p).1 (inr (w.0, k))))
           (λ (e : t ≡ p.1). subst (λ (q : ℕ × ℕ). Contains (new ++ (b, t) ∷ []) q) (same b t p w.0 e)
-              (Contains-push new (b, t)))
+          (Contains-push new (b, t)))
           (Contains-push_cases (take n targets) t p.1 (rw is at w.1))) h,
     )
   where
@@ -60,14 +60,21 @@ pairs_all f b single range targets n old new is ranged less end has p =
     let whole = take_all n targets end in (
       λ c. ⊎_elim (λ o. inl o)
           (λ w. let m = (less.members p.1).0 (subst (λ (xs : List ℕ). Contains xs p.1) whole w.1) in
-          inr (w.0, subst (λ (s : List ℕ). IsRanged f s p.1) is ((ranged.members p.1).0 m.0), λ e. m.1
-          (subst (λ (s : List ℕ). Contains s p.1) (sym is) (Contains-head b [] p.1 (sym e)))))
+          inr (
+            w.0,
+            subst (λ (s : List ℕ). IsRanged f s p.1) is ((ranged.members p.1).0 m.0),
+            λ e. m.1
+                (subst (λ (s : List ℕ). Contains s p.1) (sym is) (Contains-head b [] p.1 (sym e))),
+          ))
           ((has p).0 c),
       λ h. (has p).1 (⊎_elim (λ o. inl o)
-          (λ w. inr (w.0, subst (λ (xs : List ℕ). Contains xs p.1) (sym whole) ((less.members p.1).1 (
-            (ranged.members p.1).1 (subst (λ (s : List ℕ). IsRanged f s p.1) (sym is) w.1),
-            λ c. w.2 (only b p.1 (subst (λ (s : List ℕ). Contains s p.1) is c)),
-          ))))
+          (λ w. inr (
+            w.0,
+            subst (λ (xs : List ℕ). Contains xs p.1) (sym whole) ((less.members p.1).1 (
+              (ranged.members p.1).1 (subst (λ (s : List ℕ). IsRanged f s p.1) (sym is) w.1),
+              λ c. w.2 (only b p.1 (subst (λ (s : List ℕ). Contains s p.1) is c)),
+            )),
+          ))
           h),
     )
 

@@ -1,15 +1,13 @@
-use Rattle.std.proofs.Common.{◌≡◌, ◌∙◌, ◌+◌, ◌≤◌, ℕ, List, None, arith, length, refl, rules, subst, sym}
-use Rattle.plain_lists.specs.Members.{IsWithin}
+use Rattle.std.proofs.Common.{◌∙◌, ◌+◌, ◌≤◌, ℕ, List, arith, refl, rules, subst, sym}
 use Rattle.plain_lists.proofs.Membership.{IsWithin-refl}
 use Rattle.plain_lits.specs.declared.halt.Halt.TheVariants.{Memory}
-use Rattle.semantics.specs.Framework.{Af}
 use Rattle.semantics.specs.Frameworks.{Framework, IsNumbered}
 use Rattle.meaning_atoms.specs.declared.atom.Atom.TheVariants.{Ad}
 use Rattle.meaning_atoms.specs.Worlds.{HoldsOf}
 use Rattle.oracle_face.specs.declared.face.Found.TheVariants.{Set, Refuted}
 use Rattle.oracle_face.proofs.GrowingLemmas.{run_none}
 use Rattle.goal_lists.proofs.Calls.{closes_refuted, closes_set, makes_same, run_handed, then_refused, then_same}
-use Rattle.ideal_set.specs.Ideals.{AreAttackers, IsCut, IsFree, IsPicture, MadeForIdeal}
+use Rattle.ideal_set.specs.Ideals.{IsCut, IsFree, IsPicture, MadeForIdeal}
 use Rattle.ideal_set.proofs.IdealLemmas.{asked_turn, fewer_left, hit_stays, hit_within, one_more, search_cut}
 use Rattle.ideal_set.proofs.attackers.prune.Goals as goal
 

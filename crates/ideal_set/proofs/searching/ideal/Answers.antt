@@ -1,15 +1,13 @@
-use Rattle.std.proofs.Common.{◌≡◌, ◌∙◌, ◌+◌, ◌*◌, ◌≤◌, ℕ, List, [], None, arith, length, refl, rules, subst, sym}
-use Rattle.plain_lists.specs.Members.{IsWithin}
+use Rattle.std.proofs.Common.{◌∙◌, ◌+◌, ◌*◌, None, arith, length, subst, sym}
 use Rattle.plain_lits.specs.declared.halt.Halt.TheVariants.{Memory}
 use Rattle.semantics.specs.Frameworks.{Framework, IsNumbered}
 use Rattle.meaning_atoms.specs.declared.atom.Atom.TheVariants.{Ad}
 use Rattle.meaning_atoms.specs.Worlds.{HoldsOf}
-use Rattle.certificate_claims.specs.SetLiterals.{members}
 use Rattle.oracle_face.specs.declared.face.Found.TheVariants.{Set, Refuted}
-use Rattle.oracle_face.proofs.GrowingLemmas.{grows_same, run_as, run_none}
+use Rattle.oracle_face.proofs.GrowingLemmas.{grows_same, run_as}
 use Rattle.goal_lists.proofs.Calls.{closes_refuted, closes_set, makes_same, run_handed, then_refused, then_same}
 use Rattle.ideal_set.specs.Ideals.{AreAttackers, IsCut, IsFree, IsPruned, MadeForIdeal}
-use Rattle.ideal_set.proofs.IdealLemmas.{fewer_left, grown_turn, hit_within, is_ideal, one_more, search_begun, search_cut, turned, within_bound}
+use Rattle.ideal_set.proofs.IdealLemmas.{fewer_left, grown_turn, hit_within, is_ideal, one_more, search_cut, turned, within_bound}
 use Rattle.ideal_set.proofs.searching.ideal.Goals as goal
 
 pub largest_free-requires-clause-hit : goal.largest_free-requires-clause-hit
