@@ -1,6 +1,6 @@
 -- Attackers of a set, and the ideal set.
 use Rattle.std.proofs.Common.{◌≡◌, ◌↔◌, inl, inr, ⊎_elim, ℕ, ◌+◌, ◌*◌, ◌<◌, ◌≤◌, not, List, [], ◌∷◌, ◌++◌, length, filter, refl, ap, sym, subst, ◌∙◌, arith}
-use Rattle.std.specs.Prelude.{Contains, Result, Ok, IfOk, Option, None, Some, ◌⊎◌, slice_index_or}
+use Rattle.std.specs.Prelude.{Contains, Result, Ok, IfOk, Option, None, ◌⊎◌, slice_index_or}
 use Rattle.std.specs.List.{list_any}
 use Rattle.std.specs.List.Sorted.{IsStrictlyIncreasing}
 use Rattle.meaning_atoms.specs.AtomText.{numbers_of}
@@ -10,7 +10,6 @@ use Rattle.std.proofs.lemmas.List.Elements.{Contains-append_left, Contains-appen
 use Rattle.plain_lists.specs.Members.{IsWithin, IsSetOf}
 use Rattle.plain_lists.proofs.Membership.{Contains-nil, Contains-head, Contains-pushed}
 use Rattle.plain_lits.specs.declared.halt.Halt.{Halt}
-use Rattle.plain_lits.specs.declared.halt.Halt.TheVariants.{Memory}
 use Rattle.plain_lits.specs.Units.{Units}
 use Rattle.plain_lits.proofs.HintCheckLemmas.{Contains-mapped, Contains-from_mapped}
 use Rattle.semantics.specs.Framework.{Af}
@@ -35,16 +34,17 @@ use Rattle.oracle_face.specs.declared.face.Pending.{Pending}
 use Rattle.oracle_face.specs.Growing.{Grows, HasRun, IsFound, Making, OnlySide, closes}
 use Rattle.oracle_face.specs.Kinds.{IsRanged}
 use Rattle.oracle_face.specs.Logs.{IsKept, IsNumberOf, IsSameClause, OracleLog, SideClause, side_at}
-use Rattle.oracle_face.proofs.GrowingLemmas.{Makes, grows_same, run_as}
+use Rattle.oracle_face.proofs.GrowingLemmas.{Makes}
 use Rattle.oracle_face.proofs.Refuting.{claim_excluded, grown_side, number_grown, refutes_claim, refutes_grown}
-use Rattle.goal_lists.specs.Asking.{AreApart, goals_of, IsAskableBeside}
+use Rattle.goal_lists.specs.Asking.{goals_of, IsAskableBeside}
 use Rattle.goal_lists.specs.Sides.{IsAskOf, IsFoundBeside}
 use Rattle.goal_lists.proofs.AskedGoals.{asked_there, asked_true, attacked_side, attacked_speaks, attacks_one, within_claim}
-use Rattle.goal_lists.proofs.Calls.{apart_pushed, few_asks, found_mode, makes_same, then_refused, then_same}
+use Rattle.goal_lists.proofs.Calls.{apart_pushed, asks_fit, found_mode, then_same}
 use Rattle.goal_lists.proofs.Measures.{fewer_outside}
 use Rattle.goal_lists.proofs.SideLemmas.{ask_claim, beside_means, this_one}
+use Rattle.ideal_set.specs.declared.attackers.Attackers.{Attackers}
 use Rattle.ideal_set.specs.declared.free.Free.{Free}
-use Rattle.ideal_set.specs.Ideals.{Attacks, Hits, IsAsked, IsFree, IsHit, IsIdealFound, IsLargestFree, MadeForIdeal, attacked_claim, free_claim}
+use Rattle.ideal_set.specs.Ideals.{Attacks, Hits, IsAsked, IsCut, IsFree, IsIdealFound, IsLargestFree, IsSearch, MadeForIdeal, attacked_claim, free_claim}
 use Rattle.ideal_set.specs.declared.searching.IdealSet.{IdealSet}
 use Rattle.ideal_set.proofs.FreeLemmas.{free_plain}
 
@@ -151,18 +151,6 @@ hits_members (af f) s a ok k = (ok.form.ends k.0 a k.2).1
 
 -- ---- the search
 
--- the sets found so far, what they attack, and different side clauses, one for each, of which each has something that
--- is attacked
-pub record IsSearch (f : Framework) (log : OracleLog) (others : List (List ℕ)) (hit : List ℕ) : Type 0 where
-  pub admissible : (t : List ℕ) → Contains others t → HoldsOf f t Ad
-  pub hits : IsSetOf (IsHit f others) hit
-  pub asks : List ℕ
-  pub apart : AreApart asks
-  pub count : length asks ≡ length others
-  pub named : (n : ℕ) → Contains asks n → IsNumberOf log.sides n
-  pub spent : (n : ℕ) → Contains asks n
-      → (a : ℕ) × Contains hit a × Contains (side_at log.sides n).literals (affirmed (Tail a 1))
-
 pub search_begun : (f : Framework) (log : OracleLog) (others : List (List ℕ)) (hit : List ℕ) → others ≡ [] → hit ≡ []
     → IsSearch f log others hit
 search_begun f log others hit none empty = record {
@@ -261,36 +249,19 @@ search_more f log others hit e other more h free adm attack ask all = record {
       (Contains-append_cases h.asks (ask.0 ∷ []) n c);
 }
 
--- what is attacked grows by a member of the framework
-pub fewer_unhit : (f : Framework) (hit e other more : List ℕ) → IsNumbered f → IsFree f hit e
-    → ((a : ℕ) × Contains e a × Hits f other a) → IsWithin hit (members f)
-    → IsSetOf (λ a. Contains hit a ⊎ Hits f other a) more
-    → length (filter (λ x. not (has more x)) (members f)) < length (filter (λ x. not (has hit x)) (members f))
-fewer_unhit f hit e other more ok free attack live all =
-    fewer_outside (members f) hit more
-    (λ a c. ⊎_elim (λ k. live a k) (λ k. hits_members f other a ok k) ((all.members a).0 c))
-    (λ a c. (all.members a).1 (inl c))
-    (λ sub. free.apart attack.0 attack.1 (sub attack.0 ((all.members attack.0).1 (inr attack.2))))
-
--- there are not many turns
-pub few_turns : (f : Framework) (P : Making) (old new : OracleLog) (others : List (List ℕ)) (hit : List ℕ)
-    → IsSearch f old others hit → Grows P old new → length others + 1 ≤ 2 * length new.sides + 2
-few_turns f P old new others hit h grows =
-    let few = few_asks h.asks old.sides h.apart h.named in
+-- there are no more sets than side clauses
+few_sets : (f : Framework) (P : Making) (old new : OracleLog) (others : List (List ℕ)) (hit : List ℕ)
+    → IsSearch f old others hit → Grows P old new → length others ≤ length new.sides
+few_sets f P old new others hit h grows =
+    let few = asks_fit h.asks old.sides h.apart h.named in
     let count = h.count in
     let more : length new.sides ≡ length (old.sides ++ grows.more_sides.0) = ap length grows.more_sides.1 in
     omega (arith, few, count, more, length-append old.sides grows.more_sides.0)
 
-pub few_turns_at_end : (f : Framework) (P : Making) (old new : OracleLog) (others : List (List ℕ)) (hit e : List ℕ)
-    → IsSearch f old others hit → Grows P old new → ((n : ℕ) × IsAskOf new.sides (attacked f e) n)
-    → length others + 2 ≤ 2 * length new.sides + 2
-few_turns_at_end f P old new others hit e h grows ask =
-    let few = few_asks h.asks old.sides h.apart h.named in
-    let count = h.count in
-    let low = ask.1.number.from_one in
-    let high = ask.1.number.within in
-    let more : length new.sides ≡ length (old.sides ++ grows.more_sides.0) = ap length grows.more_sides.1 in
-    omega (arith, few, count, low, high, more, length-append old.sides grows.more_sides.0)
+-- two steps for each of them, and two more, are within the bound
+pub within_bound : (f : Framework) (P : Making) (old new : OracleLog) (others : List (List ℕ)) (hit : List ℕ) (m : ℕ)
+    → m ≤ 2 → IsSearch f old others hit → Grows P old new → 2 * length others + m ≤ 2 * length new.sides + 2
+within_bound f P old new others hit m few h grows = omega (arith, few, few_sets f P old new others hit h grows)
 
 -- ---- the ideal set
 
@@ -335,68 +306,95 @@ is_ideal f g log found hit same was h free two one =
 
 -- ---- what a turn leaves
 
--- after a set has been grown without what is attacked: one closing step more, at most, and the search is where it was
+-- a set has been grown without what is attacked, and so many closing steps were logged so far
 pub record HasGrown (f : Framework) (first log : OracleLog) (p : Option Pending) (u v : Units) (others : List (List ℕ))
-    (hit : List ℕ) (free : Free) : Type 0 where
-  pub ran : HasRun (MadeForIdeal f) (length others + 1) f first log p u v None
+    (hit : List ℕ) (free : Free) (m : ℕ) : Type 0 where
+  pub ran : HasRun (MadeForIdeal f) m f first log p u v None
   pub searched : IsSearch f log others hit
   pub largest : IsLargestFree f log hit free
 
-pub grown_turn : (f g : Framework) (a b c : OracleLog) (p q : Option Pending) (u v w : Units) (others : List (List ℕ))
-    (hit : List ℕ) (free : Free) → g ≡ f → HasRun (MadeForIdeal f) (length others) f a b p u v None
+pub grown_turn : (f g : Framework) (m : ℕ) (a b c : OracleLog) (p q : Option Pending) (u v w : Units)
+    (others : List (List ℕ)) (hit : List ℕ) (free : Free) → g ≡ f → HasRun (MadeForIdeal f) m f a b p u v None
     → IsSearch f b others hit → HasRun (MadeForIdeal g) 1 g b c q v w None → IsLargestFree g c hit free
-    → HasGrown f a c q u w others hit free
-grown_turn f g a b c p q u v w others hit free same before h run largest = record {
-  ran = then_same MadeForIdeal f g (length others) 1 (length others + 1) a b c p q u v w None same (omega arith) before
-      run;
+    → HasGrown f a c q u w others hit free (m + 1)
+grown_turn f g m a b c p q u v w others hit free same before h run largest = record {
+  ran = then_same MadeForIdeal f g m 1 (m + 1) a b c p q u v w None same (omega arith) before run;
   searched = search_grown f (MadeForIdeal g) b c others hit run.grows h;
   largest = subst (λ (x : Framework). IsLargestFree x c hit free) same largest;
 }
 
--- after an admissible set has been searched for that attacks the grown one: so many closing steps more
+-- an admissible set was searched for that attacks a set
 pub record HasAsked (f : Framework) (first log : OracleLog) (p : Option Pending) (u v : Units) (others : List (List ℕ))
-    (hit : List ℕ) (free : Free) (m : ℕ) (found : Found) : Type 0 where
-  pub ran : HasRun (MadeForIdeal f) (length others + 1 + m) f first log p u v None
+    (hit e : List ℕ) (m : ℕ) (found : Found) : Type 0 where
+  pub ran : HasRun (MadeForIdeal f) m f first log p u v None
   pub searched : IsSearch f log others hit
-  pub largest : IsLargestFree f log hit free
-  pub attacks : Attacks f log free.set found
-  pub asked : (n : ℕ) × IsAskOf log.sides (attacked f free.set) n
+  pub attacks : Attacks f log e found
+  pub asked : (n : ℕ) × IsAskOf log.sides (attacked f e) n
 
-pub asked_turn : (f g : Framework) (a b c : OracleLog) (p q : Option Pending) (u v w : Units) (others : List (List ℕ))
-    (hit : List ℕ) (free : Free) (r found : Found) (m : ℕ) → g ≡ f → IsKept g b → HasGrown f a b p u v others hit free
-    → HasRun (MadeForIdeal g) (closes (Ok r)) g b c q v w None → Attacks g c free.set r → IsAsked g c free.set r
-    → r ≡ found → closes (Ok r) ≡ m → HasAsked f a c q u w others hit free m found
-asked_turn f g a b c p q u v w others hit free r found m same kept h run attacks asked is count = record {
-  ran = then_same MadeForIdeal f g (length others + 1) (closes (Ok r)) (length others + 1 + m) a b c p q u v w None same
-      (omega (arith, count)) h.ran run;
-  searched = search_grown f (MadeForIdeal g) b c others hit run.grows h.searched;
-  largest = record {
-    is_free = h.largest.is_free;
-    refuted = refutes_grown f (MadeForIdeal g) b c (free_claim f hit free.set) free.refutation
-        (subst (λ (x : Framework). IsKept x b) same kept).form run.grows h.largest.refuted;
-  };
-  attacks = subst (Attacks f c free.set) is (subst (λ (x : Framework). Attacks x c free.set r) same attacks);
-  asked = subst (λ (x : Framework). (n : ℕ) × IsAskOf c.sides (attacked x free.set) n) same asked;
+pub asked_turn : (f g : Framework) (m n : ℕ) (a b c : OracleLog) (p q : Option Pending) (u v w : Units)
+    (others : List (List ℕ)) (hit e : List ℕ) (r found : Found) → g ≡ f → HasRun (MadeForIdeal f) m f a b p u v None
+    → IsSearch f b others hit → HasRun (MadeForIdeal g) (closes (Ok r)) g b c q v w None → Attacks g c e r
+    → IsAsked g c e r → r ≡ found → closes (Ok r) ≡ n → HasAsked f a c q u w others hit e (m + n) found
+asked_turn f g m n a b c p q u v w others hit e r found same before h run attacks asked is count = record {
+  ran = then_same MadeForIdeal f g m (closes (Ok r)) (m + n) a b c p q u v w None same (omega (arith, count)) before run;
+  searched = search_grown f (MadeForIdeal g) b c others hit run.grows h;
+  attacks = subst (Attacks f c e) is (subst (λ (x : Framework). Attacks x c e r) same attacks);
+  asked = subst (λ (x : Framework). (n : ℕ) × IsAskOf c.sides (attacked x e) n) same asked;
 }
 
--- the turn fits the bound, while it goes on and at its end
-pub fits : (f : Framework) (first log : OracleLog) (p : Option Pending) (u v : Units) (others : List (List ℕ))
-    (hit : List ℕ) (free : Free) (found : Found) → HasAsked f first log p u v others hit free 1 found
-    → HasRun (MadeForIdeal f) (2 * length log.sides + 2) f first log p u v None
-fits f first log p u v others hit free found h =
-    run_as (MadeForIdeal f) (MadeForIdeal f) (length others + 1 + 1) (2 * length log.sides + 2) f first log p u v None
-    (makes_same (MadeForIdeal f))
-    (omega (
-      arith,
-      few_turns_at_end f (MadeForIdeal f) log log others hit free.set h.searched
-          (grows_same (MadeForIdeal f) log) h.asked,
-    )) h.ran
+-- what was refuted before stays refuted
+pub still_largest : (f g : Framework) (a b : OracleLog) (hit : List ℕ) (free : Free) → g ≡ f → IsKept g a
+    → Grows (MadeForIdeal g) a b → IsLargestFree f a hit free → IsLargestFree f b hit free
+still_largest f g a b hit free same kept grows h = record {
+  is_free = h.is_free;
+  refuted = refutes_grown f (MadeForIdeal g) a b (free_claim f hit free.set) free.refutation
+      (subst (λ (x : Framework). IsKept x a) same kept).form grows h.refuted;
+}
 
-pub fits_refused : (f : Framework) (first log : OracleLog) (p : Option Pending) (u v : Units)
-    (others : List (List ℕ)) (hit : List ℕ) (free : Free) (found : Found)
-    → HasAsked f first log p u v others hit free 0 found
-    → HasRun (MadeForIdeal f) (2 * length log.sides + 2) f first log p u v (Some Memory)
-fits_refused f first log p u v others hit free found h =
-    then_refused (MadeForIdeal f) (MadeForIdeal f) (length others + 1 + 0) (2 * length log.sides + 2) f first log p u v
-    (makes_same (MadeForIdeal f))
-    (omega (arith, few_turns f (MadeForIdeal f) log log others hit h.searched (grows_same (MadeForIdeal f) log))) h.ran
+-- a turn: a set was grown, and an admissible set was searched for that attacks it
+pub record HasTurned (f : Framework) (first log : OracleLog) (p : Option Pending) (u v : Units)
+    (others : List (List ℕ)) (hit : List ℕ) (free : Free) (m : ℕ) (found : Found) : Type 0 where
+  pub asked : HasAsked f first log p u v others hit free.set m found
+  pub largest : IsLargestFree f log hit free
+
+pub turned : (f g h : Framework) (m n : ℕ) (a b c d : OracleLog) (p q r : Option Pending) (u v w x : Units)
+    (others : List (List ℕ)) (hit : List ℕ) (free : Free) (answer found : Found) → g ≡ f → h ≡ f → IsKept h c
+    → HasRun (MadeForIdeal f) m f a b p u v None → IsSearch f b others hit
+    → HasRun (MadeForIdeal g) 1 g b c q v w None → IsLargestFree g c hit free
+    → HasRun (MadeForIdeal h) (closes (Ok answer)) h c d r w x None → Attacks h d free.set answer
+    → IsAsked h d free.set answer → answer ≡ found → closes (Ok answer) ≡ n
+    → HasTurned f a d r u x others hit free (m + 1 + n) found
+turned f g h m n a b c d p q r u v w x others hit free answer found same again kept before search grew largest asking
+    attacks asked is count =
+    let grown = grown_turn f g m a b c p q u v w others hit free same before search grew largest in
+    record {
+      asked = asked_turn f h (m + 1) n a c d q r u w x others hit free.set answer found again grown.ran grown.searched
+          asking attacks asked is count;
+      largest = still_largest f h c d hit free again kept asking.grows grown.largest;
+    }
+
+-- one more set, and what is left
+pub search_cut : (f : Framework) (log : OracleLog) (old new : Attackers) (e other left : List ℕ)
+    → IsSearch f log old.sets old.hit → IsFree f old.hit e → HoldsOf f other Ad
+    → ((a : ℕ) × Contains e a × Hits f other a) → ((n : ℕ) × IsAskOf log.sides (attacked f e) n)
+    → IsCut f other old new left → IsSearch f log new.sets new.hit
+search_cut f log old new e other left h free adm attack ask cut =
+    subst (λ (xs : List (List ℕ)). IsSearch f log xs new.hit) (sym cut.sets)
+    (search_more f log old.sets old.hit e other new.hit h free adm attack ask cut.hit)
+
+pub one_more : (f : Framework) (other left : List ℕ) (old new : Attackers) → IsCut f other old new left
+    → length new.sets ≡ length old.sets + 1
+one_more f other left old new cut = ap length cut.sets ∙ length-append old.sets (other ∷ [])
+
+pub hit_stays : (f : Framework) (other left : List ℕ) (old new : Attackers) → IsCut f other old new left
+    → IsWithin old.hit new.hit
+hit_stays f other left old new cut a c = (cut.hit.members a).1 (inl c)
+
+-- something more is attacked
+pub fewer_left : (f : Framework) (log : OracleLog) (old new : Attackers) (e other left more : List ℕ) → IsNumbered f
+    → IsSearch f log old.sets old.hit → IsFree f old.hit e → ((a : ℕ) × Contains e a × Hits f other a)
+    → IsCut f other old new left → IsWithin new.hit more → IsWithin more (members f)
+    → length (filter (λ x. not (has more x)) (members f)) < length (filter (λ x. not (has old.hit x)) (members f))
+fewer_left f log old new e other left more ok h free attack cut sub live =
+    fewer_outside (members f) old.hit more live (λ a c. sub a (hit_stays f other left old new cut a c))
+    (λ back. free.apart attack.0 attack.1 (back attack.0 (sub attack.0 ((cut.hit.members attack.0).1 (inr attack.2)))))

@@ -1,2 +1,4 @@
 pub mod FreeLemmas
+pub mod PictureLemmas
+pub mod AttackerLemmas
 pub mod IdealLemmas

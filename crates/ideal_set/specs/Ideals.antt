@@ -2,11 +2,11 @@
 --
 -- Source: P. M. Dung, P. Mancarella, F. Toni, "Computing ideal sceptical argumentation", Artificial Intelligence 171
 -- (2007): an admissible set that no admissible set attacks lies in every preferred set.
-use Rattle.std.specs.Prelude.{◌⊎◌, ℕ, List, [], ◌∷◌, ◌++◌, Contains}
-use Rattle.plain_lists.specs.Members.{IsWithin}
-use Rattle.semantics.specs.Framework.{IsAttackedBy}
+use Rattle.std.specs.Prelude.{◌≡◌, ◌≢◌, ◌↔◌, ◌⊎◌, ◌≤◌, ℕ, List, [], ◌∷◌, ◌++◌, length, Contains}
+use Rattle.plain_lists.specs.Members.{IsSetOf, IsWithin}
+use Rattle.semantics.specs.Framework.{Af, Attacks as AttacksIn, IsAttackedBy}
 use Rattle.semantics.specs.Frameworks.{Framework, af}
-use Rattle.meaning_atoms.specs.declared.atom.Atom.TheVariants.{Ad}
+use Rattle.meaning_atoms.specs.declared.atom.Atom.TheVariants.{Ad, Tail}
 use Rattle.meaning_atoms.specs.Literals.{affirmed}
 use Rattle.meaning_atoms.specs.Worlds.{HoldsOf}
 use Rattle.iccma_tasks.specs.declared.task.Semantics.TheVariants.{Ideal}
@@ -18,8 +18,11 @@ use Rattle.oracle_face.specs.declared.face.Found.{Found}
 use Rattle.oracle_face.specs.declared.face.Found.TheVariants.{Set, Refuted}
 use Rattle.oracle_face.specs.Goals.{Refutes}
 use Rattle.oracle_face.specs.Growing.{Making}
-use Rattle.oracle_face.specs.Logs.{IsSameClause, OracleLog}
+use Rattle.oracle_face.specs.Kinds.{IsRanged}
+use Rattle.oracle_face.specs.Logs.{IsNumberOf, IsSameClause, OracleLog, side_at}
+use Rattle.goal_lists.specs.Asking.{AreApart}
 use Rattle.goal_lists.specs.Sides.{IsAskOf}
+use Rattle.ideal_set.specs.declared.attackers.Attackers.{Attackers}
 use Rattle.ideal_set.specs.declared.free.Free.{Free}
 use Rattle.ideal_set.specs.declared.searching.IdealSet.{IdealSet}
 
@@ -72,6 +75,49 @@ Attacks f log e (Refuted step) = Refutes f log (attacked_claim f e) step
 -- the log has the side clause that the set is attacked
 abbrev pub IsAsked : Framework → OracleLog → List ℕ → Found → Type 0
 IsAsked f log e found = (n : ℕ) × IsAskOf log.sides (attacked f e) n
+
+-- ---- the search
+
+-- the sets found so far, what they attack, and different side clauses, one for each, of which each has something that
+-- is attacked
+pub record IsSearch (f : Framework) (log : OracleLog) (others : List (List ℕ)) (hit : List ℕ) : Type 0 where
+  pub admissible : (t : List ℕ) → Contains others t → HoldsOf f t Ad
+  pub hits : IsSetOf (IsHit f others) hit
+  pub asks : List ℕ
+  pub apart : AreApart asks
+  pub count : length asks ≡ length others
+  pub named : (n : ℕ) → Contains asks n → IsNumberOf log.sides n
+  pub spent : (n : ℕ) → Contains asks n
+      → (a : ℕ) × Contains hit a × Contains (side_at log.sides n).literals (affirmed (Tail a 1))
+
+abbrev pub AreAttackers : Framework → OracleLog → Attackers → Type 0
+AreAttackers f log found = IsSearch f log found.sets found.hit
+
+-- the list has gained the pairs of the number and each other number in its range, and nothing else
+abbrev pub GainsTargets : Framework → ℕ → List (ℕ × ℕ) → List (ℕ × ℕ) → Type 0
+GainsTargets f b old new =
+    (p : ℕ × ℕ) → Contains new p ↔ (Contains old p ⊎ ((p.0 ≡ b) × IsRanged f (b ∷ []) p.1 × (p.1 ≢ b)))
+
+-- the framework without attacks of an argument on itself
+pub record IsPictureOf (f plain : Af) : Type 0 where
+  pub live : plain.live ≡ f.live
+  pub attacks : (b a : ℕ) → AttacksIn plain b a ↔ (AttacksIn f b a × (b ≢ a))
+
+abbrev pub IsPicture : Framework → Af → Type 0
+IsPicture (af f) plain = IsPictureOf f plain
+
+-- there is one set more, with what it attacks, and what is left holds nothing that the sets attack
+pub record IsCut (f : Framework) (set : List ℕ) (old new : Attackers) (left : List ℕ) : Type 0 where
+  pub sets : new.sets ≡ old.sets ++ set ∷ []
+  pub hit : IsSetOf (λ a. Contains old.hit a ⊎ Hits f set a) new.hit
+  pub free : IsFree f new.hit left
+
+-- there may be more sets, and what is left holds nothing that they attack
+pub record IsPruned (f : Framework) (log : OracleLog) (old new : Attackers) (left : List ℕ) : Type 0 where
+  pub searched : AreAttackers f log new
+  pub more : length old.sets ≤ length new.sets
+  pub hit : IsWithin old.hit new.hit
+  pub free : IsFree f new.hit left
 
 -- ---- the ideal set
 

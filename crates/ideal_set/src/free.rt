@@ -50,14 +50,16 @@ fn larger_free<O: Oracle>(
 }
 
 /// An admissible set that holds none of the numbers and lies in no larger one that holds none. The search begins with
-/// the empty set and goes on from what each search finds: where the set grows k times, it asks k + 1 times.
+/// such a set and goes on from what each search finds: where the set grows k times, it asks k + 1 times.
 pub(crate) fn largest_free<O: Oracle>(
     alloc: Global,
     oracle: &mut O,
     budget: &mut Budget,
     hit: &NumSet,
+    start: &NumSet,
 ) -> Result<Free, Halt>
-    requires { IsWithin hit.now (members (O.framework oracle.old)) }
+    requires hit { IsWithin hit.now (members (O.framework oracle.old)) }
+    requires start { IsFree (O.framework oracle.old) hit.now start.now }
     ensures largest { IfOk result (IsLargestFree (O.framework oracle.old) (O.log oracle.new) hit.now) }
     ensures run { HasRun (MadeForIdeal (O.framework oracle.old)) 1 (O.framework oracle.old) (O.log oracle.old)
         (O.log oracle.new) (O.pending oracle.new) budget.old budget.new (halt_of result) }
@@ -66,7 +68,7 @@ pub(crate) fn largest_free<O: Oracle>(
     ensures follows { O.follows oracle.old oracle.new }
 {
     let _members = oracle.members();
-    let mut grown = NumSet::new(alloc);
+    let mut grown = start.copy(alloc)?;
     loop {
         match larger_free(alloc, oracle, budget, hit, &grown)? {
             Found::Set(found) => grown = found,

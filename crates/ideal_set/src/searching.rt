@@ -1,18 +1,15 @@
 //! The search for the ideal set.
 
-ghost use Rattle.std.specs.Prelude.{◌≡◌, ◌⊎◌, ◌+◌, ◌*◌, length, Contains, IfOk};
-ghost use Rattle.plain_lists.specs.Members.{IsSetOf};
-ghost use Rattle.meaning_atoms.specs.declared.atom.Atom.TheVariants.{Ad};
-ghost use Rattle.meaning_atoms.specs.Worlds.{HoldsOf};
-ghost use Rattle.oracle_face.specs.Growing.{HasRun, closes, halt_of};
+ghost use Rattle.std.specs.Prelude.{◌≡◌, ◌+◌, ◌*◌, length, IfOk};
+ghost use Rattle.oracle_face.specs.Growing.{HasRun, halt_of};
 ghost use Rattle.oracle_face.specs.Logs.{IsKept};
-ghost use Rattle.ideal_set.specs.Ideals.{Attacks, Hits, IsIdealFound, IsAsked, MadeForIdeal};
+ghost use Rattle.ideal_set.specs.Ideals.{IsIdealFound, MadeForIdeal};
 
+use crate::attackers::{Attackers, attacker, cut, prune};
 use crate::free::largest_free;
-use goal_lists::{Wanted, attacked, search_beside};
-use meaning_atoms::Atom;
+use crate::picture::picture;
 use oracle_face::{Budget, Found, Halt, Oracle, StepId};
-use plain_lists::{Items, Memory};
+use plain_lists::Items;
 use set_lists::NumSet;
 use std::alloc::Global;
 
@@ -26,51 +23,9 @@ pub struct IdealSet {
     pub largest: StepId,
 }
 
-/// An admissible set that attacks a member of a set, or the step that refutes that there is one.
-fn attacker<O: Oracle>(
-    alloc: Global,
-    oracle: &mut O,
-    budget: &mut Budget,
-    set: &NumSet,
-) -> Result<Found, Halt>
-    requires { HoldsOf (O.framework oracle.old) set.now Ad }
-    ensures attacks { IfOk result (Attacks (O.framework oracle.old) (O.log oracle.new) set.now) }
-    ensures asked { IfOk result (IsAsked (O.framework oracle.old) (O.log oracle.new) set.now) }
-    ensures run { HasRun (MadeForIdeal (O.framework oracle.old)) (closes result) (O.framework oracle.old)
-        (O.log oracle.old) (O.log oracle.new) (O.pending oracle.new) budget.old budget.new (halt_of result) }
-    ensures framework { O.framework oracle.new ≡ O.framework oracle.old }
-    ensures kept { IsKept (O.framework oracle.new) (O.log oracle.new) }
-    ensures follows { O.follows oracle.old oracle.new }
-{
-    let _members = oracle.members();
-    let side = attacked(alloc, set)?;
-    let wanted = Wanted {
-        ins: &[],
-        outs: &[],
-        ranged: &[],
-        asks: &[],
-    };
-    search_beside(alloc, oracle, budget, Atom::Ad, &wanted, &side, set)
-}
-
-/// The numbers, and what an admissible set attacks: what is in its range and no member.
-fn with_hits<O: Oracle>(
-    alloc: Global,
-    oracle: &O,
-    hit: &NumSet,
-    set: &NumSet,
-) -> Result<NumSet, Memory>
-    requires { HoldsOf (O.framework oracle.now) set.now Ad }
-    ensures { IfOk result (IsSetOf (λ a. Contains hit.now a ⊎ Hits (O.framework oracle.now) set.now a)) }
-{
-    let range = oracle.range(alloc, set)?;
-    let struck = range.minus(alloc, set)?;
-    hit.union(alloc, &struck)
-}
-
-/// The ideal set. Each turn grows an admissible set without what the sets found so far attack, and then asks for an
-/// admissible set that attacks it, which is one more of these sets; where there is none, the grown set is ideal. With k
-/// such sets it asks k + 1 times for one, besides what it asks to grow.
+/// The ideal set. An admissible set is grown to its end. Where admissible sets attack it, it is cut down until none
+/// attacks what is left, and grown anew without what they attack; where none does, it is ideal. With k such sets and n
+/// times that a set was cut down and grown, it asks k + n + 1 times for one, besides what it asks to grow.
 pub fn ideal<O: Oracle>(
     alloc: Global,
     oracle: &mut O,
@@ -85,22 +40,26 @@ pub fn ideal<O: Oracle>(
     ensures follows { O.follows oracle.old oracle.new }
 {
     let _members = oracle.members();
-    let mut others = Items::new(alloc);
-    let mut hit = NumSet::new(alloc);
+    let mut found = Attackers {
+        sets: Items::new(alloc),
+        hit: NumSet::new(alloc),
+    };
+    let mut start = NumSet::new(alloc);
     loop {
-        let free = largest_free(alloc, oracle, budget, &hit)?;
+        let free = largest_free(alloc, oracle, budget, &found.hit, &start)?;
         match attacker(alloc, oracle, budget, &free.set)? {
             Found::Refuted(unattacked) => {
                 return Ok(IdealSet {
                     set: free.set,
-                    others,
+                    others: found.sets,
                     unattacked,
                     largest: free.refutation,
                 });
             }
             Found::Set(other) => {
-                hit = with_hits(alloc, oracle, &hit, &other)?;
-                others.push(other)?;
+                let plain = picture(alloc, oracle)?;
+                let left = cut(alloc, oracle, &plain, &mut found, &free.set, other)?;
+                start = prune(alloc, oracle, budget, &plain, &mut found, &left)?;
             }
         }
     }

@@ -1,33 +1,28 @@
 -- A model of the needed axioms and the goals is read as a set that makes the goals true.
-use Rattle.std.proofs.Common.{◌≡◌, ◌∙◌, ◌⊎◌, inl, inr, ⊎_elim, ℕ, ◌-◌, ◌<◌, ◌≤◌, zero, suc, Bool, true, false, not, List, [], ◌∷◌, length, map, take, refl, sym, ap, subst, arith}
-use Rattle.std.specs.Prelude.{Contains, filter, slice_index_or, Result, Ok, Err}
-use Rattle.std.proofs.lemmas.List.{length-map, length-take-le, take_all}
+use Rattle.std.proofs.Common.{◌≡◌, ⊎_elim, ℕ, ◌-◌, Bool, true, false, not, List, take, sym, ap, subst, arith}
+use Rattle.std.specs.Prelude.{Contains, filter}
+use Rattle.std.proofs.lemmas.List.{length-map}
 use Rattle.std.proofs.lemmas.List.Elements.{Contains-get_or}
 use Rattle.plain_lists.proofs.Membership.{Contains-cons_cases}
 use Rattle.plain_lists.proofs.Filters.{Contains-filter}
 use Rattle.plain_lists.specs.Members.{IsSetOf}
-use Rattle.plain_lits.specs.HintCheck.{IsTautology}
 use Rattle.plain_lits.proofs.HintCheckLemmas.{Contains-mapped}
 use Rattle.semantics.specs.Frameworks.{Framework, af, IsNumbered}
 use Rattle.meaning_atoms.specs.declared.atom.Atom.{Atom}
 use Rattle.meaning_atoms.specs.declared.atom.Atom.TheVariants.{Member, Live, Attack, Gap, Tail, Unmet, Range, Cf, Ad, Co, St, Ask}
 use Rattle.meaning_atoms.specs.declared.atom.AtomLit.{AtomLit}
-use Rattle.meaning_atoms.specs.Literals.{affirmed, denied, negated}
-use Rattle.meaning_atoms.specs.Worlds.{world_of, IsTrueAlone, HoldsLit, HoldsOf, Holds, IsFact, Says}
+use Rattle.meaning_atoms.specs.Literals.{affirmed, denied}
+use Rattle.meaning_atoms.specs.Worlds.{world_of, IsTrueAlone, HoldsLit, HoldsOf, IsFact, Says}
 use Rattle.certificate_claims.specs.SetLiterals.{members}
 use Rattle.oracle_face.specs.Decoding.{IsDecoded, IsModelOf, IsReadBack, ReadsBack}
-use Rattle.oracle_face.specs.Goals.{AreGoals, IsGoal, IsMode, MakesTrue, RefutesGoals, SpeaksOf, Tells}
-use Rattle.oracle_face.specs.Growing.{IsFound}
-use Rattle.oracle_face.specs.Logs.{OracleLog, LogStep, SideClause, IsGiven, IsLog, IsNumberOf, IsSameClause, Source, by_axiom, by_side, by_hints, clauses_of, guarded, literals_of, no_side, no_step, side_at, step_at, working}
+use Rattle.oracle_face.specs.Goals.{AreGoals, IsGoal, MakesTrue, SpeaksOf, Tells}
+use Rattle.oracle_face.specs.Logs.{OracleLog, LogStep, SideClause, IsGiven, IsNumberOf, IsSameClause, Source, by_axiom, by_side, by_hints, guarded, literals_of, no_step, side_at, step_at, working}
 use Rattle.oracle_face.proofs.StepTruth.{side_literals}
-use Rattle.oracle_face.specs.declared.face.Found.{Found}
-use Rattle.oracle_face.specs.declared.face.Found.TheVariants.{Set, Refuted}
-use Rattle.session_log.specs.Guards.{IsGuarded, HasSideStep}
 use Rattle.af_encoding.proofs.Readings.{model_reads_back}
 use Rattle.atom_solver.specs.States.{IsGuardedLog}
 use Rattle.atom_solver.specs.Searches.{AreUnfixed, Satisfies}
 use Rattle.oracle_face.specs.Kinds.{IsRanged}
-use Rattle.oracle_core.specs.Engines.{AreInForce, HasAxiom, HasRange}
+use Rattle.oracle_core.specs.Engines.{AreInForce, HasRange}
 
 -- ---- goals
 

@@ -1,10 +1,9 @@
 -- The axioms that a framework needs come into the log, and stay in it.
-use Rattle.std.proofs.Common.{◌≡◌, ◌∙◌, ◌⊎◌, inl, inr, ⊎_elim, ℕ, ◌+◌, ◌<◌, ◌≤◌, zero, suc, Bool, true, false, not, true≢false, List, [], ◌∷◌, ◌++◌, length, map, refl, sym, ap, subst, arith, Option, None, Some, Result, Ok, Err}
+use Rattle.std.proofs.Common.{◌≡◌, ◌∙◌, inl, inr, ⊎_elim, ℕ, ◌+◌, ◌<◌, ◌≤◌, suc, Bool, true, false, not, true≢false, List, [], ◌∷◌, ◌++◌, length, refl, sym, ap, subst, arith, None, Some}
 use Rattle.std.specs.Prelude.{Contains, cond, drop, filter, count_by, slice_index_or}
 use Rattle.plain_lists.proofs.Counts.{count_by-cons}
 use Rattle.std.proofs.lemmas.List.{drop_all, get_or-append-add, length-append, map-append}
 use Rattle.std.proofs.Math.Seq.{drop-cons}
-use Rattle.std.proofs.lemmas.List.Sums.{sum_by-append}
 use Rattle.std.proofs.lemmas.List.Elements.{Contains-get_or, Contains-append_left, Contains-append_right, filter-append}
 use Rattle.plain_lists.proofs.Membership.{Contains-head, Contains-nil, Contains-cons_cases}
 use Rattle.plain_lits.specs.declared.halt.Halt.{Halt}
@@ -16,12 +15,10 @@ use Rattle.meaning_atoms.specs.declared.axiom.AxiomName.{AxiomName}
 use Rattle.meaning_atoms.specs.declared.axiom.AxiomName.TheVariants.{Af as OfAf}
 use Rattle.certificate_claims.specs.Refutations.{IsAxiomOf}
 use Rattle.edit_rules.specs.Kinds.{framework_of}
-use Rattle.oracle_face.specs.declared.face.Pending.{Pending}
-use Rattle.oracle_face.specs.Logs.{OracleLog, LogStep, IsSameClause, by_axiom, clauses_of, is_unit, no_step, working, units_of, closings_of}
-use Rattle.oracle_face.specs.Needed.{IsNeeded}
-use Rattle.oracle_face.specs.Growing.{Making, NoSide, Grows, Works, HasRun, IsStop, halt_of}
-use Rattle.oracle_face.proofs.GrowingLemmas.{run_joined, run_none, run_refused}
-use Rattle.session_log.specs.Steps.{TakesAxiom, own_step}
+use Rattle.oracle_face.specs.Logs.{OracleLog, LogStep, by_axiom, clauses_of, is_unit, no_step, working, units_of, closings_of}
+use Rattle.oracle_face.specs.Growing.{Making, NoSide, Grows, HasRun}
+use Rattle.oracle_face.proofs.GrowingLemmas.{run_joined, run_none}
+use Rattle.session_log.specs.Steps.{own_step}
 use Rattle.session_log.proofs.Staying.{axiom_stays}
 use Rattle.atom_solver.specs.States.{AtomState, AddsAxiom, IsAxiomName, IsGuardedLog}
 use Rattle.oracle_core.specs.declared.parts.Parts.{Parts}

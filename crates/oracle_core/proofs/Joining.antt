@@ -1,6 +1,6 @@
 -- What a search leaves where its parts were called one after the other.
-use Rattle.std.proofs.Common.{◌≡◌, ◌∙◌, ℕ, ◌<◌, ◌≤◌, Bool, true, false, List, [], ◌∷◌, ◌++◌, length, refl, sym, ap, subst, arith, Option, None, Some, Result, Ok, Err}
-use Rattle.std.specs.Prelude.{Contains, IsErr, IsErrAnd}
+use Rattle.std.proofs.Common.{◌≡◌, ◌∙◌, ℕ, ◌<◌, ◌≤◌, List, [], ◌∷◌, ◌++◌, length, refl, sym, ap, subst, arith, Option, None, Some, Result, Ok, Err}
+use Rattle.std.specs.Prelude.{IsErr, IsErrAnd}
 use Rattle.std.proofs.lemmas.Bool.{false≢true}
 use Rattle.std.proofs.lemmas.List.{append-nil, length-append}
 use Rattle.plain_lits.specs.declared.halt.Halt.{Halt}
@@ -21,9 +21,9 @@ use Rattle.atom_solver.specs.Searches.{AreUnfixed, Satisfies}
 use Rattle.oracle_core.specs.declared.parts.Parts.{Parts}
 use Rattle.oracle_core.specs.Engines.{AreInForce, IsWhole}
 use Rattle.oracle_core.proofs.Finding.{makes_true, unfixed_goals}
-use Rattle.oracle_face.specs.Growing.{Making, NoSide, Grows, HasRun, closes, halt_of}
+use Rattle.oracle_face.specs.Growing.{NoSide, Grows, HasRun, closes, halt_of}
 use Rattle.oracle_face.specs.Logs.{OracleLog, SideClause}
-use Rattle.oracle_face.proofs.GrowingLemmas.{run_joined, run_refused}
+use Rattle.oracle_face.proofs.GrowingLemmas.{run_joined}
 
 -- a halt that a search hands on
 pub halted : (f : Framework) (a b : OracleLog) (p : Option Pending) (u v : Units) (r : Result Found Halt) (halt : Halt)

@@ -1,5 +1,5 @@
 -- What contracts see of an engine, and what it keeps of the axioms that its framework needs.
-use Rattle.std.specs.Prelude.{◌≡◌, ◌⊎◌, ℕ, ◌≤◌, Bool, true, List, drop, length, Contains, Option}
+use Rattle.std.specs.Prelude.{◌≡◌, ◌⊎◌, ℕ, ◌≤◌, true, List, drop, length, Contains, Option}
 use Rattle.plain_lists.specs.Members.{IsSetOf}
 use Rattle.semantics.specs.Framework.{IsInRange}
 use Rattle.semantics.specs.Frameworks.{Framework, IsNumbered, af}

@@ -3,13 +3,10 @@ use Rattle.std.proofs.Common.{◌≡◌, ℕ, Bool, true, false, List, [], refl,
 use Rattle.std.specs.Prelude.{Option, Some, None, slice_index_or}
 use Rattle.semantics.specs.Frameworks.{Framework, af}
 use Rattle.meaning_atoms.specs.declared.atom.Atom.TheVariants.{Ad}
-use Rattle.iccma_tasks.specs.declared.task.Problem.{Problem}
 use Rattle.iccma_tasks.specs.declared.task.Problem.TheVariants.{SomeExtension}
 use Rattle.iccma_tasks.specs.declared.task.Semantics.TheVariants.{SemiStable}
 use Rattle.iccma_tasks.specs.declared.task.Task.{Task}
-use Rattle.iccma_tasks.specs.Tasks.{Asked, FitsTask, task_of}
-use Rattle.certificate_claims.specs.Acceptance.{Tests}
-use Rattle.certificate_claims.specs.Claims.{row_of, sets_of}
+use Rattle.iccma_tasks.specs.Tasks.{Asked, FitsTask}
 use Rattle.certificate_claims.specs.declared.row.Row.TheVariants.{Widest as WidestRow}
 use Rattle.oracle_face.specs.Logs.{OracleLog}
 use Rattle.semi_stable.specs.declared.widest.Widest.{Widest}

@@ -6,12 +6,12 @@ use Rattle.oracle_face.proofs.GrowingLemmas.{run_none}
 use Rattle.goal_lists.proofs.Calls.{admissible_members, closes_refuted, closes_set, run_handed, then_same}
 use Rattle.goal_lists.proofs.Measures.{fewer_outside}
 use Rattle.ideal_set.specs.Ideals.{IsFree, MadeForIdeal}
-use Rattle.ideal_set.proofs.FreeLemmas.{larger_set, nothing_free}
+use Rattle.ideal_set.proofs.FreeLemmas.{larger_set}
 use Rattle.ideal_set.proofs.free.largest_free.Goals as goal
 
 pub larger_free-requires-clause-hit : goal.larger_free-requires-clause-hit
 larger_free-requires-clause-hit g c =
-    subst (λ (w : Framework). IsWithin c.args.hit.now (members w)) (sym c.loop-grown.invariant.framework) c.requires
+    subst (λ (w : Framework). IsWithin c.args.hit.now (members w)) (sym c.loop-grown.invariant.framework) c.requires.hit
 
 pub larger_free-requires-clause-free : goal.larger_free-requires-clause-free
 larger_free-requires-clause-free g c =
@@ -22,8 +22,7 @@ pub loop-grown-init : goal.loop-grown-init
 loop-grown-init g c =
     let f = g.O.Oracle.framework c.args.oracle.now in
     record {
-      free = subst (λ (s : List ℕ). IsFree f c.args.hit.now s) (sym c.new-grown.ensures) (nothing_free f
-          c.args.hit.now);
+      free = subst (λ (s : List ℕ). IsFree f c.args.hit.now s) (sym c.in_ok-grown.ensures.same) c.requires.start;
       run = run_none (MadeForIdeal f) 0 f (g.O.Oracle.log c.args.oracle.now) (g.O.Oracle.pending c.args.oracle.now)
           c.args.budget.now;
       framework = refl;
@@ -36,7 +35,7 @@ returns-in_err-found-clause-run g c =
     let f = g.O.Oracle.framework c.args.oracle.now in
     let inv = c.loop-grown.invariant in
     let few : 0 + 0 ≤ 1 = omega arith in
-    run_handed (MadeForIdeal f) 1 f _ _ _ _ _ _ c.in_err-found.field-0.0 c.from_residual.ensures
+    run_handed (MadeForIdeal f) 1 f _ _ _ _ _ _ c.in_err-found.field-0.0 c.from_residual-in_err-found.ensures
     (then_same MadeForIdeal f (g.O.Oracle.framework c.loop-grown.oracle) 0 0 1 _ _ _ _ _ _ _ _ _ inv.framework few
     inv.run
     c.in_err-found.ensures.run)

@@ -1,5 +1,4 @@
 use Rattle.std.proofs.Common.{ap, subst}
-use Rattle.semantics.specs.Frameworks.{Framework}
 use Rattle.edit_rules.specs.Kinds.{framework_of}
 use Rattle.oracle_core.specs.Answers.{IsShownBy}
 use Rattle.oracle_core.specs.Engines.{EngineState}

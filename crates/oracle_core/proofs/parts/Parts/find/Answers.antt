@@ -1,9 +1,9 @@
-use Rattle.std.proofs.Common.{◌≡◌, ap, refl, sym, subst, Ok, None, Some}
+use Rattle.std.proofs.Common.{refl, sym, subst, Ok, None}
 use Rattle.plain_lits.specs.declared.halt.Halt.TheVariants.{Memory}
 use Rattle.edit_rules.specs.Kinds.{framework_of}
 use Rattle.oracle_face.specs.Growing.{HasRun, NoSide}
 use Rattle.atom_solver.specs.Searches.{IsAnswer, Satisfies, ends_in}
-use Rattle.oracle_core.proofs.Joining.{IsCourse, begun_run, found_set, found_step, halted, may_search, searched_run, then_memory}
+use Rattle.oracle_core.proofs.Joining.{begun_run, found_set, halted, may_search, searched_run, then_memory}
 use Rattle.oracle_core.proofs.parts.Parts.find.Goals as goal
 
 pub returns-in_err-take_needed-clause-run : goal.returns-in_err-take_needed-clause-run

@@ -1,6 +1,6 @@
 use Rattle.edit_rules.specs.Kinds.{framework_of}
 use Rattle.oracle_face.specs.Growing.{NoSide}
-use Rattle.oracle_core.proofs.Forcing.{force_grown, whole_with}
+use Rattle.oracle_core.proofs.Forcing.{whole_with}
 use Rattle.oracle_core.proofs.parts.Parts.search.Goals as goal
 
 pub returns-clause-whole : goal.returns-clause-whole

@@ -1,4 +1,4 @@
-use Rattle.std.proofs.Common.{◌<◌, ◌≡◌, ap, subst, Err}
+use Rattle.std.proofs.Common.{◌<◌, ap, subst, Err}
 use Rattle.oracle_core.proofs.Forcing.{named_at, taken_halted, taken_more, waiting_is, waiting_there}
 use Rattle.oracle_core.proofs.Joining.{halted_any}
 use Rattle.oracle_core.proofs.parts.Parts.take_needed.Goals as goal

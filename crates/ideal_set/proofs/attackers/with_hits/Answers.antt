@@ -1,6 +1,6 @@
 use Rattle.std.proofs.lemmas.Result.{IfOk-weaker}
 use Rattle.ideal_set.proofs.IdealLemmas.{hits_set}
-use Rattle.ideal_set.proofs.searching.with_hits.Goals as goal
+use Rattle.ideal_set.proofs.attackers.with_hits.Goals as goal
 
 pub returns : goal.returns
 returns g c =

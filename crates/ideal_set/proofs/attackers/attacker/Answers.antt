@@ -3,7 +3,7 @@ use Rattle.oracle_face.specs.Growing.{OnlySide, closes}
 use Rattle.oracle_face.proofs.GrowingLemmas.{run_as}
 use Rattle.ideal_set.specs.Ideals.{MadeForIdeal}
 use Rattle.ideal_set.proofs.IdealLemmas.{attack_beside, attacked_from, attacked_is_side, if_asked, if_attack, makes_attacked}
-use Rattle.ideal_set.proofs.searching.attacker.Goals as goal
+use Rattle.ideal_set.proofs.attackers.attacker.Goals as goal
 
 pub search_beside-requires-clause-side : goal.search_beside-requires-clause-side
 search_beside-requires-clause-side g c =

@@ -1,0 +1,118 @@
+//! Admissible sets that attack a set, and what is left of the set without what they attack.
+
+ghost use Rattle.std.specs.Prelude.{◌≡◌, ◌⊎◌, Contains, IfOk};
+ghost use Rattle.plain_lists.specs.Members.{IsSetOf};
+ghost use Rattle.meaning_atoms.specs.declared.atom.Atom.TheVariants.{Ad};
+ghost use Rattle.meaning_atoms.specs.Worlds.{HoldsOf};
+ghost use Rattle.oracle_face.specs.Growing.{HasRun, closes, halt_of};
+ghost use Rattle.oracle_face.specs.Logs.{IsKept};
+ghost use Rattle.ideal_set.specs.Ideals.{AreAttackers, Attacks, Hits, IsAsked, IsCut, IsFree, IsPicture, IsPruned};
+ghost use Rattle.ideal_set.specs.Ideals.{MadeForIdeal};
+
+use admissible_part::largest_part;
+use dung_notions::AfPlain;
+use goal_lists::{Wanted, attacked, search_beside};
+use meaning_atoms::Atom;
+use oracle_face::{Budget, Found, Halt, Oracle};
+use plain_lists::{Items, Memory};
+use set_lists::NumSet;
+use std::alloc::Global;
+
+/// Admissible sets, and what they attack.
+#[derive(Debug, Drop)]
+pub(crate) struct Attackers {
+    pub(crate) sets: Items<NumSet>,
+    pub(crate) hit: NumSet,
+}
+
+/// An admissible set that attacks a member of a set, or the step that refutes that there is one.
+pub(crate) fn attacker<O: Oracle>(
+    alloc: Global,
+    oracle: &mut O,
+    budget: &mut Budget,
+    set: &NumSet,
+) -> Result<Found, Halt>
+    requires { HoldsOf (O.framework oracle.old) set.now Ad }
+    ensures attacks { IfOk result (Attacks (O.framework oracle.old) (O.log oracle.new) set.now) }
+    ensures asked { IfOk result (IsAsked (O.framework oracle.old) (O.log oracle.new) set.now) }
+    ensures run { HasRun (MadeForIdeal (O.framework oracle.old)) (closes result) (O.framework oracle.old)
+        (O.log oracle.old) (O.log oracle.new) (O.pending oracle.new) budget.old budget.new (halt_of result) }
+    ensures framework { O.framework oracle.new ≡ O.framework oracle.old }
+    ensures kept { IsKept (O.framework oracle.new) (O.log oracle.new) }
+    ensures follows { O.follows oracle.old oracle.new }
+{
+    let _members = oracle.members();
+    let side = attacked(alloc, set)?;
+    let wanted = Wanted {
+        ins: &[],
+        outs: &[],
+        ranged: &[],
+        asks: &[],
+    };
+    search_beside(alloc, oracle, budget, Atom::Ad, &wanted, &side, set)
+}
+
+/// The numbers, and what an admissible set attacks: what is in its range and no member.
+fn with_hits<O: Oracle>(
+    alloc: Global,
+    oracle: &O,
+    hit: &NumSet,
+    set: &NumSet,
+) -> Result<NumSet, Memory>
+    requires { HoldsOf (O.framework oracle.now) set.now Ad }
+    ensures { IfOk result (IsSetOf (λ a. Contains hit.now a ⊎ Hits (O.framework oracle.now) set.now a)) }
+{
+    let range = oracle.range(alloc, set)?;
+    let struck = range.minus(alloc, set)?;
+    hit.union(alloc, &struck)
+}
+
+/// Takes an admissible set that attacks another one. What is left of the other is its largest admissible part without
+/// what the sets attack.
+pub(crate) fn cut<O: Oracle>(
+    alloc: Global,
+    oracle: &O,
+    plain: &AfPlain,
+    found: &mut Attackers,
+    set: &NumSet,
+    other: NumSet,
+) -> Result<NumSet, Memory>
+    requires plain { IsPicture (O.framework oracle.now) plain.now }
+    requires set { HoldsOf (O.framework oracle.now) set.now Ad }
+    requires other { HoldsOf (O.framework oracle.now) other Ad }
+    ensures { IfOk result (IsCut (O.framework oracle.now) other found.old found.new) }
+{
+    found.hit = with_hits(alloc, oracle, &found.hit, &other)?;
+    found.sets.push(other)?;
+    largest_part(alloc, plain, set, &found.hit)
+}
+
+/// What is left of a set when no admissible set attacks it any more. Each turn asks for one that does; so it asks
+/// k + 1 times for k such sets, with no growing between.
+pub(crate) fn prune<O: Oracle>(
+    alloc: Global,
+    oracle: &mut O,
+    budget: &mut Budget,
+    plain: &AfPlain,
+    found: &mut Attackers,
+    set: &NumSet,
+) -> Result<NumSet, Halt>
+    requires plain { IsPicture (O.framework oracle.old) plain.now }
+    requires found { AreAttackers (O.framework oracle.old) (O.log oracle.old) found.old }
+    requires set { IsFree (O.framework oracle.old) found.old.hit set.now }
+    ensures pruned { IfOk result (IsPruned (O.framework oracle.old) (O.log oracle.new) found.old found.new) }
+    ensures run { HasRun (MadeForIdeal (O.framework oracle.old)) 1 (O.framework oracle.old) (O.log oracle.old)
+        (O.log oracle.new) (O.pending oracle.new) budget.old budget.new (halt_of result) }
+    ensures framework { O.framework oracle.new ≡ O.framework oracle.old }
+    ensures kept { IsKept (O.framework oracle.new) (O.log oracle.new) }
+    ensures follows { O.follows oracle.old oracle.new }
+{
+    let _members = oracle.members();
+    let mut part = set.copy(alloc)?;
+    loop {
+        match attacker(alloc, oracle, budget, &part)? {
+            Found::Set(other) => part = cut(alloc, oracle, plain, found, &part, other)?,
+            Found::Refuted(_step) => return Ok(part),
+        }
+    }
+}
