@@ -1,21 +1,20 @@
 -- Endings that a row of the table has.
 use Rattle.std.proofs.Common.{◌≡◌, ◌≢◌, ◌<◌, ◌∙◌, ◌⊎◌, ℕ, List, [], ◌∷◌, refl, sym, ap, subst, inl, inr, arith, Option, None, Some, codes}
 use Rattle.std.specs.Prelude.{Contains, IsSome, IsTrue}
+use Rattle.std.specs.Option.{unwrap_or}
 use Rattle.argue_outside.specs.Outside.{KnownFile, OtherCountsKept}
 use Rattle.argue_outside.specs.declared.Role.{Role}
 use Rattle.argue_outside.specs.declared.Role.TheVariants as role
 use Rattle.argue_words.specs.Words.{CheckTexts, Request, version, problems, solving, checking, unknown, SolveTexts, requested}
 use Rattle.argue_words.proofs.RequestLaws.{none_requested}
 use Rattle.argue_program.specs.Inputs.{EndsReading, Follow, Input, Reading, input}
-use Rattle.argue_program.specs.Rows.{CountsReads, EndsAnswered, EndsCommand, IsEndingOf, Row, check_row, nothing_kept, row_of, solve_row, unknown_row}
+use Rattle.argue_program.specs.Rows.{CountsReads, EndsCommand, EndsSession, IsEndingOf, Row, check_row, files_beside, nothing_kept, row_of, session_files, session_text, solve_row, unknown_row}
 use Rattle.iccma_tasks.specs.Tasks.{Asked}
 use Rattle.argue_program.specs.Checks.{ChecksFiles, EndsChecking}
 use Rattle.argue_program.specs.Queries.{asked_by, solving_by}
-use Rattle.argue_program.specs.Solves.{EndsSolving, SolvesFile}
+use Rattle.argue_program.specs.Solves.{IsSessionOn}
 use Rattle.argue_program.specs.declared.query.Solving.{Solving}
-use Rattle.argue_program.specs.declared.ended.Limit.TheVariants as bound
-use Rattle.argue_program.specs.declared.ended.Refusal.TheVariants.{Line, Query}
-use Rattle.oracle_core.specs.declared.reply.Answered.{Answered}
+use Rattle.argue_program.specs.declared.ended.KeptSession.{KeptSession}
 use Rattle.argue_program.specs.Texts.{IsRefusal, common_text, text_bytes}
 use Rattle.argue_program.specs.declared.decision.Ending.{Ending}
 use Rattle.argue_program.specs.declared.ended.Status.{Status}
@@ -200,60 +199,12 @@ check_unasked found by texts ending is quiet status kept text files =
 
 -- ---- queries
 
--- a call that looks for the answer ends a run as its row says
+-- an end of reading the framework is one of the query's row
 solve_cause : (found : Reading) (query : Solving) (texts : SolveTexts) (end : Status)
-    → EndsSolving found query texts.file end
+    → EndsReading found (input (role.Framework 1) texts.file) end
     → EndsCommand found (solve_row found.holds (Some query) texts) nothing_kept end
-solve_cause found query texts (InputRefused (Query fault)) ends = inr (refl, ends)
-solve_cause found query texts (InputRefused (Line of line c)) ends =
-    inl (refl, inl (inl (ends, follow_none found (InputRefused (Line of line c)))))
-solve_cause found query texts (ReadFault of) ends = inl (refl, inl (inl (ends, tt)))
-solve_cause found query texts Unknown ends = inr (refl, ends)
-solve_cause found query texts (Limit bound.Input) ends = inl (refl, inl (inl (ends, tt)))
-solve_cause found query texts (Limit bound.Extensions) ends = inr (refl, ends)
-solve_cause found query texts (Limit bound.Log) ends = inr (refl, ends)
-solve_cause found query texts WantOfMemory ends = inl (refl, inr (refl, refl))
-solve_cause found query texts Done ends = absurd ends
-solve_cause found query texts Usage ends = absurd ends
-solve_cause found query texts WriteFault ends = absurd ends
-solve_cause found query texts (Rejected failure r s) ends = absurd ends
-
--- an end of a call that looks for the answer has a text of its own
-pub common_text-solving : (found : Reading) (query : Solving) (file : List ℕ) (end : Status)
-    → EndsSolving found query file end → IsSome (common_text end)
-common_text-solving found query file (InputRefused refusal) ends = refl
-common_text-solving found query file (ReadFault of) ends = refl
-common_text-solving found query file (Limit limit) ends = refl
-common_text-solving found query file WantOfMemory ends = refl
-common_text-solving found query file Unknown ends = refl
-common_text-solving found query file Done ends = absurd ends
-common_text-solving found query file Usage ends = refl
-common_text-solving found query file WriteFault ends = refl
-common_text-solving found query file (Rejected failure r s) ends = refl
-
--- an end of reading the file is one of a call that reads it and answers
-pub EndsSolving-reading : (found : Reading) (query : Solving) (file : List ℕ) (end : Status)
-    → EndsReading found (input (role.Framework 1) file) end → EndsSolving found query file end
-EndsSolving-reading found query file (InputRefused (Line of line c)) (inl stops) = stops
-EndsSolving-reading found query file (InputRefused (Query fault)) (inl stops) = absurd stops
-EndsSolving-reading found query file (ReadFault of) (inl stops) = stops
-EndsSolving-reading found query file Unknown (inl stops) = absurd stops
-EndsSolving-reading found query file (Limit bound.Input) (inl stops) = stops
-EndsSolving-reading found query file (Limit bound.Extensions) (inl stops) = absurd stops
-EndsSolving-reading found query file (Limit bound.Log) (inl stops) = absurd stops
-EndsSolving-reading found query file WantOfMemory h = tt
-EndsSolving-reading found query file Done (inl stops) = stops
-EndsSolving-reading found query file Usage (inl stops) = stops
-EndsSolving-reading found query file WriteFault (inl stops) = stops
-EndsSolving-reading found query file (Rejected failure r s) (inl stops) = stops
-EndsSolving-reading found query file (InputRefused refusal) (inr memory) = absurd (cc)
-EndsSolving-reading found query file (ReadFault of) (inr memory) = absurd (cc)
-EndsSolving-reading found query file Unknown (inr memory) = absurd (cc)
-EndsSolving-reading found query file (Limit limit) (inr memory) = absurd (cc)
-EndsSolving-reading found query file Done (inr memory) = absurd (cc)
-EndsSolving-reading found query file Usage (inr memory) = absurd (cc)
-EndsSolving-reading found query file WriteFault (inr memory) = absurd (cc)
-EndsSolving-reading found query file (Rejected failure r s) (inr memory) = absurd (cc)
+solve_cause found query texts end (inl stops) = inl (refl, inl (inl (stops, follow_none found end)))
+solve_cause found query texts end (inr memory) = inl (refl, inr (memory, refl))
 
 -- faults are counted in the role of the one input, and only where it ends the run by one
 solve_counts : (found : Reading) (query : Solving) (texts : SolveTexts) (end : Status)
@@ -272,7 +223,7 @@ module _ (found : Reading) (by : Option Solving) (query : Solving) (texts : Solv
   IsEndingBy o = IsEndingOf found (solve_row found.holds o texts) ending
 
   -- a query that stopped ends as its row says
-  pub solve_stopped : (end : Status) → EndsSolving found query texts.file end
+  pub solve_stopped : (end : Status) → EndsReading found (input (role.Framework 1) texts.file) end
       → (end ≢ ReadFault (role.Framework 1) → found.new_count ≡ found.old_count)
       → OtherCountsKept (role.Framework 1) found.old_count found.new_count
       → (ending.status ≡ end) ⊎ ((ending.status ≡ WantOfMemory) × IsRefusal end) → ending.kept ≡ nothing_kept
@@ -283,15 +234,17 @@ module _ (found : Reading) (by : Option Solving) (query : Solving) (texts : Solv
       (IsEndingOf-stopped found (solve_row found.holds (Some query) texts) ending end (solve_cause found query texts end ends)
       refl status kept text files (solve_counts found query texts end quiet others))
 
-  -- a query that is answered ends as its row says
-  pub solve_done : (reply : Answered) → SolvesFile (found.holds texts.file) query reply
-      → found.new_count ≡ found.old_count → EndsAnswered reply texts.certificate ending
+  -- a query that came to a session ends as its row says
+  pub solve_session : (session : KeptSession) → IsSessionOn (found.holds texts.file) query session
+      → found.new_count ≡ found.old_count → EndsSession session texts.certificate ending
       → IsEndingOf found (solve_row found.holds by texts) ending
-  solve_done reply solves quiet done =
+  solve_session session on quiet ends =
+      let keeps : ending.kept.session ≡ Some session = ap (λ (k : Transcript). k.session) ends.keeps in
       subst IsEndingBy (sym is) (record {
-        cause = rw done.done (inr (reply, done.keeps, solves));
-        text = rw done.done (rw done.keeps done.text);
-        files = rw done.done (rw done.keeps done.files);
+        cause = inr (record { session = session; keeps = keeps; on = on; ends = ends.status });
+        text = ends.text ∙ ap (λ s. unwrap_or (common_text ending.status) (session_text s)) (sym keeps);
+        files = ends.files ∙ ap (λ s. files_beside (common_text ending.status) (session_files texts.certificate s))
+            (sym keeps);
         counts = CountsReads-none found (solve_row found.holds (Some query) texts) ending.status quiet;
       })
 
