@@ -911,16 +911,18 @@ module _ (found : Reading) (words : List (List ℕ)) (ended : Ended) (old new : 
       let keeps : run.ending.kept.session ≡ Some solved.session =
       ap (λ (k : Transcript). k.session) (sym run.kept) ∙ solved.keeps in
       let told = done_reply (af solved.on.framework) query solved.session solved.on.is (sym done ∙ solved.ends) in
-      let row : row_of found.holds (requested words) ≡ solve_row found.holds (Some query) texts =
-      ap (row_of found.holds) (requested_query words texts asks)
-      ∙ ap (λ o. solve_row found.holds o texts) query_is in
+      let Says : Row → Type 0 = λ row.
+      (text_bytes run.ending.text ≡ text_of row run.ending.kept run.ending.status)
+      × (map file_text run.ending.files
+      ≡ files_beside (common_text run.ending.status) (row.files run.ending.kept run.ending.status)) in
+      let P : Request → Type 0 = λ r. Says (row_of found.holds r) in
+      let Q : Option Solving → Type 0 = λ o. Says (solve_row found.holds o texts) in
+      let says = subst Q query_is
+      (subst P (requested_query words texts asks) (run.decided.text, run.decided.files)) in
       let text : text_bytes run.ending.text ≡ answer_text told.reply.answer =
-      run.decided.text
-      ∙ ap (λ (r : Row). text_of r run.ending.kept run.ending.status) row
-      ∙ session_text_is run.ending.status run.ending.kept.session solved.session told.reply status keeps told.is in
+      says.0 ∙ session_text_is run.ending.status run.ending.kept.session solved.session told.reply status keeps told.is in
       let files : map file_text run.ending.files ≡ certificate_files texts.certificate told.reply.certificate =
-      run.decided.files
-      ∙ ap (λ (r : Row). files_beside (common_text run.ending.status) (r.files run.ending.kept run.ending.status)) row
+      says.1
       ∙ session_files_is run.ending.status texts.certificate run.ending.kept.session solved.session told.reply status keeps
       told.is in
       record {

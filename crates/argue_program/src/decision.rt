@@ -1,6 +1,6 @@
 //! What a run ends with: decided here, and written elsewhere.
 
-ghost use Rattle.std.specs.Prelude.{◌≡◌, ◌⊎◌, ℕ, List, [], IfErr, IfOk, IsErrOf, IsSome, Some, map};
+ghost use Rattle.std.specs.Prelude.{◌≡◌, ◌⊎◌, ℕ, List, [], Ok, Err, IfErr, IfOk, IsErrOf, IsSome, Option, Some, map};
 ghost use Rattle.std.specs.Option.{option_map};
 ghost use Rattle.std.specs.String.{string_bytes};
 ghost use Rattle.argue_words.specs.Words.{check_texts, checking, request_of, requested, solve_texts, solving};
@@ -78,24 +78,30 @@ fn done(alloc: Global, kept: Transcript, text: Text) -> Ending
     }
 }
 
+/// What is kept of a session.
+fn keeping(reply: Result<Answered, AnswerStop>, engine: Engine) -> Transcript
+    ensures { result ≡ record { session = Some (record { reply = reply; engine = engine }) } }
+{
+    Transcript {
+        session: Some(KeptSession { reply, engine }),
+    }
+}
+
 /// The ending with an answer: its text, and the file of its certificate where one is named.
 fn answered(
     alloc: Global,
-    answered: Answered,
+    reply: Answered,
     engine: Engine,
     certificate: Option<&str>,
 ) -> Result<Ending, Memory>
-    ensures { IfOk result (EndsSession (record { reply = Ok answered; engine = engine })
+    ensures { IfOk result (EndsSession (record { reply = Ok reply; engine = engine })
         (option_map (λ text. text.now) certificate.entry)) }
 {
-    let text = answer_text(alloc, &answered.answer)?;
-    let files = certificate_file(alloc, certificate, &answered.certificate)?;
-    let reply = Ok(answered);
+    let text = answer_text(alloc, &reply.answer)?;
+    let files = certificate_file(alloc, certificate, &reply.certificate)?;
     Ok(Ending {
         status: Status::Done,
-        kept: Transcript {
-            session: Some(KeptSession { reply, engine }),
-        },
+        kept: keeping(Ok(reply), engine),
         text: Text::Answer(text),
         files,
     })
@@ -107,12 +113,9 @@ fn unanswered(alloc: Global, stop: AnswerStop, engine: Engine) -> Result<Ending,
 {
     let status = status_of(stop);
     let text = status_text(alloc, status)?;
-    let reply = Err(stop);
     Ok(Ending {
         status,
-        kept: Transcript {
-            session: Some(KeptSession { reply, engine }),
-        },
+        kept: keeping(Err(stop), engine),
         text,
         files: Items::new(alloc),
     })

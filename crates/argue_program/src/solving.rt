@@ -1,6 +1,6 @@
 //! The answer to a query on the framework in a file.
 
-ghost use Rattle.std.specs.Prelude.{◌≡◌, IfErr, IfOk, IsErrOf, map, true};
+ghost use Rattle.std.specs.Prelude.{◌≡◌, IfErr, IfOk, IsErrOf, IsSome, map, true};
 ghost use Rattle.std.specs.Option.{option_map};
 ghost use Rattle.argue_outside.specs.Outside.{OtherCountsKept};
 ghost use Rattle.edit_rules.specs.Kinds.{framework_of};
@@ -8,6 +8,7 @@ ghost use Rattle.argue_program.specs.Inputs.{EndsReading, input, reading};
 ghost use Rattle.argue_program.specs.Queries.{is_solved};
 ghost use Rattle.argue_program.specs.Rows.{certificate_files, file_text};
 ghost use Rattle.argue_program.specs.Solves.{IsSessionOf, IsSessionOn, status_after};
+ghost use Rattle.argue_program.specs.Texts.{common_text};
 
 use crate::ended::{KeptSession, Limit, Refusal, Status};
 use crate::input::read_framework;
@@ -44,7 +45,6 @@ fn answer(alloc: Global, framework: Framework, solving: &Solving) -> Result<Kept
     let mut engine = Engine::new(alloc, 1, framework, LOG_LIMIT)?;
     let mut budget = Budget::new(solving.budget as u64);
     let reply = engine.answer(alloc, &solving.query, &mut budget, EXTENSION_LIMIT);
-    let _spent = budget.used();
     Ok(KeptSession { reply, engine })
 }
 
@@ -79,6 +79,7 @@ pub(crate) fn solve_file<F: Files>(
     ensures ok { IfOk result (IsSessionOn (F.holds files.old words.now.file.now) solving.now) }
     ensures err { IfErr result (EndsReading (reading (F.holds files.old) (F.serves files.old) (F.read_count files.old)
         (F.read_count files.new)) (input (Role.Framework 1) words.now.file.now)) }
+    ensures told { IfErr result (λ end. IsSome (common_text end)) }
     ensures quiet { (IsErrOf result (Status.ReadFault (Role.Framework 1)) → ⊥)
         → F.read_count files.new ≡ F.read_count files.old }
     ensures others { OtherCountsKept (Role.Framework 1) (F.read_count files.old) (F.read_count files.new) }
