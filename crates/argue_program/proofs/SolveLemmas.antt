@@ -101,7 +101,7 @@ module _ (f : Framework) (solving : Solving) (engine : EngineState) (after : Uni
         let full : count ≡ after.limit = run.stop.is_limit in
         let limit : after.limit ≡ solving.budget = run.limit in
         omega arith;
-    fresh = λ k within unit. run.works.fresh k (omega arith) within unit;
+    fresh = λ k within unit. let low : 0 ≤ k = omega arith in run.works.fresh k low within unit;
     in_hand = run.stop.in_hand;
     pending = run.stop.kept;
     further = run.stop.further;

@@ -115,6 +115,8 @@ impl Engine {
         if let Some(answered) = answer_by_grounded(alloc, &self.parts.framework, query)? {
             return Ok(answered);
         }
-        self.answer_by_search(alloc, query, budget, limit)
+        let end = self.answer_by_search(alloc, query, budget, limit);
+        let _within = budget.used();
+        end
     }
 }
