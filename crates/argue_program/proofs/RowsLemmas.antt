@@ -1,20 +1,26 @@
 -- Endings that a row of the table has.
-use Rattle.std.proofs.Common.{◌≡◌, ◌≢◌, ◌<◌, ◌∙◌, ◌⊎◌, ℕ, List, [], ◌∷◌, refl, sym, ap, subst, inl, inr, arith, Option, None, Some, codes}
-use Rattle.std.specs.Prelude.{Contains, IsSome, IsTrue}
+use Rattle.std.proofs.Common.{◌≡◌, ◌≢◌, ◌<◌, ◌∙◌, ◌⊎◌, ℕ, List, [], ◌∷◌, refl, sym, ap, subst, inl, inr, arith, Option, None, Some, Result, Ok, Err, codes}
+use Rattle.std.specs.Prelude.{Contains, IfOk, IsSome, IsTrue}
 use Rattle.std.specs.Option.{unwrap_or}
+use Rattle.plain_lists.specs.declared.memory.Memory.{Memory}
 use Rattle.argue_outside.specs.Outside.{KnownFile, OtherCountsKept}
 use Rattle.argue_outside.specs.declared.Role.{Role}
 use Rattle.argue_outside.specs.declared.Role.TheVariants as role
 use Rattle.argue_words.specs.Words.{CheckTexts, Request, version, problems, solving, checking, unknown, SolveTexts, requested}
 use Rattle.argue_words.proofs.RequestLaws.{none_requested}
-use Rattle.argue_program.specs.Inputs.{EndsReading, Follow, Input, Reading, input}
+use Rattle.argue_program.specs.Inputs.{EndsReading, Follow, Input, Reading, StopsAtFirst, input}
 use Rattle.argue_program.specs.Rows.{CountsReads, EndsCommand, EndsSession, IsEndingOf, Row, check_row, files_beside, nothing_kept, row_of, session_files, session_text, solve_row, unknown_row}
 use Rattle.iccma_tasks.specs.Tasks.{Asked}
 use Rattle.argue_program.specs.Checks.{ChecksFiles, EndsChecking}
 use Rattle.argue_program.specs.Queries.{asked_by, solving_by}
-use Rattle.argue_program.specs.Solves.{IsSessionOn}
+use Rattle.argue_program.specs.Solves.{IsSessionOn, status_of}
 use Rattle.argue_program.specs.declared.query.Solving.{Solving}
 use Rattle.argue_program.specs.declared.ended.KeptSession.{KeptSession}
+use Rattle.argue_program.specs.declared.ended.Limit.TheVariants as bound
+use Rattle.argue_program.specs.declared.ended.Refusal.TheVariants.{Query}
+use Rattle.oracle_core.specs.declared.reply.AnswerStop.{AnswerStop}
+use Rattle.oracle_core.specs.declared.reply.AnswerStop.TheVariants as stop
+use Rattle.oracle_core.specs.declared.reply.Answered.{Answered}
 use Rattle.argue_program.specs.Texts.{IsRefusal, common_text, text_bytes}
 use Rattle.argue_program.specs.declared.decision.Ending.{Ending}
 use Rattle.argue_program.specs.declared.ended.Status.{Status}
@@ -248,6 +254,16 @@ module _ (found : Reading) (by : Option Solving) (query : Solving) (texts : Solv
         counts = CountsReads-none found (solve_row found.holds (Some query) texts) ending.status quiet;
       })
 
+-- the ending of a session with this reply
+pub ends_session : (session : KeptSession) (reply : Result Answered AnswerStop) (name : Option (List ℕ))
+    (ending : Result Ending Memory) → session.reply ≡ reply
+    → IfOk ending (EndsSession (record { reply = reply; engine = session.engine }) name)
+    → IfOk ending (EndsSession session name)
+ends_session session reply name ending is ends =
+    let P : Result Answered AnswerStop → Type 0 =
+    λ told. IfOk ending (EndsSession (record { reply = told; engine = session.engine }) name) in
+    subst P (sym is) ends
+
 -- words that ask no query are refused
 pub solve_unasked : (found : Reading) (by : Option Solving) (texts : SolveTexts) (ending : Ending) → by ≡ None
     → found.new_count ≡ found.old_count
@@ -259,3 +275,48 @@ solve_unasked found by texts ending is quiet status kept text files =
     subst P (sym is)
     (IsEndingOf-stopped found unknown_row ending Usage (inr (refl, refl)) refl status kept text files
     (CountsReads-none found unknown_row Usage quiet))
+
+-- ---- no row ends with a write fault
+
+no_reply_fault : (reply : Result Answered AnswerStop) → WriteFault ≢ status_of reply
+no_reply_fault (Ok reply) ends = let e : WriteFault ≡ Done = ends in cc
+no_reply_fault (Err (stop.Query fault)) ends = let e : WriteFault ≡ InputRefused (Query fault) = ends in cc
+no_reply_fault (Err (stop.Spent count)) ends = let e : WriteFault ≡ Unknown = ends in cc
+no_reply_fault (Err stop.TooMany) ends = let e : WriteFault ≡ Limit bound.Extensions = ends in cc
+no_reply_fault (Err stop.LogFull) ends = let e : WriteFault ≡ Limit bound.Log = ends in cc
+no_reply_fault (Err stop.Memory) ends = let e : WriteFault ≡ WantOfMemory = ends in cc
+
+no_stop_fault : (found : Reading) (inputs : List Input) → ¬ StopsAtFirst found WriteFault inputs
+no_stop_fault found [] stops = stops
+no_stop_fault found (one ∷ more) (inl stops) = stops.0
+no_stop_fault found (one ∷ more) (inr passes) = no_stop_fault found more passes.1
+
+no_check_fault : (holds : List ℕ → KnownFile) (asked : Option Asked) (texts : CheckTexts) (kept : Transcript)
+    → ¬ (check_row holds asked texts).Ends kept WriteFault
+no_check_fault holds None texts kept unasked = let e : WriteFault ≡ Usage = unasked.1 in cc
+no_check_fault holds (Some asked) texts kept checks = checks.1.ends
+
+no_solve_fault : (holds : List ℕ → KnownFile) (query : Option Solving) (texts : SolveTexts) (kept : Transcript)
+    → ¬ (solve_row holds query texts).Ends kept WriteFault
+no_solve_fault holds None texts kept unasked = let e : WriteFault ≡ Usage = unasked.1 in cc
+no_solve_fault holds (Some query) texts kept solved = no_reply_fault solved.session.reply solved.ends
+
+no_row_fault : (found : Reading) (holds : List ℕ → KnownFile) (request : Request) (kept : Transcript)
+    → ¬ EndsCommand found (row_of holds request) kept WriteFault
+no_row_fault found holds request kept (inl (nothing, inl stops)) =
+    no_stop_fault found (row_of holds request).inputs stops
+no_row_fault found holds request kept (inl (nothing, inr memory)) =
+    let e : WriteFault ≡ WantOfMemory = memory.0 in cc
+no_row_fault found holds version kept (inr done) = let e : WriteFault ≡ Done = done.1 in cc
+no_row_fault found holds problems kept (inr done) = let e : WriteFault ≡ Done = done.1 in cc
+no_row_fault found holds (solving texts) kept (inr ends) = no_solve_fault holds (solving_by texts) texts kept ends
+no_row_fault found holds (checking texts) kept (inr ends) =
+    no_check_fault holds (asked_by texts.task texts.number) texts kept ends
+no_row_fault found holds unknown kept (inr unasked) = let e : WriteFault ≡ Usage = unasked.1 in cc
+
+-- what is decided is no write fault
+pub decides_no_fault : (found : Reading) (holds : List ℕ → KnownFile) (request : Request) (ending : Ending)
+    → IsEndingOf found (row_of holds request) ending → ending.status ≢ WriteFault
+decides_no_fault found holds request ending decided is =
+    no_row_fault found holds request ending.kept
+    (subst (EndsCommand found (row_of holds request) ending.kept) is decided.cause)
