@@ -17,9 +17,8 @@ use Rattle.argue_program.specs.Queries.{asked_by, solving_by}
 use Rattle.argue_program.specs.Solves.{IsSessionOf, IsSessionOn, status_of}
 use Rattle.argue_program.specs.declared.query.Solving.{Solving}
 use Rattle.oracle_core.specs.declared.reply.AnswerStop.{AnswerStop}
-use Rattle.oracle_core.specs.declared.reply.AnswerStop.TheVariants as stop
 use Rattle.oracle_core.specs.declared.reply.Answered.{Answered}
-use Rattle.argue_program.proofs.SolveLemmas.{HasReply, done_reply, fills, spends_all}
+use Rattle.argue_program.proofs.SolveLemmas.{done_reply, fills, spends_all}
 use Rattle.argue_program.specs.Checks.{CheckEnds, ChecksFiles, IsAnswerOf, IsCertificateOf, IsSoundIn, check_inputs}
 use Rattle.argue_program.proofs.CheckLemmas.{answer_sound, certificate_sound, framework_sound, stops_told}
 use Rattle.semantics.specs.Framework.{Af}

@@ -1,9 +1,9 @@
 -- The session of a query.
-use Rattle.std.proofs.Common.{◌≡◌, ◌∙◌, ℕ, ◌+◌, ◌*◌, ◌<◌, ◌≤◌, length, refl, sym, ap, subst, true, take, arith}
-use Rattle.std.proofs.Common.{Option, Some, None, Result, Ok, Err}
+use Rattle.std.proofs.Common.{◌≡◌, ◌∙◌, ℕ, ◌+◌, ◌*◌, ◌<◌, ◌≤◌, length, refl, subst, true, take, arith}
+use Rattle.std.proofs.Common.{Option, Some, Result, Ok, Err}
 use Rattle.std.specs.Prelude.{IfErr, IfOk, IsSome, OnOk, slice_index_or}
 use Rattle.plain_lits.specs.declared.halt.Halt.{Halt}
-use Rattle.plain_lits.specs.declared.halt.Halt.TheVariants.{Spent, LogFull}
+use Rattle.plain_lits.specs.declared.halt.Halt.TheVariants.{Spent}
 use Rattle.plain_lits.specs.Units.{Units}
 use Rattle.semantics.specs.Frameworks.{Framework}
 use Rattle.edit_rules.specs.Fitting.{Fits}
@@ -43,16 +43,19 @@ module _ (f : Framework) (solving : Solving) where
       → after.limit ≡ before.limit → after.used ≤ after.limit → OnOk reply (Fits f solving.query)
       → IfOk reply (λ a. IsShownBy f solving.query a.answer a.certificate) → IfOk reply (λ a. a.units ≡ after.used)
       → IfErr reply (IsCause f solving.query EXTENSION_LIMIT) → Replies f solving after.used reply
-  replies_are before after (Ok reply) limit stays within fits shown units cause = (record {
-    fits = fits;
-    shown = shown;
-    within =
-        let is : reply.units ≡ after.used = units in
-        let high : after.used ≤ after.limit = within in
-        let same : after.limit ≡ before.limit = stays in
-        let of : before.limit ≡ solving.budget = limit in
-        omega arith;
-  }, units)
+  replies_are before after (Ok reply) limit stays within fits shown units cause = (
+    record {
+      fits = fits;
+      shown = shown;
+      within =
+          let is : reply.units ≡ after.used = units in
+          let high : after.used ≤ after.limit = within in
+          let same : after.limit ≡ before.limit = stays in
+          let of : before.limit ≡ solving.budget = limit in
+          omega arith;
+    },
+    units,
+  )
   replies_are before after (Err why) limit stays within fits shown units cause = cause
 
 -- what an engine with an empty log answers to a query makes up its session

@@ -166,7 +166,11 @@ fn check<F: Files>(alloc: Global, files: &mut F, words: CheckWords<'_>) -> Endin
         return stopped(alloc, Status::Usage);
     };
     match check_files(alloc, files, &query, &words) {
-        Ok(()) => done(alloc, Transcript { session: None }, Text::Fixed("ACCEPTED\n")),
+        Ok(()) => done(
+            alloc,
+            Transcript { session: None },
+            Text::Fixed("ACCEPTED\n"),
+        ),
         Err(status) => stopped(alloc, status),
     }
 }

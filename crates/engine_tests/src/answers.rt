@@ -121,7 +121,13 @@ fn queries_in_turn(rt: HostRuntime) -> Result<(), Fail> {
     // No preferred set is shown without a side clause.
     let unpaid = [ask("SE-PR", None, 0, 10, spent(0))];
     // Three in a ring have no stable set, which takes a step to show.
-    let full = [ask("SE-ST", None, 1_000_000, 10, End::Stops(AnswerStop::LogFull))];
+    let full = [ask(
+        "SE-ST",
+        None,
+        1_000_000,
+        10,
+        End::Stops(AnswerStop::LogFull),
+    )];
     // 1 and 2 attack each other, 2 attacks 3, and 3 and 4 attack themselves: 1 and 2 alone are preferred.
     let two = [
         ask("EE-PR", None, 1_000_000, 1, End::Stops(AnswerStop::TooMany)),
