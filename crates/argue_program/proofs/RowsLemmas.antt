@@ -1,20 +1,25 @@
 -- Endings that a row of the table has.
-use Rattle.std.proofs.Common.{◌≡◌, ◌≢◌, ◌<◌, ◌∙◌, ◌⊎◌, ℕ, List, [], ◌∷◌, refl, sym, ap, subst, inl, inr, arith, Option, None, Some, codes}
-use Rattle.std.specs.Prelude.{Contains, IsSome, IsTrue}
+use Rattle.std.proofs.Common.{◌≡◌, ◌≢◌, ◌<◌, ◌∙◌, ◌⊎◌, ℕ, List, [], ◌∷◌, refl, sym, ap, subst, inl, inr, arith, Option, None, Some, Result, Ok, Err, codes}
+use Rattle.std.specs.Prelude.{Contains, IfOk, IsSome, IsTrue}
+use Rattle.std.specs.Option.{unwrap_or}
+use Rattle.plain_lists.specs.declared.memory.Memory.{Memory}
 use Rattle.argue_outside.specs.Outside.{KnownFile, OtherCountsKept}
 use Rattle.argue_outside.specs.declared.Role.{Role}
 use Rattle.argue_outside.specs.declared.Role.TheVariants as role
 use Rattle.argue_words.specs.Words.{CheckTexts, Request, version, problems, solving, checking, unknown, SolveTexts, requested}
 use Rattle.argue_words.proofs.RequestLaws.{none_requested}
-use Rattle.argue_program.specs.Inputs.{EndsReading, Follow, Input, Reading, input}
-use Rattle.argue_program.specs.Rows.{CountsReads, EndsAnswered, EndsCommand, IsEndingOf, Row, check_row, nothing_kept, row_of, solve_row, unknown_row}
+use Rattle.argue_program.specs.Inputs.{EndsReading, Follow, Input, Reading, StopsAtFirst, input}
+use Rattle.argue_program.specs.Rows.{CountsReads, EndsCommand, EndsSession, IsEndingOf, Row, check_row, files_beside, nothing_kept, row_of, session_files, session_text, solve_row, unknown_row}
 use Rattle.iccma_tasks.specs.Tasks.{Asked}
 use Rattle.argue_program.specs.Checks.{ChecksFiles, EndsChecking}
 use Rattle.argue_program.specs.Queries.{asked_by, solving_by}
-use Rattle.argue_program.specs.Solves.{EndsSolving, SolvesFile}
+use Rattle.argue_program.specs.Solves.{IsSessionOn, status_of}
 use Rattle.argue_program.specs.declared.query.Solving.{Solving}
+use Rattle.argue_program.specs.declared.ended.KeptSession.{KeptSession}
 use Rattle.argue_program.specs.declared.ended.Limit.TheVariants as bound
-use Rattle.argue_program.specs.declared.ended.Refusal.TheVariants.{Line, Query}
+use Rattle.argue_program.specs.declared.ended.Refusal.TheVariants.{Query}
+use Rattle.oracle_core.specs.declared.reply.AnswerStop.{AnswerStop}
+use Rattle.oracle_core.specs.declared.reply.AnswerStop.TheVariants as stop
 use Rattle.oracle_core.specs.declared.reply.Answered.{Answered}
 use Rattle.argue_program.specs.Texts.{IsRefusal, common_text, text_bytes}
 use Rattle.argue_program.specs.declared.decision.Ending.{Ending}
@@ -200,60 +205,12 @@ check_unasked found by texts ending is quiet status kept text files =
 
 -- ---- queries
 
--- a call that looks for the answer ends a run as its row says
+-- an end of reading the framework is one of the query's row
 solve_cause : (found : Reading) (query : Solving) (texts : SolveTexts) (end : Status)
-    → EndsSolving found query texts.file end
+    → EndsReading found (input (role.Framework 1) texts.file) end
     → EndsCommand found (solve_row found.holds (Some query) texts) nothing_kept end
-solve_cause found query texts (InputRefused (Query fault)) ends = inr (refl, ends)
-solve_cause found query texts (InputRefused (Line of line c)) ends =
-    inl (refl, inl (inl (ends, follow_none found (InputRefused (Line of line c)))))
-solve_cause found query texts (ReadFault of) ends = inl (refl, inl (inl (ends, tt)))
-solve_cause found query texts Unknown ends = inr (refl, ends)
-solve_cause found query texts (Limit bound.Input) ends = inl (refl, inl (inl (ends, tt)))
-solve_cause found query texts (Limit bound.Extensions) ends = inr (refl, ends)
-solve_cause found query texts (Limit bound.Log) ends = inr (refl, ends)
-solve_cause found query texts WantOfMemory ends = inl (refl, inr (refl, refl))
-solve_cause found query texts Done ends = absurd ends
-solve_cause found query texts Usage ends = absurd ends
-solve_cause found query texts WriteFault ends = absurd ends
-solve_cause found query texts (Rejected failure r s) ends = absurd ends
-
--- an end of a call that looks for the answer has a text of its own
-pub common_text-solving : (found : Reading) (query : Solving) (file : List ℕ) (end : Status)
-    → EndsSolving found query file end → IsSome (common_text end)
-common_text-solving found query file (InputRefused refusal) ends = refl
-common_text-solving found query file (ReadFault of) ends = refl
-common_text-solving found query file (Limit limit) ends = refl
-common_text-solving found query file WantOfMemory ends = refl
-common_text-solving found query file Unknown ends = refl
-common_text-solving found query file Done ends = absurd ends
-common_text-solving found query file Usage ends = refl
-common_text-solving found query file WriteFault ends = refl
-common_text-solving found query file (Rejected failure r s) ends = refl
-
--- an end of reading the file is one of a call that reads it and answers
-pub EndsSolving-reading : (found : Reading) (query : Solving) (file : List ℕ) (end : Status)
-    → EndsReading found (input (role.Framework 1) file) end → EndsSolving found query file end
-EndsSolving-reading found query file (InputRefused (Line of line c)) (inl stops) = stops
-EndsSolving-reading found query file (InputRefused (Query fault)) (inl stops) = absurd stops
-EndsSolving-reading found query file (ReadFault of) (inl stops) = stops
-EndsSolving-reading found query file Unknown (inl stops) = absurd stops
-EndsSolving-reading found query file (Limit bound.Input) (inl stops) = stops
-EndsSolving-reading found query file (Limit bound.Extensions) (inl stops) = absurd stops
-EndsSolving-reading found query file (Limit bound.Log) (inl stops) = absurd stops
-EndsSolving-reading found query file WantOfMemory h = tt
-EndsSolving-reading found query file Done (inl stops) = stops
-EndsSolving-reading found query file Usage (inl stops) = stops
-EndsSolving-reading found query file WriteFault (inl stops) = stops
-EndsSolving-reading found query file (Rejected failure r s) (inl stops) = stops
-EndsSolving-reading found query file (InputRefused refusal) (inr memory) = absurd (cc)
-EndsSolving-reading found query file (ReadFault of) (inr memory) = absurd (cc)
-EndsSolving-reading found query file Unknown (inr memory) = absurd (cc)
-EndsSolving-reading found query file (Limit limit) (inr memory) = absurd (cc)
-EndsSolving-reading found query file Done (inr memory) = absurd (cc)
-EndsSolving-reading found query file Usage (inr memory) = absurd (cc)
-EndsSolving-reading found query file WriteFault (inr memory) = absurd (cc)
-EndsSolving-reading found query file (Rejected failure r s) (inr memory) = absurd (cc)
+solve_cause found query texts end (inl stops) = inl (refl, inl (inl (stops, follow_none found end)))
+solve_cause found query texts end (inr memory) = inl (refl, inr (memory, refl))
 
 -- faults are counted in the role of the one input, and only where it ends the run by one
 solve_counts : (found : Reading) (query : Solving) (texts : SolveTexts) (end : Status)
@@ -272,7 +229,7 @@ module _ (found : Reading) (by : Option Solving) (query : Solving) (texts : Solv
   IsEndingBy o = IsEndingOf found (solve_row found.holds o texts) ending
 
   -- a query that stopped ends as its row says
-  pub solve_stopped : (end : Status) → EndsSolving found query texts.file end
+  pub solve_stopped : (end : Status) → EndsReading found (input (role.Framework 1) texts.file) end
       → (end ≢ ReadFault (role.Framework 1) → found.new_count ≡ found.old_count)
       → OtherCountsKept (role.Framework 1) found.old_count found.new_count
       → (ending.status ≡ end) ⊎ ((ending.status ≡ WantOfMemory) × IsRefusal end) → ending.kept ≡ nothing_kept
@@ -283,17 +240,29 @@ module _ (found : Reading) (by : Option Solving) (query : Solving) (texts : Solv
       (IsEndingOf-stopped found (solve_row found.holds (Some query) texts) ending end (solve_cause found query texts end ends)
       refl status kept text files (solve_counts found query texts end quiet others))
 
-  -- a query that is answered ends as its row says
-  pub solve_done : (reply : Answered) → SolvesFile (found.holds texts.file) query reply
-      → found.new_count ≡ found.old_count → EndsAnswered reply texts.certificate ending
+  -- a query that came to a session ends as its row says
+  pub solve_session : (session : KeptSession) → IsSessionOn (found.holds texts.file) query session
+      → found.new_count ≡ found.old_count → EndsSession session texts.certificate ending
       → IsEndingOf found (solve_row found.holds by texts) ending
-  solve_done reply solves quiet done =
+  solve_session session on quiet ends =
+      let keeps : ending.kept.session ≡ Some session = ap (λ (k : Transcript). k.session) ends.keeps in
       subst IsEndingBy (sym is) (record {
-        cause = rw done.done (inr (reply, done.keeps, solves));
-        text = rw done.done (rw done.keeps done.text);
-        files = rw done.done (rw done.keeps done.files);
+        cause = inr (record { session = session; keeps = keeps; on = on; ends = ends.status });
+        text = ends.text ∙ ap (λ s. unwrap_or (common_text ending.status) (session_text s)) (sym keeps);
+        files = ends.files ∙ ap (λ s. files_beside (common_text ending.status) (session_files texts.certificate s))
+            (sym keeps);
         counts = CountsReads-none found (solve_row found.holds (Some query) texts) ending.status quiet;
       })
+
+-- the ending of a session with this reply
+pub ends_session : (session : KeptSession) (reply : Result Answered AnswerStop) (name : Option (List ℕ))
+    (ending : Result Ending Memory) → session.reply ≡ reply
+    → IfOk ending (EndsSession (record { reply = reply; engine = session.engine }) name)
+    → IfOk ending (EndsSession session name)
+ends_session session reply name ending is ends =
+    let P : Result Answered AnswerStop → Type 0 =
+    λ told. IfOk ending (EndsSession (record { reply = told; engine = session.engine }) name) in
+    subst P (sym is) ends
 
 -- words that ask no query are refused
 pub solve_unasked : (found : Reading) (by : Option Solving) (texts : SolveTexts) (ending : Ending) → by ≡ None
@@ -306,3 +275,48 @@ solve_unasked found by texts ending is quiet status kept text files =
     subst P (sym is)
     (IsEndingOf-stopped found unknown_row ending Usage (inr (refl, refl)) refl status kept text files
     (CountsReads-none found unknown_row Usage quiet))
+
+-- ---- no row ends with a write fault
+
+no_reply_fault : (reply : Result Answered AnswerStop) → WriteFault ≢ status_of reply
+no_reply_fault (Ok reply) ends = let e : WriteFault ≡ Done = ends in cc
+no_reply_fault (Err (stop.Query fault)) ends = let e : WriteFault ≡ InputRefused (Query fault) = ends in cc
+no_reply_fault (Err (stop.Spent count)) ends = let e : WriteFault ≡ Unknown = ends in cc
+no_reply_fault (Err stop.TooMany) ends = let e : WriteFault ≡ Limit bound.Extensions = ends in cc
+no_reply_fault (Err stop.LogFull) ends = let e : WriteFault ≡ Limit bound.Log = ends in cc
+no_reply_fault (Err stop.Memory) ends = let e : WriteFault ≡ WantOfMemory = ends in cc
+
+no_stop_fault : (found : Reading) (inputs : List Input) → ¬ StopsAtFirst found WriteFault inputs
+no_stop_fault found [] stops = stops
+no_stop_fault found (one ∷ more) (inl stops) = stops.0
+no_stop_fault found (one ∷ more) (inr passes) = no_stop_fault found more passes.1
+
+no_check_fault : (holds : List ℕ → KnownFile) (asked : Option Asked) (texts : CheckTexts) (kept : Transcript)
+    → ¬ (check_row holds asked texts).Ends kept WriteFault
+no_check_fault holds None texts kept unasked = let e : WriteFault ≡ Usage = unasked.1 in cc
+no_check_fault holds (Some asked) texts kept checks = checks.1.ends
+
+no_solve_fault : (holds : List ℕ → KnownFile) (query : Option Solving) (texts : SolveTexts) (kept : Transcript)
+    → ¬ (solve_row holds query texts).Ends kept WriteFault
+no_solve_fault holds None texts kept unasked = let e : WriteFault ≡ Usage = unasked.1 in cc
+no_solve_fault holds (Some query) texts kept solved = no_reply_fault solved.session.reply solved.ends
+
+no_row_fault : (found : Reading) (holds : List ℕ → KnownFile) (request : Request) (kept : Transcript)
+    → ¬ EndsCommand found (row_of holds request) kept WriteFault
+no_row_fault found holds request kept (inl (nothing, inl stops)) =
+    no_stop_fault found (row_of holds request).inputs stops
+no_row_fault found holds request kept (inl (nothing, inr memory)) =
+    let e : WriteFault ≡ WantOfMemory = memory.0 in cc
+no_row_fault found holds version kept (inr done) = let e : WriteFault ≡ Done = done.1 in cc
+no_row_fault found holds problems kept (inr done) = let e : WriteFault ≡ Done = done.1 in cc
+no_row_fault found holds (solving texts) kept (inr ends) = no_solve_fault holds (solving_by texts) texts kept ends
+no_row_fault found holds (checking texts) kept (inr ends) =
+    no_check_fault holds (asked_by texts.task texts.number) texts kept ends
+no_row_fault found holds unknown kept (inr unasked) = let e : WriteFault ≡ Usage = unasked.1 in cc
+
+-- what is decided is no write fault
+pub decides_no_fault : (found : Reading) (holds : List ℕ → KnownFile) (request : Request) (ending : Ending)
+    → IsEndingOf found (row_of holds request) ending → ending.status ≢ WriteFault
+decides_no_fault found holds request ending decided is =
+    no_row_fault found holds request ending.kept
+    (subst (EndsCommand found (row_of holds request) ending.kept) is decided.cause)

@@ -1,6 +1,8 @@
 -- What follows of a run, in the words of its query.
-use Rattle.std.proofs.Common.{◌≡◌, ◌≢◌, ◌∙◌, ◌⊎◌, ◌<◌, ◌≤◌, ℕ, List, [], ◌∷◌, length, refl, sym, ap, subst, inl, inr, ⊎_elim, true, false, arith, Option, None, Some, Ok, map}
+use Rattle.std.proofs.Common.{◌≡◌, ◌≢◌, ◌∙◌, ◌⊎◌, ◌<◌, ◌≤◌, ℕ, List, [], ◌∷◌, length, refl, sym, ap, subst, inl, inr, ⊎_elim, true, false, arith, Option, None, Some, Result, Ok, Err, map}
 use Rattle.std.specs.Prelude.{Contains}
+use Rattle.std.specs.Io.KnownBytes.{Appends}
+use Rattle.std.specs.Option.{unwrap_or}
 use Rattle.argue_outside.specs.Outside.{FaultCounted, HoldsWhole, IsLonger, KnownFile}
 use Rattle.argue_outside.specs.declared.Role.{Role}
 use Rattle.argue_outside.specs.declared.Role.TheVariants.{Framework}
@@ -9,19 +11,21 @@ use Rattle.argue_words.proofs.RequestLaws.{query_requested, requested_list, requ
 use Rattle.af_format.specs.AfText.{IsReadable, ReadsAs}
 use Rattle.af_format.proofs.Readings.{ReadsAs-faultless, ReadsAs-same}
 use Rattle.argue_program.specs.Inputs.{HasBytes, HasFirstFault, HasReadFault, Input, IsFirstFaultIn, IsFrameworkOf, Reading, StopsAt, StopsAtFirst, input}
-use Rattle.argue_program.specs.Rows.{EndsCommand, EndsSolved, FileText, HasNoInput, IsEndingOf, Row, check_row, file_text, files_beside, nothing_kept, problems_row, reply_files, row_of, solve_row, unknown_row, version_row}
+use Rattle.argue_program.specs.Rows.{EndsCommand, EndsSolved, FileText, HasNoInput, IsEndingOf, Row, check_row, certificate_files, file_text, files_beside, nothing_kept, problems_row, reply_files, reply_text, row_of, session_files, session_text, solve_row, text_of, unknown_row, version_row}
 use Rattle.iccma_tasks.specs.Tasks.{Asked}
 use Rattle.argue_program.specs.Queries.{asked_by, solving_by}
-use Rattle.argue_program.specs.Solves.{RefusesBy, SolvesFile, StopsOn}
+use Rattle.argue_program.specs.Solves.{IsSessionOf, IsSessionOn, status_of}
 use Rattle.argue_program.specs.declared.query.Solving.{Solving}
-use Rattle.edit_rules.specs.Fitting.{Fits, IsFaultOf}
+use Rattle.oracle_core.specs.declared.reply.AnswerStop.{AnswerStop}
 use Rattle.oracle_core.specs.declared.reply.Answered.{Answered}
+use Rattle.argue_program.proofs.SolveLemmas.{done_reply, fills, spends_all}
 use Rattle.argue_program.specs.Checks.{CheckEnds, ChecksFiles, IsAnswerOf, IsCertificateOf, IsSoundIn, check_inputs}
 use Rattle.argue_program.proofs.CheckLemmas.{answer_sound, certificate_sound, framework_sound, stops_told}
 use Rattle.semantics.specs.Framework.{Af}
 use Rattle.semantics.specs.Frameworks.{IsNumbered, af}
 use Rattle.af_format.proofs.Reading.{arguments_numbered}
 use Rattle.iccma_tasks.specs.AnswerText.{filled_fields, ReadsAs as AnswerReadsAs}
+use Rattle.iccma_tasks.specs.WrittenText.{text_of as answer_text}
 use Rattle.iccma_tasks.specs.declared.answer.Answer.{Answer}
 use Rattle.iccma_tasks.proofs.Exact.{ReadsAs-unique}
 use Rattle.certificate_claims.specs.declared.certificate.Certificate.{Certificate}
@@ -29,13 +33,14 @@ use Rattle.certificate_laws.proofs.Right.{accepted_right}
 use Rattle.certificate_laws.proofs.Verdicts.{accepted_is_verdict}
 use Rattle.certificate_text.specs.Reading.{ReadsAs as CertReadsAs}
 use Rattle.certificate_text.proofs.OneOutcome.{one_reading}
-use Rattle.argue_program.specs.Runs.{AnswersRight, AnswersWords, ChecksContents, HasText, IsCheckEnd, IsDoneOrMemory, IsFaulty, IsRunOf, IsSolveEnd, NamesCertificate, QueriesBytes, RefusesBytes, RefusesLength, RefusesWords, SolvesContents}
-use Rattle.argue_program.specs.Texts.{common_text}
+use Rattle.argue_program.specs.Runs.{AnswersRight, AsksSession, ChecksContents, EndsAsReplied, FillsLog, HasText, IsCheckEnd, IsDoneOrMemory, IsFaulty, IsRunOf, IsSolveEnd, NamesCertificate, QueriesBytes, RefusesBytes, RefusesLength, RefusesWords, SolvesContents, SpendsBudget, WritesAnswer}
+use Rattle.argue_program.specs.Texts.{common_text, text_bytes}
 use Rattle.argue_program.specs.Writing.{BreaksFiles, BreaksOff, BreaksReplacing, IsWritten, Output, WritesFiles}
 use Rattle.argue_program.specs.declared.decision.Ending.{Ending}
 use Rattle.argue_program.specs.declared.ended.Cause.{Cause}
 use Rattle.argue_program.specs.declared.ended.Cause.TheVariants as cause
 use Rattle.argue_program.specs.declared.ended.Ended.{Ended}
+use Rattle.argue_program.specs.declared.ended.KeptSession.{KeptSession}
 use Rattle.argue_program.specs.declared.ended.Limit.TheVariants as limit
 use Rattle.argue_program.specs.declared.ended.Refusal.TheVariants.{Line, Query}
 use Rattle.argue_program.specs.declared.ended.Status.{Status}
@@ -121,6 +126,18 @@ at_query found words texts by kept end asks query_is cause =
 
 module _ (found : Reading) (words : List (List ℕ)) (texts : SolveTexts) (query : Solving) (bytes : List ℕ)
     (kept : Transcript) (asks : QueriesBytes found words texts query bytes) where
+  -- faulty bytes, and bytes over the limit, have no session
+  unread : (end : Status) → EndsSolved (found.holds texts.file) query kept end → ¬ IsFaulty bytes
+  unread end solved faulty =
+      readable_or_faulty bytes
+      (framework_reads (found.holds texts.file) bytes solved.on.framework asks.known solved.on.of_framework) faulty
+
+  too_long_for : (end : Status) → EndsSolved (found.holds texts.file) query kept end → INPUT_LIMIT < length bytes → ⊥
+  too_long_for end solved long =
+      let of = solved.on.of_framework in
+      let short = within_at (found.holds texts.file) bytes of.bytes asks.known of.has in
+      omega arith
+
   -- faulty bytes within the limit are refused
   pub refuses_bytes : (end : Status) → IsFaulty bytes → length bytes ≤ INPUT_LIMIT → (end ≢ WriteFault
       → EndsQuery found texts query kept end) → RefusesBytes bytes end
@@ -129,66 +146,56 @@ module _ (found : Reading) (words : List (List ℕ)) (texts : SolveTexts) (query
       not_done : EndsQuery found texts query kept Done → ⊥
       not_done (inl stops) = stops
       not_done (inr (inl is)) = done_no_memory is
-      not_done (inr (inr (reply, keeps, solves))) =
-          readable_or_faulty bytes
-          (framework_reads (found.holds texts.file) bytes solves.framework asks.known solves.of_framework) faulty
+      not_done (inr (inr solved)) = unread Done solved faulty
   refuses_bytes (InputRefused (Query fault)) faulty short ends = not_query (ends (λ e. cc))
     where
       not_query : EndsQuery found texts query kept (InputRefused (Query fault)) → ⊥
       not_query (inl stops) = stops
       not_query (inr (inl is)) = absurd (cc)
-      not_query (inr (inr (nothing, refuses))) =
-          readable_or_faulty bytes
-          (framework_reads (found.holds texts.file) bytes refuses.framework asks.known refuses.of_framework) faulty
+      not_query (inr (inr solved)) = unread (InputRefused (Query fault)) solved faulty
   refuses_bytes (InputRefused (Line r line c)) faulty short ends = at_first (ends (λ e. cc))
     where
       at_first : EndsQuery found texts query kept (InputRefused (Line r line c))
           → (r ≡ Framework 1) × IsFirstFaultIn (Framework 1) bytes line c
       at_first (inl stops) = (stops.0, first_at found texts.file bytes line c asks.known stops.1)
       at_first (inr (inl is)) = absurd (cc)
-      at_first (inr (inr none)) = absurd none
+      at_first (inr (inr solved)) = absurd (unread (InputRefused (Line r line c)) solved faulty)
   refuses_bytes Usage faulty short ends = not_usage (ends (λ e. cc))
     where
       not_usage : EndsQuery found texts query kept Usage → ⊥
       not_usage (inl stops) = stops
       not_usage (inr (inl is)) = absurd (cc)
-      not_usage (inr (inr none)) = none
+      not_usage (inr (inr solved)) = unread Usage solved faulty
   refuses_bytes (Rejected failure r s) faulty short ends = not_rejected (ends (λ e. cc))
     where
       not_rejected : EndsQuery found texts query kept (Rejected failure r s) → ⊥
       not_rejected (inl stops) = stops
       not_rejected (inr (inl is)) = absurd (cc)
-      not_rejected (inr (inr none)) = none
+      not_rejected (inr (inr solved)) = unread (Rejected failure r s) solved faulty
   refuses_bytes (ReadFault r) faulty short ends = not_unread (ends (λ e. cc))
     where
       not_unread : EndsQuery found texts query kept (ReadFault r) → ⊥
       not_unread (inl stops) = no_read_fault found words texts query bytes asks stops.1
       not_unread (inr (inl is)) = absurd (cc)
-      not_unread (inr (inr none)) = none
+      not_unread (inr (inr solved)) = unread (ReadFault r) solved faulty
   refuses_bytes Unknown faulty short ends = not_unknown (ends (λ e. cc))
     where
       not_unknown : EndsQuery found texts query kept Unknown → ⊥
       not_unknown (inl stops) = stops
       not_unknown (inr (inl is)) = absurd (cc)
-      not_unknown (inr (inr (nothing, on))) =
-          readable_or_faulty bytes
-          (framework_reads (found.holds texts.file) bytes on.framework asks.known on.of_framework) faulty
+      not_unknown (inr (inr solved)) = unread Unknown solved faulty
   refuses_bytes (Limit limit.Extensions) faulty short ends = not_many (ends (λ e. cc))
     where
       not_many : EndsQuery found texts query kept (Limit limit.Extensions) → ⊥
       not_many (inl stops) = stops
       not_many (inr (inl is)) = absurd (cc)
-      not_many (inr (inr (nothing, on))) =
-          readable_or_faulty bytes
-          (framework_reads (found.holds texts.file) bytes on.framework asks.known on.of_framework) faulty
+      not_many (inr (inr solved)) = unread (Limit limit.Extensions) solved faulty
   refuses_bytes (Limit limit.Log) faulty short ends = not_full (ends (λ e. cc))
     where
       not_full : EndsQuery found texts query kept (Limit limit.Log) → ⊥
       not_full (inl stops) = stops
       not_full (inr (inl is)) = absurd (cc)
-      not_full (inr (inr (nothing, on))) =
-          readable_or_faulty bytes
-          (framework_reads (found.holds texts.file) bytes on.framework asks.known on.of_framework) faulty
+      not_full (inr (inr solved)) = unread (Limit limit.Log) solved faulty
   refuses_bytes WriteFault faulty short ends = tt
   refuses_bytes WantOfMemory faulty short ends = tt
   refuses_bytes (Limit limit.Input) faulty short ends = not_longer (ends (λ e. cc))
@@ -197,7 +204,7 @@ module _ (found : Reading) (words : List (List ℕ)) (texts : SolveTexts) (query
       not_longer (inl stops) =
           let long = longer_at (found.holds texts.file) bytes asks.known stops in absurd (omega arith)
       not_longer (inr (inl is)) = absurd (cc)
-      not_longer (inr (inr none)) = none
+      not_longer (inr (inr solved)) = unread (Limit limit.Input) solved faulty
 
   -- bytes over the limit are refused
   pub refuses_length : (end : Status) → INPUT_LIMIT < length bytes → (end ≢ WriteFault
@@ -207,19 +214,13 @@ module _ (found : Reading) (words : List (List ℕ)) (texts : SolveTexts) (query
       not_done : EndsQuery found texts query kept Done → ⊥
       not_done (inl stops) = stops
       not_done (inr (inl is)) = done_no_memory is
-      not_done (inr (inr (reply, keeps, solves))) =
-          let of = solves.of_framework in
-          let short = within_at (found.holds texts.file) bytes of.bytes asks.known of.has in
-          absurd (omega arith)
+      not_done (inr (inr solved)) = too_long_for Done solved long
   refuses_length (InputRefused (Query fault)) long ends = not_query (ends (λ e. cc))
     where
       not_query : EndsQuery found texts query kept (InputRefused (Query fault)) → ⊥
       not_query (inl stops) = stops
       not_query (inr (inl is)) = absurd (cc)
-      not_query (inr (inr (nothing, refuses))) =
-          let of = refuses.of_framework in
-          let short = within_at (found.holds texts.file) bytes of.bytes asks.known of.has in
-          absurd (omega arith)
+      not_query (inr (inr solved)) = too_long_for (InputRefused (Query fault)) solved long
   refuses_length (InputRefused (Line r line c)) long ends = not_line (ends (λ e. cc))
     where
       not_line : EndsQuery found texts query kept (InputRefused (Line r line c)) → ⊥
@@ -227,52 +228,43 @@ module _ (found : Reading) (words : List (List ℕ)) (texts : SolveTexts) (query
           let short = within_at (found.holds texts.file) bytes stops.1.bytes asks.known stops.1.has in
           absurd (omega arith)
       not_line (inr (inl is)) = absurd (cc)
-      not_line (inr (inr none)) = none
+      not_line (inr (inr solved)) = too_long_for (InputRefused (Line r line c)) solved long
   refuses_length Usage long ends = not_usage (ends (λ e. cc))
     where
       not_usage : EndsQuery found texts query kept Usage → ⊥
       not_usage (inl stops) = stops
       not_usage (inr (inl is)) = absurd (cc)
-      not_usage (inr (inr none)) = none
+      not_usage (inr (inr solved)) = too_long_for Usage solved long
   refuses_length (Rejected failure r s) long ends = not_rejected (ends (λ e. cc))
     where
       not_rejected : EndsQuery found texts query kept (Rejected failure r s) → ⊥
       not_rejected (inl stops) = stops
       not_rejected (inr (inl is)) = absurd (cc)
-      not_rejected (inr (inr none)) = none
+      not_rejected (inr (inr solved)) = too_long_for (Rejected failure r s) solved long
   refuses_length (ReadFault r) long ends = not_unread (ends (λ e. cc))
     where
       not_unread : EndsQuery found texts query kept (ReadFault r) → ⊥
       not_unread (inl stops) = no_read_fault found words texts query bytes asks stops.1
       not_unread (inr (inl is)) = absurd (cc)
-      not_unread (inr (inr none)) = none
+      not_unread (inr (inr solved)) = too_long_for (ReadFault r) solved long
   refuses_length Unknown long ends = not_unknown (ends (λ e. cc))
     where
       not_unknown : EndsQuery found texts query kept Unknown → ⊥
       not_unknown (inl stops) = stops
       not_unknown (inr (inl is)) = absurd (cc)
-      not_unknown (inr (inr (nothing, on))) =
-          let of = on.of_framework in
-          let short = within_at (found.holds texts.file) bytes of.bytes asks.known of.has in
-          absurd (omega arith)
+      not_unknown (inr (inr solved)) = too_long_for Unknown solved long
   refuses_length (Limit limit.Extensions) long ends = not_many (ends (λ e. cc))
     where
       not_many : EndsQuery found texts query kept (Limit limit.Extensions) → ⊥
       not_many (inl stops) = stops
       not_many (inr (inl is)) = absurd (cc)
-      not_many (inr (inr (nothing, on))) =
-          let of = on.of_framework in
-          let short = within_at (found.holds texts.file) bytes of.bytes asks.known of.has in
-          absurd (omega arith)
+      not_many (inr (inr solved)) = too_long_for (Limit limit.Extensions) solved long
   refuses_length (Limit limit.Log) long ends = not_full (ends (λ e. cc))
     where
       not_full : EndsQuery found texts query kept (Limit limit.Log) → ⊥
       not_full (inl stops) = stops
       not_full (inr (inl is)) = absurd (cc)
-      not_full (inr (inr (nothing, on))) =
-          let of = on.of_framework in
-          let short = within_at (found.holds texts.file) bytes of.bytes asks.known of.has in
-          absurd (omega arith)
+      not_full (inr (inr solved)) = too_long_for (Limit limit.Log) solved long
   refuses_length WriteFault long ends = tt
   refuses_length WantOfMemory long ends = tt
   refuses_length (Limit limit.Input) long ends = tt
@@ -442,32 +434,34 @@ module _ (found : Reading) (words : List (List ℕ)) (texts : SolveTexts) (query
       ReadsAs-same has.bytes g f
       (subst (λ bs. ReadsAs bs g) (bytes_at (found.holds texts.file) has.bytes is.bytes has.known is.has) is.reads) has.reads
 
-  stops_here : (end : Status) → StopsOn (found.holds texts.file) query end → RefusesBy (af f) query end
-  stops_here end on = subst (λ g. RefusesBy (af g) query end) (same_read on.framework on.of_framework) on.stops
+  replied : (kept : Transcript) (end : Status) → EndsSolved (found.holds texts.file) query kept end
+      → EndsAsReplied f query kept end
+  replied kept end solved = record {
+    session = solved.session;
+    keeps = solved.keeps;
+    is = subst (λ g. IsSessionOf (af g) query solved.session)
+        (same_read solved.on.framework solved.on.of_framework) solved.on.is;
+    ends = solved.ends;
+  }
 
-  solved_end : (kept : Transcript) (end : Status) → EndsSolved (found.holds texts.file) query kept end
-      → IsSolveEnd f query end
-  solved_end kept Done (reply, keeps, solves) =
-      subst (λ g. Fits (af g) query.query) (same_read solves.framework solves.of_framework) solves.replies.fits
-  solved_end kept (InputRefused (Query fault)) (nothing, refuses) =
-      subst (λ g. IsFaultOf (af g) query.query fault) (same_read refuses.framework refuses.of_framework) refuses.fault_is
-  solved_end kept (InputRefused (Line r line c)) none = none
-  solved_end kept Usage none = none
-  solved_end kept (ReadFault r) none = none
-  solved_end kept WriteFault none = tt
-  solved_end kept WantOfMemory none = tt
-  solved_end kept Unknown (nothing, on) = stops_here Unknown on
-  solved_end kept (Limit limit.Input) none = none
-  solved_end kept (Limit limit.Extensions) (nothing, on) = stops_here (Limit limit.Extensions) on
-  solved_end kept (Limit limit.Log) (nothing, on) = stops_here (Limit limit.Log) on
-  solved_end kept (Rejected failure r s) none = none
+  solved_end : (kept : Transcript) (end : Status) → EndsAsReplied f query kept end → IsSolveEnd f query kept end
+  solved_end kept Done ends = ends
+  solved_end kept (InputRefused refusal) ends = ends
+  solved_end kept Usage ends = ends
+  solved_end kept (ReadFault r) ends = ends
+  solved_end kept WriteFault ends = tt
+  solved_end kept WantOfMemory ends = tt
+  solved_end kept Unknown ends = ends
+  solved_end kept (Limit l) ends = ends
+  solved_end kept (Rejected failure r s) ends = ends
 
-  pub ends_solve : (kept : Transcript) (end : Status) → EndsQuery found texts query kept end → IsSolveEnd f query end
+  pub ends_solve : (kept : Transcript) (end : Status) → EndsQuery found texts query kept end
+      → IsSolveEnd f query kept end
   ends_solve kept end (inl stops) =
       absurd (no_stop found _ _ (λ bytes reads. framework_sound bytes f reads) contents.of_framework end stops)
   ends_solve kept end (inr (inl is)) =
-      let P : Status → Type 0 = IsSolveEnd f query in subst P (sym is) tt
-  ends_solve kept end (inr (inr ends)) = solved_end kept end ends
+      let P : Status → Type 0 = IsSolveEnd f query kept in subst P (sym is) tt
+  ends_solve kept end (inr (inr ends)) = solved_end kept end (replied kept end ends)
 
 -- ---- runs
 
@@ -484,17 +478,26 @@ beside_other : (name : List ℕ) (text : Option (List ℕ)) (files : List FileTe
 beside_other name None files other = other
 beside_other name (Some text) files other = tt
 
-reply_other : (name : List ℕ) (certificate : Option (List ℕ)) (reply : Option Answered)
-    → (certificate ≡ Some name → ⊥) → HaveOtherNames name (reply_files certificate reply)
-reply_other name certificate None other = tt
-reply_other name None (Some reply) other = tt
-reply_other name (Some file) (Some reply) other = (λ e. other (ap Some (sym e)), tt)
+certificate_other : (name : List ℕ) (named : Option (List ℕ)) (certificate : Certificate) → (named ≡ Some name → ⊥)
+    → HaveOtherNames name (certificate_files named certificate)
+certificate_other name None certificate other = tt
+certificate_other name (Some file) certificate other = (λ e. other (ap Some (sym e)), tt)
+
+reply_other : (name : List ℕ) (named : Option (List ℕ)) (reply : Result Answered AnswerStop)
+    → (named ≡ Some name → ⊥) → HaveOtherNames name (reply_files named reply)
+reply_other name named (Ok reply) other = certificate_other name named reply.certificate other
+reply_other name named (Err why) other = tt
+
+session_other : (name : List ℕ) (named : Option (List ℕ)) (session : Option KeptSession)
+    → (named ≡ Some name → ⊥) → HaveOtherNames name (session_files named session)
+session_other name named None other = tt
+session_other name named (Some session) other = reply_other name named session.reply other
 
 solve_other : (holds : List ℕ → KnownFile) (query : Option Solving) (texts : SolveTexts) (kept : Transcript)
     (end : Status) (name : List ℕ) → (texts.certificate ≡ Some name → ⊥)
     → HaveOtherNames name ((solve_row holds query texts).files kept end)
 solve_other holds None texts kept end name other = tt
-solve_other holds (Some query) texts kept end name other = reply_other name texts.certificate kept.reply other
+solve_other holds (Some query) texts kept end name other = session_other name texts.certificate kept.session other
 
 check_other : (holds : List ℕ → KnownFile) (asked : Option Asked) (texts : CheckTexts) (kept : Transcript)
     (end : Status) (name : List ℕ) → HaveOtherNames name ((check_row holds asked texts).files kept end)
@@ -570,11 +573,11 @@ IsRunOf-written found holds count row ended writes old new ending decided reads 
       broken = λ b. subst (λ (o : Output). BreaksOff ending o new) is (broken b);
     }
 
--- nothing is kept, and so no answer
-none_kept : (found : Reading) (words : List (List ℕ)) (kept : Transcript) (reply : Answered) → kept ≡ nothing_kept
-    → kept.reply ≡ Some reply → AnswersWords words found.holds reply
-none_kept found words kept reply nothing is =
-    absurd (let e : None ≡ Some reply = sym (ap (λ (k : Transcript). k.reply) nothing) ∙ is in cc)
+-- nothing is kept, and so no session
+none_kept : (found : Reading) (words : List (List ℕ)) (kept : Transcript) (session : KeptSession) → kept ≡ nothing_kept
+    → kept.session ≡ Some session → AsksSession words found.holds session
+none_kept found words kept session nothing is =
+    absurd (let e : None ≡ Some session = sym (ap (λ (k : Transcript). k.session) nothing) ∙ is in cc)
 
 -- a check keeps nothing
 check_keeps : (holds : List ℕ → KnownFile) (asked : Option Asked) (texts : CheckTexts) (kept : Transcript) (end : Status)
@@ -582,55 +585,157 @@ check_keeps : (holds : List ℕ → KnownFile) (asked : Option Asked) (texts : C
 check_keeps holds None texts kept end unasked = unasked.0
 check_keeps holds (Some asked) texts kept end checks = checks.0
 
-right_solved : (found : Reading) (words : List (List ℕ)) (texts : SolveTexts) (query : Solving) (kept : Transcript)
-    (end : Status) (reply : Answered) → IsSolveQuery words texts → solving_by texts ≡ Some query
-    → EndsSolved (found.holds texts.file) query kept end → kept.reply ≡ Some reply
-    → AnswersWords words found.holds reply
-right_solved found words texts query kept Done reply asks query_is (given, keeps, solves) is = record {
+kept_by : (found : Reading) (words : List (List ℕ)) (texts : SolveTexts) (by : Option Solving) (kept : Transcript)
+    (end : Status) (session : KeptSession) → IsSolveQuery words texts → solving_by texts ≡ by
+    → (solve_row found.holds by texts).Ends kept end → kept.session ≡ Some session
+    → AsksSession words found.holds session
+kept_by found words texts None kept end session asks query_is unasked is =
+    none_kept found words kept session unasked.0 is
+kept_by found words texts (Some query) kept end session asks query_is solved is = record {
   texts = texts;
   asks = asks;
   query = query;
   query_is = query_is;
-  solves =
-      let e : given ≡ reply = some_is (sym keeps ∙ is) in subst (SolvesFile (found.holds texts.file) query) e solves;
+  on = let e : solved.session ≡ session = some_is (sym solved.keeps ∙ is) in
+      subst (IsSessionOn (found.holds texts.file) query) e solved.on;
 }
-right_solved found words texts query kept (InputRefused (Query fault)) reply asks query_is (nothing, refuses) is =
-    none_kept found words kept reply nothing is
-right_solved found words texts query kept (InputRefused (Line r line c)) reply asks query_is none is = absurd none
-right_solved found words texts query kept Usage reply asks query_is none is = absurd none
-right_solved found words texts query kept (ReadFault r) reply asks query_is none is = absurd none
-right_solved found words texts query kept WriteFault reply asks query_is none is = absurd none
-right_solved found words texts query kept WantOfMemory reply asks query_is none is = absurd none
-right_solved found words texts query kept Unknown reply asks query_is (nothing, on) is =
-    none_kept found words kept reply nothing is
-right_solved found words texts query kept (Limit limit.Input) reply asks query_is none is = absurd none
-right_solved found words texts query kept (Limit limit.Extensions) reply asks query_is (nothing, on) is =
-    none_kept found words kept reply nothing is
-right_solved found words texts query kept (Limit limit.Log) reply asks query_is (nothing, on) is =
-    none_kept found words kept reply nothing is
-right_solved found words texts query kept (Rejected failure r s) reply asks query_is none is = absurd none
 
-right_by : (found : Reading) (words : List (List ℕ)) (texts : SolveTexts) (by : Option Solving) (kept : Transcript)
-    (end : Status) (reply : Answered) → IsSolveQuery words texts → solving_by texts ≡ by
-    → (solve_row found.holds by texts).Ends kept end → kept.reply ≡ Some reply → AnswersWords words found.holds reply
-right_by found words texts None kept end reply asks query_is unasked is =
-    none_kept found words kept reply unasked.0 is
-right_by found words texts (Some query) kept end reply asks query_is ends is =
-    right_solved found words texts query kept end reply asks query_is ends is
-
-right_at : (found : Reading) (words : List (List ℕ)) (request : Request) (kept : Transcript) (end : Status)
-    (reply : Answered) → requested words ≡ request → EndsCommand found (row_of found.holds request) kept end
-    → kept.reply ≡ Some reply → AnswersWords words found.holds reply
-right_at found words request kept end reply asked (inl (nothing, why)) is =
-    none_kept found words kept reply nothing is
-right_at found words version kept end reply asked (inr done) is = none_kept found words kept reply done.0 is
-right_at found words problems kept end reply asked (inr done) is = none_kept found words kept reply done.0 is
-right_at found words (checking texts) kept end reply asked (inr checks) is =
-    none_kept found words kept reply
+kept_at : (found : Reading) (words : List (List ℕ)) (request : Request) (kept : Transcript) (end : Status)
+    (session : KeptSession) → requested words ≡ request → EndsCommand found (row_of found.holds request) kept end
+    → kept.session ≡ Some session → AsksSession words found.holds session
+kept_at found words request kept end session asked (inl (nothing, why)) is =
+    none_kept found words kept session nothing is
+kept_at found words version kept end session asked (inr done) is = none_kept found words kept session done.0 is
+kept_at found words problems kept end session asked (inr done) is = none_kept found words kept session done.0 is
+kept_at found words (checking texts) kept end session asked (inr checks) is =
+    none_kept found words kept session
     (check_keeps found.holds (asked_by texts.task texts.number) texts kept end checks) is
-right_at found words unknown kept end reply asked (inr unasked) is = none_kept found words kept reply unasked.0 is
-right_at found words (solving texts) kept end reply asked (inr ends) is =
-    right_by found words texts (solving_by texts) kept end reply (query_requested words texts asked) refl ends is
+kept_at found words unknown kept end session asked (inr unasked) is = none_kept found words kept session unasked.0 is
+kept_at found words (solving texts) kept end session asked (inr ends) is =
+    kept_by found words texts (solving_by texts) kept end session (query_requested words texts asked) refl ends is
+
+-- ---- a run that ends by its session alone
+
+-- a status that says why a query that fits has no answer
+abbrev SaysWhy : Status → Type 0
+SaysWhy Unknown = Unit {0}
+SaysWhy (Limit limit.Extensions) = Unit {0}
+SaysWhy (Limit limit.Log) = Unit {0}
+SaysWhy _ = ⊥
+
+-- the run keeps the session of the words' query, and ends as its reply says
+record KeepsAsked (words : List (List ℕ)) (holds : List ℕ → KnownFile) (kept : Transcript) (end : Status) : Type 0 where
+  pub session : KeptSession
+  pub keeps : kept.session ≡ Some session
+  pub asks : AsksSession words holds session
+  pub ends : end ≡ status_of session.reply
+
+no_why : (found : Reading) (end : Status) (one : Input) → SaysWhy end → ¬ StopsAt found end one
+no_why found Unknown one why stops = stops
+no_why found (Limit limit.Extensions) one why stops = stops
+no_why found (Limit limit.Log) one why stops = stops
+no_why found (Limit limit.Input) one why stops = why
+no_why found Done one why stops = why
+no_why found Usage one why stops = why
+no_why found (InputRefused refusal) one why stops = why
+no_why found (ReadFault r) one why stops = why
+no_why found WriteFault one why stops = why
+no_why found WantOfMemory one why stops = why
+no_why found (Rejected failure r s) one why stops = why
+
+no_first_why : (found : Reading) (end : Status) (inputs : List Input) → SaysWhy end → ¬ StopsAtFirst found end inputs
+no_first_why found end [] why stops = stops
+no_first_why found end (one ∷ more) why (inl stops) = no_why found end one why stops.0
+no_first_why found end (one ∷ more) why (inr passes) = no_first_why found end more why passes.1
+
+no_check_why : (f : Af) (asked : Asked) (answer : Answer) (certificate : Certificate) (end : Status) → SaysWhy end
+    → ¬ CheckEnds (af f) asked answer certificate end
+no_check_why f asked answer certificate Unknown why ends = ends
+no_check_why f asked answer certificate (Limit l) why ends = ends
+no_check_why f asked answer certificate Done why ends = why
+no_check_why f asked answer certificate Usage why ends = why
+no_check_why f asked answer certificate (InputRefused refusal) why ends = why
+no_check_why f asked answer certificate (ReadFault r) why ends = why
+no_check_why f asked answer certificate WriteFault why ends = why
+no_check_why f asked answer certificate WantOfMemory why ends = why
+no_check_why f asked answer certificate (Rejected failure r s) why ends = why
+
+not_why : (end other : Status) → SaysWhy end → (SaysWhy other → ⊥) → end ≢ other
+not_why end other why none is = none (subst SaysWhy is why)
+
+check_why : (holds : List ℕ → KnownFile) (asked : Option Asked) (texts : CheckTexts) (kept : Transcript) (end : Status)
+    → SaysWhy end → ¬ (check_row holds asked texts).Ends kept end
+check_why holds None texts kept end why unasked = not_why end Usage why (λ w. w) unasked.1
+check_why holds (Some asked) texts kept end why checks =
+    no_check_why checks.1.framework asked checks.1.answer checks.1.certificate end why checks.1.ends
+
+solve_why : (found : Reading) (words : List (List ℕ)) (texts : SolveTexts) (by : Option Solving) (kept : Transcript)
+    (end : Status) → SaysWhy end → IsSolveQuery words texts → solving_by texts ≡ by
+    → (solve_row found.holds by texts).Ends kept end → KeepsAsked words found.holds kept end
+solve_why found words texts None kept end why asks query_is unasked =
+    absurd (not_why end Usage why (λ w. w) unasked.1)
+solve_why found words texts (Some query) kept end why asks query_is solved = record {
+  session = solved.session;
+  keeps = solved.keeps;
+  asks = record { texts = texts; asks = asks; query = query; query_is = query_is; on = solved.on };
+  ends = solved.ends;
+}
+
+keeps_asked : (found : Reading) (words : List (List ℕ)) (request : Request) (kept : Transcript) (end : Status)
+    → SaysWhy end → requested words ≡ request → EndsCommand found (row_of found.holds request) kept end
+    → KeepsAsked words found.holds kept end
+keeps_asked found words request kept end why asked (inl (nothing, inl stops)) =
+    absurd (no_first_why found end (row_of found.holds request).inputs why stops)
+keeps_asked found words request kept end why asked (inl (nothing, inr memory)) =
+    absurd (not_why end WantOfMemory why (λ w. w) memory.0)
+keeps_asked found words version kept end why asked (inr done) = absurd (not_why end Done why (λ w. w) done.1)
+keeps_asked found words problems kept end why asked (inr done) = absurd (not_why end Done why (λ w. w) done.1)
+keeps_asked found words (checking texts) kept end why asked (inr checks) =
+    absurd (check_why found.holds (asked_by texts.task texts.number) texts kept end why checks)
+keeps_asked found words unknown kept end why asked (inr unasked) = absurd (not_why end Usage why (λ w. w) unasked.1)
+keeps_asked found words (solving texts) kept end why asked (inr ends) =
+    solve_why found words texts (solving_by texts) kept end why (query_requested words texts asked) refl ends
+
+spends_budget : (words : List (List ℕ)) (holds : List ℕ → KnownFile) (kept : Transcript)
+    → KeepsAsked words holds kept Unknown → SpendsBudget words holds kept
+spends_budget words holds kept asked =
+    let on = asked.asks.on in
+    let all = spends_all (af on.framework) asked.asks.query asked.session on.is asked.ends in
+    record {
+      session = asked.session;
+      keeps = asked.keeps;
+      asks = asked.asks;
+      units = all.units;
+      fresh = all.fresh;
+      in_hand = all.in_hand;
+      pending = all.pending;
+      further = all.further;
+    }
+
+fills_log : (words : List (List ℕ)) (holds : List ℕ → KnownFile) (kept : Transcript)
+    → KeepsAsked words holds kept (Limit limit.Log) → FillsLog words holds kept
+fills_log words holds kept asked = record {
+  session = asked.session;
+  keeps = asked.keeps;
+  asks = asked.asks;
+  full = fills (af asked.asks.on.framework) asked.asks.query asked.session asked.asks.on.is asked.ends;
+}
+
+-- ---- a query that is answered
+
+session_text_is : (end : Status) (kept : Option KeptSession) (session : KeptSession) (reply : Answered) → end ≡ Done
+    → kept ≡ Some session → session.reply ≡ Ok reply
+    → unwrap_or (common_text end) (session_text kept) ≡ answer_text reply.answer
+session_text_is end kept session reply done keeps is =
+    ap (λ e. unwrap_or (common_text e) (session_text kept)) done
+    ∙ ap session_text keeps ∙ ap reply_text is
+
+session_files_is : (end : Status) (name : Option (List ℕ)) (kept : Option KeptSession) (session : KeptSession)
+    (reply : Answered) → end ≡ Done → kept ≡ Some session → session.reply ≡ Ok reply
+    → files_beside (common_text end) (session_files name kept) ≡ certificate_files name reply.certificate
+session_files_is end name kept session reply done keeps is =
+    ap (λ e. files_beside (common_text e) (session_files name kept)) done
+    ∙ ap (session_files name) keeps ∙ ap (reply_files name) is
 
 -- a status that is neither done nor a write fault has a text of its own, and so no files
 no_files : (files : List FileText) (end : Status) → end ≢ Done → files_beside (common_text end) files ≡ []
@@ -658,17 +763,35 @@ module _ (found : Reading) (words : List (List ℕ)) (ended : Ended) (old new : 
       ends_query found texts query ended.kept ended.status
       (at_query found words texts (Some query) ended.kept ended.status asks query_is (ends whole))
 
-  -- an answer that the run keeps is right
-  pub right_reply : (reply : Answered) → ended.kept.reply ≡ Some reply → AnswersWords words found.holds reply
-  right_reply reply is =
+  -- a session that the run keeps is that of the words' query
+  pub right_session : (session : KeptSession) → ended.kept.session ≡ Some session
+      → AsksSession words found.holds session
+  right_session session is =
       let P : Transcript → Type 0 = λ k. EndsCommand found (row_of found.holds (requested words)) k run.ending.status in
-      right_at found words (requested words) ended.kept run.ending.status reply refl (subst P
+      kept_at found words (requested words) ended.kept run.ending.status session refl (subst P
       (sym run.kept) run.decided.cause) is
 
+  kept_why : SaysWhy ended.status → KeepsAsked words found.holds ended.kept ended.status
+  kept_why why =
+      keeps_asked found words (requested words) ended.kept ended.status why refl
+      (ends (not_why ended.status WriteFault why (λ w. w)))
+
+  -- a run that ends as unknown spent the budget
+  pub spent : ended.status ≡ Unknown → SpendsBudget words found.holds ended.kept
+  spent is =
+      spends_budget words found.holds ended.kept
+      (subst (KeepsAsked words found.holds ended.kept) is (kept_why (subst SaysWhy (sym is) tt)))
+
+  -- a run that ends by a full log filled it
+  pub filled : ended.status ≡ Limit limit.Log → FillsLog words found.holds ended.kept
+  filled is =
+      fills_log words found.holds ended.kept
+      (subst (KeepsAsked words found.holds ended.kept) is (kept_why (subst SaysWhy (sym is) tt)))
+
   pub complete : (texts : SolveTexts) (query : Solving) (f : Af) → SolvesContents found words texts query f
-      → IsSolveEnd f query ended.status
+      → IsSolveEnd f query ended.kept ended.status
   complete texts query f contents = ⊎_elim
-      (λ broken. let P : Status → Type 0 = IsSolveEnd f query in subst P (sym broken) tt)
+      (λ broken. let P : Status → Type 0 = IsSolveEnd f query ended.kept in subst P (sym broken) tt)
       (λ whole. ends_solve found words texts query f contents ended.kept ended.status
       (ends_on texts query contents.asks contents.query_is whole)) (write_fault_or ended.status)
 
@@ -775,3 +898,62 @@ module _ (found : Reading) (words : List (List ℕ)) (ended : Ended) (old new : 
       → RefusesWords ended.status
   unasked texts query asks =
       refuses_words found ended.kept ended.status (λ whole. at_check texts None query asks whole)
+
+  -- a query that is done writes its answer
+  written_done : (texts : SolveTexts) (query : Solving) → IsSolveQuery words texts → solving_by texts ≡ Some query
+      → ended.status ≡ Done → EndsSolved (found.holds texts.file) query ended.kept ended.status
+      → WritesAnswer found.holds texts old new
+  written_done texts query asks query_is done solved =
+      let whole : ended.status ≢ WriteFault = λ e. let x : Done ≡ WriteFault = sym done ∙ e in cc in
+      let both = run.whole whole in
+      let status : run.ending.status ≡ Done = sym both.0 ∙ done in
+      let keeps : run.ending.kept.session ≡ Some solved.session =
+      ap (λ (k : Transcript). k.session) (sym run.kept) ∙ solved.keeps in
+      let told = done_reply (af solved.on.framework) query solved.session solved.on.is (sym done ∙ solved.ends) in
+      let Says : Row → Type 0 = λ row.
+      (text_bytes run.ending.text ≡ text_of row run.ending.kept run.ending.status)
+      × (map file_text run.ending.files
+      ≡ files_beside (common_text run.ending.status) (row.files run.ending.kept run.ending.status)) in
+      let P : Request → Type 0 = λ r. Says (row_of found.holds r) in
+      let Q : Option Solving → Type 0 = λ o. Says (solve_row found.holds o texts) in
+      let says = subst Q query_is
+      (subst P (requested_query words texts asks) (run.decided.text, run.decided.files)) in
+      let text : text_bytes run.ending.text ≡ answer_text told.reply.answer =
+      says.0 ∙ session_text_is run.ending.status run.ending.kept.session solved.session told.reply status keeps told.is in
+      let files : map file_text run.ending.files ≡ certificate_files texts.certificate told.reply.certificate =
+      says.1
+      ∙ session_files_is run.ending.status texts.certificate run.ending.kept.session solved.session told.reply status keeps
+      told.is in
+      record {
+        query = query;
+        query_is = query_is;
+        framework = solved.on.framework;
+        of_framework = solved.on.of_framework;
+        reply = told.reply;
+        replies = told.replies;
+        text = subst (Appends old.contents new.contents) text both.1.text;
+        files = subst (λ list. WritesFiles list old.holds new.holds) files both.1.files;
+      }
+
+  at_done : (texts : SolveTexts) (by : Option Solving) → IsSolveQuery words texts → solving_by texts ≡ by
+      → ended.status ≡ Done → EndsCommand found (solve_row found.holds by texts) ended.kept Done
+      → WritesAnswer found.holds texts old new
+  at_done texts None asks query_is done cause =
+      absurd (ends_unknown found ended.kept Done (λ e. cc) (λ e. cc) cause)
+  at_done texts (Some query) asks query_is done cause = from_query (ends_query found texts query ended.kept Done cause)
+    where
+      from_query : EndsQuery found texts query ended.kept Done → WritesAnswer found.holds texts old new
+      from_query (inl stops) = absurd stops
+      from_query (inr (inl is)) = absurd (done_no_memory is)
+      from_query (inr (inr solved)) =
+          written_done texts query asks query_is done
+          (subst (EndsSolved (found.holds texts.file) query ended.kept) (sym done) solved)
+
+  -- a query that is done writes a right answer, and an accepted certificate where a file is named
+  pub solved_written : (texts : SolveTexts) → IsSolveQuery words texts → ended.status ≡ Done
+      → WritesAnswer found.holds texts old new
+  solved_written texts asks done =
+      let P : Status → Type 0 = EndsCommand found (row_of found.holds (requested words)) ended.kept in
+      let cause = subst P done (ends (λ e. let x : Done ≡ WriteFault = sym done ∙ e in cc)) in
+      at_done texts (solving_by texts) asks refl done
+      (at_query found words texts (solving_by texts) ended.kept Done asks refl cause)

@@ -1,11 +1,13 @@
 -- The table of commands: what each reads, how it may end, and what it then writes.
-use Rattle.std.specs.Prelude.{◌≡◌, ◌≢◌, Contains, ℕ, ◌⊎◌, Bool, true, false, List, [], ◌∷◌, Option, None, Some, IsTrue, codes, map}
+use Rattle.std.specs.Prelude.{◌≡◌, ◌≢◌, Contains, ℕ, ◌⊎◌, Bool, true, false, List, [], ◌∷◌, Option, None, Some, Result, Ok, Err}
+use Rattle.std.specs.Prelude.{IsTrue, codes, map}
 use Rattle.std.specs.Option.{unwrap_or}
 use Rattle.std.specs.String.{string_bytes}
 use Rattle.argue_outside.specs.Outside.{KnownFile}
 use Rattle.iccma_tasks.specs.WrittenText.{text_of as answer_text}
 use Rattle.certificate_claims.specs.declared.certificate.Certificate.{Certificate}
 use Rattle.certificate_text.specs.Written.{certificate_text}
+use Rattle.oracle_core.specs.declared.reply.AnswerStop.{AnswerStop}
 use Rattle.oracle_core.specs.declared.reply.Answered.{Answered}
 use Rattle.argue_outside.specs.declared.Role.{Role}
 use Rattle.argue_outside.specs.declared.Role.TheVariants.{Framework}
@@ -13,15 +15,14 @@ use Rattle.argue_words.specs.Words.{CheckTexts, Request, version, problems, solv
 use Rattle.iccma_tasks.specs.Tasks.{Asked, tasks_line}
 use Rattle.argue_program.specs.Checks.{ChecksFiles, check_inputs}
 use Rattle.argue_program.specs.Queries.{asked_by, solving_by}
-use Rattle.argue_program.specs.Solves.{RefusesQuery, SolvesFile, StopsOn}
+use Rattle.argue_program.specs.Solves.{IsSessionOn, status_of}
 use Rattle.argue_program.specs.declared.query.Solving.{Solving}
-use Rattle.argue_program.specs.declared.ended.Refusal.TheVariants.{Query}
 use Rattle.argue_program.specs.Inputs.{Input, Reading, StopsAtFirst, input}
 use Rattle.argue_program.specs.Texts.{common_text, text_bytes}
 use Rattle.argue_program.specs.declared.decision.Ending.{Ending}
-use Rattle.argue_program.specs.declared.ended.Limit.TheVariants as limit
+use Rattle.argue_program.specs.declared.ended.KeptSession.{KeptSession}
 use Rattle.argue_program.specs.declared.ended.Status.{Status}
-use Rattle.argue_program.specs.declared.ended.Status.TheVariants.{Done, Usage, InputRefused, ReadFault, WantOfMemory, Limit, Unknown}
+use Rattle.argue_program.specs.declared.ended.Status.TheVariants.{Done, Usage, ReadFault, WantOfMemory}
 use Rattle.argue_program.specs.declared.ended.Transcript.{Transcript}
 use Rattle.argue_program.specs.declared.writing.Written.{Written}
 
@@ -40,7 +41,7 @@ pub record Row : Type 1 where
 
 -- a run that keeps nothing
 abbrev pub nothing_kept : Transcript
-nothing_kept = record { reply = None }
+nothing_kept = record { session = None }
 
 -- ---- the rows
 
@@ -52,31 +53,37 @@ EndsDone kept end = (kept ≡ nothing_kept) × (end ≡ Done)
 abbrev pub EndsUnasked : Transcript → Status → Type 0
 EndsUnasked kept end = (kept ≡ nothing_kept) × (end ≡ Usage)
 
--- it is done, and keeps the answer to the query; or the query is refused, the budget was spent or a bound was met, and it
--- keeps nothing
-abbrev pub EndsSolved : KnownFile → Solving → Transcript → Status → Type 0
-EndsSolved known query kept Done = (reply : Answered) × (kept.reply ≡ Some reply) × SolvesFile known query reply
-EndsSolved known query kept (InputRefused (Query fault)) = (kept ≡ nothing_kept) × RefusesQuery known query fault
-EndsSolved known query kept Unknown = (kept ≡ nothing_kept) × StopsOn known query Unknown
-EndsSolved known query kept (Limit limit.Extensions) =
-    (kept ≡ nothing_kept) × StopsOn known query (Limit limit.Extensions)
-EndsSolved known query kept (Limit limit.Log) = (kept ≡ nothing_kept) × StopsOn known query (Limit limit.Log)
-EndsSolved known query kept _ = ⊥
+-- it keeps the query's session, and ends as its reply says
+pub record EndsSolved (known : KnownFile) (query : Solving) (kept : Transcript) (end : Status) : Type 0 where
+  pub session : KeptSession
+  pub keeps : kept.session ≡ Some session
+  pub on : IsSessionOn known query session
+  pub ends : end ≡ status_of session.reply
+
+-- the text of an answer
+abbrev pub reply_text : Result Answered AnswerStop → List ℕ
+reply_text (Ok reply) = answer_text reply.answer
+reply_text (Err why) = []
 
 -- the text of the answer that is kept
-abbrev pub reply_text : Option Answered → List ℕ
-reply_text None = []
-reply_text (Some reply) = answer_text reply.answer
+abbrev pub session_text : Option KeptSession → List ℕ
+session_text None = []
+session_text (Some session) = reply_text session.reply
 
 -- the file of the certificate, where one is named
 abbrev pub certificate_files : Option (List ℕ) → Certificate → List FileText
 certificate_files None certificate = []
 certificate_files (Some name) certificate = record { name = name; bytes = certificate_text certificate } ∷ []
 
+-- the file of the certificate of an answer
+abbrev pub reply_files : Option (List ℕ) → Result Answered AnswerStop → List FileText
+reply_files name (Ok reply) = certificate_files name reply.certificate
+reply_files name (Err why) = []
+
 -- the file of the certificate of the answer that is kept
-abbrev pub reply_files : Option (List ℕ) → Option Answered → List FileText
-reply_files name None = []
-reply_files name (Some reply) = certificate_files name reply.certificate
+abbrev pub session_files : Option (List ℕ) → Option KeptSession → List FileText
+session_files name None = []
+session_files name (Some session) = reply_files name session.reply
 
 abbrev pub version_row : Row
 version_row = record {
@@ -113,8 +120,8 @@ solve_row holds (Some query) texts = record {
   inputs = input (Framework 1) texts.file ∷ [];
   takes_memory = true;
   Ends = EndsSolved (holds texts.file) query;
-  text = λ kept end. reply_text kept.reply;
-  files = λ kept end. reply_files texts.certificate kept.reply;
+  text = λ kept end. session_text kept.session;
+  files = λ kept end. session_files texts.certificate kept.session;
 }
 
 -- it keeps nothing, and ends as the check of the files does
@@ -178,9 +185,10 @@ pub record IsEndingOf (found : Reading) (row : Row) (ending : Ending) : Type 0 w
       map file_text ending.files ≡ files_beside (common_text ending.status) (row.files ending.kept ending.status)
   pub counts : CountsReads found row ending.status
 
--- the ending with an answer: it is done, keeps the answer, and writes its text and the file of its certificate
-pub record EndsAnswered (reply : Answered) (name : Option (List ℕ)) (ending : Ending) : Type 0 where
-  pub done : ending.status ≡ Done
-  pub keeps : ending.kept.reply ≡ Some reply
-  pub text : text_bytes ending.text ≡ answer_text reply.answer
-  pub files : map file_text ending.files ≡ certificate_files name reply.certificate
+-- the ending of a session: it keeps the session, ends as its reply says, and writes the text of its answer and the file
+-- of its certificate, or the line of its status
+pub record EndsSession (session : KeptSession) (name : Option (List ℕ)) (ending : Ending) : Type 0 where
+  pub status : ending.status ≡ status_of session.reply
+  pub keeps : ending.kept ≡ record { session = Some session }
+  pub text : text_bytes ending.text ≡ unwrap_or (common_text ending.status) (reply_text session.reply)
+  pub files : map file_text ending.files ≡ files_beside (common_text ending.status) (reply_files name session.reply)

@@ -1,5 +1,6 @@
 -- What a run does, and what follows of it in the words of its query.
-use Rattle.std.specs.Prelude.{◌≡◌, ◌≢◌, ℕ, ◌⊎◌, ◌≤◌, List, length, Ok, Some}
+use Rattle.std.specs.Prelude.{◌≡◌, ◌≢◌, ℕ, ◌⊎◌, ◌<◌, ◌≤◌, true, List, length, take, slice_index_or, Ok, Some}
+use Rattle.std.specs.Io.KnownBytes.{Appends}
 use Rattle.argue_outside.specs.Outside.{FaultCounted, KnownFile}
 use Rattle.argue_outside.specs.declared.Role.TheVariants as role
 use Rattle.semantics.specs.Framework.{Af}
@@ -7,6 +8,7 @@ use Rattle.semantics.specs.Frameworks.{af}
 use Rattle.num_text.specs.declared.limit.TheConstants.{INPUT_LIMIT}
 use Rattle.argue_words.specs.Words.{CheckTexts, IsCheckQuery, IsSolveQuery, SolveTexts}
 use Rattle.iccma_tasks.specs.AnswerText.{filled_fields, ReadsAs as AnswerReadsAs}
+use Rattle.iccma_tasks.specs.WrittenText.{text_of as answer_text}
 use Rattle.iccma_tasks.specs.Tasks.{Asked}
 use Rattle.iccma_tasks.specs.declared.answer.Answer.{Answer}
 use Rattle.certificate_claims.specs.Rights.{IsRight}
@@ -15,21 +17,27 @@ use Rattle.certificate_text.specs.Reading.{ReadsAs as CertReadsAs}
 use Rattle.af_format.specs.AfText.{ReadsAs}
 use Rattle.argue_program.specs.Checks.{CheckEnds, IsAnswerOf}
 use Rattle.argue_program.specs.Queries.{asked_by, solving_by}
-use Rattle.argue_program.specs.Solves.{RefusesBy, SolvesFile}
+use Rattle.argue_program.specs.Solves.{IsReplyTo, IsSessionOf, IsSessionOn, status_of}
 use Rattle.argue_program.specs.declared.query.Solving.{Solving}
-use Rattle.edit_rules.specs.Fitting.{Fits}
+use Rattle.oracle_face.specs.declared.face.Pending.{Pending}
+use Rattle.oracle_face.specs.Growing.{IsFurther}
+use Rattle.oracle_face.specs.Logs.{IsNew, is_unit, no_step, units_of, working}
+use Rattle.session_log.specs.Ends.{MadeFor}
 use Rattle.oracle_core.specs.declared.reply.Answered.{Answered}
 use Rattle.af_format.specs.Faults.{HasFault}
 use Rattle.af_format.specs.declared.fault.LineCause.{LineCause}
 use Rattle.argue_program.specs.Inputs.{Input, IsFirstFaultIn, IsFrameworkOf, Reading, input}
-use Rattle.argue_program.specs.Rows.{IsEndingOf, Row}
-use Rattle.argue_program.specs.Writing.{BreaksOff, IsWritten, Output}
+use Rattle.argue_program.specs.Rows.{IsEndingOf, Row, certificate_files}
+use Rattle.argue_program.specs.Writing.{BreaksOff, IsWritten, Output, WritesFiles}
 use Rattle.argue_program.specs.declared.decision.Ending.{Ending}
 use Rattle.argue_program.specs.declared.ended.Ended.{Ended}
+use Rattle.argue_program.specs.declared.ended.KeptSession.{KeptSession}
 use Rattle.argue_program.specs.declared.ended.Limit.TheVariants as limit
 use Rattle.argue_program.specs.declared.ended.Refusal.TheVariants.{Line}
 use Rattle.argue_program.specs.declared.ended.Status.{Status}
 use Rattle.argue_program.specs.declared.ended.Status.TheVariants.{Done, Usage, InputRefused, WriteFault, WantOfMemory, Limit}
+use Rattle.argue_program.specs.declared.ended.Transcript.{Transcript}
+use Rattle.argue_program.specs.declared.query.TheConstants.{LOG_LIMIT}
 
 -- the run comes to an ending that its row has, and writes it whole, or ends with a write fault in the midst of it
 pub record IsRunOf (found : Reading) (row : Row) (ended : Ended) (old new : Output) : Type 0 where
@@ -41,13 +49,48 @@ pub record IsRunOf (found : Reading) (row : Row) (ended : Ended) (old new : Outp
 
 -- ---- what follows
 
--- the words ask a query, and this is a right answer to it, with an accepted certificate, on the framework in its file
-pub record AnswersWords (words : List (List ℕ)) (holds : List ℕ → KnownFile) (reply : Answered) : Type 0 where
+-- the words ask a query, and this is its session on the framework in its file: an answer in it is right and has an
+-- accepted certificate
+pub record AsksSession (words : List (List ℕ)) (holds : List ℕ → KnownFile) (session : KeptSession) : Type 0 where
   pub texts : SolveTexts
   pub asks : IsSolveQuery words texts
   pub query : Solving
   pub query_is : solving_by texts ≡ Some query
-  pub solves : SolvesFile (holds texts.file) query reply
+  pub on : IsSessionOn (holds texts.file) query session
+
+-- the run keeps the session of the words' query, and its log shows that the budget was spent: it has as many units as the
+-- budget, each of them a clause that was new when it came, and a further clause that would be one is in hand
+pub record SpendsBudget (words : List (List ℕ)) (holds : List ℕ → KnownFile) (kept : Transcript) : Type 0 where
+  pub session : KeptSession
+  pub keeps : kept.session ≡ Some session
+  pub asks : AsksSession words holds session
+  pub units : units_of session.engine.log ≡ asks.query.budget
+  pub fresh : (k : ℕ) → k < length session.engine.log.steps
+      → is_unit (slice_index_or session.engine.log.steps k no_step) ≡ true
+      → IsNew (working (take k session.engine.log.steps)) (slice_index_or session.engine.log.steps k no_step).clause
+  pub in_hand : Pending
+  pub pending : session.engine.pending ≡ Some in_hand
+  pub further : IsFurther (MadeFor (af asks.on.framework) asks.query.query) (af asks.on.framework) session.engine.log
+      in_hand
+
+-- the run keeps the session of the words' query, and its log is full
+pub record FillsLog (words : List (List ℕ)) (holds : List ℕ → KnownFile) (kept : Transcript) : Type 0 where
+  pub session : KeptSession
+  pub keeps : kept.session ≡ Some session
+  pub asks : AsksSession words holds session
+  pub full : length session.engine.log.steps ≡ LOG_LIMIT
+
+-- the output has gained the text of a right answer to the words' query on the framework in its file, and the file that is
+-- named for the certificate has that of one that is accepted for the answer
+pub record WritesAnswer (holds : List ℕ → KnownFile) (texts : SolveTexts) (old new : Output) : Type 0 where
+  pub query : Solving
+  pub query_is : solving_by texts ≡ Some query
+  pub framework : Af
+  pub of_framework : IsFrameworkOf (holds texts.file) framework
+  pub reply : Answered
+  pub replies : IsReplyTo (af framework) query reply
+  pub text : Appends old.contents new.contents (answer_text reply.answer)
+  pub files : WritesFiles (certificate_files texts.certificate reply.certificate) old.holds new.holds
 
 -- the words ask this query of a file with these bytes, of which no read fails: it is served, or no fault is counted
 pub record QueriesBytes (found : Reading) (words : List (List ℕ)) (texts : SolveTexts) (query : Solving)
@@ -68,11 +111,19 @@ pub record NamesCertificate (words : List (List ℕ)) (name : List ℕ) : Type 0
 abbrev pub IsFaulty : List ℕ → Type 0
 IsFaulty bytes = (line : ℕ) × (cause : LineCause) × HasFault bytes line cause
 
--- a query ends as its framework says, but for want of memory or a write fault: where it fits, it is answered
-abbrev pub IsSolveEnd : Af → Solving → Status → Type 0
-IsSolveEnd f query Done = Fits (af f) query.query
-IsSolveEnd f query WriteFault = Unit {0}
-IsSolveEnd f query end = RefusesBy (af f) query end
+-- the run keeps the query's session on the framework, and ends as its reply says
+pub record EndsAsReplied (f : Af) (query : Solving) (kept : Transcript) (end : Status) : Type 0 where
+  pub session : KeptSession
+  pub keeps : kept.session ≡ Some session
+  pub is : IsSessionOf (af f) query session
+  pub ends : end ≡ status_of session.reply
+
+-- a query ends as its session says, but for want of memory or a write fault: answered where it fits and its budget and the
+-- limits allow it
+abbrev pub IsSolveEnd : Af → Solving → Transcript → Status → Type 0
+IsSolveEnd f query kept WantOfMemory = Unit {0}
+IsSolveEnd f query kept WriteFault = Unit {0}
+IsSolveEnd f query kept end = EndsAsReplied f query kept end
 
 -- the run is done, or wanted memory
 abbrev pub IsDoneOrMemory : Status → Type 0

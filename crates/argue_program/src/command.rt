@@ -9,17 +9,19 @@ ghost use Rattle.argue_words.specs.Words.{AreWords, CheckTexts, IsCheckQuery, Is
 ghost use Rattle.iccma_tasks.specs.Tasks.{Asked};
 ghost use Rattle.iccma_tasks.specs.declared.answer.Answer.{Answer};
 ghost use Rattle.certificate_claims.specs.declared.certificate.Certificate.{Certificate};
-ghost use Rattle.oracle_core.specs.declared.reply.Answered.{Answered};
+ghost use Rattle.argue_program.specs.declared.ended.KeptSession.{KeptSession};
 ghost use Rattle.argue_program.specs.Queries.{asked_by, solving_by};
 ghost use Rattle.argue_program.specs.declared.query.Solving.{Solving};
 ghost use Rattle.argue_program.specs.Inputs.{reading};
 ghost use Rattle.argue_program.specs.Rows.{HasNoInput, row_of};
-ghost use Rattle.argue_program.specs.Runs.{AnswersRight, AnswersWords, ChecksContents, IsCheckEnd, IsDoneOrMemory, IsFaulty, IsRunOf, IsSolveEnd, NamesCertificate, QueriesBytes, RefusesBytes, RefusesLength, RefusesWords, SolvesContents};
+ghost use Rattle.argue_program.specs.Runs.{AnswersRight, AsksSession, ChecksContents, FillsLog, IsCheckEnd, IsDoneOrMemory, IsFaulty, IsRunOf};
+ghost use Rattle.argue_program.specs.Runs.{IsSolveEnd, NamesCertificate, QueriesBytes, RefusesBytes, RefusesLength, RefusesWords, SolvesContents, SpendsBudget};
+ghost use Rattle.argue_program.specs.Runs.{WritesAnswer};
 ghost use Rattle.argue_program.specs.Writing.{output};
 ghost use Rattle.num_text.specs.declared.limit.TheConstants.{INPUT_LIMIT};
 
 use crate::decision::decide;
-use crate::ended::{Ended, Status};
+use crate::ended::{Ended, Limit, Status};
 use crate::writing::write_ending;
 use argue_outside::{Files, Pace, Sink};
 use std::alloc::Global;
@@ -41,9 +43,18 @@ pub fn execute<F: Files, O: Sink>(
         (output (F.holds files.old) (F.write_count files.old) (O.contents out.old) (O.fault_count out.old))
         (output (F.holds files.new) (F.write_count files.new) (O.contents out.new) (O.fault_count out.new)) }
 
-    // The headline, for the one query there is: an answer that the run keeps is right, and its certificate is accepted.
-    ensures right { (reply : Answered) → result.kept.reply ≡ Some reply
-        → AnswersWords (map string_bytes words.now) (F.holds files.old) reply }
+    // The headline, for the one query there is, over what the run keeps: an answer is right and its certificate is
+    // accepted; a run is unknown only where the log has spent the budget, and is stopped by a full log only where it is.
+    ensures right { (session : KeptSession) → result.kept.session ≡ Some session
+        → AsksSession (map string_bytes words.now) (F.holds files.old) session }
+    ensures unknown { result.status ≡ Status.Unknown
+        → SpendsBudget (map string_bytes words.now) (F.holds files.old) result.kept }
+    ensures full { result.status ≡ Status.Limit Limit.Log
+        → FillsLog (map string_bytes words.now) (F.holds files.old) result.kept }
+    ensures solved { (texts : SolveTexts) → IsSolveQuery (map string_bytes words.now) texts
+        → result.status ≡ Status.Done → WritesAnswer (F.holds files.old) texts
+        (output (F.holds files.old) (F.write_count files.old) (O.contents out.old) (O.fault_count out.old))
+        (output (F.holds files.new) (F.write_count files.new) (O.contents out.new) (O.fault_count out.new)) }
 
     // Completeness: with well-formed words and input and no fault, the run does what was asked, or wants memory.
     ensures version { map string_bytes words.now ≡ [] → result.status ≢ Status.WriteFault
@@ -53,7 +64,7 @@ pub fn execute<F: Files, O: Sink>(
     ensures complete { (texts : SolveTexts) (query : Solving) (f : Af) → SolvesContents
         (reading (F.holds files.old) (F.serves files.old) (F.read_count files.old) (F.read_count files.new))
         (map string_bytes words.now) texts query f
-        → IsSolveEnd f query result.status }
+        → IsSolveEnd f query result.kept result.status }
 
     // The converses: words that aren't well-formed, or that ask a query which there isn't, are refused, and so is a file
     // with a fault and one over the limit.
@@ -116,9 +127,18 @@ pub fn run<F: Files, O: Sink, P: Pace + Sync, R: Threads + Wait + Sync>(
         (output (F.holds files.old) (F.write_count files.old) (O.contents out.old) (O.fault_count out.old))
         (output (F.holds files.new) (F.write_count files.new) (O.contents out.new) (O.fault_count out.new)) }
 
-    // The headline, for the one query there is: an answer that the run keeps is right, and its certificate is accepted.
-    ensures right { (reply : Answered) → result.kept.reply ≡ Some reply
-        → AnswersWords (map string_bytes words.now) (F.holds files.old) reply }
+    // The headline, for the one query there is, over what the run keeps: an answer is right and its certificate is
+    // accepted; a run is unknown only where the log has spent the budget, and is stopped by a full log only where it is.
+    ensures right { (session : KeptSession) → result.kept.session ≡ Some session
+        → AsksSession (map string_bytes words.now) (F.holds files.old) session }
+    ensures unknown { result.status ≡ Status.Unknown
+        → SpendsBudget (map string_bytes words.now) (F.holds files.old) result.kept }
+    ensures full { result.status ≡ Status.Limit Limit.Log
+        → FillsLog (map string_bytes words.now) (F.holds files.old) result.kept }
+    ensures solved { (texts : SolveTexts) → IsSolveQuery (map string_bytes words.now) texts
+        → result.status ≡ Status.Done → WritesAnswer (F.holds files.old) texts
+        (output (F.holds files.old) (F.write_count files.old) (O.contents out.old) (O.fault_count out.old))
+        (output (F.holds files.new) (F.write_count files.new) (O.contents out.new) (O.fault_count out.new)) }
 
     // Completeness: with well-formed words and input and no fault, the run does what was asked, or wants memory.
     ensures version { map string_bytes words.now ≡ [] → result.status ≢ Status.WriteFault
@@ -128,7 +148,7 @@ pub fn run<F: Files, O: Sink, P: Pace + Sync, R: Threads + Wait + Sync>(
     ensures complete { (texts : SolveTexts) (query : Solving) (f : Af) → SolvesContents
         (reading (F.holds files.old) (F.serves files.old) (F.read_count files.old) (F.read_count files.new))
         (map string_bytes words.now) texts query f
-        → IsSolveEnd f query result.status }
+        → IsSolveEnd f query result.kept result.status }
 
     // The converses: words that aren't well-formed, or that ask a query which there isn't, are refused, and so is a file
     // with a fault and one over the limit.

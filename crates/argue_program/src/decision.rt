@@ -1,23 +1,23 @@
 //! What a run ends with: decided here, and written elsewhere.
 
-ghost use Rattle.std.specs.Prelude.{◌≡◌, ◌⊎◌, ℕ, List, [], IfErr, IfOk, IsErrOf, IsSome, Some, map};
+ghost use Rattle.std.specs.Prelude.{◌≡◌, ◌⊎◌, ℕ, List, [], Ok, Err, IfErr, IfOk, IsErrOf, IsSome, Option, Some, map};
 ghost use Rattle.std.specs.Option.{option_map};
 ghost use Rattle.std.specs.String.{string_bytes};
 ghost use Rattle.argue_words.specs.Words.{check_texts, checking, request_of, requested, solve_texts, solving};
 ghost use Rattle.argue_program.specs.Inputs.{reading};
-ghost use Rattle.argue_program.specs.Rows.{EndsAnswered, IsEndingOf, nothing_kept, row_of};
+ghost use Rattle.argue_program.specs.Rows.{EndsSession, IsEndingOf, nothing_kept, row_of};
 ghost use Rattle.argue_program.specs.Texts.{IsRefusal, common_text, text_bytes};
 
 use crate::checking::check_files;
-use crate::ended::{Status, Transcript};
+use crate::ended::{KeptSession, Status, Transcript};
 use crate::query::{query_of, solving_of};
-use crate::solving::{certificate_file, solve_file};
+use crate::solving::{certificate_file, solve_file, status_of};
 use crate::texts::{Text, status_text};
 use crate::writing::Written;
 use argue_outside::Files;
 use argue_words::{CheckWords, Command, SolveWords, read_words};
 use iccma_tasks::answer_text;
-use oracle_core::Answered;
+use oracle_core::{AnswerStop, Answered, Engine};
 use plain_lists::{Items, Memory};
 use std::alloc::Global;
 
@@ -29,7 +29,7 @@ const PROBLEMS: &str = concat!(
 
 /// How a run ends, what it keeps, and what it has to write: its files first, each cleared before, and then its
 /// text.
-#[derive(Debug, Drop)]
+#[derive(Drop)]
 pub struct Ending {
     pub status: Status,
     pub kept: Transcript,
@@ -45,7 +45,7 @@ pub(crate) fn stopped(alloc: Global, status: Status) -> Ending
     ensures text { Some (text_bytes result.text) ≡ common_text result.status }
     ensures files { result.files ≡ [] }
 {
-    let kept = Transcript { reply: None };
+    let kept = Transcript { session: None };
     let files = Items::new(alloc);
     match status_text(alloc, status) {
         Ok(text) => Ending {
@@ -78,18 +78,62 @@ fn done(alloc: Global, kept: Transcript, text: Text) -> Ending
     }
 }
 
+/// What is kept of a session.
+fn keeping(reply: Result<Answered, AnswerStop>, engine: Engine) -> Transcript
+    ensures { result ≡ record { session = Some (record { reply = reply; engine = engine }) } }
+{
+    Transcript {
+        session: Some(KeptSession { reply, engine }),
+    }
+}
+
 /// The ending with an answer: its text, and the file of its certificate where one is named.
-fn answered(alloc: Global, reply: Answered, certificate: Option<&str>) -> Result<Ending, Memory>
-    ensures { IfOk result (EndsAnswered reply (option_map (λ text. text.now) certificate.entry)) }
+fn answered(
+    alloc: Global,
+    reply: Answered,
+    engine: Engine,
+    certificate: Option<&str>,
+) -> Result<Ending, Memory>
+    ensures { IfOk result (EndsSession (record { reply = Ok reply; engine = engine })
+        (option_map (λ text. text.now) certificate.entry)) }
 {
     let text = answer_text(alloc, &reply.answer)?;
     let files = certificate_file(alloc, certificate, &reply.certificate)?;
     Ok(Ending {
         status: Status::Done,
-        kept: Transcript { reply: Some(reply) },
+        kept: keeping(Ok(reply), engine),
         text: Text::Answer(text),
         files,
     })
+}
+
+/// The ending without an answer: the line of its status.
+fn unanswered(alloc: Global, stop: AnswerStop, engine: Engine) -> Result<Ending, Memory>
+    ensures { (name : Option (List ℕ)) → IfOk result (EndsSession (record { reply = Err stop; engine = engine }) name) }
+{
+    let status = status_of(stop);
+    let text = status_text(alloc, status)?;
+    Ok(Ending {
+        status,
+        kept: keeping(Err(stop), engine),
+        text,
+        files: Items::new(alloc),
+    })
+}
+
+/// The ending of a session, which keeps it.
+fn session_ending(
+    alloc: Global,
+    session: KeptSession,
+    certificate: Option<&str>,
+) -> Result<Ending, Memory>
+    ensures { IfOk result (EndsSession session (option_map (λ text. text.now) certificate.entry)) }
+{
+    let KeptSession { reply, engine } = session;
+    match reply {
+        Ok(reply) => answered(alloc, reply, engine, certificate),
+        Err(stop) => unanswered(alloc, stop, engine),
+    }
 }
 
 /// The ending of a query.
@@ -103,7 +147,7 @@ fn solve<F: Files>(alloc: Global, files: &mut F, words: SolveWords<'_>) -> Endin
         return stopped(alloc, Status::Usage);
     };
     match solve_file(alloc, files, &query, &words) {
-        Ok(reply) => match answered(alloc, reply, words.certificate) {
+        Ok(session) => match session_ending(alloc, session, words.certificate) {
             Ok(ending) => ending,
             Err(Memory) => stopped(alloc, Status::WantOfMemory),
         },
@@ -122,7 +166,11 @@ fn check<F: Files>(alloc: Global, files: &mut F, words: CheckWords<'_>) -> Endin
         return stopped(alloc, Status::Usage);
     };
     match check_files(alloc, files, &query, &words) {
-        Ok(()) => done(alloc, Transcript { reply: None }, Text::Fixed("ACCEPTED\n")),
+        Ok(()) => done(
+            alloc,
+            Transcript { session: None },
+            Text::Fixed("ACCEPTED\n"),
+        ),
         Err(status) => stopped(alloc, status),
     }
 }
@@ -137,10 +185,10 @@ fn decide_command<F: Files>(alloc: Global, command: Command, files: &mut F) -> E
     match command {
         Command::Version => done(
             alloc,
-            Transcript { reply: None },
+            Transcript { session: None },
             Text::Fixed("argue 1.0\n"),
         ),
-        Command::Problems => done(alloc, Transcript { reply: None }, Text::Fixed(PROBLEMS)),
+        Command::Problems => done(alloc, Transcript { session: None }, Text::Fixed(PROBLEMS)),
         Command::Solve(words) => solve(alloc, files, words),
         Command::Check(words) => check(alloc, files, words),
         Command::Unknown => stopped(alloc, Status::Usage),

@@ -9,7 +9,7 @@ use certificate_claims::Cause as Failure;
 use certificate_text::CertCause;
 use edit_rules::QueryFault;
 use iccma_tasks::AnswerCause;
-use oracle_core::Answered;
+use oracle_core::{AnswerStop, Answered, Engine};
 
 /// What is wrong with a line of an input: a variant for each kind of text.
 #[derive(Clone, Copy, Debug, PartialEq, Eq)]
@@ -84,14 +84,23 @@ impl Status {
     }
 }
 
-/// What a run keeps of its sessions: the answer to its query with the certificate, where it got one.
-#[derive(Debug, Drop)]
+/// What a session keeps: the answer to its query with the certificate, or why there is none; and its engine, which means
+/// the log of what was added for the query, the side clauses with their sets, and the clause that was in hand when the
+/// budget was spent.
+#[derive(Drop)]
+pub struct KeptSession {
+    pub reply: Result<Answered, AnswerStop>,
+    pub engine: Engine,
+}
+
+/// What a run keeps: its session, where it had one.
+#[derive(Drop)]
 pub struct Transcript {
-    pub reply: Option<Answered>,
+    pub session: Option<KeptSession>,
 }
 
 /// How a run ended, and what it keeps.
-#[derive(Debug, Drop)]
+#[derive(Drop)]
 pub struct Ended {
     pub status: Status,
     pub kept: Transcript,

@@ -18,7 +18,7 @@ pub mod writing;
 
 pub use command::{execute, run};
 pub use decision::{Ending, decide};
-pub use ended::{Cause, Ended, Limit, Refusal, Status, Transcript};
+pub use ended::{Cause, Ended, KeptSession, Limit, Refusal, Status, Transcript};
 pub use process::run_process;
 pub use texts::Text;
 pub use writing::{Written, write_ending};

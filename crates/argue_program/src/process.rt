@@ -71,7 +71,7 @@ fn refuse_words<F: Files, O: Sink>(
     out: &mut O,
 ) -> Ended
     requires { (status ≡ Status.Usage) ⊎ (status ≡ Status.WantOfMemory) }
-    ensures kept { result.kept.reply ≡ None }
+    ensures kept { result.kept.session ≡ None }
     ensures status { result.status ≢ Status.WriteFault → result.status ≡ status }
     ensures text { result.status ≢ Status.WriteFault
         → Appends (O.contents out.old) (O.contents out.new) (unwrap_or (common_text status) []) }

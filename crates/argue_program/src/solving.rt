@@ -4,12 +4,12 @@ ghost use Rattle.std.specs.Prelude.{◌≡◌, IfErr, IfOk, IsErrOf, IsSome, map
 ghost use Rattle.std.specs.Option.{option_map};
 ghost use Rattle.argue_outside.specs.Outside.{OtherCountsKept};
 ghost use Rattle.edit_rules.specs.Kinds.{framework_of};
-ghost use Rattle.argue_program.specs.Inputs.{reading};
+ghost use Rattle.argue_program.specs.Inputs.{EndsReading, input, reading};
 ghost use Rattle.argue_program.specs.Rows.{certificate_files, file_text};
-ghost use Rattle.argue_program.specs.Solves.{EndsSolving, IsReplyTo, RefusesBy, SolvesFile, status_after};
+ghost use Rattle.argue_program.specs.Solves.{IsSessionOf, IsSessionOn, status_after};
 ghost use Rattle.argue_program.specs.Texts.{common_text};
 
-use crate::ended::{Limit, Refusal, Status};
+use crate::ended::{KeptSession, Limit, Refusal, Status};
 use crate::input::read_framework;
 use crate::query::{EXTENSION_LIMIT, LOG_LIMIT, Solving};
 use crate::writing::Written;
@@ -18,13 +18,13 @@ use argue_words::SolveWords;
 use certificate_claims::Certificate;
 use certificate_text::write_certificate;
 use edit_rules::Framework;
-use oracle_core::{AnswerStop, Answered, Engine};
+use oracle_core::{AnswerStop, Engine};
 use plain_lists::{Items, Memory};
 use plain_lits::Budget;
 use std::alloc::Global;
 
 /// The status of a run whose query has no answer for this reason.
-fn status_of(stop: AnswerStop) -> Status
+pub(crate) fn status_of(stop: AnswerStop) -> Status
     ensures { result ≡ status_after stop }
 {
     match stop {
@@ -36,19 +36,14 @@ fn status_of(stop: AnswerStop) -> Status
     }
 }
 
-/// The answer to a query on a framework, or the status of the run that stops.
-fn answer(alloc: Global, framework: Framework, solving: &Solving) -> Result<Answered, Status>
-    ensures ok { IfOk result (IsReplyTo (framework_of framework) solving.now) }
-    ensures err { IfErr result (RefusesBy (framework_of framework) solving.now) }
+/// The session of a query on a framework.
+fn answer(alloc: Global, framework: Framework, solving: &Solving) -> Result<KeptSession, Memory>
+    ensures { IfOk result (IsSessionOf (framework_of framework) solving.now) }
 {
     let mut engine = Engine::new(alloc, 1, framework, LOG_LIMIT)?;
     let mut budget = Budget::new(solving.budget as u64);
-    let end = engine.answer(alloc, &solving.query, &mut budget, EXTENSION_LIMIT);
-    let _spent = budget.used();
-    match end {
-        Ok(reply) => Ok(reply),
-        Err(stop) => Err(status_of(stop)),
-    }
+    let reply = engine.answer(alloc, &solving.query, &mut budget, EXTENSION_LIMIT);
+    Ok(KeptSession { reply, engine })
 }
 
 /// The file that a certificate is written to, where one is named.
@@ -71,16 +66,16 @@ pub(crate) fn certificate_file(
     Ok(files)
 }
 
-/// The answer to the query on the framework in a file, or the status of the run that stops.
+/// The session of the query on the framework in a file, or the status of the run that stops before.
 pub(crate) fn solve_file<F: Files>(
     alloc: Global,
     files: &mut F,
     solving: &Solving,
     words: &SolveWords<'_>,
-) -> Result<Answered, Status>
-    ensures ok { IfOk result (SolvesFile (F.holds files.old words.now.file.now) solving.now) }
-    ensures err { IfErr result (EndsSolving (reading (F.holds files.old) (F.serves files.old) (F.read_count files.old)
-        (F.read_count files.new)) solving.now words.now.file.now) }
+) -> Result<KeptSession, Status>
+    ensures ok { IfOk result (IsSessionOn (F.holds files.old words.now.file.now) solving.now) }
+    ensures err { IfErr result (EndsReading (reading (F.holds files.old) (F.serves files.old) (F.read_count files.old)
+        (F.read_count files.new)) (input (Role.Framework 1) words.now.file.now)) }
     ensures told { IfErr result (λ end. IsSome (common_text end)) }
     ensures quiet { (IsErrOf result (Status.ReadFault (Role.Framework 1)) → ⊥)
         → F.read_count files.new ≡ F.read_count files.old }
@@ -93,5 +88,6 @@ pub(crate) fn solve_file<F: Files>(
         Err(status) => return Err(status),
     };
     let framework = Framework::Af(plain);
-    answer(alloc, framework, solving)
+    let session = answer(alloc, framework, solving)?;
+    Ok(session)
 }

@@ -4,7 +4,8 @@ use Rattle.std.specs.Prelude.{All, Contains, IfOk, Result, Ok, Err, slice_index_
 use Rattle.plain_lists.specs.declared.memory.Memory.{Memory}
 use Rattle.std.proofs.lemmas.Bool.{cases_lt}
 use Rattle.std.proofs.lemmas.List.{get_or_append_left, get_or-append-add, get_or-map, get_or_default, length-append, length-map}
-use Rattle.std.proofs.lemmas.List.Elements.{Contains-get_or}
+use Rattle.std.proofs.lemmas.List.Elements.{Contains-get_or, Contains-push_cases}
+use Rattle.plain_lists.proofs.Membership.{Contains-nil}
 use Rattle.plain_lists.specs.Members.{IsWithin}
 use Rattle.semantics.specs.Arguments.{IsArgument}
 use Rattle.semantics.specs.Framework.{Af, IsAdmissible}
@@ -36,6 +37,7 @@ use Rattle.log_refutations.specs.Refuted.{AreRefuting, IsRefutingStep}
 use Rattle.log_refutations.specs.Trimmed.{ArePositions}
 use Rattle.log_refutations.proofs.PlainClaims.{claims_plain}
 use Rattle.log_certificates.specs.ClaimSides.{AreAsksOf, ArePositionsIn, AreWithin, IsAskOf}
+use Rattle.log_certificates.specs.Cuts.{AreCut, IsCut, IsCutAt}
 use Rattle.answer_claims.specs.declared.claim.Claim.{Claim}
 use Rattle.answer_claims.specs.declared.sides.SideKind.{SideKind}
 use Rattle.answer_claims.specs.ClaimParts.{AreClaims, IsClaimOf}
@@ -189,9 +191,14 @@ pub record MadeUpTo (f : Framework) (log : OracleLog) (parts : List Claim) (step
   pub long : length made ≡ count
   pub each : (k : ℕ) (d : Claim) → k < count
       → IsMade f log (slice_index_or parts k d) (slice_index_or steps k 0) (slice_index_or made k no_refutation)
+  pub cut : AreCut log made
 
 pub made_none : (f : Framework) (log : OracleLog) (parts : List Claim) (steps : List ℕ) → MadeUpTo f log parts steps 0 []
-made_none f log parts steps = record { long = refl; each = λ k d lt. absurd (omega arith) }
+made_none f log parts steps = record {
+  long = refl;
+  each = λ k d lt. absurd (omega arith);
+  cut = λ one c. absurd (Contains-nil one c);
+}
 
 parts_default : (xs : List Claim) (i : ℕ) (d e : Claim) → i < length xs → slice_index_or xs i d ≡ slice_index_or xs i e
 parts_default [] i d e h = absurd (omega arith)
@@ -201,9 +208,9 @@ parts_default (x ∷ xs) (suc i) d e h = parts_default xs i d e (omega arith)
 pub made_more : (f : Framework) (log : OracleLog) (parts : List Claim) (steps : List ℕ) (count : ℕ) (part e : Claim)
     (step d : ℕ) (one : Refutation) (old new : List Refutation) → MadeUpTo f log parts steps count old
     → count < length parts → part ≡ slice_index_or parts count e → step ≡ slice_index_or steps count d
-    → count < length steps → IsMade f log part step one → new ≡ old ++ one ∷ []
+    → count < length steps → IsMade f log part step one → IsCutAt log step one.steps → new ≡ old ++ one ∷ []
     → MadeUpTo f log parts steps (count + 1) new
-made_more f log parts steps count part e step d one old new so_far lt part_is step_is low made pushed = record {
+made_more f log parts steps count part e step d one old new so_far lt part_is step_is low made at pushed = record {
   long = omega (arith, ap length pushed, length-append old (one ∷ []), so_far.long);
   each = λ k other less. pushed_at
       (IsMade f log (slice_index_or parts k other) (slice_index_or steps k 0)) old new one no_refutation k pushed
@@ -216,6 +223,10 @@ made_more f log parts steps count part e step d one old new so_far lt part_is st
       step_is ∙ steps_default steps count d 0 low ∙ ap (λ i. slice_index_or steps i 0) (sym at) in
       subst (λ p. IsMade f log p (slice_index_or steps k 0) one) same_part
       (subst (λ s. IsMade f log part s one) same_step made));
+  cut = λ other c.
+      ⊎_elim (λ before. so_far.cut other before)
+      (λ (here : one ≡ other). subst (IsCut log) here (record { step = step; at = at }))
+      (Contains-push_cases old one other (subst (λ xs. Contains xs other) pushed c));
 }
   where
     steps_default : (xs : List ℕ) (i d e : ℕ) → i < length xs → slice_index_or xs i d ≡ slice_index_or xs i e

@@ -12,6 +12,7 @@ ghost use Rattle.answer_claims.specs.ClaimParts.{AreClaims};
 ghost use Rattle.answer_claims.specs.SetFacts.{HasSetsOf};
 ghost use Rattle.answer_claims.specs.SideClauses.{side_of, sides_of};
 ghost use Rattle.log_certificates.specs.ClaimSides.{IsAskOf};
+ghost use Rattle.log_certificates.specs.Cuts.{AreCut, IsCutAt};
 ghost use Rattle.certificate_making.specs.Making.{AreAsks, IsMade, AreMade};
 
 use answer_claims::{Claim, SideKind, claims_of, row, side_clause};
@@ -67,7 +68,8 @@ fn refutation_of<L: ReadLog>(
 ) -> Result<Refutation, Memory>
     requires step { IsNumberOf (L.log log.now).steps step }
     requires same { framework_of framework.now ≡ L.framework log.now }
-    ensures { IfOk result (IsMade (L.framework log.now) (L.log log.now) claim.now step) }
+    ensures made { IfOk result (IsMade (L.framework log.now) (L.log log.now) claim.now step) }
+    ensures cut { IfOk result (λ made. IsCutAt (L.log log.now) step made.steps) }
 {
     let asks = asks_for(alloc, log, framework, claim.kind, claim.sides.as_slice())?;
     if asks.len() > u32::MAX as usize {
@@ -89,7 +91,8 @@ fn refutations_of<L: ReadLog>(
     requires long { length steps.now ≡ length claims.now }
     requires steps { (k : ℕ) → Contains steps.now k → IsNumberOf (L.log log.now).steps k }
     requires same { framework_of framework.now ≡ L.framework log.now }
-    ensures { IfOk result (λ made. AreMade (L.framework log.now) (L.log log.now) claims.now steps.now made) }
+    ensures made { IfOk result (λ made. AreMade (L.framework log.now) (L.log log.now) claims.now steps.now made) }
+    ensures cut { IfOk result (λ made. AreCut (L.log log.now) made) }
 {
     let mut made = Items::new(alloc);
     for index in 0..claims.len() {
@@ -116,7 +119,8 @@ fn claims_for(
 }
 
 /// The certificate of an answer: the sets, and for each claim of the answer's row the refutation that the step at its place
-/// comes to. Where the sets pass their tests and the steps refute the claims, it is accepted, and a text can hold it. Time
+/// comes to. Where the sets pass their tests and the steps refute the claims, it is accepted, and a text can hold it; each
+/// refutation is made of just the log's steps that its last one reaches. Time
 /// and memory are linear in the steps that are reached and in the side clauses of the claims. `Memory` says that an
 /// allocation was refused.
 pub fn certificate_for<L: ReadLog>(
@@ -135,6 +139,7 @@ pub fn certificate_for<L: ReadLog>(
         (claims (framework_of framework.now) (row_of (framework_of framework.now) query.now answer.now) sets) steps.now }
     ensures accepted { IfOk result (IsAccepted (framework_of framework.now) query.now answer.now) }
     ensures writable { IfOk result IsWritable }
+    ensures cut { IfOk result (λ certificate. AreCut (L.log log.now) certificate.refutations) }
 {
     let _form = framework.kind();
     let _guards = log.len();

@@ -1,4 +1,5 @@
 pub mod ClaimSides
+pub mod Cuts
 pub mod Marks
 pub mod Moving
 pub mod Origins

@@ -5,6 +5,7 @@ ghost use Rattle.certificate_claims.specs.Refutations.{Claim};
 ghost use Rattle.certificate_text.specs.Written.{IsWritableStep};
 ghost use Rattle.oracle_face.specs.Logs.{IsLog, IsNumberOf};
 ghost use Rattle.log_refutations.specs.Refuted.{AreRefuting, IsRefutingStep};
+ghost use Rattle.log_certificates.specs.Cuts.{IsCutAt};
 ghost use Rattle.log_certificates.specs.Marks.{AreMarks, IsMarked, IsWriting, MayWrite, Writes};
 
 use crate::moved::moved_step;
@@ -86,6 +87,7 @@ pub fn refutation<L: ReadLog>(
     ensures writable { IfOk result (λ made. (claim : Claim)
         → IsRefutingStep (L.framework log.now) (L.log log.now) claim step positions.now
         → All IsWritableStep made.steps) }
+    ensures cut { IfOk result (λ made. IsCutAt (L.log log.now) step made.steps) }
 {
     let in_log = step.number() as usize <= log.len();
     prove!(in_log);

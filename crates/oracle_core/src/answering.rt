@@ -1,7 +1,8 @@
 //! Answers to queries.
 
-ghost use Rattle.std.specs.Prelude.{◌≡◌, ◌+◌, ◌*◌, true, false, length, IfErr, IfOk, OnOk};
+ghost use Rattle.std.specs.Prelude.{◌≡◌, ◌+◌, ◌*◌, ◌≤◌, true, false, length, IfErr, IfOk, OnOk};
 ghost use Rattle.edit_rules.specs.Fitting.{Fits};
+ghost use Rattle.log_certificates.specs.Cuts.{AreCut};
 ghost use Rattle.oracle_face.specs.Growing.{HasRun};
 ghost use Rattle.session_log.specs.Ends.{MadeFor};
 ghost use Rattle.query_answers.specs.Answers.{IsEvidence, is_by_grounded};
@@ -31,6 +32,7 @@ impl Engine {
         requires { IsEvidence self.now.framework query.now self.now.log evidence }
         ensures shown { IfOk result (λ a. IsShownBy self.now.framework query.now a.answer a.certificate) }
         ensures units { IfOk result (λ a. a.units ≡ units) }
+        ensures cut { IfOk result (λ a. AreCut self.now.log a.certificate.refutations) }
     {
         let _form = self.parts.framework.kind();
         let Evidence {
@@ -65,6 +67,7 @@ impl Engine {
         requires { NeedsSearch self.old.framework query.now }
         ensures shown { IfOk result (λ a. IsShownBy self.old.framework query.now a.answer a.certificate) }
         ensures units { IfOk result (λ a. a.units ≡ budget.new.used) }
+        ensures cut { IfOk result (λ a. AreCut self.new.log a.certificate.refutations) }
         ensures cause { IfErr result (IsCause self.old.framework query.now limit) }
         ensures run { HasRun (MadeFor self.old.framework query.now) (2 * length self.new.log.sides + 2)
             self.old.framework self.old.log self.new.log self.new.pending budget.old budget.new (halt_behind result) }
@@ -83,8 +86,8 @@ impl Engine {
     /// Answers a query, with the certificate that shows the answer and the units that it took. All extensions are listed
     /// where they are at most so many. Where the grounded set answers, no step is taken, and neither `Spent` nor `LogFull`
     /// comes. What is added to the log serves the query: each unit was new when it came, and the side clauses are those that
-    /// its certificate may have. The engine stays usable whatever comes; after a stop other than `Query` its log may be
-    /// longer.
+    /// its certificate may have. Each refutation of the certificate is made of just those steps of the log that its last one
+    /// reaches. The engine stays usable whatever comes; after a stop other than `Query` its log may be longer.
     pub fn answer(
         &mut self,
         alloc: Global,
@@ -96,6 +99,8 @@ impl Engine {
         ensures fits { OnOk result (Fits self.old.framework query.now) }
         ensures shown { IfOk result (λ a. IsShownBy self.old.framework query.now a.answer a.certificate) }
         ensures units { IfOk result (λ a. a.units ≡ budget.new.used) }
+        ensures within { budget.new.used ≤ budget.new.limit }
+        ensures cut { IfOk result (λ a. AreCut self.new.log a.certificate.refutations) }
         ensures cause { IfErr result (IsCause self.old.framework query.now limit) }
         ensures run { HasRun (MadeFor self.old.framework query.now) (2 * length self.new.log.sides + 2)
             self.old.framework self.old.log self.new.log self.new.pending budget.old budget.new (halt_behind result) }
@@ -108,6 +113,8 @@ impl Engine {
         if let Some(answered) = answer_by_grounded(alloc, &self.parts.framework, query)? {
             return Ok(answered);
         }
-        self.answer_by_search(alloc, query, budget, limit)
+        let end = self.answer_by_search(alloc, query, budget, limit);
+        let _within = budget.used();
+        end
     }
 }

@@ -107,6 +107,7 @@ pub fn answer_by_grounded(
     ensures shown { IfOk result (λ found. IfSome found (λ a. IsShownBy (framework_of framework.now) query.now a.answer
         a.certificate)) }
     ensures units { IfOk result (λ found. IfSome found (λ a. a.units ≡ 0)) }
+    ensures empty { IfOk result (λ found. IfSome found (λ a. a.certificate.refutations ≡ [])) }
     ensures others { IfOk result (λ found. IsNone found
         ↔ (answers.is_by_grounded query.now.task.problem query.now.task.semantics ≡ false)) }
 {

@@ -1,7 +1,11 @@
 use Rattle.std.proofs.Common.{map}
 use Rattle.std.specs.String.{string_bytes}
-use Rattle.argue_program.proofs.RunsLemmas.{IsRunOf-written, accepted, checked, complete, faulty, no_query, no_write, other_counts, other_files, problems_told, right_reply, too_long, unasked, untouched, usage, write_fault}
+use Rattle.argue_program.proofs.RowsLemmas.{decides_no_fault}
+use Rattle.argue_program.proofs.RunsLemmas.{IsRunOf-written, accepted, checked, complete, faulty, no_query, filled, no_write, other_counts, other_files, problems_told, right_session, solved_written, spent, too_long, unasked, untouched, usage, write_fault}
 use Rattle.argue_program.proofs.command.execute.Goals as goal
+
+pub write_ending-requires : goal.write_ending-requires
+write_ending-requires g c = decides_no_fault _ _ _ c.decide-ending.result c.decide-ending.ensures.ending
 
 pub returns-clause-run : goal.returns-clause-run
 returns-clause-run g c =
@@ -10,7 +14,16 @@ returns-clause-run g c =
     c.decide-ending.ensures.writes
 
 pub returns-clause-right : goal.returns-clause-right
-returns-clause-right g c = right_reply _ _ _ _ _ (returns-clause-run g c)
+returns-clause-right g c = right_session _ _ _ _ _ (returns-clause-run g c)
+
+pub returns-clause-unknown : goal.returns-clause-unknown
+returns-clause-unknown g c = spent _ (map string_bytes c.args.words.now) _ _ _ (returns-clause-run g c)
+
+pub returns-clause-full : goal.returns-clause-full
+returns-clause-full g c = filled _ (map string_bytes c.args.words.now) _ _ _ (returns-clause-run g c)
+
+pub returns-clause-solved : goal.returns-clause-solved
+returns-clause-solved g c = solved_written _ (map string_bytes c.args.words.now) _ _ _ (returns-clause-run g c)
 
 pub returns-clause-complete : goal.returns-clause-complete
 returns-clause-complete g c = complete _ _ _ _ _ (returns-clause-run g c)

@@ -1,7 +1,7 @@
-use Rattle.std.proofs.Common.{◌≡◌, ◌∙◌, sym, Err}
+use Rattle.std.proofs.Common.{◌≡◌, ◌∙◌, sym, Ok, Err}
 use Rattle.argue_outside.specs.declared.Role.TheVariants.{Framework}
 use Rattle.argue_program.specs.declared.ended.Status.TheVariants.{ReadFault}
-use Rattle.argue_program.proofs.RowsLemmas.{solve_stopped}
+use Rattle.argue_program.proofs.RowsLemmas.{solve_session, solve_stopped}
 use Rattle.argue_program.proofs.decision.solve.Goals as goal
 
 pub returns-in-Err-clause-ending : goal.returns-in-Err-clause-ending
@@ -12,3 +12,10 @@ returns-in-Err-clause-ending g c =
     e in cc)))
     c.in-Err.ensures.others c.stopped-in-Err.ensures.status c.stopped-in-Err.ensures.kept c.stopped-in-Err.ensures.text
     c.stopped-in-Err.ensures.files
+
+pub returns-in-Ok-session_ending-clause-ending : goal.returns-in-Ok-session_ending-clause-ending
+returns-in-Ok-session_ending-clause-ending g c =
+    solve_session _ _ c.in-Some.query _ c.in-Ok-session_ending.ending (sym c.solving_of.ensures ∙ c.in-Some.is)
+    c.in-Ok.session c.in-Ok.ensures.ok
+    (c.in-Ok.ensures.quiet (λ e. let is : Ok c.in-Ok.session ≡ Err (ReadFault (Framework 1)) = e in cc))
+    c.in-Ok-session_ending.ensures

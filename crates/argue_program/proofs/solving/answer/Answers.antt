@@ -1,13 +1,12 @@
-use Rattle.std.proofs.Common.{sym, subst}
 use Rattle.edit_rules.specs.Kinds.{framework_of}
-use Rattle.argue_program.specs.Solves.{RefusesBy}
-use Rattle.argue_program.proofs.SolveLemmas.{refuses}
+use Rattle.argue_program.proofs.SolveLemmas.{session_is}
 use Rattle.argue_program.proofs.solving.answer.Goals as goal
 
-pub returns-clause-err : goal.returns-clause-err
-returns-clause-err c =
-    subst (RefusesBy (framework_of c.args.framework) c.args.solving.now) (sym c.status_of.ensures)
-    (refuses (framework_of c.args.framework) c.in_ok-engine.engine.framework c.args.solving.now
-    c.in_ok-engine.engine.log _ _ c.new-budget.result c.answer-end.new.budget c.in-Err.stop
-    c.in_ok-engine.ensures.framework c.in_ok-engine.ensures.log c.new-budget.ensures.limit c.new-budget.ensures.used
-    c.in-Err.ensures.cause c.in-Err.ensures.run)
+pub returns : goal.returns
+returns c =
+    session_is (framework_of c.args.framework) c.in_ok-engine.engine.framework c.args.solving.now
+    (record { reply = c.answer-reply.result; engine = c.answer-reply.new.self }) c.in_ok-engine.engine.log
+    c.new-budget.result c.answer-reply.new.budget c.in_ok-engine.ensures.framework c.answer-reply.ensures.framework
+    c.in_ok-engine.ensures.log c.new-budget.ensures.limit c.new-budget.ensures.used c.answer-reply.ensures.within
+    c.answer-reply.ensures.fits c.answer-reply.ensures.shown c.answer-reply.ensures.units c.answer-reply.ensures.cause
+    c.answer-reply.ensures.run

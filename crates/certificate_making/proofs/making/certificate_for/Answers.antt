@@ -30,7 +30,7 @@ returns-clause-accepted g c =
     let made = subst (λ h. AreMade h (g.L.ReadLog.log c.args.log.now) c.in_ok-claims.claims c.args.steps.now
     c.in_ok-refutations.refutations) (sym c.requires.same)
     (subst (λ parts. AreMade (g.L.ReadLog.framework c.args.log.now) (g.L.ReadLog.log c.args.log.now) parts c.args.steps.now
-    c.in_ok-refutations.refutations) c.as_slice-2.ensures c.in_ok-refutations.ensures) in
+    c.in_ok-refutations.refutations) c.as_slice-2.ensures c.in_ok-refutations.ensures.made) in
     accepted f c.args.query.now c.args.answer.now (g.L.ReadLog.log c.args.log.now) c.args.sets c.args.steps.now
     c.in_ok-claims.claims c.in_ok-refutations.refutations c.kind-form.ensures.form c.requires.tests c.requires.refuted are
     made
@@ -43,7 +43,7 @@ returns-clause-writable g c =
     let made = subst (λ h. AreMade h (g.L.ReadLog.log c.args.log.now) c.in_ok-claims.claims c.args.steps.now
     c.in_ok-refutations.refutations) (sym c.requires.same)
     (subst (λ parts. AreMade (g.L.ReadLog.framework c.args.log.now) (g.L.ReadLog.log c.args.log.now) parts c.args.steps.now
-    c.in_ok-refutations.refutations) c.as_slice-2.ensures c.in_ok-refutations.ensures) in
+    c.in_ok-refutations.refutations) c.as_slice-2.ensures c.in_ok-refutations.ensures.made) in
     writable f c.args.query.now c.args.answer.now (g.L.ReadLog.log c.args.log.now) c.args.sets c.args.steps.now
     c.in_ok-claims.claims c.in_ok-refutations.refutations c.kind-form.ensures.form c.requires.tests c.requires.refuted are
     made

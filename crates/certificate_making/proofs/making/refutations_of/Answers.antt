@@ -16,11 +16,14 @@ loop-index-preserved g c =
     made_more (g.L.ReadLog.framework c.args.log.now) (g.L.ReadLog.log c.args.log.now) c.args.claims.now c.args.steps.now
     c.loop-index.index c.index-claims-index.result _ c.index-steps-index.result _ c.in_ok-refutation_of.field-0
     c.loop-index.made c.push.new.self c.loop-index.invariant c.loop-index-test.true c.index-claims-index.is
-    c.index-steps-index.is (omega (arith, long, lt)) c.in_ok-refutation_of.ensures c.in_ok-push.ensures.ok
+    c.index-steps-index.is (omega (arith, long, lt)) c.in_ok-refutation_of.ensures.made c.in_ok-refutation_of.ensures.cut c.in_ok-push.ensures.ok
 
-pub returns : goal.returns
-returns g c =
+pub returns-clause-made : goal.returns-clause-made
+returns-clause-made g c =
     let low = c.loop-index-test.false in
     let high = c.loop-index.auto.index-end in
     made_all (g.L.ReadLog.framework c.args.log.now) (g.L.ReadLog.log c.args.log.now) c.args.claims.now c.args.steps.now
     c.loop-index.index c.loop-index.made c.loop-index.invariant (omega (arith, low, high))
+
+pub returns-clause-cut : goal.returns-clause-cut
+returns-clause-cut g c = c.loop-index.invariant.cut

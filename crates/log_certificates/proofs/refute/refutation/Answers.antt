@@ -20,3 +20,13 @@ returns-clause-writable g c = λ claim refuting.
       step_fits = omega (arith, c.number.ensures);
       positions_fit = λ n. let fits = c.type_inv.positions (n - 1) in omega (arith, fits);
     })
+
+pub returns-clause-cut : goal.returns-clause-cut
+returns-clause-cut g c = record {
+  named = c.requires;
+  positions = c.args.positions.now;
+  kept = c.in_ok-steps.ensures.kept;
+  numbers = _;
+  trimmed = writing_done (g.L.ReadLog.framework c.args.log.now) (g.L.ReadLog.log c.args.log.now) c.args.step
+      c.args.positions.now _ c.in_ok-steps.steps c.len.ensures.form c.requires c.in_ok-steps.ensures;
+}
