@@ -47,67 +47,24 @@ fn answers(alloc: Global, oracle: &mut SmallOracle, row: &Row) -> Option<bool> {
 
 #[test]
 fn goals(rt: HostRuntime) -> Result<(), Fail> {
+    let row = |framework, goals, set| Row {
+        framework,
+        goals,
+        set,
+    };
     let rows = [
-        Row {
-            framework: FLOATING,
-            goals: &[is(Ad), is(Member(3))],
-            set: None,
-        },
-        Row {
-            framework: FLOATING,
-            goals: &[is(Ad), is(Member(4)), not(Member(2))],
-            set: Some(&[1, 4]),
-        },
-        Row {
-            framework: RIVALS,
-            goals: &[is(Ad), is(Member(3))],
-            set: Some(&[1, 3]),
-        },
-        Row {
-            framework: RIVALS,
-            goals: &[is(Ad), is(Member(3)), not(Member(1))],
-            set: None,
-        },
-        Row {
-            framework: RIVALS,
-            goals: &[is(Co), is(Member(1)), not(Member(3))],
-            set: None,
-        },
-        Row {
-            framework: RIVALS,
-            goals: &[is(Cf), is(Member(3)), not(Member(1))],
-            set: Some(&[3]),
-        },
-        Row {
-            framework: RIVALS,
-            goals: &[is(St), not(Member(2))],
-            set: Some(&[1, 3]),
-        },
-        Row {
-            framework: RIVALS,
-            goals: &[is(Ad), is(Tail(1, 1))],
-            set: Some(&[2]),
-        },
-        Row {
-            framework: RIVALS,
-            goals: &[is(Ad), is(Range(3)), not(Member(3))],
-            set: Some(&[2]),
-        },
-        Row {
-            framework: RING,
-            goals: &[is(St)],
-            set: None,
-        },
-        Row {
-            framework: RING,
-            goals: &[is(Co)],
-            set: Some(&[]),
-        },
-        Row {
-            framework: RING,
-            goals: &[is(Ad), is(Range(2))],
-            set: None,
-        },
+        row(FLOATING, &[is(Ad), is(Member(3))], None),
+        row(FLOATING, &[is(Ad), is(Member(4)), not(Member(2))], Some(&[1, 4])),
+        row(RIVALS, &[is(Ad), is(Member(3))], Some(&[1, 3])),
+        row(RIVALS, &[is(Ad), is(Member(3)), not(Member(1))], None),
+        row(RIVALS, &[is(Co), is(Member(1)), not(Member(3))], None),
+        row(RIVALS, &[is(Cf), is(Member(3)), not(Member(1))], Some(&[3])),
+        row(RIVALS, &[is(St), not(Member(2))], Some(&[1, 3])),
+        row(RIVALS, &[is(Ad), is(Tail(1, 1))], Some(&[2])),
+        row(RIVALS, &[is(Ad), is(Range(3)), not(Member(3))], Some(&[2])),
+        row(RING, &[is(St)], None),
+        row(RING, &[is(Co)], Some(&[])),
+        row(RING, &[is(Ad), is(Range(2))], None),
     ];
     for (number, row) in rows.iter().enumerate() {
         assert!(rt; holds(rt.alloc(), row) == Some(true), "row {number}");
