@@ -35,9 +35,7 @@ fn rise(sets: &[NumSet]) -> bool {
 
 /// Whether these are the sets that the definition gives, each once and in order.
 fn are_all(found: &[NumSet], defined: &[NumSet]) -> bool {
-    found.len() == defined.len()
-        && rise(found)
-        && defined.iter().all(|set| is_among(found, set))
+    found.len() == defined.len() && rise(found) && defined.iter().all(|set| is_among(found, set))
 }
 
 /// What the loop of a kind lists, or the loop that takes a task.

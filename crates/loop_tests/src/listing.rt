@@ -85,19 +85,43 @@ fn extensions(
     match kind {
         Kind::Complete => {
             let semantics = Semantics::Complete;
-            all(alloc, oracle, &mut budget, Task { problem, semantics }, limit)
+            all(
+                alloc,
+                oracle,
+                &mut budget,
+                Task { problem, semantics },
+                limit,
+            )
         }
         Kind::Stable => {
             let semantics = Semantics::Stable;
-            all(alloc, oracle, &mut budget, Task { problem, semantics }, limit)
+            all(
+                alloc,
+                oracle,
+                &mut budget,
+                Task { problem, semantics },
+                limit,
+            )
         }
         Kind::Preferred => {
             let semantics = Semantics::Preferred;
-            all(alloc, oracle, &mut budget, Task { problem, semantics }, limit)
+            all(
+                alloc,
+                oracle,
+                &mut budget,
+                Task { problem, semantics },
+                limit,
+            )
         }
         Kind::SemiStable => {
             let semantics = Semantics::SemiStable;
-            all(alloc, oracle, &mut budget, Task { problem, semantics }, limit)
+            all(
+                alloc,
+                oracle,
+                &mut budget,
+                Task { problem, semantics },
+                limit,
+            )
         }
     }
 }

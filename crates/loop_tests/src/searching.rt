@@ -52,7 +52,11 @@ fn answers(
 fn goals(rt: HostRuntime) -> Result<(), Fail> {
     let rows: [(Worked, &[AtomLit], Option<&[u32]>); 12] = [
         (FLOATING, &[is(Ad), is(Member(3))], None),
-        (FLOATING, &[is(Ad), is(Member(4)), not(Member(2))], Some(&[1, 4])),
+        (
+            FLOATING,
+            &[is(Ad), is(Member(4)), not(Member(2))],
+            Some(&[1, 4]),
+        ),
         (RIVALS, &[is(Ad), is(Member(3))], Some(&[1, 3])),
         (RIVALS, &[is(Ad), is(Member(3)), not(Member(1))], None),
         (RIVALS, &[is(Co), is(Member(1)), not(Member(3))], None),
