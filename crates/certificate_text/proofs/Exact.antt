@@ -1,9 +1,9 @@
 -- A text reads as a certificate exactly where it is the certificate's text.
-use Rattle.std.proofs.Common.{◌≡◌, ◌⊎◌, inl, inr, ℕ, ◌+◌, Bool, true, false, if◌then◌else◌, List, [], ◌∷◌, ◌++◌, length, map, drop, get_or, refl, sym, ap, subst, ◌∙◌, arith, codes, append_assoc, length-append}
-use Rattle.std.specs.Prelude.{Option, None, Some, Ok, Err, nat_eq}
+use Rattle.std.proofs.Common.{◌≡◌, inl, inr, ℕ, Bool, true, false, if◌then◌else◌, List, [], ◌∷◌, ◌++◌, length, map, drop, get_or, refl, sym, ap, subst, ◌∙◌, arith, codes, append_assoc, length-append}
+use Rattle.std.specs.Prelude.{Option, None, Some, Ok}
 use Rattle.std.specs.List.{AllZip}
-use Rattle.std.specs.Cmp.Lexicographic.{same_text, pointwise}
-use Rattle.std.proofs.lemmas.Bool.{cases_Bool, cond-true, cond-false}
+use Rattle.std.specs.Cmp.Lexicographic.{same_text}
+use Rattle.std.proofs.lemmas.Bool.{cases_Bool}
 use Rattle.std.proofs.lemmas.List.{append-nil}
 use Rattle.num_text.specs.Cuts.{LineText, field_texts}
 use Rattle.meaning_atoms.specs.declared.atom.AtomLit.{AtomLit}
@@ -19,11 +19,11 @@ use Rattle.certificate_text.specs.declared.draft.Draft.{Draft}
 use Rattle.certificate_text.specs.declared.draft.Draft.TheVariants.{Nothing, SetsRead, StepsRead, AllRead}
 use Rattle.certificate_text.specs.declared.word.Word.{Word}
 use Rattle.certificate_text.specs.declared.word.Word.TheVariants.{Header as HeaderWord, Set as SetWord, Refutation as RefutationWord, Axiom as AxiomWord, Side as SideWord, Derived as DerivedWord, End as EndWord, Other as OtherWord}
-use Rattle.certificate_text.specs.StepFields.{IsDerivedOf, IsStepOf, Parts, is_zero, parts_of, put_before}
+use Rattle.certificate_text.specs.StepFields.{IsStepOf, Parts, is_zero, parts_of, put_before}
 use Rattle.certificate_text.specs.Lines.{LeadsBy, LeadsTo, certificate, first_word, refutation, word_of}
 use Rattle.certificate_text.specs.Literals.{parts}
-use Rattle.certificate_text.specs.Reading.{Ends, Outcome, Reads}
-use Rattle.certificate_text.specs.CertText.{AreRefutations, IsCertText, IsDerivedLine, IsStepLine}
+use Rattle.certificate_text.specs.Reading.{Ends, Reads}
+use Rattle.certificate_text.specs.CertText.{AreRefutations, IsCertText, IsStepLine}
 use Rattle.certificate_text.proofs.LiteralLemmas.{parts_of_none, parts_of_other, parts_of_zero}
 
 abbrev Fields : Type 0

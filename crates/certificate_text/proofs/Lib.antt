@@ -6,3 +6,4 @@ pub mod ReadingLemmas
 pub mod OneOutcome
 pub mod Exact
 pub mod RoundTrip
+pub mod MemberText

@@ -6,8 +6,6 @@ use Rattle.std.proofs.lemmas.Bool.{cond-true, cond-false}
 use Rattle.std.proofs.lemmas.List.{append-nil}
 use Rattle.meaning_atoms.specs.declared.atom.AtomLit.{AtomLit}
 use Rattle.meaning_atoms.specs.AtomText.{IsLitText}
-use Rattle.certificate_text.specs.declared.step.Literals.{Literals}
-use Rattle.certificate_text.specs.declared.step.Literals.TheVariants.{Unclosed, Unreadable, Read}
 use Rattle.certificate_text.specs.Literals.{GoesOn, HasLiterals, closed_view, parts}
 use Rattle.certificate_text.specs.StepFields.{HasBadLiteral, Parts, is_zero, parts_of, put_before}
 use Rattle.certificate_text.proofs.Zips.{zip_push, among, kept_among}

@@ -1,6 +1,6 @@
 -- A text has one outcome at most.
-use Rattle.std.proofs.Common.{◌≡◌, ◌≢◌, ◌⊎◌, inl, inr, ⊎_elim, ℕ, List, [], ◌∷◌, ◌++◌, length, get_or, refl, sym, ap, subst, ◌∙◌, arith, codes}
-use Rattle.std.specs.Prelude.{Option, None, Some, Ok, Err}
+use Rattle.std.proofs.Common.{◌≡◌, ◌≢◌, ◌⊎◌, inl, inr, ⊎_elim, ℕ, List, [], ◌∷◌, ◌++◌, length, get_or, refl, sym, ap, subst, ◌∙◌}
+use Rattle.std.specs.Prelude.{None, Some, Err}
 use Rattle.std.specs.List.{AllZip}
 use Rattle.std.specs.List.Sorted.{IsStrictlyIncreasing}
 use Rattle.num_text.specs.Cuts.{LineText, field_texts}
@@ -17,12 +17,12 @@ use Rattle.certificate_claims.specs.declared.certificate.Refutation.{Refutation}
 use Rattle.certificate_text.specs.declared.draft.Draft.{Draft}
 use Rattle.certificate_text.specs.declared.draft.Draft.TheVariants.{Nothing, SetsRead, StepsRead, AllRead}
 use Rattle.certificate_text.specs.declared.fault.CertCause.{CertCause}
-use Rattle.certificate_text.specs.declared.fault.CertCause.TheVariants.{NoHeader, BadLine, BadNumber, NotRising, BadAtom, BadAxiom, NoEnd, AfterEnd}
+use Rattle.certificate_text.specs.declared.fault.CertCause.TheVariants.{BadLine, BadNumber, NotRising, BadAtom, BadAxiom}
 use Rattle.certificate_text.specs.declared.fault.CertFault.TheVariants.{At}
 use Rattle.certificate_text.specs.declared.word.Word.{Word}
 use Rattle.certificate_text.specs.declared.word.Word.TheVariants.{Header as HeaderWord, Set as SetWord, Refutation as RefutationWord, Axiom as AxiomWord, Side as SideWord, Derived as DerivedWord, End as EndWord, Other as OtherWord}
-use Rattle.certificate_text.specs.StepFields.{AxiomStands, DerivedStands, HasBadLiteral, HasBadOrdinal, IsDerivedOf, IsStepOf, Parts, SideStands, SpellsOrdinal, StepStands, parts_of}
-use Rattle.certificate_text.specs.Lines.{LeadsBy, LeadsTo, SetStands, Stands, StandsBy}
+use Rattle.certificate_text.specs.StepFields.{AxiomStands, DerivedStands, HasBadLiteral, HasBadOrdinal, IsDerivedOf, IsStepOf, Parts, SideStands, SpellsOrdinal, parts_of}
+use Rattle.certificate_text.specs.Lines.{LeadsBy, SetStands, StandsBy}
 use Rattle.certificate_text.specs.Reading.{Ends, Outcome, Reads, ReadsAs, end_of}
 use Rattle.certificate_text.proofs.Zips.{zip_partner, zip_same}
 

@@ -1,5 +1,5 @@
 -- What is written of a certificate reads as the certificate.
-use Rattle.std.proofs.Common.{◌≡◌, ℕ, ◌+◌, ◌<◌, ◌≤◌, ◌==◌, ◌^◌, Bool, true, false, not, List, [], ◌∷◌, ◌++◌, length, get_or, map, refl, sym, ap, subst, ◌∙◌, arith, codes, append_assoc, length-append}
+use Rattle.std.proofs.Common.{◌≡◌, ℕ, ◌+◌, ◌<◌, ◌^◌, Bool, true, false, not, List, [], ◌∷◌, ◌++◌, length, get_or, map, refl, sym, ap, subst, ◌∙◌, arith, codes, append_assoc, length-append}
 use Rattle.std.specs.Prelude.{All, Ok}
 use Rattle.std.specs.List.{AllZip, flat_map, list_all}
 use Rattle.std.specs.List.Sorted.{IsStrictlyIncreasing}
@@ -27,7 +27,7 @@ use Rattle.meaning_atoms.specs.declared.axiom.AfAxiom.TheVariants.{A1, A2, A3, A
 use Rattle.meaning_atoms.specs.declared.axiom.AxiomName.TheVariants.{Af}
 use Rattle.meaning_atoms.specs.Atoms.{IsLit}
 use Rattle.meaning_atoms.specs.AtomText.{IsLitText, lit_text, name_of, numbers_of, signed}
-use Rattle.meaning_atoms.specs.AxiomText.{axiom_arguments, axiom_name, axiom_text}
+use Rattle.meaning_atoms.specs.AxiomText.{axiom_arguments, axiom_name}
 use Rattle.meaning_atoms.proofs.WrittenAxioms.{arguments_small, axiom_reads, field_from}
 use Rattle.meaning_atoms.proofs.WrittenFields.{AreFields, IsField, decimals_joined, fields_joined}
 use Rattle.meaning_atoms.proofs.WrittenLits.{AreWords, written_reads}
@@ -40,7 +40,6 @@ use Rattle.certificate_text.specs.CertText.{AreRefutations, IsCertText, IsStepLi
 use Rattle.certificate_text.specs.Reading.{ReadsAs, end_of, kept_fields}
 use Rattle.certificate_text.specs.Written.{IsOrdinal, IsWritable, IsWritableStep, certificate_text, refutation_text, step_line}
 use Rattle.certificate_text.proofs.Exact.{exact}
-use Rattle.certificate_text.proofs.Zips.{zip_append}
 
 abbrev Fields : Type 0
 Fields = List (List ℕ)

@@ -1,5 +1,5 @@
 -- What is found of the fields of a step.
-use Rattle.std.proofs.Common.{◌≡◌, ℕ, ◌≤◌, List, [], ◌∷◌, ◌++◌, drop, get_or, refl, sym, ap, subst, ◌∙◌, arith}
+use Rattle.std.proofs.Common.{◌≡◌, ℕ, ◌≤◌, List, [], ◌∷◌, drop, get_or, sym, ap, subst, ◌∙◌, arith}
 use Rattle.std.specs.Prelude.{Option, None, Some, IfSome, IfNone}
 use Rattle.std.specs.List.{AllZip}
 use Rattle.meaning_atoms.specs.declared.atom.AtomLit.{AtomLit}
@@ -12,7 +12,7 @@ use Rattle.num_text.specs.Number.{IsNumber}
 use Rattle.meaning_atoms.specs.declared.axiom.AfAxiom.{AfAxiom}
 use Rattle.meaning_atoms.specs.declared.axiom.AfAxiom.TheVariants.{A1, A2, A3, A4, A5, A6, A7, A8, A9, A10, A11, A12, A13, A14}
 use Rattle.meaning_atoms.specs.Axioms.{IsAfAxiom}
-use Rattle.meaning_atoms.specs.AxiomText.{IsAxiomFields, IsAxiomOf, axiom_arguments, axiom_name}
+use Rattle.meaning_atoms.specs.AxiomText.{IsAxiomFields, IsAxiomOf, axiom_arguments}
 use Rattle.meaning_atoms.proofs.OneReading.{one_list}
 use Rattle.certificate_text.specs.StepFields.{AxiomStands, DerivedStands, HasBadOrdinal, SpellsOrdinal}
 use Rattle.certificate_text.proofs.Zips.{zip_partner}

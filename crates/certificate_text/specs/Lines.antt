@@ -1,5 +1,5 @@
 -- What a line of a certificate does to what has been read, and what may be wrong with it.
-use Rattle.std.specs.Prelude.{◌≡◌, ◌≢◌, ℕ, Bool, List, [], ◌∷◌, ◌++◌, codes, if◌then◌else◌}
+use Rattle.std.specs.Prelude.{◌≡◌, ◌≢◌, ℕ, List, [], ◌∷◌, ◌++◌, codes, if◌then◌else◌}
 use Rattle.iccma_tasks.specs.AnswerText.{AreRisingArguments, HasBadNumber, HasFallingNumbers, behind_first, is_field}
 use Rattle.certificate_claims.specs.declared.certificate.Certificate.{Certificate}
 use Rattle.certificate_claims.specs.declared.certificate.Refutation.{Refutation}

@@ -1,8 +1,7 @@
 -- The text of a certificate as it is written.
-use Rattle.std.specs.Prelude.{ℕ, ◌<◌, ◌≤◌, ◌^◌, List, [], ◌∷◌, ◌++◌, codes, All, map}
+use Rattle.std.specs.Prelude.{ℕ, ◌<◌, ◌≤◌, ◌^◌, List, ◌∷◌, ◌++◌, codes, All}
 use Rattle.std.specs.List.{flat_map}
 use Rattle.std.specs.Fmt.{decimal}
-use Rattle.semantics.specs.Arguments.{IsArgument}
 use Rattle.iccma_tasks.specs.WrittenText.{HasArguments, set_line}
 use Rattle.meaning_atoms.specs.Atoms.{IsLit}
 use Rattle.meaning_atoms.specs.AtomText.{lit_text}

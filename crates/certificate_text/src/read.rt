@@ -11,7 +11,7 @@ ghost use Rattle.certificate_text.specs.Reading.{Ends, IsRead, end_of};
 
 use crate::draft::Draft;
 use crate::fault::{CertCause, CertFault};
-use crate::step::{fault, is_done, step_of};
+use crate::step::{Room, fault, is_done, step_of};
 use crate::word::{Word, word_of};
 use certificate_claims::{Certificate, Refutation, Step};
 use iccma_tasks::{AnswerCause, AnswerFault, set_of};
@@ -138,6 +138,7 @@ fn behind_steps(
     draft: (Items<NumSet>, Items<Refutation>, Items<Step>),
     word: Word,
     rest: Fields<'_>,
+    room: &mut Room,
 ) -> Result<Draft, CertFault>
     ensures after { IfOk result (LeadsFromSteps draft.0 draft.1 draft.2 word (map (λ f. f.text) rest.entry)) }
     ensures fault { IfErr result (FaultsAt line (StandsBehindSteps word (map (λ f. f.text) rest.entry))) }
@@ -160,7 +161,7 @@ fn behind_steps(
             Ok(Draft::AllRead(Certificate { sets, refutations }))
         }
         Word::Header | Word::Set | Word::Axiom | Word::Side | Word::Derived | Word::Other => {
-            let step = step_of(alloc, line, word, rest)?;
+            let step = step_of(alloc, line, word, rest, room)?;
             steps.push(step)?;
             Ok(Draft::StepsRead(sets, whole, steps))
         }
@@ -168,7 +169,12 @@ fn behind_steps(
 }
 
 // The draft that goes on by a line.
-fn with_line(alloc: Global, draft: Draft, line: &Line<'_>) -> Result<Draft, CertFault>
+fn with_line(
+    alloc: Global,
+    draft: Draft,
+    line: &Line<'_>,
+    room: &mut Room,
+) -> Result<Draft, CertFault>
     ensures after { IfOk result (LeadsTo draft (field_texts line.now.text.now)) }
     ensures fault { IfErr result (FaultsAt line.now.number (Stands draft (field_texts line.now.text.now))) }
 {
@@ -178,7 +184,7 @@ fn with_line(alloc: Global, draft: Draft, line: &Line<'_>) -> Result<Draft, Cert
         Draft::Nothing => behind_nothing(alloc, line.number, word, rest),
         Draft::SetsRead(sets) => behind_sets(alloc, line.number, sets, word, rest),
         Draft::StepsRead(sets, whole, steps) => {
-            behind_steps(alloc, line.number, (sets, whole, steps), word, rest)
+            behind_steps(alloc, line.number, (sets, whole, steps), word, rest, room)
         }
         Draft::AllRead(_) => Err(fault(line.number, CertCause::AfterEnd)),
     }
@@ -208,8 +214,9 @@ pub fn read_certificate(alloc: Global, bytes: &[u8]) -> Result<Certificate, Cert
 {
     let mut left = lines(bytes);
     let mut draft = Draft::Nothing;
+    let mut room = Room::new(alloc);
     while let Some(line) = next_kept(&mut left) {
-        draft = match with_line(alloc, draft, &line) {
+        draft = match with_line(alloc, draft, &line, &mut room) {
             Ok(after) => after,
             Err(fault) => return Err(fault),
         };

@@ -1,8 +1,10 @@
 //! Reading a step.
 
-ghost use Rattle.std.specs.Prelude.{◌≡◌, ◌↔◌, [], ◌∷◌, ℕ, map, IfOk, IfErr, IfSome, IfNone, IsTrue};
+ghost use Rattle.std.specs.Prelude.{◌≡◌, ◌↔◌, ◌≤◌, [], ◌∷◌, ◌++◌, ℕ, Some, codes, map, IfOk, IfErr, IfSome, IfNone, IsTrue};
 ghost use Rattle.std.specs.List.{AllZip};
+ghost use Rattle.meaning_atoms.specs.declared.atom.AtomLit.{AtomLit as ALit};
 ghost use Rattle.meaning_atoms.specs.declared.axiom.AfAxiom.{AfAxiom as AnAxiom};
+ghost use Rattle.meaning_atoms.specs.AtomText.{IsLitText};
 ghost use Rattle.meaning_atoms.specs.AxiomText.{IsAxiomFields};
 ghost use Rattle.certificate_text.specs.declared.word.Word.TheVariants.{Axiom as AxiomWord, Side as SideWord, Derived as DerivedWord};
 ghost use Rattle.certificate_text.specs.Lines.{FaultsAt};
@@ -12,10 +14,45 @@ ghost use Rattle.certificate_text.specs.StepFields.{HasBadOrdinal, IsStepOf, Spe
 use crate::fault::{CertCause, CertFault};
 use crate::word::Word;
 use certificate_claims::Step;
-use meaning_atoms::{AfAxiom, AtomLit, AxiomName, axiom_of, read_lit};
+use meaning_atoms::{AfAxiom, Atom, AtomLit, AxiomName, axiom_of, read_lit};
 use num_text::{Fields, decimal};
 use plain_lists::{Items, Memory};
 use std::alloc::Global;
+use std::mem::replace;
+
+/// Lists that are filled anew for each step, so that a step's own lists take one allocation each, and no more than their
+/// items need.
+#[derive(Debug, Drop)]
+pub(crate) struct Room {
+    literals: Items<AtomLit>,
+    numbers: Items<u32>,
+}
+
+impl Room {
+    /// No list is there yet, which takes no memory.
+    pub(crate) fn new(alloc: Global) -> Room {
+        Room {
+            literals: Items::new(alloc),
+            numbers: Items::new(alloc),
+        }
+    }
+}
+
+// The same items, in no more room than they need.
+fn copied<T: Copy>(alloc: Global, list: &Items<T>) -> Result<Items<T>, Memory>
+    ensures { IfOk result (λ copy. copy ≡ list.now) }
+{
+    Ok(Items::from_vec(Vec::from_slice(alloc, list.as_slice())?))
+}
+
+// The list without its items, with the room that it has. An empty list is left in its place.
+fn cleared<T: Drop>(alloc: Global, list: &mut Items<T>) -> Items<T>
+    ensures { result ≡ [] }
+{
+    let mut room = replace(list, Items::new(alloc)).into_vec();
+    room.clear();
+    Items::from_vec(room)
+}
 
 /// The fault of this cause at a line.
 pub(crate) fn fault(line: usize, cause: CertCause) -> CertFault
@@ -31,6 +68,18 @@ pub(crate) fn is_done(mut rest: Fields<'_>) -> bool
     rest.next().is_none()
 }
 
+// A number that is not 0.
+fn from_one(number: Option<u32>) -> Option<u32>
+    ensures number { IfSome result (λ n. (number ≡ Some n) × (1 ≤ n)) }
+    ensures none { IfNone result ((n : ℕ) → number ≡ Some n → 1 ≤ n → ⊥) }
+{
+    let found = number?;
+    if found < 1 {
+        return None;
+    }
+    Some(found)
+}
+
 // The number, counted from 1, that the bytes spell.
 fn ordinal(bytes: &[u8]) -> Option<u32>
     ensures number { IfSome result (SpellsOrdinal bytes.now) }
@@ -44,13 +93,14 @@ fn ordinal(bytes: &[u8]) -> Option<u32>
 }
 
 // The numbers, counted from 1, that the fields spell. `None` where some field spells none.
-fn ordinals(alloc: Global, mut rest: Fields<'_>) -> Result<Option<Items<u32>>, Memory>
+fn ordinals(empty: Items<u32>, mut rest: Fields<'_>) -> Result<Option<Items<u32>>, Memory>
+    requires { empty ≡ [] }
     ensures numbers { IfOk result (λ found. IfSome found (AllZip SpellsOrdinal (map (λ f. f.text) rest.entry))) }
     ensures none { IfOk result (λ found. IfNone found (HasBadOrdinal (map (λ f. f.text) rest.entry))) }
 {
-    let mut numbers = Items::new(alloc);
-    while let Some(field) = rest.next() {
-        let Some(number) = ordinal(field.text) else {
+    let mut numbers = empty;
+    while let Some(field) = rest.next_number() {
+        let Some(number) = from_one(field.number) else {
             return Ok(None);
         };
         numbers.push(number)?;
@@ -68,6 +118,43 @@ enum Literals {
     Read(Items<AtomLit>),
 }
 
+// What stands behind `Member:`.
+fn behind_member<'a>(bytes: &'a [u8]) -> Option<&'a [u8]>
+    ensures { IfSome result (λ rest. bytes.entry.now ≡ codes "Member:" ++ rest.now) }
+{
+    match bytes {
+        [b'M', b'e', b'm', b'b', b'e', b'r', b':', rest @ ..] => Some(rest),
+        _ => None,
+    }
+}
+
+// The literal that affirms a member, where the bytes begin as its text does. Of the literals of certificates most are
+// such, and this reads them in one pass over the digits.
+fn member(bytes: &[u8]) -> Option<AtomLit>
+    ensures { IfSome result (IsLitText bytes.now) }
+{
+    let digits = behind_member(bytes)?;
+    let atom = Atom::Member(decimal(digits)?);
+    if !atom.is_within() {
+        return None;
+    }
+    Some(AtomLit {
+        atom,
+        positive: true,
+    })
+}
+
+// The literal that the bytes are the text of.
+fn literal_of(bytes: &[u8]) -> Option<AtomLit>
+    ensures spells { IfSome result (IsLitText bytes.now) }
+    ensures read { (l : ALit) → IsLitText bytes.now l → result ≡ Some l }
+{
+    if let Some(member) = member(bytes) {
+        return Some(member);
+    }
+    read_lit(bytes)
+}
+
 // The literals that go on by one more, where there is still each.
 fn with_literal(
     found: Option<Items<AtomLit>>,
@@ -76,7 +163,7 @@ fn with_literal(
     ensures { IfOk result (GoesOn found bytes.now) }
 {
     match found {
-        Some(mut literals) => match read_lit(bytes) {
+        Some(mut literals) => match literal_of(bytes) {
             Some(literal) => {
                 literals.push(literal)?;
                 Ok(Some(literals))
@@ -97,10 +184,11 @@ fn closed(found: Option<Items<AtomLit>>) -> Literals
 }
 
 // Reads the literals up to the closing `0`. The fields behind it are left.
-fn read_literals(alloc: Global, rest: &mut Fields<'_>) -> Result<Literals, Memory>
+fn read_literals(empty: Items<AtomLit>, rest: &mut Fields<'_>) -> Result<Literals, Memory>
+    requires { empty ≡ [] }
     ensures { IfOk result (HasLiterals (map (λ f. f.text) rest.old) (map (λ f. f.text) rest.new)) }
 {
-    let mut found = Some(Items::new(alloc));
+    let mut found = Some(empty);
     while let Some(field) = rest.next() {
         if field.text == b"0".as_slice() {
             return Ok(closed(found));
@@ -110,43 +198,70 @@ fn read_literals(alloc: Global, rest: &mut Fields<'_>) -> Result<Literals, Memor
     Ok(Literals::Unclosed)
 }
 
-fn derived(alloc: Global, line: usize, mut rest: Fields<'_>) -> Result<Step, CertFault>
+fn derived(
+    alloc: Global,
+    line: usize,
+    mut rest: Fields<'_>,
+    room: &mut Room,
+) -> Result<Step, CertFault>
     ensures step { IfOk result (IsStepOf DerivedWord (map (λ f. f.text) rest.entry)) }
     ensures fault { IfErr result (FaultsAt line (StepStands DerivedWord (map (λ f. f.text) rest.entry))) }
 {
-    match read_literals(alloc, &mut rest)? {
+    let literals = cleared(alloc, &mut room.literals);
+    let numbers = cleared(alloc, &mut room.numbers);
+    match read_literals(literals, &mut rest)? {
         Literals::Unclosed => Err(fault(line, CertCause::BadLine)),
-        Literals::Unreadable => match ordinals(alloc, rest)? {
+        Literals::Unreadable => match ordinals(numbers, rest)? {
             Some(_hints) => Err(fault(line, CertCause::BadAtom)),
             None => Err(fault(line, CertCause::BadNumber)),
         },
-        Literals::Read(literals) => match ordinals(alloc, rest)? {
-            Some(hints) => Ok(Step::Derived(literals, hints)),
+        Literals::Read(literals) => match ordinals(numbers, rest)? {
+            Some(hints) => {
+                let step = Step::Derived(copied(alloc, &literals)?, copied(alloc, &hints)?);
+                room.literals = literals;
+                room.numbers = hints;
+                Ok(step)
+            }
             None => Err(fault(line, CertCause::BadNumber)),
         },
     }
 }
 
 // The axiom of this name whose arguments the fields spell.
-fn axiom_named(alloc: Global, name: &[u8], rest: Fields<'_>) -> Result<Option<AfAxiom>, Memory>
+fn axiom_named(
+    alloc: Global,
+    name: &[u8],
+    rest: Fields<'_>,
+    room: &mut Room,
+) -> Result<Option<AfAxiom>, Memory>
     ensures axiom { IfOk result (λ found. IfSome found (IsAxiomFields (name.now ∷ map (λ f. f.text) rest.entry))) }
     ensures none { IfOk result (λ found. IfNone found
         ((which : AnAxiom) → ¬ IsAxiomFields (name.now ∷ map (λ f. f.text) rest.entry) which)) }
 {
-    match ordinals(alloc, rest)? {
-        Some(arguments) => Ok(axiom_of(name, arguments.as_slice())),
+    let numbers = cleared(alloc, &mut room.numbers);
+    match ordinals(numbers, rest)? {
+        Some(arguments) => {
+            let found = axiom_of(name, arguments.as_slice());
+            room.numbers = arguments;
+            Ok(found)
+        }
         None => Ok(None),
     }
 }
 
-fn axiom(alloc: Global, line: usize, mut rest: Fields<'_>) -> Result<Step, CertFault>
+fn axiom(
+    alloc: Global,
+    line: usize,
+    mut rest: Fields<'_>,
+    room: &mut Room,
+) -> Result<Step, CertFault>
     ensures step { IfOk result (IsStepOf AxiomWord (map (λ f. f.text) rest.entry)) }
     ensures fault { IfErr result (FaultsAt line (StepStands AxiomWord (map (λ f. f.text) rest.entry))) }
 {
     let Some(name) = rest.next() else {
         return Err(fault(line, CertCause::BadLine));
     };
-    match axiom_named(alloc, name.text, rest)? {
+    match axiom_named(alloc, name.text, rest, room)? {
         Some(axiom) => Ok(Step::Axiom(AxiomName::Af(axiom))),
         None => Err(fault(line, CertCause::BadAxiom)),
     }
@@ -174,14 +289,15 @@ pub(crate) fn step_of(
     line: usize,
     word: Word,
     rest: Fields<'_>,
+    room: &mut Room,
 ) -> Result<Step, CertFault>
     ensures step { IfOk result (IsStepOf word (map (λ f. f.text) rest.entry)) }
     ensures fault { IfErr result (FaultsAt line (StepStands word (map (λ f. f.text) rest.entry))) }
 {
     match word {
-        Word::Axiom => axiom(alloc, line, rest),
+        Word::Axiom => axiom(alloc, line, rest, room),
         Word::Side => side(line, rest),
-        Word::Derived => derived(alloc, line, rest),
+        Word::Derived => derived(alloc, line, rest, room),
         Word::Header | Word::Set | Word::Refutation | Word::End | Word::Other => {
             Err(fault(line, CertCause::BadLine))
         }

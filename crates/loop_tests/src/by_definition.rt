@@ -1,31 +1,17 @@
-//! Searches and loops beside the slow program that decides notions from their words, on frameworks with three
-//! arguments.
+//! Searches and loops beside the slow program that decides notions from their words.
 
-use crate::worked::{RING, RIVALS, Worked, is, oracle_for, set_of};
+use crate::defined::{FRAMEWORKS, meets, some_meets};
+use crate::worked::{Worked, is, oracle_for, set_of};
 use cegar_preferred::maximal_from;
 use ideal_set::ideal;
 use meaning_atoms::{Atom, AtomLit};
 use oracle_face::{Found, Oracle};
 use plain_lits::Budget;
-use semantics::{AfLists, Notion, decide};
+use semantics::Notion;
 use semi_stable::widest_from;
 use small_oracle::SmallOracle;
 use std::alloc::Global;
 use std::test::Fail;
-
-/// The two rivals, the ring, a chain, and one that attacks itself before a chain.
-const FRAMEWORKS: [Worked; 4] = [
-    RIVALS,
-    RING,
-    Worked {
-        arguments: &[1, 2, 3],
-        attacks: &[(1, 2), (2, 3)],
-    },
-    Worked {
-        arguments: &[1, 2, 3],
-        attacks: &[(1, 1), (1, 2), (2, 3)],
-    },
-];
 
 /// The modes, each with its notion.
 const MODES: [(Atom, Notion); 4] = [
@@ -34,44 +20,6 @@ const MODES: [(Atom, Notion); 4] = [
     (Atom::Co, Notion::Complete),
     (Atom::St, Notion::Stable),
 ];
-
-/// Whether a set meets a notion.
-fn meets(alloc: Global, framework: &Worked<'_>, set: &[u32], notion: Notion) -> Option<bool> {
-    let lists = AfLists {
-        live: framework.arguments,
-        attacks: framework.attacks,
-    };
-    decide(alloc, &lists, set, notion).ok()
-}
-
-/// The members of 1 to 3 whose bit is set, 1 being the lowest.
-fn subset(alloc: Global, bits: u32) -> Option<Vec<u32>> {
-    let mut set = Vec::new(alloc);
-    for argument in 1..4u32 {
-        if bits >> (argument - 1) & 1 == 1 {
-            set.push(argument).ok()?;
-        }
-    }
-    Some(set)
-}
-
-/// Whether some set meets the notion, and has the argument or not.
-fn some_meets(
-    alloc: Global,
-    framework: &Worked<'_>,
-    notion: Notion,
-    argument: u32,
-    wanted: bool,
-) -> Option<bool> {
-    for bits in 0..8 {
-        let set = subset(alloc, bits)?;
-        let met = meets(alloc, framework, set.as_slice(), notion)?;
-        if met && set.contains(&argument) == wanted {
-            return Some(true);
-        }
-    }
-    Some(false)
-}
 
 /// What a search for a set of the mode gives, with an argument or without it.
 fn find(

@@ -6,10 +6,18 @@
 #[cfg(test)]
 mod by_definition;
 #[cfg(test)]
+mod defined;
+#[cfg(test)]
 mod enumeration;
+#[cfg(test)]
+mod extensions;
 #[cfg(test)]
 mod growing;
 #[cfg(test)]
+mod listing;
+#[cfg(test)]
 mod searching;
+#[cfg(test)]
+mod witnesses;
 #[cfg(test)]
 mod worked;

@@ -9,14 +9,6 @@ use small_oracle::{SmallOracle, is_side};
 use std::alloc::Global;
 use std::test::Fail;
 
-/// Goals, and the only set that makes them true; none where no set does.
-#[derive(Drop)]
-struct Row<'a> {
-    framework: Worked<'a>,
-    goals: &'a [AtomLit],
-    set: Option<&'a [u32]>,
-}
-
 /// Asks an oracle for goals that it may be asked.
 fn find(
     alloc: Global,
@@ -31,86 +23,54 @@ fn find(
     Some(oracle.find(alloc, goals, &mut budget))
 }
 
-/// Whether an oracle for the row's framework answers it.
-fn holds(alloc: Global, row: &Row) -> Option<bool> {
-    let mut oracle = oracle_for(alloc, &row.framework, 1_000)?;
-    answers(alloc, &mut oracle, row)
+/// Whether an oracle for a framework finds the set, which alone makes the goals true, or refutes the goals where there is
+/// no set.
+fn finds(
+    alloc: Global,
+    framework: &Worked<'_>,
+    goals: &[AtomLit],
+    wanted: Option<&[u32]>,
+) -> Option<bool> {
+    let mut oracle = oracle_for(alloc, framework, 1_000)?;
+    answers(alloc, &mut oracle, goals, wanted)
 }
 
-/// Whether the goals are made true by the row's set, or refuted.
-fn answers(alloc: Global, oracle: &mut SmallOracle, row: &Row) -> Option<bool> {
-    match find(alloc, oracle, row.goals, 100)?.ok()? {
-        Found::Set(set) => Some(row.set == Some(set.as_slice())),
-        Found::Refuted(step) => Some(row.set.is_none() && step.number() as usize == oracle.steps()),
+/// Whether an oracle does.
+fn answers(
+    alloc: Global,
+    oracle: &mut SmallOracle,
+    goals: &[AtomLit],
+    wanted: Option<&[u32]>,
+) -> Option<bool> {
+    match find(alloc, oracle, goals, 100)?.ok()? {
+        Found::Set(set) => Some(wanted == Some(set.as_slice())),
+        Found::Refuted(step) => Some(wanted.is_none() && step.number() as usize == oracle.steps()),
     }
 }
 
 #[test]
 fn goals(rt: HostRuntime) -> Result<(), Fail> {
-    let rows = [
-        Row {
-            framework: FLOATING,
-            goals: &[is(Ad), is(Member(3))],
-            set: None,
-        },
-        Row {
-            framework: FLOATING,
-            goals: &[is(Ad), is(Member(4)), not(Member(2))],
-            set: Some(&[1, 4]),
-        },
-        Row {
-            framework: RIVALS,
-            goals: &[is(Ad), is(Member(3))],
-            set: Some(&[1, 3]),
-        },
-        Row {
-            framework: RIVALS,
-            goals: &[is(Ad), is(Member(3)), not(Member(1))],
-            set: None,
-        },
-        Row {
-            framework: RIVALS,
-            goals: &[is(Co), is(Member(1)), not(Member(3))],
-            set: None,
-        },
-        Row {
-            framework: RIVALS,
-            goals: &[is(Cf), is(Member(3)), not(Member(1))],
-            set: Some(&[3]),
-        },
-        Row {
-            framework: RIVALS,
-            goals: &[is(St), not(Member(2))],
-            set: Some(&[1, 3]),
-        },
-        Row {
-            framework: RIVALS,
-            goals: &[is(Ad), is(Tail(1, 1))],
-            set: Some(&[2]),
-        },
-        Row {
-            framework: RIVALS,
-            goals: &[is(Ad), is(Range(3)), not(Member(3))],
-            set: Some(&[2]),
-        },
-        Row {
-            framework: RING,
-            goals: &[is(St)],
-            set: None,
-        },
-        Row {
-            framework: RING,
-            goals: &[is(Co)],
-            set: Some(&[]),
-        },
-        Row {
-            framework: RING,
-            goals: &[is(Ad), is(Range(2))],
-            set: None,
-        },
+    let rows: [(Worked, &[AtomLit], Option<&[u32]>); 12] = [
+        (FLOATING, &[is(Ad), is(Member(3))], None),
+        (
+            FLOATING,
+            &[is(Ad), is(Member(4)), not(Member(2))],
+            Some(&[1, 4]),
+        ),
+        (RIVALS, &[is(Ad), is(Member(3))], Some(&[1, 3])),
+        (RIVALS, &[is(Ad), is(Member(3)), not(Member(1))], None),
+        (RIVALS, &[is(Co), is(Member(1)), not(Member(3))], None),
+        (RIVALS, &[is(Cf), is(Member(3)), not(Member(1))], Some(&[3])),
+        (RIVALS, &[is(St), not(Member(2))], Some(&[1, 3])),
+        (RIVALS, &[is(Ad), is(Tail(1, 1))], Some(&[2])),
+        (RIVALS, &[is(Ad), is(Range(3)), not(Member(3))], Some(&[2])),
+        (RING, &[is(St)], None),
+        (RING, &[is(Co)], Some(&[])),
+        (RING, &[is(Ad), is(Range(2))], None),
     ];
-    for (number, row) in rows.iter().enumerate() {
-        assert!(rt; holds(rt.alloc(), row) == Some(true), "row {number}");
+    for (number, (framework, goals, wanted)) in rows.iter().enumerate() {
+        let found = finds(rt.alloc(), framework, goals, *wanted);
+        assert!(rt; found == Some(true), "row {number}");
     }
     Ok(())
 }

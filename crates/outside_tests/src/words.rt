@@ -21,76 +21,92 @@ fn query<'a>(task: &'a str, file: &'a str) -> Command<'a> {
     })
 }
 
+/// Whether the line's words are read as the command.
+fn reads_as(alloc: Global, line: &str, wanted: Command) -> Option<bool> {
+    let words = words_in(alloc, line).ok()?;
+    let command = read_words(alloc, words.as_slice()).ok()?;
+    Some(command == wanted)
+}
+
+/// Words with a task and a file alone, in either order, apart, joined or with `=`.
+#[test]
+fn tasks_and_files(rt: HostRuntime) -> Result<(), Fail> {
+    let rows = [
+        ("-p SE-GR -f x", "SE-GR", "x"),
+        ("-f x -p SE-GR", "SE-GR", "x"),
+        ("-pSE-GR -fx", "SE-GR", "x"),
+        ("-p=SE-GR -f=x", "SE-GR", "x"),
+        ("-f a.af -pSE-GR", "SE-GR", "a.af"),
+        ("-p SE-ST -f x", "SE-ST", "x"),
+        ("-p se-gr -f x", "se-gr", "x"),
+        ("-p SE-GR -f check", "SE-GR", "check"),
+    ];
+    for (line, task, file) in rows {
+        assert!(rt; reads_as(rt.alloc(), line, query(task, file)) == Some(true), "{line}");
+    }
+    Ok(())
+}
+
+/// One command of each other kind.
 #[test]
 fn words_of_each_kind(rt: HostRuntime) -> Result<(), Fail> {
-    let alloc = rt.alloc();
+    let solve = Command::Solve(SolveWords {
+        task: "DC-CO",
+        file: "a",
+        number: Some("3"),
+        budget: Some("10"),
+        certificate: Some("c"),
+    });
+    let check = |task, number, file| {
+        Command::Check(CheckWords {
+            task,
+            number,
+            file,
+            answer: "b",
+            certificate: "c",
+        })
+    };
     let rows = [
         ("", Command::Version),
-        ("-p SE-GR -f x", query("SE-GR", "x")),
-        ("-f x -p SE-GR", query("SE-GR", "x")),
-        ("-pSE-GR -fx", query("SE-GR", "x")),
-        ("-p=SE-GR -f=x", query("SE-GR", "x")),
-        ("-f a.af -pSE-GR", query("SE-GR", "a.af")),
-        ("-p SE-GR", Command::Unknown),
-        ("-f x", Command::Unknown),
-        ("-p SE-GR -f", Command::Unknown),
-        ("-p SE-ST -f x", query("SE-ST", "x")),
-        ("-p se-gr -f x", query("se-gr", "x")),
-        ("-p SE-GR -f x y", Command::Unknown),
-        ("-p SE-GR -p SE-GR -f x", Command::Unknown),
-        ("-p SE-GR -f x -f y", Command::Unknown),
-        ("-p SE-GR -f -x", Command::Unknown),
-        ("-p SE-GR -f x --all", Command::Unknown),
-        ("SE-GR x", Command::Unknown),
         ("--problems", Command::Problems),
-        ("--problems -p SE-GR", Command::Unknown),
-        (
-            "-c c -b 10 -a 3 -f a -p DC-CO",
-            Command::Solve(SolveWords {
-                task: "DC-CO",
-                file: "a",
-                number: Some("3"),
-                budget: Some("10"),
-                certificate: Some("c"),
-            }),
-        ),
-        ("-p DC-CO -f a -a 3 -a 4", Command::Unknown),
-        ("-p DC-CO -f a -r b", Command::Unknown),
-        ("--help", Command::Unknown),
-        ("-h", Command::Unknown),
-        ("-p SE-GR -f x --help", Command::Unknown),
-        ("--version", Command::Unknown),
-        (
-            "check -r b -c c -f a -p DS-PR -a 4",
-            Command::Check(CheckWords {
-                task: "DS-PR",
-                number: Some("4"),
-                file: "a",
-                answer: "b",
-                certificate: "c",
-            }),
-        ),
-        (
-            "check -p SE-ST -f check -r b -c c",
-            Command::Check(CheckWords {
-                task: "SE-ST",
-                number: None,
-                file: "check",
-                answer: "b",
-                certificate: "c",
-            }),
-        ),
-        ("check -p SE-ST -f a -r b", Command::Unknown),
-        ("check -p SE-ST -f a -r b -c c -b 1", Command::Unknown),
-        ("check -p SE-ST -f a -r b -c c x", Command::Unknown),
-        ("check --help", Command::Unknown),
-        ("check", Command::Unknown),
-        ("-p SE-GR -f check", query("SE-GR", "check")),
+        ("-c c -b 10 -a 3 -f a -p DC-CO", solve),
+        ("check -r b -c c -f a -p DS-PR -a 4", check("DS-PR", Some("4"), "a")),
+        ("check -p SE-ST -f check -r b -c c", check("SE-ST", None, "check")),
     ];
     for (line, wanted) in rows {
-        let words = words_in(alloc, line)?;
-        let command = read_words(alloc, words.as_slice())?;
-        assert_eq!(rt; command, wanted, "at {line}");
+        assert!(rt; reads_as(rt.alloc(), line, wanted) == Some(true), "{line}");
+    }
+    Ok(())
+}
+
+/// Words that ask for no command: one is missing, repeated or unknown, or no word is wanted there.
+#[test]
+fn words_of_no_command(rt: HostRuntime) -> Result<(), Fail> {
+    let lines = [
+        "-p SE-GR",
+        "-f x",
+        "-p SE-GR -f",
+        "-p SE-GR -f x y",
+        "-p SE-GR -p SE-GR -f x",
+        "-p SE-GR -f x -f y",
+        "-p SE-GR -f -x",
+        "-p SE-GR -f x --all",
+        "SE-GR x",
+        "--problems -p SE-GR",
+        "-p DC-CO -f a -a 3 -a 4",
+        "-p DC-CO -f a -r b",
+        "--help",
+        "-h",
+        "-p SE-GR -f x --help",
+        "--version",
+        "check -p SE-ST -f a -r b",
+        "check -p SE-ST -f a -r b -c c -b 1",
+        "check -p SE-ST -f a -r b -c c x",
+        "check --help",
+        "check",
+    ];
+    for line in lines {
+        assert!(rt; reads_as(rt.alloc(), line, Command::Unknown) == Some(true), "{line}");
     }
     Ok(())
 }

@@ -6,11 +6,11 @@ use Rattle.certificate_text.proofs.step.axiom_named.Goals as goal
 
 pub returns-in-Some-clause-axiom : goal.returns-in-Some-clause-axiom
 returns-in-Some-clause-axiom c =
-    axiom_found _ _ _ _ _ _ c.in_ok-arguments.ensures.numbers c.in-Some.is c.as_slice.ensures c.axiom_of.ensures.named
+    axiom_found _ _ _ _ _ _ c.in_ok-arguments.ensures.numbers c.in-Some.is c.as_slice.ensures c.axiom_of-found.ensures.named
 
 pub returns-in-Some-clause-none : goal.returns-in-Some-clause-none
 returns-in-Some-clause-none c =
-    axiom_unfound _ _ _ _ _ _ c.in_ok-arguments.ensures.numbers c.in-Some.is c.as_slice.ensures c.axiom_of.ensures.read
+    axiom_unfound _ _ _ _ _ _ c.in_ok-arguments.ensures.numbers c.in-Some.is c.as_slice.ensures c.axiom_of-found.ensures.read
 
 pub returns-in-None-clause-none : goal.returns-in-None-clause-none
 returns-in-None-clause-none c = λ which is.

@@ -1,4 +1,4 @@
-use Rattle.std.proofs.Common.{map, ap, sym, subst, refl}
+use Rattle.std.proofs.Common.{sym, subst, refl}
 use Rattle.certificate_text.specs.Lines.{FaultsAt}
 use Rattle.certificate_text.proofs.StepLemmas.{unreadable_stands, unreadable_hints, read_hints}
 use Rattle.certificate_text.proofs.step.derived.Goals as goal

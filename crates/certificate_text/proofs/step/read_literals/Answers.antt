@@ -5,7 +5,7 @@ use Rattle.certificate_text.proofs.LiteralLemmas.{literals_start, literals_next,
 use Rattle.certificate_text.proofs.step.read_literals.Goals as goal
 
 pub loop-field-init : goal.loop-field-init
-loop-field-init c = rw c.new.ensures (literals_start _)
+loop-field-init c = rw c.requires (literals_start _)
 
 pub loop-field-preserved : goal.loop-field-preserved
 loop-field-preserved c =

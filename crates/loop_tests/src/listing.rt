@@ -1,0 +1,138 @@
+//! The loops that list sets, by the kind of the sets.
+
+use enumerate_block::{Extensions, all};
+use enumerate_modes::{Listed, all_with_mode};
+use enumerate_preferred::all_preferred;
+use enumerate_ranges::{Ranged, all_semi_stable};
+use iccma_tasks::{Problem, Semantics, Task};
+use meaning_atoms::Atom;
+use plain_lits::{Budget, Halt};
+use set_lists::NumSet;
+use small_oracle::SmallOracle;
+use std::alloc::Global;
+
+/// What is listed.
+#[derive(Clone, Copy, Debug, PartialEq)]
+pub(crate) enum Kind {
+    Complete,
+    Stable,
+    Preferred,
+    SemiStable,
+}
+
+/// What came of listing.
+#[derive(Drop)]
+pub(crate) enum Lists {
+    /// The sets, in order.
+    Whole(Vec<NumSet>),
+    /// There are more than the limit.
+    TooMany,
+}
+
+/// The sets without the step.
+fn sets_listed(listed: Listed) -> Lists {
+    match listed {
+        Listed::Whole(sets, _) => Lists::Whole(sets),
+        Listed::TooMany => Lists::TooMany,
+    }
+}
+
+/// The sets without the steps.
+fn sets_ranged(ranged: Ranged) -> Lists {
+    match ranged {
+        Ranged::Whole(sets, _) => Lists::Whole(sets),
+        Ranged::TooMany => Lists::TooMany,
+    }
+}
+
+/// The sets without the steps.
+fn sets_extended(extensions: Extensions) -> Lists {
+    match extensions {
+        Extensions::All(sets, _) => Lists::Whole(sets.into_vec()),
+        Extensions::TooMany => Lists::TooMany,
+    }
+}
+
+/// Lists the sets by the loop of the kind.
+pub(crate) fn list(
+    alloc: Global,
+    oracle: &mut SmallOracle,
+    kind: Kind,
+    limit: usize,
+) -> Option<Lists> {
+    let mut budget = Budget::new(1_000);
+    let listed = match kind {
+        Kind::Complete => all_with_mode(alloc, oracle, &mut budget, Atom::Co, limit),
+        Kind::Stable => all_with_mode(alloc, oracle, &mut budget, Atom::St, limit),
+        Kind::Preferred => all_preferred(alloc, oracle, &mut budget, limit),
+        Kind::SemiStable => {
+            let ranged = all_semi_stable(alloc, oracle, &mut budget, limit).ok()?;
+            return Some(sets_ranged(ranged));
+        }
+    };
+    Some(sets_listed(listed.ok()?))
+}
+
+/// Lists the extensions of a semantics by the task that asks for all.
+fn extensions(
+    alloc: Global,
+    oracle: &mut SmallOracle,
+    kind: Kind,
+    limit: usize,
+) -> Result<Extensions, Halt> {
+    let mut budget = Budget::new(1_000);
+    let problem = Problem::AllExtensions;
+    match kind {
+        Kind::Complete => {
+            let semantics = Semantics::Complete;
+            all(
+                alloc,
+                oracle,
+                &mut budget,
+                Task { problem, semantics },
+                limit,
+            )
+        }
+        Kind::Stable => {
+            let semantics = Semantics::Stable;
+            all(
+                alloc,
+                oracle,
+                &mut budget,
+                Task { problem, semantics },
+                limit,
+            )
+        }
+        Kind::Preferred => {
+            let semantics = Semantics::Preferred;
+            all(
+                alloc,
+                oracle,
+                &mut budget,
+                Task { problem, semantics },
+                limit,
+            )
+        }
+        Kind::SemiStable => {
+            let semantics = Semantics::SemiStable;
+            all(
+                alloc,
+                oracle,
+                &mut budget,
+                Task { problem, semantics },
+                limit,
+            )
+        }
+    }
+}
+
+/// Lists the sets by the task of the kind.
+pub(crate) fn list_by_task(
+    alloc: Global,
+    oracle: &mut SmallOracle,
+    kind: Kind,
+    limit: usize,
+) -> Option<Lists> {
+    let found = extensions(alloc, oracle, kind, limit).ok()?;
+    Some(sets_extended(found))
+}
