@@ -1,5 +1,5 @@
 -- A framework's rules in flat lists, and the pairs by which they are found.
-use Rattle.std.specs.Prelude.{◌≡◌, ◌↔◌, ℕ, ◌+◌, ◌<◌, ◌≤◌, ◌==◌, List, Contains, filter, length, map, slice_index, slice_index_or}
+use Rattle.std.specs.Prelude.{◌≡◌, ◌↔◌, ℕ, ◌+◌, ◌<◌, ◌≤◌, ◌==◌, List, [], Contains, filter, length, map, slice_index, slice_index_or}
 use Rattle.std.specs.List.{range_with_len}
 use Rattle.std.specs.List.Sorted.{IsStrictlyIncreasing}
 use Rattle.aba_semantics.specs.declared.numbers.TheConstants.{LAST_ATOM, LAST_RULE}
@@ -82,17 +82,14 @@ pub record AreContraries (atoms : ℕ) (assumptions : List ℕ) (contraries : Li
   pub some : (a : ℕ) → Contains assumptions a → (c : ℕ) × Contains contraries (a, c)
   pub one : (a c d : ℕ) → Contains contraries (a, c) → Contains contraries (a, d) → c ≡ d
 
--- lists of rules over so many atoms, under rising numbers below the next one, of which none is headed by an assumption
-pub record AreRuleLists (atoms : ℕ) (assumptions numbers heads : List ℕ) (bodies : List (ℕ × ℕ)) (next : ℕ)
-    : Type 0 where
+-- lists of rules over so many atoms: a number and a head for each index, and body atoms under indices
+pub record AreRuleLists (atoms : ℕ) (numbers heads : List ℕ) (bodies : List (ℕ × ℕ)) : Type 0 where
   pub long : length numbers ≡ length heads
-  pub numbers_rise : IsStrictlyIncreasing numbers
-  pub numbers_are : (n : ℕ) → Contains numbers n → (1 ≤ n) × (n < next)
   pub heads_are : (h : ℕ) → Contains heads h → IsAtom atoms h
-  pub flat : (h : ℕ) → Contains heads h → Contains assumptions h → ⊥
   pub bodies_are : (k y : ℕ) → Contains bodies (k, y) → (k < length heads) × IsAtom atoms y
 
--- the parts of a flat framework within the bounds of its numbers
+-- the parts of a flat framework within the bounds of its numbers: numbers of rules rise and lie below the next one, and
+-- no assumption heads a rule
 pub record AreParts (atoms : ℕ) (assumptions : List ℕ) (contraries : List (ℕ × ℕ)) (rules : RuleLists) (next : ℕ)
     : Type 0 where
   pub atoms_small : atoms ≤ LAST_ATOM
@@ -100,7 +97,10 @@ pub record AreParts (atoms : ℕ) (assumptions : List ℕ) (contraries : List (�
   pub next_small : next ≤ LAST_RULE + 1
   pub assumptions_are : (a : ℕ) → Contains assumptions a → IsAtom atoms a
   pub contraries_are : AreContraries atoms assumptions contraries
-  pub rules_are : AreRuleLists atoms assumptions rules.numbers.items rules.heads.items rules.bodies.items next
+  pub rules_are : AreRuleLists atoms rules.numbers.items rules.heads.items rules.bodies.items
+  pub numbers_rise : IsStrictlyIncreasing rules.numbers.items
+  pub numbers_are : (n : ℕ) → Contains rules.numbers.items n → (1 ≤ n) × (n < next)
+  pub flat : (h : ℕ) → Contains rules.heads.items h → Contains assumptions h → ⊥
 
 -- rules with these numbers and heads, in this order, and exactly the body atoms that are paired with their indices
 pub record AreRulesOf (numbers heads : List ℕ) (bodies : List (ℕ × ℕ)) (rules : List Rule) : Type 0 where

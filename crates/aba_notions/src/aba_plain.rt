@@ -62,7 +62,7 @@ impl AbaPlain {
         let bound = atoms as usize + 1;
         let mut spare = Vec::new(alloc);
         let contraries = AttackIndex::new(alloc, contraries, &mut spare, bound)?;
-        let rules = RuleTable::new(alloc, rules, &mut spare, bound)?;
+        let rules = RuleTable::new(alloc, atoms, rules, &mut spare)?;
         Ok(AbaPlain {
             atoms,
             assumptions,
