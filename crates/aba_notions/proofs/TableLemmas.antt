@@ -11,13 +11,13 @@ use Rattle.std.proofs.lemmas.List.Kept.{AllPairs-from_increasing}
 use Rattle.plain_lists.proofs.Filters.{Contains-filter}
 use Rattle.plain_lists.proofs.Membership.{Contains-pushed}
 use Rattle.attack_index.specs.PairOrder.{PairsRise, reversed}
-use Rattle.attack_index.specs.Offsets.{IndexedPairs}
+use Rattle.attack_index.specs.Offsets.{AreBelow, IndexedPairs}
 use Rattle.attack_index.proofs.PairOrderLemmas.{pair_same}
 use Rattle.aba_semantics.specs.Rules.{Rule}
-use Rattle.aba_notions.specs.Storage.{no_rule, rule_at, rule_of, rules_of, AreTabled, IsTable, IsAtom, AreRuleLists, AreRulesOf}
+use Rattle.aba_notions.specs.Storage.{no_rule, rule_at, rule_of, rules_of, AreTabled, IsTable, AreRuleLists, AreRulesOf}
 
 -- a member's image is a member of the images
-image_there : {X Y : Type 0} (g : X → Y) (xs : List X) (x : X) → Contains xs x → Contains (map g xs) (g x)
+pub image_there : {X Y : Type 0} (g : X → Y) (xs : List X) (x : X) → Contains xs x → Contains (map g xs) (g x)
 image_there g xs x c = (
   c.0,
   omega (arith, c.1, length-map xs g),
@@ -25,7 +25,7 @@ image_there g xs x c = (
 )
 
 -- a member of the images is a member's image
-image_from : {X Y : Type 0} (g : X → Y) (xs : List X) (y : Y) → Contains (map g xs) y
+pub image_from : {X Y : Type 0} (g : X → Y) (xs : List X) (y : Y) → Contains (map g xs) y
     → (x : X) × Contains xs x × (g x ≡ y)
 image_from g [] y c = let lt = c.1 in absurd (omega arith)
 image_from g (x ∷ xs) y c =
@@ -237,3 +237,27 @@ headed_cut atoms numbers heads bodies uses headed pairs atom t is h k =
             eq-eqb h atom w.0,
           ),
     )
+
+-- all heads with their indices
+pub pairs_all : (heads : List ℕ) (n : ℕ) (pairs : List (ℕ × ℕ)) → length heads ≤ n → n ≤ length heads → ArePairsOfHeads heads n pairs
+    → (h k : ℕ) → Contains pairs (h, k) ↔ ((k < length heads) × (get_or heads k 0 ≡ h))
+pairs_all heads n pairs past few p h k = (
+  λ c. let w = (p.are h k).0 c in (omega (arith, w.0, few), w.1),
+  λ w. (p.are h k).1 (omega (arith, w.0, past), w.1),
+)
+
+-- the pairs of heads, and those of bodies, lie below a bound above all atoms and indices
+pub heads_below : (atoms bound : ℕ) (numbers heads : List ℕ) (given pairs : List (ℕ × ℕ))
+    → AreRuleLists atoms numbers heads given → length heads ≤ bound → atoms < bound
+    → ((h k : ℕ) → Contains pairs (h, k) ↔ ((k < length heads) × (get_or heads k 0 ≡ h)))
+    → AreBelow bound pairs
+heads_below atoms bound numbers heads given pairs lists long high are p c =
+    let w = (are p.0 p.1).0 c in (
+      omega (arith, w.1, high, (lists.heads_are _ (Contains-get_or heads p.1 0 w.0)).high),
+      omega (arith, w.0, long),
+    )
+
+pub bodies_below : (atoms bound : ℕ) (numbers heads : List ℕ) (given : List (ℕ × ℕ))
+    → AreRuleLists atoms numbers heads given → length heads ≤ bound → atoms < bound → AreBelow bound given
+bodies_below atoms bound numbers heads given lists long high p c =
+    let w = lists.bodies_are p.0 p.1 c in (omega (arith, w.0, long), omega (arith, w.1.high, high))

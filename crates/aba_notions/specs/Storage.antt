@@ -4,7 +4,7 @@ use Rattle.std.specs.List.{range_with_len}
 use Rattle.std.specs.List.Sorted.{IsStrictlyIncreasing}
 use Rattle.aba_semantics.specs.declared.numbers.TheConstants.{LAST_ATOM, LAST_RULE}
 use Rattle.aba_semantics.specs.Rules.{Rule}
-use Rattle.aba_semantics.specs.AbaFrameworks.{Aba, IsNumberedAba}
+use Rattle.aba_semantics.specs.AbaFrameworks.{Aba, IsAtom, IsNumberedAba}
 use Rattle.attack_index.specs.PairOrder.{PairsRise, reversed}
 use Rattle.attack_index.specs.Offsets.{IndexedPairs}
 use Rattle.aba_notions.specs.declared.rule_table.RuleLists.{RuleLists}
@@ -70,11 +70,6 @@ IsTableOf atoms t = IsTable atoms t.numbers.items t.heads.items t.bodies t.uses 
 pub record IsStored (f : Aba) (numbers heads : List ℕ) (bodies uses headed : IndexedPairs) : Type 0 where
   pub form : IsNumberedAba f
   pub table : IsTable f.atoms numbers heads bodies uses headed
-
--- x is one of so many atoms
-pub record IsAtom (atoms x : ℕ) : Type 0 where
-  pub low : 1 ≤ x
-  pub high : x ≤ atoms
 
 -- pairs (a, c) that give each assumption one contrary, which is an atom or 0
 pub record AreContraries (atoms : ℕ) (assumptions : List ℕ) (contraries : List (ℕ × ℕ)) : Type 0 where

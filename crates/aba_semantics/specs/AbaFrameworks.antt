@@ -33,25 +33,25 @@ pub record AttacksAssumption (f : Aba) (s : List ℕ) (a : ℕ) : Type 0 where
 abbrev pub collective_of : Aba → Collective
 collective_of f = record { live = f.assumptions; attacks = AttacksAssumption f }
 
--- x is one of the framework's atoms
-pub record IsAtomOf (f : Aba) (x : ℕ) : Type 0 where
+-- x is one of so many atoms
+pub record IsAtom (atoms x : ℕ) : Type 0 where
   pub low : 1 ≤ x
-  pub high : x ≤ f.atoms
+  pub high : x ≤ atoms
 
 -- the form of a rule: a number that was given, atoms, of which those of the body rise, and no assumption as head
 pub record IsRuleOf (f : Aba) (r : Rule) : Type 0 where
   pub low : 1 ≤ r.number
   pub given : r.number < f.next
-  pub head : IsAtomOf f r.head
+  pub head : IsAtom f.atoms r.head
   pub flat : Contains f.assumptions r.head → ⊥
   pub body_rises : IsStrictlyIncreasing r.body
-  pub body : (y : ℕ) → Contains r.body y → IsAtomOf f y
+  pub body : (y : ℕ) → Contains r.body y → IsAtom f.atoms y
 
 -- the form of a flat framework's lists: assumptions and the numbers of rules rise, each assumption has one contrary,
 -- in the order of the assumptions
 pub record IsAba (f : Aba) : Type 0 where
   pub assumptions_rise : IsStrictlyIncreasing f.assumptions
-  pub assumptions_are : (a : ℕ) → Contains f.assumptions a → IsAtomOf f a
+  pub assumptions_are : (a : ℕ) → Contains f.assumptions a → IsAtom f.atoms a
   pub one_contrary : map (λ p. p.0) f.contraries ≡ f.assumptions
   pub contraries_are : (a c : ℕ) → Contains f.contraries (a, c) → c ≤ f.atoms
   pub numbers_rise : IsStrictlyIncreasing (map (λ r. r.number) f.rules)
