@@ -1,2 +1,3 @@
+pub mod ClosingLemmas
 pub mod FormLemmas
 pub mod TableLemmas

@@ -109,12 +109,12 @@ made_rules numbers heads given bodies long same = record {
 }
 
 -- a table of rules from lists and the pairs that were made of them
-pub tabled : (atoms : ℕ) (numbers heads : List ℕ) (given : List (ℕ × ℕ)) (bodies uses headed : IndexedPairs)
+tabled : (atoms : ℕ) (numbers heads : List ℕ) (given : List (ℕ × ℕ)) (bodies uses : IndexedPairs)
     → AreRuleLists atoms numbers heads given
     → ((p : ℕ × ℕ) → Contains bodies.pairs p ↔ Contains given p)
     → ((p : ℕ × ℕ) → Contains uses.pairs (reversed p) ↔ Contains bodies.pairs p)
-    → AreTabled atoms (rules_of numbers heads bodies.pairs) heads uses.pairs
-tabled atoms numbers heads given bodies uses headed lists same turn = record {
+    → AreTabled (rules_of numbers heads bodies.pairs) heads uses.pairs
+tabled atoms numbers heads given bodies uses lists same turn = record {
   long = length_rules numbers heads bodies.pairs;
   heads_are = λ k lt. ap (λ (r : Rule). r.head) (rule_there numbers heads bodies.pairs k lt);
   bodies_are = λ k y lt.
@@ -123,8 +123,7 @@ tabled atoms numbers heads given bodies uses headed lists same turn = record {
         λ c. (turn (k, y)).1 (there.0 c),
         λ c. there.1 ((turn (k, y)).0 c),
       );
-  heads_within = λ k lt. (lists.heads_are _ (Contains-get_or heads k 0 lt)).high;
-  uses_within = λ y k c. let w = lists.bodies_are k y ((same (k, y)).0 ((turn (k, y)).0 c)) in (w.1.high, w.0);
+  within = λ y k c. (lists.bodies_are k y ((same (k, y)).0 ((turn (k, y)).0 c))).0;
 }
 
 pub stores_table : (atoms bound : ℕ) (numbers heads : List ℕ) (given pairs : List (ℕ × ℕ))
@@ -139,7 +138,9 @@ pub stores_table : (atoms bound : ℕ) (numbers heads : List ℕ) (given pairs :
 stores_table atoms bound numbers heads given pairs bodies uses headed lists same rise turn back is reach heads_are
     headed_same = record {
   numbers_long = lists.long;
-  tabled = tabled atoms numbers heads given bodies uses headed lists same turn;
+  tabled = tabled atoms numbers heads given bodies uses lists same turn;
+  heads_within = λ k lt. (lists.heads_are _ (Contains-get_or heads k 0 lt)).high;
+  uses_within = λ y k c. (lists.bodies_are k y ((same (k, y)).0 ((turn (k, y)).0 c))).1.high;
   reach = rw is reach;
   bodies_rise = rise;
   uses_rise = back;

@@ -45,17 +45,18 @@ aba_of atoms assumptions contraries rules next = record {
 }
 
 -- rules with the heads in a list, and their bodies as pairs of an atom and the index of a rule that uses it
-pub record AreTabled (atoms : ℕ) (rules : List Rule) (heads : List ℕ) (uses : List (ℕ × ℕ)) : Type 0 where
+pub record AreTabled (rules : List Rule) (heads : List ℕ) (uses : List (ℕ × ℕ)) : Type 0 where
   pub long : length rules ≡ length heads
   pub heads_are : (k : ℕ) → k < length heads → (rule_at rules k).head ≡ slice_index heads k
   pub bodies_are : (k y : ℕ) → k < length heads → Contains (rule_at rules k).body y ↔ Contains uses (y, k)
-  pub heads_within : (k : ℕ) → k < length heads → slice_index heads k ≤ atoms
-  pub uses_within : (y k : ℕ) → Contains uses (y, k) → (y ≤ atoms) × (k < length heads)
+  pub within : (y k : ℕ) → Contains uses (y, k) → k < length heads
 
 -- flat lists of rules over so many atoms, with their indices: bodies by rule, uses by atom, and rules by head
 pub record IsTable (atoms : ℕ) (numbers heads : List ℕ) (bodies uses headed : IndexedPairs) : Type 0 where
   pub numbers_long : length numbers ≡ length heads
-  pub tabled : AreTabled atoms (rules_of numbers heads bodies.pairs) heads uses.pairs
+  pub tabled : AreTabled (rules_of numbers heads bodies.pairs) heads uses.pairs
+  pub heads_within : (k : ℕ) → k < length heads → slice_index heads k ≤ atoms
+  pub uses_within : (y k : ℕ) → Contains uses.pairs (y, k) → y ≤ atoms
   pub reach : length heads ≤ bodies.bound
   pub bodies_rise : PairsRise bodies.pairs
   pub uses_rise : PairsRise uses.pairs

@@ -3,6 +3,7 @@
 #![tactic(auto)]
 
 mod aba_plain;
+mod closing;
 mod rule_table;
 
 pub use aba_plain::AbaPlain;

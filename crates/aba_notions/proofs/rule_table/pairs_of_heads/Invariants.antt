@@ -1,6 +1,5 @@
-use Rattle.std.proofs.Common.{◌≤◌, length}
 use Rattle.aba_notions.proofs.TableLemmas.{ArePairsOfHeads}
 use Rattle.aba_notions.proofs.rule_table.pairs_of_heads.Given as goal
 
 abbrev pub invariant-loop-index : goal.invariant-loop-index
-invariant-loop-index l = (l.index ≤ length l.heads) × ArePairsOfHeads l.heads l.index l.pairs.items
+invariant-loop-index l = ArePairsOfHeads l.heads l.index l.pairs.items
