@@ -1,2 +1,4 @@
+pub mod Attacks
 pub mod Closing
+pub mod Solid
 pub mod Storage

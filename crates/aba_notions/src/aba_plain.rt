@@ -1,8 +1,10 @@
 //! A flat assumption-based framework in flat storage.
 
-ghost use Rattle.std.specs.Prelude.{◌≡◌, ◌↔◌, ℕ, ◌<◌, ◌==◌};
-ghost use Rattle.std.specs.Prelude.{Contains, IfOk, IsTrue, filter, length, map};
+ghost use Rattle.std.specs.Prelude.{◌≡◌, ◌↔◌, ℕ, ◌<◌};
+ghost use Rattle.std.specs.Prelude.{Contains, IfOk, IsTrue, length, map};
+ghost use Rattle.plain_lists.specs.Members.{IsSetOf};
 ghost use Rattle.aba_semantics.specs.AbaFrameworks.{IsNumberedAba};
+ghost use Rattle.aba_semantics.specs.Rules.{Derives};
 ghost use Rattle.attack_index.specs.PairOrder.{PairsRise};
 ghost use Rattle.aba_notions.specs.Storage.{AreParts, AreRulesOf, rule_at};
 
@@ -136,6 +138,16 @@ impl AbaPlain {
             ↔ ((h ≡ atom) × (k < length self.now.rules) × ((rule_at self.now.rules k).head ≡ atom)) }
     {
         self.rules.headed.of(atom)
+    }
+
+    /// What follows by the rules from a set, its members among it, in time linear in the atoms and the bodies of the
+    /// rules. `Memory` says that an allocation was refused.
+    pub fn closure_of(&self, alloc: Global, set: &NumSet) -> Result<NumSet, Memory>
+        ensures { IfOk result (IsSetOf (Derives self.now.rules (Contains set.now))) }
+    {
+        let found = self.rules.closure(alloc, self.atoms, set)?;
+        let derived = NumSet::from_rising(alloc, &found)?;
+        derived.union(alloc, set)
     }
 
     /// The number that the next rule gets.

@@ -4,6 +4,8 @@
 
 mod aba_plain;
 mod closing;
+mod grounded;
+mod notions;
 mod rule_table;
 
 pub use aba_plain::AbaPlain;

@@ -28,6 +28,11 @@ pub record IsUnattacked (d : Collective) (s : List ℕ) (a : ℕ) : Type 0 where
   pub live : Contains d.live a
   pub quiet : d.attacks s a → ⊥
 
+-- a live argument that the set defends
+pub record IsDefended (d : Collective) (s : List ℕ) (a : ℕ) : Type 0 where
+  pub live : Contains d.live a
+  pub defended : Defends d s a
+
 -- live arguments, of which the set attacks none
 pub record IsConflictFree (d : Collective) (s : List ℕ) : Type 0 where
   pub live : IsWithin s d.live
