@@ -1,13 +1,12 @@
 -- Lists of what meets a decided condition, and of all sets of some numbers.
-use Rattle.std.proofs.Common.{◌≡◌, ◌==◌, ◌≢◌, inl, inr, ⊎_elim, ℕ, Bool, true, not, List, [], ◌∷◌, ◌++◌, map, refl, sym, subst, ap, ◌∙◌}
+use Rattle.std.proofs.Common.{◌==◌, ◌≢◌, ⊎_elim, ℕ, not, List, [], ◌∷◌, ◌++◌, refl, sym, subst, ap}
 use Rattle.std.specs.Prelude.{◌↔◌, Contains, filter}
 use Rattle.std.proofs.lemmas.Bool.{cases_eq, ne_eqb, not-true, eqb-false}
 use Rattle.std.proofs.lemmas.List.Elements.{Contains-append_left, Contains-append_right}
 use Rattle.plain_lists.specs.Members.{IsWithin}
 use Rattle.plain_lists.proofs.Membership.{Contains-nil, Contains-head, Contains-tail, Contains-cons_cases}
 use Rattle.plain_lists.proofs.Filters.{Contains-filter}
-use Rattle.semantics.specs.Laws.{HasSameMembers}
-use Rattle.semantics.specs.Sets.{IsListed, HasAllSets}
+use Rattle.semantics.specs.Sets.{HasAllSets}
 use Rattle.semantics.proofs.Decided.{Decided, decide_each, decide_member}
 
 -- exactly the members of which P holds
@@ -71,8 +70,7 @@ all_sets [] = (
   },
 )
 all_sets (n ∷ ns) =
-    let rest = all_sets ns in
-    (
+    let rest = all_sets ns in (
       rest.0 ++ with_front n rest.0,
       λ t sub. ⊎_elim
           (λ has.

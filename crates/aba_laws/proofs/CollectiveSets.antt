@@ -1,13 +1,13 @@
 -- Admissible sets under collective attacks: what may be added to one, and which may be joined.
-use Rattle.std.proofs.Common.{inl, inr, ⊎_elim, ℕ, List, [], ◌∷◌, ◌++◌, refl, sym, subst}
+use Rattle.std.proofs.Common.{inl, inr, ⊎_elim, ℕ, List, [], ◌++◌}
 use Rattle.std.specs.Prelude.{◌↔◌, Contains}
 use Rattle.std.proofs.lemmas.List.Elements.{Contains-append_left, Contains-append_right, Contains-append_cases}
 use Rattle.plain_lists.specs.Members.{IsWithin}
-use Rattle.plain_lists.proofs.Membership.{Contains-nil, IsWithin-refl}
+use Rattle.plain_lists.proofs.Membership.{Contains-nil}
 use Rattle.semantics.specs.Laws.{HasSameMembers}
 use Rattle.semantics.proofs.Decided.{Decided, decide_both, decide_not, decide_each, decide_some, decide_implied, decide_member}
 use Rattle.aba_semantics.specs.Collectives.{Collective, AttacksMember, Defends, IsUnattacked, IsConflictFree, IsAdmissible, IsComplete, IsStable}
-use Rattle.aba_laws.specs.Laws.{DefendsByRest, UnionIsAdmissible, DefendedIsAdmissible, IsAdmissibleBySets, AdmissibleBySets}
+use Rattle.aba_laws.specs.Laws.{DefendsByRest, UnionIsAdmissible, DefendedIsAdmissible, AdmissibleBySets}
 use Rattle.aba_laws.proofs.Choosing.{chosen, decide_within}
 
 -- what a set attacks a larger one attacks too, and it can be decided
@@ -28,8 +28,7 @@ module _ (d : Collective) (lawful : IsLawful d) where
   -- the live arguments that a set doesn't attack
   pub rest_of : (s : List ℕ) → (rest : List ℕ) × ((x : ℕ) → Contains rest x ↔ IsUnattacked d s x)
   rest_of s =
-      let made = chosen (λ x. d.attacks s x → ⊥) (λ x. decide_not (lawful.decided s x)) d.live in
-      (
+      let made = chosen (λ x. d.attacks s x → ⊥) (λ x. decide_not (lawful.decided s x)) d.live in (
         made.0,
         λ x. (
           λ c. let h = (made.1 x).0 c in record { live = h.0; quiet = h.1 },

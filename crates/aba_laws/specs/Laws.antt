@@ -4,7 +4,6 @@ use Rattle.std.specs.Prelude.{◌↔◌, ◌⊎◌, List, ℕ, Contains, ◌++�
 use Rattle.plain_lists.specs.Members.{IsWithin}
 use Rattle.semantics.specs.Laws.{HasSameMembers}
 use Rattle.aba_semantics.specs.Collectives.{Collective, AttacksMember, Defends, IsUnattacked, IsAdmissible, IsComplete, IsGrounded, IsPreferred, IsStable, IsInAllPreferred, IsIdeal}
-use Rattle.aba_semantics.specs.AbaFrameworks.{Aba, collective_of}
 use Rattle.aba_semantics.specs.Rules.{Rule, Derives, IsClosureOf, IsLeastClosed, IsDeduced}
 
 -- there is a grounded set, there is one alone, it is admissible, and it lies in every complete set

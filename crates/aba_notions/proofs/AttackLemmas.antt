@@ -1,5 +1,5 @@
 -- Which assumptions a set attacks and defends, and the notions of extension by them.
-use Rattle.std.proofs.Common.{◌≡◌, ℕ, ◌+◌, ◌<◌, ◌≤◌, Bool, List, [], length, get_or, arith, subst, sym, refl, ap, inl, inr, ⊎_elim, ◌∙◌}
+use Rattle.std.proofs.Common.{◌≡◌, ℕ, ◌+◌, ◌<◌, ◌≤◌, Bool, List, [], length, get_or, arith, subst, sym, ap, inl, inr, ⊎_elim, ◌∙◌}
 use Rattle.std.specs.Prelude.{◌↔◌, ◌⊎◌, Contains, IsTrue}
 use Rattle.std.proofs.lemmas.Bool.{cases_eq}
 use Rattle.std.proofs.lemmas.List.{get_or_default}
@@ -9,7 +9,6 @@ use Rattle.semantics.proofs.Decided.{decide_member}
 use Rattle.aba_semantics.specs.Rules.{Derives, given, by_rule}
 use Rattle.aba_semantics.specs.Collectives.{Collective, IsUnattacked, IsDefended, IsConflictFree, IsAdmissible, IsComplete, IsStable}
 use Rattle.aba_semantics.specs.AbaFrameworks.{Aba, AttacksAssumption, IsNumberedAba, collective_of}
-use Rattle.aba_laws.proofs.AbaLemmas.{aba_lawful}
 use Rattle.aba_laws.proofs.CollectiveSets.{IsLawful, defends_by_rest}
 use Rattle.aba_notions.specs.Attacks.{HasPairWith, AddsFirst}
 

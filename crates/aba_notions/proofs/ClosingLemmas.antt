@@ -1,7 +1,6 @@
 -- The steps of a search for what a set derives, over plain lists.
-use Rattle.std.proofs.Common.{◌≡◌, ℕ, ◌+◌, ◌-◌, ◌<◌, ◌≤◌, List, [], ◌∷◌, ◌++◌, length, get_or, set, replicate, arith, ap, subst, sym, ◌∙◌, refl, eqb, Bool, true, false, if◌then◌else◌, inl, inr, ⊎_elim}
-use Rattle.std.specs.Prelude.{◌⊎◌, ◌↔◌, Contains, filter, All, count_by, sum}
-use Rattle.std.specs.List.Sorted.{IsStrictlyIncreasing}
+use Rattle.std.proofs.Common.{◌≡◌, ℕ, ◌+◌, ◌-◌, ◌<◌, ◌≤◌, List, [], ◌∷◌, ◌++◌, length, get_or, set, replicate, arith, ap, subst, sym, ◌∙◌, refl, eqb, Bool, true, false, inl, inr, ⊎_elim}
+use Rattle.std.specs.Prelude.{◌⊎◌, ◌↔◌, Contains, filter, count_by, sum}
 use Rattle.std.proofs.lemmas.Bool.{cases_Bool, cases_eq, cases_lt, both_ways}
 use Rattle.std.proofs.lemmas.List.{length-set, length-replicate, get_or-set_same, get_or-set_other, get_or-replicate, get_or_past, get_or_default, set-get_or, set_past}
 use Rattle.std.proofs.lemmas.List.Elements.{Contains-append_cases, Contains-append_left, Contains-push_cases, Contains-get_or}
@@ -17,7 +16,7 @@ use Rattle.dung_notions.specs.Search.{reaching}
 use Rattle.dung_notions.proofs.SearchLemmas.{all_out, none_open}
 use Rattle.dung_notions.proofs.UndefeatedLemmas.{open_at_first, open_when_marked, reaching_here, reaching_else, reaching_both}
 use Rattle.aba_semantics.specs.Rules.{Rule, Derives, given, by_rule}
-use Rattle.aba_laws.proofs.DerivationLemmas.{derives_from, derives_more}
+use Rattle.aba_laws.proofs.DerivationLemmas.{derives_from}
 use Rattle.aba_notions.specs.Storage.{no_rule, rule_at, AreTabled}
 use Rattle.aba_notions.specs.Closing.{is_derived, count_open, IsMarked, IsClosing, Enters, Fires, GoesOn, IsClosed, ListsDerived}
 
@@ -259,8 +258,7 @@ module _ (rules : List Rule) (heads : List ℕ) (uses : List (ℕ × ℕ)) where
       let lt : p.1 < length heads =
       h.tabled.within p.0 p.1 (h.pending_are p (rw is (Contains-pushed front p p refl))) in
       let counted : get_or open_atoms p.1 0 ≡ count_open derived p.1 uses + reaching p.1 (front ++ p ∷ []) =
-      rw is at (h.counted p.1 lt) in
-      (
+      rw is at (h.counted p.1 lt) in (
         lt,
         omega (arith, lt, h.long),
         omega (arith, counted, reaching_both p.1 front (p ∷ []), reaching_here p []),
@@ -413,8 +411,7 @@ derived_exactly atoms rules heads uses s first second third tabled long sound en
     λ y m. derives_from rules (IsMarked first) (Contains s) sound y (one.sound y m) in
     let there : (y : ℕ) → Derives rules (Contains s) y → is_derived third y ≡ true =
     all_there rules heads uses (Contains s) third tabled closed
-    (λ y c. two.stays y (one.stays y (entered y c))) in
-    (
+    (λ y c. two.stays y (one.stays y (entered y c))) in (
       λ w. (
         omega (arith, w.0, size),
         derives_from rules (IsMarked second) (Contains s) back x

@@ -1,5 +1,5 @@
 -- A framework that is made of parts in order is in its form.
-use Rattle.std.proofs.Common.{◌≡◌, ℕ, ◌+◌, ◌<◌, ◌≤◌, List, [], ◌∷◌, ◌++◌, length, get_or, map, arith, ap, sym, subst, ◌∙◌, refl, eqb, ⊎_elim}
+use Rattle.std.proofs.Common.{◌≡◌, ℕ, ◌+◌, ◌<◌, ◌≤◌, List, [], ◌∷◌, length, get_or, map, arith, ap, sym, subst, ◌∙◌, refl, eqb, ⊎_elim}
 use Rattle.std.specs.Prelude.{Contains, ◌↔◌, filter}
 use Rattle.std.specs.List.Sorted.{IsStrictlyIncreasing}
 use Rattle.std.proofs.lemmas.Bool.{eqb-true}
@@ -11,9 +11,9 @@ use Rattle.set_lists.proofs.Rising.{below_across, rises_right}
 use Rattle.attack_index.specs.PairOrder.{PairsRise}
 use Rattle.attack_index.proofs.OffsetLemmas.{PairsRise-filter}
 use Rattle.aba_semantics.specs.Rules.{Rule}
-use Rattle.aba_semantics.specs.AbaFrameworks.{Aba, IsAtom, IsAba, IsRuleOf, IsNumberedAba}
+use Rattle.aba_semantics.specs.AbaFrameworks.{IsRuleOf, IsNumberedAba}
 use Rattle.aba_notions.specs.declared.rule_table.RuleLists.{RuleLists}
-use Rattle.aba_notions.specs.Storage.{no_rule, rule_at, rule_of, rules_of, aba_of, AreContraries, AreRuleLists, AreParts, AreRulesOf}
+use Rattle.aba_notions.specs.Storage.{no_rule, rule_at, rule_of, rules_of, aba_of, AreContraries, AreParts, AreRulesOf}
 use Rattle.aba_notions.proofs.TableLemmas.{image_there, image_from, rule_from, rising_few}
 
 -- ---- rising lists with the same members

@@ -4,3 +4,4 @@ pub mod FormLemmas
 pub mod GroundedLemmas
 pub mod SolidLemmas
 pub mod TableLemmas
+pub mod UnfoundedLemmas

@@ -1,10 +1,9 @@
 -- Rules in flat lists, and the pairs by which they are found.
-use Rattle.std.proofs.Common.{◌≡◌, ◌==◌, ℕ, zero, suc, ◌+◌, ◌-◌, ◌<◌, ◌≤◌, List, [], ◌∷◌, ◌++◌, length, get_or, map, arith, ap, sym, subst, ◌∙◌, refl, eqb, inl, inr, ⊎_elim}
-use Rattle.std.specs.Prelude.{Contains, ◌↔◌, ◌⊎◌, filter}
-use Rattle.std.specs.List.{range_with_len}
+use Rattle.std.proofs.Common.{◌≡◌, ℕ, zero, suc, ◌+◌, ◌-◌, ◌<◌, ◌≤◌, List, [], ◌∷◌, ◌++◌, length, get_or, map, arith, ap, sym, subst, ◌∙◌, refl, eqb, ⊎_elim}
+use Rattle.std.specs.Prelude.{Contains, ◌↔◌, filter}
 use Rattle.std.specs.List.Sorted.{IsStrictlyIncreasing}
 use Rattle.std.proofs.lemmas.Bool.{cases_eq, eq-eqb, eqb-true}
-use Rattle.std.proofs.lemmas.List.{ext_get_or, get_or_default, get_or-map, length-map, get_or_append_left, get_or_push, length_push}
+use Rattle.std.proofs.lemmas.List.{ext_get_or, get_or_default, get_or-map, length-map}
 use Rattle.std.proofs.lemmas.List.FromFn.{length-map-range_with_len, get_or-map-range_with_len}
 use Rattle.std.proofs.lemmas.List.Elements.{Contains-get_or, Contains-push_cases, Contains-append_left}
 use Rattle.std.proofs.lemmas.List.Kept.{AllPairs-from_increasing}
@@ -137,19 +136,19 @@ pub stores_table : (atoms bound : ℕ) (numbers heads : List ℕ) (given pairs :
     → IsTable atoms numbers heads bodies uses headed
 stores_table atoms bound numbers heads given pairs bodies uses headed lists same rise turn back is reach heads_are
     headed_same = record {
-  numbers_long = lists.long;
-  tabled = tabled atoms numbers heads given bodies uses lists same turn;
-  heads_within = λ k lt. (lists.heads_are _ (Contains-get_or heads k 0 lt)).high;
-  uses_within = λ y k c. (lists.bodies_are k y ((same (k, y)).0 ((turn (k, y)).0 c))).1.high;
-  reach = rw is reach;
-  bodies_rise = rise;
-  uses_rise = back;
-  uses_are = turn;
-  headed_are = λ h k. (
-    λ c. (heads_are h k).0 ((headed_same (h, k)).0 c),
-    λ w. (headed_same (h, k)).1 ((heads_are h k).1 w),
-  );
-}
+      numbers_long = lists.long;
+      tabled = tabled atoms numbers heads given bodies uses lists same turn;
+      heads_within = λ k lt. (lists.heads_are _ (Contains-get_or heads k 0 lt)).high;
+      uses_within = λ y k c. (lists.bodies_are k y ((same (k, y)).0 ((turn (k, y)).0 c))).1.high;
+      reach = rw is reach;
+      bodies_rise = rise;
+      uses_rise = back;
+      uses_are = turn;
+      headed_are = λ h k. (
+        λ c. (heads_are h k).0 ((headed_same (h, k)).0 c),
+        λ w. (headed_same (h, k)).1 ((heads_are h k).1 w),
+      );
+    }
 
 -- rising numbers from 1 up are larger than their indices
 pub above_index : (xs : List ℕ) → IsStrictlyIncreasing xs → ((n : ℕ) → Contains xs n → 1 ≤ n) → (i : ℕ)
@@ -225,8 +224,7 @@ headed_cut atoms numbers heads bodies uses headed pairs atom t is h k =
       λ c.
           let w = kept.0 c in
           let there = (t.headed_are h k).0 w.0 in
-          let same : h ≡ atom = eqb-true h atom w.1 in
-          (
+          let same : h ≡ atom = eqb-true h atom w.1 in (
             same,
             omega (arith, there.0, t.tabled.long),
             t.tabled.heads_are k there.0 ∙ there.1 ∙ same,

@@ -2,3 +2,4 @@ pub mod Attacks
 pub mod Closing
 pub mod Solid
 pub mod Storage
+pub mod Unfounded

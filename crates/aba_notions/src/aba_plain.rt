@@ -143,7 +143,8 @@ impl AbaPlain {
     /// What follows by the rules from a set, its members among it, in time linear in the atoms and the bodies of the
     /// rules. `Memory` says that an allocation was refused.
     pub fn closure_of(&self, alloc: Global, set: &NumSet) -> Result<NumSet, Memory>
-        ensures { IfOk result (IsSetOf (Derives self.now.rules (Contains set.now))) }
+        ensures derived { IfOk result (IsSetOf (Derives self.now.rules (Contains set.now))) }
+        ensures form { IsNumberedAba self.now }
     {
         let found = self.rules.closure(alloc, self.atoms, set)?;
         let derived = NumSet::from_rising(alloc, &found)?;

@@ -27,7 +27,12 @@ struct Search {
 
 impl RuleTable {
     /// What follows by the rules from the members of a set that are among so many atoms, by rising atom.
-    pub(crate) fn closure(&self, alloc: Global, atoms: u32, set: &NumSet) -> Result<Vec<u32>, Memory>
+    pub(crate) fn closure(
+        &self,
+        alloc: Global,
+        atoms: u32,
+        set: &NumSet,
+    ) -> Result<Vec<u32>, Memory>
         requires table { IsTableOf atoms self.now }
         requires small { atoms ≤ LAST_ATOM }
         ensures { IfOk result (λ found. IsSetOf (λ x. (x ≤ atoms) × Derives (rules_in self.now) (Contains set.now) x)

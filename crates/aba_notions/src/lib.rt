@@ -7,6 +7,8 @@ mod closing;
 mod grounded;
 mod notions;
 mod rule_table;
+mod unfounded;
 
 pub use aba_plain::AbaPlain;
 pub use rule_table::RuleLists;
+pub use unfounded::{Row, Unfounded};

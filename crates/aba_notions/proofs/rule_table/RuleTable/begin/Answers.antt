@@ -1,6 +1,4 @@
-use Rattle.std.proofs.Common.{◌≡◌, ◌+◌, ◌≤◌, ℕ, length, get_or, replicate, false, arith, subst, sym, ◌∙◌}
-use Rattle.dung_notions.specs.Search.{reaching}
-use Rattle.aba_notions.specs.Closing.{IsClosing, IsMarked}
+use Rattle.std.proofs.Common.{◌+◌, ◌≤◌, length, arith, ◌∙◌}
 use Rattle.aba_notions.specs.Storage.{rules_in}
 use Rattle.aba_notions.proofs.ClosingLemmas.{begins, none_marked, counts_uses}
 use Rattle.aba_notions.proofs.rule_table.RuleTable.begin.Goals as goal

@@ -2,7 +2,6 @@ use Rattle.std.proofs.Common.{◌∙◌}
 use Rattle.std.specs.Prelude.{Contains}
 use Rattle.std.proofs.lemmas.Result.{IfOk-weaker}
 use Rattle.aba_notions.specs.Storage.{rules_in}
-use Rattle.aba_notions.specs.Closing.{IsMarked}
 use Rattle.aba_notions.proofs.ClosingLemmas.{afresh, lists_closure}
 use Rattle.aba_notions.proofs.rule_table.RuleTable.closure.Goals as goal
 

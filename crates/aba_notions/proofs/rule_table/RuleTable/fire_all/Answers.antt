@@ -1,5 +1,5 @@
-use Rattle.std.proofs.Common.{◌≡◌, ◌<◌, length, arith, subst}
-use Rattle.aba_notions.specs.Closing.{IsClosing, IsMarked}
+use Rattle.std.proofs.Common.{◌<◌, length, arith}
+use Rattle.aba_notions.specs.Closing.{IsMarked}
 use Rattle.aba_notions.specs.Storage.{rules_in}
 use Rattle.aba_notions.proofs.ClosingLemmas.{fired_next, fires_on, afresh, goes_on, due_less}
 use Rattle.aba_notions.proofs.rule_table.RuleTable.fire_all.Goals as goal

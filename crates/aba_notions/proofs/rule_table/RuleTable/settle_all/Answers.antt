@@ -1,6 +1,6 @@
-use Rattle.std.proofs.Common.{◌≡◌, ◌<◌, ◌-◌, ◌++◌, ◌∷◌, [], ℕ, List, length, length-set, get_or, set, arith, ap, subst, sym, ◌∙◌}
+use Rattle.std.proofs.Common.{◌≡◌, ◌-◌, [], ℕ, List, length, length-set, get_or, set, arith}
 use Rattle.std.proofs.lemmas.List.{nil_from_length}
-use Rattle.aba_notions.specs.Closing.{IsClosing, IsMarked, Fires}
+use Rattle.aba_notions.specs.Closing.{IsMarked, Fires}
 use Rattle.aba_notions.specs.Storage.{rules_in}
 use Rattle.aba_notions.proofs.ClosingLemmas.{counts_it, settled, falls, fires_on, goes_on, closes}
 use Rattle.aba_notions.proofs.rule_table.RuleTable.settle_all.Goals as goal
