@@ -144,7 +144,8 @@ module _ (rules : List Rule) (heads : List ℕ) (uses : List (ℕ × ℕ)) where
   -- which rules have fired
   due_to : (Given : ℕ → Type 0) (due : ℕ) (derived : List Bool) (open_atoms : List ℕ) (pending : List (ℕ × ℕ))
       → IsClosing rules heads uses Given 0 derived open_atoms pending
-      → ((k : ℕ) → k < length heads → k < due → get_or open_atoms k 0 ≡ 0 → is_derived derived (get_or heads k 0) ≡ true)
+      → ((k : ℕ) → k < length heads → k < due → get_or open_atoms k 0 ≡ 0
+      → is_derived derived (get_or heads k 0) ≡ true)
       → IsClosing rules heads uses Given due derived open_atoms pending
   due_to Given due derived open_atoms pending h fired = record {
     tabled = h.tabled;
@@ -465,7 +466,8 @@ pub lists_closure : (atoms : ℕ) (rules : List Rule) (heads : List ℕ) (uses :
     → GoesOn rules first second → GoesOn rules second third → IsClosed heads uses third
     → shown ≡ third → ListsDerived shown (length shown) found
     → IsSetOf (λ x. (x ≤ atoms) × Derives rules (Contains s) x) found
-lists_closure atoms rules heads uses s first second third shown found tabled long sound entered one two closed is lists =
+lists_closure atoms rules heads uses s first second third shown found tabled long sound entered one two closed is
+    lists =
     let h : ListsDerived third (length third) found = rw is at lists in
     record {
       rises = h.rises;

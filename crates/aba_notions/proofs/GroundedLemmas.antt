@@ -31,7 +31,8 @@ no_longer : (xs ys : List ℕ) → IsDistinct eqb xs → IsWithin xs ys → leng
 no_longer xs ys apart sub =
     length-le_from_is_member nat_eq_equiv xs ys apart (λ q h. member_from ys q (sub q (member_gives xs q h)))
 
-rising_apart : (xs : List ℕ) → IsStrictlyIncreasing xs → (i j : ℕ) → i < j → j < length xs → get_or xs i 0 ≢ get_or xs j 0
+rising_apart : (xs : List ℕ) → IsStrictlyIncreasing xs → (i j : ℕ) → i < j → j < length xs
+    → get_or xs i 0 ≢ get_or xs j 0
 rising_apart xs up i j lt within same = omega (arith, AllPairs-from_increasing xs up i j 0 lt within, same)
 
 pub rising_no_longer : (xs ys : List ℕ) → IsStrictlyIncreasing xs → IsWithin xs ys → length xs ≤ length ys

@@ -43,7 +43,8 @@ in_body numbers heads bodies k y =
           let from = image_from (λ (p : ℕ × ℕ). p.1) (filter (λ p. eqb p.0 k) bodies) y c in
           let w = (kept from.0).0 from.1 in
           subst (λ p. Contains bodies p) (pair_same from.0 (k, y) (eqb-true from.0.0 k w.1) from.2) w.0,
-      λ c. image_there (λ (p : ℕ × ℕ). p.1) (filter (λ p. eqb p.0 k) bodies) (k, y) ((kept (k, y)).1 (c, eq-eqb k k refl)),
+      λ c. image_there (λ (p : ℕ × ℕ). p.1) (filter (λ p. eqb p.0 k) bodies) (k, y)
+          ((kept (k, y)).1 (c, eq-eqb k k refl)),
     )
 
 pub length_rules : (numbers heads : List ℕ) (bodies : List (ℕ × ℕ)) → length (rules_of numbers heads bodies)
@@ -238,7 +239,8 @@ headed_cut atoms numbers heads bodies uses headed pairs atom t is h k =
     )
 
 -- all heads with their indices
-pub pairs_all : (heads : List ℕ) (n : ℕ) (pairs : List (ℕ × ℕ)) → length heads ≤ n → n ≤ length heads → ArePairsOfHeads heads n pairs
+pub pairs_all : (heads : List ℕ) (n : ℕ) (pairs : List (ℕ × ℕ)) → length heads ≤ n → n ≤ length heads
+    → ArePairsOfHeads heads n pairs
     → (h k : ℕ) → Contains pairs (h, k) ↔ ((k < length heads) × (get_or heads k 0 ≡ h))
 pairs_all heads n pairs past few p h k = (
   λ c. let w = (p.are h k).0 c in (omega (arith, w.0, few), w.1),

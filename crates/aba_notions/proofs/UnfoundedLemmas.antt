@@ -143,7 +143,8 @@ row_made f P atom n headed row form atom_is rise exact past few h =
             there = Contains-get_or f.rules (get_or headed c.0 (0, 0)).1 no_rule w.1;
             head_is = w.2 ∙ sym atom_is;
             number_is = sym (h.are c.0 lt).0 ∙ ap (λ (p : ℕ × ℕ). p.0) at;
-            reason = subst (λ (p : ℕ × ℕ). P (rule_at f.rules (get_or headed c.0 (0, 0)).1).body p.1) at (h.are c.0 lt).1;
+            reason = subst (λ (p : ℕ × ℕ). P (rule_at f.rules (get_or headed c.0 (0, 0)).1).body p.1) at
+                (h.are c.0 lt).1;
           };
     }
 
@@ -201,7 +202,8 @@ row_reasons f base claimed atoms row set in' form h = record {
                 open'.0,
                 open'.1,
                 λ claim. ⊎_elim
-                    (λ both. let low = ((form.form.rules_are w.rule w.there).body y both.1).low in omega (arith, low, zero'))
+                    (λ both. let low = ((form.form.rules_are w.rule w.there).body y both.1).low in
+                    omega (arith, low, zero'))
                     (λ none. none.1 open'.0 open'.1 ((set.members open'.0).1 (claim, open'.2))) w.reason,
               ),
         );
@@ -225,11 +227,12 @@ unfounded_made f base claimed theory u form exact set some rows_are each =
     } in
     record {
       atoms_are = atoms_are;
-      some = ⊎_elim (λ (none : length u.atoms ≡ 0). absurd (some (nil_from_length u.atoms none))) (λ ne. omega (arith, ne))
-          (cases_eq (length u.atoms) 0);
+      some = ⊎_elim (λ (none : length u.atoms ≡ 0). absurd (some (nil_from_length u.atoms none)))
+          (λ ne. omega (arith, ne)) (cases_eq (length u.atoms) 0);
       rows_are = rows_are;
       each = λ row c. row_reasons f base claimed u.atoms row atoms_are
-          (subst (λ xs. Contains xs row.atom) rows_are (image_there (λ (r : Row). r.atom) u.rows row c)) form (each row c);
+          (subst (λ xs. Contains xs row.atom) rows_are (image_there (λ (r : Row). r.atom) u.rows row c)) form
+          (each row c);
     }
 
 -- where none is left over, all follow

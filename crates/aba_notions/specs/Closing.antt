@@ -1,6 +1,6 @@
--- The inner state of the search for what a set derives. `derived` tells of each atom, by its number, whether it is known
--- to be derived, `open_atoms` how many atoms of the body of a rule, by its index, aren't known to be derived, and
--- `pending` has pairs of a derived atom and a rule that uses it, as far as the counts still hold them.
+-- The inner state of the search for what a set derives. `derived` tells of each atom, by its number, whether it is
+-- known to be derived, `open_atoms` how many atoms of the body of a rule, by its index, are not known to be derived,
+-- and `pending` has pairs of a derived atom and a rule that uses it, as far as the counts still hold them.
 use Rattle.std.specs.Prelude.{◌≡◌, ◌≢◌, ◌↔◌, ℕ, ◌+◌, ◌<◌, ◌≤◌, Bool, true, ◌==◌, if◌then◌else◌, List, ◌++◌, Contains, filter, length, slice_index, slice_set}
 use Rattle.std.specs.List.Sorted.{IsStrictlyIncreasing}
 use Rattle.dung_notions.specs.Search.{is_out, count_undefeated, reaching}
@@ -13,7 +13,7 @@ use Rattle.aba_notions.specs.Storage.{AreTabled, rules_in}
 abbrev pub is_derived : List Bool → ℕ → Bool
 is_derived derived x = is_out derived x
 
--- how many atoms of a rule's body aren't known to be derived, by the pairs of atoms and rules that use them
+-- how many atoms of a rule's body are not known to be derived, by the pairs of atoms and rules that use them
 abbrev pub count_open : List Bool → ℕ → List (ℕ × ℕ) → ℕ
 count_open derived k uses = count_undefeated derived k uses
 
@@ -37,7 +37,7 @@ pub record IsClosing (rules : List Rule) (heads : List ℕ) (uses : List (ℕ ×
       → is_derived derived (slice_index heads k) ≡ true
   pub pending_are : (p : ℕ × ℕ) → Contains pending p → Contains uses p
 
--- an atom is derived, if it wasn't known to be, and its uses are to be taken off the counts
+-- an atom is derived, if it was not known to be, and its uses are to be taken off the counts
 pub record Enters (uses : List (ℕ × ℕ)) (atom : ℕ) (derived : List Bool) (pending : List (ℕ × ℕ))
     (derived' : List Bool) (pending' : List (ℕ × ℕ)) : Type 0 where
   pub derived_is : derived' ≡ slice_set derived atom true

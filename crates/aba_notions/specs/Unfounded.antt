@@ -31,8 +31,8 @@ pub record IsRowBy (f : Aba) (P : List ℕ → ℕ → Type 0) (row : Row) : Typ
   pub listed : (r : Rule) → Contains f.rules r → r.head ≡ row.atom → (y : ℕ) × Contains row.pairs (r.number, y)
   pub pairs_are : (n y : ℕ) → Contains row.pairs (n, y) → HasRuleWith f P row.atom n y
 
--- exactly the atoms that are claimed and do not follow, of which there are some, and a row for each in their order: each
--- rule for one of them has another of them in its body, or else an atom that is not claimed
+-- exactly the atoms that are claimed and do not follow, of which there are some, and a row for each in their order:
+-- each rule for one of them has one of them in its body, or else an atom that is not claimed
 pub record IsUnfoundedOf (f : Aba) (Given : ℕ → Type 0) (claimed : List ℕ) (u : Unfounded) : Type 0 where
   pub atoms_are : IsSetOf (λ x. Contains claimed x × (Derives f.rules Given x → ⊥)) u.atoms
   pub some : 0 < length u.atoms

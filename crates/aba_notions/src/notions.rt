@@ -1,6 +1,6 @@
-//! Which assumptions a set attacks and defends, and tests of a set against the notions of extension. What a set does not
-//! attack decides both: it defends an assumption exactly where the assumptions that it does not attack do not attack it
-//! together. So each of these calls takes one or two searches for what a set derives.
+//! Which assumptions a set attacks and defends, and tests of a set against the notions of extension. A set defends an
+//! assumption exactly where the assumptions that it does not attack do not attack it together. So each of these calls
+//! takes a few searches for what a set derives, and no walk over sets.
 
 ghost use Rattle.std.specs.Prelude.{◌↔◌, ℕ, Contains, IfOk, IsTrue, OnOk};
 ghost use Rattle.plain_lists.specs.Members.{IsSetOf};

@@ -52,7 +52,8 @@ impl AbaPlain {
     /// A row for each of the atoms.
     fn rows_of(&self, alloc: Global, atoms: &NumSet) -> Result<Items<Row>, Memory>
         ensures atoms { IfOk result (λ rows. map (λ row. row.atom) rows ≡ atoms.now) }
-        ensures each { IfOk result (λ rows. (row : Row) → Contains rows row → IsRowBy self.now (IsShared atoms.now) row) }
+        ensures each { IfOk result (λ rows. (row : Row) → Contains rows row
+            → IsRowBy self.now (IsShared atoms.now) row) }
     {
         let mut rows = Items::new(alloc);
         for atom in atoms.as_slice() {

@@ -16,7 +16,8 @@ pub invariant_of-result : goal.invariant_of-result
 invariant_of-result c = record {
   form = formed c.args.atoms c.args.assumptions c.args.contraries.items c.in_ok-contraries.contraries.pairs c.args.rules
       c.args.next c.in_ok-rules.rules.numbers.items c.in_ok-rules.rules.heads.items c.in_ok-rules.rules.bodies.pairs
-      (subst IsStrictlyIncreasing c.assumptions.view_is c.assumptions.invariant) c.requires c.in_ok-contraries.ensures.rise c.in_ok-contraries.ensures.same
+      (subst IsStrictlyIncreasing c.assumptions.view_is c.assumptions.invariant) c.requires
+      c.in_ok-contraries.ensures.rise c.in_ok-contraries.ensures.same
       c.in_ok-rules.ensures.table.bodies_rise c.in_ok-rules.ensures.rules;
   table = c.in_ok-rules.ensures.table;
 }
@@ -25,5 +26,6 @@ pub returns-clause-form : goal.returns-clause-form
 returns-clause-form c =
     formed c.args.atoms c.args.assumptions c.args.contraries.items c.in_ok-contraries.contraries.pairs c.args.rules
     c.args.next c.in_ok-rules.rules.numbers.items c.in_ok-rules.rules.heads.items c.in_ok-rules.rules.bodies.pairs
-    (subst IsStrictlyIncreasing c.assumptions.view_is c.assumptions.invariant) c.requires c.in_ok-contraries.ensures.rise c.in_ok-contraries.ensures.same
+    (subst IsStrictlyIncreasing c.assumptions.view_is c.assumptions.invariant) c.requires
+    c.in_ok-contraries.ensures.rise c.in_ok-contraries.ensures.same
     c.in_ok-rules.ensures.table.bodies_rise c.in_ok-rules.ensures.rules

@@ -18,7 +18,8 @@ returns c =
     IfOk-weaker c.derived_atoms.result _ _
     (λ found lists. lists_closure c.args.atoms (rules_in t) t.heads.items t.uses.pairs c.args.set.now
     c.enter_all.new.search.derived.items c.fire_all.new.search.derived.items c.settle_all.new.search.derived.items
-    c.deref.result.now found.items c.requires.table.tabled (c.in_ok-enter_all.ensures.wide ∙ c.in_ok-search.ensures.wide)
+    c.deref.result.now found.items c.requires.table.tabled
+    (c.in_ok-enter_all.ensures.wide ∙ c.in_ok-search.ensures.wide)
     (rw c.as_slice.ensures.value at c.in_ok-enter_all.ensures.state).sound
     (rw c.as_slice.ensures.value at c.in_ok-enter_all.ensures.entered)
     c.in_ok-fire_all.ensures.on c.in_ok-settle_all.ensures.on c.in_ok-settle_all.ensures.closed

@@ -9,9 +9,9 @@ use Rattle.aba_notions.proofs.rule_table.RuleTable.enter_all.Goals as goal
 
 pub loop-atom-init : goal.loop-atom-init
 loop-atom-init c = (
-  given_none (rules_in c.args.self.now) c.args.self.now.heads.items c.args.self.now.uses.pairs (Contains c.args.given.now)
-      c.args.search.now.derived.items c.args.search.now.open_atoms.items c.args.search.now.pending.items
-      c.requires.state c.requires.none,
+  given_none (rules_in c.args.self.now) c.args.self.now.heads.items c.args.self.now.uses.pairs
+      (Contains c.args.given.now) c.args.search.now.derived.items c.args.search.now.open_atoms.items
+      c.args.search.now.pending.items c.requires.state c.requires.none,
   λ j lt. absurd (omega (arith, lt)),
   refl,
 )

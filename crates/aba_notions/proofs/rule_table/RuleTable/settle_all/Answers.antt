@@ -83,7 +83,8 @@ pub returns-clause-closed : goal.returns-clause-closed
 returns-clause-closed c =
     let t = c.args.self.now in
     let s = c.loop-rule.search in
-    let none : s.pending.items ≡ [] = nil_from_length s.pending.items (omega (arith, c.in_default.ensures.cases.0, s.pending.ok.0)) in
+    let none : s.pending.items ≡ [] = nil_from_length s.pending.items
+    (omega (arith, c.in_default.ensures.cases.0, s.pending.ok.0)) in
     closes (rules_in t) t.heads.items t.uses.pairs (IsMarked c.args.search.now.derived.items) s.derived.items
     s.open_atoms.items
     (rw none at c.loop-rule.invariant.0)
