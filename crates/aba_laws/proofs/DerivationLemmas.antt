@@ -34,10 +34,11 @@ pub head_derived : (rules : List Rule) (P : ℕ → Type 0) (r : Rule) → Conta
 head_derived rules P r there body = by_rule r r.head there refl body
 
 -- a list between what is given and what follows, and the rules whose heads may still be missing
-record IsFilling (rules : List Rule) (s t : List ℕ) (rest : List Rule) : Type 0 where
-  holds : IsWithin s t
-  sound : (x : ℕ) → Contains t x → Derives rules (Contains s) x
-  left : (r : Rule) → Contains rules r → Contains t r.head ⊎ Contains rest r
+pub record IsFilling (rules : List Rule) (s t : List ℕ) (rest : List Rule) : Type 0 where
+  pub holds : IsWithin s t
+  pub sound : (x : ℕ) → Contains t x → Derives rules (Contains s) x
+  pub left : (r : Rule) → Contains rules r → Contains t r.head ⊎ Contains rest r
+  pub among : (r : Rule) → Contains rest r → Contains rules r
 
 -- a list that has what is given, what follows alone, and is closed
 record IsFilled (rules : List Rule) (s t : List ℕ) : Type 0 where
@@ -46,23 +47,33 @@ record IsFilled (rules : List Rule) (s t : List ℕ) : Type 0 where
   closed : IsClosedUnder rules t
 
 module _ (rules : List Rule) (s : List ℕ) where
-  -- a rule whose body is there
-  abbrev Fires : List ℕ → Rule → Type 0
-  Fires t r = IsWithin r.body t × Contains rules r
+  pub filling_first : IsFilling rules s s rules
+  filling_first = record {
+    holds = λ x c. c;
+    sound = λ x c. given x c;
+    left = λ r c. inr c;
+    among = λ r c. c;
+  }
 
-  more : (t : List ℕ) (rest : List Rule) → IsFilling rules s t rest
-      → (w : Found (λ r. IsWithin r.body t) rest) → Contains rules w.item
-      → IsFilling rules s (t ++ w.item.head ∷ []) (w.before ++ w.after)
-  more t rest g w there = record {
+  -- a rule whose body is there gives its head
+  pub filling_more : (t : List ℕ) (rest : List Rule) → IsFilling rules s t rest
+      → (w : Found (λ r. IsWithin r.body t) rest) → IsFilling rules s (t ++ w.item.head ∷ []) (w.before ++ w.after)
+  filling_more t rest g w = record {
     holds = λ x c. Contains-append_left t (w.item.head ∷ []) x (g.holds x c);
     sound = λ x c. ⊎_elim (λ k. g.sound x k)
-        (λ e. by_rule w.item x there e (λ y k. g.sound y (w.holds y k))) (Contains-push_cases t w.item.head x c);
+        (λ e. by_rule w.item x (g.among w.item (found_in (λ r. IsWithin r.body t) rest w)) e
+        (λ y k. g.sound y (w.holds y k)))
+        (Contains-push_cases t w.item.head x c);
     left = λ r in_rules. ⊎_elim (λ k. inl (Contains-append_left t (w.item.head ∷ []) r.head k))
         (λ k. ⊎_elim (λ b. inr (Contains-append_left w.before w.after r b))
         (λ k'. ⊎_elim (λ e. inl (Contains-pushed t w.item.head r.head (ap (λ (q : Rule). q.head) e)))
         (λ a. inr (Contains-append_right w.before w.after r a)) (Contains-cons_cases w.item w.after r k'))
         (Contains-append_cases w.before (w.item ∷ w.after) r (rw w.parts at k)))
         (g.left r in_rules);
+    among = λ r c. g.among r (subst (λ rs. Contains rs r) (sym w.parts) (⊎_elim
+        (λ b. Contains-append_left w.before (w.item ∷ w.after) r b)
+        (λ a. Contains-append_right w.before (w.item ∷ w.after) r (Contains-append_right (w.item ∷ []) w.after r a))
+        (Contains-append_cases w.before w.after r c)));
   }
 
   done : (t : List ℕ) (rest : List Rule) → IsFilling rules s t rest
@@ -73,31 +84,28 @@ module _ (rules : List Rule) (s : List ℕ) where
     closed = λ r there sub. ⊎_elim (λ k. k) (λ k. absurd (none r k sub)) (g.left r there);
   }
 
-  fill : (n : ℕ) (t : List ℕ) (rest : List Rule) → length rest ≤ n → ((r : Rule) → Contains rest r → Contains rules r)
-      → IsFilling rules s t rest → (u : List ℕ) × IsFilled rules s u
-  fill zero t rest small sub g = (t, done t rest g (λ r c h. let lt = c.1 in omega arith))
-  fill (suc n) t rest small sub g =
+  fill : (n : ℕ) (t : List ℕ) (rest : List Rule) → length rest ≤ n → IsFilling rules s t rest
+      → (u : List ℕ) × IsFilled rules s u
+  fill zero t rest small g = (t, done t rest g (λ r c h. let lt = c.1 in omega arith))
+  fill (suc n) t rest small g =
       ⊎_elim
       (λ w. fill n (t ++ w.item.head ∷ []) (w.before ++ w.after)
       (let size = ap length w.parts in
       omega (arith, size, length-append w.before (w.item ∷ w.after), length-append w.before w.after))
-      (λ r c. sub r (subst (λ rs. Contains rs r) (sym w.parts) (⊎_elim
-      (λ b. Contains-append_left w.before (w.item ∷ w.after) r b)
-      (λ a. Contains-append_right w.before (w.item ∷ w.after) r (Contains-append_right (w.item ∷ []) w.after r a))
-      (Contains-append_cases w.before w.after r c))))
-      (more t rest g w (sub w.item (found_in (λ r. IsWithin r.body t) rest w))))
+      (filling_more t rest g w))
       (λ none. (t, done t rest g none))
       (search_list (λ (r : Rule). IsWithin r.body t) (λ r. decide_within r.body t) rest)
 
   filled : (u : List ℕ) × IsFilled rules s u
-  filled = fill (length rules) s rules (omega arith) (λ r c. c) (record {
-    holds = λ x c. c;
-    sound = λ x c. given x c;
-    left = λ r c. inr c;
-  })
+  filled = fill (length rules) s rules (omega arith) filling_first
 
 closure_of_filled : (rules : List Rule) (s t : List ℕ) → IsFilled rules s t → IsClosureOf rules s t
 closure_of_filled rules s t f x = (f.sound x, derives_in rules (Contains s) t f.holds f.closed x)
+
+-- where no rule is left whose body is there, the list is what follows
+pub filling_closed : (rules : List Rule) (s t : List ℕ) (rest : List Rule) → IsFilling rules s t rest
+    → ((r : Rule) → Contains rest r → IsWithin r.body t → ⊥) → IsClosureOf rules s t
+filling_closed rules s t rest g none = closure_of_filled rules s t (done rules s t rest g none)
 
 pub closure_exists : (rules : List Rule) → ClosureExists rules
 closure_exists rules s = let f = filled rules s in (f.0, closure_of_filled rules s f.0 f.1)

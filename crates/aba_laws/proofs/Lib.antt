@@ -5,3 +5,6 @@ pub mod CollectiveGrounded
 pub mod DerivationLemmas
 pub mod DeductionLemmas
 pub mod AbaLemmas
+pub mod DecidingLemmas
+pub mod FillingLemmas
+pub mod Images

@@ -14,7 +14,8 @@ use Rattle.aba_semantics.specs.Rules.{Rule}
 use Rattle.aba_semantics.specs.AbaFrameworks.{IsRuleOf, IsNumberedAba}
 use Rattle.aba_notions.specs.declared.rule_table.RuleLists.{RuleLists}
 use Rattle.aba_notions.specs.Storage.{no_rule, rule_at, rule_of, rules_of, aba_of, AreContraries, AreParts, AreRulesOf}
-use Rattle.aba_notions.proofs.TableLemmas.{image_there, image_from, rule_from, rising_few}
+use Rattle.aba_laws.proofs.Images.{image_there, image_from}
+use Rattle.aba_notions.proofs.TableLemmas.{rule_from, rising_few}
 
 -- ---- rising lists with the same members
 
