@@ -5,6 +5,7 @@ pub mod CollectiveGrounded
 pub mod DerivationLemmas
 pub mod DeductionLemmas
 pub mod AbaLemmas
+pub mod AfAgreement
 pub mod DecidingLemmas
 pub mod FillingLemmas
 pub mod Images

@@ -1,8 +1,11 @@
-//! The laws of assumption-based frameworks. Each function does nothing; its contract is the law.
+//! The laws of assumption-based frameworks, and of abstract ones as frameworks with collective attacks. Each function
+//! does nothing; its contract is the law.
 
 ghost use Rattle.std.specs.Prelude.{List};
 ghost use Rattle.aba_semantics.specs.AbaFrameworks.{Aba, collective_of};
 ghost use Rattle.aba_semantics.specs.Rules.{Rule};
+ghost use Rattle.semantics.specs.Framework.{Af, IsAf};
+ghost use Rattle.aba_laws.specs.AfNotions.{NotionsAgree};
 ghost use Rattle.aba_laws.specs.Laws.{AdmissibleBySets, AdmissibleIsInPreferred, ClosureExists, ClosureIsLeast, DefendedIsAdmissible, DefendsByRest};
 ghost use Rattle.aba_laws.specs.Laws.{DerivedIsDeduced, GroundedIsUnique, IdealIsUnique, InAllIsUnattacked, PreferredIsComplete, StableIsPreferred, UnionIsAdmissible};
 
@@ -69,4 +72,10 @@ pub fn in_all_is_unattacked()
 /// A framework has one ideal set alone, and it is admissible.
 pub fn ideal_is_unique()
     ensures { (f : Aba) → IdealIsUnique (collective_of f) }
+{}
+
+/// Each notion of a well-formed abstract framework is that of collective attacks, in which a set attacks what a member
+/// attacks.
+pub fn notions_agree()
+    ensures { (f : Af) → IsAf f → NotionsAgree f }
 {}
