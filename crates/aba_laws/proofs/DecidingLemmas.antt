@@ -59,9 +59,6 @@ member_walk f derived set' r walk =
 pub record EachBefore {X : Type 0} (P : X → Type 0) (xs : List X) (n : ℕ) : Type 0 where
   pub holds : (k : ℕ) (d : X) → k < n → P (get_or xs k d)
 
-pub each_none : {X : Type 0} (P : X → Type 0) (xs : List X) → EachBefore P xs 0
-each_none P xs = record { holds = λ k d lt. absurd (omega arith) }
-
 pub each_more : {X : Type 0} (P : X → Type 0) (xs : List X) (n : ℕ) (x : X) → n < length xs → x ≡ get_or xs n x
     → P x → EachBefore P xs n → EachBefore P xs (n + 1)
 each_more P xs n x lt is here before = record {
@@ -78,13 +75,6 @@ each_next P xs n d lt here before =
 pub each_same : (P : ℕ → Type 0) (b : Bool) (xs ys : List ℕ) → xs ≡ ys
     → IsTrue b ↔ ((a : ℕ) → Contains xs a → P a) → IsTrue b ↔ ((a : ℕ) → Contains ys a → P a)
 each_same P b xs ys e test = subst (λ zs. IsTrue b ↔ ((a : ℕ) → Contains zs a → P a)) e test
-
-pub each_all : {X : Type 0} (P : X → Type 0) (xs : List X) (n : ℕ) → length xs ≤ n → EachBefore P xs n → (x : X)
-    → Contains xs x → P x
-each_all P xs n past each x c = subst P c.2 (each.holds c.0 x (omega (arith, c.1, past)))
-
-pub item_there : {X : Type 0} (xs : List X) (n : ℕ) (x : X) → n < length xs → x ≡ get_or xs n x → Contains xs x
-item_there xs n x lt is = (n, lt, sym is)
 
 -- ---- attacks by theories
 
@@ -171,12 +161,6 @@ module _ (f : Aba) where
 pub record HasTheories (f : Aba) (sets : List (List ℕ)) (n : ℕ) (all : List Theory) : Type 0 where
   pub theories : (t : Theory) → Contains all t → IsTheory f t
   pub listed : (k : ℕ) (d : List ℕ) → k < n → (t : Theory) × Contains all t × (t.set ≡ get_or sets k d)
-
-pub theories_none : (f : Aba) (sets : List (List ℕ)) (all : List Theory) → all ≡ [] → HasTheories f sets 0 all
-theories_none f sets all e = rw e (record {
-  theories = λ t c. absurd (Contains-nil t c);
-  listed = λ k d lt. absurd (omega arith);
-})
 
 pub theories_more : (f : Aba) (sets : List (List ℕ)) (n : ℕ) (set' : List ℕ) (t : Theory) (old new : List Theory)
     → HasTheories f sets n old → n < length sets → set' ≡ get_or sets n set' → t.set ≡ set'

@@ -31,19 +31,6 @@ filled_more rules s t left i r new rest g lt ready is kept made =
     } in
     rw (made, kept, map-append rule_of front back) (filling_more rules s t (map rule_of left) g w)
 
--- one rule fewer is left
-pub fewer_left : (left rest : List PlainRule) (i : ℕ) → i < length left → rest ≡ take i left ++ drop (i + 1) left
-    → length rest < length left
-fewer_left left rest i lt kept =
-    omega (
-      arith,
-      lt,
-      ap length kept,
-      length-append (take i left) (drop (i + 1) left),
-      length-take i left,
-      length-drop (i + 1) left,
-    )
-
 -- no rule is ready
 pub filled_all : (rules : List Rule) (s t : List ℕ) (left : List PlainRule) → IsFilling rules s t (map rule_of left)
     → ((r : PlainRule) → Contains left r → IsWithin r.body.now t → ⊥) → IsClosureOf rules s t
