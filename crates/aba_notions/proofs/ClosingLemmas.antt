@@ -423,12 +423,6 @@ derived_exactly atoms rules heads uses s first second third tabled long sound en
 
 -- ---- the list of what is derived
 
-pub lists_none : (derived : List Bool) (found : List ℕ) → found ≡ [] → ListsDerived derived 0 found
-lists_none derived found e = rw e (record {
-  rises = λ k lt. absurd (omega arith);
-  members = λ x. (λ c. absurd (omega (arith, c.1)), λ w. absurd (omega (arith, w.0)));
-})
-
 pub lists_more : (derived : List Bool) (n at : ℕ) (old new : List ℕ) → ListsDerived derived n old → at ≡ n
     → is_derived derived n ≡ true → new ≡ old ++ at ∷ [] → ListsDerived derived (n + 1) new
 lists_more derived n at old new h is marked made = rw made (record {

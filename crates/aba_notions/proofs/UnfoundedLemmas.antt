@@ -30,19 +30,6 @@ none_more atoms body n before out k lt =
     ⊎_elim (λ (e : k ≡ n). subst (λ j. Contains atoms (get_or body j (0, 0)).1 → ⊥) (sym e) out)
     (λ ne. before k (omega (arith, lt, ne))) (cases_eq k n)
 
-pub shared_here : (atoms body : List ℕ) (pairs : List (ℕ × ℕ)) (n : ℕ)
-    → map (λ (p : ℕ × ℕ). p.1) pairs ≡ body → n < length pairs → Contains atoms (get_or pairs n (0, 0)).1
-    → IsShared atoms body (get_or pairs n (0, 0)).1
-shared_here atoms body pairs n is lt c =
-    inl (
-      c,
-      subst (λ xs. Contains xs (get_or pairs n (0, 0)).1) is (
-        n,
-        omega (arith, lt, length-map pairs (λ (p : ℕ × ℕ). p.1)),
-        get_or-map (λ (p : ℕ × ℕ). p.1) pairs n (0, 0) (get_or pairs n (0, 0)).1 lt,
-      ),
-    )
-
 pub shared_none : (atoms body : List ℕ) (pairs : List (ℕ × ℕ)) (n : ℕ)
     → map (λ (p : ℕ × ℕ). p.1) pairs ≡ body → length pairs ≤ n → NoneShared atoms pairs n → IsShared atoms body 0
 shared_none atoms body pairs n is past none = inr (

@@ -59,10 +59,6 @@ pub record FiresInSearch (heads : List ℕ) (uses : List (ℕ × ℕ)) (k : ℕ)
       new.pending.items
   pub counts : new.open_atoms.items ≡ old.open_atoms.items
 
--- what was derived still is
-abbrev pub StaysDerived : List Bool → List Bool → Type 0
-StaysDerived derived derived' = (x : ℕ) → is_derived derived x ≡ true → is_derived derived' x ≡ true
-
 -- the state of a search over the rules of a table
 abbrev pub IsSearchOf : RuleTable → (ℕ → Type 0) → ℕ → Search → Type 0
 IsSearchOf t Given due s =
