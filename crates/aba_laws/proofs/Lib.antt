@@ -1,0 +1,11 @@
+pub mod Choosing
+pub mod CollectiveSets
+pub mod CollectiveExtensions
+pub mod CollectiveGrounded
+pub mod DerivationLemmas
+pub mod DeductionLemmas
+pub mod AbaLemmas
+pub mod AfAgreement
+pub mod DecidingLemmas
+pub mod FillingLemmas
+pub mod Images

@@ -1,0 +1,10 @@
+use Rattle.aba_semantics.specs.AbaFrameworks.{collective_of}
+use Rattle.aba_laws.specs.declared.theories.Theory.{Theory}
+use Rattle.aba_laws.specs.Deciding.{AbaOf, IsInPreferred}
+use Rattle.aba_laws.proofs.DecidingLemmas.{EachBefore}
+use Rattle.aba_laws.proofs.deciding.is_in_each_preferred.Given as goal
+
+abbrev pub invariant-loop-other : goal.invariant-loop-other
+invariant-loop-other l =
+    EachBefore (λ (t : Theory). IsInPreferred (collective_of (AbaOf l.f)) l.s.set t.set) l.all
+    l.other-index

@@ -1,0 +1,3 @@
+pub mod AfNotions
+pub mod Deciding
+pub mod Laws

@@ -1,0 +1,182 @@
+-- A framework that is made of parts in order is in its form.
+use Rattle.std.proofs.Common.{◌≡◌, ℕ, ◌+◌, ◌<◌, ◌≤◌, List, [], ◌∷◌, length, get_or, map, arith, ap, sym, subst, ◌∙◌, refl, eqb, ⊎_elim}
+use Rattle.std.specs.Prelude.{Contains, ◌↔◌, filter}
+use Rattle.std.specs.List.Sorted.{IsStrictlyIncreasing}
+use Rattle.std.proofs.lemmas.Bool.{eqb-true}
+use Rattle.std.proofs.lemmas.List.{get_or_default, get_or-map, length-map}
+use Rattle.std.proofs.lemmas.List.Elements.{Contains-get_or}
+use Rattle.plain_lists.proofs.Filters.{Contains-filter}
+use Rattle.plain_lists.proofs.Membership.{Contains-nil, Contains-head, Contains-tail, Contains-cons_cases}
+use Rattle.set_lists.proofs.Rising.{below_across, rises_right}
+use Rattle.attack_index.specs.PairOrder.{PairsRise}
+use Rattle.attack_index.proofs.OffsetLemmas.{PairsRise-filter}
+use Rattle.aba_semantics.specs.Rules.{Rule}
+use Rattle.aba_semantics.specs.AbaFrameworks.{IsRuleOf, IsNumberedAba}
+use Rattle.aba_notions.specs.declared.rule_table.RuleLists.{RuleLists}
+use Rattle.aba_notions.specs.Storage.{no_rule, rule_at, rule_of, rules_of, aba_of, AreContraries, AreParts, AreRulesOf}
+use Rattle.aba_laws.proofs.Images.{image_there, image_from}
+use Rattle.aba_notions.proofs.TableLemmas.{rule_from, rising_few}
+
+-- ---- rising lists with the same members
+
+below_head : (x : ℕ) (xs : List ℕ) (y : ℕ) → IsStrictlyIncreasing (x ∷ xs) → Contains xs y → x < y
+below_head x xs y rises c = below_across (x ∷ []) xs rises x y (Contains-head x [] x refl) c
+
+same_first : (x y : ℕ) (xs ys : List ℕ) → IsStrictlyIncreasing (x ∷ xs) → IsStrictlyIncreasing (y ∷ ys)
+    → ((a : ℕ) → Contains (x ∷ xs) a ↔ Contains (y ∷ ys) a) → x ≡ y
+same_first x y xs ys up_x up_y same =
+    ⊎_elim (λ e. sym e)
+    (λ (c : Contains ys x). ⊎_elim (λ e. e)
+    (λ (d : Contains xs y).
+    absurd (let a = below_head x xs y up_x d in let b = below_head y ys x up_y c in omega arith))
+    (Contains-cons_cases x xs y ((same y).1 (Contains-head y ys y refl))))
+    (Contains-cons_cases y ys x ((same x).0 (Contains-head x xs x refl)))
+
+same_rest : (x y : ℕ) (xs ys : List ℕ) → IsStrictlyIncreasing (x ∷ xs) → x ≡ y
+    → ((a : ℕ) → Contains (x ∷ xs) a → Contains (y ∷ ys) a) → (a : ℕ) → Contains xs a → Contains ys a
+same_rest x y xs ys up e there a c =
+    ⊎_elim (λ (f : y ≡ a). absurd (let lt = below_head x xs a up c in omega arith)) (λ d. d)
+    (Contains-cons_cases y ys a (there a (Contains-tail x xs a c)))
+
+pub same_rising : (xs ys : List ℕ) → IsStrictlyIncreasing xs → IsStrictlyIncreasing ys
+    → ((a : ℕ) → Contains xs a ↔ Contains ys a) → xs ≡ ys
+same_rising [] [] up_x up_y same = refl
+same_rising [] (y ∷ ys) up_x up_y same = absurd (Contains-nil y ((same y).1 (Contains-head y ys y refl)))
+same_rising (x ∷ xs) [] up_x up_y same = absurd (Contains-nil x ((same x).0 (Contains-head x xs x refl)))
+same_rising (x ∷ xs) (y ∷ ys) up_x up_y same =
+    let e : x ≡ y = same_first x y xs ys up_x up_y same in
+    let rest : xs ≡ ys = same_rising xs ys (rises_right (x ∷ []) xs up_x) (rises_right (y ∷ []) ys up_y) (λ a. (
+      same_rest x y xs ys up_x e (λ b. (same b).0) a,
+      same_rest y x ys xs up_y (sym e) (λ b. (same b).1) a,
+    )) in
+    ap (λ z. z ∷ xs) e ∙ ap (λ zs. y ∷ zs) rest
+
+-- ---- rising pairs
+
+-- the first numbers of rising pairs rise where no two pairs share one
+firsts_rise : (pairs : List (ℕ × ℕ)) → PairsRise pairs
+    → ((a c d : ℕ) → Contains pairs (a, c) → Contains pairs (a, d) → c ≡ d)
+    → IsStrictlyIncreasing (map (λ (p : ℕ × ℕ). p.0) pairs)
+firsts_rise pairs up one k lt =
+    let size = length-map pairs (λ (p : ℕ × ℕ). p.0) in
+    let p : ℕ × ℕ = get_or pairs k (0, 0) in
+    let q : ℕ × ℕ = get_or pairs (k + 1) (0, 0) in
+    let second : k + 1 < length pairs = omega (arith, lt, size) in
+    let less : p.0 < q.0 = ⊎_elim (λ h. h)
+    (λ tie. absurd (omega (
+      arith,
+      tie.1,
+      one q.0 p.1 q.1
+          (subst (λ a. Contains pairs (a, p.1)) tie.0 (Contains-get_or pairs k (0, 0) (omega arith)))
+          (Contains-get_or pairs (k + 1) (0, 0) second),
+    )))
+    (up.order k (k + 1) (0, 0) (omega arith) second) in
+    omega (
+      arith,
+      less,
+      get_or-map (λ (p : ℕ × ℕ). p.0) pairs k (0, 0) 0 (omega arith),
+      get_or-map (λ (p : ℕ × ℕ). p.0) pairs (k + 1) (0, 0) 0 second,
+    )
+
+-- the second numbers of rising pairs rise where all begin with one number
+seconds_rise : (pairs : List (ℕ × ℕ)) (n : ℕ) → PairsRise pairs → ((p : ℕ × ℕ) → Contains pairs p → p.0 ≡ n)
+    → IsStrictlyIncreasing (map (λ (p : ℕ × ℕ). p.1) pairs)
+seconds_rise pairs n up all k lt =
+    let size = length-map pairs (λ (p : ℕ × ℕ). p.1) in
+    let p : ℕ × ℕ = get_or pairs k (0, 0) in
+    let q : ℕ × ℕ = get_or pairs (k + 1) (0, 0) in
+    let second : k + 1 < length pairs = omega (arith, lt, size) in
+    let less : p.1 < q.1 = ⊎_elim
+    (λ h. absurd (omega (
+      arith,
+      h,
+      all p (Contains-get_or pairs k (0, 0) (omega arith)),
+      all q (Contains-get_or pairs (k + 1) (0, 0) second),
+    )))
+    (λ tie. tie.1)
+    (up.order k (k + 1) (0, 0) (omega arith) second) in
+    omega (
+      arith,
+      less,
+      get_or-map (λ (p : ℕ × ℕ). p.1) pairs k (0, 0) 0 (omega arith),
+      get_or-map (λ (p : ℕ × ℕ). p.1) pairs (k + 1) (0, 0) 0 second,
+    )
+
+-- the body of a rule rises
+body_rises : (numbers heads : List ℕ) (bodies : List (ℕ × ℕ)) (k : ℕ) → PairsRise bodies
+    → IsStrictlyIncreasing (rule_of numbers heads bodies k).body
+body_rises numbers heads bodies k up =
+    seconds_rise (filter (λ p. eqb p.0 k) bodies) k (PairsRise-filter (λ p. eqb p.0 k) bodies up)
+    (λ p c. eqb-true p.0 k ((Contains-filter (λ (q : ℕ × ℕ). eqb q.0 k) bodies p).0 c).1)
+
+-- ---- a framework's form
+
+-- each assumption has one contrary, in the order of the assumptions
+one_each : (atoms : ℕ) (assumptions : List ℕ) (given contraries : List (ℕ × ℕ)) → IsStrictlyIncreasing assumptions
+    → AreContraries atoms assumptions given → PairsRise contraries
+    → ((p : ℕ × ℕ) → Contains contraries p ↔ Contains given p)
+    → map (λ (p : ℕ × ℕ). p.0) contraries ≡ assumptions
+one_each atoms assumptions given contraries up are rise same =
+    same_rising (map (λ (p : ℕ × ℕ). p.0) contraries) assumptions
+    (firsts_rise contraries rise (λ a c d left right. are.one a c d ((same (a, c)).0 left) ((same (a, d)).0 right))) up
+    (λ a. (
+      λ c. let from = image_from (λ (p : ℕ × ℕ). p.0) contraries a c in
+          subst (λ x. Contains assumptions x) from.2 (are.of_assumptions from.0.0 from.0.1 ((same from.0).0 from.1)).0,
+      λ c. let w = are.some a c in
+          image_there (λ (p : ℕ × ℕ). p.0) contraries (a, w.0) ((same (a, w.0)).1 w.1),
+    ))
+
+-- a rule of a table that was made of lists
+rule_is : (atoms : ℕ) (assumptions : List ℕ) (given contraries : List (ℕ × ℕ)) (lists : RuleLists) (next : ℕ)
+    (numbers heads : List ℕ) (bodies : List (ℕ × ℕ)) → AreParts atoms assumptions given lists next → PairsRise bodies
+    → AreRulesOf lists.numbers.items lists.heads.items lists.bodies.items (rules_of numbers heads bodies)
+    → (r : Rule) → Contains (rules_of numbers heads bodies) r
+    → IsRuleOf (aba_of atoms assumptions contraries (rules_of numbers heads bodies) next) r
+rule_is atoms assumptions given contraries lists next numbers heads bodies parts rise are r c =
+    let rules = rules_of numbers heads bodies in
+    let number : Contains lists.numbers.items r.number =
+    subst (λ ns. Contains ns r.number) are.numbers_are (image_there (λ (q : Rule). q.number) rules r c) in
+    let head : Contains lists.heads.items r.head =
+    subst (λ hs. Contains hs r.head) are.heads_are (image_there (λ (q : Rule). q.head) rules r c) in
+    let from = rule_from numbers heads bodies r c in
+    let at : rule_at rules c.0 ≡ r = get_or_default rules c.0 no_rule r c.1 ∙ c.2 in
+    record {
+      low = (parts.numbers_are r.number number).0;
+      given = (parts.numbers_are r.number number).1;
+      head = parts.rules_are.heads_are r.head head;
+      flat = parts.flat r.head head;
+      body_rises = subst (λ (q : Rule). IsStrictlyIncreasing q.body) from.2
+          (body_rises numbers heads bodies from.0 rise);
+      body = λ y in_body. (parts.rules_are.bodies_are c.0 y
+          ((are.bodies_are c.0 y c.1).0 (subst (λ (q : Rule). Contains q.body y) (sym at) in_body))).1;
+    }
+
+pub formed : (atoms : ℕ) (assumptions : List ℕ) (given contraries : List (ℕ × ℕ)) (lists : RuleLists) (next : ℕ)
+    (numbers heads : List ℕ) (bodies : List (ℕ × ℕ)) → IsStrictlyIncreasing assumptions
+    → AreParts atoms assumptions given lists next → PairsRise contraries
+    → ((p : ℕ × ℕ) → Contains contraries p ↔ Contains given p) → PairsRise bodies
+    → AreRulesOf lists.numbers.items lists.heads.items lists.bodies.items (rules_of numbers heads bodies)
+    → IsNumberedAba (aba_of atoms assumptions contraries (rules_of numbers heads bodies) next)
+formed atoms assumptions given contraries lists next numbers heads bodies up parts rise same bodies_rise are = record {
+  form = record {
+    assumptions_rise = up;
+    assumptions_are = parts.assumptions_are;
+    one_contrary = one_each atoms assumptions given contraries up parts.contraries_are rise same;
+    contraries_are = λ a c in'. (parts.contraries_are.of_assumptions a c ((same (a, c)).0 in')).1;
+    numbers_rise = subst IsStrictlyIncreasing (sym are.numbers_are) parts.numbers_rise;
+    rules_are = rule_is atoms assumptions given contraries lists next numbers heads bodies parts bodies_rise are;
+    next_is = parts.next_low;
+  };
+  atoms = parts.atoms_small;
+  rules = parts.next_small;
+}
+
+-- there are no more rules than there are numbers for them
+pub few_rules : (atoms last : ℕ) (assumptions : List ℕ) (given : List (ℕ × ℕ)) (lists : RuleLists) (next : ℕ)
+    → AreParts atoms assumptions given lists next → next ≤ last + 1 → length lists.heads.items ≤ last
+few_rules atoms last assumptions given lists next parts small =
+    omega (
+      arith,
+      parts.rules_are.long,
+      rising_few lists.numbers.items next parts.numbers_rise parts.numbers_are parts.next_low,
+    )

@@ -1,0 +1,7 @@
+pub mod AttackLemmas
+pub mod ClosingLemmas
+pub mod FormLemmas
+pub mod GroundedLemmas
+pub mod SolidLemmas
+pub mod TableLemmas
+pub mod UnfoundedLemmas

@@ -1,0 +1,5 @@
+pub mod Attacks
+pub mod Closing
+pub mod Solid
+pub mod Storage
+pub mod Unfounded

@@ -1,0 +1,3 @@
+pub mod AbaFrameworks
+pub mod Collectives
+pub mod Rules

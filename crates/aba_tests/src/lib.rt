@@ -1,0 +1,5 @@
+//! Tests of what no clause says in the crates of assumption-based frameworks.
+#![tactic(auto)]
+
+#[cfg(test)]
+mod definitions;
