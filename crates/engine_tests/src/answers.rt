@@ -1,8 +1,5 @@
 //! Queries that one engine gets in turn, with what each comes to, worked out by hand from the definitions.
 
-ghost use Rattle.std.specs.Prelude.{◌≤◌};
-ghost use Rattle.hinted_log.specs.declared.log.TheConstants.{MOST_STEPS};
-
 use dung_notions::AfPlain;
 use edit_rules::{Framework, QueryFault};
 use hinted_log::MOST_STEPS;
