@@ -42,7 +42,10 @@ fn tasks_and_files(rt: HostRuntime) -> Result<(), Fail> {
         ("-p SE-GR -f check", "SE-GR", "check"),
     ];
     for (line, task, file) in rows {
-        assert!(rt; reads_as(rt.alloc(), line, query(task, file)) == Some(true), "{line}");
+        assert!(rt;
+            reads_as(rt.alloc(), line, query(task, file)) == Some(true),
+            "{line}"
+        );
     }
     Ok(())
 }
@@ -70,8 +73,14 @@ fn words_of_each_kind(rt: HostRuntime) -> Result<(), Fail> {
         ("", Command::Version),
         ("--problems", Command::Problems),
         ("-c c -b 10 -a 3 -f a -p DC-CO", solve),
-        ("check -r b -c c -f a -p DS-PR -a 4", check("DS-PR", Some("4"), "a")),
-        ("check -p SE-ST -f check -r b -c c", check("SE-ST", None, "check")),
+        (
+            "check -r b -c c -f a -p DS-PR -a 4",
+            check("DS-PR", Some("4"), "a"),
+        ),
+        (
+            "check -p SE-ST -f check -r b -c c",
+            check("SE-ST", None, "check"),
+        ),
     ];
     for (line, wanted) in rows {
         assert!(rt; reads_as(rt.alloc(), line, wanted) == Some(true), "{line}");
@@ -106,7 +115,10 @@ fn words_of_no_command(rt: HostRuntime) -> Result<(), Fail> {
         "check",
     ];
     for line in lines {
-        assert!(rt; reads_as(rt.alloc(), line, Command::Unknown) == Some(true), "{line}");
+        assert!(rt;
+            reads_as(rt.alloc(), line, Command::Unknown) == Some(true),
+            "{line}"
+        );
     }
     Ok(())
 }
