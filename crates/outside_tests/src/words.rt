@@ -21,6 +21,17 @@ fn query<'a>(task: &'a str, file: &'a str) -> Command<'a> {
     })
 }
 
+/// The check of the answer in `b` with the certificate in `c`.
+fn check<'a>(task: &'a str, number: Option<&'a str>, file: &'a str) -> Command<'a> {
+    Command::Check(CheckWords {
+        task,
+        number,
+        file,
+        answer: "b",
+        certificate: "c",
+    })
+}
+
 /// Whether the line's words are read as the command.
 fn reads_as(alloc: Global, line: &str, wanted: Command) -> Option<bool> {
     let words = words_in(alloc, line).ok()?;
@@ -60,15 +71,6 @@ fn words_of_each_kind(rt: HostRuntime) -> Result<(), Fail> {
         budget: Some("10"),
         certificate: Some("c"),
     });
-    let check = |task, number, file| {
-        Command::Check(CheckWords {
-            task,
-            number,
-            file,
-            answer: "b",
-            certificate: "c",
-        })
-    };
     let rows = [
         ("", Command::Version),
         ("--problems", Command::Problems),
