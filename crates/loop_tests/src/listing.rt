@@ -1,5 +1,7 @@
 //! The loops that list sets, by the kind of the sets.
 
+ghost use Rattle.std.specs.Prelude.{◌≡◌};
+
 use enumerate_block::{Extensions, all};
 use enumerate_modes::{Listed, all_with_mode};
 use enumerate_preferred::all_preferred;
@@ -73,7 +75,17 @@ pub(crate) fn list(
     Some(sets_listed(listed.ok()?))
 }
 
-/// Lists the extensions of a semantics by the task that asks for all.
+/// The task that asks for all extensions.
+fn task_of(semantics: Semantics) -> Task
+    ensures { result ≡ record { problem = Problem.AllExtensions; semantics = semantics } }
+{
+    Task {
+        problem: Problem::AllExtensions,
+        semantics,
+    }
+}
+
+/// Lists the extensions of a semantics by that task.
 fn extensions(
     alloc: Global,
     oracle: &mut SmallOracle,
@@ -81,47 +93,22 @@ fn extensions(
     limit: usize,
 ) -> Result<Extensions, Halt> {
     let mut budget = Budget::new(1_000);
-    let problem = Problem::AllExtensions;
     match kind {
         Kind::Complete => {
-            let semantics = Semantics::Complete;
-            all(
-                alloc,
-                oracle,
-                &mut budget,
-                Task { problem, semantics },
-                limit,
-            )
+            let task = task_of(Semantics::Complete);
+            all(alloc, oracle, &mut budget, task, limit)
         }
         Kind::Stable => {
-            let semantics = Semantics::Stable;
-            all(
-                alloc,
-                oracle,
-                &mut budget,
-                Task { problem, semantics },
-                limit,
-            )
+            let task = task_of(Semantics::Stable);
+            all(alloc, oracle, &mut budget, task, limit)
         }
         Kind::Preferred => {
-            let semantics = Semantics::Preferred;
-            all(
-                alloc,
-                oracle,
-                &mut budget,
-                Task { problem, semantics },
-                limit,
-            )
+            let task = task_of(Semantics::Preferred);
+            all(alloc, oracle, &mut budget, task, limit)
         }
         Kind::SemiStable => {
-            let semantics = Semantics::SemiStable;
-            all(
-                alloc,
-                oracle,
-                &mut budget,
-                Task { problem, semantics },
-                limit,
-            )
+            let task = task_of(Semantics::SemiStable);
+            all(alloc, oracle, &mut budget, task, limit)
         }
     }
 }

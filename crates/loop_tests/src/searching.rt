@@ -23,8 +23,8 @@ fn find(
     Some(oracle.find(alloc, goals, &mut budget))
 }
 
-/// Whether an oracle for a framework finds the set, which alone makes the goals true, or refutes the goals where there is
-/// no set.
+/// Whether an oracle for a framework finds the set, which alone makes the goals true, or refutes the goals where there
+/// is no set.
 fn finds(
     alloc: Global,
     framework: &Worked<'_>,

@@ -21,6 +21,17 @@ fn query<'a>(task: &'a str, file: &'a str) -> Command<'a> {
     })
 }
 
+/// The check of the answer in `b` with the certificate in `c`.
+fn check<'a>(task: &'a str, number: Option<&'a str>, file: &'a str) -> Command<'a> {
+    Command::Check(CheckWords {
+        task,
+        number,
+        file,
+        answer: "b",
+        certificate: "c",
+    })
+}
+
 /// Whether the line's words are read as the command.
 fn reads_as(alloc: Global, line: &str, wanted: Command) -> Option<bool> {
     let words = words_in(alloc, line).ok()?;
@@ -42,7 +53,10 @@ fn tasks_and_files(rt: HostRuntime) -> Result<(), Fail> {
         ("-p SE-GR -f check", "SE-GR", "check"),
     ];
     for (line, task, file) in rows {
-        assert!(rt; reads_as(rt.alloc(), line, query(task, file)) == Some(true), "{line}");
+        assert!(rt;
+            reads_as(rt.alloc(), line, query(task, file)) == Some(true),
+            "{line}"
+        );
     }
     Ok(())
 }
@@ -57,21 +71,18 @@ fn words_of_each_kind(rt: HostRuntime) -> Result<(), Fail> {
         budget: Some("10"),
         certificate: Some("c"),
     });
-    let check = |task, number, file| {
-        Command::Check(CheckWords {
-            task,
-            number,
-            file,
-            answer: "b",
-            certificate: "c",
-        })
-    };
     let rows = [
         ("", Command::Version),
         ("--problems", Command::Problems),
         ("-c c -b 10 -a 3 -f a -p DC-CO", solve),
-        ("check -r b -c c -f a -p DS-PR -a 4", check("DS-PR", Some("4"), "a")),
-        ("check -p SE-ST -f check -r b -c c", check("SE-ST", None, "check")),
+        (
+            "check -r b -c c -f a -p DS-PR -a 4",
+            check("DS-PR", Some("4"), "a"),
+        ),
+        (
+            "check -p SE-ST -f check -r b -c c",
+            check("SE-ST", None, "check"),
+        ),
     ];
     for (line, wanted) in rows {
         assert!(rt; reads_as(rt.alloc(), line, wanted) == Some(true), "{line}");
@@ -106,7 +117,10 @@ fn words_of_no_command(rt: HostRuntime) -> Result<(), Fail> {
         "check",
     ];
     for line in lines {
-        assert!(rt; reads_as(rt.alloc(), line, Command::Unknown) == Some(true), "{line}");
+        assert!(rt;
+            reads_as(rt.alloc(), line, Command::Unknown) == Some(true),
+            "{line}"
+        );
     }
     Ok(())
 }
