@@ -29,6 +29,17 @@ struct Asked<'a> {
     end: End<'a>,
 }
 
+/// A query with what it comes to.
+fn ask<'a>(task: &'a str, number: Option<u32>, budget: u64, limit: u32, end: End<'a>) -> Asked<'a> {
+    Asked {
+        task,
+        number,
+        budget,
+        limit,
+        end,
+    }
+}
+
 /// A framework, how many steps the log may have, and the queries in turn.
 #[derive(Drop)]
 struct Row<'a> {
@@ -91,73 +102,75 @@ fn all_hold(alloc: Global, row: &Row<'_>) -> Option<bool> {
     Some(true)
 }
 
+// 1 and 2 attack each other and both attack 3, which attacks 4.
+const FLOATING: &[(u32, u32)] = &[(1, 2), (2, 1), (1, 3), (2, 3), (3, 4)];
+
+/// The cover of 4 has two sets, with a side clause each.
 #[test]
-fn queries_in_turn(rt: HostRuntime) -> Result<(), Fail> {
-    let ask = |task, number, budget, limit, end| Asked {
-        task,
-        number,
-        budget,
-        limit,
-        end,
-    };
-    let spent = |count| End::Stops(AnswerStop::Spent(count));
-    // 1 and 2 attack each other and both attack 3, which attacks 4. The cover of 4 has two sets, with a side clause each.
-    let floating = [
-        ask("DS-PR", Some(4), 1, 10, spent(1)),
+fn goes_on_after_a_spent_budget(rt: HostRuntime) -> Result<(), Fail> {
+    let spent = End::Stops(AnswerStop::Spent(1));
+    let unknown = End::Stops(AnswerStop::Query(QueryFault::UnknownArgument(9)));
+    let asks = [
+        ask("DS-PR", Some(4), 1, 10, spent),
         ask("DS-PR", Some(4), 1_000_000, 10, End::Yes),
         ask("DC-PR", Some(3), 1_000_000, 10, End::No),
         ask("SE-GR", None, 0, 10, End::Sets(&[&[]])),
-        ask(
-            "DC-CO",
-            Some(9),
-            1_000_000,
-            10,
-            End::Stops(AnswerStop::Query(QueryFault::UnknownArgument(9))),
-        ),
+        ask("DC-CO", Some(9), 1_000_000, 10, unknown),
     ];
-    // No preferred set is shown without a side clause.
-    let unpaid = [ask("SE-PR", None, 0, 10, spent(0))];
-    // Three in a ring have no stable set, which takes a step to show.
-    let full = [ask(
-        "SE-ST",
-        None,
-        1_000_000,
-        10,
-        End::Stops(AnswerStop::LogFull),
-    )];
-    // 1 and 2 attack each other, 2 attacks 3, and 3 and 4 attack themselves: 1 and 2 alone are preferred.
-    let two = [
-        ask("EE-PR", None, 1_000_000, 1, End::Stops(AnswerStop::TooMany)),
+    let row = Row {
+        arguments: &[1, 2, 3, 4],
+        attacks: FLOATING,
+        steps: 1_000_000,
+        asks: &asks,
+    };
+    assert!(rt; all_hold(rt.alloc(), &row) == Some(true));
+    Ok(())
+}
+
+/// No preferred set is shown without a side clause.
+#[test]
+fn has_no_units(rt: HostRuntime) -> Result<(), Fail> {
+    let spent = End::Stops(AnswerStop::Spent(0));
+    let asks = [ask("SE-PR", None, 0, 10, spent)];
+    let row = Row {
+        arguments: &[1, 2, 3, 4],
+        attacks: FLOATING,
+        steps: 1_000_000,
+        asks: &asks,
+    };
+    assert!(rt; all_hold(rt.alloc(), &row) == Some(true));
+    Ok(())
+}
+
+/// Three in a ring have no stable set, which takes a step to show.
+#[test]
+fn has_a_full_log(rt: HostRuntime) -> Result<(), Fail> {
+    let full = End::Stops(AnswerStop::LogFull);
+    let asks = [ask("SE-ST", None, 1_000_000, 10, full)];
+    let row = Row {
+        arguments: &[1, 2, 3],
+        attacks: &[(1, 2), (2, 3), (3, 1)],
+        steps: 0,
+        asks: &asks,
+    };
+    assert!(rt; all_hold(rt.alloc(), &row) == Some(true));
+    Ok(())
+}
+
+/// 1 and 2 attack each other, 2 attacks 3, and 3 and 4 attack themselves: 1 and 2 alone are preferred.
+#[test]
+fn lists_no_more_than_the_limit(rt: HostRuntime) -> Result<(), Fail> {
+    let many = End::Stops(AnswerStop::TooMany);
+    let asks = [
+        ask("EE-PR", None, 1_000_000, 1, many),
         ask("EE-PR", None, 1_000_000, 2, End::Sets(&[&[1], &[2]])),
     ];
-    let rows = [
-        Row {
-            arguments: &[1, 2, 3, 4],
-            attacks: &[(1, 2), (2, 1), (1, 3), (2, 3), (3, 4)],
-            steps: 1_000_000,
-            asks: &floating,
-        },
-        Row {
-            arguments: &[1, 2, 3, 4],
-            attacks: &[(1, 2), (2, 1), (1, 3), (2, 3), (3, 4)],
-            steps: 1_000_000,
-            asks: &unpaid,
-        },
-        Row {
-            arguments: &[1, 2, 3],
-            attacks: &[(1, 2), (2, 3), (3, 1)],
-            steps: 0,
-            asks: &full,
-        },
-        Row {
-            arguments: &[1, 2, 3, 4],
-            attacks: &[(1, 2), (2, 1), (2, 3), (3, 3), (4, 4)],
-            steps: 1_000_000,
-            asks: &two,
-        },
-    ];
-    for (number, row) in rows.iter().enumerate() {
-        assert!(rt; all_hold(rt.alloc(), row) == Some(true), "row {number}");
-    }
+    let row = Row {
+        arguments: &[1, 2, 3, 4],
+        attacks: &[(1, 2), (2, 1), (2, 3), (3, 3), (4, 4)],
+        steps: 1_000_000,
+        asks: &asks,
+    };
+    assert!(rt; all_hold(rt.alloc(), &row) == Some(true));
     Ok(())
 }

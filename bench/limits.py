@@ -1,0 +1,67 @@
+#!/usr/bin/env python3
+"""Lists extensions up to their limit of 10,000, and past it.
+
+Groups of arguments that all attack each other have one stable set for each choice of one argument from every group:
+four groups of ten have 10,000, fourteen pairs 16,384; a further argument that attacks all and is attacked by all makes
+one set more. 10,000 sets are to be listed whole, in order and each once; with more, the run ends with status 7 and
+`error: limit extensions`.
+
+usage: bench/limits.py [--program PATH]
+"""
+import argparse
+import itertools
+import os
+import subprocess
+import sys
+import tempfile
+import time
+from pathlib import Path
+
+TOP = Path(__file__).resolve().parent.parent
+SETTINGS = {"GLIBC_TUNABLES": "glibc.malloc.hugetlb=1", "LD_BIND_NOW": "1", **os.environ}  # as ./argue sets them
+
+
+def groups(sizes):
+    """The groups of so many arguments each, numbered one after the other."""
+    first = 1
+    for size in sizes:
+        yield range(first, first + size)
+        first += size
+
+
+def framework(sizes, loners):
+    """The text of the framework of groups and of so many loners, and its stable sets in order."""
+    parts, last = list(groups(sizes)), sum(sizes)
+    attacks = [pair for part in parts for pair in itertools.permutations(part, 2)]
+    sets = list(itertools.product(*parts))
+    for loner in range(last + 1, last + loners + 1):
+        attacks += [pair for other in range(1, loner) for pair in ((loner, other), (other, loner))]
+        sets.append((loner,))
+    text = f"p af {last + loners}\n" + "".join(f"{b} {a}\n" for b, a in attacks)
+    return text, sorted(sets)
+
+
+def main():
+    words = argparse.ArgumentParser(description=__doc__.splitlines()[0])
+    words.add_argument("--program", default=str(TOP / "out" / "argue"))
+    program, wrong = words.parse_args().program, 0
+    with tempfile.TemporaryDirectory() as folder:
+        for sizes, loners in (([10] * 4, 0), ([10] * 4, 1), ([2] * 14, 0)):
+            text, sets = framework(sizes, loners)
+            file = Path(folder, "framework.af")
+            file.write_text(text, encoding="ascii")
+            listed = "".join("w" + "".join(f" {a}" for a in one) + "\n" for one in sets)
+            wanted = (0, listed) if len(sets) <= 10_000 else (7, "error: limit extensions\n")
+            for task in ("EE-ST", "EE-PR", "EE-SST"):
+                begin = time.perf_counter()
+                done = subprocess.run([program, "-p", task, "-f", str(file), "-b", "4000000000"], env=SETTINGS,
+                                      stdout=subprocess.PIPE, text=True)
+                right = (done.returncode, done.stdout) == wanted
+                wrong += not right
+                print(f"{task} with {len(sets):,} sets: {time.perf_counter() - begin:.1f} s, status {done.returncode}, "
+                      f"{'right' if right else 'WRONG'}")
+    sys.exit(1 if wrong else 0)
+
+
+if __name__ == "__main__":
+    main()
