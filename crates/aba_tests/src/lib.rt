@@ -2,4 +2,6 @@
 #![tactic(auto)]
 
 #[cfg(test)]
+mod aba_text;
+#[cfg(test)]
 mod definitions;

@@ -1,3 +1,4 @@
+pub mod AbaRows
 pub mod Rows
 pub mod Literals
 pub mod Gaps

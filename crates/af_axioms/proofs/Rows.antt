@@ -10,12 +10,13 @@ use Rattle.semantics.specs.Framework.{Af, Attacks, IsAttackedBy, Defends}
 use Rattle.semantics.specs.Frameworks.{Framework, af}
 use Rattle.meaning_atoms.specs.declared.atom.AtomLit.{AtomLit}
 use Rattle.meaning_atoms.specs.Literals.{affirmed, denied}
-use Rattle.meaning_atoms.specs.Worlds.{world_of, IsWorldOf, IsAfWorld, HasGap, HasTail, HasUnmet, IsTrueBeside, IsValid}
+use Rattle.meaning_atoms.specs.Worlds.{AnyFramework, solved, aba, world_of, IsWorldIn, IsAfWorld, HasGap, HasTail, HasUnmet, IsTrueBeside, IsValid}
 use Rattle.semantics.proofs.Decided.{decide_attacked}
 use Rattle.meaning_atoms.proofs.Valuations.{decide_unmet}
 use Rattle.semantics.proofs.Extensions.{stable_largest, preferred_complete}
 use Rattle.meaning_atoms.proofs.Clauses.{so, or_else, given}
 use Rattle.af_axioms.specs.Table.{table_clause, notion_clause}
+use Rattle.af_axioms.proofs.AbaRows.{rows_of_aba}
 
 -- the number of an attacker lies before the end of all positions
 before_end : (f : Af) (s : List ℕ) → IsAfWorld f s → (b a : ℕ) → Attacks f b a → b < 1000001
@@ -175,9 +176,10 @@ rows_of_af (A13 a) = attacked_are_in_range a
 rows_of_af (A14 part) = notions_imply part
 
 -- in worlds of each kind
-rows_of : (name : AfAxiom) (f : Framework) (s : List ℕ) → IsWorldOf f s → (sides : List (List AtomLit))
-    → IsTrueBeside (world_of f s) sides (table_clause name)
-rows_of name (af f) s ok sides = rows_of_af name f s ok sides
+rows_of : (name : AfAxiom) (f : AnyFramework) (s : List ℕ) → IsWorldIn f s → (sides : List (List AtomLit))
+    → IsTrueBeside (record { framework = f; set = s }) sides (table_clause name)
+rows_of name (solved (af f)) s ok sides = rows_of_af name f s ok sides
+rows_of name (aba f) s ok sides = rows_of_aba name f s ok sides
 
 pub rows_are_valid : (name : AfAxiom) → IsValid (table_clause name)
 rows_are_valid name w ok sides = rows_of name w.framework w.set ok sides

@@ -87,15 +87,15 @@ fn unmet_step(alloc: Global, a: u32, i: u32, j: u32) -> Result<Items<AtomLit>, M
     )
 }
 
-/// The list of literals in their order.
-fn list<const N: usize>(alloc: Global, literals: [AtomLit; N]) -> Result<Items<AtomLit>, Memory>
+/// The list of literals in their order. `Memory` says that an allocation was refused.
+pub fn list<const N: usize>(alloc: Global, literals: [AtomLit; N]) -> Result<Items<AtomLit>, Memory>
     ensures { IfOk result (λ clause. clause ≡ literals.entry) }
 {
     Ok(Items::from_vec(Vec::from_array(alloc, literals)?))
 }
 
 /// The literal that says an atom.
-fn yes(atom: Atom) -> AtomLit
+pub fn yes(atom: Atom) -> AtomLit
     ensures { result ≡ affirmed atom }
 {
     AtomLit {
@@ -105,7 +105,7 @@ fn yes(atom: Atom) -> AtomLit
 }
 
 /// The literal that says that an atom is not so.
-fn no(atom: Atom) -> AtomLit
+pub fn no(atom: Atom) -> AtomLit
     ensures { result ≡ denied atom }
 {
     AtomLit {

@@ -13,7 +13,7 @@ use Rattle.meaning_atoms.specs.declared.axiom.AfAxiom.{AfAxiom}
 use Rattle.meaning_atoms.specs.declared.axiom.AfAxiom.TheVariants.{A1, A2, A3, A4, A5, A6, A7, A8, A9}
 use Rattle.meaning_atoms.specs.declared.axiom.AfAxiom.TheVariants.{A10, A11, A12, A13, A14}
 use Rattle.meaning_atoms.specs.declared.axiom.AxiomName.{AxiomName}
-use Rattle.meaning_atoms.specs.declared.axiom.AxiomName.TheVariants.{Af as OfAf}
+use Rattle.meaning_atoms.specs.declared.axiom.AxiomName.TheVariants.{Af as OfAf, Aba as OfAba}
 use Rattle.meaning_atoms.specs.Worlds.{HasGap}
 use Rattle.dung_notions.specs.Neighbours.{ListsAttackers}
 use Rattle.af_encoding.specs.Enumerations.{Enumerates, GainsEach}
@@ -44,6 +44,7 @@ reach_of (A14 part) = 0
 
 abbrev pub reach : AxiomName → ℕ
 reach (OfAf name) = reach_of name
+reach (OfAba name) = 0
 
 -- the row of the table, those of A14 one after the other
 abbrev pub row_of : AfAxiom → ℕ
@@ -64,6 +65,7 @@ row_of (A14 part) = 13 + part
 
 abbrev pub row : AxiomName → ℕ
 row (OfAf name) = row_of name
+row (OfAba name) = 0
 
 -- the framework needs the axiom, it tells of a, and it stands before n, or just there
 abbrev pub IsNeededBelow : Af → ℕ → ℕ → AxiomName → Type 0
@@ -121,6 +123,7 @@ notions_back f ok (OfAf (A14 part)) h =
       same_one A14 3 part (let low : 1 ≤ part = h.0.0 in let high : part ≤ 3 = h.0.1 in omega arith),
     ))
     (cases_eq part 2)) (cases_eq part 1)
+notions_back f ok (OfAba name) h = absurd h.0
 notions_back f ok (OfAf (A1 a)) h = absurd (let low = live_low f ok a h.0 in let e : a ≡ 0 = h.1 in omega arith)
 notions_back f ok (OfAf (A2 b a)) h = absurd (let low = target_low f ok b a h.0 in let e : a ≡ 0 = h.1 in omega arith)
 notions_back f ok (OfAf (A3 b a)) h = absurd (let low = target_low f ok b a h.0 in let e : a ≡ 0 = h.1 in omega arith)
@@ -176,6 +179,7 @@ own_back f ok a live (OfAf (A8 c i j)) h =
 own_back f ok a live (OfAf (A9 c i)) h = absurd (let lt : 1000001 < 1 = h.1 in omega arith)
 own_back f ok a live (OfAf (A14 part)) h =
     absurd (let low = live_low f ok a live in let e : 0 ≡ a = h.0.1 in omega arith)
+own_back f ok a live (OfAba name) h = absurd h.0.0
 
 own_enumerated : (f : Af) → IsNumberedAf f → (a : ℕ) → Contains f.live a
     → Enumerates (IsNeededBelow f a 1) (own_names a)
@@ -235,6 +239,7 @@ attack_back f ok a i b step (OfAf (A13 c)) h =
     absurd (let low = attacker_low f ok b a step.attack in let e : 0 ≡ b = h.1 in omega arith)
 attack_back f ok a i b step (OfAf (A14 part)) h =
     absurd (let low = attacker_low f ok b a step.attack in let e : 0 ≡ b = h.1 in omega arith)
+attack_back f ok a i b step (OfAba name) h = absurd h.0.0
 
 attack_enumerated : (f : Af) → IsNumberedAf f → (a i b : ℕ) → IsWalkStep f a i b
     → Enumerates (IsNeededTo f a b) (attack_names a i b)
@@ -286,6 +291,7 @@ end_back f ok a i end (OfAf (A11 c)) h = absurd (let e : 0 ≡ 1000001 = h.1 in 
 end_back f ok a i end (OfAf (A12 c)) h = absurd (let e : 0 ≡ 1000001 = h.1 in omega arith)
 end_back f ok a i end (OfAf (A13 c)) h = absurd (let e : 0 ≡ 1000001 = h.1 in omega arith)
 end_back f ok a i end (OfAf (A14 part)) h = absurd (let e : 0 ≡ 1000001 = h.1 in omega arith)
+end_back f ok a i end (OfAba name) h = absurd h.0.0
 
 end_enumerated : (f : Af) → IsNumberedAf f → (a i : ℕ) → IsWalkEnd f a i
     → Enumerates (IsNeededTo f a 1000001) (end_names a i)
@@ -316,6 +322,7 @@ reach_attacks f a (OfAf (A11 c)) h low high = absurd (let le : 1 ≤ 0 = low in 
 reach_attacks f a (OfAf (A12 c)) h low high = absurd (let le : 1 ≤ 0 = low in omega arith)
 reach_attacks f a (OfAf (A13 c)) h low high = absurd (let le : 1 ≤ 0 = low in omega arith)
 reach_attacks f a (OfAf (A14 part)) h low high = absurd (let le : 1 ≤ 0 = low in omega arith)
+reach_attacks f a (OfAba name) h low high = absurd h.0
 
 reach_high : (f : Af) → IsNumberedAf f → (a : ℕ) (name : AxiomName) → IsNeededAt f a name → reach name ≤ 1000001
 reach_high f ok a (OfAf (A2 d c)) h = let high = attacker_high f ok d c h.0 in omega arith
@@ -332,6 +339,7 @@ reach_high f ok a (OfAf (A11 c)) h = omega arith
 reach_high f ok a (OfAf (A12 c)) h = omega arith
 reach_high f ok a (OfAf (A13 c)) h = omega arith
 reach_high f ok a (OfAf (A14 part)) h = omega arith
+reach_high f ok a (OfAba name) h = absurd h.0
 
 -- the walk along the pairs of a's attackers stands before the k-th, at position i, and the names so far are listed
 pub record HasWalked (f : Af) (a : ℕ) (pairs : List (ℕ × ℕ)) (k i : ℕ) (old new : List AxiomName) : Type 0 where
@@ -534,6 +542,7 @@ argument_known f ok (OfAf (A11 a)) h = inr h
 argument_known f ok (OfAf (A12 a)) h = inr h
 argument_known f ok (OfAf (A13 a)) h = inr h
 argument_known f ok (OfAf (A14 part)) h = inl refl
+argument_known f ok (OfAba name) h = absurd h
 
 pub names_end : (f : Af) → IsNumberedAf f → (n : ℕ) (names : List AxiomName) → length f.live ≤ n
     → GainsEach (IsNeededUpTo f n) [] names → Enumerates (IsNeeded (af f)) names
@@ -584,3 +593,4 @@ needed_is_name f ok (OfAf (A11 a)) h = ok.live a h
 needed_is_name f ok (OfAf (A12 a)) h = ok.live a h
 needed_is_name f ok (OfAf (A13 a)) h = ok.live a h
 needed_is_name f ok (OfAf (A14 part)) h = h
+needed_is_name f ok (OfAba name) h = h

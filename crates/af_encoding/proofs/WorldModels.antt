@@ -18,7 +18,7 @@ use Rattle.meaning_atoms.specs.declared.atom.AtomLit.{AtomLit}
 use Rattle.meaning_atoms.specs.declared.axiom.AfAxiom.TheVariants.{A1, A2, A3, A4, A5, A6, A7, A8, A9}
 use Rattle.meaning_atoms.specs.declared.axiom.AfAxiom.TheVariants.{A10, A11, A12, A13, A14}
 use Rattle.meaning_atoms.specs.declared.axiom.AxiomName.{AxiomName}
-use Rattle.meaning_atoms.specs.declared.axiom.AxiomName.TheVariants.{Af as OfAf}
+use Rattle.meaning_atoms.specs.declared.axiom.AxiomName.TheVariants.{Af as OfAf, Aba as OfAba}
 use Rattle.meaning_atoms.specs.Literals.{affirmed, negated}
 use Rattle.meaning_atoms.specs.Valuations.{IsValuation}
 use Rattle.meaning_atoms.specs.Worlds.{world_of, IsAfWorld, Says, Holds, HoldsOfAf, IsAfFact, IsTrueBeside}
@@ -222,6 +222,7 @@ clause_spoken f ok (OfAf (A11 a)) h =
 clause_spoken f ok (OfAf (A12 a)) h = (member_spoken f a h, (range_spoken f a h, tt))
 clause_spoken f ok (OfAf (A13 a)) h = (tail_spoken f a 1 h (first_start f), (range_spoken f a h, tt))
 clause_spoken f ok (OfAf (A14 part)) h = notion_spoken f part
+clause_spoken f ok (OfAba name) h = absurd h
 
 spoken : (f : Af) → IsNumberedAf f → (name : AxiomName) → IsNeeded (af f) name → (l : AtomLit)
     → Contains (axiom_clause name) l → IsSpoken f l.atom
@@ -293,9 +294,10 @@ mode_holds f s St h so = so
 mode_holds f s _ h so = absurd h
 
 -- some literal of an axiom's clause is true in the world
-true_one : (f : Af) (s : List ℕ) → IsAfWorld f s → (name : AxiomName)
+true_one : (f : Af) (s : List ℕ) → IsAfWorld f s → (name : AxiomName) → IsNeeded (af f) name
     → IsTrueBeside (world_of (af f) s) [] (axiom_clause name)
-true_one f s ok (OfAf name) = rows_are_valid name (world_of (af f) s) ok []
+true_one f s ok (OfAf name) needed = rows_are_valid name (world_of (af f) s) ok []
+true_one f s ok (OfAba name) needed = absurd needed
 
 -- an atom with its value is the literal or its negation
 told_either : (values : List AtomLit) (l : AtomLit) (v : Bool) → Contains values (literal l.atom v)
@@ -311,7 +313,7 @@ model_of f s ok within value reads = record {
   plain = λ w. opposite w.0.positive (sym (sign_of f value w.0 w.1) ∙ sign_of f value (negated w.0) w.2);
   axioms = λ name needed.
       let world : IsAfWorld f s = record { framework = ok; members = λ a c. ok.live a (within a c) } in
-      let found = true_one f s world name in
+      let found = true_one f s world name needed in
       let l = found.literal in
       let sign : value l.atom ≡ l.positive = sign_so l.positive (value l.atom) _ (reads l.atom) found.says in (
         l,

@@ -6,7 +6,7 @@ use Rattle.meaning_atoms.specs.declared.axiom.AfAxiom.{AfAxiom}
 use Rattle.meaning_atoms.specs.declared.axiom.AfAxiom.TheVariants.{A1, A2, A3, A4, A5, A6, A7, A8, A9}
 use Rattle.meaning_atoms.specs.declared.axiom.AfAxiom.TheVariants.{A10, A11, A12, A13, A14}
 use Rattle.meaning_atoms.specs.declared.axiom.AxiomName.{AxiomName}
-use Rattle.meaning_atoms.specs.declared.axiom.AxiomName.TheVariants.{Af as OfAf}
+use Rattle.meaning_atoms.specs.declared.axiom.AxiomName.TheVariants.{Af as OfAf, Aba as OfAba}
 use Rattle.oracle_face.specs.Needed.{IsNeeded}
 
 -- the argument that an axiom tells of: of an attack the target; 0 for the axioms of all
@@ -28,6 +28,7 @@ told_of (A14 part) = 0
 
 abbrev pub argument_of : AxiomName → ℕ
 argument_of (OfAf name) = told_of name
+argument_of (OfAba name) = 0
 
 -- the framework needs the axiom, and it tells of this argument
 abbrev pub IsNeededAt : Af → ℕ → AxiomName → Type 0

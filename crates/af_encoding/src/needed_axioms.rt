@@ -1,7 +1,8 @@
 //! The axioms that a search needs of a framework.
 
-ghost use Rattle.std.specs.Prelude.{All, Contains, IfOk, OnOk};
+ghost use Rattle.std.specs.Prelude.{◌≡◌, ◌++◌, All, Contains, IfOk, OnOk, map};
 ghost use Rattle.semantics.specs.Frameworks.{af, IsNumberedAf};
+ghost use Rattle.meaning_atoms.specs.declared.axiom.AxiomName.TheVariants.{Af as OfAf};
 ghost use Rattle.certificate_claims.specs.Refutations.{IsAxiomOf};
 ghost use Rattle.oracle_face.specs.Needed.{IsNeeded};
 ghost use Rattle.af_encoding.specs.Enumerations.{Enumerates, GainsEach};
@@ -9,8 +10,7 @@ ghost use Rattle.af_encoding.specs.Told.{IsNeededAt};
 
 use dung_notions::AfPlain;
 use meaning_atoms::AfAxiom::{A1, A2, A3, A4, A5, A6, A7, A8, A9, A10, A11, A12, A13, A14};
-use meaning_atoms::AxiomName;
-use meaning_atoms::AxiomName::Af;
+use meaning_atoms::{AfAxiom, AxiomName};
 use plain_lists::{Items, Memory};
 use std::alloc::Global;
 
@@ -23,7 +23,7 @@ pub fn needed(alloc: Global, plain: &AfPlain) -> Result<Items<AxiomName>, Memory
     ensures names { IfOk result (All (IsAxiomOf (af plain.now))) }
 {
     let mut names = Vec::with_capacity(alloc, count(plain))?;
-    names.extend_from_slice(&[Af(A14(1)), Af(A14(2)), Af(A14(3))])?;
+    push_all(&mut names, &[A14(1), A14(2), A14(3)])?;
     for argument in plain.live() {
         push_axioms(plain, &mut names, *argument)?;
     }
@@ -45,26 +45,32 @@ fn push_axioms(plain: &AfPlain, names: &mut Vec<AxiomName>, argument: u32) -> Re
     ensures { OnOk result (GainsEach (IsNeededAt plain.now argument) names.old.items names.new.items) }
 {
     let a = argument;
-    names.extend_from_slice(&[
-        Af(A1(a)),
-        Af(A7(a)),
-        Af(A10(a)),
-        Af(A11(a)),
-        Af(A12(a)),
-        Af(A13(a)),
-    ])?;
+    push_all(names, &[A1(a), A7(a), A10(a), A11(a), A12(a), A13(a)])?;
     let mut position = 1;
     for attack in plain.attackers_of(argument) {
         let b = attack.1;
-        names.extend_from_slice(&[
-            Af(A2(b, a)),
-            Af(A3(b, a)),
-            Af(A4(b, a)),
-            Af(A5(a, position, b)),
-            Af(A8(a, position, b)),
-        ])?;
+        push_all(
+            names,
+            &[
+                A2(b, a),
+                A3(b, a),
+                A4(b, a),
+                A5(a, position, b),
+                A8(a, position, b),
+            ],
+        )?;
         position = b + 1;
     }
-    names.extend_from_slice(&[Af(A6(a, position)), Af(A9(a, position))])?;
+    push_all(names, &[A6(a, position), A9(a, position)])?;
+    Ok(())
+}
+
+/// Adds axioms at the end.
+fn push_all(names: &mut Vec<AxiomName>, added: &[AfAxiom]) -> Result<(), Memory>
+    ensures { OnOk result (names.new.items ≡ names.old.items ++ map OfAf added.now) }
+{
+    for axiom in added {
+        names.push(AxiomName::Af(*axiom))?;
+    }
     Ok(())
 }

@@ -6,11 +6,12 @@ use Rattle.std.proofs.Math.Seq.{get_or-append_seam}
 use Rattle.std.proofs.lemmas.Bool.{cases_lt}
 use Rattle.num_text.specs.Cuts.{LineText, field_texts, lines_of}
 use Rattle.af_format.specs.declared.fault.LineCause.{LineCause}
-use Rattle.af_format.specs.declared.fault.LineCause.TheVariants.{NoHeader, WrongKind, BadHeader, SecondHeader, BadLine, BadNumber, OutOfRange, TooManyLines}
+use Rattle.af_format.specs.declared.fault.LineCause.TheVariants.{NoHeader, WrongKind, BadHeader, SecondHeader, BadLine, BadNumber, OutOfRange, TooManyLines, NotFlat, SecondContrary, ContraryOfNonAssumption}
 use Rattle.num_text.specs.Lines.{kept_lines}
 use Rattle.af_format.specs.AfText.{IsHeader, IsAttackLine, AreAttackLines}
 use Rattle.af_format.specs.Causes.{rank, IsFirstCause}
-use Rattle.af_format.specs.Faults.{StandsOnHeader, StandsOnAttack, IsHeaderFault, IsAttackFault, StandsIn, IsFirstFault}
+use Rattle.af_format.specs.Faults.{StandsOnAttack, IsAttackFault, StandsIn, IsFirstFault}
+use Rattle.af_format.specs.Headers.{af_word, aba_word, StandsOnHeader, IsHeaderFault, IsBadFirstLine, IsBadHeader}
 use Rattle.af_format.specs.FirstBadLine.{IsFirstBadLine}
 use Rattle.num_text.proofs.KeptLines.{kept_lines-rise}
 use Rattle.af_format.proofs.LineCauses.{header_is_good, limit_only, IsHeader-same}
@@ -30,7 +31,8 @@ first_fault bytes lines line cause e h =
     = subst (λ ls. IsFirstIn (length (lines_of bytes)) ls line cause) (sym e) h in
     record { stands = there.0; first = there.1 }
 
-lowest : (c : LineCause) → 1 ≤ rank c
+-- no rank is below that of the first cause
+pub lowest : (c : LineCause) → 1 ≤ rank c
 lowest NoHeader = omega arith
 lowest WrongKind = omega arith
 lowest BadHeader = omega arith
@@ -39,24 +41,27 @@ lowest BadLine = omega arith
 lowest BadNumber = omega arith
 lowest OutOfRange = omega arith
 lowest TooManyLines = omega arith
+lowest NotFlat = omega arith
+lowest SecondContrary = omega arith
+lowest ContraryOfNonAssumption = omega arith
 
 -- where all lines are skipped
-pub no_header_told : (bytes : List ℕ) (line : ℕ) → kept_lines bytes ≡ [] → line ≡ length (lines_of bytes) + 1
+no_header_told : (bytes : List ℕ) (line : ℕ) → kept_lines bytes ≡ [] → line ≡ length (lines_of bytes) + 1
     → IsFirstFault bytes line NoHeader
 unfolding IsFirstIn
 no_header_told bytes line none e = first_fault bytes [] line NoHeader none
     ((e, refl), λ l c stands. inr (e ∙ sym stands.0, lowest c))
 
 -- an index behind the header
-shifted : (header : LineText) (others : List LineText) (index : ℕ)
+pub shifted : (header : LineText) (others : List LineText) (index : ℕ)
     → get_or (header ∷ others) (index + 1) header ≡ get_or others index header
 shifted header others index =
     let one : index + 1 ≡ suc index = omega arith in
     ap (λ k. get_or (header ∷ others) k header) one
 
 -- the fault of a header
-pub header_told : (bytes : List ℕ) (header : LineText) (others : List LineText) (cause : LineCause)
-    → kept_lines bytes ≡ header ∷ others → IsFirstCause (StandsOnHeader (field_texts header.text)) cause
+header_told : (bytes : List ℕ) (header : LineText) (others : List LineText) (cause : LineCause)
+    → kept_lines bytes ≡ header ∷ others → IsFirstCause (StandsOnHeader af_word aba_word (field_texts header.text)) cause
     → IsFirstFault bytes header.number cause
 unfolding IsFirstIn
 header_told bytes header others cause e told =
@@ -75,8 +80,19 @@ header_told bytes header others cause e told =
         let later = rises 0 (h.index + 1) header (omega arith) (omega (arith, h.within)) in
         inl (subst (λ n. header.number < n) (ap (λ l. l.number) (shifted header others h.index) ∙ sym h.line_is) later)
 
+-- the fault of a text without a header
+pub bad_header_told : (bytes : List ℕ) (line : ℕ) (cause : LineCause) → IsBadHeader af_word aba_word bytes line cause
+    → IsFirstFault bytes line cause
+bad_header_told bytes line cause bad = told_of (kept_lines bytes) refl bad
+  where
+    told_of : (lines : List LineText) → kept_lines bytes ≡ lines
+        → IsBadFirstLine af_word aba_word (length (lines_of bytes)) lines line cause → IsFirstFault bytes line cause
+    told_of [] e h = subst (λ c. IsFirstFault bytes line c) (sym h.1) (no_header_told bytes line e h.0)
+    told_of (header ∷ others) e h =
+        subst (λ n. IsFirstFault bytes n cause) (sym h.0) (header_told bytes header others cause e h.1)
+
 -- where the fault stands before, at or behind the first bad line
-index_cases : (k n : ℕ) → (k < n) ⊎ ((k ≡ n) ⊎ (n < k))
+pub index_cases : (k n : ℕ) → (k < n) ⊎ ((k ≡ n) ⊎ (n < k))
 index_cases k n = elim (cases_lt k n) [
   | inl below ↦ inl below
   | inr upper ↦ elim (cases_lt n k) [
@@ -100,7 +116,7 @@ attack_first : (header : LineText) (others : List LineText) (count line : ℕ) (
     → IsHeader header.text count → (b : IsFirstBadLine count others line cause)
     → AllPairs (λ l m. l.number < m.number) (header ∷ others) → get_or others (length b.before) header ≡ b.bad
     → length b.before < length others → (l : ℕ) (c : LineCause)
-    → IsHeaderFault header l c ⊎ IsAttackFault header others l c
+    → IsHeaderFault af_word aba_word header l c ⊎ IsAttackFault header others l c
     → (line < l) ⊎ ((line ≡ l) × (rank cause ≤ rank c))
 attack_first header others count line cause header_is b rises seam room l c (inl h) =
     absurd (header_is_good header.text count header_is c h.stands)

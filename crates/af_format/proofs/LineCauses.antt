@@ -8,76 +8,96 @@ use Rattle.num_text.specs.Numerals.{IsReadNumber}
 use Rattle.semantics.specs.declared.argument.TheConstants.{LAST_ARGUMENT}
 use Rattle.af_format.specs.declared.af_line.TheConstants.{MOST_ATTACK_LINES}
 use Rattle.af_format.specs.declared.fault.LineCause.{LineCause}
-use Rattle.af_format.specs.declared.fault.LineCause.TheVariants.{NoHeader, WrongKind, BadHeader, SecondHeader, BadLine, BadNumber, OutOfRange, TooManyLines}
+use Rattle.af_format.specs.declared.fault.LineCause.TheVariants.{NoHeader, WrongKind, BadHeader, SecondHeader, BadLine, BadNumber, OutOfRange, TooManyLines, NotFlat, SecondContrary, ContraryOfNonAssumption}
 use Rattle.af_format.specs.AfText.{IsHeader, IsAttackLine}
 use Rattle.af_format.specs.Causes.{rank, IsFirstCause}
-use Rattle.af_format.specs.Faults.{AreHeaderOf, StandsOnHeader, StandsOnAttack}
+use Rattle.af_format.specs.Faults.{StandsOnAttack}
+use Rattle.af_format.specs.Headers.{af_word, aba_word, IsHeaderOf, AreHeaderOf, StandsOnHeader}
 
 -- bytes spell one number
 pub IsNumber-same : (text : List ℕ) (m n : ℕ) → IsNumber text m → IsNumber text n → m ≡ n
 IsNumber-same text m n a b = sym a.value ∙ b.value
 
 -- `p` is no number
-p_is_no_number : (text : List ℕ) (n : ℕ) → text ≡ codes "p" → IsNumber text n → ⊥
+pub p_is_no_number : (text : List ℕ) (n : ℕ) → text ≡ codes "p" → IsNumber text n → ⊥
 p_is_no_number text n e number =
     let digits = subst (λ t. All IsDigit t) e number.digits in
     let digit = All-head IsDigit 112 [] digits in
     absurd (omega (arith, digit.high))
 
 -- two kinds of header differ
-kinds_differ : (fields more : List (List ℕ)) (first number : List ℕ) → fields ≡ first ∷ codes "aba" ∷ more
-    → fields ≡ codes "p" ∷ codes "af" ∷ number ∷ [] → ⊥
-kinds_differ fields more first number e h =
-    let same : codes "aba" ≡ codes "af" = ap (λ xs. get_or xs 1 []) (sym e ∙ h) in
-    three_not_two (length (codes "aba")) (length (codes "af")) (ap length same) refl refl
-  where
-    three_not_two : (m n : ℕ) → m ≡ n → m ≡ 3 → n ≡ 2 → ⊥
-    three_not_two m n e three two = absurd (omega arith)
+kinds_differ : (own other : List ℕ) (fields more : List (List ℕ)) (first number : List ℕ) → (own ≡ other → ⊥)
+    → fields ≡ first ∷ other ∷ more → fields ≡ codes "p" ∷ own ∷ number ∷ [] → ⊥
+kinds_differ own other fields more first number ne e h = ne (ap (λ xs. get_or xs 1 []) (sym h ∙ e))
 
-same_number : (fields : List (List ℕ)) (x y : List ℕ) → fields ≡ codes "p" ∷ codes "af" ∷ x ∷ []
-    → fields ≡ codes "p" ∷ codes "af" ∷ y ∷ [] → x ≡ y
-same_number fields x y e h = ap (λ xs. get_or xs 2 []) (sym e ∙ h)
+same_number : (own : List ℕ) (fields : List (List ℕ)) (x y : List ℕ) → fields ≡ codes "p" ∷ own ∷ x ∷ []
+    → fields ≡ codes "p" ∷ own ∷ y ∷ [] → x ≡ y
+same_number own fields x y e h = ap (λ xs. get_or xs 2 []) (sym e ∙ h)
 
 -- the number of a header is one
-pub AreHeaderOf-same : (fields : List (List ℕ)) (m n : ℕ) → AreHeaderOf fields m → AreHeaderOf fields n → m ≡ n
-AreHeaderOf-same fields m n a b = IsNumber-same b.number m n
-    (subst (λ t. IsNumber t m) (same_number fields a.number b.number a.fields_are b.fields_are) a.number_is)
+pub AreHeaderOf-same : (own : List ℕ) (fields : List (List ℕ)) (m n : ℕ) → AreHeaderOf own fields m
+    → AreHeaderOf own fields n → m ≡ n
+AreHeaderOf-same own fields m n a b = IsNumber-same b.number m n
+    (subst (λ t. IsNumber t m) (same_number own fields a.number b.number a.fields_are b.fields_are) a.number_is)
     b.number_is
 
-pub header_fields : (line : List ℕ) (count : ℕ) → IsHeader line count → AreHeaderOf (field_texts line) count
-header_fields line count h = record { number = h.number; fields_are = h.fields; number_is = h.number_is }
+pub header_fields : (own line : List ℕ) (count : ℕ) → IsHeaderOf own line count
+    → AreHeaderOf own (field_texts line) count
+header_fields own line count h = record { number = h.number; fields_are = h.fields; number_is = h.number_is }
+
+pub IsHeaderOf-same : (own line : List ℕ) (m n : ℕ) → IsHeaderOf own line m → IsHeaderOf own line n → m ≡ n
+IsHeaderOf-same own line m n a b =
+    AreHeaderOf-same own (field_texts line) m n (header_fields own line m a) (header_fields own line n b)
 
 pub IsHeader-same : (line : List ℕ) (m n : ℕ) → IsHeader line m → IsHeader line n → m ≡ n
-IsHeader-same line m n a b = AreHeaderOf-same (field_texts line) m n (header_fields line m a) (header_fields line n b)
+IsHeader-same line m n a b = IsHeaderOf-same af_word line m n a b
 
 -- where the fields are a header's, only its number can be wrong
-over_only : (fields : List (List ℕ)) (n : ℕ) → AreHeaderOf fields n → (other : LineCause)
-    → StandsOnHeader fields other → (LAST_ARGUMENT < n) × (7 ≤ rank other)
-over_only fields n h NoHeader stands = absurd (stands (codes "af" ∷ h.number ∷ [], h.fields_are))
-over_only fields n h WrongKind stands =
-    absurd (kinds_differ fields stands.more stands.first h.number stands.fields_are h.fields_are)
-over_only fields n h BadHeader stands = absurd (stands n h)
-over_only fields n h SecondHeader stands = absurd stands
-over_only fields n h BadLine stands = absurd stands
-over_only fields n h BadNumber stands = absurd stands
-over_only fields n h OutOfRange stands =
-    (subst (λ m. LAST_ARGUMENT < m) (AreHeaderOf-same fields stands.0 n stands.1 h) stands.2, omega arith)
-over_only fields n h TooManyLines stands = absurd stands
+over_only : (own other : List ℕ) (fields : List (List ℕ)) (n : ℕ) → (own ≡ other → ⊥) → AreHeaderOf own fields n
+    → (cause : LineCause) → StandsOnHeader own other fields cause → (LAST_ARGUMENT < n) × (7 ≤ rank cause)
+over_only own other fields n ne h NoHeader stands = absurd (stands (own ∷ h.number ∷ [], h.fields_are))
+over_only own other fields n ne h WrongKind stands =
+    absurd (kinds_differ own other fields stands.more stands.first h.number ne stands.fields_are h.fields_are)
+over_only own other fields n ne h BadHeader stands = absurd (stands n h)
+over_only own other fields n ne h SecondHeader stands = absurd stands
+over_only own other fields n ne h BadLine stands = absurd stands
+over_only own other fields n ne h BadNumber stands = absurd stands
+over_only own other fields n ne h OutOfRange stands =
+    (subst (λ m. LAST_ARGUMENT < m) (AreHeaderOf-same own fields stands.0 n stands.1 h) stands.2, omega arith)
+over_only own other fields n ne h TooManyLines stands = absurd stands
+over_only own other fields n ne h NotFlat stands = absurd stands
+over_only own other fields n ne h SecondContrary stands = absurd stands
+over_only own other fields n ne h ContraryOfNonAssumption stands = absurd stands
 
 -- a header whose number is too large
-pub header_over : (fields : List (List ℕ)) (number : List ℕ) (n : ℕ)
-    → fields ≡ codes "p" ∷ codes "af" ∷ number ∷ [] → IsNumber number n → LAST_ARGUMENT < n
-    → IsFirstCause (StandsOnHeader fields) OutOfRange
-header_over fields number n e number_is over =
-    let h : AreHeaderOf fields n = record { number = number; fields_are = e; number_is = number_is } in
-    record { stands = (n, h, over); first = λ other stands. (over_only fields n h other stands).1 }
+pub header_over : (own other : List ℕ) (fields : List (List ℕ)) (number : List ℕ) (n : ℕ) → (own ≡ other → ⊥)
+    → fields ≡ codes "p" ∷ own ∷ number ∷ [] → IsNumber number n → LAST_ARGUMENT < n
+    → IsFirstCause (StandsOnHeader own other fields) OutOfRange
+header_over own other fields number n ne e number_is over =
+    let h : AreHeaderOf own fields n = record { number = number; fields_are = e; number_is = number_is } in
+    record {
+      stands = (n, h, over);
+      first = λ cause stands. (over_only own other fields n ne h cause stands).1;
+    }
 
 -- no cause stands on a header
-pub header_is_good : (line : List ℕ) (count : ℕ) → IsHeader line count → (cause : LineCause)
-    → StandsOnHeader (field_texts line) cause → ⊥
-header_is_good line count h cause stands =
-    let over = over_only (field_texts line) count (header_fields line count h) cause stands in
+pub no_header_cause : (own other line : List ℕ) (count : ℕ) → (own ≡ other → ⊥) → IsHeaderOf own line count
+    → (cause : LineCause) → StandsOnHeader own other (field_texts line) cause → ⊥
+no_header_cause own other line count ne h cause stands =
+    let over = over_only own other (field_texts line) count ne (header_fields own line count h) cause stands in
     absurd (omega (arith, over.0, h.few))
+
+-- the words of the two kinds differ
+pub words_differ : af_word ≡ aba_word → ⊥
+words_differ e = two_not_three (length af_word) (length aba_word) (ap length e) refl refl
+  where
+    two_not_three : (m n : ℕ) → m ≡ n → m ≡ 2 → n ≡ 3 → ⊥
+    two_not_three m n same two three = absurd (omega arith)
+
+-- no cause stands on the header of an abstract framework
+pub header_is_good : (line : List ℕ) (count : ℕ) → IsHeader line count → (cause : LineCause)
+    → StandsOnHeader af_word aba_word (field_texts line) cause → ⊥
+header_is_good line count h cause stands = no_header_cause af_word aba_word line count words_differ h cause stands
 
 -- the members of two fields
 two_members : (fields : List (List ℕ)) (a b field : List ℕ) → fields ≡ a ∷ b ∷ [] → Contains fields field
@@ -121,6 +141,9 @@ limit_only count index line attack h OutOfRange stands =
     outside_not_inside count m n e low high (inl under) = absurd (omega arith)
     outside_not_inside count m n e low high (inr over) = absurd (omega arith)
 limit_only count index line attack h TooManyLines stands = (stands, omega arith)
+limit_only count index line attack h NotFlat stands = absurd stands
+limit_only count index line attack h SecondContrary stands = absurd stands
+limit_only count index line attack h ContraryOfNonAssumption stands = absurd stands
 
 -- the two members of two fields
 pub first_member : (fields : List (List ℕ)) (a b : List ℕ) → fields ≡ a ∷ b ∷ [] → Contains fields a
@@ -155,3 +178,6 @@ bad_number count index fields a b field e not_p member none = record {
     rank_at_least count index fields a b e not_p BadNumber stands = omega arith
     rank_at_least count index fields a b e not_p OutOfRange stands = omega arith
     rank_at_least count index fields a b e not_p TooManyLines stands = omega arith
+    rank_at_least count index fields a b e not_p NotFlat stands = absurd stands
+    rank_at_least count index fields a b e not_p SecondContrary stands = absurd stands
+    rank_at_least count index fields a b e not_p ContraryOfNonAssumption stands = absurd stands

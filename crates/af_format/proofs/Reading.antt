@@ -16,11 +16,12 @@ use Rattle.semantics.specs.Framework.{Af}
 use Rattle.semantics.specs.Frameworks.{IsNumberedAf}
 use Rattle.dung_notions.specs.Neighbours.{AreArguments}
 use Rattle.af_format.specs.Causes.{IsFirstCause}
-use Rattle.af_format.specs.Faults.{StandsOnAttack, IsHeaderFault, IsAttackFault, StandsIn, IsFaultless, IsFirstFault, IfLine}
+use Rattle.af_format.specs.Faults.{StandsOnAttack, IsAttackFault, StandsIn, IsFaultless, IsFirstFault, IfLine}
 use Rattle.dung_notions.specs.Solid.{IsSolid}
 use Rattle.af_format.proofs.LineCauses.{header_is_good, limit_only, IsHeader-same}
 use Rattle.af_format.specs.declared.fault.ReadFault.{ReadFault}
 use Rattle.af_format.specs.declared.fault.ReadFault.TheVariants.{Line, Memory}
+use Rattle.af_format.specs.Headers.{af_word, aba_word, IsHeaderFault}
 use Rattle.af_format.specs.FirstBadLine.{BeginWithHeader, TellsNext, IsNextFault, IsFirstBadLine}
 use Rattle.af_format.proofs.FirstFaults.{attack_told}
 use Rattle.af_format.proofs.Zips.{AllZip-member, AllZip-at}
@@ -177,7 +178,7 @@ bad_text_told bytes count left Memory h bad = bad
 -- no cause stands in a text that was read
 pub no_fault_in : (size count : ℕ) (header : LineText) (others : List LineText) (attacks : List (ℕ × ℕ)) (line : ℕ)
     (cause : LineCause) → IsHeader header.text count → AreAttackLines count others attacks
-    → IsHeaderFault header line cause ⊎ IsAttackFault header others line cause → ⊥
+    → IsHeaderFault af_word aba_word header line cause ⊎ IsAttackFault header others line cause → ⊥
 no_fault_in size count header others attacks line cause is are (inl h) =
     header_is_good header.text count is cause h.stands
 no_fault_in size count header others attacks line cause is are (inr h) =

@@ -28,7 +28,8 @@ use Rattle.num_text.proofs.KeptLines.{kept-nil, kept-keeps}
 
 -- ---- digits
 
-no_ends : (ds : List ℕ) → All IsDigit ds → All (λ byte. is_line_end byte ≡ false) ds
+-- digits are no ends of lines
+pub no_ends : (ds : List ℕ) → All IsDigit ds → All (λ byte. is_line_end byte ≡ false) ds
 no_ends ds all = λ k d within. digit_no_end (get_or ds k d) (all k d within)
 
 -- ---- fields
@@ -58,14 +59,15 @@ first_end (x ∷ xs) rest free =
     cond-true _ _ _ (not_from_false _ (All-head (λ byte. is_line_end byte ≡ false) x xs free)) ∙ (omega (arith, h))
 
 -- a piece without LF is the text of a line
-line_at : ℕ → ℕ → List ℕ → LineText
+unfoldable pub line_at : ℕ → ℕ → List ℕ → LineText
 line_at number start piece = record {
   number = number;
   span = record { start = start; end = start + length piece };
   text = piece;
 }
 
-first_line_is : (number start : ℕ) (piece rest : List ℕ) → All (λ byte. is_line_end byte ≡ false) piece
+-- the line of a piece, and LF, stands in front
+pub first_line_is : (number start : ℕ) (piece rest : List ℕ) → All (λ byte. is_line_end byte ≡ false) piece
     → lines_from number start ((piece ++ 10 ∷ []) ++ rest)
     ≡ line_at number start piece ∷ lines_from (number + 1) (start + (length piece + 1)) rest
 unfolding line_at
@@ -213,7 +215,8 @@ text_more head old now items attacks i d before same line within =
 
 -- ---- how long the text is
 
-short : (n : ℕ) → n ≤ LAST_ARGUMENT → length (decimal n) ≤ 7
+-- a number up to 1,000,000 has at most seven digits
+pub short : (n : ℕ) → n ≤ LAST_ARGUMENT → length (decimal n) ≤ 7
 short n h = length-decimal-le 7 n (omega arith) (omega arith) (omega arith)
 
 lines_within : (count : ℕ) (attacks : List (ℕ × ℕ)) → All (IsPair count) attacks

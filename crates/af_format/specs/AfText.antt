@@ -1,19 +1,16 @@
 -- The text of an abstract framework, and the framework that it describes.
-use Rattle.std.specs.Prelude.{◌≡◌, ◌↔◌, ℕ, ◌≤◌, List, [], ◌∷◌, length, Contains, codes}
+use Rattle.std.specs.Prelude.{◌≡◌, ◌↔◌, ℕ, ◌≤◌, List, [], ◌∷◌, length, Contains}
 use Rattle.std.specs.List.{AllZip, range_with_len}
 use Rattle.num_text.specs.Cuts.{LineText, field_texts}
 use Rattle.num_text.specs.Number.{IsNumber}
 use Rattle.semantics.specs.Framework.{Af, IsAf}
 use Rattle.num_text.specs.Lines.{kept_lines}
-use Rattle.semantics.specs.declared.argument.TheConstants.{LAST_ARGUMENT}
+use Rattle.af_format.specs.Headers.{af_word, IsHeaderOf}
 use Rattle.af_format.specs.declared.af_line.TheConstants.{MOST_ATTACK_LINES}
 
 -- the line is `p af n`, where n is the number of arguments
-pub record IsHeader (line : List ℕ) (count : ℕ) : Type 0 where
-  pub number : List ℕ
-  pub fields : field_texts line ≡ codes "p" ∷ codes "af" ∷ number ∷ []
-  pub number_is : IsNumber number count
-  pub few : count ≤ LAST_ARGUMENT
+abbrev pub IsHeader : List ℕ → ℕ → Type 0
+IsHeader line count = IsHeaderOf af_word line count
 
 -- the text is the number of one of the arguments, 1 to n
 pub record SpellsArgument (count : ℕ) (text : List ℕ) (argument : ℕ) : Type 0 where

@@ -1,44 +1,17 @@
 -- The faults of a framework's text: which cause stands at which line, and which is told.
-use Rattle.std.specs.Prelude.{◌≡◌, ℕ, ◌+◌, ◌<◌, ◌≤◌, ◌⊎◌, List, [], ◌∷◌, length, Contains, codes, slice_index_or}
+use Rattle.std.specs.Prelude.{◌≡◌, ℕ, ◌+◌, ◌<◌, ◌≤◌, ◌⊎◌, List, [], ◌∷◌, length, Contains, slice_index_or}
 use Rattle.num_text.specs.Cuts.{LineText, field_texts, lines_of}
 use Rattle.num_text.specs.Number.{IsNumber}
-use Rattle.semantics.specs.declared.argument.TheConstants.{LAST_ARGUMENT}
 use Rattle.af_format.specs.declared.af_line.TheConstants.{MOST_ATTACK_LINES}
 use Rattle.af_format.specs.declared.fault.LineCause.{LineCause}
-use Rattle.af_format.specs.declared.fault.LineCause.TheVariants.{NoHeader, WrongKind, BadHeader, SecondHeader, BadLine, BadNumber, OutOfRange, TooManyLines}
+use Rattle.af_format.specs.declared.fault.LineCause.TheVariants.{NoHeader, WrongKind, BadHeader, SecondHeader, BadLine, BadNumber, OutOfRange, TooManyLines, NotFlat, SecondContrary, ContraryOfNonAssumption}
 use Rattle.af_format.specs.declared.fault.LineFault.{LineFault}
 use Rattle.af_format.specs.declared.fault.ReadFault.{ReadFault}
 use Rattle.af_format.specs.declared.fault.ReadFault.TheVariants.{Line, Memory}
 use Rattle.num_text.specs.Lines.{kept_lines}
 use Rattle.af_format.specs.AfText.{IsHeader}
+use Rattle.af_format.specs.Headers.{af_word, aba_word, BeginWithP, IsHeaderFault}
 use Rattle.af_format.specs.Causes.{rank}
-
--- the first field is `p`
-abbrev pub BeginWithP : List (List ℕ) → Type 0
-BeginWithP fields = (more : List (List ℕ)) × (fields ≡ codes "p" ∷ more)
-
--- the second field is `aba`
-pub record HaveKindAba (fields : List (List ℕ)) : Type 0 where
-  pub first : List ℕ
-  pub more : List (List ℕ)
-  pub fields_are : fields ≡ first ∷ codes "aba" ∷ more
-
--- the fields are `p`, `af` and the number
-pub record AreHeaderOf (fields : List (List ℕ)) (n : ℕ) : Type 0 where
-  pub number : List ℕ
-  pub fields_are : fields ≡ codes "p" ∷ codes "af" ∷ number ∷ []
-  pub number_is : IsNumber number n
-
--- the cause stands on the fields of the first line that is not skipped
-abbrev pub StandsOnHeader : List (List ℕ) → LineCause → Type 0
-StandsOnHeader fields NoHeader = ¬ BeginWithP fields
-StandsOnHeader fields WrongKind = HaveKindAba fields
-StandsOnHeader fields BadHeader = (n : ℕ) → ¬ AreHeaderOf fields n
-StandsOnHeader fields SecondHeader = ⊥
-StandsOnHeader fields BadLine = ⊥
-StandsOnHeader fields BadNumber = ⊥
-StandsOnHeader fields OutOfRange = (n : ℕ) × AreHeaderOf fields n × (LAST_ARGUMENT < n)
-StandsOnHeader fields TooManyLines = ⊥
 
 -- some field is no number
 pub record HaveNoNumber (fields : List (List ℕ)) : Type 0 where
@@ -65,11 +38,9 @@ StandsOnAttack count index fields BadLine = (b a : List ℕ) → ¬ (fields ≡ 
 StandsOnAttack count index fields BadNumber = HaveNoNumber fields
 StandsOnAttack count index fields OutOfRange = HaveOutsider count fields
 StandsOnAttack count index fields TooManyLines = MOST_ATTACK_LINES ≤ index
-
--- the cause stands at the header's line
-pub record IsHeaderFault (header : LineText) (line : ℕ) (cause : LineCause) : Type 0 where
-  pub line_is : line ≡ header.number
-  pub stands : StandsOnHeader (field_texts header.text) cause
+StandsOnAttack count index fields NotFlat = ⊥
+StandsOnAttack count index fields SecondContrary = ⊥
+StandsOnAttack count index fields ContraryOfNonAssumption = ⊥
 
 -- the cause stands at a line behind a header in which none stands
 pub record IsAttackFault (header : LineText) (others : List LineText) (line : ℕ) (cause : LineCause) : Type 0 where
@@ -83,7 +54,7 @@ pub record IsAttackFault (header : LineText) (others : List LineText) (line : �
 -- the cause stands at the line, in a text of so many lines of which these are not skipped
 abbrev pub StandsIn : ℕ → List LineText → ℕ → LineCause → Type 0
 StandsIn size [] line cause = (line ≡ size + 1) × (cause ≡ NoHeader)
-StandsIn size (header ∷ others) line cause = IsHeaderFault header line cause ⊎ IsAttackFault header others line cause
+StandsIn size (header ∷ others) line cause = IsHeaderFault af_word aba_word header line cause ⊎ IsAttackFault header others line cause
 
 -- the cause stands at the line of the bytes
 abbrev pub HasFault : List ℕ → ℕ → LineCause → Type 0

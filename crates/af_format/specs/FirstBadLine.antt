@@ -3,16 +3,14 @@ use Rattle.std.specs.Prelude.{◌≡◌, ℕ, ◌<◌, List, ◌∷◌, ◌++◌
 use Rattle.num_text.specs.Cuts.{LineText, field_texts}
 use Rattle.af_format.specs.declared.af_line.TheConstants.{MOST_ATTACK_LINES}
 use Rattle.af_format.specs.declared.fault.LineCause.{LineCause}
-use Rattle.num_text.specs.Lines.{kept, kept_lines}
-use Rattle.af_format.specs.AfText.{IsHeader, IsAttackLine, AreAttackLines}
+use Rattle.af_format.specs.AfText.{IsAttackLine, AreAttackLines}
+use Rattle.af_format.specs.Headers.{af_word, BeginWith}
 use Rattle.af_format.specs.Causes.{IsFirstCause}
 use Rattle.af_format.specs.Faults.{StandsOnAttack}
 
 -- the bytes begin with a header of this number of arguments, and these lines stand behind it
-pub record BeginWithHeader (bytes : List ℕ) (count : ℕ) (left : List LineText) : Type 0 where
-  pub header : LineText
-  pub lines : kept_lines bytes ≡ header ∷ kept left
-  pub header_is : IsHeader header.text count
+abbrev pub BeginWithHeader : List ℕ → ℕ → List LineText → Type 0
+BeginWithHeader bytes count left = BeginWith af_word bytes count left
 
 -- the next line tells this attack, so many attack lines standing before it, and the others are left
 pub record TellsNext (count index : ℕ) (before after : List LineText) (attack : ℕ × ℕ) : Type 0 where

@@ -1,57 +1,18 @@
-//! What a single line says.
+//! What a line behind the header says.
 
 ghost use Rattle.std.specs.Prelude.{◌≡◌, ℕ, ◌≤◌, ◌<◌, ◌∷◌, [], List, IfOk, IfErr, IfSome, IfNone, codes, ◌⊎◌};
 ghost use Rattle.std.specs.Bool.{OnTrue, OnFalse};
 ghost use Rattle.num_text.specs.Cuts.{field_texts};
 ghost use Rattle.num_text.specs.Numerals.{IsReadNumber};
-ghost use Rattle.af_format.specs.AfText.{IsHeader, SpellsArgument, IsAttackLine};
+ghost use Rattle.af_format.specs.AfText.{SpellsArgument, IsAttackLine};
 ghost use Rattle.af_format.specs.Causes.{IsFirstCause};
-ghost use Rattle.af_format.specs.Faults.{StandsOnHeader, StandsOnAttack};
+ghost use Rattle.af_format.specs.Faults.{StandsOnAttack};
 
 use crate::fault::LineCause;
-use num_text::{Line, NumberField, decimal, fields};
-use semantics::LAST_ARGUMENT;
+use num_text::{Line, NumberField, fields};
 
 /// The most attack lines that a framework's text may have.
 pub const MOST_ATTACK_LINES: usize = 10_000_000;
-
-/// The number of arguments that a header tells.
-pub(crate) fn header_of(line: &Line<'_>) -> Result<u32, LineCause>
-    ensures ok { IfOk result (IsHeader line.now.text.now) }
-    ensures err { IfErr result (IsFirstCause (StandsOnHeader (field_texts line.now.text.now))) }
-{
-    let text = header_number(line)?;
-    let count = decimal(text).ok_or(LineCause::BadHeader)?;
-    if count > LAST_ARGUMENT {
-        return Err(LineCause::OutOfRange);
-    }
-    Ok(count)
-}
-
-// The third field of a header that has no other after it.
-fn header_number<'a>(line: &Line<'a>) -> Result<&'a [u8], LineCause>
-    ensures ok { IfOk result (λ text. field_texts line.now.text.now
-        ≡ codes "p" ∷ codes "af" ∷ text.now ∷ []) }
-    ensures err { IfErr result (IsFirstCause (StandsOnHeader (field_texts line.now.text.now))) }
-{
-    let mut parts = fields(line);
-    let first = parts.next().ok_or(LineCause::NoHeader)?;
-    if first.text != "p".as_bytes() {
-        return Err(LineCause::NoHeader);
-    }
-    let kind = parts.next().ok_or(LineCause::BadHeader)?;
-    if kind.text == "aba".as_bytes() {
-        return Err(LineCause::WrongKind);
-    }
-    if kind.text != "af".as_bytes() {
-        return Err(LineCause::BadHeader);
-    }
-    let number = parts.next().ok_or(LineCause::BadHeader)?;
-    if parts.next().is_some() {
-        return Err(LineCause::BadHeader);
-    }
-    Ok(number.text)
-}
 
 /// The attack that a line tells, where so many attack lines stand before it.
 #[inline(always)]

@@ -12,20 +12,29 @@ pub enum LineCause {
     /// The first line that is not skipped doesn't begin with the field `p`. Where all lines are skipped,
     /// this is told of the line behind the last.
     NoHeader,
-    /// The header's second field is `aba`.
+    /// The header's second field is that of the other kind of framework.
     WrongKind,
-    /// The header is not `p`, `af` and one number.
+    /// The header is not `p`, the kind of framework and one number.
     BadHeader,
     /// A later line begins with the field `p`.
     SecondHeader,
-    /// A later line has not exactly two fields.
+    /// A later line has not the fields of a line of its kind: two in the text of an abstract framework; in that of an
+    /// assumption-based one `a` and one more, `c` and two more, or `r` and one more at least.
     BadLine,
-    /// A field of a later line is no number.
+    /// A field of a later line that has to be a number is none.
     BadNumber,
-    /// The header's number is over 1,000,000, or an argument's number is not from 1 to the header's.
+    /// The header's number is over 1,000,000, or another number is not from 1 to the header's.
     OutOfRange,
-    /// The line is the 10,000,001st attack line.
+    /// The line is the 10,000,001st attack line, or the 1,000,001st rule line.
     TooManyLines,
+    /// With this line some atom is an assumption and the head of a rule. This cause and those behind it stand in the
+    /// text of an assumption-based framework alone.
+    NotFlat,
+    /// The line gives an atom another contrary than an earlier line gave it.
+    SecondContrary,
+    /// The line is the first that gives a contrary to an atom that is no assumption. This is told after the last line,
+    /// where no line has another fault.
+    ContraryOfNonAssumption,
 }
 
 impl LineCause {
@@ -42,6 +51,9 @@ impl LineCause {
             LineCause::BadNumber => "BadNumber",
             LineCause::OutOfRange => "OutOfRange",
             LineCause::TooManyLines => "TooManyLines",
+            LineCause::NotFlat => "NotFlat",
+            LineCause::SecondContrary => "SecondContrary",
+            LineCause::ContraryOfNonAssumption => "ContraryOfNonAssumption",
         }
     }
 }

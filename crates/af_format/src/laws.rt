@@ -15,7 +15,7 @@ ghost use Rattle.num_text.specs.declared.limit.TheConstants.{INPUT_LIMIT};
 use crate::af_line::MOST_ATTACK_LINES;
 use crate::fault::{LineFault, ReadFault};
 use crate::next_attack::next_attack;
-use crate::read::{read_af, read_header};
+use crate::read::{read_af, read_count};
 use crate::write::write_af;
 use dung_notions::AfPlain;
 use num_text::{Lines, lines};
@@ -46,7 +46,7 @@ pub fn readable_or_faulty(bytes: &[u8]) -> Result<(), LineFault>
     ensures faulty { IfErr result (λ fault. IsFirstFault bytes.now fault.line fault.cause) }
 {
     let mut left = lines(bytes);
-    let count = read_header(bytes, &mut left)?;
+    let count = read_count(bytes, &mut left)?;
     attacks_or_fault(left, count)
 }
 

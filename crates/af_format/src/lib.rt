@@ -7,6 +7,7 @@
 
 mod af_line;
 mod fault;
+mod header;
 mod laws;
 mod next_attack;
 mod read;
@@ -14,6 +15,7 @@ mod write;
 
 pub use af_line::MOST_ATTACK_LINES;
 pub use fault::{LineCause, LineFault, ReadFault};
+pub use header::read_header;
 pub use laws::{one_reading, read_back, readable_or_faulty};
 pub use read::read_af;
 pub use write::write_af;

@@ -11,11 +11,11 @@ ghost use Rattle.semantics.specs.Framework.{Af};
 ghost use Rattle.af_format.specs.FirstBadLine.{BeginWithHeader, IsFirstBadLine};
 ghost use Rattle.num_text.specs.declared.limit.TheConstants.{INPUT_LIMIT};
 
-use crate::af_line::header_of;
-use crate::fault::{LineCause, LineFault, ReadFault};
+use crate::fault::{LineFault, ReadFault};
+use crate::header::read_header;
 use crate::next_attack::next_attack;
 use dung_notions::AfPlain;
-use num_text::{Lines, line_count, lines, next_kept};
+use num_text::{Lines, lines};
 use plain_lists::{Items, Memory};
 use semantics::LAST_ARGUMENT;
 use set_lists::NumSet;
@@ -37,31 +37,19 @@ pub fn read_af(alloc: Global, bytes: &[u8]) -> Result<AfPlain, ReadFault>
     ensures fault { IfErr result (λ e. IfLine e (λ fault. IsFirstFault bytes.now fault.line fault.cause)) }
 {
     let mut left = lines(bytes);
-    let count = read_header(bytes, &mut left)?;
+    let count = read_count(bytes, &mut left)?;
     let attacks = read_attacks(alloc, left, count)?;
     Ok(framework_of(alloc, count, attacks)?)
 }
 
 /// The number of arguments that the text's header tells. The lines behind the header are left.
-pub(crate) fn read_header(bytes: &[u8], left: &mut Lines<'_>) -> Result<u32, LineFault>
+pub(crate) fn read_count(bytes: &[u8], left: &mut Lines<'_>) -> Result<u32, LineFault>
     requires size { length bytes.now ≤ INPUT_LIMIT }
     requires all { left.old ≡ lines_of bytes.now }
     ensures ok { IfOk result (λ count. BeginWithHeader bytes.now count left.new) }
     ensures fault { IfErr result (λ fault. IsFirstFault bytes.now fault.line fault.cause) }
 {
-    let Some(header) = next_kept(left) else {
-        return Err(LineFault {
-            line: line_count(bytes) + 1,
-            cause: LineCause::NoHeader,
-        });
-    };
-    match header_of(&header) {
-        Ok(count) => Ok(count),
-        Err(cause) => Err(LineFault {
-            line: header.number,
-            cause,
-        }),
-    }
+    read_header(bytes, left, "af".as_bytes(), "aba".as_bytes())
 }
 
 #[tactic(auto, using(crate::proofs::Reading::read_none, crate::proofs::Reading::read_all,))]

@@ -77,16 +77,7 @@ set_goal_of f c (Range a) true h =
     (Contains-mapped (λ x. affirmed (Range x)) (range_of f c.ranged) a
     ((Contains-filter (is_ranged f c.ranged) (members f) a).1 (h.1, h.0))))
 set_goal_of f c (Range a) false h = absurd h
-set_goal_of f c (Live a) positive h = absurd h
-set_goal_of f c (Attack b a) positive h = absurd h
-set_goal_of f c (Gap a i j) positive h = absurd h
-set_goal_of f c (Tail a i) positive h = absurd h
-set_goal_of f c (Unmet a i) positive h = absurd h
-set_goal_of f c Cf positive h = absurd h
-set_goal_of f c Ad positive h = absurd h
-set_goal_of f c Co positive h = absurd h
-set_goal_of f c St positive h = absurd h
-set_goal_of f c (Ask n) positive h = absurd h
+set_goal_of f c _ positive h = absurd h
 
 -- a claim with these goals and these side clauses
 pub claim_from : (f : Framework) (c : Claim) (claim : TableClaim) → claim.goals ≡ c.fixed ++ set_goals f c

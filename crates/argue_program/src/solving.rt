@@ -19,6 +19,7 @@ use certificate_claims::Certificate;
 use certificate_text::write_certificate;
 use edit_rules::Framework;
 use oracle_core::{AnswerStop, Engine};
+use oracle_face::NoTrade;
 use plain_lists::{Items, Memory};
 use plain_lits::Budget;
 use std::alloc::Global;
@@ -42,7 +43,13 @@ fn answer(alloc: Global, framework: Framework, solving: &Solving) -> Result<Kept
 {
     let mut engine = Engine::new(alloc, 1, framework, LOG_LIMIT)?;
     let mut budget = Budget::new(solving.budget as u64);
-    let reply = engine.answer(alloc, &solving.query, &mut budget, EXTENSION_LIMIT);
+    let reply = engine.answer(
+        alloc,
+        &solving.query,
+        &mut budget,
+        EXTENSION_LIMIT,
+        &mut NoTrade,
+    );
     Ok(KeptSession { reply, engine })
 }
 

@@ -3,6 +3,7 @@
 use argue_outside::{Files, MemFiles, MemSink, Role, append_all, read_all};
 use argue_program::execute;
 use std::alloc::{AllocError, Global};
+use std::mem::forget;
 
 /// More bytes than any file of a row has.
 const MOST_BYTES: u64 = 1_000_000;
@@ -38,6 +39,14 @@ fn with_semicolons(alloc: Global, bytes: &[u8]) -> Result<String, AllocError> {
     text.as_str().replace(alloc, "\n", ";")
 }
 
+/// The exit status of a run of these words. What the run keeps is left to the process's end.
+fn status_of(alloc: Global, words: &[String], files: &mut MemFiles, out: &mut MemSink) -> u8 {
+    let transcript = execute(alloc, words, files, out);
+    let code = transcript.status.code();
+    forget(transcript);
+    code
+}
+
 /// The exit status of a run with the files a, b and c, and what it writes, with `;` for the end of a line; and behind
 /// `c:` what it wrote to the file c, where it did.
 pub fn run(
@@ -56,9 +65,7 @@ pub fn run(
         words.push(String::from_str(alloc, word)?)?;
     }
     let mut out = MemSink::new(alloc);
-    let code = execute(alloc, words.as_slice(), &mut files, &mut out)
-        .status
-        .code();
+    let code = status_of(alloc, words.as_slice(), &mut files, &mut out);
     let text = with_semicolons(alloc, out.bytes())?;
     let held = match read_all(alloc, &mut files, Role::Certificate, "c", MOST_BYTES) {
         Ok(bytes) => bytes,

@@ -1,6 +1,6 @@
 -- A clause that is given comes, and is in use.
 use Rattle.std.proofs.Common.{◌≡◌, ℕ, suc, ◌+◌, ◌<◌, List, [], ◌∷◌, ◌++◌, length, get_or, ap, sym, subst, ◌∙◌, refl, arith, ⊎_elim, add-one}
-use Rattle.std.specs.Prelude.{Contains, Result, Ok, Err, IfOk, OnOk, OnErr, Option, slice_index_or, true}
+use Rattle.std.specs.Prelude.{Contains, Result, Ok, Err, IfOk, OnOk, OnErr, Option, None, slice_index_or, true, false}
 use Rattle.std.proofs.lemmas.List.{length_push, get_or_push, get_or_append_left}
 use Rattle.std.proofs.lemmas.List.Elements.{Contains-append_left, Contains-push, Contains-push_cases}
 use Rattle.plain_lits.specs.declared.lit.Lit.{Lit}
@@ -17,7 +17,7 @@ use Rattle.meaning_atoms.specs.declared.axiom.AxiomName.{AxiomName}
 use Rattle.meaning_atoms.specs.declared.axiom.AxiomName.TheVariants.{Af as OfAf}
 use Rattle.certificate_claims.specs.Refutations.{IsAxiomOf}
 use Rattle.session_log.proofs.Staying.{axiom_stays}
-use Rattle.atom_solver.specs.States.{AtomState, AddsAxiom, IsAxiomName, IsGuardedLog}
+use Rattle.atom_solver.specs.States.{AtomState, AddsAxiom, IsGuardedLog}
 use Rattle.hinted_log.specs.declared.kind.Kind.{Kind}
 use Rattle.hinted_log.specs.declared.kind.Kind.TheVariants as kind
 use Rattle.sat_core.specs.declared.answer.Added.{Added}
@@ -27,37 +27,67 @@ use Rattle.meaning_atoms.specs.declared.atom.Atom.{Atom}
 use Rattle.meaning_atoms.specs.declared.atom.AtomLit.{AtomLit}
 use Rattle.oracle_face.specs.declared.face.Pending.{Pending}
 use Rattle.oracle_face.specs.Logs.{SideClause}
-use Rattle.session_log.specs.Steps.{own_step}
+use Rattle.session_log.specs.Steps.{GainsStep, own_step}
 use Rattle.atom_solver.specs.declared.origin.Origin.{Origin}
 use Rattle.atom_solver.specs.declared.origin.Origin.TheVariants.{Hints}
 use Rattle.atom_solver.specs.Inner.{GainsGiven, IsFilled, NeedsNoHints}
-use Rattle.atom_solver.specs.Lifted.{IsLifting, lit_of, atoms_of, source_of, in_use, lifted_step, lifted_at, listed, state_over}
+use Rattle.atom_solver.specs.Lifted.{IsLifting, lit_of, atoms_of, source_of, imported_of, in_use, lifted_step, lifted_at, listed, log_over, state_over}
 use Rattle.atom_solver.specs.Tables.{AddsLits, StandsFor}
 use Rattle.atom_solver.proofs.Lifting.{in_use_yes, in_use_same}
 use Rattle.atom_solver.proofs.Listing.{length-listed, listed_same}
 
--- a solver with one given step more
-pub record Gains (old new : SolverState) (clause : List Lit) : Type 0 where
-  pub kind_is : Kind
-  pub steps : new.log.steps ≡ old.log.steps ++ given_step clause kind_is ∷ []
+-- a solver with one step more, which is in use
+pub record Gains (old new : SolverState) (step : Step) : Type 0 where
+  pub steps : new.log.steps ≡ old.log.steps ++ step ∷ []
   pub limit : new.log.limit ≡ old.log.limit
   pub active : new.active ≡ old.active ++ (length old.log.steps + 1) ∷ []
 
+-- the step of a clause that comes without hints
+abbrev pub step_given : List Lit → Added → Step
+step_given clause Axiom = given_step clause kind.Axiom
+step_given clause Side = given_step clause kind.Side
+step_given clause (Derived hints) = given_step clause kind.Derived
+
 pub gains_of : (old new : SolverState) (clause : List Lit) (how : Added) (number : ℕ) → NeedsNoHints how
-    → AddsTo old new clause how number → Gains old new clause
+    → AddsTo old new clause how number → Gains old new (step_given clause how)
 gains_of old new clause Axiom number needs h = record {
-  kind_is = kind.Axiom;
   steps = ap (λ (g : LogState). g.steps) h.recorded.new_log;
   limit = ap (λ (g : LogState). g.limit) h.recorded.new_log;
   active = h.in_use ∙ ap (λ n. old.active ++ n ∷ []) h.recorded.next;
 }
 gains_of old new clause Side number needs h = record {
-  kind_is = kind.Side;
   steps = ap (λ (g : LogState). g.steps) h.recorded.new_log;
   limit = ap (λ (g : LogState). g.limit) h.recorded.new_log;
   active = h.in_use ∙ ap (λ n. old.active ++ n ∷ []) h.recorded.next;
 }
 gains_of old new clause (Derived hints) number needs h = absurd needs
+
+-- such a step as it is stood for, where it isn't taken from an entry
+pub given_is : (atoms : List Atom) (clause : List Lit) (how : Added) (origin : Origin) → imported_of origin ≡ None
+    → lifted_step atoms (step_given clause how) origin true ≡ own_step (atoms_of atoms clause) (source_of origin [])
+given_is atoms clause Axiom origin own = ap (λ name. record {
+  clause = atoms_of atoms clause;
+  source = source_of origin [];
+  imported = name;
+  closing = false;
+}) own
+given_is atoms clause Side origin own = ap (λ name. record {
+  clause = atoms_of atoms clause;
+  source = source_of origin [];
+  imported = name;
+  closing = false;
+}) own
+given_is atoms clause (Derived hints) origin own = ap (λ name. record {
+  clause = atoms_of atoms clause;
+  source = source_of origin [];
+  imported = name;
+  closing = false;
+}) own
+
+pub step_given_clause : (clause : List Lit) (how : Added) → (step_given clause how).clause ≡ clause
+step_given_clause clause Axiom = refl
+step_given_clause clause Side = refl
+step_given_clause clause (Derived hints) = refl
 
 pub not_rejected : (log : LogState) (clause : List Lit) (how : Added) (place : ℕ) → NeedsNoHints how
     → IsRejected log clause how place → ⊥
@@ -65,12 +95,12 @@ not_rejected log clause Axiom place needs h = h
 not_rejected log clause Side place needs h = h
 not_rejected log clause (Derived hints) place needs h = needs
 
-module _ (atoms : List Atom) (old new : SolverState) (clause : List Lit) (g : Gains old new clause)
+module _ (atoms : List Atom) (old new : SolverState) (step : Step) (g : Gains old new step)
     (origins filled pushed : List Origin) (origin : Origin) (same : IsFilled origins filled (length old.log.steps))
     (long : length filled ≡ length old.log.steps) (is : pushed ≡ filled ++ origin ∷ []) where
   step_old : (k : ℕ) → k < length old.log.steps → get_or new.log.steps k no_step ≡ get_or old.log.steps k no_step
   step_old k lt = ap (λ xs. get_or xs k no_step) g.steps
-      ∙ get_or_append_left old.log.steps (given_step clause g.kind_is ∷ []) no_step k lt
+      ∙ get_or_append_left old.log.steps (step ∷ []) no_step k lt
 
   lifted_old : (k : ℕ) → k < length old.log.steps → lifted_at atoms new pushed k ≡ lifted_at atoms old origins k
   lifted_old k lt =
@@ -88,62 +118,83 @@ module _ (atoms : List Atom) (old new : SolverState) (clause : List Lit) (g : Ga
       ∙ (ap (λ o. lifted_step atoms (get_or old.log.steps k no_step) o (in_use new.active (k + 1))) origin_old
       ∙ ap (λ b. lifted_step atoms (get_or old.log.steps k no_step) (slice_index_or origins k Hints) b) used)
 
-  lifted_last : lifted_at atoms new pushed (length old.log.steps)
-      ≡ own_step (atoms_of atoms clause) (source_of origin [])
+  lifted_last : lifted_at atoms new pushed (length old.log.steps) ≡ lifted_step atoms step origin true
   lifted_last =
       let n = length old.log.steps in
-      let step : get_or new.log.steps n no_step ≡ given_step clause g.kind_is =
+      let here : get_or new.log.steps n no_step ≡ step =
       ap (λ xs. get_or xs n no_step) g.steps
-      ∙ get_or_push old.log.steps (given_step clause g.kind_is) no_step n refl in
+      ∙ get_or_push old.log.steps (step) no_step n refl in
       let origin_new : get_or pushed n Hints ≡ origin =
       ap (λ xs. get_or xs n Hints) is ∙ get_or_push filled origin Hints n long in
       let used : in_use new.active (n + 1) ≡ true =
       in_use_yes new.active (n + 1) (subst (λ xs. Contains xs (n + 1)) (sym g.active)
       (Contains-push old.active (n + 1))) in
-      ap (λ x. lifted_step atoms x (slice_index_or pushed n Hints) (in_use new.active (n + 1))) step
-      ∙ (ap (λ o. lifted_step atoms (given_step clause g.kind_is) o (in_use new.active (n + 1))) origin_new
-      ∙ ap (λ b. lifted_step atoms (given_step clause g.kind_is) origin b) used)
+      ap (λ x. lifted_step atoms x (slice_index_or pushed n Hints) (in_use new.active (n + 1))) here
+      ∙ (ap (λ o. lifted_step atoms step o (in_use new.active (n + 1))) origin_new
+      ∙ ap (λ b. lifted_step atoms step origin b) used)
 
-  pub given_gains : (sides : List SideClause) (pending : Option Pending)
-      → length old.log.steps < old.log.limit
-      → GainsGiven (atoms_of atoms clause) (source_of origin []) (state_over atoms old origins sides pending)
-      (state_over atoms new pushed sides pending)
-  given_gains sides pending room =
+  pub step_gains : (sides : List SideClause) → length old.log.steps < old.log.limit
+      → GainsStep (lifted_step atoms step origin true) sides (log_over atoms old origins sides)
+      (log_over atoms new pushed sides)
+  step_gains sides room =
       let n = length old.log.steps in
       let count : length new.log.steps ≡ suc n =
-      ap length g.steps ∙ (length_push old.log.steps (given_step clause g.kind_is) ∙ add-one n) in
+      ap length g.steps ∙ (length_push old.log.steps step ∙ add-one n) in
       record {
-        gains = record {
-          room = omega (arith, length-listed (lifted_at atoms old origins) n);
-          limit = g.limit;
-          steps = ap (listed (lifted_at atoms new pushed)) count
-              ∙ (ap (λ xs. xs ++ lifted_at atoms new pushed n ∷ [])
-              (listed_same (lifted_at atoms new pushed) (lifted_at atoms old origins) n lifted_old)
-              ∙ ap (λ x. listed (lifted_at atoms old origins) n ++ x ∷ []) lifted_last);
-          sides_now = refl;
-        };
-        pending_same = refl;
+        room = omega (arith, length-listed (lifted_at atoms old origins) n);
+        limit = g.limit;
+        steps = ap (listed (lifted_at atoms new pushed)) count
+            ∙ (ap (λ xs. xs ++ lifted_at atoms new pushed n ∷ [])
+            (listed_same (lifted_at atoms new pushed) (lifted_at atoms old origins) n lifted_old)
+            ∙ ap (λ x. listed (lifted_at atoms old origins) n ++ x ∷ []) lifted_last);
+        sides_now = refl;
       }
 
-  pub given_whole : HasRoomFor (length atoms) clause → IsLifting atoms old origins → IsLifting atoms new pushed
-  given_whole room h = record {
+  pub step_whole : HasRoomFor (length atoms) step.clause → IsLifting atoms old origins → IsLifting atoms new pushed
+  step_whole room h = record {
     room = λ c there l c_l.
         let w = Contains-from_mapped (λ (x : Step). x.clause) new.log.steps c there in
         ⊎_elim
         (λ early. h.room c (subst (λ xs. Contains (clauses_of old.log.steps) xs) w.2
         (Contains-mapped (λ (x : Step). x.clause) old.log.steps w.0 early)) l c_l)
-        (λ (last : given_step clause g.kind_is ≡ w.0). room l
+        (λ (last : step ≡ w.0). room l
         (subst (λ xs. Contains xs l) (sym (ap (λ (x : Step). x.clause) last ∙ w.2)) c_l))
-        (Contains-push_cases old.log.steps (given_step clause g.kind_is) w.0
+        (Contains-push_cases old.log.steps (step) w.0
         (subst (λ xs. Contains xs w.0) g.steps w.1));
     marked = omega (
       arith,
       ap length g.steps,
-      length_push old.log.steps (given_step clause g.kind_is),
+      length_push old.log.steps (step),
       ap length is,
       length_push filled origin,
     );
   }
+
+-- the same of a clause that comes without hints
+pub given_gains : (atoms : List Atom) (old new : SolverState) (clause : List Lit) (how : Added) (number : ℕ)
+    (origins filled pushed : List Origin) (origin : Origin) → NeedsNoHints how → AddsTo old new clause how number
+    → imported_of origin ≡ None → IsFilled origins filled (length old.log.steps)
+    → length filled ≡ length old.log.steps → pushed ≡ filled ++ origin ∷ [] → (sides : List SideClause)
+    (pending : Option Pending) → length old.log.steps < old.log.limit
+    → GainsGiven (atoms_of atoms clause) (source_of origin []) (state_over atoms old origins sides pending)
+    (state_over atoms new pushed sides pending)
+given_gains atoms old new clause how number origins filled pushed origin needs adds own same long is sides pending room =
+    record {
+      gains = subst (λ step. GainsStep step sides (log_over atoms old origins sides) (log_over atoms new pushed sides))
+          (given_is atoms clause how origin own)
+          (step_gains atoms old new (step_given clause how) (gains_of old new clause how number needs adds) origins
+          filled pushed origin same long is sides room);
+      pending_same = refl;
+    }
+
+pub given_whole : (atoms : List Atom) (old new : SolverState) (clause : List Lit) (how : Added) (number : ℕ)
+    (origins filled pushed : List Origin) (origin : Origin) → NeedsNoHints how → AddsTo old new clause how number
+    → IsFilled origins filled (length old.log.steps) → length filled ≡ length old.log.steps
+    → pushed ≡ filled ++ origin ∷ [] → HasRoomFor (length atoms) clause → IsLifting atoms old origins
+    → IsLifting atoms new pushed
+given_whole atoms old new clause how number origins filled pushed origin needs adds same long is room h =
+    step_whole atoms old new (step_given clause how) (gains_of old new clause how number needs adds) origins filled
+    pushed origin same long is (subst (HasRoomFor (length atoms)) (sym (step_given_clause clause how)) room) h
 
 -- origins that were said again
 pub filled_whole : (atoms : List Atom) (s : SolverState) (origins filled : List Origin) → IsLifting atoms s origins
@@ -194,10 +245,6 @@ pub ok_not_full : (number : ℕ) → added number ≡ refused LogFull → ⊥
 ok_not_full number e = cc
 
 -- ---- axioms
-
--- an axiom of a framework's kind has arguments that fit its row
-pub axiom_name : (f : Framework) (name : AxiomName) → IsAxiomOf f name → IsAxiomName name
-axiom_name (af f) (OfAf name) is = is
 
 pub axiom_guarded : (r : Result (Unit {0}) Halt) (name : AxiomName) (old new : AtomState) (f : Framework)
     → OnOk r (AddsAxiom name old new) → OnErr r (new ≡ old) → IsAxiomOf f name → IsGuardedLog f old.log

@@ -1,5 +1,6 @@
 pub mod Assuming
 pub mod Deriving
+pub mod EntryLemmas
 pub mod Giving
 pub mod Learning
 pub mod Lifting

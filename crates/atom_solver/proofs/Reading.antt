@@ -11,8 +11,8 @@ use Rattle.meaning_atoms.specs.declared.atom.Atom.{Atom}
 use Rattle.meaning_atoms.specs.declared.atom.AtomLit.{AtomLit}
 use Rattle.oracle_face.specs.Logs.{LogStep, IsNumberOf, step_at, hints_of}
 use Rattle.atom_solver.specs.declared.origin.Origin.{Origin}
-use Rattle.atom_solver.specs.declared.origin.Origin.TheVariants.{Axiom, Side, Hints}
-use Rattle.atom_solver.specs.Lifted.{lifted_at, listed, source_of}
+use Rattle.atom_solver.specs.declared.origin.Origin.TheVariants.{Axiom, Side, Entry, Hints}
+use Rattle.atom_solver.specs.Lifted.{lifted_at, listed, imported_of, source_of}
 use Rattle.atom_solver.specs.Tables.{told}
 use Rattle.atom_solver.proofs.Listing.{length-listed}
 use Rattle.atom_solver.proofs.Lifting.{room_at, step_lifted}
@@ -46,12 +46,27 @@ source_again : (origin : Origin) (hints : List ℕ)
     → source_of origin hints ≡ source_of origin (hints_of (source_of origin hints))
 source_again (Axiom name) hints = refl
 source_again (Side n) hints = refl
+source_again (Entry name) hints = refl
 source_again Hints hints = refl
 
-none_of : (origin : Origin) (hints : List ℕ) → (origin ≡ Hints → ⊥) → [] ≡ hints_of (source_of origin hints)
-none_of (Axiom name) hints ne = refl
-none_of (Side n) hints ne = refl
-none_of Hints hints ne = absurd (ne refl)
+-- a step has hints where it has no name of an axiom and no side clause
+abbrev pub HasHints : Origin → Type 0
+HasHints (Axiom name) = ⊥
+HasHints (Side n) = ⊥
+HasHints (Entry name) = Unit {0}
+HasHints Hints = Unit {0}
+
+none_of : (origin : Origin) (hints : List ℕ) → (HasHints origin → ⊥) → [] ≡ hints_of (source_of origin hints)
+none_of (Axiom name) hints not_so = refl
+none_of (Side n) hints not_so = refl
+none_of (Entry name) hints not_so = absurd (not_so tt)
+none_of Hints hints not_so = absurd (not_so tt)
+
+some_of : (origin : Origin) (hints : List ℕ) → HasHints origin → hints ≡ hints_of (source_of origin hints)
+some_of (Axiom name) hints so = absurd so
+some_of (Side n) hints so = absurd so
+some_of (Entry name) hints so = refl
+some_of Hints hints so = refl
 
 pub source_read : (atoms : List Atom) (s : SolverState) (origins : List Origin) (number : ℕ) (origin : Origin)
     → IsNumberOf (listed (lifted_at atoms s origins) (length s.log.steps)) number
@@ -69,7 +84,7 @@ source_read atoms s origins number origin is e =
 
 pub hints_none : (atoms : List Atom) (s : SolverState) (origins : List Origin) (number : ℕ) (origin : Origin)
     → IsNumberOf (listed (lifted_at atoms s origins) (length s.log.steps)) number
-    → origin ≡ get_or origins (number - 1) Hints → (origin ≡ Hints → ⊥)
+    → origin ≡ get_or origins (number - 1) Hints → (HasHints origin → ⊥)
     → [] ≡ hints_of (step_at (listed (lifted_at atoms s origins) (length s.log.steps)) number).source
 hints_none atoms s origins number origin is e ne =
     let step = step_named atoms s origins number is in
@@ -78,12 +93,24 @@ hints_none atoms s origins number origin is e ne =
     (step_lifted atoms s origins (length s.log.steps) number step.from_one step.within)
     ∙ ap (λ o. hints_of (source_of o (get_or s.log.steps (number - 1) hinted.no_step).hints)) (sym e))
 
-pub hints_read : (atoms : List Atom) (s : SolverState) (origins : List Origin) (number : ℕ) (hints : List ℕ)
-    → IsNumberOf (listed (lifted_at atoms s origins) (length s.log.steps)) number
-    → Hints ≡ get_or origins (number - 1) Hints → hints ≡ (hinted.step_at s.log.steps number).hints
+pub hints_read : (atoms : List Atom) (s : SolverState) (origins : List Origin) (number : ℕ) (origin : Origin)
+    (hints : List ℕ) → IsNumberOf (listed (lifted_at atoms s origins) (length s.log.steps)) number
+    → origin ≡ get_or origins (number - 1) Hints → HasHints origin → hints ≡ (hinted.step_at s.log.steps number).hints
     → hints ≡ hints_of (step_at (listed (lifted_at atoms s origins) (length s.log.steps)) number).source
-hints_read atoms s origins number hints is e read =
+hints_read atoms s origins number origin hints is e has read =
     let step = step_named atoms s origins number is in
-    read ∙ sym (ap (λ (x : LogStep). hints_of x.source)
+    read ∙ (some_of origin (get_or s.log.steps (number - 1) hinted.no_step).hints has
+    ∙ sym (ap (λ (x : LogStep). hints_of x.source)
     (step_lifted atoms s origins (length s.log.steps) number step.from_one step.within)
-    ∙ ap (λ o. hints_of (source_of o (get_or s.log.steps (number - 1) hinted.no_step).hints)) (sym e))
+    ∙ ap (λ o. hints_of (source_of o (get_or s.log.steps (number - 1) hinted.no_step).hints)) (sym e)))
+
+-- where a step was taken from
+pub imported_read : (atoms : List Atom) (s : SolverState) (origins : List Origin) (number : ℕ) (origin : Origin)
+    → IsNumberOf (listed (lifted_at atoms s origins) (length s.log.steps)) number
+    → origin ≡ get_or origins (number - 1) Hints
+    → (step_at (listed (lifted_at atoms s origins) (length s.log.steps)) number).imported ≡ imported_of origin
+imported_read atoms s origins number origin is e =
+    let step = step_named atoms s origins number is in
+    ap (λ (x : LogStep). x.imported)
+    (step_lifted atoms s origins (length s.log.steps) number step.from_one step.within)
+    ∙ ap imported_of (sym e)

@@ -1,4 +1,5 @@
 pub mod Assumed
+pub mod Imported
 pub mod Inner
 pub mod Lifted
 pub mod Searches

@@ -1,6 +1,6 @@
 -- The log over atoms that a solver's log stands for, which no caller sees.
 use Rattle.std.specs.Prelude.{ℕ, zero, suc, ◌+◌, ◌==◌, ◌≤◌, Bool, not, List, [], ◌∷◌, ◌++◌, length, map, Option, None}
-use Rattle.std.specs.Prelude.{slice_index_or}
+use Rattle.std.specs.Prelude.{slice_index_or, Some}
 use Rattle.std.specs.List.{list_any}
 use Rattle.plain_lits.specs.declared.lit.Lit.{Lit}
 use Rattle.plain_lits.specs.Checking.{HaveRoomFor}
@@ -9,10 +9,12 @@ use Rattle.sat_core.specs.Solving.{SolverState}
 use Rattle.meaning_atoms.specs.declared.atom.Atom.{Atom}
 use Rattle.meaning_atoms.specs.declared.atom.Atom.TheVariants.{Cf}
 use Rattle.meaning_atoms.specs.declared.atom.AtomLit.{AtomLit}
+use Rattle.oracle_face.specs.declared.entry.EntryName.{EntryName}
 use Rattle.oracle_face.specs.declared.face.Pending.{Pending}
+use Rattle.meaning_atoms.specs.declared.axiom.AxiomName.TheVariants.{Af as OfAf}
 use Rattle.oracle_face.specs.Logs.{OracleLog, LogStep, SideClause, Source, by_axiom, by_side, by_hints}
 use Rattle.atom_solver.specs.declared.origin.Origin.{Origin}
-use Rattle.atom_solver.specs.declared.origin.Origin.TheVariants.{Axiom, Side, Hints}
+use Rattle.atom_solver.specs.declared.origin.Origin.TheVariants.{Axiom, Side, Entry, Hints}
 use Rattle.atom_solver.specs.States.{AtomState}
 
 -- the atom of a variable, the literal of a literal, and the clause of a clause
@@ -27,9 +29,15 @@ atoms_of atoms clause = map (lit_of atoms) clause
 
 -- where a step comes from
 abbrev pub source_of : Origin → List ℕ → Source
-source_of (Axiom name) hints = by_axiom name
+source_of (Axiom name) hints = by_axiom (OfAf name)
 source_of (Side n) hints = by_side n
+source_of (Entry name) hints = by_hints hints
 source_of Hints hints = by_hints hints
+
+-- the entry that a step was taken from, if it was
+abbrev pub imported_of : Origin → Option EntryName
+imported_of (Entry name) = Some name
+imported_of _ = None
 
 -- whether the step of a number is in use
 abbrev pub in_use : List ℕ → ℕ → Bool
@@ -40,7 +48,7 @@ abbrev pub lifted_step : List Atom → Step → Origin → Bool → LogStep
 lifted_step atoms step origin used = record {
   clause = atoms_of atoms step.clause;
   source = source_of origin step.hints;
-  imported = None;
+  imported = imported_of origin;
   closing = not used;
 }
 

@@ -3,8 +3,6 @@ use Rattle.std.specs.Prelude.{◌≡◌, ℕ, List, [], Option, None}
 use Rattle.semantics.specs.Frameworks.{Framework}
 use Rattle.meaning_atoms.specs.declared.atom.AtomLit.{AtomLit}
 use Rattle.meaning_atoms.specs.declared.axiom.AxiomName.{AxiomName}
-use Rattle.meaning_atoms.specs.declared.axiom.AxiomName.TheVariants.{Af as OfAf}
-use Rattle.meaning_atoms.specs.Axioms.{IsAfAxiom}
 use Rattle.oracle_face.specs.declared.face.Pending.{Pending}
 use Rattle.oracle_face.specs.Logs.{OracleLog, IsLog}
 use Rattle.session_log.specs.Guards.{IsGuarded}
@@ -30,10 +28,6 @@ pub record IsGuardedLog (f : Framework) (log : OracleLog) : Type 0 where
 -- where the one is a guarded log beside a framework, the other is one too
 abbrev pub StaysLog : OracleLog → OracleLog → Type 0
 StaysLog old new = (f : Framework) → IsGuardedLog f old → IsGuardedLog f new
-
--- the arguments of an axiom fit its row
-abbrev pub IsAxiomName : AxiomName → Type 0
-IsAxiomName (OfAf name) = IsAfAxiom name
 
 -- the log has one step more, which is this axiom and in use
 pub record AddsAxiom (name : AxiomName) (old new : AtomState) : Type 0 where

@@ -1,6 +1,7 @@
 //! A solver over atoms, which keeps a log of its steps as an oracle does.
 #![tactic(auto)]
 
+pub(crate) mod importing;
 pub mod kept_side;
 pub mod origin;
 pub(crate) mod parts;

@@ -1,12 +1,14 @@
 //! Where a step comes from.
 
-use meaning_atoms::AxiomName;
-use oracle_face::AskId;
+use meaning_atoms::AfAxiom;
+use oracle_face::{AskId, EntryName};
 
-/// Where a step comes from: it is an axiom, it is the step of a side clause, or it follows from its hints.
+/// Where a step comes from: it is an axiom, it is the step of a side clause, it was taken from an entry and follows
+/// from its hints, or it follows from them and is one's own.
 #[derive(Clone, Copy, Debug, Drop)]
 pub enum Origin {
-    Axiom(AxiomName),
+    Axiom(AfAxiom),
     Side(AskId),
+    Entry(EntryName),
     Hints,
 }

@@ -1,6 +1,6 @@
 //! What a solver over atoms is made of.
 
-ghost use Rattle.std.specs.Prelude.{◌+◌, ◌-◌, IfErr, IfNone, IfSome, slice_index_or, ◌≡◌, ◌↔◌, ℕ, ◌≤◌, [], length, List, IfOk, OnOk, OnErr, Contains, ◌<◌, vec_len, vec_capacity};
+ghost use Rattle.std.specs.Prelude.{◌+◌, ◌-◌, IfErr, IfNone, None, IfSome, slice_index_or, ◌≡◌, ◌↔◌, ℕ, ◌≤◌, [], length, List, IfOk, OnOk, OnErr, Contains, ◌<◌, vec_len, vec_capacity};
 ghost use Rattle.plain_lits.specs.declared.lit.Lit.{Lit as ALit};
 ghost use Rattle.plain_lits.specs.HintCheck.{IsTautology};
 ghost use Rattle.plain_lits.specs.Literals.{negation};
@@ -13,24 +13,26 @@ ghost use Rattle.meaning_atoms.specs.Literals.{negated};
 ghost use Rattle.oracle_face.specs.Goals.{IsSide};
 ghost use Rattle.oracle_face.specs.Growing.{HasRun, NoSide, Obliges, OnlySide, halt_of};
 ghost use Rattle.oracle_face.specs.Logs.{IsNumberOf, hints_of, step_at};
+ghost use Rattle.meaning_atoms.specs.Axioms.{IsAfAxiom};
+ghost use Rattle.meaning_atoms.specs.declared.axiom.AxiomName.TheVariants.{Af as OfAf};
 ghost use Rattle.atom_solver.specs.Sides.{HasNoSide, IsOrdered, IsSideOf};
 ghost use Rattle.atom_solver.specs.declared.origin.Origin.TheVariants.{Hints};
 ghost use Rattle.atom_solver.specs.Assumed.{AreAssumed};
 ghost use Rattle.atom_solver.specs.Inner.{state_of, GainsGiven, IsFilled, IsKept, IsWhole};
 ghost use Rattle.atom_solver.specs.Inner.{KeepsInHand, KeepsSide, NeedsNoHints, StopsSide, Tells};
 ghost use Rattle.atom_solver.specs.Searches.{IsAnswer, AreUnfixed, ends_in};
-ghost use Rattle.atom_solver.specs.Lifted.{atoms_of, source_of};
-ghost use Rattle.atom_solver.specs.States.{AddsAxiom, IsAxiomName, IsGuardedLog, StaysLog, empty_state};
+ghost use Rattle.atom_solver.specs.Lifted.{atoms_of, imported_of, source_of};
+ghost use Rattle.atom_solver.specs.States.{AddsAxiom, IsGuardedLog, StaysLog, empty_state};
 ghost use Rattle.atom_solver.specs.Tables.{StandsFor};
 
 use crate::kept_side::{KeptSide, find, guarded_literals, in_order, number_at};
 use crate::origin::Origin;
 use crate::searched::Searched;
-use crate::tables::{assume_facts, over_atoms, packed_over_atoms, push_lits_for};
+use crate::tables::{assume_facts, over_atoms, packed_over_atoms, prefer_attacks, push_lits_for};
 use af_axioms::clause_of;
 use atom_table::AtomTable;
 use hinted_log::{LogFault, MOST_STEPS};
-use meaning_atoms::{AtomLit, AxiomName};
+use meaning_atoms::{AfAxiom, AtomLit};
 use oracle_face::{AskId, Encoding, Pending};
 use plain_lists::{Items, Memory};
 use plain_lits::{Budget, Clause, Halt, Lit, StepId};
@@ -54,7 +56,7 @@ pub(crate) struct Parts {
 }
 
 /// Says of all steps so far where they come from, and makes room for one more.
-fn fill(origins: &mut Vec<Origin>, steps: usize) -> Result<(), Memory>
+pub(crate) fn fill(origins: &mut Vec<Origin>, steps: usize) -> Result<(), Memory>
     requires { length origins.old.items ≤ steps }
     ensures filled { IsFilled origins.old.items origins.new.items steps }
     ensures ok { OnOk result (length origins.new.items ≡ steps) }
@@ -72,16 +74,6 @@ fn make_room(sides: &mut Vec<KeptSide>) -> Result<(), Memory>
 {
     sides.reserve(1)?;
     Ok(())
-}
-
-/// The literals of an axiom.
-fn axiom_literals(alloc: Global, name: &AxiomName) -> Result<Items<AtomLit>, Memory>
-    requires { IsAxiomName name.now }
-    ensures { IfOk result (λ literals. literals ≡ axiom_clause name.now) }
-{
-    match name {
-        AxiomName::Af(name) => clause_of(alloc, name),
-    }
 }
 
 /// What a search found, over atoms.
@@ -117,7 +109,11 @@ impl Parts {
     }
 
     /// The clause that stands for literals, of which each atom gets a variable.
-    fn stand_for(&mut self, alloc: Global, literals: &[AtomLit]) -> Result<Clause, Memory>
+    pub(crate) fn stand_for(
+        &mut self,
+        alloc: Global,
+        literals: &[AtomLit],
+    ) -> Result<Clause, Memory>
         requires whole { IsWhole self.old }
         ensures whole { IsWhole self.new }
         ensures state { state_of self.new ≡ state_of self.old }
@@ -135,6 +131,7 @@ impl Parts {
         requires whole { IsWhole self.old }
         requires room { HasRoomFor (length self.old.table) clause }
         requires how { NeedsNoHints how }
+        requires own { imported_of origin ≡ None }
         ensures whole { IsWhole self.new }
         ensures ok { OnOk result (GainsGiven (atoms_of self.old.table clause) (source_of origin []) (state_of self.old)
             (state_of self.new)) }
@@ -158,11 +155,11 @@ impl Parts {
     }
 
     /// Takes an axiom.
-    pub(crate) fn take_axiom(&mut self, alloc: Global, name: AxiomName) -> Result<(), Halt>
+    pub(crate) fn take_axiom(&mut self, alloc: Global, name: AfAxiom) -> Result<(), Halt>
         requires whole { IsWhole self.old }
-        requires name { IsAxiomName name }
+        requires name { IsAfAxiom name }
         ensures whole { IsWhole self.new }
-        ensures ok { OnOk result (AddsAxiom name (state_of self.old) (state_of self.new)) }
+        ensures ok { OnOk result (AddsAxiom (OfAf name) (state_of self.old) (state_of self.new)) }
         ensures full { (result ≡ Err Halt.LogFull)
             ↔ (length self.old.solver.log.steps ≡ self.old.solver.log.limit) }
         ensures unspent { (count : ℕ) → result ≡ Err (Halt.Spent count) → ⊥ }
@@ -171,7 +168,7 @@ impl Parts {
         if self.solver.log().is_full() {
             return Err(Halt::LogFull);
         }
-        let literals = axiom_literals(alloc, &name)?;
+        let literals = clause_of(alloc, &name)?;
         let clause = self.stand_for(alloc, literals.as_slice())?;
         self.add_given(clause, Added::Axiom, Origin::Axiom(name))
     }
@@ -208,6 +205,7 @@ impl Parts {
         let number = number_at(self.sides.len())?;
         let guarded = guarded_literals(alloc, number, literals.as_slice())?;
         let clause = self.stand_for(alloc, guarded.as_slice())?;
+        prefer_attacks(&self.table, &mut self.solver, self.given.as_slice())?;
         make_room(&mut self.sides)?;
         self.add_given(clause, Added::Side, Origin::Side(number))?;
         let _ = self.sides.push(KeptSide { literals, set });
@@ -297,8 +295,8 @@ impl Parts {
         ensures { result.now ≡ hints_of (step_at (state_of self.now).log.steps step).source }
     {
         match self.origin(step) {
-            Origin::Hints => self.solver.log().hints(step),
-            _ => &[],
+            Origin::Hints | Origin::Entry(_) => self.solver.log().hints(step),
+            Origin::Axiom(_) | Origin::Side(_) => &[],
         }
     }
 

@@ -1,6 +1,6 @@
 //! The solver, as callers see it.
 
-ghost use Rattle.std.specs.Prelude.{◌≡◌, ◌↔◌, ℕ, ◌≤◌, length, IfNone, IfOk, IfSome, OnOk, OnErr, None};
+ghost use Rattle.std.specs.Prelude.{◌≡◌, ◌↔◌, ℕ, ◌≤◌, length, IfNone, IfOk, IfSome, IsTrue, OnOk, OnErr, None};
 ghost use Rattle.certificate_claims.specs.Refutations.{IsAxiomOf};
 ghost use Rattle.plain_lits.specs.HintCheck.{IsTautology};
 ghost use Rattle.semantics.specs.Frameworks.{Framework};
@@ -9,9 +9,12 @@ ghost use Rattle.hinted_log.specs.declared.log.TheConstants.{MOST_STEPS};
 ghost use Rattle.oracle_face.specs.Logs.{IsNumberOf, step_at, side_at, hints_of};
 ghost use Rattle.oracle_face.specs.Goals.{IsSide};
 ghost use Rattle.oracle_face.specs.Growing.{HasRun, NoSide, Obliges, OnlySide, halt_of};
-ghost use Rattle.atom_solver.specs.States.{AddsAxiom, IsGuardedLog, StaysLog, IsAxiomName, empty_log};
+ghost use Rattle.meaning_atoms.specs.Axioms.{IsAfAxiom};
+ghost use Rattle.meaning_atoms.specs.declared.axiom.AxiomName.TheVariants.{Af as OfAf};
+ghost use Rattle.atom_solver.specs.States.{AddsAxiom, IsGuardedLog, StaysLog, empty_log};
 ghost use Rattle.atom_solver.specs.Searches.{IsAnswer, AreUnfixed, ends_in};
-ghost use Rattle.atom_solver.specs.Lifted.{source_of};
+ghost use Rattle.atom_solver.specs.Imported.{IsImported, IsPlain};
+ghost use Rattle.atom_solver.specs.Lifted.{imported_of, source_of};
 ghost use Rattle.atom_solver.specs.Sides.{HasNoSide, IsSideOf};
 
 use crate::kept_side::KeptSide;
@@ -19,8 +22,8 @@ use crate::origin::Origin;
 use crate::parts::Parts;
 use crate::searched::Searched;
 use hinted_log::MOST_STEPS;
-use meaning_atoms::{AtomLit, AxiomName};
-use oracle_face::{AskId, Encoding, Pending};
+use meaning_atoms::{AfAxiom, AtomLit};
+use oracle_face::{AskId, Encoding, EntryName, Pending};
 use plain_lists::{Items, Memory};
 use plain_lits::{Budget, Halt, StepId};
 use set_lists::NumSet;
@@ -57,14 +60,14 @@ impl AtomSolver {
         Ok(AtomSolver { parts })
     }
 
-    /// Takes an axiom: its step comes and is in use, and no unit is spent. `LogFull` comes exactly at a full log.
-    pub fn take_axiom(&mut self, alloc: Global, name: AxiomName) -> Result<(), Halt>
-        requires { IsAxiomName name }
-        ensures ok { OnOk result (AddsAxiom name self.old self.new) }
+    /// Takes an axiom of abstract frameworks: its step comes and is in use, and no unit is spent. `LogFull` comes exactly at a full log.
+    pub fn take_axiom(&mut self, alloc: Global, name: AfAxiom) -> Result<(), Halt>
+        requires { IsAfAxiom name }
+        ensures ok { OnOk result (AddsAxiom (OfAf name) self.old self.new) }
         ensures full { (result ≡ Err Halt.LogFull) ↔ (length self.old.log.steps ≡ self.old.log.limit) }
         ensures unspent { (count : ℕ) → result ≡ Err (Halt.Spent count) → ⊥ }
         ensures err { OnErr result (self.new ≡ self.old) }
-        ensures log { (f : Framework) → IsAxiomOf f name → IsGuardedLog f self.old.log → IsGuardedLog f self.new.log }
+        ensures log { (f : Framework) → IsAxiomOf f (OfAf name) → IsGuardedLog f self.old.log → IsGuardedLog f self.new.log }
     {
         self.parts.take_axiom(alloc, name)
     }
@@ -111,6 +114,32 @@ impl AtomSolver {
         self.parts.search::<E>(alloc, plain, goals, budget)
     }
 
+    /// Takes a clause from an entry: its step comes by those of the hints that the check looks at, is in use and marked
+    /// with the entry's name, and no unit is spent. False where the log is full, or the check doesn't take the clause by
+    /// all of the hints; then nothing has changed. A guarded log stays one where the clause and its hints ask for no
+    /// side clause.
+    pub fn import(
+        &mut self,
+        alloc: Global,
+        literals: &[AtomLit],
+        hints: Items<StepId>,
+        name: EntryName,
+    ) -> Result<bool, Memory>
+        ensures imported { IfOk result (IsImported literals.now hints name self.old self.new) }
+        ensures err { OnErr result (self.new ≡ self.old) }
+    {
+        self.parts.import(alloc, literals, hints, name)
+    }
+
+    /// Whether a step may be handed to others, or show what they hand over: it didn't only end a search, and asks for no
+    /// side clause.
+    pub fn is_plain(&self, step: StepId) -> bool
+        requires { IsNumberOf self.now.log.steps step }
+        ensures { IsTrue result ↔ IsPlain (step_at self.now.log.steps step) }
+    {
+        self.parts.is_plain(step)
+    }
+
     /// Takes the clause that was in hand when the last budget was spent.
     pub fn take_pending(&mut self) -> Option<Pending>
         ensures pending { result ≡ self.old.pending }
@@ -123,6 +152,7 @@ impl AtomSolver {
     pub fn len(&self) -> usize
         ensures len { result ≡ length self.now.log.steps }
         ensures within { length self.now.log.steps ≤ self.now.log.limit }
+        ensures small { self.now.log.limit ≤ MOST_STEPS }
     {
         self.parts.solver.log().len()
     }
@@ -138,8 +168,9 @@ impl AtomSolver {
     /// Where a step comes from.
     pub fn origin(&self, step: StepId) -> Origin
         requires { IsNumberOf self.now.log.steps step }
-        ensures { (step_at self.now.log.steps step).source
+        ensures source { (step_at self.now.log.steps step).source
             ≡ source_of result (hints_of (step_at self.now.log.steps step).source) }
+        ensures imported { (step_at self.now.log.steps step).imported ≡ imported_of result }
     {
         self.parts.origin(step)
     }

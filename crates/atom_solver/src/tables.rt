@@ -101,6 +101,33 @@ pub(crate) fn push_lits_for(
     Ok(())
 }
 
+/// Has a search decide before members that the set attacks what the literal says it attacks.
+fn prefer_attack(table: &AtomTable, solver: &mut Solver, lit: Lit) -> Result<(), Memory>
+    ensures { solver.new ≡ solver.old }
+{
+    if !lit.positive || lit.var >= table.len() {
+        return Ok(());
+    }
+    match table.atom_at(lit.var) {
+        Atom::Tail(_, _) => solver.prefer(lit),
+        _ => Ok(()),
+    }
+}
+
+/// The same of each of the literals.
+pub(crate) fn prefer_attacks(
+    table: &AtomTable,
+    solver: &mut Solver,
+    lits: &[Lit],
+) -> Result<(), Memory>
+    ensures { solver.new ≡ solver.old }
+{
+    for lit in lits {
+        prefer_attack(table, solver, *lit)?;
+    }
+    Ok(())
+}
+
 /// Finds the literals of all variables that stand for facts, as the framework has them.
 pub(crate) fn assume_facts<E: Encoding>(
     table: &AtomTable,

@@ -1,5 +1,10 @@
 -- Atoms found by `==`, which is equality of their values.
-use Rattle.std.proofs.Common.{◌≡◌, ℕ, List, get_or, Bool, sym, ◌∙◌, ap}
+use Rattle.std.proofs.Common.{◌≡◌, inl, inr, ℕ, List, [], ◌∷◌, ◌++◌, get_or, Bool, true, false, refl, sym, ◌∙◌, ap}
+use Rattle.std.specs.Prelude.{◌⊎◌, if◌then◌else◌, Contains}
+use Rattle.std.specs.List.{list_any}
+use Rattle.std.proofs.lemmas.Bool.{true≢false}
+use Rattle.plain_lists.proofs.ListTests.{any_from}
+use Rattle.atom_table.specs.Numbering.{Numbers}
 use Rattle.std.specs.Prelude.{Option, None, Some, slice_get, position, IfSome}
 use Rattle.std.proofs.lemmas.List.Quantifiers.{position-Some}
 use Rattle.std.proofs.lemmas.Option.{slice_get-get_or}
@@ -15,3 +20,20 @@ found atoms atom (Some i) e =
     let at = position-Some (λ a. (atom_eq).it atom a) atoms i atom (sym e) in
     let same : atom ≡ get_or atoms i atom = (atom_decides atom (get_or atoms i atom)).0 at.1 in
     slice_get-get_or atoms i atom at.0 ∙ ap (λ a. Some a) (sym same)
+
+grown : (old new : List Atom) (atom : Atom) (there : Bool) → list_any (λ a. (atom_eq).it atom a) old ≡ there
+    → new ≡ (if there then old else old ++ atom ∷ []) → (new ≡ old) ⊎ ((Contains old atom → ⊥) × (new ≡ old ++ atom ∷ []))
+grown old new atom true e keys = inl keys
+grown old new atom false e keys = inr (
+  λ c. absurd (true≢false (sym (any_from (λ a. (atom_eq).it atom a) old atom c ((atom_decides atom atom).1 refl)) ∙ e)),
+  keys,
+)
+
+-- an atom that was put in has the variable at which it is kept
+pub numbered : (old new : List Atom) (atom : Atom) (var : ℕ)
+    → (k : Atom) × (slice_get new var ≡ Some k) × ((atom_eq).it atom k ≡ true)
+    → new ≡ (if list_any (λ a. (atom_eq).it atom a) old then old else old ++ atom ∷ []) → Numbers old new atom var
+numbered old new atom var stored keys = record {
+  at = stored.1 ∙ ap (λ a. Some a) (sym ((atom_decides atom stored.0).0 stored.2));
+  grown = grown old new atom (list_any (λ a. (atom_eq).it atom a) old) refl keys;
+}

@@ -5,15 +5,77 @@ ghost use Rattle.atom_table.specs.Numbering.{AreDifferent, Numbers};
 
 use indexmap::IndexSet;
 use meaning_atoms::Atom;
+use meaning_atoms::laws::atoms_are_equal;
 use plain_lists::Memory;
 use std::alloc::Global;
 use std::marker::Model;
 
+/// The fewest places for guesses.
+const FEWEST: usize = 64;
+
+/// A number for two others, so that pairs with a number in common lie apart.
+fn mixed(first: u32, second: u32) -> u32 {
+    first.wrapping_mul(31).wrapping_add(second.wrapping_mul(7))
+}
+
+/// The place of an atom's guess among so many: by its numbers, so that the members of a set lie beside each other.
+fn place_of(atom: &Atom, places: usize) -> usize {
+    let number = match *atom {
+        Atom::Member(a) | Atom::Der(_, a) => a,
+        Atom::Live(a) | Atom::Asm(a) => a.wrapping_mul(3).wrapping_add(1),
+        Atom::Attack(b, a) | Atom::Con(b, a) | Atom::Head(b, a) | Atom::Body(b, a) => mixed(b, a),
+        Atom::Gap(a, i, j) | Atom::HGap(a, i, j) | Atom::BGap(a, i, j) => mixed(mixed(a, i), j),
+        Atom::Tail(a, i) | Atom::Miss(_, a, i) => a
+            .wrapping_mul(5)
+            .wrapping_add(i.wrapping_mul(17)),
+        Atom::Unmet(a, i) | Atom::Sup(_, a, i) => a
+            .wrapping_mul(11)
+            .wrapping_add(i.wrapping_mul(19)),
+        Atom::Range(a) => a.wrapping_mul(9).wrapping_add(2),
+        Atom::Ask(n) => n.wrapping_mul(33),
+        Atom::Cf => 0,
+        Atom::Ad => 1,
+        Atom::Co => 2,
+        Atom::St => 3,
+    };
+    number as usize & places.saturating_sub(1)
+}
+
+/// The variable that is guessed at a place, where it is the atom's.
+fn guess(atoms: &[Atom], recent: &[u32], place: usize, atom: &Atom) -> Option<usize>
+    ensures { IfSome result (λ var. slice_get atoms.now var ≡ Some atom.now) }
+{
+    if place >= recent.len() {
+        return None;
+    }
+    let var = recent[place] as usize;
+    if var >= atoms.len() || !atoms_are_equal(&atoms[var], atom) {
+        return None;
+    }
+    Some(var)
+}
+
+/// Keeps a variable as the guess at a place. Where the variables have outgrown the places, there are twice as many from
+/// then on, as far as memory goes.
+fn note(recent: &mut Vec<u32>, place: usize, var: usize) {
+    if var >= u32::MAX as usize {
+        return;
+    }
+    if place < recent.len() {
+        recent[place] = var as u32;
+    }
+    if var >= recent.len() {
+        let _ = recent.resize(recent.len().saturating_mul(2).max(FEWEST), 0);
+    }
+}
+
 /// Atoms in the order in which they came, each once. An atom's variable is its index, so variables begin at 0 and none
-/// is left out. It keeps the allocator that it was made with.
+/// is left out. It keeps the allocator that it was made with. `recent` has at each place the variable of the last atom
+/// that has this place, as a guess that is compared before it is used: most looks then hash nothing.
 #[derive(Drop)]
 pub struct AtomTable {
     atoms: IndexSet<Atom>,
+    recent: Vec<u32>,
 }
 
 impl Model for AtomTable {
@@ -35,6 +97,7 @@ impl AtomTable {
     {
         AtomTable {
             atoms: IndexSet::new(alloc),
+            recent: Vec::new(alloc),
         }
     }
 
@@ -44,7 +107,12 @@ impl AtomTable {
         ensures ok { IfOk result (Numbers self.old self.new atom.now) }
         ensures err { OnErr result (self.new ≡ self.old) }
     {
+        let place = place_of(atom, self.recent.len());
+        if let Some(known) = guess(self.atoms.as_slice(), self.recent.as_slice(), place, atom) {
+            return Ok(known);
+        }
         let (var, _) = self.atoms.insert_full(*atom)?;
+        note(&mut self.recent, place, var);
         Ok(var)
     }
 

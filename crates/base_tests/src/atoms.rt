@@ -65,7 +65,36 @@ fn literals_of_texts(rt: HostRuntime) -> Result<(), Fail> {
         ("Range:1000001", ""),
         ("Ask:0", ""),
         ("Ask:4294967296", ""),
-        ("Der:1:1", ""),
+    ];
+    for (text, expected) in table {
+        let found = read_back(rt.alloc(), text)?;
+        assert!(rt; found.as_slice() == expected.as_bytes(), "at {text:?}");
+    }
+    Ok(())
+}
+
+#[test]
+fn literals_about_rules(rt: HostRuntime) -> Result<(), Fail> {
+    let table = [
+        ("Asm:1", "Asm:1"),
+        ("-Con:1:0", "-Con:1:0"),
+        ("Head:1000000:2", "Head:1000000:2"),
+        ("HGap:1:2:1000001", "HGap:1:2:1000001"),
+        ("-Body:3:4", "-Body:3:4"),
+        ("BGap:5:6:6", "BGap:5:6:6"),
+        ("Der:1:0", "Der:1:0"),
+        ("-Der:2:1000000", "-Der:2:1000000"),
+        ("Miss:1:2:3", "Miss:1:2:3"),
+        ("Sup:2:0:1000001", "Sup:2:0:1000001"),
+        ("Der:0:1", ""),
+        ("Der:3:1", ""),
+        ("Der:1:1000001", ""),
+        ("Con:0:1", ""),
+        ("Body:1:0", ""),
+        ("HGap:1:3:2", ""),
+        ("Miss:1:0:1", ""),
+        ("Sup:1:1:0", ""),
+        ("Der:1", ""),
     ];
     for (text, expected) in table {
         let found = read_back(rt.alloc(), text)?;
@@ -117,9 +146,17 @@ fn names_of_axioms(rt: HostRuntime) {
     }
 }
 
+// The text of the axiom of this name and these arguments, empty where there is none.
+fn written_back(alloc: Global, name: &str, arguments: &[u32]) -> Result<Bytes, Memory> {
+    match axiom_of(alloc, name.as_bytes(), arguments)? {
+        Some(axiom) => write_axiom(alloc, &axiom),
+        None => Ok(Bytes::new(alloc)),
+    }
+}
+
 #[test]
 fn texts_of_axioms(rt: HostRuntime) -> Result<(), Fail> {
-    let table: [(&str, &[u32], &str); 7] = [
+    let table: [(&str, &[u32], &str); 18] = [
         ("A1", &[7], "A1 7"),
         ("A5", &[1, 3, 1000000], "A5 1 3 1000000"),
         ("A6", &[2, 1000001], "A6 2 1000001"),
@@ -127,12 +164,24 @@ fn texts_of_axioms(rt: HostRuntime) -> Result<(), Fail> {
         ("A14", &[4], ""),
         ("A5", &[1, 4, 3], ""),
         ("A1", &[1, 2], ""),
+        ("B4", &[2], "B4 2"),
+        ("B6", &[1, 7, 0], ""),
+        ("B9", &[2, 5], "B9 2 5"),
+        ("B9", &[3, 5, 0], "B9 3 5 0"),
+        ("B9", &[3, 5], ""),
+        (
+            "B17",
+            &[1, 3, 2, 3, 4, 1, 1, 4, 1, 2, 3],
+            "B17 1 3 2 3 4 1 1 4 1 2 3",
+        ),
+        ("B17", &[2, 3, 1, 3, 0], "B17 2 3 1 3 0"),
+        ("B17", &[1, 5, 2, 3, 4, 1, 1, 4, 1, 2, 3], ""),
+        ("B17", &[1, 3, 2, 4, 3, 1, 1, 4, 1, 2, 3], ""),
+        ("B17", &[1, 3, 1, 3, 1, 1, 4], ""),
+        ("B17", &[1, 3, 1, 3, 0, 0], ""),
     ];
     for (name, arguments, text) in &table {
-        let found = match axiom_of(name.as_bytes(), arguments) {
-            Some(axiom) => write_axiom(rt.alloc(), &axiom)?,
-            None => Bytes::new(rt.alloc()),
-        };
+        let found = written_back(rt.alloc(), name, arguments)?;
         assert_eq!(rt; found.as_slice(), text.as_bytes(), "{name} {arguments:?}");
     }
     Ok(())

@@ -10,7 +10,7 @@ use Rattle.meaning_atoms.specs.declared.atom.Atom.{Atom}
 use Rattle.meaning_atoms.specs.declared.atom.Atom.TheVariants.{Ask}
 use Rattle.meaning_atoms.specs.declared.atom.AtomLit.{AtomLit}
 use Rattle.meaning_atoms.specs.declared.axiom.AxiomName.{AxiomName}
-use Rattle.meaning_atoms.specs.declared.axiom.AxiomName.TheVariants.{Af as OfAf}
+use Rattle.meaning_atoms.specs.declared.axiom.AxiomName.TheVariants.{Af as OfAf, Aba as OfAba}
 use Rattle.meaning_atoms.specs.Axioms.{IsAfAxiom}
 use Rattle.meaning_atoms.specs.Literals.{denied, negated, AsksNothing}
 use Rattle.meaning_atoms.specs.Worlds.{world_of, IsWorldOf, HoldsOf, Says, IsTrueAlone}
@@ -31,12 +31,15 @@ pub record IsPlain (claim : Claim) : Type 0 where
 
 -- ---- clauses of steps
 
+-- the clause of an axiom of abstract frameworks; claims are about these alone, and no other name stands in a step
 abbrev pub axiom_clause : AxiomName → List AtomLit
 axiom_clause (OfAf name) = table_clause name
+axiom_clause (OfAba name) = []
 
 -- an axiom of the framework's kind, with arguments that fit its row
 abbrev pub IsAxiomOf : Framework → AxiomName → Type 0
 IsAxiomOf (af f) (OfAf name) = IsAfAxiom name
+IsAxiomOf (af f) (OfAba name) = ⊥
 
 abbrev pub step_clause : List (List AtomLit) → Step → List AtomLit
 step_clause sides (Axiom name) = axiom_clause name

@@ -7,12 +7,12 @@ use Rattle.std.proofs.lemmas.List.Elements.{Contains-get_or}
 use Rattle.plain_lists.proofs.Membership.{Contains-tail}
 use Rattle.plain_lits.specs.HintCheck.{Checks, IsTrueClause, IsValuation, clause_at}
 use Rattle.plain_lits.proofs.HintCheckLemmas.{taken_sound}
-use Rattle.semantics.specs.Frameworks.{Framework}
+use Rattle.semantics.specs.Frameworks.{Framework, af}
 use Rattle.meaning_atoms.specs.declared.atom.Atom.{Atom}
 use Rattle.meaning_atoms.specs.declared.atom.Atom.TheVariants.{Ask}
 use Rattle.meaning_atoms.specs.declared.atom.AtomLit.{AtomLit}
 use Rattle.meaning_atoms.specs.declared.axiom.AxiomName.{AxiomName}
-use Rattle.meaning_atoms.specs.declared.axiom.AxiomName.TheVariants.{Af as OfAf}
+use Rattle.meaning_atoms.specs.declared.axiom.AxiomName.TheVariants.{Af as OfAf, Aba as OfAba}
 use Rattle.meaning_atoms.specs.Literals.{denied, negated, lit_value}
 use Rattle.meaning_atoms.specs.Valuations.{IsValuation as IsWorldValuation}
 use Rattle.meaning_atoms.specs.Worlds.{world_of, IsWorldOf, Holds, HoldsOf, IsTrueAlone, IsTrueBeside}
@@ -22,7 +22,7 @@ use Rattle.af_axioms.specs.Facts.{IsFactValue}
 use Rattle.af_axioms.proofs.Rows.{rows_are_valid}
 use Rattle.certificate_claims.specs.declared.certificate.Step.{Step}
 use Rattle.certificate_claims.specs.declared.certificate.Step.TheVariants.{Axiom, Side, Derived}
-use Rattle.certificate_claims.specs.Refutations.{Claim, IsPlain, axiom_clause, step_clause, step_clauses, no_step, StepHolds, IsNotAsked, IsClosed, IsRefutationOf, MeetsGoals, MeetsSides}
+use Rattle.certificate_claims.specs.Refutations.{IsAxiomOf, Claim, IsPlain, axiom_clause, step_clause, step_clauses, no_step, StepHolds, IsNotAsked, IsClosed, IsRefutationOf, MeetsGoals, MeetsSides}
 use Rattle.certificate_laws.specs.Laws.{RefutationsExclude}
 
 -- ---- a literal and its negation have opposite values
@@ -62,11 +62,12 @@ true_beside : (f : Framework) (s : List ℕ) (claim : Claim) (value : Atom → B
 true_beside f s claim value met clause h = under (world_of f s) claim.sides value met.reads clause h
 
 axiom_true : (f : Framework) (s : List ℕ) (claim : Claim) (value : Atom → Bool) → IsMet f s claim value
-    → (name : AxiomName)
+    → (name : AxiomName) → IsAxiomOf f name
     → IsTrueClause (lit_value value) (axiom_clause name)
-axiom_true f s claim value met (OfAf name) =
+axiom_true f s claim value met (OfAf name) is =
     true_beside f s claim value met (axiom_clause (OfAf name))
     (rows_are_valid name (world_of f s) met.world claim.sides)
+axiom_true (af f) s claim value met (OfAba name) is = absurd is
 
 side_met : (f : Framework) (s : List ℕ) (claim : Claim) (value : Atom → Bool) → IsMet f s claim value → (n : ℕ) → 1 ≤ n
     → n ≤ length claim.sides → IsTrueAlone (world_of f s) (slice_index_or claim.sides (n - 1) [])
@@ -114,7 +115,7 @@ step_true : (f : Framework) (s : List ℕ) (claim : Claim) (value : Atom → Boo
     → IsMet f s claim value
     → (k : ℕ) → k ≤ length steps → ((j : ℕ) → j < k → IsTrueStep claim value (slice_index_or steps j no_step))
     → (step : Step) → StepHolds f claim.sides (take k steps) step → IsTrueStep claim value step
-step_true f s claim value steps met k within before (Axiom name) h = axiom_true f s claim value met name
+step_true f s claim value steps met k within before (Axiom name) h = axiom_true f s claim value met name h
 step_true f s claim value steps met k within before (Side n) h = side_true f s claim value met n h.0 h.1
 step_true f s claim value steps met k within before (Derived literals hints) h =
     derived_true claim value steps k within before literals hints h.0 h.1

@@ -7,7 +7,6 @@ use Rattle.std.proofs.lemmas.Bool.{cases_Bool}
 use Rattle.std.proofs.lemmas.List.{append-nil}
 use Rattle.num_text.specs.Cuts.{LineText, field_texts}
 use Rattle.meaning_atoms.specs.declared.atom.AtomLit.{AtomLit}
-use Rattle.meaning_atoms.specs.declared.axiom.AxiomName.TheVariants.{Af}
 use Rattle.meaning_atoms.specs.AtomText.{IsLitText}
 use Rattle.meaning_atoms.proofs.OneReading.{zero_says_nothing}
 use Rattle.iccma_tasks.specs.AnswerText.{IsSetLine, behind_first, is_field}
@@ -124,7 +123,7 @@ parts_cut (f ∷ fs) hint_fields (l ∷ ls) all =
 
 step_line_from : (word : Word) (line more : Fields) (step : Step) → IsSpelled word line more → IsStepOf word more step
     → IsStepLine line step
-step_line_from AxiomWord line more (Axiom (Af which)) e is = (more, e, is)
+step_line_from AxiomWord line more (Axiom which) e is = (more, e, is)
 step_line_from AxiomWord line more (Side n) e is = absurd is
 step_line_from AxiomWord line more (Derived ls hs) e is = absurd is
 step_line_from SideWord line more (Side n) e is = (is.0, e ∙ ap (λ m. codes "s" ∷ m) is.1, is.2)
@@ -453,8 +452,8 @@ front_whole sets whole steps line lines others cert (one ∷ rest) are is all =
 
 step_leads : (sets : List (List ℕ)) (whole : List Refutation) (steps : List Step) (line : Fields) (step : Step)
     → IsStepLine line step → LeadsTo (StepsRead sets whole steps) line (StepsRead sets whole (steps ++ step ∷ []))
-step_leads sets whole steps line (Axiom (Af which)) is =
-    led_by (StepsRead sets whole steps) line (codes "a" ∷ is.0) _ is.1 (Axiom (Af which), is.2, refl)
+step_leads sets whole steps line (Axiom which) is =
+    led_by (StepsRead sets whole steps) line (codes "a" ∷ is.0) _ is.1 (Axiom which, is.2, refl)
 step_leads sets whole steps line (Side n) is =
     led_by (StepsRead sets whole steps) line (codes "s" ∷ is.0 ∷ []) _ is.1 (Side n, (is.0, refl, is.2), refl)
 step_leads sets whole steps line (Derived ls hs) is =

@@ -6,7 +6,6 @@ use Rattle.std.specs.List.Sorted.{IsStrictlyIncreasing}
 use Rattle.num_text.specs.Cuts.{LineText, field_texts}
 use Rattle.num_text.specs.Lines.{kept_lines}
 use Rattle.meaning_atoms.specs.declared.atom.AtomLit.{AtomLit}
-use Rattle.meaning_atoms.specs.declared.axiom.AxiomName.TheVariants.{Af}
 use Rattle.meaning_atoms.specs.AtomText.{IsLitText}
 use Rattle.meaning_atoms.proofs.OneReading.{one_axiom, one_literal}
 use Rattle.iccma_tasks.specs.AnswerText.{AreRisingArguments, HasBadNumber, HasFallingNumbers, behind_first}
@@ -51,9 +50,9 @@ one_field : (fields : List (List ℕ)) (f g : List ℕ) → fields ≡ f ∷ [] 
 one_field fields f g h k = ap (λ fs. get_or fs 0 []) (sym h ∙ k)
 
 one_step : (word : Word) (fields : List (List ℕ)) (s t : Step) → IsStepOf word fields s → IsStepOf word fields t → s ≡ t
-one_step AxiomWord fields (Axiom (Af a)) (Axiom (Af b)) h k = ap (λ w. Axiom (Af w)) (one_axiom fields a b h k)
-one_step AxiomWord fields (Axiom (Af a)) (Side n) h k = absurd k
-one_step AxiomWord fields (Axiom (Af a)) (Derived ls hs) h k = absurd k
+one_step AxiomWord fields (Axiom a) (Axiom b) h k = ap Axiom (one_axiom fields a b h k)
+one_step AxiomWord fields (Axiom a) (Side n) h k = absurd k
+one_step AxiomWord fields (Axiom a) (Derived ls hs) h k = absurd k
 one_step AxiomWord fields (Side n) t h k = absurd h
 one_step AxiomWord fields (Derived ls hs) t h k = absurd h
 one_step SideWord fields (Side m) (Side n) h k =
@@ -243,7 +242,7 @@ stands_one (AllRead read) word fields c d h k = h ∙ sym k
 -- ---- a line leads on, or a cause stands there
 
 axiom_sound : (fields : List (List ℕ)) (s : Step) (c : CertCause) → IsStepOf AxiomWord fields s → AxiomStands fields c → ⊥
-axiom_sound fields (Axiom (Af which)) c h k = elim (axiom_cases fields c k) [
+axiom_sound fields (Axiom which) c h k = elim (axiom_cases fields c k) [
   | inl y ↦ let e = sym y.1 ∙ h.fields_are in cc e
   | inr y ↦ y.1.1 which h
 ]

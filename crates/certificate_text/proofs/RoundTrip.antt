@@ -21,13 +21,17 @@ use Rattle.iccma_tasks.proofs.RoundTrip.{lines_from-more, written_set}
 use Rattle.semantics.specs.Arguments.{IsArgument}
 use Rattle.meaning_atoms.specs.declared.atom.Atom.{Atom}
 use Rattle.meaning_atoms.specs.declared.atom.Atom.TheVariants.{Member, Live, Attack, Gap, Tail, Unmet, Range, Cf, Ad, Co, St, Ask}
+use Rattle.meaning_atoms.specs.declared.atom.Atom.TheVariants.{Asm, Con, Head, HGap, Body, BGap, Der, Miss, Sup}
 use Rattle.meaning_atoms.specs.declared.atom.AtomLit.{AtomLit}
 use Rattle.meaning_atoms.specs.declared.axiom.AfAxiom.{AfAxiom}
 use Rattle.meaning_atoms.specs.declared.axiom.AfAxiom.TheVariants.{A1, A2, A3, A4, A5, A6, A7, A8, A9, A10, A11, A12, A13, A14}
-use Rattle.meaning_atoms.specs.declared.axiom.AxiomName.TheVariants.{Af}
+use Rattle.meaning_atoms.specs.declared.aba_axiom.AbaAxiom.{AbaAxiom}
+use Rattle.meaning_atoms.specs.declared.aba_axiom.AbaAxiom.TheVariants.{B1, B2, B3, B4, B5, B6, B7, B8, B9, B9Con, B10, B11, B12, B13, B14, B15, B16, B17}
+use Rattle.meaning_atoms.specs.declared.axiom.AxiomName.{AxiomName}
+use Rattle.meaning_atoms.specs.declared.axiom.AxiomName.TheVariants.{Af, Aba}
 use Rattle.meaning_atoms.specs.Atoms.{IsLit}
 use Rattle.meaning_atoms.specs.AtomText.{IsLitText, lit_text, name_of, numbers_of, signed}
-use Rattle.meaning_atoms.specs.AxiomText.{axiom_arguments, axiom_name}
+use Rattle.meaning_atoms.specs.AxiomText.{aba_name, af_name, axiom_arguments, axiom_name}
 use Rattle.meaning_atoms.proofs.WrittenAxioms.{arguments_small, axiom_reads, field_from}
 use Rattle.meaning_atoms.proofs.WrittenFields.{AreFields, IsField, decimals_joined, fields_joined}
 use Rattle.meaning_atoms.proofs.WrittenLits.{AreWords, written_reads}
@@ -183,6 +187,15 @@ name_in_line Ad = in_line_from _ (omega arith) refl refl
 name_in_line Co = in_line_from _ (omega arith) refl refl
 name_in_line St = in_line_from _ (omega arith) refl refl
 name_in_line (Ask n) = in_line_from _ (omega arith) refl refl
+name_in_line (Asm a) = in_line_from _ (omega arith) refl refl
+name_in_line (Con a c) = in_line_from _ (omega arith) refl refl
+name_in_line (Head r h) = in_line_from _ (omega arith) refl refl
+name_in_line (HGap h i j) = in_line_from _ (omega arith) refl refl
+name_in_line (Body r x) = in_line_from _ (omega arith) refl refl
+name_in_line (BGap r i j) = in_line_from _ (omega arith) refl refl
+name_in_line (Der k x) = in_line_from _ (omega arith) refl refl
+name_in_line (Miss k r i) = in_line_from _ (omega arith) refl refl
+name_in_line (Sup k x i) = in_line_from _ (omega arith) refl refl
 
 signed_in_line : (positive : Bool) (name : List ℕ) → IsInLine name → IsInLine (signed positive name)
 signed_in_line true name is = is
@@ -260,24 +273,48 @@ arguments_words (n ∷ ns) all =
 
 -- ---- steps
 
-axiom_in_line : (which : AfAxiom) → IsInLine (axiom_name which)
-axiom_in_line (A1 a) = in_line_from _ (omega arith) refl refl
-axiom_in_line (A2 b a) = in_line_from _ (omega arith) refl refl
-axiom_in_line (A3 b a) = in_line_from _ (omega arith) refl refl
-axiom_in_line (A4 b a) = in_line_from _ (omega arith) refl refl
-axiom_in_line (A5 a i j) = in_line_from _ (omega arith) refl refl
-axiom_in_line (A6 a i) = in_line_from _ (omega arith) refl refl
-axiom_in_line (A7 a) = in_line_from _ (omega arith) refl refl
-axiom_in_line (A8 a i j) = in_line_from _ (omega arith) refl refl
-axiom_in_line (A9 a i) = in_line_from _ (omega arith) refl refl
-axiom_in_line (A10 a) = in_line_from _ (omega arith) refl refl
-axiom_in_line (A11 a) = in_line_from _ (omega arith) refl refl
-axiom_in_line (A12 a) = in_line_from _ (omega arith) refl refl
-axiom_in_line (A13 a) = in_line_from _ (omega arith) refl refl
-axiom_in_line (A14 part) = in_line_from _ (omega arith) refl refl
+af_in_line : (which : AfAxiom) → IsInLine (af_name which)
+af_in_line (A1 a) = in_line_from _ (omega arith) refl refl
+af_in_line (A2 b a) = in_line_from _ (omega arith) refl refl
+af_in_line (A3 b a) = in_line_from _ (omega arith) refl refl
+af_in_line (A4 b a) = in_line_from _ (omega arith) refl refl
+af_in_line (A5 a i j) = in_line_from _ (omega arith) refl refl
+af_in_line (A6 a i) = in_line_from _ (omega arith) refl refl
+af_in_line (A7 a) = in_line_from _ (omega arith) refl refl
+af_in_line (A8 a i j) = in_line_from _ (omega arith) refl refl
+af_in_line (A9 a i) = in_line_from _ (omega arith) refl refl
+af_in_line (A10 a) = in_line_from _ (omega arith) refl refl
+af_in_line (A11 a) = in_line_from _ (omega arith) refl refl
+af_in_line (A12 a) = in_line_from _ (omega arith) refl refl
+af_in_line (A13 a) = in_line_from _ (omega arith) refl refl
+af_in_line (A14 part) = in_line_from _ (omega arith) refl refl
+
+aba_in_line : (which : AbaAxiom) → IsInLine (aba_name which)
+aba_in_line (B1 a) = in_line_from _ (omega arith) refl refl
+aba_in_line (B2 a) = in_line_from _ (omega arith) refl refl
+aba_in_line (B3 a c) = in_line_from _ (omega arith) refl refl
+aba_in_line (B4 k) = in_line_from _ (omega arith) refl refl
+aba_in_line (B5 k r h) = in_line_from _ (omega arith) refl refl
+aba_in_line (B6 k r x) = in_line_from _ (omega arith) refl refl
+aba_in_line (B7 k r i j) = in_line_from _ (omega arith) refl refl
+aba_in_line (B8 k r i) = in_line_from _ (omega arith) refl refl
+aba_in_line (B9 k x) = in_line_from _ (omega arith) refl refl
+aba_in_line (B9Con a c) = in_line_from _ (omega arith) refl refl
+aba_in_line (B10 k x i j) = in_line_from _ (omega arith) refl refl
+aba_in_line (B11 k x i) = in_line_from _ (omega arith) refl refl
+aba_in_line (B12 a c) = in_line_from _ (omega arith) refl refl
+aba_in_line (B13 a c) = in_line_from _ (omega arith) refl refl
+aba_in_line (B14 a c) = in_line_from _ (omega arith) refl refl
+aba_in_line (B15 a c) = in_line_from _ (omega arith) refl refl
+aba_in_line (B16 part) = in_line_from _ (omega arith) refl refl
+aba_in_line (B17 k x rows) = in_line_from _ (omega arith) refl refl
+
+axiom_in_line : (which : AxiomName) → IsInLine (axiom_name which)
+axiom_in_line (Af which) = af_in_line which
+axiom_in_line (Aba which) = aba_in_line which
 
 step_fields : Step → Fields
-step_fields (Axiom (Af which)) = codes "a" ∷ axiom_name which ∷ map decimal (axiom_arguments which)
+step_fields (Axiom which) = codes "a" ∷ axiom_name which ∷ map decimal (axiom_arguments which)
 step_fields (Side n) = codes "s" ∷ decimal n ∷ []
 step_fields (Derived literals hints) = codes "d" ∷ (map lit_text literals ++ codes "0" ∷ map decimal hints)
 
@@ -294,9 +331,9 @@ derived_joined ls hs =
 
 step_is_line : (step : Step) → IsWritableStep step → IsLines (step_line step) (step_fields step ∷ [])
 unfolding step_fields
-step_is_line (Axiom (Af which)) fits =
+step_is_line (Axiom which) fits =
     let numbers = axiom_arguments which in
-    subst (λ t. IsLines (t ++ codes "\n") (step_fields (Axiom (Af which)) ∷ []))
+    subst (λ t. IsLines (t ++ codes "\n") (step_fields (Axiom which) ∷ []))
     (ap (λ t. codes "a " ++ (axiom_name which ++ t)) (sym (decimals_joined numbers)))
     (line_of (codes "a") (axiom_name which ∷ map decimal numbers) (in_line_from _ (omega arith) refl refl)
     (axiom_in_line which, decimals_in_line numbers (arguments_small which fits)) refl)
@@ -312,7 +349,7 @@ step_is_line (Derived literals hints) fits =
 
 step_reads : (step : Step) → IsWritableStep step → IsStepLine (step_fields step) step
 unfolding step_fields
-step_reads (Axiom (Af which)) fits =
+step_reads (Axiom which) fits =
     (axiom_name which ∷ map decimal (axiom_arguments which), refl, axiom_reads which fits)
 step_reads (Side n) fits = (decimal n, refl, ordinal_reads n fits)
 step_reads (Derived literals hints) fits = record {

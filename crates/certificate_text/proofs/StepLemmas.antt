@@ -9,34 +9,25 @@ use Rattle.certificate_text.specs.declared.step.Literals.{Literals}
 use Rattle.certificate_text.specs.declared.step.Literals.TheVariants.{Unreadable, Read}
 use Rattle.certificate_text.specs.Literals.{HasLiterals, parts}
 use Rattle.num_text.specs.Number.{IsNumber}
-use Rattle.meaning_atoms.specs.declared.axiom.AfAxiom.{AfAxiom}
-use Rattle.meaning_atoms.specs.declared.axiom.AfAxiom.TheVariants.{A1, A2, A3, A4, A5, A6, A7, A8, A9, A10, A11, A12, A13, A14}
-use Rattle.meaning_atoms.specs.Axioms.{IsAfAxiom}
+use Rattle.meaning_atoms.specs.declared.axiom.AxiomName.{AxiomName}
 use Rattle.meaning_atoms.specs.AxiomText.{IsAxiomFields, IsAxiomOf, axiom_arguments}
 use Rattle.meaning_atoms.proofs.OneReading.{one_list}
-use Rattle.certificate_text.specs.StepFields.{AxiomStands, DerivedStands, HasBadOrdinal, SpellsOrdinal}
+use Rattle.certificate_text.specs.StepFields.{AxiomStands, DerivedStands, HasBadNumber, HasBadOrdinal, SpellsOrdinal}
 use Rattle.certificate_text.proofs.Zips.{zip_partner}
 
 -- ---- axioms
 
-numbers_only : (fields : List (List ℕ)) (numbers : List ℕ) → AllZip SpellsOrdinal fields numbers
-    → AllZip IsNumber fields numbers
-numbers_only [] [] all = tt
-numbers_only [] (n ∷ ns) all = absurd all
-numbers_only (f ∷ fs) [] all = absurd all
-numbers_only (f ∷ fs) (n ∷ ns) all = (all.0.number, numbers_only fs ns all.1)
-
-pub axiom_read : (name : List ℕ) (fields : List (List ℕ)) (numbers : List ℕ) (which : AfAxiom)
-    → AllZip SpellsOrdinal fields numbers → IsAxiomOf name numbers which → IsAxiomFields (name ∷ fields) which
+pub axiom_read : (name : List ℕ) (fields : List (List ℕ)) (numbers : List ℕ) (which : AxiomName)
+    → AllZip IsNumber fields numbers → IsAxiomOf name numbers which → IsAxiomFields (name ∷ fields) which
 axiom_read name fields numbers which all is = record {
   numbers = fields;
   fields_are = ap (λ n. n ∷ fields) (sym is.named.named);
-  spelled = subst (AllZip IsNumber fields) (sym is.named.numbered) (numbers_only fields numbers all);
+  spelled = subst (AllZip IsNumber fields) (sym is.named.numbered) all;
   within = is.within;
 }
 
-pub axiom_told : (name : List ℕ) (fields : List (List ℕ)) (numbers : List ℕ) (which : AfAxiom)
-    → AllZip SpellsOrdinal fields numbers → IsAxiomFields (name ∷ fields) which → IsAxiomOf name numbers which
+pub axiom_told : (name : List ℕ) (fields : List (List ℕ)) (numbers : List ℕ) (which : AxiomName)
+    → AllZip IsNumber fields numbers → IsAxiomFields (name ∷ fields) which → IsAxiomOf name numbers which
 axiom_told name fields numbers which all is =
     let rest : fields ≡ is.numbers = ap (λ fs. drop 1 fs) is.fields_are in
     record {
@@ -44,76 +35,45 @@ axiom_told name fields numbers which all is =
         named = sym (ap (λ fs. get_or fs 0 []) is.fields_are);
         numbered = one_list fields (axiom_arguments which) numbers
             (subst (λ fs. AllZip IsNumber fs (axiom_arguments which)) (sym rest) is.spelled)
-            (numbers_only fields numbers all);
+            all;
       };
       within = is.within;
     }
 
--- numbers that begin at 1
-abbrev AreFromOne : List ℕ → Type 0
-AreFromOne [] = Unit {0}
-AreFromOne (n ∷ ns) = (1 ≤ n) × AreFromOne ns
-
-from_one : (which : AfAxiom) → IsAfAxiom which → AreFromOne (axiom_arguments which)
-from_one (A1 a) h = (h.low, tt)
-from_one (A2 b a) h = (h.0.low, (h.1.low, tt))
-from_one (A3 b a) h = (h.0.low, (h.1.low, tt))
-from_one (A4 b a) h = (h.0.low, (h.1.low, tt))
-from_one (A5 a i j) h = (h.argument.low, (h.from, ((let f = h.from in let o = h.order in omega arith), tt)))
-from_one (A6 a i) h = (h.0.low, (h.1.low, tt))
-from_one (A7 a) h = (h.low, tt)
-from_one (A8 a i j) h = (h.argument.low, (h.from, ((let f = h.from in let o = h.order in omega arith), tt)))
-from_one (A9 a i) h = (h.0.low, (h.1.low, tt))
-from_one (A10 a) h = (h.low, tt)
-from_one (A11 a) h = (h.low, tt)
-from_one (A12 a) h = (h.low, tt)
-from_one (A13 a) h = (h.low, tt)
-from_one (A14 part) h = (h.0, tt)
-
-are_ordinals : (fields : List (List ℕ)) (numbers : List ℕ) → AllZip IsNumber fields numbers → AreFromOne numbers
-    → AllZip SpellsOrdinal fields numbers
-are_ordinals [] [] all from = tt
-are_ordinals [] (n ∷ ns) all from = absurd all
-are_ordinals (f ∷ fs) [] all from = absurd all
-are_ordinals (f ∷ fs) (n ∷ ns) all from =
-    (record { number = all.0; from_one = from.0 }, are_ordinals fs ns all.1 from.1)
-
--- the arguments of an axiom are numbers from 1
-pub axiom_bad : (name : List ℕ) (fields : List (List ℕ)) (which : AfAxiom) → HasBadOrdinal fields
+pub axiom_bad : (name : List ℕ) (fields : List (List ℕ)) (which : AxiomName) → HasBadNumber fields
     → IsAxiomFields (name ∷ fields) which → ⊥
 axiom_bad name fields which bad is =
     let rest : is.numbers ≡ fields = ap (λ fs. drop 1 fs) (sym is.fields_are) in
-    let all : AllZip SpellsOrdinal fields (axiom_arguments which)
-    = subst (λ fs. AllZip SpellsOrdinal fs (axiom_arguments which)) rest
-    (are_ordinals is.numbers (axiom_arguments which) is.spelled (from_one which is.within)) in
-    let found = zip_partner SpellsOrdinal fields (axiom_arguments which) bad.field all bad.listed in
+    let all : AllZip IsNumber fields (axiom_arguments which)
+    = subst (λ fs. AllZip IsNumber fs (axiom_arguments which)) rest is.spelled in
+    let found = zip_partner IsNumber fields (axiom_arguments which) bad.field all bad.listed in
     bad.bad found.0 found.1
 
 pub axiom_found : (name : List ℕ) (fields : List (List ℕ)) (spelled : Option (List ℕ)) (numbers numbers' : List ℕ)
-    (found : Option AfAxiom) → IfSome spelled (AllZip SpellsOrdinal fields) → spelled ≡ Some numbers → numbers' ≡ numbers
+    (found : Option AxiomName) → IfSome spelled (AllZip IsNumber fields) → spelled ≡ Some numbers → numbers' ≡ numbers
     → IfSome found (IsAxiomOf name numbers') → IfSome found (IsAxiomFields (name ∷ fields))
 axiom_found name fields spelled numbers numbers' None all is same named = tt
 axiom_found name fields spelled numbers numbers' (Some which) all is same named =
-    axiom_read name fields numbers which (subst (λ s. IfSome s (AllZip SpellsOrdinal fields)) is all)
+    axiom_read name fields numbers which (subst (λ s. IfSome s (AllZip IsNumber fields)) is all)
     (subst (λ ns. IsAxiomOf name ns which) same named)
 
 pub axiom_unfound : (name : List ℕ) (fields : List (List ℕ)) (spelled : Option (List ℕ)) (numbers numbers' : List ℕ)
-    (found : Option AfAxiom) → IfSome spelled (AllZip SpellsOrdinal fields) → spelled ≡ Some numbers → numbers' ≡ numbers
-    → ((which : AfAxiom) → IsAxiomOf name numbers' which → found ≡ Some which)
-    → IfNone found ((which : AfAxiom) → IsAxiomFields (name ∷ fields) which → ⊥)
+    (found : Option AxiomName) → IfSome spelled (AllZip IsNumber fields) → spelled ≡ Some numbers → numbers' ≡ numbers
+    → ((which : AxiomName) → IsAxiomOf name numbers' which → found ≡ Some which)
+    → IfNone found ((which : AxiomName) → IsAxiomFields (name ∷ fields) which → ⊥)
 axiom_unfound name fields spelled numbers numbers' None all is same told = λ which fits.
     let found = told which (subst (λ ns. IsAxiomOf name ns which) (sym same)
-    (axiom_told name fields numbers which (subst (λ s. IfSome s (AllZip SpellsOrdinal fields)) is all) fits)) in
+    (axiom_told name fields numbers which (subst (λ s. IfSome s (AllZip IsNumber fields)) is all) fits)) in
     absurd (cc found)
 axiom_unfound name fields spelled numbers numbers' (Some which) all is same told = tt
 
-pub axiom_stands : (fields : List (List ℕ)) (name : List ℕ) (more : List (List ℕ)) (found : Option AfAxiom)
-    → fields ≡ name ∷ more → IfNone found ((which : AfAxiom) → IsAxiomFields (name ∷ more) which → ⊥) → found ≡ None
+pub axiom_stands : (fields : List (List ℕ)) (name : List ℕ) (more : List (List ℕ)) (found : Option AxiomName)
+    → fields ≡ name ∷ more → IfNone found ((which : AxiomName) → IsAxiomFields (name ∷ more) which → ⊥) → found ≡ None
     → AxiomStands fields BadAxiom
 axiom_stands fields name more found cut none is = (
   λ empty. let e : name ∷ more ≡ [] = sym cut ∙ empty in absurd (cc e),
-  subst (λ fs. (which : AfAxiom) → IsAxiomFields fs which → ⊥) (sym cut)
-      (subst (λ o. IfNone o ((which : AfAxiom) → IsAxiomFields (name ∷ more) which → ⊥)) is none),
+  subst (λ fs. (which : AxiomName) → IsAxiomFields fs which → ⊥) (sym cut)
+      (subst (λ o. IfNone o ((which : AxiomName) → IsAxiomFields (name ∷ more) which → ⊥)) is none),
 )
 
 -- ---- derived steps

@@ -4,7 +4,6 @@ use Rattle.std.specs.List.{AllZip}
 use Rattle.iccma_tasks.specs.AnswerText.{IsSetLine}
 use Rattle.meaning_atoms.specs.AtomText.{IsLitText}
 use Rattle.meaning_atoms.specs.AxiomText.{IsAxiomFields}
-use Rattle.meaning_atoms.specs.declared.axiom.AxiomName.TheVariants.{Af}
 use Rattle.meaning_atoms.specs.declared.atom.AtomLit.{AtomLit}
 use Rattle.certificate_claims.specs.declared.certificate.Certificate.{Certificate}
 use Rattle.certificate_claims.specs.declared.certificate.Refutation.{Refutation}
@@ -22,7 +21,7 @@ pub record IsDerivedLine (fields : List (List ℕ)) (literals : List AtomLit) (h
 
 -- the line of an axiom, `a` with its name and arguments; of a side clause, `s` with its number; of a derived clause
 abbrev pub IsStepLine : List (List ℕ) → Step → Type 0
-IsStepLine fields (Axiom (Af which)) = (more : List (List ℕ)) × (fields ≡ codes "a" ∷ more) × IsAxiomFields more which
+IsStepLine fields (Axiom which) = (more : List (List ℕ)) × (fields ≡ codes "a" ∷ more) × IsAxiomFields more which
 IsStepLine fields (Side n) = (field : List ℕ) × (fields ≡ codes "s" ∷ field ∷ []) × SpellsOrdinal field n
 IsStepLine fields (Derived literals hints) = IsDerivedLine fields literals hints
 

@@ -1,5 +1,5 @@
 -- The state of a proof: the literals of a derived step, as they are read one by one.
-use Rattle.std.specs.Prelude.{◌≡◌, List, [], ◌∷◌, ◌++◌, ℕ, Option, None, Some}
+use Rattle.std.specs.Prelude.{◌≡◌, List, [], ◌∷◌, ◌++◌, ℕ, Bool, true, false, Option, None, Some}
 use Rattle.std.specs.List.{AllZip}
 use Rattle.meaning_atoms.specs.declared.atom.AtomLit.{AtomLit}
 use Rattle.meaning_atoms.specs.AtomText.{IsLitText}
@@ -17,6 +17,11 @@ HasLiterals fields left Unreadable =
     (front : List (List ℕ)) × (parts_of fields ≡ Some (parts front left)) × HasBadLiteral front
 HasLiterals fields left (Read literals) =
     (front : List (List ℕ)) × (parts_of fields ≡ Some (parts front left)) × AllZip IsLitText front literals
+
+-- the literals so far, where each field said one
+abbrev pub found_in : Bool → List AtomLit → Option (List AtomLit)
+found_in true literals = Some literals
+found_in false literals = None
 
 -- the literals so far, or none where some field said none, go on by the field to these
 abbrev pub GoesOn : Option (List AtomLit) → List ℕ → Option (List AtomLit) → Type 0

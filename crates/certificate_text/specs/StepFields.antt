@@ -4,8 +4,7 @@ use Rattle.std.specs.List.{AllZip}
 use Rattle.std.specs.Cmp.Lexicographic.{pointwise}
 use Rattle.num_text.specs.Number.{IsNumber}
 use Rattle.meaning_atoms.specs.declared.atom.AtomLit.{AtomLit}
-use Rattle.meaning_atoms.specs.declared.axiom.AfAxiom.{AfAxiom}
-use Rattle.meaning_atoms.specs.declared.axiom.AxiomName.TheVariants.{Af}
+use Rattle.meaning_atoms.specs.declared.axiom.AxiomName.{AxiomName}
 use Rattle.meaning_atoms.specs.AtomText.{IsLitText}
 use Rattle.meaning_atoms.specs.AxiomText.{IsAxiomFields}
 use Rattle.certificate_claims.specs.declared.certificate.Step.{Step}
@@ -25,6 +24,12 @@ pub record HasBadOrdinal (fields : List (List ℕ)) : Type 0 where
   pub field : List ℕ
   pub listed : Contains fields field
   pub bad : (n : ℕ) → SpellsOrdinal field n → ⊥
+
+-- some field spells no number
+pub record HasBadNumber (fields : List (List ℕ)) : Type 0 where
+  pub field : List ℕ
+  pub listed : Contains fields field
+  pub bad : (n : ℕ) → IsNumber field n → ⊥
 
 -- some field is the text of no literal
 pub record HasBadLiteral (fields : List (List ℕ)) : Type 0 where
@@ -60,7 +65,7 @@ pub record IsDerivedOf (fields : List (List ℕ)) (literals : List AtomLit) (hin
 
 -- behind this word, the fields say this step
 abbrev pub IsStepOf : Word → List (List ℕ) → Step → Type 0
-IsStepOf AxiomWord fields (Axiom (Af which)) = IsAxiomFields fields which
+IsStepOf AxiomWord fields (Axiom which) = IsAxiomFields fields which
 IsStepOf SideWord fields (Side n) = (field : List ℕ) × (fields ≡ field ∷ []) × SpellsOrdinal field n
 IsStepOf DerivedWord fields (Derived literals hints) = IsDerivedOf fields literals hints
 IsStepOf _ _ _ = ⊥
@@ -69,7 +74,7 @@ IsStepOf _ _ _ = ⊥
 
 abbrev pub AxiomStands : List (List ℕ) → CertCause → Type 0
 AxiomStands fields BadLine = fields ≡ []
-AxiomStands fields BadAxiom = (fields ≢ []) × ((which : AfAxiom) → IsAxiomFields fields which → ⊥)
+AxiomStands fields BadAxiom = (fields ≢ []) × ((which : AxiomName) → IsAxiomFields fields which → ⊥)
 AxiomStands fields _ = ⊥
 
 abbrev pub SideStands : List (List ℕ) → CertCause → Type 0

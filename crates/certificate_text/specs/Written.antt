@@ -5,9 +5,8 @@ use Rattle.std.specs.Fmt.{decimal}
 use Rattle.iccma_tasks.specs.WrittenText.{HasArguments, set_line}
 use Rattle.meaning_atoms.specs.Atoms.{IsLit}
 use Rattle.meaning_atoms.specs.AtomText.{lit_text}
-use Rattle.meaning_atoms.specs.Axioms.{IsAfAxiom}
+use Rattle.meaning_atoms.specs.AxiomNames.{IsAxiomName}
 use Rattle.meaning_atoms.specs.AxiomText.{axiom_text}
-use Rattle.meaning_atoms.specs.declared.axiom.AxiomName.TheVariants.{Af}
 use Rattle.certificate_claims.specs.declared.certificate.Certificate.{Certificate}
 use Rattle.certificate_claims.specs.declared.certificate.Refutation.{Refutation}
 use Rattle.certificate_claims.specs.declared.certificate.Step.{Step}
@@ -15,7 +14,7 @@ use Rattle.certificate_claims.specs.declared.certificate.Step.TheVariants.{Axiom
 
 -- the line of a step
 abbrev pub step_line : Step → List ℕ
-step_line (Axiom (Af which)) = codes "a " ++ axiom_text which ++ codes "\n"
+step_line (Axiom which) = codes "a " ++ axiom_text which ++ codes "\n"
 step_line (Side n) = codes "s " ++ decimal n ++ codes "\n"
 step_line (Derived literals hints) =
     codes "d" ++ flat_map (λ l. 32 ∷ lit_text l) literals ++ codes " 0" ++ flat_map (λ n. 32 ∷ decimal n) hints
@@ -39,7 +38,7 @@ pub record IsOrdinal (n : ℕ) : Type 0 where
 
 -- the numbers of the step are within their bounds
 abbrev pub IsWritableStep : Step → Type 0
-IsWritableStep (Axiom (Af which)) = IsAfAxiom which
+IsWritableStep (Axiom which) = IsAxiomName which
 IsWritableStep (Side n) = IsOrdinal n
 IsWritableStep (Derived literals hints) = All IsLit literals × All IsOrdinal hints
 

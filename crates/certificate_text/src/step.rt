@@ -3,18 +3,19 @@
 ghost use Rattle.std.specs.Prelude.{◌≡◌, ◌↔◌, ◌≤◌, [], ◌∷◌, ◌++◌, ℕ, Some, codes, map, IfOk, IfErr, IfSome, IfNone, IsTrue};
 ghost use Rattle.std.specs.List.{AllZip};
 ghost use Rattle.meaning_atoms.specs.declared.atom.AtomLit.{AtomLit as ALit};
-ghost use Rattle.meaning_atoms.specs.declared.axiom.AfAxiom.{AfAxiom as AnAxiom};
-ghost use Rattle.meaning_atoms.specs.AtomText.{IsLitText};
+ghost use Rattle.meaning_atoms.specs.declared.axiom.AxiomName.{AxiomName as AName};
+ghost use Rattle.num_text.specs.Number.{IsNumber};
+ghost use Rattle.meaning_atoms.specs.AtomText.{IsLitText, signed};
 ghost use Rattle.meaning_atoms.specs.AxiomText.{IsAxiomFields};
 ghost use Rattle.certificate_text.specs.declared.word.Word.TheVariants.{Axiom as AxiomWord, Side as SideWord, Derived as DerivedWord};
 ghost use Rattle.certificate_text.specs.Lines.{FaultsAt};
-ghost use Rattle.certificate_text.specs.Literals.{GoesOn, HasLiterals, closed_view};
-ghost use Rattle.certificate_text.specs.StepFields.{HasBadOrdinal, IsStepOf, SpellsOrdinal, StepStands};
+ghost use Rattle.certificate_text.specs.Literals.{GoesOn, HasLiterals, closed_view, found_in};
+ghost use Rattle.certificate_text.specs.StepFields.{HasBadNumber, HasBadOrdinal, IsStepOf, SpellsOrdinal, StepStands};
 
 use crate::fault::{CertCause, CertFault};
 use crate::word::Word;
 use certificate_claims::Step;
-use meaning_atoms::{AfAxiom, Atom, AtomLit, AxiomName, axiom_of, read_lit};
+use meaning_atoms::{Atom, AtomLit, AxiomName, axiom_of, read_lit};
 use num_text::{Fields, decimal};
 use plain_lists::{Items, Memory};
 use std::alloc::Global;
@@ -109,6 +110,22 @@ fn ordinals(empty: Items<u32>, mut rest: Fields<'_>) -> Result<Option<Items<u32>
     Ok(Some(numbers))
 }
 
+// The numbers that the fields spell. `None` where some field spells none.
+fn numbers(empty: Items<u32>, mut rest: Fields<'_>) -> Result<Option<Items<u32>>, Memory>
+    requires { empty ≡ [] }
+    ensures numbers { IfOk result (λ found. IfSome found (AllZip IsNumber (map (λ f. f.text) rest.entry))) }
+    ensures none { IfOk result (λ found. IfNone found (HasBadNumber (map (λ f. f.text) rest.entry))) }
+{
+    let mut numbers = empty;
+    while let Some(field) = rest.next_number() {
+        let Some(number) = field.number else {
+            return Ok(None);
+        };
+        numbers.push(number)?;
+    }
+    Ok(Some(numbers))
+}
+
 // What the fields before the first `0` are.
 enum Literals {
     // There is no `0`.
@@ -119,30 +136,41 @@ enum Literals {
     Read(Items<AtomLit>),
 }
 
-// What stands behind `Member:`.
-fn behind_member<'a>(bytes: &'a [u8]) -> Option<&'a [u8]>
-    ensures { IfSome result (λ rest. bytes.entry.now ≡ codes "Member:" ++ rest.now) }
+// The sign and the digits of a literal whose atom is a member.
+#[derive(Clone, Copy)]
+struct MemberText<'a> {
+    positive: bool,
+    digits: &'a [u8],
+}
+
+// What stands before and behind `Member:`.
+fn cut_member<'a>(bytes: &'a [u8]) -> Option<MemberText<'a>>
+    ensures { IfSome result (λ m. bytes.entry.now ≡ signed m.positive (codes "Member:") ++ m.digits.now) }
 {
     match bytes {
-        [b'M', b'e', b'm', b'b', b'e', b'r', b':', rest @ ..] => Some(rest),
+        [b'M', b'e', b'm', b'b', b'e', b'r', b':', digits @ ..] => Some(MemberText {
+            positive: true,
+            digits,
+        }),
+        [b'-', b'M', b'e', b'm', b'b', b'e', b'r', b':', digits @ ..] => Some(MemberText {
+            positive: false,
+            digits,
+        }),
         _ => None,
     }
 }
 
-// The literal that affirms a member, where the bytes begin as its text does: it is read in one pass over the digits,
-// and not cut at colons first. Without this, that run takes 0.15 s more.
+// The literal of a member, where the bytes are like the text of one: it is read in one pass over the digits, and not
+// cut at colons first. Without this, that run takes 0.15 s more.
 fn member(bytes: &[u8]) -> Option<AtomLit>
     ensures { IfSome result (IsLitText bytes.now) }
 {
-    let digits = behind_member(bytes)?;
+    let MemberText { positive, digits } = cut_member(bytes)?;
     let atom = Atom::Member(decimal(digits)?);
     if !atom.is_within() {
         return None;
     }
-    Some(AtomLit {
-        atom,
-        positive: true,
-    })
+    Some(AtomLit { atom, positive })
 }
 
 // The literal that the bytes are the text of.
@@ -156,32 +184,29 @@ fn literal_of(bytes: &[u8]) -> Option<AtomLit>
     read_lit(bytes)
 }
 
-// The literals that go on by one more, where there is still each.
-fn with_literal(
-    found: Option<Items<AtomLit>>,
-    bytes: &[u8],
-) -> Result<Option<Items<AtomLit>>, Memory>
-    ensures { IfOk result (GoesOn found bytes.now) }
+// Adds one more literal, where each so far was one, and answers whether this one is too.
+fn with_literal(readable: bool, literals: &mut Items<AtomLit>, bytes: &[u8]) -> Result<bool, Memory>
+    ensures { IfOk result (λ still. GoesOn (found_in readable literals.old) bytes.now (found_in still literals.new)) }
 {
-    match found {
-        Some(mut literals) => match literal_of(bytes) {
-            Some(literal) => {
-                literals.push(literal)?;
-                Ok(Some(literals))
-            }
-            None => Ok(None),
-        },
-        None => Ok(None),
+    if !readable {
+        return Ok(false);
+    }
+    match literal_of(bytes) {
+        Some(literal) => {
+            literals.push(literal)?;
+            Ok(true)
+        }
+        None => Ok(false),
     }
 }
 
-fn closed(found: Option<Items<AtomLit>>) -> Literals
-    ensures { result ≡ closed_view found }
+fn closed(readable: bool, literals: Items<AtomLit>) -> Literals
+    ensures { result ≡ closed_view (found_in readable literals) }
 {
-    match found {
-        Some(literals) => Literals::Read(literals),
-        None => Literals::Unreadable,
+    if readable {
+        return Literals::Read(literals);
     }
+    Literals::Unreadable
 }
 
 // Reads the literals up to the closing `0`. The fields behind it are left.
@@ -189,12 +214,13 @@ fn read_literals(empty: Items<AtomLit>, rest: &mut Fields<'_>) -> Result<Literal
     requires { empty ≡ [] }
     ensures { IfOk result (HasLiterals (map (λ f. f.text) rest.old) (map (λ f. f.text) rest.new)) }
 {
-    let mut found = Some(empty);
+    let mut literals = empty;
+    let mut readable = true;
     while let Some(field) = rest.next() {
         if field.text == b"0".as_slice() {
-            return Ok(closed(found));
+            return Ok(closed(readable, literals));
         }
-        found = with_literal(found, field.text)?;
+        readable = with_literal(readable, &mut literals, field.text)?;
     }
     Ok(Literals::Unclosed)
 }
@@ -234,15 +260,15 @@ fn axiom_named(
     name: &[u8],
     rest: Fields<'_>,
     room: &mut Room,
-) -> Result<Option<AfAxiom>, Memory>
+) -> Result<Option<AxiomName>, Memory>
     ensures axiom { IfOk result (λ found. IfSome found (IsAxiomFields (name.now ∷ map (λ f. f.text) rest.entry))) }
     ensures none { IfOk result (λ found. IfNone found
-        ((which : AnAxiom) → ¬ IsAxiomFields (name.now ∷ map (λ f. f.text) rest.entry) which)) }
+        ((which : AName) → ¬ IsAxiomFields (name.now ∷ map (λ f. f.text) rest.entry) which)) }
 {
-    let numbers = cleared(alloc, &mut room.numbers);
-    match ordinals(numbers, rest)? {
+    let empty = cleared(alloc, &mut room.numbers);
+    match numbers(empty, rest)? {
         Some(arguments) => {
-            let found = axiom_of(name, arguments.as_slice());
+            let found = axiom_of(alloc, name, arguments.as_slice())?;
             room.numbers = arguments;
             Ok(found)
         }
@@ -263,7 +289,7 @@ fn axiom(
         return Err(fault(line, CertCause::BadLine));
     };
     match axiom_named(alloc, name.text, rest, room)? {
-        Some(axiom) => Ok(Step::Axiom(AxiomName::Af(axiom))),
+        Some(axiom) => Ok(Step::Axiom(axiom)),
         None => Err(fault(line, CertCause::BadAxiom)),
     }
 }

@@ -10,7 +10,7 @@ ghost use Rattle.certificate_text.specs.Written.{IsWritable, certificate_text, r
 
 use certificate_claims::{Certificate, Refutation, Step};
 use iccma_tasks::push_sets;
-use meaning_atoms::{AtomLit, AxiomName, push_axiom, push_lit};
+use meaning_atoms::{AtomLit, push_axiom, push_lit};
 use plain_lists::{Bytes, Memory};
 use std::alloc::Global;
 use std::fmt::Write;
@@ -43,7 +43,7 @@ fn push_step(text: &mut String, step: &Step) -> Result<(), Memory>
     ensures { OnOk result (string_bytes text.new ≡ string_bytes text.old ++ step_line step.now) }
 {
     match step {
-        Step::Axiom(AxiomName::Af(axiom)) => {
+        Step::Axiom(axiom) => {
             text.push_str("a ")?;
             push_axiom(text, axiom)?;
         }

@@ -135,6 +135,29 @@ impl DecisionOrder {
         }
     }
 
+    /// The activity of the variable on the heap's top, which no other in the heap surpasses.
+    fn highest(&self) -> u64 {
+        match self.heap.as_slice() {
+            [top, ..] if *top < self.activities.len() => self.activities[*top],
+            _ => 0,
+        }
+    }
+
+    /// A variable becomes just more active than all that wait to be decided.
+    pub fn raise(&mut self, var: usize)
+        ensures { self.new ≡ self.old }
+    {
+        if var >= self.activities.len() {
+            return;
+        }
+        let raised = self.highest().saturating_add(1);
+        self.activities[var] = raised;
+        let at = self.indices[var];
+        if at < self.heap.len() {
+            sift_up(&mut self.heap, &mut self.indices, &self.activities, at);
+        }
+    }
+
     /// A conflict is over: later ones count for more.
     pub fn decay(&mut self)
         ensures { self.new ≡ self.old }

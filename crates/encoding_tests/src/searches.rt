@@ -57,6 +57,7 @@ fn add_axiom(alloc: Global, search: &mut Search, name: &AxiomName) -> Option<()>
             let clause = clause_of(alloc, rule).ok()?;
             add(alloc, search, clause.as_slice())
         }
+        AxiomName::Aba(_) => None,
     }
 }
 

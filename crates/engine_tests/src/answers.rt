@@ -5,6 +5,7 @@ use edit_rules::{Framework, QueryFault};
 use hinted_log::MOST_STEPS;
 use iccma_tasks::{Answer, Query, Task};
 use oracle_core::{AnswerStop, Answered, Engine};
+use oracle_face::NoTrade;
 use plain_lits::Budget;
 use set_lists::NumSet;
 use std::alloc::Global;
@@ -77,7 +78,7 @@ fn holds(alloc: Global, engine: &mut Engine, asked: &Asked<'_>) -> Option<bool> 
     let task = Task::read(asked.task.as_bytes()).ok()?;
     let query = Query::new(task, asked.number)?;
     let mut budget = Budget::new(asked.budget);
-    let end = engine.answer(alloc, &query, &mut budget, asked.limit);
+    let end = engine.answer(alloc, &query, &mut budget, asked.limit, &mut NoTrade);
     Some(is_end(&end, &asked.end))
 }
 

@@ -6,7 +6,7 @@ ghost use Rattle.log_refutations.specs.Trimmed.{IsMovedDerived, IsMovedStep, mov
 
 use crate::read_log::{ReadLog, StepOrigin};
 use certificate_claims::Step;
-use meaning_atoms::{Atom, AtomLit};
+use meaning_atoms::{Atom, AtomLit, AxiomName};
 use plain_lists::{Items, Memory};
 use plain_lits::StepId;
 use std::alloc::Global;
@@ -91,7 +91,7 @@ pub(crate) fn moved_step<L: ReadLog>(
         (step_at (L.log log.now).steps step).clause) }
 {
     match log.origin(step) {
-        StepOrigin::Axiom(name) => Ok(Step::Axiom(name)),
+        StepOrigin::Axiom(name) => Ok(Step::Axiom(AxiomName::Af(name))),
         StepOrigin::Side(side) => Ok(Step::Side(position(positions, side.number()))),
         StepOrigin::Derived => moved_derived(alloc, log, step, positions, numbers),
     }

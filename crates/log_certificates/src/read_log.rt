@@ -6,16 +6,16 @@ ghost use Rattle.session_log.specs.Guards.{IsGuarded};
 ghost use Rattle.log_certificates.specs.ClaimSides.{IsAskOf};
 ghost use Rattle.log_certificates.specs.Origins.{IsOrigin};
 
-use meaning_atoms::{AtomLit, AxiomName};
+use meaning_atoms::{AfAxiom, AtomLit};
 use oracle_face::AskId;
 use plain_lists::{Items, Memory};
 use plain_lits::StepId;
 use std::alloc::Global;
 
-/// Where a step comes from: it is an axiom's or a side clause's, or it follows from other steps.
+/// Where a step comes from: it is an abstract framework's axiom or a side clause's, or it follows from other steps.
 #[derive(Clone, Copy, Debug, PartialEq, Eq)]
 pub enum StepOrigin {
-    Axiom(AxiomName),
+    Axiom(AfAxiom),
     Side(AskId),
     Derived,
 }

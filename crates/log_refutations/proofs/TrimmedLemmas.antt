@@ -16,7 +16,7 @@ use Rattle.meaning_atoms.specs.declared.atom.Atom.{Atom}
 use Rattle.meaning_atoms.specs.declared.atom.Atom.TheVariants.{Ask}
 use Rattle.meaning_atoms.specs.declared.atom.AtomLit.{AtomLit}
 use Rattle.meaning_atoms.specs.declared.axiom.AxiomName.{AxiomName}
-use Rattle.meaning_atoms.specs.declared.axiom.AxiomName.TheVariants.{Af as OfAf}
+use Rattle.meaning_atoms.specs.declared.axiom.AxiomName.TheVariants.{Af as OfAf, Aba as OfAba}
 use Rattle.meaning_atoms.specs.Atoms.{IsAtom, IsLit}
 use Rattle.meaning_atoms.specs.Literals.{denied, negated, AsksNothing}
 use Rattle.meaning_atoms.specs.Worlds.{IsAsk, IsFact}
@@ -545,6 +545,7 @@ module _ (f : Framework) (log : OracleLog) (claim : Claim) (step : ℕ) (positio
 
   axiom_named : (g : Framework) (name : AxiomName) → IsAxiomOf g name → IsWritableStep (Axiom name)
   axiom_named (af g) (OfAf name) is = is
+  axiom_named (af g) (OfAba name) is = absurd is
 
   all_from : {X : Type 0} (P : X → Type 0) (xs : List X) → ((x : X) → Contains xs x → P x) → All P xs
   all_from P xs each k d lt = each (slice_index_or xs k d) (Contains-get_or xs k d lt)

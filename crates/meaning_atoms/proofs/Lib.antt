@@ -1,8 +1,11 @@
+pub mod AbaDecided
 pub mod Valuations
 pub mod Clauses
 pub mod PieceLemmas
 pub mod SameAtoms
 pub mod WrittenLits
 pub mod WrittenFields
+pub mod LoopNumbers
+pub mod LoopForms
 pub mod WrittenAxioms
 pub mod OneReading

@@ -1,18 +1,23 @@
 -- Whether two atoms, or two literals, are the same can be decided; the derived `==` decides it, and the derived order
 -- says `Equal` there alone.
-use Rattle.std.proofs.Common.{◌≡◌, inl, inr, ⊎_elim, ℕ, Bool, true, false, ap, ◌∙◌, refl, rules}
+use Rattle.std.proofs.Common.{◌≡◌, inl, inr, ⊎_elim, ℕ, Bool, true, false, ap, sym, ◌∙◌, refl, rules}
 use Rattle.std.specs.Prelude.{◌↔◌}
-use Rattle.std.specs.Ordering.{ordering_then, bool_cmp}
+use Rattle.std.specs.Ordering.{ordering_then, bool_cmp, is_eq}
+use Rattle.std.proofs.Math.Bool.{beq}
 use Rattle.std.specs.declared.cmp.Ordering.{Ordering}
 use Rattle.std.specs.declared.cmp.Ordering.TheVariants.{Less, Equal, Greater}
-use Rattle.std.proofs.lemmas.Bool.{cases_eq}
+use Rattle.std.proofs.lemmas.Bool.{cases_eq, and_from, and_parts}
 use Rattle.semantics.proofs.Decided.{Decided}
 use Rattle.meaning_atoms.specs.declared.atom.Atom.{Atom}
 use Rattle.meaning_atoms.specs.declared.atom.Atom.TheVariants.{Member, Live, Attack, Gap, Tail, Unmet, Range, Cf, Ad, Co, St, Ask}
+use Rattle.meaning_atoms.specs.declared.atom.Atom.TheVariants.{Asm, Con, Head, HGap, Body, BGap, Der, Miss, Sup}
+use Rattle.meaning_atoms.specs.declared.atom.Closure.{Closure}
+use Rattle.meaning_atoms.specs.declared.atom.Closure.TheVariants.{Own, Rest}
 use Rattle.meaning_atoms.specs.declared.atom.AtomLit.{AtomLit}
 use Rattle.meaning_atoms.specs.contracts.atom.AtomPartialEq.TheImpl.{eq-value as atom_eq}
 use Rattle.meaning_atoms.specs.contracts.atom.AtomLitPartialEq.TheImpl.{eq-value as lit_eq}
 use Rattle.meaning_atoms.specs.contracts.atom.AtomOrd.TheImpl.{cmp-value as atom_cmp}
+use Rattle.meaning_atoms.specs.contracts.atom.AtomOrd.TheImpl.Laws.{matches_eq-law}
 use Rattle.meaning_atoms.specs.contracts.atom.AtomLitOrd.TheImpl.{cmp-value as lit_cmp}
 
 one : (make : ℕ → Atom) (a b : ℕ) → (make a ≡ make b → a ≡ b) → Decided (make a ≡ make b)
@@ -26,15 +31,22 @@ two make a b c d first second =
     (cases_eq b d))
     (λ ne. inr (λ all. ne (first all))) (cases_eq a c)
 
+three : (make : ℕ → ℕ → ℕ → Atom) (a i j b k l : ℕ) → (make a i j ≡ make b k l → a ≡ b)
+    → (make a i j ≡ make b k l → i ≡ k) → (make a i j ≡ make b k l → j ≡ l) → Decided (make a i j ≡ make b k l)
+three make a i j b k l first second third =
+    ⊎_elim
+    (λ e. ⊎_elim
+    (λ e'. ⊎_elim
+    (λ e''. inl (ap (λ x. make x i j) e ∙ ap (λ x. make b x j) e' ∙ ap (λ x. make b k x) e''))
+    (λ ne. inr (λ all. ne (third all))) (cases_eq j l))
+    (λ ne. inr (λ all. ne (second all))) (cases_eq i k))
+    (λ ne. inr (λ all. ne (first all))) (cases_eq a b)
+
 pub same_atom : (x y : Atom) → Decided (x ≡ y)
 same_atom (Member a) (Member b) = one Member a b (λ e. cc)
 same_atom (Live a) (Live b) = one Live a b (λ e. cc)
 same_atom (Attack a b) (Attack c d) = two Attack a b c d (λ e. cc) (λ e. cc)
-same_atom (Gap a i j) (Gap b k l) =
-    ⊎_elim
-    (λ e. ⊎_elim (λ e'. inl (ap (λ x. Gap x i j) e ∙ e')) (λ ne. inr (λ all. ne (cc)))
-    (two (Gap b) i j k l (λ e. cc) (λ e. cc)))
-    (λ ne. inr (λ all. ne (cc))) (cases_eq a b)
+same_atom (Gap a i j) (Gap b k l) = three Gap a i j b k l (λ e. cc) (λ e. cc) (λ e. cc)
 same_atom (Tail a i) (Tail b j) = two Tail a i b j (λ e. cc) (λ e. cc)
 same_atom (Unmet a i) (Unmet b j) = two Unmet a i b j (λ e. cc) (λ e. cc)
 same_atom (Range a) (Range b) = one Range a b (λ e. cc)
@@ -43,6 +55,18 @@ same_atom Ad Ad = inl cc
 same_atom Co Co = inl cc
 same_atom St St = inl cc
 same_atom (Ask a) (Ask b) = one Ask a b (λ e. cc)
+same_atom (Asm a) (Asm b) = one Asm a b (λ e. cc)
+same_atom (Con a b) (Con c d) = two Con a b c d (λ e. cc) (λ e. cc)
+same_atom (Head a b) (Head c d) = two Head a b c d (λ e. cc) (λ e. cc)
+same_atom (HGap a i j) (HGap b k l) = three HGap a i j b k l (λ e. cc) (λ e. cc) (λ e. cc)
+same_atom (Body a b) (Body c d) = two Body a b c d (λ e. cc) (λ e. cc)
+same_atom (BGap a i j) (BGap b k l) = three BGap a i j b k l (λ e. cc) (λ e. cc) (λ e. cc)
+same_atom (Der Own a) (Der Own b) = one (Der Own) a b (λ e. cc)
+same_atom (Der Rest a) (Der Rest b) = one (Der Rest) a b (λ e. cc)
+same_atom (Miss Own a i) (Miss Own b j) = two (Miss Own) a i b j (λ e. cc) (λ e. cc)
+same_atom (Miss Rest a i) (Miss Rest b j) = two (Miss Rest) a i b j (λ e. cc) (λ e. cc)
+same_atom (Sup Own a i) (Sup Own b j) = two (Sup Own) a i b j (λ e. cc) (λ e. cc)
+same_atom (Sup Rest a i) (Sup Rest b j) = two (Sup Rest) a i b j (λ e. cc) (λ e. cc)
 same_atom _ _ = inr (λ e. absurd (cc))
 
 same_sign : (s t : Bool) → Decided (s ≡ t)
@@ -66,11 +90,29 @@ same_literal k l =
 pub atom_decides : (x y : Atom) → ((atom_eq).it x y ≡ true) ↔ (x ≡ y)
 atom_decides x y = search rules
 
+sign_decides : (s t : Bool) → (beq s t ≡ true) ↔ (s ≡ t)
+sign_decides s t = search rules
+
 pub lit_decides : (k l : AtomLit) → ((lit_eq).it k l ≡ true) ↔ (k ≡ l)
-lit_decides k l = search rules
+lit_decides k l = (
+  λ e. let both = and_parts ((atom_eq).it k.atom l.atom) (beq k.positive l.positive) e in
+      ap (λ x. literal x k.positive) ((atom_decides k.atom l.atom).0 both.0)
+      ∙ ap (λ x. literal l.atom x) ((sign_decides k.positive l.positive).0 both.1),
+  λ same. and_from _ _ ((atom_decides k.atom l.atom).1 (ap (λ r. r.atom) same))
+      ((sign_decides k.positive l.positive).1 (ap (λ r. r.positive) same)),
+)
+
+equal_says : (o : Ordering) → is_eq o ≡ true → o ≡ Equal
+equal_says Less e = cc
+equal_says Equal e = refl
+equal_says Greater e = cc
 
 pub atom_order : (x y : Atom) → ((atom_cmp).it x y ≡ Equal) ↔ (x ≡ y)
-atom_order x y = search rules
+atom_order x y =
+    let tie : (atom_eq).it x y ≡ is_eq ((atom_cmp).it x y) = matches_eq-law x y in (
+      λ e. (atom_decides x y).0 (tie ∙ ap is_eq e),
+      λ same. equal_says ((atom_cmp).it x y) (sym tie ∙ (atom_decides x y).1 same),
+    )
 
 sign_order : (s t : Bool) → (bool_cmp s t ≡ Equal) ↔ (s ≡ t)
 sign_order s t = search rules

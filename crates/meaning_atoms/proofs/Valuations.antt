@@ -4,13 +4,23 @@ use Rattle.std.specs.Prelude.{◌↔◌, slice_index_or}
 use Rattle.std.proofs.lemmas.Bool.{cases_eq}
 use Rattle.meaning_atoms.specs.declared.atom.Atom.{Atom}
 use Rattle.meaning_atoms.specs.declared.atom.Atom.TheVariants.{Member, Live, Attack, Gap, Tail, Unmet, Range, Cf, Ad, Co, St, Ask}
+use Rattle.meaning_atoms.specs.declared.atom.Atom.TheVariants.{Asm, Con, Head, HGap, Body, BGap, Der, Miss, Sup}
 use Rattle.meaning_atoms.specs.declared.atom.AtomLit.{AtomLit}
 use Rattle.semantics.specs.Frameworks.{Framework, af}
 use Rattle.semantics.specs.Framework.{Af, Attacks, IsAttackedBy}
-use Rattle.meaning_atoms.specs.Worlds.{World, HasGap, HasTail, HasUnmet, HoldsOfAf, HoldsOf, HoldsAlone, Says, IsTrueAlone, IsSideTrue, Holds, HoldsLit, IsTrueBeside}
+use Rattle.aba_semantics.specs.AbaFrameworks.{Aba}
+use Rattle.meaning_atoms.specs.Worlds.{AnyFramework, solved, aba, World, HoldsIn, HasGap, HasTail, HasUnmet, HoldsOfAf, HoldsOfAba, HoldsOf, HoldsAlone, Says, IsTrueAlone, IsSideTrue, Holds, HoldsLit, IsTrueBeside}
 use Rattle.meaning_atoms.specs.Valuations.{HasValuation}
 use Rattle.semantics.proofs.Decided.{Decided, decide_both, decide_either, decide_not, decide_some, decide_at_most, decide_below}
 use Rattle.semantics.proofs.Decided.{decide_member, decide_attacks, decide_attacked}
+use Rattle.meaning_atoms.proofs.AbaDecided.{decide_body_atom, decide_body_gap, decide_closure, decide_contrary, decide_head}
+use Rattle.meaning_atoms.proofs.AbaDecided.{decide_miss, decide_no_head, decide_support}
+use Rattle.meaning_atoms.proofs.AbaDecided.{
+  decide_admissible as decide_collective_admissible,
+  decide_complete as decide_collective_complete,
+  decide_free as decide_collective_free,
+  decide_stable as decide_collective_stable,
+}
 use Rattle.semantics.proofs.DecidedNotions.{decide_conflict_free, decide_admissible, decide_complete, decide_stable}
 
 -- no attacker of a that stands from i to just before j
@@ -58,13 +68,41 @@ decide_of_af f s Cf = decide_conflict_free f s
 decide_of_af f s Ad = decide_admissible f s
 decide_of_af f s Co = decide_complete f s
 decide_of_af f s St = decide_stable f s
+decide_of_af f s (Asm a) = inl tt
+decide_of_af f s (Der k x) = decide_at_most 1 x
+decide_of_af f s (Sup k x i) = inl tt
 decide_of_af f s _ = inr (λ h. h)
+
+decide_of_aba : (f : Aba) (s : List ℕ) (atom : Atom) → Decided (HoldsOfAba f s atom)
+decide_of_aba f s (Member a) = decide_member s a
+decide_of_aba f s (Asm a) = decide_member f.assumptions a
+decide_of_aba f s (Con a c) = decide_contrary f a c
+decide_of_aba f s (Head r h) = decide_head f r h
+decide_of_aba f s (HGap h i j) = decide_no_head f h i j
+decide_of_aba f s (Body r x) = decide_body_atom f r x
+decide_of_aba f s (BGap r i j) = decide_body_gap f r i j
+decide_of_aba f s (Der k x) = decide_closure f s k x
+decide_of_aba f s (Miss k r i) = decide_miss f s k r i
+decide_of_aba f s (Sup k x i) = decide_support f s k x i
+decide_of_aba f s Cf = decide_collective_free f s
+decide_of_aba f s Ad = decide_collective_admissible f s
+decide_of_aba f s Co = decide_collective_complete f s
+decide_of_aba f s St = decide_collective_stable f s
+decide_of_aba f s (Live a) = inl tt
+decide_of_aba f s (Tail a i) = inl tt
+decide_of_aba f s (Unmet a i) = inl tt
+decide_of_aba f s (Range a) = inl tt
+decide_of_aba f s _ = inr (λ h. h)
 
 pub decide_of : (f : Framework) (s : List ℕ) (atom : Atom) → Decided (HoldsOf f s atom)
 decide_of (af f) s atom = decide_of_af f s atom
 
+decide_in : (f : AnyFramework) (s : List ℕ) (atom : Atom) → Decided (HoldsIn f s atom)
+decide_in (solved f) s atom = decide_of f s atom
+decide_in (aba f) s atom = decide_of_aba f s atom
+
 pub decide_alone : (w : World) (atom : Atom) → Decided (HoldsAlone w atom)
-decide_alone w atom = decide_of w.framework w.set atom
+decide_alone w atom = decide_in w.framework w.set atom
 
 decide_says : (positive : Bool) {P : Type 0} → Decided P → Decided (Says positive P)
 decide_says true p = p

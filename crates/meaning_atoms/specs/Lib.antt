@@ -1,8 +1,12 @@
+pub mod AbaReadings
 pub mod Atoms
 pub mod AtomText
 pub mod Axioms
+pub mod AbaAxioms
+pub mod AxiomNames
 pub mod AxiomText
 pub mod Literals
+pub mod LoopRows
 pub mod Pieces
 pub mod Valuations
 pub mod Worlds

@@ -1,33 +1,57 @@
 -- What atoms and clauses say of a framework and a set, and which clauses always hold.
 --
--- The words of the atoms are the program's own; the notions behind them are those of Framework.
+-- The words of the atoms are the program's own; the notions behind them are those of abstract frameworks, and of
+-- frameworks with collective attacks.
 use Rattle.std.specs.Prelude.{ℕ, ◌≤◌, ◌<◌, ◌-◌, Bool, true, false, List, [], Contains, length, slice_index_or}
 use Rattle.meaning_atoms.specs.declared.atom.Atom.{Atom}
 use Rattle.meaning_atoms.specs.declared.atom.Atom.TheVariants.{Member, Live, Attack, Gap, Tail, Unmet, Range, Cf, Ad, Co, St, Ask}
+use Rattle.meaning_atoms.specs.declared.atom.Atom.TheVariants.{Asm, Con, Head, HGap, Body, BGap, Der, Miss, Sup}
 use Rattle.meaning_atoms.specs.declared.atom.AtomLit.{AtomLit}
 use Rattle.semantics.specs.Arguments.{IsArgument}
 use Rattle.semantics.specs.Frameworks.{Framework, af, IsNumberedAf}
 use Rattle.semantics.specs.Framework.{Af, Attacks, IsAttackedBy, IsConflictFree, IsAdmissible, IsComplete, IsStable, IsInRange}
+use Rattle.aba_semantics.specs.AbaFrameworks.{Aba, IsNumberedAba, collective_of}
+use Rattle.aba_semantics.specs.Collectives.{IsConflictFree as IsCollectiveFree, IsAdmissible as IsCollectiveAdmissible}
+use Rattle.aba_semantics.specs.Collectives.{IsComplete as IsCollectiveComplete, IsStable as IsCollectiveStable}
+use Rattle.meaning_atoms.specs.AbaReadings.{HasContrary, HasHead, HasNoHead, HasBodyAtom, HasBodyGap, IsInClosure, HasMiss, HasSupport}
 
--- a framework of any kind and a set of numbers, of which only the members count
+-- a framework of either kind: one that tasks are solved on, or an assumption-based one
+pub data AnyFramework : Type 0 where
+  solved : Framework → AnyFramework
+  aba : Aba → AnyFramework
+
+-- a framework of either kind and a set of numbers, of which only the members count
 pub record World : Type 0 where
-  pub framework : Framework
+  pub framework : AnyFramework
   pub set : List ℕ
 
 abbrev pub world_of : Framework → List ℕ → World
-world_of f s = record { framework = f; set = s }
+world_of f s = record { framework = solved f; set = s }
+
+abbrev pub aba_world : Aba → List ℕ → World
+aba_world f s = record { framework = aba f; set = s }
 
 -- any abstract framework and any set, both of numbers from 1 to 1,000,000
 pub record IsAfWorld (f : Af) (s : List ℕ) : Type 0 where
   pub framework : IsNumberedAf f
   pub members : (a : ℕ) → Contains s a → IsArgument a
 
--- any framework and any set of its kind
+-- any flat assumption-based framework and any set, both of numbers from 1 to 1,000,000
+pub record IsAbaWorld (f : Aba) (s : List ℕ) : Type 0 where
+  pub framework : IsNumberedAba f
+  pub members : (a : ℕ) → Contains s a → IsArgument a
+
+-- any framework that tasks are solved on and any set of its kind
 abbrev pub IsWorldOf : Framework → List ℕ → Type 0
 IsWorldOf (af f) s = IsAfWorld f s
 
+-- any framework of either kind and any set
+abbrev pub IsWorldIn : AnyFramework → List ℕ → Type 0
+IsWorldIn (solved f) s = IsWorldOf f s
+IsWorldIn (aba f) s = IsAbaWorld f s
+
 abbrev pub IsWorld : World → Type 0
-IsWorld w = IsWorldOf w.framework w.set
+IsWorld w = IsWorldIn w.framework w.set
 
 -- no attacker of a has a number from i to just before j
 abbrev pub HasGap : Af → ℕ → ℕ → ℕ → Type 0
@@ -47,7 +71,8 @@ pub record HasUnmet (f : Af) (s : List ℕ) (a i : ℕ) : Type 0 where
   pub attack : Attacks f attacker a
   pub unmet : ¬ IsAttackedBy f s attacker
 
--- what the atom says is so of an abstract framework and a set; a side clause is not asked
+-- what the atom says is so of an abstract framework and a set; a side clause is not asked. The atoms of assumption-based
+-- frameworks read so that the clauses which always hold of those hold here too.
 abbrev pub HoldsOfAf : Af → List ℕ → Atom → Type 0
 HoldsOfAf f s (Member a) = Contains s a
 HoldsOfAf f s (Live a) = Contains f.live a
@@ -60,15 +85,46 @@ HoldsOfAf f s Cf = IsConflictFree f s
 HoldsOfAf f s Ad = IsAdmissible f s
 HoldsOfAf f s Co = IsComplete f s
 HoldsOfAf f s St = IsStable f s
+HoldsOfAf f s (Asm a) = Unit {0}
+HoldsOfAf f s (Der k x) = 1 ≤ x
+HoldsOfAf f s (Sup k x i) = Unit {0}
 HoldsOfAf f s _ = ⊥
 
--- the same of a framework of any kind
+-- the same of a framework that tasks are solved on
 abbrev pub HoldsOf : Framework → List ℕ → Atom → Type 0
 HoldsOf (af f) s atom = HoldsOfAf f s atom
 
+-- what the atom says is so of an assumption-based framework and a set; a side clause is not asked. The atoms of abstract
+-- frameworks read so that the clauses which always hold of those hold here too.
+abbrev pub HoldsOfAba : Aba → List ℕ → Atom → Type 0
+HoldsOfAba f s (Member a) = Contains s a
+HoldsOfAba f s (Asm a) = Contains f.assumptions a
+HoldsOfAba f s (Con a c) = HasContrary f a c
+HoldsOfAba f s (Head r h) = HasHead f r h
+HoldsOfAba f s (HGap h i j) = HasNoHead f h i j
+HoldsOfAba f s (Body r x) = HasBodyAtom f r x
+HoldsOfAba f s (BGap r i j) = HasBodyGap f r i j
+HoldsOfAba f s (Der k x) = IsInClosure f s k x
+HoldsOfAba f s (Miss k r i) = HasMiss f s k r i
+HoldsOfAba f s (Sup k x i) = HasSupport f s k x i
+HoldsOfAba f s Cf = IsCollectiveFree (collective_of f) s
+HoldsOfAba f s Ad = IsCollectiveAdmissible (collective_of f) s
+HoldsOfAba f s Co = IsCollectiveComplete (collective_of f) s
+HoldsOfAba f s St = IsCollectiveStable (collective_of f) s
+HoldsOfAba f s (Live a) = Unit {0}
+HoldsOfAba f s (Tail a i) = Unit {0}
+HoldsOfAba f s (Unmet a i) = Unit {0}
+HoldsOfAba f s (Range a) = Unit {0}
+HoldsOfAba f s _ = ⊥
+
+-- the same of a framework of either kind
+abbrev pub HoldsIn : AnyFramework → List ℕ → Atom → Type 0
+HoldsIn (solved f) s atom = HoldsOf f s atom
+HoldsIn (aba f) s atom = HoldsOfAba f s atom
+
 -- what the atom says is so in the world; no side clause is asked
 abbrev pub HoldsAlone : World → Atom → Type 0
-HoldsAlone w atom = HoldsOf w.framework w.set atom
+HoldsAlone w atom = HoldsIn w.framework w.set atom
 
 -- a literal says its atom, or that its atom is not so
 abbrev pub Says : Bool → Type 0 → Type 0
@@ -112,6 +168,16 @@ IsAfFact (Live a) = Unit {0}
 IsAfFact (Attack b a) = Unit {0}
 IsAfFact (Gap a i j) = Unit {0}
 IsAfFact _ = ⊥
+
+-- an assumption-based framework alone fixes whether the atom is true
+abbrev pub IsAbaFact : Atom → Type 0
+IsAbaFact (Asm a) = Unit {0}
+IsAbaFact (Con a c) = Unit {0}
+IsAbaFact (Head r h) = Unit {0}
+IsAbaFact (HGap h i j) = Unit {0}
+IsAbaFact (Body r x) = Unit {0}
+IsAbaFact (BGap r i j) = Unit {0}
+IsAbaFact _ = ⊥
 
 -- the framework alone fixes whether the atom is true, by its kind
 abbrev pub IsFact : Framework → Atom → Type 0

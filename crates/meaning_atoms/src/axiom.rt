@@ -1,13 +1,17 @@
-//! The names of the clauses that always hold of abstract frameworks.
+//! The names of the clauses that always hold.
 
-ghost use Rattle.std.specs.Prelude.{◌≡◌, ◌↔◌, IsTrue};
-ghost use Rattle.meaning_atoms.specs.Axioms.{IsAfAxiom};
-ghost use Rattle.meaning_atoms.specs.AxiomText.{axiom_name};
+ghost use Rattle.std.specs.Prelude.{◌≡◌, ◌↔◌, IfOk, IsTrue};
+ghost use Rattle.meaning_atoms.specs.Axioms.{IsAfAxiom, IsStretch};
+ghost use Rattle.meaning_atoms.specs.AxiomNames.{IsAxiomName};
+ghost use Rattle.meaning_atoms.specs.AxiomText.{af_name, axiom_name};
 
+use crate::aba_axiom::AbaAxiom;
 use crate::atom::{END, is_position};
+use plain_lists::Memory;
 use semantics::is_argument;
+use std::alloc::Global;
 
-/// The name of an axiom with its arguments, in the order of the table of axioms. A value whose arguments are
+/// The name of an axiom of abstract frameworks with its arguments, in the order of the table of axioms. A value whose arguments are
 /// out of the bounds of its row is no axiom name.
 #[derive(Clone, Copy, Debug, Drop, PartialEq, Eq, PartialOrd, Ord, Hash)]
 pub enum AfAxiom {
@@ -28,10 +32,44 @@ pub enum AfAxiom {
 }
 
 /// The name of an axiom with its arguments, of the kind of framework that it holds of.
-#[derive(Clone, Copy, Debug, Drop, PartialEq, Eq, PartialOrd, Ord, Hash)]
+#[derive(Debug, Drop, PartialEq, Eq)]
 pub enum AxiomName {
     /// Of abstract frameworks.
     Af(AfAxiom),
+    /// Of assumption-based frameworks.
+    Aba(AbaAxiom),
+}
+
+impl AxiomName {
+    /// Whether the arguments fit the name's row.
+    pub fn is_name(&self) -> bool
+        ensures { IsTrue result ↔ IsAxiomName self.now }
+    {
+        match self {
+            AxiomName::Af(axiom) => axiom.is_name(),
+            AxiomName::Aba(axiom) => axiom.is_name(),
+        }
+    }
+
+    /// The name before the arguments in the axiom's text.
+    pub fn name(&self) -> &'static str
+        ensures { result.now ≡ axiom_name self.now }
+    {
+        match self {
+            AxiomName::Af(axiom) => axiom.name(),
+            AxiomName::Aba(axiom) => axiom.name(),
+        }
+    }
+
+    /// The same name again.
+    pub fn copy(&self, alloc: Global) -> Result<AxiomName, Memory>
+        ensures { IfOk result (λ copy. copy ≡ self.now) }
+    {
+        match self {
+            AxiomName::Af(axiom) => Ok(AxiomName::Af(*axiom)),
+            AxiomName::Aba(axiom) => Ok(AxiomName::Aba(axiom.copy(alloc)?)),
+        }
+    }
 }
 
 impl AfAxiom {
@@ -49,10 +87,7 @@ impl AfAxiom {
             | AfAxiom::A13(a) => is_argument(a),
             AfAxiom::A2(b, a) | AfAxiom::A3(b, a) | AfAxiom::A4(b, a) => is_argument(b)
                 && is_argument(a),
-            AfAxiom::A5(a, i, j) | AfAxiom::A8(a, i, j) => is_argument(a)
-                && 1 <= i
-                && i <= j
-                && j < END,
+            AfAxiom::A5(a, i, j) | AfAxiom::A8(a, i, j) => is_stretch(a, i, j),
             AfAxiom::A6(a, i) | AfAxiom::A9(a, i) => is_argument(a) && is_position(i),
             AfAxiom::A14(part) => 1 <= part && part <= 3,
         }
@@ -60,7 +95,7 @@ impl AfAxiom {
 
     /// The name before the arguments in the axiom's text.
     pub fn name(&self) -> &'static str
-        ensures { result.now ≡ axiom_name self.now }
+        ensures { result.now ≡ af_name self.now }
     {
         match *self {
             AfAxiom::A1(_) => "A1",
@@ -79,4 +114,12 @@ impl AfAxiom {
             AfAxiom::A14(_) => "A14",
         }
     }
+}
+
+/// Whether these are a number from 1 to 1,000,000, a position to begin at, and one to end at, not before that and before
+/// `END`.
+pub(crate) fn is_stretch(number: u32, begin: u32, end: u32) -> bool
+    ensures { IsTrue result ↔ IsStretch number begin end }
+{
+    is_argument(number) && 1 <= begin && begin <= end && end < END
 }

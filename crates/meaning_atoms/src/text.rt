@@ -1,6 +1,6 @@
 //! The text of a literal, written and read.
 
-ghost use Rattle.std.specs.Prelude.{◌≡◌, ◌↔◌, ℕ, ◌≤◌, false, ◌++◌, List, [], ◌∷◌, length, IsTrue, IfOk, OnOk, IfSome, IsSome, Some, position};
+ghost use Rattle.std.specs.Prelude.{◌≡◌, ◌↔◌, codes, ℕ, ◌≤◌, false, ◌++◌, List, [], ◌∷◌, length, IsTrue, IfOk, OnOk, IfSome, IsSome, Some, position};
 ghost use Rattle.std.specs.List.{AllZip, flat_map, slice_split};
 ghost use Rattle.std.specs.Option.{option_map};
 ghost use Rattle.std.specs.String.{string_bytes};
@@ -12,7 +12,7 @@ ghost use Rattle.meaning_atoms.specs.Atoms.{IsLit};
 ghost use Rattle.meaning_atoms.specs.AtomText.{IsLitText, is_colon, lit_text, name_of, numbers_of, signed};
 ghost use Rattle.meaning_atoms.specs.Pieces.{HasFound, IsAtomOf, IsFirstNumber, pieces_left, values_of};
 
-use crate::atom::{Atom, AtomLit};
+use crate::atom::{Atom, AtomLit, Closure};
 use num_text::decimal;
 use plain_lists::{Bytes, Memory};
 use std::alloc::Global;
@@ -56,9 +56,22 @@ fn push_numbers(text: &mut String, atom: &Atom) -> Result<(), Memory>
         ≡ string_bytes text.old ++ flat_map (λ n. 58 ∷ decimal_text n) (numbers_of atom.now)) }
 {
     match *atom {
-        Atom::Member(a) | Atom::Live(a) | Atom::Range(a) | Atom::Ask(a) => write!(text, ":{a}")?,
-        Atom::Attack(a, b) | Atom::Tail(a, b) | Atom::Unmet(a, b) => write!(text, ":{a}:{b}")?,
-        Atom::Gap(a, i, j) => write!(text, ":{a}:{i}:{j}")?,
+        Atom::Member(a) | Atom::Live(a) | Atom::Range(a) | Atom::Ask(a) | Atom::Asm(a) => {
+            write!(text, ":{a}")?
+        }
+        Atom::Attack(a, b)
+        | Atom::Tail(a, b)
+        | Atom::Unmet(a, b)
+        | Atom::Con(a, b)
+        | Atom::Head(a, b)
+        | Atom::Body(a, b) => write!(text, ":{a}:{b}")?,
+        Atom::Gap(a, i, j) | Atom::HGap(a, i, j) | Atom::BGap(a, i, j) => {
+            write!(text, ":{a}:{i}:{j}")?
+        }
+        Atom::Der(closure, x) => write!(text, ":{}:{x}", closure.number())?,
+        Atom::Miss(closure, x, i) | Atom::Sup(closure, x, i) => {
+            write!(text, ":{}:{x}:{i}", closure.number())?
+        }
         Atom::Cf | Atom::Ad | Atom::Co | Atom::St => {}
     }
     Ok(())
@@ -154,7 +167,7 @@ fn atom_of(name: &[u8], numbers: Numbers) -> Option<Atom>
         Numbers::Zero => notion_of(name),
         Numbers::One(a) => atom_of_one(name, a),
         Numbers::Two(a, b) => atom_of_two(name, a, b),
-        Numbers::Three(a, i, j) => gap_of(name, a, i, j),
+        Numbers::Three(a, i, j) => atom_of_three(name, a, i, j),
     }
 }
 
@@ -180,6 +193,7 @@ fn atom_of_one(name: &[u8], a: u32) -> Option<Atom>
         b"Live" => Some(Atom::Live(a)),
         b"Range" => Some(Atom::Range(a)),
         b"Ask" => Some(Atom::Ask(a)),
+        b"Asm" => Some(Atom::Asm(a)),
         _ => None,
     }
 }
@@ -192,16 +206,51 @@ fn atom_of_two(name: &[u8], a: u32, b: u32) -> Option<Atom>
         b"Attack" => Some(Atom::Attack(a, b)),
         b"Tail" => Some(Atom::Tail(a, b)),
         b"Unmet" => Some(Atom::Unmet(a, b)),
+        b"Con" => Some(Atom::Con(a, b)),
+        b"Head" => Some(Atom::Head(a, b)),
+        b"Body" => Some(Atom::Body(a, b)),
+        b"Der" => derived(a, b),
         _ => None,
     }
 }
 
-fn gap_of(name: &[u8], a: u32, i: u32, j: u32) -> Option<Atom>
+// An atom of the closure of this number.
+fn derived(closure: u32, x: u32) -> Option<Atom>
+    ensures named { IfSome result (IsAtomOf (codes "Der") (closure ∷ x ∷ [])) }
+    ensures read { (atom : AnAtom) → IsAtomOf (codes "Der") (closure ∷ x ∷ []) atom → result ≡ Some atom }
+{
+    let closure = Closure::of_number(closure)?;
+    Some(Atom::Der(closure, x))
+}
+
+fn atom_of_three(name: &[u8], a: u32, i: u32, j: u32) -> Option<Atom>
     ensures named { IfSome result (IsAtomOf name.now (a ∷ i ∷ j ∷ [])) }
     ensures read { (atom : AnAtom) → IsAtomOf name.now (a ∷ i ∷ j ∷ []) atom → result ≡ Some atom }
 {
     match name {
         b"Gap" => Some(Atom::Gap(a, i, j)),
+        b"HGap" => Some(Atom::HGap(a, i, j)),
+        b"BGap" => Some(Atom::BGap(a, i, j)),
+        b"Miss" => missing(a, i, j),
+        b"Sup" => supported(a, i, j),
         _ => None,
     }
+}
+
+// A rule whose body is not in the closure of this number.
+fn missing(closure: u32, rule: u32, i: u32) -> Option<Atom>
+    ensures named { IfSome result (IsAtomOf (codes "Miss") (closure ∷ rule ∷ i ∷ [])) }
+    ensures read { (atom : AnAtom) → IsAtomOf (codes "Miss") (closure ∷ rule ∷ i ∷ []) atom → result ≡ Some atom }
+{
+    let closure = Closure::of_number(closure)?;
+    Some(Atom::Miss(closure, rule, i))
+}
+
+// An atom that some rule supports in the closure of this number.
+fn supported(closure: u32, x: u32, i: u32) -> Option<Atom>
+    ensures named { IfSome result (IsAtomOf (codes "Sup") (closure ∷ x ∷ i ∷ [])) }
+    ensures read { (atom : AnAtom) → IsAtomOf (codes "Sup") (closure ∷ x ∷ i ∷ []) atom → result ≡ Some atom }
+{
+    let closure = Closure::of_number(closure)?;
+    Some(Atom::Sup(closure, x, i))
 }

@@ -160,10 +160,7 @@ module _ (f : Framework) (log : OracleLog) (goals values : List AtomLit) (set : 
       tells_holds (record { atom = Range a; positive = positive }) goal there
   goal_holds (Tail a i) positive goal there =
       tells_holds (record { atom = Tail a i; positive = positive }) goal there
-  goal_holds (Live a) positive goal there = absurd goal
-  goal_holds (Attack b a) positive goal there = absurd goal
-  goal_holds (Gap a i j) positive goal there = absurd goal
-  goal_holds (Unmet a i) positive goal there = absurd goal
+  goal_holds _ positive goal there = absurd goal
 
   -- the set makes each goal true
   pub makes_true : MakesTrue f log goals set

@@ -12,7 +12,7 @@ use Rattle.plain_lits.specs.Units.{Units}
 use Rattle.semantics.specs.Frameworks.{Framework, af}
 use Rattle.meaning_atoms.specs.declared.atom.AtomLit.{AtomLit}
 use Rattle.meaning_atoms.specs.declared.axiom.AxiomName.{AxiomName}
-use Rattle.meaning_atoms.specs.declared.axiom.AxiomName.TheVariants.{Af as OfAf}
+use Rattle.meaning_atoms.specs.declared.axiom.AxiomName.TheVariants.{Af as OfAf, Aba as OfAba}
 use Rattle.certificate_claims.specs.Refutations.{IsAxiomOf}
 use Rattle.edit_rules.specs.Kinds.{framework_of}
 use Rattle.oracle_face.specs.Logs.{OracleLog, LogStep, by_axiom, clauses_of, is_unit, no_step, working, units_of, closings_of}
@@ -20,8 +20,12 @@ use Rattle.oracle_face.specs.Growing.{Making, NoSide, Grows, HasRun}
 use Rattle.oracle_face.proofs.GrowingLemmas.{run_joined, run_none}
 use Rattle.session_log.specs.Steps.{own_step}
 use Rattle.session_log.proofs.Staying.{axiom_stays}
-use Rattle.atom_solver.specs.States.{AtomState, AddsAxiom, IsAxiomName, IsGuardedLog}
+use Rattle.atom_solver.specs.States.{AtomState, AddsAxiom, IsGuardedLog}
+use Rattle.oracle_core.specs.Needing.{IsOfAf}
 use Rattle.oracle_core.specs.declared.parts.Parts.{Parts}
+use Rattle.entry_taking.proofs.Naming.{named_grown}
+use Rattle.entry_taking.specs.declared.names.StepNames.{StepNames}
+use Rattle.entry_taking.specs.Names.{AreNamed}
 use Rattle.oracle_core.specs.Engines.{HasAxiom, AreInForce, AreUsedOrWait, IsWhole}
 
 -- ---- what searches use
@@ -66,14 +70,32 @@ whole_with P p s whole guarded grows = record {
   guarded = guarded;
   axioms = whole.axioms;
   taken_few = whole.taken_few;
+  named = named_grown P p.names p.solver.log s.log grows whole.named;
   waits = λ begun.
       waits_grown P (framework_of p.framework) p.solver.log s.log p.needed p.taken grows (whole.waits begun);
 }
 
+-- the same where names of more steps are known
+pub whole_named : (p : Parts) (s : AtomState) (names : StepNames) → IsWhole p
+    → IsGuardedLog (framework_of p.framework) s.log → Grows NoSide p.solver.log s.log → AreNamed names s.log.steps
+    → IsWhole (record p { solver = s; names = names })
+whole_named p s names whole guarded grows named = record {
+  numbered = whole.numbered;
+  members_are = whole.members_are;
+  guarded = guarded;
+  axioms = whole.axioms;
+  taken_few = whole.taken_few;
+  named = named;
+  waits = λ begun.
+      waits_grown NoSide (framework_of p.framework) p.solver.log s.log p.needed p.taken grows (whole.waits begun);
+}
+
 -- ---- one axiom more
 
-no_loop : (name : AxiomName) (clause : List AtomLit) → is_unit (own_step clause (by_axiom name)) ≡ false
-no_loop (OfAf name) clause = refl
+no_loop : (f : Framework) (name : AxiomName) (clause : List AtomLit) → IsAxiomOf f name
+    → is_unit (own_step clause (by_axiom name)) ≡ false
+no_loop (af f) (OfAf name) clause is = refl
+no_loop (af f) (OfAba name) clause is = absurd is
 
 one_there : (old : List LogStep) (step : LogStep) (k : ℕ) → length old ≤ k → k < length (old ++ step ∷ [])
     → slice_index_or (old ++ step ∷ []) k no_step ≡ step
@@ -105,14 +127,14 @@ module _ (f : Framework) (name : AxiomName) (old new : AtomState) (is : IsAxiomO
       let there : slice_index_or new.log.steps k no_step ≡ step =
       ap (λ steps. slice_index_or steps k no_step) steps_are
       ∙ one_there old.log.steps step k low (subst (λ steps. k < length steps) steps_are high) in
-      true≢false (sym unit ∙ (ap is_unit there ∙ no_loop name adds.clause))
+      true≢false (sym unit ∙ (ap is_unit there ∙ no_loop f name adds.clause is))
 
   -- an axiom takes no unit, and doesn't only end a search
   pub axiom_run : (units : Units) → HasRun NoSide 0 f old.log new.log new.pending units units None
   axiom_run units =
       let same_units : units_of new.log ≡ units_of old.log =
       ap (λ steps. count_by is_unit steps) steps_are
-      ∙ one_more is_unit old.log.steps step (no_loop name adds.clause) in
+      ∙ one_more is_unit old.log.steps step (no_loop f name adds.clause is) in
       let same_closings : closings_of new.log ≡ closings_of old.log =
       ap (λ steps. count_by (λ (s : LogStep). s.closing) steps) steps_are
       ∙ one_more (λ (s : LogStep). s.closing) old.log.steps step refl in
@@ -142,8 +164,9 @@ module _ (f : Framework) (name : AxiomName) (old new : AtomState) (is : IsAxiomO
 
 -- ---- the loop over the axioms that wait
 
-axiom_named : (f : Framework) (name : AxiomName) → IsAxiomOf f name → IsAxiomName name
+axiom_named : (f : Framework) (name : AxiomName) → IsAxiomOf f name → IsOfAf name
 axiom_named (af f) (OfAf name) is = is
+axiom_named (af f) (OfAba name) is = is
 
 pub waiting_there : (p : Parts) (names : List AxiomName) (d : AxiomName) → names ≡ p.needed
     → p.taken < length p.needed → Contains p.needed (slice_index_or names p.taken d)
@@ -155,7 +178,7 @@ pub waiting_is : (p : Parts) (names : List AxiomName) (d : AxiomName) → names 
     → slice_index_or names p.taken d ≡ slice_index_or p.needed p.taken d
 waiting_is p names d are = ap (λ list. slice_index_or list p.taken d) are
 
-pub named_at : (p : Parts) (name : AxiomName) → IsWhole p → Contains p.needed name → IsAxiomName name
+pub named_at : (p : Parts) (name : AxiomName) → IsWhole p → Contains p.needed name → IsOfAf name
 named_at p name whole there = axiom_named (framework_of p.framework) name (whole.axioms name there)
 
 drop_one : {X : Type 0} (xs : List X) (i : ℕ) (x d : X) → i < length xs → x ≡ slice_index_or xs i d
@@ -200,6 +223,7 @@ taken_more first now s name d has lt is there adds stays =
         guarded = guarded;
         axioms = whole.axioms;
         taken_few = omega arith;
+        named = named_grown NoSide now.names now.solver.log s.log grows whole.named;
         waits = λ begun. λ other needed. ⊎_elim
             (λ used. inl (axiom_grown NoSide now.solver.log s.log other grows used))
             (λ waits. ⊎_elim

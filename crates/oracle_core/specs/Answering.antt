@@ -6,7 +6,7 @@ use Rattle.semantics.specs.Frameworks.{Framework}
 use Rattle.iccma_tasks.specs.Tasks.{Asked}
 use Rattle.edit_rules.specs.Fitting.{Fits, IsFaultOf}
 use Rattle.atom_solver.specs.declared.origin.Origin.{Origin}
-use Rattle.atom_solver.specs.declared.origin.Origin.TheVariants.{Axiom, Side, Hints}
+use Rattle.atom_solver.specs.declared.origin.Origin.TheVariants.{Axiom, Side, Entry, Hints}
 use Rattle.log_certificates.specs.declared.read_log.StepOrigin.{StepOrigin}
 use Rattle.log_certificates.specs.declared.read_log.StepOrigin.TheVariants.{Axiom as OfAxiom, Side as OfSide, Derived}
 use Rattle.query_answers.specs.Answers.{AreTooMany, is_by_grounded}
@@ -18,6 +18,7 @@ use Rattle.oracle_core.specs.declared.reply.AnswerStop.TheVariants.{Query, Spent
 abbrev pub told_origin : Origin → StepOrigin
 told_origin (Axiom name) = OfAxiom name
 told_origin (Side n) = OfSide n
+told_origin (Entry name) = Derived
 told_origin Hints = Derived
 
 -- the stop that a halt comes to

@@ -12,6 +12,7 @@ use Rattle.oracle_face.specs.declared.face.Pending.{Pending}
 use Rattle.oracle_face.specs.Logs.{OracleLog, IsSameClause, working}
 use Rattle.oracle_face.specs.Needed.{IsNeeded}
 use Rattle.atom_solver.specs.States.{IsGuardedLog}
+use Rattle.entry_taking.specs.Names.{AreNamed}
 use Rattle.oracle_core.specs.declared.parts.Parts.{Parts}
 
 -- the number by which its entries are named, the framework, the log, and the clause that was in hand when the last budget
@@ -43,13 +44,15 @@ abbrev pub AreUsedOrWait : Framework → OracleLog → List AxiomName → ℕ �
 AreUsedOrWait f log names taken =
     (name : AxiomName) → IsNeeded f name → HasAxiom log name ⊎ Contains (drop taken names) name
 
--- the parts of an engine: a framework in its form, its members, a guarded log beside it, and the axioms that it needs
+-- the parts of an engine: a framework in its form, its members, a guarded log beside it, the axioms that it needs,
+-- and names of the log's steps
 pub record IsWhole (p : Parts) : Type 0 where
   pub numbered : IsNumbered (framework_of p.framework)
   pub members_are : p.members ≡ members (framework_of p.framework)
   pub guarded : IsGuardedLog (framework_of p.framework) p.solver.log
   pub axioms : (name : AxiomName) → Contains p.needed name → IsAxiomOf (framework_of p.framework) name
   pub taken_few : p.taken ≤ length p.needed
+  pub named : AreNamed p.names p.solver.log.steps
   pub waits : p.begun ≡ true → AreUsedOrWait (framework_of p.framework) p.solver.log p.needed p.taken
 
 -- the engine of a number, whose parts are these

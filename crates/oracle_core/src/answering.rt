@@ -1,22 +1,26 @@
 //! Answers to queries.
 
-ghost use Rattle.std.specs.Prelude.{◌≡◌, ◌+◌, ◌*◌, ◌≤◌, true, false, length, IfErr, IfOk, OnOk};
+ghost use Rattle.std.specs.Prelude.{◌≡◌, ◌≢◌, ◌+◌, ◌*◌, ◌≤◌, true, false, length, IfErr, IfOk, OnOk, List, Some, Err};
 ghost use Rattle.edit_rules.specs.Fitting.{Fits};
 ghost use Rattle.log_certificates.specs.Cuts.{AreCut};
-ghost use Rattle.oracle_face.specs.Growing.{HasRun};
+ghost use Rattle.oracle_face.specs.Growing.{HasRun, halt_of};
+ghost use Rattle.oracle_face.specs.declared.entry.Entry.{Entry as AnEntry};
 ghost use Rattle.session_log.specs.Ends.{MadeFor};
-ghost use Rattle.query_answers.specs.Answers.{IsEvidence, is_by_grounded};
+ghost use Rattle.query_answers.specs.Answers.{IsEvidence, IsOutcome, is_by_grounded};
 ghost use Rattle.oracle_core.specs.Answers.{IsShownBy};
+ghost use Rattle.oracle_core.specs.Trading.{IsEmptied, TakesFrom};
 ghost use Rattle.oracle_core.specs.Answering.{IsCause, NeedsSearch, halt_behind};
 
 use crate::by_grounded::answer_by_grounded;
 use crate::engine::Engine;
 use crate::reply::{AnswerStop, Answered};
+use crate::trading::Trading;
 use certificate_making::certificate_for;
 use edit_rules::query_fits;
 use iccma_tasks::Query;
+use oracle_face::ClauseTrade;
 use plain_lists::Memory;
-use plain_lits::Budget;
+use plain_lits::{Budget, Halt};
 use query_answers::{Evidence, Outcome, answer};
 use std::alloc::Global;
 
@@ -56,13 +60,49 @@ impl Engine {
         })
     }
 
-    /// The answer that a search shows.
-    fn answer_by_search(
+    /// What the loops find where the trade gives its entries before each search.
+    fn search<T: ClauseTrade>(
         &mut self,
         alloc: Global,
         query: &Query,
         budget: &mut Budget,
         limit: u32,
+        trade: &mut T,
+    ) -> Result<Outcome, Halt>
+        requires { NeedsSearch self.old.framework query.now }
+        ensures outcome { IfOk result (IsOutcome self.old.framework query.now limit self.new.log) }
+        ensures run { HasRun (MadeFor self.old.framework query.now) (2 * length self.new.log.sides + 2)
+            self.old.framework self.old.log self.new.log self.new.pending budget.old budget.new (halt_of result) }
+        ensures framework { self.new.framework ≡ self.old.framework }
+        ensures number { self.new.number ≡ self.old.number }
+        ensures trade { result ≢ Err Halt.Memory → (told : List AnEntry) → T.left trade.old ≡ Some told
+            → TakesFrom self.old.framework self.old.number told (T.left trade.new) self.old.log self.new.log }
+        ensures emptied { OnOk result ((told : List AnEntry) → T.left trade.old ≡ Some told
+            → IsEmptied told (T.left trade.new)) }
+    {
+        let mut lost = false;
+        self.prepare(alloc, trade, &mut lost)?;
+        let mut trading = Trading {
+            engine: self,
+            trade,
+            ready: true,
+            lost,
+        };
+        let end = answer(alloc, &mut trading, budget, query, limit as usize);
+        if trading.lost {
+            return Err(Halt::Memory);
+        }
+        end
+    }
+
+    /// The answer that a search shows.
+    fn answer_by_search<T: ClauseTrade>(
+        &mut self,
+        alloc: Global,
+        query: &Query,
+        budget: &mut Budget,
+        limit: u32,
+        trade: &mut T,
     ) -> Result<Answered, AnswerStop>
         requires { NeedsSearch self.old.framework query.now }
         ensures shown { IfOk result (λ a. IsShownBy self.old.framework query.now a.answer a.certificate) }
@@ -73,8 +113,12 @@ impl Engine {
             self.old.framework self.old.log self.new.log self.new.pending budget.old budget.new (halt_behind result) }
         ensures framework { self.new.framework ≡ self.old.framework }
         ensures number { self.new.number ≡ self.old.number }
+        ensures trade { result ≢ Err AnswerStop.Memory → (told : List AnEntry) → T.left trade.old ≡ Some told
+            → TakesFrom self.old.framework self.old.number told (T.left trade.new) self.old.log self.new.log }
+        ensures emptied { OnOk result ((told : List AnEntry) → T.left trade.old ≡ Some told
+            → IsEmptied told (T.left trade.new)) }
     {
-        match answer(alloc, self, budget, query, limit as usize)? {
+        match self.search(alloc, query, budget, limit, trade)? {
             Outcome::Shown(evidence) => {
                 let answered = self.certified(alloc, query, evidence, budget.used())?;
                 Ok(answered)
@@ -88,12 +132,13 @@ impl Engine {
     /// comes. What is added to the log serves the query: each unit was new when it came, and the side clauses are those that
     /// its certificate may have. Each refutation of the certificate is made of just those steps of the log that its last one
     /// reaches. The engine stays usable whatever comes; after a stop other than `Query` its log may be longer.
-    pub fn answer(
+    pub fn answer<T: ClauseTrade>(
         &mut self,
         alloc: Global,
         query: &Query,
         budget: &mut Budget,
         limit: u32,
+        trade: &mut T,
     ) -> Result<Answered, AnswerStop>
         requires { budget.old.used ≡ 0 }
         ensures fits { OnOk result (Fits self.old.framework query.now) }
@@ -108,12 +153,16 @@ impl Engine {
             → (self.new ≡ self.old) × (budget.new ≡ budget.old) }
         ensures framework { self.new.framework ≡ self.old.framework }
         ensures number { self.new.number ≡ self.old.number }
+        ensures trade { result ≢ Err AnswerStop.Memory → (told : List AnEntry) → T.left trade.old ≡ Some told
+            → TakesFrom self.old.framework self.old.number told (T.left trade.new) self.old.log self.new.log }
+        ensures emptied { OnOk result (is_by_grounded query.now.task.problem query.now.task.semantics ≡ false
+            → (told : List AnEntry) → T.left trade.old ≡ Some told → IsEmptied told (T.left trade.new)) }
     {
         query_fits(&self.parts.framework, query)?;
         if let Some(answered) = answer_by_grounded(alloc, &self.parts.framework, query)? {
             return Ok(answered);
         }
-        let end = self.answer_by_search(alloc, query, budget, limit);
+        let end = self.answer_by_search(alloc, query, budget, limit, trade);
         let _within = budget.used();
         end
     }

@@ -25,7 +25,7 @@ use std::marker::Model;
 /// was spent.
 #[derive(Drop)]
 pub struct Engine {
-    number: u32,
+    pub(crate) number: u32,
     pub(crate) parts: Parts,
 }
 
@@ -126,7 +126,7 @@ fn told(origin: Origin) -> StepOrigin
     match origin {
         Origin::Axiom(name) => StepOrigin::Axiom(name),
         Origin::Side(side) => StepOrigin::Side(side),
-        Origin::Hints => StepOrigin::Derived,
+        Origin::Entry(_) | Origin::Hints => StepOrigin::Derived,
     }
 }
 

@@ -6,6 +6,7 @@ mod by_grounded;
 pub mod engine;
 pub(crate) mod parts;
 pub mod reply;
+pub(crate) mod trading;
 
 pub use by_grounded::{answer_by_grounded, is_by_grounded};
 pub use engine::Engine;

@@ -3,30 +3,35 @@
 ghost use Rattle.std.specs.Prelude.{◌≡◌, ℕ, ◌≤◌, IfOk, OnOk, None, true};
 ghost use Rattle.plain_lits.specs.HintCheck.{IsTautology};
 ghost use Rattle.plain_lits.specs.Units.{Units};
+ghost use Rattle.meaning_atoms.specs.declared.axiom.AxiomName.TheVariants.{Af as OfAf};
+ghost use Rattle.meaning_atoms.specs.Axioms.{IsAfAxiom};
 ghost use Rattle.meaning_atoms.specs.Literals.{negated};
 ghost use Rattle.certificate_claims.specs.SetLiterals as set_literals;
 ghost use Rattle.edit_rules.specs.Kinds.{framework_of};
 ghost use Rattle.hinted_log.specs.declared.log.TheConstants.{MOST_STEPS};
+ghost use Rattle.oracle_face.specs.Entries.{IsShareable};
 ghost use Rattle.oracle_face.specs.Goals.{AreGoals, IsSide};
 ghost use Rattle.oracle_face.specs.Growing.{HasRun, IsFound, NoSide, Obliges, OnlySide, closes, halt_of};
 ghost use Rattle.atom_solver.specs.Searches.{AreUnfixed, IsAnswer, ends_in};
 ghost use Rattle.oracle_core.specs.Engines.{AreInForce, HasRange, IsWhole};
-ghost use Rattle.oracle_core.specs.Needing.{AreNeeded};
+ghost use Rattle.entry_taking.specs.Taking.{ComesInOrMayNot};
+ghost use Rattle.oracle_core.specs.Needing.{AreNeeded, IsOfAf};
 ghost use Rattle.atom_solver.specs.States.{empty_log};
 
 use af_encoding::{AfEncoding, decode, needed};
 use atom_solver::{AtomSolver, Searched};
 use edit_rules::Framework;
+use entry_taking::{StepNames, take_in};
 use hinted_log::MOST_STEPS;
-use meaning_atoms::{AtomLit, AxiomName};
-use oracle_face::{AskId, Found};
+use meaning_atoms::{AfAxiom, AtomLit, AxiomName};
+use oracle_face::{AskId, Entry, Found};
 use plain_lists::{Items, Memory};
 use plain_lits::{Budget, Halt};
 use set_lists::NumSet;
 use std::alloc::Global;
 
-/// The framework with its members, the solver, and the axioms that the framework needs with the number of those that the
-/// solver has already.
+/// The framework with its members, the solver, the axioms that the framework needs with the number of those that the
+/// solver has already, and the names of the first steps, of which none is looked at before an entry comes.
 #[derive(Drop)]
 pub(crate) struct Parts {
     pub(crate) framework: Framework,
@@ -35,6 +40,19 @@ pub(crate) struct Parts {
     pub(crate) needed: Items<AxiomName>,
     pub(crate) taken: usize,
     pub(crate) begun: bool,
+    pub(crate) names: StepNames,
+}
+
+/// The axiom of abstract frameworks that a name is.
+fn af_name(name: &AxiomName) -> AfAxiom
+    requires { IsOfAf name.now }
+    ensures same { OfAf result ≡ name.now }
+    ensures name { IsAfAxiom result }
+{
+    match name {
+        AxiomName::Af(name) => *name,
+        AxiomName::Aba(_) => unreachable!(),
+    }
 }
 
 /// The numbers that sets of a framework are made of.
@@ -86,6 +104,7 @@ impl Parts {
             needed: Items::new(alloc),
             taken: 0,
             begun: false,
+            names: StepNames::new(alloc),
         })
     }
 
@@ -117,11 +136,38 @@ impl Parts {
             self.new.solver.log self.new.solver.pending units units (halt_of result) }
     {
         while self.taken < self.needed.len() {
-            let name = self.needed.as_slice()[self.taken];
+            let name = af_name(&self.needed.as_slice()[self.taken]);
             self.solver.take_axiom(alloc, name)?;
             self.taken += 1;
         }
         Ok(())
+    }
+
+    /// Puts the axioms that the framework needs in force.
+    pub(crate) fn force(&mut self, alloc: Global) -> Result<(), Halt>
+        requires whole { IsWhole self.old }
+        ensures whole { IsWhole self.new }
+        ensures in_force { OnOk result (AreInForce (framework_of self.new.framework) self.new.solver.log) }
+        ensures framework { self.new.framework ≡ self.old.framework }
+        ensures run { (units : Units) → HasRun NoSide 0 (framework_of self.old.framework) self.old.solver.log
+            self.new.solver.log self.new.solver.pending units units (halt_of result) }
+    {
+        self.begin(alloc)?;
+        self.take_needed(alloc)
+    }
+
+    /// Takes an entry in, where it may come in.
+    pub(crate) fn take_in(&mut self, alloc: Global, own: u32, entry: &Entry) -> Result<(), Memory>
+        requires whole { IsWhole self.old }
+        requires shareable { IsShareable entry.now }
+        ensures whole { IsWhole self.new }
+        ensures framework { self.new.framework ≡ self.old.framework }
+        ensures run { (units : Units) → HasRun NoSide 0 (framework_of self.old.framework) self.old.solver.log
+            self.new.solver.log self.new.solver.pending units units None }
+        ensures comes { OnOk result (ComesInOrMayNot (framework_of self.old.framework) own entry.now
+            self.old.solver.log self.new.solver.log) }
+    {
+        take_in(alloc, &mut self.solver, &mut self.names, own, entry)
     }
 
     /// Searches under the facts of the framework and goals.

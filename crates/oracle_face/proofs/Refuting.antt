@@ -41,7 +41,7 @@ goals_excluded f log goals n form refuted s world makes =
     let low = refuted.step.from_one in
     let high = refuted.step.within in
     let sides = literals_of log.sides in
-    let t = steps_true f s log world form (n - 1) (omega arith) in
+    let t = steps_true f (world_of f s) log world form (n - 1) (omega arith) in
     let l = t.literal in
     ⊎_elim (λ fact. fact_clash f s sides l.atom l.positive fact t.says)
     (λ c. says_clash l.positive (Holds (world_of f s) sides l.atom) t.says (makes (negated l) c))
@@ -91,7 +91,7 @@ claim_excluded f log claim n form plain refuted s world goals meets =
     let high = refuted.step.within in
     let w = world_of f s in
     let sides = literals_of log.sides in
-    let t = steps_true f s log world form (n - 1) (omega arith) in
+    let t = steps_true f (world_of f s) log world form (n - 1) (omega arith) in
     let l = t.literal in
     ⊎_elim (λ fact. fact_clash f s sides l.atom l.positive fact t.says)
     (λ more. ⊎_elim

@@ -7,14 +7,14 @@ use Rattle.std.proofs.lemmas.List.Elements.{Contains-get_or}
 use Rattle.plain_lists.proofs.Membership.{Contains-head, Contains-tail}
 use Rattle.plain_lits.specs.HintCheck.{Checks, IsTrueClause, IsValuation, clause_at}
 use Rattle.plain_lits.proofs.HintCheckLemmas.{taken_sound}
-use Rattle.semantics.specs.Frameworks.{Framework}
+use Rattle.semantics.specs.Frameworks.{Framework, af}
 use Rattle.meaning_atoms.specs.declared.atom.Atom.{Atom}
 use Rattle.meaning_atoms.specs.declared.atom.Atom.TheVariants.{Ask}
 use Rattle.meaning_atoms.specs.declared.atom.AtomLit.{AtomLit}
-use Rattle.meaning_atoms.specs.declared.axiom.AxiomName.TheVariants.{Af as OfAf}
+use Rattle.meaning_atoms.specs.declared.axiom.AxiomName.TheVariants.{Af as OfAf, Aba as OfAba}
 use Rattle.meaning_atoms.specs.Literals.{denied, negated, lit_value}
 use Rattle.meaning_atoms.specs.Valuations.{IsValuation as IsWorldValuation}
-use Rattle.meaning_atoms.specs.Worlds.{world_of, IsWorldOf, IsTrueAlone, IsTrueBeside}
+use Rattle.meaning_atoms.specs.Worlds.{World, IsWorld, IsTrueAlone, IsTrueBeside}
 use Rattle.meaning_atoms.proofs.Valuations.{decide_atom, world_valuation}
 use Rattle.meaning_atoms.proofs.Clauses.{from_alone, under, beside}
 use Rattle.af_axioms.proofs.Rows.{rows_are_valid}
@@ -39,14 +39,14 @@ opposite value l = opposite_of value l.atom l.positive
 -- ---- a step that is given is true
 
 -- a world, beside a log's side clauses, and what each literal's value is there
-pub record IsRead (f : Framework) (s : List ℕ) (log : OracleLog) (value : Atom → Bool) : Type 0 where
-  pub world : IsWorldOf f s
+pub record IsRead (f : Framework) (w : World) (log : OracleLog) (value : Atom → Bool) : Type 0 where
+  pub world : IsWorld w
   pub form : IsLog f log
-  pub reads : IsWorldValuation (world_of f s) (literals_of log.sides) value
+  pub reads : IsWorldValuation w (literals_of log.sides) value
 
-same_beside : (f : Framework) (s : List ℕ) (sides : List (List AtomLit)) (clause other : List AtomLit)
-    → IsSameClause clause other → IsTrueBeside (world_of f s) sides other → IsTrueBeside (world_of f s) sides clause
-same_beside f s sides clause other same h =
+same_beside : (w : World) (sides : List (List AtomLit)) (clause other : List AtomLit)
+    → IsSameClause clause other → IsTrueBeside w sides other → IsTrueBeside w sides clause
+same_beside w sides clause other same h =
     record { literal = h.literal; member = same.back h.literal h.member; says = h.says }
 
 pub side_literals : (sides : List SideClause) (n : ℕ) → IsNumberOf sides n
@@ -56,10 +56,9 @@ side_literals sides n is =
     let high = is.within in
     get_or-map (λ (side : SideClause). side.literals) sides (n - 1) no_side [] (omega arith)
 
-side_beside : (f : Framework) (s : List ℕ) (log : OracleLog) (n : ℕ) → IsLog f log → IsNumberOf log.sides n
-    → IsTrueBeside (world_of f s) (literals_of log.sides) (guarded n (side_at log.sides n).literals)
-side_beside f s log n form is =
-    let w = world_of f s in
+side_beside : (f : Framework) (w : World) (log : OracleLog) (n : ℕ) → IsLog f log → IsNumberOf log.sides n
+    → IsTrueBeside w (literals_of log.sides) (guarded n (side_at log.sides n).literals)
+side_beside f w log n form is =
     let sides = literals_of log.sides in
     let side = (side_at log.sides n).literals in
     let low = is.from_one in
@@ -113,42 +112,39 @@ hinted_true log value k within before clause hints checks =
     (sym (named_clause log.steps k hint within low high))
     (before (hint - 1) (omega arith)))
 
-given_true : (f : Framework) (s : List ℕ) (log : OracleLog) (value : Atom → Bool) → IsRead f s log value → (k : ℕ)
+given_true : (f : Framework) (w : World) (log : OracleLog) (value : Atom → Bool) → IsRead f w log value → (k : ℕ)
     → k ≤ length log.steps → ((j : ℕ) → j < k → IsTrueStep log value j) → (clause : List AtomLit) (source : Source)
     → IsGiven f log.sides (take k log.steps) clause source → IsTrueClause (lit_value value) clause
-given_true f s log value met k within before clause (by_axiom (OfAf name)) h =
-    let w = world_of f s in
+given_true f w log value met k within before clause (by_axiom (OfAf name)) h =
     let sides = literals_of log.sides in
     under w sides value met.reads clause
-    (same_beside f s sides clause (axiom_clause (OfAf name)) h.1 (rows_are_valid name w met.world sides))
-given_true f s log value met k within before clause (by_side n) h =
+    (same_beside w sides clause (axiom_clause (OfAf name)) h.1 (rows_are_valid name w met.world sides))
+given_true (af f) w log value met k within before clause (by_axiom (OfAba name)) h = absurd h.0
+given_true f w log value met k within before clause (by_side n) h =
     let sides = literals_of log.sides in
-    under (world_of f s) sides value met.reads clause
-    (same_beside f s sides clause (guarded n (side_at log.sides n).literals) h.1
-    (side_beside f s log n met.form h.0))
-given_true f s log value met k within before clause (by_hints hints) h =
+    under w sides value met.reads clause
+    (same_beside w sides clause (guarded n (side_at log.sides n).literals) h.1 (side_beside f w log n met.form h.0))
+given_true f w log value met k within before clause (by_hints hints) h =
     hinted_true log value k within before clause hints h.0
 
-before_true : (f : Framework) (s : List ℕ) (log : OracleLog) (value : Atom → Bool) → IsRead f s log value → (k : ℕ)
+before_true : (f : Framework) (w : World) (log : OracleLog) (value : Atom → Bool) → IsRead f w log value → (k : ℕ)
     → k ≤ length log.steps → (j : ℕ) → j < k → IsTrueStep log value j
-before_true f s log value met zero within j lt = absurd (omega arith)
-before_true f s log value met (suc k) within j lt =
-    let before = before_true f s log value met k (omega arith) in
+before_true f w log value met zero within j lt = absurd (omega arith)
+before_true f w log value met (suc k) within j lt =
+    let before = before_true f w log value met k (omega arith) in
     ⊎_elim (λ less. before j less)
     (λ ge. let here : k ≡ j = omega arith in
     subst (λ i. IsTrueStep log value i) here
-    (given_true f s log value met k (omega arith) before (slice_index_or log.steps k no_step).clause
+    (given_true f w log value met k (omega arith) before (slice_index_or log.steps k no_step).clause
     (slice_index_or log.steps k no_step).source (met.form.each k (omega arith))))
     (cases_lt j k)
 
 -- each step of a log is true in every world beside the log's side clauses
-pub steps_true : (f : Framework) (s : List ℕ) (log : OracleLog) → IsWorldOf f s → IsLog f log → (k : ℕ)
-    → k < length log.steps
-    → IsTrueBeside (world_of f s) (literals_of log.sides) (slice_index_or log.steps k no_step).clause
-steps_true f s log world form k lt =
-    let w = world_of f s in
+pub steps_true : (f : Framework) (w : World) (log : OracleLog) → IsWorld w → IsLog f log → (k : ℕ)
+    → k < length log.steps → IsTrueBeside w (literals_of log.sides) (slice_index_or log.steps k no_step).clause
+steps_true f w log world form k lt =
     let sides = literals_of log.sides in
     let r = world_valuation w sides in
     beside w sides r.0 r.1 (slice_index_or log.steps k no_step).clause
-    (before_true f s log r.0 (record { world = world; form = form; reads = r.1 }) (length log.steps) (omega arith) k
+    (before_true f w log r.0 (record { world = world; form = form; reads = r.1 }) (length log.steps) (omega arith) k
     lt)

@@ -9,7 +9,8 @@ use Rattle.semantics.specs.Frameworks.{Framework, IsNumbered}
 use Rattle.meaning_atoms.specs.declared.atom.Atom.TheVariants.{Ask}
 use Rattle.meaning_atoms.specs.declared.atom.AtomLit.{AtomLit}
 use Rattle.meaning_atoms.specs.declared.axiom.AxiomName.{AxiomName}
-use Rattle.meaning_atoms.specs.declared.axiom.AxiomName.TheVariants.{Af as OfAf}
+use Rattle.meaning_atoms.specs.declared.axiom.AxiomName.TheVariants.{Aba as OfAba}
+use Rattle.meaning_atoms.specs.declared.aba_axiom.AbaAxiom.TheVariants.{B17}
 use Rattle.meaning_atoms.specs.Literals.{denied, negated, AsksNothing}
 use Rattle.meaning_atoms.specs.Worlds.{IsFact}
 use Rattle.af_axioms.specs.Facts.{IsFactValue}
@@ -120,9 +121,10 @@ pub data Reaches (steps : List LogStep) : ℕ → ℕ → Type 0 where
 
 -- ---- units
 
--- the axiom is a loop clause, which is a unit: no axiom of abstract frameworks is
+-- the axiom is a loop clause, which is a unit: no other axiom is
 abbrev pub is_loop : AxiomName → Bool
-is_loop (OfAf name) = false
+is_loop (OfAba (B17 k x rows)) = true
+is_loop _ = false
 
 abbrev pub is_work : Source → Bool
 is_work (by_axiom name) = is_loop name

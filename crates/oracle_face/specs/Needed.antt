@@ -6,7 +6,7 @@ use Rattle.meaning_atoms.specs.declared.atom.TheConstants.{END}
 use Rattle.meaning_atoms.specs.declared.axiom.AfAxiom.{AfAxiom}
 use Rattle.meaning_atoms.specs.declared.axiom.AfAxiom.TheVariants.{A1, A2, A3, A4, A5, A6, A7, A8, A9, A10, A11, A12, A13, A14}
 use Rattle.meaning_atoms.specs.declared.axiom.AxiomName.{AxiomName}
-use Rattle.meaning_atoms.specs.declared.axiom.AxiomName.TheVariants.{Af as OfAf}
+use Rattle.meaning_atoms.specs.declared.axiom.AxiomName.TheVariants.{Af as OfAf, Aba as OfAba}
 use Rattle.meaning_atoms.specs.Worlds.{HasGap}
 
 -- the walk along the attackers of a begins at 1 and goes on just past an attacker
@@ -47,3 +47,4 @@ IsNeededOfAf f (A14 part) = (1 ≤ part) × (part ≤ 3)
 -- the axiom is needed for the framework
 abbrev pub IsNeeded : Framework → AxiomName → Type 0
 IsNeeded (af f) (OfAf name) = IsNeededOfAf f name
+IsNeeded (af f) (OfAba name) = ⊥

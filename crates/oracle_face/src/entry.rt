@@ -18,7 +18,7 @@ pub struct EntryName {
 }
 
 /// A clause that another clause follows from: an axiom, or an entry.
-#[derive(Clone, Copy, Debug, PartialEq, Eq)]
+#[derive(Debug, Drop, PartialEq, Eq)]
 pub enum HintName {
     Axiom(AxiomName),
     Entry(EntryName),
@@ -70,8 +70,28 @@ fn copy_origin(alloc: Global, origin: &EntryOrigin) -> Result<EntryOrigin, Memor
     ensures { IfOk result (λ copy. copy ≡ origin.now) }
 {
     match origin {
-        EntryOrigin::Axiom(name) => Ok(EntryOrigin::Axiom(*name)),
-        EntryOrigin::Hints(hints) => Ok(EntryOrigin::Hints(copy_items(alloc, hints.as_slice())?)),
+        EntryOrigin::Axiom(name) => Ok(EntryOrigin::Axiom(name.copy(alloc)?)),
+        EntryOrigin::Hints(hints) => Ok(EntryOrigin::Hints(copy_hints(alloc, hints.as_slice())?)),
+    }
+}
+
+/// The same names again.
+fn copy_hints(alloc: Global, hints: &[HintName]) -> Result<Items<HintName>, Memory>
+    ensures { IfOk result (λ copy. copy ≡ hints.now) }
+{
+    let mut copy = Items::new(alloc);
+    for hint in hints {
+        copy.push(copy_hint(alloc, hint)?)?;
+    }
+    Ok(copy)
+}
+
+fn copy_hint(alloc: Global, hint: &HintName) -> Result<HintName, Memory>
+    ensures { IfOk result (λ copy. copy ≡ hint.now) }
+{
+    match hint {
+        HintName::Axiom(name) => Ok(HintName::Axiom(name.copy(alloc)?)),
+        HintName::Entry(name) => Ok(HintName::Entry(*name)),
     }
 }
 

@@ -4,6 +4,7 @@ use argue_outside::{Files, MemFiles, MemSink, NoPace, Role, append_all, read_all
 use argue_program::command::{execute, run};
 use plain_lists::Items;
 use std::alloc::{AllocError, Global};
+use std::mem::forget;
 use std::test::Fail;
 
 const QUERY: &str = "-p SE-GR -f a";
@@ -17,6 +18,14 @@ fn words_of(alloc: Global, line: &str) -> Result<Vec<String>, AllocError> {
     Ok(words)
 }
 
+/// The exit status of a run of these words. What the run keeps is left to the process's end.
+fn status_of(alloc: Global, words: &[String], files: &mut MemFiles, out: &mut MemSink) -> u8 {
+    let transcript = execute(alloc, words, files, out);
+    let code = transcript.status.code();
+    forget(transcript);
+    code
+}
+
 /// The exit status of a run.
 fn code_of(
     alloc: Global,
@@ -25,7 +34,7 @@ fn code_of(
     out: &mut MemSink,
 ) -> Result<u8, AllocError> {
     let words = words_of(alloc, line)?;
-    Ok(execute(alloc, words.as_slice(), files, out).status.code())
+    Ok(status_of(alloc, words.as_slice(), files, out))
 }
 
 /// The list of one number.

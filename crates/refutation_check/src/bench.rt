@@ -25,7 +25,6 @@ pub(crate) struct Bench {
     trail: Trail,
     lits: Vec<Lit>,
     packed: Vec<PackedLit>,
-    hints: Vec<StepId>,
 }
 
 impl Model for Bench {
@@ -52,7 +51,6 @@ impl Bench {
             trail: Trail::new(alloc),
             lits: Vec::new(alloc),
             packed: Vec::new(alloc),
-            hints: Vec::new(alloc),
         }
     }
 
@@ -79,11 +77,10 @@ impl Bench {
     }
 
     /// Adds a clause if the check of its hints takes it, and answers whether it does.
-    pub(crate) fn derive(&mut self, clause: &[AtomLit], hints: &[u32]) -> Result<bool, Memory>
+    pub(crate) fn derive(&mut self, clause: &[AtomLit], hints: &[StepId]) -> Result<bool, Memory>
         ensures { IfOk result (Takes ((used : ℕ) × Checks negated self.old clause.now hints.now (Ok used))
             self.old clause.now self.new) }
     {
-        name_steps(&mut self.hints, hints)?;
         prepare(
             &mut self.atoms,
             &mut self.trail,
@@ -91,12 +88,7 @@ impl Bench {
             &mut self.lits,
             &mut self.packed,
         )?;
-        match check(
-            &mut self.trail,
-            &self.rows,
-            self.lits.as_slice(),
-            self.hints.as_slice(),
-        ) {
+        match check(&mut self.trail, &self.rows, self.lits.as_slice(), hints) {
             Err(_) => Ok(false),
             Ok(_) => {
                 self.rows.push(self.packed.as_slice())?;
@@ -151,17 +143,6 @@ fn spell(
         };
         lits.push(lit)?;
         packed.push(PackedLit::pack(lit))?;
-    }
-    Ok(())
-}
-
-/// The steps of these numbers.
-fn name_steps(steps: &mut Vec<StepId>, numbers: &[u32]) -> Result<(), Memory>
-    ensures { OnOk result (steps.new.items ≡ numbers.now) }
-{
-    steps.clear();
-    for number in numbers {
-        steps.push(StepId::new(*number))?;
     }
     Ok(())
 }

@@ -98,6 +98,7 @@ fn axiom_is_closed(
 {
     match name {
         AxiomName::Af(name) => af_axiom_is_closed(alloc, framework, claim, range, name),
+        AxiomName::Aba(_) => Ok(true),
     }
 }
 

@@ -35,6 +35,7 @@ fn take_axiom(
         (Framework::Af(plain), AxiomName::Af(name)) => {
             take_af_axiom(alloc, plain, kind, sets, name, taken)
         }
+        (Framework::Af(_), AxiomName::Aba(_)) => Ok(false),
     }
 }
 

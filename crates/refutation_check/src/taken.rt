@@ -6,6 +6,7 @@ ghost use Rattle.refutation_check.specs.StepRows.{AddsAgain, AddsClause, AddsDer
 use crate::bench::Bench;
 use meaning_atoms::AtomLit;
 use plain_lists::Memory;
+use plain_lits::StepId;
 use std::alloc::Global;
 
 /// Steps, each with the row of its clause.
@@ -17,7 +18,7 @@ pub(crate) struct Taken {
     /// The row of each side clause, counted from 1, or 0 where none was made.
     sides: Vec<u32>,
     /// The rows that the hints of a step name.
-    named: Vec<u32>,
+    named: Vec<StepId>,
 }
 
 impl Taken {
@@ -96,12 +97,12 @@ impl Taken {
 }
 
 /// The rows of the steps that hints name.
-fn name_rows(named: &mut Vec<u32>, rows: &[u32], hints: &[u32]) -> Result<(), Memory>
+fn name_rows(named: &mut Vec<StepId>, rows: &[u32], hints: &[u32]) -> Result<(), Memory>
     ensures { OnOk result (named.new.items ≡ map (row_named rows.now) hints.now) }
 {
     named.clear();
     for hint in hints {
-        named.push(row_of(rows, *hint))?;
+        named.push(StepId::new(row_of(rows, *hint)))?;
     }
     Ok(())
 }

@@ -115,6 +115,15 @@ impl Descent {
         Ok(())
     }
 
+    /// Says that a variable is worth deciding before all that wait, and what its first phase is.
+    pub(crate) fn prefer(&mut self, lit: Lit) -> Result<(), Memory>
+        ensures { self.new.search ≡ self.old.search }
+    {
+        self.name(lit)?;
+        self.order.raise(lit.var);
+        Ok(())
+    }
+
     /// Propagates: a clause that is false, or none.
     fn spread(&mut self) -> Option<u32>
         ensures on { GoesOn self.old.search self.new.search }

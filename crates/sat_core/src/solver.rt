@@ -66,6 +66,13 @@ impl Solver {
         self.cdcl.descent.name(lit)
     }
 
+    /// Names a variable in the same way, and has it be more active than all that are named so far.
+    pub fn prefer(&mut self, lit: Lit) -> Result<(), Memory>
+        ensures { self.new ≡ self.old }
+    {
+        self.cdcl.descent.prefer(lit)
+    }
+
     /// Gives each variable its first phase again, in the place of the value that it had last.
     pub fn reset_phases(&mut self)
         ensures { self.new ≡ self.old }

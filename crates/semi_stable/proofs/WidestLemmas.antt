@@ -40,14 +40,7 @@ mode_within (af f) s Cf is h = h.live
 mode_within (af f) s Ad is h = h.conflict_free.live
 mode_within (af f) s Co is h = h.admissible.conflict_free.live
 mode_within (af f) s St is h = h.conflict_free.live
-mode_within (af f) s (Member _) is h = elim is [ ]
-mode_within (af f) s (Live _) is h = elim is [ ]
-mode_within (af f) s (Attack _ _) is h = elim is [ ]
-mode_within (af f) s (Gap _ _ _) is h = elim is [ ]
-mode_within (af f) s (Tail _ _) is h = elim is [ ]
-mode_within (af f) s (Unmet _ _) is h = elim is [ ]
-mode_within (af f) s (Range _) is h = elim is [ ]
-mode_within (af f) s (Ask _) is h = elim is [ ]
+mode_within (af f) s _ is h = absurd is
 
 -- the range of a set as a list
 pub range_list : (f : Framework) (s r : List ℕ) → IsNumbered f → IsWithin s (members f) → IsSetOf (IsRanged f s) r
@@ -121,17 +114,7 @@ further_ranged f e set t =
 
 mode_asks_nothing : (mode : Atom) → IsMode mode → IsAsk mode → ⊥
 mode_asks_nothing (Ask n) is ask = is
-mode_asks_nothing (Member _) is ask = is
-mode_asks_nothing (Live _) is ask = is
-mode_asks_nothing (Attack _ _) is ask = is
-mode_asks_nothing (Gap _ _ _) is ask = is
-mode_asks_nothing (Tail _ _) is ask = is
-mode_asks_nothing (Unmet _ _) is ask = is
-mode_asks_nothing (Range _) is ask = is
-mode_asks_nothing Cf is ask = ask
-mode_asks_nothing Ad is ask = ask
-mode_asks_nothing Co is ask = ask
-mode_asks_nothing St is ask = ask
+mode_asks_nothing _ is ask = ask
 
 claim_plain : (mode : Atom) (r : List ℕ) → IsMode mode → AsksNothing (affirmed mode ∷ are_ranged r)
 claim_plain mode r is l c ask = ⊎_elim

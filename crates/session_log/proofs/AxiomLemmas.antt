@@ -1,5 +1,5 @@
 -- No clause of an axiom, and no side clause, speaks of a side clause; the numbers of their literals are within bounds.
-use Rattle.std.proofs.Common.{◌≡◌, ◌==◌, ℕ, Bool, true, List, refl, sym, subst, arith}
+use Rattle.std.proofs.Common.{[], ◌≡◌, ◌==◌, ℕ, Bool, true, List, refl, sym, subst, arith}
 use Rattle.std.specs.List.{list_all}
 use Rattle.std.specs.Prelude.{Contains}
 use Rattle.std.proofs.lemmas.Bool.{cond_both}
@@ -17,7 +17,7 @@ use Rattle.meaning_atoms.specs.declared.axiom.AfAxiom.{AfAxiom}
 use Rattle.meaning_atoms.specs.declared.axiom.AfAxiom.TheVariants.{A1, A2, A3, A4, A5, A6, A7, A8, A9, A10, A11, A12}
 use Rattle.meaning_atoms.specs.declared.axiom.AfAxiom.TheVariants.{A13, A14}
 use Rattle.meaning_atoms.specs.declared.axiom.AxiomName.{AxiomName}
-use Rattle.meaning_atoms.specs.declared.axiom.AxiomName.TheVariants.{Af as OfAf}
+use Rattle.meaning_atoms.specs.declared.axiom.AxiomName.TheVariants.{Af as OfAf, Aba as OfAba}
 use Rattle.meaning_atoms.specs.Literals.{AsksNothing, not_ask}
 use Rattle.meaning_atoms.proofs.Clauses.{asks_nothing}
 use Rattle.af_axioms.specs.Table.{table_clause, notion_clause}
@@ -49,10 +49,12 @@ row_plain (A14 part) = notion_plain part
 
 pub axiom_plain : (name : AxiomName) → AsksNothing (axiom_clause name)
 axiom_plain (OfAf name) = asks_nothing (table_clause name) (row_plain name)
+axiom_plain (OfAba name) = asks_nothing [] refl
 
 pub axiom_within : (f : Framework) (name : AxiomName) → IsAxiomOf f name → (l : AtomLit)
     → Contains (axiom_clause name) l → IsLit l
 axiom_within (af f) (OfAf name) is l c = All-contains IsLit (table_clause name) l (rows_fit name is) c
+axiom_within (af f) (OfAba name) is l c = absurd is
 
 tells_no_ask : (P : ℕ → Type 0) (atom : Atom) (positive : Bool) → Tells P atom positive → IsAsk atom → ⊥
 tells_no_ask P (Ask n) positive tells ask = tells

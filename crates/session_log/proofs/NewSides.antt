@@ -22,7 +22,6 @@ use Rattle.oracle_face.specs.Logs.{IsNumberOf, IsNew, guarded, literals_of, work
 use Rattle.oracle_face.proofs.StepTruth.{steps_true}
 use Rattle.session_log.specs.Guards.{IsGuarded}
 use Rattle.session_log.proofs.StepLemmas.{rests_on_named}
-use Rattle.session_log.proofs.StepWorlds.{log_of_any}
 
 -- ---- a world in which a side clause is false
 
@@ -183,7 +182,7 @@ side_is_new f log side form guards is =
           let world = false_somewhere side is in
           let s = world.0 in
           let sides = literals_of log.sides in
-          let t = steps_true (af no_af) s log world.1.world (log_of_any f (af no_af) log form) at.0 at.1 in
+          let t = steps_true f (world_of (af no_af) s) log world.1.world form at.0 at.1 in
           let there : Contains part.part t.literal =
           subst (λ (clause : List AtomLit). Contains clause t.literal) at.2 t.member in
           ⊎_elim

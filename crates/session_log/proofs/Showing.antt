@@ -1,14 +1,16 @@
 -- What the log shows is right, and stays shown while the log grows.
-use Rattle.std.proofs.Common.{◌≡◌, ℕ, true, List}
-use Rattle.semantics.specs.Frameworks.{Framework, IsNumbered}
+use Rattle.std.proofs.Common.{◌≡◌, ℕ, true, List, subst}
+use Rattle.semantics.specs.Frameworks.{Framework, af, IsNumbered}
 use Rattle.meaning_atoms.specs.declared.axiom.AxiomName.{AxiomName}
-use Rattle.meaning_atoms.specs.declared.axiom.AxiomName.TheVariants.{Af as OfAf}
+use Rattle.meaning_atoms.specs.declared.axiom.AxiomName.TheVariants.{Af as OfAf, Aba as OfAba}
 use Rattle.iccma_tasks.specs.declared.answer.Answer.{Answer}
 use Rattle.iccma_tasks.specs.Tasks.{Asked}
+use Rattle.certificate_claims.specs.Refutations.{IsAxiomOf}
 use Rattle.certificate_claims.specs.Rights.{IsRight}
+use Rattle.meaning_atoms.specs.declared.atom.AtomLit.{AtomLit}
 use Rattle.certificate_laws.proofs.Right.{shown_right}
 use Rattle.oracle_face.specs.Growing.{Making, Grows}
-use Rattle.oracle_face.specs.Logs.{OracleLog, IsLog, is_loop}
+use Rattle.oracle_face.specs.Logs.{OracleLog, LogStep, SideClause, Source, by_axiom, IsGiven, IsLog, is_loop}
 use Rattle.oracle_face.proofs.Refuting.{claim_excluded, refutes_grown}
 use Rattle.session_log.specs.Ends.{IsShownBy, LoopsServe}
 
@@ -30,8 +32,16 @@ shown_grown f P asked answer sets old new form grows shown = record {
 }
 
 -- no axiom of abstract frameworks is a loop clause
-not_loop : (name : AxiomName) → is_loop name ≡ true → ⊥
-not_loop (OfAf name) e = absurd (cc)
+not_loop : (f : Framework) (name : AxiomName) → IsAxiomOf f name → is_loop name ≡ true → ⊥
+not_loop (af f) (OfAf name) is e = absurd (cc)
+not_loop (af f) (OfAba name) is e = is
 
-pub no_loops : (old new : OracleLog) → LoopsServe old new
-no_loops old new = record { each = λ k name low high is loop. absurd (not_loop name loop) }
+loop_given : (f : Framework) (sides : List SideClause) (before : List LogStep) (clause : List AtomLit) (source : Source)
+    (name : AxiomName) → IsGiven f sides before clause source → source ≡ by_axiom name → is_loop name ≡ true → ⊥
+loop_given f sides before clause source name given is loop =
+    not_loop f name ((subst (λ s. IsGiven f sides before clause s) is given).0) loop
+
+pub no_loops : (f : Framework) (old new : OracleLog) → IsLog f new → LoopsServe old new
+no_loops f old new form = record {
+  each = λ k name low high is loop. absurd (loop_given f new.sides _ _ _ name (form.each k high) is loop);
+}

@@ -6,4 +6,6 @@ mod hubs;
 #[cfg(test)]
 mod pools;
 #[cfg(test)]
+mod scripts;
+#[cfg(test)]
 mod turns;

@@ -9,14 +9,14 @@ use Rattle.plain_lists.proofs.Counts.{count_by-cons, count_yes, count_no}
 use Rattle.plain_lits.specs.declared.halt.Halt.{Halt}
 use Rattle.plain_lits.specs.declared.halt.Halt.TheVariants.{Spent, Memory}
 use Rattle.plain_lits.specs.Units.{Units}
-use Rattle.semantics.specs.Frameworks.{Framework}
+use Rattle.semantics.specs.Frameworks.{Framework, af}
 use Rattle.semantics.specs.Arguments.{IsArgument}
 use Rattle.meaning_atoms.specs.declared.atom.Atom.{Atom}
 use Rattle.meaning_atoms.specs.declared.atom.Atom.TheVariants.{Ask}
 use Rattle.meaning_atoms.specs.declared.atom.AtomLit.{AtomLit}
 use Rattle.meaning_atoms.specs.Worlds.{IsAsk}
 use Rattle.meaning_atoms.specs.declared.axiom.AxiomName.{AxiomName}
-use Rattle.meaning_atoms.specs.declared.axiom.AxiomName.TheVariants.{Af as OfAf}
+use Rattle.meaning_atoms.specs.declared.axiom.AxiomName.TheVariants.{Af as OfAf, Aba as OfAba}
 use Rattle.meaning_atoms.specs.Literals.{AsksNothing}
 use Rattle.certificate_claims.specs.Refutations.{IsAxiomOf, axiom_clause}
 use Rattle.oracle_face.specs.declared.face.Pending.{Pending}
@@ -272,9 +272,10 @@ left_by P most f old new step u v e run kept = record {
 same_clause : (clause : List AtomLit) → IsSameClause clause clause
 same_clause clause = record { there = λ l c. c; back = λ l c. c }
 
-axiom_free : (name : AxiomName) (clause : List AtomLit)
+axiom_free : (f : Framework) (name : AxiomName) (clause : List AtomLit) → IsAxiomOf f name
     → is_unit (record { clause = clause; source = by_axiom name; imported = None; closing = false }) ≡ false
-axiom_free (OfAf name) clause = refl
+axiom_free (af f) (OfAf name) clause is = refl
+axiom_free (af f) (OfAba name) clause is = absurd is
 
 -- an axiom was added
 pub axiom_added : (f : Framework) (old new : Book) (name : AxiomName) (u : Units) → IsKept f (log_of old)
@@ -286,7 +287,7 @@ axiom_added f old new name u kept is room e =
     let step : LogStep =
     record { clause = axiom_clause name; source = by_axiom name; imported = None; closing = false } in
     left_by NoSide 0 f old new step u u e
-    (run_free NoSide 0 f (log_of old) step new.pending u (axiom_free name (axiom_clause name))
+    (run_free NoSide 0 f (log_of old) step new.pending u (axiom_free f name (axiom_clause name) is)
     (λ t. absurd (false≢true t)))
     (step_kept f (log_of old) step kept (is, same_clause (axiom_clause name)) room)
 

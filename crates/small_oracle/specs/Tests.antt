@@ -6,7 +6,7 @@ use Rattle.meaning_atoms.specs.declared.atom.Atom.TheVariants.{Ask}
 use Rattle.meaning_atoms.specs.declared.atom.AtomLit.{AtomLit}
 use Rattle.meaning_atoms.specs.Axioms.{IsAfAxiom}
 use Rattle.meaning_atoms.specs.declared.axiom.AxiomName.{AxiomName}
-use Rattle.meaning_atoms.specs.declared.axiom.AxiomName.TheVariants.{Af as OfAf}
+use Rattle.meaning_atoms.specs.declared.axiom.AxiomName.TheVariants.{Af as OfAf, Aba as OfAba}
 use Rattle.meaning_atoms.specs.Literals.{affirmed, negated}
 use Rattle.meaning_atoms.specs.Worlds.{world_of, HoldsLit, IsFact}
 use Rattle.af_axioms.specs.Facts.{IsFactValue}
@@ -76,6 +76,7 @@ pub record IsDerived (steps : List LogStep) (clause : List AtomLit) (hints : Lis
 -- an axiom of abstract frameworks
 abbrev pub IsAxiom : AxiomName → Type 0
 IsAxiom (OfAf name) = IsAfAxiom name
+IsAxiom (OfAba name) = ⊥
 
 -- a clause that may be logged as a unit
 pub record IsFresh (f : Framework) (steps : List LogStep) (clause : List AtomLit) : Type 0 where

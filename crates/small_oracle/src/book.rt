@@ -87,6 +87,7 @@ fn clause_by(alloc: Global, name: &AxiomName) -> Result<Items<AtomLit>, Memory>
 {
     match name {
         AxiomName::Af(rule) => clause_of(alloc, rule),
+        AxiomName::Aba(_) => unreachable!(),
     }
 }
 
@@ -105,7 +106,8 @@ fn add_axiom(
         return Err(Halt::LogFull);
     }
     let clause = clause_by(alloc, name)?;
-    book.push_step(Step::new(clause, Origin::Axiom(*name), false))?;
+    let name = name.copy(alloc)?;
+    book.push_step(Step::new(clause, Origin::Axiom(name), false))?;
     Ok(())
 }
 

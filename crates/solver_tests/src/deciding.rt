@@ -44,6 +44,21 @@ fn most_active_first(rt: HostRuntime) -> Result<(), Fail> {
     Ok(())
 }
 
+/// What is raised comes before what waits, the last one first; 3 isn't worth deciding all the same.
+#[test]
+fn raised_first(rt: HostRuntime) -> Result<(), Fail> {
+    let mut order = three_named(rt.alloc())?;
+    order.bump(1);
+    order.raise(0);
+    order.raise(2);
+    order.raise(3);
+    assert!(rt; order.pop() == Some(lit(2, false)));
+    assert!(rt; order.pop() == Some(lit(0, false)));
+    assert!(rt; order.pop() == Some(lit(1, true)));
+    assert!(rt; order.pop().is_none());
+    Ok(())
+}
+
 /// A released variable comes again, with the value that it had.
 #[test]
 fn phases(rt: HostRuntime) -> Result<(), Fail> {

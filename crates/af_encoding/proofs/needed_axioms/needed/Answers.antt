@@ -7,7 +7,7 @@ use Rattle.af_encoding.proofs.needed_axioms.needed.Goals as goal
 
 pub loop-argument-init : goal.loop-argument-init
 loop-argument-init c = names_begin c.args.plain.now c.live-argument-items.ensures.form _
-    (c.in_ok-extend_from_slice.ensures.items ∙ ap (λ xs. xs ++ notion_names) c.in_ok-names.ensures.items)
+    (c.in_ok-push_all.ensures ∙ ap (λ xs. xs ++ notion_names) c.in_ok-names.ensures.items)
 
 pub loop-argument-preserved : goal.loop-argument-preserved
 loop-argument-preserved c = names_go c.args.plain.now c.live-argument-items.ensures.form c.loop-argument.argument-index

@@ -1,4 +1,3 @@
-use Rattle.std.proofs.Common.{rules}
 use Rattle.af_format.proofs.LineCauses.{bad_number, first_member, none_read, second_member}
 use Rattle.af_format.proofs.af_line.attack_of.Goals as goal
 

@@ -7,10 +7,10 @@ returns-in-Err-parse-clause-err g c =
 
 pub returns-clause-ok : goal.returns-clause-ok
 returns-clause-ok g c =
-    judged_ok _ _ _ c.in-Ok.bytes c.in-Ok-parse.read c.judge.result c.in-Ok.ensures.ok c.in-Ok-parse.ensures.ok
-    c.judge.ensures.ok
+    judged_ok _ _ _ c.in-Ok.bytes c.in-Ok-parse.read c.judge-end.result c.in-Ok.ensures.ok c.in-Ok-parse.ensures.ok
+    c.judge-end.ensures.ok
 
 pub returns-clause-err : goal.returns-clause-err
 returns-clause-err g c =
-    judged_err _ _ _ c.in-Ok.bytes c.in-Ok-parse.read c.judge.result c.in-Ok.ensures.ok c.in-Ok-parse.ensures.ok
-    c.judge.ensures.err
+    judged_err _ _ _ c.in-Ok.bytes c.in-Ok-parse.read c.judge-end.result c.in-Ok.ensures.ok c.in-Ok-parse.ensures.ok
+    c.judge-end.ensures.err

@@ -11,7 +11,7 @@ pub loop-field-preserved : goal.loop-field-preserved
 loop-field-preserved c =
     literals_next _ _ _ _ _ _ c.loop-field.invariant (ap (map (λ f. f.text)) c.in-Some.ensures.steps)
     (ap (λ w. pointwise nat_eq c.in-Some.field.text.now w) (sym c.as_slice.ensures) ∙ sym c.if-eq.ensures)
-    c.in_ok-found.ensures
+    c.in_ok-readable.ensures
 
 pub returns-then-eq : goal.returns-then-eq
 returns-then-eq c =

@@ -1,7 +1,9 @@
-use Rattle.std.proofs.Common.{sym, subst}
+use Rattle.std.proofs.Common.{◌+◌, ◌*◌, length, sym, subst, Err}
 use Rattle.meaning_atoms.specs.declared.atom.Atom.TheVariants.{Ad}
+use Rattle.session_log.specs.Ends.{MadeFor}
 use Rattle.query_answers.specs.Answers.{IsEvidence}
-use Rattle.query_answers.proofs.CallLemmas.{run_found}
+use Rattle.goal_lists.proofs.Calls.{run_handed}
+use Rattle.query_answers.proofs.CallLemmas.{run_found, run_search}
 use Rattle.query_answers.proofs.ExcludedLemmas.{about_member, may_ask_in}
 use Rattle.query_answers.proofs.LargestLemmas.{begins_found, refuted_evidence}
 use Rattle.query_answers.proofs.largest.in_some.Goals as goal
@@ -23,6 +25,13 @@ returns-in-Set-clause-run g c =
     run_found (g.O.Oracle.framework c.args.oracle.now) (g.O.Oracle.framework c.search_for.new.oracle) c.args.query.now
     c.in_ok-set.field-0 c.in-Set.set _ _ _ _ _ _ _ _ _ c.in_ok-set.ensures.framework c.in-Set.is
     c.in_ok-set.ensures.run c.largest.ensures.run
+
+pub returns-in_err-set-clause-run : goal.returns-in_err-set-clause-run
+returns-in_err-set-clause-run g c =
+    let f = g.O.Oracle.framework c.args.oracle.now in
+    let most = 2 * length (g.O.Oracle.log c.search_for.new.oracle).sides + 2 in
+    run_handed (MadeFor f c.args.query.now) most f _ _ _ _ _ _ c.in_err-set.field-0.0 c.from_residual.ensures
+    (run_search f c.args.query.now (Err c.in_err-set.field-0.0) _ _ _ _ _ _ c.in_err-set.ensures.run)
 
 pub returns-in_ok-evidence-in-Refuted-clause-shown : goal.returns-in_ok-evidence-in-Refuted-clause-shown
 returns-in_ok-evidence-in-Refuted-clause-shown g c =

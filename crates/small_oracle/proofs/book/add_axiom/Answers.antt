@@ -13,5 +13,11 @@ returns c = λ units.
     (c.in_ok-push_step.ensures.ok
     ∙ ap (with_step (log_of c.args.book.now))
     (c.new.ensures
+    ∙ ap (λ name. record {
+      clause = c.in_ok-clause.clause;
+      source = by_axiom name;
+      imported = None;
+      closing = false;
+    }) c.in_ok-name.ensures
     ∙ ap (λ clause. record { clause = clause; source = by_axiom c.args.name.now; imported = None; closing = false })
     c.in_ok-clause.ensures))

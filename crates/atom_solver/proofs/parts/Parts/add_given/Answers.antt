@@ -1,7 +1,7 @@
 use Rattle.std.proofs.Common.{◌≡◌, ◌++◌, ◌∷◌, [], ◌<◌, length, rules, ap, subst, ◌∙◌, ⊎_elim, arith}
 use Rattle.std.proofs.lemmas.Bool.{cases_lt}
 use Rattle.atom_solver.specs.Inner.{IsFilled}
-use Rattle.atom_solver.proofs.Giving.{gains_of, not_rejected, given_gains, given_whole, filled_whole, ok_not_full, refused}
+use Rattle.atom_solver.proofs.Giving.{not_rejected, given_gains, given_whole, filled_whole, ok_not_full, refused}
 use Rattle.atom_solver.proofs.parts.Parts.add_given.Goals as goal
 
 pub unreachable-requires : goal.unreachable-requires
@@ -12,18 +12,16 @@ unreachable-requires c =
 pub returns-in-Ok-clause-whole : goal.returns-in-Ok-clause-whole
 returns-in-Ok-clause-whole c =
     let p = c.args.self.now in
-    let g = gains_of p.solver c.add.new.self c.args.clause c.args.how _ c.requires.how c.in-Ok.ensures.ok in
     let pushed : c.push.new.self.items ≡ c.fill.new.origins.items ++ c.args.origin ∷ [] = search rules in
     let count : c.len-steps.result ≡ length p.solver.log.steps = rw c.log.ensures.log at c.len-steps.ensures.steps in
     let filled = subst (IsFilled p.origins.items c.fill.new.origins.items) count c.fill.ensures.filled in
-    given_whole p.table p.solver c.add.new.self c.args.clause g p.origins.items c.fill.new.origins.items
-    c.push.new.self.items c.args.origin filled (c.in_ok-fill.ensures.ok ∙ count) pushed c.requires.room
-    c.requires.whole
+    given_whole p.table p.solver c.add.new.self c.args.clause c.args.how _ p.origins.items c.fill.new.origins.items
+    c.push.new.self.items c.args.origin c.requires.how c.in-Ok.ensures.ok filled (c.in_ok-fill.ensures.ok ∙ count) pushed
+    c.requires.room c.requires.whole
 
 pub returns-in-Ok-clause-ok : goal.returns-in-Ok-clause-ok
 returns-in-Ok-clause-ok c =
     let p = c.args.self.now in
-    let g = gains_of p.solver c.add.new.self c.args.clause c.args.how _ c.requires.how c.in-Ok.ensures.ok in
     let pushed : c.push.new.self.items ≡ c.fill.new.origins.items ++ c.args.origin ∷ [] = search rules in
     let count : c.len-steps.result ≡ length p.solver.log.steps = rw c.log.ensures.log at c.len-steps.ensures.steps in
     let filled = subst (IsFilled p.origins.items c.fill.new.origins.items) count c.fill.ensures.filled in
@@ -31,8 +29,9 @@ returns-in-Ok-clause-ok c =
     let room : length p.solver.log.steps < p.solver.log.limit =
     ⊎_elim (λ lt. lt) (λ ge. absurd (ok_not_full _ (c.in-Ok.ensures.full.1 (omega arith))))
     (cases_lt (length p.solver.log.steps) p.solver.log.limit) in
-    given_gains p.table p.solver c.add.new.self c.args.clause g p.origins.items c.fill.new.origins.items
-    c.push.new.self.items c.args.origin filled (c.in_ok-fill.ensures.ok ∙ count) pushed p.sides.items p.pending room
+    given_gains p.table p.solver c.add.new.self c.args.clause c.args.how _ p.origins.items c.fill.new.origins.items
+    c.push.new.self.items c.args.origin c.requires.how c.in-Ok.ensures.ok c.requires.own filled
+    (c.in_ok-fill.ensures.ok ∙ count) pushed p.sides.items p.pending room
 
 pub returns-in-Err-Memory-clause-whole : goal.returns-in-Err-Memory-clause-whole
 returns-in-Err-Memory-clause-whole c =

@@ -1,4 +1,5 @@
-use Rattle.atom_solver.proofs.Reading.{step_named, hints_none, hints_read}
+use Rattle.std.proofs.Common.{rules}
+use Rattle.atom_solver.proofs.Reading.{HasHints, step_named, hints_none, hints_read}
 use Rattle.atom_solver.proofs.parts.Parts.hints.Goals as goal
 
 pub hints-requires : goal.hints-requires
@@ -9,11 +10,12 @@ hints-requires c =
 pub returns-in-Hints : goal.returns-in-Hints
 returns-in-Hints c =
     let p = c.args.self.now in
-    hints_read p.table p.solver p.origins.items c.args.step c.hints.result.now c.requires c.in-Hints.ensures
-    (rw c.log.ensures.log at c.hints.ensures.hints)
+    let has : HasHints c.origin.result = search rules in
+    hints_read p.table p.solver p.origins.items c.args.step c.origin.result c.hints.result.now c.requires
+    c.origin.ensures has (rw c.log.ensures.log at c.hints.ensures.hints)
 
-pub returns-in_default : goal.returns-in_default
-returns-in_default c =
+pub returns-in-Axiom : goal.returns-in-Axiom
+returns-in-Axiom c =
     let p = c.args.self.now in
-    hints_none p.table p.solver p.origins.items c.args.step c.origin.result c.requires c.origin.ensures
-    (λ e. c.in_default.not-Hints e)
+    let none : HasHints c.origin.result → ⊥ = search rules in
+    hints_none p.table p.solver p.origins.items c.args.step c.origin.result c.requires c.origin.ensures none

@@ -16,3 +16,6 @@ returns-clause-within c =
     let within = c.log.ensures.form.log_form.within in
     rw (← c.self.view_is)
     (omega (arith, length-listed (lifted_at p.table p.solver p.origins.items) (length p.solver.log.steps)))
+
+pub returns-clause-small : goal.returns-clause-small
+returns-clause-small c = rw (← c.self.view_is) c.log.ensures.form.log_form.small

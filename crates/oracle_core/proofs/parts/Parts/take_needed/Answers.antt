@@ -1,13 +1,18 @@
-use Rattle.std.proofs.Common.{◌<◌, ap, subst, Err}
+use Rattle.std.proofs.Common.{◌<◌, ◌∙◌, ap, subst, sym, Err}
+use Rattle.std.specs.Prelude.{Contains}
+use Rattle.oracle_core.specs.Needing.{IsOfAf}
 use Rattle.oracle_core.proofs.Forcing.{named_at, taken_halted, taken_more, waiting_is, waiting_there}
 use Rattle.oracle_core.proofs.Joining.{halted_any}
 use Rattle.oracle_core.proofs.parts.Parts.take_needed.Goals as goal
 
-pub take_axiom-requires : goal.take_axiom-requires
-take_axiom-requires c =
-    named_at c.loop-self.self _ c.loop-self.invariant.whole
-    (waiting_there c.loop-self.self c.as_slice.result.now _ c.as_slice.ensures
-    (subst (λ n. c.loop-self.self.taken < n) c.len.ensures c.loop-self-test.true))
+pub af_name-name-requires : goal.af_name-name-requires
+af_name-name-requires c =
+    let p = c.loop-self.self in
+    let name = c.index-as_slice-self.result in
+    subst (λ n. IsOfAf n) (sym c.index-as_slice-self.is)
+    (named_at p _ c.loop-self.invariant.whole
+    (waiting_there p c.as_slice.result.now name c.as_slice.ensures
+    (subst (λ n. p.taken < n) c.len.ensures c.loop-self-test.true)))
 
 pub returns-in_err-take_axiom-clause-run : goal.returns-in_err-take_axiom-clause-run
 returns-in_err-take_axiom-clause-run c = λ units.
@@ -18,8 +23,11 @@ returns-in_err-take_axiom-clause-run c = λ units.
 
 pub loop-self-preserved : goal.loop-self-preserved
 loop-self-preserved c =
-    let lt = subst (λ n. c.loop-self.self.taken < n) c.len.ensures c.loop-self-test.true in
-    taken_more c.args.self.now c.loop-self.self c.take_axiom.new.self _ _ c.loop-self.invariant lt
-    (waiting_is c.loop-self.self c.as_slice.result.now _ c.as_slice.ensures)
-    (waiting_there c.loop-self.self c.as_slice.result.now _ c.as_slice.ensures lt) c.in_ok-take_axiom.ensures.ok
-    c.in_ok-take_axiom.ensures.log
+    let p = c.loop-self.self in
+    let name = c.index-as_slice-self.result in
+    let lt = subst (λ n. p.taken < n) c.len.ensures c.loop-self-test.true in
+    let same = c.af_name-name.ensures.same ∙ c.index-as_slice-self.is in
+    taken_more c.args.self.now p c.take_axiom.new.self _ _ c.loop-self.invariant lt
+    (same ∙ waiting_is p c.as_slice.result.now name c.as_slice.ensures)
+    (subst (λ n. Contains p.needed n) (sym same) (waiting_there p c.as_slice.result.now name c.as_slice.ensures lt))
+    c.in_ok-take_axiom.ensures.ok c.in_ok-take_axiom.ensures.log

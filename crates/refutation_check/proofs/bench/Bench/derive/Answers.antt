@@ -1,10 +1,10 @@
-use Rattle.std.proofs.Common.{◌∙◌, sym}
+use Rattle.std.proofs.Common.{refl, sym}
 use Rattle.refutation_check.proofs.BenchLemmas.{kept, pushed_row, bench_more, view_more}
 use Rattle.refutation_check.proofs.BenchLemmas.{clause_room, clauses_same, taken_over, not_taken}
 use Rattle.refutation_check.proofs.bench.Bench.derive.Goals as goal
 
-pub invariant_of-self-in_err-prepare : goal.invariant_of-self-in_err-prepare
-invariant_of-self-in_err-prepare c =
+pub invariant_of-self : goal.invariant_of-self
+invariant_of-self c =
     kept _ _ _ _ _ _ _ c.prepare.ensures.grown c.prepare.ensures.idle c.prepare.ensures.more c.self.invariant
 
 pub check-requires-clause-clause_room : goal.check-requires-clause-clause_room
@@ -25,7 +25,7 @@ returns-in-Err c =
     rw (← c.self.view_is) (
       not_taken _ _ _ _ (taken_over _ _ _ _ _ c.args.clause.now c.args.hints.now _ _ c.prepare.ensures.grown
           c.in_ok-prepare.ensures.different c.self.invariant.known c.in_ok-prepare.ensures.spelled
-          c.as_slice.ensures.value (c.as_slice-2.ensures.value ∙ c.in_ok-name_steps.ensures) c.in-Err.ensures.outcome),
+          c.as_slice.ensures.value refl c.in-Err.ensures.outcome),
       clauses_same _ _ _ c.prepare.ensures.grown c.self.invariant.known,
     )
 
@@ -50,7 +50,7 @@ returns-in_ok-push-in-Ok c =
         c.in-Ok.field-0,
         taken_over _ _ _ _ _ c.args.clause.now c.args.hints.now _ _ c.prepare.ensures.grown
             c.in_ok-prepare.ensures.different c.self.invariant.known c.in_ok-prepare.ensures.spelled
-            c.as_slice.ensures.value (c.as_slice-2.ensures.value ∙ c.in_ok-name_steps.ensures) c.in-Ok.ensures.outcome,
+            c.as_slice.ensures.value refl c.in-Ok.ensures.outcome,
       ),
       view_more _ _ _ _ _ _ c.prepare.ensures.grown c.self.invariant.known c.in_ok-prepare.ensures.spelled
           (pushed_row _ _ _ _ _ c.in_ok-push-in-Ok.ensures.ok c.as_slice-in-Ok.ensures.value

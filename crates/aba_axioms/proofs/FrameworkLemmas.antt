@@ -1,0 +1,128 @@
+-- What the form of an assumption-based framework gives: rules by number, contraries by assumption, and flatness.
+use Rattle.std.proofs.Common.{◌≡◌, ◌+◌, ◌<◌, ◌≤◌, ℕ, List, [], ◌∷◌, length, get_or, map, refl, sym, ap, subst, ◌∙◌, ⊎_elim, arith}
+use Rattle.std.specs.Prelude.{Contains}
+use Rattle.std.specs.List.Sorted.{IsStrictlyIncreasing}
+use Rattle.std.proofs.lemmas.Bool.{cases_lt}
+use Rattle.std.proofs.lemmas.List.{get_or_default, get_or-map, length-map}
+use Rattle.std.proofs.lemmas.List.Elements.{Contains-get_or}
+use Rattle.std.proofs.lemmas.List.Kept.{AllPairs-from_increasing}
+use Rattle.aba_semantics.specs.AbaFrameworks.{Aba, AttacksAssumption, IsAba, IsRuleOf, IsNumberedAba, collective_of}
+use Rattle.aba_semantics.specs.Collectives.{IsUnattacked}
+use Rattle.aba_semantics.specs.Rules.{Rule, Derives, given, by_rule}
+use Rattle.aba_laws.proofs.AbaLemmas.{aba_lawful, decide_attacks}
+use Rattle.aba_laws.proofs.CollectiveSets.{rest_of}
+use Rattle.aba_laws.proofs.DerivationLemmas.{derives_more}
+use Rattle.meaning_atoms.specs.declared.atom.Closure.{Closure}
+use Rattle.meaning_atoms.specs.declared.atom.Closure.TheVariants.{Own, Rest}
+use Rattle.meaning_atoms.specs.AbaReadings.{HasContrary, IsInClosure, MissesAtom}
+use Rattle.meaning_atoms.specs.Worlds.{IsAbaWorld}
+use Rattle.meaning_atoms.proofs.AbaDecided.{decide_closure}
+use Rattle.semantics.proofs.Decided.{Decided, decide_both, decide_at_most, decide_not, decide_some}
+
+-- members with the same key are one, where the keys rise
+pub same_item : {X : Type 0} (key : X → ℕ) (xs : List X) (x y : X) → IsStrictlyIncreasing (map key xs)
+    → Contains xs x → Contains xs y → key x ≡ key y → x ≡ y
+same_item key xs x y up cx cy e =
+    let key_at : (z : _) (c : Contains xs z) → get_or (map key xs) c.0 0 ≡ key z
+    = λ z c. get_or-map key xs c.0 z 0 c.1 ∙ ap key c.2 in
+    let long = length-map xs key in
+    let at_x = key_at x cx in
+    let at_y = key_at y cy in
+    let in_x = cx.1 in
+    let in_y = cy.1 in
+    ⊎_elim
+    (λ less. absurd (omega (arith, AllPairs-from_increasing (map key xs) up cx.0 cy.0 0 less (omega arith))))
+    (λ not_less. ⊎_elim
+    (λ more. absurd (omega (arith, AllPairs-from_increasing (map key xs) up cy.0 cx.0 0 more (omega arith))))
+    (λ not_more.
+    let same : cx.0 ≡ cy.0 = omega arith in
+    sym cx.2 ∙ ap (λ k. get_or xs k x) same ∙ get_or_default xs cy.0 x y cy.1 ∙ cy.2)
+    (cases_lt cy.0 cx.0))
+    (cases_lt cx.0 cy.0)
+
+module _ (f : Aba) (form : IsAba f) where
+  -- rules with the same number are one
+  pub same_rule : (q r : Rule) → Contains f.rules q → Contains f.rules r → q.number ≡ r.number → q ≡ r
+  same_rule q r cq cr e = same_item (λ (x : Rule). x.number) f.rules q r form.numbers_rise cq cr e
+
+  -- an assumption has one contrary
+  pub same_contrary : (a c d : ℕ) → HasContrary f a c → HasContrary f a d → c ≡ d
+  same_contrary a c d hc hd =
+      let rise = subst IsStrictlyIncreasing (sym form.one_contrary) form.assumptions_rise in
+      ap (λ p. p.1) (same_item (λ (p : ℕ × ℕ). p.0) f.contraries (a, c) (a, d) rise hc hd refl)
+
+  -- what has a contrary is an assumption
+  pub has_assumption : (a c : ℕ) → HasContrary f a c → Contains f.assumptions a
+  has_assumption a c h =
+      let at : get_or (map (λ p. p.0) f.contraries) h.0 0 ≡ a
+      = get_or-map (λ (p : ℕ × ℕ). p.0) f.contraries h.0 (a, c) 0 h.1 ∙ ap (λ (p : ℕ × ℕ). p.0) h.2 in
+      let there = Contains-get_or (map (λ p. p.0) f.contraries) h.0 0
+      (let long = length-map f.contraries (λ (p : ℕ × ℕ). p.0) in omega (arith, h.1)) in
+      subst (λ xs. Contains xs a) form.one_contrary (subst (λ x. Contains (map (λ p. p.0) f.contraries) x) at there)
+
+  -- the set attacks the assumption where it derives the contrary, and only there
+  pub attacks_by : (s : List ℕ) (a c : ℕ) → HasContrary f a c → Derives f.rules (Contains s) c
+      → AttacksAssumption f s a
+  attacks_by s a c h d = record { contrary = c; is = h; derived = d }
+
+  pub attack_derives : (s : List ℕ) (a c : ℕ) → HasContrary f a c → AttacksAssumption f s a
+      → Derives f.rules (Contains s) c
+  attack_derives s a c h at =
+      subst (λ x. Derives f.rules (Contains s) x) (same_contrary a at.contrary c at.is h) at.derived
+
+  -- an assumption that follows is given: no rule heads it
+  pub assumption_given : (P : ℕ → Type 0) (a : ℕ) → Contains f.assumptions a → Derives f.rules P a → P a
+  assumption_given P a is (given _ p) = p
+  assumption_given P a is (by_rule r _ there head body) =
+      absurd ((form.rules_are r there).flat (subst (λ x. Contains f.assumptions x) (sym head) is))
+
+  -- what follows is an atom, where what is given is
+  pub derived_low : (P : ℕ → Type 0) → ((x : ℕ) → P x → 1 ≤ x) → (x : ℕ) → Derives f.rules P x → 1 ≤ x
+  derived_low P low x (given _ p) = low x p
+  derived_low P low x (by_rule r _ there head body) =
+      let first = (form.rules_are r there).head.low in omega (arith, head)
+
+-- the set of all that the set does not attack derives what the rest does
+pub rest_derives : (f : Aba) (s : List ℕ) (x : ℕ) → IsInClosure f s Rest x
+    → (rest : List ℕ) × ((y : ℕ) → Contains rest y → IsUnattacked (collective_of f) s y)
+    × Derives f.rules (Contains rest) x
+rest_derives f s x d =
+    let made = rest_of (collective_of f) (aba_lawful f) s in (
+      made.0,
+      λ y c. (made.1 y).0 c,
+      derives_more f.rules (IsUnattacked (collective_of f) s) (Contains made.0) (λ y u. (made.1 y).1 u) x d,
+    )
+
+-- what a closure has without rules
+abbrev pub IsGivenIn : Aba → List ℕ → Closure → ℕ → Type 0
+IsGivenIn f s Own x = Contains s x
+IsGivenIn f s Rest x = IsUnattacked (collective_of f) s x
+
+-- either closure is what follows from what it has without rules
+pub in_closure : (f : Aba) (s : List ℕ) (k : Closure) (x : ℕ) → Derives f.rules (IsGivenIn f s k) x
+    → IsInClosure f s k x
+in_closure f s Own x d = d
+in_closure f s Rest x d = d
+
+pub of_closure : (f : Aba) (s : List ℕ) (k : Closure) (x : ℕ) → IsInClosure f s k x
+    → Derives f.rules (IsGivenIn f s k) x
+of_closure f s Own x d = d
+of_closure f s Rest x d = d
+
+pub given_low : (f : Aba) (s : List ℕ) (k : Closure) → IsAbaWorld f s → (x : ℕ) → IsGivenIn f s k x → 1 ≤ x
+given_low f s Own ok x c = (ok.members x c).low
+given_low f s Rest ok x u = (ok.framework.form.assumptions_are x u.live).low
+
+-- the head of a rule whose body is in a closure is in it
+pub head_follows : (f : Aba) (s : List ℕ) (k : Closure) (r : Rule) → Contains f.rules r
+    → ((y : ℕ) → Contains r.body y → IsInClosure f s k y) → IsInClosure f s k r.head
+head_follows f s k r there body =
+    in_closure f s k r.head (by_rule r r.head there refl (λ y c. of_closure f s k y (body y c)))
+
+-- a rule whose body no atom from 1 on misses has it in the closure
+pub unmissed : (f : Aba) (s : List ℕ) (k : Closure) (r : Rule) → IsRuleOf f r → (MissesAtom f s k 1 r → ⊥)
+    → (y : ℕ) → Contains r.body y → IsInClosure f s k y
+unmissed f s k r form none y c =
+    ⊎_elim (λ h. h)
+    (λ no. absurd (none (record { missed = y; member = c; late = (form.body y c).low; outside = no })))
+    (decide_closure f s k y)

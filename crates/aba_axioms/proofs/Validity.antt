@@ -1,0 +1,80 @@
+-- Every row of the table is true in every world of both kinds.
+use Rattle.std.proofs.Common.{ℕ, List}
+use Rattle.semantics.specs.Frameworks.{af}
+use Rattle.meaning_atoms.specs.declared.atom.AtomLit.{AtomLit}
+use Rattle.meaning_atoms.specs.declared.aba_axiom.AbaAxiom.{AbaAxiom}
+use Rattle.meaning_atoms.specs.declared.aba_axiom.AbaAxiom.TheVariants.{B1, B2, B3, B4, B5, B6, B7, B8, B9, B9Con, B10, B11, B12, B13, B14, B15, B16, B17}
+use Rattle.meaning_atoms.specs.declared.axiom.AfAxiom.TheVariants.{A14}
+use Rattle.meaning_atoms.specs.AbaAxioms.{IsAbaAxiom}
+use Rattle.meaning_atoms.specs.Worlds.{AnyFramework, solved, aba, world_of, IsTrueBeside, IsValid, IsWorldIn}
+use Rattle.af_axioms.proofs.AbaRows.{IsValidOfAba, notions_imply}
+use Rattle.af_axioms.proofs.Rows.{rows_are_valid}
+use Rattle.aba_axioms.specs.AbaTable.{aba_clause}
+use Rattle.aba_axioms.proofs.AbaWorlds.{
+  bodies_are_missed,
+  defended_are_members,
+  derived_has_support,
+  heads_follow,
+  members_are_apart,
+  members_are_assumptions,
+  members_follow,
+  miss_ends,
+  miss_steps,
+  nothing_is_no_atom,
+  outsiders_are_attacked,
+  rest_attacks_no_member,
+  rest_is_quiet,
+  rest_is_unattacked,
+  support_ends,
+  support_steps,
+}
+use Rattle.aba_axioms.proofs.AfWorlds.{IsValidOfAf, b1, b2, b3, b4, b5, b6, b7, b8, b9, b9_con, b10, b11, b12, b13, b14, b15}
+use Rattle.aba_axioms.proofs.LoopClauses.{loop_of_aba, loop_of_af}
+
+rows_of_aba : (name : AbaAxiom) → IsAbaAxiom name → IsValidOfAba (aba_clause name)
+rows_of_aba (B1 a) fits = members_are_assumptions a
+rows_of_aba (B2 a) fits = members_follow a
+rows_of_aba (B3 a c) fits = rest_is_unattacked a c
+rows_of_aba (B4 k) fits = nothing_is_no_atom k
+rows_of_aba (B5 k r h) fits = heads_follow k r h
+rows_of_aba (B6 k r x) fits = bodies_are_missed k r x
+rows_of_aba (B7 k r i j) fits = miss_steps k r i j
+rows_of_aba (B8 k r i) fits = miss_ends k r i
+rows_of_aba (B9 k x) fits = derived_has_support k x
+rows_of_aba (B9Con a c) fits = rest_is_quiet a c
+rows_of_aba (B10 k x i j) fits = support_steps k x i j
+rows_of_aba (B11 k x i) fits = support_ends k x i
+rows_of_aba (B12 a c) fits = members_are_apart a c
+rows_of_aba (B13 a c) fits = rest_attacks_no_member a c
+rows_of_aba (B14 a c) fits = defended_are_members a c
+rows_of_aba (B15 a c) fits = outsiders_are_attacked a c
+rows_of_aba (B16 part) fits = notions_imply part
+rows_of_aba (B17 k x rows) fits = loop_of_aba k x rows fits
+
+rows_of_af : (name : AbaAxiom) → IsAbaAxiom name → IsValidOfAf (aba_clause name)
+rows_of_af (B1 a) fits = b1 a
+rows_of_af (B2 a) fits = b2 a
+rows_of_af (B3 a c) fits = b3 a c
+rows_of_af (B4 k) fits = b4 k
+rows_of_af (B5 k r h) fits = b5 k r h
+rows_of_af (B6 k r x) fits = b6 k r x
+rows_of_af (B7 k r i j) fits = b7 k r i j
+rows_of_af (B8 k r i) fits = b8 k r i
+rows_of_af (B9 k x) fits = b9 k x
+rows_of_af (B9Con a c) fits = b9_con a c
+rows_of_af (B10 k x i j) fits = b10 k x i j
+rows_of_af (B11 k x i) fits = b11 k x i
+rows_of_af (B12 a c) fits = b12 a c
+rows_of_af (B13 a c) fits = b13 a c
+rows_of_af (B14 a c) fits = b14 a c
+rows_of_af (B15 a c) fits = b15 a c
+rows_of_af (B16 part) fits = λ f s ok sides. rows_are_valid (A14 part) (world_of (af f) s) ok sides
+rows_of_af (B17 k x rows) fits = loop_of_af k x rows fits
+
+rows_of : (name : AbaAxiom) → IsAbaAxiom name → (f : AnyFramework) (s : List ℕ) → IsWorldIn f s
+    → (sides : List (List AtomLit)) → IsTrueBeside (record { framework = f; set = s }) sides (aba_clause name)
+rows_of name fits (solved (af f)) s ok sides = rows_of_af name fits f s ok sides
+rows_of name fits (aba f) s ok sides = rows_of_aba name fits f s ok sides
+
+pub clauses_are_valid : (name : AbaAxiom) → IsAbaAxiom name → IsValid (aba_clause name)
+clauses_are_valid name fits w ok sides = rows_of name fits w.framework w.set ok sides

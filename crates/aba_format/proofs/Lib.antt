@@ -1,0 +1,11 @@
+pub mod FaultLemmas
+pub mod FinishLemmas
+pub mod FormCauses
+pub mod GivenLemmas
+pub mod LineLemmas
+pub mod NumberLists
+pub mod RefusedLemmas
+pub mod SameLemmas
+pub mod SaysLemmas
+pub mod TakenLemmas
+pub mod WrittenLemmas

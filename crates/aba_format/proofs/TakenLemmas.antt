@@ -1,0 +1,524 @@
+-- What the lines say, with one line more.
+use Rattle.std.proofs.Common.{◌≡◌, ◌≢◌, ℕ, zero, suc, ◌+◌, ◌<◌, ◌≤◌, List, [], ◌∷◌, ◌++◌, length, map, get_or, set, refl, sym, ap, subst, ◌∙◌, ◌⊎◌, inl, inr, ⊎_elim, Bool, true, false, arith, get_or-set_same, get_or-set_other}
+use Rattle.std.specs.Prelude.{Contains}
+use Rattle.std.proofs.lemmas.Bool.{cases_eq, cases_Bool}
+use Rattle.std.proofs.lemmas.List.{length-append, length-map, map-append, append-nil, get_or_append_left, length-set}
+use Rattle.std.proofs.lemmas.List.Elements.{Contains-push_cases, Contains-append_left, Contains-append_right, Contains-append_cases}
+use Rattle.std.proofs.Math.Seq.{get_or-append_seam}
+use Rattle.plain_lists.proofs.Membership.{Contains-pushed}
+use Rattle.aba_laws.proofs.Images.{image_there, image_from}
+use Rattle.aba_semantics.specs.AbaFrameworks.{IsAtom}
+use Rattle.aba_format.specs.AbaText.{Said, says_assumption, says_contrary, says_rule, atoms_of, SaysLine, rules_said, AreConsistent}
+use Rattle.aba_format.specs.Reading.{
+  is_marked,
+  AreMarked,
+  AreWide,
+  AreWideFor,
+  AreRulesIn,
+  IsSaidIn,
+  AreEmpty,
+  AddsAssumption,
+  IsNewAssumption,
+  AddsContrary,
+  IsNewContrary,
+  AddsRule,
+  Adds,
+}
+use Rattle.aba_format.specs.declared.said.Parts.{Parts}
+use Rattle.aba_format.specs.declared.said.TheConstants.{MOST_RULE_LINES}
+use Rattle.aba_format.proofs.SaysLemmas.{rules_said-append, atoms_within}
+
+-- ---- what is said, with one thing more
+
+kept : (all : List Said) (s t : Said) → Contains all t → Contains (all ++ s ∷ []) t
+kept all s t c = Contains-append_left all (s ∷ []) t c
+
+pub still : (all : List Said) (s t : Said) → (s ≡ t → ⊥) → Contains (all ++ s ∷ []) t → Contains all t
+still all s t ne c = ⊎_elim (λ h. h) (λ e. absurd (ne e)) (Contains-push_cases all s t c)
+
+pub newest : (all : List Said) (s : Said) → Contains (all ++ s ∷ []) s
+newest all s = Contains-pushed all s s refl
+
+-- which kind a thing is
+abbrev pub kind : Said → ℕ
+kind (says_assumption x) = 0
+kind (says_contrary x y) = 1
+kind (says_rule head body) = 2
+
+pub other_kind : (s t : Said) → (kind s ≡ kind t → ⊥) → s ≡ t → ⊥
+other_kind s t ne e = ne (ap kind e)
+
+-- its first atom, and the second of a contrary
+abbrev pub first_atom : Said → ℕ
+first_atom s = get_or (atoms_of s) 0 0
+
+abbrev pub second_atom : Said → ℕ
+second_atom s = get_or (atoms_of s) 1 0
+
+-- ---- marks
+
+marks_kept : (marks : List Bool) (P Q : ℕ → Type 0) → AreMarked marks P → ((x : ℕ) → P x → Q x)
+    → ((x : ℕ) → Q x → P x) → AreMarked marks Q
+marks_kept marks P Q h to from = record {
+  marked = λ x m. to x (h.marked x m);
+  all = λ x q. h.all x (from x q);
+}
+
+marks_more : (marks : List Bool) (y : ℕ) (P Q : ℕ → Type 0) → AreMarked marks P → y < length marks → Q y
+    → ((x : ℕ) → P x → Q x) → ((x : ℕ) → Q x → P x ⊎ (x ≡ y)) → AreMarked (set marks y true) Q
+marks_more marks y P Q h wide here to from = record {
+  marked = λ x m. ⊎_elim (λ (e : x ≡ y). subst Q (sym e) here)
+      (λ ne. to x (h.marked x (sym (get_or-set_other marks y x true false ne) ∙ m))) (cases_eq x y);
+  all = λ x q. ⊎_elim
+      (λ p. ⊎_elim (λ (e : x ≡ y). ap (λ n. get_or (set marks y true) n false) e ∙ get_or-set_same marks y true false wide)
+      (λ ne. get_or-set_other marks y x true false ne ∙ h.all x p) (cases_eq x y))
+      (λ (e : x ≡ y). ap (λ n. get_or (set marks y true) n false) e ∙ get_or-set_same marks y true false wide) (from x q);
+}
+
+-- ---- nothing
+
+pub said_nothing : (count : ℕ) (parts : Parts) → AreEmpty count parts → IsSaidIn count [] parts
+said_nothing count parts h = record {
+  wide = record { assumed = h.assumed_wide; heading = h.heading_wide; contrary = h.contrary_wide };
+  assumed = record {
+    marked = λ x m. absurd (not_both x (h.assumed x) m);
+    all = λ x c. absurd (omega (arith, c.1));
+  };
+  heading = record {
+    marked = λ x m. absurd (not_both x (h.heading x) m);
+    all = λ x c. absurd (omega (arith, c.1.1));
+  };
+  contrary = λ x ne. absurd (ne (h.contrary x));
+  contraries_all = λ x y c. absurd (omega (arith, c.1));
+  contraries_low = λ x y c. absurd (omega (arith, c.1));
+  assumptions = λ x c. absurd (none h.assumptions c);
+  assumptions_all = λ x c. absurd (omega (arith, c.1));
+  rules = record {
+    heads_are = h.heads;
+    within = λ k y c. absurd (none h.bodies c);
+    bodies_are = λ k y d lt c. absurd (none h.bodies c);
+    all = λ k y d lt c. absurd (omega arith);
+  };
+}
+  where
+    not_both : {b : Bool} (x : ℕ) → b ≡ false → b ≡ true → ⊥
+    not_both x e f = let bad : true ≡ false = sym f ∙ e in cc
+
+    none : {X : Type 0} {xs : List X} {x : X} → xs ≡ [] → Contains xs x → ⊥
+    none e c = let long = ap length e in absurd (omega (arith, c.1))
+
+pub consistent_nothing : AreConsistent []
+consistent_nothing = record {
+  few = omega arith;
+  flat = λ x body c d. absurd (omega (arith, c.1));
+  one_contrary = λ x y z c d. absurd (omega (arith, c.1));
+}
+
+-- ---- what another thing leaves
+
+assumed_kept : (all : List Said) (s : Said) (marks : List Bool) → (kind s ≡ 0 → ⊥)
+    → AreMarked marks (λ x. Contains all (says_assumption x))
+    → AreMarked marks (λ x. Contains (all ++ s ∷ []) (says_assumption x))
+assumed_kept all s marks ne h = marks_kept marks (λ x. Contains all (says_assumption x))
+    (λ x. Contains (all ++ s ∷ []) (says_assumption x)) h (λ x c. kept all s (says_assumption x) c)
+    (λ x c. still all s (says_assumption x) (other_kind s (says_assumption x) ne) c)
+
+heading_kept : (all : List Said) (s : Said) (marks : List Bool) → (kind s ≡ 2 → ⊥)
+    → AreMarked marks (λ x. (body : List ℕ) × Contains all (says_rule x body))
+    → AreMarked marks (λ x. (body : List ℕ) × Contains (all ++ s ∷ []) (says_rule x body))
+heading_kept all s marks ne h = marks_kept marks (λ x. (body : List ℕ) × Contains all (says_rule x body))
+    (λ x. (body : List ℕ) × Contains (all ++ s ∷ []) (says_rule x body)) h
+    (λ x c. (c.0, kept all s (says_rule x c.0) c.1))
+    (λ x c. (c.0, still all s (says_rule x c.0) (other_kind s (says_rule x c.0) ne) c.1))
+
+-- the contraries stand by atom
+record AreContraries (all : List Said) (contrary : List ℕ) : Type 0 where
+  some : (x : ℕ) → get_or contrary x 0 ≢ 0 → Contains all (says_contrary x (get_or contrary x 0))
+  every : (x y : ℕ) → Contains all (says_contrary x y) → get_or contrary x 0 ≡ y
+  low : (x y : ℕ) → Contains all (says_contrary x y) → 1 ≤ y
+
+contraries_in : (count : ℕ) (all : List Said) (parts : Parts) → IsSaidIn count all parts
+    → AreContraries all parts.contrary.items
+contraries_in count all parts h = record { some = h.contrary; every = h.contraries_all; low = h.contraries_low }
+
+contrary_kept : (all : List Said) (s : Said) (contrary : List ℕ) → (kind s ≡ 1 → ⊥) → AreContraries all contrary
+    → AreContraries (all ++ s ∷ []) contrary
+contrary_kept all s contrary ne h = record {
+  some = λ x given. kept all s (says_contrary x (get_or contrary x 0)) (h.some x given);
+  every = λ x y c. h.every x y (still all s (says_contrary x y) (other_kind s (says_contrary x y) ne) c);
+  low = λ x y c. h.low x y (still all s (says_contrary x y) (other_kind s (says_contrary x y) ne) c);
+}
+
+-- the assumptions stand in a list
+record AreAssumptions (all : List Said) (xs : List ℕ) : Type 0 where
+  some : (x : ℕ) → Contains xs x → Contains all (says_assumption x)
+  every : (x : ℕ) → Contains all (says_assumption x) → Contains xs x
+
+assumptions_in : (count : ℕ) (all : List Said) (parts : Parts) → IsSaidIn count all parts
+    → AreAssumptions all parts.assumptions.items
+assumptions_in count all parts h = record { some = h.assumptions; every = h.assumptions_all }
+
+assumptions_kept : (all : List Said) (s : Said) (xs : List ℕ) → (kind s ≡ 0 → ⊥) → AreAssumptions all xs
+    → AreAssumptions (all ++ s ∷ []) xs
+assumptions_kept all s xs ne h = record {
+  some = λ x c. kept all s (says_assumption x) (h.some x c);
+  every = λ x c. h.every x (still all s (says_assumption x) (other_kind s (says_assumption x) ne) c);
+}
+
+-- the rules that are said stay, where what is new is none
+rules_kept : (all : List Said) (s : Said) (heads : List ℕ) (bodies : List (ℕ × ℕ)) → rules_said (s ∷ []) ≡ []
+    → AreRulesIn (rules_said all) heads bodies → AreRulesIn (rules_said (all ++ s ∷ [])) heads bodies
+rules_kept all s heads bodies none h =
+    subst (λ rs. AreRulesIn rs heads bodies)
+    (sym (rules_said-append all (s ∷ []) ∙ ap (λ rs. rules_said all ++ rs) none ∙ append-nil (rules_said all))) h
+
+-- the parts hold what is said in these lists
+said_in_lists : (count : ℕ) (all : List Said) (parts : Parts) (assumed heading : List Bool)
+    (contrary assumptions heads : List ℕ) (bodies : List (ℕ × ℕ)) → parts.assumed.items ≡ assumed
+    → parts.heading.items ≡ heading → parts.contrary.items ≡ contrary → parts.assumptions.items ≡ assumptions
+    → parts.heads.items ≡ heads → parts.bodies.items ≡ bodies → length assumed ≡ count + 1
+    → length heading ≡ count + 1 → length contrary ≡ count + 1
+    → AreMarked assumed (λ x. Contains all (says_assumption x))
+    → AreMarked heading (λ x. (body : List ℕ) × Contains all (says_rule x body)) → AreContraries all contrary
+    → AreAssumptions all assumptions → AreRulesIn (rules_said all) heads bodies → IsSaidIn count all parts
+said_in_lists count all parts assumed heading contrary assumptions heads bodies e1 e2 e3 e4 e5 e6 w1 w2 w3 m1 m2 cs asms rs =
+    let cs' : AreContraries all parts.contrary.items = subst (AreContraries all) (sym e3) cs in
+    let asms' : AreAssumptions all parts.assumptions.items = subst (AreAssumptions all) (sym e4) asms in
+    record {
+      wide = record { assumed = ap length e1 ∙ w1; heading = ap length e2 ∙ w2; contrary = ap length e3 ∙ w3 };
+      assumed = subst (λ ms. AreMarked ms (λ x. Contains all (says_assumption x))) (sym e1) m1;
+      heading = subst (λ ms. AreMarked ms (λ x. (body : List ℕ) × Contains all (says_rule x body))) (sym e2) m2;
+      contrary = cs'.some;
+      contraries_all = cs'.every;
+      contraries_low = cs'.low;
+      assumptions = asms'.some;
+      assumptions_all = asms'.every;
+      rules = subst (λ hs. AreRulesIn (rules_said all) hs parts.bodies.items) (sym e5)
+          (subst (λ bs. AreRulesIn (rules_said all) heads bs) (sym e6) rs);
+    }
+
+-- ---- an assumption more
+
+assumption_again : (count : ℕ) (all : List Said) (x : ℕ) (old : Parts) → IsSaidIn count all old
+    → Contains all (says_assumption x) → IsSaidIn count (all ++ says_assumption x ∷ []) old
+assumption_again count all x old h c =
+    let s : Said = says_assumption x in
+    let asms = assumptions_in count all old h in
+    said_in_lists count (all ++ s ∷ []) old old.assumed.items old.heading.items old.contrary.items
+    old.assumptions.items old.heads.items old.bodies.items refl refl refl refl refl refl h.wide.assumed h.wide.heading
+    h.wide.contrary
+    (marks_kept old.assumed.items (λ z. Contains all (says_assumption z))
+    (λ z. Contains (all ++ s ∷ []) (says_assumption z)) h.assumed (λ z d. kept all s (says_assumption z) d) back)
+    (heading_kept all s old.heading.items (λ e. omega arith) h.heading)
+    (contrary_kept all s old.contrary.items (λ e. omega arith) (contraries_in count all old h))
+    (record {
+      some = λ z d. kept all s (says_assumption z) (asms.some z d);
+      every = λ z d. asms.every z (back z d);
+    })
+    (rules_kept all s old.heads.items old.bodies.items refl h.rules)
+  where
+    back : (z : ℕ) → Contains (all ++ says_assumption x ∷ []) (says_assumption z) → Contains all (says_assumption z)
+    back z d = ⊎_elim (λ there. there)
+        (λ (e : says_assumption x ≡ says_assumption z). subst (λ n. Contains all (says_assumption n)) (ap first_atom e) c)
+        (Contains-push_cases all (says_assumption x) (says_assumption z) d)
+
+assumption_new : (count : ℕ) (all : List Said) (x : ℕ) (old new : Parts) → IsSaidIn count all old → IsAtom count x
+    → IsNewAssumption x old new → IsSaidIn count (all ++ says_assumption x ∷ []) new
+assumption_new count all x old new h atom a =
+    let s : Said = says_assumption x in
+    let high = atom.high in
+    let wide_is = h.wide.assumed in
+    let wide : x < length old.assumed.items = omega arith in
+    said_in_lists count (all ++ s ∷ []) new (set old.assumed.items x true) old.heading.items old.contrary.items
+    (old.assumptions.items ++ x ∷ []) old.heads.items old.bodies.items a.assumed a.heading a.contrary a.assumptions
+    a.heads a.bodies (length-set old.assumed.items x true ∙ h.wide.assumed) h.wide.heading h.wide.contrary
+    (marks_more old.assumed.items x (λ z. Contains all (says_assumption z))
+    (λ z. Contains (all ++ s ∷ []) (says_assumption z)) h.assumed wide
+    (newest all s) (λ z d. kept all s (says_assumption z) d)
+    (λ z d. ⊎_elim (λ there. inl there) (λ (e : says_assumption x ≡ says_assumption z). inr (sym (ap first_atom e)))
+    (Contains-push_cases all s (says_assumption z) d)))
+    (heading_kept all s old.heading.items (λ e. omega arith) h.heading)
+    (contrary_kept all s old.contrary.items (λ e. omega arith) (contraries_in count all old h))
+    (record {
+      some = λ z d. ⊎_elim
+          (λ there. kept all s (says_assumption z) (h.assumptions z there))
+          (λ (e : x ≡ z). subst (λ n. Contains (all ++ s ∷ []) (says_assumption n)) e (newest all s))
+          (Contains-push_cases old.assumptions.items x z d);
+      every = λ z d. ⊎_elim
+          (λ there. Contains-append_left old.assumptions.items (x ∷ []) z (h.assumptions_all z there))
+          (λ (e : says_assumption x ≡ says_assumption z). Contains-pushed old.assumptions.items x z (ap first_atom e))
+          (Contains-push_cases all s (says_assumption z) d);
+    })
+    (rules_kept all s old.heads.items old.bodies.items refl h.rules)
+
+assumption_next : (count : ℕ) (all : List Said) (x : ℕ) (old new : Parts) → IsSaidIn count all old → IsAtom count x
+    → AddsAssumption x old new → IsSaidIn count (all ++ says_assumption x ∷ []) new
+assumption_next count all x old new h atom a = ⊎_elim
+    (λ (same : (is_marked old.assumed.items x ≡ true) × (new ≡ old)).
+    subst (λ p. IsSaidIn count (all ++ says_assumption x ∷ []) p) (sym same.1)
+    (assumption_again count all x old h (h.assumed.marked x same.0)))
+    (λ fresh. assumption_new count all x old new h atom fresh) a.added
+
+assumption_consistent : (count : ℕ) (all : List Said) (x : ℕ) (old : Parts) → IsSaidIn count all old
+    → is_marked old.heading.items x ≡ false → AreConsistent all → AreConsistent (all ++ says_assumption x ∷ [])
+assumption_consistent count all x old h flat ok =
+    let rules : rules_said (all ++ says_assumption x ∷ []) ≡ rules_said all
+    = rules_said-append all (says_assumption x ∷ []) ∙ append-nil (rules_said all) in
+    record {
+      few = let few = ok.few in subst (λ rs. length rs ≤ MOST_RULE_LINES) (sym rules) few;
+      flat = λ z body c d.
+          let rule = still all (says_assumption x) (says_rule z body)
+          (other_kind (says_assumption x) (says_rule z body) (λ e. omega arith)) d in
+          ⊎_elim (λ there. ok.flat z body there rule)
+          (λ (e : says_assumption x ≡ says_assumption z).
+          let marked : is_marked old.heading.items x ≡ true
+          = h.heading.all x (body, subst (λ n. Contains all (says_rule n body)) (sym (ap first_atom e)) rule) in
+          let bad : true ≡ false = sym marked ∙ flat in cc)
+          (Contains-push_cases all (says_assumption x) (says_assumption z) c);
+      one_contrary = λ z y w c d. ok.one_contrary z y w
+          (still all (says_assumption x) (says_contrary z y)
+          (other_kind (says_assumption x) (says_contrary z y) (λ e. omega arith)) c)
+          (still all (says_assumption x) (says_contrary z w)
+          (other_kind (says_assumption x) (says_contrary z w) (λ e. omega arith)) d);
+    }
+
+-- ---- a contrary more
+
+contrary_again : (count : ℕ) (all : List Said) (x y : ℕ) (old : Parts) → IsSaidIn count all old
+    → get_or old.contrary.items x 0 ≡ y → 1 ≤ y → IsSaidIn count (all ++ says_contrary x y ∷ []) old
+contrary_again count all x y old h same low =
+    let s : Said = says_contrary x y in
+    let cs = contraries_in count all old h in
+    said_in_lists count (all ++ s ∷ []) old old.assumed.items old.heading.items old.contrary.items
+    old.assumptions.items old.heads.items old.bodies.items refl refl refl refl refl refl h.wide.assumed h.wide.heading
+    h.wide.contrary
+    (assumed_kept all s old.assumed.items (λ e. omega arith) h.assumed)
+    (heading_kept all s old.heading.items (λ e. omega arith) h.heading)
+    (record {
+      some = λ z given. kept all s (says_contrary z (get_or old.contrary.items z 0)) (cs.some z given);
+      every = λ z w d. ⊎_elim (λ there. cs.every z w there)
+          (λ (e : says_contrary x y ≡ says_contrary z w).
+          sym (ap (λ n. get_or old.contrary.items n 0) (ap first_atom e)) ∙ same ∙ ap second_atom e)
+          (Contains-push_cases all s (says_contrary z w) d);
+      low = λ z w d. ⊎_elim (λ there. cs.low z w there)
+          (λ (e : says_contrary x y ≡ says_contrary z w). subst (λ n. 1 ≤ n) (ap second_atom e) low)
+          (Contains-push_cases all s (says_contrary z w) d);
+    })
+    (assumptions_kept all s old.assumptions.items (λ e. omega arith) (assumptions_in count all old h))
+    (rules_kept all s old.heads.items old.bodies.items refl h.rules)
+
+contrary_new : (count : ℕ) (all : List Said) (x y line : ℕ) (old new : Parts) → IsSaidIn count all old
+    → IsAtom count x → 1 ≤ y → IsNewContrary x y line old new → IsSaidIn count (all ++ says_contrary x y ∷ []) new
+contrary_new count all x y line old new h atom low a =
+    let s : Said = says_contrary x y in
+    let high = atom.high in
+    let wide_is = h.wide.contrary in
+    let wide : x < length old.contrary.items = omega arith in
+    let here : get_or (set old.contrary.items x y) x 0 ≡ y = get_or-set_same old.contrary.items x y 0 wide in
+    let cs = contraries_in count all old h in
+    said_in_lists count (all ++ s ∷ []) new old.assumed.items old.heading.items (set old.contrary.items x y)
+    old.assumptions.items old.heads.items old.bodies.items a.assumed a.heading a.contrary a.assumptions
+    a.heads a.bodies h.wide.assumed h.wide.heading (length-set old.contrary.items x y ∙ h.wide.contrary)
+    (assumed_kept all s old.assumed.items (λ e. omega arith) h.assumed)
+    (heading_kept all s old.heading.items (λ e. omega arith) h.heading)
+    (record {
+      some = λ z given. ⊎_elim
+          (λ (e : z ≡ x). subst (λ n. Contains (all ++ s ∷ []) (says_contrary n (get_or (set old.contrary.items x y) n 0)))
+          (sym e) (subst (λ m. Contains (all ++ s ∷ []) (says_contrary x m)) (sym here) (newest all s)))
+          (λ ne.
+          let there = get_or-set_other old.contrary.items x z y 0 ne in
+          subst (λ m. Contains (all ++ s ∷ []) (says_contrary z m)) (sym there)
+          (kept all s (says_contrary z (get_or old.contrary.items z 0))
+          (cs.some z (λ none. given (there ∙ none)))))
+          (cases_eq z x);
+      every = λ z w d. ⊎_elim
+          (λ there. ⊎_elim
+          (λ (e : z ≡ x).
+          let none = a.fresh in
+          let is : get_or old.contrary.items x 0 ≡ w = sym (ap (λ n. get_or old.contrary.items n 0) e) ∙ cs.every z w there in
+          let low = cs.low z w there in
+          absurd (omega arith))
+          (λ ne. get_or-set_other old.contrary.items x z y 0 ne ∙ cs.every z w there)
+          (cases_eq z x))
+          (λ (e : says_contrary x y ≡ says_contrary z w).
+          sym (ap (λ n. get_or (set old.contrary.items x y) n 0) (ap first_atom e)) ∙ here ∙ ap second_atom e)
+          (Contains-push_cases all s (says_contrary z w) d);
+      low = λ z w d. ⊎_elim (λ there. cs.low z w there)
+          (λ (e : says_contrary x y ≡ says_contrary z w). subst (λ n. 1 ≤ n) (ap second_atom e) low)
+          (Contains-push_cases all s (says_contrary z w) d);
+    })
+    (assumptions_kept all s old.assumptions.items (λ e. omega arith) (assumptions_in count all old h))
+    (rules_kept all s old.heads.items old.bodies.items refl h.rules)
+
+contrary_next : (count : ℕ) (all : List Said) (x y line : ℕ) (old new : Parts) → IsSaidIn count all old
+    → IsAtom count x → IsAtom count y → AddsContrary x y line old new → IsSaidIn count (all ++ says_contrary x y ∷ []) new
+contrary_next count all x y line old new h atom atom' a = ⊎_elim
+    (λ (same : (get_or old.contrary.items x 0 ≡ y) × (new ≡ old)).
+    subst (λ p. IsSaidIn count (all ++ says_contrary x y ∷ []) p) (sym same.1)
+    (contrary_again count all x y old h same.0 atom'.low))
+    (λ fresh. contrary_new count all x y line old new h atom atom'.low fresh) a
+
+contrary_consistent : (count : ℕ) (all : List Said) (x y line : ℕ) (old new : Parts) → IsSaidIn count all old
+    → IsAtom count y → AddsContrary x y line old new → AreConsistent all → AreConsistent (all ++ says_contrary x y ∷ [])
+contrary_consistent count all x y line old new h atom a ok =
+    let s : Said = says_contrary x y in
+    let rules : rules_said (all ++ s ∷ []) ≡ rules_said all
+    = rules_said-append all (s ∷ []) ∙ append-nil (rules_said all) in
+    let given : (z w : ℕ) → Contains all (says_contrary z w) → z ≡ x → w ≡ y = λ z w c e.
+    elim a [
+      | inl same ↦ sym (h.contraries_all z w c) ∙ ap (λ n. get_or old.contrary.items n 0) e ∙ same.0
+      | inr fresh ↦
+          let none = fresh.fresh in
+          let is = sym (h.contraries_all z w c) ∙ ap (λ n. get_or old.contrary.items n 0) e ∙ none in
+          let low = h.contraries_low z w c in
+          absurd (omega arith)
+    ] in
+    record {
+      few = let few = ok.few in subst (λ rs. length rs ≤ MOST_RULE_LINES) (sym rules) few;
+      flat = λ z body c d. ok.flat z body
+          (still all s (says_assumption z) (other_kind s (says_assumption z) (λ e. omega arith)) c)
+          (still all s (says_rule z body) (other_kind s (says_rule z body) (λ e. omega arith)) d);
+      one_contrary = λ z w v c d. ⊎_elim
+          (λ there. ⊎_elim (λ there'. ok.one_contrary z w v there there')
+          (λ (e : s ≡ says_contrary z v). given z w there (sym (ap first_atom e)) ∙ ap second_atom e)
+          (Contains-push_cases all s (says_contrary z v) d))
+          (λ (e : s ≡ says_contrary z w). ⊎_elim
+          (λ there'. sym (ap second_atom e) ∙ sym (given z v there' (sym (ap first_atom e))))
+          (λ (e' : s ≡ says_contrary z v). sym (ap second_atom e) ∙ ap second_atom e')
+          (Contains-push_cases all s (says_contrary z v) d))
+          (Contains-push_cases all s (says_contrary z w) c);
+    }
+
+-- ---- a rule more
+
+rules_more : (rules : List (ℕ × List ℕ)) (heads : List ℕ) (bodies : List (ℕ × ℕ)) (head : ℕ) (body : List ℕ)
+    → AreRulesIn rules heads bodies
+    → AreRulesIn (rules ++ (head, body) ∷ []) (heads ++ head ∷ []) (bodies ++ map (λ y. (length heads, y)) body)
+rules_more rules heads bodies head body h =
+    let long : length heads ≡ length rules = ap length h.heads_are ∙ length-map rules (λ r. r.0) in
+    let longer : length (rules ++ (head, body) ∷ []) ≡ length rules + 1 = length-append rules ((head, body) ∷ []) in
+    let pairs : List (ℕ × ℕ) = map (λ y. (length heads, y)) body in
+    record {
+      heads_are = ap (λ hs. hs ++ head ∷ []) h.heads_are ∙ sym (map-append (λ r. r.0) rules ((head, body) ∷ []));
+      within = λ k y c. ⊎_elim
+          (λ there. let lt = h.within k y there in omega arith)
+          (λ there.
+          let from = image_from (λ z. let p : ℕ × ℕ = (length heads, z) in p) body (k, y) there in
+          let e : length heads ≡ k = ap (λ p. p.0) from.2 in omega arith)
+          (Contains-append_cases bodies pairs (k, y) c);
+      bodies_are = λ k y d lt c. ⊎_elim
+          (λ there.
+          let lt' = h.within k y there in
+          subst (λ r. Contains r.1 y) (sym (get_or_append_left rules ((head, body) ∷ []) d k lt'))
+          (h.bodies_are k y d lt' there))
+          (λ there.
+          let from = image_from (λ z. let p : ℕ × ℕ = (length heads, z) in p) body (k, y) there in
+          let e : k ≡ length rules = sym (ap (λ p. p.0) from.2) ∙ long in
+          let at : get_or (rules ++ (head, body) ∷ []) k d ≡ (head, body)
+          = ap (λ n. get_or (rules ++ (head, body) ∷ []) n d) e ∙ get_or-append_seam rules (head, body) [] d in
+          subst (λ r. Contains r.1 y) (sym at) (subst (λ z. Contains body z) (ap (λ p. p.1) from.2) from.1))
+          (Contains-append_cases bodies pairs (k, y) c);
+      all = λ k y d lt c. ⊎_elim
+          (λ (e : k ≡ length rules).
+          let at : get_or (rules ++ (head, body) ∷ []) k d ≡ (head, body)
+          = ap (λ n. get_or (rules ++ (head, body) ∷ []) n d) e ∙ get_or-append_seam rules (head, body) [] d in
+          let there : Contains body y = subst (λ r. Contains r.1 y) at c in
+          let pair : Contains pairs (length heads, y)
+          = image_there (λ z. let p : ℕ × ℕ = (length heads, z) in p) body y there in
+          Contains-append_right bodies pairs (k, y)
+          (subst (λ n. Contains pairs (n, y)) (long ∙ sym e) pair))
+          (λ ne.
+          let lt' : k < length rules = omega (arith, ne) in
+          Contains-append_left bodies pairs (k, y) (h.all k y d lt'
+          (subst (λ r. Contains r.1 y) (get_or_append_left rules ((head, body) ∷ []) d k lt') c)))
+          (cases_eq k (length rules));
+    }
+
+rule_next : (count : ℕ) (all : List Said) (head : ℕ) (body : List ℕ) (old new : Parts) → IsSaidIn count all old
+    → IsAtom count head → AddsRule head body old new → IsSaidIn count (all ++ says_rule head body ∷ []) new
+rule_next count all head body old new h atom a =
+    let s : Said = says_rule head body in
+    let high = atom.high in
+    let wide_is = h.wide.heading in
+    let wide : head < length old.heading.items = omega arith in
+    said_in_lists count (all ++ s ∷ []) new old.assumed.items (set old.heading.items head true) old.contrary.items
+    old.assumptions.items (old.heads.items ++ head ∷ [])
+    (old.bodies.items ++ map (λ y. (length old.heads.items, y)) body) a.assumed a.heading a.contrary a.assumptions
+    a.heads a.bodies h.wide.assumed (length-set old.heading.items head true ∙ h.wide.heading) h.wide.contrary
+    (assumed_kept all s old.assumed.items (λ e. omega arith) h.assumed)
+    (marks_more old.heading.items head (λ z. (b : List ℕ) × Contains all (says_rule z b))
+    (λ z. (b : List ℕ) × Contains (all ++ s ∷ []) (says_rule z b)) h.heading wide (body, newest all s)
+    (λ z d. (d.0, kept all s (says_rule z d.0) d.1))
+    (λ z d. ⊎_elim (λ there. inl (d.0, there))
+    (λ (e : says_rule head body ≡ says_rule z d.0). inr (sym (ap first_atom e)))
+    (Contains-push_cases all s (says_rule z d.0) d.1)))
+    (contrary_kept all s old.contrary.items (λ e. omega arith) (contraries_in count all old h))
+    (assumptions_kept all s old.assumptions.items (λ e. omega arith) (assumptions_in count all old h))
+    (subst (λ rs. AreRulesIn rs (old.heads.items ++ head ∷ [])
+    (old.bodies.items ++ map (λ y. (length old.heads.items, y)) body)) (sym (rules_said-append all (s ∷ [])))
+    (rules_more (rules_said all) old.heads.items old.bodies.items head body h.rules))
+
+rule_consistent : (count : ℕ) (all : List Said) (head : ℕ) (body : List ℕ) (old new : Parts) → IsSaidIn count all old
+    → AddsRule head body old new → AreConsistent all → AreConsistent (all ++ says_rule head body ∷ [])
+rule_consistent count all head body old new h a ok =
+    let s : Said = says_rule head body in
+    let few = a.few in
+    let long : length old.heads.items ≡ length (rules_said all)
+    = ap length h.rules.heads_are ∙ length-map (rules_said all) (λ r. r.0) in
+    let rules : length (rules_said (all ++ s ∷ [])) ≡ length (rules_said all) + 1
+    = ap length (rules_said-append all (s ∷ [])) ∙ length-append (rules_said all) ((head, body) ∷ []) in
+    record {
+      few = omega arith;
+      flat = λ z b c d.
+          let assumed = still all s (says_assumption z) (other_kind s (says_assumption z) (λ e. omega arith)) c in
+          ⊎_elim (λ there. ok.flat z b assumed there)
+          (λ (e : says_rule head body ≡ says_rule z b).
+          let marked : is_marked old.assumed.items head ≡ true
+          = h.assumed.all head (subst (λ n. Contains all (says_assumption n)) (sym (ap first_atom e)) assumed) in
+          let bad : true ≡ false = sym marked ∙ a.flat in cc)
+          (Contains-push_cases all s (says_rule z b) d);
+      one_contrary = λ z w v c d. ok.one_contrary z w v
+          (still all s (says_contrary z w) (other_kind s (says_contrary z w) (λ e. omega arith)) c)
+          (still all s (says_contrary z v) (other_kind s (says_contrary z v) (λ e. omega arith)) d);
+    }
+
+-- ---- one thing more
+
+-- what is said, with one thing more that is taken in
+pub taken : (count : ℕ) (all : List Said) (s : Said) (line : ℕ) (old new : Parts) → IsSaidIn count all old
+    → ((x : ℕ) → Contains (atoms_of s) x → IsAtom count x) → Adds s line old new → IsSaidIn count (all ++ s ∷ []) new
+taken count all (says_assumption x) line old new h atoms a =
+    assumption_next count all x old new h (atoms x (0, omega arith, refl)) a
+taken count all (says_contrary x y) line old new h atoms a =
+    contrary_next count all x y line old new h (atoms x (0, omega arith, refl)) (atoms y (1, omega arith, refl)) a
+taken count all (says_rule head body) line old new h atoms a =
+    rule_next count all head body old new h (atoms head (0, omega arith, refl)) a
+
+pub consistent : (count : ℕ) (all : List Said) (s : Said) (line : ℕ) (old new : Parts) → IsSaidIn count all old
+    → ((x : ℕ) → Contains (atoms_of s) x → IsAtom count x) → Adds s line old new → AreConsistent all
+    → AreConsistent (all ++ s ∷ [])
+consistent count all (says_assumption x) line old new h atoms a ok =
+    assumption_consistent count all x old h a.flat ok
+consistent count all (says_contrary x y) line old new h atoms a ok =
+    contrary_consistent count all x y line old new h (atoms y (1, omega arith, refl)) a ok
+consistent count all (says_rule head body) line old new h atoms a ok =
+    rule_consistent count all head body old new h a ok
+
+-- ---- room
+
+-- an atom of a statement lies within the lists by atoms
+pub wide_for : (count : ℕ) (line : List ℕ) (s : Said) (parts : Parts) → AreWideFor count parts
+    → SaysLine count line s → AreWide (first_atom s) parts
+wide_for count line s parts h says =
+    let atom = first_within s says in
+    let high = atom.high in
+    let e1 = h.assumed in
+    let e2 = h.heading in
+    let e3 = h.contrary in
+    record { assumed = omega arith; heading = omega arith; contrary = omega arith }
+  where
+    first_within : (s : Said) → SaysLine count line s → IsAtom count (first_atom s)
+    first_within (says_assumption x) says = atoms_within count line (says_assumption x) says x (0, omega arith, refl)
+    first_within (says_contrary x y) says = atoms_within count line (says_contrary x y) says x (0, omega arith, refl)
+    first_within (says_rule head body) says =
+        atoms_within count line (says_rule head body) says head (0, omega arith, refl)

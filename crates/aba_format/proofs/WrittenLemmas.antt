@@ -1,0 +1,482 @@
+-- A text that was written reads as the framework that it was written of.
+use Rattle.std.proofs.Common.{◌≡◌, ℕ, zero, suc, ◌+◌, ◌*◌, ◌<◌, ◌≤◌, ◌==◌, true, false, not, List, [], ◌∷◌, ◌++◌, length, take, drop, get_or, map, filter, refl, sym, ap, subst, ◌∙◌, ◌⊎◌, inl, inr, ⊎_elim, cond, arith}
+use Rattle.std.specs.Prelude.{Contains, codes, All}
+use Rattle.std.specs.List.{AllZip, flat_map, range_with_len}
+use Rattle.std.specs.List.Sorted.{IsStrictlyIncreasing}
+use Rattle.std.specs.Fmt.{decimal}
+use Rattle.std.proofs.lemmas.Bool.{cases_eq, cond-true, cond-false, eq-eqb, ne_eqb}
+use Rattle.std.proofs.lemmas.Grind.{flat_map-append}
+use Rattle.std.proofs.lemmas.List.{length-append, length-map, append_assoc, append-nil, flat_map_more, take_more}
+use Rattle.std.proofs.lemmas.List.Elements.{All-nil, All-cons, All-head, All-tail, All-append, Contains-append_left, Contains-append_right, Contains-append_cases, Contains-get_or}
+use Rattle.std.proofs.lemmas.List.Splits.{slice_split_none, slice_split_at}
+use Rattle.num_text.specs.Cuts.{LineText, is_line_end, is_blank, field_texts, lines_from, lines_of}
+use Rattle.num_text.specs.Number.{IsNumber, IsDigit}
+use Rattle.num_text.specs.Lines.{are_skipped, kept}
+use Rattle.num_text.proofs.Decimals.{decimal_number}
+use Rattle.num_text.proofs.DigitFields.{no_blanks, not_empty}
+use Rattle.num_text.proofs.CutLemmas.{lines_from-nil}
+use Rattle.num_text.proofs.KeptLines.{kept-nil, kept-keeps}
+use Rattle.plain_lists.proofs.Membership.{Contains-head, Contains-tail, Contains-cons_cases}
+use Rattle.set_lists.proofs.Rising.{below_across, rises_right}
+use Rattle.af_format.proofs.RoundTrip.{no_ends, line_at, first_line_is}
+use Rattle.aba_laws.proofs.Images.{image_there, image_from}
+use Rattle.aba_semantics.specs.Rules.{Rule}
+use Rattle.aba_semantics.specs.AbaFrameworks.{Aba, IsAtom, IsNumberedAba}
+use Rattle.aba_notions.specs.Solid.{IsSolid}
+use Rattle.aba_format.specs.AbaText.{Said, says_assumption, says_contrary, says_rule, keyword, atoms_of, SpellsAtom, SaysLine, rules_said, AreConsistent, AreLines, IsRuleSaid, IsContrarySaid, IsFrameworkOf, ReadsAs}
+use Rattle.aba_format.specs.Written.{header_line, spaced, said_line, assumption_line, contrary_line, rule_line, aba_text}
+use Rattle.aba_format.proofs.SaysLemmas.{rules_said-append}
+use Rattle.aba_format.proofs.TakenLemmas.{kind, first_atom, second_atom}
+
+-- ---- one line
+
+-- the fields of a word and numbers behind it
+spaced_fields : (w : List ℕ) → 0 < length w → All (λ byte. is_blank byte ≡ false) w → (xs : List ℕ)
+    → ((x : ℕ) → Contains xs x → IsNumber (decimal x) x) → field_texts (w ++ spaced xs) ≡ w ∷ map decimal xs
+unfolding field_texts
+spaced_fields w some free [] numbers =
+    ap field_texts (append-nil w)
+    ∙ ap (filter (λ piece. not (length piece == 0))) (slice_split_none is_blank w free)
+    ∙ cond-true _ _ _ (not_empty w some)
+spaced_fields w some free (x ∷ xs) numbers =
+    let n = numbers x (Contains-head x xs x refl) in
+    ap (filter (λ piece. not (length piece == 0))) (slice_split_at is_blank w 32 (decimal x ++ spaced xs) free refl)
+    ∙ cond-true _ _ _ (not_empty w some)
+    ∙ ap (λ more. w ∷ more) (spaced_fields (decimal x) n.not_empty (no_blanks (decimal x) n.digits) xs
+    (λ y c. numbers y (Contains-tail x xs y c)))
+
+-- a line has no LF within
+spaced_free : (w : List ℕ) → All (λ byte. is_line_end byte ≡ false) w → (xs : List ℕ)
+    → ((x : ℕ) → Contains xs x → IsNumber (decimal x) x) → All (λ byte. is_line_end byte ≡ false) (w ++ spaced xs)
+spaced_free w free [] numbers = subst (All (λ byte. is_line_end byte ≡ false)) (sym (append-nil w)) free
+spaced_free w free (x ∷ xs) numbers =
+    let n = numbers x (Contains-head x xs x refl) in
+    All-append (λ byte. is_line_end byte ≡ false) w (32 ∷ (decimal x ++ spaced xs)) free
+    (All-cons (λ byte. is_line_end byte ≡ false) 32 (decimal x ++ spaced xs) refl
+    (spaced_free (decimal x) (no_ends (decimal x) n.digits) xs (λ y c. numbers y (Contains-tail x xs y c))))
+
+spelled_decimals : (count : ℕ) (xs : List ℕ) → ((x : ℕ) → Contains xs x → IsAtom count x)
+    → ((x : ℕ) → Contains xs x → IsNumber (decimal x) x) → AllZip (SpellsAtom count) (map decimal xs) xs
+spelled_decimals count [] atoms numbers = tt
+spelled_decimals count (x ∷ xs) atoms numbers = (
+  record { number = numbers x (Contains-head x xs x refl); atom = atoms x (Contains-head x xs x refl) },
+  spelled_decimals count xs (λ y c. atoms y (Contains-tail x xs y c)) (λ y c. numbers y (Contains-tail x xs y c)),
+)
+
+one_byte : (P : ℕ → Type 0) (n : ℕ) → P n → All P (n ∷ [])
+one_byte P n p = All-cons P n [] p (All-nil P)
+
+word_length : (s : Said) → 0 < length (keyword s)
+word_length (says_assumption x) = omega arith
+word_length (says_contrary x y) = omega arith
+word_length (says_rule head body) = omega arith
+
+word_unblank : (s : Said) → All (λ byte. is_blank byte ≡ false) (keyword s)
+word_unblank (says_assumption x) = one_byte (λ byte. is_blank byte ≡ false) 97 refl
+word_unblank (says_contrary x y) = one_byte (λ byte. is_blank byte ≡ false) 99 refl
+word_unblank (says_rule head body) = one_byte (λ byte. is_blank byte ≡ false) 114 refl
+
+word_endless : (s : Said) → All (λ byte. is_line_end byte ≡ false) (keyword s)
+word_endless (says_assumption x) = one_byte (λ byte. is_line_end byte ≡ false) 97 refl
+word_endless (says_contrary x y) = one_byte (λ byte. is_line_end byte ≡ false) 99 refl
+word_endless (says_rule head body) = one_byte (λ byte. is_line_end byte ≡ false) 114 refl
+
+word_kept : (s : Said) (more : List (List ℕ)) → are_skipped (keyword s ∷ more) ≡ false
+word_kept (says_assumption x) more = refl
+word_kept (says_contrary x y) more = refl
+word_kept (says_rule head body) more = refl
+
+-- ---- all lines
+
+-- all atoms are from 1 to n
+AreAtoms : ℕ → Said → Type 0
+AreAtoms count s = (x : ℕ) → Contains (atoms_of s) x → IsAtom count x
+
+said_lines : (count number start : ℕ) (all : List Said) → count ≤ 1000000 → All (AreAtoms count) all
+    → AllZip (λ (line : LineText) s. SaysLine count line.text s) (kept (lines_from number start (flat_map said_line all)))
+    all
+unfolding line_at AreAtoms
+said_lines count number start [] small atoms =
+    let R : LineText → Said → Type 0 = λ line s. SaysLine count line.text s in
+    subst (λ ls. AllZip R (kept ls) []) (sym (lines_from-nil number start))
+    (subst (λ ls. AllZip R ls []) (sym kept-nil) tt)
+said_lines count number start (s ∷ ss) small atoms =
+    let R : LineText → Said → Type 0 = λ line s. SaysLine count line.text s in
+    let here : (x : ℕ) → Contains (atoms_of s) x → IsAtom count x = All-head (AreAtoms count) s ss atoms in
+    let numbers : (x : ℕ) → Contains (atoms_of s) x → IsNumber (decimal x) x = λ x c.
+    (let high = (here x c).high in decimal_number x (omega arith)) in
+    let piece : List ℕ = keyword s ++ spaced (atoms_of s) in
+    let fields : field_texts (keyword s ++ spaced (atoms_of s)) ≡ keyword s ∷ map decimal (atoms_of s)
+    = spaced_fields (keyword s) (word_length s) (word_unblank s) (atoms_of s) numbers in
+    let free = spaced_free (keyword s) (word_endless s) (atoms_of s) numbers in
+    let says : are_skipped (field_texts (keyword s ++ spaced (atoms_of s))) ≡ false
+    = ap are_skipped fields ∙ word_kept s (map decimal (atoms_of s)) in
+    let after = lines_from (number + 1) (start + (length piece + 1)) (flat_map said_line ss) in
+    let cut : said_line s ≡ (keyword s ++ spaced (atoms_of s)) ++ 10 ∷ []
+    = sym (append_assoc (keyword s) (spaced (atoms_of s)) (10 ∷ [])) in
+    let first = ap (λ line. kept (lines_from number start (line ++ flat_map said_line ss))) cut
+    ∙ ap kept (first_line_is number start (keyword s ++ spaced (atoms_of s)) (flat_map said_line ss) free)
+    ∙ kept-keeps (line_at number start piece) after says in
+    let is : SaysLine count (keyword s ++ spaced (atoms_of s)) s = record {
+      texts = map decimal (atoms_of s);
+      fields = fields;
+      atoms = spelled_decimals count (atoms_of s) here numbers;
+    } in
+    let rest = said_lines count (number + 1) (start + (length piece + 1)) ss small (All-tail (AreAtoms count) s ss atoms) in
+    subst (λ ls. AllZip R ls (s ∷ ss)) (sym first) (is, rest)
+
+-- ---- what the text of a framework says
+
+-- the contraries but 0
+abbrev pub contraries_said : List (ℕ × ℕ) → List Said
+contraries_said [] = []
+contraries_said (p ∷ ps) = cond (p.1 == 0) (contraries_said ps) (says_contrary p.0 p.1 ∷ contraries_said ps)
+
+abbrev pub rule_said : Rule → Said
+rule_said r = says_rule r.head r.body
+
+abbrev pub said_of : Aba → List Said
+said_of f = map says_assumption f.assumptions ++ (contraries_said f.contraries ++ map rule_said f.rules)
+
+assumptions_text : (xs : List ℕ) → flat_map assumption_line xs ≡ flat_map said_line (map says_assumption xs)
+assumptions_text [] = refl
+assumptions_text (x ∷ xs) = ap (λ rest. assumption_line x ++ rest) (assumptions_text xs)
+
+contraries_text : (ps : List (ℕ × ℕ)) → flat_map contrary_line ps ≡ flat_map said_line (contraries_said ps)
+contraries_text [] = refl
+contraries_text (p ∷ ps) = elim (cases_eq p.1 0) [
+  | inl none ↦
+      ap (λ line. line ++ flat_map contrary_line ps) (cond-true _ [] (said_line (says_contrary p.0 p.1)) (eq-eqb p.1 0 none))
+      ∙ contraries_text ps
+      ∙ ap (flat_map said_line) (sym (cond-true _ (contraries_said ps) (says_contrary p.0 p.1 ∷ contraries_said ps)
+      (eq-eqb p.1 0 none)))
+  | inr some ↦
+      ap (λ line. line ++ flat_map contrary_line ps)
+      (cond-false _ [] (said_line (says_contrary p.0 p.1)) (ne_eqb p.1 0 some))
+      ∙ ap (λ rest. said_line (says_contrary p.0 p.1) ++ rest) (contraries_text ps)
+      ∙ ap (flat_map said_line) (sym (cond-false _ (contraries_said ps) (says_contrary p.0 p.1 ∷ contraries_said ps)
+      (ne_eqb p.1 0 some)))
+]
+
+rules_text : (rs : List Rule) → flat_map rule_line rs ≡ flat_map said_line (map rule_said rs)
+rules_text [] = refl
+rules_text (r ∷ rs) = ap (λ rest. rule_line r ++ rest) (rules_text rs)
+
+aba_text-said : (f : Aba) → aba_text f ≡ header_line f.atoms ++ flat_map said_line (said_of f)
+aba_text-said f = ap (λ rest. header_line f.atoms ++ rest)
+    (ap (λ t. t ++ (flat_map contrary_line f.contraries ++ flat_map rule_line f.rules)) (assumptions_text f.assumptions)
+    ∙ ap (λ t. flat_map said_line (map says_assumption f.assumptions) ++ (t ++ flat_map rule_line f.rules))
+    (contraries_text f.contraries)
+    ∙ ap (λ t. flat_map said_line (map says_assumption f.assumptions)
+    ++ (flat_map said_line (contraries_said f.contraries) ++ t)) (rules_text f.rules)
+    ∙ ap (λ t. flat_map said_line (map says_assumption f.assumptions) ++ t)
+    (sym (flat_map-append said_line (contraries_said f.contraries) (map rule_said f.rules)))
+    ∙ sym (flat_map-append said_line (map says_assumption f.assumptions)
+    (contraries_said f.contraries ++ map rule_said f.rules)))
+
+-- ---- the members of what is said
+
+contraries_from : (ps : List (ℕ × ℕ)) (s : Said) → Contains (contraries_said ps) s
+    → (p : ℕ × ℕ) × Contains ps p × (p.1 ≡ 0 → ⊥) × (says_contrary p.0 p.1 ≡ s)
+contraries_from [] s c = absurd (omega (arith, c.1))
+contraries_from (p ∷ ps) s c = elim (cases_eq p.1 0) [
+  | inl none ↦
+      let more = contraries_from ps s (subst (λ ss. Contains ss s)
+      (cond-true _ (contraries_said ps) (says_contrary p.0 p.1 ∷ contraries_said ps) (eq-eqb p.1 0 none)) c) in
+      (more.0, Contains-tail p ps more.0 more.1, more.2, more.3)
+  | inr some ↦ ⊎_elim (λ e. (p, Contains-head p ps p refl, some, e))
+      (λ d. let more = contraries_from ps s d in (more.0, Contains-tail p ps more.0 more.1, more.2, more.3))
+      (Contains-cons_cases (says_contrary p.0 p.1) (contraries_said ps) s (subst (λ ss. Contains ss s)
+      (cond-false _ (contraries_said ps) (says_contrary p.0 p.1 ∷ contraries_said ps) (ne_eqb p.1 0 some)) c))
+]
+
+contraries_there : (ps : List (ℕ × ℕ)) (p : ℕ × ℕ) → Contains ps p → (p.1 ≡ 0 → ⊥)
+    → Contains (contraries_said ps) (says_contrary p.0 p.1)
+contraries_there [] p c some = absurd (omega (arith, c.1))
+contraries_there (q ∷ qs) p c some = elim (cases_eq q.1 0) [
+  | inl none ↦ subst (λ ss. Contains ss (says_contrary p.0 p.1))
+      (sym (cond-true _ (contraries_said qs) (says_contrary q.0 q.1 ∷ contraries_said qs) (eq-eqb q.1 0 none)))
+      (⊎_elim (λ (e : q ≡ p). absurd (some (sym (ap (λ (r : ℕ × ℕ). r.1) e) ∙ none))) (λ d. contraries_there qs p d some)
+      (Contains-cons_cases q qs p c))
+  | inr some' ↦ subst (λ ss. Contains ss (says_contrary p.0 p.1))
+      (sym (cond-false _ (contraries_said qs) (says_contrary q.0 q.1 ∷ contraries_said qs) (ne_eqb q.1 0 some')))
+      (⊎_elim
+      (λ (e : q ≡ p). Contains-head (says_contrary q.0 q.1) (contraries_said qs) (says_contrary p.0 p.1)
+      (ap (λ (r : ℕ × ℕ). says_contrary r.0 r.1) e))
+      (λ d. Contains-tail (says_contrary q.0 q.1) (contraries_said qs) (says_contrary p.0 p.1)
+      (contraries_there qs p d some)) (Contains-cons_cases q qs p c))
+]
+
+-- what is said is an assumption, a contrary or a rule of the framework
+data IsOf (f : Aba) (s : Said) : Type 0 where
+  of_assumption : (x : ℕ) → Contains f.assumptions x → says_assumption x ≡ s → IsOf f s
+  of_contrary : (p : ℕ × ℕ) → Contains f.contraries p → (p.1 ≡ 0 → ⊥) → says_contrary p.0 p.1 ≡ s → IsOf f s
+  of_rule : (r : Rule) → Contains f.rules r → rule_said r ≡ s → IsOf f s
+
+said_from : (f : Aba) (s : Said) → Contains (said_of f) s → IsOf f s
+said_from f s c = ⊎_elim
+    (λ a. let from = image_from says_assumption f.assumptions s a in of_assumption from.0 from.1 from.2)
+    (λ d. ⊎_elim
+    (λ b. let from = contraries_from f.contraries s b in of_contrary from.0 from.1 from.2 from.3)
+    (λ r. let from = image_from rule_said f.rules s r in of_rule from.0 from.1 from.2)
+    (Contains-append_cases (contraries_said f.contraries) (map rule_said f.rules) s d))
+    (Contains-append_cases (map says_assumption f.assumptions)
+    (contraries_said f.contraries ++ map rule_said f.rules) s c)
+
+assumption_said : (f : Aba) (x : ℕ) → Contains f.assumptions x → Contains (said_of f) (says_assumption x)
+assumption_said f x c = Contains-append_left (map says_assumption f.assumptions)
+    (contraries_said f.contraries ++ map rule_said f.rules) (says_assumption x)
+    (image_there says_assumption f.assumptions x c)
+
+contrary_said : (f : Aba) (p : ℕ × ℕ) → Contains f.contraries p → (p.1 ≡ 0 → ⊥)
+    → Contains (said_of f) (says_contrary p.0 p.1)
+contrary_said f p c some = Contains-append_right (map says_assumption f.assumptions)
+    (contraries_said f.contraries ++ map rule_said f.rules) (says_contrary p.0 p.1)
+    (Contains-append_left (contraries_said f.contraries) (map rule_said f.rules) (says_contrary p.0 p.1)
+    (contraries_there f.contraries p c some))
+
+kinds_apart : (s t u : Said) → s ≡ u → t ≡ u → (kind s ≡ kind t → ⊥) → ⊥
+kinds_apart s t u e f ne = ne (ap kind (e ∙ sym f))
+
+assumption_from : (f : Aba) (x : ℕ) → Contains (said_of f) (says_assumption x) → Contains f.assumptions x
+assumption_from f x c = from_it (said_from f (says_assumption x) c)
+  where
+    from_it : IsOf f (says_assumption x) → Contains f.assumptions x
+    from_it (of_assumption y d e) = subst (Contains f.assumptions) (ap first_atom e) d
+    from_it (of_contrary p d some e) = absurd (kinds_apart (says_contrary p.0 p.1) (says_assumption x) (says_assumption x)
+        e refl (λ z. omega arith))
+    from_it (of_rule r d e) = absurd (kinds_apart (rule_said r) (says_assumption x) (says_assumption x) e refl
+        (λ z. omega arith))
+
+contrary_from : (f : Aba) (a c : ℕ) → Contains (said_of f) (says_contrary a c) → Contains f.contraries (a, c) × (c ≡ 0 → ⊥)
+contrary_from f a c there = from_it (said_from f (says_contrary a c) there)
+  where
+    from_it : IsOf f (says_contrary a c) → Contains f.contraries (a, c) × (c ≡ 0 → ⊥)
+    from_it (of_assumption y d e) = absurd (kinds_apart (says_assumption y) (says_contrary a c) (says_contrary a c) e refl
+        (λ z. omega arith))
+    from_it (of_contrary p d some e) =
+        let first : p.0 ≡ a = ap first_atom e in
+        let second : p.1 ≡ c = ap second_atom e in (
+          subst (Contains f.contraries) (ap (λ n. (n, p.1)) first ∙ ap (λ n. (a, n)) second) d,
+          λ z. some (second ∙ z),
+        )
+    from_it (of_rule r d e) = absurd (kinds_apart (rule_said r) (says_contrary a c) (says_contrary a c) e refl
+        (λ z. omega arith))
+
+rule_from : (f : Aba) (h : ℕ) (body : List ℕ) → Contains (said_of f) (says_rule h body)
+    → (r : Rule) × Contains f.rules r × (r.head ≡ h)
+rule_from f h body there = from_it (said_from f (says_rule h body) there)
+  where
+    from_it : IsOf f (says_rule h body) → (r : Rule) × Contains f.rules r × (r.head ≡ h)
+    from_it (of_assumption y d e) = absurd (kinds_apart (says_assumption y) (says_rule h body) (says_rule h body) e refl
+        (λ z. omega arith))
+    from_it (of_contrary p d some e) = absurd (kinds_apart (says_contrary p.0 p.1) (says_rule h body) (says_rule h body)
+        e refl (λ z. omega arith))
+    from_it (of_rule r d e) = (r, d, ap first_atom e)
+
+-- ---- the framework is the one that is said
+
+firsts_unique : (ps : List (ℕ × ℕ)) → IsStrictlyIncreasing (map (λ (p : ℕ × ℕ). p.0) ps) → (a c d : ℕ)
+    → Contains ps (a, c) → Contains ps (a, d) → c ≡ d
+firsts_unique [] up a c d h k = absurd (omega (arith, h.1))
+firsts_unique (p ∷ ps) up a c d h k =
+    let firsts : List ℕ = map (λ (q : ℕ × ℕ). q.0) ps in
+    let below : (e : ℕ) → Contains ps (a, e) → p.0 < a = λ e t.
+    below_across (p.0 ∷ []) firsts up p.0 a (Contains-head p.0 [] p.0 refl)
+    (image_there (λ (q : ℕ × ℕ). q.0) ps (a, e) t) in
+    ⊎_elim
+    (λ (e : p ≡ (a, c)). ⊎_elim (λ (e' : p ≡ (a, d)). sym (ap (λ (q : ℕ × ℕ). q.1) e) ∙ ap (λ (q : ℕ × ℕ). q.1) e')
+    (λ t. let first = ap (λ (q : ℕ × ℕ). q.0) e in let lt = below d t in absurd (omega arith))
+    (Contains-cons_cases p ps (a, d) k))
+    (λ t. ⊎_elim (λ (e' : p ≡ (a, d)). let first = ap (λ (q : ℕ × ℕ). q.0) e' in let lt = below c t in absurd (omega arith))
+    (λ t'. firsts_unique ps (rises_right (p.0 ∷ []) firsts up) a c d t t') (Contains-cons_cases p ps (a, d) k))
+    (Contains-cons_cases p ps (a, c) h)
+
+contrary_there : (f : Aba) → map (λ (p : ℕ × ℕ). p.0) f.contraries ≡ f.assumptions → (a : ℕ) → Contains f.assumptions a
+    → (c : ℕ) × Contains f.contraries (a, c)
+contrary_there f e a there =
+    let from = image_from (λ (p : ℕ × ℕ). p.0) f.contraries a (subst (λ xs. Contains xs a) (sym e) there) in
+    (from.0.1, subst (Contains f.contraries) (ap (λ n. (n, from.0.1)) from.2) from.1)
+
+assumption_of : (f : Aba) → map (λ (p : ℕ × ℕ). p.0) f.contraries ≡ f.assumptions → (a c : ℕ)
+    → Contains f.contraries (a, c) → Contains f.assumptions a
+assumption_of f e a c there =
+    subst (λ xs. Contains xs a) e (image_there (λ (p : ℕ × ℕ). p.0) f.contraries (a, c) there)
+
+no_rules : (xs : List ℕ) → rules_said (map says_assumption xs) ≡ []
+no_rules [] = refl
+no_rules (x ∷ xs) = no_rules xs
+
+no_rules_either : (ps : List (ℕ × ℕ)) → rules_said (contraries_said ps) ≡ []
+no_rules_either [] = refl
+no_rules_either (p ∷ ps) = elim (cases_eq p.1 0) [
+  | inl none ↦
+      ap rules_said (cond-true _ (contraries_said ps) (says_contrary p.0 p.1 ∷ contraries_said ps) (eq-eqb p.1 0 none))
+      ∙ no_rules_either ps
+  | inr some ↦
+      ap rules_said (cond-false _ (contraries_said ps) (says_contrary p.0 p.1 ∷ contraries_said ps) (ne_eqb p.1 0 some))
+      ∙ no_rules_either ps
+]
+
+rules_of_rules : (rs : List Rule) → rules_said (map rule_said rs) ≡ map (λ (r : Rule). (r.head, r.body)) rs
+rules_of_rules [] = refl
+rules_of_rules (r ∷ rs) = ap (λ more. (r.head, r.body) ∷ more) (rules_of_rules rs)
+
+rules_in_said : (f : Aba) → rules_said (said_of f) ≡ map (λ (r : Rule). (r.head, r.body)) f.rules
+rules_in_said f =
+    rules_said-append (map says_assumption f.assumptions) (contraries_said f.contraries ++ map rule_said f.rules)
+    ∙ ap (λ rs. rs ++ rules_said (contraries_said f.contraries ++ map rule_said f.rules)) (no_rules f.assumptions)
+    ∙ rules_said-append (contraries_said f.contraries) (map rule_said f.rules)
+    ∙ ap (λ rs. rs ++ rules_said (map rule_said f.rules)) (no_rules_either f.contraries)
+    ∙ rules_of_rules f.rules
+
+rules_zipped : (rs : List Rule) → AllZip IsRuleSaid (map (λ (r : Rule). (r.head, r.body)) rs) rs
+rules_zipped [] = tt
+rules_zipped (r ∷ rs) = (record { head_is = refl; body_is = λ y. (λ c. c, λ c. c) }, rules_zipped rs)
+
+consistent_of : (f : Aba) → IsNumberedAba f → IsSolid f → AreConsistent (said_of f)
+consistent_of f h solid =
+    let up : IsStrictlyIncreasing (map (λ (p : ℕ × ℕ). p.0) f.contraries)
+    = subst IsStrictlyIncreasing (sym h.form.one_contrary) h.form.assumptions_rise in
+    let few = h.rules in
+    let next = solid.next_is in
+    let long : length (rules_said (said_of f)) ≡ length f.rules
+    = ap length (rules_in_said f) ∙ length-map f.rules (λ (r : Rule). (r.head, r.body)) in
+    record {
+      few = omega arith;
+      flat = λ x body c d.
+          let rule = rule_from f x body d in
+          (h.form.rules_are rule.0 rule.1).flat
+          (subst (Contains f.assumptions) (sym rule.2) (assumption_from f x c));
+      one_contrary = λ x y z c d. firsts_unique f.contraries up x y z (contrary_from f x y c).0 (contrary_from f x z d).0;
+    }
+
+framework_of_said : (f : Aba) → IsNumberedAba f → IsSolid f → IsFrameworkOf f.atoms (said_of f) f
+framework_of_said f h solid =
+    let up : IsStrictlyIncreasing (map (λ (p : ℕ × ℕ). p.0) f.contraries)
+    = subst IsStrictlyIncreasing (sym h.form.one_contrary) h.form.assumptions_rise in
+    record {
+      atoms_are = refl;
+      assumptions_are = λ x. (λ c. assumption_said f x c, λ c. assumption_from f x c);
+      contraries_are = λ a c. (
+        λ there. ⊎_elim
+            (λ (none : c ≡ 0). inr (
+              none,
+              assumption_said f a (assumption_of f h.form.one_contrary a c there),
+              λ d said.
+                  let other = contrary_from f a d said in
+                  other.1 (firsts_unique f.contraries up a d c other.0 there ∙ none),
+            ))
+            (λ some. inl (contrary_said f (a, c) there some)) (cases_eq c 0),
+        λ said. ⊎_elim (λ given. (contrary_from f a c given).0)
+            (λ (none : (c ≡ 0) × Contains (said_of f) (says_assumption a)
+            × ((d : ℕ) → Contains (said_of f) (says_contrary a d) → ⊥)).
+            let some = contrary_there f h.form.one_contrary a (assumption_from f a none.1) in
+            ⊎_elim (λ (zero_is : some.0 ≡ 0). subst (λ n. Contains f.contraries (a, n)) (zero_is ∙ sym none.0) some.1)
+            (λ given. absurd (none.2 some.0 (contrary_said f (a, some.0) some.1 given))) (cases_eq some.0 0)) said,
+      );
+      rules_are = subst (λ rs. AllZip IsRuleSaid rs f.rules) (sym (rules_in_said f)) (rules_zipped f.rules);
+      solid = solid;
+      form = h;
+    }
+
+-- ---- the whole text
+
+pair_member : (x y z : ℕ) → Contains (x ∷ y ∷ []) z → (x ≡ z) ⊎ (y ≡ z)
+pair_member x y z (zero, within, e) = inl e
+pair_member x y z (suc zero, within, e) = inr e
+pair_member x y z (suc (suc k), within, e) = absurd (omega arith)
+
+atoms_said : (f : Aba) → IsNumberedAba f → (s : Said) → Contains (said_of f) s → (x : ℕ) → Contains (atoms_of s) x
+    → IsAtom f.atoms x
+atoms_said f h s there x c = from_it (said_from f s there)
+  where
+    from_it : IsOf f s → IsAtom f.atoms x
+    from_it (of_assumption y d e) =
+        let is = subst (λ t. Contains (atoms_of t) x) (sym e) c in
+        ⊎_elim (λ (same : y ≡ x). subst (IsAtom f.atoms) same (h.form.assumptions_are y d))
+        (λ none. absurd (omega (arith, none.1))) (Contains-cons_cases y [] x is)
+    from_it (of_contrary p d some e) =
+        let is = subst (λ t. Contains (atoms_of t) x) (sym e) c in
+        ⊎_elim (λ (same : p.0 ≡ x). subst (IsAtom f.atoms) same
+        (h.form.assumptions_are p.0 (assumption_of f h.form.one_contrary p.0 p.1 d)))
+        (λ (same : p.1 ≡ x).
+        let high = h.form.contraries_are p.0 p.1 d in
+        subst (IsAtom f.atoms) same (record { low = omega (arith, some); high = high }))
+        (pair_member p.0 p.1 x is)
+    from_it (of_rule r d e) =
+        let is = subst (λ t. Contains (atoms_of t) x) (sym e) c in
+        let rule = h.form.rules_are r d in
+        ⊎_elim (λ (same : r.head ≡ x). subst (IsAtom f.atoms) same rule.head) (λ body. rule.body x body)
+        (Contains-cons_cases r.head r.body x is)
+
+header_texts : (d : List ℕ) → All IsDigit d → 0 < length d
+    → field_texts (codes "p aba " ++ d) ≡ codes "p" ∷ codes "aba" ∷ d ∷ []
+unfolding field_texts
+header_texts d digits some =
+    let P : ℕ → Type 0 = λ byte. is_blank byte ≡ false in
+    let aba_free : All (λ byte. is_blank byte ≡ false) (codes "aba")
+    = All-cons P 97 (98 ∷ 97 ∷ []) refl (All-cons P 98 (97 ∷ []) refl (one_byte P 97 refl)) in
+    ap (λ pieces. filter (λ piece. not (length piece == 0)) pieces)
+    (slice_split_at is_blank (codes "p") 32 (codes "aba" ++ 32 ∷ d) (one_byte P 112 refl) refl
+    ∙ ap (λ left. codes "p" ∷ left) (slice_split_at is_blank (codes "aba") 32 d aba_free refl)
+    ∙ ap (λ left. codes "p" ∷ codes "aba" ∷ left) (slice_split_none is_blank d (no_blanks d digits)))
+    ∙ ap (λ left. codes "p" ∷ codes "aba" ∷ left) (cond-true _ _ _ (not_empty d some))
+
+header_free : All (λ byte. is_line_end byte ≡ false) (codes "p aba ")
+header_free =
+    let P : ℕ → Type 0 = λ byte. is_line_end byte ≡ false in
+    All-cons P 112 (32 ∷ 97 ∷ 98 ∷ 97 ∷ 32 ∷ []) refl
+    (All-cons P 32 (97 ∷ 98 ∷ 97 ∷ 32 ∷ []) refl
+    (All-cons P 97 (98 ∷ 97 ∷ 32 ∷ []) refl
+    (All-cons P 98 (97 ∷ 32 ∷ []) refl
+    (All-cons P 97 (32 ∷ []) refl
+    (one_byte P 32 refl)))))
+
+pub reads_back : (f : Aba) → IsNumberedAba f → IsSolid f → ReadsAs (aba_text f) f
+unfolding lines_of line_at AreAtoms
+reads_back f h solid =
+    let small = h.atoms in
+    let n = decimal_number f.atoms (omega arith) in
+    let fields : field_texts (codes "p aba " ++ decimal f.atoms) ≡ codes "p" ∷ codes "aba" ∷ decimal f.atoms ∷ []
+    = header_texts (decimal f.atoms) n.digits n.not_empty in
+    let free : All (λ byte. is_line_end byte ≡ false) (codes "p aba " ++ decimal f.atoms)
+    = All-append (λ byte. is_line_end byte ≡ false) (codes "p aba ") (decimal f.atoms) header_free
+    (no_ends (decimal f.atoms) n.digits) in
+    let start : ℕ = 0 + (length (codes "p aba " ++ decimal f.atoms) + 1) in
+    let after = lines_from (1 + 1) start (flat_map said_line (said_of f)) in
+    let piece : header_line f.atoms ≡ (codes "p aba " ++ decimal f.atoms) ++ 10 ∷ []
+    = sym (append_assoc (codes "p aba ") (decimal f.atoms) (10 ∷ [])) in
+    let atoms : All (AreAtoms f.atoms) (said_of f)
+    = λ k d within x c. atoms_said f h (get_or (said_of f) k d) (Contains-get_or (said_of f) k d within) x c in
+    record {
+      count = f.atoms;
+      all = said_of f;
+      text = record {
+        header = line_at 1 0 (codes "p aba " ++ decimal f.atoms);
+        others = kept after;
+        lines = ap (λ text. kept (lines_from 1 0 text)) (aba_text-said f)
+            ∙ ap (λ line. kept (lines_from 1 0 (line ++ flat_map said_line (said_of f)))) piece
+            ∙ ap kept (first_line_is 1 0 (codes "p aba " ++ decimal f.atoms) (flat_map said_line (said_of f)) free)
+            ∙ kept-keeps (line_at 1 0 (codes "p aba " ++ decimal f.atoms)) after (ap are_skipped fields);
+        header_is = record { number = decimal f.atoms; fields = fields; number_is = n; few = small };
+        others_are = record {
+          each = said_lines f.atoms (1 + 1) start (said_of f) small atoms;
+          consistent = consistent_of f h solid;
+        };
+        of_assumptions = λ x y c.
+            assumption_said f x (assumption_of f h.form.one_contrary x y (contrary_from f x y c).0);
+      };
+      framework = framework_of_said f h solid;
+    }
+
+-- ---- writing
+
+-- a text with one line more
+pub text_more : {X : Type 0} (line : X → List ℕ) (base old now : List ℕ) (xs : List X) (i : ℕ) (d : X)
+    → old ≡ base ++ flat_map line (take i xs) → now ≡ old ++ line (get_or xs i d) → i < length xs
+    → now ≡ base ++ flat_map line (take (i + 1) xs)
+text_more line base old now xs i d before more within =
+    more ∙ ap (λ text. text ++ line (get_or xs i d)) before
+    ∙ flat_map_more line base (take i xs) (get_or xs i d)
+    ∙ ap (λ ys. base ++ flat_map line ys) (sym (take_more xs i d within))

@@ -1,0 +1,54 @@
+//! The framework of what the lines of a text say.
+
+ghost use Rattle.std.specs.Prelude.{◌≡◌, ◌↔◌, ℕ, ◌+◌, ◌<◌, ◌≤◌, Contains, IfOk, length, slice_index};
+ghost use Rattle.std.specs.List.{range_with_len};
+ghost use Rattle.aba_semantics.specs.declared.numbers.TheConstants.{LAST_RULE};
+ghost use Rattle.aba_format.specs.Finishing.{AreFrameworkParts, IsFrameworkBy, IsPairedBy};
+
+use crate::said::Parts;
+use aba_notions::{AbaPlain, RuleLists};
+use plain_lists::Memory;
+use set_lists::NumSet;
+use std::alloc::Global;
+
+/// The framework of so many atoms and of what was said of them.
+pub(crate) fn framework_of(alloc: Global, count: u32, parts: Parts) -> Result<AbaPlain, Memory>
+    requires { AreFrameworkParts count parts }
+    ensures { IfOk result (IsFrameworkBy count parts) }
+{
+    let Parts {
+        assumed: _,
+        heading: _,
+        contrary,
+        assumptions,
+        given: _,
+        heads,
+        bodies,
+    } = parts;
+    let assumptions = NumSet::from_slice(alloc, &assumptions)?;
+    let contraries = contraries_of(alloc, assumptions.as_slice(), &contrary)?;
+    let next = heads.len() as u32 + 1;
+    let numbers = (1..next).collect(alloc)?;
+    let rules = RuleLists {
+        numbers,
+        heads,
+        bodies,
+    };
+    AbaPlain::new(alloc, count, assumptions, contraries, rules, next)
+}
+
+// Each of the assumptions, paired with its contrary.
+fn contraries_of(
+    alloc: Global,
+    assumptions: &[u32],
+    contrary: &[u32],
+) -> Result<Vec<(u32, u32)>, Memory>
+    requires { (a : ℕ) → Contains assumptions.now a → a < length contrary.now }
+    ensures { IfOk result (λ pairs. IsPairedBy assumptions.now contrary.now pairs.items) }
+{
+    let mut pairs = Vec::with_capacity(alloc, assumptions.len())?;
+    for assumption in assumptions {
+        pairs.push((*assumption, contrary[*assumption as usize]))?;
+    }
+    Ok(pairs)
+}

@@ -1,0 +1,35 @@
+//! The laws of reading and writing: a text reads as one framework alone and then has no fault, and what was written reads
+//! as itself.
+
+ghost use Rattle.std.specs.Prelude.{◌≡◌, ℕ, ◌≤◌, List, length, IfOk, IfErr};
+ghost use Rattle.aba_semantics.specs.AbaFrameworks.{Aba};
+ghost use Rattle.aba_notions.specs.Solid.{IsSolid};
+ghost use Rattle.aba_format.specs.AbaText.{ReadsAs};
+ghost use Rattle.aba_format.specs.Faults.{IsFaultless};
+ghost use Rattle.aba_format.specs.Written.{aba_text};
+ghost use Rattle.af_format.specs.declared.fault.ReadFault.TheVariants.{Memory as refused};
+ghost use Rattle.num_text.specs.declared.limit.TheConstants.{INPUT_LIMIT};
+
+use crate::read::read_aba;
+use crate::write::write_aba;
+use aba_notions::AbaPlain;
+use af_format::ReadFault;
+use std::alloc::Global;
+
+/// A text reads as one framework alone, and then has no fault. It does nothing; its contract is the law.
+pub fn one_reading()
+    ensures same { (bytes : List ℕ) → (f g : Aba) → ReadsAs bytes f → ReadsAs bytes g → f ≡ g }
+    ensures faultless { (bytes : List ℕ) → (f : Aba) → ReadsAs bytes f → IsFaultless bytes }
+{}
+
+/// The framework that is read from its own text, where that is not too long: the same one. Nothing but want of memory
+/// comes between.
+pub fn read_back(alloc: Global, framework: &AbaPlain) -> Result<AbaPlain, ReadFault>
+    requires solid { IsSolid framework.now }
+    requires short { length (aba_text framework.now) ≤ INPUT_LIMIT }
+    ensures same { IfOk result (λ f. f ≡ framework.now) }
+    ensures fault { IfErr result (λ e. e ≡ refused) }
+{
+    let text = write_aba(alloc, framework)?;
+    read_aba(alloc, text.as_slice())
+}

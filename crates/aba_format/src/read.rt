@@ -1,0 +1,136 @@
+//! Reading a framework.
+
+ghost use Rattle.std.specs.Prelude.{◌≡◌, ℕ, ◌≤◌, ◌<◌, ◌⊎◌, length, Contains, IfOk, IfErr, IfSome, IfNone, OnOk};
+ghost use Rattle.num_text.specs.Cuts.{field_texts};
+ghost use Rattle.num_text.specs.Lines.{kept};
+ghost use Rattle.num_text.specs.declared.limit.TheConstants.{INPUT_LIMIT};
+ghost use Rattle.aba_semantics.specs.declared.numbers.TheConstants.{LAST_ATOM};
+ghost use Rattle.aba_semantics.specs.AbaFrameworks.{Aba};
+ghost use Rattle.aba_notions.specs.Solid.{IsSolid};
+ghost use Rattle.af_format.specs.Faults.{IfLine};
+ghost use Rattle.aba_format.specs.AbaText.{ReadsAs};
+ghost use Rattle.aba_format.specs.Faults.{IsFaultless, IsFirstFault};
+ghost use Rattle.aba_format.specs.Reading.{AreAllMarked, AreRead, AreWhole, AreWideFor, IfCause, IsBadText, IsFirstBadLine};
+ghost use Rattle.aba_format.specs.Reading.{IsFirstUnmarked, IsStopped, NumbersRise, TakesLine};
+
+use crate::finish::framework_of;
+use crate::said::Parts;
+use crate::statement::{Statement, statement_of};
+use crate::stop::LineStop;
+use aba_notions::AbaPlain;
+use af_format::{LineCause, LineFault, ReadFault, read_header};
+use num_text::{Line, Lines, lines, next_kept};
+use std::alloc::Global;
+
+/// The framework that the bytes describe. The first line that is not skipped is `p aba n` with n up to 1,000,000; each
+/// further one is `a x`, which says that x is an assumption, `c x y`, that y is the contrary of x, or `r h b1 .. bk`, a
+/// rule with the head h and k atoms in its body. All atoms are from 1 to n, and the lines may come in any order. An `a`
+/// line, a `c` line and an atom of a body may be repeated, and count once. Each `r` line is a rule of its own: rules are
+/// numbered from 1 in the order of their lines, and at most 1,000,000 are read. An assumption without a `c` line has the
+/// contrary 0.
+///
+/// `Line` tells the first line at which a cause stands, and of the causes that stand there the first in
+/// the order of [`LineCause`]. `Memory` says that an allocation was refused.
+pub fn read_aba(alloc: Global, bytes: &[u8]) -> Result<AbaPlain, ReadFault>
+    requires { length bytes.now ≤ INPUT_LIMIT }
+    ensures ok { IfOk result (ReadsAs bytes.now) }
+    ensures no_other { IfOk result (λ f. (g : Aba) → ReadsAs bytes.now g → g ≡ f) }
+    ensures solid { IfOk result IsSolid }
+    ensures faultless { OnOk result (IsFaultless bytes.now) }
+    ensures fault { IfErr result (λ e. IfLine e (λ fault. IsFirstFault bytes.now fault.line fault.cause)) }
+{
+    let mut left = lines(bytes);
+    let count = read_header(bytes, &mut left, "aba".as_bytes(), "af".as_bytes())?;
+    let parts = read_lines(alloc, left, count)?;
+    Ok(framework_of(alloc, count, parts)?)
+}
+
+// What all lines say that are left and not skipped.
+fn read_lines(alloc: Global, left: Lines<'_>, count: u32) -> Result<Parts, ReadFault>
+    requires few { count ≤ LAST_ATOM }
+    requires rise { NumbersRise (kept left) }
+    ensures ok { IfOk result (AreWhole count (kept left.entry)) }
+    ensures fault { IfErr result
+        (λ e. IfLine e (λ fault. IsBadText count (kept left.entry) fault.line fault.cause)) }
+{
+    let parts = take_lines(alloc, left, count)?;
+    match first_unmarked(&parts.given, &parts.assumed) {
+        None => Ok(parts),
+        Some(line) => Err(ReadFault::Line(LineFault {
+            line,
+            cause: LineCause::ContraryOfNonAssumption,
+        })),
+    }
+}
+
+// The same, whether or not only assumptions have contraries.
+#[inline(never)]
+fn take_lines(alloc: Global, mut left: Lines<'_>, count: u32) -> Result<Parts, ReadFault>
+    requires few { count ≤ LAST_ATOM }
+    requires rise { NumbersRise (kept left) }
+    ensures ok { IfOk result (AreRead count (kept left.entry)) }
+    ensures fault { IfErr result
+        (λ e. IfLine e (λ fault. IsFirstBadLine count (kept left.entry) fault.line fault.cause)) }
+{
+    let mut parts = Parts::new(alloc, count)?;
+    let mut body = Vec::new(alloc);
+    while let Some(line) = next_kept(&mut left) {
+        take_line(&mut parts, &mut body, &line, count)?;
+    }
+    Ok(parts)
+}
+
+// Takes in what a line says. `body` is room for the body of a rule, and is left with anything.
+fn take_line(
+    parts: &mut Parts,
+    body: &mut Vec<u32>,
+    line: &Line<'_>,
+    count: u32,
+) -> Result<(), ReadFault>
+    requires { AreWideFor count parts.old }
+    ensures ok { OnOk result (TakesLine count line.now.number line.now.text.now parts.old parts.new) }
+    ensures fault { IfErr result (λ e. IfLine e (λ fault. (fault.line ≡ line.now.number)
+        × IsStopped count line.now.text.now parts.old fault.cause)) }
+{
+    match take_statement(parts, body, line, count) {
+        Ok(()) => Ok(()),
+        Err(LineStop::Memory) => Err(ReadFault::Memory),
+        Err(LineStop::Cause(cause)) => Err(ReadFault::Line(LineFault {
+            line: line.number,
+            cause,
+        })),
+    }
+}
+
+// The same, and why it stops.
+#[inline(always)]
+fn take_statement(
+    parts: &mut Parts,
+    body: &mut Vec<u32>,
+    line: &Line<'_>,
+    count: u32,
+) -> Result<(), LineStop>
+    requires { AreWideFor count parts.old }
+    ensures ok { OnOk result (TakesLine count line.now.number line.now.text.now parts.old parts.new) }
+    ensures err { IfErr result (λ stop. IfCause stop (IsStopped count line.now.text.now parts.old)) }
+{
+    match statement_of(line, count, body)? {
+        Statement::Assumption(x) => parts.add_assumption(x),
+        Statement::Contrary(x, y) => parts.add_contrary(x, y, line.number),
+        Statement::Rule(head) => parts.add_rule(head, body.as_slice()),
+    }
+}
+
+// The number beside the first of the given atoms that has no mark.
+fn first_unmarked(given: &[(u32, usize)], marks: &[bool]) -> Option<usize>
+    requires { (x line : ℕ) → Contains given.now (x, line) → x < length marks.now }
+    ensures some { IfSome result (IsFirstUnmarked given.now marks.now) }
+    ensures none { IfNone result (AreAllMarked given.now marks.now) }
+{
+    for (atom, line) in given {
+        if !marks[*atom as usize] {
+            return Some(*line);
+        }
+    }
+    None
+}

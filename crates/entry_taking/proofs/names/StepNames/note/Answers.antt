@@ -1,0 +1,1 @@
+use Rattle.entry_taking.proofs.names.StepNames.note.Goals as goal

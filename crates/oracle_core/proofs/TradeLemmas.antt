@@ -1,0 +1,123 @@
+-- What calls of an engine leave of a trade and of the log, one after the other.
+use Rattle.std.proofs.Common.{◌≡◌, ℕ, ◌+◌, ◌*◌, Bool, true, false, List, [], ◌∷◌, ◌++◌, length, ap, sym, subst, ◌∙◌, arith, inl, inr, ⊎_elim}
+use Rattle.std.specs.Prelude.{◌≢◌, Option, Some, None, Result, Ok, Err, OnOk, IsErr, IsErrAnd, is_err}
+use Rattle.plain_lists.specs.declared.memory.Memory.{Memory as OfMemory}
+use Rattle.std.proofs.lemmas.Bool.{false≢true}
+use Rattle.std.proofs.lemmas.List.{length-append}
+use Rattle.plain_lits.specs.declared.halt.Halt.{Halt}
+use Rattle.plain_lits.specs.declared.halt.Halt.TheVariants.{Memory}
+use Rattle.plain_lits.specs.Units.{Units}
+use Rattle.semantics.specs.Frameworks.{Framework}
+use Rattle.oracle_face.specs.declared.entry.Entry.{Entry}
+use Rattle.oracle_face.specs.declared.face.Pending.{Pending}
+use Rattle.oracle_face.specs.Growing.{Making, Grows, HasRun, NoSide, halt_of}
+use Rattle.oracle_face.specs.Logs.{OracleLog}
+use Rattle.iccma_tasks.specs.Tasks.{Asked}
+use Rattle.session_log.specs.Ends.{MadeFor}
+use Rattle.oracle_face.proofs.GrowingLemmas.{grows_as, run_as, run_joined}
+use Rattle.oracle_core.specs.Engines.{EngineState}
+use Rattle.oracle_core.specs.Trading.{AnySide, IsEmptied, TakesAll, TakesFrom, Trades}
+use Rattle.oracle_core.specs.TradingLaws.{from_none}
+use Rattle.oracle_core.proofs.EntriesTaken.{any_side}
+
+-- a call that the trade has no part in
+pub called_trades : (P : Making) (a b : EngineState) (left : Option (List Entry)) (lost : Bool) → b.number ≡ a.number
+    → b.framework ≡ a.framework → Grows P a.log b.log → Trades a b left left lost lost
+called_trades P a b left lost number framework grows =
+    let any = grows_as P AnySide a.log b.log (λ literals set made. tt) grows in
+    record {
+      number = number;
+      framework = framework;
+      grows = any;
+      kept = λ so. so;
+      taken = λ so told is. from_none a.framework a.number told left a.log b.log is any;
+    }
+
+-- the trade gave what it has
+pub all_trades : (a b : EngineState) (left new : Option (List Entry)) (lost : Bool) → b.number ≡ a.number
+    → b.framework ≡ a.framework → Grows NoSide a.log b.log
+    → ((told : List Entry) → left ≡ Some told → TakesAll a.framework a.number told new a.log b.log)
+    → Trades a b left new lost lost
+all_trades a b left new lost number framework grows all = record {
+  number = number;
+  framework = framework;
+  grows = any_side a.log b.log grows;
+  kept = λ so. so;
+  taken = λ so told is. (all told is).from;
+}
+
+-- memory was refused
+pub lost_trades : (a b : EngineState) (left new : Option (List Entry)) (lost : Bool) → b.number ≡ a.number
+    → b.framework ≡ a.framework → Grows NoSide a.log b.log → Trades a b left new lost true
+lost_trades a b left new lost number framework grows = record {
+  number = number;
+  framework = framework;
+  grows = any_side a.log b.log grows;
+  kept = λ so. absurd (false≢true (sym so));
+  taken = λ so told is. absurd (false≢true (sym so));
+}
+
+-- ---- what is left
+
+rest_none : (given rest : List Entry) → [] ≡ given ++ rest → rest ≡ []
+rest_none [] rest is = sym is
+rest_none (entry ∷ given) rest is = let e = ap length is in absurd (omega arith)
+
+pub emptied_later : (f : Framework) (own : ℕ) (told : List Entry) (left later : Option (List Entry)) (b c : OracleLog)
+    → IsEmptied told left → ((rest : List Entry) → left ≡ Some rest → TakesFrom f own rest later b c)
+    → IsEmptied told later
+emptied_later f own told left later b c emptied then =
+    ⊎_elim
+    (λ none.
+    let t = then [] none in
+    inl (t.left_is ∙ ap (λ xs. Some xs) (rest_none t.given t.rest t.told_is)))
+    (λ some.
+    let t = then some.0 some.1 in
+    let few = some.2 in
+    inr (t.rest, t.left_is, omega (arith, ap length t.told_is, length-append t.given t.rest)))
+    emptied
+
+-- ---- runs
+
+-- memory was refused behind what was run
+pub run_lost : (P : Making) (most : ℕ) (f : Framework) (a b : OracleLog) (p : Option Pending) (u v : Units)
+    (halt : Option Halt) → HasRun P most f a b p u v halt → HasRun P most f a b p u v (Some Memory)
+run_lost P most f a b p u v halt run =
+    record { grows = run.grows; limit = run.limit; works = tt; closing = tt; stop = tt }
+
+-- a call before a search that made side clauses for a query
+pub searched : (f g : Framework) (asked : Asked) (a b c : OracleLog) (p q : Option Pending) (u v : Units)
+    (halt : Option Halt) → g ≡ f → HasRun NoSide 0 f a b p u u None
+    → HasRun (MadeFor g asked) (2 * length c.sides + 2) g b c q u v halt
+    → HasRun (MadeFor f asked) (2 * length c.sides + 2) f a c q u v halt
+searched f g asked a b c p q u v halt same first second =
+    run_joined NoSide (MadeFor f asked) (MadeFor f asked) 0 (2 * length c.sides + 2) (2 * length c.sides + 2) f a b c p q
+    u u v halt (λ literals set h. absurd h) (λ literals set h. h) (omega arith) first
+    (subst (λ h. HasRun (MadeFor h asked) (2 * length c.sides + 2) h b c q u v halt) same second)
+
+pub only_prepared : {T : Type 0} (f : Framework) (asked : Asked) (a b : OracleLog) (p : Option Pending) (u v : Units)
+    (r : Result T Halt) (halt : Halt) → IsErr r × IsErrAnd r (λ x. x ≡ halt)
+    → HasRun NoSide 0 f a b p u v (Some halt)
+    → HasRun (MadeFor f asked) (2 * length b.sides + 2) f a b p u v (halt_of r)
+only_prepared f asked a b p u v (Ok found) halt is run = absurd (false≢true is.0)
+only_prepared f asked a b p u v (Err x) halt is run =
+    run_as NoSide (MadeFor f asked) 0 (2 * length b.sides + 2) f a b p u v (Some x) (λ literals set h. absurd h)
+    (omega arith) (subst (λ y. HasRun NoSide 0 f a b p u v (Some y)) (sym is.1) run)
+
+abbrev pub halted_by : Halt → Result (Unit {0}) Halt
+halted_by halt = Err halt
+
+pub not_memory : {T : Type 0} (r : Result T Halt) (halt : Halt) → IsErr r × IsErrAnd r (λ x. x ≡ halt)
+    → r ≢ Err Memory → halted_by halt ≢ Err Memory
+not_memory (Ok found) halt is not_so = absurd (false≢true is.0)
+not_memory (Err x) halt is not_so = λ e. let same : halt ≡ Memory = cc in not_so (ap (λ y. Err y) (is.1 ∙ same))
+
+-- ---- what a call answers
+
+pub ok_so : {T E P : Type 0} (r : Result T E) → P → OnOk r P
+ok_so (Ok value) p = p
+ok_so (Err error) p = tt
+
+pub ok_of : {P : Type 0} (r : Result (Unit {0}) OfMemory) → is_err r ≡ false → OnOk r P → P
+ok_of (Ok value) e p = p
+ok_of (Err error) e p = absurd (false≢true (sym e))

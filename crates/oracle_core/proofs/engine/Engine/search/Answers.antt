@@ -1,0 +1,74 @@
+use Rattle.std.proofs.Common.{◌≡◌, ◌+◌, ◌*◌, rules, sym, subst, false, length, Some}
+use Rattle.plain_lits.specs.declared.halt.Halt.TheVariants.{Memory}
+use Rattle.oracle_face.specs.Growing.{HasRun, halt_of}
+use Rattle.session_log.specs.Ends.{MadeFor}
+use Rattle.oracle_core.specs.Engines.{EngineState}
+use Rattle.oracle_core.specs.Trading.{IsEmptied, TakesFrom}
+use Rattle.oracle_core.specs.TradingLaws.{trades_joined}
+use Rattle.oracle_core.proofs.TradeLemmas.{emptied_later, not_memory, ok_so, only_prepared, run_lost, searched}
+use Rattle.oracle_core.proofs.engine.Engine.search.Goals as goal
+
+pub returns-in_err-prepare-clause-run : goal.returns-in_err-prepare-clause-run
+returns-in_err-prepare-clause-run g c =
+    let a = c.args.self.now in
+    only_prepared a.framework c.args.query.now a.log c.prepare.new.self.log c.prepare.new.self.pending c.args.budget.now
+    c.args.budget.now c.from_residual.result c.in_err-prepare.field-0.0 c.from_residual.ensures
+    (c.in_err-prepare.ensures.run c.args.budget.now)
+
+pub returns-in_err-prepare-clause-trade : goal.returns-in_err-prepare-clause-trade
+returns-in_err-prepare-clause-trade g c = λ other told is.
+    c.in_err-prepare.ensures.trades.taken
+    (c.in_err-prepare.ensures.only_lost
+    (not_memory c.from_residual.result c.in_err-prepare.field-0.0 c.from_residual.ensures other)) told is
+
+pub returns-then-trading-clause-run : goal.returns-then-trading-clause-run
+returns-then-trading-clause-run g c =
+    let a = c.args.self.now in
+    let b = c.prepare.new.self in
+    let o = c.answer-end.new.oracle in
+    let is : c.self-1.given.0 ≡ o.engine.now = search rules in
+    subst (λ (e : EngineState). HasRun (MadeFor a.framework c.args.query.now) (2 * length e.log.sides + 2) a.framework
+    a.log e.log e.pending c.args.budget.now c.answer-end.new.budget (Some Memory)) (sym is)
+    (run_lost (MadeFor a.framework c.args.query.now) (2 * length o.engine.now.log.sides + 2) a.framework a.log
+    o.engine.now.log o.engine.now.pending c.args.budget.now c.answer-end.new.budget (halt_of c.answer-end.result)
+    (searched a.framework b.framework c.args.query.now a.log b.log o.engine.now.log b.pending o.engine.now.pending
+    c.args.budget.now c.answer-end.new.budget (halt_of c.answer-end.result) c.in_ok-prepare.ensures.trades.framework
+    (c.in_ok-prepare.ensures.run c.args.budget.now) c.answer-end.ensures.run))
+
+pub returns-clause-run : goal.returns-clause-run
+returns-clause-run g c =
+    let a = c.args.self.now in
+    let b = c.prepare.new.self in
+    let o = c.answer-end.new.oracle in
+    let is : c.self-1.given.0 ≡ o.engine.now = search rules in
+    subst (λ (e : EngineState). HasRun (MadeFor a.framework c.args.query.now) (2 * length e.log.sides + 2) a.framework
+    a.log e.log e.pending c.args.budget.now c.answer-end.new.budget (halt_of c.answer-end.result)) (sym is)
+    (searched a.framework b.framework c.args.query.now a.log b.log o.engine.now.log b.pending o.engine.now.pending
+    c.args.budget.now c.answer-end.new.budget (halt_of c.answer-end.result) c.in_ok-prepare.ensures.trades.framework
+    (c.in_ok-prepare.ensures.run c.args.budget.now) c.answer-end.ensures.run)
+
+pub returns-clause-trade : goal.returns-clause-trade
+returns-clause-trade g c = λ other told here.
+    let a = c.args.self.now in
+    let b = c.prepare.new.self in
+    let o = c.answer-end.new.oracle in
+    let is : c.self-1.given.0 ≡ o.engine.now = search rules in
+    let is' : c.trade-1.given.0 ≡ o.trade.now = search rules in
+    let all = trades_joined a b o.engine.now (g.T.ClauseTrade.left c.args.trade.now)
+    (g.T.ClauseTrade.left c.prepare.new.trade) (g.T.ClauseTrade.left o.trade.now) false c.prepare.new.lost o.lost
+    c.in_ok-prepare.ensures.trades c.answer-end.ensures.follows.2 in
+    subst (λ (e : EngineState). TakesFrom a.framework a.number told (g.T.ClauseTrade.left c.trade-1.given.0) a.log e.log)
+    (sym is)
+    (subst (λ t. TakesFrom a.framework a.number told (g.T.ClauseTrade.left t) a.log o.engine.now.log) (sym is')
+    (all.taken c.if-trading.false told here))
+
+pub returns-clause-emptied : goal.returns-clause-emptied
+returns-clause-emptied g c =
+    let b = c.prepare.new.self in
+    let o = c.answer-end.new.oracle in
+    let is' : c.trade-1.given.0 ≡ o.trade.now = search rules in
+    ok_so c.answer-end.result (λ told here.
+    subst (λ t. IsEmptied told (g.T.ClauseTrade.left t)) (sym is')
+    (emptied_later b.framework b.number told (g.T.ClauseTrade.left c.prepare.new.trade)
+    (g.T.ClauseTrade.left o.trade.now) b.log o.engine.now.log (c.in_ok-prepare.ensures.all told here)
+    (λ rest left. c.answer-end.ensures.follows.2.taken c.if-trading.false rest left)))

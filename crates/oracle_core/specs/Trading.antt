@@ -1,0 +1,57 @@
+-- How the entries of a trade come into a log during a query.
+use Rattle.std.specs.Prelude.{◌≡◌, ◌⊎◌, ℕ, ◌+◌, ◌≤◌, Bool, false, List, [], ◌∷◌, ◌++◌, length, Option, Some}
+use Rattle.semantics.specs.Frameworks.{Framework}
+use Rattle.oracle_face.specs.declared.entry.Entry.{Entry}
+use Rattle.oracle_face.specs.Growing.{Making, Grows}
+use Rattle.oracle_face.specs.Logs.{OracleLog}
+use Rattle.entry_taking.specs.Taking.{ComesInOrMayNot}
+use Rattle.oracle_core.specs.Engines.{AreInForce, EngineState}
+use Rattle.oracle_core.specs.declared.trading.TheConstants.{MOST_TAKEN}
+
+-- any side clauses
+abbrev pub AnySide : Making
+AnySide literals set = Unit {0}
+
+-- an entry is looked at once the log has the axioms that the framework needs
+pub record LooksAt (f : Framework) (own : ℕ) (entry : Entry) (old at next : OracleLog) : Type 0 where
+  pub before : Grows AnySide old at
+  pub in_force : AreInForce f at
+  pub after : Grows AnySide at next
+  pub comes : ComesInOrMayNot f own entry at next
+
+-- entries are looked at one after the other, each where the log has what came of those before it
+abbrev pub TakesIn : Framework → ℕ → List Entry → OracleLog → OracleLog → Type 0
+TakesIn f own [] old new = Grows AnySide old new
+TakesIn f own (entry ∷ more) old new =
+    (at next : OracleLog) × LooksAt f own entry old at next × TakesIn f own more next new
+
+-- of the entries that a trade told, the first ones were looked at, and these are left
+pub record TakesFrom (f : Framework) (own : ℕ) (told : List Entry) (left : Option (List Entry))
+    (old new : OracleLog) : Type 0 where
+  pub given : List Entry
+  pub rest : List Entry
+  pub told_is : told ≡ given ++ rest
+  pub left_is : left ≡ Some rest
+  pub taken : TakesIn f own given old new
+
+-- none is left, or as many were taken as are taken before one search
+abbrev pub IsEmptied : List Entry → Option (List Entry) → Type 0
+IsEmptied told left =
+    (left ≡ Some []) ⊎ ((rest : List Entry) × (left ≡ Some rest) × (MOST_TAKEN + length rest ≤ length told))
+
+-- both at once
+pub record TakesAll (f : Framework) (own : ℕ) (told : List Entry) (left : Option (List Entry))
+    (old new : OracleLog) : Type 0 where
+  pub from : TakesFrom f own told left old new
+  pub emptied : IsEmptied told left
+
+-- what a query leaves of an engine and a trade: where no entry was lost for want of memory, each that went from the list
+-- was looked at
+pub record Trades (before after : EngineState) (left_before left_after : Option (List Entry))
+    (lost_before lost_after : Bool) : Type 0 where
+  pub number : after.number ≡ before.number
+  pub framework : after.framework ≡ before.framework
+  pub grows : Grows AnySide before.log after.log
+  pub kept : lost_after ≡ false → lost_before ≡ false
+  pub taken : lost_after ≡ false → (told : List Entry) → left_before ≡ Some told
+      → TakesFrom before.framework before.number told left_after before.log after.log

@@ -1,0 +1,180 @@
+//! Entries that an engine takes from a trade before it searches.
+
+ghost use Rattle.std.specs.Prelude.{◌≡◌, ◌≢◌, Err, List, None, OnOk, Some};
+ghost use Rattle.edit_rules.specs.Kinds.{framework_of};
+ghost use Rattle.oracle_face.specs.Growing.{HasRun, NoSide, halt_of};
+ghost use Rattle.oracle_face.specs.Logs.{IsKept};
+ghost use Rattle.oracle_face.specs.declared.entry.Entry.{Entry as AnEntry};
+ghost use Rattle.plain_lits.specs.Units.{Units};
+ghost use Rattle.oracle_core.specs.Engines.{AreInForce, IsWhole};
+ghost use Rattle.oracle_core.specs.Trading.{IsEmptied, TakesAll, Trades};
+
+use crate::engine::Engine;
+use crate::parts::Parts;
+use meaning_atoms::AtomLit;
+use oracle_face::{AskId, ClauseTrade, Found, Oracle};
+use plain_lists::Memory;
+use plain_lits::{Budget, Halt};
+use set_lists::NumSet;
+use std::alloc::Global;
+
+/// How many entries are taken at most before one search.
+pub const MOST_TAKEN: usize = 1_024;
+
+/// Takes what a trade gives, until it gives nothing, at most so many entries.
+pub(crate) fn take_all<T: ClauseTrade>(
+    alloc: Global,
+    own: u32,
+    parts: &mut Parts,
+    trade: &mut T,
+) -> Result<(), Memory>
+    requires whole { IsWhole parts.old }
+    requires in_force { AreInForce (framework_of parts.old.framework) parts.old.solver.log }
+    ensures whole { IsWhole parts.new }
+    ensures framework { parts.new.framework ≡ parts.old.framework }
+    ensures run { (units : Units) → HasRun NoSide 0 (framework_of parts.old.framework) parts.old.solver.log
+        parts.new.solver.log parts.new.solver.pending units units None }
+    ensures all { OnOk result ((told : List AnEntry) → T.left trade.old ≡ Some told
+        → TakesAll (framework_of parts.old.framework) own told (T.left trade.new) parts.old.solver.log
+        parts.new.solver.log) }
+{
+    let mut count = 0;
+    while count < MOST_TAKEN {
+        let Some(entry) = trade.take()? else {
+            return Ok(());
+        };
+        parts.take_in(alloc, own, &entry)?;
+        count += 1;
+    }
+    Ok(())
+}
+
+impl Engine {
+    /// Puts the axioms that the framework needs in force.
+    fn force(&mut self, alloc: Global) -> Result<(), Halt>
+        ensures in_force { OnOk result (AreInForce self.new.framework self.new.log) }
+        ensures run { (units : Units) → HasRun NoSide 0 self.old.framework self.old.log self.new.log self.new.pending
+            units units (halt_of result) }
+        ensures number { self.new.number ≡ self.old.number }
+        ensures framework { self.new.framework ≡ self.old.framework }
+        ensures kept { IsKept self.new.framework self.new.log }
+    {
+        self.parts.force(alloc)
+    }
+
+    /// Takes what a trade gives, until it gives nothing, at most so many entries.
+    fn take_all<T: ClauseTrade>(&mut self, alloc: Global, trade: &mut T) -> Result<(), Memory>
+        requires { AreInForce self.old.framework self.old.log }
+        ensures all { OnOk result ((told : List AnEntry) → T.left trade.old ≡ Some told
+            → TakesAll self.old.framework self.old.number told (T.left trade.new) self.old.log self.new.log) }
+        ensures run { (units : Units) → HasRun NoSide 0 self.old.framework self.old.log self.new.log self.new.pending
+            units units None }
+        ensures number { self.new.number ≡ self.old.number }
+        ensures framework { self.new.framework ≡ self.old.framework }
+        ensures kept { IsKept self.new.framework self.new.log }
+    {
+        take_all(alloc, self.number, &mut self.parts, trade)
+    }
+
+    /// Puts the axioms in force and takes what a trade gives. The flag is raised where memory is refused while entries are
+    /// taken: one may be lost then.
+    pub(crate) fn prepare<T: ClauseTrade>(
+        &mut self,
+        alloc: Global,
+        trade: &mut T,
+        lost: &mut bool,
+    ) -> Result<(), Halt>
+        ensures trades { Trades self.old self.new (T.left trade.old) (T.left trade.new) lost.old lost.new }
+        ensures all { OnOk result ((told : List AnEntry) → T.left trade.old ≡ Some told
+            → IsEmptied told (T.left trade.new)) }
+        ensures only_lost { result ≢ Err Halt.Memory → lost.new ≡ lost.old }
+        ensures run { (units : Units) → HasRun NoSide 0 self.old.framework self.old.log self.new.log self.new.pending
+            units units (halt_of result) }
+        ensures kept { IsKept self.new.framework self.new.log }
+    {
+        self.force(alloc)?;
+        let taken = self.take_all(alloc, trade);
+        if taken.is_err() {
+            *lost = true;
+            return Err(Halt::Memory);
+        }
+        Ok(())
+    }
+}
+
+/// An engine with the trade of a query: before each search the trade gives what it has.
+#[derive(Drop)]
+pub(crate) struct Trading<'a, T: ClauseTrade> {
+    pub(crate) engine: &'a mut Engine,
+    pub(crate) trade: &'a mut T,
+    /// Whether the trade gave what it has for the next search already.
+    pub(crate) ready: bool,
+    /// Whether an entry may have been lost for want of memory.
+    pub(crate) lost: bool,
+}
+
+impl<'a, T: ClauseTrade> Oracle for Trading<'a, T> {
+    ghost use Rattle.oracle_core.specs.Trading.{Trades};
+    ghost use Rattle.oracle_core.specs.TradingLaws.{trades_none, trades_joined};
+    ghost use Rattle.std.proofs.Common.{◌≡◌, ◌∙◌, refl};
+
+    ghost framework = { λ t. t.engine.now.framework };
+
+    ghost log = { λ t. t.engine.now.log };
+
+    ghost pending = { λ t. t.engine.now.pending };
+
+    ghost follows = { λ before after. (after.engine.ghost_name ≡ before.engine.ghost_name)
+        × (after.trade.ghost_name ≡ before.trade.ghost_name)
+        × Trades before.engine.now after.engine.now (T.left before.trade.now) (T.left after.trade.now) before.lost
+        after.lost };
+
+    fn members(&self) -> &NumSet {
+        self.engine.members()
+    }
+
+    fn is_aba(&self) -> bool {
+        self.engine.is_aba()
+    }
+
+    fn find(
+        &mut self,
+        alloc: Global,
+        goals: &[AtomLit],
+        budget: &mut Budget,
+    ) -> Result<Found, Halt> {
+        if self.ready {
+            self.ready = false;
+            return self.engine.find(alloc, goals, budget);
+        }
+        self.engine.prepare(alloc, self.trade, &mut self.lost)?;
+        self.engine.find(alloc, goals, budget)
+    }
+
+    fn oblige(
+        &mut self,
+        alloc: Global,
+        side: &[AtomLit],
+        from: &NumSet,
+        budget: &mut Budget,
+    ) -> Result<AskId, Halt> {
+        self.engine.oblige(alloc, side, from, budget)
+    }
+
+    fn range(&self, alloc: Global, set: &NumSet) -> Result<NumSet, Memory> {
+        self.engine.range(alloc, set)
+    }
+
+    fn accepts(&self, alloc: Global, goal: u32, set: &NumSet) -> Result<bool, Memory> {
+        self.engine.accepts(alloc, goal, set)
+    }
+
+    ghost stays = { λ t. (refl, refl, trades_none t.engine.now (T.left t.trade.now) t.lost) };
+
+    ghost joins = { λ before between after first second. (
+      second.0 ∙ first.0,
+      second.1 ∙ first.1,
+      trades_joined before.engine.now between.engine.now after.engine.now (T.left before.trade.now)
+          (T.left between.trade.now) (T.left after.trade.now) before.lost between.lost after.lost first.2 second.2,
+    ) };
+}

@@ -1,0 +1,296 @@
+-- Which cause is told of the fields of a command.
+use Rattle.std.proofs.Common.{◌≡◌, ℕ, zero, suc, ◌<◌, ◌≤◌, List, [], ◌∷◌, length, get_or, refl, sym, ap, subst, ◌∙◌, ◌⊎◌, inl, inr, arith}
+use Rattle.std.specs.Prelude.{Contains, codes, Option, Some, None}
+use Rattle.std.specs.List.{AllZip}
+use Rattle.std.proofs.lemmas.Slice.Zip.{AllZip-long}
+use Rattle.num_text.specs.Number.{IsNumber}
+use Rattle.num_text.specs.Numerals.{IsReadNumber}
+use Rattle.iccma_tasks.specs.declared.task.Problem.{Problem}
+use Rattle.iccma_tasks.specs.declared.task.Problem.TheVariants.{Credulous, Sceptical, SomeExtension, AllExtensions}
+use Rattle.iccma_tasks.specs.declared.task.Task.{Task}
+use Rattle.iccma_tasks.specs.Tasks.{FitsTask, IsTask, task_name}
+use Rattle.script_text.specs.declared.change.Change.{Change}
+use Rattle.script_text.specs.declared.fault.ScriptCause.{ScriptCause}
+use Rattle.script_text.specs.declared.fault.ScriptCause.TheVariants.{BadSession, BadCommand, BadTask, BadNumber, BadQuery}
+use Rattle.script_text.specs.Changes.{change_name, Takes}
+use Rattle.script_text.specs.ScriptFaults.{
+  rank,
+  asks_about,
+  IsFirstCause,
+  HaveAskForm,
+  HaveChangeForm,
+  HaveNoNumber,
+  HaveUnknownTask,
+  HaveUnfitTask,
+  StandsOnCommand,
+}
+use Rattle.script_text.specs.ScriptText.{asked_numbers}
+use Rattle.script_text.proofs.Names.{ask_is_no_change, changes_same, tasks_same}
+
+-- ---- fields
+
+first_same : (x y : List ℕ) (xs ys : List (List ℕ)) → x ∷ xs ≡ y ∷ ys → x ≡ y
+first_same x y xs ys e = ap (λ fields. get_or fields 0 []) e
+
+others_same : (x y : List ℕ) (xs ys : List (List ℕ)) → x ∷ xs ≡ y ∷ ys → xs ≡ ys
+others_same x y xs ys e = cc
+
+-- a command that changes the framework isn't `ask`
+pub forms_differ : (fields : List (List ℕ)) → HaveChangeForm fields → HaveAskForm fields → ⊥
+forms_differ fields c a = ask_is_no_change c.change
+    (first_same (change_name c.change) (codes "ask") c.arguments (a.task ∷ a.arguments) (sym c.fields_are ∙ a.fields_are))
+
+-- the arguments of the one form
+ask_arguments : (task : List ℕ) (arguments : List (List ℕ)) (form : HaveAskForm (codes "ask" ∷ task ∷ arguments))
+    → form.arguments ≡ arguments
+ask_arguments task arguments form =
+    let behind = others_same (codes "ask") (codes "ask") (task ∷ arguments) (form.task ∷ form.arguments) form.fields_are
+    in
+    sym (others_same task form.task arguments form.arguments behind)
+
+ask_task : (task : List ℕ) (arguments : List (List ℕ)) (form : HaveAskForm (codes "ask" ∷ task ∷ arguments))
+    → form.task ≡ task
+ask_task task arguments form =
+    let behind = others_same (codes "ask") (codes "ask") (task ∷ arguments) (form.task ∷ form.arguments) form.fields_are
+    in
+    sym (first_same task form.task arguments form.arguments behind)
+
+change_arguments : (change : Change) (arguments : List (List ℕ))
+    (form : HaveChangeForm (change_name change ∷ arguments)) → form.arguments ≡ arguments
+change_arguments change arguments form =
+    sym (others_same (change_name change) (change_name form.change) arguments form.arguments form.fields_are)
+
+change_same : (change : Change) (arguments : List (List ℕ))
+    (form : HaveChangeForm (change_name change ∷ arguments)) → form.change ≡ change
+change_same change arguments form = sym (changes_same change form.change
+    (first_same (change_name change) (change_name form.change) arguments form.arguments form.fields_are))
+
+-- fields that spell numbers hold none that spells no number
+pub none_missing : (fields : List (List ℕ)) (numbers : List ℕ) → AllZip IsNumber fields numbers → HaveNoNumber fields
+    → ⊥
+none_missing [] [] are none = let c = none.member in absurd (omega (arith, c.1))
+none_missing [] (n ∷ ns) are none = absurd are
+none_missing (f ∷ fs) [] are none = absurd are
+none_missing (f ∷ fs) (n ∷ ns) are none =
+    at (λ later. none_missing fs ns are.1 later) none.field none.member none.none
+  where
+    at : (HaveNoNumber fs → ⊥) → (field : List ℕ) → Contains (f ∷ fs) field → ((m : ℕ) → ¬ IsNumber field m) → ⊥
+    at behind field (zero, within, e) not = not n (subst (λ t. IsNumber t n) e are.0)
+    at behind field (suc k, within, e) not =
+        behind (record { field = field; member = (k, omega arith, e); none = not })
+
+-- ---- ranks
+
+-- where a cause stands, it is not BadSession
+from_command : (fields : List (List ℕ)) (other : ScriptCause) → StandsOnCommand fields other → 2 ≤ rank other
+from_command fields BadSession stands = absurd stands
+from_command fields BadCommand stands = omega arith
+from_command fields BadTask stands = omega arith
+from_command fields BadNumber stands = omega arith
+from_command fields BadQuery stands = omega arith
+
+-- where the fields have a form, it isn't BadCommand either
+from_task : (fields : List (List ℕ)) → HaveChangeForm fields ⊎ HaveAskForm fields → (other : ScriptCause)
+    → StandsOnCommand fields other → 3 ≤ rank other
+from_task fields form BadSession stands = absurd stands
+from_task fields form BadCommand stands = absurd (stands form)
+from_task fields form BadTask stands = omega arith
+from_task fields form BadNumber stands = omega arith
+from_task fields form BadQuery stands = omega arith
+
+-- where no unknown task is asked, it isn't BadTask either
+from_number : (fields : List (List ℕ)) → HaveChangeForm fields ⊎ HaveAskForm fields → (HaveUnknownTask fields → ⊥)
+    → (other : ScriptCause) → StandsOnCommand fields other → 4 ≤ rank other
+from_number fields form known BadSession stands = absurd stands
+from_number fields form known BadCommand stands = absurd (stands form)
+from_number fields form known BadTask stands = absurd (known stands)
+from_number fields form known BadNumber stands = omega arith
+from_number fields form known BadQuery stands = omega arith
+
+-- where all numbers are spelled, it can only be BadQuery
+from_query : (fields : List (List ℕ)) → HaveChangeForm fields ⊎ HaveAskForm fields → (HaveUnknownTask fields → ⊥)
+    → (StandsOnCommand fields BadNumber → ⊥) → (other : ScriptCause) → StandsOnCommand fields other
+    → HaveUnfitTask fields × (5 ≤ rank other)
+from_query fields form known spelled BadSession stands = absurd stands
+from_query fields form known spelled BadCommand stands = absurd (stands form)
+from_query fields form known spelled BadTask stands = absurd (known stands)
+from_query fields form known spelled BadNumber stands = absurd (spelled stands)
+from_query fields form known spelled BadQuery stands = (stands, omega arith)
+
+-- ---- the causes
+
+pub bad_command : (fields : List (List ℕ)) → (HaveChangeForm fields → ⊥) → (HaveAskForm fields → ⊥)
+    → IsFirstCause (StandsOnCommand fields) BadCommand
+bad_command fields change ask = record {
+  stands = λ form. elim form [
+    | inl f ↦ change f
+    | inr f ↦ ask f
+  ];
+  first = from_command fields;
+}
+
+-- a command that changes the framework asks no unknown task
+change_known : (fields : List (List ℕ)) → HaveChangeForm fields → HaveUnknownTask fields → ⊥
+change_known fields form h = forms_differ fields form h.form
+
+pub bad_change : (change : Change) (arguments : List (List ℕ)) → (Takes change (length arguments) → ⊥)
+    → IsFirstCause (StandsOnCommand (change_name change ∷ arguments)) BadCommand
+bad_change change arguments takes_not = bad_command (change_name change ∷ arguments)
+    (λ form. takes_not (subst (λ c. Takes c (length arguments)) (change_same change arguments form)
+    (subst (λ xs. Takes form.change (length xs)) (change_arguments change arguments form) form.takes)))
+    (λ form. ask_is_no_change change
+    (first_same (change_name change) (codes "ask") arguments (form.task ∷ form.arguments) form.fields_are))
+
+pub bad_change_number : (change : Change) (arguments : List (List ℕ)) → Takes change (length arguments)
+    → HaveNoNumber arguments → IsFirstCause (StandsOnCommand (change_name change ∷ arguments)) BadNumber
+bad_change_number change arguments takes none =
+    let fields : List (List ℕ) = change_name change ∷ arguments in
+    let form : HaveChangeForm fields
+    = record { change = change; arguments = arguments; fields_are = refl; takes = takes } in
+    record {
+      stands = inl (form, none);
+      first = from_number fields (inl form) (change_known fields form);
+    }
+
+-- ---- what is asked
+
+abbrev ask_fields : List ℕ → List (List ℕ) → List (List ℕ)
+ask_fields task arguments = codes "ask" ∷ task ∷ arguments
+
+abbrev pub ask_form : (task : List ℕ) (arguments : List (List ℕ)) → length arguments ≤ 1
+    → HaveAskForm (codes "ask" ∷ task ∷ arguments)
+ask_form task arguments few = record { task = task; arguments = arguments; fields_are = refl; few = few }
+
+pub ask_too_long : (task : List ℕ) (arguments : List (List ℕ)) → 1 < length arguments
+    → IsFirstCause (StandsOnCommand (codes "ask" ∷ task ∷ arguments)) BadCommand
+ask_too_long task arguments long = bad_command (ask_fields task arguments)
+    (λ form. ask_is_no_change form.change
+    (first_same (change_name form.change) (codes "ask") form.arguments (task ∷ arguments) (sym form.fields_are)))
+    (λ form. let few = subst (λ xs. length xs ≤ 1) (ask_arguments task arguments form) form.few in absurd (omega arith))
+
+pub ask_alone : IsFirstCause (StandsOnCommand (codes "ask" ∷ [])) BadCommand
+ask_alone = bad_command (codes "ask" ∷ [])
+    (λ form. ask_is_no_change form.change
+    (first_same (change_name form.change) (codes "ask") form.arguments [] (sym form.fields_are)))
+    (λ form. let long : 1 ≡ length (codes "ask" ∷ form.task ∷ form.arguments) = ap length form.fields_are in
+    absurd (omega arith))
+
+pub bad_task : (task : List ℕ) (arguments : List (List ℕ)) → length arguments ≤ 1
+    → ((t : Task) → IsTask t → ¬ (task_name t ≡ task))
+    → IsFirstCause (StandsOnCommand (codes "ask" ∷ task ∷ arguments)) BadTask
+bad_task task arguments few unknown =
+    let form = ask_form task arguments few in
+    record {
+      stands = record { form = form; unknown = unknown };
+      first = from_task (ask_fields task arguments) (inr form);
+    }
+
+known_task : (task : List ℕ) (arguments : List (List ℕ)) (t : Task) → IsTask t → task_name t ≡ task
+    → HaveUnknownTask (codes "ask" ∷ task ∷ arguments) → ⊥
+known_task task arguments t is named h = h.unknown t is (named ∙ sym (ask_task task arguments h.form))
+
+pub bad_ask_number : (task : List ℕ) (arguments : List (List ℕ)) (t : Task) → length arguments ≤ 1 → IsTask t
+    → task_name t ≡ task → HaveNoNumber arguments
+    → IsFirstCause (StandsOnCommand (codes "ask" ∷ task ∷ arguments)) BadNumber
+bad_ask_number task arguments t few is named none =
+    let form = ask_form task arguments few in
+    record {
+      stands = inr (form, none);
+      first = from_number (ask_fields task arguments) (inr form) (known_task task arguments t is named);
+    }
+
+-- a query that was made fits its task
+pub made_fits : (p : Problem) (number : Option ℕ) → ((FitsTask p number → ⊥) → ⊥) → FitsTask p number
+made_fits Credulous None h = absurd (h (λ f. f))
+made_fits Credulous (Some n) h = tt
+made_fits Sceptical None h = absurd (h (λ f. f))
+made_fits Sceptical (Some n) h = tt
+made_fits SomeExtension None h = tt
+made_fits SomeExtension (Some n) h = absurd (h (λ f. f))
+made_fits AllExtensions None h = tt
+made_fits AllExtensions (Some n) h = absurd (h (λ f. f))
+
+-- an argument too many or too few
+pub counts_tell : (p : Problem) (number : Option ℕ) → (FitsTask p number → ⊥)
+    → length (asked_numbers number) ≡ asks_about p → ⊥
+counts_tell Credulous None unfit e = absurd (omega arith)
+counts_tell Credulous (Some n) unfit e = unfit tt
+counts_tell Sceptical None unfit e = absurd (omega arith)
+counts_tell Sceptical (Some n) unfit e = unfit tt
+counts_tell SomeExtension None unfit e = unfit tt
+counts_tell SomeExtension (Some n) unfit e = absurd (omega arith)
+counts_tell AllExtensions None unfit e = unfit tt
+counts_tell AllExtensions (Some n) unfit e = absurd (omega arith)
+
+fitting_counts : (p : Problem) (number : Option ℕ) → FitsTask p number
+    → length (asked_numbers number) ≡ asks_about p
+fitting_counts Credulous None fits = absurd fits
+fitting_counts Credulous (Some n) fits = refl
+fitting_counts Sceptical None fits = absurd fits
+fitting_counts Sceptical (Some n) fits = refl
+fitting_counts SomeExtension None fits = refl
+fitting_counts SomeExtension (Some n) fits = absurd fits
+fitting_counts AllExtensions None fits = refl
+fitting_counts AllExtensions (Some n) fits = absurd fits
+
+ask_spelled : (task : List ℕ) (arguments : List (List ℕ)) (numbers : List ℕ) → AllZip IsNumber arguments numbers
+    → StandsOnCommand (codes "ask" ∷ task ∷ arguments) BadNumber → ⊥
+ask_spelled task arguments numbers spelled (inl (form, none)) = ask_is_no_change form.change
+    (first_same (change_name form.change) (codes "ask") form.arguments (task ∷ arguments) (sym form.fields_are))
+ask_spelled task arguments numbers spelled (inr (form, none)) = none_missing arguments numbers spelled
+    (subst HaveNoNumber (ask_arguments task arguments form) none)
+
+pub bad_query : (task : List ℕ) (arguments : List (List ℕ)) (t : Task) (number : Option ℕ) → length arguments ≤ 1
+    → IsTask t → task_name t ≡ task → AllZip IsNumber arguments (asked_numbers number)
+    → (FitsTask t.problem number → ⊥)
+    → IsFirstCause (StandsOnCommand (codes "ask" ∷ task ∷ arguments)) BadQuery
+bad_query task arguments t number few is named spelled unfit =
+    let form = ask_form task arguments few in
+    let long = AllZip-long IsNumber arguments (asked_numbers number) spelled in
+    record {
+      stands = record {
+        form = form;
+        task = t;
+        task_is = is;
+        named = named;
+        unfit = λ e. counts_tell t.problem number unfit (long ∙ e);
+      };
+      first = λ other stands. (from_query (ask_fields task arguments) (inr form) (known_task task arguments t is named)
+          (ask_spelled task arguments (asked_numbers number) spelled) other stands).1;
+    }
+
+-- ---- no cause
+
+pub change_is_good : (change : Change) (arguments : List (List ℕ)) (numbers : List ℕ)
+    → Takes change (length arguments) → AllZip IsNumber arguments numbers → (cause : ScriptCause)
+    → StandsOnCommand (change_name change ∷ arguments) cause → ⊥
+change_is_good change arguments numbers takes spelled cause stands =
+    let fields : List (List ℕ) = change_name change ∷ arguments in
+    let form : HaveChangeForm fields
+    = record { change = change; arguments = arguments; fields_are = refl; takes = takes } in
+    let unfit = (from_query fields (inl form) (change_known fields form) (numbers_stand fields form) cause stands).0 in
+    forms_differ fields form unfit.form
+  where
+    numbers_stand : (fields : List (List ℕ)) → HaveChangeForm (change_name change ∷ arguments)
+        → StandsOnCommand (change_name change ∷ arguments) BadNumber → ⊥
+    numbers_stand fields form (inl (other, none)) = none_missing arguments numbers spelled
+        (subst HaveNoNumber (change_arguments change arguments other) none)
+    numbers_stand fields form (inr (other, none)) = forms_differ (change_name change ∷ arguments) form other
+
+pub ask_is_good : (task : List ℕ) (arguments : List (List ℕ)) (t : Task) (number : Option ℕ) → IsTask t
+    → task_name t ≡ task → AllZip IsNumber arguments (asked_numbers number) → FitsTask t.problem number
+    → (cause : ScriptCause) → StandsOnCommand (codes "ask" ∷ task ∷ arguments) cause → ⊥
+ask_is_good task arguments t number is named spelled fits cause stands =
+    let long = AllZip-long IsNumber arguments (asked_numbers number) spelled in
+    let few : length arguments ≤ 1 = few_asked number (sym long) in
+    let form = ask_form task arguments few in
+    let unfit = (from_query (ask_fields task arguments) (inr form) (known_task task arguments t is named)
+    (ask_spelled task arguments (asked_numbers number) spelled) cause stands).0 in
+    let same : unfit.task ≡ t = tasks_same unfit.task t (unfit.named ∙ ask_task task arguments unfit.form ∙ sym named) in
+    unfit.unfit
+    (ap length (ask_arguments task arguments unfit.form) ∙ sym long ∙ fitting_counts t.problem number fits
+    ∙ ap (λ x. asks_about x.problem) (sym same))
+  where
+    few_asked : (number : Option ℕ) → length arguments ≡ length (asked_numbers number) → length arguments ≤ 1
+    few_asked None e = omega arith
+    few_asked (Some n) e = omega arith

@@ -1,0 +1,9 @@
+mod CommandCauses
+mod Names
+mod ReadNumbers
+mod ReadLines
+mod AskedLines
+mod EditLines
+mod FirstFaults
+mod LineCauses
+mod OneScript

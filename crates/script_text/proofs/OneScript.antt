@@ -1,0 +1,99 @@
+-- A text is one script alone.
+use Rattle.std.proofs.Common.{◌≡◌, ℕ, List, [], ◌∷◌, length, get_or, refl, sym, ap, subst, ◌∙◌, arith}
+use Rattle.std.specs.Prelude.{Option, Some, None, codes}
+use Rattle.std.specs.List.{AllZip}
+use Rattle.num_text.specs.Cuts.{LineText, field_texts}
+use Rattle.num_text.specs.Lines.{kept_lines}
+use Rattle.num_text.specs.Number.{IsNumber}
+use Rattle.iccma_tasks.specs.declared.task.Task.{Task}
+use Rattle.iccma_tasks.specs.Tasks.{Asked, task_name}
+use Rattle.edit_rules.specs.declared.edit.Edit.{Edit}
+use Rattle.script_text.specs.declared.change.Change.{Change}
+use Rattle.script_text.specs.declared.script.Command.{Command}
+use Rattle.script_text.specs.declared.script.Command.TheVariants.{Edit as change_by, Ask}
+use Rattle.script_text.specs.declared.script.Script.{Script}
+use Rattle.script_text.specs.declared.script.ScriptLine.{ScriptLine}
+use Rattle.script_text.specs.Changes.{change_name, change_of, edit_numbers}
+use Rattle.script_text.specs.ScriptText.{
+  AreAskFields,
+  AreCommandFields,
+  AreEditFields,
+  IsScript,
+  IsScriptLine,
+  asked_numbers,
+}
+use Rattle.script_text.proofs.Names.{ask_is_no_change, changes_same, edits_same, tasks_same}
+
+-- partners are the same where each has one at most
+zipped_same : {A B : Type 0} (R : A → B → Type 0) → ((x : A) (y z : B) → R x y → R x z → y ≡ z) → (xs : List A)
+    (ys zs : List B) → AllZip R xs ys → AllZip R xs zs → ys ≡ zs
+zipped_same R same [] [] [] h k = refl
+zipped_same R same [] [] (z ∷ zs) h k = absurd k
+zipped_same R same [] (y ∷ ys) zs h k = absurd h
+zipped_same R same (x ∷ xs) [] zs h k = absurd h
+zipped_same R same (x ∷ xs) (y ∷ ys) [] h k = absurd k
+zipped_same R same (x ∷ xs) (y ∷ ys) (z ∷ zs) h k =
+    ap (λ w. w ∷ ys) (same x y z h.0 k.0) ∙ ap (λ ws. z ∷ ws) (zipped_same R same xs ys zs h.1 k.1)
+
+numbers_same : (texts : List (List ℕ)) (ms ns : List ℕ) → AllZip IsNumber texts ms → AllZip IsNumber texts ns → ms ≡ ns
+numbers_same = zipped_same IsNumber (λ text m n a b. sym a.value ∙ b.value)
+
+first_same : (x y : List ℕ) (xs ys : List (List ℕ)) → x ∷ xs ≡ y ∷ ys → x ≡ y
+first_same x y xs ys e = ap (λ fields. get_or fields 0 []) e
+
+others_same : (x y : List ℕ) (xs ys : List (List ℕ)) → x ∷ xs ≡ y ∷ ys → xs ≡ ys
+others_same x y xs ys e = cc
+
+edit_same : (fields : List (List ℕ)) (d e : Edit) → AreEditFields fields d → AreEditFields fields e → d ≡ e
+edit_same fields d e a b =
+    let both = sym a.fields_are ∙ b.fields_are in
+    let changes = changes_same (change_of d) (change_of e) (first_same _ _ a.numbers b.numbers both) in
+    let texts = others_same (change_name (change_of d)) (change_name (change_of e)) a.numbers b.numbers both in
+    edits_same d e changes (numbers_same b.numbers (edit_numbers d) (edit_numbers e)
+    (subst (λ ts. AllZip IsNumber ts (edit_numbers d)) texts a.spelled) b.spelled)
+
+one_number : (m n : Option ℕ) → asked_numbers m ≡ asked_numbers n → m ≡ n
+one_number None None e = refl
+one_number None (Some n) e = let long = ap length e in absurd (omega arith)
+one_number (Some m) None e = let long = ap length e in absurd (omega arith)
+one_number (Some m) (Some n) e = ap (λ xs. Some (get_or xs 0 0)) e
+
+ask_same : (fields : List (List ℕ)) (p q : Asked) → AreAskFields fields p → AreAskFields fields q → p ≡ q
+ask_same fields p q a b =
+    let both = sym a.fields_are ∙ b.fields_are in
+    let behind = others_same (codes "ask") (codes "ask") (task_name p.task ∷ a.numbers) (task_name q.task ∷ b.numbers) both
+    in
+    let tasks : p.task ≡ q.task = tasks_same p.task q.task (first_same _ _ a.numbers b.numbers behind) in
+    let texts = others_same (task_name p.task) (task_name q.task) a.numbers b.numbers behind in
+    let numbers : p.number ≡ q.number = one_number p.number q.number
+    (numbers_same b.numbers (asked_numbers p.number) (asked_numbers q.number)
+    (subst (λ ts. AllZip IsNumber ts (asked_numbers p.number)) texts a.spelled) b.spelled) in
+    asked_of tasks numbers
+  where
+    asked_of : p.task ≡ q.task → p.number ≡ q.number → p ≡ q
+    asked_of tasks numbers = λ i. record { task = tasks i; number = numbers i }
+
+command_same : (fields : List (List ℕ)) (c d : Command) → AreCommandFields fields c → AreCommandFields fields d → c ≡ d
+command_same fields (change_by a) (change_by b) h k = ap change_by (edit_same fields a b h k)
+command_same fields (change_by a) (Ask q) h k = absurd (ask_is_no_change (change_of a)
+    (first_same _ _ h.numbers (task_name q.task ∷ k.numbers) (sym h.fields_are ∙ k.fields_are)))
+command_same fields (Ask q) (change_by a) h k = absurd (ask_is_no_change (change_of a)
+    (first_same _ _ k.numbers (task_name q.task ∷ h.numbers) (sym k.fields_are ∙ h.fields_are)))
+command_same fields (Ask p) (Ask q) h k = ap Ask (ask_same fields p q h k)
+
+line_same : (text : List ℕ) (l m : ScriptLine) → IsScriptLine text l → IsScriptLine text m → l ≡ m
+line_same text l m a b =
+    let both = sym a.fields ∙ b.fields in
+    let texts : a.session ≡ b.session = first_same a.session b.session a.others b.others both in
+    let behind = others_same a.session b.session a.others b.others both in
+    let sessions : l.session ≡ m.session
+    = sym (subst (λ t. IsNumber t l.session) texts a.session_is.number).value ∙ b.session_is.number.value in
+    let commands : l.command ≡ m.command = command_same b.others l.command m.command
+    (subst (λ fs. AreCommandFields fs l.command) behind a.command_is) b.command_is in
+    λ i. record { session = sessions i; command = commands i }
+
+pub script_same : (bytes : List ℕ) (s t : Script) → IsScript bytes s → IsScript bytes t → s ≡ t
+script_same bytes s t a b =
+    let lines : s.lines ≡ t.lines = zipped_same (λ text line. IsScriptLine text.text line)
+    (λ text l m. line_same text.text l m) (kept_lines bytes) s.lines t.lines a b in
+    λ i. record { lines = lines i }

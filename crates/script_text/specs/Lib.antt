@@ -1,0 +1,4 @@
+pub mod Changes
+pub mod ScriptFaults
+pub mod ScriptText
+pub mod Steps

@@ -1,0 +1,122 @@
+-- The faults of a script's text: which cause stands at which line, and which is told.
+use Rattle.std.specs.Prelude.{◌≡◌, ℕ, ◌<◌, ◌≤◌, ◌⊎◌, List, [], ◌∷◌, length, Contains, codes}
+use Rattle.num_text.specs.Cuts.{LineText, field_texts}
+use Rattle.num_text.specs.Lines.{kept_lines}
+use Rattle.num_text.specs.Number.{IsNumber}
+use Rattle.iccma_tasks.specs.declared.task.Problem.{Problem}
+use Rattle.iccma_tasks.specs.declared.task.Problem.TheVariants.{Credulous, Sceptical, SomeExtension, AllExtensions}
+use Rattle.iccma_tasks.specs.declared.task.Task.{Task}
+use Rattle.iccma_tasks.specs.AnswerText.{behind_first}
+use Rattle.iccma_tasks.specs.Tasks.{IsTask, task_name}
+use Rattle.script_text.specs.declared.change.Change.{Change}
+use Rattle.script_text.specs.declared.fault.ScriptCause.{ScriptCause}
+use Rattle.script_text.specs.declared.fault.ScriptCause.TheVariants.{BadSession, BadCommand, BadTask, BadNumber, BadQuery}
+use Rattle.script_text.specs.declared.fault.ScriptFault.{ScriptFault}
+use Rattle.script_text.specs.declared.fault.ScriptFault.TheVariants.{At, Memory}
+use Rattle.script_text.specs.Changes.{change_name, Takes}
+use Rattle.script_text.specs.ScriptText.{SpellsSession}
+
+-- the name of a cause
+abbrev pub cause_name : ScriptCause → List ℕ
+cause_name BadSession = codes "BadSession"
+cause_name BadCommand = codes "BadCommand"
+cause_name BadTask = codes "BadTask"
+cause_name BadNumber = codes "BadNumber"
+cause_name BadQuery = codes "BadQuery"
+
+-- where several causes stand on one line, the one of the lowest rank is told
+abbrev pub rank : ScriptCause → ℕ
+rank BadSession = 1
+rank BadCommand = 2
+rank BadTask = 3
+rank BadNumber = 4
+rank BadQuery = 5
+
+-- of the causes that stand, this one is told
+pub record IsFirstCause (Stands : ScriptCause → Type 0) (cause : ScriptCause) : Type 0 where
+  pub stands : Stands cause
+  pub first : (other : ScriptCause) → Stands other → rank cause ≤ rank other
+
+-- the first field is the number of a session
+pub record BeginWithSession (fields : List (List ℕ)) : Type 0 where
+  pub text : List ℕ
+  pub others : List (List ℕ)
+  pub fields_are : fields ≡ text ∷ others
+  pub session : ℕ
+  pub session_is : SpellsSession text session
+
+-- the name of a command that changes the framework, and as many fields as it takes
+pub record HaveChangeForm (fields : List (List ℕ)) : Type 0 where
+  pub change : Change
+  pub arguments : List (List ℕ)
+  pub fields_are : fields ≡ change_name change ∷ arguments
+  pub takes : Takes change (length arguments)
+
+-- `ask`, a field, and another one or none
+pub record HaveAskForm (fields : List (List ℕ)) : Type 0 where
+  pub task : List ℕ
+  pub arguments : List (List ℕ)
+  pub fields_are : fields ≡ codes "ask" ∷ task ∷ arguments
+  pub few : length arguments ≤ 1
+
+-- what is asked is no task's name
+pub record HaveUnknownTask (fields : List (List ℕ)) : Type 0 where
+  pub form : HaveAskForm fields
+  pub unknown : (task : Task) → IsTask task → ¬ (task_name task ≡ form.task)
+
+-- some of the fields is no number
+pub record HaveNoNumber (fields : List (List ℕ)) : Type 0 where
+  pub field : List ℕ
+  pub member : Contains fields field
+  pub none : (n : ℕ) → ¬ IsNumber field n
+
+-- DC and DS ask about one number, SE and EE about none
+abbrev pub asks_about : Problem → ℕ
+asks_about Credulous = 1
+asks_about Sceptical = 1
+asks_about SomeExtension = 0
+asks_about AllExtensions = 0
+
+-- a task is asked with a number too few or too many
+pub record HaveUnfitTask (fields : List (List ℕ)) : Type 0 where
+  pub form : HaveAskForm fields
+  pub task : Task
+  pub task_is : IsTask task
+  pub named : task_name task ≡ form.task
+  pub unfit : ¬ (length form.arguments ≡ asks_about task.problem)
+
+-- the cause stands on the fields behind the session's number
+abbrev pub StandsOnCommand : List (List ℕ) → ScriptCause → Type 0
+StandsOnCommand fields BadSession = ⊥
+StandsOnCommand fields BadCommand = ¬ (HaveChangeForm fields ⊎ HaveAskForm fields)
+StandsOnCommand fields BadTask = HaveUnknownTask fields
+StandsOnCommand fields BadNumber = ((form : HaveChangeForm fields) × HaveNoNumber form.arguments)
+    ⊎ ((form : HaveAskForm fields) × HaveNoNumber form.arguments)
+StandsOnCommand fields BadQuery = HaveUnfitTask fields
+
+-- the cause stands on the fields of a line
+abbrev pub StandsOn : List (List ℕ) → ScriptCause → Type 0
+StandsOn fields BadSession = ¬ BeginWithSession fields
+StandsOn fields cause = StandsOnCommand (behind_first fields) cause
+
+-- the cause stands at one of the lines, the one of this number
+pub record StandsAt (lines : List LineText) (number : ℕ) (cause : ScriptCause) : Type 0 where
+  pub line : LineText
+  pub member : Contains lines line
+  pub number_is : number ≡ line.number
+  pub stands : StandsOn (field_texts line.text) cause
+
+-- the cause stands at the line of the bytes, every other one at a later line or behind it in the order
+pub record IsFirstFault (bytes : List ℕ) (number : ℕ) (cause : ScriptCause) : Type 0 where
+  pub stands : StandsAt (kept_lines bytes) number cause
+  pub first : (l : ℕ) (c : ScriptCause) → StandsAt (kept_lines bytes) l c
+      → (number < l) ⊎ ((number ≡ l) × (rank cause ≤ rank c))
+
+-- where the fault is that of a line, it is the first
+abbrev pub IsToldOf : List ℕ → ScriptFault → Type 0
+IsToldOf bytes (At line cause) = IsFirstFault bytes line cause
+IsToldOf bytes Memory = Unit {0}
+
+-- no cause stands at any line of the bytes
+pub record IsFaultless (bytes : List ℕ) : Type 0 where
+  pub none : (line : ℕ) (cause : ScriptCause) → StandsAt (kept_lines bytes) line cause → ⊥

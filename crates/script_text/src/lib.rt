@@ -1,0 +1,21 @@
+//! The text of a script: which session edits the framework how, and what it asks, line by line.
+//!
+//! A line is a session number and a command: `arg N`, `noarg N`, `att B A`, `noatt B A`, `asm A C`, `noasm A`,
+//! `con A C`, `rule H B1 .. Bk`, `norule R`, `ask TASK` or `ask TASK N`. Space, tab and CR are blanks between fields. A
+//! line without fields, or whose first field begins with `#`, is skipped; lines are numbered from 1, skipped ones
+//! included.
+#![tactic(auto)]
+
+mod arguments;
+mod ask;
+mod change;
+mod edit_line;
+mod fault;
+mod read;
+mod script;
+mod script_line;
+
+pub use change::Change;
+pub use fault::{ScriptCause, ScriptFault};
+pub use read::read_script;
+pub use script::{Command, MOST_SESSIONS, Script, ScriptLine};

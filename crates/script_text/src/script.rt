@@ -1,0 +1,33 @@
+//! Scripts as values.
+
+use edit_rules::Edit;
+use iccma_tasks::Query;
+use plain_lists::Items;
+
+/// The most sessions that a script may have: they are numbered from 1 to this.
+pub const MOST_SESSIONS: u32 = 8;
+
+/// What a line of a script has its session do.
+#[derive(Debug, Drop)]
+pub enum Command {
+    /// Change the framework.
+    Edit(Edit),
+    /// Ask about the framework as it then is.
+    Ask(Query),
+}
+
+/// A line of a script.
+#[derive(Debug, Drop)]
+pub struct ScriptLine {
+    /// The session whose line it is, from 1 to [`MOST_SESSIONS`].
+    pub session: u32,
+    /// What the session does.
+    pub command: Command,
+}
+
+/// The lines of a script in order, without those that are skipped. Each session does its own in this order.
+#[derive(Debug, Drop)]
+pub struct Script {
+    /// The lines.
+    pub lines: Items<ScriptLine>,
+}
