@@ -1,7 +1,7 @@
 -- What is left of a set without what admissible sets attack.
-use Rattle.std.proofs.Common.{◌≡◌, ◌≢◌, ℕ, List, [], ◌∷◌, ◌++◌, sym, subst}
-use Rattle.std.specs.Prelude.{◌⊎◌, Contains, Result, Ok, Err, IfOk}
-use Rattle.plain_lists.specs.Members.{IsSetOf, IsWithin}
+use Rattle.std.proofs.Common.{◌≢◌, ℕ, List, sym, subst}
+use Rattle.std.specs.Prelude.{Contains, Result, Ok, Err, IfOk}
+use Rattle.plain_lists.specs.Members.{IsWithin}
 use Rattle.plain_lists.specs.declared.memory.Memory.{Memory}
 use Rattle.semantics.specs.Framework.{Af, IsAdmissible, IsConflictFree}
 use Rattle.semantics.specs.Frameworks.{Framework, af}
@@ -9,7 +9,7 @@ use Rattle.meaning_atoms.specs.declared.atom.Atom.TheVariants.{Ad}
 use Rattle.meaning_atoms.specs.Worlds.{HoldsOf}
 use Rattle.admissible_part.specs.Parts.{IsAdmissiblePart, IsLargestPart}
 use Rattle.ideal_set.specs.declared.attackers.Attackers.{Attackers}
-use Rattle.ideal_set.specs.Ideals.{Hits, IsCut, IsFree, IsPicture, IsPictureOf}
+use Rattle.ideal_set.specs.Ideals.{IsCut, IsCutBeside, IsFree, IsPicture, IsPictureOf, Keeps}
 
 -- without attacks of arguments on themselves the set is conflict-free too
 pub conflict_free_of : (f : Framework) (plain : Af) (set : List ℕ) → IsPicture f plain → HoldsOf f set Ad
@@ -40,13 +40,17 @@ is_free (af f) plain set hit part is ok h = record {
   apart = h.apart;
 }
 
-pub is_cut : (f : Framework) (plain : Af) (set other hit : List ℕ) (old new : Attackers)
-    (result : Result (List ℕ) Memory) → IsPicture f plain → HoldsOf f set Ad → new.sets ≡ old.sets ++ other ∷ []
-    → new.hit ≡ hit → IsSetOf (λ a. Contains old.hit a ⊎ Hits f other a) hit
+pub is_cut : (f : Framework) (plain : Af) (set other : List ℕ) (old new : Attackers)
+    (result : Result (List ℕ) Memory) → IsPicture f plain → HoldsOf f set Ad → Keeps f other old new
     → IfOk result (IsLargestPart plain set new.hit) → IfOk result (IsCut f other old new)
-is_cut f plain set other hit old new (Ok left) is ok pushed same gains h = record {
-  sets = pushed;
-  hit = subst (λ (xs : List ℕ). IsSetOf (λ a. Contains old.hit a ⊎ Hits f other a) xs) (sym same) gains;
+is_cut f plain set other old new (Ok left) is ok keeps h = record {
+  sets = keeps.sets;
+  hit = keeps.hit;
   free = is_free f plain set new.hit left is ok h.is_part;
 }
-is_cut f plain set other hit old new (Err memory) is ok pushed same gains h = h
+is_cut f plain set other old new (Err memory) is ok keeps h = h
+
+pub cut_beside : (f : Framework) (set other : List ℕ) (old between new : Attackers) (result : Result (List ℕ) Memory)
+    → Keeps f set old between → IfOk result (IsCut f other between new) → IfOk result (IsCutBeside f set other old new)
+cut_beside f set other old between new (Ok left) keeps cut = record { between = between; keeps = keeps; cut = cut }
+cut_beside f set other old between new (Err memory) keeps h = h

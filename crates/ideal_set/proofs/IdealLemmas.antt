@@ -44,7 +44,8 @@ use Rattle.goal_lists.proofs.Measures.{fewer_outside}
 use Rattle.goal_lists.proofs.SideLemmas.{ask_claim, beside_means, this_one}
 use Rattle.ideal_set.specs.declared.attackers.Attackers.{Attackers}
 use Rattle.ideal_set.specs.declared.free.Free.{Free}
-use Rattle.ideal_set.specs.Ideals.{Attacks, Hits, IsAsked, IsCut, IsFree, IsIdealFound, IsLargestFree, IsSearch, MadeForIdeal, attacked_claim, free_claim}
+use Rattle.ideal_set.specs.Ideals.{Attacks, Hits, IsAsked, IsCut, IsCutBeside, IsFree, IsHit, IsIdealFound, IsLargestFree, IsSearch, MadeForIdeal}
+use Rattle.ideal_set.specs.Ideals.{attacked_claim, free_claim}
 use Rattle.ideal_set.specs.declared.searching.IdealSet.{IdealSet}
 use Rattle.ideal_set.proofs.FreeLemmas.{free_plain}
 
@@ -164,7 +165,7 @@ search_begun f log others hit none empty = record {
   };
   asks = [];
   apart = record { apart = λ i j lt high e. absurd (omega arith) };
-  count = sym (ap length none);
+  count = omega (arith, ap length none);
   named = λ n c. absurd (Contains-nil n c);
   spent = λ n c. absurd (Contains-nil n c);
 }
@@ -203,43 +204,83 @@ attacked_form (af f) e a c =
     let m = Contains-from_mapped (λ x. affirmed (Tail x 1)) e (affirmed (Tail a 1)) c in
     subst (λ (x : ℕ). Contains e x) (tail_number m.0 a m.2) m.1
 
--- one more set, which attacks a set without what those before attack
-pub search_more : (f : Framework) (log : OracleLog) (others : List (List ℕ)) (hit e other more : List ℕ)
-    → IsSearch f log others hit → IsFree f hit e → HoldsOf f other Ad → ((a : ℕ) × Contains e a × Hits f other a)
-    → ((n : ℕ) × IsAskOf log.sides (attacked f e) n) → IsSetOf (λ a. Contains hit a ⊎ Hits f other a) more
-    → IsSearch f log (others ++ other ∷ []) more
-search_more f log others hit e other more h free adm attack ask all = record {
-  admissible = λ t c. ⊎_elim (λ k. h.admissible t k) (λ k. subst (λ (s : List ℕ). HoldsOf f s Ad) (only_one other t k)
-      adm)
-      (Contains-append_cases others (other ∷ []) t c);
-  hits = record {
-    rises = all.rises;
-    members = λ a. (
-      λ c. ⊎_elim
-          (λ k. let m = (h.hits.members a).0 k in (m.0, Contains-append_left others (other ∷ []) m.0 m.1, m.2))
-          (λ k. (other, Contains-pushed others other other refl, k))
-          ((all.members a).0 c),
-      λ m. (all.members a).1
-          (⊎_elim (λ k. inl ((h.hits.members a).1 (m.0, k, m.2)))
-          (λ k. inr (subst (λ (s : List ℕ). Hits f s a) (sym (only_one other m.0 k)) m.2))
-          (Contains-append_cases others (other ∷ []) m.0 m.1)),
-    );
-  };
+-- what a set that is free of the numbers attacks is no member of it
+free_of_own : (f : Framework) (hit e : List ℕ) → IsFree f hit e → (a : ℕ) → Contains e a → Hits f e a → ⊥
+free_of_own (af f) hit e free a c k = free.admissible.conflict_free.apart k.0 a k.1 c k.2
+
+-- sets that were kept, or those and an admissible one more
+pub record HasKept (f : Framework) (others middle : List (List ℕ)) (hit mid : List ℕ) : Type 0 where
+  pub admissible : ((t : List ℕ) → Contains others t → HoldsOf f t Ad) → (t : List ℕ) → Contains middle t
+      → HoldsOf f t Ad
+  pub hits : IsSetOf (IsHit f others) hit → IsSetOf (IsHit f middle) mid
+  pub sub : IsWithin hit mid
+  pub few : length middle ≤ length others + 1
+
+kept_all : (f : Framework) (others : List (List ℕ)) (hit : List ℕ) → HasKept f others others hit hit
+kept_all f others hit = record {
+  admissible = λ h. h;
+  hits = λ h. h;
+  sub = λ a c. c;
+  few = omega arith;
+}
+
+-- what is attacked where there is one set more
+hits_pushed : (f : Framework) (others : List (List ℕ)) (hit other more : List ℕ) → IsSetOf (IsHit f others) hit
+    → IsSetOf (λ a. Contains hit a ⊎ Hits f other a) more → IsSetOf (IsHit f (others ++ other ∷ [])) more
+hits_pushed f others hit other more h all = record {
+  rises = all.rises;
+  members = λ a. (
+    λ c. ⊎_elim
+        (λ k. let m = (h.members a).0 k in (m.0, Contains-append_left others (other ∷ []) m.0 m.1, m.2))
+        (λ k. (other, Contains-pushed others other other refl, k))
+        ((all.members a).0 c),
+    λ m. (all.members a).1
+        (⊎_elim (λ k. inl ((h.members a).1 (m.0, k, m.2)))
+        (λ k. inr (subst (λ (s : List ℕ). Hits f s a) (sym (only_one other m.0 k)) m.2))
+        (Contains-append_cases others (other ∷ []) m.0 m.1)),
+  );
+}
+
+admissible_pushed : (f : Framework) (others : List (List ℕ)) (other : List ℕ)
+    → ((t : List ℕ) → Contains others t → HoldsOf f t Ad) → HoldsOf f other Ad → (t : List ℕ)
+    → Contains (others ++ other ∷ []) t → HoldsOf f t Ad
+admissible_pushed f others other each adm t c =
+    ⊎_elim (λ k. each t k) (λ k. subst (λ (s : List ℕ). HoldsOf f s Ad) (only_one other t k) adm)
+    (Contains-append_cases others (other ∷ []) t c)
+
+kept_one : (f : Framework) (others : List (List ℕ)) (hit e mid : List ℕ) → HoldsOf f e Ad
+    → IsSetOf (λ a. Contains hit a ⊎ Hits f e a) mid → HasKept f others (others ++ e ∷ []) hit mid
+kept_one f others hit e mid adm all = record {
+  admissible = λ each. admissible_pushed f others e each adm;
+  hits = λ h. hits_pushed f others hit e mid h all;
+  sub = λ a c. (all.members a).1 (inl c);
+  few = omega (arith, length-append others (e ∷ []));
+}
+
+-- one more set, which attacks a set without what those kept attack
+pub search_more : (f : Framework) (log : OracleLog) (others middle : List (List ℕ)) (hit mid e other more : List ℕ)
+    → IsSearch f log others hit → HasKept f others middle hit mid → IsFree f mid e → HoldsOf f other Ad
+    → ((a : ℕ) × Contains e a × Hits f other a) → ((n : ℕ) × IsAskOf log.sides (attacked f e) n)
+    → IsSetOf (λ a. Contains mid a ⊎ Hits f other a) more → IsSearch f log (middle ++ other ∷ []) more
+search_more f log others middle hit mid e other more h kept free adm attack ask all = record {
+  admissible = admissible_pushed f middle other (kept.admissible h.admissible) adm;
+  hits = hits_pushed f middle mid other more (kept.hits h.hits) all;
   asks = h.asks ++ ask.0 ∷ [];
   apart = apart_pushed h.asks ask.0 h.apart
       (λ c. let m = h.spent ask.0 c in
-      free.apart m.0 (attacked_form f e m.0 (ask.1.same.there (affirmed (Tail m.0 1)) m.2)) m.1);
+      free.apart m.0 (attacked_form f e m.0 (ask.1.same.there (affirmed (Tail m.0 1)) m.2)) (kept.sub m.0 m.1));
   count = omega (
     arith,
     h.count,
+    kept.few,
     length-append h.asks (ask.0 ∷ []),
-    length-append others (other ∷ []),
+    length-append middle (other ∷ []),
   );
   named = λ n c. ⊎_elim (λ k. h.named n k)
       (λ k. subst (λ (m : ℕ). IsNumberOf log.sides m) (only_one ask.0 n k) ask.1.number)
       (Contains-append_cases h.asks (ask.0 ∷ []) n c);
   spent = λ n c. ⊎_elim
-      (λ k. let m = h.spent n k in (m.0, (all.members m.0).1 (inl m.1), m.2))
+      (λ k. let m = h.spent n k in (m.0, (all.members m.0).1 (inl (kept.sub m.0 m.1)), m.2))
       (λ k. (
         attack.0,
         (all.members attack.0).1 (inr attack.2),
@@ -249,18 +290,18 @@ search_more f log others hit e other more h free adm attack ask all = record {
       (Contains-append_cases h.asks (ask.0 ∷ []) n c);
 }
 
--- there are no more sets than side clauses
+-- there are no more sets than two for each side clause
 few_sets : (f : Framework) (P : Making) (old new : OracleLog) (others : List (List ℕ)) (hit : List ℕ)
-    → IsSearch f old others hit → Grows P old new → length others ≤ length new.sides
+    → IsSearch f old others hit → Grows P old new → length others ≤ 2 * length new.sides
 few_sets f P old new others hit h grows =
     let few = asks_fit h.asks old.sides h.apart h.named in
     let count = h.count in
     let more : length new.sides ≡ length (old.sides ++ grows.more_sides.0) = ap length grows.more_sides.1 in
     omega (arith, few, count, more, length-append old.sides grows.more_sides.0)
 
--- two steps for each of them, and two more, are within the bound
+-- a step for each of them, and two more, are within the bound
 pub within_bound : (f : Framework) (P : Making) (old new : OracleLog) (others : List (List ℕ)) (hit : List ℕ) (m : ℕ)
-    → m ≤ 2 → IsSearch f old others hit → Grows P old new → 2 * length others + m ≤ 2 * length new.sides + 2
+    → m ≤ 2 → IsSearch f old others hit → Grows P old new → length others + m ≤ 2 * length new.sides + 2
 within_bound f P old new others hit m few h grows = omega (arith, few, few_sets f P old new others hit h grows)
 
 -- ---- the ideal set
@@ -380,7 +421,8 @@ pub search_cut : (f : Framework) (log : OracleLog) (old new : Attackers) (e othe
     → IsCut f other old new left → IsSearch f log new.sets new.hit
 search_cut f log old new e other left h free adm attack ask cut =
     subst (λ (xs : List (List ℕ)). IsSearch f log xs new.hit) (sym cut.sets)
-    (search_more f log old.sets old.hit e other new.hit h free adm attack ask cut.hit)
+    (search_more f log old.sets old.sets old.hit old.hit e other new.hit h (kept_all f old.sets old.hit) free adm attack
+    ask cut.hit)
 
 pub one_more : (f : Framework) (other left : List ℕ) (old new : Attackers) → IsCut f other old new left
     → length new.sets ≡ length old.sets + 1
@@ -398,3 +440,42 @@ pub fewer_left : (f : Framework) (log : OracleLog) (old new : Attackers) (e othe
 fewer_left f log old new e other left more ok h free attack cut sub live =
     fewer_outside (members f) old.hit more live (λ a c. sub a (hit_stays f other left old new cut a c))
     (λ back. free.apart attack.0 attack.1 (back attack.0 (sub attack.0 ((cut.hit.members attack.0).1 (inr attack.2)))))
+
+-- ---- a grown set, and one that attacks it
+
+apart_beside : (f : Framework) (hit e mid : List ℕ) → IsFree f hit e → IsSetOf (λ a. Contains hit a ⊎ Hits f e a) mid
+    → IsFree f mid e
+apart_beside f hit e mid free all = record {
+  admissible = free.admissible;
+  apart = λ a c d. ⊎_elim (λ k. free.apart a c k) (λ k. free_of_own f hit e free a c k) ((all.members a).0 d);
+}
+
+pub search_beside_cut : (f : Framework) (log : OracleLog) (old new : Attackers) (e other left : List ℕ)
+    → IsSearch f log old.sets old.hit → IsFree f old.hit e → HoldsOf f other Ad
+    → ((a : ℕ) × Contains e a × Hits f other a) → ((n : ℕ) × IsAskOf log.sides (attacked f e) n)
+    → IsCutBeside f e other old new left → IsSearch f log new.sets new.hit
+search_beside_cut f log old new e other left h free adm attack ask cut =
+    let mid = cut.between in
+    subst (λ (xs : List (List ℕ)). IsSearch f log xs new.hit)
+    (sym (cut.cut.sets ∙ ap (λ (xs : List (List ℕ)). xs ++ other ∷ []) cut.keeps.sets))
+    (search_more f log old.sets (old.sets ++ e ∷ []) old.hit mid.hit e other new.hit h
+    (kept_one f old.sets old.hit e mid.hit free.admissible cut.keeps.hit)
+    (apart_beside f old.hit e mid.hit free cut.keeps.hit) adm attack ask cut.cut.hit)
+
+pub two_more : (f : Framework) (e other left : List ℕ) (old new : Attackers) → IsCutBeside f e other old new left
+    → length new.sets ≡ length old.sets + 2
+two_more f e other left old new cut =
+    let first = one_more f other left cut.between new cut.cut in
+    let second : length cut.between.sets ≡ length old.sets + 1 =
+    ap length cut.keeps.sets ∙ length-append old.sets (e ∷ []) in
+    omega (arith, first, second)
+
+pub fewer_beside : (f : Framework) (old new : Attackers) (e other left more : List ℕ) → IsFree f old.hit e
+    → ((a : ℕ) × Contains e a × Hits f other a) → IsCutBeside f e other old new left → IsWithin new.hit more
+    → IsWithin more (members f)
+    → length (filter (λ x. not (has more x)) (members f)) < length (filter (λ x. not (has old.hit x)) (members f))
+fewer_beside f old new e other left more free attack cut sub live =
+    fewer_outside (members f) old.hit more live
+    (λ a c. sub a (hit_stays f other left cut.between new cut.cut a ((cut.keeps.hit.members a).1 (inl c))))
+    (λ back. free.apart attack.0 attack.1
+    (back attack.0 (sub attack.0 ((cut.cut.hit.members attack.0).1 (inr attack.2)))))

@@ -2,7 +2,7 @@
 --
 -- Source: P. M. Dung, P. Mancarella, F. Toni, "Computing ideal sceptical argumentation", Artificial Intelligence 171
 -- (2007): an admissible set that no admissible set attacks lies in every preferred set.
-use Rattle.std.specs.Prelude.{◌≡◌, ◌≢◌, ◌↔◌, ◌⊎◌, ◌≤◌, ℕ, List, [], ◌∷◌, ◌++◌, length, Contains}
+use Rattle.std.specs.Prelude.{◌≡◌, ◌≢◌, ◌↔◌, ◌⊎◌, ◌≤◌, ◌*◌, ℕ, List, [], ◌∷◌, ◌++◌, length, Contains}
 use Rattle.plain_lists.specs.Members.{IsSetOf, IsWithin}
 use Rattle.semantics.specs.Framework.{Af, Attacks as AttacksIn, IsAttackedBy}
 use Rattle.semantics.specs.Frameworks.{Framework, af}
@@ -78,14 +78,14 @@ IsAsked f log e found = (n : ℕ) × IsAskOf log.sides (attacked f e) n
 
 -- ---- the search
 
--- the sets found so far, what they attack, and different side clauses, one for each, of which each has something that
--- is attacked
+-- the sets found so far, what they attack, and different side clauses, one for every two of them at least, of which each
+-- has something that is attacked
 pub record IsSearch (f : Framework) (log : OracleLog) (others : List (List ℕ)) (hit : List ℕ) : Type 0 where
   pub admissible : (t : List ℕ) → Contains others t → HoldsOf f t Ad
   pub hits : IsSetOf (IsHit f others) hit
   pub asks : List ℕ
   pub apart : AreApart asks
-  pub count : length asks ≡ length others
+  pub count : length others ≤ 2 * length asks
   pub named : (n : ℕ) → Contains asks n → IsNumberOf log.sides n
   pub spent : (n : ℕ) → Contains asks n
       → (a : ℕ) × Contains hit a × Contains (side_at log.sides n).literals (affirmed (Tail a 1))
@@ -106,11 +106,22 @@ pub record IsPictureOf (f plain : Af) : Type 0 where
 abbrev pub IsPicture : Framework → Af → Type 0
 IsPicture (af f) plain = IsPictureOf f plain
 
+-- there is one set more, with what it attacks
+pub record Keeps (f : Framework) (set : List ℕ) (old new : Attackers) : Type 0 where
+  pub sets : new.sets ≡ old.sets ++ set ∷ []
+  pub hit : IsSetOf (λ a. Contains old.hit a ⊎ Hits f set a) new.hit
+
 -- there is one set more, with what it attacks, and what is left holds nothing that the sets attack
 pub record IsCut (f : Framework) (set : List ℕ) (old new : Attackers) (left : List ℕ) : Type 0 where
   pub sets : new.sets ≡ old.sets ++ set ∷ []
   pub hit : IsSetOf (λ a. Contains old.hit a ⊎ Hits f set a) new.hit
   pub free : IsFree f new.hit left
+
+-- there is the set itself too, with what it attacks
+pub record IsCutBeside (f : Framework) (set other : List ℕ) (old new : Attackers) (left : List ℕ) : Type 0 where
+  pub between : Attackers
+  pub keeps : Keeps f set old between
+  pub cut : IsCut f other between new left
 
 -- there may be more sets, and what is left holds nothing that they attack
 pub record IsPruned (f : Framework) (log : OracleLog) (old new : Attackers) (left : List ℕ) : Type 0 where

@@ -1,13 +1,13 @@
 //! Admissible sets that attack a set, and what is left of the set without what they attack.
 
-ghost use Rattle.std.specs.Prelude.{◌≡◌, ◌⊎◌, Contains, IfOk};
+ghost use Rattle.std.specs.Prelude.{◌≡◌, ◌⊎◌, Contains, IfOk, OnOk};
 ghost use Rattle.plain_lists.specs.Members.{IsSetOf};
 ghost use Rattle.meaning_atoms.specs.declared.atom.Atom.TheVariants.{Ad};
 ghost use Rattle.meaning_atoms.specs.Worlds.{HoldsOf};
 ghost use Rattle.oracle_face.specs.Growing.{HasRun, closes, halt_of};
 ghost use Rattle.oracle_face.specs.Logs.{IsKept};
-ghost use Rattle.ideal_set.specs.Ideals.{AreAttackers, Attacks, Hits, IsAsked, IsCut, IsFree, IsPicture, IsPruned};
-ghost use Rattle.ideal_set.specs.Ideals.{MadeForIdeal};
+ghost use Rattle.ideal_set.specs.Ideals.{AreAttackers, Attacks, Hits, IsAsked, IsCut, IsCutBeside, IsFree, IsPicture};
+ghost use Rattle.ideal_set.specs.Ideals.{IsPruned, Keeps, MadeForIdeal};
 
 use admissible_part::largest_part;
 use dung_notions::AfPlain;
@@ -18,7 +18,7 @@ use plain_lists::{Items, Memory};
 use set_lists::NumSet;
 use std::alloc::Global;
 
-/// Admissible sets, and what they attack.
+/// Admissible sets, of which each attacks what was left of a grown one or is a grown one, and what they attack.
 #[derive(Debug, Drop)]
 pub(crate) struct Attackers {
     pub(crate) sets: Items<NumSet>,
@@ -67,9 +67,24 @@ fn with_hits<O: Oracle>(
     hit.union(alloc, &struck)
 }
 
+/// Takes an admissible set, with what it attacks.
+fn keep<O: Oracle>(
+    alloc: Global,
+    oracle: &O,
+    found: &mut Attackers,
+    set: NumSet,
+) -> Result<(), Memory>
+    requires { HoldsOf (O.framework oracle.now) set Ad }
+    ensures { OnOk result (Keeps (O.framework oracle.now) set found.old found.new) }
+{
+    found.hit = with_hits(alloc, oracle, &found.hit, &set)?;
+    found.sets.push(set)?;
+    Ok(())
+}
+
 /// Takes an admissible set that attacks another one. What is left of the other is its largest admissible part without
 /// what the sets attack.
-pub(crate) fn cut<O: Oracle>(
+fn cut<O: Oracle>(
     alloc: Global,
     oracle: &O,
     plain: &AfPlain,
@@ -82,9 +97,28 @@ pub(crate) fn cut<O: Oracle>(
     requires other { HoldsOf (O.framework oracle.now) other Ad }
     ensures { IfOk result (IsCut (O.framework oracle.now) other found.old found.new) }
 {
-    found.hit = with_hits(alloc, oracle, &found.hit, &other)?;
-    found.sets.push(other)?;
+    keep(alloc, oracle, found, other)?;
     largest_part(alloc, plain, set, &found.hit)
+}
+
+/// Takes a set that was grown to its end, and an admissible one that attacks it, as `cut` does. The ideal set lies in
+/// the grown one, so it holds nothing that this attacks; and without what it attacks there is nothing larger to be found
+/// later, which spares a third of the searches.
+pub(crate) fn cut_grown<O: Oracle>(
+    alloc: Global,
+    oracle: &O,
+    plain: &AfPlain,
+    found: &mut Attackers,
+    set: &NumSet,
+    other: NumSet,
+) -> Result<NumSet, Memory>
+    requires plain { IsPicture (O.framework oracle.now) plain.now }
+    requires set { HoldsOf (O.framework oracle.now) set.now Ad }
+    requires other { HoldsOf (O.framework oracle.now) other Ad }
+    ensures { IfOk result (IsCutBeside (O.framework oracle.now) set.now other found.old found.new) }
+{
+    keep(alloc, oracle, found, set.copy(alloc)?)?;
+    cut(alloc, oracle, plain, found, set, other)
 }
 
 /// What is left of a set when no admissible set attacks it any more. Each turn asks for one that does; so it asks

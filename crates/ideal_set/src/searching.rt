@@ -5,7 +5,7 @@ ghost use Rattle.oracle_face.specs.Growing.{HasRun, halt_of};
 ghost use Rattle.oracle_face.specs.Logs.{IsKept};
 ghost use Rattle.ideal_set.specs.Ideals.{IsIdealFound, MadeForIdeal};
 
-use crate::attackers::{Attackers, attacker, cut, prune};
+use crate::attackers::{Attackers, attacker, cut_grown, prune};
 use crate::free::largest_free;
 use crate::picture::picture;
 use oracle_face::{Budget, Found, Halt, Oracle, StepId};
@@ -24,8 +24,9 @@ pub struct IdealSet {
 }
 
 /// The ideal set. An admissible set is grown to its end. Where admissible sets attack it, it is cut down until none
-/// attacks what is left, and grown anew without what they attack; where none does, it is ideal. With k such sets and n
-/// times that a set was cut down and grown, it asks k + n + 1 times for one, besides what it asks to grow.
+/// attacks what is left, and grown anew without what they and the grown set attack; where none does, it is ideal. With k
+/// such sets and n times that a set was cut down and grown, it asks k + n + 1 times for one, besides what it asks to
+/// grow.
 pub fn ideal<O: Oracle>(
     alloc: Global,
     oracle: &mut O,
@@ -58,7 +59,7 @@ pub fn ideal<O: Oracle>(
             }
             Found::Set(other) => {
                 let plain = picture(alloc, oracle)?;
-                let left = cut(alloc, oracle, &plain, &mut found, &free.set, other)?;
+                let left = cut_grown(alloc, oracle, &plain, &mut found, &free.set, other)?;
                 start = prune(alloc, oracle, budget, &plain, &mut found, &left)?;
             }
         }

@@ -6,8 +6,8 @@ use Rattle.meaning_atoms.specs.Worlds.{HoldsOf}
 use Rattle.oracle_face.specs.declared.face.Found.TheVariants.{Set, Refuted}
 use Rattle.oracle_face.proofs.GrowingLemmas.{grows_same, run_as}
 use Rattle.goal_lists.proofs.Calls.{closes_refuted, closes_set, makes_same, run_handed, then_refused, then_same}
-use Rattle.ideal_set.specs.Ideals.{AreAttackers, IsCut, IsFree, IsPruned, MadeForIdeal}
-use Rattle.ideal_set.proofs.IdealLemmas.{fewer_left, grown_turn, hit_within, is_ideal, one_more, search_cut, turned, within_bound}
+use Rattle.ideal_set.specs.Ideals.{AreAttackers, IsCutBeside, IsFree, IsPruned, MadeForIdeal}
+use Rattle.ideal_set.proofs.IdealLemmas.{fewer_beside, grown_turn, hit_within, is_ideal, search_beside_cut, turned, two_more, within_bound}
 use Rattle.ideal_set.proofs.searching.ideal.Goals as goal
 
 pub largest_free-requires-clause-hit : goal.largest_free-requires-clause-hit
@@ -29,7 +29,7 @@ returns-in_err-free-clause-run g c =
     let inv = c.loop-start.invariant in
     let most = 2 * length (g.O.Oracle.log c.largest_free.new.oracle).sides + 2 in
     run_handed (MadeForIdeal f) most f _ _ _ _ _ _ c.in_err-free.field-0.0 c.from_residual.ensures
-    (then_same MadeForIdeal f (g.O.Oracle.framework c.loop-start.oracle) (2 * length c.loop-start.found.sets) 1 most
+    (then_same MadeForIdeal f (g.O.Oracle.framework c.loop-start.oracle) (length c.loop-start.found.sets) 1 most
     _ _ _ _ _ _ _ _ _ inv.framework
     (within_bound f _ (g.O.Oracle.log c.loop-start.oracle) (g.O.Oracle.log c.largest_free.new.oracle)
     c.loop-start.found.sets c.loop-start.found.hit 1 (omega arith) inv.searched c.in_err-free.ensures.run.grows)
@@ -39,14 +39,14 @@ pub returns-in_err-unattacked-clause-run : goal.returns-in_err-unattacked-clause
 returns-in_err-unattacked-clause-run g c =
     let f = g.O.Oracle.framework c.args.oracle.now in
     let inv = c.loop-start.invariant in
-    let grown = grown_turn f (g.O.Oracle.framework c.loop-start.oracle) (2 * length c.loop-start.found.sets)
+    let grown = grown_turn f (g.O.Oracle.framework c.loop-start.oracle) (length c.loop-start.found.sets)
     _ _ _ _ _ _ _ _ c.loop-start.found.sets c.loop-start.found.hit c.in_ok-free.free inv.framework inv.run
     inv.searched c.in_ok-free.ensures.run c.in_ok-free.ensures.largest in
     let most = 2 * length (g.O.Oracle.log c.attacker.new.oracle).sides + 2 in
     run_handed (MadeForIdeal f) most f _ _ _ _ _ _ c.in_err-unattacked.field-0.0
     c.from_residual-in_err-unattacked.ensures
     (then_same MadeForIdeal f (g.O.Oracle.framework c.largest_free.new.oracle)
-    (2 * length c.loop-start.found.sets + 1) 0 most _ _ _ _ _ _ _ _ _
+    (length c.loop-start.found.sets + 1) 0 most _ _ _ _ _ _ _ _ _
     (c.in_ok-free.ensures.framework ∙ inv.framework)
     (omega (
       arith,
@@ -62,7 +62,7 @@ returns-in-Refuted-clause-ideal g c =
     let inv = c.loop-start.invariant in
     let same = c.in_ok-unattacked.ensures.framework ∙ (c.in_ok-free.ensures.framework ∙ inv.framework) in
     let turn = turned f (g.O.Oracle.framework c.loop-start.oracle) (g.O.Oracle.framework c.largest_free.new.oracle)
-    (2 * length c.loop-start.found.sets) 1 _ _ _ _ _ _ _ _ _ _ _ c.loop-start.found.sets c.loop-start.found.hit
+    (length c.loop-start.found.sets) 1 _ _ _ _ _ _ _ _ _ _ _ c.loop-start.found.sets c.loop-start.found.hit
     c.in_ok-free.free c.in_ok-unattacked.field-0 (Refuted c.in-Refuted.unattacked) inv.framework
     (c.in_ok-free.ensures.framework ∙ inv.framework) c.in_ok-free.ensures.kept inv.run inv.searched
     c.in_ok-free.ensures.run c.in_ok-free.ensures.largest c.in_ok-unattacked.ensures.run
@@ -84,14 +84,14 @@ returns-in-Refuted-clause-run g c =
     let inv = c.loop-start.invariant in
     let same = c.in_ok-unattacked.ensures.framework ∙ (c.in_ok-free.ensures.framework ∙ inv.framework) in
     let turn = turned f (g.O.Oracle.framework c.loop-start.oracle) (g.O.Oracle.framework c.largest_free.new.oracle)
-    (2 * length c.loop-start.found.sets) 1 _ _ _ _ _ _ _ _ _ _ _ c.loop-start.found.sets c.loop-start.found.hit
+    (length c.loop-start.found.sets) 1 _ _ _ _ _ _ _ _ _ _ _ c.loop-start.found.sets c.loop-start.found.hit
     c.in_ok-free.free c.in_ok-unattacked.field-0 (Refuted c.in-Refuted.unattacked) inv.framework
     (c.in_ok-free.ensures.framework ∙ inv.framework) c.in_ok-free.ensures.kept inv.run inv.searched
     c.in_ok-free.ensures.run c.in_ok-free.ensures.largest c.in_ok-unattacked.ensures.run
     c.in_ok-unattacked.ensures.attacks c.in_ok-unattacked.ensures.asked c.in-Refuted.is
     (closes_refuted c.in_ok-unattacked.field-0 c.in-Refuted.unattacked c.in-Refuted.is) in
     let log = g.O.Oracle.log c.attacker.new.oracle in
-    run_as (MadeForIdeal f) (MadeForIdeal f) (2 * length c.loop-start.found.sets + 1 + 1) (2 * length log.sides + 2) f
+    run_as (MadeForIdeal f) (MadeForIdeal f) (length c.loop-start.found.sets + 1 + 1) (2 * length log.sides + 2) f
     _ log _ _ _ None (makes_same (MadeForIdeal f))
     (omega (
       arith,
@@ -105,7 +105,7 @@ returns-in_err-plain-in-Set-clause-run g c =
     let inv = c.loop-start.invariant in
     let same = c.in_ok-unattacked.ensures.framework ∙ (c.in_ok-free.ensures.framework ∙ inv.framework) in
     let turn = turned f (g.O.Oracle.framework c.loop-start.oracle) (g.O.Oracle.framework c.largest_free.new.oracle)
-    (2 * length c.loop-start.found.sets) 0 _ _ _ _ _ _ _ _ _ _ _ c.loop-start.found.sets c.loop-start.found.hit
+    (length c.loop-start.found.sets) 0 _ _ _ _ _ _ _ _ _ _ _ c.loop-start.found.sets c.loop-start.found.hit
     c.in_ok-free.free c.in_ok-unattacked.field-0 (Set c.in-Set.other) inv.framework
     (c.in_ok-free.ensures.framework ∙ inv.framework) c.in_ok-free.ensures.kept inv.run inv.searched
     c.in_ok-free.ensures.run c.in_ok-free.ensures.largest c.in_ok-unattacked.ensures.run
@@ -114,7 +114,7 @@ returns-in_err-plain-in-Set-clause-run g c =
     let log = g.O.Oracle.log c.attacker.new.oracle in
     run_handed (MadeForIdeal f) (2 * length log.sides + 2) f _ _ _ _ _ _ Memory
     c.from_residual-in_err-plain-in-Set.ensures
-    (then_refused (MadeForIdeal f) (MadeForIdeal f) (2 * length c.loop-start.found.sets + 1 + 0)
+    (then_refused (MadeForIdeal f) (MadeForIdeal f) (length c.loop-start.found.sets + 1 + 0)
     (2 * length log.sides + 2) f _ log _ _ _ (makes_same (MadeForIdeal f))
     (omega (
       arith,
@@ -128,7 +128,7 @@ returns-in_err-left-in-Set-clause-run g c =
     let inv = c.loop-start.invariant in
     let same = c.in_ok-unattacked.ensures.framework ∙ (c.in_ok-free.ensures.framework ∙ inv.framework) in
     let turn = turned f (g.O.Oracle.framework c.loop-start.oracle) (g.O.Oracle.framework c.largest_free.new.oracle)
-    (2 * length c.loop-start.found.sets) 0 _ _ _ _ _ _ _ _ _ _ _ c.loop-start.found.sets c.loop-start.found.hit
+    (length c.loop-start.found.sets) 0 _ _ _ _ _ _ _ _ _ _ _ c.loop-start.found.sets c.loop-start.found.hit
     c.in_ok-free.free c.in_ok-unattacked.field-0 (Set c.in-Set.other) inv.framework
     (c.in_ok-free.ensures.framework ∙ inv.framework) c.in_ok-free.ensures.kept inv.run inv.searched
     c.in_ok-free.ensures.run c.in_ok-free.ensures.largest c.in_ok-unattacked.ensures.run
@@ -137,7 +137,7 @@ returns-in_err-left-in-Set-clause-run g c =
     let log = g.O.Oracle.log c.attacker.new.oracle in
     run_handed (MadeForIdeal f) (2 * length log.sides + 2) f _ _ _ _ _ _ Memory
     c.from_residual-in_err-left-in-Set.ensures
-    (then_refused (MadeForIdeal f) (MadeForIdeal f) (2 * length c.loop-start.found.sets + 1 + 0)
+    (then_refused (MadeForIdeal f) (MadeForIdeal f) (length c.loop-start.found.sets + 1 + 0)
     (2 * length log.sides + 2) f _ log _ _ _ (makes_same (MadeForIdeal f))
     (omega (
       arith,
@@ -145,16 +145,16 @@ returns-in_err-left-in-Set-clause-run g c =
           turn.asked.searched (grows_same (MadeForIdeal f) log),
     )) turn.asked.ran)
 
-pub cut-requires-clause-plain : goal.cut-requires-clause-plain
-cut-requires-clause-plain g c = c.in_ok-plain-in-Set.ensures
+pub cut_grown-requires-clause-plain : goal.cut_grown-requires-clause-plain
+cut_grown-requires-clause-plain g c = c.in_ok-plain-in-Set.ensures
 
-pub cut-requires-clause-set : goal.cut-requires-clause-set
-cut-requires-clause-set g c =
+pub cut_grown-requires-clause-set : goal.cut_grown-requires-clause-set
+cut_grown-requires-clause-set g c =
     let f = g.O.Oracle.framework c.args.oracle.now in
     let inv = c.loop-start.invariant in
     let same = c.in_ok-unattacked.ensures.framework ∙ (c.in_ok-free.ensures.framework ∙ inv.framework) in
     let turn = turned f (g.O.Oracle.framework c.loop-start.oracle) (g.O.Oracle.framework c.largest_free.new.oracle)
-    (2 * length c.loop-start.found.sets) 0 _ _ _ _ _ _ _ _ _ _ _ c.loop-start.found.sets c.loop-start.found.hit
+    (length c.loop-start.found.sets) 0 _ _ _ _ _ _ _ _ _ _ _ c.loop-start.found.sets c.loop-start.found.hit
     c.in_ok-free.free c.in_ok-unattacked.field-0 (Set c.in-Set.other) inv.framework
     (c.in_ok-free.ensures.framework ∙ inv.framework) c.in_ok-free.ensures.kept inv.run inv.searched
     c.in_ok-free.ensures.run c.in_ok-free.ensures.largest c.in_ok-unattacked.ensures.run
@@ -162,13 +162,13 @@ cut-requires-clause-set g c =
     (closes_set c.in_ok-unattacked.field-0 c.in-Set.other c.in-Set.is) in
     subst (λ (w : Framework). HoldsOf w c.in_ok-free.free.set Ad) (sym same) turn.largest.is_free.admissible
 
-pub cut-requires-clause-other : goal.cut-requires-clause-other
-cut-requires-clause-other g c =
+pub cut_grown-requires-clause-other : goal.cut_grown-requires-clause-other
+cut_grown-requires-clause-other g c =
     let f = g.O.Oracle.framework c.args.oracle.now in
     let inv = c.loop-start.invariant in
     let same = c.in_ok-unattacked.ensures.framework ∙ (c.in_ok-free.ensures.framework ∙ inv.framework) in
     let turn = turned f (g.O.Oracle.framework c.loop-start.oracle) (g.O.Oracle.framework c.largest_free.new.oracle)
-    (2 * length c.loop-start.found.sets) 0 _ _ _ _ _ _ _ _ _ _ _ c.loop-start.found.sets c.loop-start.found.hit
+    (length c.loop-start.found.sets) 0 _ _ _ _ _ _ _ _ _ _ _ c.loop-start.found.sets c.loop-start.found.hit
     c.in_ok-free.free c.in_ok-unattacked.field-0 (Set c.in-Set.other) inv.framework
     (c.in_ok-free.ensures.framework ∙ inv.framework) c.in_ok-free.ensures.kept inv.run inv.searched
     c.in_ok-free.ensures.run c.in_ok-free.ensures.largest c.in_ok-unattacked.ensures.run
@@ -182,18 +182,18 @@ prune-requires-clause-found g c =
     let inv = c.loop-start.invariant in
     let same = c.in_ok-unattacked.ensures.framework ∙ (c.in_ok-free.ensures.framework ∙ inv.framework) in
     let turn = turned f (g.O.Oracle.framework c.loop-start.oracle) (g.O.Oracle.framework c.largest_free.new.oracle)
-    (2 * length c.loop-start.found.sets) 0 _ _ _ _ _ _ _ _ _ _ _ c.loop-start.found.sets c.loop-start.found.hit
+    (length c.loop-start.found.sets) 0 _ _ _ _ _ _ _ _ _ _ _ c.loop-start.found.sets c.loop-start.found.hit
     c.in_ok-free.free c.in_ok-unattacked.field-0 (Set c.in-Set.other) inv.framework
     (c.in_ok-free.ensures.framework ∙ inv.framework) c.in_ok-free.ensures.kept inv.run inv.searched
     c.in_ok-free.ensures.run c.in_ok-free.ensures.largest c.in_ok-unattacked.ensures.run
     c.in_ok-unattacked.ensures.attacks c.in_ok-unattacked.ensures.asked c.in-Set.is
     (closes_set c.in_ok-unattacked.field-0 c.in-Set.other c.in-Set.is) in
-    let cut = subst (λ (w : Framework). IsCut w c.in-Set.other c.loop-start.found c.cut.new.found
+    let cut = subst (λ (w : Framework). IsCutBeside w c.in_ok-free.free.set c.in-Set.other c.loop-start.found c.cut_grown.new.found
     c.in_ok-left-in-Set.left) same c.in_ok-left-in-Set.ensures in
-    let searched = search_cut f (g.O.Oracle.log c.attacker.new.oracle) c.loop-start.found c.cut.new.found
+    let searched = search_beside_cut f (g.O.Oracle.log c.attacker.new.oracle) c.loop-start.found c.cut_grown.new.found
     c.in_ok-free.free.set c.in-Set.other c.in_ok-left-in-Set.left turn.asked.searched turn.largest.is_free
     turn.asked.attacks.0 turn.asked.attacks.1 turn.asked.asked cut in
-    subst (λ (w : Framework). AreAttackers w (g.O.Oracle.log c.attacker.new.oracle) c.cut.new.found) (sym same) searched
+    subst (λ (w : Framework). AreAttackers w (g.O.Oracle.log c.attacker.new.oracle) c.cut_grown.new.found) (sym same) searched
 
 pub returns-in_err-start-in-Set-clause-run : goal.returns-in_err-start-in-Set-clause-run
 returns-in_err-start-in-Set-clause-run g c =
@@ -201,7 +201,7 @@ returns-in_err-start-in-Set-clause-run g c =
     let inv = c.loop-start.invariant in
     let same = c.in_ok-unattacked.ensures.framework ∙ (c.in_ok-free.ensures.framework ∙ inv.framework) in
     let turn = turned f (g.O.Oracle.framework c.loop-start.oracle) (g.O.Oracle.framework c.largest_free.new.oracle)
-    (2 * length c.loop-start.found.sets) 0 _ _ _ _ _ _ _ _ _ _ _ c.loop-start.found.sets c.loop-start.found.hit
+    (length c.loop-start.found.sets) 0 _ _ _ _ _ _ _ _ _ _ _ c.loop-start.found.sets c.loop-start.found.hit
     c.in_ok-free.free c.in_ok-unattacked.field-0 (Set c.in-Set.other) inv.framework
     (c.in_ok-free.ensures.framework ∙ inv.framework) c.in_ok-free.ensures.kept inv.run inv.searched
     c.in_ok-free.ensures.run c.in_ok-free.ensures.largest c.in_ok-unattacked.ensures.run
@@ -211,7 +211,7 @@ returns-in_err-start-in-Set-clause-run g c =
     run_handed (MadeForIdeal f) most f _ _ _ _ _ _ c.in_err-start-in-Set.field-0.0
     c.from_residual-in_err-start-in-Set.ensures
     (then_same MadeForIdeal f (g.O.Oracle.framework c.attacker.new.oracle)
-    (2 * length c.loop-start.found.sets + 1 + 0) 1 most _ _ _ _ _ _ _ _ _ same
+    (length c.loop-start.found.sets + 1 + 0) 1 most _ _ _ _ _ _ _ _ _ same
     (omega (
       arith,
       within_bound f _ (g.O.Oracle.log c.attacker.new.oracle) (g.O.Oracle.log c.prune.new.oracle)
@@ -226,20 +226,19 @@ loop-start-smaller g c =
     let inv = c.loop-start.invariant in
     let same = c.in_ok-unattacked.ensures.framework ∙ (c.in_ok-free.ensures.framework ∙ inv.framework) in
     let turn = turned f (g.O.Oracle.framework c.loop-start.oracle) (g.O.Oracle.framework c.largest_free.new.oracle)
-    (2 * length c.loop-start.found.sets) 0 _ _ _ _ _ _ _ _ _ _ _ c.loop-start.found.sets c.loop-start.found.hit
+    (length c.loop-start.found.sets) 0 _ _ _ _ _ _ _ _ _ _ _ c.loop-start.found.sets c.loop-start.found.hit
     c.in_ok-free.free c.in_ok-unattacked.field-0 (Set c.in-Set.other) inv.framework
     (c.in_ok-free.ensures.framework ∙ inv.framework) c.in_ok-free.ensures.kept inv.run inv.searched
     c.in_ok-free.ensures.run c.in_ok-free.ensures.largest c.in_ok-unattacked.ensures.run
     c.in_ok-unattacked.ensures.attacks c.in_ok-unattacked.ensures.asked c.in-Set.is
     (closes_set c.in_ok-unattacked.field-0 c.in-Set.other c.in-Set.is) in
-    let cut = subst (λ (w : Framework). IsCut w c.in-Set.other c.loop-start.found c.cut.new.found
+    let cut = subst (λ (w : Framework). IsCutBeside w c.in_ok-free.free.set c.in-Set.other c.loop-start.found c.cut_grown.new.found
     c.in_ok-left-in-Set.left) same c.in_ok-left-in-Set.ensures in
     let numbered = subst (λ (w : Framework). IsNumbered w) inv.framework inv.kept.numbered in
-    let pruned = subst (λ (w : Framework). IsPruned w (g.O.Oracle.log c.prune.new.oracle) c.cut.new.found
+    let pruned = subst (λ (w : Framework). IsPruned w (g.O.Oracle.log c.prune.new.oracle) c.cut_grown.new.found
     c.prune.new.found c.in_ok-start-in-Set.start) same c.in_ok-start-in-Set.ensures.pruned in
-    fewer_left f (g.O.Oracle.log c.attacker.new.oracle) c.loop-start.found c.cut.new.found c.in_ok-free.free.set
-    c.in-Set.other c.in_ok-left-in-Set.left c.prune.new.found.hit numbered turn.asked.searched turn.largest.is_free
-    turn.asked.attacks.1 cut pruned.hit
+    fewer_beside f c.loop-start.found c.cut_grown.new.found c.in_ok-free.free.set c.in-Set.other
+    c.in_ok-left-in-Set.left c.prune.new.found.hit turn.largest.is_free turn.asked.attacks.1 cut pruned.hit
     (hit_within f (g.O.Oracle.log c.prune.new.oracle) c.prune.new.found.sets c.prune.new.found.hit numbered
     pruned.searched)
 
@@ -249,24 +248,24 @@ loop-start-preserved g c =
     let inv = c.loop-start.invariant in
     let same = c.in_ok-unattacked.ensures.framework ∙ (c.in_ok-free.ensures.framework ∙ inv.framework) in
     let turn = turned f (g.O.Oracle.framework c.loop-start.oracle) (g.O.Oracle.framework c.largest_free.new.oracle)
-    (2 * length c.loop-start.found.sets) 0 _ _ _ _ _ _ _ _ _ _ _ c.loop-start.found.sets c.loop-start.found.hit
+    (length c.loop-start.found.sets) 0 _ _ _ _ _ _ _ _ _ _ _ c.loop-start.found.sets c.loop-start.found.hit
     c.in_ok-free.free c.in_ok-unattacked.field-0 (Set c.in-Set.other) inv.framework
     (c.in_ok-free.ensures.framework ∙ inv.framework) c.in_ok-free.ensures.kept inv.run inv.searched
     c.in_ok-free.ensures.run c.in_ok-free.ensures.largest c.in_ok-unattacked.ensures.run
     c.in_ok-unattacked.ensures.attacks c.in_ok-unattacked.ensures.asked c.in-Set.is
     (closes_set c.in_ok-unattacked.field-0 c.in-Set.other c.in-Set.is) in
-    let cut = subst (λ (w : Framework). IsCut w c.in-Set.other c.loop-start.found c.cut.new.found
+    let cut = subst (λ (w : Framework). IsCutBeside w c.in_ok-free.free.set c.in-Set.other c.loop-start.found c.cut_grown.new.found
     c.in_ok-left-in-Set.left) same c.in_ok-left-in-Set.ensures in
-    let pruned = subst (λ (w : Framework). IsPruned w (g.O.Oracle.log c.prune.new.oracle) c.cut.new.found
+    let pruned = subst (λ (w : Framework). IsPruned w (g.O.Oracle.log c.prune.new.oracle) c.cut_grown.new.found
     c.prune.new.found c.in_ok-start-in-Set.start) same c.in_ok-start-in-Set.ensures.pruned in
     record {
       searched = pruned.searched;
       free = pruned.free;
       run = then_same MadeForIdeal f (g.O.Oracle.framework c.attacker.new.oracle)
-          (2 * length c.loop-start.found.sets + 1 + 0) 1 (2 * length c.prune.new.found.sets) _ _ _ _ _ _ _ _ _ same
+          (length c.loop-start.found.sets + 1 + 0) 1 (length c.prune.new.found.sets) _ _ _ _ _ _ _ _ _ same
           (omega (
             arith,
-            one_more f c.in-Set.other c.in_ok-left-in-Set.left c.loop-start.found c.cut.new.found cut,
+            two_more f c.in_ok-free.free.set c.in-Set.other c.in_ok-left-in-Set.left c.loop-start.found c.cut_grown.new.found cut,
             pruned.more,
           ))
           turn.asked.ran c.in_ok-start-in-Set.ensures.run;

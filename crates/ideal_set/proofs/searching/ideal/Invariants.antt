@@ -1,4 +1,4 @@
-use Rattle.std.proofs.Common.{◌≡◌, ◌*◌, not, length, filter}
+use Rattle.std.proofs.Common.{◌≡◌, not, length, filter}
 use Rattle.std.specs.Prelude.{None}
 use Rattle.certificate_claims.specs.SetLiterals.{has, members}
 use Rattle.oracle_face.specs.Growing.{HasRun}
@@ -6,12 +6,12 @@ use Rattle.oracle_face.specs.Logs.{IsKept}
 use Rattle.ideal_set.specs.Ideals.{AreAttackers, IsFree, MadeForIdeal}
 use Rattle.ideal_set.proofs.searching.ideal.Given as goal
 
--- each turn so far found one more set at least, and logged two steps at most that only ended a search
+-- each turn so far found two more sets at least, and logged two steps at most that only ended a search
 abbrev pub invariant-loop-start : goal.invariant-loop-start
 invariant-loop-start g l = record {
   searched : AreAttackers (g.O.Oracle.framework l.fn.oracle) (g.O.Oracle.log l.oracle) l.found;
   free : IsFree (g.O.Oracle.framework l.fn.oracle) l.found.hit l.start;
-  run : HasRun (MadeForIdeal (g.O.Oracle.framework l.fn.oracle)) (2 * length l.found.sets)
+  run : HasRun (MadeForIdeal (g.O.Oracle.framework l.fn.oracle)) (length l.found.sets)
       (g.O.Oracle.framework l.fn.oracle) (g.O.Oracle.log l.fn.oracle) (g.O.Oracle.log l.oracle)
       (g.O.Oracle.pending l.oracle) l.fn.budget l.budget None;
   framework : g.O.Oracle.framework l.oracle ≡ g.O.Oracle.framework l.fn.oracle;
