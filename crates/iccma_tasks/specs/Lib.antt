@@ -1,5 +1,6 @@
 pub mod AnswerSteps
 pub mod AnswerText
+pub mod KindText
 pub mod Names
 pub mod Tasks
 pub mod WrittenText
