@@ -1,8 +1,8 @@
 //! Each public call once, and answers that were worked out by hand.
 
 use iccma_tasks::{
-    Answer, AnswerFault, Kind, Problem, Query, Semantics, Task, TaskFault, answer_text, problems,
-    read_answer,
+    Answer, AnswerFault, Kind, Problem, Query, Semantics, Task, TaskFault, answer_text, kind_of,
+    problems, read_answer,
 };
 use plain_lists::{Items, Memory};
 use set_lists::NumSet;
@@ -132,4 +132,30 @@ fn queries_of_tasks(rt: HostRuntime) {
             None => assert!(rt; !fits),
         }
     }
+}
+
+#[test]
+fn kinds(rt: HostRuntime) -> Result<(), Fail> {
+    let table = [
+        ("p aba 2\na 1\n", Kind::Aba),
+        ("p aba", Kind::Aba),
+        ("p aba x y\n", Kind::Aba),
+        ("# p af\r\n\n \tp  aba\t2\r\n", Kind::Aba),
+        ("p aba 1\np af 1", Kind::Aba),
+        ("p af 2\n1 2\n", Kind::Af),
+        ("p af 1\np aba 1", Kind::Af),
+        ("x\np aba 1", Kind::Af),
+        ("", Kind::Af),
+        ("#\n\n", Kind::Af),
+        ("p", Kind::Af),
+        ("paba 1", Kind::Af),
+        ("p abaf 1", Kind::Af),
+        ("P aba 1", Kind::Af),
+        ("p ABA 1", Kind::Af),
+        ("aba p 1", Kind::Af),
+    ];
+    for (text, kind) in table {
+        assert_eq!(rt; kind_of(text.as_bytes()), kind, "of {text:?}");
+    }
+    Ok(())
 }
