@@ -1,4 +1,5 @@
 mod CheckLemmas
+mod EndsLemmas
 pub mod RowsLemmas
 pub mod RunsLemmas
 pub mod WritingLemmas
