@@ -1,0 +1,6 @@
+pub mod Refusals
+pub mod ContraryLists
+pub mod RowForms
+pub mod MadeFrameworks
+pub mod RuleLists
+pub mod TestLemmas

@@ -161,7 +161,7 @@ done_unless (r ∷ more) done = if r.stands then Err r.fault else done_unless mo
 
 -- none of the refusals stands
 abbrev pub NoneStands : List Refusal → Type 0
-NoneStands refusals = done_unless refusals tt ≡ Ok tt
+NoneStands refusals = done_unless {X = Unit {0}} refusals tt ≡ Ok tt
 
 -- what a row comes to
 abbrev pub aba_row_outcome : AbaRow → Result (Aba × Effect) EditFault

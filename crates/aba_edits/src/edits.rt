@@ -1,6 +1,7 @@
 //! Edits of a flat assumption-based framework.
 
-ghost use Rattle.std.specs.Prelude.{◌≡◌, ◌⊎◌, IfOk, IfErr, OnErr, Ok, Err};
+ghost use Rattle.std.specs.Prelude.{◌≡◌, ◌⊎◌, ◌==◌, IfOk, IfErr, OnErr, Ok, Err};
+ghost use Rattle.std.specs.List.{find};
 ghost use Rattle.edit_rules.specs.declared.edit.Edit.TheVariants.{RuleAdd};
 ghost use Rattle.edit_rules.specs.declared.effect.EditFault.TheVariants.{Memory};
 ghost use Rattle.aba_edits.specs.AbaEdits.{aba_outcome, aba_row_outcome};
@@ -130,10 +131,17 @@ fn rule_edit(alloc: Global, head: u32, body: &[u32]) -> Result<Edit, OutOfMemory
 fn contrary_before(plain: &AbaPlain, assumption: u32) -> u32
     ensures { result ≡ contrary_of plain.now.contraries assumption }
 {
-    match plain.contraries().iter().find(|pair| pair.0 == assumption) {
+    match pair_of(plain.contraries(), assumption) {
         Some(pair) => pair.1,
         None => 0,
     }
+}
+
+/// The first pair that begins with a number.
+fn pair_of(pairs: &[(u32, u32)], first: u32) -> Option<(u32, u32)>
+    ensures { result ≡ find (λ p. p.0 == first) pairs.now }
+{
+    pairs.iter().copied().find(|pair| pair.0 == first)
 }
 
 /// The effect of an edit that took a contrary away, which is 0 where it took none.

@@ -168,9 +168,8 @@ fn add_unless(
     rules: &mut RuleLists,
 ) -> Result<(), Memory>
     requires index { index < length plain.now.rules }
-    requires room { length rules.old.heads.items ≤ index }
-    ensures { OnOk result (AreListsOf (rules_but number (take index plain.now.rules)) rules.old
-        → AreListsOf (rules_but number (take (index + 1) plain.now.rules)) rules.new) }
+    requires lists { AreListsOf (rules_but number (take index plain.now.rules)) rules.old }
+    ensures { OnOk result (AreListsOf (rules_but number (take (index + 1) plain.now.rules)) rules.new) }
 {
     let at = index as usize;
     let numbers = plain.rule_numbers();
