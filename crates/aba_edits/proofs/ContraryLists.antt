@@ -4,6 +4,7 @@ use Rattle.std.specs.Prelude.{Contains, ◌↔◌, ◌⊎◌, ◌==◌, filter, 
 use Rattle.std.specs.List.{find}
 use Rattle.std.specs.List.Sorted.{IsStrictlyIncreasing}
 use Rattle.std.proofs.lemmas.Bool.{true≢false, cond_both, cases_Bool, eqb-true, eq-eqb, not-true, not_from_false, ltb-true, lt-ltb, cases_lt}
+use Rattle.std.proofs.lemmas.List.{map-append}
 use Rattle.std.proofs.lemmas.List.Elements.{Contains-append_cases, Contains-append_left, Contains-append_right, Contains-push_cases}
 use Rattle.plain_lists.proofs.Filters.{Contains-filter}
 use Rattle.plain_lists.proofs.Membership.{Contains-nil, Contains-head, Contains-tail, Contains-cons_cases, Contains-pushed}
@@ -23,17 +24,13 @@ pub filter-map : {X Y : Type 0} (g : X → Y) (p : Y → Bool) (xs : List X)
 filter-map g p [] = refl
 filter-map g p (x ∷ xs) = kept_step (p (g x)) g x (filter p (map g xs)) (filter (λ y. p (g y)) xs) (filter-map g p xs)
 
-map-across : {X Y : Type 0} (g : X → Y) (xs ys : List X) → map g (xs ++ ys) ≡ map g xs ++ map g ys
-map-across g [] ys = refl
-map-across g (x ∷ xs) ys = ap (λ zs. g x ∷ zs) (map-across g xs ys)
-
 abbrev pub firsts : List (ℕ × ℕ) → List ℕ
 firsts ps = map (λ p. p.0) ps
 
 -- the assumptions of the pairs in which a has a contrary, and of those that a has left
 pub firsts_with : (a c : ℕ) (ps : List (ℕ × ℕ)) → firsts (with_contrary a c ps) ≡ with_number a (firsts ps)
 firsts_with a c ps =
-    map-across (λ p. p.0) (filter (λ p. nat_lt p.0 a) ps) ((a, c) ∷ filter (λ p. nat_lt a p.0) ps)
+    map-append (λ p. p.0) (filter (λ p. nat_lt p.0 a) ps) ((a, c) ∷ filter (λ p. nat_lt a p.0) ps)
     ∙ ap (λ low. low ++ a ∷ firsts (filter (λ p. nat_lt a p.0) ps))
     (sym (filter-map (λ (p : ℕ × ℕ). p.0) (λ y. nat_lt y a) ps))
     ∙ ap (λ high. filter (λ y. nat_lt y a) (firsts ps) ++ a ∷ high)

@@ -1,7 +1,8 @@
 -- What a list of refusals comes to.
-use Rattle.std.proofs.Common.{Result, Ok, Err, ◌≡◌, true, false, Bool, List, [], ◌∷◌, ◌++◌, refl, ap, sym, ◌∙◌, subst, map, ⊎_elim}
+use Rattle.std.proofs.Common.{Result, Ok, Err, ◌≡◌, true, false, Bool, List, [], ◌∷◌, ◌++◌, refl, ap, sym, ◌∙◌, subst, map, ⊎_elim, ℕ, ◌+◌, ◌<◌, length, drop, get_or}
 use Rattle.std.specs.Prelude.{Contains, if◌then◌else◌, is_ok}
 use Rattle.std.proofs.lemmas.Bool.{false≢true, cases_Bool}
+use Rattle.std.proofs.lemmas.List.{drop_more}
 use Rattle.plain_lists.proofs.Membership.{Contains-nil, Contains-cons_cases}
 use Rattle.edit_rules.specs.declared.effect.EditFault.{EditFault}
 use Rattle.edit_rules.specs.Edits.{Refusal}
@@ -86,6 +87,19 @@ done_step : {X : Type 0} (b : Bool) (here : EditFault) (a : Result X EditFault) 
     → (if b then Err here else a) ≡ Ok made → (b ≡ false) × (a ≡ Ok made)
 done_step true here a made e = absurd (false≢true (ap is_ok e))
 done_step false here a made e = (refl, e)
+
+-- the tests of a list's items, one by one
+pub next_tests : (g : ℕ → Refusal) (xs : List ℕ) (i : ℕ) → i < length xs → (g (get_or xs i 0)).stands ≡ false
+    → done_unless {X = Unit {0}} (map g (drop i xs)) tt ≡ done_unless (map g (drop (i + 1) xs)) tt
+next_tests g xs i lt fails =
+    ap (λ ys. done_unless (map g ys) tt) (drop_more xs i 0 lt)
+    ∙ passed (g (get_or xs i 0)) (map g (drop (i + 1) xs)) tt fails
+
+pub stopped_at : (g : ℕ → Refusal) (xs : List ℕ) (i : ℕ) → i < length xs → (g (get_or xs i 0)).stands ≡ true
+    → done_unless {X = Unit {0}} (map g (drop i xs)) tt ≡ Err (g (get_or xs i 0)).fault
+stopped_at g xs i lt stands =
+    ap (λ ys. done_unless (map g ys) tt) (drop_more xs i 0 lt)
+    ∙ stopped (g (get_or xs i 0)) (map g (drop (i + 1) xs)) tt stands
 
 -- a row that is done was not refused, and gives what it says
 pub done_row : {X : Type 0} (rs : List Refusal) (x made : X) → done_unless rs x ≡ Ok made → NoneStands rs × (x ≡ made)

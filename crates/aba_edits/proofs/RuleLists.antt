@@ -4,7 +4,7 @@ use Rattle.std.specs.Prelude.{Contains, ◌↔◌, ◌⊎◌, ◌==◌, filter, 
 use Rattle.std.specs.List.{find}
 use Rattle.std.specs.List.Sorted.{IsStrictlyIncreasing}
 use Rattle.std.proofs.lemmas.Bool.{true≢false, cases_lt, cond_both, eqb-true, eq-eqb, not_from_true, not_from_false}
-use Rattle.std.proofs.lemmas.List.{append-nil, get_or_append_left, get_or_push, get_or-map, length-map, length_push, map_push, take_all}
+use Rattle.std.proofs.lemmas.List.{append-nil, get_or_append_left, get_or_push, get_or-map, length-map, length_push, length-take-le, map_push, take_all}
 use Rattle.std.proofs.lemmas.List.Elements.{Contains-append_cases, Contains-append_left, Contains-append_right, Contains-get_or, filter_more}
 use Rattle.plain_lists.proofs.Membership.{Contains-nil, Contains-head, Contains-tail, Contains-cons_cases}
 use Rattle.aba_laws.proofs.Images.{image_there, image_from}
@@ -14,7 +14,9 @@ use Rattle.aba_semantics.specs.AbaFrameworks.{Aba, IsNumberedAba}
 use Rattle.aba_notions.specs.declared.rule_table.RuleLists.{RuleLists}
 use Rattle.aba_notions.specs.Storage.{no_rule, rule_at}
 use Rattle.edit_rules.proofs.EditTests.{is_false}
-use Rattle.aba_edits.specs.AbaEdits.{numbers_of, heads_of, rule_in, rule_numbered, rules_but}
+use Rattle.edit_rules.specs.declared.edit.Edit.{Edit}
+use Rattle.edit_rules.specs.declared.effect.Effect.{Effect}
+use Rattle.aba_edits.specs.AbaEdits.{dropped_effect, numbers_of, heads_of, rule_in, rule_numbered, rules_but}
 use Rattle.aba_edits.specs.Parts.{AreListsOf}
 use Rattle.aba_edits.proofs.MadeFrameworks.{same_key}
 
@@ -138,3 +140,17 @@ numbered_at f k n ok lt e =
     the_one f.rules (rule_at f.rules k) n
     (λ q c is. same_key (λ (r : Rule). r.number) f.rules q (rule_at f.rules k) ok.form.numbers_rise c here (is ∙ sym e))
     here e
+
+-- the effect of taking a rule away
+pub drop_effect_is : (edit : Edit) (r : Rule) (dropped : List (ℕ × ℕ)) (head : ℕ) (body : List ℕ) → dropped ≡ []
+    → head ≡ r.head → body ≡ r.body
+    → ◌≡◌ {A = Effect} (record { edit = edit; rule = 0; dropped = dropped; gone = 0; head = head; body = body })
+    (dropped_effect edit r)
+drop_effect_is edit r dropped head body a b c =
+    λ i. record { edit = edit; rule = 0; dropped = a i; gone = 0; head = b i; body = c i }
+
+-- of the rules before an index no more are kept than there are before it
+pub few_taken : (rules : List Rule) (i n : ℕ) → i < length rules → length (rules_but n (take i rules)) < length rules
+few_taken rules i n lt =
+    let taken : length (take i rules) ≡ i = length-take-le i rules (omega arith) in
+    omega (arith, few_kept (take i rules) n)

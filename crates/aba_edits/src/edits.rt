@@ -177,6 +177,7 @@ fn effect_of_drop(alloc: Global, plain: &AbaPlain, number: u32) -> Result<Effect
     requires { NoneStands (rule_dropped plain.now number).refusals }
     ensures { IfOk result (λ effect. effect ≡ (rule_dropped plain.now number).effect) }
 {
+    let heads = plain.rule_heads();
     let index = rule_index(plain, number);
     let body = body_at(alloc, plain, index as u32)?;
     Ok(Effect {
@@ -184,7 +185,7 @@ fn effect_of_drop(alloc: Global, plain: &AbaPlain, number: u32) -> Result<Effect
         rule: 0,
         dropped: Items::new(alloc),
         gone: 0,
-        head: plain.rule_heads()[index],
+        head: heads[index],
         body: Items::from_vec(body),
     })
 }

@@ -177,7 +177,8 @@ fn add_unless(
         return Ok(());
     }
     let body = body_at(alloc, plain, index)?;
-    push_rule(alloc, rules, numbers[at], plain.rule_heads()[at], &body)
+    push_rule(alloc, rules, numbers[at], plain.rule_heads()[at], &body)?;
+    Ok(())
 }
 
 /// The body of the rule at an index.
