@@ -4,3 +4,4 @@ pub mod RowForms
 pub mod MadeFrameworks
 pub mod RuleLists
 pub mod TestLemmas
+pub mod BehindLemmas

@@ -105,16 +105,21 @@ fn check_atoms(atoms: u32, numbers: &[u32]) -> Result<(), EditFault>
     Ok(())
 }
 
+/// Whether the head of a rule and the numbers of its body are atoms; the first that isn't is told.
+fn check_numbers(atoms: u32, head: u32, body: &[u32]) -> Result<(), EditFault>
+    ensures { result ≡ done_unless (map (beyond 1 atoms) (head ∷ body.now)) tt }
+{
+    if is_beyond(1, atoms, head) {
+        return Err(EditFault::OutOfRange(head));
+    }
+    check_atoms(atoms, body)
+}
+
 /// Whether a rule may be added.
 pub(crate) fn check_rule(plain: &AbaPlain, head: u32, body: &[u32]) -> Result<(), EditFault>
     ensures { result ≡ done_unless (rule_added plain.now head body.now).refusals tt }
 {
-    if is_beyond(1, plain.atoms(), head) {
-        return Err(EditFault::OutOfRange(head));
-    }
-    if let Err(fault) = check_atoms(plain.atoms(), body) {
-        return Err(fault);
-    }
+    check_numbers(plain.atoms(), head, body)?;
     if is_assumption(plain, head) {
         return Err(EditFault::NotFlat(head));
     }

@@ -1,5 +1,4 @@
 use Rattle.std.proofs.Common.{arith, ap, sym, subst, ◌∙◌, take, ◌<◌, length, map, Contains, ◌++◌, ◌∷◌, []}
-use Rattle.std.proofs.lemmas.Bool.{eqb-true, true≢false, eq-eqb}
 use Rattle.aba_notions.specs.Storage.{rule_at}
 use Rattle.aba_edits.specs.AbaEdits.{rules_but}
 use Rattle.aba_edits.specs.Parts.{AreListsOf}
@@ -13,7 +12,7 @@ returns-then-numbers-at c =
     c.rule_numbers-numbers.ensures.value c.requires.index in
     subst (λ rs. AreListsOf rs c.args.rules.now)
     (sym (left_out c.args.plain.now.rules c.args.index c.args.number c.requires.index
-    (sym at ∙ eqb-true _ _ c.if-numbers-at.true))) c.requires.lists
+    (sym at ∙ c.if-numbers-at.true))) c.requires.lists
 
 pub push_rule-requires : goal.push_rule-requires
 push_rule-requires c =
@@ -34,7 +33,7 @@ returns c =
     let r = rule_at c.args.plain.now.rules c.args.index in
     subst (λ rs. AreListsOf rs c.push_rule.new.rules)
     (sym (kept_more c.args.plain.now.rules c.args.index c.args.number c.requires.index
-    (λ e. true≢false (sym (eq-eqb _ _ (at ∙ e)) ∙ c.if-numbers-at.false))))
+    (λ e. c.if-numbers-at.false (at ∙ e))))
     (lists_more rules c.args.rules.now c.push_rule.new.rules r c.in_ok-body.body.items c.requires.lists
     (c.in_ok-push_rule.ensures.numbers ∙ ap (λ n. c.args.rules.now.numbers.items ++ n ∷ []) at)
     (c.in_ok-push_rule.ensures.heads ∙ ap (λ n. c.args.rules.now.heads.items ++ n ∷ []) head)
