@@ -5,3 +5,4 @@ pub mod MadeFrameworks
 pub mod RuleLists
 pub mod TestLemmas
 pub mod BehindLemmas
+pub mod LawLemmas

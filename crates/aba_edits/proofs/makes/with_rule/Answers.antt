@@ -10,7 +10,8 @@ pub new-requires : goal.new-requires
 new-requires c =
     parts (aba_with_rule c.args.plain.now c.args.head c.args.body.now) _ _ _ _ _
     (with_rule_form c.args.plain.now c.args.head c.args.body.now c.assumptions.ensures.form c.requires)
-    (parts_with_rule c.args.plain.now c.args.head c.args.body.now _ _ _ _ _ _ _ c.assumptions.ensures.form
+    (parts_with_rule c.args.plain.now c.args.head c.args.body.now _ _ _ _ _ c.in_ok-rules.rules
+    c.push_rule.new.rules c.assumptions.ensures.form
     c.atoms.ensures.value (c.in_ok-assumptions.ensures.same ∙ c.assumptions.ensures.value)
     (c.in_ok-contraries.ensures.items ∙ c.contraries.ensures.value) c.in_ok-rules.ensures c.next.ensures.value
     c.in_ok-push_rule.ensures.numbers c.in_ok-push_rule.ensures.heads c.in_ok-push_rule.ensures.bodies
@@ -20,7 +21,8 @@ pub returns : goal.returns
 returns c =
     made (aba_with_rule c.args.plain.now c.args.head c.args.body.now) _ _ _ _ _ c.new.result
     (with_rule_form c.args.plain.now c.args.head c.args.body.now c.assumptions.ensures.form c.requires)
-    (parts_with_rule c.args.plain.now c.args.head c.args.body.now _ _ _ _ _ _ _ c.assumptions.ensures.form
+    (parts_with_rule c.args.plain.now c.args.head c.args.body.now _ _ _ _ _ c.in_ok-rules.rules
+    c.push_rule.new.rules c.assumptions.ensures.form
     c.atoms.ensures.value (c.in_ok-assumptions.ensures.same ∙ c.assumptions.ensures.value)
     (c.in_ok-contraries.ensures.items ∙ c.contraries.ensures.value) c.in_ok-rules.ensures c.next.ensures.value
     c.in_ok-push_rule.ensures.numbers c.in_ok-push_rule.ensures.heads c.in_ok-push_rule.ensures.bodies
