@@ -6,3 +6,4 @@ pub mod RuleLists
 pub mod TestLemmas
 pub mod BehindLemmas
 pub mod LawLemmas
+pub mod DetermineLemmas

@@ -28,7 +28,7 @@ keys_rise key xs up i j d lt within =
     let less = AllPairs-from_increasing (map key xs) up i j 0 lt (omega arith) in
     omega (arith, less, get_or-map key xs i d 0 (omega arith), get_or-map key xs j d 0 within)
 
-keys_asymmetric : {X : Type 0} (key : X → ℕ) → IsAsymmetric {X = X} (λ x y. key x < key y)
+pub keys_asymmetric : {X : Type 0} (key : X → ℕ) → IsAsymmetric {X = X} (λ x y. key x < key y)
 keys_asymmetric key x y a b = omega arith
 
 -- two items with one key are the same
@@ -127,7 +127,7 @@ same_contraries f g ok ko same = same_lists (λ p q. p.0 < q.0) (keys_asymmetric
     rise h fine = keys_rise (λ (p : ℕ × ℕ). p.0) h.contraries
         (subst IsStrictlyIncreasing (sym fine.form.one_contrary) fine.form.assumptions_rise)
 
-same_rule : (r s : Rule) → r.number ≡ s.number → r.head ≡ s.head → r.body ≡ s.body → r ≡ s
+pub same_rule : (r s : Rule) → r.number ≡ s.number → r.head ≡ s.head → r.body ≡ s.body → r ≡ s
 same_rule r s n h b = λ i. record { number = n i; head = h i; body = b i }
 
 -- rules with the same numbers, heads and body atoms at each index are the same

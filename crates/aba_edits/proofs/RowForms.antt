@@ -48,7 +48,7 @@ in_range low high x h =
 pub is_atom : (atoms x : ℕ) → (beyond 1 atoms x).stands ≡ false → IsAtom atoms x
 is_atom atoms x h = let r = in_range 1 atoms x h in record { low = r.0; high = r.1 }
 
-absent : (xs : List ℕ) (x : ℕ) → has_number xs x ≡ false → Contains xs x → ⊥
+pub absent : (xs : List ℕ) (x : ℕ) → has_number xs x ≡ false → Contains xs x → ⊥
 absent xs x free c = false≢true (sym free ∙ there_number xs x c)
 
 -- ---- forms

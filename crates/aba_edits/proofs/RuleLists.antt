@@ -122,24 +122,26 @@ pub head_at : (rules : List Rule) (k : ℕ) (heads : List ℕ) → heads ≡ hea
     → get_or heads k 0 ≡ (rule_at rules k).head
 head_at rules k heads e lt = ap (λ xs. get_or xs k 0) e ∙ get_or-map (λ (r : Rule). r.head) rules k no_rule 0 lt
 
-the_one : (rs : List Rule) (r : Rule) (n : ℕ) → ((q : Rule) → Contains rs q → q.number ≡ n → q ≡ r)
-    → Contains rs r → r.number ≡ n → rule_numbered rs n ≡ r
-the_one [] r n one c e = absurd (Contains-nil r c)
-the_one (q ∷ qs) r n one c e =
-    cond_both (q.number == n) (Some q) (find (λ s. s.number == n) qs) (λ o. rule_in o ≡ r)
-    (λ is. one q (Contains-head q qs q refl) (eqb-true q.number n is))
-    (λ other. the_one qs r n (λ s d. one s (Contains-tail q qs s d))
-    (⊎_elim (λ (same : q ≡ r). absurd (true≢false
-    (sym (eq-eqb q.number n (ap (λ (s : Rule). s.number) same ∙ e)) ∙ other)))
-    (λ d. d) (Contains-cons_cases q qs r c)) e)
+-- the first item of a key, where no two items share one
+pub find_one : {X : Type 0} (key : X → ℕ) (xs : List X) (x : X) (n : ℕ)
+    → ((y : X) → Contains xs y → key y ≡ n → y ≡ x) → Contains xs x → key x ≡ n → find (λ y. key y == n) xs ≡ Some x
+find_one key [] x n one c e = absurd (Contains-nil x c)
+find_one key (y ∷ ys) x n one c e =
+    cond_both (key y == n) (Some y) (find (λ z. key z == n) ys) (λ o. o ≡ Some x)
+    (λ is. ap Some (one y (Contains-head y ys y refl) (eqb-true (key y) n is)))
+    (λ other. find_one key ys x n (λ z d. one z (Contains-tail y ys z d))
+    (⊎_elim (λ (same : y ≡ x). absurd (true≢false (sym (eq-eqb (key y) n (ap key same ∙ e)) ∙ other)))
+    (λ d. d) (Contains-cons_cases y ys x c)) e)
+
+pub numbered_is : (f : Aba) (r : Rule) (n : ℕ) → IsNumberedAba f → Contains f.rules r → r.number ≡ n
+    → rule_numbered f.rules n ≡ r
+numbered_is f r n ok c e = ap rule_in (find_one (λ (q : Rule). q.number) f.rules r n
+    (λ q d is. same_key (λ (s : Rule). s.number) f.rules q r ok.form.numbers_rise d c (is ∙ sym e)) c e)
 
 pub numbered_at : (f : Aba) (k n : ℕ) → IsNumberedAba f → k < length f.rules → (rule_at f.rules k).number ≡ n
     → rule_numbered f.rules n ≡ rule_at f.rules k
 numbered_at f k n ok lt e =
-    let here = Contains-get_or f.rules k no_rule lt in
-    the_one f.rules (rule_at f.rules k) n
-    (λ q c is. same_key (λ (r : Rule). r.number) f.rules q (rule_at f.rules k) ok.form.numbers_rise c here (is ∙ sym e))
-    here e
+    numbered_is f (rule_at f.rules k) n ok (Contains-get_or f.rules k no_rule lt) e
 
 -- the effect of taking a rule away
 pub drop_effect_is : (edit : Edit) (r : Rule) (dropped : List (ℕ × ℕ)) (head : ℕ) (body : List ℕ) → dropped ≡ []
