@@ -70,14 +70,14 @@ pub parts_with_rule : (f : Aba) (h : ℕ) (body : List ℕ) (number atoms next :
     → ArePartsOf (aba_with_rule f h body) atoms copy pairs new (next + 1)
 parts_with_rule f h body number atoms next copy pairs old new ok atoms_are same of_f rules is numbers heads bodies
     next_is = record {
-  atoms_are = atoms_are;
-  assumptions_are = same;
-  contraries_are = equal_members pairs f.contraries of_f;
-  rules_are = lists_more f.rules old new (next_rule f h body) body (all_lists f old ok rules)
-      (numbers ∙ ap (λ n. old.numbers.items ++ n ∷ []) is) heads bodies
-      (λ y. ((in_order_members body y).1, (in_order_members body y).0));
-  next_is = ap (λ n. n + 1) next_is;
-}
+      atoms_are = atoms_are;
+      assumptions_are = same;
+      contraries_are = equal_members pairs f.contraries of_f;
+      rules_are = lists_more f.rules old new (next_rule f h body) body (all_lists f old ok rules)
+          (numbers ∙ ap (λ n. old.numbers.items ++ n ∷ []) is) heads bodies
+          (λ y. ((in_order_members body y).1, (in_order_members body y).0));
+      next_is = ap (λ n. n + 1) next_is;
+    }
 
 pub parts_without_rule : (f : Aba) (n atoms next : ℕ) (copy : List ℕ) (pairs : List (ℕ × ℕ)) (lists : RuleLists)
     → atoms ≡ f.atoms → copy ≡ f.assumptions → pairs ≡ f.contraries → AreListsOf (rules_but n f.rules) lists

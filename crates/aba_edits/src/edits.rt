@@ -10,8 +10,10 @@ ghost use Rattle.aba_edits.specs.AbaEdits.{contrary_effect, contrary_of, rule_ef
 ghost use Rattle.aba_edits.specs.Parts.{ComesTo};
 
 use crate::checks::{check_assumption, check_contrary, check_drop, check_rule, check_rule_drop};
-use crate::makes::{body_at, rule_index};
-use crate::makes::{with_assumption, with_contrary, with_rule, without_assumption, without_rule};
+use crate::makes::{
+    body_at, rule_index, with_assumption, with_contrary, with_rule, without_assumption,
+    without_rule,
+};
 use aba_notions::AbaPlain;
 use edit_rules::{Edit, EditFault, Effect};
 use plain_lists::{Items, Memory as OutOfMemory};
@@ -73,7 +75,10 @@ fn drop_assumption(
     check_drop(plain, assumption)?;
     let after = without_assumption(alloc, plain, assumption)?;
     let edit = Edit::AsmDrop(assumption);
-    Ok((after, effect_of(alloc, edit, contrary_before(plain, assumption))))
+    Ok((
+        after,
+        effect_of(alloc, edit, contrary_before(plain, assumption)),
+    ))
 }
 
 /// Replaces the contrary of an assumption.
@@ -88,7 +93,10 @@ fn set_contrary(
     check_contrary(plain, assumption, contrary)?;
     let after = with_contrary(alloc, plain, assumption, contrary)?;
     let edit = Edit::ConSet(assumption, contrary);
-    Ok((after, effect_of(alloc, edit, contrary_before(plain, assumption))))
+    Ok((
+        after,
+        effect_of(alloc, edit, contrary_before(plain, assumption)),
+    ))
 }
 
 /// Adds a rule.
@@ -107,11 +115,7 @@ fn add_rule(
 }
 
 /// Takes a rule away.
-fn drop_rule(
-    alloc: Global,
-    plain: &AbaPlain,
-    number: u32,
-) -> Result<(AbaPlain, Effect), EditFault>
+fn drop_rule(alloc: Global, plain: &AbaPlain, number: u32) -> Result<(AbaPlain, Effect), EditFault>
     ensures { ComesTo (aba_row_outcome (rule_dropped plain.now number)) result }
 {
     check_rule_drop(plain, number)?;

@@ -7,3 +7,4 @@ pub mod laws;
 mod makes;
 
 pub use edits::apply_aba;
+pub use laws::{aba_edits_keep_form, aba_effects_determine, numbers_are_given_once};

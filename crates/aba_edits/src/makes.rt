@@ -30,7 +30,14 @@ pub(crate) fn with_assumption(
     assumptions.insert(assumption)?;
     let contraries = pairs_with(alloc, plain.contraries(), assumption, contrary)?;
     let rules = rules_except(alloc, plain, 0)?;
-    AbaPlain::new(alloc, plain.atoms(), assumptions, contraries, rules, plain.next())
+    AbaPlain::new(
+        alloc,
+        plain.atoms(),
+        assumptions,
+        contraries,
+        rules,
+        plain.next(),
+    )
 }
 
 /// The framework without an assumption and its contrary.
@@ -44,7 +51,14 @@ pub(crate) fn without_assumption(
     let assumptions = numbers_except(alloc, plain.assumptions().as_slice(), assumption)?;
     let contraries = pairs_except(alloc, plain.contraries(), assumption)?;
     let rules = rules_except(alloc, plain, 0)?;
-    AbaPlain::new(alloc, plain.atoms(), assumptions, contraries, rules, plain.next())
+    AbaPlain::new(
+        alloc,
+        plain.atoms(),
+        assumptions,
+        contraries,
+        rules,
+        plain.next(),
+    )
 }
 
 /// The framework with another contrary of an assumption.
@@ -60,7 +74,14 @@ pub(crate) fn with_contrary(
     let assumptions = plain.assumptions().copy(alloc)?;
     let contraries = pairs_with(alloc, plain.contraries(), assumption, contrary)?;
     let rules = rules_except(alloc, plain, 0)?;
-    AbaPlain::new(alloc, plain.atoms(), assumptions, contraries, rules, plain.next())
+    AbaPlain::new(
+        alloc,
+        plain.atoms(),
+        assumptions,
+        contraries,
+        rules,
+        plain.next(),
+    )
 }
 
 /// The framework with a rule more.
@@ -77,7 +98,14 @@ pub(crate) fn with_rule(
     let contraries = Vec::from_slice(alloc, plain.contraries())?;
     let mut rules = rules_except(alloc, plain, 0)?;
     push_rule(alloc, &mut rules, plain.next(), head, body)?;
-    AbaPlain::new(alloc, plain.atoms(), assumptions, contraries, rules, plain.next() + 1)
+    AbaPlain::new(
+        alloc,
+        plain.atoms(),
+        assumptions,
+        contraries,
+        rules,
+        plain.next() + 1,
+    )
 }
 
 /// The framework without the rule of a number, which no rule gets again.
@@ -87,7 +115,14 @@ pub(crate) fn without_rule(alloc: Global, plain: &AbaPlain, number: u32) -> Resu
     let assumptions = plain.assumptions().copy(alloc)?;
     let contraries = Vec::from_slice(alloc, plain.contraries())?;
     let rules = rules_except(alloc, plain, number)?;
-    AbaPlain::new(alloc, plain.atoms(), assumptions, contraries, rules, plain.next())
+    AbaPlain::new(
+        alloc,
+        plain.atoms(),
+        assumptions,
+        contraries,
+        rules,
+        plain.next(),
+    )
 }
 
 /// The numbers of a rising list but for one.
@@ -186,7 +221,13 @@ pub(crate) fn body_at(alloc: Global, plain: &AbaPlain, index: u32) -> Result<Vec
     requires { index < length plain.now.rules }
     ensures { IfOk result (λ body. body.items ≡ (rule_at plain.now.rules index).body) }
 {
-    Ok(plain.body_of(index).iter().map(|pair| pair.1).collect(alloc)?)
+    Ok(
+        plain
+            .body_of(index)
+            .iter()
+            .map(|pair| pair.1)
+            .collect(alloc)?,
+    )
 }
 
 /// Adds a rule at the end of flat lists.

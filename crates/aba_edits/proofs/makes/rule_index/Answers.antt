@@ -15,8 +15,12 @@ returns-in-Ok-clause-number c =
     (rises_along _ (subst IsStrictlyIncreasing (sym c.rule_numbers.ensures.value)
     c.rule_numbers.ensures.form.form.numbers_rise)) in
     sym (number_at c.args.plain.now.rules c.in-Ok.index c.rule_numbers.result.now c.rule_numbers.ensures.value
-    (omega (arith, place.0, ap length c.rule_numbers.ensures.value,
-    length-map c.args.plain.now.rules (λ (r : Rule). r.number))))
+    (omega (
+      arith,
+      place.0,
+      ap length c.rule_numbers.ensures.value,
+      length-map c.args.plain.now.rules (λ (r : Rule). r.number),
+    )))
     ∙ place.1
 
 pub returns-in-Err-clause-number : goal.returns-in-Err-clause-number
