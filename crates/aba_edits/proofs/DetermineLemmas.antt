@@ -56,7 +56,8 @@ contrary_is f a c ok h = ap second_in (find_one (λ (p : ℕ × ℕ). p.0) f.con
 contrary_there : (f : Aba) (a : ℕ) → IsNumberedAba f → Contains f.assumptions a
     → Contains f.contraries (a, contrary_of f.contraries a)
 contrary_there f a ok c =
-    let from = image_from (λ (p : ℕ × ℕ). p.0) f.contraries a (subst (λ xs. Contains xs a) (sym ok.form.one_contrary) c) in
+    let from = image_from (λ (p : ℕ × ℕ). p.0) f.contraries a
+    (subst (λ xs. Contains xs a) (sym ok.form.one_contrary) c) in
     let here : Contains f.contraries (a, from.0.1) = subst (λ x. Contains f.contraries (x, from.0.1)) from.2 from.1 in
     subst (λ d. Contains f.contraries (a, d)) (sym (contrary_is f a from.0.1 ok here)) here
 

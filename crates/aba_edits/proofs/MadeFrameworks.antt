@@ -77,7 +77,8 @@ rule_lists_of : (f : Aba) (lists : RuleLists) → IsNumberedAba f → AreListsOf
 rule_lists_of f lists ok h = record {
   long = ap length h.numbers_are ∙ length-map f.rules (λ (r : Rule). r.number)
       ∙ sym (length-map f.rules (λ (r : Rule). r.head)) ∙ sym (ap length h.heads_are);
-  heads_are = λ x c. let from = image_from (λ (r : Rule). r.head) f.rules x (subst (λ xs. Contains xs x) h.heads_are c) in
+  heads_are = λ x c.
+      let from = image_from (λ (r : Rule). r.head) f.rules x (subst (λ xs. Contains xs x) h.heads_are c) in
       subst (IsAtom f.atoms) from.2 (ok.form.rules_are from.0 from.1).head;
   bodies_are = λ k y c.
       let is = (h.bodies_are k y).0 c in
@@ -174,7 +175,10 @@ pub made : {E : Type 0} (f : Aba) (atoms : ℕ) (assumptions : List ℕ) (contra
     → IfOk result (λ g. g.next ≡ next) → IfOk result IsNumberedAba → IfOk result (λ g. g ≡ f)
 made f atoms assumptions contraries lists next (Ok g) ok h a b c d e fine = same_aba g f (a ∙ h.atoms_are)
     (b ∙ h.assumptions_are)
-    (same_contraries g f fine ok (λ p. (λ x. (h.contraries_are p).0 ((c p).0 x), λ x. (c p).1 ((h.contraries_are p).1 x))))
+    (same_contraries g f fine ok (λ p. (
+      λ x. (h.contraries_are p).0 ((c p).0 x),
+      λ x. (c p).1 ((h.contraries_are p).1 x),
+    )))
     (same_rules g f lists fine ok d h.rules_are) (e ∙ h.next_is)
 made f atoms assumptions contraries lists next (Err x) ok h a b c d e fine = a
 

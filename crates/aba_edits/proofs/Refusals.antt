@@ -13,7 +13,8 @@ fault_or d (Ok x) = d
 fault_or d (Err fault) = fault
 
 told_step : {X : Type 0} (b : Bool) (here fault : EditFault) (a : Result (Unit {0}) EditFault) (c : Result X EditFault)
-    → (a ≡ Err fault → c ≡ Err fault) → (if b then Err here else a) ≡ Err fault → (if b then Err here else c) ≡ Err fault
+    → (a ≡ Err fault → c ≡ Err fault) → (if b then Err here else a) ≡ Err fault
+    → (if b then Err here else c) ≡ Err fault
 told_step true here fault a c more e = ap Err (ap (fault_or here) e)
 told_step false here fault a c more e = more e
 
@@ -60,7 +61,8 @@ pub stopped_early : {X : Type 0} (rs qs : List Refusal) (x : X) (fault : EditFau
     → done_unless {X = Unit {0}} rs tt ≡ Err fault → done_unless (rs ++ qs) x ≡ Err fault
 stopped_early [] qs x fault e = absurd (false≢true (sym (ap is_ok e)))
 stopped_early (r ∷ more) qs x fault e =
-    told_step r.stands r.fault fault (done_unless more tt) (done_unless (more ++ qs) x) (stopped_early more qs x fault) e
+    told_step r.stands r.fault fault (done_unless more tt) (done_unless (more ++ qs) x)
+    (stopped_early more qs x fault) e
 
 -- where none of two lists' refusals stands, none of either does
 pub parts_stand_not : (rs qs : List Refusal) → NoneStands (rs ++ qs) → NoneStands rs × NoneStands qs

@@ -155,7 +155,8 @@ below_next f ok n c =
     subst (λ m. m < f.next) from.2 (ok.form.rules_are from.0 from.1).given
 
 pub room_for : (f : Aba) → nat_lt LAST_RULE f.next ≡ false → f.next ≤ LAST_RULE
-room_for f free = ⊎_elim (λ lt. absurd (false≢true (sym free ∙ lt-ltb LAST_RULE f.next lt))) (λ ge. ge) (cases_lt LAST_RULE f.next)
+room_for f free =
+    ⊎_elim (λ lt. absurd (false≢true (sym free ∙ lt-ltb LAST_RULE f.next lt))) (λ ge. ge) (cases_lt LAST_RULE f.next)
 
 numbers_with : (f : Aba) (h : ℕ) (body : List ℕ) → IsNumberedAba f
     → IsStrictlyIncreasing (numbers_of (f.rules ++ next_rule f h body ∷ []))

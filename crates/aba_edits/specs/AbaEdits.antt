@@ -1,5 +1,5 @@
--- What an edit does to a flat assumption-based framework, and why it is refused. Each edit has one row: its refusals, of
--- which the first that stands is told, the framework behind it, and its effect. Edits of such frameworks:
+-- What an edit does to a flat assumption-based framework, and why it is refused. Each edit has one row: its refusals,
+-- of which the first that stands is told, the framework behind it, and its effect. Edits of such frameworks:
 -- A. Rapberger, M. Ulbricht, "On dynamics in structured argumentation formalisms", Journal of Artificial Intelligence
 -- Research 77 (2023).
 use Rattle.std.specs.Prelude.{◌≡◌, ℕ, ◌+◌, ◌==◌, ◌&&◌, not, nat_le, nat_lt, if◌then◌else◌}

@@ -1,9 +1,10 @@
-//! Why an edit is refused: of each edit's refusals, in the order of its row, the first that stands.
+//! Why an edit is refused: of the refusals of its row, the first that stands.
 
 ghost use Rattle.std.specs.Prelude.{◌≡◌, ◌∷◌, map};
 ghost use Rattle.edit_rules.specs.Edits.{has_number};
 ghost use Rattle.aba_edits.specs.AbaEdits.{beyond, done_unless, heads_of, numbers_of};
-ghost use Rattle.aba_edits.specs.AbaEdits.{assumption_added, assumption_dropped, contrary_set, rule_added, rule_dropped};
+ghost use Rattle.aba_edits.specs.AbaEdits.{assumption_added, assumption_dropped, contrary_set};
+ghost use Rattle.aba_edits.specs.AbaEdits.{rule_added, rule_dropped};
 
 use aba_notions::AbaPlain;
 use aba_semantics::LAST_RULE;
@@ -37,7 +38,7 @@ fn is_rule(plain: &AbaPlain, number: u32) -> bool
     plain.rule_numbers().binary_search(&number).is_ok()
 }
 
-/// Whether an atom may become an assumption with this contrary.
+/// Refuses to make an atom an assumption with this contrary.
 pub(crate) fn check_assumption(
     plain: &AbaPlain,
     assumption: u32,
@@ -60,7 +61,7 @@ pub(crate) fn check_assumption(
     Ok(())
 }
 
-/// Whether an assumption may stop being one.
+/// Refuses to make an assumption one no longer.
 pub(crate) fn check_drop(plain: &AbaPlain, assumption: u32) -> Result<(), EditFault>
     ensures { result ≡ done_unless (assumption_dropped plain.now assumption).refusals tt }
 {
@@ -73,7 +74,7 @@ pub(crate) fn check_drop(plain: &AbaPlain, assumption: u32) -> Result<(), EditFa
     Ok(())
 }
 
-/// Whether an assumption may get this contrary.
+/// Refuses to give an assumption this contrary.
 pub(crate) fn check_contrary(
     plain: &AbaPlain,
     assumption: u32,
@@ -93,7 +94,7 @@ pub(crate) fn check_contrary(
     Ok(())
 }
 
-/// Whether numbers are atoms; the first that isn't is told.
+/// Refuses the first of the numbers that is no atom.
 fn check_atoms(atoms: u32, numbers: &[u32]) -> Result<(), EditFault>
     ensures { result ≡ done_unless (map (beyond 1 atoms) numbers.now) tt }
 {
@@ -105,7 +106,7 @@ fn check_atoms(atoms: u32, numbers: &[u32]) -> Result<(), EditFault>
     Ok(())
 }
 
-/// Whether the head of a rule and the numbers of its body are atoms; the first that isn't is told.
+/// Refuses the first of a rule's numbers that is no atom: its head, then the numbers of its body as they are given.
 fn check_numbers(atoms: u32, head: u32, body: &[u32]) -> Result<(), EditFault>
     ensures { result ≡ done_unless (map (beyond 1 atoms) (head ∷ body.now)) tt }
 {
@@ -115,7 +116,7 @@ fn check_numbers(atoms: u32, head: u32, body: &[u32]) -> Result<(), EditFault>
     check_atoms(atoms, body)
 }
 
-/// Whether a rule may be added.
+/// Refuses to add a rule.
 pub(crate) fn check_rule(plain: &AbaPlain, head: u32, body: &[u32]) -> Result<(), EditFault>
     ensures { result ≡ done_unless (rule_added plain.now head body.now).refusals tt }
 {
@@ -129,7 +130,7 @@ pub(crate) fn check_rule(plain: &AbaPlain, head: u32, body: &[u32]) -> Result<()
     Ok(())
 }
 
-/// Whether the rule of a number may go.
+/// Refuses to take away the rule of a number.
 pub(crate) fn check_rule_drop(plain: &AbaPlain, number: u32) -> Result<(), EditFault>
     ensures { result ≡ done_unless (rule_dropped plain.now number).refusals tt }
 {

@@ -5,7 +5,8 @@ ghost use Rattle.std.specs.List.{find};
 ghost use Rattle.edit_rules.specs.declared.edit.Edit.TheVariants.{RuleAdd};
 ghost use Rattle.edit_rules.specs.declared.effect.EditFault.TheVariants.{Memory};
 ghost use Rattle.aba_edits.specs.AbaEdits.{aba_outcome, aba_row_outcome};
-ghost use Rattle.aba_edits.specs.AbaEdits.{assumption_added, assumption_dropped, contrary_set, rule_added, rule_dropped};
+ghost use Rattle.aba_edits.specs.AbaEdits.{assumption_added, assumption_dropped, contrary_set};
+ghost use Rattle.aba_edits.specs.AbaEdits.{rule_added, rule_dropped};
 ghost use Rattle.aba_edits.specs.AbaEdits.{contrary_effect, contrary_of, rule_effect, NoneStands};
 ghost use Rattle.aba_edits.specs.Parts.{ComesTo};
 
@@ -75,10 +76,8 @@ fn drop_assumption(
     check_drop(plain, assumption)?;
     let after = without_assumption(alloc, plain, assumption)?;
     let edit = Edit::AsmDrop(assumption);
-    Ok((
-        after,
-        effect_of(alloc, edit, contrary_before(plain, assumption)),
-    ))
+    let contrary = contrary_in(plain, assumption);
+    Ok((after, effect_of(alloc, edit, contrary)))
 }
 
 /// Replaces the contrary of an assumption.
@@ -93,10 +92,8 @@ fn set_contrary(
     check_contrary(plain, assumption, contrary)?;
     let after = with_contrary(alloc, plain, assumption, contrary)?;
     let edit = Edit::ConSet(assumption, contrary);
-    Ok((
-        after,
-        effect_of(alloc, edit, contrary_before(plain, assumption)),
-    ))
+    let gone = contrary_in(plain, assumption);
+    Ok((after, effect_of(alloc, edit, gone)))
 }
 
 /// Adds a rule.
@@ -132,7 +129,7 @@ fn rule_edit(alloc: Global, head: u32, body: &[u32]) -> Result<Edit, OutOfMemory
 }
 
 /// The contrary of an assumption, and 0 where the atom is none.
-fn contrary_before(plain: &AbaPlain, assumption: u32) -> u32
+fn contrary_in(plain: &AbaPlain, assumption: u32) -> u32
     ensures { result ≡ contrary_of plain.now.contraries assumption }
 {
     match pair_of(plain.contraries(), assumption) {

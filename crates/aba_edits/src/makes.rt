@@ -1,6 +1,7 @@
 //! The frameworks behind the edits. Each one is made anew from the flat lists of the one before.
 
-ghost use Rattle.std.specs.Prelude.{◌≡◌, ◌<◌, ◌≤◌, ◌+◌, ◌==◌, ◌++◌, ◌∷◌, [], not, IfOk, OnOk, filter, length, map, take, true};
+ghost use Rattle.std.specs.Prelude.{◌≡◌, ◌<◌, ◌≤◌, ◌+◌, ◌==◌, ◌++◌, ◌∷◌, [], not, true};
+ghost use Rattle.std.specs.Prelude.{IfOk, OnOk, filter, length, map, take};
 ghost use Rattle.std.specs.List.Sorted.{IsStrictlyIncreasing};
 ghost use Rattle.aba_semantics.specs.declared.numbers.TheConstants.{LAST_RULE};
 ghost use Rattle.aba_notions.specs.Storage.{rule_at};
@@ -8,7 +9,7 @@ ghost use Rattle.edit_rules.specs.Edits.{has_number};
 ghost use Rattle.aba_edits.specs.AbaEdits.{NoneStands, without_contrary, numbers_of, rules_but};
 ghost use Rattle.aba_edits.specs.AbaEdits.{aba_with_assumption, aba_without_assumption, aba_with_contrary};
 ghost use Rattle.aba_edits.specs.AbaEdits.{aba_with_rule, aba_without_rule};
-ghost use Rattle.aba_edits.specs.AbaEdits.{assumption_added, assumption_dropped, contrary_set, rule_added, rule_dropped};
+ghost use Rattle.aba_edits.specs.AbaEdits.{assumption_added, contrary_set, rule_added};
 ghost use Rattle.aba_edits.specs.Parts.{AreListsOf};
 
 use aba_notions::{AbaPlain, RuleLists};
