@@ -230,35 +230,41 @@ const LAST_NUMBERS: &[(Change<'static>, Told<'static>)] = &[
     ),
 ];
 
+fn follow_refusals(rt: &impl Abort, alloc: Global, framework: &mut AbaPlain) -> Result<(), Fail> {
+    for (change, fault) in REFUSALS {
+        make(rt, alloc, framework, *change, Err(*fault))?;
+        look(rt, alloc, framework, *change, RIVALS_SHOWN)?;
+    }
+    Ok(())
+}
+
 #[test]
 fn refusals(rt: HostRuntime) -> Result<(), Fail> {
-    let alloc = rt.alloc();
-    let Some(mut framework) = framework_of(alloc, RIVALS) else {
+    let Some(mut framework) = framework_of(rt.alloc(), RIVALS) else {
         assert!(rt; false, "not read");
         return Ok(());
     };
-    for (change, fault) in REFUSALS {
-        make(&rt, alloc, &mut framework, *change, Err(*fault))?;
-        look(&rt, alloc, &framework, *change, RIVALS_SHOWN)?;
+    follow_refusals(&rt, rt.alloc(), &mut framework)
+}
+
+fn follow_changes(rt: &impl Abort, alloc: Global, framework: &mut AbaPlain) -> Result<(), Fail> {
+    for (change, told, behind) in CHANGES {
+        make(rt, alloc, framework, *change, *told)?;
+        look(rt, alloc, framework, *change, behind)?;
     }
     Ok(())
 }
 
 #[test]
 fn changes(rt: HostRuntime) -> Result<(), Fail> {
-    let alloc = rt.alloc();
-    let Some(mut framework) = framework_of(alloc, RIVALS) else {
-        assert!(rt; false, "not read");
-        return Ok(());
-    };
-    for (change, told, behind) in CHANGES {
-        make(&rt, alloc, &mut framework, *change, *told)?;
-        look(&rt, alloc, &framework, *change, behind)?;
-    }
     aba_edits_keep_form();
     aba_effects_determine();
     numbers_are_given_once();
-    Ok(())
+    let Some(mut framework) = framework_of(rt.alloc(), RIVALS) else {
+        assert!(rt; false, "not read");
+        return Ok(());
+    };
+    follow_changes(&rt, rt.alloc(), &mut framework)
 }
 
 /// The atoms 1 and 2 without an assumption or a rule, where the next rule gets the last number.
@@ -278,18 +284,25 @@ fn one_number_left(alloc: Global) -> Result<AbaPlain, Memory> {
     )
 }
 
-#[test]
-fn last_numbers(rt: HostRuntime) -> Result<(), Fail> {
-    let alloc = rt.alloc();
-    let mut framework = one_number_left(alloc)?;
+fn follow_last_numbers(
+    rt: &impl Abort,
+    alloc: Global,
+    framework: &mut AbaPlain,
+) -> Result<(), Fail> {
     for (change, told) in LAST_NUMBERS {
-        make(&rt, alloc, &mut framework, *change, *told)?;
+        make(rt, alloc, framework, *change, *told)?;
     }
     look(
-        &rt,
+        rt,
         alloc,
-        &framework,
-        Change::RuleDrop(1),
+        framework,
+        Change::AsmAdd(1, 2),
         "2: 1-2; 1000001",
     )
+}
+
+#[test]
+fn last_numbers(rt: HostRuntime) -> Result<(), Fail> {
+    let mut framework = one_number_left(rt.alloc())?;
+    follow_last_numbers(&rt, rt.alloc(), &mut framework)
 }
