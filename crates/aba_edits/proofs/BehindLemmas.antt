@@ -1,6 +1,6 @@
 -- What the framework behind each edit is made of.
-use Rattle.std.proofs.Common.{◌≡◌, ◌+◌, ℕ, not, List, [], ◌∷◌, ◌++◌, length, refl, ap, sym, subst, ◌∙◌, map, filter}
-use Rattle.std.specs.Prelude.{Contains, ◌↔◌, ◌⊎◌, ◌==◌}
+use Rattle.std.proofs.Common.{◌≡◌, ◌+◌, ℕ, not, List, [], ◌∷◌, ◌++◌, length, ap, subst, ◌∙◌, map, filter}
+use Rattle.std.specs.Prelude.{Contains, ◌⊎◌, ◌==◌}
 use Rattle.plain_lists.specs.Members.{IsSetOf}
 use Rattle.aba_semantics.specs.AbaFrameworks.{Aba, IsNumberedAba}
 use Rattle.aba_notions.specs.declared.rule_table.RuleLists.{RuleLists}

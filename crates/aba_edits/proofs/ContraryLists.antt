@@ -1,17 +1,16 @@
 -- The pairs of assumptions and contraries behind an edit.
-use Rattle.std.proofs.Common.{◌≡◌, ◌<◌, ℕ, true, false, Bool, not, List, [], ◌∷◌, ◌++◌, refl, ap, sym, subst, ◌∙◌, map, arith, ⊎_elim, inl, inr, get_or, length, Option, Some, None}
+use Rattle.std.proofs.Common.{◌≡◌, ◌<◌, ℕ, true, false, Bool, not, List, [], ◌∷◌, ◌++◌, refl, ap, sym, subst, ◌∙◌, map, arith, ⊎_elim, inl, inr}
 use Rattle.std.specs.Prelude.{Contains, ◌↔◌, ◌⊎◌, ◌==◌, filter, nat_lt, cond}
-use Rattle.std.specs.List.{find}
 use Rattle.std.specs.List.Sorted.{IsStrictlyIncreasing}
-use Rattle.std.proofs.lemmas.Bool.{true≢false, cond_both, cases_Bool, eqb-true, eq-eqb, not-true, not_from_false, ltb-true, lt-ltb, cases_lt}
+use Rattle.std.proofs.lemmas.Bool.{true≢false, eqb-true, eq-eqb, not-true, not_from_false, ltb-true, lt-ltb, cases_lt}
 use Rattle.std.proofs.lemmas.List.{map-append}
 use Rattle.std.proofs.lemmas.List.Elements.{Contains-append_cases, Contains-append_left, Contains-append_right, Contains-push_cases}
 use Rattle.plain_lists.proofs.Filters.{Contains-filter}
-use Rattle.plain_lists.proofs.Membership.{Contains-nil, Contains-head, Contains-tail, Contains-cons_cases, Contains-pushed}
+use Rattle.plain_lists.proofs.Membership.{Contains-head, Contains-tail, Contains-cons_cases, Contains-pushed}
 use Rattle.edit_rules.specs.Edits.{with_number}
 use Rattle.edit_rules.proofs.EditTests.{is_false}
 use Rattle.edit_rules.proofs.RowForms.{with_number_is}
-use Rattle.aba_edits.specs.AbaEdits.{with_contrary, without_contrary, contrary_of, second_in}
+use Rattle.aba_edits.specs.AbaEdits.{with_contrary, without_contrary}
 
 kept_step : {X Y : Type 0} (b : Bool) (g : X → Y) (x : X) (ys : List Y) (xs : List X) → ys ≡ map g xs
     → cond b (g x ∷ ys) ys ≡ map g (cond b (x ∷ xs) xs)

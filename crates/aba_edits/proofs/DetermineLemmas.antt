@@ -1,7 +1,6 @@
 -- What the framework and the effect behind an edit tell of the framework before.
-use Rattle.std.proofs.Common.{Ok, ◌≡◌, ◌<◌, ◌+◌, ℕ, true, Bool, not, List, [], ◌∷◌, ◌++◌, length, take, sym, ap, subst, ◌∙◌, arith, map, ⊎_elim, inl, false, refl}
+use Rattle.std.proofs.Common.{Ok, ◌≡◌, ◌<◌, ◌+◌, ℕ, true, Bool, not, List, [], ◌∷◌, ◌++◌, length, take, sym, ap, subst, ◌∙◌, arith, ⊎_elim, inl, false, refl}
 use Rattle.std.specs.Prelude.{Contains, ◌==◌, filter, is_ok}
-use Rattle.std.specs.List.{find}
 use Rattle.std.specs.List.Sorted.{IsStrictlyIncreasing}
 use Rattle.std.proofs.lemmas.Bool.{false≢true, cases_eq, cond_both, eqb-true, not-false, not_from_false}
 use Rattle.std.proofs.Math.Seq.{take-append_seam}
@@ -19,7 +18,7 @@ use Rattle.edit_rules.proofs.EditTests.{number_there, same_pair}
 use Rattle.edit_rules.proofs.RisingLists.{same_lists}
 use Rattle.edit_rules.proofs.RowForms.{with_number_members}
 use Rattle.aba_edits.specs.AbaEdits.{AbaRow, NoneStands, aba_outcome, aba_row_outcome, contrary_of, next_rule, numbers_of}
-use Rattle.aba_edits.specs.AbaEdits.{rule_numbered, rules_but, second_in, with_contrary, without_contrary}
+use Rattle.aba_edits.specs.AbaEdits.{rule_numbered, second_in, with_contrary, without_contrary}
 use Rattle.aba_edits.specs.AbaEdits.{aba_with_assumption, aba_without_assumption, aba_with_contrary, aba_with_rule, aba_without_rule}
 use Rattle.aba_edits.specs.AbaEdits.{assumption_added, assumption_dropped, contrary_set, rule_added, rule_dropped}
 use Rattle.aba_edits.proofs.Refusals.{done_row, each_passes}

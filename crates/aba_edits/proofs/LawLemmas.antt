@@ -1,5 +1,5 @@
 -- What edits keep of a flat assumption-based framework.
-use Rattle.std.proofs.Common.{Ok, ◌≡◌, ◌≤◌, ◌+◌, ℕ, List, sym, ap, subst, arith}
+use Rattle.std.proofs.Common.{Ok, ◌≡◌, ◌≤◌, ap, subst, arith}
 use Rattle.std.specs.Prelude.{is_ok}
 use Rattle.std.proofs.lemmas.Bool.{false≢true}
 use Rattle.aba_semantics.specs.AbaFrameworks.{Aba, IsNumberedAba}

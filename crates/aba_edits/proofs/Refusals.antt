@@ -1,7 +1,7 @@
 -- What a list of refusals comes to.
 use Rattle.std.proofs.Common.{Result, Ok, Err, ◌≡◌, true, false, Bool, List, [], ◌∷◌, ◌++◌, refl, ap, sym, ◌∙◌, subst, map, ⊎_elim, ℕ, ◌+◌, ◌<◌, length, drop, get_or}
 use Rattle.std.specs.Prelude.{Contains, if◌then◌else◌, is_ok}
-use Rattle.std.proofs.lemmas.Bool.{false≢true, cases_Bool}
+use Rattle.std.proofs.lemmas.Bool.{false≢true}
 use Rattle.std.proofs.lemmas.List.{drop_more}
 use Rattle.plain_lists.proofs.Membership.{Contains-nil, Contains-cons_cases}
 use Rattle.edit_rules.specs.declared.effect.EditFault.{EditFault}

@@ -1,6 +1,6 @@
 -- The frameworks behind the edits are in form.
-use Rattle.std.proofs.Common.{◌≡◌, ◌<◌, ◌≤◌, ◌+◌, ℕ, true, false, Bool, not, List, [], ◌∷◌, ◌++◌, refl, ap, sym, subst, ◌∙◌, map, get_or, arith, ⊎_elim, inl, inr}
-use Rattle.std.specs.Prelude.{Contains, ◌↔◌, ◌⊎◌, ◌==◌, filter, nat_le, nat_lt, ◌&&◌}
+use Rattle.std.proofs.Common.{◌≡◌, ◌<◌, ◌≤◌, ◌+◌, ℕ, false, not, List, [], ◌∷◌, ◌++◌, refl, ap, sym, subst, ◌∙◌, map, get_or, arith, ⊎_elim, inl, inr}
+use Rattle.std.specs.Prelude.{Contains, ◌↔◌, ◌==◌, filter, nat_le, nat_lt, ◌&&◌}
 use Rattle.std.specs.List.Sorted.{IsStrictlyIncreasing}
 use Rattle.std.proofs.lemmas.Bool.{false≢true, eqb-true, leb-true, lt-ltb, not-false, not_from_false, cases_lt}
 use Rattle.std.proofs.lemmas.List.{map_push}
@@ -12,7 +12,7 @@ use Rattle.set_lists.proofs.Rising.{rises_append}
 use Rattle.aba_laws.proofs.Images.{image_there, image_from}
 use Rattle.aba_semantics.specs.declared.numbers.TheConstants.{LAST_RULE}
 use Rattle.aba_semantics.specs.Rules.{Rule}
-use Rattle.aba_semantics.specs.AbaFrameworks.{Aba, IsAba, IsAtom, IsRuleOf, IsNumberedAba}
+use Rattle.aba_semantics.specs.AbaFrameworks.{Aba, IsAtom, IsRuleOf, IsNumberedAba}
 use Rattle.edit_rules.specs.declared.effect.EditFault.TheVariants.{NotFlat, OutOfRange}
 use Rattle.edit_rules.specs.Edits.{has_number, refused_if, with_number}
 use Rattle.edit_rules.proofs.EditTests.{both_gives, is_false, number_there, there_number}

@@ -1,14 +1,12 @@
 -- Flat lists of rules, and the rule of a number.
-use Rattle.std.proofs.Common.{◌≡◌, ◌<◌, ◌≤◌, ◌+◌, ℕ, true, false, Bool, not, List, [], ◌∷◌, ◌++◌, length, take, get_or, refl, ap, sym, subst, ◌∙◌, map, arith, ⊎_elim, Some}
-use Rattle.std.specs.Prelude.{Contains, ◌↔◌, ◌⊎◌, ◌==◌, filter, cond}
+use Rattle.std.proofs.Common.{◌≡◌, ◌<◌, ◌≤◌, ◌+◌, ℕ, not, List, [], ◌∷◌, ◌++◌, length, take, get_or, refl, ap, sym, subst, ◌∙◌, map, arith, ⊎_elim, Some}
+use Rattle.std.specs.Prelude.{Contains, ◌↔◌, ◌==◌, cond}
 use Rattle.std.specs.List.{find}
-use Rattle.std.specs.List.Sorted.{IsStrictlyIncreasing}
 use Rattle.std.proofs.lemmas.Bool.{true≢false, cases_lt, cond_both, eqb-true, eq-eqb, not_from_true, not_from_false}
-use Rattle.std.proofs.lemmas.List.{append-nil, get_or_append_left, get_or_push, get_or-map, length-map, length_push, length-take-le, map_push, take_all}
+use Rattle.std.proofs.lemmas.List.{append-nil, get_or_append_left, get_or_push, get_or-map, length-map, length_push, length-take-le, map_push}
 use Rattle.std.proofs.lemmas.List.Elements.{Contains-append_cases, Contains-append_left, Contains-append_right, Contains-get_or, filter_more}
 use Rattle.plain_lists.proofs.Membership.{Contains-nil, Contains-head, Contains-tail, Contains-cons_cases}
 use Rattle.aba_laws.proofs.Images.{image_there, image_from}
-use Rattle.aba_semantics.specs.declared.numbers.TheConstants.{LAST_RULE}
 use Rattle.aba_semantics.specs.Rules.{Rule}
 use Rattle.aba_semantics.specs.AbaFrameworks.{Aba, IsNumberedAba}
 use Rattle.aba_notions.specs.declared.rule_table.RuleLists.{RuleLists}

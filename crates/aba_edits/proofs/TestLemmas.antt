@@ -1,7 +1,6 @@
 -- What the tests of an edit answer.
-use Rattle.std.proofs.Common.{◌≡◌, ◌<◌, ◌≤◌, ◌+◌, ℕ, true, false, Bool, not, List, [], ◌∷◌, length, take, drop, get_or, refl, ap, sym, subst, ◌∙◌, map, arith, ⊎_elim, Result, Ok, Err}
-use Rattle.std.specs.Prelude.{Contains, ◌↔◌, ◌==◌, is_ok}
-use Rattle.std.specs.List.Sorted.{IsStrictlyIncreasing}
+use Rattle.std.proofs.Common.{◌≡◌, ◌<◌, ℕ, true, false, Bool, not, List, [], ◌∷◌, length, get_or, refl, ap, sym, subst, ◌∙◌, arith, Result, Ok, Err}
+use Rattle.std.specs.Prelude.{Contains, ◌↔◌, ◌==◌}
 use Rattle.std.proofs.lemmas.Bool.{eqb-true, false≢true, not_from_false}
 use Rattle.std.proofs.lemmas.List.{get_or_default}
 use Rattle.std.proofs.lemmas.List.Elements.{Contains-get_or}

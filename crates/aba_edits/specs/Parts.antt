@@ -1,5 +1,5 @@
 -- The steps of an edit: what they answer, and the flat lists that the framework behind it is made of.
-use Rattle.std.specs.Prelude.{◌≡◌, ◌↔◌, ◌⊎◌, ◌<◌, ℕ, ◌∷◌, [], List, Contains, length, Result, Ok, Err}
+use Rattle.std.specs.Prelude.{◌≡◌, ◌↔◌, ◌⊎◌, ◌<◌, ℕ, List, Contains, length, Result, Ok, Err}
 use Rattle.aba_semantics.specs.Rules.{Rule}
 use Rattle.aba_semantics.specs.AbaFrameworks.{Aba}
 use Rattle.aba_notions.specs.declared.rule_table.RuleLists.{RuleLists}

@@ -1,4 +1,4 @@
-use Rattle.std.proofs.Common.{arith, ap, sym, subst, ◌∙◌, take, ◌<◌, length, map, Contains, ◌++◌, ◌∷◌, []}
+use Rattle.std.proofs.Common.{arith, ap, sym, subst, ◌∙◌, take, length, map, Contains, ◌++◌, ◌∷◌, []}
 use Rattle.aba_notions.specs.Storage.{rule_at}
 use Rattle.aba_edits.specs.AbaEdits.{rules_but}
 use Rattle.aba_edits.specs.Parts.{AreListsOf}

@@ -1,4 +1,4 @@
-use Rattle.std.proofs.Common.{Err, Ok, ◌∙◌, sym, subst, Contains, ap, length, arith, map}
+use Rattle.std.proofs.Common.{Err, Ok, ◌∙◌, sym, subst, Contains, ap, length, arith}
 use Rattle.std.specs.List.Sorted.{IsStrictlyIncreasing}
 use Rattle.std.proofs.lemmas.Bool.{false≢true}
 use Rattle.std.proofs.lemmas.List.Sorted.{searched}
