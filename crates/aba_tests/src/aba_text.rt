@@ -22,7 +22,7 @@ fn shown(alloc: Global, bytes: &[u8]) -> Result<String, AllocError> {
     }
 }
 
-fn framework_shown(alloc: Global, framework: &AbaPlain) -> Result<String, AllocError> {
+pub(crate) fn framework_shown(alloc: Global, framework: &AbaPlain) -> Result<String, AllocError> {
     let mut out = format!(in alloc; "{}:", framework.atoms())?;
     for (assumption, contrary) in framework.contraries() {
         out.push_str(format!(in alloc; " {assumption}-{contrary}")?.as_str())?;

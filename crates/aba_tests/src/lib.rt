@@ -6,4 +6,6 @@ mod aba_text;
 #[cfg(test)]
 mod definitions;
 #[cfg(test)]
+mod edits;
+#[cfg(test)]
 mod notions;

@@ -1,0 +1,3 @@
+pub mod AbaEdits
+pub mod Parts
+pub mod Laws

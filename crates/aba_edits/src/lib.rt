@@ -1,0 +1,10 @@
+//! Edits of flat assumption-based frameworks: what each one does, and why it is refused.
+#![tactic(auto)]
+
+mod checks;
+pub mod edits;
+pub mod laws;
+mod makes;
+
+pub use edits::apply_aba;
+pub use laws::{aba_edits_keep_form, aba_effects_determine, numbers_are_given_once};
