@@ -1,6 +1,10 @@
 pub mod EnumerationLemmas
 pub mod WalkLemmas
 pub mod NeededLemmas
+mod ChangeLemmas
+mod GainedLemmas
+mod OutcomeLemmas
+mod PlaceLemmas
 pub mod Affirmed
 pub mod Readings
 pub mod WorldModels

@@ -96,18 +96,18 @@ live_low f ok a live = (ok.live a live).low
 target_low : (f : Af) → IsNumberedAf f → (b a : ℕ) → Attacks f b a → 1 ≤ a
 target_low f ok b a at = (ok.live a (ok.form.ends b a at).1).low
 
-same_one : (make : ℕ → AfAxiom) (a c : ℕ) → c ≡ a → OfAf (make a) ≡ OfAf (make c)
+pub same_one : (make : ℕ → AfAxiom) (a c : ℕ) → c ≡ a → OfAf (make a) ≡ OfAf (make c)
 same_one make a c e = ap (λ x. OfAf (make x)) (sym e)
 
-same_two : (make : ℕ → ℕ → AfAxiom) (a b c d : ℕ) → c ≡ a → d ≡ b → OfAf (make a b) ≡ OfAf (make c d)
+pub same_two : (make : ℕ → ℕ → AfAxiom) (a b c d : ℕ) → c ≡ a → d ≡ b → OfAf (make a b) ≡ OfAf (make c d)
 same_two make a b c d e e' = ap (λ x. OfAf (make x b)) (sym e) ∙ ap (λ x. OfAf (make c x)) (sym e')
 
-same_three : (make : ℕ → ℕ → ℕ → AfAxiom) (a b c x y z : ℕ) → x ≡ a → y ≡ b → z ≡ c
+pub same_three : (make : ℕ → ℕ → ℕ → AfAxiom) (a b c x y z : ℕ) → x ≡ a → y ≡ b → z ≡ c
     → OfAf (make a b c) ≡ OfAf (make x y z)
 same_three make a b c x y z e e' e'' = same_two (λ m n. make m n c) a b x y e e' ∙ ap (λ n. OfAf (make x y n)) (sym e'')
 
 -- what holds of each item that is written out holds of each member
-listed : (P : AxiomName → Type 0) (names : List AxiomName) → AllByRecursion P names → (name : AxiomName)
+pub listed : (P : AxiomName → Type 0) (names : List AxiomName) → AllByRecursion P names → (name : AxiomName)
     → Contains names name → P name
 listed P names h name c = All-contains P names name (All-from_recursion P names h) c
 
@@ -364,7 +364,7 @@ walk_begins f ok a live pairs lists old new e = record {
 }
 
 -- later pairs have later attackers
-later : (f : Af) (a : ℕ) (pairs : List (ℕ × ℕ)) → ListsAttackers f a pairs → (k n : ℕ) (d : ℕ × ℕ) → k < n
+pub later : (f : Af) (a : ℕ) (pairs : List (ℕ × ℕ)) → ListsAttackers f a pairs → (k n : ℕ) (d : ℕ × ℕ) → k < n
     → n < length pairs → (get_or pairs k d).1 < (get_or pairs n d).1
 later f a pairs lists k n d lt within =
     let left = (attack_at f a pairs lists k d (omega arith)).0 in

@@ -1,13 +1,16 @@
-//! Abstract frameworks as clauses for a search: the axioms that it needs of a framework, the values of the atoms that
+//! Abstract frameworks as clauses for a search: the axioms that it needs of a framework and those that an edit calls
+//! for, the values of the atoms that
 //! the framework alone fixes, and the set of arguments that a model of these axioms is read as.
 #![tactic(auto)]
 
+mod changing;
 mod decoding;
 mod encoding;
 mod facts;
 pub mod laws;
 mod needed_axioms;
 
+pub use changing::changed;
 pub use decoding::decode;
 pub use encoding::AfEncoding;
 pub use facts::fact;

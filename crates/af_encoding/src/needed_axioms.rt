@@ -66,7 +66,7 @@ fn push_axioms(plain: &AfPlain, names: &mut Vec<AxiomName>, argument: u32) -> Re
 }
 
 /// Adds axioms at the end.
-fn push_all(names: &mut Vec<AxiomName>, added: &[AfAxiom]) -> Result<(), Memory>
+pub(crate) fn push_all(names: &mut Vec<AxiomName>, added: &[AfAxiom]) -> Result<(), Memory>
     ensures { OnOk result (names.new.items ≡ names.old.items ++ map OfAf added.now) }
 {
     for axiom in added {

@@ -17,7 +17,7 @@ use Rattle.edit_rules.proofs.RowForms.{with_argument_form, without_argument_form
 use Rattle.edit_rules.proofs.SameFrameworks.{equal_members, same_framework}
 
 -- none of the refusals stands
-abbrev NoneStands : List Refusal → Type 0
+abbrev pub NoneStands : List Refusal → Type 0
 NoneStands [] = Unit
 NoneStands (r ∷ more) = (r.stands ≡ false) × NoneStands more
 
@@ -62,7 +62,7 @@ value_or (Ok x) d = x
 value_or (Err e) d = d
 
 -- a row that is done was not refused
-done_row : (rs : List Refusal) (done made : Framework × Effect) → unless_refused rs done ≡ Ok made
+pub done_row : (rs : List Refusal) (done made : Framework × Effect) → unless_refused rs done ≡ Ok made
     → NoneStands rs × (done ≡ made)
 done_row [] done made is = (tt, ap (λ r. value_or r done) is)
 done_row (r ∷ more) done made is =
@@ -105,7 +105,7 @@ from_parts test xs ys kept gone x c =
     (λ f. ((Contains-filter (λ x. not (test x)) ys x).0
     (subst (λ zs. Contains zs x) kept ((Contains-filter (λ x. not (test x)) xs x).1 (c, not_from_false (test x) f)))).0)
 
-abbrev af_of : Framework → Af
+abbrev pub af_of : Framework → Af
 af_of (af f) = f
 
 live_same : (f g : Af) → IsNumberedAf f → IsNumberedAf g → ((x : ℕ) → Contains f.live x → Contains g.live x)

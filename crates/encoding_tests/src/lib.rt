@@ -3,6 +3,8 @@
 #![tactic(auto)]
 
 #[cfg(test)]
+mod changes;
+#[cfg(test)]
 mod decoding;
 #[cfg(test)]
 mod needed_axioms;
