@@ -19,7 +19,7 @@ use Rattle.aba_notions.proofs.UnfoundedLemmas.{read_number}
 use Rattle.meaning_atoms.specs.declared.aba_axiom.AbaAxiom.{AbaAxiom}
 use Rattle.meaning_atoms.specs.declared.axiom.AxiomName.{AxiomName}
 use Rattle.meaning_atoms.specs.declared.axiom.AxiomName.TheVariants.{Aba as OfAba}
-use Rattle.aba_encoding.specs.Listing.{Gains, walk_axioms, heading}
+use Rattle.aba_encoding.specs.Listing.{Gains, walk_along, heading}
 
 abbrev number_of : Rule → ℕ
 number_of r = r.number
@@ -40,13 +40,13 @@ gains_nothing old = sym (append-nil old)
 abbrev pub HasLeft : (ℕ → ℕ → List AbaAxiom) → (ℕ → List AbaAxiom) → List AbaAxiom → List ℕ → ℕ → ℕ
     → List AxiomName → List AxiomName → Type 0
 HasLeft step end goal stops k i old new =
-    new ++ map OfAba (walk_axioms step end i (drop k stops)) ≡ old ++ map OfAba goal
+    new ++ map OfAba (walk_along step end i (drop k stops)) ≡ old ++ map OfAba goal
 
 module _ (step : ℕ → ℕ → List AbaAxiom) (end : ℕ → List AbaAxiom) (goal : List AbaAxiom) (stops : List ℕ) where
   pub left_begins : (front : List AbaAxiom) (old new : List AxiomName) → Gains front old new
-      → front ++ walk_axioms step end 1 stops ≡ goal → HasLeft step end goal stops 0 1 old new
+      → front ++ walk_along step end 1 stops ≡ goal → HasLeft step end goal stops 0 1 old new
   left_begins front old new gains is =
-      let walk = walk_axioms step end 1 stops in
+      let walk = walk_along step end 1 stops in
       ap (λ t. t ++ map OfAba walk) gains ∙ append_assoc old (map OfAba front) (map OfAba walk)
       ∙ ap (λ t. old ++ t) (sym (map-append OfAba front walk)) ∙ ap (λ t. old ++ map OfAba t) is
 
@@ -54,17 +54,17 @@ module _ (step : ℕ → ℕ → List AbaAxiom) (end : ℕ → List AbaAxiom) (g
       → k < length stops → get_or stops k 0 ≡ y → Gains (step i y) mid new
       → HasLeft step end goal stops (k + 1) (y + 1) old new
   left_goes k i y old mid new left lt at gains =
-      let later = walk_axioms step end (y + 1) (drop (k + 1) stops) in
+      let later = walk_along step end (y + 1) (drop (k + 1) stops) in
       let opened : drop k stops ≡ y ∷ drop (k + 1) stops =
       drop_more stops k 0 lt ∙ ap (λ z. z ∷ drop (k + 1) stops) at in
       ap (λ t. t ++ map OfAba later) gains ∙ append_assoc mid (map OfAba (step i y)) (map OfAba later)
       ∙ ap (λ t. mid ++ t) (sym (map-append OfAba (step i y) later))
-      ∙ ap (λ t. mid ++ map OfAba (walk_axioms step end i t)) (sym opened) ∙ left
+      ∙ ap (λ t. mid ++ map OfAba (walk_along step end i t)) (sym opened) ∙ left
 
   pub left_ends : (k i : ℕ) (old mid new : List AxiomName) → HasLeft step end goal stops k i old mid
       → length stops ≤ k → Gains (end i) mid new → Gains goal old new
   left_ends k i old mid new left past gains =
-      gains ∙ ap (λ t. mid ++ map OfAba (walk_axioms step end i t)) (sym (drop_all k stops past)) ∙ left
+      gains ∙ ap (λ t. mid ++ map OfAba (walk_along step end i t)) (sym (drop_all k stops past)) ∙ left
 
 -- ---- loops over lists
 

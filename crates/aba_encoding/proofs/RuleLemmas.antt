@@ -11,7 +11,7 @@ use Rattle.aba_notions.proofs.UnfoundedLemmas.{read_number}
 use Rattle.meaning_atoms.specs.declared.atom.Closure.TheVariants.{Own, Rest}
 use Rattle.meaning_atoms.specs.declared.aba_axiom.AbaAxiom.{AbaAxiom}
 use Rattle.meaning_atoms.specs.declared.aba_axiom.AbaAxiom.TheVariants.{B1, B5, B9}
-use Rattle.aba_encoding.specs.Listing.{atom_axioms, body_end, body_step, head_end, head_step, heading, rule_axioms, walk_axioms}
+use Rattle.aba_encoding.specs.Listing.{atom_axioms, body_end, body_step, head_end, head_step, heading, rule_axioms, walk_along}
 
 abbrev pub head_axioms : ℕ → ℕ → List AbaAxiom
 head_axioms number head = B5 Own number head ∷ B5 Rest number head ∷ []
@@ -21,7 +21,7 @@ own_axioms x = B1 x ∷ B9 Own x ∷ B9 Rest x ∷ []
 
 abbrev pub axioms_by : ℕ → ℕ → List ℕ → List AbaAxiom
 axioms_by number head body =
-    head_axioms number head ++ walk_axioms (body_step number) (body_end number) 1 body
+    head_axioms number head ++ walk_along (body_step number) (body_end number) 1 body
 
 pub rule_is : (f : Aba) (k : ℕ) (numbers heads body : List ℕ) → numbers ≡ map (λ (r : Rule). r.number) f.rules
     → heads ≡ map (λ (r : Rule). r.head) f.rules → k < length f.rules → body ≡ (rule_at f.rules k).body
@@ -57,6 +57,6 @@ number_high f form numbers are k lt =
     omega arith
 
 pub atom_is : (f : Aba) (x : ℕ) (stops : List ℕ) → stops ≡ heading f x
-    → own_axioms x ++ walk_axioms (head_step x) (head_end x) 1 stops ≡ atom_axioms f x
+    → own_axioms x ++ walk_along (head_step x) (head_end x) 1 stops ≡ atom_axioms f x
 atom_is f x stops is =
-    ap (λ ns. B1 x ∷ B9 Own x ∷ B9 Rest x ∷ walk_axioms (head_step x) (head_end x) 1 ns) is
+    ap (λ ns. B1 x ∷ B9 Own x ∷ B9 Rest x ∷ walk_along (head_step x) (head_end x) 1 ns) is

@@ -9,10 +9,11 @@ use Rattle.meaning_atoms.specs.declared.aba_axiom.AbaAxiom.TheVariants.{B1, B2, 
 use Rattle.meaning_atoms.specs.declared.axiom.AxiomName.{AxiomName}
 use Rattle.meaning_atoms.specs.declared.axiom.AxiomName.TheVariants.{Aba as OfAba}
 
--- axioms along rising numbers: those of each step, and those of the end
-abbrev pub walk_axioms : (ℕ → ℕ → List AbaAxiom) → (ℕ → List AbaAxiom) → ℕ → List ℕ → List AbaAxiom
-walk_axioms step end i [] = end i
-walk_axioms step end i (y ∷ ys) = step i y ++ walk_axioms step end (y + 1) ys
+-- what stands along rising numbers: at each step of a walk, and at its end
+module _ {X : Type 0} where
+  abbrev pub walk_along : (ℕ → ℕ → List X) → (ℕ → List X) → ℕ → List ℕ → List X
+  walk_along step end i [] = end i
+  walk_along step end i (y ∷ ys) = step i y ++ walk_along step end (y + 1) ys
 
 -- the axioms of all
 abbrev pub common_axioms : List AbaAxiom
@@ -33,7 +34,7 @@ body_end r i = B8 Own r i ∷ B8 Rest r i ∷ []
 abbrev pub rule_axioms : Rule → List AbaAxiom
 rule_axioms rule =
     B5 Own rule.number rule.head ∷ B5 Rest rule.number rule.head
-    ∷ walk_axioms (body_step rule.number) (body_end rule.number) 1 rule.body
+    ∷ walk_along (body_step rule.number) (body_end rule.number) 1 rule.body
 
 -- those of an atom
 abbrev pub head_step : ℕ → ℕ → ℕ → List AbaAxiom
@@ -47,7 +48,7 @@ unfoldable pub heading : Aba → ℕ → List ℕ
 heading f x = map (λ r. r.number) (filter (λ r. r.head == x) f.rules)
 
 abbrev pub atom_axioms : Aba → ℕ → List AbaAxiom
-atom_axioms f x = B1 x ∷ B9 Own x ∷ B9 Rest x ∷ walk_axioms (head_step x) (head_end x) 1 (heading f x)
+atom_axioms f x = B1 x ∷ B9 Own x ∷ B9 Rest x ∷ walk_along (head_step x) (head_end x) 1 (heading f x)
 
 -- all of them
 abbrev pub listed_axioms : Aba → List AbaAxiom

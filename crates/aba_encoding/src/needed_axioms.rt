@@ -2,7 +2,7 @@
 
 ghost use Rattle.std.specs.Prelude.{◌<◌, All, Contains, IfOk, OnOk, length};
 ghost use Rattle.std.specs.List.{flat_map, range_with_len};
-ghost use Rattle.aba_semantics.specs.AbaFrameworks.{IsAtom};
+ghost use Rattle.aba_semantics.specs.AbaFrameworks.{IsNumberedAba};
 ghost use Rattle.meaning_atoms.specs.AxiomNames.{IsAxiomName};
 ghost use Rattle.aba_notions.specs.Storage.{rule_at};
 ghost use Rattle.af_encoding.specs.Enumerations.{Enumerates};
@@ -41,7 +41,8 @@ pub fn needed(alloc: Global, plain: &AbaPlain) -> Result<Items<AxiomName>, Memor
 
 /// Adds the axioms of the assumptions and their contraries.
 fn push_contraries(alloc: Global, plain: &AbaPlain, names: &mut Vec<AxiomName>) -> Result<(), Memory>
-    ensures { OnOk result (Gains (flat_map contrary_axioms plain.now.contraries) names.old.items names.new.items) }
+    ensures gains { OnOk result (Gains (flat_map contrary_axioms plain.now.contraries) names.old.items names.new.items) }
+    ensures form { IsNumberedAba plain.now }
 {
     for pair in plain.contraries() {
         let (a, c) = *pair;
