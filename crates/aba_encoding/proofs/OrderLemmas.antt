@@ -16,7 +16,7 @@ use Rattle.meaning_atoms.specs.declared.atom.Closure.TheVariants.{Own, Rest}
 use Rattle.meaning_atoms.specs.declared.aba_axiom.AbaAxiom.{AbaAxiom}
 use Rattle.meaning_atoms.specs.declared.aba_axiom.AbaAxiom.TheVariants.{B1, B2, B3, B4, B5, B6, B7, B8, B9, B9Con, B10, B11, B12, B13, B14, B15, B16, B17}
 use Rattle.meaning_atoms.specs.declared.axiom.AxiomName.{AxiomName}
-use Rattle.meaning_atoms.specs.declared.axiom.AxiomName.TheVariants.{Af ws OfAf, Aba as OfAba}
+use Rattle.meaning_atoms.specs.declared.axiom.AxiomName.TheVariants.{Af as OfAf, Aba as OfAba}
 use Rattle.af_encoding.proofs.EnumerationLemmas.{all_of_members, pairs_tail}
 use Rattle.aba_encoding.specs.Listing.{atom_axioms, body_end, body_step, common_axioms, contrary_axioms, head_end, head_step, heading, listed_axioms, rule_axioms, walk_along}
 use Rattle.aba_encoding.proofs.ListingLemmas.{heading_are, heading_rises}
@@ -163,7 +163,7 @@ module _ (f : Aba) (form : IsNumberedAba f) where
               (λ j k le. omega arith)
               (λ i y. (omega arith, (omega arith, (omega arith, (omega arith, omega arith)))))
               (rule_place r.number + 5000000) (λ i. (omega arith, (omega arith, omega arith)))
-              (rule_place r.number + 2) 1 r.body (AllPairs-from_increasing r.body rule.body_rises) (omega arith)
+              (rank_of (B5 Rest r.number r.head) + 1) 1 r.body (AllPairs-from_increasing r.body rule.body_rises) (omega arith)
               (λ y c.
               let low = (rule.body y c).low in
               let high = (rule.body y c).high in
@@ -189,7 +189,7 @@ module _ (f : Aba) (form : IsNumberedAba f) where
         omega arith,
         walks rank_of (head_step x) (head_end x) (λ y. atom_place x + 4 * y) (λ j k le. omega arith)
             (λ i y. (omega arith, (omega arith, omega arith))) (atom_place x + 5000000)
-            (λ i. (omega arith, (omega arith, omega arith))) (atom_place x + 3) 1 (heading f x)
+            (λ i. (omega arith, (omega arith, omega arith))) (rank_of (B9 Rest x) + 1) 1 (heading f x)
             (AllPairs-from_increasing (heading f x) (heading_rises f form x)) (omega arith)
             (λ n c. let w = (heading_are f x n).0 c in
             let rule = form.form.rules_are w.0 w.1 in
@@ -232,7 +232,7 @@ module _ (f : Aba) (form : IsNumberedAba f) where
       (both rank_of 10000000 10000000000000 20000000000000 rules atoms rules_between atoms_between))
 
   -- as names of either kind
-  name_rank : AxiomName → ℕ
+  abbrev name_rank : AxiomName → ℕ
   name_rank (OfAba name) = rank_of name
   name_rank (OfAf name) = 0
 
