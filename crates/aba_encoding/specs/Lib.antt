@@ -1,3 +1,2 @@
-pub mod Walks
-pub mod AbaNeeded
-pub mod Listing
+pub mod NumberAtoms
+pub mod AbaModels

@@ -1,7 +1,11 @@
-//! Flat assumption-based frameworks as clauses for a search: the axioms that it needs of a framework, the set that a model
-//! of these axioms is read as, and the loop clause that a model lacks which derives atoms only from one another.
+//! Models of the axioms that a flat assumption-based framework needs: the set of assumptions that they are read as, and the
+//! loop clause that a model lacks which derives atoms only from one another.
 #![tactic(auto)]
 
-mod needed_axioms;
+mod affirming;
+mod decoding;
+pub mod laws;
+mod loops;
 
-pub use needed_axioms::needed;
+pub use decoding::decode;
+pub use loops::missing;
