@@ -4,8 +4,5 @@
 
 mod affirming;
 mod decoding;
-pub mod laws;
-mod loops;
 
 pub use decoding::decode;
-pub use loops::missing;
