@@ -86,3 +86,7 @@ pub record IsLoopBeside (f : Aba) (values : List AtomLit) (base : List ℕ) (k :
   pub atom : ℕ
   pub belongs : Contains found.atoms atom
   pub named : name ≡ OfAba (B17 k atom (loop_rows found.rows))
+
+-- the list has gained x if that is one of so many atoms, and nothing else
+pub record AddsAtom (atoms x : ℕ) (old new : List ℕ) : Type 0 where
+  pub members : (y : ℕ) → Contains new y ↔ (Contains old y ⊎ ((x ≡ y) × IsAtom atoms y))

@@ -4,5 +4,8 @@
 
 mod affirming;
 mod decoding;
+pub mod laws;
+mod loops;
 
 pub use decoding::decode;
+pub use loops::missing;
