@@ -1,7 +1,7 @@
 -- The loop clause of what does not follow is false under a model, and where there is none, a model reads back.
 use Rattle.std.proofs.Common.{◌≡◌, false, ◌+◌, ◌<◌, ◌≤◌, ◌⊎◌, ℕ, List, [], ◌∷◌, ◌++◌, length, get_or, map, take, arith, refl, subst, sym, ap, ◌∙◌}
 use Rattle.std.proofs.Common.{inl, inr, ⊎_elim}
-use Rattle.std.specs.Prelude.{AllPairs, Contains, ◌==◌, ◌↔◌, if◌then◌else◌}
+use Rattle.std.specs.Prelude.{AllPairs, Contains, IfNone, IfSome, None, Option, Some, ◌==◌, ◌↔◌, if◌then◌else◌}
 use Rattle.std.specs.List.{flat_map}
 use Rattle.std.proofs.lemmas.Bool.{cases_eq, cond_both, eqb-false, eqb-true}
 use Rattle.std.proofs.lemmas.List.{get_or-map, length-map, take_all, take_more}
@@ -310,3 +310,43 @@ atoms_all values k atoms set n found claimed Says same derived past are made =
         )),
       );
     }
+
+-- ---- what is found or not
+
+pub found_weaker : {X : Type 0} (P Q : X → Type 0) (o : Option X) → ((x : X) → P x → Q x) → IfSome o P → IfSome o Q
+found_weaker P Q (Some x) by h = by x h
+found_weaker P Q None by h = tt
+
+pub found_there : {X : Type 0} (P : X → Type 0) (o : Option X) (x : X) → o ≡ Some x → IfSome o P → P x
+found_there P o x e h = rw e at h
+
+pub none_there : {X : Type 0} (P : Type 0) (o : Option X) → o ≡ None → IfNone o P → P
+none_there P o e h = rw e at h
+
+pub none_else : {X : Type 0} (P : Type 0) (o : Option X) → ((x : X) → o ≡ Some x → ⊥) → IfNone o P → P
+none_else P (Some x) other h = absurd (other x refl)
+none_else P None other h = h
+
+pub same_atom : (values : List AtomLit) (a b : Atom) → a ≡ b → Affirms values a ↔ Affirms values b
+same_atom values a b e = (λ h. subst (Affirms values) e h, λ h. subst (Affirms values) (sym e) h)
+
+-- the rows of what is unfounded are those of a loop for its least atom
+pub least_loops : (f : Aba) (base claimed : List ℕ) (u : Unfounded) → IsNumberedAba f
+    → ((y : ℕ) → Contains claimed y → IsAtom f.atoms y) → IsUnfoundedOf f (Contains base) claimed u
+    → IsLoop (get_or u.atoms 0 0) (loop_rows u.rows)
+least_loops f base claimed u form atoms h =
+    loop_of f base claimed u (get_or u.atoms 0 0) form atoms h (Contains-get_or u.atoms 0 0 h.some)
+
+pub loop_made : (f : Aba) (values : List AtomLit) (base claimed : List ℕ) (k : Closure) (u : Unfounded)
+    (name : AxiomName) → IsSetOf (λ x. IsAtom f.atoms x × Affirms values (Der k x)) claimed
+    → IsUnfoundedOf f (Contains base) claimed u → name ≡ OfAba (B17 k (get_or u.atoms 0 0) (loop_rows u.rows))
+    → IsLoopBeside f values base k name
+loop_made f values base claimed k u name are h named = record {
+  claimed = claimed;
+  claimed_are = are;
+  found = u;
+  unfounded = h;
+  atom = get_or u.atoms 0 0;
+  belongs = Contains-get_or u.atoms 0 0 h.some;
+  named = named;
+}
