@@ -188,6 +188,21 @@ module _ (f : Aba) (values : List AtomLit) (form : IsNumberedAba f) (model : IsM
       (Contains-append_cases givens (flat_map (row_literals k) rows) l c'))
       (Contains-cons_cases (denied (Der k x)) (givens ++ flat_map (row_literals k) rows) l c)
 
+-- the least of the atoms is one
+least_there : (f : Aba) (values : List AtomLit) (base : List ℕ) (k : Closure) (name : AxiomName)
+    → (h : IsLoopBeside f values base k name) → Contains h.found.atoms (get_or h.found.atoms 0 0)
+least_there f values base k name h = Contains-get_or h.found.atoms 0 0 h.unfounded.some
+
+-- it is claimed, and does not follow
+pub not_all_follow : (f : Aba) (values : List AtomLit) (base : List ℕ) (k : Closure) (name : AxiomName)
+    → IsLoopBeside f values base k name
+    → ((x : ℕ) → IsAtom f.atoms x → Affirms values (Der k x) → Derives f.rules (Contains base) x) → ⊥
+not_all_follow f values base k name h all =
+    let x = get_or h.found.atoms 0 0 in
+    let is = (h.unfounded.atoms_are.members x).0 (least_there f values base k name h) in
+    let claim = (h.claimed_are.members x).0 is.0 in
+    is.1 (all x claim.0 claim.1)
+
 -- ---- what does not follow is not given
 
 module _ (f : Aba) (values : List AtomLit) (s : List ℕ) (form : IsNumberedAba f)
@@ -226,24 +241,57 @@ module _ (f : Aba) (values : List AtomLit) (s : List ℕ) (form : IsNumberedAba 
   own_loop_false whole name h =
       subst (IsFalseUnder values) (sym h.named)
       (clause_false f values form whole.model Own h.claimed h.claimed_are s h.found h.unfounded (own_not_given whole)
-      h.atom h.belongs)
+      (get_or h.found.atoms 0 0) (least_there f values s Own name h))
 
   pub rest_loop_false : IsModelOfAba f values → (rest : List ℕ) → IsSetOf (IsUnattacked (collective_of f) s) rest
       → (name : AxiomName) → IsLoopBeside f values rest Rest name → IsFalseUnder values name
   rest_loop_false model rest rest_is name h =
       subst (IsFalseUnder values) (sym h.named)
       (clause_false f values form model Rest h.claimed h.claimed_are rest h.found h.unfounded
-      (rest_not_given model rest rest_is) h.atom h.belongs)
+      (rest_not_given model rest rest_is) (get_or h.found.atoms 0 0) (least_there f values rest Rest name h))
 
 -- ---- the name
+
+same_atoms : (rows : List Row) → map (λ (r : LoopRow). r.atom) (loop_rows rows) ≡ map (λ (r : Row). r.atom) rows
+same_atoms [] = refl
+same_atoms (row ∷ rows) = ap (λ atoms. row.atom ∷ atoms) (same_atoms rows)
 
 pub loop_is : (f : Aba) (values : List AtomLit) (base : List ℕ) (k : Closure) (name : AxiomName) → IsNumberedAba f
     → IsLoopBeside f values base k name → IsLoopName name
 loop_is f values base k name form h =
-    subst IsLoopName (sym h.named)
-    (loop_of f base h.claimed h.found h.atom form (λ y c. ((h.claimed_are.members y).0 c).0) h.unfounded h.belongs)
+    let x = get_or h.found.atoms 0 0 in
+    subst IsLoopName (sym h.named) (
+      loop_of f base h.claimed h.found x form (λ y c. ((h.claimed_are.members y).0 c).0) h.unfounded
+          (least_there f values base k name h),
+      ap (λ xs. get_or xs 0 0) (sym (same_atoms h.found.rows ∙ h.unfounded.rows_are)),
+    )
 
--- ---- where nothing is missing
+-- ---- where something is missing, and where nothing is
+
+same_set : (values : List AtomLit) (own set : List ℕ) → IsSetOf (IsDecoded Asm values) own
+    → IsSetOf (IsDecoded Asm values) set → own ≡ set
+same_set values own set decoded is = same_rising own set decoded.rises is.rises (λ a. (
+  λ c. (is.members a).1 ((decoded.members a).0 c),
+  λ c. (decoded.members a).1 ((is.members a).0 c),
+))
+
+pub own_unfounded : (f : Aba) (values : List AtomLit) (own set : List ℕ) (name : AxiomName)
+    → IsSetOf (IsDecoded Asm values) own → IsSetOf (IsDecoded Asm values) set → IsLoopBeside f values own Own name
+    → ((k : Closure) → IsFounded f values set k) → ⊥
+own_unfounded f values own set name decoded is h founded =
+    not_all_follow f values own Own name h
+    (subst (λ s. IsFounded f values s Own) (sym (same_set values own set decoded is)) (founded Own))
+
+pub rest_unfounded : (f : Aba) (values : List AtomLit) (own set rest : List ℕ) (name : AxiomName)
+    → IsSetOf (IsDecoded Asm values) own → IsSetOf (IsDecoded Asm values) set
+    → IsSetOf (IsUnattacked (collective_of f) own) rest → IsLoopBeside f values rest Rest name
+    → ((k : Closure) → IsFounded f values set k) → ⊥
+rest_unfounded f values own set rest name decoded is rest_is h founded =
+    let by : IsFounded f values own Rest
+    = subst (λ s. IsFounded f values s Rest) (sym (same_set values own set decoded is)) (founded Rest) in
+    not_all_follow f values rest Rest name h
+    (λ x atom told. derives_more f.rules (IsUnattacked (collective_of f) own) (Contains rest)
+    (λ y u. (rest_is.members y).1 u) x (by x atom told))
 
 module _ (f : Aba) (values : List AtomLit) (form : IsNumberedAba f) (own rest : List ℕ)
     (decoded : IsSetOf (IsDecoded Asm values) own) (rest_is : IsSetOf (IsUnattacked (collective_of f) own) rest)
@@ -255,14 +303,8 @@ module _ (f : Aba) (values : List AtomLit) (form : IsNumberedAba f) (own rest : 
       derives_more f.rules (Contains rest) (IsUnattacked (collective_of f) own) (λ y c. (rest_is.members y).0 c) x
       (none_rest x atom told)
 
-  same_set : (set : List ℕ) → IsSetOf (IsDecoded Asm values) set → own ≡ set
-  same_set set is = same_rising own set decoded.rises is.rises (λ a. (
-    λ c. (is.members a).1 ((decoded.members a).0 c),
-    λ c. (decoded.members a).1 ((is.members a).0 c),
-  ))
-
   pub all_founded : (set : List ℕ) → IsSetOf (IsDecoded Asm values) set → (k : Closure) → IsFounded f values set k
-  all_founded set is k = subst (λ s. IsFounded f values s k) (same_set set is) (founded_own k)
+  all_founded set is k = subst (λ s. IsFounded f values s k) (same_set values own set decoded is) (founded_own k)
 
 -- ---- claimed atoms
 
@@ -341,12 +383,5 @@ pub loop_made : (f : Aba) (values : List AtomLit) (base claimed : List ℕ) (k :
     (name : AxiomName) → IsSetOf (λ x. IsAtom f.atoms x × Affirms values (Der k x)) claimed
     → IsUnfoundedOf f (Contains base) claimed u → name ≡ OfAba (B17 k (get_or u.atoms 0 0) (loop_rows u.rows))
     → IsLoopBeside f values base k name
-loop_made f values base claimed k u name are h named = record {
-  claimed = claimed;
-  claimed_are = are;
-  found = u;
-  unfounded = h;
-  atom = get_or u.atoms 0 0;
-  belongs = Contains-get_or u.atoms 0 0 h.some;
-  named = named;
-}
+loop_made f values base claimed k u name are h named =
+    record { claimed = claimed; claimed_are = are; found = u; unfounded = h; named = named }

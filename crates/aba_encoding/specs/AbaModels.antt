@@ -1,5 +1,5 @@
 -- What a model of the needed axioms tells of the set that it is read as, where the framework is assumption-based.
-use Rattle.std.specs.Prelude.{◌≡◌, ◌↔◌, ◌⊎◌, ℕ, Bool, true, List, Contains}
+use Rattle.std.specs.Prelude.{◌≡◌, ◌↔◌, ◌⊎◌, ℕ, Bool, true, List, Contains, map, slice_index}
 use Rattle.plain_lists.specs.Members.{IsSetOf}
 use Rattle.plain_lits.specs.HintCheck.{IsTautology}
 use Rattle.aba_semantics.specs.AbaFrameworks.{Aba, IsAtom}
@@ -67,9 +67,9 @@ pub record ReadsBackInAba (f : Aba) (values : List AtomLit) (s : List ℕ) : Typ
   pub says : (l : AtomLit) → Contains values l → IsReadBackInAba f l.atom l.positive
       → Says l.positive (HoldsOfAba f s l.atom)
 
--- the name is that of a loop clause, whose arguments fit
+-- the name is that of a loop clause, whose arguments fit, for the first atom of its rows
 abbrev pub IsLoopName : AxiomName → Type 0
-IsLoopName (OfAba (B17 k x rows)) = IsAbaAxiom (B17 k x rows)
+IsLoopName (OfAba (B17 k x rows)) = IsAbaAxiom (B17 k x rows) × (x ≡ slice_index (map (λ row. row.atom) rows) 0)
 IsLoopName _ = ⊥
 
 -- each literal of the axiom's clause is false under the values
@@ -77,15 +77,13 @@ abbrev pub IsFalseUnder : List AtomLit → AxiomName → Type 0
 IsFalseUnder values (OfAba name) = (l : AtomLit) → Contains (aba_clause name) l → Contains values (negated l)
 IsFalseUnder values _ = ⊥
 
--- the loop clause of one of the atoms that the values affirm to be in a closure and that do not follow from its base
+-- the loop clause of the least of the atoms that the values affirm to be in a closure and that do not follow from its base
 pub record IsLoopBeside (f : Aba) (values : List AtomLit) (base : List ℕ) (k : Closure) (name : AxiomName) : Type 0 where
   pub claimed : List ℕ
   pub claimed_are : IsSetOf (λ x. IsAtom f.atoms x × Affirms values (Der k x)) claimed
   pub found : Unfounded
   pub unfounded : IsUnfoundedOf f (Contains base) claimed found
-  pub atom : ℕ
-  pub belongs : Contains found.atoms atom
-  pub named : name ≡ OfAba (B17 k atom (loop_rows found.rows))
+  pub named : name ≡ OfAba (B17 k (slice_index found.atoms 0) (loop_rows found.rows))
 
 -- the list has gained x if that is one of so many atoms, and nothing else
 pub record AddsAtom (atoms x : ℕ) (old new : List ℕ) : Type 0 where

@@ -38,6 +38,8 @@ pub fn missing(
     ensures loops { IfOk result (λ found. IfSome found IsLoopName) }
     ensures false_there { IfOk result (λ found. IfSome found (λ name.
         IsModelOfMembers plain.now values.now → IsFalseUnder values.now name)) }
+    ensures unfounded { IfOk result (λ found. IfSome found (λ name. (set : List ℕ)
+        → IsSetOf (IsDecoded Asm values.now) set → ¬ ((k : AClosure) → IsFounded plain.now values.now set k))) }
     ensures founded { IfOk result (λ found. found ≡ None → (set : List ℕ) → IsSetOf (IsDecoded Asm values.now) set
         → (k : AClosure) → IsFounded plain.now values.now set k) }
     ensures reads { IfOk result (λ found. found ≡ None → IsModelOfAba plain.now values.now → (set : List ℕ)

@@ -1,11 +1,14 @@
 use Rattle.std.proofs.Common.{ℕ, List}
 use Rattle.std.specs.Prelude.{Contains}
+use Rattle.plain_lists.specs.Members.{IsSetOf}
 use Rattle.aba_semantics.specs.AbaFrameworks.{IsAtom}
 use Rattle.aba_semantics.specs.Rules.{Derives}
 use Rattle.af_encoding.specs.Decoded.{Affirms}
-use Rattle.meaning_atoms.specs.declared.atom.Atom.TheVariants.{Der}
+use Rattle.meaning_atoms.specs.declared.atom.Atom.TheVariants.{Asm, Der}
+use Rattle.meaning_atoms.specs.declared.atom.Closure.{Closure}
 use Rattle.meaning_atoms.specs.declared.atom.Closure.TheVariants.{Own, Rest}
-use Rattle.aba_encoding.specs.AbaModels.{IsFalseUnder, IsLoopBeside, IsLoopName, IsModelOfMembers}
+use Rattle.oracle_face.specs.Decoding.{IsDecoded}
+use Rattle.aba_encoding.specs.AbaModels.{IsFalseUnder, IsFounded, IsLoopBeside, IsLoopName, IsModelOfMembers}
 use Rattle.aba_encoding.proofs.LoopLemmas.{
   all_founded,
   found_there,
@@ -14,7 +17,9 @@ use Rattle.aba_encoding.proofs.LoopLemmas.{
   none_else,
   none_there,
   own_loop_false,
+  own_unfounded,
   rest_loop_false,
+  rest_unfounded,
 }
 use Rattle.aba_encoding.proofs.ModelReadings.{model_reads_back}
 use Rattle.aba_encoding.proofs.loops.missing.Goals as goal
@@ -34,6 +39,25 @@ returns-in-Some-clause-false_there c =
     λ whole. own_loop_false f values c.in_ok-own.own c.loop_beside.ensures.form c.in_ok-own.ensures whole c.in-Some.name
     (found_there (IsLoopBeside f values c.in_ok-own.own Own) c.in_ok-name.field-0 c.in-Some.name c.in-Some.is
     c.in_ok-name.ensures.some)
+
+pub returns-in-Some-clause-unfounded : goal.returns-in-Some-clause-unfounded
+returns-in-Some-clause-unfounded c =
+    let f = c.args.plain.now in
+    let values = c.args.values.now in
+    λ set is. own_unfounded f values c.in_ok-own.own set c.in-Some.name c.in_ok-own.ensures is
+    (found_there (IsLoopBeside f values c.in_ok-own.own Own) c.in_ok-name.field-0 c.in-Some.name c.in-Some.is
+    c.in_ok-name.ensures.some)
+
+pub returns-clause-unfounded : goal.returns-clause-unfounded
+returns-clause-unfounded c =
+    let f = c.args.plain.now in
+    let values = c.args.values.now in
+    found_weaker (IsLoopBeside f values c.in_ok-rest.rest Rest)
+    (λ name. (set : List ℕ) → IsSetOf (IsDecoded Asm values) set → ¬ ((k : Closure) → IsFounded f values set k))
+    c.in_ok-found.found
+    (λ name h set is. rest_unfounded f values c.in_ok-own.own set c.in_ok-rest.rest name c.in_ok-own.ensures is
+    c.in_ok-rest.ensures h)
+    c.in_ok-found.ensures.some
 
 pub returns-clause-loops : goal.returns-clause-loops
 returns-clause-loops c =
