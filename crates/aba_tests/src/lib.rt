@@ -5,3 +5,5 @@
 mod aba_text;
 #[cfg(test)]
 mod definitions;
+#[cfg(test)]
+mod encoding;
