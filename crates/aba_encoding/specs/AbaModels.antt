@@ -21,6 +21,7 @@ use Rattle.aba_facts.specs.FactValues.{IsAbaFactValue}
 use Rattle.aba_notions.specs.declared.unfounded.Unfounded.{Unfounded}
 use Rattle.aba_notions.specs.Unfounded.{IsUnfoundedOf}
 use Rattle.loop_clauses.specs.LoopNames.{loop_rows}
+use Rattle.oracle_face.specs.Decoding.{IsDecoded}
 use Rattle.oracle_face.specs.Goals.{IsMode}
 use Rattle.af_encoding.specs.Decoded.{Affirms}
 use Rattle.aba_needed.specs.AbaNeeded.{IsNeededOfAba}
@@ -88,3 +89,11 @@ pub record IsLoopBeside (f : Aba) (values : List AtomLit) (base : List ℕ) (k :
 -- the list has gained x if that is one of so many atoms, and nothing else
 pub record AddsAtom (atoms x : ℕ) (old new : List ℕ) : Type 0 where
   pub members : (y : ℕ) → Contains new y ↔ (Contains old y ⊎ ((x ≡ y) × IsAtom atoms y))
+
+-- a model of the axioms that the framework needs, which is read as the set, affirms each mode that the set has, and derives
+-- nothing else than what the set derives
+pub record IsModelOfSetInAba (f : Aba) (values : List AtomLit) (s : List ℕ) : Type 0 where
+  pub model : IsModelOfAba f values
+  pub read : (a : ℕ) → IsDecoded Asm values a ↔ Contains s a
+  pub modes : (mode : Atom) → IsMode mode → HoldsOfAba f s mode → Affirms values mode
+  pub founded : (k : Closure) → IsFounded f values s k
