@@ -1,14 +1,14 @@
 -- The loop clause of what does not follow is false under a model, and where there is none, a model reads back.
-use Rattle.std.proofs.Common.{◌≡◌, false, ◌+◌, ◌<◌, ◌≤◌, ◌⊎◌, ℕ, List, [], ◌∷◌, ◌++◌, length, get_or, map, take, arith, refl, subst, sym, ap, ◌∙◌}
+use Rattle.std.proofs.Common.{◌≡◌, false, ◌+◌, ◌<◌, ◌≤◌, ℕ, List, [], ◌∷◌, ◌++◌, length, get_or, map, take, arith, refl, subst, sym, ap, ◌∙◌}
 use Rattle.std.proofs.Common.{inl, inr, ⊎_elim}
-use Rattle.std.specs.Prelude.{AllPairs, Contains, IfNone, IfSome, None, Option, Some, ◌==◌, ◌↔◌, if◌then◌else◌}
+use Rattle.std.specs.Prelude.{Contains, IfNone, IfSome, None, Option, Some, ◌==◌, ◌↔◌}
 use Rattle.std.specs.List.{flat_map}
-use Rattle.std.proofs.lemmas.Bool.{cases_eq, cond_both, eqb-false, eqb-true}
+use Rattle.std.proofs.lemmas.Bool.{cond_both, eqb-false, eqb-true}
 use Rattle.std.proofs.lemmas.List.{get_or-map, length-map, take_all, take_more}
 use Rattle.std.proofs.lemmas.List.Elements.{Contains-append_cases, Contains-append_left, Contains-push_cases, Contains-get_or}
 use Rattle.plain_lists.specs.Members.{IsSetOf}
 use Rattle.plain_lists.proofs.Membership.{Contains-nil, Contains-cons_cases, Contains-pushed}
-use Rattle.aba_semantics.specs.AbaFrameworks.{Aba, AttacksAssumption, IsAtom, IsNumberedAba, collective_of}
+use Rattle.aba_semantics.specs.AbaFrameworks.{Aba, IsAtom, IsNumberedAba, collective_of}
 use Rattle.aba_semantics.specs.Collectives.{IsUnattacked}
 use Rattle.aba_semantics.specs.Rules.{Rule, Derives, given as from_given}
 use Rattle.aba_laws.proofs.AbaLemmas.{decide_attacks}
@@ -17,7 +17,7 @@ use Rattle.aba_laws.proofs.Images.{image_there, image_from}
 use Rattle.aba_notions.proofs.FormLemmas.{same_rising}
 use Rattle.aba_notions.specs.declared.unfounded.Row.{Row}
 use Rattle.aba_notions.specs.declared.unfounded.Unfounded.{Unfounded}
-use Rattle.aba_notions.specs.Unfounded.{IsReason, IsRowBy, IsUnfoundedOf}
+use Rattle.aba_notions.specs.Unfounded.{IsUnfoundedOf}
 use Rattle.meaning_atoms.specs.declared.aba_axiom.AbaAxiom.TheVariants.{B1, B6, B9Con, B10, B11, B17}
 use Rattle.meaning_atoms.specs.declared.atom.Atom.{Atom}
 use Rattle.meaning_atoms.specs.declared.atom.Atom.TheVariants.{Member, Asm, Con, HGap, Body, Der, Miss, Cf}
@@ -37,23 +37,11 @@ use Rattle.oracle_face.specs.Decoding.{IsDecoded}
 use Rattle.af_encoding.specs.Decoded.{Affirms}
 use Rattle.aba_needed.specs.AbaNeeded.{Heads}
 use Rattle.aba_needed.specs.Listing.{walk_along}
-use Rattle.aba_needed.specs.Walks.{IsFree, IsWalkEnd, IsWalkStep}
+use Rattle.aba_needed.specs.Walks.{IsWalkEnd, IsWalkStep}
 use Rattle.aba_needed.proofs.NeededLemmas.{flat_from, heads_low, heads_under}
 use Rattle.aba_needed.proofs.WalkLemmas.{AreAhead, all_ahead, along_from}
-use Rattle.aba_encoding.specs.AbaModels.{AddsAtom, IsFalseUnder, IsFounded, IsLoopBeside, IsLoopName, IsModelOfAba, IsModelOfMembers, ReadsBackInAba}
-use Rattle.aba_encoding.proofs.ModelReadings.{
-  affirmed_here,
-  consistent,
-  fact_here,
-  fact_so,
-  fact_told,
-  first_or_later,
-  last_one,
-  model_reads_back,
-  none_left,
-  own_told,
-  satisfied,
-}
+use Rattle.aba_encoding.specs.AbaModels.{AddsAtom, IsFalseUnder, IsFounded, IsLoopBeside, IsLoopName, IsModelOfAba, IsModelOfMembers}
+use Rattle.aba_encoding.proofs.ModelReadings.{affirmed_here, fact_here, fact_so, fact_told, first_or_later, last_one, none_left, own_told, satisfied}
 
 -- ---- the literals of the clause
 
@@ -73,7 +61,7 @@ module _ (f : Aba) (values : List AtomLit) (form : IsNumberedAba f) (model : IsM
     (claimed : List ℕ) (claimed_are : IsSetOf (λ x. IsAtom f.atoms x × Affirms values (Der k x)) claimed)
     (base : List ℕ) (u : Unfounded) (found : IsUnfoundedOf f (Contains base) claimed u)
     (not_given : (w : ℕ) → IsAtom f.atoms w → Affirms values (Der k w)
-        → (Derives f.rules (Contains base) w → ⊥) → Contains values (denied (given_atom k w))) where
+    → (Derives f.rules (Contains base) w → ⊥) → Contains values (denied (given_atom k w))) where
   -- an atom of the rows
   record IsOpen (w : ℕ) : Type 0 where
     atom : IsAtom f.atoms w

@@ -1,6 +1,6 @@
 -- A model of the needed axioms which derives nothing unfounded tells of the set that it is read as what is so in the
 -- framework.
-use Rattle.std.proofs.Common.{◌≡◌, ◌+◌, ◌<◌, ◌≤◌, ◌⊎◌, ℕ, zero, suc, Bool, true, false, List, [], ◌∷◌, map, arith, refl, subst, sym, ap, ◌∙◌}
+use Rattle.std.proofs.Common.{◌≡◌, ◌+◌, ◌⊎◌, ℕ, Bool, true, false, List, [], ◌∷◌, arith, refl, subst, sym}
 use Rattle.std.proofs.Common.{inl, inr, ⊎_elim}
 use Rattle.std.specs.Prelude.{Contains, ◌↔◌}
 use Rattle.std.proofs.lemmas.Bool.{cases_eq, false≢true}
@@ -24,7 +24,7 @@ use Rattle.meaning_atoms.specs.AbaReadings.{HasContrary, HasNoAtom, HasRule, IsI
 use Rattle.meaning_atoms.specs.Literals.{affirmed, denied}
 use Rattle.meaning_atoms.specs.Worlds.{aba_world, Holds, HoldsOfAba, IsAbaFact, Says}
 use Rattle.aba_axioms.specs.AbaTable.{aba_clause}
-use Rattle.aba_axioms.proofs.FrameworkLemmas.{IsGivenIn, attack_derives, attacks_by, has_assumption, in_closure, of_closure}
+use Rattle.aba_axioms.proofs.FrameworkLemmas.{attacks_by}
 use Rattle.aba_facts.specs.FactValues.{IsAbaFactValue}
 use Rattle.oracle_face.specs.Decoding.{IsDecoded}
 use Rattle.oracle_face.specs.Goals.{IsMode}

@@ -1,17 +1,16 @@
 -- Each set of assumptions has a model that is read as it: what is so in the world of the framework and the set, of all
 -- atoms of which the needed axioms speak.
-use Rattle.std.proofs.Common.{◌≡◌, ◌⊎◌, ℕ, Bool, true, false, not, List, [], map, arith, refl, sym, ◌∙◌, subst, inl, inr, ⊎_elim}
+use Rattle.std.proofs.Common.{◌≡◌, ◌⊎◌, ℕ, Bool, true, false, not, List, [], map, arith, refl, sym, ◌∙◌, subst, inl, inr}
 use Rattle.std.specs.Prelude.{Contains, ◌↔◌}
 use Rattle.std.specs.List.{flat_map}
 use Rattle.plain_lists.specs.Members.{IsWithin}
-use Rattle.aba_semantics.specs.AbaFrameworks.{Aba, IsAtom, IsNumberedAba}
+use Rattle.aba_semantics.specs.AbaFrameworks.{Aba, IsNumberedAba}
 use Rattle.aba_laws.proofs.Images.{image_there, image_from}
 use Rattle.meaning_atoms.specs.declared.aba_axiom.AbaAxiom.{AbaAxiom}
-use Rattle.meaning_atoms.specs.declared.aba_axiom.AbaAxiom.TheVariants.{B1, B9, B16}
+use Rattle.meaning_atoms.specs.declared.aba_axiom.AbaAxiom.TheVariants.{B1, B16}
 use Rattle.meaning_atoms.specs.declared.atom.Atom.{Atom}
 use Rattle.meaning_atoms.specs.declared.atom.Atom.TheVariants.{Member, Asm, Con, Head, HGap, Body, BGap, Der, Cf, Ad, Co, St}
 use Rattle.meaning_atoms.specs.declared.atom.AtomLit.{AtomLit}
-use Rattle.meaning_atoms.specs.declared.atom.Closure.{Closure}
 use Rattle.meaning_atoms.specs.Literals.{affirmed, denied, negated}
 use Rattle.meaning_atoms.specs.Valuations.{IsValuation}
 use Rattle.meaning_atoms.specs.Worlds.{aba_world, Holds, HoldsOfAba, IsAbaFact, IsAbaWorld, Says}

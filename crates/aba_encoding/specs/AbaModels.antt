@@ -3,7 +3,6 @@ use Rattle.std.specs.Prelude.{◌≡◌, ◌↔◌, ◌⊎◌, ℕ, Bool, true, 
 use Rattle.plain_lists.specs.Members.{IsSetOf}
 use Rattle.plain_lits.specs.HintCheck.{IsTautology}
 use Rattle.aba_semantics.specs.AbaFrameworks.{Aba, IsAtom}
-use Rattle.aba_semantics.specs.Rules.{Derives}
 use Rattle.meaning_atoms.specs.declared.aba_axiom.AbaAxiom.{AbaAxiom}
 use Rattle.meaning_atoms.specs.declared.aba_axiom.AbaAxiom.TheVariants.{B17}
 use Rattle.meaning_atoms.specs.declared.atom.Atom.{Atom}
@@ -14,7 +13,7 @@ use Rattle.meaning_atoms.specs.declared.axiom.AxiomName.{AxiomName}
 use Rattle.meaning_atoms.specs.declared.axiom.AxiomName.TheVariants.{Aba as OfAba}
 use Rattle.meaning_atoms.specs.AbaAxioms.{IsAbaAxiom}
 use Rattle.meaning_atoms.specs.AbaReadings.{IsInClosure}
-use Rattle.meaning_atoms.specs.Literals.{affirmed, denied, negated}
+use Rattle.meaning_atoms.specs.Literals.{denied, negated}
 use Rattle.meaning_atoms.specs.Worlds.{HoldsOfAba, IsAbaFact, Says}
 use Rattle.aba_axioms.specs.AbaTable.{aba_clause}
 use Rattle.aba_facts.specs.FactValues.{IsAbaFactValue}

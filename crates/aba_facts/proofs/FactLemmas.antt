@@ -1,5 +1,5 @@
 -- What is found at a rule's index is so of the rule of its number.
-use Rattle.std.proofs.Common.{◌≡◌, ◌+◌, ◌≤◌, ◌<◌, ℕ, Bool, List, length, get_or, map, true, false, arith, ap, refl, sym, subst, ◌∙◌, ⊎_elim}
+use Rattle.std.proofs.Common.{◌≡◌, ◌+◌, ◌≤◌, ◌<◌, ℕ, List, length, get_or, map, true, false, arith, ap, refl, sym, subst, ◌∙◌, ⊎_elim}
 use Rattle.std.proofs.Common.{eqb, leb, leb-true, le-leb, eq-eqb}
 use Rattle.std.specs.Prelude.{Contains, ◌↔◌, IsTrue}
 use Rattle.std.specs.List.Sorted.{IsStrictlyIncreasing}
@@ -13,9 +13,9 @@ use Rattle.aba_laws.proofs.Images.{image_there, image_from}
 use Rattle.aba_notions.specs.Storage.{no_rule, rule_at}
 use Rattle.aba_notions.proofs.TableLemmas.{rising_few}
 use Rattle.aba_notions.proofs.UnfoundedLemmas.{read_number}
-use Rattle.meaning_atoms.specs.AbaReadings.{HasHead, HasNoAtom, HasNoHead, HasRule}
+use Rattle.meaning_atoms.specs.AbaReadings.{HasHead, HasNoHead, HasRule}
 use Rattle.aba_axioms.proofs.FrameworkLemmas.{same_rule}
-use Rattle.aba_facts.specs.Cuts.{IsClear, IsCut, IsFirstFrom, IsRuleAt}
+use Rattle.aba_facts.specs.Cuts.{IsCut, IsFirstFrom, IsRuleAt}
 use Rattle.aba_facts.proofs.CutLemmas.{along, behind_cut}
 
 abbrev number_of : Rule → ℕ

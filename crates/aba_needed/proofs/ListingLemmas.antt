@@ -1,5 +1,5 @@
 -- The needed axioms are listed one after the other.
-use Rattle.std.proofs.Common.{◌≡◌, ◌+◌, ◌<◌, ◌≤◌, ℕ, Bool, List, [], ◌∷◌, ◌++◌, length, get_or, map, filter, take, drop, arith, ap, refl, sym, subst, ◌∙◌, ⊎_elim, eqb, eqb-true, eq-eqb}
+use Rattle.std.proofs.Common.{◌≡◌, ◌+◌, ◌<◌, ◌≤◌, ℕ, List, [], ◌∷◌, ◌++◌, length, get_or, map, filter, take, drop, arith, ap, refl, sym, subst, ◌∙◌, ⊎_elim, eqb, eqb-true, eq-eqb}
 use Rattle.std.specs.Prelude.{Contains, ◌↔◌}
 use Rattle.std.specs.List.{flat_map, range_with_len}
 use Rattle.std.specs.List.Sorted.{IsStrictlyIncreasing}
@@ -155,9 +155,9 @@ heading_is f form x numbers headed are rise rules =
           let there = w.1 in
           let rule : rule_at f.rules there.0 ≡ w.0 = get_or_default f.rules there.0 no_rule w.0 there.1 ∙ there.2 in
           subst (λ m. Contains (numbers_at numbers headed) m)
-              (read_number f numbers there.0 are there.1 ∙ ap number_of rule ∙ w.3)
-              (image_there at_pair headed (x, there.0)
-              ((rules x there.0).1 (refl, there.1, ap (λ (r : Rule). r.head) rule ∙ w.2))),
+          (read_number f numbers there.0 are there.1 ∙ ap number_of rule ∙ w.3)
+          (image_there at_pair headed (x, there.0)
+          ((rules x there.0).1 (refl, there.1, ap (λ (r : Rule). r.head) rule ∙ w.2))),
     ))
   where
     at_pair : ℕ × ℕ → ℕ

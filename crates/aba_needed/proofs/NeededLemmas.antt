@@ -1,11 +1,10 @@
 -- The listed axioms are the needed ones, and they are axioms.
-use Rattle.std.proofs.Common.{◌≡◌, ◌≤◌, ◌<◌, ◌+◌, ◌-◌, ◌⊎◌, ℕ, List, [], ◌∷◌, ◌++◌, length, get_or, map, arith, ap, refl, sym, inl, inr, ⊎_elim, subst, ◌∙◌}
-use Rattle.std.specs.Prelude.{Contains, AllPairs, ◌↔◌}
+use Rattle.std.proofs.Common.{◌≡◌, ◌≤◌, ◌<◌, ◌-◌, ℕ, List, [], ◌∷◌, ◌++◌, map, arith, ap, refl, sym, ⊎_elim, subst}
+use Rattle.std.specs.Prelude.{Contains, ◌↔◌}
 use Rattle.std.specs.List.{AllByRecursion, flat_map, range_with_len}
 use Rattle.std.proofs.lemmas.Bool.{cases_eq}
-use Rattle.std.proofs.lemmas.List.{get_or-map, length-map}
 use Rattle.std.proofs.lemmas.List.FromFn.{get_or-range_with_len, length-range_with_len}
-use Rattle.std.proofs.lemmas.List.Elements.{All-contains, All-from_recursion, Contains-append_left, Contains-append_right, Contains-append_cases, Contains-get_or}
+use Rattle.std.proofs.lemmas.List.Elements.{All-contains, All-from_recursion, Contains-append_left, Contains-append_right, Contains-append_cases}
 use Rattle.std.proofs.lemmas.List.Kept.{AllPairs-from_increasing}
 use Rattle.plain_lists.proofs.Membership.{Contains-nil, Contains-head, Contains-tail, Contains-cons_cases}
 use Rattle.aba_laws.proofs.Images.{image_there, image_from}
@@ -19,14 +18,14 @@ use Rattle.meaning_atoms.specs.declared.aba_axiom.AbaAxiom.TheVariants.{B1, B2, 
 use Rattle.meaning_atoms.specs.declared.axiom.AxiomName.{AxiomName}
 use Rattle.meaning_atoms.specs.declared.axiom.AxiomName.TheVariants.{Af as OfAf, Aba as OfAba}
 use Rattle.meaning_atoms.specs.AbaAxioms.{IsAbaAxiom}
-use Rattle.meaning_atoms.specs.AbaReadings.{HasContrary, HasHead, HasRule}
+use Rattle.meaning_atoms.specs.AbaReadings.{HasContrary, HasRule}
 use Rattle.meaning_atoms.specs.AxiomNames.{IsAxiomName}
 use Rattle.aba_axioms.proofs.FrameworkLemmas.{has_assumption}
 use Rattle.aba_needed.specs.AbaNeeded.{Heads, IsNeededForAba, IsNeededOfAba}
 use Rattle.aba_needed.specs.Listing.{atom_axioms, body_end, body_step, common_axioms, contrary_axioms, head_end, head_step, heading, listed_axioms, rule_axioms, walk_along}
-use Rattle.aba_needed.specs.Walks.{IsWalkStart, IsWalkStep, IsWalkEnd}
+use Rattle.aba_needed.specs.Walks.{IsWalkStep, IsWalkEnd}
 use Rattle.aba_needed.proofs.ListingLemmas.{heading_are, heading_rises}
-use Rattle.aba_needed.proofs.WalkLemmas.{AreAhead, AtEnd, OnStep, all_ahead, along_from, end_there, start_high, start_position, step_there, step_to}
+use Rattle.aba_needed.proofs.WalkLemmas.{AreAhead, all_ahead, along_from, end_there, start_high, start_position, step_there, step_to}
 
 -- ---- lists of lists
 

@@ -1,11 +1,9 @@
 -- Walks along numbers of which something holds: there is one step to each of them and one end.
-use Rattle.std.proofs.Common.{◌≡◌, ◌≤◌, ◌<◌, ◌+◌, ◌⊎◌, ℕ, zero, suc, List, [], ◌∷◌, ◌++◌, length, get_or, arith, ap, refl, sym, inl, inr, ⊎_elim, subst, ◌∙◌}
+use Rattle.std.proofs.Common.{◌≡◌, ◌≤◌, ◌<◌, ◌+◌, ◌⊎◌, ℕ, List, [], ◌∷◌, arith, ap, refl, sym, inl, inr, ⊎_elim, subst}
 use Rattle.std.specs.Prelude.{Contains, AllPairs}
 use Rattle.std.proofs.lemmas.Bool.{cases_eq, cases_lt}
-use Rattle.std.proofs.lemmas.List.Elements.{Contains-append_left, Contains-append_right, Contains-append_cases, Contains-get_or}
-use Rattle.std.proofs.lemmas.List.{get_or_default}
+use Rattle.std.proofs.lemmas.List.Elements.{Contains-append_left, Contains-append_right, Contains-append_cases}
 use Rattle.plain_lists.proofs.Membership.{Contains-nil, Contains-head, Contains-tail, Contains-cons_cases}
-use Rattle.semantics.proofs.Decided.{Decided}
 use Rattle.af_encoding.proofs.EnumerationLemmas.{pairs_head, pairs_tail}
 use Rattle.aba_needed.specs.Listing.{walk_along}
 use Rattle.aba_needed.specs.Walks.{IsFree, IsWalkStart, IsWalkStep, IsWalkEnd}

@@ -40,7 +40,11 @@ pub fn needed(alloc: Global, plain: &AbaPlain) -> Result<Items<AxiomName>, Memor
 }
 
 /// Adds the axioms of the assumptions and their contraries.
-fn push_contraries(alloc: Global, plain: &AbaPlain, names: &mut Vec<AxiomName>) -> Result<(), Memory>
+fn push_contraries(
+    alloc: Global,
+    plain: &AbaPlain,
+    names: &mut Vec<AxiomName>,
+) -> Result<(), Memory>
     ensures gains { OnOk result (Gains (flat_map contrary_axioms plain.now.contraries) names.old.items names.new.items) }
     ensures form { IsNumberedAba plain.now }
 {
@@ -75,13 +79,22 @@ fn push_rules(alloc: Global, plain: &AbaPlain, names: &mut Vec<AxiomName>) -> Re
 
 /// Adds the axioms of the rule at an index: those of its head, then by rising atoms those of each atom of its body with
 /// the steps of the walks from the atom before, and the ends of the walks.
-fn push_rule(alloc: Global, plain: &AbaPlain, names: &mut Vec<AxiomName>, index: u32) -> Result<(), Memory>
+fn push_rule(
+    alloc: Global,
+    plain: &AbaPlain,
+    names: &mut Vec<AxiomName>,
+    index: u32,
+) -> Result<(), Memory>
     requires { index < length plain.now.rules }
     ensures { OnOk result (Gains (rule_axioms (rule_at plain.now.rules index)) names.old.items names.new.items) }
 {
     let number = plain.rule_numbers()[index as usize];
     let head = plain.rule_heads()[index as usize];
-    push_all(alloc, names, &[B5(Own, number, head), B5(Rest, number, head)])?;
+    push_all(
+        alloc,
+        names,
+        &[B5(Own, number, head), B5(Rest, number, head)],
+    )?;
     let mut position = 1;
     for pair in plain.body_of(index) {
         let x = pair.1;
@@ -118,7 +131,12 @@ fn push_atoms(alloc: Global, plain: &AbaPlain, names: &mut Vec<AxiomName>) -> Re
 
 /// Adds the axioms of an atom: those of the atom alone, then by rising numbers of the rules that head it the steps of the
 /// walks from the rule before, and the ends of the walks.
-fn push_atom(alloc: Global, plain: &AbaPlain, names: &mut Vec<AxiomName>, x: u32) -> Result<(), Memory>
+fn push_atom(
+    alloc: Global,
+    plain: &AbaPlain,
+    names: &mut Vec<AxiomName>,
+    x: u32,
+) -> Result<(), Memory>
     ensures { OnOk result (Gains (atom_axioms plain.now x) names.old.items names.new.items) }
 {
     let numbers = plain.rule_numbers();
@@ -136,7 +154,11 @@ fn push_atom(alloc: Global, plain: &AbaPlain, names: &mut Vec<AxiomName>, x: u32
         )?;
         position = number + 1;
     }
-    push_all(alloc, names, &[B11(Own, x, position), B11(Rest, x, position)])?;
+    push_all(
+        alloc,
+        names,
+        &[B11(Own, x, position), B11(Rest, x, position)],
+    )?;
     Ok(())
 }
 

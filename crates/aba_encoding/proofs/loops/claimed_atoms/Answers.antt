@@ -1,5 +1,3 @@
-use Rattle.std.proofs.Common.{ℕ, ◌≡◌, ap, get_or}
-use Rattle.std.specs.Prelude.{Contains}
 use Rattle.std.proofs.lemmas.Result.{IfOk-weaker}
 use Rattle.af_encoding.specs.Decoded.{Affirms}
 use Rattle.meaning_atoms.specs.declared.atom.Atom.TheVariants.{Der}

@@ -1,6 +1,4 @@
-use Rattle.std.proofs.Common.{ℕ}
 use Rattle.std.specs.Prelude.{Contains}
-use Rattle.aba_semantics.specs.AbaFrameworks.{IsAtom}
 use Rattle.aba_notions.specs.Unfounded.{IsUnfoundedOf}
 use Rattle.aba_encoding.proofs.LoopLemmas.{found_there, least_loops, loop_made, none_there}
 use Rattle.aba_encoding.proofs.loops.loop_beside.Goals as goal

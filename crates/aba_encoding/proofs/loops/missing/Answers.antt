@@ -86,7 +86,7 @@ returns-clause-founded c =
     (none_else ((x : ℕ) → IsAtom f.atoms x → Affirms values (Der Own x) → Derives f.rules (Contains own) x)
     c.in_ok-name.field-0 c.in_default.not-Some c.in_ok-name.ensures.none)
     (none_there ((x : ℕ) → IsAtom f.atoms x → Affirms values (Der Rest x)
-        → Derives f.rules (Contains c.in_ok-rest.rest) x)
+    → Derives f.rules (Contains c.in_ok-rest.rest) x)
     c.in_ok-found.found none c.in_ok-found.ensures.none)
     set is k
 

@@ -1,4 +1,4 @@
-use Rattle.std.proofs.Common.{◌≡◌, ◌<◌, ℕ, arith, get_or, length, map, sym}
+use Rattle.std.proofs.Common.{ℕ, arith, map, sym}
 use Rattle.std.proofs.lemmas.List.{get_or-map, length-map}
 use Rattle.aba_facts.proofs.CutLemmas.{all_below, first_made}
 use Rattle.aba_facts.proofs.cuts.first_from.Goals as goal

@@ -1,9 +1,7 @@
-use Rattle.std.proofs.Common.{◌++◌, [], map, ap, sym, subst, ◌∙◌}
+use Rattle.std.proofs.Common.{◌++◌}
 use Rattle.std.specs.List.{flat_map, range_with_len}
 use Rattle.meaning_atoms.specs.AxiomNames.{IsAxiomName}
-use Rattle.af_encoding.specs.Enumerations.{Enumerates}
 use Rattle.af_encoding.proofs.EnumerationLemmas.{all_of_members}
-use Rattle.aba_needed.specs.AbaNeeded.{IsNeededForAba}
 use Rattle.aba_needed.specs.Listing.{atom_axioms, common_axioms, contrary_axioms, rule_axioms}
 use Rattle.aba_needed.proofs.ListingLemmas.{gains_on}
 use Rattle.aba_needed.proofs.NeededLemmas.{needed_is_axiom}

@@ -1,4 +1,4 @@
-use Rattle.std.proofs.Common.{ℕ, ◌≡◌, ◌<◌, ◌+◌, arith, ap, get_or, length, map, sym, ◌∙◌}
+use Rattle.std.proofs.Common.{ℕ, arith, ap, get_or, length}
 use Rattle.std.proofs.lemmas.List.{get_or-map, length-map}
 use Rattle.std.proofs.lemmas.List.Elements.{Contains-get_or}
 use Rattle.aba_semantics.specs.Rules.{Rule}

@@ -1,6 +1,5 @@
-use Rattle.std.proofs.Common.{ap, get_or, refl, sym, subst, ◌∙◌, arith, length}
-use Rattle.std.specs.List.{flat_map}
-use Rattle.aba_needed.specs.Listing.{Gains, contrary_axioms}
+use Rattle.std.proofs.Common.{ap, get_or, sym}
+use Rattle.aba_needed.specs.Listing.{contrary_axioms}
 use Rattle.aba_needed.proofs.ListingLemmas.{flat_all, flat_more, gains_nothing}
 use Rattle.aba_needed.proofs.needed_axioms.push_contraries.Goals as goal
 

@@ -1,6 +1,5 @@
-use Rattle.std.proofs.Common.{ℕ, ◌≡◌, arith, ap, get_or, length, map, refl, sym, subst, ◌∙◌}
+use Rattle.std.proofs.Common.{ℕ, arith, get_or, map}
 use Rattle.std.proofs.lemmas.List.{get_or-map, length-map}
-use Rattle.std.proofs.lemmas.List.Elements.{Contains-get_or}
 use Rattle.aba_notions.specs.Storage.{rule_at}
 use Rattle.aba_needed.specs.Listing.{body_end, body_step, rule_axioms}
 use Rattle.aba_needed.proofs.ListingLemmas.{left_begins, left_ends, left_goes}

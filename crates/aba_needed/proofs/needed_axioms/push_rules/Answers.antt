@@ -1,4 +1,4 @@
-use Rattle.std.proofs.Common.{arith, ap, get_or, length, refl}
+use Rattle.std.proofs.Common.{arith, ap, length, refl}
 use Rattle.std.proofs.lemmas.List.{length-map}
 use Rattle.aba_semantics.specs.Rules.{Rule}
 use Rattle.aba_facts.proofs.FactLemmas.{few}
