@@ -49,7 +49,8 @@ in_gap : (w i j : ℕ) (l : AtomLit) → Contains (filled_gap w i j) l → l ≡
 in_gap w i j l =
     cond_both (i == j) [] (denied (HGap w i j) ∷ []) (λ xs. Contains xs l → l ≡ denied (HGap w i j))
     (λ _ c. absurd (Contains-nil l c))
-    (λ _ c. ⊎_elim (λ e. sym e) (λ none. absurd (Contains-nil l none)) (Contains-cons_cases (denied (HGap w i j)) [] l c))
+    (λ _ c. ⊎_elim (λ e. sym e) (λ none. absurd (Contains-nil l none))
+    (Contains-cons_cases (denied (HGap w i j)) [] l c))
 
 -- the gaps of a row are those of a walk
 heads_along : (w i : ℕ) (rules : List ℕ)

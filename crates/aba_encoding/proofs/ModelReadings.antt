@@ -99,7 +99,8 @@ module _ (f : Aba) (values : List AtomLit) (model : IsModelOfAba f values) where
   pub fact_told : (name : AbaAxiom) (atom : Atom) → IsNeededOfAba f name → Contains (aba_clause name) (denied atom)
       → IsAbaFact atom → Holds (aba_world f []) [] atom → Affirms values atom
   fact_told name atom needed c fact so =
-      ⊎_elim (λ here. absurd (not_denied atom fact so here)) (λ told. told) (model.told name (denied atom) needed c fact)
+      ⊎_elim (λ here. absurd (not_denied atom fact so here)) (λ told. told)
+      (model.told name (denied atom) needed c fact)
 
   -- ---- the framework's contraries
 

@@ -77,8 +77,10 @@ abbrev pub IsFalseUnder : List AtomLit → AxiomName → Type 0
 IsFalseUnder values (OfAba name) = (l : AtomLit) → Contains (aba_clause name) l → Contains values (negated l)
 IsFalseUnder values _ = ⊥
 
--- the loop clause of the least of the atoms that the values affirm to be in a closure and that do not follow from its base
-pub record IsLoopBeside (f : Aba) (values : List AtomLit) (base : List ℕ) (k : Closure) (name : AxiomName) : Type 0 where
+-- the loop clause of the least of the atoms that the values affirm to be in a closure and that do not follow from its
+-- base
+pub record IsLoopBeside (f : Aba) (values : List AtomLit) (base : List ℕ) (k : Closure) (name : AxiomName)
+    : Type 0 where
   pub claimed : List ℕ
   pub claimed_are : IsSetOf (λ x. IsAtom f.atoms x × Affirms values (Der k x)) claimed
   pub found : Unfounded
@@ -89,8 +91,8 @@ pub record IsLoopBeside (f : Aba) (values : List AtomLit) (base : List ℕ) (k :
 pub record AddsAtom (atoms x : ℕ) (old new : List ℕ) : Type 0 where
   pub members : (y : ℕ) → Contains new y ↔ (Contains old y ⊎ ((x ≡ y) × IsAtom atoms y))
 
--- a model of the axioms that the framework needs, which is read as the set, affirms each mode that the set has, and derives
--- nothing else than what the set derives
+-- a model of the axioms that the framework needs, which is read as the set, affirms each mode that the set has, and
+-- says of nothing else that it is derived than of what is
 pub record IsModelOfSetInAba (f : Aba) (values : List AtomLit) (s : List ℕ) : Type 0 where
   pub model : IsModelOfAba f values
   pub read : (a : ℕ) → IsDecoded Asm values a ↔ Contains s a

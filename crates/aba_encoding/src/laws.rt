@@ -1,5 +1,5 @@
-//! The laws that show the needed axioms and loop clauses to be the right ones. Each function does nothing; its contract is
-//! the law.
+//! The laws that show the needed axioms and loop clauses to be the right ones. Each function does nothing; its contract
+//! is the law.
 
 ghost use Rattle.std.specs.Prelude.{ℕ, List};
 ghost use Rattle.plain_lists.specs.Members.{IsSetOf, IsWithin};
@@ -13,16 +13,16 @@ ghost use Rattle.oracle_face.specs.Decoding.{IsDecoded};
 ghost use Rattle.aba_needed.specs.AbaNeeded.{IsNeededForAba};
 ghost use Rattle.aba_encoding.specs.AbaModels.{DescribesInAba, IsFounded, IsModelOfAba, IsModelOfSetInAba, ReadsBackInAba};
 
-/// The set that a model is read as, where what it derives is founded, has each mode that the model affirms; each assumption
-/// is a member and each atom is in a closure of the set exactly where the model affirms it.
+/// The set that a model is read as, where what it derives is founded, has each mode that the model affirms; each
+/// assumption is a member and each atom is in a closure of the set exactly where the model affirms it.
 pub fn models_describe()
     ensures { (f : Aba) (values : List AtomLit) (set : List ℕ) → IsNumberedAba f → IsModelOfAba f values
         → IsSetOf (IsDecoded Asm values) set → ((k : Closure) → IsFounded f values set k)
         → DescribesInAba f values set }
 {}
 
-/// Whatever such a model says of modes, of assumptions as members and of atoms in closures is so of the set that it is read
-/// as.
+/// Whatever such a model says of modes, of assumptions as members and of atoms in closures is so of the set that it is
+/// read as.
 pub fn models_read_back()
     ensures { (f : Aba) (values : List AtomLit) (set : List ℕ) → IsNumberedAba f → IsModelOfAba f values
         → IsSetOf (IsDecoded Asm values) set → ((k : Closure) → IsFounded f values set k)

@@ -82,7 +82,8 @@ clear_at xs begin end y first = (
   λ clear. ⊎_elim (λ lt. absurd (clear y first.member first.late lt)) (λ ge. le-leb _ _ ge) (cases_lt y end),
 )
 
-pub clear_past : (xs : List ℕ) (begin end : ℕ) → ((y : ℕ) → Contains xs y → y < begin) → IsTrue true ↔ IsClear xs begin end
+pub clear_past : (xs : List ℕ) (begin end : ℕ) → ((y : ℕ) → Contains xs y → y < begin)
+    → IsTrue true ↔ IsClear xs begin end
 clear_past xs begin end below = (λ t y c late early. omega (arith, below y c), λ clear. refl)
 
 pub member_at : (xs : List ℕ) (number y : ℕ) → IsFirstFrom xs number y → IsTrue (eqb y number) ↔ Contains xs number

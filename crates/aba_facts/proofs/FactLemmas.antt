@@ -178,7 +178,8 @@ module _ (f : Aba) (form : IsNumberedAba f) where
       let from = image_from second headed k found.member in
       let at = (rules from.0.0 from.0.1).0 from.1 in
       let here : (k < length f.rules) × ((rule_at f.rules k).head ≡ head) =
-      subst (λ n. (n < length f.rules) × ((rule_at f.rules n).head ≡ head)) (image_is headed k found.member) (at.1, at.2) in
+      subst (λ n. (n < length f.rules) × ((rule_at f.rules n).head ≡ head))
+      (image_is headed k found.member) (at.1, at.2) in
       let long = length-map f.rules number_of in
       let same = ap length are in
       let number : get_or numbers k 0 ≡ (rule_at f.rules k).number = read_number f numbers k are here.0 in

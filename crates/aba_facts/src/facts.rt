@@ -10,8 +10,8 @@ use crate::rule_parts::{has_body_atom, has_body_gap, has_head};
 use aba_notions::AbaPlain;
 use meaning_atoms::Atom;
 
-/// Whether an atom is true, where the framework alone fixes it: `Asm`, `Con`, `Head`, `HGap`, `Body` and `BGap`. None at
-/// each other atom, a side clause's number among them. It takes no memory, and time logarithmic in the framework.
+/// Whether an atom is true, where the framework alone fixes it: `Asm`, `Con`, `Head`, `HGap`, `Body` and `BGap`. None
+/// at each other atom, a side clause's number among them. It takes no memory, and time logarithmic in the framework.
 pub fn fact(plain: &AbaPlain, atom: &Atom) -> Option<bool>
     ensures some { IfSome result (IsAbaFactValue plain.now atom.now) }
     ensures none { IfNone result (¬ IsAbaFact atom.now) }

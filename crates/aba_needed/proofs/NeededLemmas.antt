@@ -240,8 +240,8 @@ module _ (f : Aba) (form : IsNumberedAba f) where
       let low = body_low r there j is.stop in
       in_rule r there name
       (Contains-append_right (B5 Own r.number r.head ∷ B5 Rest r.number r.head ∷ []) walk name
-      (step_there (Contains r.body) (body_low r there) (body_under r there) step end 1 r.body (body_ahead r there) i j is
-      low name c))
+      (step_there (Contains r.body) (body_low r there) (body_under r there) step end 1 r.body (body_ahead r there) i j
+      is low name c))
 
   in_head_step : (x : ℕ) → IsAtom f.atoms x → (i j : ℕ) → IsWalkStep (Heads f x) i j → (name : AbaAxiom)
       → Contains (head_step x i j) name → Contains (listed_axioms f) name

@@ -162,7 +162,8 @@ module _ (f : Aba) (form : IsNumberedAba f) where
               (λ j k le. omega arith)
               (λ i y. (omega arith, (omega arith, (omega arith, (omega arith, omega arith)))))
               (rule_place r.number + 5000000) (λ i. (omega arith, (omega arith, omega arith)))
-              (rank_of (B5 Rest r.number r.head) + 1) 1 r.body (AllPairs-from_increasing r.body rule.body_rises) (omega arith)
+              (rank_of (B5 Rest r.number r.head) + 1) 1 r.body (AllPairs-from_increasing r.body rule.body_rises)
+              (omega arith)
               (λ y c.
               let low = (rule.body y c).low in
               let high = (rule.body y c).high in

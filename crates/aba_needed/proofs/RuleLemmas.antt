@@ -42,7 +42,8 @@ body_high f form k lt pairs are n within =
     let there = image_there (λ (p : ℕ × ℕ). p.1) pairs (get_or pairs n (0, 0))
     (Contains-get_or pairs n (0, 0) within) in
     let rule = form.form.rules_are (rule_at f.rules k) (Contains-get_or f.rules k no_rule lt) in
-    let high = (rule.body (get_or pairs n (0, 0)).1 (subst (λ xs. Contains xs (get_or pairs n (0, 0)).1) are there)).high in
+    let y : ℕ = (get_or pairs n (0, 0)).1 in
+    let high = (rule.body y (subst (λ xs. Contains xs y) are there)).high in
     let atoms = form.atoms in
     omega arith
 

@@ -1,5 +1,5 @@
--- The axioms that a search needs for an assumption-based framework: from these, and from loop clauses where a model lacks
--- them, its models read back as sets.
+-- The axioms that a search needs for an assumption-based framework: from these, and from loop clauses where a model
+-- lacks them, its models read back as sets.
 use Rattle.std.specs.Prelude.{ℕ, ◌≤◌, Contains}
 use Rattle.aba_semantics.specs.AbaFrameworks.{Aba, IsAtom}
 use Rattle.aba_semantics.specs.Rules.{Rule}

@@ -18,8 +18,8 @@ use meaning_atoms::{AbaAxiom, AxiomName};
 use plain_lists::{Items, Memory};
 use std::alloc::Global;
 
-/// The axioms that a search needs of a framework, each once: a model of these axioms that derives nothing unfounded, and
-/// in which the framework's facts have their values, means a set of assumptions with each notion that the model calls
+/// The axioms that a search needs of a framework, each once: a model of these axioms that derives nothing unfounded,
+/// and in which the framework's facts have their values, means a set of assumptions with each notion that the model calls
 /// true. Time and memory are linear in the assumptions, the atoms and the rules with their bodies: five axioms of all,
 /// seven of each assumption, five of each atom, six of each rule and four of each atom in a body. `Memory` says that an
 /// allocation was refused.
@@ -45,7 +45,8 @@ fn push_contraries(
     plain: &AbaPlain,
     names: &mut Vec<AxiomName>,
 ) -> Result<(), Memory>
-    ensures gains { OnOk result (Gains (flat_map contrary_axioms plain.now.contraries) names.old.items names.new.items) }
+    ensures gains { OnOk result (Gains (flat_map contrary_axioms plain.now.contraries)
+        names.old.items names.new.items) }
     ensures form { IsNumberedAba plain.now }
 {
     for pair in plain.contraries() {
@@ -129,8 +130,8 @@ fn push_atoms(alloc: Global, plain: &AbaPlain, names: &mut Vec<AxiomName>) -> Re
     Ok(())
 }
 
-/// Adds the axioms of an atom: those of the atom alone, then by rising numbers of the rules that head it the steps of the
-/// walks from the rule before, and the ends of the walks.
+/// Adds the axioms of an atom: those of the atom alone, then by rising numbers of the rules that head it the steps of
+/// the walks from the rule before, and the ends of the walks.
 fn push_atom(
     alloc: Global,
     plain: &AbaPlain,

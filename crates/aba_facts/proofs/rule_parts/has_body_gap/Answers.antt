@@ -10,8 +10,12 @@ is_clear-requires c = body_up c.args.plain.now c.index_of.ensures.form c.in-Some
     c.in-Some.ensures.some.within c.body_of.ensures.value
 
 pub returns-in-Some : goal.returns-in-Some
-returns-in-Some c = iff_both (subst (λ xs. IsTrue c.is_clear.result ↔ IsClear xs c.args.begin c.args.end) c.body_of.ensures.value c.is_clear.ensures)
-    (at_index c.args.plain.now c.index_of.ensures.form (HasNoAtom c.args.begin c.args.end) c.in-Some.index c.args.number c.in-Some.ensures.some)
+returns-in-Some c = iff_both
+    (subst (λ xs. IsTrue c.is_clear.result ↔ IsClear xs c.args.begin c.args.end) c.body_of.ensures.value
+    c.is_clear.ensures)
+    (at_index c.args.plain.now c.index_of.ensures.form (HasNoAtom c.args.begin c.args.end) c.in-Some.index c.args.number
+    c.in-Some.ensures.some)
 
 pub returns-in-None : goal.returns-in-None
-returns-in-None c = none_has c.args.plain.now c.index_of.ensures.form (HasNoAtom c.args.begin c.args.end) c.args.number c.in-None.ensures.none
+returns-in-None c = none_has c.args.plain.now c.index_of.ensures.form (HasNoAtom c.args.begin c.args.end) c.args.number
+    c.in-None.ensures.none
