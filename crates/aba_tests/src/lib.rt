@@ -8,4 +8,6 @@ mod definitions;
 #[cfg(test)]
 mod edits;
 #[cfg(test)]
+mod encoding;
+#[cfg(test)]
 mod notions;

@@ -1,0 +1,4 @@
+pub mod Affirmed
+pub mod ModelReadings
+pub mod LoopLemmas
+pub mod WorldModels

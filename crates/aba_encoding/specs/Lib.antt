@@ -1,0 +1,2 @@
+pub mod NumberAtoms
+pub mod AbaModels

@@ -1,0 +1,56 @@
+//! The numbers of which literals affirm an atom.
+
+ghost use Rattle.std.specs.Prelude.{◌≡◌, IfOk};
+ghost use Rattle.plain_lists.specs.Members.{IsSetOf};
+ghost use Rattle.af_encoding.specs.Decoded.{Affirms};
+ghost use Rattle.aba_encoding.specs.NumberAtoms.{atom_of, number_in};
+
+use meaning_atoms::Atom::{Asm, Der, Member};
+use meaning_atoms::{AtomLit, Closure};
+use plain_lists::Memory;
+use set_lists::NumSet;
+use std::alloc::Global;
+
+/// Which atom of a number is meant.
+#[derive(Clone, Copy)]
+pub(crate) enum NumberAtom {
+    /// That it is a member.
+    Membership,
+    /// That it is an assumption.
+    Assumption,
+    /// That the set derives it.
+    OwnDerived,
+    /// That the assumptions which the set does not attack derive it.
+    RestDerived,
+}
+
+/// The numbers of which the literals affirm the atom.
+pub(crate) fn affirmed_numbers(
+    alloc: Global,
+    values: &[AtomLit],
+    which: NumberAtom,
+) -> Result<NumSet, Memory>
+    ensures { IfOk result (IsSetOf (λ x. Affirms values.now (atom_of which x))) }
+{
+    let found = values
+        .iter()
+        .filter_map(|literal| affirmed_number(literal, which))
+        .collect::<Vec<u32>>(alloc)?;
+    NumSet::from_slice(alloc, &found)
+}
+
+/// The number of which a literal affirms the atom.
+fn affirmed_number(literal: &AtomLit, which: NumberAtom) -> Option<u32>
+    ensures { result ≡ number_in which literal.now }
+{
+    if !literal.positive {
+        return None;
+    }
+    match (which, literal.atom) {
+        (NumberAtom::Membership, Member(x))
+        | (NumberAtom::Assumption, Asm(x))
+        | (NumberAtom::OwnDerived, Der(Closure::Own, x))
+        | (NumberAtom::RestDerived, Der(Closure::Rest, x)) => Some(x),
+        _ => None,
+    }
+}

@@ -1,0 +1,17 @@
+-- A list that has gained the listed axioms names each needed one once.
+use Rattle.std.proofs.Common.{◌≡◌, ◌++◌, List, [], map, ap, sym, subst, ◌∙◌}
+use Rattle.aba_semantics.specs.AbaFrameworks.{Aba, IsNumberedAba}
+use Rattle.meaning_atoms.specs.declared.axiom.AxiomName.{AxiomName}
+use Rattle.meaning_atoms.specs.declared.axiom.AxiomName.TheVariants.{Aba as OfAba}
+use Rattle.af_encoding.specs.Enumerations.{Enumerates}
+use Rattle.aba_needed.specs.AbaNeeded.{IsNeededForAba}
+use Rattle.aba_needed.specs.Listing.{Gains, listed_axioms}
+use Rattle.aba_needed.proofs.NeededLemmas.{members_are}
+use Rattle.aba_needed.proofs.OrderLemmas.{listed_once}
+
+pub enumerated : (f : Aba) → IsNumberedAba f → (names : List AxiomName) (old : List AxiomName)
+    → Gains (listed_axioms f) old names → old ≡ [] → Enumerates (IsNeededForAba f) names
+enumerated f form names old gains none =
+    let same : names ≡ map OfAba (listed_axioms f) = gains ∙ ap (λ t. t ++ map OfAba (listed_axioms f)) none in
+    subst (Enumerates (IsNeededForAba f)) (sym same)
+    (record { members = members_are f form; once = listed_once f form })

@@ -1,0 +1,6 @@
+//! The axioms that a search needs of a flat assumption-based framework.
+#![tactic(auto)]
+
+mod needed_axioms;
+
+pub use needed_axioms::needed;

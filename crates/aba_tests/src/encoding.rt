@@ -1,0 +1,314 @@
+//! Frameworks in clauses, compared with what was worked out by hand from the table of axioms.
+
+use aba_encoding::{decode, missing};
+use aba_facts::fact;
+use aba_format::read_aba;
+use aba_needed::needed;
+use aba_notions::AbaPlain;
+use af_format::ReadFault;
+use meaning_atoms::Atom::{
+    Ask, Asm, Attack, BGap, Body, Cf, Con, Der, Gap, HGap, Head, Live, Member, Miss, Sup,
+};
+use meaning_atoms::Closure::{Own, Rest};
+use meaning_atoms::{Atom, AtomLit, AxiomName, END, push_axiom};
+use plain_lists::Memory;
+use std::alloc::Global;
+use std::process::Abort;
+use std::test::Fail;
+
+/// 1 and 2 are assumptions with the contraries 3 and 4; each derives the contrary of the other.
+const CROSSED: &str = "p aba 4\na 1\na 2\nc 1 3\nc 2 4\nr 3 2\nr 4 1\n";
+
+/// The same, but the contraries derive one another.
+const CIRCULAR: &str = "p aba 4\na 1\na 2\nc 1 3\nc 2 4\nr 3 4\nr 4 3\n";
+
+fn read(alloc: Global, text: &str) -> Result<AbaPlain, Memory> {
+    if text.len() > 1000 {
+        return Err(Memory);
+    }
+    match read_aba(alloc, text.as_bytes()) {
+        Ok(framework) => Ok(framework),
+        Err(ReadFault::Line(_) | ReadFault::Memory) => Err(Memory),
+    }
+}
+
+fn is(atom: Atom) -> AtomLit {
+    AtomLit {
+        atom,
+        positive: true,
+    }
+}
+
+fn not(atom: Atom) -> AtomLit {
+    AtomLit {
+        atom,
+        positive: false,
+    }
+}
+
+/// Whether the text of one of the names is this one.
+fn has(alloc: Global, names: &[AxiomName], text: &str) -> Result<bool, Memory> {
+    for name in names {
+        let mut shown = String::new(alloc);
+        push_axiom(&mut shown, name)?;
+        if shown.as_str() == text {
+            return Ok(true);
+        }
+    }
+    Ok(false)
+}
+
+/// The framework of the text needs so many axioms, and these among them.
+fn check_needed(
+    rt: &impl Abort,
+    alloc: Global,
+    text: &str,
+    count: usize,
+    expected: &[&str],
+) -> Result<(), Fail> {
+    let framework = read(alloc, text)?;
+    let names = needed(alloc, &framework)?;
+    assert_eq!(rt; names.len(), count);
+    for name in expected {
+        assert!(rt; has(alloc, names.as_slice(), name)?, "{name} of {text:?}");
+    }
+    Ok(())
+}
+
+/// Five axioms of all, seven of each assumption, five of each atom, six of each rule, and four of each atom of a body.
+#[test]
+fn needed_axioms(rt: HostRuntime) -> Result<(), Fail> {
+    let crossed = [
+        "B4 1",
+        "B4 2",
+        "B16 1",
+        "B16 2",
+        "B16 3",
+        "B2 1",
+        "B3 1 3",
+        "B9 3 1 3",
+        "B12 1 3",
+        "B13 1 3",
+        "B14 1 3",
+        "B15 1 3",
+        "B2 2",
+        "B3 2 4",
+        "B9 3 2 4",
+        "B12 2 4",
+        "B13 2 4",
+        "B14 2 4",
+        "B15 2 4",
+        "B5 1 1 3",
+        "B5 2 1 3",
+        "B6 1 1 2",
+        "B6 2 1 2",
+        "B7 1 1 1 2",
+        "B7 2 1 1 2",
+        "B8 1 1 3",
+        "B8 2 1 3",
+        "B5 1 2 4",
+        "B5 2 2 4",
+        "B6 1 2 1",
+        "B6 2 2 1",
+        "B7 1 2 1 1",
+        "B7 2 2 1 1",
+        "B8 1 2 2",
+        "B8 2 2 2",
+        "B1 1",
+        "B9 1 1",
+        "B9 2 1",
+        "B11 1 1 1",
+        "B11 2 1 1",
+        "B1 2",
+        "B9 1 2",
+        "B9 2 2",
+        "B11 1 2 1",
+        "B11 2 2 1",
+        "B1 3",
+        "B9 1 3",
+        "B9 2 3",
+        "B10 1 3 1 1",
+        "B10 2 3 1 1",
+        "B11 1 3 2",
+        "B11 2 3 2",
+        "B1 4",
+        "B9 1 4",
+        "B9 2 4",
+        "B10 1 4 1 2",
+        "B10 2 4 1 2",
+        "B11 1 4 3",
+        "B11 2 4 3",
+    ];
+    check_needed(&rt, rt.alloc(), CROSSED, 59, &crossed)?;
+    let circular = [
+        "B5 1 1 3",
+        "B6 2 1 4",
+        "B7 1 1 1 4",
+        "B8 2 1 5",
+        "B5 2 2 4",
+        "B6 1 2 3",
+        "B7 2 2 1 3",
+        "B8 1 2 4",
+        "B10 1 3 1 1",
+        "B11 2 3 2",
+        "B10 2 4 1 2",
+        "B11 1 4 3",
+    ];
+    check_needed(&rt, rt.alloc(), CIRCULAR, 59, &circular)?;
+    check_needed(&rt, rt.alloc(), "p aba 0\n", 5, &["B4 1", "B4 2", "B16 3"])?;
+    check_needed(
+        &rt,
+        rt.alloc(),
+        "p aba 3\na 1\nr 3\nr 3 1 2\n",
+        47,
+        &[
+            "B3 1 0",
+            "B8 1 1 1",
+            "B8 2 2 3",
+            "B7 1 2 1 1",
+            "B7 1 2 2 2",
+            "B10 1 3 1 1",
+            "B10 2 3 2 2",
+            "B11 1 3 3",
+        ],
+    )
+}
+
+/// Whether the literals are read as the set of these numbers.
+fn is_read_as(alloc: Global, values: &[AtomLit], set: &[u32]) -> Result<bool, Memory> {
+    let read = decode(alloc, values)?;
+    Ok(read.as_slice() == set)
+}
+
+/// A member counts where it is said to be an assumption, whatever the order and the other literals.
+#[test]
+fn sets(rt: HostRuntime) -> Result<(), Fail> {
+    let values = [
+        is(Member(2)),
+        is(Der(Own, 4)),
+        is(Asm(1)),
+        is(Member(3)),
+        not(Asm(3)),
+        is(Live(4)),
+        is(Member(4)),
+        is(Asm(2)),
+        not(Member(1)),
+        is(Member(2)),
+    ];
+    assert!(rt; is_read_as(rt.alloc(), &values, &[2])?);
+    assert!(rt; is_read_as(rt.alloc(), &[], &[])?);
+    Ok(())
+}
+
+#[test]
+fn facts(rt: HostRuntime) -> Result<(), Fail> {
+    let framework = read(rt.alloc(), CROSSED)?;
+    let table = [
+        (Asm(1), Some(true)),
+        (Asm(3), Some(false)),
+        (Con(1, 3), Some(true)),
+        (Con(1, 4), Some(false)),
+        (Con(3, 0), Some(false)),
+        (Head(1, 3), Some(true)),
+        (Head(2, 3), Some(false)),
+        (Head(3, 3), Some(false)),
+        (HGap(3, 1, 1), Some(true)),
+        (HGap(3, 1, 2), Some(false)),
+        (HGap(3, 2, END), Some(true)),
+        (HGap(4, 1, 2), Some(true)),
+        (HGap(4, 1, 3), Some(false)),
+        (HGap(1, 1, END), Some(true)),
+        (Body(1, 2), Some(true)),
+        (Body(1, 1), Some(false)),
+        (Body(3, 1), Some(false)),
+        (BGap(1, 1, 2), Some(true)),
+        (BGap(1, 1, 3), Some(false)),
+        (BGap(1, 3, END), Some(true)),
+        (BGap(3, 1, 1), Some(false)),
+        (Member(1), None),
+        (Der(Own, 3), None),
+        (Miss(Rest, 1, 1), None),
+        (Sup(Own, 3, 1), None),
+        (Cf, None),
+        (Ask(1), None),
+        (Live(1), None),
+        (Attack(1, 2), None),
+        (Gap(1, 1, 2), None),
+    ];
+    for (atom, value) in &table {
+        assert_eq!(rt; fact(&framework, atom), *value, "at {atom:?}");
+    }
+    Ok(())
+}
+
+/// The text of what is missing, or an empty one.
+fn missing_shown(alloc: Global, text: &str, values: &[AtomLit]) -> Result<String, Memory> {
+    let framework = read(alloc, text)?;
+    let mut shown = String::new(alloc);
+    if let Some(name) = missing(alloc, &framework, values)? {
+        push_axiom(&mut shown, &name)?;
+    }
+    Ok(shown)
+}
+
+/// A framework, the literals beside those that 1 is an assumption and 2 too, and what is missing.
+type Row<'a> = (&'a str, &'a [AtomLit], &'a str);
+
+#[test]
+fn loops(rt: HostRuntime) -> Result<(), Fail> {
+    let alloc = rt.alloc();
+    let table: [Row; 9] = [
+        // The set of 1 derives 4, and doesn't attack 1 alone.
+        (
+            CROSSED,
+            &[
+                is(Member(1)),
+                is(Der(Own, 1)),
+                is(Der(Own, 4)),
+                is(Der(Rest, 4)),
+                is(Der(Rest, 1)),
+            ],
+            "",
+        ),
+        // It doesn't derive 3, which a rule would only give by 2.
+        (
+            CROSSED,
+            &[is(Member(1)), is(Der(Own, 3)), is(Der(Rest, 3))],
+            "B17 1 3 1 3 1 1 0",
+        ),
+        // Nor does what it doesn't attack.
+        (
+            CROSSED,
+            &[is(Member(1)), is(Der(Own, 4)), is(Der(Rest, 3))],
+            "B17 2 3 1 3 1 1 0",
+        ),
+        // 3 and 4 rest on one another.
+        (
+            CIRCULAR,
+            &[is(Member(1)), is(Der(Own, 4)), is(Der(Own, 3))],
+            "B17 1 3 2 3 4 1 1 4 1 2 3",
+        ),
+        (
+            CIRCULAR,
+            &[is(Der(Rest, 4)), is(Der(Rest, 3)), is(Der(Rest, 2))],
+            "B17 2 3 2 3 4 1 1 4 1 2 3",
+        ),
+        (CIRCULAR, &[is(Der(Own, 4))], "B17 1 4 1 4 1 2 0"),
+        // 1 is no member, and no rule heads it.
+        (
+            CIRCULAR,
+            &[is(Der(Own, 1)), is(Der(Rest, 3))],
+            "B17 1 1 1 1 0",
+        ),
+        // Numbers that aren't atoms of the framework are passed over.
+        (CIRCULAR, &[is(Der(Own, 5)), is(Der(Rest, 0))], ""),
+        (CIRCULAR, &[not(Der(Own, 4))], ""),
+    ];
+    for (text, values, expected) in &table {
+        let mut all = Vec::from_slice(alloc, values)?;
+        all.extend_from_slice(&[is(Asm(1)), is(Asm(2))])?;
+        let found = missing_shown(alloc, text, &all)?;
+        assert_eq!(rt; found.as_str(), *expected, "at {values:?}");
+    }
+    Ok(())
+}
