@@ -13,7 +13,7 @@ use Rattle.iccma_tasks.specs.declared.task.Semantics.TheVariants.{SemiStable, Id
 use Rattle.certificate_claims.specs.declared.row.Row.TheVariants.{Widest, Ranged, AllWidest}
 use Rattle.certificate_claims.specs.Acceptance.{NoRangeWithin}
 use Rattle.certificate_claims.specs.Claims.{claims, first_ranged, ideal_claims, range_cover, range_free, range_listed}
-use Rattle.certificate_claims.specs.Rights.{Accepts, IsExtension}
+use Rattle.certificate_claims.specs.Rights.{IsExtension}
 use Rattle.certificate_claims.specs.SetLiterals.{range_of, same_range, hit_by_any, are_in, are_out, are_ranged, outside, differs, wider, attacked}
 use Rattle.certificate_laws.specs.Laws.{AreExcluded}
 use Rattle.certificate_laws.proofs.GoalLists.{asks_nil, asks_cons, asks_append, ad_plain, plain_mapped, excluded_in, each_of}
@@ -86,9 +86,3 @@ is_ideal (af f) e others numbered ok each none =
     (plain_mapped (affirmed Ad ∷ (are_in e ++ out)) (outside (af f)) (e ∷ [])
     (ad_plain (are_in e ++ out) (asks_append (are_in e) out (in_plain e) (out_plain (hit_by_any (af f) others))))
     (outside_plain (af f))))
-
--- what one ideal set accepts, each does
-pub ideal_accepts : (f : Framework) (i e : List ℕ) (q : ℕ) → IsExtension f IdealSets i → IsExtension f IdealSets e
-    → Accepts f i q
-    → Accepts f e q
-ideal_accepts (af f) i e q left right h = right.largest i left.in_all q h

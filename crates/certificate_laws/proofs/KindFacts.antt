@@ -14,7 +14,7 @@ use Rattle.meaning_atoms.specs.declared.axiom.AxiomName.TheVariants.{Af as OfAf,
 use Rattle.meaning_atoms.specs.Literals.{negated}
 use Rattle.meaning_atoms.specs.Worlds.{IsWorldOf, HoldsOf, Says, IsAsk, IsValid}
 use Rattle.af_axioms.proofs.Rows.{rows_are_valid}
-use Rattle.iccma_tasks.specs.declared.task.Semantics.TheVariants.{Complete, Grounded, Preferred, Stable}
+use Rattle.iccma_tasks.specs.declared.task.Semantics.TheVariants.{Complete, Grounded, Preferred, Stable, SemiStable, Ideal}
 use Rattle.certificate_claims.specs.Refutations.{IsAxiomOf, axiom_clause}
 use Rattle.certificate_claims.specs.Rights.{Accepts, IsExtension}
 use Rattle.certificate_claims.specs.SetLiterals.{goal, members, struck}
@@ -85,6 +85,16 @@ grounded_is (af f) s = (
   λ h. record { complete = h.complete; least = h.least },
   λ h. record { complete = h.complete; least = h.least },
 )
+
+-- semi-stable and ideal sets, for which abstract frameworks alone are asked
+pub semi_stable_admissible : (f : Framework) (s : List ℕ) → IsExtension f SemiStable s → HoldsOf f s Ad
+semi_stable_admissible (af f) s h = h.admissible
+
+pub ideal_admissible : (f : Framework) (s : List ℕ) → IsExtension f Ideal s → HoldsOf f s Ad
+ideal_admissible (af f) s h = h.in_all.admissible
+
+pub ideal_within : (f : Framework) (s t : List ℕ) → IsExtension f Ideal s → IsExtension f Ideal t → IsWithin s t
+ideal_within (af f) s t left right = right.largest s left.in_all
 
 -- ---- queries
 

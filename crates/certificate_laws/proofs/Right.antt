@@ -13,9 +13,9 @@ use Rattle.certificate_claims.specs.Claims.{row_for, sets_of, shown as shown_row
 use Rattle.certificate_claims.specs.Rights.{Accepts, IsExtension, IsRightOf, IsRightCredulous, IsRightSceptical, IsRightSome, IsRightAll}
 use Rattle.certificate_claims.specs.SetLiterals.{goal}
 use Rattle.certificate_laws.specs.Laws.{ShownIsRight, AcceptedIsRight}
-use Rattle.certificate_laws.proofs.AfEvidence.{is_semi_stable, none_semi_stable, ideal_accepts}
+use Rattle.certificate_laws.proofs.AfEvidence.{is_semi_stable, none_semi_stable}
 use Rattle.certificate_laws.proofs.Evidence.{Shows, asked_of, no_such_set, none_of_mode, is_preferred, is_covered, ideal_found, are_all}
-use Rattle.certificate_laws.proofs.ExtensionFacts.{admissible_world, complete_extension_admissible, preferred_admissible, stable_extension_admissible, grounded_complete, grounded_least}
+use Rattle.certificate_laws.proofs.ExtensionFacts.{admissible_world, complete_extension_admissible, preferred_admissible, stable_extension_admissible, grounded_complete, grounded_least, ideal_accepts}
 use Rattle.certificate_laws.proofs.KindFacts.{stable_is, goal_is, denied_is, goal_asks_nothing, decide_accepts}
 use Rattle.certificate_laws.proofs.Refuting.{excluded}
 
