@@ -280,7 +280,7 @@ range_grown f P before after old w range n grows h = record {
 -- ---- sets with the range
 
 among_in : (f : Framework) (w range x : List ℕ) → IsSetOf (IsRanged f w) range → IsAmong f Ad range x → IsRangeIn f w x
-among_in f w range x is among a h = among.ranged a ((is.members a).1 h)
+among_in (af f) w range x is among a h = among.ranged a ((is.members a).1 h)
 
 -- none of them is one of the sets before
 pub not_among : (f : Framework) (log : OracleLog) (old : Ranges) (w range : List ℕ) (n : ℕ)
@@ -309,8 +309,8 @@ group_same f log old w range x y n h left right =
 
 own_among : (f : Framework) (log : OracleLog) (old : Ranges) (w range : List ℕ) (n : ℕ)
     → IsNewRange f log old w range n → IsAmong f Ad range w
-own_among f log old w range n h = record {
-  has_mode = semi_admissible f w h.semi;
+own_among (af f) log old w range n h = record {
+  has_mode = semi_admissible (af f) w h.semi;
   ranged = λ a c. (h.is_range.members a).0 c;
 }
 
