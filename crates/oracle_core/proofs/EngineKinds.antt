@@ -19,8 +19,8 @@ use Rattle.oracle_core.specs.Engines.{HasRange}
 use Rattle.oracle_core.specs.Needing.{IsOfAf}
 
 -- no goal is a fact
-pub unfixed_goal : (f : Framework) (sides : List SideClause) (atom : Atom) (positive : Bool) → IsGoal f sides atom positive
-    → IsFact f atom → ⊥
+pub unfixed_goal : (f : Framework) (sides : List SideClause) (atom : Atom) (positive : Bool)
+    → IsGoal f sides atom positive → IsFact f atom → ⊥
 unfixed_goal (af f) sides (Live a) true goal fact = goal
 unfixed_goal (af f) sides (Live a) false goal fact = goal
 unfixed_goal (af f) sides (Attack b a) true goal fact = goal

@@ -29,7 +29,8 @@ answer_by problem (Some q) accepts g = if accepts then Yes (Some g) else No None
 answer_by problem None accepts g = Sets (g ∷ [])
 
 -- the same, where the set of this framework says whether it accepts the query
-pub record IsAnswerBy (f : Framework) (problem : Problem) (number : Option ℕ) (g : List ℕ) (answer : Answer) : Type 0 where
+pub record IsAnswerBy (f : Framework) (problem : Problem) (number : Option ℕ) (g : List ℕ) (answer : Answer)
+    : Type 0 where
   pub accepts : Bool
   pub said : IsSaid f number g accepts
   pub same : answer ≡ answer_by problem number accepts g

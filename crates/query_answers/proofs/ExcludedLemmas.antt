@@ -91,11 +91,13 @@ stable_about : (f : Framework) (log : OracleLog) (q : ℕ) (accepted : Bool) (se
     → AcceptsAsSaid f (Some q) (Some accepted) set
     → IsEvidence f (asked_of (problem_of accepted) Stable (Some q)) log (evidence_of (problem_of accepted) (Set set))
 stable_about f log q true set ok said = record {
-  tests = tests_one f (asked_of Credulous Stable (Some q)) (Tested set) set tt ((stable_is f set).1 ok, said) tt tt refl;
+  tests = tests_one f (asked_of Credulous Stable (Some q)) (Tested set) set tt
+      ((stable_is f set).1 ok, said) tt tt refl;
   refuted = refuted_none f log;
 }
 stable_about f log q false set ok said = record {
-  tests = tests_one f (asked_of Sceptical Stable (Some q)) (Tested set) set tt ((stable_is f set).1 ok, said) tt tt refl;
+  tests = tests_one f (asked_of Sceptical Stable (Some q)) (Tested set) set tt
+      ((stable_is f set).1 ok, said) tt tt refl;
   refuted = refuted_none f log;
 }
 
