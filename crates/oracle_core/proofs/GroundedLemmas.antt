@@ -155,6 +155,15 @@ module _ (f : Framework) (numbered : IsNumbered f) (g : List ℕ) (grounded : Is
   shows SomeExtension SemiStable None accepts is fits said_so = absurd (true≢false (sym is))
   shows SomeExtension Ideal None accepts is fits said_so = absurd (true≢false (sym is))
 
+-- the answer to such a problem about a number, where the grounded set accepts it or doesn't
+pub answer_said : (f : Framework) (problem kind : Problem) (number : Option ℕ) (q : ℕ) (g : List ℕ) (accepts : Bool)
+    (answer : Answer) → problem ≡ kind → number ≡ Some q → (IsTrue accepts ↔ Accepts f g q)
+    → answer ≡ answer_by kind (Some q) accepts g → IsAnswerBy f problem number g answer
+answer_said f problem kind number q g accepts answer of_problem of_number test is =
+    subst (λ (n : Option ℕ). IsAnswerBy f problem n g answer) (sym of_number)
+    (subst (λ (p : Problem). IsAnswerBy f p (Some q) g answer) (sym of_problem)
+    (record { accepts = accepts; said = test; same = is }))
+
 -- the answer by the grounded set, for a query that the grounded set answers
 pub shown_for : (f : Framework) (asked : Asked) (task : Task) (number : Option ℕ) (g : List ℕ) (answer : Answer)
     (sets : List (List ℕ)) (refutations : List Refutation) → IsNumbered f → IsExtension f Grounded g
