@@ -1,20 +1,20 @@
--- Covers by sets that accept an argument.
-use Rattle.std.proofs.Common.{◌≡◌, ⊎_elim, ℕ, ◌+◌, ◌*◌, ◌<◌, ◌≤◌, Bool, true, List, [], ◌∷◌, ◌++◌, length, filter, refl, ap, sym, subst, ◌∙◌, arith}
+-- Covers by sets that accept a query.
+use Rattle.std.proofs.Common.{◌≡◌, ⊎_elim, ℕ, ◌+◌, ◌*◌, ◌<◌, ◌≤◌, Bool, true, false, List, [], ◌∷◌, ◌++◌, length, filter, refl, ap, sym, subst, ◌∙◌, arith}
 use Rattle.std.specs.Prelude.{◌↔◌, ◌⊎◌, Contains, IsTrue, Option, None, Result, Ok, Err, IfOk}
 use Rattle.std.proofs.lemmas.List.{length-append}
 use Rattle.std.proofs.lemmas.List.Elements.{Contains-append_left}
 use Rattle.plain_lists.specs.Members.{IsWithin}
-use Rattle.plain_lists.proofs.Membership.{Contains-nil, Contains-head, Contains-tail, Contains-pushed}
+use Rattle.plain_lists.proofs.Membership.{Contains-nil, Contains-pushed}
 use Rattle.plain_lits.specs.declared.halt.Halt.{Halt}
-use Rattle.semantics.specs.Frameworks.{Framework, af}
-use Rattle.meaning_atoms.specs.declared.atom.Atom.TheVariants.{Member, Ad}
-use Rattle.meaning_atoms.specs.Literals.{affirmed, denied}
+use Rattle.semantics.specs.Frameworks.{Framework}
+use Rattle.meaning_atoms.specs.declared.atom.Atom.TheVariants.{Ad}
+use Rattle.meaning_atoms.specs.Literals.{affirmed, negated}
 use Rattle.meaning_atoms.specs.Worlds.{HoldsOf}
 use Rattle.iccma_tasks.specs.declared.task.Semantics.TheVariants.{Preferred}
 use Rattle.certificate_claims.specs.Refutations.{IsPlain}
 use Rattle.certificate_claims.specs.Rights.{Accepts, IsExtension}
-use Rattle.certificate_claims.specs.SetLiterals.{has, members, outside}
-use Rattle.certificate_laws.proofs.GoalLists.{asks_cons, asks_nil, plain_mapped}
+use Rattle.certificate_claims.specs.SetLiterals.{goal, has, members, outside}
+use Rattle.certificate_laws.proofs.GoalLists.{plain_mapped}
 use Rattle.certificate_laws.proofs.LargestSets.{covered_accepts}
 use Rattle.certificate_laws.proofs.SideClauses.{outside_plain}
 use Rattle.oracle_face.specs.declared.face.Found.{Found}
@@ -24,12 +24,14 @@ use Rattle.oracle_face.specs.Growing.{Grows, Making, IsFound}
 use Rattle.oracle_face.specs.Logs.{IsKept, OracleLog}
 use Rattle.oracle_face.proofs.Refuting.{claim_excluded}
 use Rattle.goal_lists.specs.AllSets.{is_part}
-use Rattle.goal_lists.specs.Asking.{AreApart, goals_of, IsAskable}
+use Rattle.edit_rules.specs.Fitting.{IsKnown}
+use Rattle.goal_lists.specs.Asking.{AreApart, query_goals, IsAskableAbout}
 use Rattle.goal_lists.specs.Sides.{IsAskOf}
 use Rattle.goal_lists.proofs.AskedGoals.{not_within, outside_speaks, same_outside}
-use Rattle.goal_lists.proofs.Calls.{admissible_members, apart_pushed, asks_fit, found_mode, found_out}
+use Rattle.goal_lists.proofs.Calls.{admissible_members, apart_pushed, asks_fit}
 use Rattle.goal_lists.proofs.Measures.{fewer_left, kept_is_set, left_open, part_from, part_gives, same_as_kept}
-use Rattle.goal_lists.proofs.SideLemmas.{HasWanted, asks_kept, asks_more, asks_none, asks_refuted, asks_speak, asks_true, pushed, same_number, this_one}
+use Rattle.goal_lists.proofs.QueryGoals.{query_asks, query_mode, query_plain, query_refuted, query_said}
+use Rattle.goal_lists.proofs.SideLemmas.{asks_kept, asks_more, asks_none, asks_speak, pushed, same_number}
 use Rattle.cegar_preferred.specs.declared.accepting.Accepting.TheVariants.{Cover as Covered}
 use Rattle.cegar_preferred.specs.declared.accepting.Cover.{Cover}
 use Rattle.cegar_preferred.specs.declared.maximal.Maximal.{Maximal}
@@ -102,63 +104,45 @@ fewer_open f log q old new e n h =
 -- ---- what is asked, and what is found
 
 pub may_ask_uncovered : (f : Framework) (log : OracleLog) (q : ℕ) (cover : Cover) (asks : List ℕ)
-    → asks ≡ cover.asks → Contains (members f) q → IsCover f log q cover
-    → IsAskable f log.sides Ad [] (q ∷ []) [] asks
-may_ask_uncovered f log q cover asks is live h =
-    subst (λ (xs : List ℕ). IsAskable f log.sides Ad [] (q ∷ []) [] xs) (sym is) (record {
+    → asks ≡ cover.asks → IsKnown f q → IsCover f log q cover → IsAskableAbout f log.sides Ad q asks
+may_ask_uncovered f log q cover asks is known h =
+    subst (IsAskableAbout f log.sides Ad q) (sym is) (record {
       moded = tt;
-      in_members = λ a c. absurd (Contains-nil a c);
-      out_members = this_one (Contains (members f)) q live;
-      ranged_members = λ a c. absurd (Contains-nil a c);
-      apart = λ a c d. absurd (Contains-nil a c);
+      known = known;
       asked = asks_speak f (outside f) log.sides cover.sets cover.asks (λ e c. outside_speaks f e) h.asks;
     })
 
-cover_wanted : (q : ℕ) → HasWanted (affirmed Ad ∷ denied (Member q) ∷ []) Ad [] (q ∷ []) []
-cover_wanted q = record {
-  plain = asks_cons (affirmed Ad) (denied (Member q) ∷ []) (λ x. x) (asks_cons (denied (Member q)) [] (λ x. x)
-      asks_nil);
-  has_mode = Contains-head (affirmed Ad) (denied (Member q) ∷ []) (affirmed Ad) refl;
-  has_ins = λ a c. absurd (Contains-nil a c);
-  has_outs = this_one (λ (a : ℕ). Contains (affirmed Ad ∷ denied (Member q) ∷ []) (denied (Member a))) q
-      (Contains-tail (affirmed Ad) (denied (Member q) ∷ []) (denied (Member q))
-      (Contains-head (denied (Member q)) [] (denied (Member q)) refl));
-  has_ranged = λ a c. absurd (Contains-nil a c);
-}
-
 pub cover_plain : (f : Framework) (q : ℕ) (sets : List (List ℕ)) → IsPlain (cover_claim f q sets)
-cover_plain (af f) q sets = plain_mapped (affirmed Ad ∷ denied (Member q) ∷ []) (outside (af f)) sets
-    (cover_wanted q).plain (outside_plain (af f))
+cover_plain f q sets =
+    plain_mapped (affirmed Ad ∷ negated (goal f q) ∷ []) (outside f) sets (query_plain f Ad q false tt) (outside_plain f)
 
 found_uncovered : (f : Framework) (log : OracleLog) (q : ℕ) (cover : Cover) → IsCover f log q cover → (found : Found)
-    → IsFound f log (goals_of Ad [] (q ∷ []) [] cover.asks) found → IsUncovered f log q cover found
-found_uncovered (af f) log q cover h (Set set) makes = (
-  found_mode (af f) log Ad [] (q ∷ []) [] cover.asks set tt makes,
-  found_out (af f) log Ad [] (q ∷ []) [] cover.asks set makes q (Contains-head q [] q refl),
-  λ e c. not_within (af f) e set
-      (asks_true (af f) log (outside (af f)) cover.sets Ad [] (q ∷ []) [] cover.asks set h.asks makes e c),
+    → IsFound f log (query_goals f Ad q false cover.asks) found → IsUncovered f log q cover found
+found_uncovered f log q cover h (Set set) makes = (
+  query_mode f log Ad q false cover.asks set tt makes,
+  query_said f log Ad q false cover.asks set makes,
+  λ e c. not_within f e set (query_asks f log (outside f) cover.sets Ad q false cover.asks set h.asks makes e c),
 )
-found_uncovered (af f) log q cover h (Refuted step) refuted =
-    asks_refuted (af f) log (outside (af f)) cover.sets (affirmed Ad ∷ denied (Member q) ∷ []) Ad [] (q ∷ []) []
-    cover.asks step (cover_wanted q) h.asks refuted
+found_uncovered f log q cover h (Refuted step) refuted =
+    query_refuted f log (outside f) cover.sets Ad q false cover.asks step tt h.asks refuted
 
 pub if_uncovered : (f : Framework) (P : Making) (old log : OracleLog) (q : ℕ) (cover : Cover) (asks : List ℕ)
     → asks ≡ cover.asks → Grows P old log → IsCover f old q cover
-    → (r : Result Found Halt) → IfOk r (IsFound f log (goals_of Ad [] (q ∷ []) [] asks))
+    → (r : Result Found Halt) → IfOk r (IsFound f log (query_goals f Ad q false asks))
     → IfOk r (IsUncovered f log q cover)
 if_uncovered f P old log q cover asks is grows h (Ok found) k =
     found_uncovered f log q cover (cover_grown f P old log q cover grows h) found
-    (subst (λ (xs : List ℕ). IsFound f log (goals_of Ad [] (q ∷ []) [] xs) found) is k)
+    (subst (λ (xs : List ℕ). IsFound f log (query_goals f Ad q false xs) found) is k)
 if_uncovered f P old log q cover asks is grows h (Err halt) k = k
 
--- ---- all preferred sets accept the argument
+-- ---- all preferred sets accept the query
 
 pub all_accept : (f : Framework) (log : OracleLog) (q : ℕ) (sets : List (List ℕ)) (step : ℕ) → IsKept f log
     → ((e : List ℕ) → Contains sets e → IsCovering f q e) → Refutes f log (cover_claim f q sets) step
     → (p : List ℕ) → IsExtension f Preferred p → Accepts f p q
-all_accept (af f) log q sets step kept each refuted p pref =
+all_accept f log q sets step kept each refuted p pref =
     covered_accepts f q sets kept.numbered (λ e c. let h = each e c in (h.admissible, h.accepts))
-    (claim_excluded (af f) log (cover_claim (af f) q sets) step kept.form (cover_plain (af f) q sets) refuted) p pref
+    (claim_excluded f log (cover_claim f q sets) step kept.form (cover_plain f q sets) refuted) p pref
 
 -- ---- a set more
 

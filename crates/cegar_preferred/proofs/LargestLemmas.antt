@@ -6,7 +6,7 @@ use Rattle.plain_lists.proofs.Membership.{Contains-nil, Contains-head, Contains-
 use Rattle.plain_lits.specs.declared.halt.Halt.{Halt}
 use Rattle.plain_lits.specs.Units.{Units}
 use Rattle.plain_lits.proofs.HintCheckLemmas.{Contains-mapped}
-use Rattle.semantics.specs.Frameworks.{Framework, af, IsNumbered}
+use Rattle.semantics.specs.Frameworks.{Framework, IsNumbered}
 use Rattle.meaning_atoms.specs.declared.atom.Atom.TheVariants.{Member, Ad}
 use Rattle.meaning_atoms.specs.declared.atom.AtomLit.{AtomLit}
 use Rattle.meaning_atoms.specs.Literals.{affirmed}
@@ -98,9 +98,9 @@ if_larger f log e ins side is made r h =
 -- an admissible set round which a step refutes that there is a larger one
 pub is_preferred : (f : Framework) (log : OracleLog) (e : List ℕ) (step : ℕ) → IsKept f log → HoldsOf f e Ad
     → Refutes f log (largest_claim f e) step → IsExtension f Preferred e
-is_preferred (af f) log e step kept ok refuted =
+is_preferred f log e step kept ok refuted =
     largest_preferred f e kept.numbered ok
-    (claim_excluded (af f) log (largest_claim (af f) e) step kept.form (claim_plain (af f) e) refuted)
+    (claim_excluded f log (largest_claim f e) step kept.form (claim_plain f e) refuted)
 
 -- ---- one call after the other
 

@@ -1,4 +1,4 @@
--- Covers by sets that accept an argument.
+-- Covers by sets that accept a query.
 use Rattle.std.specs.Prelude.{◌≡◌, ℕ, List, [], ◌∷◌, ◌++◌, map, Contains, Option, Some, None}
 use Rattle.plain_lists.specs.Members.{IsWithin}
 use Rattle.semantics.specs.Frameworks.{Framework}
@@ -22,11 +22,11 @@ use Rattle.cegar_preferred.specs.declared.accepting.Cover.{Cover}
 use Rattle.cegar_preferred.specs.declared.maximal.Maximal.{Maximal}
 use Rattle.cegar_preferred.specs.Largest.{IsMaximalFrom}
 
--- each admissible set that doesn't accept the argument lies in one of the sets
+-- each admissible set that doesn't accept the query lies in one of the sets
 abbrev pub cover_claim : Framework → ℕ → List (List ℕ) → Claim
 cover_claim f q sets = claim_of (affirmed Ad ∷ negated (goal f q) ∷ []) (map (outside f) sets)
 
--- an admissible set that accepts the argument
+-- an admissible set that accepts the query
 pub record IsCovering (f : Framework) (q : ℕ) (e : List ℕ) : Type 0 where
   pub admissible : HoldsOf f e Ad
   pub accepts : Accepts f e q
@@ -37,7 +37,7 @@ pub record IsCover (f : Framework) (log : OracleLog) (q : ℕ) (cover : Cover) :
   pub asks : AreAsksOf (outside f) log.sides cover.sets cover.asks
   pub apart : AreApart cover.asks
 
--- an admissible set that doesn't accept the argument and lies in no set of the cover, or a step that refutes that there
+-- an admissible set that doesn't accept the query and lies in no set of the cover, or a step that refutes that there
 -- is one
 abbrev pub IsUncovered : Framework → OracleLog → ℕ → Cover → Found → Type 0
 IsUncovered f log q cover (Set set) =
@@ -54,7 +54,7 @@ pub record IsExtended (f : Framework) (log : OracleLog) (q : ℕ) (old new : Cov
   pub asks_it : IsAskOf log.sides (outside f e) n
   pub outside_all : (d : List ℕ) → Contains old.sets d → IsWithin e d → ⊥
 
--- a preferred set that doesn't accept the argument, or one more set in the cover, which lay in none of those before
+-- a preferred set that doesn't accept the query, or one more set in the cover, which lay in none of those before
 abbrev pub Extends : Framework → OracleLog → ℕ → Cover → Cover → Option Maximal → Type 0
 Extends f log q old new (Some found) =
     IsMaximalFrom f log [] found × (Accepts f found.set q → ⊥)

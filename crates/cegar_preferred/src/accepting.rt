@@ -1,30 +1,30 @@
-//! Whether all preferred sets accept an argument.
+//! Whether all preferred sets accept a query.
 
-ghost use Rattle.std.specs.Prelude.{◌≡◌, ◌+◌, ◌*◌, length, Contains, IfOk};
+ghost use Rattle.std.specs.Prelude.{◌≡◌, ◌+◌, ◌*◌, length, IfOk};
 ghost use Rattle.meaning_atoms.specs.declared.atom.Atom.TheVariants.{Ad};
 ghost use Rattle.meaning_atoms.specs.Worlds.{HoldsOf};
 ghost use Rattle.certificate_claims.specs.Rights.{Accepts};
-ghost use Rattle.certificate_claims.specs.SetLiterals.{members};
 ghost use Rattle.oracle_face.specs.Logs.{IsKept};
 ghost use Rattle.oracle_face.specs.Growing.{HasRun, closes, halt_of};
+ghost use Rattle.edit_rules.specs.Fitting.{IsKnown};
 ghost use Rattle.cegar_preferred.specs.Covers.{Extends, IsAccepting, IsCover, IsUncovered};
 ghost use Rattle.cegar_preferred.specs.Largest.{MadeOutside};
 
 use crate::maximal::{Maximal, maximal_from};
-use goal_lists::{Wanted, outside, search_for};
+use goal_lists::{outside, search_query};
 use meaning_atoms::Atom;
 use oracle_face::{AskId, Budget, Found, Halt, Oracle, StepId};
 use plain_lists::Items;
 use set_lists::NumSet;
 use std::alloc::Global;
 
-/// What came of asking whether all preferred sets accept an argument.
+/// What came of asking whether all preferred sets accept a query.
 #[derive(Debug, Drop)]
 pub enum Accepting {
     /// A preferred set that doesn't.
     Counter(Maximal),
     /// Admissible sets that accept it, in one of which each admissible set lies that doesn't, and the log step that
-    /// shows so: all preferred sets accept the argument.
+    /// shows so: all preferred sets accept the query.
     Cover(Items<NumSet>, StepId),
 }
 
@@ -35,7 +35,7 @@ struct Cover {
     asks: Items<AskId>,
 }
 
-/// Whether all preferred sets accept an argument. Where k preferred sets are found, it asks k + 1 times for a set that
+/// Whether all preferred sets accept a query, an argument or an atom of the framework. Where k preferred sets are found, it asks k + 1 times for a set that
 /// the cover lacks, besides what it asks to find them.
 pub fn accept_all<O: Oracle>(
     alloc: Global,
@@ -43,7 +43,7 @@ pub fn accept_all<O: Oracle>(
     budget: &mut Budget,
     goal: u32,
 ) -> Result<Accepting, Halt>
-    requires { Contains (members (O.framework oracle.old)) goal }
+    requires { IsKnown (O.framework oracle.old) goal }
     ensures accepting { IfOk result (IsAccepting (O.framework oracle.old) (O.log oracle.new) goal) }
     ensures run { HasRun (MadeOutside (O.framework oracle.old)) (2 * length (O.log oracle.new).sides + 2)
         (O.framework oracle.old) (O.log oracle.old) (O.log oracle.new) (O.pending oracle.new) budget.old budget.new
@@ -68,7 +68,7 @@ pub fn accept_all<O: Oracle>(
     }
 }
 
-/// An admissible set that doesn't accept the argument and lies in no set of the cover, or the step that shows that
+/// An admissible set that doesn't accept the query and lies in no set of the cover, or the step that shows that
 /// there is none.
 fn uncovered<O: Oracle>(
     alloc: Global,
@@ -77,7 +77,7 @@ fn uncovered<O: Oracle>(
     goal: u32,
     cover: &Cover,
 ) -> Result<Found, Halt>
-    requires goal { Contains (members (O.framework oracle.old)) goal }
+    requires goal { IsKnown (O.framework oracle.old) goal }
     requires cover { IsCover (O.framework oracle.old) (O.log oracle.old) goal cover.now }
     ensures uncovered { IfOk result (IsUncovered (O.framework oracle.old) (O.log oracle.new) goal cover.now) }
     ensures run { HasRun (MadeOutside (O.framework oracle.old)) (closes result) (O.framework oracle.old)
@@ -87,17 +87,19 @@ fn uncovered<O: Oracle>(
     ensures follows { O.follows oracle.old oracle.new }
 {
     let _members = oracle.members();
-    let wanted = Wanted {
-        ins: &[],
-        outs: &[goal],
-        ranged: &[],
-        asks: cover.asks.as_slice(),
-    };
-    search_for(alloc, oracle, budget, Atom::Ad, &wanted)
+    search_query(
+        alloc,
+        oracle,
+        budget,
+        Atom::Ad,
+        goal,
+        false,
+        cover.asks.as_slice(),
+    )
 }
 
 /// Takes a preferred set that holds the found one into the cover, or gives it back where it doesn't accept the
-/// argument.
+/// query.
 fn extend<O: Oracle>(
     alloc: Global,
     oracle: &mut O,

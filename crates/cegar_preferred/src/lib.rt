@@ -1,5 +1,5 @@
-//! Preferred sets by an oracle: sets that lie in no larger admissible one, and whether all preferred sets accept an
-//! argument.
+//! Preferred sets by an oracle: sets that lie in no larger admissible one, and whether all preferred sets accept a
+//! query.
 #![tactic(auto)]
 
 mod accepting;

@@ -1,5 +1,5 @@
 -- Goals and side clauses of a claim, one by one.
-use Rattle.std.proofs.Common.{⊎_elim, ℕ, List, [], ◌∷◌, ◌++◌, map, sym, subst, ◌∙◌}
+use Rattle.std.proofs.Common.{⊎_elim, ℕ, ◌<◌, List, [], ◌∷◌, ◌++◌, length, map, sym, subst, ◌∙◌}
 use Rattle.std.specs.Prelude.{◌≡◌, Contains, slice_index_or}
 use Rattle.std.proofs.lemmas.List.{get_or_default}
 use Rattle.std.proofs.lemmas.List.Elements.{Contains-append_cases}
@@ -7,8 +7,9 @@ use Rattle.plain_lists.proofs.Membership.{Contains-nil, Contains-cons_cases}
 use Rattle.plain_lits.proofs.HintCheckLemmas.{Contains-from_mapped}
 use Rattle.semantics.specs.Frameworks.{Framework}
 use Rattle.semantics.proofs.Decided.{search_list, found_in, decide_not}
+use Rattle.meaning_atoms.specs.declared.atom.Atom.TheVariants.{Ad}
 use Rattle.meaning_atoms.specs.declared.atom.AtomLit.{AtomLit}
-use Rattle.meaning_atoms.specs.Literals.{AsksNothing}
+use Rattle.meaning_atoms.specs.Literals.{affirmed, AsksNothing}
 use Rattle.meaning_atoms.specs.Worlds.{world_of, IsWorldOf, HoldsOf, Says, IsAsk, IsTrueAlone}
 use Rattle.meaning_atoms.proofs.Valuations.{decide_true_alone}
 use Rattle.certificate_claims.specs.Acceptance.{no_claim}
@@ -61,6 +62,10 @@ asks_mapped lit numbers none k c ask =
     let m = Contains-from_mapped lit numbers k c in
     none m.0 (subst (λ (l : AtomLit). IsAsk l.atom) (sym m.2) ask)
 
+-- the mode of admissible sets before such literals
+pub ad_plain : (rest : List AtomLit) → AsksNothing rest → AsksNothing (affirmed Ad ∷ rest)
+ad_plain rest plain = asks_cons (affirmed Ad) rest (λ x. x) plain
+
 -- a claim whose sides are made of sets
 pub plain_mapped : (goals : List AtomLit) (side : List ℕ → List AtomLit) (sets : List (List ℕ)) → AsksNothing goals
     → ((e : List ℕ) → AsksNothing (side e))
@@ -105,3 +110,11 @@ fails_mapped f goals side sets none s world meets =
     let r = fails_one f (claim_of goals (map side sets)) none s world meets in
     let m = Contains-from_mapped side sets r.0 r.1 in
     (m.0, m.1, subst (λ (made : List AtomLit). IsTrueAlone (world_of f s) made → ⊥) (sym m.2) r.2)
+
+-- ---- lists
+
+-- what holds at each index holds of each member
+pub each_of : (P : List ℕ → Type 0) (sets : List (List ℕ))
+    → ((k : ℕ) → k < length sets → P (slice_index_or sets k []))
+    → (e : List ℕ) → Contains sets e → P e
+each_of P sets h e c = subst P (get_or_default sets c.0 [] e c.1 ∙ c.2) (h c.0 c.1)

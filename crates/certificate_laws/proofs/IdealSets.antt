@@ -21,8 +21,9 @@ use Rattle.certificate_claims.proofs.SetTests.{hits_gives}
 use Rattle.certificate_claims.specs.Claims.{claim_of}
 use Rattle.certificate_claims.specs.Refutations.{IsExcluded}
 use Rattle.certificate_claims.specs.SetLiterals.{hits, hit_by_any, are_in, are_out, outside, struck, attacked}
+use Rattle.certificate_laws.proofs.ExtensionFacts.{admissible_world}
 use Rattle.certificate_laws.proofs.GoalLists.{meets_nil, meets_cons, meets_append, meets_mapped, only_one, fails_mapped}
-use Rattle.certificate_laws.proofs.SideClauses.{world_of_admissible, within_where_false, meets_in}
+use Rattle.certificate_laws.proofs.SideClauses.{within_where_false, meets_in}
 
 -- no admissible set attacks the set
 unattacked : (f : Af) (e : List ℕ) → IsNumberedAf f
@@ -31,7 +32,7 @@ unattacked : (f : Af) (e : List ℕ) → IsNumberedAf f
 unattacked f e numbered none t is h =
     let b = h.2.0 in
     let low = (numbered.live b (numbered.form.ends b h.0 h.2.2).0).low in
-    none t (world_of_admissible f t numbered is)
+    none t (admissible_world (af f) t numbered is)
     (meets_cons (af f) t (affirmed Ad) [] is (meets_nil (af f) t))
     (λ side c. subst (λ (clause : List AtomLit). IsTrueAlone (world_of (af f) t) clause)
     (only_one (attacked (af f) e) side c)
@@ -80,13 +81,13 @@ shown_ideal f e others numbered ok each first second =
           let is = together f e t in_all it in
           let out = are_out (hit_by_any (af f) others) in
           let r = fails_mapped (af f) (affirmed Ad ∷ (are_in e ++ out)) (outside (af f)) (e ∷ []) second s
-          (world_of_admissible f s numbered is)
+          (admissible_world (af f) s numbered is)
           (meets_cons (af f) s (affirmed Ad) (are_in e ++ out) is
           (meets_append (af f) s (are_in e) out
-          (meets_in f e s (λ x c. Contains-append_right t e x c))
+          (meets_in (af f) e s (λ x c. Contains-append_right t e x c))
           (meets_mapped (af f) s (λ a. denied (Member a)) (hit_by_any (af f) others)
           (untouched f e t others each in_all it)))) in
           let sub : IsWithin s e = subst (λ (set : List ℕ). IsWithin s set) (sym (only_one e r.0 r.1))
-          (within_where_false f r.0 s is.conflict_free.live r.2) in
+          (within_where_false (af f) r.0 s is.conflict_free.live r.2) in
           λ x c. sub x (Contains-append_left t e x c);
     }

@@ -1,43 +1,111 @@
--- What extensions and queries mean in worlds, for frameworks of each kind.
-use Rattle.std.proofs.Common.{ℕ, List}
+-- What depends on the kind of a framework: each kind gives these facts, by cases, and all else about frameworks of both
+-- kinds follows from them.
+use Rattle.std.proofs.Common.{ℕ, List, []}
+use Rattle.std.specs.Prelude.{◌↔◌, Contains}
+use Rattle.plain_lists.specs.Members.{IsWithin}
+use Rattle.semantics.specs.Arguments.{IsArgument}
 use Rattle.semantics.specs.Frameworks.{Framework, af, IsNumbered}
 use Rattle.semantics.proofs.Decided.{Decided, decide_member}
-use Rattle.meaning_atoms.specs.declared.atom.Atom.TheVariants.{Ad, St}
+use Rattle.semantics.proofs.Existence.{empty_admissible, preferred_round}
+use Rattle.semantics.proofs.Extensions.{preferred_complete, stable_largest}
+use Rattle.meaning_atoms.specs.declared.atom.Atom.TheVariants.{Member, Ad, Co, St}
+use Rattle.meaning_atoms.specs.declared.axiom.AxiomName.{AxiomName}
+use Rattle.meaning_atoms.specs.declared.axiom.AxiomName.TheVariants.{Af as OfAf, Aba as OfAba}
 use Rattle.meaning_atoms.specs.Literals.{negated}
-use Rattle.meaning_atoms.specs.Worlds.{IsWorldOf, HoldsOf, Says, IsAsk}
-use Rattle.iccma_tasks.specs.declared.task.Semantics.TheVariants.{Complete, Grounded, Preferred, Stable, Ideal}
+use Rattle.meaning_atoms.specs.Worlds.{IsWorldOf, HoldsOf, Says, IsAsk, IsValid}
+use Rattle.af_axioms.proofs.Rows.{rows_are_valid}
+use Rattle.iccma_tasks.specs.declared.task.Semantics.TheVariants.{Complete, Grounded, Preferred, Stable, SemiStable, Ideal}
+use Rattle.certificate_claims.specs.Refutations.{IsAxiomOf, axiom_clause}
 use Rattle.certificate_claims.specs.Rights.{Accepts, IsExtension}
-use Rattle.certificate_claims.specs.SetLiterals.{goal}
-use Rattle.certificate_laws.proofs.SideClauses.{world_of_free}
+use Rattle.certificate_claims.specs.SetLiterals.{goal, members, struck}
 
--- complete, preferred and stable sets are sets of worlds
-pub complete_world : (f : Framework) (s : List ℕ) → IsNumbered f → IsExtension f Complete s → IsWorldOf f s
-complete_world (af f) s ok h = world_of_free f s ok h.admissible.conflict_free
+-- ---- numbers
 
-pub preferred_world : (f : Framework) (s : List ℕ) → IsNumbered f → IsExtension f Preferred s → IsWorldOf f s
-preferred_world (af f) s ok h = world_of_free f s ok h.admissible.conflict_free
+-- the numbers that sets are made of are within their bounds
+pub numbered_members : (f : Framework) → IsNumbered f → (a : ℕ) → Contains (members f) a → IsArgument a
+numbered_members (af f) ok a c = ok.live a c
 
-pub stable_world : (f : Framework) (s : List ℕ) → IsNumbered f → IsExtension f Stable s → IsWorldOf f s
-stable_world (af f) s ok h = world_of_free f s ok h.conflict_free
+-- a set of them is one of a world
+pub members_world : (f : Framework) (s : List ℕ) → IsNumbered f → IsWithin s (members f) → IsWorldOf f s
+members_world (af f) s ok live = record { framework = ok; members = λ a c. ok.live a (live a c) }
 
--- and have their modes
-pub complete_admissible : (f : Framework) (s : List ℕ) → IsExtension f Complete s → HoldsOf f s Ad
+-- the atom of membership says it
+pub member_is : (f : Framework) (s : List ℕ) (a : ℕ) → HoldsOf f s (Member a) ↔ Contains s a
+member_is (af f) s a = (λ h. h, λ h. h)
+
+-- the axioms of the kind hold in all worlds
+pub axiom_valid : (f : Framework) (name : AxiomName) → IsAxiomOf f name → IsValid (axiom_clause name)
+axiom_valid f (OfAf name) is = rows_are_valid name
+axiom_valid (af f) (OfAba name) is = absurd is
+
+-- ---- modes
+
+pub admissible_members : (f : Framework) (s : List ℕ) → HoldsOf f s Ad → IsWithin s (members f)
+admissible_members (af f) s h = h.conflict_free.live
+
+pub complete_admissible : (f : Framework) (s : List ℕ) → HoldsOf f s Co → HoldsOf f s Ad
 complete_admissible (af f) s h = h.admissible
 
-pub preferred_admissible : (f : Framework) (s : List ℕ) → IsExtension f Preferred s → HoldsOf f s Ad
-preferred_admissible (af f) s h = h.admissible
+pub stable_admissible : (f : Framework) (s : List ℕ) → IsNumbered f → HoldsOf f s St → HoldsOf f s Ad
+stable_admissible (af f) s ok h = ((stable_largest f ok.form).preferred s h).admissible
 
-pub stable_mode : (f : Framework) (s : List ℕ) → IsExtension f Stable s → HoldsOf f s St
-stable_mode (af f) s h = h
+pub none_admissible : (f : Framework) → HoldsOf f [] Ad
+none_admissible (af f) = empty_admissible f
 
--- the goal says that the set accepts the query
-pub goal_says : (f : Framework) (s : List ℕ) (q : ℕ) → Accepts f s q
-    → Says (goal f q).positive (HoldsOf f s (goal f q).atom)
-goal_says (af f) s q h = h
+-- each admissible set lies in a complete one
+pub complete_round : (f : Framework) (s : List ℕ) → HoldsOf f s Ad → (c : List ℕ) × HoldsOf f c Co × IsWithin s c
+complete_round (af f) s h = let p = preferred_round f s h in (p.0, preferred_complete f p.0 p.1, p.2)
 
-pub goal_denied : (f : Framework) (s : List ℕ) (q : ℕ) → (Accepts f s q → ⊥)
-    → Says (negated (goal f q)).positive (HoldsOf f s (negated (goal f q)).atom)
-goal_denied (af f) s q h = h
+-- ---- extensions
+
+-- admissible, and within no larger admissible set
+pub record IsLargest (f : Framework) (s : List ℕ) : Type 0 where
+  pub admissible : HoldsOf f s Ad
+  pub maximal : (t : List ℕ) → HoldsOf f t Ad → IsWithin s t → IsWithin t s
+
+-- complete, and part of each complete set
+pub record IsLeastComplete (f : Framework) (s : List ℕ) : Type 0 where
+  pub complete : HoldsOf f s Co
+  pub least : (t : List ℕ) → HoldsOf f t Co → IsWithin s t
+
+pub complete_is : (f : Framework) (s : List ℕ) → IsExtension f Complete s ↔ HoldsOf f s Co
+complete_is (af f) s = (λ h. h, λ h. h)
+
+pub stable_is : (f : Framework) (s : List ℕ) → IsExtension f Stable s ↔ HoldsOf f s St
+stable_is (af f) s = (λ h. h, λ h. h)
+
+pub preferred_is : (f : Framework) (s : List ℕ) → IsExtension f Preferred s ↔ IsLargest f s
+preferred_is (af f) s = (
+  λ h. record { admissible = h.admissible; maximal = h.maximal },
+  λ h. record { admissible = h.admissible; maximal = h.maximal },
+)
+
+pub grounded_is : (f : Framework) (s : List ℕ) → IsExtension f Grounded s ↔ IsLeastComplete f s
+grounded_is (af f) s = (
+  λ h. record { complete = h.complete; least = h.least },
+  λ h. record { complete = h.complete; least = h.least },
+)
+
+-- semi-stable and ideal sets, for which abstract frameworks alone are asked
+pub semi_stable_admissible : (f : Framework) (s : List ℕ) → IsExtension f SemiStable s → HoldsOf f s Ad
+semi_stable_admissible (af f) s h = h.admissible
+
+pub ideal_admissible : (f : Framework) (s : List ℕ) → IsExtension f Ideal s → HoldsOf f s Ad
+ideal_admissible (af f) s h = h.in_all.admissible
+
+pub ideal_within : (f : Framework) (s t : List ℕ) → IsExtension f Ideal s → IsExtension f Ideal t → IsWithin s t
+ideal_within (af f) s t left right = right.largest s left.in_all
+
+-- ---- queries
+
+-- the goal says that the set accepts the query, and denied that it doesn't
+pub goal_is : (f : Framework) (s : List ℕ) (q : ℕ) → Says (goal f q).positive (HoldsOf f s (goal f q).atom)
+    ↔ Accepts f s q
+goal_is (af f) s q = (λ h. h, λ h. h)
+
+pub denied_is : (f : Framework) (s : List ℕ) (q : ℕ)
+    → Says (negated (goal f q)).positive (HoldsOf f s (negated (goal f q)).atom) ↔ (Accepts f s q → ⊥)
+denied_is (af f) s q = (λ h. h, λ h. h)
 
 pub goal_asks_nothing : (f : Framework) (q : ℕ) → IsAsk (goal f q).atom → ⊥
 goal_asks_nothing (af f) q h = h
@@ -45,17 +113,11 @@ goal_asks_nothing (af f) q h = h
 pub decide_accepts : (f : Framework) (s : List ℕ) (q : ℕ) → Decided (Accepts f s q)
 decide_accepts (af f) s q = decide_member s q
 
--- what the grounded set accepts, each complete set does, and each grounded set
-pub grounded_least : (f : Framework) (g e : List ℕ) (q : ℕ) → IsExtension f Grounded g → IsExtension f Complete e
-    → Accepts f g q
-    → Accepts f e q
-grounded_least (af f) g e q grounded complete h = grounded.least e complete q h
+-- what a set accepts, a larger one does
+pub accepts_more : (f : Framework) (s t : List ℕ) (q : ℕ) → IsWithin s t → Accepts f s q → Accepts f t q
+accepts_more (af f) s t q sub h = sub q h
 
-pub grounded_complete : (f : Framework) (g : List ℕ) → IsExtension f Grounded g → IsExtension f Complete g
-grounded_complete (af f) g h = h.complete
+-- ---- attacks
 
--- what one ideal set accepts, each does
-pub ideal_accepts : (f : Framework) (i e : List ℕ) (q : ℕ) → IsExtension f Ideal i → IsExtension f Ideal e
-    → Accepts f i q
-    → Accepts f e q
-ideal_accepts (af f) i e q left right h = right.largest i left.in_all q h
+pub struck_asks_nothing : (f : Framework) (a : ℕ) → IsAsk (struck f a).atom → ⊥
+struck_asks_nothing (af f) a h = h

@@ -1,10 +1,12 @@
+pub mod KindFacts
+pub mod ExtensionFacts
 pub mod Refuting
 pub mod GoalLists
 pub mod SideClauses
-pub mod KindFacts
 pub mod LargestSets
 pub mod WidestSets
 pub mod IdealSets
+pub mod AfEvidence
 pub mod Evidence
 pub mod Right
 pub mod Verdicts

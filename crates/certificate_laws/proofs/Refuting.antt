@@ -7,23 +7,22 @@ use Rattle.std.proofs.lemmas.List.Elements.{Contains-get_or}
 use Rattle.plain_lists.proofs.Membership.{Contains-tail}
 use Rattle.plain_lits.specs.HintCheck.{Checks, IsTrueClause, IsValuation, clause_at}
 use Rattle.plain_lits.proofs.HintCheckLemmas.{taken_sound}
-use Rattle.semantics.specs.Frameworks.{Framework, af}
+use Rattle.semantics.specs.Frameworks.{Framework}
 use Rattle.meaning_atoms.specs.declared.atom.Atom.{Atom}
 use Rattle.meaning_atoms.specs.declared.atom.Atom.TheVariants.{Ask}
 use Rattle.meaning_atoms.specs.declared.atom.AtomLit.{AtomLit}
 use Rattle.meaning_atoms.specs.declared.axiom.AxiomName.{AxiomName}
-use Rattle.meaning_atoms.specs.declared.axiom.AxiomName.TheVariants.{Af as OfAf, Aba as OfAba}
 use Rattle.meaning_atoms.specs.Literals.{denied, negated, lit_value}
 use Rattle.meaning_atoms.specs.Valuations.{IsValuation as IsWorldValuation}
 use Rattle.meaning_atoms.specs.Worlds.{world_of, IsWorldOf, Holds, HoldsOf, IsTrueAlone, IsTrueBeside}
 use Rattle.meaning_atoms.proofs.Valuations.{world_valuation}
 use Rattle.meaning_atoms.proofs.Clauses.{from_alone, alone_holds, holds_alone, says_moved, read_true, under}
 use Rattle.af_axioms.specs.Facts.{IsFactValue}
-use Rattle.af_axioms.proofs.Rows.{rows_are_valid}
 use Rattle.certificate_claims.specs.declared.certificate.Step.{Step}
 use Rattle.certificate_claims.specs.declared.certificate.Step.TheVariants.{Axiom, Side, Derived}
 use Rattle.certificate_claims.specs.Refutations.{IsAxiomOf, Claim, IsPlain, axiom_clause, step_clause, step_clauses, no_step, StepHolds, IsNotAsked, IsClosed, IsRefutationOf, MeetsGoals, MeetsSides}
 use Rattle.certificate_laws.specs.Laws.{RefutationsExclude}
+use Rattle.certificate_laws.proofs.KindFacts.{axiom_valid}
 
 -- ---- a literal and its negation have opposite values
 
@@ -64,10 +63,8 @@ true_beside f s claim value met clause h = under (world_of f s) claim.sides valu
 axiom_true : (f : Framework) (s : List ℕ) (claim : Claim) (value : Atom → Bool) → IsMet f s claim value
     → (name : AxiomName) → IsAxiomOf f name
     → IsTrueClause (lit_value value) (axiom_clause name)
-axiom_true f s claim value met (OfAf name) is =
-    true_beside f s claim value met (axiom_clause (OfAf name))
-    (rows_are_valid name (world_of f s) met.world claim.sides)
-axiom_true (af f) s claim value met (OfAba name) is = absurd is
+axiom_true f s claim value met name is =
+    true_beside f s claim value met (axiom_clause name) (axiom_valid f name is (world_of f s) met.world claim.sides)
 
 side_met : (f : Framework) (s : List ℕ) (claim : Claim) (value : Atom → Bool) → IsMet f s claim value → (n : ℕ) → 1 ≤ n
     → n ≤ length claim.sides → IsTrueAlone (world_of f s) (slice_index_or claim.sides (n - 1) [])

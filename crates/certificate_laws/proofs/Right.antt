@@ -13,8 +13,10 @@ use Rattle.certificate_claims.specs.Claims.{row_for, sets_of, shown as shown_row
 use Rattle.certificate_claims.specs.Rights.{Accepts, IsExtension, IsRightOf, IsRightCredulous, IsRightSceptical, IsRightSome, IsRightAll}
 use Rattle.certificate_claims.specs.SetLiterals.{goal}
 use Rattle.certificate_laws.specs.Laws.{ShownIsRight, AcceptedIsRight}
-use Rattle.certificate_laws.proofs.Evidence.{Shows, asked_of, no_such_set, none_of_mode, is_preferred, is_covered, is_semi_stable, none_semi_stable, ideal_found, are_all}
-use Rattle.certificate_laws.proofs.KindFacts.{complete_world, preferred_world, stable_world, complete_admissible, preferred_admissible, stable_mode, goal_says, goal_denied, goal_asks_nothing, decide_accepts, grounded_least, grounded_complete, ideal_accepts}
+use Rattle.certificate_laws.proofs.AfEvidence.{is_semi_stable, none_semi_stable}
+use Rattle.certificate_laws.proofs.Evidence.{Shows, asked_of, no_such_set, none_of_mode, is_preferred, is_covered, ideal_found, are_all}
+use Rattle.certificate_laws.proofs.ExtensionFacts.{admissible_world, complete_extension_admissible, preferred_admissible, stable_extension_admissible, grounded_complete, grounded_least, ideal_accepts}
+use Rattle.certificate_laws.proofs.KindFacts.{stable_is, goal_is, denied_is, goal_asks_nothing, decide_accepts}
 use Rattle.certificate_laws.proofs.Refuting.{excluded}
 
 -- ---- a set that is shown
@@ -68,19 +70,19 @@ none_right : (f : Framework) (semantics : Semantics) (q : ℕ) (shown sets : Lis
     → Shows f (asked_of Credulous semantics (Some q)) (none_accepts f semantics q) shown sets
     → (e : List ℕ) → IsExtension f semantics e → Accepts f e q → ⊥
 none_right f Complete q shown sets h e is accepts =
-    no_such_set f Ad (goal f q) sets (λ x. x) (goal_asks_nothing f q) h.none e (complete_world f e h.numbered is)
-    (complete_admissible f e is) (goal_says f e q accepts)
+    no_such_set f Ad (goal f q) sets (λ x. x) (goal_asks_nothing f q) h.none e (admissible_world f e h.numbered (complete_extension_admissible f e is))
+    (complete_extension_admissible f e is) ((goal_is f e q).1 accepts)
 none_right f Grounded q shown sets h e is accepts =
     let g = h.tests.grounded in g.2 (grounded_least f e g.0 q is (grounded_complete f g.0 g.1) accepts)
 none_right f Preferred q shown sets h e is accepts =
-    no_such_set f Ad (goal f q) sets (λ x. x) (goal_asks_nothing f q) h.none e (preferred_world f e h.numbered is)
-    (preferred_admissible f e is) (goal_says f e q accepts)
+    no_such_set f Ad (goal f q) sets (λ x. x) (goal_asks_nothing f q) h.none e (admissible_world f e h.numbered (preferred_admissible f e is))
+    (preferred_admissible f e is) ((goal_is f e q).1 accepts)
 none_right f Stable q shown sets h e is accepts =
-    no_such_set f St (goal f q) sets (λ x. x) (goal_asks_nothing f q) h.none e (stable_world f e h.numbered is)
-    (stable_mode f e is) (goal_says f e q accepts)
+    no_such_set f St (goal f q) sets (λ x. x) (goal_asks_nothing f q) h.none e (admissible_world f e h.numbered (stable_extension_admissible f e h.numbered is))
+    ((stable_is f e).0 is) ((goal_is f e q).1 accepts)
 none_right f SemiStable q shown sets h e is accepts =
     none_semi_stable f (goal f q) sets h.numbered (goal_asks_nothing f q) h.tests.each_set h.none e is
-    (goal_says f e q accepts)
+    ((goal_is f e q).1 accepts)
 none_right f Ideal q shown sets h e is accepts =
     let i = ideal_found f (asked_of Credulous Ideal (Some q)) None (Some false) shown sets h in
     i.accepts_as_said (ideal_accepts f e i.set q is i.is accepts)
@@ -95,12 +97,12 @@ each_right f Preferred q shown sets h e is = is_covered f q sets h.numbered h.te
 each_right f Stable q shown sets h e is =
     ⊎_elim (λ accepts. accepts)
     (λ refuses. absurd (no_such_set f St (negated (goal f q)) sets (λ x. x) (goal_asks_nothing f q) h.none e
-    (stable_world f e h.numbered is) (stable_mode f e is) (goal_denied f e q refuses)))
+    (admissible_world f e h.numbered (stable_extension_admissible f e h.numbered is)) ((stable_is f e).0 is) ((denied_is f e q).1 refuses)))
     (decide_accepts f e q)
 each_right f SemiStable q shown sets h e is =
     ⊎_elim (λ accepts. accepts)
     (λ refuses. absurd (none_semi_stable f (negated (goal f q)) sets h.numbered (goal_asks_nothing f q)
-    h.tests.each_set h.none e is (goal_denied f e q refuses)))
+    h.tests.each_set h.none e is ((denied_is f e q).1 refuses)))
     (decide_accepts f e q)
 each_right f Ideal q shown sets h e is =
     let i = ideal_found f (asked_of Sceptical Ideal (Some q)) None (Some true) shown sets h in
@@ -114,7 +116,7 @@ none_exist f problem Complete number shown sets h = absurd (h.tests.shape)
 none_exist f problem Grounded number shown sets h = absurd (h.tests.shape)
 none_exist f problem Preferred number shown sets h = absurd (h.tests.shape)
 none_exist f problem Stable number shown sets h =
-    λ e is. none_of_mode f St sets (λ x. x) h.none e (stable_world f e h.numbered is) (stable_mode f e is)
+    λ e is. none_of_mode f St sets (λ x. x) h.none e (admissible_world f e h.numbered (stable_extension_admissible f e h.numbered is)) ((stable_is f e).0 is)
 none_exist f problem SemiStable number shown sets h = absurd (h.tests.shape)
 none_exist f problem Ideal number shown sets h = absurd (h.tests.shape)
 

@@ -1,22 +1,49 @@
 -- Sets of which no admissible set has a larger range.
-use Rattle.std.proofs.Common.{ℕ, List, [], ◌∷◌, filter, sym, subst}
+use Rattle.std.proofs.Common.{⊎_elim, ℕ, not, List, [], ◌∷◌, filter, sym, subst}
 use Rattle.std.specs.Prelude.{Contains}
+use Rattle.std.proofs.lemmas.Bool.{cases_Bool, not_from_false}
+use Rattle.plain_lists.specs.Members.{IsWithin}
 use Rattle.plain_lists.proofs.Filters.{Contains-filter}
 use Rattle.plain_lists.proofs.Membership.{Contains-nil}
-use Rattle.semantics.specs.Framework.{Af, IsAdmissible, IsSemiStable, IsRangeWithin}
+use Rattle.plain_lits.proofs.HintCheckLemmas.{Contains-mapped}
+use Rattle.semantics.specs.Framework.{Af, IsAf, IsAdmissible, IsSemiStable, IsRangeWithin}
 use Rattle.semantics.specs.Frameworks.{af, IsNumberedAf}
-use Rattle.meaning_atoms.specs.declared.atom.Atom.TheVariants.{Ad}
+use Rattle.meaning_atoms.specs.declared.atom.Atom.TheVariants.{Range, Ad}
 use Rattle.meaning_atoms.specs.declared.atom.AtomLit.{AtomLit}
 use Rattle.meaning_atoms.specs.Literals.{affirmed}
-use Rattle.meaning_atoms.specs.Worlds.{HoldsOf, Says}
-use Rattle.certificate_claims.proofs.SetTests.{firsts_within}
+use Rattle.meaning_atoms.specs.Worlds.{world_of, HoldsOf, IsTrueAlone, Says}
+use Rattle.certificate_claims.proofs.SetTests.{firsts_within, ranged_gives, in_range_live}
 use Rattle.certificate_claims.specs.Acceptance.{NoRangeWithin}
 use Rattle.certificate_claims.specs.Claims.{claim_of, first_ranged, range_cover, range_free, range_listed}
-use Rattle.certificate_claims.specs.Refutations.{IsExcluded}
-use Rattle.certificate_claims.specs.SetLiterals.{are_ranged, range_of, same_range, differs, wider}
-use Rattle.certificate_laws.proofs.GoalLists.{meets_nil, meets_cons, only_one, fails_mapped}
+use Rattle.certificate_claims.specs.Refutations.{IsExcluded, MeetsGoals}
+use Rattle.certificate_claims.specs.SetLiterals.{is_ranged, are_ranged, range_of, same_range, differs, wider}
+use Rattle.certificate_laws.proofs.ExtensionFacts.{admissible_world}
+use Rattle.certificate_laws.proofs.GoalLists.{meets_nil, meets_cons, meets_mapped, only_one, fails_mapped}
 use Rattle.certificate_laws.proofs.LargestSets.{AreExactly}
-use Rattle.certificate_laws.proofs.SideClauses.{world_of_admissible, range_where_false, same_where_false, meets_range}
+use Rattle.certificate_laws.proofs.SideClauses.{same_where_false}
+
+-- ---- side clauses and goals about ranges
+
+-- a set of live arguments that has no wider range than the other has its range in that one's
+range_where_false : (f : Af) (e s : List ℕ) → IsAf f → IsWithin s f.live
+    → (IsTrueAlone (world_of (af f) s) (wider (af f) e) → ⊥) → IsRangeWithin f s e
+range_where_false f e s form live none x r =
+    ⊎_elim (λ t. ranged_gives f e x t)
+    (λ no. absurd (none (record {
+      literal = affirmed (Range x);
+      member = Contains-mapped (λ a. affirmed (Range a)) (filter (λ y. not (is_ranged (af f) e y)) f.live) x
+          ((Contains-filter (λ y. not (is_ranged (af f) e y)) f.live x).1
+          (in_range_live f s x form live r, not_from_false (is_ranged (af f) e x) no));
+      says = r;
+    })))
+    (cases_Bool (is_ranged (af f) e x))
+
+meets_range : (f : Af) (e s : List ℕ) → IsRangeWithin f e s → MeetsGoals (af f) s (are_ranged (range_of (af f) e))
+meets_range f e s sub =
+    meets_mapped (af f) s (λ a. affirmed (Range a)) (range_of (af f) e)
+    (λ a c. sub a (ranged_gives f e a ((Contains-filter (is_ranged (af f) e) f.live a).0 c).1))
+
+-- ---- one set
 
 -- an admissible set over whose range no admissible set has a larger one
 pub widest_semi_stable : (f : Af) (e : List ℕ) → IsNumberedAf f → IsAdmissible f e
@@ -27,7 +54,7 @@ widest_semi_stable f e numbered ok none = record {
   widest = λ t is sub.
       let goals = are_ranged (range_of (af f) e) in
       let r = fails_mapped (af f) (affirmed Ad ∷ goals) (wider (af f)) (e ∷ []) none t
-      (world_of_admissible f t numbered is)
+      (admissible_world (af f) t numbered is)
       (meets_cons (af f) t (affirmed Ad) goals is (meets_range f e t sub)) in
       subst (λ (set : List ℕ). IsRangeWithin f t set) (sym (only_one e r.0 r.1))
       (range_where_false f r.0 t numbered.form is.conflict_free.live r.2);
@@ -41,7 +68,7 @@ pub ranged_out : (f : Af) (bad : AtomLit) (sets : List (List ℕ)) → IsNumbere
     → ((e : List ℕ) → Contains sets e → IsExcluded (af f) (range_free (af f) bad e))
     → (s : List ℕ) → IsSemiStable f s → Says bad.positive (HoldsOf (af f) s bad.atom) → ⊥
 ranged_out f bad sets numbered ok cover free s semi says =
-    let world = world_of_admissible f s numbered semi.admissible in
+    let world = admissible_world (af f) s numbered semi.admissible in
     let r = fails_mapped (af f) (affirmed Ad ∷ bad ∷ []) (wider (af f)) sets cover s world
     (meets_cons (af f) s (affirmed Ad) (bad ∷ []) semi.admissible
     (meets_cons (af f) s bad [] says (meets_nil (af f) s))) in
@@ -58,7 +85,7 @@ covers_range : (f : Af) (firsts : List (List ℕ)) → IsNumberedAf f → IsExcl
     → (t : List ℕ) → IsAdmissible f t → (e : List ℕ) × Contains firsts e × IsRangeWithin f t e
 covers_range f firsts numbered cover t is =
     let r = fails_mapped (af f) (affirmed Ad ∷ []) (wider (af f)) firsts cover t
-    (world_of_admissible f t numbered is)
+    (admissible_world (af f) t numbered is)
     (meets_cons (af f) t (affirmed Ad) [] is (meets_nil (af f) t)) in
     (r.0, r.1, range_where_false f r.0 t numbered.form is.conflict_free.live r.2)
 
@@ -81,11 +108,11 @@ all_semi_stable f sets numbered ok apart cover listed = record {
       let back = semi.widest r.0 (ok r.0 (firsts_within (af f) sets r.0 r.1)) r.2 in
       let goals = are_ranged (range_of (af f) r.0) in
       let q = fails_mapped (af f) (affirmed Ad ∷ goals) (differs (af f)) (filter (same_range (af f) r.0) sets)
-      (listed r.0 r.1) s (world_of_admissible f s numbered semi.admissible)
+      (listed r.0 r.1) s (admissible_world (af f) s numbered semi.admissible)
       (meets_cons (af f) s (affirmed Ad) goals semi.admissible (meets_range f r.0 s back)) in
       record {
         set = q.0;
         member = ((Contains-filter (same_range (af f) r.0) sets q.0).0 q.1).0;
-        same = same_where_false f q.0 s semi.admissible.conflict_free.live q.2;
+        same = same_where_false (af f) q.0 s semi.admissible.conflict_free.live q.2;
       };
 }

@@ -5,9 +5,7 @@ use Rattle.std.proofs.lemmas.List.{get_or_default}
 use Rattle.plain_lists.proofs.Membership.{Contains-nil}
 use Rattle.plain_lits.specs.declared.halt.Halt.{Halt}
 use Rattle.plain_lits.specs.Units.{Units}
-use Rattle.semantics.specs.Framework.{Af, IsAdmissible}
 use Rattle.semantics.specs.Frameworks.{Framework, af}
-use Rattle.semantics.proofs.Grounded.{grounded_exists}
 use Rattle.meaning_atoms.specs.declared.atom.Atom.{Atom}
 use Rattle.meaning_atoms.specs.declared.atom.Atom.TheVariants.{Ad, Co, St}
 use Rattle.meaning_atoms.specs.declared.atom.AtomLit.{AtomLit}
@@ -15,25 +13,28 @@ use Rattle.meaning_atoms.specs.Literals.{affirmed, AsksNothing}
 use Rattle.meaning_atoms.specs.Worlds.{HoldsOf, IsAsk}
 use Rattle.iccma_tasks.specs.declared.task.Semantics.{Semantics}
 use Rattle.iccma_tasks.specs.declared.task.Semantics.TheVariants.{Complete, Grounded, Preferred, Stable, SemiStable, Ideal}
-use Rattle.iccma_tasks.specs.declared.task.Kind.TheVariants.{Af as OfAf}
+use Rattle.iccma_tasks.specs.declared.task.Kind.{Kind}
+use Rattle.iccma_tasks.specs.declared.task.Kind.TheVariants.{Af as OfAf, Aba as OfAba}
 use Rattle.iccma_tasks.specs.declared.task.Problem.{Problem}
 use Rattle.iccma_tasks.specs.declared.task.Problem.TheVariants.{AllExtensions}
 use Rattle.iccma_tasks.specs.declared.task.Task.{Task}
 use Rattle.iccma_tasks.specs.Tasks.{HasTask}
 use Rattle.certificate_claims.specs.declared.row.Row.TheVariants.{AllTested, AllLargest, AllWidest, Excluded}
-use Rattle.certificate_claims.specs.Acceptance.{Tests}
+use Rattle.certificate_claims.specs.Acceptance.{NoRangeWithin, Tests}
 use Rattle.certificate_claims.specs.Claims.{claim_of}
 use Rattle.certificate_claims.specs.Rights.{IsExtension, SetsRise}
 use Rattle.certificate_claims.specs.SetLiterals.{differs, outside, wider}
+use Rattle.certificate_laws.proofs.ExtensionFacts.{admissible_world, preferred_admissible}
 use Rattle.certificate_laws.proofs.GoalLists.{asks_cons, asks_nil, fails_mapped, meets_cons, meets_nil, plain_mapped}
-use Rattle.certificate_laws.proofs.KindFacts.{preferred_admissible}
-use Rattle.certificate_laws.proofs.SideClauses.{differs_plain, outside_plain, wider_plain, world_of_admissible}
+use Rattle.certificate_laws.proofs.KindFacts.{complete_admissible, complete_is, complete_round, none_admissible, semi_stable_admissible, stable_is}
+use Rattle.certificate_laws.proofs.SideClauses.{differs_plain, outside_plain, wider_plain}
 use Rattle.oracle_face.specs.declared.face.Pending.{Pending}
 use Rattle.oracle_face.specs.Goals.{Refutes}
 use Rattle.oracle_face.specs.Growing.{HasRun}
 use Rattle.oracle_face.specs.Logs.{IsKept, OracleLog}
 use Rattle.oracle_face.proofs.GrowingLemmas.{Makes, run_as}
 use Rattle.oracle_face.proofs.Refuting.{claim_excluded}
+use Rattle.edit_rules.specs.Kinds.{kind_of}
 use Rattle.cegar_preferred.specs.Largest.{MadeOutside}
 use Rattle.enumerate_modes.specs.declared.with_mode.Listed.{Listed}
 use Rattle.enumerate_modes.specs.declared.with_mode.Listed.TheVariants.{Whole, TooMany as MoreThanListed}
@@ -45,7 +46,7 @@ use Rattle.enumerate_preferred.proofs.PreferredLemmas.{none_within}
 use Rattle.enumerate_ranges.specs.declared.ranges.Ranged.{Ranged}
 use Rattle.enumerate_ranges.specs.declared.ranges.Ranged.TheVariants.{Whole as WholeRanged, TooMany as MoreThanRanged}
 use Rattle.enumerate_ranges.specs.Ranges.{IsAllSemiStable, IsAllOrMore as IsRangedList, MadeForRanges}
-use Rattle.enumerate_ranges.proofs.RangeLemmas.{no_range_within, semi_admissible}
+use Rattle.enumerate_ranges.proofs.RangeLemmas.{no_range_within}
 use Rattle.enumerate_ranges.proofs.StepLemmas.{refuted_first, refuted_none}
 use Rattle.enumerate_block.specs.Extensions.{AreExtensions, IsListOf, IsListTask, IsModeOf, MadeForAll, asked_all, with_step, with_steps}
 
@@ -99,14 +100,20 @@ preferred_tests f sets each rise = record {
   each_set = λ k lt. absurd (omega arith);
 }
 
-semi_stable_tests : (f : Af) (sets : List (List ℕ))
-    → ((e : List ℕ) → Contains sets e → IsExtension (af f) SemiStable e) → SetsRise sets
-    → Tests (af f) (asked_all SemiStable) (AllWidest sets) sets []
+-- of two semi-stable sets none has its range in the other's, by cases on the kind: abstract frameworks alone are asked
+-- for them
+semi_stable_order : (f : Framework) (sets : List (List ℕ))
+    → ((e : List ℕ) → Contains sets e → IsExtension f SemiStable e) → NoRangeWithin f sets
+semi_stable_order (af f) sets each = no_range_within f sets each
+
+semi_stable_tests : (f : Framework) (sets : List (List ℕ))
+    → ((e : List ℕ) → Contains sets e → IsExtension f SemiStable e) → SetsRise sets
+    → Tests f (asked_all SemiStable) (AllWidest sets) sets []
 semi_stable_tests f sets each rise = record {
   shape = tt;
-  witnesses = λ k lt. semi_admissible (af f) (slice_index_or sets k [])
+  witnesses = λ k lt. semi_stable_admissible f (slice_index_or sets k [])
       (each (slice_index_or sets k []) (index_there sets k lt));
-  order = (rise, no_range_within f sets each);
+  order = (rise, semi_stable_order f sets each);
   grounded = tt;
   count = refl;
   each_set = λ k lt. absurd (omega arith);
@@ -114,24 +121,15 @@ semi_stable_tests f sets each rise = record {
 
 -- ---- only stable sets may be none
 
-nothing_admissible : (f : Af) → IsAdmissible f []
-nothing_admissible f = record {
-  conflict_free = record {
-    live = λ a c. absurd (Contains-nil a c);
-    apart = λ b a c. absurd (Contains-nil b c);
-  };
-  defended = λ a c. absurd (Contains-nil a c);
-}
-
 -- where a set has the mode, no step refutes that one has
-not_refuted : (f : Af) (log : OracleLog) (mode : Atom) (side : List ℕ → List AtomLit) (s : List ℕ) (step : ℕ)
-    → IsKept (af f) log → (IsAsk mode → ⊥) → ((e : List ℕ) → AsksNothing (side e))
-    → Refutes (af f) log (claim_of (affirmed mode ∷ []) []) step → IsAdmissible f s → HoldsOf (af f) s mode → ⊥
+not_refuted : (f : Framework) (log : OracleLog) (mode : Atom) (side : List ℕ → List AtomLit) (s : List ℕ) (step : ℕ)
+    → IsKept f log → (IsAsk mode → ⊥) → ((e : List ℕ) → AsksNothing (side e))
+    → Refutes f log (claim_of (affirmed mode ∷ []) []) step → HoldsOf f s Ad → HoldsOf f s mode → ⊥
 not_refuted f log mode side s step kept no_ask plain refuted ok holds =
-    let excluded = claim_excluded (af f) log (claim_of (affirmed mode ∷ []) []) step kept.form
+    let excluded = claim_excluded f log (claim_of (affirmed mode ∷ []) []) step kept.form
     (plain_mapped (affirmed mode ∷ []) side [] (asks_cons (affirmed mode) [] no_ask asks_nil) plain) refuted in
-    let r = fails_mapped (af f) (affirmed mode ∷ []) side [] excluded s (world_of_admissible f s kept.numbered ok)
-    (meets_cons (af f) s (affirmed mode) [] holds (meets_nil (af f) s)) in
+    let r = fails_mapped f (affirmed mode ∷ []) side [] excluded s (admissible_world f s kept.numbered ok)
+    (meets_cons f s (affirmed mode) [] holds (meets_nil f s)) in
     Contains-nil r.0 r.1
 
 -- ---- each semantics
@@ -141,66 +139,64 @@ among f mode e h = record { has_mode = h; ranged = λ a c. absurd (Contains-nil 
 
 complete_list : (f : Framework) (log : OracleLog) (limit : ℕ) (sets : List (List ℕ)) (step : ℕ) → IsKept f log
     → IsAllOf f log Co [] limit sets step → AreExtensions f log Complete limit sets (step ∷ [])
-complete_list (af f) log limit [] step kept h =
-    let g = grounded_exists f in
-    absurd (not_refuted f log Co (differs (af f)) g.0 step kept (λ x. x) (differs_plain (af f)) h.refuted
-    g.1.complete.admissible g.1.complete)
-complete_list (af f) log limit (e ∷ more) step kept h = record {
-  all = record {
-    each = λ s c. (h.each s c).has_mode;
-    all = λ s is. h.all s (among (af f) Co s is);
-    rise = h.rise;
-  };
-  differ = they_differ (e ∷ more) h.rise h.one_form;
-  within = h.within;
-  tests = complete_tests (af f) (e ∷ more) (λ s c. (h.each s c).has_mode) h.rise;
-  refuted = refuted_first (af f) log _ step [] [] h.refuted (refuted_none (af f) log);
-}
+complete_list f log limit [] step kept h =
+    let c = complete_round f [] (none_admissible f) in
+    absurd (not_refuted f log Co (differs f) c.0 step kept (λ x. x) (differs_plain f) h.refuted
+    (complete_admissible f c.0 c.1) c.1)
+complete_list f log limit (e ∷ more) step kept h =
+    let each : (s : List ℕ) → Contains (e ∷ more) s → IsExtension f Complete s =
+    λ s c. (complete_is f s).1 (h.each s c).has_mode in
+    record {
+      all = record { each = each; all = λ s is. h.all s (among f Co s ((complete_is f s).0 is)); rise = h.rise };
+      differ = they_differ (e ∷ more) h.rise h.one_form;
+      within = h.within;
+      tests = complete_tests f (e ∷ more) each h.rise;
+      refuted = refuted_first f log _ step [] [] h.refuted (refuted_none f log);
+    }
 
 stable_list : (f : Framework) (log : OracleLog) (limit : ℕ) (sets : List (List ℕ)) (step : ℕ)
     → IsAllOf f log St [] limit sets step → AreExtensions f log Stable limit sets (step ∷ [])
-stable_list (af f) log limit [] step h = record {
+stable_list f log limit [] step h = record {
   all = record {
     each = λ s c. absurd (Contains-nil s c);
-    all = λ s is. h.all s (among (af f) St s is);
+    all = λ s is. h.all s (among f St s ((stable_is f s).0 is));
     rise = h.rise;
   };
   differ = they_differ [] h.rise h.one_form;
   within = h.within;
-  tests = none_tests (af f);
-  refuted = refuted_first (af f) log _ step [] [] h.refuted (refuted_none (af f) log);
+  tests = none_tests f;
+  refuted = refuted_first f log _ step [] [] h.refuted (refuted_none f log);
 }
-stable_list (af f) log limit (e ∷ more) step h = record {
-  all = record {
-    each = λ s c. (h.each s c).has_mode;
-    all = λ s is. h.all s (among (af f) St s is);
-    rise = h.rise;
-  };
-  differ = they_differ (e ∷ more) h.rise h.one_form;
-  within = h.within;
-  tests = stable_tests (af f) (e ∷ more) (λ s c. (h.each s c).has_mode) h.rise;
-  refuted = refuted_first (af f) log _ step [] [] h.refuted (refuted_none (af f) log);
-}
+stable_list f log limit (e ∷ more) step h =
+    let each : (s : List ℕ) → Contains (e ∷ more) s → IsExtension f Stable s =
+    λ s c. (stable_is f s).1 (h.each s c).has_mode in
+    record {
+      all = record { each = each; all = λ s is. h.all s (among f St s ((stable_is f s).0 is)); rise = h.rise };
+      differ = they_differ (e ∷ more) h.rise h.one_form;
+      within = h.within;
+      tests = stable_tests f (e ∷ more) each h.rise;
+      refuted = refuted_first f log _ step [] [] h.refuted (refuted_none f log);
+    }
 
 preferred_list : (f : Framework) (log : OracleLog) (limit : ℕ) (sets : List (List ℕ)) (step : ℕ) → IsKept f log
     → IsAllPreferred f log limit sets step → AreExtensions f log Preferred limit sets (step ∷ [])
-preferred_list (af f) log limit [] step kept h =
-    absurd (not_refuted f log Ad (outside (af f)) [] step kept (λ x. x) (outside_plain (af f)) h.refuted
-    (nothing_admissible f) (nothing_admissible f))
-preferred_list (af f) log limit (e ∷ more) step kept h = record {
+preferred_list f log limit [] step kept h =
+    absurd (not_refuted f log Ad (outside f) [] step kept (λ x. x) (outside_plain f) h.refuted
+    (none_admissible f) (none_admissible f))
+preferred_list f log limit (e ∷ more) step kept h = record {
   all = record { each = h.each; all = h.all; rise = h.rise };
   differ = they_differ (e ∷ more) h.rise h.one_form;
   within = h.within;
-  tests = preferred_tests (af f) (e ∷ more) h.each h.rise;
-  refuted = refuted_first (af f) log _ step [] [] h.refuted (refuted_none (af f) log);
+  tests = preferred_tests f (e ∷ more) h.each h.rise;
+  refuted = refuted_first f log _ step [] [] h.refuted (refuted_none f log);
 }
 
 semi_stable_list : (f : Framework) (log : OracleLog) (limit : ℕ) (sets : List (List ℕ)) (steps : List ℕ) → IsKept f log
     → IsAllSemiStable f log limit sets steps → AreExtensions f log SemiStable limit sets steps
-semi_stable_list (af f) log limit [] steps kept h =
-    absurd (not_refuted f log Ad (wider (af f)) [] (slice_index_or steps 0 0) kept (λ x. x) (wider_plain (af f))
-    (h.refuted.each 0 (omega (arith, h.refuted.number))) (nothing_admissible f) (nothing_admissible f))
-semi_stable_list (af f) log limit (e ∷ more) steps kept h = record {
+semi_stable_list f log limit [] steps kept h =
+    absurd (not_refuted f log Ad (wider f) [] (slice_index_or steps 0 0) kept (λ x. x) (wider_plain f)
+    (h.refuted.each 0 (omega (arith, h.refuted.number))) (none_admissible f) (none_admissible f))
+semi_stable_list f log limit (e ∷ more) steps kept h = record {
   all = record { each = h.each; all = h.all; rise = h.rise };
   differ = they_differ (e ∷ more) h.rise h.one_form;
   within = h.within;
@@ -221,8 +217,8 @@ more_as P Q limit all h = record {
 -- the mode of a complete or stable set
 mode_extension : (f : Framework) (semantics : Semantics) (mode : Atom) (e : List ℕ) → IsModeOf semantics mode
     → IsAmong f mode [] e → IsExtension f semantics e
-mode_extension (af f) Complete Co e ok h = h.has_mode
-mode_extension (af f) Stable St e ok h = h.has_mode
+mode_extension f Complete Co e ok h = (complete_is f e).1 h.has_mode
+mode_extension f Stable St e ok h = (stable_is f e).1 h.has_mode
 mode_extension f _ _ e ok h = absurd ok
 
 mode_list : (f : Framework) (log : OracleLog) (semantics : Semantics) (mode : Atom) (limit : ℕ) (sets : List (List ℕ))
@@ -268,17 +264,26 @@ is_widest f g log limit ranged same kept h =
 
 -- ---- tasks
 
-has_task : (f : Af) (task : Task) (semantics : Semantics) → IsListTask (af f) task → task.semantics ≡ semantics
-    → HasTask OfAf AllExtensions semantics
+has_task : (f : Framework) (task : Task) (semantics : Semantics) → IsListTask f task → task.semantics ≡ semantics
+    → HasTask (kind_of f) AllExtensions semantics
 has_task f task semantics h is =
-    subst (HasTask OfAf AllExtensions) is
-    (subst (λ (p : Problem). HasTask OfAf p task.semantics) h.problem h.has)
+    subst (HasTask (kind_of f) AllExtensions) is
+    (subst (λ (p : Problem). HasTask (kind_of f) p task.semantics) h.problem h.has)
+
+-- frameworks of no kind are asked for all grounded or all ideal sets
+grounded_is_one : (kind : Kind) → HasTask kind AllExtensions Grounded → ⊥
+grounded_is_one OfAf h = h
+grounded_is_one OfAba h = h
+
+ideal_is_one : (kind : Kind) → HasTask kind AllExtensions Ideal → ⊥
+ideal_is_one OfAf h = h
+ideal_is_one OfAba h = h
 
 pub no_grounded : (f : Framework) (task : Task) → IsListTask f task → task.semantics ≡ Grounded → ⊥
-no_grounded (af f) task h is = has_task f task Grounded h is
+no_grounded f task h is = grounded_is_one (kind_of f) (has_task f task Grounded h is)
 
 pub no_ideal : (f : Framework) (task : Task) → IsListTask f task → task.semantics ≡ Ideal → ⊥
-no_ideal (af f) task h is = has_task f task Ideal h is
+no_ideal f task h is = ideal_is_one (kind_of f) (has_task f task Ideal h is)
 
 -- ---- what calls leave
 

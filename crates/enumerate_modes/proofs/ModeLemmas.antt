@@ -6,10 +6,8 @@ use Rattle.plain_lists.specs.Members.{IsWithin}
 use Rattle.plain_lists.proofs.Membership.{Contains-nil, Contains-head, Contains-tail}
 use Rattle.plain_lits.specs.declared.halt.Halt.{Halt}
 use Rattle.plain_lits.proofs.HintCheckLemmas.{Contains-mapped}
-use Rattle.semantics.specs.Framework.{Af}
-use Rattle.semantics.specs.Frameworks.{Framework, af, IsNumbered}
+use Rattle.semantics.specs.Frameworks.{Framework, IsNumbered}
 use Rattle.semantics.specs.Laws.{HasSameMembers}
-use Rattle.semantics.proofs.Extensions.{stable_largest}
 use Rattle.meaning_atoms.specs.declared.atom.Atom.{Atom}
 use Rattle.meaning_atoms.specs.declared.atom.Atom.TheVariants.{Member, Range, Ad, Co, St}
 use Rattle.meaning_atoms.specs.declared.atom.AtomLit.{AtomLit}
@@ -17,13 +15,14 @@ use Rattle.meaning_atoms.specs.Literals.{affirmed, denied, negated}
 use Rattle.meaning_atoms.specs.Worlds.{HoldsOf, IsAsk}
 use Rattle.certificate_claims.specs.Refutations.{IsPlain, MeetsGoals}
 use Rattle.certificate_claims.specs.SetLiterals.{are_ranged, differs, has, members}
+use Rattle.certificate_laws.proofs.ExtensionFacts.{admissible_world}
 use Rattle.certificate_laws.proofs.GoalLists.{asks_cons, fails_mapped, meets_cons, meets_mapped, plain_mapped}
-use Rattle.certificate_laws.proofs.SideClauses.{differs_plain, ranged_plain, same_where_false, world_of_admissible}
+use Rattle.certificate_laws.proofs.KindFacts.{complete_admissible, stable_admissible}
+use Rattle.certificate_laws.proofs.SideClauses.{differs_plain, ranged_plain, same_where_false}
 use Rattle.oracle_face.specs.declared.face.Found.{Found}
 use Rattle.oracle_face.specs.declared.face.Found.TheVariants.{Set, Refuted}
 use Rattle.oracle_face.specs.Goals.{IsMemberAtom, IsMode, IsSide, MakesTrue, Refutes}
 use Rattle.oracle_face.specs.Growing.{Grows, IsFound, Making, OnlySide}
-use Rattle.oracle_face.specs.Kinds.{IsRanged}
 use Rattle.oracle_face.specs.Logs.{IsKept, IsSameClause, OracleLog}
 use Rattle.oracle_face.proofs.GrowingLemmas.{Makes}
 use Rattle.oracle_face.proofs.Refuting.{claim_excluded}
@@ -31,7 +30,7 @@ use Rattle.goal_lists.specs.AllSets.{is_part}
 use Rattle.goal_lists.specs.Asking.{goals_of, IsAskable}
 use Rattle.goal_lists.specs.Sides.{IsAskOf}
 use Rattle.goal_lists.proofs.AskedGoals.{differs_form, differs_speaks, member_of, not_same, plain_from, speaks_side}
-use Rattle.goal_lists.proofs.Calls.{admissible_members, found_mode, found_ranged}
+use Rattle.goal_lists.proofs.Calls.{admissible_members, found_mode, found_range}
 use Rattle.goal_lists.proofs.Measures.{fewer_left, kept_is_set, left_open, part_from, part_gives, same_as_kept}
 use Rattle.goal_lists.proofs.SideLemmas.{HasWanted, asks_kept, asks_more, asks_none, asks_refuted, asks_speak, asks_true}
 use Rattle.enumerate_modes.specs.declared.with_mode.Listing.{Listing}
@@ -55,10 +54,10 @@ mode_asks_nothing _ h ask = absurd h
 
 pub mode_admissible : (f : Framework) (e : List ℕ) (mode : Atom) → IsNumbered f → IsListMode mode → HoldsOf f e mode
     → HoldsOf f e Ad
-mode_admissible (af f) e Ad ok listed h = h
-mode_admissible (af f) e Co ok listed h = h.admissible
-mode_admissible (af f) e St ok listed h = ((stable_largest f ok.form).preferred e h).admissible
-mode_admissible (af f) e _ ok listed h = absurd listed
+mode_admissible f e Ad ok listed h = h
+mode_admissible f e Co ok listed h = complete_admissible f e h
+mode_admissible f e St ok listed h = stable_admissible f e ok h
+mode_admissible f e _ ok listed h = absurd listed
 
 pub mode_members : (f : Framework) (e : List ℕ) (mode : Atom) → IsNumbered f → IsListMode mode → HoldsOf f e mode
     → IsWithin e (members f)
@@ -172,17 +171,13 @@ mode_plain f mode range sets listed =
     plain_mapped (affirmed mode ∷ are_ranged range) (differs f) sets (mode_wanted mode range listed).plain
     (differs_plain f)
 
-ranged_of : (f : Framework) (log : OracleLog) (mode : Atom) (range asks set : List ℕ)
-    → MakesTrue f log (goals_of mode [] [] range asks) set → (a : ℕ) → Contains range a → IsRanged f set a
-ranged_of (af f) log mode range asks set makes a c = found_ranged f log mode [] [] range asks set makes a c
-
 found_further : (f : Framework) (log : OracleLog) (mode : Atom) (range : List ℕ) (listing : Listing)
     → IsListMode mode → IsListing f log mode range listing → (found : Found)
     → IsFound f log (goals_of mode [] [] range listing.asks) found → IsFurtherOf f log mode range listing found
 found_further f log mode range listing listed h (Set set) makes = (
   record {
     has_mode = found_mode f log mode [] [] range listing.asks set (is_mode mode listed) makes;
-    ranged = ranged_of f log mode range listing.asks set makes;
+    ranged = found_range f log mode [] [] range listing.asks set makes;
   },
   λ e c. not_same f e set
       (asks_true f log (differs f) listing.sets.items mode [] [] range listing.asks set h.asks makes e c),
@@ -233,26 +228,25 @@ listing_more f log mode range set n old new h ok other gains asks it = record {
 
 -- ---- the end
 
-meets_ranged : (f : Af) (s range : List ℕ) → ((a : ℕ) → Contains range a → IsRanged (af f) s a)
-    → MeetsGoals (af f) s (are_ranged range)
-meets_ranged f s range h = meets_mapped (af f) s (λ a. affirmed (Range a)) range h
+meets_ranged : (f : Framework) (s range : List ℕ) → ((a : ℕ) → Contains range a → HoldsOf f s (Range a))
+    → MeetsGoals f s (are_ranged range)
+meets_ranged f s range h = meets_mapped f s (λ a. affirmed (Range a)) range h
 
 pub all_listed : (f : Framework) (log : OracleLog) (mode : Atom) (range : List ℕ) (limit : ℕ) (listing : Listing)
     (step : ℕ)
     → IsKept f log → IsListMode mode → IsListing f log mode range listing
     → Refutes f log (mode_claim f mode range listing.sets.items) step
     → length listing.sets.items ≤ limit → IsAllOf f log mode range limit listing.sets.items step
-all_listed (af f) log mode range limit listing step kept listed h refuted room = record {
+all_listed f log mode range limit listing step kept listed h refuted room = record {
   each = h.each;
   all = λ e is.
-      let ok = mode_admissible (af f) e mode kept.numbered listed is.has_mode in
+      let ok = mode_admissible f e mode kept.numbered listed is.has_mode in
       let sets = listing.sets.items in
-      let r = fails_mapped (af f) (affirmed mode ∷ are_ranged range) (differs (af f)) sets
-      (claim_excluded (af f) log (mode_claim (af f) mode range sets) step kept.form
-      (mode_plain (af f) mode range sets listed) refuted)
-      e (world_of_admissible f e kept.numbered ok)
-      (meets_cons (af f) e (affirmed mode) (are_ranged range) is.has_mode (meets_ranged f e range is.ranged)) in
-      record { set = r.0; member = r.1; same = same_where_false f r.0 e ok.conflict_free.live r.2 };
+      let r = fails_mapped f (affirmed mode ∷ are_ranged range) (differs f) sets
+      (claim_excluded f log (mode_claim f mode range sets) step kept.form (mode_plain f mode range sets listed) refuted)
+      e (admissible_world f e kept.numbered ok)
+      (meets_cons f e (affirmed mode) (are_ranged range) is.has_mode (meets_ranged f e range is.ranged)) in
+      record { set = r.0; member = r.1; same = same_where_false f r.0 e (admissible_members f e ok) r.2 };
   rise = h.rise;
   one_form = h.one_form;
   within = room;

@@ -4,7 +4,7 @@ use Rattle.semantics.specs.Frameworks.{Framework}
 use Rattle.semantics.specs.Laws.{HasSameMembers}
 use Rattle.semantics.specs.Sets.{IsListed}
 use Rattle.meaning_atoms.specs.declared.atom.Atom.{Atom}
-use Rattle.meaning_atoms.specs.declared.atom.Atom.TheVariants.{Ad, Co, St}
+use Rattle.meaning_atoms.specs.declared.atom.Atom.TheVariants.{Range, Ad, Co, St}
 use Rattle.meaning_atoms.specs.Literals.{affirmed}
 use Rattle.meaning_atoms.specs.Worlds.{HoldsOf}
 use Rattle.certificate_claims.specs.Claims.{claim_of}
@@ -15,7 +15,6 @@ use Rattle.oracle_face.specs.declared.face.Found.{Found}
 use Rattle.oracle_face.specs.declared.face.Found.TheVariants.{Set, Refuted}
 use Rattle.oracle_face.specs.Goals.{Refutes}
 use Rattle.oracle_face.specs.Growing.{Making}
-use Rattle.oracle_face.specs.Kinds.{IsRanged}
 use Rattle.oracle_face.specs.Logs.{OracleLog, IsSameClause}
 use Rattle.goal_lists.specs.Sides.{AreAsksOf}
 use Rattle.enumerate_modes.specs.declared.with_mode.Listed.{Listed}
@@ -30,10 +29,10 @@ IsListMode Co = Unit {0}
 IsListMode St = Unit {0}
 IsListMode _ = ⊥
 
--- a set of the mode that has all of these in its range
+-- a set of the mode that has all of these in its range, as the atoms of the range say
 pub record IsAmong (f : Framework) (mode : Atom) (range e : List ℕ) : Type 0 where
   pub has_mode : HoldsOf f e mode
-  pub ranged : (a : ℕ) → Contains range a → IsRanged f e a
+  pub ranged : (a : ℕ) → Contains range a → HoldsOf f e (Range a)
 
 -- the side clause that a set differs from an admissible one, made from that one
 abbrev pub MadeDiffers : Framework → Making

@@ -5,7 +5,7 @@ use Rattle.std.proofs.lemmas.List.{length-append}
 use Rattle.plain_lists.specs.Members.{IsWithin}
 use Rattle.plain_lists.proofs.Membership.{Contains-nil, Contains-head}
 use Rattle.plain_lits.specs.declared.halt.Halt.{Halt}
-use Rattle.semantics.specs.Frameworks.{Framework, af}
+use Rattle.semantics.specs.Frameworks.{Framework}
 use Rattle.meaning_atoms.specs.declared.atom.Atom.TheVariants.{Ad}
 use Rattle.meaning_atoms.specs.Literals.{affirmed}
 use Rattle.meaning_atoms.specs.Worlds.{HoldsOf}
@@ -14,8 +14,8 @@ use Rattle.certificate_claims.specs.Acceptance.{NoneWithin}
 use Rattle.certificate_claims.specs.Refutations.{IsPlain}
 use Rattle.certificate_claims.specs.Rights.{IsExtension}
 use Rattle.certificate_claims.specs.SetLiterals.{has, members, outside}
+use Rattle.certificate_laws.proofs.ExtensionFacts.{preferred_admissible, preferred_maximal}
 use Rattle.certificate_laws.proofs.GoalLists.{asks_cons, asks_nil, plain_mapped}
-use Rattle.certificate_laws.proofs.KindFacts.{preferred_admissible}
 use Rattle.certificate_laws.proofs.LargestSets.{all_preferred}
 use Rattle.certificate_laws.proofs.SideClauses.{outside_plain}
 use Rattle.oracle_face.specs.declared.face.Found.{Found}
@@ -191,7 +191,7 @@ fewer_open f log limit old new h =
 -- of two preferred sets none is part of the other
 pub none_within : (f : Framework) (sets : List (List ℕ)) → ((e : List ℕ) → Contains sets e → IsExtension f Largest e)
     → NoneWithin sets
-none_within (af f) sets each s t c d sub = (each s c).maximal t (each t d).admissible sub
+none_within f sets each s t c d sub = preferred_maximal f s t (each s c) (preferred_admissible f t (each t d)) sub
 
 pub cover_plain : (f : Framework) (sets : List (List ℕ)) → IsPlain (cover_claim f sets)
 cover_plain f sets = plain_mapped (affirmed Ad ∷ []) (outside f) sets wanted.plain (outside_plain f)
@@ -199,11 +199,11 @@ cover_plain f sets = plain_mapped (affirmed Ad ∷ []) (outside f) sets wanted.p
 all_found : (f : Framework) (log : OracleLog) (limit : ℕ) (found : Preferred) (step : ℕ) → IsKept f log
     → AreFound f log found → length found.sets.items ≤ limit → Refutes f log (cover_claim f found.sets.items) step
     → IsAllPreferred f log limit found.sets.items step
-all_found (af f) log limit found step kept h room refuted =
+all_found f log limit found step kept h room refuted =
     let sets = found.sets.items in
-    let exact = all_preferred f sets kept.numbered (λ e c. preferred_admissible (af f) e (h.each e c))
-    (none_within (af f) sets h.each)
-    (claim_excluded (af f) log (cover_claim (af f) sets) step kept.form (cover_plain (af f) sets) refuted) in
+    let exact = all_preferred f sets kept.numbered (λ e c. preferred_admissible f e (h.each e c))
+    (none_within f sets h.each)
+    (claim_excluded f log (cover_claim f sets) step kept.form (cover_plain f sets) refuted) in
     record {
       each = h.each;
       all = exact.all;

@@ -280,7 +280,7 @@ range_grown f P before after old w range n grows h = record {
 -- ---- sets with the range
 
 among_in : (f : Framework) (w range x : List ℕ) → IsSetOf (IsRanged f w) range → IsAmong f Ad range x → IsRangeIn f w x
-among_in f w range x is among a h = among.ranged a ((is.members a).1 h)
+among_in (af f) w range x is among a h = among.ranged a ((is.members a).1 h)
 
 -- none of them is one of the sets before
 pub not_among : (f : Framework) (log : OracleLog) (old : Ranges) (w range : List ℕ) (n : ℕ)
@@ -309,8 +309,8 @@ group_same f log old w range x y n h left right =
 
 own_among : (f : Framework) (log : OracleLog) (old : Ranges) (w range : List ℕ) (n : ℕ)
     → IsNewRange f log old w range n → IsAmong f Ad range w
-own_among f log old w range n h = record {
-  has_mode = semi_admissible f w h.semi;
+own_among (af f) log old w range n h = record {
+  has_mode = semi_admissible (af f) w h.semi;
   ranged = λ a c. (h.is_range.members a).0 c;
 }
 
@@ -704,6 +704,20 @@ range_fits f h log set range widest same kept is found =
     (subst (λ (r : List ℕ). IsWithin r (members f)) (sym is)
     (range_within f widest.set widest.range (subst (λ (x : Framework). IsKept x log) same kept).numbered
     (admissible_members f widest.set found.has_mode) found.range))
+
+-- the grown set has its range
+has_its_range : (f : Framework) (log : OracleLog) (set : List ℕ) (widest : Widest) → IsWidestFrom f log Ad set widest
+    → IsAmong f Ad widest.range widest.set
+has_its_range (af f) log set widest found = record {
+  has_mode = found.has_mode;
+  ranged = λ a c. (found.range.members a).0 c;
+}
+
+pub range_known : (f h : Framework) (log : OracleLog) (set range : List ℕ) (widest : Widest) → h ≡ f
+    → range ≡ widest.range → IsWidestFrom f log Ad set widest → IsAmong h Ad range widest.set
+range_known f h log set range widest same is found =
+    subst (λ (x : Framework). IsAmong x Ad range widest.set) (sym same)
+    (subst (λ (r : List ℕ). IsAmong f Ad r widest.set) (sym is) (has_its_range f log set widest found))
 
 listed_all : (f h : Framework) (log : OracleLog) (range list : List ℕ) (room step : ℕ) (sets : Vec (List ℕ) Global)
     (r : Listed) → h ≡ f → range ≡ list → r ≡ Whole sets step → IsListedOrMore h log Ad range room r

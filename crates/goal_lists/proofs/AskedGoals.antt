@@ -22,6 +22,7 @@ use Rattle.meaning_atoms.specs.Worlds.{world_of, HoldsOf, Says, IsTrueAlone}
 use Rattle.certificate_claims.specs.Refutations.{Claim}
 use Rattle.certificate_claims.proofs.SetTests.{has_from, has_gives, ranged_from}
 use Rattle.certificate_claims.specs.SetLiterals.{has, is_ranged, members, are_in, are_out, are_ranged, outside, differs, wider, attacked}
+use Rattle.certificate_laws.proofs.KindFacts.{member_is, numbered_members}
 use Rattle.oracle_face.specs.Logs.{OracleLog, SideClause, IsNumberOf, IsSameClause, side_at}
 use Rattle.oracle_face.specs.Goals.{AreGoals, AsksSide, IsClaimSide, IsGoal, IsMode, IsOneSided, IsSide, IsWithinClaim, MakesTrue, SpeaksOf, Tells}
 use Rattle.oracle_face.proofs.StepTruth.{side_literals}
@@ -197,12 +198,9 @@ tells_more P Q all (Range a) true h = all a h
 tells_more P Q all (Tail a i) true h = (all a h.0, h.1)
 tells_more P Q all _ _ h = absurd h
 
-member_argument : (f : Framework) → IsNumbered f → (a : ℕ) → Contains (members f) a → IsArgument a
-member_argument (af f) ok a c = ok.live a c
-
 pub speaks_side : (f : Framework) (side : List AtomLit) → IsNumbered f → SpeaksOf f side → IsOneSided side → IsSide side
 speaks_side f side ok speaks one = record {
-  tells = λ l c. tells_more (Contains (members f)) IsArgument (member_argument f ok) l.atom l.positive (speaks l c);
+  tells = λ l c. tells_more (Contains (members f)) IsArgument (numbered_members f ok) l.atom l.positive (speaks l c);
   one_sided = one;
 }
 
@@ -322,9 +320,10 @@ asked_true f log goals set n side there is same makes =
 -- a set that makes the side clause `outside` of another true doesn't lie in it
 pub not_within : (f : Framework) (e set : List ℕ) → IsTrueAlone (world_of f set) (outside f e)
     → IsWithin set e → ⊥
-not_within (af f) e set t sub =
-    let m = outside_form (af f) e t.literal t.member in
-    m.2 (sub m.0 (subst (λ (k : AtomLit). Says k.positive (HoldsOf (af f) set k.atom)) (sym m.3) t.says))
+not_within f e set t sub =
+    let m = outside_form f e t.literal t.member in
+    m.2 (sub m.0 ((member_is f set m.0).0
+    (subst (λ (k : AtomLit). Says k.positive (HoldsOf f set k.atom)) (sym m.3) t.says)))
 
 -- a set that makes the side clause `wider` of another true has no range in the other's
 pub not_range_within : (f : Af) (e set : List ℕ) → IsTrueAlone (world_of (af f) set) (wider (af f) e)
@@ -337,12 +336,14 @@ not_range_within f e set t sub =
 -- a set that makes the side clause `differs` of another true hasn't its members
 pub not_same : (f : Framework) (e set : List ℕ) → IsTrueAlone (world_of f set) (differs f e)
     → HasSameMembers e set → ⊥
-not_same (af f) e set t same =
-    let Says_it : AtomLit → Type 0 = λ k. Says k.positive (HoldsOf (af f) set k.atom) in
+not_same f e set t same =
+    let Says_it : AtomLit → Type 0 = λ k. Says k.positive (HoldsOf f set k.atom) in
     ⊎_elim
-    (λ m. m.2 (same.back m.0 (subst Says_it (sym m.3) t.says)))
-    (λ m. let out : Contains set m.0 → ⊥ = subst Says_it (sym m.2) t.says in out (same.there m.0 m.1))
-    (differs_form (af f) e t.literal t.member)
+    (λ m. m.2 (same.back m.0 ((member_is f set m.0).0 (subst Says_it (sym m.3) t.says))))
+    (λ m.
+    let out : HoldsOf f set (Member m.0) → ⊥ = subst Says_it (sym m.2) t.says in
+    out ((member_is f set m.0).1 (same.there m.0 m.1)))
+    (differs_form f e t.literal t.member)
 
 -- a set that makes the side clause `attacked` of another true attacks a member of it
 pub attacks_one : (f : Af) (e set : List ℕ) → IsTrueAlone (world_of (af f) set) (attacked (af f) e)

@@ -21,6 +21,7 @@ use Rattle.meaning_atoms.specs.declared.atom.AtomLit.{AtomLit}
 use Rattle.meaning_atoms.specs.Literals.{affirmed, denied}
 use Rattle.meaning_atoms.specs.Worlds.{world_of, Holds, HoldsOf, Says}
 use Rattle.certificate_claims.specs.SetLiterals.{members}
+use Rattle.certificate_laws.proofs.KindFacts.{member_is, admissible_members as members_of}
 use Rattle.oracle_face.specs.declared.face.Found.{Found}
 use Rattle.oracle_face.specs.declared.face.Found.TheVariants.{Set, Refuted}
 use Rattle.oracle_face.specs.declared.face.Pending.{Pending}
@@ -149,24 +150,29 @@ found_mode f log mode ins outs ranged asks set moded makes =
 -- it has the members
 pub found_in : (f : Framework) (log : OracleLog) (mode : Atom) (ins outs ranged asks : List ℕ) (set : List ℕ)
     → MakesTrue f log (goals_of mode ins outs ranged asks) set → IsWithin ins set
-found_in (af f) log mode ins outs ranged asks set makes a c =
-    makes (affirmed (Member a)) (in_there mode ins outs ranged asks a c)
+found_in f log mode ins outs ranged asks set makes a c =
+    (member_is f set a).0 (makes (affirmed (Member a)) (in_there mode ins outs ranged asks a c))
 
 -- and none of those that it shall not have
 pub found_out : (f : Framework) (log : OracleLog) (mode : Atom) (ins outs ranged asks : List ℕ) (set : List ℕ)
     → MakesTrue f log (goals_of mode ins outs ranged asks) set → (a : ℕ) → Contains outs a → Contains set a → ⊥
-found_out (af f) log mode ins outs ranged asks set makes a c =
-    makes (denied (Member a)) (out_there mode ins outs ranged asks a c)
+found_out f log mode ins outs ranged asks set makes a c =
+    λ k. makes (denied (Member a)) (out_there mode ins outs ranged asks a c) ((member_is f set a).1 k)
 
--- and these are in its range
+-- and these are in its range, for an atom of the range that says so
+pub found_range : (f : Framework) (log : OracleLog) (mode : Atom) (ins outs ranged asks : List ℕ) (set : List ℕ)
+    → MakesTrue f log (goals_of mode ins outs ranged asks) set → (a : ℕ) → Contains ranged a → HoldsOf f set (Range a)
+found_range f log mode ins outs ranged asks set makes a c =
+    makes (affirmed (Range a)) (ranged_there mode ins outs ranged asks a c)
+
 pub found_ranged : (f : Af) (log : OracleLog) (mode : Atom) (ins outs ranged asks : List ℕ) (set : List ℕ)
     → MakesTrue (af f) log (goals_of mode ins outs ranged asks) set → (a : ℕ) → Contains ranged a → IsInRange f set a
 found_ranged f log mode ins outs ranged asks set makes a c =
-    makes (affirmed (Range a)) (ranged_there mode ins outs ranged asks a c)
+    found_range (af f) log mode ins outs ranged asks set makes a c
 
 -- an admissible set has members of the framework alone
 pub admissible_members : (f : Framework) (set : List ℕ) → HoldsOf f set Ad → IsWithin set (members f)
-admissible_members (af f) set h = h.conflict_free.live
+admissible_members f set h = members_of f set h
 
 -- ---- errors
 

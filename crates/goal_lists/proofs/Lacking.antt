@@ -1,14 +1,14 @@
 -- Literals of the numbers that a set lacks.
 use Rattle.std.proofs.Common.{◌≡◌, ℕ, ◌+◌, ◌<◌, Bool, true, false, not, List, [], ◌∷◌, ◌++◌, length, get_or, map, filter, take, ap, sym, ◌∙◌}
-use Rattle.std.specs.Cmp.{both_ways}
 use Rattle.std.proofs.lemmas.List.{append-nil, map-append, take_more}
 use Rattle.std.proofs.lemmas.List.Elements.{filter-append}
 use Rattle.plain_lists.specs.Members.{IsSetOf}
-use Rattle.semantics.specs.Frameworks.{Framework, af}
+use Rattle.semantics.specs.Frameworks.{Framework}
 use Rattle.certificate_claims.specs.SetLiterals.{has, is_ranged, members, wider, are_ranged}
 use Rattle.certificate_claims.proofs.RangeLists.{kept_alike}
-use Rattle.certificate_claims.proofs.SetTests.{has_from, has_gives, one_kept, one_lost, ranged_from, ranged_gives}
+use Rattle.certificate_claims.proofs.SetTests.{one_kept, one_lost}
 use Rattle.oracle_face.specs.Kinds.{IsRanged}
+use Rattle.goal_lists.proofs.GoalKinds.{range_test}
 
 -- the literal of a number is added, or the number is passed over
 pub said_one : {L : Type 0} (p : ℕ → Bool) (f : ℕ → L) (x : ℕ) (old new : List L) → p x ≡ true
@@ -28,14 +28,6 @@ said_more p f xs old new i lt so_far e =
     ∙ (sym (map-append f (filter p (take i xs)) (filter p (get_or xs i 0 ∷ [])))
     ∙ ap (map f) (sym (filter-append p (take i xs) (get_or xs i 0 ∷ []))
     ∙ ap (filter p) (sym (take_more xs i 0 lt)))))
-
--- the test of a range is its fact
-range_test : (f : Framework) (set range : List ℕ) (x : ℕ) → IsSetOf (IsRanged f set) range
-    → not (has range x) ≡ not (is_ranged f set x)
-range_test (af f) set range x h =
-    ap not (both_ways (has range x) (is_ranged (af f) set x)
-    (λ e. ranged_from f set x ((h.members x).0 (has_gives range x e)))
-    (λ e. has_from range x ((h.members x).1 (ranged_gives f set x e))))
 
 -- what a range lacks is outside the range
 pub lacks_range : (f : Framework) (set range : List ℕ) → IsSetOf (IsRanged f set) range

@@ -7,7 +7,7 @@ use Rattle.plain_lits.proofs.HintCheckLemmas.{Contains-mapped}
 use Rattle.plain_lits.specs.declared.halt.Halt.{Halt}
 use Rattle.semantics.specs.Frameworks.{Framework}
 use Rattle.meaning_atoms.specs.declared.atom.Atom.{Atom}
-use Rattle.meaning_atoms.specs.declared.atom.Atom.TheVariants.{Member, Range}
+use Rattle.meaning_atoms.specs.declared.atom.Atom.TheVariants.{Member, Range, Ask}
 use Rattle.meaning_atoms.specs.declared.atom.AtomLit.{AtomLit}
 use Rattle.meaning_atoms.specs.Literals.{affirmed, denied, AsksNothing}
 use Rattle.meaning_atoms.specs.Worlds.{world_of, IsTrueAlone}
@@ -128,16 +128,22 @@ pub asks_speak : (f : Framework) (side : List ℕ → List AtomLit) (sides : Lis
 asks_speak f side sides sets asks speaks h n c =
     let m = h.each n c in ask_speaks f sides (side m.0) n (speaks m.0 m.1) m.2
 
--- a set that makes them all true makes that of each set true
+-- a set that makes goals true, of which each of the side clauses is one, makes that of each set true
+pub asks_hold : (f : Framework) (log : OracleLog) (side : List ℕ → List AtomLit) (sets : List (List ℕ))
+    (goals : List AtomLit) (asks set : List ℕ) → ((n : ℕ) → Contains asks n → Contains goals (affirmed (Ask n)))
+    → AreAsksOf side log.sides sets asks → MakesTrue f log goals set → (e : List ℕ) → Contains sets e
+    → IsTrueAlone (world_of f set) (side e)
+asks_hold f log side sets goals asks set there h makes e c =
+    let m = h.all e c in
+    asked_true f log goals set m.0 (side e) (there m.0 m.1) m.2.number m.2.same makes
+
 pub asks_true : (f : Framework) (log : OracleLog) (side : List ℕ → List AtomLit) (sets : List (List ℕ)) (mode : Atom)
     (ins outs ranged asks : List ℕ) (set : List ℕ) → AreAsksOf side log.sides sets asks
     → MakesTrue f log (goals_of mode ins outs ranged asks) set → (e : List ℕ) → Contains sets e
     → IsTrueAlone (world_of f set) (side e)
 asks_true f log side sets mode ins outs ranged asks set h makes e c =
-    let m = h.all e c in
-    asked_true f log (goals_of mode ins outs ranged asks) set m.0 (side e) (asked_there mode ins outs ranged asks m.0
-    m.1)
-    m.2.number m.2.same makes
+    asks_hold f log side sets (goals_of mode ins outs ranged asks) asks set
+    (λ n k. asked_there mode ins outs ranged asks n k) h makes e c
 
 -- the claim's goals have what is asked beside them
 pub record HasWanted (goals : List AtomLit) (mode : Atom) (ins outs ranged : List ℕ) : Type 0 where

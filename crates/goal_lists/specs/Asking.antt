@@ -1,12 +1,15 @@
--- The goals of the loops: a mode, members and what are none, what is in the range, and side clauses.
+-- The goals of the loops: a mode, members and what are none, what is in the range, and side clauses; or a mode, that a
+-- query is accepted or isn't, and side clauses.
 use Rattle.std.specs.Prelude.{◌≡◌, ℕ, ◌<◌, Bool, true, false, List, ◌∷◌, ◌++◌, length, map, Contains, slice_index_or}
 use Rattle.plain_lists.specs.Members.{IsWithin}
 use Rattle.semantics.specs.Frameworks.{Framework}
 use Rattle.meaning_atoms.specs.declared.atom.Atom.{Atom}
-use Rattle.meaning_atoms.specs.declared.atom.Atom.TheVariants.{Member, Range, Cf, Ad, Co, St, Ask}
+use Rattle.meaning_atoms.specs.declared.atom.Atom.TheVariants.{Member, Range, Cf, Ad, Co, St, Der, Ask}
 use Rattle.meaning_atoms.specs.declared.atom.AtomLit.{AtomLit}
-use Rattle.meaning_atoms.specs.Literals.{affirmed}
-use Rattle.certificate_claims.specs.SetLiterals.{are_in, are_out, are_ranged, members}
+use Rattle.meaning_atoms.specs.declared.atom.Closure.TheVariants.{Own}
+use Rattle.meaning_atoms.specs.Literals.{affirmed, negated}
+use Rattle.certificate_claims.specs.SetLiterals.{goal, are_in, are_out, are_ranged, members}
+use Rattle.edit_rules.specs.Fitting.{IsKnown}
 use Rattle.oracle_face.specs.Goals.{IsMode, SpeaksOf}
 use Rattle.oracle_face.specs.Logs.{IsNumberOf, SideClause, side_at}
 
@@ -55,3 +58,31 @@ pub record IsAskableBeside (f : Framework) (mode : Atom) (ins outs ranged : List
   pub ranged_members : IsWithin ranged (members f)
   pub apart : (a : ℕ) → Contains ins a → Contains outs a → ⊥
   pub speaks : SpeaksOf f side
+
+-- ---- queries
+
+-- the atom that a set accepts a query, by whether the framework is assumption-based: that the set derives it, or that
+-- it is a member
+abbrev pub query_atom : Bool → ℕ → Atom
+query_atom true q = Der Own q
+query_atom false q = Member q
+
+-- the literal that a set accepts the query, or that it doesn't
+abbrev pub query_literal : Framework → ℕ → Bool → AtomLit
+query_literal f q true = goal f q
+query_literal f q false = negated (goal f q)
+
+-- a set of the mode of which the literal is true, and which makes the side clauses true
+abbrev pub goals_about : Atom → AtomLit → List ℕ → List AtomLit
+goals_about mode literal asks = affirmed mode ∷ literal ∷ are_asked asks
+
+-- a set of the mode that accepts the query or doesn't, and makes the side clauses true
+abbrev pub query_goals : Framework → Atom → ℕ → Bool → List ℕ → List AtomLit
+query_goals f mode q accepted asks = goals_about mode (query_literal f q accepted) asks
+
+-- such goals may be asked: what is asked about is there, and the side clauses are in the log and speak of members of
+-- the framework alone
+pub record IsAskableAbout (f : Framework) (sides : List SideClause) (mode : Atom) (q : ℕ) (asks : List ℕ) : Type 0 where
+  pub moded : IsMode mode
+  pub known : IsKnown f q
+  pub asked : (n : ℕ) → Contains asks n → IsNumberOf sides n × SpeaksOf f (side_at sides n).literals

@@ -7,4 +7,4 @@ mod search;
 
 pub use goals::{Wanted, goals_for};
 pub use lists::{affirmed, attacked, differs, outside, push_in, push_out, push_ranged, wider};
-pub use search::{search_beside, search_for};
+pub use search::{search_beside, search_for, search_query};

@@ -4,12 +4,12 @@ ghost use Rattle.std.specs.Prelude.{◌≡◌, IfOk};
 ghost use Rattle.oracle_face.specs.Goals.{IsSide};
 ghost use Rattle.oracle_face.specs.Growing.{HasRun, IsFound, NoSide, OnlySide, closes, halt_of};
 ghost use Rattle.oracle_face.specs.Logs.{IsKept};
-ghost use Rattle.goal_lists.specs.Asking.{IsAskable, IsAskableBeside, goals_of};
+ghost use Rattle.goal_lists.specs.Asking.{IsAskable, IsAskableAbout, IsAskableBeside, goals_of, query_goals};
 ghost use Rattle.goal_lists.specs.Sides.{IsFoundBeside};
 
-use crate::goals::{Wanted, goals_for};
+use crate::goals::{Wanted, goals_about, goals_for, query_literal};
 use meaning_atoms::{Atom, AtomLit};
-use oracle_face::{Budget, Found, Halt, Oracle};
+use oracle_face::{AskId, Budget, Found, Halt, Oracle};
 use set_lists::NumSet;
 use std::alloc::Global;
 
@@ -33,6 +33,32 @@ pub fn search_for<O: Oracle>(
 {
     let _members = oracle.members();
     let goals = goals_for(alloc, mode, wanted)?;
+    oracle.find(alloc, &goals, budget)
+}
+
+/// A set of the mode that accepts the query or, where `accepted` is false, doesn't, and makes the side clauses true; or
+/// the step that refutes that there is one. It asks the oracle once.
+pub fn search_query<O: Oracle>(
+    alloc: Global,
+    oracle: &mut O,
+    budget: &mut Budget,
+    mode: Atom,
+    query: u32,
+    accepted: bool,
+    asks: &[AskId],
+) -> Result<Found, Halt>
+    requires { IsAskableAbout (O.framework oracle.old) (O.log oracle.old).sides mode query asks.now }
+    ensures found { IfOk result (IsFound (O.framework oracle.old) (O.log oracle.new)
+        (query_goals (O.framework oracle.old) mode query accepted asks.now)) }
+    ensures run { HasRun NoSide (closes result) (O.framework oracle.old) (O.log oracle.old) (O.log oracle.new)
+        (O.pending oracle.new) budget.old budget.new (halt_of result) }
+    ensures framework { O.framework oracle.new ≡ O.framework oracle.old }
+    ensures kept { IsKept (O.framework oracle.new) (O.log oracle.new) }
+    ensures follows { O.follows oracle.old oracle.new }
+{
+    let _members = oracle.members();
+    let literal = query_literal(oracle.is_aba(), query, accepted);
+    let goals = goals_about(alloc, mode, literal, asks)?;
     oracle.find(alloc, &goals, budget)
 }
 

@@ -7,34 +7,23 @@ use Rattle.plain_lists.proofs.Membership.{Contains-cons_cases}
 use Rattle.plain_lists.proofs.Filters.{Contains-filter}
 use Rattle.plain_lists.specs.Members.{IsSetOf}
 use Rattle.plain_lits.proofs.HintCheckLemmas.{Contains-mapped}
-use Rattle.semantics.specs.Frameworks.{Framework, af, IsNumbered}
+use Rattle.semantics.specs.Frameworks.{Framework, IsNumbered}
 use Rattle.meaning_atoms.specs.declared.atom.Atom.{Atom}
-use Rattle.meaning_atoms.specs.declared.atom.Atom.TheVariants.{Member, Live, Attack, Gap, Tail, Unmet, Range, Cf, Ad, Co, St, Ask}
+use Rattle.meaning_atoms.specs.declared.atom.Atom.TheVariants.{Member, Live, Tail, Range, Cf, Ad, Co, St, Ask}
 use Rattle.meaning_atoms.specs.declared.atom.AtomLit.{AtomLit}
 use Rattle.meaning_atoms.specs.Literals.{affirmed, denied}
-use Rattle.meaning_atoms.specs.Worlds.{world_of, IsTrueAlone, HoldsLit, HoldsOf, IsFact, Says}
+use Rattle.meaning_atoms.specs.Worlds.{world_of, IsTrueAlone, HoldsLit, HoldsOf, Says}
 use Rattle.certificate_claims.specs.SetLiterals.{members}
 use Rattle.oracle_face.specs.Decoding.{IsDecoded, IsModelOf, IsReadBack, ReadsBack}
 use Rattle.oracle_face.specs.Goals.{AreGoals, IsGoal, MakesTrue, SpeaksOf, Tells}
 use Rattle.oracle_face.specs.Logs.{OracleLog, LogStep, SideClause, IsGiven, IsNumberOf, IsSameClause, Source, by_axiom, by_side, by_hints, guarded, literals_of, no_step, side_at, step_at, working}
 use Rattle.oracle_face.proofs.StepTruth.{side_literals}
-use Rattle.af_encoding.proofs.Readings.{model_reads_back}
 use Rattle.atom_solver.specs.States.{IsGuardedLog}
 use Rattle.atom_solver.specs.Searches.{AreUnfixed, Satisfies}
-use Rattle.oracle_face.specs.Kinds.{IsRanged}
-use Rattle.oracle_core.specs.Engines.{AreInForce, HasRange}
+use Rattle.oracle_core.specs.Engines.{AreInForce}
+use Rattle.oracle_core.proofs.EngineKinds.{reads_back, unfixed_goal}
 
 -- ---- goals
-
-unfixed_goal : (f : Framework) (sides : List SideClause) (atom : Atom) (positive : Bool) → IsGoal f sides atom positive
-    → IsFact f atom → ⊥
-unfixed_goal (af f) sides (Live a) true goal fact = goal
-unfixed_goal (af f) sides (Live a) false goal fact = goal
-unfixed_goal (af f) sides (Attack b a) true goal fact = goal
-unfixed_goal (af f) sides (Attack b a) false goal fact = goal
-unfixed_goal (af f) sides (Gap a i j) true goal fact = goal
-unfixed_goal (af f) sides (Gap a i j) false goal fact = goal
-unfixed_goal (af f) sides _ positive goal fact = absurd fact
 
 -- no goal is a fact
 pub unfixed_goals : (f : Framework) (sides : List SideClause) (goals : List AtomLit) → AreGoals f sides goals
@@ -58,10 +47,6 @@ model_of f log goals values force ok = record {
       let has = force name needed in
       ok.told has.clause l has.there (has.same.back l there) fact;
 }
-
-reads_back : (f : Framework) (values : List AtomLit) (set : List ℕ) → IsNumbered f → IsModelOf f values
-    → IsSetOf (IsDecoded Live values) set → ReadsBack f values set
-reads_back (af f) values set numbered model decoded = model_reads_back f values set numbered model decoded
 
 -- ---- side clauses
 
@@ -165,8 +150,3 @@ module _ (f : Framework) (log : OracleLog) (goals values : List AtomLit) (set : 
   -- the set makes each goal true
   pub makes_true : MakesTrue f log goals set
   makes_true = λ l there. goal_holds l.atom l.positive (are.each l there) (ok.met l there)
-
--- ---- ranges
-
-pub has_range : (f : Framework) (set range : List ℕ) → HasRange f set range → IsSetOf (IsRanged f set) range
-has_range (af f) set range h = h

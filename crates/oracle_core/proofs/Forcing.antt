@@ -9,10 +9,9 @@ use Rattle.plain_lists.proofs.Membership.{Contains-head, Contains-nil, Contains-
 use Rattle.plain_lits.specs.declared.halt.Halt.{Halt}
 use Rattle.plain_lits.specs.declared.halt.Halt.TheVariants.{Spent, LogFull, Memory}
 use Rattle.plain_lits.specs.Units.{Units}
-use Rattle.semantics.specs.Frameworks.{Framework, af}
+use Rattle.semantics.specs.Frameworks.{Framework}
 use Rattle.meaning_atoms.specs.declared.atom.AtomLit.{AtomLit}
 use Rattle.meaning_atoms.specs.declared.axiom.AxiomName.{AxiomName}
-use Rattle.meaning_atoms.specs.declared.axiom.AxiomName.TheVariants.{Af as OfAf, Aba as OfAba}
 use Rattle.certificate_claims.specs.Refutations.{IsAxiomOf}
 use Rattle.edit_rules.specs.Kinds.{framework_of}
 use Rattle.oracle_face.specs.Logs.{OracleLog, LogStep, by_axiom, clauses_of, is_unit, no_step, working, units_of, closings_of}
@@ -27,6 +26,7 @@ use Rattle.entry_taking.proofs.Naming.{named_grown}
 use Rattle.entry_taking.specs.declared.names.StepNames.{StepNames}
 use Rattle.entry_taking.specs.Names.{AreNamed}
 use Rattle.oracle_core.specs.Engines.{HasAxiom, AreInForce, AreUsedOrWait, IsWhole}
+use Rattle.oracle_core.proofs.EngineKinds.{axiom_named, no_loop}
 
 -- ---- what searches use
 
@@ -91,11 +91,6 @@ whole_named p s names whole guarded grows named = record {
 }
 
 -- ---- one axiom more
-
-no_loop : (f : Framework) (name : AxiomName) (clause : List AtomLit) → IsAxiomOf f name
-    → is_unit (own_step clause (by_axiom name)) ≡ false
-no_loop (af f) (OfAf name) clause is = refl
-no_loop (af f) (OfAba name) clause is = absurd is
 
 one_there : (old : List LogStep) (step : LogStep) (k : ℕ) → length old ≤ k → k < length (old ++ step ∷ [])
     → slice_index_or (old ++ step ∷ []) k no_step ≡ step
@@ -163,10 +158,6 @@ module _ (f : Framework) (name : AxiomName) (old new : AtomState) (is : IsAxiomO
   }
 
 -- ---- the loop over the axioms that wait
-
-axiom_named : (f : Framework) (name : AxiomName) → IsAxiomOf f name → IsOfAf name
-axiom_named (af f) (OfAf name) is = is
-axiom_named (af f) (OfAba name) is = is
 
 pub waiting_there : (p : Parts) (names : List AxiomName) (d : AxiomName) → names ≡ p.needed
     → p.taken < length p.needed → Contains p.needed (slice_index_or names p.taken d)

@@ -1,3 +1,4 @@
+pub mod EngineKinds
 pub mod GroundedLemmas
 pub mod Forcing
 pub mod EntriesTaken

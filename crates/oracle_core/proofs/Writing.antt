@@ -3,48 +3,39 @@ use Rattle.std.proofs.Common.{ℕ, ◌<◌, List, [], ◌∷◌, length, arith, 
 use Rattle.std.specs.Prelude.{Contains, All, slice_index_or}
 use Rattle.std.proofs.lemmas.List.{get_or_default}
 use Rattle.std.proofs.lemmas.List.Elements.{All-nil, All-cons}
-use Rattle.plain_lists.specs.Members.{IsWithin}
-use Rattle.semantics.specs.Framework.{Af}
-use Rattle.semantics.specs.Frameworks.{Framework, af, IsNumbered, IsNumberedAf}
+use Rattle.semantics.specs.Frameworks.{Framework, IsNumbered}
 use Rattle.iccma_tasks.specs.declared.answer.Answer.{Answer}
 use Rattle.iccma_tasks.specs.declared.answer.Answer.TheVariants.{Yes, No, Sets}
 use Rattle.iccma_tasks.specs.declared.task.Problem.{Problem}
 use Rattle.iccma_tasks.specs.declared.task.Problem.TheVariants.{Credulous, Sceptical, SomeExtension, AllExtensions}
 use Rattle.iccma_tasks.specs.declared.task.Semantics.{Semantics}
-use Rattle.iccma_tasks.specs.declared.task.Semantics.TheVariants.{Complete, Grounded, Preferred, Stable, SemiStable, Ideal}
 use Rattle.iccma_tasks.specs.Tasks.{Asked}
 use Rattle.iccma_tasks.specs.WrittenText.{HasArguments, IsWritable as IsWritableAnswer}
 use Rattle.certificate_claims.specs.declared.certificate.Certificate.{Certificate}
 use Rattle.certificate_claims.specs.Acceptance.{IsAccepted}
 use Rattle.certificate_claims.specs.Rights.{IsExtension, IsRightOf}
 use Rattle.certificate_text.specs.Written.{IsWritable}
+use Rattle.certificate_laws.proofs.ExtensionFacts.{extension_admissible}
+use Rattle.certificate_laws.proofs.KindFacts.{admissible_members, numbered_members}
 use Rattle.certificate_laws.proofs.Right.{accepted_right}
 use Rattle.oracle_core.specs.Answers.{IsShownBy}
-
--- extensions are of the framework's arguments
-are_live : (f : Af) (semantics : Semantics) (e : List ℕ) → IsExtension (af f) semantics e → IsWithin e f.live
-are_live f Complete e h = h.admissible.conflict_free.live
-are_live f Grounded e h = h.complete.admissible.conflict_free.live
-are_live f Preferred e h = h.admissible.conflict_free.live
-are_live f Stable e h = h.conflict_free.live
-are_live f SemiStable e h = h.admissible.conflict_free.live
-are_live f Ideal e h = h.in_all.admissible.conflict_free.live
 
 stands : {X : Type 0} (xs : List X) (k : ℕ) (d : X) → k < length xs → Contains xs (slice_index_or xs k d)
 stands xs k d lt = (k, lt, get_or_default xs k (slice_index_or xs k d) d lt)
 
-module _ (f : Af) (numbered : IsNumberedAf f) (semantics : Semantics) where
-  arguments : (e : List ℕ) → IsExtension (af f) semantics e → HasArguments e
-  arguments e h = λ k d lt. numbered.live (slice_index_or e k d)
-      (are_live f semantics e h (slice_index_or e k d) (stands e k d lt))
+module _ (f : Framework) (numbered : IsNumbered f) (semantics : Semantics) where
+  -- extensions are of the framework's numbers
+  arguments : (e : List ℕ) → IsExtension f semantics e → HasArguments e
+  arguments e h = λ k d lt. numbered_members f numbered (slice_index_or e k d)
+      (admissible_members f e (extension_admissible f semantics e numbered h) (slice_index_or e k d) (stands e k d lt))
 
-  all_arguments : (sets : List (List ℕ)) → ((e : List ℕ) → Contains sets e → IsExtension (af f) semantics e)
+  all_arguments : (sets : List (List ℕ)) → ((e : List ℕ) → Contains sets e → IsExtension f semantics e)
       → All HasArguments sets
   all_arguments sets each =
       λ k d lt. arguments (slice_index_or sets k d) (each (slice_index_or sets k d) (stands sets k d lt))
 
   written : (problem : Problem) (number : Option ℕ) (answer : Answer)
-      → IsRightOf (af f) problem semantics number answer → IsWritableAnswer answer
+      → IsRightOf f problem semantics number answer → IsWritableAnswer answer
   written Credulous (Some q) (Yes (Some e)) h = arguments e h.0
   written Credulous (Some q) (Yes None) h = tt
   written Credulous (Some q) (No None) h = tt
@@ -74,11 +65,6 @@ module _ (f : Af) (numbered : IsNumberedAf f) (semantics : Semantics) where
   written AllExtensions None (No None) h = tt
   written AllExtensions None (No (Some e)) h = absurd h
 
-written_any : (f : Framework) (asked : Asked) (answer : Answer) → IsNumbered f
-    → IsRightOf f asked.task.problem asked.task.semantics asked.number answer → IsWritableAnswer answer
-written_any (af f) asked answer numbered h =
-    written f numbered asked.task.semantics asked.task.problem asked.number answer h
-
 -- an answer with an accepted certificate that a text can hold is shown by it
 pub shown_by : (f : Framework) (asked : Asked) (answer : Answer) (certificate : Certificate) → IsNumbered f
     → IsAccepted f asked answer certificate → IsWritable certificate → IsShownBy f asked answer certificate
@@ -87,6 +73,6 @@ shown_by f asked answer certificate numbered accepted writable =
     record {
       right = right;
       accepted = accepted;
-      writable_answer = written_any f asked answer numbered right;
+      writable_answer = written f numbered asked.task.semantics asked.task.problem asked.number answer right;
       writable = writable;
     }

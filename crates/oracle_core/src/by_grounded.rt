@@ -1,11 +1,10 @@
 //! The queries that the grounded set answers.
 
-ghost use Rattle.std.specs.Prelude.{◌≡◌, ◌↔◌, [], ◌∷◌, IfOk, IfSome, IsNone, Some, false};
-ghost use Rattle.certificate_claims.specs.Rights.{IsExtension};
-ghost use Rattle.certificate_claims.specs.SetLiterals.{has};
+ghost use Rattle.std.specs.Prelude.{◌≡◌, ◌↔◌, [], ◌∷◌, IfOk, IfSome, IsNone, IsTrue, Some, false};
+ghost use Rattle.certificate_claims.specs.Rights.{Accepts, IsExtension};
 ghost use Rattle.iccma_tasks.specs.Tasks.{FitsTask};
 ghost use Rattle.edit_rules.specs.Kinds.{framework_of};
-ghost use Rattle.oracle_core.specs.Answers.{IsShownBy, answer_by, no_certificate};
+ghost use Rattle.oracle_core.specs.Answers.{IsAnswerBy, IsShownBy, answer_by, no_certificate};
 ghost use Rattle.query_answers.specs.Answers as answers;
 
 use crate::reply::Answered;
@@ -41,11 +40,13 @@ fn grounded_set(alloc: Global, framework: &Framework) -> Result<NumSet, Memory>
     }
 }
 
-/// Whether a set has a number.
-fn accepts(set: &NumSet, number: u32) -> bool
-    ensures { result ≡ has set.now number }
+/// Whether a set of a framework accepts a query: whether it has the argument.
+fn accepts(framework: &Framework, set: &NumSet, number: u32) -> bool
+    ensures { IsTrue result ↔ Accepts (framework_of framework.now) set.now number }
 {
-    set.contains(number)
+    match framework {
+        Framework::Af(_) => set.contains(number),
+    }
 }
 
 /// The list of one set.
@@ -57,22 +58,20 @@ fn alone(alloc: Global, set: NumSet) -> Result<Answer, Memory>
     Ok(Answer::Sets(sets))
 }
 
-/// The answer by the grounded set to whether all extensions accept a number.
-fn sceptical(grounded: NumSet, number: u32) -> Answer
-    ensures { result ≡ answer_by Problem.Sceptical (Some number) grounded }
+/// The answer by the grounded set, which accepts a number or doesn't, to whether all extensions accept it.
+fn sceptical(grounded: NumSet, number: u32, accepted: bool) -> Answer
+    ensures { result ≡ answer_by Problem.Sceptical (Some number) accepted grounded }
 {
-    let accepted = accepts(&grounded, number);
     if accepted {
         return Answer::Yes(None);
     }
     Answer::No(Some(grounded))
 }
 
-/// The answer by the grounded set to whether some extension accepts a number.
-fn credulous(grounded: NumSet, number: u32) -> Answer
-    ensures { result ≡ answer_by Problem.Credulous (Some number) grounded }
+/// The answer by the grounded set, which accepts a number or doesn't, to whether some extension accepts it.
+fn credulous(grounded: NumSet, number: u32, accepted: bool) -> Answer
+    ensures { result ≡ answer_by Problem.Credulous (Some number) accepted grounded }
 {
-    let accepted = accepts(&grounded, number);
     if accepted {
         return Answer::Yes(Some(grounded));
     }
@@ -82,16 +81,23 @@ fn credulous(grounded: NumSet, number: u32) -> Answer
 /// The answer by the grounded set.
 fn answer_of(
     alloc: Global,
+    framework: &Framework,
     problem: Problem,
     number: Option<u32>,
     grounded: NumSet,
 ) -> Result<Answer, Memory>
     requires { FitsTask problem number }
-    ensures { IfOk result (λ answer. answer ≡ answer_by problem number grounded) }
+    ensures { IfOk result (IsAnswerBy (framework_of framework.now) problem number grounded) }
 {
     match (problem, number) {
-        (Problem::Credulous, Some(number)) => Ok(credulous(grounded, number)),
-        (Problem::Sceptical, Some(number)) => Ok(sceptical(grounded, number)),
+        (Problem::Credulous, Some(number)) => {
+            let accepted = accepts(framework, &grounded, number);
+            Ok(credulous(grounded, number, accepted))
+        }
+        (Problem::Sceptical, Some(number)) => {
+            let accepted = accepts(framework, &grounded, number);
+            Ok(sceptical(grounded, number, accepted))
+        }
         _ => alone(alloc, grounded),
     }
 }
@@ -118,7 +124,7 @@ pub fn answer_by_grounded(
     }
     let _form = framework.kind();
     let grounded = grounded_set(alloc, framework)?;
-    let answer = answer_of(alloc, task.problem, query.number(), grounded)?;
+    let answer = answer_of(alloc, framework, task.problem, query.number(), grounded)?;
     let certificate = Certificate {
         sets: Items::new(alloc),
         refutations: Items::new(alloc),

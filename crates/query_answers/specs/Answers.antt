@@ -1,5 +1,5 @@
 -- What answers a query, and what shows that it does.
-use Rattle.std.specs.Prelude.{◌≡◌, ◌↔◌, ℕ, Bool, true, false, List, [], ◌∷◌, Option, Some, None, IsTrue}
+use Rattle.std.specs.Prelude.{◌≡◌, ◌↔◌, ℕ, Bool, true, false, List, Option, Some, None, IsTrue}
 use Rattle.plain_lists.specs.Members.{IsWithin}
 use Rattle.semantics.specs.Frameworks.{Framework}
 use Rattle.meaning_atoms.specs.declared.atom.Atom.TheVariants.{Ad}
@@ -7,7 +7,7 @@ use Rattle.meaning_atoms.specs.Worlds.{HoldsOf}
 use Rattle.iccma_tasks.specs.declared.task.Problem.{Problem}
 use Rattle.iccma_tasks.specs.declared.task.Problem.TheVariants.{Credulous, Sceptical, SomeExtension, AllExtensions}
 use Rattle.iccma_tasks.specs.declared.task.Semantics.{Semantics}
-use Rattle.iccma_tasks.specs.declared.task.Semantics.TheVariants.{Complete, Grounded, Preferred, Stable, SemiStable}
+use Rattle.iccma_tasks.specs.declared.task.Semantics.TheVariants.{Complete, Grounded, Preferred}
 use Rattle.iccma_tasks.specs.Tasks.{Asked, task_of}
 use Rattle.certificate_claims.specs.Acceptance.{Tests}
 use Rattle.certificate_claims.specs.Claims.{claims, row_of, sets_of}
@@ -80,10 +80,10 @@ pub record AsksAbout (f : Framework) (asked : Asked) (problem : Problem) (semant
     pub same : asked.task ≡ task_of problem semantics
     pub about : asked.number ≡ Some goal
 
--- the query for one semi-stable set
-pub record AsksSemiStable (f : Framework) (asked : Asked) : Type 0 where
+-- the query for one extension of a semantics
+pub record AsksSome (f : Framework) (asked : Asked) (semantics : Semantics) : Type 0 where
   pub fits : Fits f asked
-  pub same : asked.task ≡ task_of SomeExtension SemiStable
+  pub same : asked.task ≡ task_of SomeExtension semantics
 
 -- a set that accepts the number shows YES to DC, and one that doesn't shows NO to DS
 abbrev pub problem_of : Bool → Problem
@@ -91,19 +91,6 @@ problem_of true = Credulous
 problem_of false = Sceptical
 
 -- ---- what is searched for
-
--- a set with these members and without those shows the answer to such a query
-abbrev pub IsShownIn : Problem → Option ℕ → List ℕ → List ℕ → Type 0
-IsShownIn Credulous (Some q) ins outs = (ins ≡ q ∷ []) × (outs ≡ [])
-IsShownIn Sceptical (Some q) ins outs = (ins ≡ []) × (outs ≡ q ∷ [])
-IsShownIn SomeExtension None ins outs = (ins ≡ []) × (outs ≡ [])
-IsShownIn _ _ ins outs = ⊥
-
--- by a stable one
-pub record AsksStable (f : Framework) (asked : Asked) (ins outs : List ℕ) : Type 0 where
-  pub fits : Fits f asked
-  pub same : asked.task.semantics ≡ Stable
-  pub wanted : IsShownIn asked.task.problem asked.number ins outs
 
 -- an admissible set, if there is one
 abbrev pub IsAdmissibleIn : Framework → Found → Type 0

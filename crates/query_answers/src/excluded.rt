@@ -6,10 +6,10 @@ ghost use Rattle.iccma_tasks.specs.declared.task.Semantics.TheVariants.{Complete
 ghost use Rattle.oracle_face.specs.Growing.{HasRun, NoSide, halt_of};
 ghost use Rattle.oracle_face.specs.Logs.{IsKept};
 ghost use Rattle.session_log.specs.Ends.{MadeFor};
-ghost use Rattle.query_answers.specs.Answers.{AsksAbout, AsksBy, AsksStable, IsAdmissibleIn, IsCompleted, IsEvidence};
+ghost use Rattle.query_answers.specs.Answers.{AsksAbout, AsksBy, AsksSome, IsAdmissibleIn, IsCompleted, IsEvidence, problem_of};
 
 use crate::evidence::{Evidence, of_found};
-use goal_lists::{Wanted, search_for};
+use goal_lists::{Wanted, search_for, search_query};
 use iccma_tasks::{Problem, Query};
 use meaning_atoms::Atom;
 use oracle_face::{Budget, Found, Halt, Oracle};
@@ -34,26 +34,24 @@ pub(crate) fn stable<O: Oracle>(
 {
     let problem = query.task().problem;
     match query.number() {
-        None => stable_with(alloc, oracle, budget, query, &[], &[]),
+        None => stable_set(alloc, oracle, budget, query),
         Some(goal) => match problem {
-            Problem::Sceptical => stable_with(alloc, oracle, budget, query, &[], &[goal]),
+            Problem::Sceptical => stable_about(alloc, oracle, budget, query, goal, false),
             Problem::Credulous | Problem::SomeExtension | Problem::AllExtensions => {
-                stable_with(alloc, oracle, budget, query, &[goal], &[])
+                stable_about(alloc, oracle, budget, query, goal, true)
             }
         },
     }
 }
 
-/// A stable set with these members and without those shows the answer, or the step that refutes that there is one.
-fn stable_with<O: Oracle>(
+/// A stable set, or the step that refutes that there is one.
+fn stable_set<O: Oracle>(
     alloc: Global,
     oracle: &mut O,
     budget: &mut Budget,
     query: &Query,
-    ins: &[u32],
-    outs: &[u32],
 ) -> Result<Evidence, Halt>
-    requires { AsksStable (O.framework oracle.old) query.now ins.now outs.now }
+    requires { AsksSome (O.framework oracle.old) query.now Stable }
     ensures shown { IfOk result (IsEvidence (O.framework oracle.old) query.now (O.log oracle.new)) }
     ensures run { HasRun (MadeFor (O.framework oracle.old) query.now) (2 * length (O.log oracle.new).sides + 2)
         (O.framework oracle.old) (O.log oracle.old) (O.log oracle.new) (O.pending oracle.new) budget.old budget.new
@@ -62,13 +60,38 @@ fn stable_with<O: Oracle>(
     ensures kept { IsKept (O.framework oracle.new) (O.log oracle.new) }
     ensures follows { O.follows oracle.old oracle.new }
 {
+    let _number = query.number();
     let wanted = Wanted {
-        ins,
-        outs,
+        ins: &[],
+        outs: &[],
         ranged: &[],
         asks: &[],
     };
     let found = search_for(alloc, oracle, budget, Atom::St, &wanted)?;
+    let evidence = of_found(alloc, Problem::SomeExtension, found)?;
+    Ok(evidence)
+}
+
+/// A stable set that accepts the number, or where `accepted` is false, one that doesn't, shows the answer, or the step
+/// that refutes that there is one.
+fn stable_about<O: Oracle>(
+    alloc: Global,
+    oracle: &mut O,
+    budget: &mut Budget,
+    query: &Query,
+    goal: u32,
+    accepted: bool,
+) -> Result<Evidence, Halt>
+    requires { AsksAbout (O.framework oracle.old) query.now (problem_of accepted) Stable goal }
+    ensures shown { IfOk result (IsEvidence (O.framework oracle.old) query.now (O.log oracle.new)) }
+    ensures run { HasRun (MadeFor (O.framework oracle.old) query.now) (2 * length (O.log oracle.new).sides + 2)
+        (O.framework oracle.old) (O.log oracle.old) (O.log oracle.new) (O.pending oracle.new) budget.old budget.new
+        (halt_of result) }
+    ensures framework { O.framework oracle.new ≡ O.framework oracle.old }
+    ensures kept { IsKept (O.framework oracle.new) (O.log oracle.new) }
+    ensures follows { O.follows oracle.old oracle.new }
+{
+    let found = search_query(alloc, oracle, budget, Atom::St, goal, accepted, &[])?;
     let evidence = of_found(alloc, query.task().problem, found)?;
     Ok(evidence)
 }
@@ -113,13 +136,7 @@ fn complete_with<O: Oracle>(
     ensures kept { IsKept (O.framework oracle.new) (O.log oracle.new) }
     ensures follows { O.follows oracle.old oracle.new }
 {
-    let wanted = Wanted {
-        ins: &[goal],
-        outs: &[],
-        ranged: &[],
-        asks: &[],
-    };
-    let found = search_for(alloc, oracle, budget, Atom::Ad, &wanted)?;
+    let found = search_query(alloc, oracle, budget, Atom::Ad, goal, true, &[])?;
     let grown = completed(alloc, oracle, budget, found)?;
     let evidence = of_found(alloc, Problem::Credulous, grown)?;
     Ok(evidence)

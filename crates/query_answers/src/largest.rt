@@ -10,7 +10,7 @@ ghost use Rattle.query_answers.specs.Answers.{AsksAbout, AsksBy, BeginsLargest, 
 
 use crate::evidence::{Evidence, of_accepting, of_found, of_set};
 use cegar_preferred::{accept_all, maximal_from};
-use goal_lists::{Wanted, search_for};
+use goal_lists::search_query;
 use iccma_tasks::{Problem, Query};
 use meaning_atoms::Atom;
 use oracle_face::{Budget, Found, Halt, Oracle};
@@ -66,13 +66,7 @@ fn in_some<O: Oracle>(
     ensures kept { IsKept (O.framework oracle.new) (O.log oracle.new) }
     ensures follows { O.follows oracle.old oracle.new }
 {
-    let wanted = Wanted {
-        ins: &[goal],
-        outs: &[],
-        ranged: &[],
-        asks: &[],
-    };
-    match search_for(alloc, oracle, budget, Atom::Ad, &wanted)? {
+    match search_query(alloc, oracle, budget, Atom::Ad, goal, true, &[])? {
         Found::Set(set) => largest(alloc, oracle, budget, query, &set),
         Found::Refuted(step) => {
             let evidence = of_found(alloc, Problem::Credulous, Found::Refuted(step))?;

@@ -5,7 +5,7 @@ ghost use Rattle.iccma_tasks.specs.declared.task.Semantics.TheVariants.{SemiStab
 ghost use Rattle.oracle_face.specs.Growing.{HasRun, halt_of};
 ghost use Rattle.oracle_face.specs.Logs.{IsKept};
 ghost use Rattle.session_log.specs.Ends.{MadeFor};
-ghost use Rattle.query_answers.specs.Answers.{AsksAbout, AsksBy, AsksSemiStable, IsEvidence, problem_of};
+ghost use Rattle.query_answers.specs.Answers.{AsksAbout, AsksBy, AsksSome, IsEvidence, problem_of};
 
 use crate::evidence::{Evidence, of_deciding, of_set};
 use iccma_tasks::{Problem, Query};
@@ -51,7 +51,7 @@ fn semi_stable_set<O: Oracle>(
     budget: &mut Budget,
     query: &Query,
 ) -> Result<Evidence, Halt>
-    requires { AsksSemiStable (O.framework oracle.old) query.now }
+    requires { AsksSome (O.framework oracle.old) query.now SemiStable }
     ensures shown { IfOk result (IsEvidence (O.framework oracle.old) query.now (O.log oracle.new)) }
     ensures run { HasRun (MadeFor (O.framework oracle.old) query.now) (2 * length (O.log oracle.new).sides + 2)
         (O.framework oracle.old) (O.log oracle.old) (O.log oracle.new) (O.pending oracle.new) budget.old budget.new

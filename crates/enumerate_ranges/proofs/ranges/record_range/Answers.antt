@@ -2,7 +2,7 @@ use Rattle.std.proofs.Common.{◌+◌, ◌-◌, ◌≤◌, ap, length, refl, ari
 use Rattle.plain_lits.specs.declared.halt.Halt.TheVariants.{Memory}
 use Rattle.goal_lists.proofs.Calls.{makes_same, run_handed, then_refused}
 use Rattle.enumerate_ranges.specs.Ranges.{MadeForRanges}
-use Rattle.enumerate_ranges.proofs.RangeLemmas.{apart_grown, gains_grown, more_grown, range_fits, then_listed}
+use Rattle.enumerate_ranges.proofs.RangeLemmas.{apart_grown, gains_grown, more_grown, range_fits, range_known, then_listed}
 use Rattle.enumerate_ranges.proofs.ranges.record_range.Goals as goal
 
 pub all_with_range-requires-clause-range : goal.all_with_range-requires-clause-range
@@ -11,6 +11,12 @@ all_with_range-requires-clause-range g c =
     (g.O.Oracle.log c.grow_range.new.oracle) c.args.set.now c.as_slice.result.now c.in_ok-widest.widest
     c.in_ok-widest.ensures.framework c.in_ok-widest.ensures.kept c.as_slice.ensures.value
     c.in_ok-widest.ensures.grows.is_widest
+
+pub all_with_range-requires-clause-known : goal.all_with_range-requires-clause-known
+all_with_range-requires-clause-known g c =
+    range_known (g.O.Oracle.framework c.args.oracle.now) (g.O.Oracle.framework c.grow_range.new.oracle)
+    (g.O.Oracle.log c.grow_range.new.oracle) c.args.set.now c.as_slice.result.now c.in_ok-widest.widest
+    c.in_ok-widest.ensures.framework c.as_slice.ensures.value c.in_ok-widest.ensures.grows.is_widest
 
 pub returns-in_err-all_with_range-clause-run : goal.returns-in_err-all_with_range-clause-run
 returns-in_err-all_with_range-clause-run g c =

@@ -6,13 +6,11 @@ use Rattle.goal_lists.proofs.Calls.{run_handed}
 use Rattle.cegar_preferred.specs.Largest.{MadeOutside}
 use Rattle.query_answers.specs.Answers.{IsEvidence}
 use Rattle.query_answers.proofs.CallLemmas.{makes_largest, run_for, run_no_memory}
-use Rattle.query_answers.proofs.ExcludedLemmas.{about_member}
 use Rattle.query_answers.proofs.LargestLemmas.{sceptical_shown}
 use Rattle.query_answers.proofs.largest.in_each.Goals as goal
 
 pub accept_all-requires : goal.accept_all-requires
-accept_all-requires g c =
-    about_member (g.O.Oracle.framework c.args.oracle.now) c.args.query.now c.args.goal c.requires.fits c.requires.about
+accept_all-requires g c = c.requires.fits.known c.args.goal c.requires.about
 
 pub returns-in_err-accepting-clause-run : goal.returns-in_err-accepting-clause-run
 returns-in_err-accepting-clause-run g c =

@@ -5,16 +5,16 @@ use Rattle.iccma_tasks.specs.declared.task.Task.{Task}
 use Rattle.session_log.specs.Ends.{MadeFor}
 use Rattle.goal_lists.proofs.Calls.{run_handed}
 use Rattle.semi_stable.specs.Widest.{MadeWider}
-use Rattle.query_answers.specs.Answers.{IsEvidence}
+use Rattle.query_answers.specs.Answers.{IsEvidence, problem_of}
 use Rattle.query_answers.specs.Forms.{decided_evidence}
 use Rattle.query_answers.proofs.CallLemmas.{makes_widest, run_for, run_no_memory}
-use Rattle.query_answers.proofs.ExcludedLemmas.{about_member}
-use Rattle.query_answers.proofs.WidestLemmas.{semi_stable_shown}
+use Rattle.query_answers.proofs.WidestLemmas.{about_member, semi_stable_shown}
 use Rattle.query_answers.proofs.widest.decided.Goals as goal
 
 pub decide-requires : goal.decide-requires
 decide-requires g c =
-    about_member (g.O.Oracle.framework c.args.oracle.now) c.args.query.now c.args.goal c.requires.fits c.requires.about
+    about_member (g.O.Oracle.framework c.args.oracle.now) c.args.query.now (problem_of c.args.accepted) c.args.goal
+    c.requires
 
 pub returns-in_err-deciding-clause-run : goal.returns-in_err-deciding-clause-run
 returns-in_err-deciding-clause-run g c =

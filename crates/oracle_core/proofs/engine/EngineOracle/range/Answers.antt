@@ -4,7 +4,7 @@ use Rattle.plain_lists.specs.Members.{IsSetOf}
 use Rattle.edit_rules.specs.Kinds.{framework_of}
 use Rattle.oracle_face.specs.Kinds.{IsRanged}
 use Rattle.oracle_core.specs.Engines.{EngineState}
-use Rattle.oracle_core.proofs.Finding.{has_range}
+use Rattle.oracle_core.proofs.EngineKinds.{has_range}
 use Rattle.oracle_core.proofs.engine.EngineOracle.range.Goals as goal
 
 pub returns : goal.returns

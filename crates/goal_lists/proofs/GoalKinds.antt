@@ -1,0 +1,40 @@
+-- What of the goals depends on the kind of a framework, by cases on it; certificate_laws has the rest, in KindFacts.
+use Rattle.std.proofs.Common.{◌≡◌, ℕ, Bool, not, List, refl, ap}
+use Rattle.std.specs.Prelude.{Contains}
+use Rattle.std.specs.Cmp.{both_ways}
+use Rattle.plain_lists.specs.Members.{IsSetOf}
+use Rattle.semantics.specs.Frameworks.{Framework, af}
+use Rattle.meaning_atoms.specs.Literals.{affirmed}
+use Rattle.iccma_tasks.specs.declared.task.Problem.{Problem}
+use Rattle.iccma_tasks.specs.declared.task.Semantics.TheVariants.{SemiStable}
+use Rattle.iccma_tasks.specs.Tasks.{HasTask}
+use Rattle.certificate_claims.specs.SetLiterals.{goal, has, is_ranged, members}
+use Rattle.certificate_claims.proofs.SetTests.{has_from, has_gives, ranged_from, ranged_gives}
+use Rattle.oracle_face.specs.Goals.{IsGoal}
+use Rattle.oracle_face.specs.Kinds.{IsRanged, is_assumption_based}
+use Rattle.oracle_face.specs.Logs.{SideClause}
+use Rattle.edit_rules.specs.Fitting.{IsKnown}
+use Rattle.edit_rules.specs.Kinds.{kind_of}
+use Rattle.goal_lists.specs.Asking.{query_atom}
+
+-- the goal of a query is that of its kind
+pub goal_by_kind : (f : Framework) (q : ℕ) → goal f q ≡ affirmed (query_atom (is_assumption_based f) q)
+goal_by_kind (af f) q = refl
+
+-- and may be asked where what it asks about is there
+pub known_goal : (f : Framework) (sides : List SideClause) (q : ℕ) (positive : Bool) → IsKnown f q
+    → IsGoal f sides (goal f q).atom positive
+known_goal (af f) sides q positive known = known
+
+-- what is asked about by semi-stable sets is a member of the framework
+pub known_member : (f : Framework) (problem : Problem) (q : ℕ) → HasTask (kind_of f) problem SemiStable → IsKnown f q
+    → Contains (members f) q
+known_member (af f) problem q has known = known
+
+-- the test of a range is its fact
+pub range_test : (f : Framework) (set range : List ℕ) (x : ℕ) → IsSetOf (IsRanged f set) range
+    → not (has range x) ≡ not (is_ranged f set x)
+range_test (af f) set range x h =
+    ap not (both_ways (has range x) (is_ranged (af f) set x)
+    (λ e. ranged_from f set x ((h.members x).0 (has_gives range x e)))
+    (λ e. has_from range x ((h.members x).1 (ranged_gives f set x e))))
