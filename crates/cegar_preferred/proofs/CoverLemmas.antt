@@ -114,7 +114,8 @@ may_ask_uncovered f log q cover asks is known h =
 
 pub cover_plain : (f : Framework) (q : ℕ) (sets : List (List ℕ)) → IsPlain (cover_claim f q sets)
 cover_plain f q sets =
-    plain_mapped (affirmed Ad ∷ negated (goal f q) ∷ []) (outside f) sets (query_plain f Ad q false tt) (outside_plain f)
+    plain_mapped (affirmed Ad ∷ negated (goal f q) ∷ []) (outside f) sets (query_plain f Ad q false tt)
+    (outside_plain f)
 
 found_uncovered : (f : Framework) (log : OracleLog) (q : ℕ) (cover : Cover) → IsCover f log q cover → (found : Found)
     → IsFound f log (query_goals f Ad q false cover.asks) found → IsUncovered f log q cover found

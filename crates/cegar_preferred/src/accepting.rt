@@ -35,8 +35,8 @@ struct Cover {
     asks: Items<AskId>,
 }
 
-/// Whether all preferred sets accept a query, an argument or an atom of the framework. Where k preferred sets are found, it asks k + 1 times for a set that
-/// the cover lacks, besides what it asks to find them.
+/// Whether all preferred sets accept a query, an argument or an atom of the framework. Where k preferred sets are
+/// found, it asks k + 1 times for a set that the cover lacks, besides what it asks to find them.
 pub fn accept_all<O: Oracle>(
     alloc: Global,
     oracle: &mut O,

@@ -70,15 +70,18 @@ none_right : (f : Framework) (semantics : Semantics) (q : ℕ) (shown sets : Lis
     → Shows f (asked_of Credulous semantics (Some q)) (none_accepts f semantics q) shown sets
     → (e : List ℕ) → IsExtension f semantics e → Accepts f e q → ⊥
 none_right f Complete q shown sets h e is accepts =
-    no_such_set f Ad (goal f q) sets (λ x. x) (goal_asks_nothing f q) h.none e (admissible_world f e h.numbered (complete_extension_admissible f e is))
+    no_such_set f Ad (goal f q) sets (λ x. x) (goal_asks_nothing f q) h.none e
+    (admissible_world f e h.numbered (complete_extension_admissible f e is))
     (complete_extension_admissible f e is) ((goal_is f e q).1 accepts)
 none_right f Grounded q shown sets h e is accepts =
     let g = h.tests.grounded in g.2 (grounded_least f e g.0 q is (grounded_complete f g.0 g.1) accepts)
 none_right f Preferred q shown sets h e is accepts =
-    no_such_set f Ad (goal f q) sets (λ x. x) (goal_asks_nothing f q) h.none e (admissible_world f e h.numbered (preferred_admissible f e is))
+    no_such_set f Ad (goal f q) sets (λ x. x) (goal_asks_nothing f q) h.none e
+    (admissible_world f e h.numbered (preferred_admissible f e is))
     (preferred_admissible f e is) ((goal_is f e q).1 accepts)
 none_right f Stable q shown sets h e is accepts =
-    no_such_set f St (goal f q) sets (λ x. x) (goal_asks_nothing f q) h.none e (admissible_world f e h.numbered (stable_extension_admissible f e h.numbered is))
+    no_such_set f St (goal f q) sets (λ x. x) (goal_asks_nothing f q) h.none e
+    (admissible_world f e h.numbered (stable_extension_admissible f e h.numbered is))
     ((stable_is f e).0 is) ((goal_is f e q).1 accepts)
 none_right f SemiStable q shown sets h e is accepts =
     none_semi_stable f (goal f q) sets h.numbered (goal_asks_nothing f q) h.tests.each_set h.none e is
@@ -97,7 +100,8 @@ each_right f Preferred q shown sets h e is = is_covered f q sets h.numbered h.te
 each_right f Stable q shown sets h e is =
     ⊎_elim (λ accepts. accepts)
     (λ refuses. absurd (no_such_set f St (negated (goal f q)) sets (λ x. x) (goal_asks_nothing f q) h.none e
-    (admissible_world f e h.numbered (stable_extension_admissible f e h.numbered is)) ((stable_is f e).0 is) ((denied_is f e q).1 refuses)))
+    (admissible_world f e h.numbered (stable_extension_admissible f e h.numbered is)) ((stable_is f e).0 is)
+    ((denied_is f e q).1 refuses)))
     (decide_accepts f e q)
 each_right f SemiStable q shown sets h e is =
     ⊎_elim (λ accepts. accepts)
@@ -116,7 +120,8 @@ none_exist f problem Complete number shown sets h = absurd (h.tests.shape)
 none_exist f problem Grounded number shown sets h = absurd (h.tests.shape)
 none_exist f problem Preferred number shown sets h = absurd (h.tests.shape)
 none_exist f problem Stable number shown sets h =
-    λ e is. none_of_mode f St sets (λ x. x) h.none e (admissible_world f e h.numbered (stable_extension_admissible f e h.numbered is)) ((stable_is f e).0 is)
+    λ e is. none_of_mode f St sets (λ x. x) h.none e
+    (admissible_world f e h.numbered (stable_extension_admissible f e h.numbered is)) ((stable_is f e).0 is)
 none_exist f problem SemiStable number shown sets h = absurd (h.tests.shape)
 none_exist f problem Ideal number shown sets h = absurd (h.tests.shape)
 

@@ -71,7 +71,8 @@ query_plain f mode q accepted moded =
 
 -- ---- goals that an oracle may be asked
 
-about_form : (mode : Atom) (literal : AtomLit) (asks : List ℕ) (l : AtomLit) → Contains (goals_about mode literal asks) l
+about_form : (mode : Atom) (literal : AtomLit) (asks : List ℕ) (l : AtomLit)
+    → Contains (goals_about mode literal asks) l
     → (affirmed mode ≡ l) ⊎ ((literal ≡ l) ⊎ ((n : ℕ) × Contains asks n × (affirmed (Ask n) ≡ l)))
 about_form mode literal asks l c =
     ⊎_elim (λ e. inl e)
@@ -79,12 +80,14 @@ about_form mode literal asks l c =
     (Contains-cons_cases literal (are_asked asks) l more))
     (Contains-cons_cases (affirmed mode) (literal ∷ are_asked asks) l c)
 
-mode_there : (mode : Atom) (literal : AtomLit) (asks : List ℕ) → Contains (goals_about mode literal asks) (affirmed mode)
+mode_there : (mode : Atom) (literal : AtomLit) (asks : List ℕ)
+    → Contains (goals_about mode literal asks) (affirmed mode)
 mode_there mode literal asks = Contains-head (affirmed mode) (literal ∷ are_asked asks) (affirmed mode) refl
 
 literal_there : (mode : Atom) (literal : AtomLit) (asks : List ℕ) → Contains (goals_about mode literal asks) literal
 literal_there mode literal asks =
-    Contains-tail (affirmed mode) (literal ∷ are_asked asks) literal (Contains-head literal (are_asked asks) literal refl)
+    Contains-tail (affirmed mode) (literal ∷ are_asked asks) literal
+    (Contains-head literal (are_asked asks) literal refl)
 
 asked_there : (mode : Atom) (literal : AtomLit) (asks : List ℕ) (n : ℕ) → Contains asks n
     → Contains (goals_about mode literal asks) (affirmed (Ask n))
@@ -177,8 +180,9 @@ query_asks f log side sets mode q accepted asks set h makes e c =
     (asked_there mode (query_literal f q accepted) asks) h makes e c
 
 -- a step that refutes the goals refutes the claim of the sets' side clauses
-pub query_refuted : (f : Framework) (log : OracleLog) (side : List ℕ → List AtomLit) (sets : List (List ℕ)) (mode : Atom)
-    (q : ℕ) (accepted : Bool) (asks : List ℕ) (step : ℕ) → IsMode mode → AreAsksOf side log.sides sets asks
+pub query_refuted : (f : Framework) (log : OracleLog) (side : List ℕ → List AtomLit) (sets : List (List ℕ))
+    (mode : Atom) (q : ℕ) (accepted : Bool) (asks : List ℕ) (step : ℕ) → IsMode mode
+    → AreAsksOf side log.sides sets asks
     → RefutesGoals f log (query_goals f mode q accepted asks) step
     → Refutes f log (claim_of (affirmed mode ∷ query_literal f q accepted ∷ []) (map side sets)) step
 query_refuted f log side sets mode q accepted asks step moded h refuted =

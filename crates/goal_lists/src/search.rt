@@ -36,8 +36,9 @@ pub fn search_for<O: Oracle>(
     oracle.find(alloc, &goals, budget)
 }
 
-/// A set of the mode that accepts the query or, where `accepted` is false, doesn't, and makes the side clauses true; or
-/// the step that refutes that there is one. It asks the oracle once.
+/// A set of the mode that accepts the query, an argument or an atom of the framework, or where `accepted` is false, one
+/// that doesn't, and that makes the side clauses true; or the step that refutes that there is one. It asks the oracle
+/// once.
 pub fn search_query<O: Oracle>(
     alloc: Global,
     oracle: &mut O,
