@@ -25,10 +25,10 @@ pub record IsEffectOf (before after : Framework) (effect : Effect) : Type 0 wher
   pub taken : edit_outcome before edit ≡ Ok (after, effect)
 
 -- an edit of some framework led to this one, with this effect
-pub record IsEdited (after : Af) (effect : Effect) : Type 0 where
+pub record IsEdited (after : Framework) (effect : Effect) : Type 0 where
   pub before : Af
   pub form : IsNumberedAf before
-  pub of : IsEffectOf (af before) (af after) effect
+  pub of : IsEffectOf (af before) after effect
 
 -- the list has gained just the items of which P holds
 abbrev pub Gains : {X : Type 0} → (X → Type 0) → List X → List X → Type 0

@@ -22,7 +22,7 @@ use std::alloc::Global;
 /// lists of attackers, in time logarithmic in these for each attack that came or went. `Memory` says that an allocation
 /// was refused.
 pub fn changed(alloc: Global, plain: &AfPlain, effect: &Effect) -> Result<Items<AxiomName>, Memory>
-    requires { IsEdited plain.now effect.now }
+    requires { IsEdited (af plain.now) effect.now }
     ensures { IfOk result (λ names. (before : Af) → IsNumberedAf before → IsEffectOf (af before) (af plain.now) effect.now
         → (name : AName) → Contains names name ↔ IsCalledFor (af before) (af plain.now) name) }
 {
@@ -35,7 +35,7 @@ pub fn changed(alloc: Global, plain: &AfPlain, effect: &Effect) -> Result<Items<
 /// Adds the axioms that an edit calls for.
 fn push_changed(plain: &AfPlain, names: &mut Vec<AxiomName>, effect: &Effect) -> Result<(), Memory>
     requires form { IsNumberedAf plain.now }
-    requires effect { IsEdited plain.now effect.now }
+    requires effect { IsEdited (af plain.now) effect.now }
     ensures { OnOk result (GainsCalled plain.now effect.now names.old.items names.new.items) }
 {
     match &effect.edit {

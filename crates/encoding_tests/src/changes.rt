@@ -1,8 +1,11 @@
 //! The axioms that edits call for, as they were worked out by hand.
 
+ghost use Rattle.edit_rules.specs.Kinds.{framework_of};
+ghost use Rattle.af_encoding.specs.Changes.{IsEdited};
+
 use af_encoding::changed;
 use dung_notions::AfPlain;
-use edit_rules::{Edit, EditFault, Framework, apply};
+use edit_rules::{Edit, EditFault, Effect, Framework, apply};
 use meaning_atoms::AfAxiom::{A1, A2, A3, A4, A5, A6, A7, A8, A9, A10, A11, A12, A13};
 use meaning_atoms::{AfAxiom, AxiomName};
 use plain_lists::{Items, Memory};
@@ -92,9 +95,7 @@ fn edit_of(change: Change) -> Edit {
 /// Whether the list has just the row's axioms.
 fn are(names: &[AxiomName], row: &[AfAxiom]) -> bool {
     names.len() == row.len()
-        && row
-            .iter()
-            .all(|name| names.iter().any(|other| *other == AxiomName::Af(*name)))
+        && row.iter().all(|name| names.iter().any(|other| *other == AxiomName::Af(*name)))
 }
 
 /// The axioms that an edit of a framework calls for.
@@ -102,8 +103,19 @@ fn called(alloc: Global, plain: AfPlain, edit: &Edit) -> Result<Items<AxiomName>
     let _live = plain.live();
     let mut framework = Framework::Af(plain);
     let effect = apply(alloc, &mut framework, edit)?;
+    called_behind(alloc, &framework, &effect)
+}
+
+/// The axioms that an edit called for, by the framework behind it.
+fn called_behind(
+    alloc: Global,
+    framework: &Framework,
+    effect: &Effect,
+) -> Result<Items<AxiomName>, EditFault>
+    requires { IsEdited (framework_of framework.now) effect.now }
+{
     match framework {
-        Framework::Af(after) => Ok(changed(alloc, &after, &effect)?),
+        Framework::Af(after) => Ok(changed(alloc, after, effect)?),
     }
 }
 

@@ -1,7 +1,8 @@
 use Rattle.encoding_tests.proofs.changes.called.Goals as goal
 
-pub changed-requires-clause-form : goal.changed-requires-clause-form
-changed-requires-clause-form c = c.live-_live.ensures.form
-
-pub changed-requires-clause-effect : goal.changed-requires-clause-effect
-changed-requires-clause-effect c = record { edit = c.args.edit.now; taken = ? }
+pub called_behind-requires : goal.called_behind-requires
+called_behind-requires c = record {
+  before = c.args.plain;
+  form = c.live-live.ensures.form;
+  of = record { edit = c.args.edit.now; taken = c.in_ok-effect.ensures.done };
+}
