@@ -13,9 +13,9 @@ use set_lists::NumSet;
 use std::alloc::Global;
 
 /// The set that literals are read as: each number that they affirm to be a member and to be an assumption. Where they
-/// are a model of the axioms that a framework needs, and nothing is missing ([`missing`](crate::missing)), the set has in
-/// that framework each mode that the model affirms ([`models_describe`](crate::laws::models_describe)). Numbers are put in
-/// order, and everything else takes time linear in the literals. `Memory` says that an allocation was refused.
+/// are a model of the axioms that a framework needs, and nothing is missing ([`missing`](crate::missing)), the set has
+/// in that framework each mode that the model affirms ([`models_describe`](crate::laws::models_describe)). Numbers are
+/// put in order, and everything else takes time linear in the literals. `Memory` says that an allocation was refused.
 pub fn decode(alloc: Global, values: &[AtomLit]) -> Result<NumSet, Memory>
     ensures { IfOk result (IsSetOf (IsDecoded Asm values.now)) }
 {

@@ -29,7 +29,8 @@ use std::alloc::Global;
 /// which it says the decoded set derives and which that set doesn't derive; or, where there is none, of the atoms which
 /// it says are derived from the assumptions that the decoded set doesn't attack. Only the framework's atoms are looked
 /// at. The clause is false under a model that is conflict-free and says of each atom whether it is a member. Time is
-/// linear in the literals and the framework, but for numbers that are put in order. `Memory` says that an allocation was refused.
+/// linear in the literals and the framework, but for numbers that are put in order. `Memory` says that an allocation
+/// was refused.
 pub fn missing(
     alloc: Global,
     plain: &AbaPlain,

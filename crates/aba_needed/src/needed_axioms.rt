@@ -19,8 +19,8 @@ use plain_lists::{Items, Memory};
 use std::alloc::Global;
 
 /// The axioms that a search needs of a framework, each once: a model of these axioms that derives nothing unfounded,
-/// and in which the framework's facts have their values, means a set of assumptions with each notion that the model calls
-/// true. Time and memory are linear in the assumptions, the atoms and the rules with their bodies: five axioms of all,
+/// and in which the framework's facts have their values, means a set of assumptions with each notion that the model
+/// calls true. Time and memory are linear in the assumptions, the atoms and the rules with their bodies: five axioms of all,
 /// seven of each assumption, five of each atom, six of each rule and four of each atom in a body. `Memory` says that an
 /// allocation was refused.
 pub fn needed(alloc: Global, plain: &AbaPlain) -> Result<Items<AxiomName>, Memory>
