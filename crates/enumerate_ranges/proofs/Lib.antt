@@ -1,3 +1,4 @@
+mod KnownRanges
 pub mod MarkLemmas
 pub mod RangeLemmas
 pub mod StepLemmas

@@ -705,20 +705,6 @@ range_fits f h log set range widest same kept is found =
     (range_within f widest.set widest.range (subst (λ (x : Framework). IsKept x log) same kept).numbered
     (admissible_members f widest.set found.has_mode) found.range))
 
--- the grown set has its range
-has_its_range : (f : Framework) (log : OracleLog) (set : List ℕ) (widest : Widest) → IsWidestFrom f log Ad set widest
-    → IsAmong f Ad widest.range widest.set
-has_its_range (af f) log set widest found = record {
-  has_mode = found.has_mode;
-  ranged = λ a c. (found.range.members a).0 c;
-}
-
-pub range_known : (f h : Framework) (log : OracleLog) (set range : List ℕ) (widest : Widest) → h ≡ f
-    → range ≡ widest.range → IsWidestFrom f log Ad set widest → IsAmong h Ad range widest.set
-range_known f h log set range widest same is found =
-    subst (λ (x : Framework). IsAmong x Ad range widest.set) (sym same)
-    (subst (λ (r : List ℕ). IsAmong f Ad r widest.set) (sym is) (has_its_range f log set widest found))
-
 listed_all : (f h : Framework) (log : OracleLog) (range list : List ℕ) (room step : ℕ) (sets : Vec (List ℕ) Global)
     (r : Listed) → h ≡ f → range ≡ list → r ≡ Whole sets step → IsListedOrMore h log Ad range room r
     → IsAllOf f log Ad list room sets.items step

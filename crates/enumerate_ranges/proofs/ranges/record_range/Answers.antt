@@ -2,7 +2,8 @@ use Rattle.std.proofs.Common.{◌+◌, ◌-◌, ◌≤◌, ap, length, refl, ari
 use Rattle.plain_lits.specs.declared.halt.Halt.TheVariants.{Memory}
 use Rattle.goal_lists.proofs.Calls.{makes_same, run_handed, then_refused}
 use Rattle.enumerate_ranges.specs.Ranges.{MadeForRanges}
-use Rattle.enumerate_ranges.proofs.RangeLemmas.{apart_grown, gains_grown, more_grown, range_fits, range_known, then_listed}
+use Rattle.enumerate_ranges.proofs.KnownRanges.{range_known}
+use Rattle.enumerate_ranges.proofs.RangeLemmas.{apart_grown, gains_grown, more_grown, range_fits, then_listed}
 use Rattle.enumerate_ranges.proofs.ranges.record_range.Goals as goal
 
 pub all_with_range-requires-clause-range : goal.all_with_range-requires-clause-range
