@@ -141,10 +141,12 @@ pub loss_calls : (f g : Af) → IsNumberedAf f → (b a : ℕ) → IsLostRow f g
     → IsCalledByLoss g b a name → IsCalledFor (af f) (af g) name
 loss_calls f g ok b a lost live (OfAf (A5 x k j)) h =
     let made = lost_step f g b a k j lost live h.1.0 h.1.1 in
-    subst (IsCalledFor (af f) (af g)) (same_three A5 a k j x k j h.0 refl refl) (record { needed = made.0; new = made.1 })
+    subst (IsCalledFor (af f) (af g)) (same_three A5 a k j x k j h.0 refl refl)
+    (record { needed = made.0; new = made.1 })
 loss_calls f g ok b a lost live (OfAf (A8 x k j)) h =
     let made = lost_step f g b a k j lost live h.1.0 h.1.1 in
-    subst (IsCalledFor (af f) (af g)) (same_three A8 a k j x k j h.0 refl refl) (record { needed = made.0; new = made.1 })
+    subst (IsCalledFor (af f) (af g)) (same_three A8 a k j x k j h.0 refl refl)
+    (record { needed = made.0; new = made.1 })
 loss_calls f g ok b a lost live (OfAf (A6 x k)) h =
     let made = lost_end f g ok b a k lost live h.1.0 h.1.1 in
     subst (IsCalledFor (af f) (af g)) (same_two A6 a k x k h.0 refl) (record { needed = made.0; new = made.1 })
@@ -331,7 +333,8 @@ attack_calls f g b a gained low live name h =
 gained_start : (f g : Af) (b a i : ℕ) → IsGainedRow f g b a → (i ≡ b + 1 → ⊥) → IsWalkStart g a i → IsWalkStart f a i
 gained_start f g b a i gained other start =
     ⊎_elim (λ e. inl e)
-    (λ h. inr (h.0, (gained.others h.0 (λ (e : h.0 ≡ b). let is : i ≡ h.0 + 1 = h.2 in other (omega arith))).1 h.1, h.2))
+    (λ h. let apart : h.0 ≡ b → ⊥ = λ (e : h.0 ≡ b). let is : i ≡ h.0 + 1 = h.2 in other (omega arith) in
+    inr (h.0, (gained.others h.0 apart).1 h.1, h.2))
     start
 
 gained_gap : (f g : Af) (b a i j : ℕ) → IsGainedRow f g b a → HasGap g a i j → HasGap f a i j

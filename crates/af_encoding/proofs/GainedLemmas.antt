@@ -226,7 +226,8 @@ pairs_go f n i pairs d old mid new within before one name =
     let more = take_more pairs i d within in (
       λ c. ⊎_elim
           (λ k. ⊎_elim (λ o. inl o)
-          (λ q. inr (q.0, subst (λ ps. Contains ps q.0) (sym more) (Contains-append_left (take i pairs) (p ∷ []) q.0 q.1), q.2))
+          (λ q. let there = Contains-append_left (take i pairs) (p ∷ []) q.0 q.1 in
+          inr (q.0, subst (λ ps. Contains ps q.0) (sym more) there, q.2))
           ((before name).0 k))
           (λ h. inr (
             p,
@@ -259,7 +260,8 @@ pub on_called : (P : AxiomName → Type 0) (g : Af) (effect : Effect) (old new :
     → ((f : Af) → IsNumberedAf f → IsEffectOf (af f) (af g) effect → (name : AxiomName)
     → P name ↔ IsCalledFor (af f) (af g) name)
     → OnOk r (Gains P old new) → OnOk r (GainsCalled g effect old new)
-on_called P g effect old new (Ok done) same h = λ f ok of. gains_as P (IsCalledFor (af f) (af g)) old new (same f ok of) h
+on_called P g effect old new (Ok done) same h =
+    λ f ok of. gains_as P (IsCalledFor (af f) (af g)) old new (same f ok of) h
 on_called P g effect old new (Err memory) same h = h
 
 -- a list that was empty has what is called for

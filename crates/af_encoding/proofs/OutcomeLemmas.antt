@@ -238,7 +238,8 @@ own_edit f (RuleDrop r) after effect is = absurd (false≢true (ap is_ok is))
 pub taken_as : (f g : Af) (effect : Effect) (edit : Edit) → IsEffectOf (af f) (af g) effect → effect.edit ≡ edit
     → edit_outcome (af f) edit ≡ Ok (af g, effect)
 taken_as f g effect edit of is =
-    subst (λ e. edit_outcome (af f) e ≡ Ok (af g, effect)) (sym (own_edit f of.edit (af g) effect of.taken) ∙ is) of.taken
+    subst (λ e. edit_outcome (af f) e ≡ Ok (af g, effect)) (sym (own_edit f of.edit (af g) effect of.taken) ∙ is)
+    of.taken
 
 -- no edit of the other kind leads to an abstract framework
 pub never_taken : (f g : Af) (effect : Effect) (edit : Edit) → IsEffectOf (af f) (af g) effect → effect.edit ≡ edit

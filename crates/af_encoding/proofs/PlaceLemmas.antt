@@ -79,7 +79,8 @@ place_next f a b pairs n h part some fits =
     let low : 0 < n = ⊎_elim (λ e. absurd (some e)) (λ other. omega arith) (cases_eq n 0) in
     let last = cut.before (n - 1) (omega arith) (omega arith) in
     record {
-      start = inr ((slice_index_or pairs (n - 1) (0, 0)).1, (attack_at f a pairs h (n - 1) (0, 0) (omega arith)).1, refl);
+      start =
+          inr ((slice_index_or pairs (n - 1) (0, 0)).1, (attack_at f a pairs h (n - 1) (0, 0) (omega arith)).1, refl);
       order = omega arith;
       gap = λ x at late before.
           let k = index_of f a pairs h x at in

@@ -18,13 +18,13 @@ use plain_lists::{Items, Memory};
 use std::alloc::Global;
 
 /// The axioms that a search needs of a framework behind an edit and did not need before it. `plain` is the framework
-/// behind the edit, and `effect` what the edit did. They are found from the neighbours of what came or went in the rising
-/// lists of attackers, in time logarithmic in these for each attack that came or went. `Memory` says that an allocation
-/// was refused.
+/// behind the edit, and `effect` what the edit did. They are found from the neighbours of what came or went in the
+/// rising lists of attackers, in time logarithmic in these for each attack that came or went. `Memory` says that an
+/// allocation was refused.
 pub fn changed(alloc: Global, plain: &AfPlain, effect: &Effect) -> Result<Items<AxiomName>, Memory>
     requires { IsEdited (af plain.now) effect.now }
-    ensures { IfOk result (λ names. (before : Af) → IsNumberedAf before → IsEffectOf (af before) (af plain.now) effect.now
-        → (name : AName) → Contains names name ↔ IsCalledFor (af before) (af plain.now) name) }
+    ensures { IfOk result (λ names. (before : Af) → IsNumberedAf before
+        → IsEffectOf (af before) (af plain.now) effect.now → (name : AName) → Contains names name ↔ IsCalledFor (af before) (af plain.now) name) }
 {
     let _live = plain.live();
     let mut names = Vec::new(alloc);

@@ -9,8 +9,8 @@ use crate::task::Kind;
 use num_text::{Line, fields, lines, next_kept};
 
 /// The kind of framework that a text has: assumption-based exactly where the first line that isn't skipped has `p` and
-/// `aba` as its first two fields, and abstract else, also where the text is one of no framework. No line behind that one
-/// is read.
+/// `aba` as its first two fields, and abstract else, also where the text is one of no framework. No line behind that
+/// one is read.
 pub fn kind_of(bytes: &[u8]) -> Kind
     ensures aba { result ≡ Aba → IsAbaText bytes.now }
     ensures af { result ≡ Af → ¬ IsAbaText bytes.now }

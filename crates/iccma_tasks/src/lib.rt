@@ -1,5 +1,5 @@
-//! The tasks of the solver by their names, the queries that are made of them, the kind of framework that a text has, and
-//! the text of answers.
+//! The tasks of the solver by their names, the queries that are made of them, the kind of framework that a text has,
+//! and the text of answers.
 #![tactic(auto)]
 
 pub mod answer;

@@ -78,8 +78,8 @@ IsAsked f log e found = (n : ℕ) × IsAskOf log.sides (attacked f e) n
 
 -- ---- the search
 
--- the sets found so far, what they attack, and different side clauses, one for every two of them at least, of which each
--- has something that is attacked
+-- the sets found so far, what they attack, and different side clauses, one for every two of them at least, of which
+-- each has something that is attacked
 pub record IsSearch (f : Framework) (log : OracleLog) (others : List (List ℕ)) (hit : List ℕ) : Type 0 where
   pub admissible : (t : List ℕ) → Contains others t → HoldsOf f t Ad
   pub hits : IsSetOf (IsHit f others) hit

@@ -102,8 +102,8 @@ fn cut<O: Oracle>(
 }
 
 /// Takes a set that was grown to its end, and an admissible one that attacks it, as `cut` does. The ideal set lies in
-/// the grown one, so it holds nothing that this attacks; and without what it attacks there is nothing larger to be found
-/// later, which spares a third of the searches.
+/// the grown one, so it holds nothing that this attacks; and without what it attacks there is nothing larger to be
+/// found later, which spares a third of the searches.
 pub(crate) fn cut_grown<O: Oracle>(
     alloc: Global,
     oracle: &O,

@@ -24,8 +24,8 @@ pub struct IdealSet {
 }
 
 /// The ideal set. An admissible set is grown to its end. Where admissible sets attack it, it is cut down until none
-/// attacks what is left, and grown anew without what they and the grown set attack; where none does, it is ideal. With k
-/// such sets and n times that a set was cut down and grown, it asks k + n + 1 times for one, besides what it asks to
+/// attacks what is left, and grown anew without what they and the grown set attack; where none does, it is ideal. With
+/// k such sets and n times that a set was cut down and grown, it asks k + n + 1 times for one, besides what it asks to
 /// grow.
 pub fn ideal<O: Oracle>(
     alloc: Global,

@@ -188,12 +188,13 @@ prune-requires-clause-found g c =
     c.in_ok-free.ensures.run c.in_ok-free.ensures.largest c.in_ok-unattacked.ensures.run
     c.in_ok-unattacked.ensures.attacks c.in_ok-unattacked.ensures.asked c.in-Set.is
     (closes_set c.in_ok-unattacked.field-0 c.in-Set.other c.in-Set.is) in
-    let cut = subst (λ (w : Framework). IsCutBeside w c.in_ok-free.free.set c.in-Set.other c.loop-start.found c.cut_grown.new.found
-    c.in_ok-left-in-Set.left) same c.in_ok-left-in-Set.ensures in
+    let cut = subst (λ (w : Framework). IsCutBeside w c.in_ok-free.free.set c.in-Set.other c.loop-start.found
+    c.cut_grown.new.found c.in_ok-left-in-Set.left) same c.in_ok-left-in-Set.ensures in
     let searched = search_beside_cut f (g.O.Oracle.log c.attacker.new.oracle) c.loop-start.found c.cut_grown.new.found
     c.in_ok-free.free.set c.in-Set.other c.in_ok-left-in-Set.left turn.asked.searched turn.largest.is_free
     turn.asked.attacks.0 turn.asked.attacks.1 turn.asked.asked cut in
-    subst (λ (w : Framework). AreAttackers w (g.O.Oracle.log c.attacker.new.oracle) c.cut_grown.new.found) (sym same) searched
+    subst (λ (w : Framework). AreAttackers w (g.O.Oracle.log c.attacker.new.oracle) c.cut_grown.new.found) (sym same)
+    searched
 
 pub returns-in_err-start-in-Set-clause-run : goal.returns-in_err-start-in-Set-clause-run
 returns-in_err-start-in-Set-clause-run g c =
@@ -232,8 +233,8 @@ loop-start-smaller g c =
     c.in_ok-free.ensures.run c.in_ok-free.ensures.largest c.in_ok-unattacked.ensures.run
     c.in_ok-unattacked.ensures.attacks c.in_ok-unattacked.ensures.asked c.in-Set.is
     (closes_set c.in_ok-unattacked.field-0 c.in-Set.other c.in-Set.is) in
-    let cut = subst (λ (w : Framework). IsCutBeside w c.in_ok-free.free.set c.in-Set.other c.loop-start.found c.cut_grown.new.found
-    c.in_ok-left-in-Set.left) same c.in_ok-left-in-Set.ensures in
+    let cut = subst (λ (w : Framework). IsCutBeside w c.in_ok-free.free.set c.in-Set.other c.loop-start.found
+    c.cut_grown.new.found c.in_ok-left-in-Set.left) same c.in_ok-left-in-Set.ensures in
     let numbered = subst (λ (w : Framework). IsNumbered w) inv.framework inv.kept.numbered in
     let pruned = subst (λ (w : Framework). IsPruned w (g.O.Oracle.log c.prune.new.oracle) c.cut_grown.new.found
     c.prune.new.found c.in_ok-start-in-Set.start) same c.in_ok-start-in-Set.ensures.pruned in
@@ -254,8 +255,8 @@ loop-start-preserved g c =
     c.in_ok-free.ensures.run c.in_ok-free.ensures.largest c.in_ok-unattacked.ensures.run
     c.in_ok-unattacked.ensures.attacks c.in_ok-unattacked.ensures.asked c.in-Set.is
     (closes_set c.in_ok-unattacked.field-0 c.in-Set.other c.in-Set.is) in
-    let cut = subst (λ (w : Framework). IsCutBeside w c.in_ok-free.free.set c.in-Set.other c.loop-start.found c.cut_grown.new.found
-    c.in_ok-left-in-Set.left) same c.in_ok-left-in-Set.ensures in
+    let cut = subst (λ (w : Framework). IsCutBeside w c.in_ok-free.free.set c.in-Set.other c.loop-start.found
+    c.cut_grown.new.found c.in_ok-left-in-Set.left) same c.in_ok-left-in-Set.ensures in
     let pruned = subst (λ (w : Framework). IsPruned w (g.O.Oracle.log c.prune.new.oracle) c.cut_grown.new.found
     c.prune.new.found c.in_ok-start-in-Set.start) same c.in_ok-start-in-Set.ensures.pruned in
     record {
@@ -265,7 +266,8 @@ loop-start-preserved g c =
           (length c.loop-start.found.sets + 1 + 0) 1 (length c.prune.new.found.sets) _ _ _ _ _ _ _ _ _ same
           (omega (
             arith,
-            two_more f c.in_ok-free.free.set c.in-Set.other c.in_ok-left-in-Set.left c.loop-start.found c.cut_grown.new.found cut,
+            two_more f c.in_ok-free.free.set c.in-Set.other c.in_ok-left-in-Set.left c.loop-start.found
+                c.cut_grown.new.found cut,
             pruned.more,
           ))
           turn.asked.ran c.in_ok-start-in-Set.ensures.run;
