@@ -8,6 +8,7 @@ use Rattle.aba_semantics.specs.Rules.{Rule, Derives, given as from_given, by_rul
 use Rattle.aba_laws.proofs.AbaLemmas.{aba_lawful, decide_attacks}
 use Rattle.aba_laws.proofs.CollectiveSets.{defends_by_rest, rest_of}
 use Rattle.aba_laws.proofs.DerivationLemmas.{derives_more}
+use Rattle.semantics.specs.Frameworks.{aba}
 use Rattle.meaning_atoms.specs.declared.atom.Atom.TheVariants.{Member, Asm, Con, Head, HGap, Body, BGap, Der, Miss, Sup}
 use Rattle.meaning_atoms.specs.declared.atom.Atom.TheVariants.{Cf, Ad, Co, St}
 use Rattle.meaning_atoms.specs.declared.atom.Closure.{Closure}
@@ -17,7 +18,7 @@ use Rattle.meaning_atoms.specs.declared.aba_axiom.AbaAxiom.{AbaAxiom}
 use Rattle.meaning_atoms.specs.declared.aba_axiom.AbaAxiom.TheVariants.{B1, B2, B3, B4, B5, B6, B7, B8, B9, B9Con, B10, B11, B12, B13, B14, B15}
 use Rattle.meaning_atoms.specs.AbaReadings.{IsInClosure, MissesAtom}
 use Rattle.meaning_atoms.specs.Literals.{affirmed}
-use Rattle.meaning_atoms.specs.Worlds.{aba_world, IsAbaWorld, IsTrueBeside}
+use Rattle.meaning_atoms.specs.Worlds.{world_of, IsAbaWorld, IsTrueBeside}
 use Rattle.meaning_atoms.proofs.Clauses.{so, or_else, given}
 use Rattle.af_axioms.proofs.AbaRows.{IsValidOfAba}
 use Rattle.aba_axioms.specs.AbaTable.{aba_clause, given_atom}
@@ -39,17 +40,17 @@ use Rattle.aba_axioms.proofs.FrameworkLemmas.{
 
 pub members_are_assumptions : (a : ℕ) → IsValidOfAba (aba_clause (B1 a))
 members_are_assumptions a f s ok sides =
-    let w = aba_world f s in
+    let w = world_of (aba f) s in
     given w sides Cf _ (λ free. given w sides (Member a) _ (λ member. so w sides (Asm a) [] (free.live a member)))
 
 pub members_follow : (a : ℕ) → IsValidOfAba (aba_clause (B2 a))
 members_follow a f s ok sides =
-    let w = aba_world f s in
+    let w = world_of (aba f) s in
     given w sides (Member a) _ (λ member. so w sides (Der Own a) [] (from_given a member))
 
 pub rest_is_unattacked : (a c : ℕ) → IsValidOfAba (aba_clause (B3 a c))
 rest_is_unattacked a c f s ok sides =
-    let w = aba_world f s in
+    let w = world_of (aba f) s in
     let form = ok.framework.form in
     given w sides (Con a c) _ (λ con. or_else w sides (Der Own c) _ (λ none. so w sides (Der Rest a) []
     (from_given a (record {
@@ -59,14 +60,14 @@ rest_is_unattacked a c f s ok sides =
 
 pub nothing_is_no_atom : (k : Closure) → IsValidOfAba (aba_clause (B4 k))
 nothing_is_no_atom k f s ok sides =
-    let w = aba_world f s in
+    let w = world_of (aba f) s in
     given w sides (Der k 0) [] (λ derived.
     let low = derived_low f ok.framework.form (IsGivenIn f s k) (given_low f s k ok) 0 (of_closure f s k 0 derived) in
     absurd (omega arith))
 
 pub heads_follow : (k : Closure) (r h : ℕ) → IsValidOfAba (aba_clause (B5 k r h))
 heads_follow k r h f s ok sides =
-    let w = aba_world f s in
+    let w = world_of (aba f) s in
     given w sides (Head r h) _ (λ head. or_else w sides (Miss k r 1) _ (λ none. so w sides (Der k h) []
     (subst (λ x. IsInClosure f s k x) head.says (head_follows f s k head.rule head.there
     (unmissed f s k head.rule (ok.framework.form.rules_are head.rule head.there)
@@ -74,7 +75,7 @@ heads_follow k r h f s ok sides =
 
 pub bodies_are_missed : (k : Closure) (r x : ℕ) → IsValidOfAba (aba_clause (B6 k r x))
 bodies_are_missed k r x f s ok sides =
-    let w = aba_world f s in
+    let w = world_of (aba f) s in
     given w sides (Body r x) _ (λ body. or_else w sides (Der k x) _ (λ none. so w sides (Miss k r 1) []
     (record {
       rule = body.rule;
@@ -90,7 +91,7 @@ bodies_are_missed k r x f s ok sides =
 
 pub miss_steps : (k : Closure) (r i j : ℕ) → IsValidOfAba (aba_clause (B7 k r i j))
 miss_steps k r i j f s ok sides =
-    let w = aba_world f s in
+    let w = world_of (aba f) s in
     given w sides (Miss k r i) _ (λ miss. given w sides (BGap r i j) _ (λ gap. given w sides (Der k j) _ (λ derived.
     let same = same_rule f ok.framework.form miss.rule gap.rule miss.there gap.there (miss.numbered ∙ sym gap.numbered) in
     let m = miss.says in
@@ -110,7 +111,7 @@ miss_steps k r i j f s ok sides =
 
 pub miss_ends : (k : Closure) (r i : ℕ) → IsValidOfAba (aba_clause (B8 k r i))
 miss_ends k r i f s ok sides =
-    let w = aba_world f s in
+    let w = world_of (aba f) s in
     given w sides (Miss k r i) _ (λ miss. given w sides (BGap r i 1000001) _ (λ gap.
     let same = same_rule f ok.framework.form miss.rule gap.rule miss.there gap.there (miss.numbered ∙ sym gap.numbered) in
     let m = miss.says in
@@ -119,20 +120,20 @@ miss_ends k r i f s ok sides =
     absurd (gap.says m.missed (subst (λ (q : Rule). Contains q.body m.missed) same m.member) m.late (omega arith))))
 
 derived_is_given : (f : Aba) (s : List ℕ) (k : Closure) (x : ℕ) (sides : List (List AtomLit)) → IsGivenIn f s k x
-    → (rest : List AtomLit) → IsTrueBeside (aba_world f s) sides (affirmed (given_atom k x) ∷ rest)
-derived_is_given f s Own x sides c rest = so (aba_world f s) sides (Member x) rest c
-derived_is_given f s Rest x sides u rest = so (aba_world f s) sides (Asm x) rest u.live
+    → (rest : List AtomLit) → IsTrueBeside (world_of (aba f) s) sides (affirmed (given_atom k x) ∷ rest)
+derived_is_given f s Own x sides c rest = so (world_of (aba f) s) sides (Member x) rest c
+derived_is_given f s Rest x sides u rest = so (world_of (aba f) s) sides (Asm x) rest u.live
 
 pub derived_has_support : (k : Closure) (x : ℕ) → IsValidOfAba (aba_clause (B9 k x))
 derived_has_support k x f s ok sides =
-    let w = aba_world f s in
+    let w = world_of (aba f) s in
     given w sides (Der k x) _ (λ derived. by_last k (of_closure f s k x derived))
   where
     supported : (k : Closure) (r : Rule) → Contains f.rules r → r.head ≡ x
         → ((y : ℕ) → Contains r.body y → Derives f.rules (IsGivenIn f s k) y)
-        → IsTrueBeside (aba_world f s) sides (affirmed (given_atom k x) ∷ affirmed (Sup k x 1) ∷ [])
+        → IsTrueBeside (world_of (aba f) s) sides (affirmed (given_atom k x) ∷ affirmed (Sup k x 1) ∷ [])
     supported k r there head body =
-        or_else (aba_world f s) sides (given_atom k x) _ (λ out. so (aba_world f s) sides (Sup k x 1) []
+        or_else (world_of (aba f) s) sides (given_atom k x) _ (λ out. so (world_of (aba f) s) sides (Sup k x 1) []
         (record {
           rule = r;
           there = there;
@@ -142,13 +143,13 @@ derived_has_support k x f s ok sides =
         }))
 
     by_last : (k : Closure) → Derives f.rules (IsGivenIn f s k) x
-        → IsTrueBeside (aba_world f s) sides (affirmed (given_atom k x) ∷ affirmed (Sup k x 1) ∷ [])
+        → IsTrueBeside (world_of (aba f) s) sides (affirmed (given_atom k x) ∷ affirmed (Sup k x 1) ∷ [])
     by_last k (from_given _ p) = derived_is_given f s k x sides p _
     by_last k (by_rule r _ there head body) = supported k r there head body
 
 pub rest_is_quiet : (a c : ℕ) → IsValidOfAba (aba_clause (B9Con a c))
 rest_is_quiet a c f s ok sides =
-    let w = aba_world f s in
+    let w = world_of (aba f) s in
     let form = ok.framework.form in
     given w sides (Der Rest a) _ (λ rest. given w sides (Con a c) _ (λ con. given w sides (Der Own c) _ (λ derived.
     absurd ((assumption_given f form (IsUnattacked (collective_of f) s) a (has_assumption f form a c con) rest).quiet
@@ -156,7 +157,7 @@ rest_is_quiet a c f s ok sides =
 
 pub support_steps : (k : Closure) (x i j : ℕ) → IsValidOfAba (aba_clause (B10 k x i j))
 support_steps k x i j f s ok sides =
-    let w = aba_world f s in
+    let w = world_of (aba f) s in
     given w sides (Sup k x i) _ (λ sup. given w sides (HGap x i j) _ (λ gap. given w sides (Miss k j 1) _ (λ miss.
     let late = sup.late in
     ⊎_elim (λ below. absurd (gap sup.rule sup.there sup.head sup.late below))
@@ -177,7 +178,7 @@ support_steps k x i j f s ok sides =
 
 pub support_ends : (k : Closure) (x i : ℕ) → IsValidOfAba (aba_clause (B11 k x i))
 support_ends k x i f s ok sides =
-    let w = aba_world f s in
+    let w = world_of (aba f) s in
     given w sides (Sup k x i) _ (λ sup. given w sides (HGap x i 1000001) _ (λ gap.
     let under = (ok.framework.form.rules_are sup.rule sup.there).given in
     let most = ok.framework.rules in
@@ -185,14 +186,14 @@ support_ends k x i f s ok sides =
 
 pub members_are_apart : (a c : ℕ) → IsValidOfAba (aba_clause (B12 a c))
 members_are_apart a c f s ok sides =
-    let w = aba_world f s in
+    let w = world_of (aba f) s in
     given w sides Cf _ (λ free. given w sides (Con a c) _ (λ con. given w sides (Member a) _ (λ member.
     given w sides (Der Own c) _ (λ derived.
     absurd (free.apart a member (attacks_by f ok.framework.form s a c con derived))))))
 
 pub rest_attacks_no_member : (a c : ℕ) → IsValidOfAba (aba_clause (B13 a c))
 rest_attacks_no_member a c f s ok sides =
-    let w = aba_world f s in
+    let w = world_of (aba f) s in
     given w sides Ad _ (λ ad. given w sides (Con a c) _ (λ con. given w sides (Member a) _ (λ member.
     given w sides (Der Rest c) _ (λ derived.
     let rest = rest_derives f s c derived in
@@ -202,7 +203,7 @@ rest_attacks_no_member a c f s ok sides =
 
 pub defended_are_members : (a c : ℕ) → IsValidOfAba (aba_clause (B14 a c))
 defended_are_members a c f s ok sides =
-    let w = aba_world f s in
+    let w = world_of (aba f) s in
     let form = ok.framework.form in
     let d = collective_of f in
     given w sides Co _ (λ co. given w sides (Con a c) _ (λ con. or_else w sides (Der Rest c) _ (λ none.
@@ -215,7 +216,7 @@ defended_are_members a c f s ok sides =
 
 pub outsiders_are_attacked : (a c : ℕ) → IsValidOfAba (aba_clause (B15 a c))
 outsiders_are_attacked a c f s ok sides =
-    let w = aba_world f s in
+    let w = world_of (aba f) s in
     let form = ok.framework.form in
     given w sides St _ (λ st. given w sides (Con a c) _ (λ con. or_else w sides (Member a) _ (λ out.
     so w sides (Der Own c) []

@@ -9,7 +9,7 @@ use Rattle.plain_lits.proofs.HintCheckLemmas.{Contains-mapped}
 use Rattle.aba_semantics.specs.AbaFrameworks.{Aba}
 use Rattle.aba_semantics.specs.Rules.{Rule, Derives, given as from_given, by_rule}
 use Rattle.semantics.specs.Framework.{Af}
-use Rattle.semantics.specs.Frameworks.{af}
+use Rattle.semantics.specs.Frameworks.{af, aba}
 use Rattle.meaning_atoms.specs.declared.atom.Atom.{Atom}
 use Rattle.meaning_atoms.specs.declared.atom.Atom.TheVariants.{Member, Asm, HGap, Body, Der, Miss}
 use Rattle.meaning_atoms.specs.declared.atom.Closure.{Closure}
@@ -19,7 +19,7 @@ use Rattle.meaning_atoms.specs.declared.loop_rows.LoopRow.{LoopRow}
 use Rattle.meaning_atoms.specs.AbaAxioms.{IsLoop, IsLoopAtom}
 use Rattle.meaning_atoms.specs.AbaReadings.{IsInClosure}
 use Rattle.meaning_atoms.specs.Literals.{affirmed, denied}
-use Rattle.meaning_atoms.specs.Worlds.{World, aba_world, world_of, Holds, HoldsLit, IsAbaWorld, IsAfWorld, IsTrueBeside}
+use Rattle.meaning_atoms.specs.Worlds.{World, world_of, Holds, HoldsLit, IsAbaWorld, IsAfWorld, IsTrueBeside}
 use Rattle.meaning_atoms.proofs.Valuations.{decide_atom, decide_true_beside}
 use Rattle.af_axioms.proofs.AbaRows.{IsValidOfAba}
 use Rattle.aba_axioms.specs.AbaTable.{filled_gap, given_atom, loop_clause, other_heads, pair_literal, row_literals}
@@ -125,16 +125,16 @@ denied_so w sides atom none = ⊎_elim (λ h. h) (λ no. absurd (none no)) (deci
 
 module _ (f : Aba) (s : List ℕ) (ok : IsAbaWorld f s) (sides : List (List AtomLit)) (k : Closure) (x : ℕ)
     (rows : List LoopRow) (loop : IsLoop x rows)
-    (none : IsFalseThere (aba_world f s) sides (loop_clause k x rows)) where
+    (none : IsFalseThere (world_of (aba f) s) sides (loop_clause k x rows)) where
   w : World
-  w = aba_world f s
+  w = world_of (aba f) s
 
   not_given : (y : ℕ) → IsLoopAtom rows y → IsGivenIn f s k y → ⊥
   not_given y at c =
       none (affirmed (given_atom k at.row.atom)) (has_given k x rows at.row at.member) (given_says k y at.is c)
     where
       given_says : (k : Closure) (y : ℕ) → at.row.atom ≡ y → IsGivenIn f s k y
-          → HoldsLit (aba_world f s) sides (affirmed (given_atom k at.row.atom))
+          → HoldsLit (world_of (aba f) s) sides (affirmed (given_atom k at.row.atom))
       given_says Own y e c = subst (λ z. Contains s z) (sym e) c
       given_says Rest y e u = subst (λ z. Contains f.assumptions z) (sym e) u.live
 
@@ -148,7 +148,7 @@ module _ (f : Aba) (s : List ℕ) (ok : IsAbaWorld f s) (sides : List (List Atom
       let most = ok.framework.rules in
       pair_of row.pairs r.number (walk row.atom 1 r.number (map (λ (p : ℕ × ℕ). p.0) row.pairs) low (omega arith)
       (λ j m gap inside.
-      denied_so (aba_world f s) sides (HGap row.atom j m)
+      denied_so (world_of (aba f) s) sides (HGap row.atom j m)
       (none (denied (HGap row.atom j m)) (has_gap k x rows row (denied (HGap row.atom j m)) c gap))
       r there head inside.0 inside.1))
 
@@ -160,7 +160,7 @@ module _ (f : Aba) (s : List ℕ) (ok : IsAbaWorld f s) (sides : List (List Atom
   blocked : (row : LoopRow) → Contains rows row → (r : Rule) → Contains f.rules r → (p : ℕ × ℕ) → Contains row.pairs p
       → p.0 ≡ r.number → Blocks r p.1
   blocked row c r there (n, zero) d e =
-      let miss = denied_so (aba_world f s) sides (Miss k n 1)
+      let miss = denied_so (world_of (aba f) s) sides (Miss k n 1)
       (none (denied (Miss k n 1)) (has_pair k x rows row (n, zero) c d)) in
       let same = same_rule f ok.framework.form miss.rule r miss.there there (miss.numbered ∙ e) in (
         miss.says.missed,
@@ -168,7 +168,7 @@ module _ (f : Aba) (s : List ℕ) (ok : IsAbaWorld f s) (sides : List (List Atom
         miss.says.outside,
       )
   blocked row c r there (n, suc y) d e =
-      let body = denied_so (aba_world f s) sides (Body n (suc y))
+      let body = denied_so (world_of (aba f) s) sides (Body n (suc y))
       (none (denied (Body n (suc y)))
       (subst (λ l. Contains (loop_clause k x rows) l) (other_pair k n y) (has_pair k x rows row (n, suc y) c d))) in
       let same = same_rule f ok.framework.form body.rule r body.there there (body.numbered ∙ e) in (
@@ -194,7 +194,7 @@ module _ (f : Aba) (s : List ℕ) (ok : IsAbaWorld f s) (sides : List (List Atom
 
 pub loop_of_aba : (k : Closure) (x : ℕ) (rows : List LoopRow) → IsLoop x rows → IsValidOfAba (loop_clause k x rows)
 loop_of_aba k x rows loop f s ok sides =
-    let w = aba_world f s in
+    let w = world_of (aba f) s in
     let clause = loop_clause k x rows in
     ⊎_elim (λ h. h)
     (λ no.

@@ -1,12 +1,12 @@
 -- Every row of the table is true in every world of both kinds.
 use Rattle.std.proofs.Common.{ℕ, List}
-use Rattle.semantics.specs.Frameworks.{af}
+use Rattle.semantics.specs.Frameworks.{Framework, af, aba}
 use Rattle.meaning_atoms.specs.declared.atom.AtomLit.{AtomLit}
 use Rattle.meaning_atoms.specs.declared.aba_axiom.AbaAxiom.{AbaAxiom}
 use Rattle.meaning_atoms.specs.declared.aba_axiom.AbaAxiom.TheVariants.{B1, B2, B3, B4, B5, B6, B7, B8, B9, B9Con, B10, B11, B12, B13, B14, B15, B16, B17}
 use Rattle.meaning_atoms.specs.declared.axiom.AfAxiom.TheVariants.{A14}
 use Rattle.meaning_atoms.specs.AbaAxioms.{IsAbaAxiom}
-use Rattle.meaning_atoms.specs.Worlds.{AnyFramework, solved, aba, world_of, IsTrueBeside, IsValid, IsWorldIn}
+use Rattle.meaning_atoms.specs.Worlds.{world_of, IsTrueBeside, IsValid, IsWorldOf}
 use Rattle.af_axioms.proofs.AbaRows.{IsValidOfAba, notions_imply}
 use Rattle.af_axioms.proofs.Rows.{rows_are_valid}
 use Rattle.aba_axioms.specs.AbaTable.{aba_clause}
@@ -71,9 +71,9 @@ rows_of_af (B15 a c) fits = b15 a c
 rows_of_af (B16 part) fits = λ f s ok sides. rows_are_valid (A14 part) (world_of (af f) s) ok sides
 rows_of_af (B17 k x rows) fits = loop_of_af k x rows fits
 
-rows_of : (name : AbaAxiom) → IsAbaAxiom name → (f : AnyFramework) (s : List ℕ) → IsWorldIn f s
+rows_of : (name : AbaAxiom) → IsAbaAxiom name → (f : Framework) (s : List ℕ) → IsWorldOf f s
     → (sides : List (List AtomLit)) → IsTrueBeside (record { framework = f; set = s }) sides (aba_clause name)
-rows_of name fits (solved (af f)) s ok sides = rows_of_af name fits f s ok sides
+rows_of name fits (af f) s ok sides = rows_of_af name fits f s ok sides
 rows_of name fits (aba f) s ok sides = rows_of_aba name fits f s ok sides
 
 pub clauses_are_valid : (name : AbaAxiom) → IsAbaAxiom name → IsValid (aba_clause name)

@@ -4,8 +4,7 @@ use Rattle.std.specs.Prelude.{Contains, ◌⊎◌, ◌==◌}
 use Rattle.plain_lists.specs.Members.{IsSetOf}
 use Rattle.aba_semantics.specs.AbaFrameworks.{Aba, IsNumberedAba}
 use Rattle.aba_notions.specs.declared.rule_table.RuleLists.{RuleLists}
-use Rattle.edit_rules.proofs.RowForms.{joined_number}
-use Rattle.edit_rules.proofs.SameFrameworks.{equal_members}
+use Rattle.edit_words.proofs.NumberLists.{joined_number, equal_members}
 use Rattle.aba_edits.specs.AbaEdits.{next_rule, rules_but, without_contrary}
 use Rattle.aba_edits.specs.AbaEdits.{aba_with_assumption, aba_without_assumption, aba_with_contrary, aba_with_rule, aba_without_rule}
 use Rattle.aba_edits.specs.Parts.{AreListsOf}

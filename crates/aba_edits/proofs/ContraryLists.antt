@@ -7,9 +7,9 @@ use Rattle.std.proofs.lemmas.List.{map-append}
 use Rattle.std.proofs.lemmas.List.Elements.{Contains-append_cases, Contains-append_left, Contains-append_right, Contains-push_cases}
 use Rattle.plain_lists.proofs.Filters.{Contains-filter}
 use Rattle.plain_lists.proofs.Membership.{Contains-head, Contains-tail, Contains-cons_cases, Contains-pushed}
-use Rattle.edit_rules.specs.Edits.{with_number}
-use Rattle.edit_rules.proofs.EditTests.{is_false}
-use Rattle.edit_rules.proofs.RowForms.{with_number_is}
+use Rattle.edit_words.specs.Numbers.{with_number}
+use Rattle.edit_words.proofs.EditTests.{is_false}
+use Rattle.edit_words.proofs.NumberLists.{with_number_is}
 use Rattle.aba_edits.specs.AbaEdits.{with_contrary, without_contrary}
 
 kept_step : {X Y : Type 0} (b : Bool) (g : X → Y) (x : X) (ys : List Y) (xs : List X) → ys ≡ map g xs

@@ -1,58 +1,39 @@
 -- What the framework and the effect behind an edit tell of the framework before.
-use Rattle.std.proofs.Common.{Ok, ◌≡◌, ◌<◌, ◌+◌, ℕ, true, Bool, not, List, [], ◌∷◌, ◌++◌, length, take, sym, ap, subst, ◌∙◌, arith, ⊎_elim, inl, false, refl}
-use Rattle.std.specs.Prelude.{Contains, ◌==◌, filter, is_ok}
+use Rattle.std.proofs.Common.{Ok, ◌≡◌, ◌<◌, ◌+◌, ℕ, not, List, [], ◌∷◌, ◌++◌, length, take, sym, ap, subst, ◌∙◌, arith, ⊎_elim, inl, false, refl}
+use Rattle.std.specs.Prelude.{Contains, ◌==◌, is_ok}
 use Rattle.std.specs.List.Sorted.{IsStrictlyIncreasing}
-use Rattle.std.proofs.lemmas.Bool.{false≢true, cases_eq, cond_both, eqb-true, not-false, not_from_false}
+use Rattle.std.proofs.lemmas.Bool.{false≢true, cases_eq, eqb-true, not-false}
 use Rattle.std.proofs.Math.Seq.{take-append_seam}
 use Rattle.std.proofs.lemmas.List.{length_push}
-use Rattle.plain_lists.proofs.Filters.{Contains-filter}
 use Rattle.aba_laws.proofs.Images.{image_there, image_from}
 use Rattle.aba_semantics.specs.Rules.{Rule}
 use Rattle.aba_semantics.specs.AbaFrameworks.{Aba, IsNumberedAba}
 use Rattle.aba_notions.proofs.FormLemmas.{same_rising}
-use Rattle.edit_rules.specs.declared.edit.Edit.{Edit}
-use Rattle.edit_rules.specs.declared.edit.Edit.TheVariants.{ArgAdd, ArgDrop, AttackAdd, AttackDrop, AsmAdd, AsmDrop, ConSet, RuleAdd, RuleDrop}
-use Rattle.edit_rules.specs.declared.effect.Effect.{Effect}
-use Rattle.edit_rules.specs.Edits.{has_number, with_number}
-use Rattle.edit_rules.proofs.EditTests.{number_there, same_pair}
-use Rattle.edit_rules.proofs.RisingLists.{same_lists}
-use Rattle.edit_rules.proofs.RowForms.{with_number_members}
-use Rattle.aba_edits.specs.AbaEdits.{AbaRow, NoneStands, aba_outcome, aba_row_outcome, contrary_of, next_rule, numbers_of}
+use Rattle.edit_words.specs.declared.edit.Edit.{Edit}
+use Rattle.edit_words.specs.declared.edit.Edit.TheVariants.{ArgAdd, ArgDrop, AttackAdd, AttackDrop, AsmAdd, AsmDrop, ConSet, RuleAdd, RuleDrop}
+use Rattle.edit_words.specs.declared.effect.Effect.{Effect}
+use Rattle.edit_words.specs.Numbers.{has_number}
+use Rattle.edit_words.proofs.EditTests.{absent, number_there, same_pair}
+use Rattle.edit_words.proofs.RisingLists.{same_lists}
+use Rattle.edit_words.proofs.NumberLists.{from_parts, without_number}
+use Rattle.edit_words.specs.Refusals.{NoneStands}
+use Rattle.aba_edits.specs.AbaEdits.{AbaRow, aba_outcome, aba_row_outcome, contrary_of, next_rule, numbers_of}
 use Rattle.aba_edits.specs.AbaEdits.{rule_numbered, second_in, with_contrary, without_contrary}
 use Rattle.aba_edits.specs.AbaEdits.{aba_with_assumption, aba_without_assumption, aba_with_contrary, aba_with_rule, aba_without_rule}
 use Rattle.aba_edits.specs.AbaEdits.{assumption_added, assumption_dropped, contrary_set, rule_added, rule_dropped}
-use Rattle.aba_edits.proofs.Refusals.{done_row, each_passes}
+use Rattle.edit_words.proofs.RefusalLemmas.{done_row, each_passes}
 use Rattle.aba_edits.proofs.ContraryLists.{with_contrary_members, without_contrary_members}
-use Rattle.aba_edits.proofs.RowForms.{absent}
 use Rattle.aba_edits.proofs.MadeFrameworks.{keys_asymmetric, keys_rise, same_aba, same_contraries, same_key, same_rule}
 use Rattle.aba_edits.proofs.RuleLists.{find_one, numbered_is}
 
--- ---- lists
-
--- a number that wasn't there goes again
-without_number : (n : ℕ) (xs ys : List ℕ) → with_number n xs ≡ with_number n ys → (Contains xs n → ⊥)
-    → (x : ℕ) → Contains xs x → Contains ys x
-without_number n xs ys same free x c =
-    ⊎_elim (λ h. h) (λ (e : x ≡ n). absurd (free (subst (Contains xs) e c)))
-    ((with_number_members n ys x).0 (subst (λ zs. Contains zs x) same ((with_number_members n xs x).1 (inl c))))
-
--- what a filter keeps of two lists is the same, and so is the rest: they have the same members
-from_parts : {X : Type 0} (test : X → Bool) (xs ys : List X)
-    → filter (λ x. not (test x)) xs ≡ filter (λ x. not (test x)) ys
-    → ((x : X) → Contains xs x → test x ≡ true → Contains ys x) → (x : X) → Contains xs x → Contains ys x
-from_parts test xs ys kept gone x c =
-    cond_both (test x) x x (λ _. Contains ys x) (λ t. gone x c t)
-    (λ f. ((Contains-filter (λ x. not (test x)) ys x).0
-    (subst (λ zs. Contains zs x) kept ((Contains-filter (λ x. not (test x)) xs x).1 (c, not_from_false (test x) f)))).0)
-
 -- ---- contraries
 
-contrary_is : (f : Aba) (a c : ℕ) → IsNumberedAba f → Contains f.contraries (a, c) → contrary_of f.contraries a ≡ c
+pub contrary_is : (f : Aba) (a c : ℕ) → IsNumberedAba f → Contains f.contraries (a, c) → contrary_of f.contraries a ≡ c
 contrary_is f a c ok h = ap second_in (find_one (λ (p : ℕ × ℕ). p.0) f.contraries (a, c) a
     (λ q d is. same_key (λ (p : ℕ × ℕ). p.0) f.contraries q (a, c)
     (subst IsStrictlyIncreasing (sym ok.form.one_contrary) ok.form.assumptions_rise) d h is) h refl)
 
-contrary_there : (f : Aba) (a : ℕ) → IsNumberedAba f → Contains f.assumptions a
+pub contrary_there : (f : Aba) (a : ℕ) → IsNumberedAba f → Contains f.assumptions a
     → Contains f.contraries (a, contrary_of f.contraries a)
 contrary_there f a ok c =
     let from = image_from (λ (p : ℕ × ℕ). p.0) f.contraries a

@@ -3,12 +3,13 @@ use Rattle.std.proofs.Common.{Ok, ◌≡◌, ◌≤◌, ap, subst, arith}
 use Rattle.std.specs.Prelude.{is_ok}
 use Rattle.std.proofs.lemmas.Bool.{false≢true}
 use Rattle.aba_semantics.specs.AbaFrameworks.{Aba, IsNumberedAba}
-use Rattle.edit_rules.specs.declared.edit.Edit.{Edit}
-use Rattle.edit_rules.specs.declared.edit.Edit.TheVariants.{ArgAdd, ArgDrop, AttackAdd, AttackDrop, AsmAdd, AsmDrop, ConSet, RuleAdd, RuleDrop}
-use Rattle.edit_rules.specs.declared.effect.Effect.{Effect}
-use Rattle.aba_edits.specs.AbaEdits.{AbaRow, NoneStands, aba_outcome, aba_row_outcome}
+use Rattle.edit_words.specs.declared.edit.Edit.{Edit}
+use Rattle.edit_words.specs.declared.edit.Edit.TheVariants.{ArgAdd, ArgDrop, AttackAdd, AttackDrop, AsmAdd, AsmDrop, ConSet, RuleAdd, RuleDrop}
+use Rattle.edit_words.specs.declared.effect.Effect.{Effect}
+use Rattle.edit_words.specs.Refusals.{NoneStands}
+use Rattle.aba_edits.specs.AbaEdits.{AbaRow, aba_outcome, aba_row_outcome}
 use Rattle.aba_edits.specs.AbaEdits.{assumption_added, assumption_dropped, contrary_set, rule_added, rule_dropped}
-use Rattle.aba_edits.proofs.Refusals.{done_row}
+use Rattle.edit_words.proofs.RefusalLemmas.{done_row}
 use Rattle.aba_edits.proofs.RowForms.{with_assumption_form, without_assumption_form, with_contrary_form, with_rule_form, without_rule_form}
 
 -- what holds of the framework of a row of which no refusal stands holds behind the edit

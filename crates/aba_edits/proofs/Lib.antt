@@ -1,4 +1,3 @@
-pub mod Refusals
 pub mod ContraryLists
 pub mod RowForms
 pub mod MadeFrameworks

@@ -15,7 +15,7 @@ use Rattle.aba_notions.specs.declared.rule_table.RuleLists.{RuleLists}
 use Rattle.aba_notions.specs.Storage.{AreParts, AreContraries, AreRuleLists, AreRulesOf, no_rule, rule_at}
 use Rattle.aba_notions.proofs.FormLemmas.{same_rising}
 use Rattle.aba_notions.proofs.TableLemmas.{rising_few}
-use Rattle.edit_rules.proofs.RisingLists.{IsAsymmetric, same_lists}
+use Rattle.edit_words.proofs.RisingLists.{IsAsymmetric, same_lists}
 use Rattle.aba_edits.specs.AbaEdits.{heads_of, numbers_of}
 use Rattle.aba_edits.specs.Parts.{AreListsOf}
 

@@ -1,5 +1,5 @@
 -- The frameworks behind the edits are in form.
-use Rattle.std.proofs.Common.{◌≡◌, ◌<◌, ◌≤◌, ◌+◌, ℕ, false, not, List, [], ◌∷◌, ◌++◌, refl, ap, sym, subst, ◌∙◌, map, get_or, arith, ⊎_elim, inl, inr}
+use Rattle.std.proofs.Common.{Result, Ok, Err, IfOk, ◌≡◌, ◌<◌, ◌≤◌, ◌+◌, ℕ, false, not, List, [], ◌∷◌, ◌++◌, refl, ap, sym, subst, ◌∙◌, map, get_or, arith, ⊎_elim, inl, inr}
 use Rattle.std.specs.Prelude.{Contains, ◌↔◌, ◌==◌, filter, nat_le, nat_lt, ◌&&◌}
 use Rattle.std.specs.List.Sorted.{IsStrictlyIncreasing}
 use Rattle.std.proofs.lemmas.Bool.{false≢true, eqb-true, leb-true, lt-ltb, not-false, not_from_false, cases_lt}
@@ -13,14 +13,15 @@ use Rattle.aba_laws.proofs.Images.{image_there, image_from}
 use Rattle.aba_semantics.specs.declared.numbers.TheConstants.{LAST_RULE}
 use Rattle.aba_semantics.specs.Rules.{Rule}
 use Rattle.aba_semantics.specs.AbaFrameworks.{Aba, IsAtom, IsRuleOf, IsNumberedAba}
-use Rattle.edit_rules.specs.declared.effect.EditFault.TheVariants.{NotFlat, OutOfRange}
-use Rattle.edit_rules.specs.Edits.{has_number, refused_if, with_number}
-use Rattle.edit_rules.proofs.EditTests.{both_gives, is_false, number_there, there_number}
-use Rattle.edit_rules.proofs.RowForms.{with_number_rises, with_number_members}
-use Rattle.aba_edits.specs.AbaEdits.{beyond, in_order, heads_of, numbers_of, next_rule, rules_but, NoneStands}
+use Rattle.edit_words.specs.declared.effect.EditFault.TheVariants.{NotFlat, OutOfRange}
+use Rattle.edit_words.specs.Numbers.{has_number, with_number}
+use Rattle.edit_words.specs.Refusals.{refused_if, NoneStands}
+use Rattle.edit_words.proofs.EditTests.{absent, both_gives, is_false, number_there}
+use Rattle.edit_words.proofs.NumberLists.{with_number_rises, with_number_members}
+use Rattle.aba_edits.specs.AbaEdits.{beyond, in_order, heads_of, numbers_of, next_rule, rules_but}
 use Rattle.aba_edits.specs.AbaEdits.{aba_with_assumption, aba_without_assumption, aba_with_contrary, aba_with_rule, aba_without_rule}
 use Rattle.aba_edits.specs.AbaEdits.{assumption_added, contrary_set, rule_added}
-use Rattle.aba_edits.proofs.Refusals.{each_passes, each_stands_not, parts_stand_not}
+use Rattle.edit_words.proofs.RefusalLemmas.{each_passes, each_stands_not, parts_stand_not}
 use Rattle.aba_edits.proofs.ContraryLists.{filter-map, firsts_with, firsts_without, with_member, with_contrary_members, without_contrary_members}
 
 -- ---- bodies
@@ -47,9 +48,6 @@ in_range low high x h =
 
 pub is_atom : (atoms x : ℕ) → (beyond 1 atoms x).stands ≡ false → IsAtom atoms x
 is_atom atoms x h = let r = in_range 1 atoms x h in record { low = r.0; high = r.1 }
-
-pub absent : (xs : List ℕ) (x : ℕ) → has_number xs x ≡ false → Contains xs x → ⊥
-absent xs x free c = false≢true (sym free ∙ there_number xs x c)
 
 -- ---- forms
 
@@ -264,3 +262,17 @@ all_rules f ok = filter_whole (λ r. not (r.number == 0)) f.rules (λ k d lt.
     let low = (ok.form.rules_are (get_or f.rules k d) (Contains-get_or f.rules k d lt)).low in
     not_from_false ((get_or f.rules k d).number == 0) (is_false ((get_or f.rules k d).number == 0)
     (λ t. absurd (omega (arith, low, eqb-true (get_or f.rules k d).number 0 t)))))
+
+pub without_no_rule : (f : Aba) → IsNumberedAba f → aba_without_rule f 0 ≡ f
+without_no_rule f ok = ap (λ rules. record {
+  atoms = f.atoms;
+  assumptions = f.assumptions;
+  contraries = f.contraries;
+  rules = rules;
+  next = f.next;
+}) (all_rules f ok)
+
+pub copied : {E : Type 0} (f : Aba) (result : Result Aba E) → IsNumberedAba f
+    → IfOk result (λ g. g ≡ aba_without_rule f 0) → IfOk result (λ g. g ≡ f)
+copied f (Ok g) ok is = is ∙ without_no_rule f ok
+copied f (Err fault) ok is = is

@@ -11,9 +11,9 @@ use Rattle.aba_semantics.specs.Rules.{Rule}
 use Rattle.aba_semantics.specs.AbaFrameworks.{Aba, IsNumberedAba}
 use Rattle.aba_notions.specs.declared.rule_table.RuleLists.{RuleLists}
 use Rattle.aba_notions.specs.Storage.{no_rule, rule_at}
-use Rattle.edit_rules.proofs.EditTests.{is_false}
-use Rattle.edit_rules.specs.declared.edit.Edit.{Edit}
-use Rattle.edit_rules.specs.declared.effect.Effect.{Effect}
+use Rattle.edit_words.proofs.EditTests.{is_false}
+use Rattle.edit_words.specs.declared.edit.Edit.{Edit}
+use Rattle.edit_words.specs.declared.effect.Effect.{Effect}
 use Rattle.aba_edits.specs.AbaEdits.{dropped_effect, numbers_of, heads_of, rule_in, rule_numbered, rules_but}
 use Rattle.aba_edits.specs.Parts.{AreListsOf}
 use Rattle.aba_edits.proofs.MadeFrameworks.{same_key}

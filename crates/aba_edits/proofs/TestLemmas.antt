@@ -9,8 +9,8 @@ use Rattle.aba_laws.proofs.Images.{image_there, image_from}
 use Rattle.set_lists.proofs.Rising.{IsPlaceOf, found}
 use Rattle.aba_semantics.specs.Rules.{Rule}
 use Rattle.aba_notions.specs.Storage.{no_rule, rule_at}
-use Rattle.edit_rules.specs.Edits.{has_number}
-use Rattle.edit_rules.proofs.EditTests.{is_false, number_there, there_number}
+use Rattle.edit_words.specs.Numbers.{has_number}
+use Rattle.edit_words.proofs.EditTests.{is_false, number_there, there_number}
 use Rattle.aba_edits.specs.AbaEdits.{heads_of}
 
 -- two tests that decide the same

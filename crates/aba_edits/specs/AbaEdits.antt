@@ -2,19 +2,21 @@
 -- of which the first that stands is told, the framework behind it, and its effect. Edits of such frameworks:
 -- A. Rapberger, M. Ulbricht, "On dynamics in structured argumentation formalisms", Journal of Artificial Intelligence
 -- Research 77 (2023).
-use Rattle.std.specs.Prelude.{◌≡◌, ℕ, ◌+◌, ◌==◌, ◌&&◌, not, nat_le, nat_lt, if◌then◌else◌}
-use Rattle.std.specs.Prelude.{List, [], ◌∷◌, ◌++◌, filter, map, Option, Some, None, Result, Ok, Err}
+use Rattle.std.specs.Prelude.{ℕ, ◌+◌, ◌==◌, ◌&&◌, not, nat_le, nat_lt}
+use Rattle.std.specs.Prelude.{List, [], ◌∷◌, ◌++◌, filter, map, Option, Some, None, Result, Err}
 use Rattle.std.specs.List.{find}
 use Rattle.aba_semantics.specs.declared.numbers.TheConstants.{LAST_RULE}
 use Rattle.aba_semantics.specs.Rules.{Rule}
 use Rattle.aba_semantics.specs.AbaFrameworks.{Aba}
 use Rattle.aba_notions.specs.Storage.{aba_of, no_rule}
-use Rattle.edit_rules.specs.declared.edit.Edit.{Edit}
-use Rattle.edit_rules.specs.declared.edit.Edit.TheVariants.{ArgAdd, ArgDrop, AttackAdd, AttackDrop, AsmAdd, AsmDrop, ConSet, RuleAdd, RuleDrop}
-use Rattle.edit_rules.specs.declared.effect.Effect.{Effect}
-use Rattle.edit_rules.specs.declared.effect.EditFault.{EditFault}
-use Rattle.edit_rules.specs.declared.effect.EditFault.TheVariants.{WrongKind, OutOfRange, AssumptionIsThere, NotFlat, UnknownAssumption, NoSuchRule}
-use Rattle.edit_rules.specs.Edits.{Refusal, refused_if, has_number, with_number, plain_effect}
+use Rattle.edit_words.specs.declared.edit.Edit.{Edit}
+use Rattle.edit_words.specs.declared.edit.Edit.TheVariants.{ArgAdd, ArgDrop, AttackAdd, AttackDrop, AsmAdd, AsmDrop, ConSet, RuleAdd, RuleDrop}
+use Rattle.edit_words.specs.declared.effect.Effect.{Effect}
+use Rattle.edit_words.specs.declared.effect.EditFault.{EditFault}
+use Rattle.edit_words.specs.declared.effect.EditFault.TheVariants.{WrongKind, OutOfRange, AssumptionIsThere, NotFlat, UnknownAssumption, NoSuchRule}
+use Rattle.edit_words.specs.Effects.{plain_effect}
+use Rattle.edit_words.specs.Numbers.{has_number, with_number}
+use Rattle.edit_words.specs.Refusals.{Refusal, refused_if, done_unless}
 
 -- the row of an edit: its refusals in their order, and what it does where none stands
 pub record AbaRow : Type 0 where
@@ -153,15 +155,6 @@ aba_row f (AsmDrop a) = Some (assumption_dropped f a)
 aba_row f (ConSet a c) = Some (contrary_set f a c)
 aba_row f (RuleAdd h body) = Some (rule_added f h body)
 aba_row f (RuleDrop r) = Some (rule_dropped f r)
-
--- the fault of the first refusal that stands, or else what is done
-abbrev pub done_unless : {X : Type 0} → List Refusal → X → Result X EditFault
-done_unless [] done = Ok done
-done_unless (r ∷ more) done = if r.stands then Err r.fault else done_unless more done
-
--- none of the refusals stands
-abbrev pub NoneStands : List Refusal → Type 0
-NoneStands refusals = done_unless {X = Unit {0}} refusals tt ≡ Ok tt
 
 -- what a row comes to
 abbrev pub aba_row_outcome : AbaRow → Result (Aba × Effect) EditFault

@@ -1,8 +1,8 @@
 -- What edits keep of a flat assumption-based framework, and what an effect tells.
 use Rattle.std.specs.Prelude.{◌≡◌, ◌≤◌, Ok}
 use Rattle.aba_semantics.specs.AbaFrameworks.{Aba, IsNumberedAba}
-use Rattle.edit_rules.specs.declared.edit.Edit.{Edit}
-use Rattle.edit_rules.specs.declared.effect.Effect.{Effect}
+use Rattle.edit_words.specs.declared.edit.Edit.{Edit}
+use Rattle.edit_words.specs.declared.effect.Effect.{Effect}
 use Rattle.aba_edits.specs.AbaEdits.{aba_outcome}
 
 -- a framework in form is in form behind an edit

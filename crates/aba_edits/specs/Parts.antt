@@ -4,9 +4,9 @@ use Rattle.aba_semantics.specs.Rules.{Rule}
 use Rattle.aba_semantics.specs.AbaFrameworks.{Aba}
 use Rattle.aba_notions.specs.declared.rule_table.RuleLists.{RuleLists}
 use Rattle.aba_notions.specs.Storage.{rule_at}
-use Rattle.edit_rules.specs.declared.effect.Effect.{Effect}
-use Rattle.edit_rules.specs.declared.effect.EditFault.{EditFault}
-use Rattle.edit_rules.specs.declared.effect.EditFault.TheVariants.{Memory}
+use Rattle.edit_words.specs.declared.effect.Effect.{Effect}
+use Rattle.edit_words.specs.declared.effect.EditFault.{EditFault}
+use Rattle.edit_words.specs.declared.effect.EditFault.TheVariants.{Memory}
 use Rattle.aba_edits.specs.AbaEdits.{numbers_of, heads_of}
 
 -- the answer is the outcome of an edit, or want of memory

@@ -1,14 +1,15 @@
 //! Why an edit is refused: of the refusals of its row, the first that stands.
 
 ghost use Rattle.std.specs.Prelude.{◌≡◌, ◌∷◌, map};
-ghost use Rattle.edit_rules.specs.Edits.{has_number};
-ghost use Rattle.aba_edits.specs.AbaEdits.{beyond, done_unless, heads_of, numbers_of};
+ghost use Rattle.edit_words.specs.Numbers.{has_number};
+ghost use Rattle.edit_words.specs.Refusals.{done_unless};
+ghost use Rattle.aba_edits.specs.AbaEdits.{beyond, heads_of, numbers_of};
 ghost use Rattle.aba_edits.specs.AbaEdits.{assumption_added, assumption_dropped, contrary_set};
 ghost use Rattle.aba_edits.specs.AbaEdits.{rule_added, rule_dropped};
 
 use aba_notions::AbaPlain;
 use aba_semantics::LAST_RULE;
-use edit_rules::EditFault;
+use edit_words::EditFault;
 
 /// Whether a number lies outside its range.
 fn is_beyond(low: u32, high: u32, number: u32) -> bool

@@ -2,12 +2,13 @@
 
 ghost use Rattle.std.specs.Prelude.{◌≡◌, ◌⊎◌, ◌==◌, IfOk, IfErr, OnErr, Ok, Err};
 ghost use Rattle.std.specs.List.{find};
-ghost use Rattle.edit_rules.specs.declared.edit.Edit.TheVariants.{RuleAdd};
-ghost use Rattle.edit_rules.specs.declared.effect.EditFault.TheVariants.{Memory};
+ghost use Rattle.edit_words.specs.declared.edit.Edit.TheVariants.{RuleAdd};
+ghost use Rattle.edit_words.specs.declared.effect.EditFault.TheVariants.{Memory};
 ghost use Rattle.aba_edits.specs.AbaEdits.{aba_outcome, aba_row_outcome};
 ghost use Rattle.aba_edits.specs.AbaEdits.{assumption_added, assumption_dropped, contrary_set};
 ghost use Rattle.aba_edits.specs.AbaEdits.{rule_added, rule_dropped};
-ghost use Rattle.aba_edits.specs.AbaEdits.{contrary_effect, contrary_of, rule_effect, NoneStands};
+ghost use Rattle.edit_words.specs.Refusals.{NoneStands};
+ghost use Rattle.aba_edits.specs.AbaEdits.{contrary_effect, contrary_of, rule_effect};
 ghost use Rattle.aba_edits.specs.Parts.{ComesTo};
 
 use crate::checks::{check_assumption, check_contrary, check_drop, check_rule, check_rule_drop};
@@ -16,7 +17,7 @@ use crate::makes::{
     without_rule,
 };
 use aba_notions::AbaPlain;
-use edit_rules::{Edit, EditFault, Effect};
+use edit_words::{Edit, EditFault, Effect};
 use plain_lists::{Items, Memory as OutOfMemory};
 use std::alloc::Global;
 

@@ -4,7 +4,8 @@
 mod checks;
 pub mod edits;
 pub mod laws;
-mod makes;
+pub mod makes;
 
 pub use edits::apply_aba;
 pub use laws::{aba_edits_keep_form, aba_effects_determine, numbers_are_given_once};
+pub use makes::copy_aba;

@@ -2,20 +2,28 @@
 
 ghost use Rattle.std.specs.Prelude.{◌≡◌, ◌<◌, ◌≤◌, ◌+◌, ◌==◌, ◌++◌, ◌∷◌, [], not, true};
 ghost use Rattle.std.specs.Prelude.{IfOk, OnOk, filter, length, map, take};
-ghost use Rattle.std.specs.List.Sorted.{IsStrictlyIncreasing};
 ghost use Rattle.aba_semantics.specs.declared.numbers.TheConstants.{LAST_RULE};
 ghost use Rattle.aba_notions.specs.Storage.{rule_at};
-ghost use Rattle.edit_rules.specs.Edits.{has_number};
-ghost use Rattle.aba_edits.specs.AbaEdits.{NoneStands, without_contrary, numbers_of, rules_but};
+ghost use Rattle.edit_words.specs.Numbers.{has_number};
+ghost use Rattle.edit_words.specs.Refusals.{NoneStands};
+ghost use Rattle.aba_edits.specs.AbaEdits.{without_contrary, numbers_of, rules_but};
 ghost use Rattle.aba_edits.specs.AbaEdits.{aba_with_assumption, aba_without_assumption, aba_with_contrary};
 ghost use Rattle.aba_edits.specs.AbaEdits.{aba_with_rule, aba_without_rule};
 ghost use Rattle.aba_edits.specs.AbaEdits.{assumption_added, contrary_set, rule_added};
 ghost use Rattle.aba_edits.specs.Parts.{AreListsOf};
 
 use aba_notions::{AbaPlain, RuleLists};
+use edit_words::numbers_but;
 use plain_lists::Memory;
-use set_lists::NumSet;
 use std::alloc::Global;
+
+/// The same framework again. No rule has the number 0.
+pub fn copy_aba(alloc: Global, plain: &AbaPlain) -> Result<AbaPlain, Memory>
+    ensures { IfOk result (λ copy. copy ≡ plain.now) }
+{
+    let _next = plain.next();
+    without_rule(alloc, plain, 0)
+}
 
 /// The framework with an assumption more.
 pub(crate) fn with_assumption(
@@ -49,7 +57,7 @@ pub(crate) fn without_assumption(
 ) -> Result<AbaPlain, Memory>
     ensures { IfOk result (λ after. after ≡ aba_without_assumption plain.now assumption) }
 {
-    let assumptions = numbers_except(alloc, plain.assumptions().as_slice(), assumption)?;
+    let assumptions = numbers_but(alloc, plain.assumptions().as_slice(), assumption)?;
     let contraries = pairs_except(alloc, plain.contraries(), assumption)?;
     let rules = rules_except(alloc, plain, 0)?;
     AbaPlain::new(
@@ -123,28 +131,6 @@ pub(crate) fn without_rule(alloc: Global, plain: &AbaPlain, number: u32) -> Resu
         contraries,
         rules,
         plain.next(),
-    )
-}
-
-/// The numbers of a rising list but for one.
-fn numbers_except(alloc: Global, numbers: &[u32], gone: u32) -> Result<NumSet, Memory>
-    requires { IsStrictlyIncreasing numbers.now }
-    ensures { IfOk result (λ kept. kept ≡ filter (λ a. not (a == gone)) numbers.now) }
-{
-    let kept = others_of(alloc, numbers, gone)?;
-    NumSet::from_rising(alloc, kept.as_slice())
-}
-
-/// The numbers but for one, in their order.
-fn others_of(alloc: Global, numbers: &[u32], gone: u32) -> Result<Vec<u32>, Memory>
-    ensures { IfOk result (λ kept. kept.items ≡ filter (λ a. not (a == gone)) numbers.now) }
-{
-    Ok(
-        numbers
-            .iter()
-            .copied()
-            .filter(|number| *number != gone)
-            .collect(alloc)?,
     )
 }
 

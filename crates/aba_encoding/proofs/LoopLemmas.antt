@@ -1,7 +1,7 @@
 -- The loop clause of what does not follow is false under a model, and where there is none, a model reads back.
 use Rattle.std.proofs.Common.{◌≡◌, false, ◌+◌, ◌<◌, ◌≤◌, ℕ, List, [], ◌∷◌, ◌++◌, length, get_or, map, take, arith, refl, subst, sym, ap, ◌∙◌}
 use Rattle.std.proofs.Common.{inl, inr, ⊎_elim}
-use Rattle.std.specs.Prelude.{Contains, IfNone, IfSome, None, Option, Some, ◌==◌, ◌↔◌}
+use Rattle.std.specs.Prelude.{Contains, IfNone, IfSome, None, Option, Some, ◌==◌, ◌↔◌, ◌⊎◌}
 use Rattle.std.specs.List.{flat_map}
 use Rattle.std.proofs.lemmas.Bool.{cond_both, eqb-false, eqb-true}
 use Rattle.std.proofs.lemmas.List.{get_or-map, length-map, take_all, take_more}
@@ -33,15 +33,16 @@ use Rattle.meaning_atoms.specs.Literals.{affirmed, denied, negated}
 use Rattle.aba_axioms.specs.AbaTable.{filled_gap, given_atom, loop_clause, other_heads, pair_literal, row_literals}
 use Rattle.loop_clauses.specs.LoopNames.{loop_row, loop_rows}
 use Rattle.loop_clauses.proofs.LoopLemmas.{loop_of}
-use Rattle.oracle_face.specs.Decoding.{IsDecoded}
+use Rattle.semantics.specs.Frameworks.{aba}
+use Rattle.oracle_face.specs.Decoding.{IsDecoded, IsModelOf, IsNewLoop, TellsMembers}
 use Rattle.af_encoding.specs.Decoded.{Affirms}
-use Rattle.aba_needed.specs.AbaNeeded.{Heads}
+use Rattle.oracle_face.specs.AbaNeeded.{Heads}
 use Rattle.aba_needed.specs.Listing.{walk_along}
-use Rattle.aba_needed.specs.Walks.{IsWalkEnd, IsWalkStep}
+use Rattle.oracle_face.specs.Walks.{IsWalkEnd, IsWalkStep}
 use Rattle.aba_needed.proofs.NeededLemmas.{flat_from, heads_low, heads_under}
 use Rattle.aba_needed.proofs.WalkLemmas.{AreAhead, all_ahead, along_from}
-use Rattle.aba_encoding.specs.AbaModels.{AddsAtom, IsFalseUnder, IsFounded, IsLoopBeside, IsLoopName, IsModelOfAba, IsModelOfMembers}
-use Rattle.aba_encoding.proofs.ModelReadings.{affirmed_here, fact_here, fact_so, fact_told, first_or_later, last_one, none_left, own_told, satisfied}
+use Rattle.aba_encoding.specs.AbaModels.{AddsAtom, IsFalseUnder, IsFounded, IsLoopBeside, IsLoopName}
+use Rattle.aba_encoding.proofs.ModelReadings.{affirmed_here, consistent, fact_here, fact_so, fact_told, first_or_later, last_one, none_left, own_told, satisfied}
 
 -- ---- the literals of the clause
 
@@ -58,7 +59,7 @@ heads_along : (w i : ℕ) (rules : List ℕ)
 heads_along w i [] = refl
 heads_along w i (r ∷ rules) = ap (λ xs. filled_gap w i r ++ xs) (heads_along w (r + 1) rules)
 
-module _ (f : Aba) (values : List AtomLit) (form : IsNumberedAba f) (model : IsModelOfAba f values) (k : Closure)
+module _ (f : Aba) (values : List AtomLit) (form : IsNumberedAba f) (model : IsModelOf (aba f) values) (k : Closure)
     (claimed : List ℕ) (claimed_are : IsSetOf (λ x. IsAtom f.atoms x × Affirms values (Der k x)) claimed)
     (base : List ℕ) (u : Unfounded) (found : IsUnfoundedOf f (Contains base) claimed u)
     (not_given : (w : ℕ) → IsAtom f.atoms w → Affirms values (Der k w)
@@ -196,20 +197,32 @@ not_all_follow f values base k name h all =
 
 module _ (f : Aba) (values : List AtomLit) (s : List ℕ) (form : IsNumberedAba f)
     (decoded : IsSetOf (IsDecoded Asm values) s) where
-  own_not_given : IsModelOfMembers f values → (w : ℕ) → IsAtom f.atoms w → Affirms values (Der Own w)
-      → (Derives f.rules (Contains s) w → ⊥) → Contains values (denied (Member w))
-  own_not_given whole w atom told out =
-      let model = whole.model in
+  -- what is no assumption is no member
+  member_or_not : IsModelOf (aba f) values → TellsMembers (aba f) values → (w : ℕ) → IsAtom f.atoms w
+      → Affirms values (Member w) ⊎ Contains values (denied (Member w))
+  member_or_not model tells w atom =
+      ⊎_elim
+      (λ assumed. tells.members_told w (fact_so f values model (Asm w) tt assumed))
+      (λ other.
+      ⊎_elim (λ out. inr out)
+      (λ later. absurd (consistent f values model (Asm w) (last_one f values model (affirmed (Asm w)) later) other))
+      (first_or_later f values model (denied (Member w)) (affirmed (Asm w) ∷ [])
+      (affirmed_here f values model Cf _ tells.free (satisfied f values model (B1 w) atom))))
+      (model.told (OfAba (B1 w)) (affirmed (Asm w)) atom (2, omega arith, refl) tt)
+
+  own_not_given : IsModelOf (aba f) values → TellsMembers (aba f) values → (w : ℕ) → IsAtom f.atoms w
+      → Affirms values (Der Own w) → (Derives f.rules (Contains s) w → ⊥) → Contains values (denied (Member w))
+  own_not_given model tells w atom told out =
       ⊎_elim
       (λ member. absurd (out (from_given w ((decoded.members w).1 (record {
         member = member;
         vouched = last_one f values model (affirmed (Asm w))
             (affirmed_here f values model (Member w) _ member
-            (affirmed_here f values model Cf _ whole.free (satisfied f values model (B1 w) atom)));
+            (affirmed_here f values model Cf _ tells.free (satisfied f values model (B1 w) atom)));
       })))))
-      (λ no. no) (whole.members w atom)
+      (λ no. no) (member_or_not model tells w atom)
 
-  rest_not_given : IsModelOfAba f values → (rest : List ℕ) → IsSetOf (IsUnattacked (collective_of f) s) rest → (w : ℕ)
+  rest_not_given : IsModelOf (aba f) values → (rest : List ℕ) → IsSetOf (IsUnattacked (collective_of f) s) rest → (w : ℕ)
       → IsAtom f.atoms w → Affirms values (Der Rest w) → (Derives f.rules (Contains rest) w → ⊥)
       → Contains values (denied (Asm w))
   rest_not_given model rest rest_is w atom told out =
@@ -223,16 +236,16 @@ module _ (f : Aba) (values : List AtomLit) (s : List ℕ) (form : IsNumberedAba 
       (affirmed_here f values model (Der Rest w) _ told (satisfied f values model (B9Con w at.contrary) at.is)))))
       (λ quiet. out (from_given w ((rest_is.members w).1 (record { live = is; quiet = quiet }))))
       (decide_attacks f s w)))
-      (λ no. no) (model.told (B1 w) (affirmed (Asm w)) atom (2, omega arith, refl) tt)
+      (λ no. no) (model.told (OfAba (B1 w)) (affirmed (Asm w)) atom (2, omega arith, refl) tt)
 
-  pub own_loop_false : IsModelOfMembers f values → (name : AxiomName) → IsLoopBeside f values s Own name
-      → IsFalseUnder values name
-  own_loop_false whole name h =
+  pub own_loop_false : IsModelOf (aba f) values → TellsMembers (aba f) values → (name : AxiomName)
+      → IsLoopBeside f values s Own name → IsFalseUnder values name
+  own_loop_false model tells name h =
       subst (IsFalseUnder values) (sym h.named)
-      (clause_false f values form whole.model Own h.claimed h.claimed_are s h.found h.unfounded (own_not_given whole)
+      (clause_false f values form model Own h.claimed h.claimed_are s h.found h.unfounded (own_not_given model tells)
       (get_or h.found.atoms 0 0) (least_there f values s Own name h))
 
-  pub rest_loop_false : IsModelOfAba f values → (rest : List ℕ) → IsSetOf (IsUnattacked (collective_of f) s) rest
+  pub rest_loop_false : IsModelOf (aba f) values → (rest : List ℕ) → IsSetOf (IsUnattacked (collective_of f) s) rest
       → (name : AxiomName) → IsLoopBeside f values rest Rest name → IsFalseUnder values name
   rest_loop_false model rest rest_is name h =
       subst (IsFalseUnder values) (sym h.named)
@@ -254,6 +267,27 @@ loop_is f values base k name form h =
           (least_there f values base k name h),
       ap (λ xs. get_or xs 0 0) (sym (same_atoms h.found.rows ∙ h.unfounded.rows_are)),
     )
+
+-- it is a loop clause of the framework's kind, and false
+loop_named : (f : Aba) (values : List AtomLit) (name : AxiomName) → IsLoopName name → IsFalseUnder values name
+    → IsNewLoop (aba f) values name
+loop_named f values (OfAba (B17 k x rows)) is false_there =
+    record { axiom_of = is.0; loop = refl; false_there = false_there }
+loop_named f values _ is false_there = absurd is
+
+pub own_loop_new : (f : Aba) (values : List AtomLit) (s : List ℕ) → IsNumberedAba f → IsSetOf (IsDecoded Asm values) s
+    → IsModelOf (aba f) values → TellsMembers (aba f) values → (name : AxiomName) → IsLoopBeside f values s Own name
+    → IsNewLoop (aba f) values name
+own_loop_new f values s form decoded model tells name h =
+    loop_named f values name (loop_is f values s Own name form h)
+    (own_loop_false f values s form decoded model tells name h)
+
+pub rest_loop_new : (f : Aba) (values : List AtomLit) (s : List ℕ) → IsNumberedAba f → IsSetOf (IsDecoded Asm values) s
+    → IsModelOf (aba f) values → (rest : List ℕ) → IsSetOf (IsUnattacked (collective_of f) s) rest
+    → (name : AxiomName) → IsLoopBeside f values rest Rest name → IsNewLoop (aba f) values name
+rest_loop_new f values s form decoded model rest rest_is name h =
+    loop_named f values name (loop_is f values rest Rest name form h)
+    (rest_loop_false f values s form decoded model rest rest_is name h)
 
 -- ---- where something is missing, and where nothing is
 

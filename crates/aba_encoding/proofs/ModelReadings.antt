@@ -13,27 +13,29 @@ use Rattle.aba_laws.proofs.AbaLemmas.{aba_lawful}
 use Rattle.aba_laws.proofs.CollectiveSets.{defends_by_rest, rest_of}
 use Rattle.aba_laws.proofs.DerivationLemmas.{derives_more}
 use Rattle.aba_laws.proofs.Images.{image_from}
+use Rattle.semantics.specs.Frameworks.{aba}
 use Rattle.meaning_atoms.specs.declared.aba_axiom.AbaAxiom.{AbaAxiom}
 use Rattle.meaning_atoms.specs.declared.aba_axiom.AbaAxiom.TheVariants.{B1, B2, B3, B4, B5, B7, B8, B12, B13, B14, B15, B16}
 use Rattle.meaning_atoms.specs.declared.atom.Atom.{Atom}
-use Rattle.meaning_atoms.specs.declared.atom.Atom.TheVariants.{Member, Asm, Con, Head, BGap, Der, Miss, Cf, Ad, Co, St}
+use Rattle.meaning_atoms.specs.declared.atom.Atom.TheVariants.{Member, Range, Tail, Asm, Con, Head, BGap, Der, Miss, Cf, Ad, Co, St}
 use Rattle.meaning_atoms.specs.declared.atom.AtomLit.{AtomLit}
 use Rattle.meaning_atoms.specs.declared.atom.Closure.{Closure}
 use Rattle.meaning_atoms.specs.declared.atom.Closure.TheVariants.{Own, Rest}
+use Rattle.meaning_atoms.specs.declared.axiom.AxiomName.TheVariants.{Aba as OfAba}
 use Rattle.meaning_atoms.specs.AbaReadings.{HasContrary, HasNoAtom, HasRule, IsInClosure}
 use Rattle.meaning_atoms.specs.Literals.{affirmed, denied}
-use Rattle.meaning_atoms.specs.Worlds.{aba_world, Holds, HoldsOfAba, IsAbaFact, Says}
+use Rattle.meaning_atoms.specs.Worlds.{world_of, Holds, HoldsOfAba, IsAbaFact, Says}
 use Rattle.aba_axioms.specs.AbaTable.{aba_clause}
 use Rattle.aba_axioms.proofs.FrameworkLemmas.{attacks_by}
-use Rattle.aba_facts.specs.FactValues.{IsAbaFactValue}
-use Rattle.oracle_face.specs.Decoding.{IsDecoded}
+use Rattle.af_axioms.specs.Facts.{IsFactValue}
+use Rattle.oracle_face.specs.Decoding.{IsDecoded, IsModelOf, IsReadBackInAba, ReadsBack}
 use Rattle.oracle_face.specs.Goals.{IsMode}
 use Rattle.af_encoding.specs.Decoded.{Affirms}
-use Rattle.aba_needed.specs.AbaNeeded.{IsNeededOfAba}
-use Rattle.aba_needed.specs.Walks.{IsWalkEnd, IsWalkStep}
+use Rattle.oracle_face.specs.AbaNeeded.{IsNeededOfAba}
+use Rattle.oracle_face.specs.Walks.{IsWalkEnd, IsWalkStep}
 use Rattle.aba_needed.proofs.NeededLemmas.{body_ahead, body_low, body_under}
 use Rattle.aba_needed.proofs.WalkLemmas.{walk_on}
-use Rattle.aba_encoding.specs.AbaModels.{DescribesInAba, IsFounded, IsModelOfAba, IsReadBackInAba, ReadsBackInAba}
+use Rattle.aba_encoding.specs.AbaModels.{DescribesInAba, IsFounded}
 
 abbrev literal : Atom → Bool → AtomLit
 literal atom positive = record { atom = atom; positive = positive }
@@ -44,7 +46,7 @@ pub record Satisfies (values clause : List AtomLit) : Type 0 where
   pub member : Contains clause literal
   pub told : Contains values literal
 
-module _ (f : Aba) (values : List AtomLit) (model : IsModelOfAba f values) where
+module _ (f : Aba) (values : List AtomLit) (model : IsModelOf (aba f) values) where
   -- ---- what a model says
 
   -- no atom is affirmed and denied
@@ -53,7 +55,7 @@ module _ (f : Aba) (values : List AtomLit) (model : IsModelOfAba f values) where
 
   -- the clause of a needed axiom is satisfied
   pub satisfied : (name : AbaAxiom) → IsNeededOfAba f name → Satisfies values (aba_clause name)
-  satisfied name needed = let w = model.axioms name needed in record { literal = w.0; member = w.1; told = w.2 }
+  satisfied name needed = let w = model.axioms (OfAba name) needed in record { literal = w.0; member = w.1; told = w.2 }
 
   -- ---- reading a clause from the left
 
@@ -80,27 +82,27 @@ module _ (f : Aba) (values : List AtomLit) (model : IsModelOfAba f values) where
       ⊎_elim (λ here. absurd (consistent atom told here)) (λ later. later) (first_or_later (denied atom) rest h)
 
   -- a fact that is so is not denied
-  not_denied : (atom : Atom) → IsAbaFact atom → Holds (aba_world f []) [] atom → Contains values (denied atom) → ⊥
+  not_denied : (atom : Atom) → IsAbaFact atom → Holds (world_of (aba f) []) [] atom → Contains values (denied atom) → ⊥
   not_denied atom fact so here =
-      let value : IsAbaFactValue f atom false = model.facts (denied atom) here fact in
+      let value : IsFactValue (aba f) atom false = model.facts (denied atom) here fact in
       false≢true ((value.reading [] []).1 so)
 
-  pub fact_here : (atom : Atom) (rest : List AtomLit) → IsAbaFact atom → Holds (aba_world f []) [] atom
+  pub fact_here : (atom : Atom) (rest : List AtomLit) → IsAbaFact atom → Holds (world_of (aba f) []) [] atom
       → Satisfies values (denied atom ∷ rest) → Satisfies values rest
   fact_here atom rest fact so h =
       ⊎_elim (λ here. absurd (not_denied atom fact so here)) (λ later. later) (first_or_later (denied atom) rest h)
 
   -- a fact that is affirmed is so
-  pub fact_so : (atom : Atom) → IsAbaFact atom → Affirms values atom → Holds (aba_world f []) [] atom
+  pub fact_so : (atom : Atom) → IsAbaFact atom → Affirms values atom → Holds (world_of (aba f) []) [] atom
   fact_so atom fact here =
-      let value : IsAbaFactValue f atom true = model.facts (affirmed atom) here fact in (value.reading [] []).0 refl
+      let value : IsFactValue (aba f) atom true = model.facts (affirmed atom) here fact in (value.reading [] []).0 refl
 
   -- a fact of which a needed axiom speaks is affirmed where it is so
   pub fact_told : (name : AbaAxiom) (atom : Atom) → IsNeededOfAba f name → Contains (aba_clause name) (denied atom)
-      → IsAbaFact atom → Holds (aba_world f []) [] atom → Affirms values atom
+      → IsAbaFact atom → Holds (world_of (aba f) []) [] atom → Affirms values atom
   fact_told name atom needed c fact so =
       ⊎_elim (λ here. absurd (not_denied atom fact so here)) (λ told. told)
-      (model.told name (denied atom) needed c fact)
+      (model.told (OfAba name) (denied atom) needed c fact)
 
   -- ---- the framework's contraries
 
@@ -125,7 +127,7 @@ module _ (f : Aba) (values : List AtomLit) (model : IsModelOfAba f values) where
   pub assumption_told : IsNumberedAba f → (a : ℕ) → Contains f.assumptions a → Affirms values (Asm a)
   assumption_told form a c =
       ⊎_elim (λ told. told) (λ here. absurd (not_denied (Asm a) tt c here))
-      (model.told (B1 a) (affirmed (Asm a)) (form.form.assumptions_are a c) (2, omega arith, refl) tt)
+      (model.told (OfAba (B1 a)) (affirmed (Asm a)) (form.form.assumptions_are a c) (2, omega arith, refl) tt)
 
   -- ---- the head of a rule whose body is affirmed is affirmed
 
@@ -152,7 +154,7 @@ module _ (f : Aba) (values : List AtomLit) (model : IsModelOfAba f values) where
       (fact_here (Head r.number r.head) _ tt (rule (λ q. q.head ≡ r.head) refl)
       (satisfied (B5 k r.number r.head) (rule (λ q. q.head ≡ r.head) refl))))
 
-module _ (f : Aba) (values : List AtomLit) (s : List ℕ) (form : IsNumberedAba f) (model : IsModelOfAba f values)
+module _ (f : Aba) (values : List AtomLit) (s : List ℕ) (form : IsNumberedAba f) (model : IsModelOf (aba f) values)
     (decoded : IsSetOf (IsDecoded Asm values) s) where
   -- ---- members
 
@@ -303,11 +305,13 @@ module _ (f : Aba) (values : List AtomLit) (s : List ℕ) (form : IsNumberedAba 
       says_so (Der k x) true there atom = (closures_are k x atom).0 there
       says_so (Der k x) false there atom =
           λ so. consistent f values model (Der k x) ((closures_are k x atom).1 so) there
+      says_so (Range a) true there fixed = tt
+      says_so (Tail a i) true there fixed = tt
       says_so Cf true there mode = conflict_free_so there
       says_so Ad true there mode = admissible_so there
       says_so Co true there mode = complete_so there
       says_so St true there mode = stable_so there
       says_so _ _ there none = absurd none
 
-      pub model_reads_back : ReadsBackInAba f values s
+      pub model_reads_back : ReadsBack (aba f) values s
       model_reads_back = record { says = λ l there read. says_so l.atom l.positive there read }

@@ -6,6 +6,7 @@ use Rattle.std.specs.List.{flat_map}
 use Rattle.plain_lists.specs.Members.{IsWithin}
 use Rattle.aba_semantics.specs.AbaFrameworks.{Aba, IsNumberedAba}
 use Rattle.aba_laws.proofs.Images.{image_there, image_from}
+use Rattle.semantics.specs.Frameworks.{aba}
 use Rattle.meaning_atoms.specs.declared.aba_axiom.AbaAxiom.{AbaAxiom}
 use Rattle.meaning_atoms.specs.declared.aba_axiom.AbaAxiom.TheVariants.{B1, B16}
 use Rattle.meaning_atoms.specs.declared.atom.Atom.{Atom}
@@ -13,16 +14,21 @@ use Rattle.meaning_atoms.specs.declared.atom.Atom.TheVariants.{Member, Asm, Con,
 use Rattle.meaning_atoms.specs.declared.atom.AtomLit.{AtomLit}
 use Rattle.meaning_atoms.specs.Literals.{affirmed, denied, negated}
 use Rattle.meaning_atoms.specs.Valuations.{IsValuation}
-use Rattle.meaning_atoms.specs.Worlds.{aba_world, Holds, HoldsOfAba, IsAbaFact, IsAbaWorld, Says}
+use Rattle.meaning_atoms.specs.Worlds.{world_of, Holds, HoldsOfAba, IsAbaFact, IsAbaWorld, Says}
 use Rattle.meaning_atoms.proofs.Valuations.{world_valuation}
 use Rattle.aba_axioms.specs.AbaTable.{aba_clause}
 use Rattle.aba_axioms.proofs.Validity.{clauses_are_valid}
+use Rattle.meaning_atoms.specs.declared.axiom.AxiomName.{AxiomName}
+use Rattle.meaning_atoms.specs.declared.axiom.AxiomName.TheVariants.{Af as OfAf, Aba as OfAba}
+use Rattle.certificate_claims.specs.Refutations.{axiom_clause}
+use Rattle.oracle_face.specs.Decoding.{IsModelOf}
 use Rattle.oracle_face.specs.Goals.{IsMode}
+use Rattle.oracle_face.specs.Needed.{IsNeeded}
 use Rattle.af_encoding.specs.Decoded.{Affirms}
-use Rattle.aba_needed.specs.AbaNeeded.{IsNeededOfAba}
+use Rattle.oracle_face.specs.AbaNeeded.{IsNeededOfAba}
 use Rattle.aba_needed.specs.Listing.{listed_axioms}
 use Rattle.aba_needed.proofs.NeededLemmas.{flat_there, listed_to, needed_fits}
-use Rattle.aba_encoding.specs.AbaModels.{IsModelOfAba, IsModelOfSetInAba}
+use Rattle.aba_encoding.specs.AbaModels.{IsModelOfSetInAba}
 
 abbrev literal : Atom → Bool → AtomLit
 literal atom positive = record { atom = atom; positive = positive }
@@ -61,7 +67,7 @@ sign_so false false P iff h = refl
 
 -- the value of a fact is its truth in each world of the framework
 fact_reading : (f : Aba) (s t : List ℕ) (sides : List (List AtomLit)) (atom : Atom) → IsAbaFact atom
-    → Holds (aba_world f s) [] atom ↔ Holds (aba_world f t) sides atom
+    → Holds (world_of (aba f) s) [] atom ↔ Holds (world_of (aba f) t) sides atom
 fact_reading f s t sides (Asm a) h = (λ x. x, λ x. x)
 fact_reading f s t sides (Con a c) h = (λ x. x, λ x. x)
 fact_reading f s t sides (Head r x) h = (λ x. x, λ x. x)
@@ -71,7 +77,7 @@ fact_reading f s t sides (BGap r i j) h = (λ x. x, λ x. x)
 fact_reading f s t sides _ h = absurd h
 
 module _ (f : Aba) (form : IsNumberedAba f) (s : List ℕ) (within : IsWithin s f.assumptions) (value : Atom → Bool)
-    (reads : IsValuation (aba_world f s) [] value) where
+    (reads : IsValuation (world_of (aba f) s) [] value) where
   -- each literal has the sign of its value
   sign_of : (l : AtomLit) → Contains (values_of f value) l → value l.atom ≡ l.positive
   sign_of l c =
@@ -96,17 +102,28 @@ module _ (f : Aba) (form : IsNumberedAba f) (s : List ℕ) (within : IsWithin s 
         record { low = atom.low; high = omega arith };
   }
 
-  model_of : IsModelOfAba f (values_of f value)
+  axiom_true : (name : AxiomName) → IsNeeded (aba f) name
+      → (l : AtomLit) × Contains (axiom_clause name) l × Contains (values_of f value) l
+  axiom_true (OfAf name) needed = absurd needed
+  axiom_true (OfAba name) needed =
+      let found = clauses_are_valid name (needed_fits f form name needed) (world_of (aba f) s) world [] in
+      let l = found.literal in
+      let sign : value l.atom ≡ l.positive = sign_so l.positive (value l.atom) _ (reads l.atom) found.says in (
+        l,
+        found.member,
+        subst (λ b. Contains (values_of f value) (literal l.atom b)) sign (spoken name l needed found.member),
+      )
+
+  axiom_told : (name : AxiomName) (l : AtomLit) → IsNeeded (aba f) name → Contains (axiom_clause name) l
+      → Contains (values_of f value) l ⊎ Contains (values_of f value) (negated l)
+  axiom_told (OfAf name) l needed c = absurd needed
+  axiom_told (OfAba name) l needed c =
+      told_either (values_of f value) l.atom (value l.atom) l.positive (spoken name l needed c)
+
+  model_of : IsModelOf (aba f) (values_of f value)
   model_of = record {
     plain = λ w. opposite w.0.positive (sym (sign_of w.0 w.1) ∙ sign_of (negated w.0) w.2);
-    axioms = λ name needed.
-        let found = clauses_are_valid name (needed_fits f form name needed) (aba_world f s) world [] in
-        let l = found.literal in
-        let sign : value l.atom ≡ l.positive = sign_so l.positive (value l.atom) _ (reads l.atom) found.says in (
-          l,
-          found.member,
-          subst (λ b. Contains (values_of f value) (literal l.atom b)) sign (spoken name l needed found.member),
-        );
+    axioms = axiom_true;
     facts = λ l c fact. record {
       fact = fact;
       reading = λ t sides.
@@ -114,16 +131,15 @@ module _ (f : Aba) (form : IsNumberedAba f) (s : List ℕ) (within : IsWithin s 
           let there = fact_reading f s t sides l.atom fact in
           (λ e. there.0 ((reads l.atom).0 (sign ∙ e)), λ so. sym sign ∙ (reads l.atom).1 (there.1 so));
     };
-    told = λ name l needed c fact. told_either (values_of f value) l.atom (value l.atom) l.positive
-        (spoken name l needed c);
+    told = λ name l needed c fact. axiom_told name l needed c;
   }
 
   -- an atom of a needed axiom is affirmed exactly where it is so
-  affirmed_so : (atom : Atom) → Affirms (values_of f value) atom → Holds (aba_world f s) [] atom
+  affirmed_so : (atom : Atom) → Affirms (values_of f value) atom → Holds (world_of (aba f) s) [] atom
   affirmed_so atom c = (reads atom).0 (sign_of (affirmed atom) c)
 
   so_affirmed : (name : AbaAxiom) (l : AtomLit) → IsNeededOfAba f name → Contains (aba_clause name) l
-      → Holds (aba_world f s) [] l.atom → Affirms (values_of f value) l.atom
+      → Holds (world_of (aba f) s) [] l.atom → Affirms (values_of f value) l.atom
   so_affirmed name l needed c so =
       subst (λ b. Contains (values_of f value) (literal l.atom b)) ((reads l.atom).1 so) (spoken name l needed c)
 
@@ -152,5 +168,5 @@ module _ (f : Aba) (form : IsNumberedAba f) (s : List ℕ) (within : IsWithin s 
 pub set_has_model : (f : Aba) (s : List ℕ) → IsNumberedAba f → IsWithin s f.assumptions
     → (values : List AtomLit) × IsModelOfSetInAba f values s
 set_has_model f s form within =
-    let valuation = world_valuation (aba_world f s) [] in
+    let valuation = world_valuation (world_of (aba f) s) [] in
     (values_of f valuation.0, is_model f form s within valuation.0 valuation.1)

@@ -9,14 +9,15 @@ ghost use Rattle.meaning_atoms.specs.declared.atom.Atom.TheVariants.{Asm};
 ghost use Rattle.meaning_atoms.specs.declared.atom.AtomLit.{AtomLit};
 ghost use Rattle.meaning_atoms.specs.declared.atom.Closure.{Closure};
 ghost use Rattle.meaning_atoms.specs.declared.axiom.AxiomName.{AxiomName};
-ghost use Rattle.oracle_face.specs.Decoding.{IsDecoded};
-ghost use Rattle.aba_needed.specs.AbaNeeded.{IsNeededForAba};
-ghost use Rattle.aba_encoding.specs.AbaModels.{DescribesInAba, IsFounded, IsModelOfAba, IsModelOfSetInAba, ReadsBackInAba};
+ghost use Rattle.semantics.specs.Frameworks.{aba};
+ghost use Rattle.oracle_face.specs.Decoding.{IsDecoded, IsModelOf, ReadsBack};
+ghost use Rattle.oracle_face.specs.Needed.{IsNeeded};
+ghost use Rattle.aba_encoding.specs.AbaModels.{DescribesInAba, IsFounded, IsModelOfSetInAba};
 
 /// The set that a model is read as, where what it derives is founded, has each mode that the model affirms; each
 /// assumption is a member and each atom is in a closure of the set exactly where the model affirms it.
 pub fn models_describe()
-    ensures { (f : Aba) (values : List AtomLit) (set : List ℕ) → IsNumberedAba f → IsModelOfAba f values
+    ensures { (f : Aba) (values : List AtomLit) (set : List ℕ) → IsNumberedAba f → IsModelOf (aba f) values
         → IsSetOf (IsDecoded Asm values) set → ((k : Closure) → IsFounded f values set k)
         → DescribesInAba f values set }
 {}
@@ -24,9 +25,9 @@ pub fn models_describe()
 /// Whatever such a model says of modes, of assumptions as members and of atoms in closures is so of the set that it is
 /// read as.
 pub fn models_read_back()
-    ensures { (f : Aba) (values : List AtomLit) (set : List ℕ) → IsNumberedAba f → IsModelOfAba f values
+    ensures { (f : Aba) (values : List AtomLit) (set : List ℕ) → IsNumberedAba f → IsModelOf (aba f) values
         → IsSetOf (IsDecoded Asm values) set → ((k : Closure) → IsFounded f values set k)
-        → ReadsBackInAba f values set }
+        → ReadsBack (aba f) values set }
 {}
 
 /// Each set of assumptions is read from some model, which affirms each mode that the set has, and from which nothing is
@@ -38,5 +39,5 @@ pub fn sets_have_models()
 
 /// What a framework needs is an axiom: its numbers are within the bounds of its row.
 pub fn needed_are_axioms()
-    ensures { (f : Aba) → IsNumberedAba f → (name : AxiomName) → IsNeededForAba f name → IsAxiomName name }
+    ensures { (f : Aba) → IsNumberedAba f → (name : AxiomName) → IsNeeded (aba f) name → IsAxiomName name }
 {}

@@ -1,11 +1,13 @@
-//! Models of the axioms that a flat assumption-based framework needs: the set of assumptions that they are read as, and
-//! the loop clause that a model lacks which derives atoms only from one another.
+//! Flat assumption-based frameworks as clauses for a search: models of the axioms that a framework needs, the set of
+//! assumptions that they are read as, and the loop clause that a model lacks which derives atoms only from one another.
 #![tactic(auto)]
 
 mod affirming;
 mod decoding;
+mod encoding;
 pub mod laws;
 mod loops;
 
 pub use decoding::decode;
+pub use encoding::AbaEncoding;
 pub use loops::missing;

@@ -10,10 +10,10 @@ ghost use Rattle.meaning_atoms.specs.declared.atom.Atom.TheVariants.{Asm, Der as
 ghost use Rattle.meaning_atoms.specs.declared.atom.Closure.{Closure as AClosure};
 ghost use Rattle.meaning_atoms.specs.declared.axiom.AxiomName.TheVariants.{Aba as OfAba};
 ghost use Rattle.loop_clauses.specs.LoopNames.{closure_numbered, loop_rows};
-ghost use Rattle.oracle_face.specs.Decoding.{IsDecoded};
+ghost use Rattle.semantics.specs.Frameworks.{aba};
+ghost use Rattle.oracle_face.specs.Decoding.{IsDecoded, IsModelOf, IsNewLoop, ReadsBack, TellsMembers};
 ghost use Rattle.af_encoding.specs.Decoded.{Affirms};
-ghost use Rattle.aba_encoding.specs.AbaModels.{AddsAtom, IsFalseUnder, IsFounded, IsLoopBeside, IsLoopName, IsModelOfAba};
-ghost use Rattle.aba_encoding.specs.AbaModels.{IsModelOfMembers, ReadsBackInAba};
+ghost use Rattle.aba_encoding.specs.AbaModels.{AddsAtom, IsFounded, IsLoopBeside, IsLoopName};
 ghost use Rattle.aba_encoding.specs.NumberAtoms.{atom_of};
 
 use crate::affirming::{NumberAtom, affirmed_numbers};
@@ -28,8 +28,8 @@ use std::alloc::Global;
 /// The loop clause that a model of the needed axioms lacks to be read as a set, or None: that of the least of the atoms
 /// which it says the decoded set derives and which that set doesn't derive; or, where there is none, of the atoms which
 /// it says are derived from the assumptions that the decoded set doesn't attack. Only the framework's atoms are looked
-/// at. The clause is false under a model that is conflict-free and says of each atom whether it is a member. Time is
-/// linear in the literals and the framework, but for numbers that are put in order. `Memory` says that an allocation
+/// at. The clause is false under a model that is conflict-free and says of each assumption whether it is a member. Time
+/// is linear in the literals and the framework, but for numbers that are put in order. `Memory` says that an allocation
 /// was refused.
 pub fn missing(
     alloc: Global,
@@ -37,14 +37,14 @@ pub fn missing(
     values: &[AtomLit],
 ) -> Result<Option<AxiomName>, Memory>
     ensures loops { IfOk result (λ found. IfSome found IsLoopName) }
-    ensures false_there { IfOk result (λ found. IfSome found (λ name.
-        IsModelOfMembers plain.now values.now → IsFalseUnder values.now name)) }
+    ensures lacks { IsModelOf (aba plain.now) values.now → TellsMembers (aba plain.now) values.now
+        → IfOk result (λ found. IfSome found (IsNewLoop (aba plain.now) values.now)) }
     ensures unfounded { IfOk result (λ found. IfSome found (λ name. (set : List ℕ)
         → IsSetOf (IsDecoded Asm values.now) set → ¬ ((k : AClosure) → IsFounded plain.now values.now set k))) }
     ensures founded { IfOk result (λ found. found ≡ None → (set : List ℕ) → IsSetOf (IsDecoded Asm values.now) set
         → (k : AClosure) → IsFounded plain.now values.now set k) }
-    ensures reads { IfOk result (λ found. found ≡ None → IsModelOfAba plain.now values.now → (set : List ℕ)
-        → IsSetOf (IsDecoded Asm values.now) set → ReadsBackInAba plain.now values.now set) }
+    ensures reads { IfOk result (λ found. found ≡ None → IsModelOf (aba plain.now) values.now → (set : List ℕ)
+        → IsSetOf (IsDecoded Asm values.now) set → ReadsBack (aba plain.now) values.now set) }
 {
     let own = decode(alloc, values)?;
     if let Some(name) = loop_beside(alloc, plain, values, Closure::Own, &own)? {

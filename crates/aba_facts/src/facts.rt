@@ -3,7 +3,8 @@
 ghost use Rattle.std.specs.Prelude.{◌↔◌, IfNone, IfSome, IsTrue};
 ghost use Rattle.meaning_atoms.specs.AbaReadings.{HasNoHead};
 ghost use Rattle.meaning_atoms.specs.Worlds.{IsAbaFact};
-ghost use Rattle.aba_facts.specs.FactValues.{IsAbaFactValue};
+ghost use Rattle.semantics.specs.Frameworks.{aba};
+ghost use Rattle.af_axioms.specs.Facts.{IsFactValue};
 
 use crate::cuts::{first_from, numbers_below};
 use crate::rule_parts::{has_body_atom, has_body_gap, has_head};
@@ -13,7 +14,7 @@ use meaning_atoms::Atom;
 /// Whether an atom is true, where the framework alone fixes it: `Asm`, `Con`, `Head`, `HGap`, `Body` and `BGap`. None
 /// at each other atom, a side clause's number among them. It takes no memory, and time logarithmic in the framework.
 pub fn fact(plain: &AbaPlain, atom: &Atom) -> Option<bool>
-    ensures some { IfSome result (IsAbaFactValue plain.now atom.now) }
+    ensures some { IfSome result (IsFactValue (aba plain.now) atom.now) }
     ensures none { IfNone result (¬ IsAbaFact atom.now) }
 {
     match *atom {

@@ -21,9 +21,11 @@ use Rattle.meaning_atoms.specs.AbaAxioms.{IsAbaAxiom}
 use Rattle.meaning_atoms.specs.AbaReadings.{HasContrary, HasRule}
 use Rattle.meaning_atoms.specs.AxiomNames.{IsAxiomName}
 use Rattle.aba_axioms.proofs.FrameworkLemmas.{has_assumption}
-use Rattle.aba_needed.specs.AbaNeeded.{Heads, IsNeededForAba, IsNeededOfAba}
+use Rattle.semantics.specs.Frameworks.{aba}
+use Rattle.oracle_face.specs.AbaNeeded.{Heads, IsNeededOfAba}
+use Rattle.oracle_face.specs.Needed.{IsNeeded}
 use Rattle.aba_needed.specs.Listing.{atom_axioms, body_end, body_step, common_axioms, contrary_axioms, head_end, head_step, heading, listed_axioms, rule_axioms, walk_along}
-use Rattle.aba_needed.specs.Walks.{IsWalkStep, IsWalkEnd}
+use Rattle.oracle_face.specs.Walks.{IsWalkStep, IsWalkEnd}
 use Rattle.aba_needed.proofs.ListingLemmas.{heading_are, heading_rises}
 use Rattle.aba_needed.proofs.WalkLemmas.{AreAhead, all_ahead, along_from, end_there, start_high, start_position, step_there, step_to}
 
@@ -46,12 +48,12 @@ flat_from g (z ∷ xs) y c = ⊎_elim
     (Contains-append_cases (g z) (flat_map g xs) y c)
 
 -- what holds of each item that is written out holds of each member
-listed : (P : AbaAxiom → Type 0) (names : List AbaAxiom) → AllByRecursion P names → (name : AbaAxiom)
+pub listed : (P : AbaAxiom → Type 0) (names : List AbaAxiom) → AllByRecursion P names → (name : AbaAxiom)
     → Contains names name → P name
 listed P names h name c = All-contains P names name (All-from_recursion P names h) c
 
 -- of two that stand side by side, that of a closure
-by_closure : (make : Closure → AbaAxiom) (front back : List AbaAxiom) (k : Closure)
+pub by_closure : (make : Closure → AbaAxiom) (front back : List AbaAxiom) (k : Closure)
     → Contains (front ++ make Own ∷ make Rest ∷ back) (make k)
 by_closure make front back Own =
     Contains-append_right front (make Own ∷ make Rest ∷ back) (make Own) (0, omega arith, refl)
@@ -389,20 +391,20 @@ module _ (f : Aba) (form : IsNumberedAba f) where
   needed_fits (B16 part) h = h
   needed_fits (B17 k x rows) h = absurd h
 
-  pub needed_is_axiom : (name : AxiomName) → IsNeededForAba f name → IsAxiomName name
+  pub needed_is_axiom : (name : AxiomName) → IsNeeded (aba f) name → IsAxiomName name
   needed_is_axiom (OfAba name) h = needed_fits name h
   needed_is_axiom (OfAf name) h = absurd h
 
   -- ---- as names of either kind
 
-  pub members_are : (name : AxiomName) → Contains (map OfAba (listed_axioms f)) name ↔ IsNeededForAba f name
+  pub members_are : (name : AxiomName) → Contains (map OfAba (listed_axioms f)) name ↔ IsNeeded (aba f) name
   members_are name = (from name, to name)
     where
-      from : (name : AxiomName) → Contains (map OfAba (listed_axioms f)) name → IsNeededForAba f name
+      from : (name : AxiomName) → Contains (map OfAba (listed_axioms f)) name → IsNeeded (aba f) name
       from name c =
           let w = image_from OfAba (listed_axioms f) name c in
-          subst (IsNeededForAba f) w.2 (listed_from w.0 w.1)
+          subst (IsNeeded (aba f)) w.2 (listed_from w.0 w.1)
 
-      to : (name : AxiomName) → IsNeededForAba f name → Contains (map OfAba (listed_axioms f)) name
+      to : (name : AxiomName) → IsNeeded (aba f) name → Contains (map OfAba (listed_axioms f)) name
       to (OfAba name) h = image_there OfAba (listed_axioms f) name (listed_to name h)
       to (OfAf name) h = absurd h

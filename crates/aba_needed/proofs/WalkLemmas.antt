@@ -6,7 +6,7 @@ use Rattle.std.proofs.lemmas.List.Elements.{Contains-append_left, Contains-appen
 use Rattle.plain_lists.proofs.Membership.{Contains-nil, Contains-head, Contains-tail, Contains-cons_cases}
 use Rattle.af_encoding.proofs.EnumerationLemmas.{pairs_head, pairs_tail}
 use Rattle.aba_needed.specs.Listing.{walk_along}
-use Rattle.aba_needed.specs.Walks.{IsFree, IsWalkStart, IsWalkStep, IsWalkEnd}
+use Rattle.oracle_face.specs.Walks.{IsFree, IsWalkStart, IsWalkStep, IsWalkEnd}
 
 -- what comes behind a number is larger
 pub later_more : {X : Type 0} (key : X → ℕ) (x : X) (xs : List X) → AllPairs (λ a b. key a < key b) (x ∷ xs) → (y : X)

@@ -1,6 +1,6 @@
 //! The axioms that a search needs of a flat assumption-based framework.
 #![tactic(auto)]
 
-mod needed_axioms;
+pub mod needed_axioms;
 
-pub use needed_axioms::needed;
+pub use needed_axioms::{needed, push_all, push_rule};

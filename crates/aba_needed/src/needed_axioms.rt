@@ -6,7 +6,8 @@ ghost use Rattle.aba_semantics.specs.AbaFrameworks.{IsNumberedAba};
 ghost use Rattle.meaning_atoms.specs.AxiomNames.{IsAxiomName};
 ghost use Rattle.aba_notions.specs.Storage.{rule_at};
 ghost use Rattle.af_encoding.specs.Enumerations.{Enumerates};
-ghost use Rattle.aba_needed.specs.AbaNeeded.{IsNeededForAba};
+ghost use Rattle.semantics.specs.Frameworks.{aba};
+ghost use Rattle.oracle_face.specs.Needed.{IsNeeded};
 ghost use Rattle.aba_needed.specs.Listing.{Gains, atom_axioms, contrary_axioms, rule_axioms};
 
 use aba_notions::AbaPlain;
@@ -24,7 +25,7 @@ use std::alloc::Global;
 /// seven of each assumption, five of each atom, six of each rule and four of each atom in a body. `Memory` says that an
 /// allocation was refused.
 pub fn needed(alloc: Global, plain: &AbaPlain) -> Result<Items<AxiomName>, Memory>
-    ensures all { IfOk result (Enumerates (IsNeededForAba plain.now)) }
+    ensures all { IfOk result (Enumerates (IsNeeded (aba plain.now))) }
     ensures names { IfOk result (All IsAxiomName) }
 {
     let mut names = Vec::new(alloc);
@@ -80,7 +81,7 @@ fn push_rules(alloc: Global, plain: &AbaPlain, names: &mut Vec<AxiomName>) -> Re
 
 /// Adds the axioms of the rule at an index: those of its head, then by rising atoms those of each atom of its body with
 /// the steps of the walks from the atom before, and the ends of the walks.
-fn push_rule(
+pub fn push_rule(
     alloc: Global,
     plain: &AbaPlain,
     names: &mut Vec<AxiomName>,
@@ -164,7 +165,7 @@ fn push_atom(
 }
 
 /// Adds axioms at the end.
-fn push_all(alloc: Global, names: &mut Vec<AxiomName>, added: &[AbaAxiom]) -> Result<(), Memory>
+pub fn push_all(alloc: Global, names: &mut Vec<AxiomName>, added: &[AbaAxiom]) -> Result<(), Memory>
     ensures { OnOk result (Gains added.now names.old.items names.new.items) }
 {
     for axiom in added {

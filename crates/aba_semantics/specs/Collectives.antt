@@ -4,10 +4,12 @@
 -- of attacking arguments", ArgMAS 2006. The notions are those of P. M. Dung, "On the acceptability of arguments and
 -- its fundamental role in nonmonotonic reasoning, logic programming and n-person games", Artificial Intelligence 77
 -- (1995), and, for ideal sets, of P. M. Dung, P. Mancarella, F. Toni, "Computing ideal sceptical argumentation",
--- Artificial Intelligence 171 (2007), with attacks by sets in the place of attacks by arguments.
+-- Artificial Intelligence 171 (2007), with attacks by sets in the place of attacks by arguments; for semi-stable sets, of
+-- M. Caminada, S. Sá, J. Alcântara, W. Dvořák, "On the difference between assumption-based argumentation and abstract
+-- argumentation", IfCoLog Journal of Logics and their Applications 2 (2015).
 --
 -- A set is any list of numbers, of which only the members count.
-use Rattle.std.specs.Prelude.{ℕ, List, Contains}
+use Rattle.std.specs.Prelude.{◌⊎◌, ℕ, List, Contains}
 use Rattle.plain_lists.specs.Members.{IsWithin}
 
 -- a framework with collective attacks: its live arguments, and which sets attack which arguments
@@ -62,6 +64,19 @@ pub record IsPreferred (d : Collective) (s : List ℕ) : Type 0 where
 pub record IsStable (d : Collective) (s : List ℕ) : Type 0 where
   pub conflict_free : IsConflictFree d s
   pub attacks_outside : (a : ℕ) → Contains d.live a → (Contains s a → ⊥) → d.attacks s a
+
+-- a is a member of the set, or attacked by it: it lies in the set's range
+abbrev pub IsInRange : Collective → List ℕ → ℕ → Type 0
+IsInRange d s a = Contains s a ⊎ d.attacks s a
+
+-- of the live arguments, the one set's range lies in the other's
+abbrev pub IsRangeWithin : Collective → List ℕ → List ℕ → Type 0
+IsRangeWithin d s t = (a : ℕ) → Contains d.live a → IsInRange d s a → IsInRange d t a
+
+-- admissible, and no admissible set has a larger range (Caminada et al. 2015)
+pub record IsSemiStable (d : Collective) (s : List ℕ) : Type 0 where
+  pub admissible : IsAdmissible d s
+  pub widest : (t : List ℕ) → IsAdmissible d t → IsRangeWithin d s t → IsRangeWithin d t s
 
 -- admissible, and part of every preferred set
 pub record IsInAllPreferred (d : Collective) (s : List ℕ) : Type 0 where

@@ -13,7 +13,7 @@ use std::test::Fail;
 
 /// An edit that borrows its body.
 #[derive(Clone, Copy, Debug)]
-enum Change<'a> {
+pub(crate) enum Change<'a> {
     ArgAdd(u32),
     ArgDrop(u32),
     AttackAdd(u32, u32),
@@ -32,7 +32,7 @@ type Told<'a> = Result<(u32, u32, u32, &'a [u32]), EditFault>;
 /// What is told of an edit that gives no number and takes nothing away.
 const NOTHING: Told<'static> = Ok((0, 0, 0, &[]));
 
-fn edit_of(alloc: Global, change: Change<'_>) -> Result<Edit, Memory> {
+pub(crate) fn edit_of(alloc: Global, change: Change<'_>) -> Result<Edit, Memory> {
     Ok(match change {
         Change::ArgAdd(number) => Edit::ArgAdd(number),
         Change::ArgDrop(number) => Edit::ArgDrop(number),
@@ -89,7 +89,7 @@ fn look(
 }
 
 /// The framework of a text that is no longer than a text may be.
-fn framework_of(alloc: Global, text: &str) -> Option<AbaPlain> {
+pub(crate) fn framework_of(alloc: Global, text: &str) -> Option<AbaPlain> {
     if text.len() > 268_435_456 {
         return None;
     }

@@ -4,10 +4,14 @@
 #[cfg(test)]
 mod aba_text;
 #[cfg(test)]
+mod changes;
+#[cfg(test)]
 mod definitions;
 #[cfg(test)]
 mod edits;
 #[cfg(test)]
 mod encoding;
+#[cfg(test)]
+mod frameworks;
 #[cfg(test)]
 mod notions;

@@ -7,10 +7,10 @@ use Rattle.meaning_atoms.specs.declared.atom.Atom.TheVariants.{Cf, Ad, Co, St}
 use Rattle.meaning_atoms.specs.declared.axiom.AfAxiom.{AfAxiom}
 use Rattle.meaning_atoms.specs.declared.axiom.AfAxiom.TheVariants.{A1, A2, A3, A4, A5, A6, A7, A8, A9, A10, A11, A12, A13, A14}
 use Rattle.semantics.specs.Framework.{Af, Attacks, IsAttackedBy, Defends}
-use Rattle.semantics.specs.Frameworks.{Framework, af}
+use Rattle.semantics.specs.Frameworks.{Framework, af, aba}
 use Rattle.meaning_atoms.specs.declared.atom.AtomLit.{AtomLit}
 use Rattle.meaning_atoms.specs.Literals.{affirmed, denied}
-use Rattle.meaning_atoms.specs.Worlds.{AnyFramework, solved, aba, world_of, IsWorldIn, IsAfWorld, HasGap, HasTail, HasUnmet, IsTrueBeside, IsValid}
+use Rattle.meaning_atoms.specs.Worlds.{world_of, IsWorldOf, IsAfWorld, HasGap, HasTail, HasUnmet, IsTrueBeside, IsValid}
 use Rattle.semantics.proofs.Decided.{decide_attacked}
 use Rattle.meaning_atoms.proofs.Valuations.{decide_unmet}
 use Rattle.semantics.proofs.Extensions.{stable_largest, preferred_complete}
@@ -176,9 +176,9 @@ rows_of_af (A13 a) = attacked_are_in_range a
 rows_of_af (A14 part) = notions_imply part
 
 -- in worlds of each kind
-rows_of : (name : AfAxiom) (f : AnyFramework) (s : List ℕ) → IsWorldIn f s → (sides : List (List AtomLit))
+rows_of : (name : AfAxiom) (f : Framework) (s : List ℕ) → IsWorldOf f s → (sides : List (List AtomLit))
     → IsTrueBeside (record { framework = f; set = s }) sides (table_clause name)
-rows_of name (solved (af f)) s ok sides = rows_of_af name f s ok sides
+rows_of name (af f) s ok sides = rows_of_af name f s ok sides
 rows_of name (aba f) s ok sides = rows_of_aba name f s ok sides
 
 pub rows_are_valid : (name : AfAxiom) → IsValid (table_clause name)

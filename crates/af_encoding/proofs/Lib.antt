@@ -2,7 +2,7 @@ pub mod EnumerationLemmas
 pub mod WalkLemmas
 pub mod NeededLemmas
 mod ChangeLemmas
-mod GainedLemmas
+pub mod GainedLemmas
 mod OutcomeLemmas
 mod PlaceLemmas
 pub mod Affirmed

@@ -7,13 +7,17 @@ use Rattle.semantics.specs.Arguments.{IsArgument}
 use Rattle.semantics.specs.Framework.{Af, Attacks}
 use Rattle.semantics.specs.Frameworks.{Framework, af, IsNumberedAf}
 use Rattle.meaning_atoms.specs.declared.axiom.AxiomName.{AxiomName}
-use Rattle.edit_rules.specs.declared.edit.Edit.{Edit}
-use Rattle.edit_rules.specs.declared.edit.Edit.TheVariants.{ArgAdd, ArgDrop, AttackAdd, AttackDrop, AsmAdd, AsmDrop, ConSet, RuleAdd, RuleDrop}
-use Rattle.edit_rules.specs.declared.effect.Effect.{Effect}
-use Rattle.edit_rules.specs.Edits.{af_with_argument, af_with_attack, argument_added, argument_dropped, attack_added, attack_dropped, edit_outcome, has_number, has_pair, is_end}
-use Rattle.edit_rules.proofs.EditTests.{both_from, both_gives, either_gives, either_left, is_false, number_there, pair_there, there_number, there_pair, within_bounds}
-use Rattle.edit_rules.proofs.ReplayLemmas.{af_of, done_row}
-use Rattle.edit_rules.proofs.RowForms.{with_number_members, with_pair_members}
+use Rattle.edit_words.specs.declared.edit.Edit.{Edit}
+use Rattle.edit_words.specs.declared.edit.Edit.TheVariants.{ArgAdd, ArgDrop, AttackAdd, AttackDrop, AsmAdd, AsmDrop, ConSet, RuleAdd, RuleDrop}
+use Rattle.edit_words.specs.declared.effect.Effect.{Effect}
+use Rattle.edit_words.specs.Numbers.{has_number}
+use Rattle.edit_rules.specs.Edits.{af_with_argument, af_with_attack, argument_added, argument_dropped, attack_added, attack_dropped, edit_outcome, has_pair, is_end}
+use Rattle.edit_words.proofs.EditTests.{both_from, both_gives, either_gives, either_left, is_false, number_there, there_number}
+use Rattle.edit_rules.proofs.EditTests.{pair_there, there_pair, within_bounds}
+use Rattle.edit_words.proofs.RefusalLemmas.{done_passes}
+use Rattle.edit_rules.proofs.ReplayLemmas.{af_of}
+use Rattle.edit_words.proofs.NumberLists.{with_number_members}
+use Rattle.edit_rules.proofs.RowForms.{with_pair_members}
 use Rattle.af_encoding.specs.Changes.{IsAlone, IsCalledByAttack, IsCalledByLoss, IsCalledByPairs, IsCalledFor, IsEffectOf}
 use Rattle.af_encoding.proofs.ChangeLemmas.{GainsArgument, IsGainedRow, IsLostRow, IsSameRow, LosesArgument, by_argument, by_attack, by_loss, by_new_argument}
 
@@ -159,7 +163,7 @@ pub argument_called : (f g : Af) (n : ℕ) (effect : Effect) → IsNumberedAf f
     → IsAlone n name ↔ IsCalledFor (af f) (af g) name
 argument_called f g n effect ok is name =
     let row = argument_added f n in
-    let done = done_row row.refusals (row.framework, row.effect) (af g, effect) is in
+    let done = done_passes row.refusals (row.framework, row.effect) (af g, effect) is in
     let same : af_with_argument f n ≡ g = ap (λ d. af_of d.0) done.1 in
     subst (λ h. IsAlone n name ↔ IsCalledFor (af f) (af h) name) same
     (by_new_argument f (af_with_argument f n) n (gains f n ok done.0.1.0) name)
@@ -169,7 +173,7 @@ pub loss_called : (f g : Af) (n : ℕ) (effect : Effect) → IsNumberedAf f → 
     → IsCalledByPairs g n effect.dropped name ↔ IsCalledFor (af f) (af g) name
 loss_called f g n effect ok ko is name =
     let row = argument_dropped f n in
-    let done = done_row row.refusals (row.framework, row.effect) (af g, effect) is in
+    let done = done_passes row.refusals (row.framework, row.effect) (af g, effect) is in
     let same : less_argument f n ≡ g = ap (λ d. af_of d.0) done.1 in
     let pairs : filter (is_end n) f.attacks ≡ effect.dropped = ap (λ d. d.1.dropped) done.1 in
     by_argument f g ok ko n effect.dropped (subst (λ h. LosesArgument f h n) same (loses f n))
@@ -179,13 +183,13 @@ pub dropped_argument : (f g : Af) (n : ℕ) (effect : Effect) → edit_outcome (
     → IsArgument n
 dropped_argument f g n effect is =
     let row = argument_dropped f n in
-    within_bounds n (done_row row.refusals (row.framework, row.effect) (af g, effect) is).0.0
+    within_bounds n (done_passes row.refusals (row.framework, row.effect) (af g, effect) is).0.0
 
 pub attack_called : (f g : Af) (b a : ℕ) (effect : Effect) → edit_outcome (af f) (AttackAdd b a) ≡ Ok (af g, effect)
     → (name : AxiomName) → IsCalledByAttack g b a name ↔ IsCalledFor (af f) (af g) name
 attack_called f g b a effect is name =
     let row = attack_added f b a in
-    let done = done_row row.refusals (row.framework, row.effect) (af g, effect) is in
+    let done = done_passes row.refusals (row.framework, row.effect) (af g, effect) is in
     let same : af_with_attack f b a ≡ g = ap (λ d. af_of d.0) done.1 in
     subst (λ h. IsCalledByAttack h b a name ↔ IsCalledFor (af f) (af h) name) same
     (by_attack f (af_with_attack f b a) b a (added_row f b a done.0.1.1.1.1.0) (added_others f b a)
@@ -195,14 +199,14 @@ pub added_attacker : (f g : Af) (b a : ℕ) (effect : Effect) → edit_outcome (
     → IsArgument b
 added_attacker f g b a effect is =
     let row = attack_added f b a in
-    within_bounds b (done_row row.refusals (row.framework, row.effect) (af g, effect) is).0.0
+    within_bounds b (done_passes row.refusals (row.framework, row.effect) (af g, effect) is).0.0
 
 pub drop_called : (f g : Af) (b a : ℕ) (effect : Effect) → IsNumberedAf f
     → edit_outcome (af f) (AttackDrop b a) ≡ Ok (af g, effect)
     → (name : AxiomName) → IsCalledByLoss g b a name ↔ IsCalledFor (af f) (af g) name
 drop_called f g b a effect ok is name =
     let row = attack_dropped f b a in
-    let done = done_row row.refusals (row.framework, row.effect) (af g, effect) is in
+    let done = done_passes row.refusals (row.framework, row.effect) (af g, effect) is in
     let same : less_attack f b a ≡ g = ap (λ d. af_of d.0) done.1 in
     subst (λ h. IsCalledByLoss h b a name ↔ IsCalledFor (af f) (af h) name) same
     (by_loss f (less_attack f b a) ok b a (dropped_row f b a (not-false (has_pair f.attacks (b, a)) done.0.1.1.1.1.0))
@@ -212,23 +216,23 @@ pub dropped_attacker : (f g : Af) (b a : ℕ) (effect : Effect) → edit_outcome
     → IsArgument b
 dropped_attacker f g b a effect is =
     let row = attack_dropped f b a in
-    within_bounds b (done_row row.refusals (row.framework, row.effect) (af g, effect) is).0.0
+    within_bounds b (done_passes row.refusals (row.framework, row.effect) (af g, effect) is).0.0
 
 -- the effect tells its own edit
 pub own_edit : (f : Af) (edit : Edit) (after : Framework) (effect : Effect)
     → edit_outcome (af f) edit ≡ Ok (after, effect) → effect.edit ≡ edit
 own_edit f (ArgAdd n) after effect is =
     let row = argument_added f n in
-    sym (ap (λ d. d.1.edit) (done_row row.refusals (row.framework, row.effect) (after, effect) is).1)
+    sym (ap (λ d. d.1.edit) (done_passes row.refusals (row.framework, row.effect) (after, effect) is).1)
 own_edit f (ArgDrop n) after effect is =
     let row = argument_dropped f n in
-    sym (ap (λ d. d.1.edit) (done_row row.refusals (row.framework, row.effect) (after, effect) is).1)
+    sym (ap (λ d. d.1.edit) (done_passes row.refusals (row.framework, row.effect) (after, effect) is).1)
 own_edit f (AttackAdd b a) after effect is =
     let row = attack_added f b a in
-    sym (ap (λ d. d.1.edit) (done_row row.refusals (row.framework, row.effect) (after, effect) is).1)
+    sym (ap (λ d. d.1.edit) (done_passes row.refusals (row.framework, row.effect) (after, effect) is).1)
 own_edit f (AttackDrop b a) after effect is =
     let row = attack_dropped f b a in
-    sym (ap (λ d. d.1.edit) (done_row row.refusals (row.framework, row.effect) (after, effect) is).1)
+    sym (ap (λ d. d.1.edit) (done_passes row.refusals (row.framework, row.effect) (after, effect) is).1)
 own_edit f (AsmAdd a c) after effect is = absurd (false≢true (ap is_ok is))
 own_edit f (AsmDrop a) after effect is = absurd (false≢true (ap is_ok is))
 own_edit f (ConSet a c) after effect is = absurd (false≢true (ap is_ok is))

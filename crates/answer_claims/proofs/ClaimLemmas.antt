@@ -7,9 +7,9 @@ use Rattle.std.proofs.lemmas.List.{append-nil, get_or-map, length-map, map-appen
 use Rattle.std.proofs.lemmas.List.Elements.{Contains-append_left, Contains-append_right, Contains-append_cases}
 use Rattle.plain_lists.proofs.Filters.{Contains-filter}
 use Rattle.plain_lits.proofs.HintCheckLemmas.{Contains-mapped, Contains-from_mapped}
-use Rattle.semantics.specs.Frameworks.{Framework, af}
+use Rattle.semantics.specs.Frameworks.{Framework, af, aba}
 use Rattle.meaning_atoms.specs.declared.atom.Atom.{Atom}
-use Rattle.meaning_atoms.specs.declared.atom.Atom.TheVariants.{Member, Live, Attack, Gap, Tail, Unmet, Range, Cf, Ad, Co, St, Ask}
+use Rattle.meaning_atoms.specs.declared.atom.Atom.TheVariants.{Member, Range}
 use Rattle.meaning_atoms.specs.declared.atom.AtomLit.{AtomLit}
 use Rattle.meaning_atoms.specs.Literals.{affirmed, denied}
 use Rattle.certificate_claims.specs.declared.ranges.FirstRanged.{FirstRanged}
@@ -108,6 +108,7 @@ any_never p never (x ∷ xs) = rw (never x) (any_never p never xs)
 
 none_hit : (f : Framework) (a : ℕ) → hits f [] a ≡ false
 none_hit (af f) a = any_never (λ (p : ℕ × ℕ). eqb p.1 a && has [] p.0) (λ p. and_false (eqb p.1 a)) f.attacks
+none_hit (aba f) a = refl
 
 no_range : (f : Framework) → range_of f [] ≡ []
 no_range f = filter_never (is_ranged f []) (λ x. none_hit f x) (members f)

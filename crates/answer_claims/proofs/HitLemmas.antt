@@ -1,16 +1,27 @@
 -- What sets attack, member by member and set by set.
 use Rattle.std.proofs.Common.{◌≡◌, ◌+◌, ◌<◌, ◌≤◌, ℕ, List, [], ◌∷◌, ◌++◌, length, get_or, take, ap, sym, ◌∙◌, inl, inr, ⊎_elim}
 use Rattle.std.specs.Prelude.{◌↔◌, Contains}
+use Rattle.std.proofs.lemmas.Bool.{false≢true}
 use Rattle.std.proofs.lemmas.List.{take_more, take_all}
 use Rattle.std.proofs.lemmas.List.Elements.{Contains-push_cases, Contains-append_left, Contains-push}
 use Rattle.plain_lists.proofs.ListTests.{any_gives, any_from}
 use Rattle.plain_lists.proofs.Membership.{Contains-nil}
 use Rattle.semantics.specs.Framework.{Af, IsAttackedBy}
-use Rattle.semantics.specs.Frameworks.{af}
+use Rattle.aba_semantics.specs.AbaFrameworks.{Aba}
+use Rattle.semantics.specs.Frameworks.{af, aba}
 use Rattle.dung_notions.specs.Ranges.{GainsTargets}
 use Rattle.certificate_claims.specs.SetLiterals.{hits}
 use Rattle.certificate_claims.proofs.SetTests.{hits_from, hits_gives}
 use Rattle.answer_claims.specs.SetFacts.{GainsHits, IsHitBy}
+
+-- nothing counts as attacked in the other kind
+pub none_is_hit : (f : Aba) (sets : List (List ℕ)) → IsHitBy (aba f) sets []
+none_is_hit f sets = record {
+  members = λ a. (
+    λ c. absurd (Contains-nil a c),
+    λ e. absurd (false≢true (any_gives (λ t. hits (aba f) t a) sets e).2),
+  );
+}
 
 pub hits_none : (f : Af) (old : List ℕ) → GainsHits f [] old old
 hits_none f old = record {

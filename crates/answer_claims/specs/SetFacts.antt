@@ -1,12 +1,12 @@
 -- What is found of sets.
 use Rattle.std.specs.Prelude.{◌≡◌, ◌↔◌, ◌⊎◌, ℕ, true, List, Contains}
 use Rattle.std.specs.List.{list_any}
-use Rattle.plain_lists.specs.Members.{IsWithin}
 use Rattle.semantics.specs.Framework.{Af, IsAttackedBy}
-use Rattle.semantics.specs.Frameworks.{Framework}
+use Rattle.semantics.specs.Frameworks.{Framework, af, aba}
 use Rattle.certificate_claims.specs.declared.row.Row.{Row}
 use Rattle.certificate_claims.specs.declared.row.Row.TheVariants.{AllWidest}
-use Rattle.certificate_claims.specs.SetLiterals.{hits, is_ranged, members}
+use Rattle.certificate_claims.specs.Ranges.{AreLive}
+use Rattle.certificate_claims.specs.SetLiterals.{hits, is_ranged}
 
 -- the list has just what is in the set's range
 pub record IsRangeOf (f : Framework) (s range : List ℕ) : Type 0 where
@@ -20,9 +20,10 @@ pub record IsHitBy (f : Framework) (sets : List (List ℕ)) (hit : List ℕ) : T
 pub record GainsHits (f : Af) (s old new : List ℕ) : Type 0 where
   pub gains : (a : ℕ) → Contains new a ↔ (Contains old a ⊎ IsAttackedBy f s a)
 
--- the sets have members of the framework alone
-pub record AreSetsOf (f : Framework) (sets : List (List ℕ)) : Type 0 where
-  pub within : (s : List ℕ) → Contains sets s → IsWithin s (members f)
+-- sets whose ranges are asked for: the framework is an abstract one, and they have live arguments alone
+abbrev pub AreSetsOf : Framework → List (List ℕ) → Type 0
+AreSetsOf (af f) sets = AreLive f sets
+AreSetsOf (aba f) sets = ⊥
 
 -- so have those of a row whose sets are all the extensions by their ranges
 abbrev pub HasSetsOf : Framework → Row → Type 0

@@ -1,7 +1,8 @@
 //! What sets attack.
 
-ghost use Rattle.std.specs.Prelude.{Contains, IfOk, OnOk};
-ghost use Rattle.semantics.specs.Frameworks.{af};
+ghost use Rattle.std.specs.Prelude.{ℕ, Contains, IfOk, List, OnOk};
+ghost use Rattle.aba_semantics.specs.AbaFrameworks.{Aba};
+ghost use Rattle.semantics.specs.Frameworks.{aba, af};
 ghost use Rattle.dung_notions.specs.Ranges.{GainsTargets};
 ghost use Rattle.edit_rules.specs.Kinds.{framework_of};
 ghost use Rattle.answer_claims.specs.SetFacts.{GainsHits, IsHitBy};
@@ -12,7 +13,8 @@ use plain_lists::Memory;
 use set_lists::NumSet;
 use std::alloc::Global;
 
-/// What some set of a list attacks. It meets each attack that leaves a member of a set once.
+/// What some set of a list attacks. It meets each attack that leaves a member of a set once. No claim on an
+/// assumption-based framework speaks of it, and there it is nothing.
 pub(crate) fn hit_by(
     alloc: Global,
     framework: &Framework,
@@ -25,7 +27,15 @@ pub(crate) fn hit_by(
             let hit = af_hit_by(alloc, plain, sets)?;
             Ok(hit)
         }
+        Framework::Aba(_) => Ok(no_hits(alloc)),
     }
+}
+
+/// What sets of an assumption-based framework count as attacking.
+fn no_hits(alloc: Global) -> NumSet
+    ensures { (f : Aba) (sets : List (List ℕ)) → IsHitBy (aba f) sets result }
+{
+    NumSet::new(alloc)
 }
 
 /// The same in an abstract framework.

@@ -1,7 +1,8 @@
 //! What sets are made of and their ranges, by the framework's kind.
 
 ghost use Rattle.std.specs.Prelude.{◌≡◌, ◌↔◌, map, Contains, IfOk, IsTrue};
-ghost use Rattle.semantics.specs.Frameworks.{af};
+ghost use Rattle.aba_semantics.specs.AbaFrameworks.{Aba};
+ghost use Rattle.semantics.specs.Frameworks.{aba, af};
 ghost use Rattle.certificate_claims.specs.Ranges.{IsFirstRanged};
 ghost use Rattle.certificate_claims.specs.SetLiterals.{members, range_of};
 ghost use Rattle.edit_rules.specs.Kinds.{framework_of};
@@ -20,6 +21,7 @@ pub(crate) fn members_of(framework: &Framework) -> &[u32]
 {
     match framework {
         Framework::Af(plain) => plain.live(),
+        Framework::Aba(plain) => plain.assumptions().as_slice(),
     }
 }
 
@@ -29,15 +31,18 @@ pub(crate) fn is_member(framework: &Framework, number: u32) -> bool
 {
     match framework {
         Framework::Af(plain) => plain.is_live(number),
+        Framework::Aba(plain) => plain.assumptions().contains(number),
     }
 }
 
-/// A set's range. `Memory` says that an allocation was refused.
+/// A set's range; no claim on an assumption-based framework speaks of ranges, and there it is the set itself.
+/// `Memory` says that an allocation was refused.
 pub fn range_of(alloc: Global, framework: &Framework, set: &NumSet) -> Result<NumSet, Memory>
     ensures { IfOk result (IsRangeOf (framework_of framework.now) set.now) }
 {
     match framework {
         Framework::Af(plain) => af_range(alloc, plain, set),
+        Framework::Aba(_) => own_range(alloc, set),
     }
 }
 
@@ -46,6 +51,14 @@ fn af_range(alloc: Global, plain: &AfPlain, set: &NumSet) -> Result<NumSet, Memo
     ensures { IfOk result (IsRangeOf (af plain.now) set.now) }
 {
     let range = plain.range_of(alloc, set)?;
+    Ok(range)
+}
+
+/// A set's range in an assumption-based framework.
+fn own_range(alloc: Global, set: &NumSet) -> Result<NumSet, Memory>
+    ensures { IfOk result (λ range. (f : Aba) → IsRangeOf (aba f) set.now range) }
+{
+    let range = set.copy(alloc)?;
     Ok(range)
 }
 
@@ -60,6 +73,7 @@ pub(crate) fn first_with_ranges(
 {
     match framework {
         Framework::Af(plain) => af_first(alloc, plain, sets),
+        Framework::Aba(_) => unreachable!(),
     }
 }
 
@@ -82,6 +96,7 @@ pub(crate) fn all_ranges(
 {
     match framework {
         Framework::Af(plain) => af_ranges(alloc, plain, sets),
+        Framework::Aba(_) => unreachable!(),
     }
 }
 

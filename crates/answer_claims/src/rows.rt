@@ -1,16 +1,19 @@
 //! The row of an answer in the table of certificates.
 
+ghost use Rattle.std.specs.Bool.{OnFalse, OnTrue};
 ghost use Rattle.std.specs.Prelude.{◌≡◌, ◌∷◌, [], IfOk};
 ghost use Rattle.meaning_atoms.specs.Literals.{affirmed, negated};
 ghost use Rattle.iccma_tasks.specs.declared.answer.Answer.TheVariants.{Sets};
-ghost use Rattle.certificate_claims.specs.Claims.{all_row, all_shown, credulous_row, each_accepts, none_accepts, row_of, sceptical_row, sets_of, shown, some_row, there_is_none};
+ghost use Rattle.certificate_claims.specs.Claims.{all_row, all_shown, credulous_row, each_accepts, none_accepts, row_for, row_of, row_where, sceptical_row, sets_of, shown, some_row, there_is_none};
+ghost use Rattle.certificate_claims.specs.declared.row.Row.{Row};
+ghost use Rattle.certificate_claims.specs.declared.row.Row.TheVariants.{Misshapen};
 ghost use Rattle.certificate_claims.specs.SetLiterals.{goal};
 ghost use Rattle.edit_rules.specs.Kinds.{framework_of};
 
 use certificate_claims::Row;
 use edit_rules::Framework;
 use iccma_tasks::{Answer, Problem, Query, Semantics};
-use meaning_atoms::{Atom, AtomLit};
+use meaning_atoms::{Atom, AtomLit, Closure};
 use plain_lists::{Items, Memory};
 use set_lists::NumSet;
 use std::alloc::Global;
@@ -21,6 +24,7 @@ pub(crate) fn goal_literal(framework: &Framework, number: u32) -> AtomLit
 {
     match framework {
         Framework::Af(_) => yes(Atom::Member(number)),
+        Framework::Aba(_) => yes(Atom::Der(Closure::Own, number)),
     }
 }
 
@@ -239,6 +243,36 @@ pub fn row(
     answer: &Answer,
 ) -> Result<Row, Memory>
     ensures { IfOk result (λ row. row ≡ row_of (framework_of framework.now) query.now answer.now) }
+{
+    let semantics = query.task().semantics;
+    if !has_rows(framework, semantics) {
+        return Ok(Row::Misshapen);
+    }
+    let row = own_row(alloc, framework, query, answer)?;
+    Ok(row)
+}
+
+/// Whether answers by the semantics have rows on the framework: those on assumption-based frameworks have none by
+/// semi-stable and by ideal sets.
+fn has_rows(framework: &Framework, semantics: Semantics) -> bool
+    ensures has { OnTrue result ((row : Row) → row_where semantics (framework_of framework.now) row ≡ row) }
+    ensures none { OnFalse result ((row : Row) → row_where semantics (framework_of framework.now) row ≡ Misshapen) }
+{
+    match (framework, semantics) {
+        (Framework::Aba(_), Semantics::SemiStable | Semantics::Ideal) => false,
+        _ => true,
+    }
+}
+
+/// The row of an answer to a query, where answers by its semantics have rows.
+fn own_row(
+    alloc: Global,
+    framework: &Framework,
+    query: &Query,
+    answer: &Answer,
+) -> Result<Row, Memory>
+    ensures { IfOk result (λ row. row ≡ row_for (framework_of framework.now) query.now.task.problem
+        query.now.task.semantics query.now.number answer.now) }
 {
     let semantics = query.task().semantics;
     match (query.task().problem, query.number()) {

@@ -165,6 +165,7 @@ fn push_attacked(
 {
     match framework {
         Framework::Af(_) => push_all(clause, Word::Struck, set.as_slice()),
+        Framework::Aba(_) => push_all(clause, Word::Struck, set.as_slice()),
     }
 }
 

@@ -5,11 +5,11 @@ use Rattle.argue_outside.specs.Outside.{HoldsStill, KnownFile}
 use Rattle.argue_outside.specs.declared.Role.{Role}
 use Rattle.argue_outside.specs.declared.Role.TheVariants as role
 use Rattle.argue_words.specs.Words.{CheckTexts}
-use Rattle.semantics.specs.Framework.{Af}
-use Rattle.af_format.specs.AfText.{ReadsAs}
-use Rattle.af_format.proofs.Readings.{ReadsAs-faultless}
-use Rattle.af_format.specs.Faults.{IfLine, IsFirstFault}
-use Rattle.af_format.specs.declared.fault.ReadFault.{ReadFault as AfFault}
+use Rattle.semantics.specs.Frameworks.{Framework as AnyFramework}
+use Rattle.framework_text.specs.FrameworkText.{IsFirstFault, ReadsAs}
+use Rattle.framework_text.proofs.Readings.{ReadsAs-faultless}
+use Rattle.af_format.specs.Faults.{IfLine}
+use Rattle.af_format.specs.declared.fault.ReadFault.{ReadFault as FrameworkFault}
 use Rattle.af_format.specs.declared.fault.ReadFault.TheVariants as fault
 use Rattle.iccma_tasks.specs.AnswerText.{filled_fields, IsToldOf, ReadsAs as AnswerReadsAs}
 use Rattle.iccma_tasks.specs.Tasks.{Asked}
@@ -22,8 +22,8 @@ use Rattle.certificate_text.proofs.OneOutcome.{one_reading}
 use Rattle.certificate_claims.specs.declared.certificate.Certificate.{Certificate}
 use Rattle.certificate_text.specs.declared.fault.CertFault.{CertFault}
 use Rattle.certificate_text.specs.declared.fault.CertFault.TheVariants as certificate_fault
-use Rattle.argue_program.specs.Checks.{CheckEnds, ChecksFiles, EndsChecking, HasCheckBytes, IsChecked, IsSoundIn, IsTextFault, answer_status, certificate_status, check_inputs}
-use Rattle.argue_program.specs.Inputs.{EndsReading, Follow, Input, IsRead, IsUnrefused, Passes, Reading, StopsAt, StopsAtFirst, StopsReading, input, reading, status_of_fault}
+use Rattle.argue_program.specs.Checks.{CheckEnds, ChecksFiles, EndsChecking, HasCheckBytes, IsChecked, IsTextFault, answer_status, certificate_status, check_inputs}
+use Rattle.argue_program.specs.Inputs.{EndsReading, Follow, Input, IsRead, IsSoundIn, IsUnrefused, Passes, Reading, StopsAt, StopsAtFirst, StopsReading, input, reading, status_of_fault}
 use Rattle.argue_program.specs.Texts.{common_text}
 use Rattle.argue_program.specs.declared.checking.CheckBytes.{CheckBytes}
 use Rattle.argue_program.specs.declared.checking.Checked.{Checked}
@@ -99,8 +99,9 @@ moved h h' S S' c c' n one end holds still counts (inr memory) = inr memory
 
 -- ---- texts
 
-pub framework_sound : (bytes : List ℕ) (f : Af) → ReadsAs bytes f → IsSoundIn (role.Framework 1) bytes
-framework_sound bytes f reads line (cause.Framework c) first = (ReadsAs-faultless bytes f reads).none line c first.stands
+pub framework_sound : (bytes : List ℕ) (f : AnyFramework) → ReadsAs bytes f → IsSoundIn (role.Framework 1) bytes
+framework_sound bytes f reads line (cause.Framework c) first = ReadsAs-faultless bytes f reads line c first.stands
+framework_sound bytes f reads line (cause.Script c) first = first
 framework_sound bytes f reads line (cause.Answer c) first = first
 framework_sound bytes f reads line (cause.Certificate c) first = first
 
@@ -108,6 +109,7 @@ pub answer_sound : (bytes : List ℕ) (a : Answer) → AnswerReadsAs (filled_fie
 answer_sound bytes a reads line (cause.Answer c) first =
     ⊎_elim (λ e. cc e) (λ e. cc e) (exact_read bytes (Err (answer_fault.At line c)) tt first a reads)
 answer_sound bytes a reads line (cause.Framework c) first = first
+answer_sound bytes a reads line (cause.Script c) first = first
 answer_sound bytes a reads line (cause.Certificate c) first = first
 
 pub certificate_sound : (bytes : List ℕ) (k : Certificate) → CertReadsAs bytes (Ok k) → IsSoundIn role.Certificate bytes
@@ -115,22 +117,23 @@ certificate_sound bytes k reads line (cause.Certificate c) first =
     let e = one_reading bytes (Ok k) (Err (certificate_fault.At line c)) reads first in
     cc e
 certificate_sound bytes k reads line (cause.Framework c) first = first
+certificate_sound bytes k reads line (cause.Script c) first = first
 certificate_sound bytes k reads line (cause.Answer c) first = first
 
 -- a fault of the framework is the first of all
-pub framework_fault : (bytes : CheckBytes) (f : AfFault)
+pub framework_fault : (bytes : CheckBytes) (f : FrameworkFault)
     → IfLine f (λ told. IsFirstFault bytes.framework told.line told.cause)
     → IsTextFault bytes (status_of_fault (role.Framework 1) f)
 framework_fault bytes (fault.Line told) first = inl (refl, first)
 framework_fault bytes fault.Memory first = tt
 
-pub answer_fault_first : (bytes : CheckBytes) (f : AnswerFault) (g : Af) → ReadsAs bytes.framework g
+pub answer_fault_first : (bytes : CheckBytes) (f : AnswerFault) (g : AnyFramework) → ReadsAs bytes.framework g
     → IsToldOf bytes.answer f → IsTextFault bytes (answer_status f)
 answer_fault_first bytes (answer_fault.At line c) g reads first =
     inr (inl (refl, framework_sound bytes.framework g reads, first))
 answer_fault_first bytes answer_fault.Memory g reads first = tt
 
-pub certificate_fault_first : (bytes : CheckBytes) (f : CertFault) (g : Af) (a : Answer) → ReadsAs bytes.framework g
+pub certificate_fault_first : (bytes : CheckBytes) (f : CertFault) (g : AnyFramework) (a : Answer) → ReadsAs bytes.framework g
     → AnswerReadsAs (filled_fields bytes.answer) a → IsCertRead bytes.certificate (Err f)
     → IsTextFault bytes (certificate_status f)
 certificate_fault_first bytes (certificate_fault.At line c) g a reads answers first =
@@ -221,13 +224,13 @@ pub checks_from : (holds : List ℕ → KnownFile) (asked : Asked) (texts : Chec
     (end : Status) → HasCheckBytes holds texts bytes → IsChecked bytes read
     → CheckEnds (framework_of read.framework) asked read.answer read.certificate end → ChecksFiles holds asked texts end
 checks_from holds asked texts bytes read end has is ends = record {
-  framework = is.plain;
+  framework = framework_of read.framework;
   answer = read.answer;
   certificate = read.certificate;
   of_framework = record { bytes = bytes.framework; has = has.framework; reads = is.of_framework };
   of_answer = record { bytes = bytes.answer; has = has.answer; reads = is.of_answer };
   of_certificate = record { bytes = bytes.certificate; has = has.certificate; reads = is.of_certificate };
-  ends = subst (λ f. CheckEnds f asked read.answer read.certificate end) is.framework ends;
+  ends = ends;
 }
 
 pub judged_ok : {T : Type 0} (holds : List ℕ → KnownFile) (asked : Asked) (texts : CheckTexts) (bytes : CheckBytes)

@@ -1,31 +1,21 @@
 -- How a command may end, by its row of the table.
-use Rattle.std.proofs.Common.{◌≡◌, ◌≢◌, ◌∙◌, ◌⊎◌, ◌<◌, ◌≤◌, ℕ, List, [], ◌∷◌, length, refl, sym, ap, subst, inl, inr, ⊎_elim, true, false, arith, Option, None, Some, Result, Ok, Err, map}
-use Rattle.std.specs.Prelude.{Contains}
-use Rattle.std.specs.Io.KnownBytes.{Appends}
-use Rattle.std.specs.Option.{unwrap_or}
-use Rattle.argue_outside.specs.Outside.{FaultCounted, HoldsWhole, IsLonger, KnownFile}
-use Rattle.argue_outside.specs.declared.Role.{Role}
-use Rattle.argue_outside.specs.declared.Role.TheVariants.{Framework}
-use Rattle.argue_words.specs.Words.{AreWords, CheckTexts, IsCheckQuery, IsSolveQuery, Request, version, problems, solving, checking, unknown, SolveTexts, requested, words_are_problems}
-use Rattle.argue_words.proofs.RequestLaws.{query_requested, requested_list, requested_texts, requested_none, requested_query, requested_unknown}
-use Rattle.af_format.specs.AfText.{IsReadable, ReadsAs}
-use Rattle.af_format.proofs.Readings.{ReadsAs-faultless, ReadsAs-same}
-use Rattle.argue_program.specs.Inputs.{HasBytes, HasFirstFault, HasReadFault, Input, IsFirstFaultIn, IsFrameworkOf, Reading, StopsAt, StopsAtFirst, input}
-use Rattle.argue_program.specs.Rows.{EndsCommand, EndsSolved, FileText, HasNoInput, IsEndingOf, Row, check_row, certificate_files, file_text, files_beside, nothing_kept, problems_row, reply_files, reply_text, row_of, session_files, session_text, solve_row, text_of, unknown_row, version_row}
+use Rattle.std.proofs.Common.{◌≡◌, ◌≢◌, ◌⊎◌, ◌<◌, ◌≤◌, ℕ, List, length, refl, sym, ap, subst, inl, inr, ⊎_elim, true, false, arith, Option, None, Some, Ok}
+use Rattle.argue_outside.specs.Outside.{HoldsWhole, IsLonger, KnownFile}
+use Rattle.argue_outside.specs.declared.Role.TheVariants.{Framework, Script as OfScript}
+use Rattle.argue_words.specs.Words.{CheckTexts, IsSolveQuery, LiveTexts, Request, SolveTexts, requested}
+use Rattle.argue_words.proofs.RequestLaws.{requested_query}
+use Rattle.framework_text.specs.FrameworkText.{IsFaulty, IsReadable, ReadsAs}
+use Rattle.framework_text.proofs.Readings.{ReadsAs-faultless, ReadsAs-numbered, ReadsAs-same}
+use Rattle.argue_program.specs.Inputs.{HasBytes, HasFirstFault, HasReadFault, Input, IsFirstFaultIn, IsFrameworkOf, IsScriptOf, IsSoundIn, Reading, StopsAt, StopsAtFirst, input}
+use Rattle.argue_program.specs.Rows.{EndsCommand, EndsLive, EndsSolved, check_row, live_row, problems_row, row_of, solve_row, unknown_row, version_row}
 use Rattle.iccma_tasks.specs.Tasks.{Asked}
 use Rattle.argue_program.specs.Queries.{asked_by, solving_by}
-use Rattle.argue_program.specs.Solves.{IsSessionOf, IsSessionOn, status_of}
+use Rattle.argue_program.specs.Solves.{IsSessionOf}
 use Rattle.argue_program.specs.declared.query.Solving.{Solving}
-use Rattle.oracle_core.specs.declared.reply.AnswerStop.{AnswerStop}
-use Rattle.oracle_core.specs.declared.reply.Answered.{Answered}
-use Rattle.argue_program.proofs.SolveLemmas.{done_reply, fills, spends_all}
-use Rattle.argue_program.specs.Checks.{CheckEnds, ChecksFiles, IsAnswerOf, IsCertificateOf, IsSoundIn, check_inputs}
+use Rattle.argue_program.specs.Checks.{CheckEnds, ChecksFiles, IsAnswerOf, IsCertificateOf, check_inputs}
 use Rattle.argue_program.proofs.CheckLemmas.{answer_sound, certificate_sound, framework_sound, stops_told}
-use Rattle.semantics.specs.Framework.{Af}
-use Rattle.semantics.specs.Frameworks.{IsNumbered, af}
-use Rattle.af_format.proofs.Reading.{arguments_numbered}
+use Rattle.semantics.specs.Frameworks.{Framework as AnyFramework}
 use Rattle.iccma_tasks.specs.AnswerText.{filled_fields, ReadsAs as AnswerReadsAs}
-use Rattle.iccma_tasks.specs.WrittenText.{text_of as answer_text}
 use Rattle.iccma_tasks.specs.declared.answer.Answer.{Answer}
 use Rattle.iccma_tasks.proofs.Exact.{ReadsAs-unique}
 use Rattle.certificate_claims.specs.declared.certificate.Certificate.{Certificate}
@@ -33,14 +23,16 @@ use Rattle.certificate_laws.proofs.Right.{accepted_right}
 use Rattle.certificate_laws.proofs.Verdicts.{accepted_is_verdict}
 use Rattle.certificate_text.specs.Reading.{ReadsAs as CertReadsAs}
 use Rattle.certificate_text.proofs.OneOutcome.{one_reading}
-use Rattle.argue_program.specs.Runs.{AnswersRight, AsksSession, ChecksContents, EndsAsReplied, FillsLog, HasText, IsCheckEnd, IsDoneOrMemory, IsFaulty, IsRunOf, IsSolveEnd, NamesCertificate, QueriesBytes, RefusesBytes, RefusesLength, RefusesWords, SolvesContents, SpendsBudget, WritesAnswer}
-use Rattle.argue_program.specs.Texts.{common_text, text_bytes}
-use Rattle.argue_program.specs.Writing.{BreaksFiles, BreaksOff, BreaksReplacing, IsWritten, Output, WritesFiles}
-use Rattle.argue_program.specs.declared.decision.Ending.{Ending}
+use Rattle.argue_program.specs.Runs.{AnswersRight, ChecksContents, EndsAsReplied, HasText, IsCheckEnd, IsDoneOrMemory, IsSolveEnd, QueriesBytes, IsFaultyScript, IsLiveEnd, KeepsTranscript, LivesContents, RefusesBytes, RefusesLength, RefusesWords, ScriptsBytes, SolvesContents}
+use Rattle.argue_program.specs.Scripts.{live_inputs}
+use Rattle.argue_program.proofs.ScriptLemmas.{script_sound}
+use Rattle.script_runs.specs.Transcripts.{IsTranscriptOf}
+use Rattle.script_text.proofs.FirstFaults.{script_is_faultless}
+use Rattle.script_text.proofs.OneScript.{script_same}
+use Rattle.script_text.specs.ScriptText.{IsScript}
+use Rattle.script_text.specs.declared.script.Script.{Script}
 use Rattle.argue_program.specs.declared.ended.Cause.{Cause}
 use Rattle.argue_program.specs.declared.ended.Cause.TheVariants as cause
-use Rattle.argue_program.specs.declared.ended.Ended.{Ended}
-use Rattle.argue_program.specs.declared.ended.KeptSession.{KeptSession}
 use Rattle.argue_program.specs.declared.ended.Limit.TheVariants as limit
 use Rattle.argue_program.specs.declared.ended.Refusal.TheVariants.{Line, Query}
 use Rattle.argue_program.specs.declared.ended.Status.{Status}
@@ -89,20 +81,21 @@ longer_at known bytes is long =
 readable_sound : (bytes : List ℕ) (line : ℕ) (c : Cause) → IsReadable bytes
     → ¬ IsFirstFaultIn (Framework 1) bytes line c
 readable_sound bytes line (cause.Framework c) reads first =
-    (ReadsAs-faultless bytes reads.0 reads.1).none line c first.stands
+    ReadsAs-faultless bytes reads.0 reads.1 line c first.stands
+readable_sound bytes line (cause.Script c) reads first = first
 readable_sound bytes line (cause.Answer c) reads first = first
 readable_sound bytes line (cause.Certificate c) reads first = first
 
 -- and no fault
 readable_or_faulty : (bytes : List ℕ) → IsReadable bytes → ¬ IsFaulty bytes
-readable_or_faulty bytes reads faulty = (ReadsAs-faultless bytes reads.0 reads.1).none faulty.0 faulty.1 faulty.2
+readable_or_faulty bytes reads faulty = ReadsAs-faultless bytes reads.0 reads.1 faulty.0 faulty.1 faulty.2
 
-first_at : (found : Reading) (file bytes : List ℕ) (line : ℕ) (c : Cause) → found.holds file ≡ Some (Some bytes)
-    → HasFirstFault found (input (Framework 1) file) line c → IsFirstFaultIn (Framework 1) bytes line c
-first_at found file bytes line c is h =
-    subst (λ bs. IsFirstFaultIn (Framework 1) bs line c) (bytes_at (found.holds file) bytes h.bytes is h.has) h.first
+first_at : (found : Reading) (one : Input) (bytes : List ℕ) (line : ℕ) (c : Cause)
+    → found.holds one.file ≡ Some (Some bytes) → HasFirstFault found one line c → IsFirstFaultIn one.role bytes line c
+first_at found one bytes line c is h =
+    subst (λ bs. IsFirstFaultIn one.role bs line c) (bytes_at (found.holds one.file) bytes h.bytes is h.has) h.first
 
-framework_reads : (known : KnownFile) (bytes : List ℕ) (f : Af) → known ≡ Some (Some bytes) → IsFrameworkOf known f
+framework_reads : (known : KnownFile) (bytes : List ℕ) (f : AnyFramework) → known ≡ Some (Some bytes) → IsFrameworkOf known f
     → IsReadable bytes
 framework_reads known bytes f is of_framework =
     (f, subst (λ bs. ReadsAs bs f) (bytes_at known bytes of_framework.bytes is of_framework.has) of_framework.reads)
@@ -140,7 +133,7 @@ module _ (found : Reading) (words : List (List ℕ)) (texts : SolveTexts) (query
 
   -- faulty bytes within the limit are refused
   pub refuses_bytes : (end : Status) → IsFaulty bytes → length bytes ≤ INPUT_LIMIT → (end ≢ WriteFault
-      → EndsQuery found texts query kept end) → RefusesBytes bytes end
+      → EndsQuery found texts query kept end) → RefusesBytes (Framework 1) bytes end
   refuses_bytes Done faulty short ends = not_done (ends (λ e. cc))
     where
       not_done : EndsQuery found texts query kept Done → ⊥
@@ -157,7 +150,8 @@ module _ (found : Reading) (words : List (List ℕ)) (texts : SolveTexts) (query
     where
       at_first : EndsQuery found texts query kept (InputRefused (Line r line c))
           → (r ≡ Framework 1) × IsFirstFaultIn (Framework 1) bytes line c
-      at_first (inl stops) = (stops.0, first_at found texts.file bytes line c asks.known stops.1)
+      at_first (inl stops) =
+          (stops.0, first_at found (input (Framework 1) texts.file) bytes line c asks.known stops.1)
       at_first (inr (inl is)) = absurd (cc)
       at_first (inr (inr solved)) = absurd (unread (InputRefused (Line r line c)) solved faulty)
   refuses_bytes Usage faulty short ends = not_usage (ends (λ e. cc))
@@ -311,14 +305,6 @@ refuses_words found kept (Limit l) ends =
 
 -- ---- the laws of a check
 
--- a framework that a text reads as has numbers within their bounds
-numbered : (bytes : List ℕ) (f : Af) → ReadsAs bytes f → IsNumbered (af f)
-numbered bytes f reads = record {
-  form = reads.framework.form;
-  live = λ a c. arguments_numbered reads.count reads.text.header_is.few a
-      (subst (λ xs. Contains xs a) reads.framework.live c);
-}
-
 accepts_right : (holds : List ℕ → KnownFile) (asked : Asked) (texts : CheckTexts)
     → asked_by texts.task texts.number ≡ Some asked → ChecksFiles holds asked texts Done → AnswersRight holds texts
 accepts_right holds asked texts asks checks = record {
@@ -328,9 +314,9 @@ accepts_right holds asked texts asks checks = record {
   answer = checks.answer;
   of_framework = checks.of_framework;
   of_answer = checks.of_answer;
-  right = accepted_right (af checks.framework) asked checks.answer checks.certificate
-      (numbered checks.of_framework.bytes checks.framework checks.of_framework.reads)
-      ((accepted_is_verdict (af checks.framework) asked checks.answer checks.certificate).0 checks.ends.1);
+  right = accepted_right checks.framework asked checks.answer checks.certificate
+      (ReadsAs-numbered checks.of_framework.bytes checks.framework checks.of_framework.reads)
+      ((accepted_is_verdict checks.framework asked checks.answer checks.certificate).0 checks.ends.1);
 }
 
 pub done_right : (found : Reading) (by : Option Asked) (texts : CheckTexts) (kept : Transcript)
@@ -365,8 +351,8 @@ no_stop found one P sound has WriteFault stops = stops
 no_stop found one P sound has WantOfMemory stops = stops
 no_stop found one P sound has (Rejected failure r s) stops = stops
 
-check_end : (f : Af) (asked : Asked) (answer : Answer) (certificate : Certificate) (end : Status)
-    → CheckEnds (af f) asked answer certificate end → IsCheckEnd f asked answer certificate end
+check_end : (f : AnyFramework) (asked : Asked) (answer : Answer) (certificate : Certificate) (end : Status)
+    → CheckEnds f asked answer certificate end → IsCheckEnd f asked answer certificate end
 check_end f asked answer certificate Done ends = ends
 check_end f asked answer certificate Usage ends = ends
 check_end f asked answer certificate (InputRefused refusal) ends = ends
@@ -377,13 +363,17 @@ check_end f asked answer certificate Unknown ends = ends
 check_end f asked answer certificate (Limit l) ends = ends
 check_end f asked answer certificate (Rejected failure r s) ends = ends
 
-module _ (found : Reading) (words : List (List ℕ)) (texts : CheckTexts) (asked : Asked) (f : Af) (answer : Answer)
+-- the framework that the file reads as is the one
+framework_same : (found : Reading) (one : Input) (f g : AnyFramework) → HasText found one (λ bytes. ReadsAs bytes f)
+    → IsFrameworkOf (found.holds one.file) g → g ≡ f
+framework_same found one f g has is =
+    ReadsAs-same has.bytes g f
+    (subst (λ bs. ReadsAs bs g) (bytes_at (found.holds one.file) has.bytes is.bytes has.known is.has) is.reads) has.reads
+
+module _ (found : Reading) (words : List (List ℕ)) (texts : CheckTexts) (asked : Asked) (f : AnyFramework) (answer : Answer)
     (certificate : Certificate) (contents : ChecksContents found words texts asked f answer certificate) where
-  same_framework : (g : Af) → IsFrameworkOf (found.holds texts.file) g → g ≡ f
-  same_framework g is =
-      let has = contents.of_framework in
-      ReadsAs-same has.bytes g f
-      (subst (λ bs. ReadsAs bs g) (bytes_at (found.holds texts.file) has.bytes is.bytes has.known is.has) is.reads) has.reads
+  same_framework : (g : AnyFramework) → IsFrameworkOf (found.holds texts.file) g → g ≡ f
+  same_framework g is = framework_same found (input (Framework 1) texts.file) f g contents.of_framework is
 
   same_answer : (a : Answer) → IsAnswerOf (found.holds texts.answer) a → a ≡ answer
   same_answer a is =
@@ -412,9 +402,9 @@ module _ (found : Reading) (words : List (List ℕ)) (texts : CheckTexts) (asked
   checks_end : (end : Status) → ChecksFiles found.holds asked texts end → IsCheckEnd f asked answer certificate end
   checks_end end checks =
       check_end f asked answer certificate end
-      (subst (λ g. CheckEnds (af g) asked answer certificate end) (same_framework checks.framework checks.of_framework)
-      (subst (λ a. CheckEnds (af checks.framework) asked a certificate end) (same_answer checks.answer checks.of_answer)
-      (subst (λ k. CheckEnds (af checks.framework) asked checks.answer k end)
+      (subst (λ g. CheckEnds g asked answer certificate end) (same_framework checks.framework checks.of_framework)
+      (subst (λ a. CheckEnds checks.framework asked a certificate end) (same_answer checks.answer checks.of_answer)
+      (subst (λ k. CheckEnds checks.framework asked checks.answer k end)
       (same_certificate checks.certificate checks.of_certificate) checks.ends)))
 
   pub ends_check : (kept : Transcript) (end : Status) → EndsCommand found (check_row found.holds (Some asked) texts) kept end
@@ -426,20 +416,17 @@ module _ (found : Reading) (words : List (List ℕ)) (texts : CheckTexts) (asked
 
 -- ---- the ends of a query
 
-module _ (found : Reading) (words : List (List ℕ)) (texts : SolveTexts) (query : Solving) (f : Af)
+module _ (found : Reading) (words : List (List ℕ)) (texts : SolveTexts) (query : Solving) (f : AnyFramework)
     (contents : SolvesContents found words texts query f) where
-  same_read : (g : Af) → IsFrameworkOf (found.holds texts.file) g → g ≡ f
-  same_read g is =
-      let has = contents.of_framework in
-      ReadsAs-same has.bytes g f
-      (subst (λ bs. ReadsAs bs g) (bytes_at (found.holds texts.file) has.bytes is.bytes has.known is.has) is.reads) has.reads
+  same_read : (g : AnyFramework) → IsFrameworkOf (found.holds texts.file) g → g ≡ f
+  same_read g is = framework_same found (input (Framework 1) texts.file) f g contents.of_framework is
 
   replied : (kept : Transcript) (end : Status) → EndsSolved (found.holds texts.file) query kept end
       → EndsAsReplied f query kept end
   replied kept end solved = record {
     session = solved.session;
-    keeps = solved.keeps;
-    is = subst (λ g. IsSessionOf (af g) query solved.session)
+    keeps = ap (λ (k : Transcript). k.session) solved.keeps;
+    is = subst (λ g. IsSessionOf g query solved.session)
         (same_read solved.on.framework solved.on.of_framework) solved.on.is;
     ends = solved.ends;
   }
@@ -462,3 +449,127 @@ module _ (found : Reading) (words : List (List ℕ)) (texts : SolveTexts) (query
   ends_solve kept end (inr (inl is)) =
       let P : Status → Type 0 = IsSolveEnd f query kept in subst P (sym is) tt
   ends_solve kept end (inr (inr ends)) = solved_end kept end (replied kept end ends)
+
+-- ---- the laws of a script's run
+
+-- why it may end so
+abbrev pub EndsLiving : Reading → LiveTexts → ℕ → Transcript → Status → Type 0
+EndsLiving found texts budget kept end =
+    StopsAtFirst found end (live_inputs texts) ⊎ ((end ≡ WantOfMemory) ⊎ EndsLive found.holds budget texts kept end)
+
+pub ends_living : (found : Reading) (texts : LiveTexts) (budget : ℕ) (kept : Transcript) (end : Status)
+    → EndsCommand found (live_row found.holds (Some budget) texts) kept end → EndsLiving found texts budget kept end
+ends_living found texts budget kept end (inl (nothing, inl stops)) = inl stops
+ends_living found texts budget kept end (inl (nothing, inr memory)) = inr (inl memory.0)
+ends_living found texts budget kept end (inr lives) = inr (inr lives)
+
+module _ (found : Reading) (words : List (List ℕ)) (texts : LiveTexts) (budget : ℕ) (f : AnyFramework) (script : Script)
+    (contents : LivesContents found words texts budget f script) where
+  same_script : (s : Script) → IsScriptOf (found.holds texts.script) s → s ≡ script
+  same_script s is =
+      let has = contents.of_script in
+      script_same has.bytes s script
+      (subst (λ bs. IsScript bs s) (bytes_at (found.holds texts.script) has.bytes is.bytes has.known is.has) is.reads) has.reads
+
+  neither_stops : (end : Status) → ¬ StopsAtFirst found end (live_inputs texts)
+  neither_stops end (inl stops) =
+      no_stop found _ _ (λ bytes reads. framework_sound bytes f reads) contents.of_framework end stops.0
+  neither_stops end (inr (passed, inl stops)) =
+      no_stop found _ _ (λ bytes reads. script_sound bytes script reads) contents.of_script end stops.0
+  neither_stops end (inr (passed, inr stops)) = stops.1
+
+  keeps_transcript : (kept : Transcript) (end : Status) → EndsLive found.holds budget texts kept end
+      → KeepsTranscript f script budget kept
+  keeps_transcript kept end lives = record {
+    transcript = lives.transcript;
+    keeps = ap (λ (k : Transcript). k.script) lives.keeps;
+    is = subst (λ g. IsTranscriptOf g script budget lives.transcript)
+        (framework_same found (input (Framework 1) texts.file) f lives.runs.framework contents.of_framework
+        lives.runs.of_framework)
+        (subst (λ s. IsTranscriptOf lives.runs.framework s budget lives.transcript)
+        (same_script lives.runs.script lives.runs.of_script) lives.runs.is);
+  }
+
+  -- with files that read as these, it is done, or wants memory
+  pub ends_live : (kept : Transcript) (end : Status) → EndsLiving found texts budget kept end
+      → IsLiveEnd f script budget kept end
+  ends_live kept end (inl stops) = absurd (neither_stops end stops)
+  ends_live kept end (inr (inl is)) =
+      let P : Status → Type 0 = IsLiveEnd f script budget kept in subst P (sym is) tt
+  ends_live kept end (inr (inr lives)) =
+      let P : Status → Type 0 = IsLiveEnd f script budget kept in
+      subst P (sym lives.ends) (keeps_transcript kept end lives)
+
+module _ (found : Reading) (words : List (List ℕ)) (texts : LiveTexts) (budget : ℕ) (f : AnyFramework) (bytes : List ℕ)
+    (kept : Transcript) (asks : ScriptsBytes found words texts budget f bytes) where
+  -- faulty bytes are no script, and so are bytes over the limit
+  no_script : (end : Status) → EndsLive found.holds budget texts kept end → ¬ IsFaultyScript bytes
+  no_script end lives faulty =
+      let of = lives.runs.of_script in
+      let reads : IsScript bytes lives.runs.script =
+      subst (λ bs. IsScript bs lives.runs.script) (bytes_at (found.holds texts.script) bytes of.bytes asks.known of.has)
+      of.reads in
+      (script_is_faultless bytes lives.runs.script.lines reads).none faulty.0 faulty.1 faulty.2
+
+  no_long_script : (end : Status) → EndsLive found.holds budget texts kept end → INPUT_LIMIT < length bytes → ⊥
+  no_long_script end lives long =
+      let of = lives.runs.of_script in
+      let short = within_at (found.holds texts.script) bytes of.bytes asks.known of.has in
+      omega arith
+
+  script_read : ¬ HasReadFault found (input OfScript texts.script)
+  script_read h = ⊎_elim (λ served. h.unserved served) (λ uncounted. uncounted h.counted) asks.no_fault
+
+  stops_at_script : (end : Status) → length bytes ≤ INPUT_LIMIT → StopsAt found end (input OfScript texts.script)
+      → RefusesBytes OfScript bytes end
+  stops_at_script (InputRefused (Line of line c)) short stops =
+      (stops.0, first_at found (input OfScript texts.script) bytes line c asks.known stops.1)
+  stops_at_script (InputRefused (Query fault)) short stops = stops
+  stops_at_script (ReadFault of) short stops = absurd (script_read stops.1)
+  stops_at_script (Limit limit.Input) short stops =
+      let long = longer_at (found.holds texts.script) bytes asks.known stops in absurd (omega arith)
+  stops_at_script (Limit limit.Extensions) short stops = stops
+  stops_at_script (Limit limit.Log) short stops = stops
+  stops_at_script Done short stops = stops
+  stops_at_script Usage short stops = stops
+  stops_at_script WriteFault short stops = tt
+  stops_at_script WantOfMemory short stops = tt
+  stops_at_script Unknown short stops = stops
+  stops_at_script (Rejected failure r s) short stops = stops
+
+  -- faulty bytes within the limit are refused by their first fault
+  pub refuses_script : (end : Status) → IsFaultyScript bytes → length bytes ≤ INPUT_LIMIT
+      → EndsLiving found texts budget kept end → RefusesBytes OfScript bytes end
+  refuses_script end faulty short (inl (inl stops)) =
+      absurd (no_stop found _ _ (λ bs reads. framework_sound bs f reads) asks.of_framework end stops.0)
+  refuses_script end faulty short (inl (inr (passed, inl stops))) = stops_at_script end short stops.0
+  refuses_script end faulty short (inl (inr (passed, inr stops))) = absurd stops.1
+  refuses_script end faulty short (inr (inl is)) =
+      let P : Status → Type 0 = RefusesBytes OfScript bytes in subst P (sym is) tt
+  refuses_script end faulty short (inr (inr lives)) = absurd (no_script end lives faulty)
+
+  stops_at_length : (end : Status) → INPUT_LIMIT < length bytes → StopsAt found end (input OfScript texts.script)
+      → RefusesLength end
+  stops_at_length (InputRefused (Line of line c)) long stops =
+      let short = within_at (found.holds texts.script) bytes stops.1.bytes asks.known stops.1.has in absurd (omega arith)
+  stops_at_length (InputRefused (Query fault)) long stops = stops
+  stops_at_length (ReadFault of) long stops = absurd (script_read stops.1)
+  stops_at_length (Limit limit.Input) long stops = tt
+  stops_at_length (Limit limit.Extensions) long stops = stops
+  stops_at_length (Limit limit.Log) long stops = stops
+  stops_at_length Done long stops = stops
+  stops_at_length Usage long stops = stops
+  stops_at_length WriteFault long stops = tt
+  stops_at_length WantOfMemory long stops = tt
+  stops_at_length Unknown long stops = stops
+  stops_at_length (Rejected failure r s) long stops = stops
+
+  -- bytes over the limit are refused for their length
+  pub refuses_long_script : (end : Status) → INPUT_LIMIT < length bytes → EndsLiving found texts budget kept end
+      → RefusesLength end
+  refuses_long_script end long (inl (inl stops)) =
+      absurd (no_stop found _ _ (λ bs reads. framework_sound bs f reads) asks.of_framework end stops.0)
+  refuses_long_script end long (inl (inr (passed, inl stops))) = stops_at_length end long stops.0
+  refuses_long_script end long (inl (inr (passed, inr stops))) = absurd stops.1
+  refuses_long_script end long (inr (inl is)) = subst RefusesLength (sym is) tt
+  refuses_long_script end long (inr (inr lives)) = absurd (no_long_script end lives long)

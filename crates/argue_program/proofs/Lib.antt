@@ -1,5 +1,6 @@
 mod CheckLemmas
 mod EndsLemmas
+mod ScriptLemmas
 pub mod RowsLemmas
 pub mod RunsLemmas
 pub mod WritingLemmas

@@ -1,6 +1,6 @@
 -- The query of a task's name and a number's text.
 use Rattle.std.proofs.Common.{◌≡◌, ◌∙◌, ◌&&◌, ℕ, ◌<◌, ◌^◌, Bool, true, false, List, [], ◌∷◌, length, get_or, refl, sym, ap, subst, arith, Option, None, Some, inl, inr, nat_le, nat_lt}
-use Rattle.std.specs.Prelude.{if◌then◌else◌, IfNone, IfSome, IsNone, ◌↔◌}
+use Rattle.std.specs.Prelude.{IfNone, IfSome, IsNone, ◌↔◌}
 use Rattle.std.specs.List.{list_all}
 use Rattle.std.specs.Str.{bytes_eq}
 use Rattle.std.proofs.lemmas.Bool.{and_parts, cases_Bool, cond-true, cond-false}

@@ -1,18 +1,21 @@
 -- Endings that a row of the table has.
-use Rattle.std.proofs.Common.{◌≡◌, ◌≢◌, ◌<◌, ◌∙◌, ◌⊎◌, ℕ, List, [], ◌∷◌, refl, sym, ap, subst, inl, inr, arith, Option, None, Some, Result, Ok, Err, codes}
+use Rattle.std.proofs.Common.{◌≡◌, ◌≢◌, ◌<◌, ◌∙◌, ◌⊎◌, ℕ, List, [], ◌∷◌, refl, sym, ap, subst, inl, inr, arith, false, Option, None, Some, Result, Ok, Err, codes}
 use Rattle.std.specs.Prelude.{Contains, IfOk, IsSome, IsTrue}
 use Rattle.std.specs.Option.{unwrap_or}
 use Rattle.plain_lists.specs.declared.memory.Memory.{Memory}
 use Rattle.argue_outside.specs.Outside.{KnownFile, OtherCountsKept}
 use Rattle.argue_outside.specs.declared.Role.{Role}
 use Rattle.argue_outside.specs.declared.Role.TheVariants as role
-use Rattle.argue_words.specs.Words.{CheckTexts, Request, version, problems, solving, checking, unknown, SolveTexts, requested}
-use Rattle.argue_words.proofs.RequestLaws.{none_requested}
+use Rattle.argue_words.specs.Words.{CheckTexts, LiveTexts, Request, version, problems, solving, checking, living, unknown, SolveTexts, is_live, live_texts, request_of, requested}
+use Rattle.argue_words.proofs.RequestLaws.{no_live_in, none_requested, script_requested}
+use Rattle.argue_words.specs.declared.words.Command.{Command}
+use Rattle.argue_words.specs.declared.words.Command.TheVariants.{Live}
+use Rattle.argue_words.specs.declared.words.LiveWords.{LiveWords}
 use Rattle.argue_program.specs.Inputs.{EndsReading, Follow, Input, Reading, StopsAtFirst, input}
-use Rattle.argue_program.specs.Rows.{CountsReads, EndsCommand, EndsSession, IsEndingOf, Row, check_row, files_beside, nothing_kept, row_of, session_files, session_text, solve_row, unknown_row}
+use Rattle.argue_program.specs.Rows.{CountsReads, EndsCommand, EndsSession, IsEndingOf, Row, check_row, files_beside, live_row, nothing_kept, row_of, session_files, session_text, solve_row, unknown_row}
 use Rattle.iccma_tasks.specs.Tasks.{Asked}
 use Rattle.argue_program.specs.Checks.{ChecksFiles, EndsChecking}
-use Rattle.argue_program.specs.Queries.{asked_by, solving_by}
+use Rattle.argue_program.specs.Queries.{asked_by, budget_of, solving_by}
 use Rattle.argue_program.specs.Solves.{IsSessionOn, status_of}
 use Rattle.argue_program.specs.declared.query.Solving.{Solving}
 use Rattle.argue_program.specs.declared.ended.KeptSession.{KeptSession}
@@ -114,6 +117,11 @@ solve_takes : (holds : List ℕ → KnownFile) (query : Option Solving) (texts :
 solve_takes holds None texts = refl
 solve_takes holds (Some query) texts = refl
 
+live_takes : (holds : List ℕ → KnownFile) (budget : Option ℕ) (texts : LiveTexts)
+    → IsTrue (live_row holds budget texts).takes_memory
+live_takes holds None texts = refl
+live_takes holds (Some budget) texts = refl
+
 takes_unless : (holds : List ℕ → KnownFile) (words : List (List ℕ)) (request : Request) → requested words ≡ request
     → words ≢ []
     → IsTrue (row_of holds request).takes_memory
@@ -121,12 +129,20 @@ takes_unless holds words version is some = absurd (some (none_requested words is
 takes_unless holds words problems is some = refl
 takes_unless holds words (solving texts) is some = solve_takes holds (solving_by texts) texts
 takes_unless holds words (checking texts) is some = check_takes holds (asked_by texts.task texts.number) texts
+takes_unless holds words (living texts) is some = live_takes holds (budget_of texts.budget) texts
 takes_unless holds words unknown is some = refl
 
 -- where there are words, the command that they ask for takes memory
 pub takes_memory : (holds : List ℕ → KnownFile) (words : List (List ℕ)) → words ≢ []
     → IsTrue (row_of holds (requested words)).takes_memory
 takes_memory holds words some = takes_unless holds words (requested words) refl some
+
+-- words whose first isn't `live` ask for no threads
+pub wants_no_threads : (words : List (List ℕ)) (c : Command) → is_live words ≡ false → request_of c ≡ requested words
+    → (texts : LiveWords) → c ≢ Live texts
+wants_no_threads words c other asks texts is =
+    no_live_in words other (live_texts texts)
+    (script_requested words (live_texts texts) (sym asks ∙ ap request_of is))
 
 -- the cause of want of memory in a row that takes any
 pub EndsCommand-memory : (found : Reading) (row : Row) → IsTrue row.takes_memory
@@ -247,7 +263,7 @@ module _ (found : Reading) (by : Option Solving) (query : Solving) (texts : Solv
   solve_session session on quiet ends =
       let keeps : ending.kept.session ≡ Some session = ap (λ (k : Transcript). k.session) ends.keeps in
       subst IsEndingBy (sym is) (record {
-        cause = inr (record { session = session; keeps = keeps; on = on; ends = ends.status });
+        cause = inr (record { session = session; keeps = ends.keeps; on = on; ends = ends.status });
         text = ends.text ∙ ap (λ s. unwrap_or (common_text ending.status) (session_text s)) (sym keeps);
         files = ends.files ∙ ap (λ s. files_beside (common_text ending.status) (session_files texts.certificate s))
             (sym keeps);
@@ -301,6 +317,11 @@ no_solve_fault : (holds : List ℕ → KnownFile) (query : Option Solving) (text
 no_solve_fault holds None texts kept unasked = let e : WriteFault ≡ Usage = unasked.1 in cc
 no_solve_fault holds (Some query) texts kept solved = no_reply_fault solved.session.reply solved.ends
 
+no_live_fault : (holds : List ℕ → KnownFile) (budget : Option ℕ) (texts : LiveTexts) (kept : Transcript)
+    → ¬ (live_row holds budget texts).Ends kept WriteFault
+no_live_fault holds None texts kept unasked = let e : WriteFault ≡ Usage = unasked.1 in cc
+no_live_fault holds (Some budget) texts kept lives = let e : WriteFault ≡ Done = lives.ends in cc
+
 no_row_fault : (found : Reading) (holds : List ℕ → KnownFile) (request : Request) (kept : Transcript)
     → ¬ EndsCommand found (row_of holds request) kept WriteFault
 no_row_fault found holds request kept (inl (nothing, inl stops)) =
@@ -312,6 +333,7 @@ no_row_fault found holds problems kept (inr done) = let e : WriteFault ≡ Done 
 no_row_fault found holds (solving texts) kept (inr ends) = no_solve_fault holds (solving_by texts) texts kept ends
 no_row_fault found holds (checking texts) kept (inr ends) =
     no_check_fault holds (asked_by texts.task texts.number) texts kept ends
+no_row_fault found holds (living texts) kept (inr ends) = no_live_fault holds (budget_of texts.budget) texts kept ends
 no_row_fault found holds unknown kept (inr unasked) = let e : WriteFault ≡ Usage = unasked.1 in cc
 
 -- what is decided is no write fault

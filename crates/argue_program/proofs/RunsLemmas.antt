@@ -1,53 +1,43 @@
 -- What follows of a run, in the words of its query.
-use Rattle.std.proofs.Common.{◌≡◌, ◌≢◌, ◌∙◌, ◌⊎◌, ◌<◌, ◌≤◌, ℕ, List, [], ◌∷◌, length, refl, sym, ap, subst, inl, inr, ⊎_elim, true, false, arith, Option, None, Some, Result, Ok, Err, map}
-use Rattle.std.specs.Prelude.{Contains}
+use Rattle.std.proofs.Common.{◌≡◌, ◌≢◌, ◌∙◌, ◌⊎◌, ◌<◌, ◌≤◌, ℕ, List, [], ◌∷◌, length, refl, sym, ap, subst, inl, inr, ⊎_elim, true, Option, None, Some, Result, Ok, Err, map}
 use Rattle.std.specs.Io.KnownBytes.{Appends}
 use Rattle.std.specs.Option.{unwrap_or}
-use Rattle.argue_outside.specs.Outside.{FaultCounted, HoldsWhole, IsLonger, KnownFile}
+use Rattle.argue_outside.specs.Outside.{FaultCounted, KnownFile}
 use Rattle.argue_outside.specs.declared.Role.{Role}
-use Rattle.argue_outside.specs.declared.Role.TheVariants.{Framework}
-use Rattle.argue_words.specs.Words.{AreWords, CheckTexts, IsCheckQuery, IsSolveQuery, Request, version, problems, solving, checking, unknown, SolveTexts, requested, words_are_problems}
-use Rattle.argue_words.proofs.RequestLaws.{query_requested, requested_list, requested_texts, requested_none, requested_query, requested_unknown}
-use Rattle.af_format.specs.AfText.{IsReadable, ReadsAs}
-use Rattle.af_format.proofs.Readings.{ReadsAs-faultless, ReadsAs-same}
-use Rattle.argue_program.specs.Inputs.{HasBytes, HasFirstFault, HasReadFault, Input, IsFirstFaultIn, IsFrameworkOf, Reading, StopsAt, StopsAtFirst, input}
-use Rattle.argue_program.specs.Rows.{EndsCommand, EndsSolved, FileText, HasNoInput, IsEndingOf, Row, check_row, certificate_files, file_text, files_beside, nothing_kept, problems_row, reply_files, reply_text, row_of, session_files, session_text, solve_row, text_of, unknown_row, version_row}
+use Rattle.argue_outside.specs.declared.Role.TheVariants.{Framework, Script as OfScript}
+use Rattle.argue_words.specs.Words.{AreWords, CheckTexts, IsCheckQuery, IsLiveQuery, IsSolveQuery, LiveTexts, Request, version, problems, solving, checking, living, unknown, SolveTexts, requested, words_are_problems}
+use Rattle.argue_words.proofs.RequestLaws.{query_requested, requested_list, requested_script, requested_texts, requested_none, requested_query, requested_unknown, script_requested}
+use Rattle.framework_text.specs.FrameworkText.{IsFaulty}
+use Rattle.argue_program.specs.Inputs.{Input, Reading, StopsAt, StopsAtFirst}
+use Rattle.argue_program.specs.Rows.{EndsCommand, EndsLive, EndsSolved, FileText, HasNoInput, IsEndingOf, Row, check_row, certificate_files, certificates_files, file_text, files_beside, live_row, nothing_kept, reply_files, reply_text, row_of, script_files, script_kept, script_text, session_files, session_text, solve_row, text_of}
 use Rattle.iccma_tasks.specs.Tasks.{Asked}
-use Rattle.argue_program.specs.Queries.{asked_by, solving_by}
-use Rattle.argue_program.specs.Solves.{IsSessionOf, IsSessionOn, status_of}
+use Rattle.argue_program.specs.Queries.{asked_by, budget_of, solving_by}
+use Rattle.argue_program.specs.Scripts.{RunsScript, live_inputs, transcript_bytes}
+use Rattle.script_runs.specs.declared.transcript.ScriptTranscript.{ScriptTranscript}
+use Rattle.script_text.specs.declared.script.Script.{Script}
+use Rattle.argue_program.specs.Solves.{IsSessionOn, status_of}
 use Rattle.argue_program.specs.declared.query.Solving.{Solving}
 use Rattle.oracle_core.specs.declared.reply.AnswerStop.{AnswerStop}
 use Rattle.oracle_core.specs.declared.reply.Answered.{Answered}
 use Rattle.argue_program.proofs.SolveLemmas.{done_reply, fills, spends_all}
-use Rattle.argue_program.specs.Checks.{CheckEnds, ChecksFiles, IsAnswerOf, IsCertificateOf, IsSoundIn, check_inputs}
-use Rattle.argue_program.proofs.CheckLemmas.{answer_sound, certificate_sound, framework_sound, stops_told}
-use Rattle.semantics.specs.Framework.{Af}
-use Rattle.semantics.specs.Frameworks.{IsNumbered, af}
-use Rattle.af_format.proofs.Reading.{arguments_numbered}
-use Rattle.iccma_tasks.specs.AnswerText.{filled_fields, ReadsAs as AnswerReadsAs}
+use Rattle.argue_program.specs.Checks.{CheckEnds}
+use Rattle.argue_program.proofs.CheckLemmas.{stops_told}
+use Rattle.semantics.specs.Frameworks.{Framework as AnyFramework}
 use Rattle.iccma_tasks.specs.WrittenText.{text_of as answer_text}
 use Rattle.iccma_tasks.specs.declared.answer.Answer.{Answer}
-use Rattle.iccma_tasks.proofs.Exact.{ReadsAs-unique}
 use Rattle.certificate_claims.specs.declared.certificate.Certificate.{Certificate}
-use Rattle.certificate_laws.proofs.Right.{accepted_right}
-use Rattle.certificate_laws.proofs.Verdicts.{accepted_is_verdict}
-use Rattle.certificate_text.specs.Reading.{ReadsAs as CertReadsAs}
-use Rattle.certificate_text.proofs.OneOutcome.{one_reading}
-use Rattle.argue_program.specs.Runs.{AnswersRight, AsksSession, ChecksContents, EndsAsReplied, FillsLog, HasText, IsCheckEnd, IsDoneOrMemory, IsFaulty, IsRunOf, IsSolveEnd, NamesCertificate, QueriesBytes, RefusesBytes, RefusesLength, RefusesWords, SolvesContents, SpendsBudget, WritesAnswer}
+use Rattle.argue_program.specs.Runs.{AnswersRight, AsksScript, AsksSession, ChecksContents, FillsLog, IsCheckEnd, IsDoneOrMemory, IsFaultyScript, IsLiveEnd, IsRunOf, IsSolveEnd, LivesContents, NamesCertificate, QueriesBytes, RefusesBytes, RefusesLength, RefusesWords, ScriptsBytes, SolvesContents, SpendsBudget, WritesAnswer, WritesTranscript}
 use Rattle.argue_program.specs.Texts.{common_text, text_bytes}
 use Rattle.argue_program.specs.Writing.{BreaksFiles, BreaksOff, BreaksReplacing, IsWritten, Output, WritesFiles}
 use Rattle.argue_program.specs.declared.decision.Ending.{Ending}
-use Rattle.argue_program.specs.declared.ended.Cause.{Cause}
-use Rattle.argue_program.specs.declared.ended.Cause.TheVariants as cause
 use Rattle.argue_program.specs.declared.ended.Ended.{Ended}
 use Rattle.argue_program.specs.declared.ended.KeptSession.{KeptSession}
 use Rattle.argue_program.specs.declared.ended.Limit.TheVariants as limit
-use Rattle.argue_program.specs.declared.ended.Refusal.TheVariants.{Line, Query}
 use Rattle.argue_program.specs.declared.ended.Status.{Status}
 use Rattle.argue_program.specs.declared.ended.Status.TheVariants.{Done, Usage, InputRefused, ReadFault, WriteFault, WantOfMemory, Unknown, Limit, Rejected}
 use Rattle.argue_program.specs.declared.ended.Transcript.{Transcript}
 use Rattle.num_text.specs.declared.limit.TheConstants.{INPUT_LIMIT}
-use Rattle.argue_program.proofs.EndsLemmas.{EndsQuery, at_query, done_no_memory, done_right, ends_check, ends_query, ends_solve, ends_unknown, problems_done, refuses_bytes, refuses_length, refuses_words, version_done}
+use Rattle.argue_program.proofs.EndsLemmas.{EndsLiving, EndsQuery, at_query, done_no_memory, done_right, ends_check, ends_live, ends_living, ends_query, ends_solve, ends_unknown, problems_done, refuses_bytes, refuses_length, refuses_long_script, refuses_script, refuses_words, version_done}
 
 -- ---- runs
 
@@ -90,7 +80,23 @@ check_other : (holds : List ℕ → KnownFile) (asked : Option Asked) (texts : C
 check_other holds None texts kept end name = tt
 check_other holds (Some asked) texts kept end name = tt
 
--- a row writes no file but that of a query's certificate
+certificates_other : (name : List ℕ) (named : Option (List ℕ)) (transcript : ScriptTranscript)
+    → (named ≡ Some name → ⊥) → HaveOtherNames name (certificates_files named transcript)
+certificates_other name None transcript other = tt
+certificates_other name (Some file) transcript other = (λ e. other (ap Some (sym e)), tt)
+
+script_other : (name : List ℕ) (named : Option (List ℕ)) (transcript : Option ScriptTranscript)
+    → (named ≡ Some name → ⊥) → HaveOtherNames name (script_files named transcript)
+script_other name named None other = tt
+script_other name named (Some transcript) other = certificates_other name named transcript other
+
+live_other : (holds : List ℕ → KnownFile) (budget : Option ℕ) (texts : LiveTexts) (kept : Transcript) (end : Status)
+    (name : List ℕ) → (texts.certificate ≡ Some name → ⊥)
+    → HaveOtherNames name ((live_row holds budget texts).files kept end)
+live_other holds None texts kept end name other = tt
+live_other holds (Some budget) texts kept end name other = script_other name texts.certificate kept.script other
+
+-- a row writes no file but that for certificates
 row_other : (holds : List ℕ → KnownFile) (words : List (List ℕ)) (request : Request) (kept : Transcript) (end : Status)
     (name : List ℕ) → requested words ≡ request → ¬ NamesCertificate words name
     → HaveOtherNames name ((row_of holds request).files kept end)
@@ -98,9 +104,12 @@ row_other holds words version kept end name is other = tt
 row_other holds words problems kept end name is other = tt
 row_other holds words (solving texts) kept end name is other =
     solve_other holds (solving_by texts) texts kept end name
-    (λ e. other (record { texts = texts; asks = query_requested words texts is; named = e }))
+    (λ e. other (inl (record { texts = texts; asks = query_requested words texts is; named = e })))
 row_other holds words (checking texts) kept end name is other =
     check_other holds (asked_by texts.task texts.number) texts kept end name
+row_other holds words (living texts) kept end name is other =
+    live_other holds (budget_of texts.budget) texts kept end name
+    (λ e. other (inr (record { texts = texts; asks = script_requested words texts is; named = e })))
 row_other holds words unknown kept end name is other = tt
 
 -- files of other names stay
@@ -165,6 +174,19 @@ none_kept : (found : Reading) (words : List (List ℕ)) (kept : Transcript) (ses
 none_kept found words kept session nothing is =
     absurd (let e : None ≡ Some session = sym (ap (λ (k : Transcript). k.session) nothing) ∙ is in cc)
 
+-- what keeps a transcript keeps no session
+no_session : (words : List (List ℕ)) (holds : List ℕ → KnownFile) (kept : Transcript) (transcript : ScriptTranscript)
+    (session : KeptSession) → kept ≡ script_kept transcript → kept.session ≡ Some session → AsksSession words holds session
+no_session words holds kept transcript session keeps is =
+    absurd (let e : None ≡ Some session = sym (ap (λ (k : Transcript). k.session) keeps) ∙ is in cc)
+
+live_session : (found : Reading) (words : List (List ℕ)) (texts : LiveTexts) (by : Option ℕ) (kept : Transcript)
+    (end : Status) (session : KeptSession) → (live_row found.holds by texts).Ends kept end → kept.session ≡ Some session
+    → AsksSession words found.holds session
+live_session found words texts None kept end session unasked is = none_kept found words kept session unasked.0 is
+live_session found words texts (Some budget) kept end session lives is =
+    no_session words found.holds kept lives.transcript session lives.keeps is
+
 -- a check keeps nothing
 check_keeps : (holds : List ℕ → KnownFile) (asked : Option Asked) (texts : CheckTexts) (kept : Transcript) (end : Status)
     → (check_row holds asked texts).Ends kept end → kept ≡ nothing_kept
@@ -182,7 +204,7 @@ kept_by found words texts (Some query) kept end session asks query_is solved is 
   asks = asks;
   query = query;
   query_is = query_is;
-  on = let e : solved.session ≡ session = some_is (sym solved.keeps ∙ is) in
+  on = let e : solved.session ≡ session = some_is (sym (ap (λ (k : Transcript). k.session) solved.keeps) ∙ is) in
       subst (IsSessionOn (found.holds texts.file) query) e solved.on;
 }
 
@@ -197,8 +219,60 @@ kept_at found words (checking texts) kept end session asked (inr checks) is =
     none_kept found words kept session
     (check_keeps found.holds (asked_by texts.task texts.number) texts kept end checks) is
 kept_at found words unknown kept end session asked (inr unasked) is = none_kept found words kept session unasked.0 is
+kept_at found words (living texts) kept end session asked (inr ends) is =
+    live_session found words texts (budget_of texts.budget) kept end session ends is
 kept_at found words (solving texts) kept end session asked (inr ends) is =
     kept_by found words texts (solving_by texts) kept end session (query_requested words texts asked) refl ends is
+
+-- ---- a transcript that is kept
+
+nothing_no_script : (kept : Transcript) (transcript : ScriptTranscript) → kept ≡ nothing_kept
+    → kept.script ≡ Some transcript → ⊥
+nothing_no_script kept transcript nothing is =
+    let e : None ≡ Some transcript = sym (ap (λ (k : Transcript). k.script) nothing) ∙ is in cc
+
+solve_no_script : (holds : List ℕ → KnownFile) (by : Option Solving) (texts : SolveTexts) (kept : Transcript) (end : Status)
+    (transcript : ScriptTranscript) → (solve_row holds by texts).Ends kept end → kept.script ≡ Some transcript → ⊥
+solve_no_script holds None texts kept end transcript unasked is = nothing_no_script kept transcript unasked.0 is
+solve_no_script holds (Some query) texts kept end transcript solved is =
+    let e : None ≡ Some transcript = sym (ap (λ (k : Transcript). k.script) solved.keeps) ∙ is in cc
+
+script_by : (found : Reading) (words : List (List ℕ)) (texts : LiveTexts) (by : Option ℕ) (kept : Transcript)
+    (end : Status) (transcript : ScriptTranscript) → IsLiveQuery words texts → budget_of texts.budget ≡ by
+    → (live_row found.holds by texts).Ends kept end → kept.script ≡ Some transcript
+    → AsksScript words found.holds transcript
+script_by found words texts None kept end transcript asks budget_is unasked is =
+    absurd (nothing_no_script kept transcript unasked.0 is)
+script_by found words texts (Some budget) kept end transcript asks budget_is lives is = record {
+  texts = texts;
+  asks = asks;
+  budget = budget;
+  budget_is = budget_is;
+  runs = let e : lives.transcript ≡ transcript
+      = some_is (sym (ap (λ (k : Transcript). k.script) lives.keeps) ∙ is) in
+      subst (RunsScript found.holds budget texts) e lives.runs;
+}
+
+script_at : (found : Reading) (words : List (List ℕ)) (request : Request) (kept : Transcript) (end : Status)
+    (transcript : ScriptTranscript) → requested words ≡ request
+    → EndsCommand found (row_of found.holds request) kept end → kept.script ≡ Some transcript
+    → AsksScript words found.holds transcript
+script_at found words request kept end transcript asked (inl (nothing, why)) is =
+    absurd (nothing_no_script kept transcript nothing is)
+script_at found words version kept end transcript asked (inr done) is =
+    absurd (nothing_no_script kept transcript done.0 is)
+script_at found words problems kept end transcript asked (inr done) is =
+    absurd (nothing_no_script kept transcript done.0 is)
+script_at found words (solving texts) kept end transcript asked (inr ends) is =
+    absurd (solve_no_script found.holds (solving_by texts) texts kept end transcript ends is)
+script_at found words (checking texts) kept end transcript asked (inr checks) is =
+    absurd (nothing_no_script kept transcript
+    (check_keeps found.holds (asked_by texts.task texts.number) texts kept end checks) is)
+script_at found words (living texts) kept end transcript asked (inr ends) is =
+    script_by found words texts (budget_of texts.budget) kept end transcript (script_requested words texts asked) refl ends
+    is
+script_at found words unknown kept end transcript asked (inr unasked) is =
+    absurd (nothing_no_script kept transcript unasked.0 is)
 
 -- ---- a run that ends by its session alone
 
@@ -234,8 +308,8 @@ no_first_why found end [] why stops = stops
 no_first_why found end (one ∷ more) why (inl stops) = no_why found end one why stops.0
 no_first_why found end (one ∷ more) why (inr passes) = no_first_why found end more why passes.1
 
-no_check_why : (f : Af) (asked : Asked) (answer : Answer) (certificate : Certificate) (end : Status) → SaysWhy end
-    → ¬ CheckEnds (af f) asked answer certificate end
+no_check_why : (f : AnyFramework) (asked : Asked) (answer : Answer) (certificate : Certificate) (end : Status) → SaysWhy end
+    → ¬ CheckEnds f asked answer certificate end
 no_check_why f asked answer certificate Unknown why ends = ends
 no_check_why f asked answer certificate (Limit l) why ends = ends
 no_check_why f asked answer certificate Done why ends = why
@@ -262,10 +336,15 @@ solve_why found words texts None kept end why asks query_is unasked =
     absurd (not_why end Usage why (λ w. w) unasked.1)
 solve_why found words texts (Some query) kept end why asks query_is solved = record {
   session = solved.session;
-  keeps = solved.keeps;
+  keeps = ap (λ (k : Transcript). k.session) solved.keeps;
   asks = record { texts = texts; asks = asks; query = query; query_is = query_is; on = solved.on };
   ends = solved.ends;
 }
+
+live_why : (holds : List ℕ → KnownFile) (by : Option ℕ) (texts : LiveTexts) (kept : Transcript) (end : Status)
+    → SaysWhy end → ¬ (live_row holds by texts).Ends kept end
+live_why holds None texts kept end why unasked = not_why end Usage why (λ w. w) unasked.1
+live_why holds (Some budget) texts kept end why lives = not_why end Done why (λ w. w) lives.ends
 
 keeps_asked : (found : Reading) (words : List (List ℕ)) (request : Request) (kept : Transcript) (end : Status)
     → SaysWhy end → requested words ≡ request → EndsCommand found (row_of found.holds request) kept end
@@ -279,6 +358,8 @@ keeps_asked found words problems kept end why asked (inr done) = absurd (not_why
 keeps_asked found words (checking texts) kept end why asked (inr checks) =
     absurd (check_why found.holds (asked_by texts.task texts.number) texts kept end why checks)
 keeps_asked found words unknown kept end why asked (inr unasked) = absurd (not_why end Usage why (λ w. w) unasked.1)
+keeps_asked found words (living texts) kept end why asked (inr ends) =
+    absurd (live_why found.holds (budget_of texts.budget) texts kept end why ends)
 keeps_asked found words (solving texts) kept end why asked (inr ends) =
     solve_why found words texts (solving_by texts) kept end why (query_requested words texts asked) refl ends
 
@@ -286,7 +367,7 @@ spends_budget : (words : List (List ℕ)) (holds : List ℕ → KnownFile) (kept
     → KeepsAsked words holds kept Unknown → SpendsBudget words holds kept
 spends_budget words holds kept asked =
     let on = asked.asks.on in
-    let all = spends_all (af on.framework) asked.asks.query asked.session on.is asked.ends in
+    let all = spends_all on.framework asked.asks.query asked.session on.is asked.ends in
     record {
       session = asked.session;
       keeps = asked.keeps;
@@ -304,7 +385,7 @@ fills_log words holds kept asked = record {
   session = asked.session;
   keeps = asked.keeps;
   asks = asked.asks;
-  full = fills (af asked.asks.on.framework) asked.asks.query asked.session asked.asks.on.is asked.ends;
+  full = fills asked.asks.on.framework asked.asks.query asked.session asked.asks.on.is asked.ends;
 }
 
 -- ---- a query that is answered
@@ -322,6 +403,22 @@ session_files_is : (end : Status) (name : Option (List ℕ)) (kept : Option Kept
 session_files_is end name kept session reply done keeps is =
     ap (λ e. files_beside (common_text e) (session_files name kept)) done
     ∙ ap (session_files name) keeps ∙ ap (reply_files name) is
+
+-- ---- a script's run that is done
+
+script_text_is : (end : Status) (kept : Transcript) (transcript : ScriptTranscript) → end ≡ Done
+    → kept ≡ script_kept transcript
+    → unwrap_or (common_text end) (script_text kept.script) ≡ transcript_bytes transcript
+script_text_is end kept transcript done keeps =
+    ap (λ e. unwrap_or (common_text e) (script_text kept.script)) done
+    ∙ ap (λ (k : Transcript). script_text k.script) keeps
+
+script_files_is : (end : Status) (name : Option (List ℕ)) (kept : Transcript) (transcript : ScriptTranscript)
+    → end ≡ Done → kept ≡ script_kept transcript
+    → files_beside (common_text end) (script_files name kept.script) ≡ certificates_files name transcript
+script_files_is end name kept transcript done keeps =
+    ap (λ e. files_beside (common_text e) (script_files name kept.script)) done
+    ∙ ap (λ (k : Transcript). script_files name k.script) keeps
 
 -- a status that is neither done nor a write fault has a text of its own, and so no files
 no_files : (files : List FileText) (end : Status) → end ≢ Done → files_beside (common_text end) files ≡ []
@@ -374,7 +471,7 @@ module _ (found : Reading) (words : List (List ℕ)) (ended : Ended) (old new : 
       fills_log words found.holds ended.kept
       (subst (KeepsAsked words found.holds ended.kept) is (kept_why (subst SaysWhy (sym is) tt)))
 
-  pub complete : (texts : SolveTexts) (query : Solving) (f : Af) → SolvesContents found words texts query f
+  pub complete : (texts : SolveTexts) (query : Solving) (f : AnyFramework) → SolvesContents found words texts query f
       → IsSolveEnd f query ended.kept ended.status
   complete texts query f contents = ⊎_elim
       (λ broken. let P : Status → Type 0 = IsSolveEnd f query ended.kept in subst P (sym broken) tt)
@@ -382,7 +479,7 @@ module _ (found : Reading) (words : List (List ℕ)) (ended : Ended) (old new : 
       (ends_on texts query contents.asks contents.query_is whole)) (write_fault_or ended.status)
 
   pub faulty : (texts : SolveTexts) (query : Solving) (bytes : List ℕ) → QueriesBytes found words texts query bytes
-      → IsFaulty bytes → length bytes ≤ INPUT_LIMIT → RefusesBytes bytes ended.status
+      → IsFaulty bytes → length bytes ≤ INPUT_LIMIT → RefusesBytes (Framework 1) bytes ended.status
   faulty texts query bytes asks bad short =
       refuses_bytes found words texts query bytes ended.kept asks ended.status bad short
       (ends_on texts query asks.asks asks.query_is)
@@ -472,7 +569,7 @@ module _ (found : Reading) (words : List (List ℕ)) (ended : Ended) (old new : 
       (subst P done (at_check texts (asked_by texts.task texts.number) query refl (λ e. let x : Done ≡ WriteFault =
       sym done ∙ e in cc)))
 
-  pub checked : (texts : CheckTexts) (asked : Asked) (f : Af) (answer : Answer) (certificate : Certificate)
+  pub checked : (texts : CheckTexts) (asked : Asked) (f : AnyFramework) (answer : Answer) (certificate : Certificate)
       → ChecksContents found words texts asked f answer certificate → IsCheckEnd f asked answer certificate ended.status
   checked texts asked f answer certificate contents = ⊎_elim
       (λ broken. let P : Status → Type 0 = IsCheckEnd f asked answer certificate in subst P (sym broken) tt)
@@ -494,8 +591,8 @@ module _ (found : Reading) (words : List (List ℕ)) (ended : Ended) (old new : 
       let both = run.whole whole in
       let status : run.ending.status ≡ Done = sym both.0 ∙ done in
       let keeps : run.ending.kept.session ≡ Some solved.session =
-      ap (λ (k : Transcript). k.session) (sym run.kept) ∙ solved.keeps in
-      let told = done_reply (af solved.on.framework) query solved.session solved.on.is (sym done ∙ solved.ends) in
+      ap (λ (k : Transcript). k.session) (sym run.kept ∙ solved.keeps) in
+      let told = done_reply solved.on.framework query solved.session solved.on.is (sym done ∙ solved.ends) in
       let Says : Row → Type 0 = λ row.
       (text_bytes run.ending.text ≡ text_of row run.ending.kept run.ending.status)
       × (map file_text run.ending.files
@@ -543,3 +640,109 @@ module _ (found : Reading) (words : List (List ℕ)) (ended : Ended) (old new : 
       let cause = subst P done (ends (λ e. let x : Done ≡ WriteFault = sym done ∙ e in cc)) in
       at_done texts (solving_by texts) asks refl done
       (at_query found words texts (solving_by texts) ended.kept Done asks refl cause)
+
+  -- ---- scripts
+
+  -- a transcript that the run keeps is that of the words' script
+  pub right_transcript : (transcript : ScriptTranscript) → ended.kept.script ≡ Some transcript
+      → AsksScript words found.holds transcript
+  right_transcript transcript is =
+      let P : Transcript → Type 0 = λ k. EndsCommand found (row_of found.holds (requested words)) k run.ending.status in
+      script_at found words (requested words) ended.kept run.ending.status transcript refl (subst P
+      (sym run.kept) run.decided.cause) is
+
+  -- at a script's run, the row is that of its budget
+  at_script : (texts : LiveTexts) (by : Option ℕ) → IsLiveQuery words texts → budget_of texts.budget ≡ by
+      → ended.status ≢ WriteFault → EndsCommand found (live_row found.holds by texts) ended.kept ended.status
+  at_script texts by asks budget_is whole =
+      let P : Request → Type 0 = λ r. EndsCommand found (row_of found.holds r) ended.kept ended.status in
+      let Q : Option ℕ → Type 0 = λ o. EndsCommand found (live_row found.holds o texts) ended.kept ended.status in
+      subst Q budget_is (subst P (requested_script words texts asks) (ends whole))
+
+  lives_on : (texts : LiveTexts) (budget : ℕ) → IsLiveQuery words texts → budget_of texts.budget ≡ Some budget
+      → ended.status ≢ WriteFault → EndsLiving found texts budget ended.kept ended.status
+  lives_on texts budget asks budget_is whole =
+      ends_living found texts budget ended.kept ended.status (at_script texts (Some budget) asks budget_is whole)
+
+  pub complete_script : (texts : LiveTexts) (budget : ℕ) (f : AnyFramework) (script : Script)
+      → LivesContents found words texts budget f script → IsLiveEnd f script budget ended.kept ended.status
+  complete_script texts budget f script contents = ⊎_elim
+      (λ broken. let P : Status → Type 0 = IsLiveEnd f script budget ended.kept in subst P (sym broken) tt)
+      (λ whole. ends_live found words texts budget f script contents ended.kept ended.status
+      (lives_on texts budget contents.asks contents.budget_is whole)) (write_fault_or ended.status)
+
+  pub faulty_script : (texts : LiveTexts) (budget : ℕ) (f : AnyFramework) (bytes : List ℕ)
+      → ScriptsBytes found words texts budget f bytes → IsFaultyScript bytes → length bytes ≤ INPUT_LIMIT
+      → RefusesBytes OfScript bytes ended.status
+  faulty_script texts budget f bytes asks bad short = ⊎_elim
+      (λ broken. let P : Status → Type 0 = RefusesBytes OfScript bytes in subst P (sym broken) tt)
+      (λ whole. refuses_script found words texts budget f bytes ended.kept asks ended.status bad short
+      (lives_on texts budget asks.asks asks.budget_is whole)) (write_fault_or ended.status)
+
+  pub long_script : (texts : LiveTexts) (budget : ℕ) (f : AnyFramework) (bytes : List ℕ)
+      → ScriptsBytes found words texts budget f bytes → INPUT_LIMIT < length bytes → RefusesLength ended.status
+  long_script texts budget f bytes asks long = ⊎_elim
+      (λ broken. subst RefusesLength (sym broken) tt)
+      (λ whole. refuses_long_script found words texts budget f bytes ended.kept asks ended.status long
+      (lives_on texts budget asks.asks asks.budget_is whole)) (write_fault_or ended.status)
+
+  -- a budget that is none is refused
+  pub no_budget : (texts : LiveTexts) → IsLiveQuery words texts → budget_of texts.budget ≡ None
+      → RefusesWords ended.status
+  no_budget texts asks none =
+      refuses_words found ended.kept ended.status (λ whole. at_script texts None asks none whole)
+
+  written_script : (texts : LiveTexts) (budget : ℕ) → IsLiveQuery words texts → budget_of texts.budget ≡ Some budget
+      → ended.status ≡ Done → EndsLive found.holds budget texts ended.kept ended.status
+      → WritesTranscript found.holds texts ended.kept old new
+  written_script texts budget asks budget_is done lives =
+      let whole : ended.status ≢ WriteFault = λ e. let x : Done ≡ WriteFault = sym done ∙ e in cc in
+      let both = run.whole whole in
+      let status : run.ending.status ≡ Done = sym both.0 ∙ done in
+      let keeps : run.ending.kept ≡ script_kept lives.transcript = sym run.kept ∙ lives.keeps in
+      let Says : Row → Type 0 = λ row.
+      (text_bytes run.ending.text ≡ text_of row run.ending.kept run.ending.status)
+      × (map file_text run.ending.files
+      ≡ files_beside (common_text run.ending.status) (row.files run.ending.kept run.ending.status)) in
+      let P : Request → Type 0 = λ r. Says (row_of found.holds r) in
+      let Q : Option ℕ → Type 0 = λ o. Says (live_row found.holds o texts) in
+      let says = subst Q budget_is
+      (subst P (requested_script words texts asks) (run.decided.text, run.decided.files)) in
+      let text : text_bytes run.ending.text ≡ transcript_bytes lives.transcript =
+      says.0 ∙ script_text_is run.ending.status run.ending.kept lives.transcript status keeps in
+      let files : map file_text run.ending.files ≡ certificates_files texts.certificate lives.transcript =
+      says.1 ∙ script_files_is run.ending.status texts.certificate run.ending.kept lives.transcript status keeps in
+      record {
+        budget = budget;
+        budget_is = budget_is;
+        transcript = lives.transcript;
+        keeps = ap (λ (k : Transcript). k.script) lives.keeps;
+        runs = lives.runs;
+        text = subst (Appends old.contents new.contents) text both.1.text;
+        files = subst (λ list. WritesFiles list old.holds new.holds) files both.1.files;
+      }
+
+  at_done_script : (texts : LiveTexts) (by : Option ℕ) → IsLiveQuery words texts → budget_of texts.budget ≡ by
+      → ended.status ≡ Done → EndsCommand found (live_row found.holds by texts) ended.kept Done
+      → WritesTranscript found.holds texts ended.kept old new
+  at_done_script texts None asks budget_is done cause =
+      absurd (ends_unknown found ended.kept Done (λ e. cc) (λ e. cc) cause)
+  at_done_script texts (Some budget) asks budget_is done cause =
+      from_script (ends_living found texts budget ended.kept Done cause)
+    where
+      from_script : EndsLiving found texts budget ended.kept Done → WritesTranscript found.holds texts ended.kept old new
+      from_script (inl stops) = absurd (stops_told found (live_inputs texts) Done stops refl)
+      from_script (inr (inl is)) = absurd (done_no_memory is)
+      from_script (inr (inr lives)) =
+          written_script texts budget asks budget_is done
+          (subst (EndsLive found.holds budget texts ended.kept) (sym done) lives)
+
+  -- a script's run that is done writes its transcript, and the certificates where a file is named
+  pub script_written : (texts : LiveTexts) → IsLiveQuery words texts → ended.status ≡ Done
+      → WritesTranscript found.holds texts ended.kept old new
+  script_written texts asks done =
+      let P : Status → Type 0 =
+      λ e. EndsCommand found (live_row found.holds (budget_of texts.budget) texts) ended.kept e in
+      at_done_script texts (budget_of texts.budget) asks refl done
+      (subst P done (at_script texts (budget_of texts.budget) asks refl (λ e. let x : Done ≡ WriteFault =
+      sym done ∙ e in cc)))

@@ -1,12 +1,10 @@
 -- How a check of an answer with its certificate may end.
 use Rattle.std.specs.Prelude.{◌≡◌, ◌⊎◌, ℕ, List, [], ◌∷◌, Ok}
-use Rattle.semantics.specs.Framework.{Af}
-use Rattle.semantics.specs.Frameworks.{Framework, af}
+use Rattle.semantics.specs.Frameworks.{Framework}
 use Rattle.argue_outside.specs.Outside.{KnownFile}
-use Rattle.argue_outside.specs.declared.Role.{Role}
 use Rattle.argue_outside.specs.declared.Role.TheVariants as role
 use Rattle.argue_words.specs.Words.{CheckTexts}
-use Rattle.af_format.specs.AfText.{ReadsAs}
+use Rattle.framework_text.specs.FrameworkText.{ReadsAs}
 use Rattle.iccma_tasks.specs.AnswerText.{filled_fields, ReadsAs as AnswerReadsAs}
 use Rattle.iccma_tasks.specs.Tasks.{Asked}
 use Rattle.iccma_tasks.specs.declared.answer.Answer.{Answer}
@@ -16,10 +14,9 @@ use Rattle.certificate_claims.specs.declared.verdict.Verdict.TheVariants.{Accept
 use Rattle.certificate_text.specs.Reading.{ReadsAs as CertReadsAs}
 use Rattle.edit_rules.specs.Fitting.{Fits, IsFaultOf}
 use Rattle.edit_rules.specs.Kinds.{framework_of}
-use Rattle.argue_program.specs.Inputs.{HasBytes, Input, IsFirstFaultIn, IsFrameworkOf, Reading, StopsAtFirst, input}
+use Rattle.argue_program.specs.Inputs.{HasBytes, Input, IsFirstFaultIn, IsFrameworkOf, IsSoundIn, Reading, StopsAtFirst, input}
 use Rattle.argue_program.specs.declared.checking.CheckBytes.{CheckBytes}
 use Rattle.argue_program.specs.declared.checking.Checked.{Checked}
-use Rattle.argue_program.specs.declared.ended.Cause.{Cause}
 use Rattle.argue_program.specs.declared.ended.Cause.TheVariants as cause_of
 use Rattle.iccma_tasks.specs.declared.fault.AnswerFault.{AnswerFault}
 use Rattle.iccma_tasks.specs.declared.fault.AnswerFault.TheVariants as answer_fault
@@ -57,13 +54,13 @@ pub record IsCertificateOf (known : KnownFile) (certificate : Certificate) : Typ
 
 -- a check of what the files read as ends so
 pub record ChecksFiles (holds : List ℕ → KnownFile) (asked : Asked) (texts : CheckTexts) (end : Status) : Type 0 where
-  pub framework : Af
+  pub framework : Framework
   pub answer : Answer
   pub certificate : Certificate
   pub of_framework : IsFrameworkOf (holds texts.file) framework
   pub of_answer : IsAnswerOf (holds texts.answer) answer
   pub of_certificate : IsCertificateOf (holds texts.certificate) certificate
-  pub ends : CheckEnds (af framework) asked answer certificate end
+  pub ends : CheckEnds framework asked answer certificate end
 
 -- ---- the parts of a check
 
@@ -75,15 +72,9 @@ pub record HasCheckBytes (holds : List ℕ → KnownFile) (texts : CheckTexts) (
 
 -- what the bytes read as
 pub record IsChecked (bytes : CheckBytes) (read : Checked) : Type 0 where
-  pub plain : Af
-  pub framework : framework_of read.framework ≡ af plain
-  pub of_framework : ReadsAs bytes.framework plain
+  pub of_framework : ReadsAs bytes.framework (framework_of read.framework)
   pub of_answer : AnswerReadsAs (filled_fields bytes.answer) read.answer
   pub of_certificate : CertReadsAs bytes.certificate (Ok read.certificate)
-
--- the text has no fault
-abbrev pub IsSoundIn : Role → List ℕ → Type 0
-IsSoundIn of bytes = (line : ℕ) (cause : Cause) → ¬ IsFirstFaultIn of bytes line cause
 
 -- the first fault of the three texts, in their order
 abbrev pub IsTextFault : CheckBytes → Status → Type 0

@@ -2,14 +2,16 @@
 use Rattle.std.specs.Prelude.{◌≡◌, ℕ, ◌≤◌, ◌⊎◌, List, [], ◌∷◌, length, Contains, Err}
 use Rattle.argue_outside.specs.Outside.{FaultCounted, HoldsWhole, IsLonger, KnownFile}
 use Rattle.argue_outside.specs.declared.Role.{Role}
-use Rattle.argue_outside.specs.declared.Role.TheVariants.{Framework, Answer as OfAnswer, Certificate as OfCertificate}
+use Rattle.argue_outside.specs.declared.Role.TheVariants.{Framework, Script as OfScript, Answer as OfAnswer, Certificate as OfCertificate}
 use Rattle.iccma_tasks.specs.AnswerText.{IsFaultOf}
 use Rattle.certificate_text.specs.Reading.{ReadsAs as CertReadsAs}
 use Rattle.certificate_text.specs.declared.fault.CertFault.TheVariants.{At}
-use Rattle.semantics.specs.Framework.{Af}
-use Rattle.af_format.specs.AfText.{ReadsAs}
-use Rattle.af_format.specs.Faults.{IsFirstFault}
-use Rattle.af_format.specs.declared.fault.ReadFault.{ReadFault as AfFault}
+use Rattle.script_text.specs.ScriptFaults.{IsFirstFault as IsFirstScriptFault}
+use Rattle.script_text.specs.ScriptText.{IsScript}
+use Rattle.script_text.specs.declared.script.Script.{Script}
+use Rattle.semantics.specs.Frameworks.{Framework as AnyFramework}
+use Rattle.framework_text.specs.FrameworkText.{IsFirstFault, ReadsAs}
+use Rattle.af_format.specs.declared.fault.ReadFault.{ReadFault as FrameworkFault}
 use Rattle.af_format.specs.declared.fault.ReadFault.TheVariants as fault
 use Rattle.argue_program.specs.declared.ended.Cause.{Cause}
 use Rattle.argue_program.specs.declared.ended.Cause.TheVariants as cause
@@ -46,9 +48,14 @@ pub record HasBytes (known : KnownFile) (bytes : List ℕ) : Type 0 where
 -- the first fault of bytes that are read in a role: a row for each kind of text
 abbrev pub IsFirstFaultIn : Role → List ℕ → ℕ → Cause → Type 0
 IsFirstFaultIn (Framework k) bytes line (cause.Framework cause) = IsFirstFault bytes line cause
+IsFirstFaultIn OfScript bytes line (cause.Script cause) = IsFirstScriptFault bytes line cause
 IsFirstFaultIn OfAnswer bytes line (cause.Answer cause) = IsFaultOf bytes line cause
 IsFirstFaultIn OfCertificate bytes line (cause.Certificate cause) = CertReadsAs bytes (Err (At line cause))
 IsFirstFaultIn _ bytes line cause = ⊥
+
+-- the text has no fault
+abbrev pub IsSoundIn : Role → List ℕ → Type 0
+IsSoundIn of bytes = (line : ℕ) (cause : Cause) → ¬ IsFirstFaultIn of bytes line cause
 
 -- the input has been read whole
 abbrev pub IsRead : Reading → Input → Type 0
@@ -58,7 +65,7 @@ IsRead found input = (bytes : List ℕ) × HasBytes (found.holds input.file) byt
 pub record IsSound (found : Reading) (input : Input) : Type 0 where
   pub bytes : List ℕ
   pub has : HasBytes (found.holds input.file) bytes
-  pub faultless : (line : ℕ) (cause : Cause) → ¬ IsFirstFaultIn input.role bytes line cause
+  pub faultless : IsSoundIn input.role bytes
 
 -- the input's text has this first fault
 pub record HasFirstFault (found : Reading) (input : Input) (line : ℕ) (cause : Cause) : Type 0 where
@@ -101,13 +108,19 @@ abbrev pub EndsReading : Reading → Input → Status → Type 0
 EndsReading found input end = StopsAt found end input ⊎ (end ≡ WantOfMemory)
 
 -- the framework that the file's bytes read as
-pub record IsFrameworkOf (known : KnownFile) (framework : Af) : Type 0 where
+pub record IsFrameworkOf (known : KnownFile) (framework : AnyFramework) : Type 0 where
   pub bytes : List ℕ
   pub has : HasBytes known bytes
   pub reads : ReadsAs bytes framework
 
+-- the script that the file's bytes read as
+pub record IsScriptOf (known : KnownFile) (script : Script) : Type 0 where
+  pub bytes : List ℕ
+  pub has : HasBytes known bytes
+  pub reads : IsScript bytes script
+
 -- the status of a run whose framework, read in this role, has the fault
-abbrev pub status_of_fault : Role → AfFault → Status
+abbrev pub status_of_fault : Role → FrameworkFault → Status
 status_of_fault role (fault.Line told) = InputRefused (Line role told.line (cause.Framework told.cause))
 status_of_fault role fault.Memory = WantOfMemory
 

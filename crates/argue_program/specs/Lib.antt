@@ -3,6 +3,7 @@ pub mod Inputs
 pub mod Queries
 pub mod Rows
 pub mod Runs
+pub mod Scripts
 pub mod Solves
 pub mod Statuses
 pub mod Texts

@@ -11,10 +11,11 @@ use Rattle.oracle_core.specs.declared.reply.AnswerStop.{AnswerStop}
 use Rattle.oracle_core.specs.declared.reply.Answered.{Answered}
 use Rattle.argue_outside.specs.declared.Role.{Role}
 use Rattle.argue_outside.specs.declared.Role.TheVariants.{Framework}
-use Rattle.argue_words.specs.Words.{CheckTexts, Request, version, problems, solving, checking, unknown, SolveTexts}
+use Rattle.argue_words.specs.Words.{CheckTexts, LiveTexts, Request, version, problems, solving, checking, living, unknown, SolveTexts}
 use Rattle.iccma_tasks.specs.Tasks.{Asked, tasks_line}
 use Rattle.argue_program.specs.Checks.{ChecksFiles, check_inputs}
-use Rattle.argue_program.specs.Queries.{asked_by, solving_by}
+use Rattle.argue_program.specs.Queries.{asked_by, budget_of, solving_by}
+use Rattle.argue_program.specs.Scripts.{RunsScript, live_inputs, transcript_bytes}
 use Rattle.argue_program.specs.Solves.{IsSessionOn, status_of}
 use Rattle.argue_program.specs.declared.query.Solving.{Solving}
 use Rattle.argue_program.specs.Inputs.{Input, Reading, StopsAtFirst, input}
@@ -25,6 +26,11 @@ use Rattle.argue_program.specs.declared.ended.Status.{Status}
 use Rattle.argue_program.specs.declared.ended.Status.TheVariants.{Done, Usage, ReadFault, WantOfMemory}
 use Rattle.argue_program.specs.declared.ended.Transcript.{Transcript}
 use Rattle.argue_program.specs.declared.writing.Written.{Written}
+use Rattle.script_runs.specs.declared.transcript.ScriptTranscript.{ScriptTranscript}
+use Rattle.script_runs.specs.Transcripts.{IsTranscriptOf}
+use Rattle.script_text.specs.declared.script.Script.{Script}
+use Rattle.semantics.specs.Frameworks.{Framework as AnyFramework}
+use Rattle.session_replies.specs.Replies.{certificates_of}
 
 -- a name and the bytes that it is to have
 pub record FileText : Type 0 where
@@ -41,7 +47,15 @@ pub record Row : Type 1 where
 
 -- a run that keeps nothing
 abbrev pub nothing_kept : Transcript
-nothing_kept = record { session = None }
+nothing_kept = record { session = None; script = None }
+
+-- a run that keeps the session of a query
+abbrev pub session_kept : KeptSession → Transcript
+session_kept session = record { session = Some session; script = None }
+
+-- one that keeps what a script's sessions came to
+abbrev pub script_kept : ScriptTranscript → Transcript
+script_kept transcript = record { session = None; script = Some transcript }
 
 -- ---- the rows
 
@@ -56,7 +70,7 @@ EndsUnasked kept end = (kept ≡ nothing_kept) × (end ≡ Usage)
 -- it keeps the query's session, and ends as its reply says
 pub record EndsSolved (known : KnownFile) (query : Solving) (kept : Transcript) (end : Status) : Type 0 where
   pub session : KeptSession
-  pub keeps : kept.session ≡ Some session
+  pub keeps : kept ≡ session_kept session
   pub on : IsSessionOn known query session
   pub ends : end ≡ status_of session.reply
 
@@ -139,12 +153,48 @@ check_row holds (Some asked) texts = record {
   files = λ kept end. [];
 }
 
+-- the sessions of the script have run on the framework in its file, and it keeps what they came to
+pub record EndsLive (holds : List ℕ → KnownFile) (budget : ℕ) (texts : LiveTexts) (kept : Transcript) (end : Status)
+    : Type 0 where
+  pub transcript : ScriptTranscript
+  pub keeps : kept ≡ script_kept transcript
+  pub runs : RunsScript holds budget texts transcript
+  pub ends : end ≡ Done
+
+-- the transcript that is kept, as text
+abbrev pub script_text : Option ScriptTranscript → List ℕ
+script_text None = []
+script_text (Some transcript) = transcript_bytes transcript
+
+-- the file of the certificates of all answers of a script, where one is named
+abbrev pub certificates_files : Option (List ℕ) → ScriptTranscript → List FileText
+certificates_files None transcript = []
+certificates_files (Some name) transcript =
+    record { name = name; bytes = certificates_of transcript.replies.items } ∷ []
+
+-- the same of the transcript that is kept
+abbrev pub script_files : Option (List ℕ) → Option ScriptTranscript → List FileText
+script_files name None = []
+script_files name (Some transcript) = certificates_files name transcript
+
+-- the run of a script's sessions, or words whose budget is none
+abbrev pub live_row : (List ℕ → KnownFile) → Option ℕ → LiveTexts → Row
+live_row holds None texts = unknown_row
+live_row holds (Some budget) texts = record {
+  inputs = live_inputs texts;
+  takes_memory = true;
+  Ends = EndsLive holds budget texts;
+  text = λ kept end. script_text kept.script;
+  files = λ kept end. script_files texts.certificate kept.script;
+}
+
 -- the table: what is known of the files matters to some rows
 abbrev pub row_of : (List ℕ → KnownFile) → Request → Row
 row_of holds version = version_row
 row_of holds problems = problems_row
 row_of holds (solving texts) = solve_row holds (solving_by texts) texts
 row_of holds (checking texts) = check_row holds (asked_by texts.task texts.number) texts
+row_of holds (living texts) = live_row holds (budget_of texts.budget) texts
 row_of holds unknown = unknown_row
 
 -- ---- the cause of an ending
@@ -189,6 +239,21 @@ pub record IsEndingOf (found : Reading) (row : Row) (ending : Ending) : Type 0 w
 -- of its certificate, or the line of its status
 pub record EndsSession (session : KeptSession) (name : Option (List ℕ)) (ending : Ending) : Type 0 where
   pub status : ending.status ≡ status_of session.reply
-  pub keeps : ending.kept ≡ record { session = Some session }
+  pub keeps : ending.kept ≡ session_kept session
   pub text : text_bytes ending.text ≡ unwrap_or (common_text ending.status) (reply_text session.reply)
   pub files : map file_text ending.files ≡ files_beside (common_text ending.status) (reply_files name session.reply)
+
+-- the ending of a script's run: it keeps what the sessions came to, is done, and writes the transcript and the file of the
+-- certificates
+pub record EndsScript (transcript : ScriptTranscript) (name : Option (List ℕ)) (ending : Ending) : Type 0 where
+  pub status : ending.status ≡ Done
+  pub keeps : ending.kept ≡ script_kept transcript
+  pub text : text_bytes ending.text ≡ transcript_bytes transcript
+  pub files : map file_text ending.files ≡ certificates_files name transcript
+
+-- the same of some transcript of the script on the framework
+pub record EndsServed (f : AnyFramework) (script : Script) (budget : ℕ) (name : Option (List ℕ)) (ending : Ending)
+    : Type 0 where
+  pub transcript : ScriptTranscript
+  pub is : IsTranscriptOf f script budget transcript
+  pub ends : EndsScript transcript name ending

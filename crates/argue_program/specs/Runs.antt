@@ -2,11 +2,11 @@
 use Rattle.std.specs.Prelude.{◌≡◌, ◌≢◌, ℕ, ◌⊎◌, ◌<◌, ◌≤◌, true, List, length, take, slice_index_or, Ok, Some}
 use Rattle.std.specs.Io.KnownBytes.{Appends}
 use Rattle.argue_outside.specs.Outside.{FaultCounted, KnownFile}
+use Rattle.argue_outside.specs.declared.Role.{Role}
 use Rattle.argue_outside.specs.declared.Role.TheVariants as role
-use Rattle.semantics.specs.Framework.{Af}
-use Rattle.semantics.specs.Frameworks.{af}
+use Rattle.semantics.specs.Frameworks.{Framework}
 use Rattle.num_text.specs.declared.limit.TheConstants.{INPUT_LIMIT}
-use Rattle.argue_words.specs.Words.{CheckTexts, IsCheckQuery, IsSolveQuery, SolveTexts}
+use Rattle.argue_words.specs.Words.{CheckTexts, IsCheckQuery, IsLiveQuery, IsSolveQuery, LiveTexts, SolveTexts}
 use Rattle.iccma_tasks.specs.AnswerText.{filled_fields, ReadsAs as AnswerReadsAs}
 use Rattle.iccma_tasks.specs.WrittenText.{text_of as answer_text}
 use Rattle.iccma_tasks.specs.Tasks.{Asked}
@@ -14,20 +14,26 @@ use Rattle.iccma_tasks.specs.declared.answer.Answer.{Answer}
 use Rattle.certificate_claims.specs.Rights.{IsRight}
 use Rattle.certificate_claims.specs.declared.certificate.Certificate.{Certificate}
 use Rattle.certificate_text.specs.Reading.{ReadsAs as CertReadsAs}
-use Rattle.af_format.specs.AfText.{ReadsAs}
+use Rattle.framework_text.specs.FrameworkText.{ReadsAs}
 use Rattle.argue_program.specs.Checks.{CheckEnds, IsAnswerOf}
-use Rattle.argue_program.specs.Queries.{asked_by, solving_by}
+use Rattle.argue_program.specs.Queries.{asked_by, budget_of, solving_by}
+use Rattle.argue_program.specs.Scripts.{RunsScript, transcript_bytes}
 use Rattle.argue_program.specs.Solves.{IsReplyTo, IsSessionOf, IsSessionOn, status_of}
 use Rattle.argue_program.specs.declared.query.Solving.{Solving}
+use Rattle.script_runs.specs.Transcripts.{IsTranscriptOf}
+use Rattle.script_runs.specs.declared.transcript.ScriptTranscript.{ScriptTranscript}
+use Rattle.script_text.specs.ScriptFaults.{StandsAt}
+use Rattle.script_text.specs.ScriptText.{IsScript}
+use Rattle.script_text.specs.declared.fault.ScriptCause.{ScriptCause}
+use Rattle.script_text.specs.declared.script.Script.{Script}
+use Rattle.num_text.specs.Lines.{kept_lines}
 use Rattle.oracle_face.specs.declared.face.Pending.{Pending}
 use Rattle.oracle_face.specs.Growing.{IsFurther}
 use Rattle.oracle_face.specs.Logs.{IsNew, is_unit, no_step, units_of, working}
 use Rattle.session_log.specs.Ends.{MadeFor}
 use Rattle.oracle_core.specs.declared.reply.Answered.{Answered}
-use Rattle.af_format.specs.Faults.{HasFault}
-use Rattle.af_format.specs.declared.fault.LineCause.{LineCause}
 use Rattle.argue_program.specs.Inputs.{Input, IsFirstFaultIn, IsFrameworkOf, Reading, input}
-use Rattle.argue_program.specs.Rows.{IsEndingOf, Row, certificate_files}
+use Rattle.argue_program.specs.Rows.{IsEndingOf, Row, certificate_files, certificates_files}
 use Rattle.argue_program.specs.Writing.{BreaksOff, IsWritten, Output, WritesFiles}
 use Rattle.argue_program.specs.declared.decision.Ending.{Ending}
 use Rattle.argue_program.specs.declared.ended.Ended.{Ended}
@@ -70,7 +76,7 @@ pub record SpendsBudget (words : List (List ℕ)) (holds : List ℕ → KnownFil
       → IsNew (working (take k session.engine.log.steps)) (slice_index_or session.engine.log.steps k no_step).clause
   pub in_hand : Pending
   pub pending : session.engine.pending ≡ Some in_hand
-  pub further : IsFurther (MadeFor (af asks.on.framework) asks.query.query) (af asks.on.framework) session.engine.log
+  pub further : IsFurther (MadeFor asks.on.framework asks.query.query) asks.on.framework session.engine.log
       in_hand
 
 -- the run keeps the session of the words' query, and its log is full
@@ -85,10 +91,10 @@ pub record FillsLog (words : List (List ℕ)) (holds : List ℕ → KnownFile) (
 pub record WritesAnswer (holds : List ℕ → KnownFile) (texts : SolveTexts) (old new : Output) : Type 0 where
   pub query : Solving
   pub query_is : solving_by texts ≡ Some query
-  pub framework : Af
+  pub framework : Framework
   pub of_framework : IsFrameworkOf (holds texts.file) framework
   pub reply : Answered
-  pub replies : IsReplyTo (af framework) query reply
+  pub replies : IsReplyTo framework query reply
   pub text : Appends old.contents new.contents (answer_text reply.answer)
   pub files : WritesFiles (certificate_files texts.certificate reply.certificate) old.holds new.holds
 
@@ -102,25 +108,31 @@ pub record QueriesBytes (found : Reading) (words : List (List ℕ)) (texts : Sol
       ⊎ ¬ FaultCounted (found.old_count (role.Framework 1)) (found.new_count (role.Framework 1))
 
 -- the name is that of the file for the certificate of the words' query
-pub record NamesCertificate (words : List (List ℕ)) (name : List ℕ) : Type 0 where
+pub record NamesAnswerFile (words : List (List ℕ)) (name : List ℕ) : Type 0 where
   pub texts : SolveTexts
   pub asks : IsSolveQuery words texts
   pub named : texts.certificate ≡ Some name
 
--- some line of the bytes has a fault
-abbrev pub IsFaulty : List ℕ → Type 0
-IsFaulty bytes = (line : ℕ) × (cause : LineCause) × HasFault bytes line cause
+-- the name is that of the file for the certificates of the words' script
+pub record NamesScriptFile (words : List (List ℕ)) (name : List ℕ) : Type 0 where
+  pub texts : LiveTexts
+  pub asks : IsLiveQuery words texts
+  pub named : texts.certificate ≡ Some name
+
+-- the words name this file for certificates
+abbrev pub NamesCertificate : List (List ℕ) → List ℕ → Type 0
+NamesCertificate words name = NamesAnswerFile words name ⊎ NamesScriptFile words name
 
 -- the run keeps the query's session on the framework, and ends as its reply says
-pub record EndsAsReplied (f : Af) (query : Solving) (kept : Transcript) (end : Status) : Type 0 where
+pub record EndsAsReplied (f : Framework) (query : Solving) (kept : Transcript) (end : Status) : Type 0 where
   pub session : KeptSession
   pub keeps : kept.session ≡ Some session
-  pub is : IsSessionOf (af f) query session
+  pub is : IsSessionOf f query session
   pub ends : end ≡ status_of session.reply
 
 -- a query ends as its session says, but for want of memory or a write fault: answered where it fits and its budget and the
 -- limits allow it
-abbrev pub IsSolveEnd : Af → Solving → Transcript → Status → Type 0
+abbrev pub IsSolveEnd : Framework → Solving → Transcript → Status → Type 0
 IsSolveEnd f query kept WantOfMemory = Unit {0}
 IsSolveEnd f query kept WriteFault = Unit {0}
 IsSolveEnd f query kept end = EndsAsReplied f query kept end
@@ -138,13 +150,12 @@ RefusesWords WriteFault = Unit {0}
 RefusesWords WantOfMemory = Unit {0}
 RefusesWords _ = ⊥
 
--- faulty bytes are refused by their first fault, but for want of memory or a write fault
-abbrev pub RefusesBytes : List ℕ → Status → Type 0
-RefusesBytes bytes (InputRefused (Line of line cause)) =
-    (of ≡ role.Framework 1) × IsFirstFaultIn (role.Framework 1) bytes line cause
-RefusesBytes bytes WriteFault = Unit {0}
-RefusesBytes bytes WantOfMemory = Unit {0}
-RefusesBytes bytes _ = ⊥
+-- faulty bytes in a role are refused by their first fault, but for want of memory or a write fault
+abbrev pub RefusesBytes : Role → List ℕ → Status → Type 0
+RefusesBytes role bytes (InputRefused (Line of line cause)) = (of ≡ role) × IsFirstFaultIn role bytes line cause
+RefusesBytes role bytes WriteFault = Unit {0}
+RefusesBytes role bytes WantOfMemory = Unit {0}
+RefusesBytes role bytes _ = ⊥
 
 -- bytes over the limit are refused for their length, but for want of memory or a write fault
 abbrev pub RefusesLength : Status → Type 0
@@ -159,11 +170,11 @@ RefusesLength _ = ⊥
 pub record AnswersRight (holds : List ℕ → KnownFile) (texts : CheckTexts) : Type 0 where
   pub asked : Asked
   pub asks : asked_by texts.task texts.number ≡ Some asked
-  pub framework : Af
+  pub framework : Framework
   pub answer : Answer
   pub of_framework : IsFrameworkOf (holds texts.file) framework
   pub of_answer : IsAnswerOf (holds texts.answer) answer
-  pub right : IsRight (af framework) asked answer
+  pub right : IsRight framework asked answer
 
 -- the input has bytes within the limit, of which P holds and no read fails: it is served, or no fault is counted
 pub record HasText (found : Reading) (one : Input) (P : List ℕ → Type 0) : Type 0 where
@@ -174,7 +185,7 @@ pub record HasText (found : Reading) (one : Input) (P : List ℕ → Type 0) : T
   pub no_fault : found.Serves one.file ⊎ ¬ FaultCounted (found.old_count one.role) (found.new_count one.role)
 
 -- the words ask for a check of this query, and the files read as these
-pub record ChecksContents (found : Reading) (words : List (List ℕ)) (texts : CheckTexts) (asked : Asked) (f : Af)
+pub record ChecksContents (found : Reading) (words : List (List ℕ)) (texts : CheckTexts) (asked : Asked) (f : Framework)
     (answer : Answer) (certificate : Certificate) : Type 0 where
   pub query : IsCheckQuery words texts
   pub asks : asked_by texts.task texts.number ≡ Some asked
@@ -183,16 +194,73 @@ pub record ChecksContents (found : Reading) (words : List (List ℕ)) (texts : C
   pub of_certificate : HasText found (input role.Certificate texts.certificate) (λ bytes. CertReadsAs bytes (Ok certificate))
 
 -- a check ends as its framework, query, answer and certificate say, but for want of memory or a write fault
-abbrev pub IsCheckEnd : Af → Asked → Answer → Certificate → Status → Type 0
+abbrev pub IsCheckEnd : Framework → Asked → Answer → Certificate → Status → Type 0
 IsCheckEnd f asked answer certificate WantOfMemory = Unit {0}
 IsCheckEnd f asked answer certificate WriteFault = Unit {0}
-IsCheckEnd f asked answer certificate end = CheckEnds (af f) asked answer certificate end
+IsCheckEnd f asked answer certificate end = CheckEnds f asked answer certificate end
 
 -- ---- queries
 
 -- the words ask this query, and the file reads as this framework
-pub record SolvesContents (found : Reading) (words : List (List ℕ)) (texts : SolveTexts) (query : Solving) (f : Af)
+pub record SolvesContents (found : Reading) (words : List (List ℕ)) (texts : SolveTexts) (query : Solving) (f : Framework)
     : Type 0 where
   pub asks : IsSolveQuery words texts
   pub query_is : solving_by texts ≡ Some query
   pub of_framework : HasText found (input (role.Framework 1) texts.file) (λ bytes. ReadsAs bytes f)
+
+-- ---- scripts
+
+-- the words ask for a script's run, and this is what its sessions come to on the framework in its file
+pub record AsksScript (words : List (List ℕ)) (holds : List ℕ → KnownFile) (transcript : ScriptTranscript) : Type 0 where
+  pub texts : LiveTexts
+  pub asks : IsLiveQuery words texts
+  pub budget : ℕ
+  pub budget_is : budget_of texts.budget ≡ Some budget
+  pub runs : RunsScript holds budget texts transcript
+
+-- the run keeps what the sessions of the script in its file come to on the framework in its file; the output has gained the
+-- text of it, and the file that is named for the certificates has those of all answers
+pub record WritesTranscript (holds : List ℕ → KnownFile) (texts : LiveTexts) (kept : Transcript) (old new : Output)
+    : Type 0 where
+  pub budget : ℕ
+  pub budget_is : budget_of texts.budget ≡ Some budget
+  pub transcript : ScriptTranscript
+  pub keeps : kept.script ≡ Some transcript
+  pub runs : RunsScript holds budget texts transcript
+  pub text : Appends old.contents new.contents (transcript_bytes transcript)
+  pub files : WritesFiles (certificates_files texts.certificate transcript) old.holds new.holds
+
+-- the words ask for a script's run with this budget, and the files read as this framework and this script
+pub record LivesContents (found : Reading) (words : List (List ℕ)) (texts : LiveTexts) (budget : ℕ) (f : Framework)
+    (script : Script) : Type 0 where
+  pub asks : IsLiveQuery words texts
+  pub budget_is : budget_of texts.budget ≡ Some budget
+  pub of_framework : HasText found (input (role.Framework 1) texts.file) (λ bytes. ReadsAs bytes f)
+  pub of_script : HasText found (input role.Script texts.script) (λ bytes. IsScript bytes script)
+
+-- the run keeps what the sessions of the script come to on the framework
+pub record KeepsTranscript (f : Framework) (script : Script) (budget : ℕ) (kept : Transcript) : Type 0 where
+  pub transcript : ScriptTranscript
+  pub keeps : kept.script ≡ Some transcript
+  pub is : IsTranscriptOf f script budget transcript
+
+-- a script's run is done, and keeps what its sessions come to, but for want of memory or a write fault
+abbrev pub IsLiveEnd : Framework → Script → ℕ → Transcript → Status → Type 0
+IsLiveEnd f script budget kept Done = KeepsTranscript f script budget kept
+IsLiveEnd f script budget kept WantOfMemory = Unit {0}
+IsLiveEnd f script budget kept WriteFault = Unit {0}
+IsLiveEnd f script budget kept _ = ⊥
+
+-- some cause stands at a line of a script's bytes
+abbrev pub IsFaultyScript : List ℕ → Type 0
+IsFaultyScript bytes = (line : ℕ) × (cause : ScriptCause) × StandsAt (kept_lines bytes) line cause
+
+-- the words ask for a run of the script with these bytes on a framework that its file reads as, and no read of either
+-- fails: it is served, or no fault is counted
+pub record ScriptsBytes (found : Reading) (words : List (List ℕ)) (texts : LiveTexts) (budget : ℕ) (f : Framework)
+    (bytes : List ℕ) : Type 0 where
+  pub asks : IsLiveQuery words texts
+  pub budget_is : budget_of texts.budget ≡ Some budget
+  pub of_framework : HasText found (input (role.Framework 1) texts.file) (λ bytes. ReadsAs bytes f)
+  pub known : found.holds texts.script ≡ Some (Some bytes)
+  pub no_fault : found.Serves texts.script ⊎ ¬ FaultCounted (found.old_count role.Script) (found.new_count role.Script)

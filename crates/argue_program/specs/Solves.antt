@@ -2,8 +2,7 @@
 use Rattle.std.specs.Prelude.{◌≡◌, ℕ, ◌+◌, ◌*◌, ◌≤◌, length, Result, Ok, Err}
 use Rattle.argue_outside.specs.Outside.{KnownFile}
 use Rattle.plain_lits.specs.Units.{Units}
-use Rattle.semantics.specs.Framework.{Af}
-use Rattle.semantics.specs.Frameworks.{Framework, af}
+use Rattle.semantics.specs.Frameworks.{Framework}
 use Rattle.edit_rules.specs.Fitting.{Fits}
 use Rattle.oracle_face.specs.Growing.{HasRun}
 use Rattle.session_log.specs.Ends.{MadeFor}
@@ -50,9 +49,9 @@ pub record IsSessionOf (f : Framework) (solving : Solving) (session : KeptSessio
 
 -- the same on the framework that the file's bytes read as
 pub record IsSessionOn (known : KnownFile) (solving : Solving) (session : KeptSession) : Type 0 where
-  pub framework : Af
+  pub framework : Framework
   pub of_framework : IsFrameworkOf known framework
-  pub is : IsSessionOf (af framework) solving session
+  pub is : IsSessionOf framework solving session
 
 -- the status of a run whose query has no answer for this reason
 abbrev pub status_after : AnswerStop → Status

@@ -7,6 +7,7 @@ use Rattle.argue_outside.specs.declared.Role.TheVariants as role
 use Rattle.af_format.specs.Causes.{cause_name}
 use Rattle.iccma_tasks.specs.Names.{cause_name as answer_cause}
 use Rattle.certificate_text.specs.Names.{cause_name as certificate_cause}
+use Rattle.script_text.specs.ScriptFaults.{cause_name as script_cause}
 use Rattle.certificate_claims.specs.declared.verdict.Cause.{Cause as Failure}
 use Rattle.certificate_claims.specs.declared.verdict.Cause.TheVariants.{AnswerShape, BadWitness, SetCount, BadSet, RefutationCount, BadStep, OpenLiteral}
 use Rattle.edit_rules.specs.Fitting.{fault_name, fault_number}
@@ -40,6 +41,7 @@ role_text role.Lrat = codes "lrat"
 -- the name of a cause
 abbrev pub cause_text : Cause → List ℕ
 cause_text (cause.Framework cause) = cause_name cause
+cause_text (cause.Script cause) = script_cause cause
 cause_text (cause.Answer cause) = answer_cause cause
 cause_text (cause.Certificate cause) = certificate_cause cause
 

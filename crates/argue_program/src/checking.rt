@@ -11,13 +11,13 @@ ghost use Rattle.argue_program.specs.Texts.{common_text};
 
 use crate::ended::{Cause, Refusal, Status};
 use crate::input::{read_input, refused};
-use af_format::read_af;
 use argue_outside::{Files, Role};
 use argue_words::CheckWords;
 use certificate_check::check;
 use certificate_claims::{Certificate, Verdict};
 use certificate_text::{CertFault, read_certificate};
 use edit_rules::{Framework, query_fits};
+use framework_text::read_framework;
 use iccma_tasks::{Answer, AnswerFault, Query, read_answer};
 use plain_lists::{Bytes, Memory};
 use std::alloc::Global;
@@ -107,8 +107,8 @@ fn parse(alloc: Global, bytes: &CheckBytes) -> Result<Checked, Status>
     ensures ok { IfOk result (IsChecked bytes.now) }
     ensures err { IfErr result (IsTextFault bytes.now) }
 {
-    let framework = match read_af(alloc, bytes.framework.as_slice()) {
-        Ok(plain) => Framework::Af(plain),
+    let framework = match read_framework(alloc, bytes.framework.as_slice()) {
+        Ok(framework) => framework,
         Err(fault) => return Err(refused(Role::Framework(1), fault)),
     };
     let answer = match read_answer(alloc, bytes.answer.as_slice()) {

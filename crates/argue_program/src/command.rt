@@ -1,41 +1,47 @@
 //! The top call.
 
-ghost use Rattle.std.specs.Prelude.{◌≡◌, ◌≢◌, ◌⊎◌, ℕ, ◌<◌, ◌≤◌, List, [], None, Some, length, map, true};
+ghost use Rattle.std.specs.Prelude.{◌≡◌, ◌≢◌, ◌⊎◌, ℕ, ◌<◌, ◌≤◌, List, [], None, Some, false, length, map, true};
 ghost use Rattle.std.specs.String.{string_bytes};
 ghost use Rattle.argue_outside.specs.Outside.{FaultCounted};
 ghost use Rattle.argue_outside.specs.declared.Role.{Role as ARole};
-ghost use Rattle.semantics.specs.Framework.{Af};
-ghost use Rattle.argue_words.specs.Words.{AreWords, CheckTexts, IsCheckQuery, IsSolveQuery, SolveTexts, requested, words_are_problems};
+ghost use Rattle.semantics.specs.Frameworks.{Framework};
+ghost use Rattle.argue_words.specs.Words.{AreWords, CheckTexts, IsCheckQuery, IsLiveQuery, IsSolveQuery, LiveTexts, SolveTexts, is_live, requested, words_are_problems};
 ghost use Rattle.iccma_tasks.specs.Tasks.{Asked};
 ghost use Rattle.iccma_tasks.specs.declared.answer.Answer.{Answer};
 ghost use Rattle.certificate_claims.specs.declared.certificate.Certificate.{Certificate};
 ghost use Rattle.argue_program.specs.declared.ended.KeptSession.{KeptSession};
-ghost use Rattle.argue_program.specs.Queries.{asked_by, solving_by};
+ghost use Rattle.argue_program.specs.Queries.{asked_by, budget_of, solving_by};
 ghost use Rattle.argue_program.specs.declared.query.Solving.{Solving};
 ghost use Rattle.argue_program.specs.Inputs.{reading};
 ghost use Rattle.argue_program.specs.Rows.{HasNoInput, row_of};
-ghost use Rattle.argue_program.specs.Runs.{AnswersRight, AsksSession, ChecksContents, FillsLog, IsCheckEnd, IsDoneOrMemory, IsFaulty, IsRunOf};
-ghost use Rattle.argue_program.specs.Runs.{IsSolveEnd, NamesCertificate, QueriesBytes, RefusesBytes, RefusesLength, RefusesWords, SolvesContents, SpendsBudget};
-ghost use Rattle.argue_program.specs.Runs.{WritesAnswer};
+ghost use Rattle.argue_program.specs.Runs.{AnswersRight, AsksScript, AsksSession, ChecksContents, FillsLog, IsCheckEnd, IsDoneOrMemory, IsRunOf};
+ghost use Rattle.framework_text.specs.FrameworkText.{IsFaulty};
+ghost use Rattle.argue_program.specs.Runs.{IsFaultyScript, IsLiveEnd, IsSolveEnd, LivesContents, NamesCertificate, QueriesBytes, RefusesBytes, RefusesLength, RefusesWords, ScriptsBytes, SolvesContents, SpendsBudget};
+ghost use Rattle.argue_program.specs.Runs.{WritesAnswer, WritesTranscript};
 ghost use Rattle.argue_program.specs.Writing.{output};
+ghost use Rattle.script_runs.specs.declared.transcript.ScriptTranscript.{ScriptTranscript};
+ghost use Rattle.script_text.specs.declared.script.Script.{Script};
 ghost use Rattle.num_text.specs.declared.limit.TheConstants.{INPUT_LIMIT};
 
 use crate::decision::decide;
 use crate::ended::{Ended, Limit, Status};
+use crate::scripts::decide_with;
 use crate::writing::write_ending;
-use argue_outside::{Files, Pace, Sink};
+use argue_outside::{Files, Pace, Role, Sink};
 use std::alloc::Global;
 use std::sync::Wait;
 use std::thread::Threads;
 
-/// Runs the program on the words after its name: decides the ending, and writes it. It waits for nobody, so it
-/// is proved to return.
+/// Runs the program on the words after its name, the first of which isn't `live`: decides the ending, and writes it. It
+/// waits for nobody, so it is proved to return.
 pub fn execute<F: Files, O: Sink>(
     alloc: Global,
     words: &[String],
     files: &mut F,
     out: &mut O,
 ) -> Ended
+    requires { is_live (map string_bytes words.now) ≡ false }
+
     // What the run does, by the row of what its words ask for. The rest follows.
     ensures run { IsRunOf
         (reading (F.holds files.old) (F.serves files.old) (F.read_count files.old) (F.read_count files.new))
@@ -61,7 +67,7 @@ pub fn execute<F: Files, O: Sink>(
         → result.status ≡ Status.Done }
     ensures problems { words_are_problems (map string_bytes words.now) ≡ true → result.status ≢ Status.WriteFault
         → IsDoneOrMemory result.status }
-    ensures complete { (texts : SolveTexts) (query : Solving) (f : Af) → SolvesContents
+    ensures complete { (texts : SolveTexts) (query : Solving) (f : Framework) → SolvesContents
         (reading (F.holds files.old) (F.serves files.old) (F.read_count files.old) (F.read_count files.new))
         (map string_bytes words.now) texts query f
         → IsSolveEnd f query result.kept result.status }
@@ -74,7 +80,7 @@ pub fn execute<F: Files, O: Sink>(
     ensures faulty { (texts : SolveTexts) (query : Solving) (bytes : List ℕ) → QueriesBytes
         (reading (F.holds files.old) (F.serves files.old) (F.read_count files.old) (F.read_count files.new))
         (map string_bytes words.now) texts query bytes
-        → IsFaulty bytes → length bytes ≤ INPUT_LIMIT → RefusesBytes bytes result.status }
+        → IsFaulty bytes → length bytes ≤ INPUT_LIMIT → RefusesBytes (Role.Framework 1) bytes result.status }
     ensures too_long { (texts : SolveTexts) (query : Solving) (bytes : List ℕ) → QueriesBytes
         (reading (F.holds files.old) (F.serves files.old) (F.read_count files.old) (F.read_count files.new))
         (map string_bytes words.now) texts query bytes
@@ -84,7 +90,7 @@ pub fn execute<F: Files, O: Sink>(
     // say, or wants memory; and one that asks no query is refused.
     ensures accepted { (texts : CheckTexts) → IsCheckQuery (map string_bytes words.now) texts
         → result.status ≡ Status.Done → AnswersRight (F.holds files.old) texts }
-    ensures checked { (texts : CheckTexts) (asked : Asked) (f : Af) (answer : Answer) (certificate : Certificate)
+    ensures checked { (texts : CheckTexts) (asked : Asked) (f : Framework) (answer : Answer) (certificate : Certificate)
         → ChecksContents
         (reading (F.holds files.old) (F.serves files.old) (F.read_count files.old) (F.read_count files.new))
         (map string_bytes words.now) texts asked f answer certificate
@@ -92,8 +98,8 @@ pub fn execute<F: Files, O: Sink>(
     ensures unasked { (texts : CheckTexts) → IsCheckQuery (map string_bytes words.now) texts
         → asked_by texts.task texts.number ≡ None → RefusesWords result.status }
 
-    // A write fault was counted. No file changes but that of a query's certificate, and that one only where the run is done
-    // or its writing fails; and no other count of faults does.
+    // A write fault was counted. No file changes but that for certificates, and that one only where the run is done or its
+    // writing fails; and no other count of faults does.
     ensures write_fault { result.status ≡ Status.WriteFault
         → FaultCounted (O.fault_count out.old) (O.fault_count out.new)
         ⊎ FaultCounted (F.write_count files.old) (F.write_count files.new) }
@@ -110,15 +116,16 @@ pub fn execute<F: Files, O: Sink>(
     write_ending(files, out, ending)
 }
 
-/// Runs the program on the words after its name, with what its sessions need beside files and output: a runtime,
-/// and a gate for tests. No command has sessions yet, so all is done by `execute`.
+/// Runs the program on the words after its name, with what its sessions need beside files and output: a runtime, and a
+/// gate for tests. Where the words ask for a script's run, its sessions run in threads of their own, and this returns
+/// where they do; on all other words it does what `execute` does.
 pub fn run<F: Files, O: Sink, P: Pace + Sync, R: Threads + Wait + Sync>(
-    _rt: &R,
+    rt: &R,
     alloc: Global,
     words: &[String],
     files: &mut F,
     out: &mut O,
-    _pace: &P,
+    pace: &P,
 ) -> Ended
     // What the run does, by the row of what its words ask for. The rest follows.
     ensures run { IsRunOf
@@ -140,15 +147,29 @@ pub fn run<F: Files, O: Sink, P: Pace + Sync, R: Threads + Wait + Sync>(
         (output (F.holds files.old) (F.write_count files.old) (O.contents out.old) (O.fault_count out.old))
         (output (F.holds files.new) (F.write_count files.new) (O.contents out.new) (O.fault_count out.new)) }
 
+    // The same for scripts: a transcript that is kept is that of the words' script on the framework in its file; and where
+    // the run is done, it has written that transcript, and the certificates of all its answers where a file is named.
+    ensures transcript { (transcript : ScriptTranscript) → result.kept.script ≡ Some transcript
+        → AsksScript (map string_bytes words.now) (F.holds files.old) transcript }
+    ensures live { (texts : LiveTexts) → IsLiveQuery (map string_bytes words.now) texts
+        → result.status ≡ Status.Done → WritesTranscript (F.holds files.old) texts result.kept
+        (output (F.holds files.old) (F.write_count files.old) (O.contents out.old) (O.fault_count out.old))
+        (output (F.holds files.new) (F.write_count files.new) (O.contents out.new) (O.fault_count out.new)) }
+
     // Completeness: with well-formed words and input and no fault, the run does what was asked, or wants memory.
     ensures version { map string_bytes words.now ≡ [] → result.status ≢ Status.WriteFault
         → result.status ≡ Status.Done }
     ensures problems { words_are_problems (map string_bytes words.now) ≡ true → result.status ≢ Status.WriteFault
         → IsDoneOrMemory result.status }
-    ensures complete { (texts : SolveTexts) (query : Solving) (f : Af) → SolvesContents
+    ensures complete { (texts : SolveTexts) (query : Solving) (f : Framework) → SolvesContents
         (reading (F.holds files.old) (F.serves files.old) (F.read_count files.old) (F.read_count files.new))
         (map string_bytes words.now) texts query f
         → IsSolveEnd f query result.kept result.status }
+
+    ensures complete_script { (texts : LiveTexts) (budget : ℕ) (f : Framework) (script : Script) → LivesContents
+        (reading (F.holds files.old) (F.serves files.old) (F.read_count files.old) (F.read_count files.new))
+        (map string_bytes words.now) texts budget f script
+        → IsLiveEnd f script budget result.kept result.status }
 
     // The converses: words that aren't well-formed, or that ask a query which there isn't, are refused, and so is a file
     // with a fault and one over the limit.
@@ -158,17 +179,28 @@ pub fn run<F: Files, O: Sink, P: Pace + Sync, R: Threads + Wait + Sync>(
     ensures faulty { (texts : SolveTexts) (query : Solving) (bytes : List ℕ) → QueriesBytes
         (reading (F.holds files.old) (F.serves files.old) (F.read_count files.old) (F.read_count files.new))
         (map string_bytes words.now) texts query bytes
-        → IsFaulty bytes → length bytes ≤ INPUT_LIMIT → RefusesBytes bytes result.status }
+        → IsFaulty bytes → length bytes ≤ INPUT_LIMIT → RefusesBytes (Role.Framework 1) bytes result.status }
     ensures too_long { (texts : SolveTexts) (query : Solving) (bytes : List ℕ) → QueriesBytes
         (reading (F.holds files.old) (F.serves files.old) (F.read_count files.old) (F.read_count files.new))
         (map string_bytes words.now) texts query bytes
+        → INPUT_LIMIT < length bytes → RefusesLength result.status }
+
+    ensures no_budget { (texts : LiveTexts) → IsLiveQuery (map string_bytes words.now) texts
+        → budget_of texts.budget ≡ None → RefusesWords result.status }
+    ensures faulty_script { (texts : LiveTexts) (budget : ℕ) (f : Framework) (bytes : List ℕ) → ScriptsBytes
+        (reading (F.holds files.old) (F.serves files.old) (F.read_count files.old) (F.read_count files.new))
+        (map string_bytes words.now) texts budget f bytes
+        → IsFaultyScript bytes → length bytes ≤ INPUT_LIMIT → RefusesBytes Role.Script bytes result.status }
+    ensures long_script { (texts : LiveTexts) (budget : ℕ) (f : Framework) (bytes : List ℕ) → ScriptsBytes
+        (reading (F.holds files.old) (F.serves files.old) (F.read_count files.old) (F.read_count files.new))
+        (map string_bytes words.now) texts budget f bytes
         → INPUT_LIMIT < length bytes → RefusesLength result.status }
 
     // Of a check: done only where the answer is right; with files that read as something and no fault, it ends as these
     // say, or wants memory; and one that asks no query is refused.
     ensures accepted { (texts : CheckTexts) → IsCheckQuery (map string_bytes words.now) texts
         → result.status ≡ Status.Done → AnswersRight (F.holds files.old) texts }
-    ensures checked { (texts : CheckTexts) (asked : Asked) (f : Af) (answer : Answer) (certificate : Certificate)
+    ensures checked { (texts : CheckTexts) (asked : Asked) (f : Framework) (answer : Answer) (certificate : Certificate)
         → ChecksContents
         (reading (F.holds files.old) (F.serves files.old) (F.read_count files.old) (F.read_count files.new))
         (map string_bytes words.now) texts asked f answer certificate
@@ -176,8 +208,8 @@ pub fn run<F: Files, O: Sink, P: Pace + Sync, R: Threads + Wait + Sync>(
     ensures unasked { (texts : CheckTexts) → IsCheckQuery (map string_bytes words.now) texts
         → asked_by texts.task texts.number ≡ None → RefusesWords result.status }
 
-    // A write fault was counted. No file changes but that of a query's certificate, and that one only where the run is done
-    // or its writing fails; and no other count of faults does.
+    // A write fault was counted. No file changes but that for certificates, and that one only where the run is done or its
+    // writing fails; and no other count of faults does.
     ensures write_fault { result.status ≡ Status.WriteFault
         → FaultCounted (O.fault_count out.old) (O.fault_count out.new)
         ⊎ FaultCounted (F.write_count files.old) (F.write_count files.new) }
@@ -190,5 +222,6 @@ pub fn run<F: Files, O: Sink, P: Pace + Sync, R: Threads + Wait + Sync>(
         → HasNoInput (row_of (F.holds files.old) (requested (map string_bytes words.now))) role
         → F.read_count files.new role ≡ F.read_count files.old role }
 {
-    execute(alloc, words, files, out)
+    let ending = decide_with(rt, alloc, words, files, pace);
+    write_ending(files, out, ending)
 }

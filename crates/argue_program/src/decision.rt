@@ -1,11 +1,12 @@
 //! What a run ends with: decided here, and written elsewhere.
 
-ghost use Rattle.std.specs.Prelude.{◌≡◌, ◌⊎◌, ℕ, List, [], Ok, Err, IfErr, IfOk, IsErrOf, IsSome, Option, Some, map};
+ghost use Rattle.std.specs.Prelude.{◌≡◌, ◌≢◌, ◌⊎◌, ℕ, List, [], Ok, Err, IfErr, IfOk, IsErrOf, IsSome, Option, Some, false, map};
 ghost use Rattle.std.specs.Option.{option_map};
 ghost use Rattle.std.specs.String.{string_bytes};
-ghost use Rattle.argue_words.specs.Words.{check_texts, checking, request_of, requested, solve_texts, solving};
+ghost use Rattle.argue_words.specs.Words.{check_texts, checking, is_live, request_of, requested, solve_texts, solving};
+ghost use Rattle.argue_words.specs.declared.words.LiveWords.{LiveWords as ALiveWords};
 ghost use Rattle.argue_program.specs.Inputs.{reading};
-ghost use Rattle.argue_program.specs.Rows.{EndsSession, IsEndingOf, nothing_kept, row_of};
+ghost use Rattle.argue_program.specs.Rows.{EndsSession, IsEndingOf, nothing_kept, row_of, session_kept};
 ghost use Rattle.argue_program.specs.Texts.{IsRefusal, common_text, text_bytes};
 
 use crate::checking::check_files;
@@ -45,7 +46,7 @@ pub(crate) fn stopped(alloc: Global, status: Status) -> Ending
     ensures text { Some (text_bytes result.text) ≡ common_text result.status }
     ensures files { result.files ≡ [] }
 {
-    let kept = Transcript { session: None };
+    let kept = Transcript::nothing();
     let files = Items::new(alloc);
     match status_text(alloc, status) {
         Ok(text) => Ending {
@@ -63,16 +64,16 @@ pub(crate) fn stopped(alloc: Global, status: Status) -> Ending
     }
 }
 
-/// Ends done with this text.
-fn done(alloc: Global, kept: Transcript, text: Text) -> Ending
+/// Ends done with this text, and keeps nothing.
+fn done(alloc: Global, text: Text) -> Ending
     ensures status { result.status ≡ Status.Done }
-    ensures kept { result.kept ≡ kept }
+    ensures kept { result.kept ≡ nothing_kept }
     ensures text { text_bytes result.text ≡ text_bytes text }
     ensures files { result.files ≡ [] }
 {
     Ending {
         status: Status::Done,
-        kept,
+        kept: Transcript::nothing(),
         text,
         files: Items::new(alloc),
     }
@@ -80,10 +81,11 @@ fn done(alloc: Global, kept: Transcript, text: Text) -> Ending
 
 /// What is kept of a session.
 fn keeping(reply: Result<Answered, AnswerStop>, engine: Engine) -> Transcript
-    ensures { result ≡ record { session = Some (record { reply = reply; engine = engine }) } }
+    ensures { result ≡ session_kept (record { reply = reply; engine = engine }) }
 {
     Transcript {
         session: Some(KeptSession { reply, engine }),
+        script: None,
     }
 }
 
@@ -166,38 +168,33 @@ fn check<F: Files>(alloc: Global, files: &mut F, words: CheckWords<'_>) -> Endin
         return stopped(alloc, Status::Usage);
     };
     match check_files(alloc, files, &query, &words) {
-        Ok(()) => done(
-            alloc,
-            Transcript { session: None },
-            Text::Fixed("ACCEPTED\n"),
-        ),
+        Ok(()) => done(alloc, Text::Fixed("ACCEPTED\n")),
         Err(status) => stopped(alloc, status),
     }
 }
 
-/// The ending of a command.
-fn decide_command<F: Files>(alloc: Global, command: Command, files: &mut F) -> Ending
+/// The ending of a command that wants no sessions in threads.
+pub(crate) fn decide_command<F: Files>(alloc: Global, command: Command, files: &mut F) -> Ending
+    requires { (words : ALiveWords) → command ≢ Command.Live words }
     ensures ending { IsEndingOf (reading (F.holds files.old) (F.serves files.old) (F.read_count files.old)
         (F.read_count files.new)) (row_of (F.holds files.old) (request_of command.entry)) result }
     ensures same { F.holds files.new ≡ F.holds files.old }
     ensures writes { F.write_count files.new ≡ F.write_count files.old }
 {
     match command {
-        Command::Version => done(
-            alloc,
-            Transcript { session: None },
-            Text::Fixed("argue 1.0\n"),
-        ),
-        Command::Problems => done(alloc, Transcript { session: None }, Text::Fixed(PROBLEMS)),
+        Command::Version => done(alloc, Text::Fixed("argue 1.0\n")),
+        Command::Problems => done(alloc, Text::Fixed(PROBLEMS)),
         Command::Solve(words) => solve(alloc, files, words),
         Command::Check(words) => check(alloc, files, words),
+        Command::Live(_) => unreachable!(),
         Command::Unknown => stopped(alloc, Status::Usage),
     }
 }
 
-/// Decides how a run on these words ends: what it keeps, and what it has to write. Files are read, and nothing is
-/// written. All memory of a run is taken here.
+/// Decides how a run on these words ends, which don't name `live`: what it keeps, and what it has to write. Files are
+/// read, and nothing is written. All memory of a run is taken here.
 pub fn decide<F: Files>(alloc: Global, words: &[String], files: &mut F) -> Ending
+    requires { is_live (map string_bytes words.now) ≡ false }
     ensures ending { IsEndingOf (reading (F.holds files.old) (F.serves files.old) (F.read_count files.old)
         (F.read_count files.new)) (row_of (F.holds files.old) (requested (map string_bytes words.now))) result }
     ensures same { F.holds files.new ≡ F.holds files.old }

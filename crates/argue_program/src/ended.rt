@@ -1,6 +1,7 @@
 //! How a run ends.
 
 ghost use Rattle.std.specs.Prelude.{◌≡◌};
+ghost use Rattle.argue_program.specs.Rows.{nothing_kept};
 ghost use Rattle.argue_program.specs.Statuses.{code_of};
 
 use af_format::LineCause;
@@ -10,12 +11,16 @@ use certificate_text::CertCause;
 use edit_rules::QueryFault;
 use iccma_tasks::AnswerCause;
 use oracle_core::{AnswerStop, Answered, Engine};
+use script_runs::ScriptTranscript;
+use script_text::ScriptCause;
 
 /// What is wrong with a line of an input: a variant for each kind of text.
 #[derive(Clone, Copy, Debug, PartialEq, Eq)]
 pub enum Cause {
     /// A line of a framework.
     Framework(LineCause),
+    /// A line of a script.
+    Script(ScriptCause),
     /// A line of an answer.
     Answer(AnswerCause),
     /// A line of a certificate.
@@ -45,7 +50,7 @@ pub enum Limit {
 /// How a run ended, as its exit status says it.
 #[derive(Clone, Copy, Debug, PartialEq, Eq)]
 pub enum Status {
-    /// The query got its answer, and all output was taken.
+    /// The query got its answer, or each line of the script its reply, and all output was taken.
     Done,
     /// The words aren't well-formed.
     Usage,
@@ -93,10 +98,23 @@ pub struct KeptSession {
     pub engine: Engine,
 }
 
-/// What a run keeps: its session, where it had one.
+/// What a run keeps: the session of its query, or what the sessions of its script came to, where it had any.
 #[derive(Drop)]
 pub struct Transcript {
     pub session: Option<KeptSession>,
+    pub script: Option<ScriptTranscript>,
+}
+
+impl Transcript {
+    /// That of a run which keeps nothing.
+    pub(crate) fn nothing() -> Transcript
+        ensures { result ≡ nothing_kept }
+    {
+        Transcript {
+            session: None,
+            script: None,
+        }
+    }
 }
 
 /// How a run ended, and what it keeps.

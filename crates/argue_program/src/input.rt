@@ -1,13 +1,15 @@
 //! The inputs of a run.
 
 ghost use Rattle.std.specs.Prelude.{◌≡◌, IfErr, IfOk, IsErrOf};
+ghost use Rattle.edit_rules.specs.Kinds.{framework_of};
 ghost use Rattle.argue_outside.specs.Outside.{HoldsStill, IsRole, OtherCountsKept};
 ghost use Rattle.argue_program.specs.Inputs.{EndsReading, HasBytes, IsFrameworkOf, IsUnrefused, input, reading, status_of_fault};
 
 use crate::ended::{Cause, Limit, Refusal, Status};
-use af_format::{ReadFault, read_af};
+use af_format::ReadFault;
 use argue_outside::{Files, ReadStop, Role, read_all};
-use dung_notions::AfPlain;
+use edit_rules::Framework;
+use framework_text::read_framework as read_text;
 use num_text::INPUT_LIMIT;
 use plain_lists::{Bytes, Memory};
 use std::alloc::Global;
@@ -69,9 +71,9 @@ pub(crate) fn read_framework<F: Files>(
     files: &mut F,
     number: u32,
     name: &str,
-) -> Result<AfPlain, Status>
+) -> Result<Framework, Status>
     requires { IsRole (Role.Framework number) }
-    ensures ok { IfOk result (IsFrameworkOf (F.holds files.old name.now)) }
+    ensures ok { IfOk result (λ framework. IsFrameworkOf (F.holds files.old name.now) (framework_of framework)) }
     ensures err { IfErr result (EndsReading (reading (F.holds files.old) (F.serves files.old) (F.read_count files.old)
         (F.read_count files.new)) (input (Role.Framework number) name.now)) }
     ensures quiet { (IsErrOf result (Status.ReadFault (Role.Framework number)) → ⊥)
@@ -82,7 +84,7 @@ pub(crate) fn read_framework<F: Files>(
 {
     let role = Role::Framework(number);
     let bytes = read_input(alloc, files, role, name)?;
-    match read_af(alloc, bytes.as_slice()) {
+    match read_text(alloc, bytes.as_slice()) {
         Ok(framework) => Ok(framework),
         Err(fault) => Err(refused(role, fault)),
     }

@@ -1,9 +1,10 @@
 //! What `main` does: the words, the real files and standard output of a process, and its exit status.
 
-ghost use Rattle.std.specs.Prelude.{◌≡◌, ◌≢◌, ◌⊎◌, [], None};
+ghost use Rattle.std.specs.Prelude.{◌≡◌, ◌≢◌, ◌⊎◌, []};
 ghost use Rattle.std.specs.Option.{unwrap_or};
 ghost use Rattle.std.specs.Io.KnownBytes.{Appends};
 ghost use Rattle.argue_outside.specs.Outside.{AppendsPart, FaultCounted};
+ghost use Rattle.argue_program.specs.Rows.{nothing_kept};
 ghost use Rattle.argue_program.specs.Texts.{common_text};
 
 use crate::command::run;
@@ -71,7 +72,7 @@ fn refuse_words<F: Files, O: Sink>(
     out: &mut O,
 ) -> Ended
     requires { (status ≡ Status.Usage) ⊎ (status ≡ Status.WantOfMemory) }
-    ensures kept { result.kept.session ≡ None }
+    ensures kept { result.kept ≡ nothing_kept }
     ensures status { result.status ≢ Status.WriteFault → result.status ≡ status }
     ensures text { result.status ≢ Status.WriteFault
         → Appends (O.contents out.old) (O.contents out.new) (unwrap_or (common_text status) []) }

@@ -64,8 +64,8 @@ pub(crate) fn query_of<'a>(task: &'a str, number: Option<&'a str>) -> Option<Que
     asked_with(task, Some(number))
 }
 
-// The budget that a text spells, or the one where no text is given.
-fn budget_in(text: Option<&str>) -> Option<u32>
+/// The budget that a text spells, or the one where no text is given. `None` where the text is no number.
+pub(crate) fn budget_in(text: Option<&str>) -> Option<u32>
     ensures { result ≡ budget_of (option_map (λ text. text.now) text.entry) }
 {
     match text {

@@ -90,11 +90,10 @@ pub(crate) fn solve_file<F: Files>(
     ensures same { F.holds files.new ≡ F.holds files.old }
     ensures writes { F.write_count files.new ≡ F.write_count files.old }
 {
-    let plain = match read_framework(alloc, files, 1, words.file) {
-        Ok(plain) => plain,
+    let framework = match read_framework(alloc, files, 1, words.file) {
+        Ok(framework) => framework,
         Err(status) => return Err(status),
     };
-    let framework = Framework::Af(plain);
     let session = answer(alloc, framework, solving)?;
     Ok(session)
 }

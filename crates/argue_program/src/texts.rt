@@ -54,6 +54,7 @@ fn cause_name(cause: Cause) -> &'static str
 {
     match cause {
         Cause::Framework(cause) => cause.name(),
+        Cause::Script(cause) => cause.name(),
         Cause::Answer(cause) => cause.name(),
         Cause::Certificate(cause) => cause.name(),
     }

@@ -9,22 +9,30 @@ mod sweep;
 use given::Given;
 use outcome::{run, with_ends, words_of};
 use std::alloc::{AllocError, Global};
+use std::sync::Wait;
+use std::thread::Threads;
 use std::{fs, io};
 
 /// How what is asked ends.
-fn ended(alloc: Global, given: &Given<'_>, asked: &str) -> Result<String, AllocError> {
+fn ended<R: Threads + Wait + Sync>(
+    rt: &R,
+    alloc: Global,
+    given: &Given<'_>,
+    asked: &str,
+) -> Result<String, AllocError> {
     let certificate = given.certificate(alloc)?;
     if asked == "prefixes" {
-        return sweep::prefixes(alloc, given, certificate.as_bytes());
+        return sweep::prefixes(rt, alloc, given, certificate.as_bytes());
     }
     if asked == "bytes" {
-        return sweep::bytes(alloc, given, certificate.as_bytes());
+        return sweep::bytes(rt, alloc, given, certificate.as_bytes());
     }
     match asked.split_once(": ") {
         Some((query, answer)) => {
             let words = words_of(alloc, query)?;
             let answer = with_ends(alloc, answer)?;
             run(
+                rt,
                 alloc,
                 words.as_str(),
                 given.framework,
@@ -33,6 +41,7 @@ fn ended(alloc: Global, given: &Given<'_>, asked: &str) -> Result<String, AllocE
             )
         }
         None => run(
+            rt,
             alloc,
             asked,
             given.framework,
@@ -52,7 +61,7 @@ fn main(rt: HostRuntime) -> io::Result<()> {
             continue;
         }
         let (asked, expected) = line.split_once(" => ").unwrap_or((line, ""));
-        let found = ended(alloc, &given, asked)?;
+        let found = ended(&rt, alloc, &given, asked)?;
         if found.as_str() != expected {
             println!(rt; "{line}: {found}")?;
         }

@@ -1,9 +1,11 @@
 //! One run over files in memory, told as a line.
 
-use argue_outside::{Files, MemFiles, MemSink, Role, append_all, read_all};
-use argue_program::execute;
+use argue_outside::{Files, MemFiles, MemSink, NoPace, Role, append_all, read_all};
+use argue_program::run as run_program;
 use std::alloc::{AllocError, Global};
 use std::mem::forget;
+use std::sync::Wait;
+use std::thread::Threads;
 
 /// More bytes than any file of a row has.
 const MOST_BYTES: u64 = 1_000_000;
@@ -40,16 +42,23 @@ fn with_semicolons(alloc: Global, bytes: &[u8]) -> Result<String, AllocError> {
 }
 
 /// The exit status of a run of these words. What the run keeps is left to the process's end.
-fn status_of(alloc: Global, words: &[String], files: &mut MemFiles, out: &mut MemSink) -> u8 {
-    let transcript = execute(alloc, words, files, out);
-    let code = transcript.status.code();
-    forget(transcript);
+fn status_of<R: Threads + Wait + Sync>(
+    rt: &R,
+    alloc: Global,
+    words: &[String],
+    files: &mut MemFiles,
+    out: &mut MemSink,
+) -> u8 {
+    let ended = run_program(rt, alloc, words, files, out, &NoPace);
+    let code = ended.status.code();
+    forget(ended);
     code
 }
 
 /// The exit status of a run with the files a, b and c, and what it writes, with `;` for the end of a line; and behind
 /// `c:` what it wrote to the file c, where it did.
-pub fn run(
+pub fn run<R: Threads + Wait + Sync>(
+    rt: &R,
     alloc: Global,
     line: &str,
     framework: &str,
@@ -65,7 +74,7 @@ pub fn run(
         words.push(String::from_str(alloc, word)?)?;
     }
     let mut out = MemSink::new(alloc);
-    let code = status_of(alloc, words.as_slice(), &mut files, &mut out);
+    let code = status_of(rt, alloc, words.as_slice(), &mut files, &mut out);
     let text = with_semicolons(alloc, out.bytes())?;
     let held = match read_all(alloc, &mut files, Role::Certificate, "c", MOST_BYTES) {
         Ok(bytes) => bytes,

@@ -3,6 +3,8 @@
 use crate::given::Given;
 use crate::outcome::run;
 use std::alloc::{AllocError, Global};
+use std::sync::Wait;
+use std::thread::Threads;
 
 const QUERY: &str = "check -p DS-PR -a 4 -f a -r b -c c";
 
@@ -18,7 +20,8 @@ fn is_refused(alloc: Global, lines: u64, prefix: &[u8], found: &str) -> Result<b
 
 /// Each prefix that lacks more than the last line's end, from the empty one on: the first run that doesn't refuse it, and
 /// its length.
-pub fn prefixes(
+pub fn prefixes<R: Threads + Wait + Sync>(
+    rt: &R,
     alloc: Global,
     given: &Given<'_>,
     certificate: &[u8],
@@ -28,6 +31,7 @@ pub fn prefixes(
     let proper = certificate.strip_suffix(&[b'\n']).unwrap_or(certificate);
     for byte in proper {
         let found = run(
+            rt,
             alloc,
             QUERY,
             given.framework,
@@ -64,12 +68,18 @@ fn with_middle(
 }
 
 /// Each byte dropped, doubled and changed: the first run that ends with another status than 0, 2 and 8.
-pub fn bytes(alloc: Global, given: &Given<'_>, certificate: &[u8]) -> Result<String, AllocError> {
+pub fn bytes<R: Threads + Wait + Sync>(
+    rt: &R,
+    alloc: Global,
+    given: &Given<'_>,
+    certificate: &[u8],
+) -> Result<String, AllocError> {
     for (index, byte) in certificate.iter().enumerate() {
         let middles: [&[u8]; 3] = [&[], &[*byte, *byte], &[*byte ^ 1]];
         for middle in middles {
             let changed = with_middle(alloc, certificate, index, middle)?;
             let found = run(
+                rt,
                 alloc,
                 QUERY,
                 given.framework,

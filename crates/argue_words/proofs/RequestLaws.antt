@@ -7,7 +7,7 @@ use Rattle.clap.specs.Words.{App, Text, takes}
 use Rattle.clap.proofs.OnLiterals.{clap_on_literals}
 use Rattle.argue_words.specs.declared.words.Command.{Command}
 use Rattle.argue_words.specs.declared.words.Command.TheVariants.{Unknown}
-use Rattle.argue_words.specs.Words.{AreUnknown, AreWords, CheckTexts, HasCheckTexts, HasSolveTexts, IsCheckQuery, IsSolveQuery, RefusesOthers, Request, version, problems, solving, checking, unknown, SolveTexts, check_app, check_request, check_requested, check_value, is_check, other_requested, request_of, requested, solve_app, solve_request, solve_requested, solve_value, task_app, words_are_problems}
+use Rattle.argue_words.specs.Words.{AreUnknown, AreWords, CheckTexts, HasCheckTexts, HasLiveTexts, HasSolveTexts, IsCheckQuery, IsLiveQuery, IsSolveQuery, LiveTexts, RefusesOthers, Request, version, problems, solving, checking, living, unknown, SolveTexts, check_app, check_request, check_requested, check_value, is_check, is_live, live_app, live_request, live_requested, live_value, other_requested, request_of, requested, solve_app, solve_request, solve_requested, solve_value, task_app, words_are_problems}
 
 -- ---- requests by the command that they belong to
 
@@ -16,6 +16,9 @@ check_same e = cc
 
 solve_same : {s t : SolveTexts} → solving s ≡ solving t → s ≡ t
 solve_same e = cc
+
+live_same : {s t : LiveTexts} → living s ≡ living t → s ≡ t
+live_same e = cc
 
 -- the request is one that the words of a query have
 abbrev IsOfSolve : Request → Type 0
@@ -28,6 +31,12 @@ abbrev IsOfCheck : Request → Type 0
 IsOfCheck (checking texts) = Unit {0}
 IsOfCheck unknown = Unit {0}
 IsOfCheck _ = ⊥
+
+-- the request is one that the words of a script's run have
+abbrev IsOfLive : Request → Type 0
+IsOfLive (living texts) = Unit {0}
+IsOfLive unknown = Unit {0}
+IsOfLive _ = ⊥
 
 solve_is : (task file number budget certificate : Option Text)
     → IsOfSolve (solve_request task file number budget certificate)
@@ -42,6 +51,11 @@ check_is (Some task) number None answer certificate = tt
 check_is (Some task) number (Some file) None certificate = tt
 check_is (Some task) number (Some file) (Some answer) None = tt
 check_is (Some task) number (Some file) (Some answer) (Some certificate) = tt
+
+live_is : (file script budget certificate : Option Text) → IsOfLive (live_request file script budget certificate)
+live_is None script budget certificate = tt
+live_is (Some file) None budget certificate = tt
+live_is (Some file) (Some script) budget certificate = tt
 
 -- ---- words that clap takes or refuses
 
@@ -59,13 +73,21 @@ check_if taken words =
     (check_value words (codes "file")) (check_value words (codes "answer")) (check_value words (codes "certificate"))
     else unknown
 
+-- what the words of a script's run ask for, by whether clap takes them
+abbrev live_if : Bool → List Text → Request
+live_if taken words =
+    if taken then live_request (live_value words (codes "file")) (live_value words (codes "script"))
+    (live_value words (codes "budget")) (live_value words (codes "certificate")) else unknown
+
 -- what words that name no command ask for, by whether they are `--problems` alone
 abbrev other_if : Bool → List Text → Request
 other_if listed words = if listed then problems else solve_requested words
 
--- what words ask for, by whether the first names the check
-abbrev named_if : Bool → Text → List Text → Request
-named_if named word more = if named then check_requested more else other_requested (word ∷ more)
+-- what words ask for, by whether the first is `check` or `live`
+abbrev named_if : Bool → Bool → Text → List Text → Request
+named_if checks lives word more =
+    if checks then check_requested more
+    else (if lives then live_requested more else other_requested (word ∷ more))
 
 of_solve_if : (b : Bool) (words : List Text) → IsOfSolve (solve_if b words)
 of_solve_if true words = solve_is _ _ _ _ _
@@ -75,6 +97,10 @@ of_check_if : (b : Bool) (words : List Text) → IsOfCheck (check_if b words)
 of_check_if true words = check_is _ _ _ _ _
 of_check_if false words = tt
 
+of_live_if : (b : Bool) (words : List Text) → IsOfLive (live_if b words)
+of_live_if true words = live_is _ _ _ _
+of_live_if false words = tt
+
 of_solve : (words : List Text) → IsOfSolve (solve_requested words)
 unfolding solve_requested
 of_solve words = of_solve_if (takes solve_app words) words
@@ -83,13 +109,30 @@ of_check : (words : List Text) → IsOfCheck (check_requested words)
 unfolding check_requested
 of_check words = of_check_if (takes check_app words) words
 
+of_live : (words : List Text) → IsOfLive (live_requested words)
+unfolding live_requested
+of_live words = of_live_if (takes live_app words) words
+
 pub requested_check : (word : Text) (more : List Text) → bytes_eq word (codes "check") ≡ true
     → requested (word ∷ more) ≡ check_requested more
-requested_check word more named = ap (λ b. named_if b word more) named
+requested_check word more named = ap (λ b. named_if b (bytes_eq word (codes "live")) word more) named
 
-pub requested_other : (words : List Text) → words ≢ [] → is_check words ≡ false → requested words ≡ other_requested words
-requested_other [] some named = absurd (some refl)
-requested_other (word ∷ more) some named = ap (λ b. named_if b word more) named
+-- `live` is not `check`
+live_no_check : (word : Text) → bytes_eq word (codes "live") ≡ true → bytes_eq word (codes "check") ≡ false
+live_no_check word named = ap (λ w. bytes_eq w (codes "check")) ((bytes_eq-Decides word (codes "live")).0 named)
+
+pub requested_live : (word : Text) (more : List Text) → bytes_eq word (codes "live") ≡ true
+    → requested (word ∷ more) ≡ live_requested more
+requested_live word more named =
+    ap (λ b. named_if b (bytes_eq word (codes "live")) word more) (live_no_check word named)
+    ∙ ap (λ b. named_if false b word more) named
+
+pub requested_other : (words : List Text) → words ≢ [] → is_check words ≡ false → is_live words ≡ false
+    → requested words ≡ other_requested words
+requested_other [] some checks lives = absurd (some refl)
+requested_other (word ∷ more) some checks lives =
+    ap (λ b. named_if b (bytes_eq word (codes "live")) word more) checks
+    ∙ ap (λ b. named_if false b word more) lives
 
 -- ---- the laws: what words ask for
 
@@ -97,6 +140,11 @@ requested_other (word ∷ more) some named = ap (λ b. named_if b word more) nam
 pub no_check_in : (words : List Text) → is_check words ≡ false → (texts : CheckTexts) → ¬ IsCheckQuery words texts
 no_check_in words solves texts query =
     let named : is_check words ≡ true = ap is_check query.words_are in true≢false (sym named ∙ solves)
+
+-- and no script's run
+pub no_live_in : (words : List Text) → is_live words ≡ false → (texts : LiveTexts) → ¬ IsLiveQuery words texts
+no_live_in words solves texts query =
+    let named : is_live words ≡ true = ap is_live query.words_are in true≢false (sym named ∙ solves)
 
 none_refused : takes solve_app [] ≡ false
 unfolding clap_on_literals solve_app task_app
@@ -119,10 +167,17 @@ listed_no_check (word ∷ []) listed =
     ap (λ w. bytes_eq w (codes "check")) ((bytes_eq-Decides word (codes "--problems")).0 listed)
 listed_no_check (word ∷ next ∷ more) listed = absurd (true≢false (sym listed))
 
+listed_no_live : (words : List Text) → words_are_problems words ≡ true → is_live words ≡ false
+listed_no_live [] listed = refl
+listed_no_live (word ∷ []) listed =
+    ap (λ w. bytes_eq w (codes "live")) ((bytes_eq-Decides word (codes "--problems")).0 listed)
+listed_no_live (word ∷ next ∷ more) listed = absurd (true≢false (sym listed))
+
 -- `--problems` alone asks for the list of tasks
 pub requested_list : (words : List Text) → words_are_problems words ≡ true → requested words ≡ problems
 requested_list words listed =
-    requested_other words (some_listed words listed) (listed_no_check words listed) ∙ ap (λ b. other_if b words) listed
+    requested_other words (some_listed words listed) (listed_no_check words listed) (listed_no_live words listed)
+    ∙ ap (λ b. other_if b words) listed
 
 solve_from : (task file number budget certificate : Option Text) (texts : SolveTexts) → task ≡ Some texts.task
     → file ≡ Some texts.file → number ≡ texts.number → budget ≡ texts.budget → certificate ≡ texts.certificate
@@ -134,7 +189,7 @@ pub requested_query : (words : List Text) (texts : SolveTexts) → IsSolveQuery 
     → requested words ≡ solving texts
 unfolding solve_requested
 requested_query words texts query =
-    requested_other words (query_words words texts query) query.no_check
+    requested_other words (query_words words texts query) query.no_check query.no_live
     ∙ ap (λ b. other_if b words) query.no_list
     ∙ ap (λ b. solve_if b words) query.has.taken
     ∙ solve_from _ _ _ _ _ texts query.has.task query.has.file query.has.number query.has.budget query.has.certificate
@@ -151,6 +206,19 @@ unfolding check_requested
 requested_texts words texts query =
     ap requested query.words_are ∙ ap (λ b. check_if b query.rest) query.has.taken
     ∙ check_from _ _ _ _ _ texts query.has.task query.has.number query.has.file query.has.answer query.has.certificate
+
+live_from : (file script budget certificate : Option Text) (texts : LiveTexts) → file ≡ Some texts.file
+    → script ≡ Some texts.script → budget ≡ texts.budget → certificate ≡ texts.certificate
+    → live_request file script budget certificate ≡ living texts
+live_from file script budget certificate texts a b c d = rw (a, b, c, d) refl
+
+-- a script's run asks for its texts
+pub requested_script : (words : List Text) (texts : LiveTexts) → IsLiveQuery words texts
+    → requested words ≡ living texts
+unfolding live_requested
+requested_script words texts query =
+    ap requested query.words_are ∙ ap (λ b. live_if b query.rest) query.has.taken
+    ∙ live_from _ _ _ _ texts query.has.file query.has.script query.has.budget query.has.certificate
 
 -- ---- the laws: only these words ask for it
 
@@ -186,6 +254,20 @@ check_to (Some task) number (Some file) (Some answer) (Some certificate) texts i
       ap (λ t. Some t.certificate) same,
     )
 
+live_to : (file script budget certificate : Option Text) (texts : LiveTexts)
+    → live_request file script budget certificate ≡ living texts
+    → (file ≡ Some texts.file) × (script ≡ Some texts.script) × (budget ≡ texts.budget)
+    × (certificate ≡ texts.certificate)
+live_to None script budget certificate texts is = cc
+live_to (Some file) None budget certificate texts is = cc
+live_to (Some file) (Some script) budget certificate texts is =
+    let same = live_same is in (
+      ap (λ t. Some t.file) same,
+      ap (λ t. Some t.script) same,
+      ap (λ t. t.budget) same,
+      ap (λ t. t.certificate) same,
+    )
+
 has_solve : (words : List Text) (texts : SolveTexts) (b : Bool) → takes solve_app words ≡ b
     → solve_if b words ≡ solving texts → HasSolveTexts words texts
 has_solve words texts true taken is =
@@ -207,73 +289,118 @@ has_check words texts true taken is =
     record { taken = taken; task = found.0; number = found.1; file = found.2; answer = found.3; certificate = found.4 }
 has_check words texts false taken is = cc
 
-other_query : (words : List Text) (texts : SolveTexts) (b : Bool) → is_check words ≡ false → words_are_problems words ≡ b
-    → other_if b words ≡ solving texts → IsSolveQuery words texts
-unfolding solve_requested
-other_query words texts true named listed is = cc
-other_query words texts false named listed is =
-    record { no_check = named; no_list = listed; has = has_solve words texts (takes solve_app words) refl is }
+has_live : (words : List Text) (texts : LiveTexts) (b : Bool) → takes live_app words ≡ b
+    → live_if b words ≡ living texts → HasLiveTexts words texts
+has_live words texts true taken is =
+    let found = live_to _ _ _ _ texts is in
+    record { taken = taken; file = found.0; script = found.1; budget = found.2; certificate = found.3 }
+has_live words texts false taken is = cc
 
-named_query : (word : Text) (more : List Text) (texts : SolveTexts) (b : Bool) → bytes_eq word (codes "check") ≡ b
-    → named_if b word more ≡ solving texts → IsSolveQuery (word ∷ more) texts
-named_query word more texts true named is = absurd (subst IsOfCheck is (of_check more))
-named_query word more texts false named is =
-    other_query (word ∷ more) texts (words_are_problems (word ∷ more)) named refl is
+other_query : (words : List Text) (texts : SolveTexts) (b : Bool) → is_check words ≡ false → is_live words ≡ false
+    → words_are_problems words ≡ b → other_if b words ≡ solving texts → IsSolveQuery words texts
+unfolding solve_requested
+other_query words texts true checks lives listed is = cc
+other_query words texts false checks lives listed is = record {
+  no_check = checks;
+  no_live = lives;
+  no_list = listed;
+  has = has_solve words texts (takes solve_app words) refl is;
+}
+
+named_query : (word : Text) (more : List Text) (texts : SolveTexts) (checks lives : Bool)
+    → bytes_eq word (codes "check") ≡ checks → bytes_eq word (codes "live") ≡ lives
+    → named_if checks lives word more ≡ solving texts → IsSolveQuery (word ∷ more) texts
+named_query word more texts true lives named alive is = absurd (subst IsOfCheck is (of_check more))
+named_query word more texts false true named alive is = absurd (subst IsOfLive is (of_live more))
+named_query word more texts false false named alive is =
+    other_query (word ∷ more) texts (words_are_problems (word ∷ more)) named alive refl is
 
 -- only a query asks for one
 pub query_requested : (words : List Text) (texts : SolveTexts) → requested words ≡ solving texts
     → IsSolveQuery words texts
 query_requested [] texts is = cc
-query_requested (word ∷ more) texts is = named_query word more texts (bytes_eq word (codes "check")) refl is
+query_requested (word ∷ more) texts is =
+    named_query word more texts (bytes_eq word (codes "check")) (bytes_eq word (codes "live")) refl refl is
 
 other_texts : (words : List Text) (texts : CheckTexts) (b : Bool) → other_if b words ≢ checking texts
 other_texts words texts true is = cc
 other_texts words texts false is = subst IsOfSolve is (of_solve words)
 
-named_texts : (word : Text) (more : List Text) (texts : CheckTexts) (b : Bool) → bytes_eq word (codes "check") ≡ b
-    → named_if b word more ≡ checking texts → IsCheckQuery (word ∷ more) texts
+named_texts : (word : Text) (more : List Text) (texts : CheckTexts) (checks lives : Bool)
+    → bytes_eq word (codes "check") ≡ checks → named_if checks lives word more ≡ checking texts
+    → IsCheckQuery (word ∷ more) texts
 unfolding check_requested
-named_texts word more texts true named is = record {
+named_texts word more texts true lives named is = record {
   rest = more;
   words_are = ap (λ w. w ∷ more) ((bytes_eq-Decides word (codes "check")).0 named);
   has = has_check more texts (takes check_app more) refl is;
 }
-named_texts word more texts false named is =
+named_texts word more texts false true named is = absurd (subst IsOfLive is (of_live more))
+named_texts word more texts false false named is =
     absurd (other_texts (word ∷ more) texts (words_are_problems (word ∷ more)) is)
 
 -- only a check asks for one
 pub texts_requested : (words : List Text) (texts : CheckTexts) → requested words ≡ checking texts
     → IsCheckQuery words texts
 texts_requested [] texts is = cc
-texts_requested (word ∷ more) texts is = named_texts word more texts (bytes_eq word (codes "check")) refl is
+texts_requested (word ∷ more) texts is =
+    named_texts word more texts (bytes_eq word (codes "check")) (bytes_eq word (codes "live")) refl is
+
+other_script : (words : List Text) (texts : LiveTexts) (b : Bool) → other_if b words ≢ living texts
+other_script words texts true is = cc
+other_script words texts false is = subst IsOfSolve is (of_solve words)
+
+named_script : (word : Text) (more : List Text) (texts : LiveTexts) (checks lives : Bool)
+    → bytes_eq word (codes "live") ≡ lives → named_if checks lives word more ≡ living texts
+    → IsLiveQuery (word ∷ more) texts
+unfolding live_requested
+named_script word more texts true lives named is = absurd (subst IsOfCheck is (of_check more))
+named_script word more texts false true named is = record {
+  rest = more;
+  words_are = ap (λ w. w ∷ more) ((bytes_eq-Decides word (codes "live")).0 named);
+  has = has_live more texts (takes live_app more) refl is;
+}
+named_script word more texts false false named is =
+    absurd (other_script (word ∷ more) texts (words_are_problems (word ∷ more)) is)
+
+-- only a script's run asks for one
+pub script_requested : (words : List Text) (texts : LiveTexts) → requested words ≡ living texts
+    → IsLiveQuery words texts
+script_requested [] texts is = cc
+script_requested (word ∷ more) texts is =
+    named_script word more texts (bytes_eq word (codes "check")) (bytes_eq word (codes "live")) refl is
 
 other_list : (words : List Text) (b : Bool) → words_are_problems words ≡ b → other_if b words ≡ problems
     → words_are_problems words ≡ true
 other_list words true listed is = listed
 other_list words false listed is = absurd (subst IsOfSolve is (of_solve words))
 
-named_list : (word : Text) (more : List Text) (b : Bool) → named_if b word more ≡ problems
+named_list : (word : Text) (more : List Text) (checks lives : Bool) → named_if checks lives word more ≡ problems
     → words_are_problems (word ∷ more) ≡ true
-named_list word more true is = absurd (subst IsOfCheck is (of_check more))
-named_list word more false is = other_list (word ∷ more) (words_are_problems (word ∷ more)) refl is
+named_list word more true lives is = absurd (subst IsOfCheck is (of_check more))
+named_list word more false true is = absurd (subst IsOfLive is (of_live more))
+named_list word more false false is = other_list (word ∷ more) (words_are_problems (word ∷ more)) refl is
 
 -- only `--problems` alone asks for the list of tasks
 pub list_requested : (words : List Text) → requested words ≡ problems → words_are_problems words ≡ true
 list_requested [] is = cc
-list_requested (word ∷ more) is = named_list word more (bytes_eq word (codes "check")) is
+list_requested (word ∷ more) is =
+    named_list word more (bytes_eq word (codes "check")) (bytes_eq word (codes "live")) is
 
 other_version : (words : List Text) (b : Bool) → other_if b words ≢ version
 other_version words true is = cc
 other_version words false is = subst IsOfSolve is (of_solve words)
 
-named_version : (b : Bool) (word : Text) (more : List Text) → named_if b word more ≢ version
-named_version true word more is = subst IsOfCheck is (of_check more)
-named_version false word more is = other_version (word ∷ more) (words_are_problems (word ∷ more)) is
+named_version : (checks lives : Bool) (word : Text) (more : List Text) → named_if checks lives word more ≢ version
+named_version true lives word more is = subst IsOfCheck is (of_check more)
+named_version false true word more is = subst IsOfLive is (of_live more)
+named_version false false word more is = other_version (word ∷ more) (words_are_problems (word ∷ more)) is
 
 -- only no words ask for the version
 pub none_requested : (words : List Text) → requested words ≡ version → words ≡ []
 none_requested [] is = refl
-none_requested (word ∷ more) is = absurd (named_version (bytes_eq word (codes "check")) word more is)
+none_requested (word ∷ more) is =
+    absurd (named_version (bytes_eq word (codes "check")) (bytes_eq word (codes "live")) word more is)
 
 -- words that ask for nothing are not well-formed
 pub unknown_requested : (words : List Text) → requested words ≡ unknown → ¬ AreWords words
@@ -282,8 +409,10 @@ unknown_requested words is (inr (inl listed)) =
     let e : problems ≡ unknown = sym (requested_list words listed) ∙ is in cc
 unknown_requested words is (inr (inr (inl (texts, query)))) =
     let e : solving texts ≡ unknown = sym (requested_query words texts query) ∙ is in cc
-unknown_requested words is (inr (inr (inr (texts, query)))) =
+unknown_requested words is (inr (inr (inr (inl (texts, query))))) =
     let e : checking texts ≡ unknown = sym (requested_texts words texts query) ∙ is in cc
+unknown_requested words is (inr (inr (inr (inr (texts, query))))) =
+    let e : living texts ≡ unknown = sym (requested_script words texts query) ∙ is in cc
 
 unless_words : (words : List Text) (request : Request) → requested words ≡ request → ¬ AreWords words
     → request ≡ unknown
@@ -292,7 +421,9 @@ unless_words words problems is other = absurd (other (inr (inl (list_requested w
 unless_words words (solving texts) is other =
     absurd (other (inr (inr (inl (texts, query_requested words texts is)))))
 unless_words words (checking texts) is other =
-    absurd (other (inr (inr (inr (texts, texts_requested words texts is)))))
+    absurd (other (inr (inr (inr (inl (texts, texts_requested words texts is))))))
+unless_words words (living texts) is other =
+    absurd (other (inr (inr (inr (inr (texts, script_requested words texts is))))))
 unless_words words unknown is other = refl
 
 -- words that are not well-formed ask for nothing
@@ -372,6 +503,33 @@ check_matched words found request taken values is =
     (check_value words (codes "file")) (check_value words (codes "answer")) o) (values (codes "certificate"))
     ∙ sym (ap (λ b. check_if b words) taken)
 
+-- the same of the words of a script's run
+pub live_at : {E : Type 0} (K : Type 0) (words : List Text) (r : Result Command E)
+    → (takes live_app words ≡ true → K) → IfOk r (λ c. (c ≡ Unknown) × (K → ⊥))
+    → IfOk r (λ c. request_of c ≡ live_requested words)
+unfolding live_requested
+live_at K words (Err e) cause h = tt
+live_at K words (Ok c) cause h =
+    ap request_of h.0 ∙ sym (ap (λ b. live_if b words) (refused_if live_app words (takes live_app words) refl
+    (λ taken. h.1 (cause taken))))
+
+pub live_matched : (words : List Text) (found : Text → Option Text) (request : Request) → takes live_app words ≡ true
+    → ((id : Text) → found id ≡ live_value words id)
+    → request ≡ live_request (found (codes "file")) (found (codes "script")) (found (codes "budget"))
+    (found (codes "certificate")) → request ≡ live_requested words
+unfolding live_requested
+live_matched words found request taken values is =
+    is
+    ∙ ap (λ o. live_request o (found (codes "script")) (found (codes "budget")) (found (codes "certificate")))
+    (values (codes "file"))
+    ∙ ap (λ o. live_request (live_value words (codes "file")) o (found (codes "budget")) (found (codes "certificate")))
+    (values (codes "script"))
+    ∙ ap (λ o. live_request (live_value words (codes "file")) (live_value words (codes "script")) o
+    (found (codes "certificate"))) (values (codes "budget"))
+    ∙ ap (λ o. live_request (live_value words (codes "file")) (live_value words (codes "script"))
+    (live_value words (codes "budget")) o) (values (codes "certificate"))
+    ∙ sym (ap (λ b. live_if b words) taken)
+
 -- ---- all words
 
 -- words that name no command, by whether they are `--problems` alone
@@ -381,12 +539,15 @@ other_asks words request b is other asks = asks ∙ sym (ap (λ c. other_if c wo
 
 -- a command that asks for nothing, by what its words may be
 pub unknown_words : (words : List Text) (c : Command) → words ≢ [] → request_of c ≡ requested words
-    → (is_check words ≡ false → c ≡ Unknown → RefusesOthers words) → c ≡ Unknown → AreUnknown words
+    → (is_check words ≡ false → is_live words ≡ false → c ≡ Unknown → RefusesOthers words) → c ≡ Unknown
+    → AreUnknown words
 unknown_words words c some asks other is = record {
   some_words = some;
   no_check = λ texts query.
       let e : unknown ≡ checking texts = sym (ap request_of is) ∙ asks ∙ requested_texts words texts query in cc;
-  others = λ solves. other solves is;
+  no_live = λ texts query.
+      let e : unknown ≡ living texts = sym (ap request_of is) ∙ asks ∙ requested_script words texts query in cc;
+  others = λ checks lives. other checks lives is;
 }
 
 -- the same of the words of a check
@@ -397,13 +558,25 @@ check_unknown words rest word (Err e) are named asks = tt
 check_unknown words rest word (Ok c) are named asks =
     unknown_words words c (λ none. let e : word ∷ rest ≡ [] = sym are ∙ none in cc)
     (asks ∙ sym (ap requested are ∙ requested_check word rest named))
-    (λ solves. let is : is_check words ≡ true = ap is_check are ∙ named in absurd (true≢false (sym is ∙ solves)))
+    (λ checks _. let is : is_check words ≡ true = ap is_check are ∙ named in absurd (true≢false (sym is ∙ checks)))
+
+-- of a script's run
+pub live_unknown : {E : Type 0} (words rest : List Text) (word : Text) (r : Result Command E) → words ≡ word ∷ rest
+    → bytes_eq word (codes "live") ≡ true → IfOk r (λ c. request_of c ≡ live_requested rest)
+    → IfOk r (λ c. c ≡ Unknown → AreUnknown words)
+live_unknown words rest word (Err e) are named asks = tt
+live_unknown words rest word (Ok c) are named asks =
+    unknown_words words c (λ none. let e : word ∷ rest ≡ [] = sym are ∙ none in cc)
+    (asks ∙ sym (ap requested are ∙ requested_live word rest named))
+    (λ _ lives. let is : is_live words ≡ true = ap is_live are ∙ named in absurd (true≢false (sym is ∙ lives)))
 
 -- and of others
 pub others_unknown : {E : Type 0} (words rest : List Text) (word : Text) (r : Result Command E) → words ≡ word ∷ rest
-    → bytes_eq word (codes "check") ≡ false → IfOk r (λ c. request_of c ≡ other_requested words)
+    → bytes_eq word (codes "check") ≡ false → bytes_eq word (codes "live") ≡ false
+    → IfOk r (λ c. request_of c ≡ other_requested words)
     → IfOk r (λ c. c ≡ Unknown → RefusesOthers words) → IfOk r (λ c. c ≡ Unknown → AreUnknown words)
-others_unknown words rest word (Err e) are named asks other = tt
-others_unknown words rest word (Ok c) are named asks other =
+others_unknown words rest word (Err e) are checks lives asks other = tt
+others_unknown words rest word (Ok c) are checks lives asks other =
     let some : words ≢ [] = λ none. let e : word ∷ rest ≡ [] = sym are ∙ none in cc in
-    unknown_words words c some (asks ∙ sym (requested_other words some (ap is_check are ∙ named))) (λ _. other)
+    unknown_words words c some
+    (asks ∙ sym (requested_other words some (ap is_check are ∙ checks) (ap is_live are ∙ lives))) (λ _ _. other)

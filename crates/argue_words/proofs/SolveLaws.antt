@@ -1,4 +1,4 @@
--- What a parse of the command of solve tells, and words that it takes.
+-- What a parse of each command tells, and how the commands are made.
 use Rattle.std.proofs.Common.{◌≡◌, ◌≢◌, ◌∙◌, ◌==◌, true, false, true≢false, length, map, refl, sym, ap}
 use Rattle.std.proofs.Common.{List, [], ◌∷◌, Result, Ok, Err, IfOk, IfErr, IsSome, codes}
 use Rattle.std.proofs.lemmas.Result.{IfOk-weaker}
@@ -8,47 +8,58 @@ use Rattle.clap.specs.declared.builder.command.Command.{Command}
 use Rattle.clap.specs.declared.error.Error.{Error}
 use Rattle.clap.specs.declared.parser.matches.ArgMatches.{ArgMatches}
 use Rattle.clap.proofs.WalkLemmas.{first_value-rows}
-use Rattle.argue_words.specs.Words.{check_app, check_value, option_of, solve_app, solve_value, task_app, value_option}
+use Rattle.argue_words.specs.Words.{check_app, check_value, live_app, live_value, option_of, script_app, solve_app, solve_value, task_app, value_option}
 use Rattle.argue_words.proofs.NoFault.{takes_if}
 use Rattle.argue_words.proofs.ValuesGiven.{solve_rules, values_given}
 
--- ---- the command
-
-solve_is_simple : is_simple solve_app ≡ true
-unfolding solve_app task_app
-solve_is_simple = refl
-
-solve_is_free : is_simple_and_free solve_app ≡ true
-unfolding solve_app task_app
-solve_is_free = refl
-
-solve_takes_if : (words : List Text) → fault_of solve_app words ≡ [] → takes solve_app words ≡ true
-unfolding solve_app task_app
-solve_takes_if words e = takes_if solve_app words refl refl refl refl e
-
 -- ---- what a parse tells
 
+-- a command whose words clap takes where it names no fault of them
+record IsPlain (app : App) : Type 0 where
+  simple : is_simple app ≡ true
+  free : is_simple_and_free app ≡ true
+  whole : (words : List Text) → fault_of app words ≡ [] → takes app words ≡ true
+
+module _ (plain : App) (is_plain : IsPlain plain) (app : App) (is : app ≡ plain) (words : List Text) where
+  taken_of : {T : Type 0} (r : Result T Error) → (is_simple_and_free app ≡ true → FailsBy (fault_of app words) r)
+      → IfOk r (λ _. takes plain words ≡ true)
+  taken_of (Err e) h = tt
+  taken_of (Ok m) h =
+      is_plain.whole words (ap (λ (a : App). fault_of a words) (sym is)
+      ∙ h (ap is_simple_and_free is ∙ is_plain.free))
+
+  values_of : (r : Result ArgMatches Error) → IfOk r (HasMatchesOf app words)
+      → IfOk r (λ m. (id : Text) → first_value (found_of m) id ≡ first_of id (matches_of plain words))
+  values_of r = IfOk-weaker r _ _ (λ m h id.
+      first_value-rows (found_of m) id
+      ∙ ap (first_of id) ((h (ap is_simple is ∙ is_plain.simple)).0
+      ∙ ap (λ (a : App). matches_of a words) is))
+
+-- an error has its kind where clap takes the words of this command
+pub refused_of : {T : Type 0} (plain : App) (K : Error → Type 0) (app : App) (words : List Text) (r : Result T Error)
+    → app ≡ plain
+    → IfErr r (λ e. takes app words ≡ true → K e) → IfErr r (λ e. takes plain words ≡ true → K e)
+refused_of plain K app words (Ok m) is h = tt
+refused_of plain K app words (Err e) is h = λ taken. h (ap (λ (a : App). takes a words) is ∙ taken)
+
+-- ---- the words of a query
+
+solve_is_plain_app : IsPlain solve_app
+unfolding solve_app task_app
+solve_is_plain_app = record {
+  simple = refl;
+  free = refl;
+  whole = λ words e. takes_if solve_app words refl refl refl refl e;
+}
+
 pub taken_at : {T : Type 0} (app : App) (words : List Text) (r : Result T Error) → app ≡ solve_app
-    → (is_simple_and_free app ≡ true → FailsBy (fault_of app words) r)
-    → IfOk r (λ _. takes solve_app words ≡ true)
-taken_at app words (Err e) is h = tt
-taken_at app words (Ok m) is h =
-    solve_takes_if words (ap (λ (a : App). fault_of a words) (sym is)
-    ∙ h (ap is_simple_and_free is ∙ solve_is_free))
+    → (is_simple_and_free app ≡ true → FailsBy (fault_of app words) r) → IfOk r (λ _. takes solve_app words ≡ true)
+taken_at app words r is = taken_of solve_app solve_is_plain_app app is words r
 
 pub values_at : (app : App) (words : List Text) (r : Result ArgMatches Error) → app ≡ solve_app
     → IfOk r (HasMatchesOf app words)
     → IfOk r (λ m. (id : Text) → first_value (found_of m) id ≡ solve_value words id)
-values_at app words r is = IfOk-weaker r _ _ (λ m h id.
-    first_value-rows (found_of m) id
-    ∙ ap (first_of id) ((h (ap is_simple is ∙ solve_is_simple)).0
-    ∙ ap (λ (a : App). matches_of a words) is))
-
-pub refused_at : {T : Type 0} (K : Error → Type 0) (app : App) (words : List Text) (r : Result T Error)
-    → app ≡ solve_app
-    → IfErr r (λ e. takes app words ≡ true → K e) → IfErr r (λ e. takes solve_app words ≡ true → K e)
-refused_at K app words (Ok m) is h = tt
-refused_at K app words (Err e) is h = λ taken. h (ap (λ (a : App). takes a words) is ∙ taken)
+values_at app words r is = values_of solve_app solve_is_plain_app app is words r
 
 rules_of_solve : (app : App) → app ≡ solve_app → app.top.rules ≡ solve_rules
 unfolding solve_app task_app
@@ -66,41 +77,45 @@ given_at c r is = IfOk-weaker r _ _ (λ m p.
     let fields = solve_is_plain (app_of c) is in
     values_given c m (rules_of_solve (app_of c) is) fields.0 fields.1 p)
 
--- ---- the same of the command of a check
+-- ---- the words of a check
 
-check_is_simple : is_simple check_app ≡ true
+check_is_plain_app : IsPlain check_app
 unfolding check_app task_app
-check_is_simple = refl
-
-check_is_free : is_simple_and_free check_app ≡ true
-unfolding check_app task_app
-check_is_free = refl
-
-check_takes_if : (words : List Text) → fault_of check_app words ≡ [] → takes check_app words ≡ true
-unfolding check_app task_app
-check_takes_if words e = takes_if check_app words refl refl refl refl e
+check_is_plain_app = record {
+  simple = refl;
+  free = refl;
+  whole = λ words e. takes_if check_app words refl refl refl refl e;
+}
 
 pub check_taken_at : {T : Type 0} (app : App) (words : List Text) (r : Result T Error) → app ≡ check_app
-    → (is_simple_and_free app ≡ true → FailsBy (fault_of app words) r)
-    → IfOk r (λ _. takes check_app words ≡ true)
-check_taken_at app words (Err e) is h = tt
-check_taken_at app words (Ok m) is h =
-    check_takes_if words (ap (λ (a : App). fault_of a words) (sym is)
-    ∙ h (ap is_simple_and_free is ∙ check_is_free))
+    → (is_simple_and_free app ≡ true → FailsBy (fault_of app words) r) → IfOk r (λ _. takes check_app words ≡ true)
+check_taken_at app words r is = taken_of check_app check_is_plain_app app is words r
 
 pub check_values_at : (app : App) (words : List Text) (r : Result ArgMatches Error) → app ≡ check_app
     → IfOk r (HasMatchesOf app words)
     → IfOk r (λ m. (id : Text) → first_value (found_of m) id ≡ check_value words id)
-check_values_at app words r is = IfOk-weaker r _ _ (λ m h id.
-    first_value-rows (found_of m) id
-    ∙ ap (first_of id) ((h (ap is_simple is ∙ check_is_simple)).0
-    ∙ ap (λ (a : App). matches_of a words) is))
+check_values_at app words r is = values_of check_app check_is_plain_app app is words r
 
-pub check_refused_at : {T : Type 0} (K : Error → Type 0) (app : App) (words : List Text) (r : Result T Error)
-    → app ≡ check_app
-    → IfErr r (λ e. takes app words ≡ true → K e) → IfErr r (λ e. takes check_app words ≡ true → K e)
-check_refused_at K app words (Ok m) is h = tt
-check_refused_at K app words (Err e) is h = λ taken. h (ap (λ (a : App). takes a words) is ∙ taken)
+-- ---- the words of a script's run
+
+live_is_plain_app : IsPlain live_app
+unfolding live_app script_app
+live_is_plain_app = record {
+  simple = refl;
+  free = refl;
+  whole = λ words e. takes_if live_app words refl refl refl refl e;
+}
+
+pub live_taken_at : {T : Type 0} (app : App) (words : List Text) (r : Result T Error) → app ≡ live_app
+    → (is_simple_and_free app ≡ true → FailsBy (fault_of app words) r) → IfOk r (λ _. takes live_app words ≡ true)
+live_taken_at app words r is = taken_of live_app live_is_plain_app app is words r
+
+pub live_values_at : (app : App) (words : List Text) (r : Result ArgMatches Error) → app ≡ live_app
+    → IfOk r (HasMatchesOf app words)
+    → IfOk r (λ m. (id : Text) → first_value (found_of m) id ≡ live_value words id)
+live_values_at app words r is = values_of live_app live_is_plain_app app is words r
+
+-- ---- how the commands are made
 
 -- the options behind those of a task and a file
 pub app_is : (first second third fourth : App) (a b d x y z : Rule) → first ≡ task_app → second ≡ with_rule first a
@@ -134,6 +149,15 @@ pub solve_built : {E : Type 0} (r : Result Command E) (first second third : App)
 unfolding solve_app
 solve_built r first second third a b d is then and e f g last =
     built_of r first second third a b d _ _ _ is then and e f g last
+
+pub live_built : {E : Type 0} (r : Result Command E) (first second : App) (a b : Rule) → first ≡ script_app
+    → second ≡ with_rule first a → a ≡ option_of (codes "budget") 98 false → b ≡ option_of (codes "certificate") 99 false
+    → IfOk r (λ c. app_of c ≡ with_rule second b) → IfOk r (λ c. app_of c ≡ live_app)
+unfolding live_app
+live_built (Err e) first second a b is then f g last = tt
+live_built (Ok c) first second a b is then f g last =
+    last ∙ ap (λ r. with_rule second r) g ∙ ap (λ app. with_rule app (option_of (codes "certificate") 99 false))
+    (then ∙ ap (λ r. with_rule first r) f ∙ ap (λ app. with_rule app (option_of (codes "budget") 98 false)) is)
 
 -- ---- words
 

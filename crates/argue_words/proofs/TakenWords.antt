@@ -1,6 +1,6 @@
--- Words that clap takes for a query or a check, and words that it does not.
+-- Words that clap takes for a query, a check or a script's run, and words that it does not.
 use Rattle.std.proofs.Common.{◌≡◌, ◌≢◌, ◌∙◌, ◌&&◌, Bool, true, false, true≢false, refl, sym, ap, subst}
-use Rattle.std.proofs.Common.{List, [], ◌∷◌, None, Some, codes}
+use Rattle.std.proofs.Common.{List, [], ◌∷◌, None, Some, codes, drop}
 use Rattle.std.specs.List.{list_all}
 use Rattle.std.specs.Prelude.{fold, slice_get}
 use Rattle.clap.specs.Walk.{Held, Walk, finished, nothing_held, walk, walked}
@@ -8,8 +8,8 @@ use Rattle.clap.specs.Takes.{default_passes, is_valid, settle_passes, walk_passe
 use Rattle.clap.specs.Words.{Shape, Text, built, first_of, takes}
 use Rattle.clap.proofs.TakesLemmas.{leaf_takes}
 use Rattle.clap.proofs.OnLiterals.{clap_on_literals}
-use Rattle.argue_words.specs.Words.{AreUnknown, IsCheckQuery, IsSolveQuery, SolveTexts, check_app, is_check, solve_app, task_app, words_are_problems}
-use Rattle.argue_words.proofs.RequestLaws.{no_check_in}
+use Rattle.argue_words.specs.Words.{AreUnknown, IsCheckQuery, IsLiveQuery, IsSolveQuery, SolveTexts, check_app, is_check, is_live, live_app, script_app, solve_app, task_app, words_are_problems}
+use Rattle.argue_words.proofs.RequestLaws.{no_check_in, no_live_in}
 use Rattle.argue_words.proofs.NoFault.{and_true}
 use Rattle.argue_words.proofs.ValueWords.{no_flag, value_turn, value_walked}
 
@@ -46,6 +46,7 @@ task_first file other =
     let turn = value_turn [] (codes "file") 1 h file (no_flag file other) top in
     record {
       no_check = refl;
+      no_live = refl;
       no_list = refl;
       has = record {
         taken = and_true _ _ refl (leaf_takes (built solve_app) nothing_held words refl
@@ -70,6 +71,7 @@ file_first file other =
     let turn = value_turn [] (codes "file") 1 h file (no_flag file other) top in
     record {
       no_check = refl;
+      no_live = refl;
       no_list = refl;
       has = record {
         taken = and_true _ _ refl (leaf_takes (built solve_app) nothing_held words refl
@@ -90,6 +92,7 @@ pub values_attached : IsSolveQuery (codes "-pSE-GR" ∷ codes "-fa.af" ∷ []) (
 unfolding clap_on_literals solve_app task_app
 values_attached = record {
   no_check = refl;
+  no_live = refl;
   no_list = refl;
   has = record { taken = refl; task = refl; file = refl; number = refl; budget = refl; certificate = refl };
 }
@@ -108,6 +111,7 @@ pub query_with_all : IsSolveQuery query_words (record {
 unfolding clap_on_literals solve_app task_app
 query_with_all = record {
   no_check = refl;
+  no_live = refl;
   no_list = refl;
   has = record { taken = refl; task = refl; file = refl; number = refl; budget = refl; certificate = refl };
 }
@@ -130,15 +134,57 @@ check_with_number = record {
   has = record { taken = refl; task = refl; number = refl; file = refl; answer = refl; certificate = refl };
 }
 
+abbrev live_words : List Text
+live_words = codes "-s" ∷ codes "s" ∷ codes "-b" ∷ codes "10" ∷ codes "-f" ∷ codes "a.af" ∷ codes "-c" ∷ codes "c" ∷ []
+
+pub live_with_all : IsLiveQuery (codes "live" ∷ live_words) (record {
+  file = codes "a.af";
+  script = codes "s";
+  budget = Some (codes "10");
+  certificate = Some (codes "c");
+})
+unfolding clap_on_literals live_app script_app
+live_with_all = record {
+  rest = live_words;
+  words_are = refl;
+  has = record { taken = refl; file = refl; script = refl; budget = refl; certificate = refl };
+}
+
+abbrev script_words : List Text
+script_words = codes "-f" ∷ codes "a.af" ∷ codes "-s" ∷ codes "s" ∷ []
+
+pub live_alone : IsLiveQuery (codes "live" ∷ script_words)
+    (record { file = codes "a.af"; script = codes "s"; budget = None; certificate = None })
+unfolding clap_on_literals live_app script_app
+live_alone = record {
+  rest = script_words;
+  words_are = refl;
+  has = record { taken = refl; file = refl; script = refl; budget = refl; certificate = refl };
+}
+
+-- a script's run wants a script
+pub no_script : AreUnknown (codes "live" ∷ codes "-f" ∷ codes "a.af" ∷ [])
+unfolding clap_on_literals live_app script_app
+no_script = record {
+  some_words = λ none. cc;
+  no_check = λ texts query. no_check_in _ refl texts query;
+  no_live = λ texts query.
+      let rest : codes "-f" ∷ codes "a.af" ∷ [] ≡ query.rest = ap (drop 1) query.words_are in
+      let refused : takes live_app (codes "-f" ∷ codes "a.af" ∷ []) ≡ false = refl in
+      true≢false (sym query.has.taken ∙ (ap (takes live_app) (sym rest) ∙ refused));
+  others = λ _ lives. absurd (true≢false lives);
+}
+
 pub list_alone : words_are_problems (codes "--problems" ∷ []) ≡ true
 list_alone = refl
 
-refused : (words : List Text) → (words ≡ [] → ⊥) → is_check words ≡ false → words_are_problems words ≡ false
-    → takes solve_app words ≡ false → AreUnknown words
-refused words some solves listed e = record {
+refused : (words : List Text) → (words ≡ [] → ⊥) → is_check words ≡ false → is_live words ≡ false
+    → words_are_problems words ≡ false → takes solve_app words ≡ false → AreUnknown words
+refused words some checks lives listed e = record {
   some_words = some;
-  no_check = λ texts query. no_check_in words solves texts query;
-  others = λ _. record {
+  no_check = λ texts query. no_check_in words checks texts query;
+  no_live = λ texts query. no_live_in words lives texts query;
+  others = λ _ _. record {
     no_list = λ is. true≢false (sym is ∙ listed);
     refused = λ taken. true≢false (sym taken ∙ e);
   };
@@ -146,21 +192,21 @@ refused words some solves listed e = record {
 
 pub no_task : AreUnknown (codes "-f" ∷ codes "a.af" ∷ [])
 unfolding clap_on_literals solve_app task_app
-no_task = refused _ (λ none. cc) refl refl refl
+no_task = refused _ (λ none. cc) refl refl refl refl
 
 pub no_file : AreUnknown (codes "-p" ∷ codes "SE-GR" ∷ [])
 unfolding clap_on_literals solve_app task_app
-no_file = refused _ (λ none. cc) refl refl refl
+no_file = refused _ (λ none. cc) refl refl refl refl
 
 pub file_twice : AreUnknown
     (codes "-p" ∷ codes "SE-GR" ∷ codes "-f" ∷ codes "a.af" ∷ codes "-f" ∷ codes "a.af" ∷ [])
 unfolding clap_on_literals solve_app task_app
-file_twice = refused _ (λ none. cc) refl refl refl
+file_twice = refused _ (λ none. cc) refl refl refl refl
 
 pub list_with_a_file : AreUnknown (codes "--problems" ∷ codes "-f" ∷ codes "a.af" ∷ [])
 unfolding clap_on_literals solve_app task_app
-list_with_a_file = refused _ (λ none. cc) refl refl refl
+list_with_a_file = refused _ (λ none. cc) refl refl refl refl
 
 pub help_asked : AreUnknown (codes "--help" ∷ [])
 unfolding clap_on_literals solve_app task_app
-help_asked = refused _ (λ none. cc) refl refl refl
+help_asked = refused _ (λ none. cc) refl refl refl refl

@@ -6,8 +6,9 @@ use Rattle.clap.specs.Words.{App, Rule, Text, first_of, matches_of, new_app, new
 use Rattle.clap.specs.Words.{with_rule}
 use Rattle.clap.specs.declared.builder.ArgAction.TheVariants.{Set}
 use Rattle.argue_words.specs.declared.words.Command.{Command}
-use Rattle.argue_words.specs.declared.words.Command.TheVariants.{Version, Problems, Solve, Check, Unknown}
+use Rattle.argue_words.specs.declared.words.Command.TheVariants.{Version, Problems, Solve, Check, Live, Unknown}
 use Rattle.argue_words.specs.declared.words.CheckWords.{CheckWords}
+use Rattle.argue_words.specs.declared.words.LiveWords.{LiveWords}
 use Rattle.argue_words.specs.declared.words.SolveWords.{SolveWords}
 
 -- an option of one value, written as a hyphen and one letter
@@ -42,10 +43,24 @@ unfoldable pub check_app : App
 check_app = with_rule (with_rule (with_rule task_app (value_option (codes "answer") 114))
     (value_option (codes "certificate") 99)) (option_of (codes "number") 97 false)
 
--- the first word is the name of the command
+-- the command of `-f FILE` and `-s SCRIPT`
+unfoldable pub script_app : App
+script_app = with_rule (with_rule bare_app (value_option (codes "file") 102)) (value_option (codes "script") 115)
+
+-- the command of a script: besides these, `-b BUDGET` and `-c CERT`, each of which may be left out
+unfoldable pub live_app : App
+live_app = with_rule (with_rule script_app (option_of (codes "budget") 98 false))
+    (option_of (codes "certificate") 99 false)
+
+-- the first word is `check`
 abbrev pub is_check : List Text → Bool
 is_check [] = false
 is_check (word ∷ more) = bytes_eq word (codes "check")
+
+-- the first word is `live`
+abbrev pub is_live : List Text → Bool
+is_live [] = false
+is_live (word ∷ more) = bytes_eq word (codes "live")
 
 -- the words are `--problems` alone
 abbrev pub words_are_problems : List Text → Bool
@@ -79,6 +94,7 @@ pub record HasSolveTexts (words : List Text) (texts : SolveTexts) : Type 0 where
 -- the words name no command, and ask a query with these texts
 pub record IsSolveQuery (words : List Text) (texts : SolveTexts) : Type 0 where
   pub no_check : is_check words ≡ false
+  pub no_live : is_live words ≡ false
   pub no_list : words_are_problems words ≡ false
   pub has : HasSolveTexts words texts
 
@@ -111,26 +127,57 @@ pub record IsCheckQuery (words : List Text) (texts : CheckTexts) : Type 0 where
   pub words_are : words ≡ codes "check" ∷ rest
   pub has : HasCheckTexts rest texts
 
+-- ---- scripts
+
+-- the texts of a script's run: the names of the files of a framework and of a script, and a budget and the name of a file
+-- for the certificates, where they are given
+pub record LiveTexts : Type 0 where
+  pub file : Text
+  pub script : Text
+  pub budget : Option Text
+  pub certificate : Option Text
+
+-- the value of an option of `live`
+abbrev pub live_value : List Text → Text → Option Text
+live_value words id = first_of id (matches_of live_app words)
+
+-- the words behind the command's name, which clap takes, have these texts
+pub record HasLiveTexts (words : List Text) (texts : LiveTexts) : Type 0 where
+  pub taken : takes live_app words ≡ true
+  pub file : live_value words (codes "file") ≡ Some texts.file
+  pub script : live_value words (codes "script") ≡ Some texts.script
+  pub budget : live_value words (codes "budget") ≡ texts.budget
+  pub certificate : live_value words (codes "certificate") ≡ texts.certificate
+
+-- the words ask for a script's run with these texts
+pub record IsLiveQuery (words : List Text) (texts : LiveTexts) : Type 0 where
+  pub rest : List Text
+  pub words_are : words ≡ codes "live" ∷ rest
+  pub has : HasLiveTexts rest texts
+
 -- ---- all words
 
 -- the words are well-formed, whatever the task, the number and the budget: there is none, or they ask for the list of
--- tasks, a query or a check
+-- tasks, a query, a check or a script's run
 abbrev pub AreWords : List Text → Type 0
 AreWords words =
     (words ≡ [])
     ⊎ ((words_are_problems words ≡ true)
-    ⊎ (((texts : SolveTexts) × IsSolveQuery words texts) ⊎ ((texts : CheckTexts) × IsCheckQuery words texts)))
+    ⊎ (((texts : SolveTexts) × IsSolveQuery words texts)
+    ⊎ (((texts : CheckTexts) × IsCheckQuery words texts) ⊎ ((texts : LiveTexts) × IsLiveQuery words texts))))
 
 -- the words aren't `--problems` alone, and clap refuses them for a query
 pub record RefusesOthers (words : List Text) : Type 0 where
   pub no_list : words_are_problems words ≢ true
   pub refused : takes solve_app words ≢ true
 
--- there are words that ask for no check and, where they name no command, neither for the list of tasks nor for a query
+-- there are words that ask for no check, for no script's run and, where they name no command, neither for the list of
+-- tasks nor for a query
 pub record AreUnknown (words : List Text) : Type 0 where
   pub some_words : words ≢ []
   pub no_check : (texts : CheckTexts) → ¬ IsCheckQuery words texts
-  pub others : is_check words ≡ false → RefusesOthers words
+  pub no_live : (texts : LiveTexts) → ¬ IsLiveQuery words texts
+  pub others : is_check words ≡ false → is_live words ≡ false → RefusesOthers words
 
 -- what words ask for: a row for each command
 pub data Request : Type 0 where
@@ -138,6 +185,7 @@ pub data Request : Type 0 where
   problems : Request
   solving : SolveTexts → Request
   checking : CheckTexts → Request
+  living : LiveTexts → Request
   unknown : Request
 
 -- what the values of a query's options ask for
@@ -152,12 +200,24 @@ check_request (Some task) number (Some file) (Some answer) (Some certificate) =
     checking (record { task = task; number = number; file = file; answer = answer; certificate = certificate })
 check_request _ _ _ _ _ = unknown
 
--- what the words behind the name of the command ask for
+-- what the values of a script's options ask for
+abbrev pub live_request : Option Text → Option Text → Option Text → Option Text → Request
+live_request (Some file) (Some script) budget certificate =
+    living (record { file = file; script = script; budget = budget; certificate = certificate })
+live_request _ _ _ _ = unknown
+
+-- what the words behind `check` ask for
 unfoldable pub check_requested : List Text → Request
 check_requested words =
     if takes check_app words then check_request (check_value words (codes "task")) (check_value words (codes "number"))
     (check_value words (codes "file")) (check_value words (codes "answer")) (check_value words (codes "certificate"))
     else unknown
+
+-- what the words behind `live` ask for
+unfoldable pub live_requested : List Text → Request
+live_requested words =
+    if takes live_app words then live_request (live_value words (codes "file")) (live_value words (codes "script"))
+    (live_value words (codes "budget")) (live_value words (codes "certificate")) else unknown
 
 -- what the words of a query ask for
 unfoldable pub solve_requested : List Text → Request
@@ -174,7 +234,8 @@ other_requested words = if words_are_problems words then problems else solve_req
 abbrev pub requested : List Text → Request
 requested [] = version
 requested (word ∷ more) =
-    if bytes_eq word (codes "check") then check_requested more else other_requested (word ∷ more)
+    if bytes_eq word (codes "check") then check_requested more
+    else (if bytes_eq word (codes "live") then live_requested more else other_requested (word ∷ more))
 
 -- the texts of a query's words
 abbrev pub solve_texts : SolveWords → SolveTexts
@@ -196,10 +257,20 @@ check_texts words = record {
   certificate = words.certificate.now;
 }
 
+-- the texts of the words of a script's run
+abbrev pub live_texts : LiveWords → LiveTexts
+live_texts words = record {
+  file = words.file.now;
+  script = words.script.now;
+  budget = option_map (λ text. text.now) words.budget;
+  certificate = option_map (λ text. text.now) words.certificate;
+}
+
 -- what a command asks for
 abbrev pub request_of : Command → Request
 request_of Version = version
 request_of Problems = problems
 request_of (Solve words) = solving (solve_texts words)
 request_of (Check words) = checking (check_texts words)
+request_of (Live words) = living (live_texts words)
 request_of Unknown = unknown

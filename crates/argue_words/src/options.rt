@@ -2,7 +2,7 @@
 
 ghost use Rattle.std.specs.Prelude.{◌≡◌, IfOk, codes, false};
 ghost use Rattle.clap.specs.Words.{app_of, rule_of, with_rule};
-ghost use Rattle.argue_words.specs.Words.{bare_app, check_app, option_of, solve_app, task_app};
+ghost use Rattle.argue_words.specs.Words.{bare_app, check_app, live_app, option_of, script_app, solve_app, task_app};
 
 use clap::{Arg, ArgAction, Command};
 use std::alloc::{AllocError, Global};
@@ -60,4 +60,23 @@ pub(crate) fn check_command<'a>(alloc: Global) -> Result<Command<'a>, AllocError
     let command = with_arg(command, value_arg(alloc, "answer", 'r', true))?;
     let command = with_arg(command, value_arg(alloc, "certificate", 'c', true))?;
     with_arg(command, value_arg(alloc, "number", 'a', false))
+}
+
+/// The command of `-f FILE` and `-s SCRIPT`, whose words begin after the name of the command.
+#[tactic(auto, unfolding(crate::specs::Words::script_app))]
+fn script_command<'a>(alloc: Global) -> Result<Command<'a>, AllocError>
+    ensures { IfOk result (λ c. app_of c ≡ script_app) }
+{
+    let command = with_arg(bare_command(alloc), value_arg(alloc, "file", 'f', true))?;
+    with_arg(command, value_arg(alloc, "script", 's', true))
+}
+
+/// The command of `-f FILE`, `-s SCRIPT` and perhaps `-b BUDGET` and `-c CERT`, whose words begin after the name of the
+/// command.
+pub(crate) fn live_command<'a>(alloc: Global) -> Result<Command<'a>, AllocError>
+    ensures { IfOk result (λ c. app_of c ≡ live_app) }
+{
+    let command = script_command(alloc)?;
+    let command = with_arg(command, value_arg(alloc, "budget", 'b', false))?;
+    with_arg(command, value_arg(alloc, "certificate", 'c', false))
 }

@@ -3,9 +3,9 @@
 ghost use Rattle.std.specs.Prelude.{◌≡◌, ◌≢◌, IfErr, IfOk, IsErr, IsSome, List, [], ℕ, codes, map};
 ghost use Rattle.std.specs.Prelude.{string_bytes, true};
 ghost use Rattle.clap.specs.Words.{first_value, found_of, kind_of, takes};
-ghost use Rattle.argue_words.specs.Words.{AreUnknown, RefusesOthers, check_app, check_request, check_requested, check_value, other_requested, request_of, requested, solve_app, solve_request, solve_requested, solve_value, words_are_problems};
+ghost use Rattle.argue_words.specs.Words.{AreUnknown, RefusesOthers, check_app, check_request, check_requested, check_value, live_app, live_request, live_requested, live_value, other_requested, request_of, requested, solve_app, solve_request, solve_requested, solve_value, words_are_problems};
 
-use crate::options::{check_command, solve_command};
+use crate::options::{check_command, live_command, solve_command};
 use clap::ArgMatches;
 use clap::error::ErrorKind;
 use plain_lists::Memory;
@@ -22,6 +22,8 @@ pub enum Command<'a> {
     Solve(SolveWords<'a>),
     /// A check of an answer with its certificate.
     Check(CheckWords<'a>),
+    /// A run of a script's sessions.
+    Live(LiveWords<'a>),
     /// Words that clap refuses.
     Unknown,
 }
@@ -50,12 +52,24 @@ pub struct CheckWords<'a> {
     pub certificate: &'a str,
 }
 
+/// The words of a script's run: the names of the files of the framework and of the script, the budget where one is given,
+/// and the name of a file for the certificates where one is wanted. Whether the budget is one is for the caller to see.
+#[derive(Clone, Copy, Debug, PartialEq, Eq)]
+pub struct LiveWords<'a> {
+    pub file: &'a str,
+    pub script: &'a str,
+    pub budget: Option<&'a str>,
+    pub certificate: Option<&'a str>,
+}
+
 /// Reads the words after the program's name. No words ask for the version, and `--problems` alone for the list of tasks.
 /// Where the first is `check`, those behind it are read by clap as the options `-p TASK`, `-f FILE`, `-r ANSWER`, `-c CERT`
-/// and perhaps `-a N`, in any order: `Check` comes exactly where clap takes them. All others are read by clap as the
-/// options `-p TASK` and `-f FILE`, both required, and perhaps `-a N`, `-b BUDGET` and `-c CERT`, each with one value, in
-/// any order: `Solve` comes exactly where clap takes them. `Unknown` comes for all other words, also for those that ask
-/// for help. `Memory` is want of memory and no fault of the words; it comes only where there are words.
+/// and perhaps `-a N`, in any order: `Check` comes exactly where clap takes them. Where the first is `live`, those behind
+/// it are read as the options `-f FILE`, `-s SCRIPT` and perhaps `-b BUDGET` and `-c CERT`, in any order: `Live` comes
+/// exactly where clap takes them. All others are read by clap as the options `-p TASK` and `-f FILE`, both required, and
+/// perhaps `-a N`, `-b BUDGET` and `-c CERT`, each with one value, in any order: `Solve` comes exactly where clap takes
+/// them. `Unknown` comes for all other words, also for those that ask for help. `Memory` is want of memory and no fault of
+/// the words; it comes only where there are words.
 pub fn read_words<'a>(alloc: Global, words: &'a [String]) -> Result<Command<'a>, Memory>
     ensures request { IfOk result (λ c. request_of c ≡ requested (map string_bytes words.now)) }
     ensures unknown { IfOk result (λ c. c ≡ Command.Unknown → AreUnknown (map string_bytes words.now)) }
@@ -66,6 +80,8 @@ pub fn read_words<'a>(alloc: Global, words: &'a [String]) -> Result<Command<'a>,
     };
     if first.as_str() == "check" {
         read_check(alloc, rest)
+    } else if first.as_str() == "live" {
+        read_live(alloc, rest)
     } else {
         read_other(alloc, words)
     }
@@ -111,6 +127,16 @@ fn read_check<'a>(alloc: Global, words: &'a [String]) -> Result<Command<'a>, Mem
     }
 }
 
+// What the words behind `live` ask for.
+fn read_live<'a>(alloc: Global, words: &'a [String]) -> Result<Command<'a>, Memory>
+    ensures request { IfOk result (λ c. request_of c ≡ live_requested (map string_bytes words.now)) }
+{
+    match live_matches(alloc, words) {
+        Ok(matches) => Ok(live_of(&matches)),
+        Err(error) => refusal(&error),
+    }
+}
+
 // What clap matches on the words of a query.
 fn solve_matches<'a>(alloc: Global, words: &'a [String]) -> Result<ArgMatches<'a>, clap::Error>
     ensures taken { IfOk result (λ _. takes solve_app (map string_bytes words.now) ≡ true) }
@@ -134,6 +160,18 @@ fn check_matches<'a>(alloc: Global, words: &'a [String]) -> Result<ArgMatches<'a
         → kind_of e ≡ ErrorKind.OutOfMemory) }
 {
     let command = check_command(alloc)?;
+    command.try_get_matches_from(words)
+}
+
+// What clap matches on the words of a script's run.
+fn live_matches<'a>(alloc: Global, words: &'a [String]) -> Result<ArgMatches<'a>, clap::Error>
+    ensures taken { IfOk result (λ _. takes live_app (map string_bytes words.now) ≡ true) }
+    ensures values { IfOk result (λ m. (id : List ℕ)
+        → first_value (found_of m) id ≡ live_value (map string_bytes words.now) id) }
+    ensures refused { IfErr result (λ e. takes live_app (map string_bytes words.now) ≡ true
+        → kind_of e ≡ ErrorKind.OutOfMemory) }
+{
+    let command = live_command(alloc)?;
     command.try_get_matches_from(words)
 }
 
@@ -162,6 +200,28 @@ fn check_of<'a>(matches: &ArgMatches<'a>) -> Command<'a>
         number,
         file,
         answer,
+        certificate,
+    })
+}
+
+// The script's run of words that clap takes.
+fn live_of<'a>(matches: &ArgMatches<'a>) -> Command<'a>
+    ensures { request_of result ≡ live_request (first_value (found_of matches.now) (codes "file"))
+        (first_value (found_of matches.now) (codes "script")) (first_value (found_of matches.now) (codes "budget"))
+        (first_value (found_of matches.now) (codes "certificate")) }
+{
+    let Some(file) = matches.get_str("file") else {
+        return Command::Unknown;
+    };
+    let Some(script) = matches.get_str("script") else {
+        return Command::Unknown;
+    };
+    let budget = matches.get_str("budget");
+    let certificate = matches.get_str("certificate");
+    Command::Live(LiveWords {
+        file,
+        script,
+        budget,
         certificate,
     })
 }

@@ -1,7 +1,8 @@
 -- A clause that is given comes, and is in use.
-use Rattle.std.proofs.Common.{◌≡◌, ℕ, suc, ◌+◌, ◌<◌, List, [], ◌∷◌, ◌++◌, length, get_or, ap, sym, subst, ◌∙◌, refl, arith, ⊎_elim, add-one}
+use Rattle.std.proofs.Common.{◌≡◌, ℕ, suc, ◌+◌, ◌<◌, ◌≤◌, List, [], ◌∷◌, ◌++◌, length, get_or, ap, sym, subst, ◌∙◌, refl, arith, ⊎_elim, add-one}
 use Rattle.std.specs.Prelude.{Contains, Result, Ok, Err, IfOk, OnOk, OnErr, Option, None, slice_index_or, true, false}
-use Rattle.std.proofs.lemmas.List.{length_push, get_or_push, get_or_append_left}
+use Rattle.std.proofs.lemmas.Bool.{cases_lt}
+use Rattle.std.proofs.lemmas.List.{length_push, get_or_past, get_or_push, get_or_append_left}
 use Rattle.std.proofs.lemmas.List.Elements.{Contains-append_left, Contains-push, Contains-push_cases}
 use Rattle.plain_lits.specs.declared.lit.Lit.{Lit}
 use Rattle.plain_lits.specs.Literals.{IsClauseOf}
@@ -14,7 +15,6 @@ use Rattle.hinted_log.specs.declared.fault.LogFault.{LogFault}
 use Rattle.hinted_log.specs.declared.fault.LogFault.TheVariants.{LogFull}
 use Rattle.semantics.specs.Frameworks.{Framework, af}
 use Rattle.meaning_atoms.specs.declared.axiom.AxiomName.{AxiomName}
-use Rattle.meaning_atoms.specs.declared.axiom.AxiomName.TheVariants.{Af as OfAf}
 use Rattle.certificate_claims.specs.Refutations.{IsAxiomOf}
 use Rattle.session_log.proofs.Staying.{axiom_stays}
 use Rattle.atom_solver.specs.States.{AtomState, AddsAxiom, IsGuardedLog}
@@ -29,11 +29,11 @@ use Rattle.oracle_face.specs.declared.face.Pending.{Pending}
 use Rattle.oracle_face.specs.Logs.{SideClause}
 use Rattle.session_log.specs.Steps.{GainsStep, own_step}
 use Rattle.atom_solver.specs.declared.origin.Origin.{Origin}
-use Rattle.atom_solver.specs.declared.origin.Origin.TheVariants.{Hints}
+use Rattle.atom_solver.specs.declared.origin.Origin.TheVariants.{Axiom as OfAxiom, Hints}
 use Rattle.atom_solver.specs.Inner.{GainsGiven, IsFilled, NeedsNoHints}
 use Rattle.atom_solver.specs.Lifted.{IsLifting, lit_of, atoms_of, source_of, imported_of, in_use, lifted_step, lifted_at, listed, log_over, state_over}
 use Rattle.atom_solver.specs.Tables.{AddsLits, StandsFor}
-use Rattle.atom_solver.proofs.Lifting.{in_use_yes, in_use_same}
+use Rattle.atom_solver.proofs.Lifting.{in_use_gives, in_use_yes, in_use_same}
 use Rattle.atom_solver.proofs.Listing.{length-listed, listed_same}
 
 -- a solver with one step more, which is in use
@@ -150,6 +150,35 @@ module _ (atoms : List Atom) (old new : SolverState) (step : Step) (g : Gains ol
         sides_now = refl;
       }
 
+  -- an axiom that had an origin is still in use, and the step that came is
+  axiom_used : IsLifting atoms old origins → (k : ℕ) (name : AxiomName)
+      → slice_index_or pushed k Hints ≡ OfAxiom name → in_use new.active (k + 1) ≡ true
+  axiom_used h k name said =
+      ⊎_elim
+      (λ (early : k < length filled).
+      let before : slice_index_or origins k Hints ≡ OfAxiom name =
+      sym (same.same k)
+      ∙ (sym (get_or_append_left filled (origin ∷ []) Hints k early)
+      ∙ (sym (ap (λ xs. get_or xs k Hints) is) ∙ said)) in
+      in_use_yes new.active (k + 1)
+      (subst (λ xs. Contains xs (k + 1)) (sym g.active)
+      (Contains-append_left old.active ((length old.log.steps + 1) ∷ []) (k + 1)
+      (in_use_gives old.active (k + 1) (h.used k name before)))))
+      (λ (late : length filled ≤ k).
+      ⊎_elim
+      (λ (here : k < length filled + 1).
+      let last : length old.log.steps ≡ k = omega arith in
+      subst (λ n. in_use new.active (n + 1) ≡ true) last
+      (in_use_yes new.active (length old.log.steps + 1)
+      (subst (λ xs. Contains xs (length old.log.steps + 1)) (sym g.active)
+      (Contains-push old.active (length old.log.steps + 1)))))
+      (λ (past : length filled + 1 ≤ k).
+      let none : Hints ≡ OfAxiom name =
+      sym (get_or_past pushed k Hints (omega (arith, ap length is, length_push filled origin))) ∙ said in
+      absurd (cc))
+      (cases_lt k (length filled + 1)))
+      (cases_lt k (length filled))
+
   pub step_whole : HasRoomFor (length atoms) step.clause → IsLifting atoms old origins → IsLifting atoms new pushed
   step_whole room h = record {
     room = λ c there l c_l.
@@ -168,6 +197,7 @@ module _ (atoms : List Atom) (old new : SolverState) (step : Step) (g : Gains ol
       ap length is,
       length_push filled origin,
     );
+    used = axiom_used h;
   }
 
 -- the same of a clause that comes without hints
@@ -199,7 +229,11 @@ given_whole atoms old new clause how number origins filled pushed origin needs a
 -- origins that were said again
 pub filled_whole : (atoms : List Atom) (s : SolverState) (origins filled : List Origin) → IsLifting atoms s origins
     → IsFilled origins filled (length s.log.steps) → IsLifting atoms s filled
-filled_whole atoms s origins filled h f = record { room = h.room; marked = f.within }
+filled_whole atoms s origins filled h f = record {
+  room = h.room;
+  marked = f.within;
+  used = λ k name is. h.used k name (sym (f.same k) ∙ is);
+}
 
 pub filled_state : (atoms : List Atom) (s : SolverState) (origins filled : List Origin) (sides : List SideClause)
     (pending : Option Pending) → IsFilled origins filled (length s.log.steps)
@@ -258,3 +292,28 @@ pub stands_if : (atoms : List Atom) (literals : List AtomLit) (lits : List Lit) 
     → AddsLits atoms literals [] lits → IfOk r (IsClauseOf lits) → IfOk r (StandsFor atoms literals)
 stands_if atoms literals lits (Ok clause) adds of = stands atoms literals lits clause adds of
 stands_if atoms literals lits (Err m) adds of = of
+
+-- ---- origins that are said again
+
+-- one more step that follows from its hints says nothing new
+pub hints_pushed : (origins : List Origin) (k : ℕ)
+    → slice_index_or (origins ++ Hints ∷ []) k Hints ≡ slice_index_or origins k Hints
+hints_pushed origins k =
+    ⊎_elim
+    (λ (early : k < length origins). get_or_append_left origins (Hints ∷ []) Hints k early)
+    (λ (late : length origins ≤ k).
+    ⊎_elim
+    (λ (here : k < length origins + 1).
+    get_or_push origins Hints Hints k (omega arith) ∙ sym (get_or_past origins k Hints late))
+    (λ (past : length origins + 1 ≤ k).
+    get_or_past (origins ++ Hints ∷ []) k Hints (omega (arith, length_push origins Hints))
+    ∙ sym (get_or_past origins k Hints late))
+    (cases_lt k (length origins + 1)))
+    (cases_lt k (length origins))
+
+pub filled_more : (old filled : List Origin) (steps : ℕ) → IsFilled old filled steps → length filled < steps
+    → IsFilled old (filled ++ Hints ∷ []) steps
+filled_more old filled steps h lt = record {
+  within = omega (arith, length_push filled Hints);
+  same = λ k. hints_pushed filled k ∙ h.same k;
+}

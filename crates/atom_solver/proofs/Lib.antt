@@ -5,9 +5,11 @@ pub mod Giving
 pub mod Learning
 pub mod Lifting
 pub mod Listing
+pub mod Looping
 pub mod Obliging
 pub mod Reading
 pub mod Running
 pub mod Searching
 pub mod Siding
 pub mod TableLemmas
+pub mod Using

@@ -1,47 +1,30 @@
 -- What it leaves that a side clause is kept, or was there.
 use Rattle.std.proofs.Common.{◌≡◌, ℕ, ◌+◌, ◌-◌, List, [], ◌∷◌, ◌++◌, length, take, get_or, ap, sym, subst, ◌∙◌, refl, arith, inl, inr, ⊎_elim, Bool}
-use Rattle.std.specs.Prelude.{count_by, slice_index_or, Option, Some, Result, Ok, Err, IfOk, IfErr, OnOk, OnErr}
-use Rattle.std.proofs.Math.Seq.{take-append_seam}
+use Rattle.std.specs.Prelude.{slice_index_or, Option, Some, Result, Ok, Err, IfOk, IfErr, OnOk, OnErr}
 use Rattle.std.proofs.lemmas.List.{length_push, get_or_push}
-use Rattle.std.proofs.lemmas.List.Elements.{Contains-append_right}
-use Rattle.plain_lists.proofs.Membership.{Contains-head, Contains-cons_cases}
 use Rattle.plain_lits.specs.HintCheck.{IsTautology}
 use Rattle.plain_lits.specs.Units.{Units}
 use Rattle.plain_lits.specs.declared.halt.Halt.{Halt}
 use Rattle.plain_lits.specs.declared.halt.Halt.TheVariants.{Spent, LogFull, Memory}
-use Rattle.semantics.specs.Arguments.{IsArgument}
-use Rattle.semantics.specs.Frameworks.{Framework, af}
-use Rattle.meaning_atoms.specs.declared.atom.Atom.{Atom}
-use Rattle.meaning_atoms.specs.declared.atom.Atom.TheVariants.{Live, Attack, Gap, Ask}
+use Rattle.semantics.specs.Frameworks.{Framework}
 use Rattle.meaning_atoms.specs.declared.atom.AtomLit.{AtomLit}
-use Rattle.meaning_atoms.specs.Literals.{denied, negated}
-use Rattle.meaning_atoms.specs.Worlds.{IsFact}
+use Rattle.meaning_atoms.specs.Literals.{negated}
 use Rattle.oracle_face.specs.declared.face.Pending.{Pending}
 use Rattle.oracle_face.specs.declared.face.Pending.TheVariants.{Side as OfSide}
-use Rattle.oracle_face.specs.Goals.{IsSide, Tells}
+use Rattle.oracle_face.specs.Goals.{IsSide}
 use Rattle.oracle_face.specs.Growing.{Grows, HasRun, IsStop, Works, Obliges, OnlySide, halt_of}
-use Rattle.oracle_face.specs.Logs.{OracleLog, LogStep, SideClause, IsNew, FactsAreFalse, IsNumberOf, IsSameClause, by_side, guarded, is_unit, closings_of, no_step, no_side, side_at, working}
+use Rattle.oracle_face.specs.Logs.{OracleLog, SideClause, IsNumberOf, IsSameClause, by_side, guarded, closings_of, no_side, side_at}
 use Rattle.oracle_face.proofs.GrowingLemmas.{grows_same, grows_as}
 use Rattle.session_log.specs.Steps.{TakesSide, GainsStep, own_step, side_made}
 use Rattle.session_log.proofs.Staying.{side_stays}
-use Rattle.session_log.proofs.NewSides.{side_is_new}
+use Rattle.session_log.proofs.Spending.{side_spends}
 use Rattle.atom_solver.specs.States.{AtomState, IsGuardedLog}
 use Rattle.atom_solver.specs.Sides.{IsOrderOf, IsSideAt, IsNowhere}
-use Rattle.atom_solver.specs.Inner.{KeepsSide, StopsSide}
-use Rattle.atom_solver.proofs.Listing.{counted_push}
+use Rattle.atom_solver.specs.Inner.{KeepsSide, StopsUnit}
 use Rattle.atom_solver.proofs.Running.{unless_all}
 use Rattle.atom_solver.proofs.Siding.{same_literals}
 
--- ---- what side clauses may say
-
-tells_no_fact : (f : Framework) (atom : Atom) (positive : Bool) → Tells IsArgument atom positive → IsFact f atom → ⊥
-tells_no_fact (af g) (Live a) positive t h = t
-tells_no_fact (af g) (Attack a b) positive t h = t
-tells_no_fact (af g) (Gap a i j) positive t h = t
-tells_no_fact (af g) _ positive t h = absurd h
-
-ask_is_no_fact : (f : Framework) (n : ℕ) → IsFact f (Ask n) → ⊥
-ask_is_no_fact (af g) n h = h
+-- ---- clauses with the same literals
 
 turned : (left right : List AtomLit) → IsSameClause left right → IsSameClause right left
 turned left right same = record { there = same.back; back = same.there }
@@ -88,39 +71,6 @@ is_nowhere given literals sides order none n named same =
     not_there given literals sides order none n named
     (chained (side_at sides n).literals given literals same (turned literals given order.same))
 
--- ---- the step of a side clause
-
-new_same : (list : List (List AtomLit)) (clause other : List AtomLit) → IsSameClause clause other → IsNew list other
-    → IsNew list clause
-new_same list clause other same h = record {
-  plain = λ t. h.plain (t.0, same.there t.0 t.1, same.there (negated t.0) t.2);
-  no_part = λ part. h.no_part (record {
-    part = part.part;
-    listed = part.listed;
-    inside = λ l c. same.there l (part.inside l c);
-  });
-}
-
-guarded_same : (n : ℕ) (literals side : List AtomLit) → IsSameClause literals side
-    → IsSameClause (guarded n literals) (guarded n side)
-guarded_same n literals side same = record {
-  there = λ l c. ⊎_elim (λ e. Contains-head (denied (Ask n)) side l e)
-      (λ in_it. Contains-append_right (denied (Ask n) ∷ []) side l (same.there l in_it))
-      (Contains-cons_cases (denied (Ask n)) literals l c);
-  back = λ l c. ⊎_elim (λ e. Contains-head (denied (Ask n)) literals l e)
-      (λ in_it. Contains-append_right (denied (Ask n) ∷ []) literals l (same.back l in_it))
-      (Contains-cons_cases (denied (Ask n)) side l c);
-}
-
-side_facts : (f : Framework) (n : ℕ) (side clause : List AtomLit) → IsSide side
-    → IsSameClause clause (guarded n side) → FactsAreFalse f clause
-side_facts f n side clause is same = record {
-  false_there = λ l c fact. ⊎_elim
-      (λ (e : denied (Ask n) ≡ l). absurd (ask_is_no_fact f n (subst (λ (x : AtomLit). IsFact f x.atom) (sym e) fact)))
-      (λ in_it. absurd (tells_no_fact f l.atom l.positive (is.tells l in_it) fact))
-      (Contains-cons_cases (denied (Ask n)) side l (same.there l c));
-}
-
 -- ---- a side clause that comes
 
 takes_side : (side literals : List AtomLit) (set : List ℕ) (old new : AtomState) (number : ℕ) → IsSide side
@@ -134,42 +84,6 @@ takes_side side literals set old new number is order none keeps = record {
   gains = subst (λ m. GainsStep (own_step keeps.clause (by_side m)) (old.log.sides ++ side_made literals set ∷ []) old.log
       new.log) keeps.next keeps.gains;
 }
-
-side_works : (f : Framework) (side literals : List AtomLit) (set : List ℕ) (clause : List AtomLit)
-    (old new : OracleLog) (before after : Units) → IsGuardedLog f old → IsSide side → IsSameClause literals side
-    → TakesSide literals set clause old new → after.used ≡ before.used + 1
-    → Works f old new before after × (closings_of new ≡ closings_of old)
-side_works f side literals set clause old new before after guarded_log is same_side takes spent =
-    let n = length old.sides + 1 in
-    let step = own_step clause (by_side n) in
-    let steps = takes.gains.steps in
-    let long : length new.steps ≡ length old.steps + 1 = ap length steps ∙ length_push old.steps step in
-    let here : get_or new.steps (length old.steps) no_step ≡ step =
-    ap (λ xs. get_or xs (length old.steps) no_step) steps ∙ get_or_push old.steps step no_step (length old.steps) refl in
-    let front : take (length old.steps) new.steps ≡ old.steps =
-    ap (λ xs. take (length old.steps) xs) steps ∙ take-append_seam old.steps (step ∷ []) in
-    let to_side = chained clause (guarded n literals) (guarded n side) takes.same
-    (guarded_same n literals side same_side) in
-    let fresh = new_same (working old.steps) clause (guarded n side) to_side
-    (side_is_new f old side guarded_log.form guarded_log.guards is) in
-    let facts = side_facts f n side clause is to_side in
-    let units = ap (count_by is_unit) steps ∙ counted_push is_unit old.steps step in
-    let closings = ap (count_by (λ (s : LogStep). s.closing)) steps
-    ∙ counted_push (λ (s : LogStep). s.closing) old.steps step in (
-      record {
-        fresh = λ k low high unit.
-            let is_last : length old.steps ≡ k = omega arith in
-            subst (λ i. IsNew (working (take i new.steps)) (get_or new.steps i no_step).clause) is_last
-            (subst (λ xs. IsNew (working xs) (get_or new.steps (length old.steps) no_step).clause) (sym front)
-            (subst (λ (s : LogStep). IsNew (working old.steps) s.clause) (sym here) fresh));
-        facts = λ k low high unit.
-            let is_last : length old.steps ≡ k = omega arith in
-            subst (λ i. FactsAreFalse f (get_or new.steps i no_step).clause) is_last
-            (subst (λ (s : LogStep). FactsAreFalse f s.clause) (sym here) facts);
-        counted = omega arith;
-      },
-      omega arith,
-    )
 
 -- ---- what is answered
 
@@ -240,19 +154,18 @@ module _ (side literals : List AtomLit) (from : List ℕ) (old new : AtomState) 
 
     pub added_run : (r : Result ℕ Halt) (before after : Units) → IfOk r (KeepsSide literals from old new)
         → OnOk r (after.used ≡ before.used + 1) → after.limit ≡ before.limit → OnErr r (new.log ≡ old.log)
-        → IfErr r (StopsSide literals from new before after)
+        → IfErr r (StopsUnit (OfSide literals from) new before after)
         → HasRun (OnlySide side from) 0 f old.log new.log new.pending before after (halt_of r)
     added_run (Ok number) before after ok spent limit err stops =
         let takes = takes_side side literals from old new number is order none ok in
         let stays = side_stays f literals from ok.clause old.log new.log guarded_log.form guarded_log.guards takes in
-        let works = side_works f side literals from ok.clause old.log new.log before after guarded_log is order.same takes
-        spent in
-        let closings = works.1 in
+        let spends = side_spends f literals from ok.clause old.log new.log guarded_log.form guarded_log.guards takes in
+        let closings = spends.closes in
         record {
           grows = grows_as (OnlySide literals from) (OnlySide side from) old.log new.log
               (λ ls set made. (chained ls literals side made.0 order.same, made.1)) stays.grows;
           limit = limit;
-          works = works.0;
+          works = spends.works before after spent;
           closing = omega arith;
           stop = tt;
         }

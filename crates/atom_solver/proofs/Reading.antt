@@ -1,6 +1,7 @@
 -- Steps as they are read.
 use Rattle.std.proofs.Common.{◌≡◌, ℕ, ◌-◌, List, [], length, get_or, ap, sym, ◌∙◌, refl, arith}
-use Rattle.std.specs.Prelude.{Result, Ok, Err, IfOk}
+use Rattle.std.specs.Prelude.{Result, Ok, Err, IfOk, true, false}
+use Rattle.std.proofs.lemmas.Bool.{false≢true}
 use Rattle.plain_lists.specs.declared.memory.Memory.{Memory}
 use Rattle.plain_lits.specs.declared.lit.Lit.{Lit}
 use Rattle.plain_lits.specs.Checking.{HaveRoomFor}
@@ -12,7 +13,7 @@ use Rattle.meaning_atoms.specs.declared.atom.AtomLit.{AtomLit}
 use Rattle.oracle_face.specs.Logs.{LogStep, IsNumberOf, step_at, hints_of}
 use Rattle.atom_solver.specs.declared.origin.Origin.{Origin}
 use Rattle.atom_solver.specs.declared.origin.Origin.TheVariants.{Axiom, Side, Entry, Hints}
-use Rattle.atom_solver.specs.Lifted.{lifted_at, listed, imported_of, source_of}
+use Rattle.atom_solver.specs.Lifted.{lifted_at, listed, imported_of, is_given, source_of}
 use Rattle.atom_solver.specs.Tables.{told}
 use Rattle.atom_solver.proofs.Listing.{length-listed}
 use Rattle.atom_solver.proofs.Lifting.{room_at, step_lifted}
@@ -55,6 +56,18 @@ HasHints (Axiom name) = ⊥
 HasHints (Side n) = ⊥
 HasHints (Entry name) = Unit {0}
 HasHints Hints = Unit {0}
+
+pub given_none : (origin : Origin) → is_given origin ≡ true → HasHints origin → ⊥
+given_none (Axiom name) given h = h
+given_none (Side n) given h = h
+given_none (Entry name) given h = false≢true given
+given_none Hints given h = false≢true given
+
+pub given_some : (origin : Origin) → is_given origin ≡ false → HasHints origin
+given_some (Axiom name) given = absurd (false≢true (sym given))
+given_some (Side n) given = absurd (false≢true (sym given))
+given_some (Entry name) given = tt
+given_some Hints given = tt
 
 none_of : (origin : Origin) (hints : List ℕ) → (HasHints origin → ⊥) → [] ≡ hints_of (source_of origin hints)
 none_of (Axiom name) hints not_so = refl
@@ -114,3 +127,20 @@ imported_read atoms s origins number origin is e =
     ap (λ (x : LogStep). x.imported)
     (step_lifted atoms s origins (length s.log.steps) number step.from_one step.within)
     ∙ ap imported_of (sym e)
+
+-- the same where an origin was read
+pub if_source_read : (atoms : List Atom) (s : SolverState) (origins : List Origin) (number : ℕ)
+    (r : Result Origin Memory) → IsNumberOf (listed (lifted_at atoms s origins) (length s.log.steps)) number
+    → IfOk r (λ origin. origin ≡ get_or origins (number - 1) Hints)
+    → IfOk r (λ origin. (step_at (listed (lifted_at atoms s origins) (length s.log.steps)) number).source
+    ≡ source_of origin (hints_of (step_at (listed (lifted_at atoms s origins) (length s.log.steps)) number).source))
+if_source_read atoms s origins number (Ok origin) is e = source_read atoms s origins number origin is e
+if_source_read atoms s origins number (Err m) is e = tt
+
+pub if_imported_read : (atoms : List Atom) (s : SolverState) (origins : List Origin) (number : ℕ)
+    (r : Result Origin Memory) → IsNumberOf (listed (lifted_at atoms s origins) (length s.log.steps)) number
+    → IfOk r (λ origin. origin ≡ get_or origins (number - 1) Hints)
+    → IfOk r (λ origin. (step_at (listed (lifted_at atoms s origins) (length s.log.steps)) number).imported
+    ≡ imported_of origin)
+if_imported_read atoms s origins number (Ok origin) is e = imported_read atoms s origins number origin is e
+if_imported_read atoms s origins number (Err m) is e = tt

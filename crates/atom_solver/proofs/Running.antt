@@ -1,9 +1,10 @@
 -- What a search leaves, whatever it answers.
 use Rattle.std.proofs.Common.{◌≡◌, ◌≢◌, ℕ, ◌+◌, ◌-◌, ◌≤◌, List, length, ap, sym, subst, ◌∙◌, arith, inl, inr, ⊎_elim, Vec, Global}
-use Rattle.std.specs.Prelude.{filter, Option, None, Some, Result, Ok, Err}
+use Rattle.std.specs.Prelude.{Contains, filter, Option, None, Some, Result, Ok, Err}
 use Rattle.std.specs.Result.{IsErr, IsErrAnd}
 use Rattle.std.proofs.lemmas.Bool.{false≢true, lt-ltb, ltb-true}
 use Rattle.std.proofs.lemmas.List.{length-map, length-append}
+use Rattle.std.proofs.lemmas.List.Elements.{Contains-append_left}
 use Rattle.plain_lists.proofs.Filters.{Contains-filter}
 use Rattle.plain_lits.proofs.HintCheckLemmas.{Contains-mapped, Contains-from_mapped}
 use Rattle.plain_lits.specs.declared.lit.Lit.{Lit}
@@ -35,7 +36,7 @@ use Rattle.atom_solver.specs.Tables.{Extends, has_atom, told}
 use Rattle.atom_solver.proofs.Deriving.{front_same, search_grows, hint_named, room_stays}
 use Rattle.atom_solver.proofs.Learning.{AreNamed, has_learned}
 use Rattle.atom_solver.proofs.Listing.{length-listed}
-use Rattle.atom_solver.proofs.Lifting.{room_at, log_grow}
+use Rattle.atom_solver.proofs.Lifting.{in_use_gives, in_use_yes, room_at, log_grow}
 use Rattle.atom_solver.proofs.Searching.{LeavesAs, gained_of, gained_works, gained_closings, closing_left, unit_further, AreValues, model_satisfies, core_refutes}
 use Rattle.atom_solver.proofs.TableLemmas.{told_whole}
 
@@ -231,6 +232,10 @@ whole_after atoms old new origins h derives =
     record {
       room = room_stays (length atoms) old new h.room derives;
       marked = omega (arith, ap length steps.1, length-append old.log.steps steps.0);
+      used = λ k name is. in_use_yes new.active (k + 1)
+          (subst (λ active. Contains active (k + 1)) (sym derives.keeps.more_active.1)
+          (Contains-append_left old.active derives.keeps.more_active.0 (k + 1)
+          (in_use_gives old.active (k + 1) (h.used k name is))));
     }
 
 pub whole_grown : (literals : List AtomLit) (old new : List Atom) (s t : SolverState) (origins : List Origin)
@@ -240,6 +245,7 @@ whole_grown literals old new s t origins h grows e =
     subst (λ x. IsLifting new x origins) (sym e) (record {
       room = λ clause c l there. let lt = h.room clause c l there in omega arith;
       marked = h.marked;
+      used = h.used;
     })
 
 pub log_grown : (literals : List AtomLit) (old new : List Atom) (s t : SolverState) (origins : List Origin)
@@ -266,7 +272,7 @@ whole_kept old new h whole =
     subst (λ atoms. IsLifting atoms new.solver new.origins.items) (sym h.table)
     (subst (λ s. IsLifting old.table s new.origins.items) (sym h.solver)
     (subst (λ (origins : Vec Origin Global). IsLifting old.table (begun old.solver) origins.items) (sym h.origins)
-    (record { room = whole.room; marked = whole.marked })))
+    (record { room = whole.room; marked = whole.marked; used = whole.used })))
 
 pub state_grown : (literals : List AtomLit) (old new : List Atom) (s t : SolverState) (origins : List Origin)
     (sides : List SideClause) (pending : Option Pending) → IsLifting old s origins → Extends literals old new → t ≡ s

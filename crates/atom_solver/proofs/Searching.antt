@@ -241,20 +241,19 @@ module _ (atoms : List Atom) (s : SolverState) (origins : List Origin) (differen
             (⊎_elim (λ e. subst (λ p. IsFactValue f (atom_at atoms l.var) p) e w.2)
             (λ e. absurd (model.plain (l, x.1, subst (λ p. Contains lits (of_var l.var p)) e w.1)))
             (same_or_opposite w.0 l.positive));
-        told = λ clause m c there fact.
+        told = λ clause m c there.
             let at = working_back n clause c in
             let x = Contains-from_mapped (lit_of atoms) (get_or s.log.steps at.0 no_step).clause m
             (subst (λ xs. Contains xs m) (sym at.3) there) in
             let l = x.0 in
             let known = room_at (length atoms) s.log.steps at.0 room at.1 l x.1 in
-            let w = fact_there l.var known (subst (λ (y : AtomLit). IsFact f y.atom) (sym x.2) fact) in
-            let has = read.there (of_var l.var w.0) w.1 known in
+            let here : at.0 + 1 - 1 ≡ at.0 = omega arith in
+            let in_step : Contains (clause_of s.log.steps (at.0 + 1)) l =
+            subst (λ i. Contains (get_or s.log.steps i no_step).clause l) (sym here) x.1 in
             ⊎_elim
-            (λ e. inl (subst (λ y. Contains values y) x.2
-            (subst (λ p. Contains values (lit_of atoms (of_var l.var p))) e has)))
-            (λ e. inr (subst (λ y. Contains values (negated y)) x.2
-            (subst (λ p. Contains values (lit_of atoms (of_var l.var p))) e has)))
-            (same_or_opposite w.0 l.positive);
+            (λ so. inl (subst (λ y. Contains values y) x.2 (read.there l so known)))
+            (λ not_so. inr (subst (λ y. Contains values (negated y)) x.2 (read.there (negation l) not_so known)))
+            (model.total (at.0 + 1) at.2 l in_step);
       }
 
   pub core_refutes : (f : Framework) (goals : List AtomLit) (assumed : List Lit) (sides : List SideClause)

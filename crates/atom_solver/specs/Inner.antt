@@ -4,7 +4,7 @@ use Rattle.atom_solver.specs.declared.origin.Origin.{Origin}
 use Rattle.atom_solver.specs.declared.origin.Origin.TheVariants.{Hints}
 use Rattle.meaning_atoms.specs.declared.atom.Atom.{Atom}
 use Rattle.oracle_face.specs.declared.face.Pending.{Pending as Kept}
-use Rattle.oracle_face.specs.declared.face.Pending.TheVariants.{Learned, Side as OfSide}
+use Rattle.oracle_face.specs.declared.face.Pending.TheVariants.{Learned}
 use Rattle.oracle_face.specs.Logs.{Source, IsSameClause, by_side, guarded}
 use Rattle.plain_lits.specs.Units.{Units}
 use Rattle.plain_lits.specs.declared.halt.Halt.{Halt}
@@ -73,21 +73,20 @@ pub record KeepsSide (literals : List AtomLit) (set : List ℕ) (old new : AtomS
   pub gains : GainsStep (own_step clause (by_side number)) (old.log.sides ++ side_made literals set ∷ []) old.log
       new.log
 
--- the budget was spent, and the side clause is kept
-pub record IsSideSpent (literals : List AtomLit) (set : List ℕ) (new : AtomState) (before after : Units)
-    (count : ℕ) : Type 0 where
+-- the budget was spent, and the clause that would have been a unit is kept
+pub record IsUnitSpent (work : Kept) (new : AtomState) (before after : Units) (count : ℕ) : Type 0 where
   pub is_limit : count ≡ after.limit
   pub is_used : count ≡ after.used
   pub unspent : after.used ≡ before.used
-  pub kept : new.pending ≡ Some (OfSide literals set)
+  pub kept : new.pending ≡ Some work
 
 -- the log is full, and nothing was spent
-pub record IsSideFull (new : AtomState) (before after : Units) : Type 0 where
+pub record IsUnitFull (new : AtomState) (before after : Units) : Type 0 where
   pub full : length new.log.steps ≡ new.log.limit
   pub unspent : after.used ≡ before.used
 
--- why a side clause wasn't added
-abbrev pub StopsSide : List AtomLit → List ℕ → AtomState → Units → Units → Halt → Type 0
-StopsSide literals set new before after (Spent count) = IsSideSpent literals set new before after count
-StopsSide literals set new before after LogFull = IsSideFull new before after
-StopsSide literals set new before after Memory = Unit {0}
+-- why a clause that would have been a unit wasn't added
+abbrev pub StopsUnit : Kept → AtomState → Units → Units → Halt → Type 0
+StopsUnit work new before after (Spent count) = IsUnitSpent work new before after count
+StopsUnit work new before after LogFull = IsUnitFull new before after
+StopsUnit work new before after Memory = Unit {0}

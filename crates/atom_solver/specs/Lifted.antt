@@ -1,5 +1,5 @@
 -- The log over atoms that a solver's log stands for, which no caller sees.
-use Rattle.std.specs.Prelude.{ℕ, zero, suc, ◌+◌, ◌==◌, ◌≤◌, Bool, not, List, [], ◌∷◌, ◌++◌, length, map, Option, None}
+use Rattle.std.specs.Prelude.{◌≡◌, ℕ, zero, suc, ◌+◌, ◌==◌, ◌≤◌, Bool, true, false, not, List, [], ◌∷◌, ◌++◌, length, map, Option, None}
 use Rattle.std.specs.Prelude.{slice_index_or, Some}
 use Rattle.std.specs.List.{list_any}
 use Rattle.plain_lits.specs.declared.lit.Lit.{Lit}
@@ -9,9 +9,9 @@ use Rattle.sat_core.specs.Solving.{SolverState}
 use Rattle.meaning_atoms.specs.declared.atom.Atom.{Atom}
 use Rattle.meaning_atoms.specs.declared.atom.Atom.TheVariants.{Cf}
 use Rattle.meaning_atoms.specs.declared.atom.AtomLit.{AtomLit}
+use Rattle.meaning_atoms.specs.declared.axiom.AxiomName.{AxiomName}
 use Rattle.oracle_face.specs.declared.entry.EntryName.{EntryName}
 use Rattle.oracle_face.specs.declared.face.Pending.{Pending}
-use Rattle.meaning_atoms.specs.declared.axiom.AxiomName.TheVariants.{Af as OfAf}
 use Rattle.oracle_face.specs.Logs.{OracleLog, LogStep, SideClause, Source, by_axiom, by_side, by_hints}
 use Rattle.atom_solver.specs.declared.origin.Origin.{Origin}
 use Rattle.atom_solver.specs.declared.origin.Origin.TheVariants.{Axiom, Side, Entry, Hints}
@@ -29,10 +29,17 @@ atoms_of atoms clause = map (lit_of atoms) clause
 
 -- where a step comes from
 abbrev pub source_of : Origin → List ℕ → Source
-source_of (Axiom name) hints = by_axiom (OfAf name)
+source_of (Axiom name) hints = by_axiom name
 source_of (Side n) hints = by_side n
 source_of (Entry name) hints = by_hints hints
 source_of Hints hints = by_hints hints
+
+-- whether a step needs no hints: it is an axiom, or a side clause's
+abbrev pub is_given : Origin → Bool
+is_given (Axiom name) = true
+is_given (Side n) = true
+is_given (Entry name) = false
+is_given Hints = false
 
 -- the entry that a step was taken from, if it was
 abbrev pub imported_of : Origin → Option EntryName
@@ -76,7 +83,8 @@ log_over atoms s origins sides = log_upto atoms s origins sides (length s.log.st
 abbrev pub state_over : List Atom → SolverState → List Origin → List SideClause → Option Pending → AtomState
 state_over atoms s origins sides pending = record { log = log_over atoms s origins sides; pending = pending }
 
--- each variable of a clause has an atom, and no step that is still to come has an origin
+-- each variable of a clause has an atom, no step that is still to come has an origin, and each axiom is in use
 pub record IsLifting (atoms : List Atom) (s : SolverState) (origins : List Origin) : Type 0 where
   pub room : HaveRoomFor (length atoms) (clauses_of s.log.steps)
   pub marked : length origins ≤ length s.log.steps
+  pub used : (k : ℕ) (name : AxiomName) → slice_index_or origins k Hints ≡ Axiom name → in_use s.active (k + 1) ≡ true

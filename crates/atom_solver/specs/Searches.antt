@@ -13,7 +13,7 @@ use Rattle.atom_solver.specs.declared.searched.Searched.{Searched}
 use Rattle.atom_solver.specs.declared.searched.Searched.TheVariants.{Model, Refuted}
 
 -- literals under which each clause in use and each goal is true: none stands beside its negation, what they say of facts
--- is so, and each fact of which a clause in use speaks is told
+-- is so, and of each literal of a clause in use they say whether it is true
 pub record Satisfies (f : Framework) (log : OracleLog) (goals values : List AtomLit) : Type 0 where
   pub plain : IsTautology negated values → ⊥
   pub met : (l : AtomLit) → Contains goals l → Contains values l
@@ -21,7 +21,7 @@ pub record Satisfies (f : Framework) (log : OracleLog) (goals values : List Atom
       → (l : AtomLit) × Contains clause l × Contains values l
   pub facts : (l : AtomLit) → Contains values l → IsFact f l.atom → IsFactValue f l.atom l.positive
   pub told : (clause : List AtomLit) (l : AtomLit) → Contains (working log.steps) clause → Contains clause l
-      → IsFact f l.atom → Contains values l ⊎ Contains values (negated l)
+      → Contains values l ⊎ Contains values (negated l)
 
 -- what a search found: such literals, or a step that refutes the goals
 abbrev pub IsAnswer : Framework → OracleLog → List AtomLit → Searched → Type 0

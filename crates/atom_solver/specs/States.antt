@@ -1,10 +1,10 @@
 -- What contracts see of a solver over atoms, and what it leaves where an axiom comes.
-use Rattle.std.specs.Prelude.{◌≡◌, ℕ, List, [], Option, None}
+use Rattle.std.specs.Prelude.{◌≡◌, ℕ, false, List, [], Option, None}
 use Rattle.semantics.specs.Frameworks.{Framework}
 use Rattle.meaning_atoms.specs.declared.atom.AtomLit.{AtomLit}
 use Rattle.meaning_atoms.specs.declared.axiom.AxiomName.{AxiomName}
 use Rattle.oracle_face.specs.declared.face.Pending.{Pending}
-use Rattle.oracle_face.specs.Logs.{OracleLog, IsLog}
+use Rattle.oracle_face.specs.Logs.{OracleLog, IsLog, IsNumberOf, by_axiom, step_at}
 use Rattle.session_log.specs.Guards.{IsGuarded}
 use Rattle.session_log.specs.Steps.{TakesAxiom}
 
@@ -34,3 +34,8 @@ pub record AddsAxiom (name : AxiomName) (old new : AtomState) : Type 0 where
   pub clause : List AtomLit
   pub takes : TakesAxiom name clause old.log new.log
   pub pending_same : new.pending ≡ old.pending
+
+-- searches use the clause of each step that is an axiom
+pub record UsesAxioms (log : OracleLog) : Type 0 where
+  pub kept : (number : ℕ) (name : AxiomName) → IsNumberOf log.steps number
+      → (step_at log.steps number).source ≡ by_axiom name → (step_at log.steps number).closing ≡ false

@@ -2,6 +2,7 @@
 #![tactic(auto)]
 
 pub(crate) mod importing;
+pub(crate) mod in_hand;
 pub mod kept_side;
 pub mod origin;
 pub(crate) mod parts;

@@ -13,15 +13,15 @@ ghost use Rattle.meaning_atoms.specs.Literals.{negated};
 ghost use Rattle.oracle_face.specs.Goals.{IsSide};
 ghost use Rattle.oracle_face.specs.Growing.{HasRun, NoSide, Obliges, OnlySide, halt_of};
 ghost use Rattle.oracle_face.specs.Logs.{IsNumberOf, hints_of, step_at};
-ghost use Rattle.meaning_atoms.specs.Axioms.{IsAfAxiom};
-ghost use Rattle.meaning_atoms.specs.declared.axiom.AxiomName.TheVariants.{Af as OfAf};
+ghost use Rattle.meaning_atoms.specs.AxiomNames.{IsAxiomName};
+ghost use Rattle.oracle_face.specs.declared.face.Pending.TheVariants.{Loop as OfLoop, Side as OfSide};
 ghost use Rattle.atom_solver.specs.Sides.{HasNoSide, IsOrdered, IsSideOf};
 ghost use Rattle.atom_solver.specs.declared.origin.Origin.TheVariants.{Hints};
 ghost use Rattle.atom_solver.specs.Assumed.{AreAssumed};
 ghost use Rattle.atom_solver.specs.Inner.{state_of, GainsGiven, IsFilled, IsKept, IsWhole};
-ghost use Rattle.atom_solver.specs.Inner.{KeepsInHand, KeepsSide, NeedsNoHints, StopsSide, Tells};
+ghost use Rattle.atom_solver.specs.Inner.{KeepsInHand, KeepsSide, NeedsNoHints, StopsUnit, Tells};
 ghost use Rattle.atom_solver.specs.Searches.{IsAnswer, AreUnfixed, ends_in};
-ghost use Rattle.atom_solver.specs.Lifted.{atoms_of, imported_of, source_of};
+ghost use Rattle.atom_solver.specs.Lifted.{atoms_of, imported_of, is_given, source_of};
 ghost use Rattle.atom_solver.specs.States.{AddsAxiom, IsGuardedLog, StaysLog, empty_state};
 ghost use Rattle.atom_solver.specs.Tables.{StandsFor};
 
@@ -29,10 +29,10 @@ use crate::kept_side::{KeptSide, find, guarded_literals, in_order, number_at};
 use crate::origin::Origin;
 use crate::searched::Searched;
 use crate::tables::{assume_facts, over_atoms, packed_over_atoms, prefer_attacks, push_lits_for};
-use af_axioms::clause_of;
 use atom_table::AtomTable;
+use certificate_claims::clause_of_axiom;
 use hinted_log::{LogFault, MOST_STEPS};
-use meaning_atoms::{AfAxiom, AtomLit};
+use meaning_atoms::{AtomLit, AxiomName};
 use oracle_face::{AskId, Encoding, Pending};
 use plain_lists::{Items, Memory};
 use plain_lits::{Budget, Clause, Halt, Lit, StepId};
@@ -62,7 +62,9 @@ pub(crate) fn fill(origins: &mut Vec<Origin>, steps: usize) -> Result<(), Memory
     ensures ok { OnOk result (length origins.new.items ≡ steps) }
     ensures room { OnOk result (vec_len origins.new < vec_capacity origins.new) }
 {
-    origins.resize(steps, Origin::Hints)?;
+    while origins.len() < steps {
+        origins.push(Origin::Hints)?;
+    }
     origins.reserve(1)?;
     Ok(())
 }
@@ -155,11 +157,11 @@ impl Parts {
     }
 
     /// Takes an axiom.
-    pub(crate) fn take_axiom(&mut self, alloc: Global, name: AfAxiom) -> Result<(), Halt>
+    pub(crate) fn take_axiom(&mut self, alloc: Global, name: AxiomName) -> Result<(), Halt>
         requires whole { IsWhole self.old }
-        requires name { IsAfAxiom name }
+        requires name { IsAxiomName name }
         ensures whole { IsWhole self.new }
-        ensures ok { OnOk result (AddsAxiom (OfAf name) (state_of self.old) (state_of self.new)) }
+        ensures ok { OnOk result (AddsAxiom name (state_of self.old) (state_of self.new)) }
         ensures full { (result ≡ Err Halt.LogFull)
             ↔ (length self.old.solver.log.steps ≡ self.old.solver.log.limit) }
         ensures unspent { (count : ℕ) → result ≡ Err (Halt.Spent count) → ⊥ }
@@ -168,9 +170,36 @@ impl Parts {
         if self.solver.log().is_full() {
             return Err(Halt::LogFull);
         }
-        let literals = clause_of(alloc, &name)?;
+        let literals = clause_of_axiom(alloc, &name)?;
         let clause = self.stand_for(alloc, literals.as_slice())?;
         self.add_given(clause, Added::Axiom, Origin::Axiom(name))
+    }
+
+    /// Takes a loop clause, for which a unit is spent.
+    pub(crate) fn take_loop(
+        &mut self,
+        alloc: Global,
+        name: AxiomName,
+        budget: &mut Budget,
+    ) -> Result<(), Halt>
+        requires whole { IsWhole self.old }
+        requires name { IsAxiomName name }
+        ensures whole { IsWhole self.new }
+        ensures ok { OnOk result (AddsAxiom name (state_of self.old) (state_of self.new)) }
+        ensures spent { OnOk result (budget.new.used ≡ budget.old.used + 1) }
+        ensures limit { budget.new.limit ≡ budget.old.limit }
+        ensures log { OnErr result ((state_of self.new).log ≡ (state_of self.old).log) }
+        ensures stops { IfErr result (StopsUnit (OfLoop name) (state_of self.new) budget.old budget.new) }
+    {
+        if self.solver.log().is_full() {
+            return Err(Halt::LogFull);
+        }
+        let paid = budget.spend();
+        if !paid {
+            self.pending = Some(Pending::Loop(name));
+            return Err(Halt::Spent(budget.used()));
+        }
+        self.take_axiom(alloc, name)
     }
 
     /// Assumes the facts of all atoms with a variable, and the goals.
@@ -227,7 +256,7 @@ impl Parts {
         ensures spent { OnOk result (budget.new.used ≡ budget.old.used + 1) }
         ensures limit { budget.new.limit ≡ budget.old.limit }
         ensures log { OnErr result ((state_of self.new).log ≡ (state_of self.old).log) }
-        ensures stops { IfErr result (StopsSide literals from.now (state_of self.new) budget.old budget.new) }
+        ensures stops { IfErr result (StopsUnit (OfSide literals from.now) (state_of self.new) budget.old budget.new) }
     {
         if self.solver.log().is_full() {
             return Err(Halt::LogFull);
@@ -278,15 +307,26 @@ impl Parts {
     }
 
     /// Where a step comes from.
-    pub(crate) fn origin(&self, step: StepId) -> Origin
+    pub(crate) fn origin(&self, alloc: Global, step: StepId) -> Result<Origin, Memory>
         requires { 0 < step }
-        ensures { result ≡ slice_index_or self.now.origins.items (step - 1) Hints }
+        ensures { IfOk result (λ origin. origin ≡ slice_index_or self.now.origins.items (step - 1) Hints) }
     {
         let index = step.number() as usize - 1;
-        if index < self.origins.len() {
-            return self.origins[index];
+        match self.origins.get(index) {
+            Some(origin) => origin.copy(alloc),
+            None => Ok(Origin::Hints),
         }
-        Origin::Hints
+    }
+
+    /// Whether a step needs no hints: it is an axiom, or a side clause's.
+    fn is_given(&self, step: StepId) -> bool
+        requires { 0 < step }
+        ensures { result ≡ is_given (slice_index_or self.now.origins.items (step - 1) Hints) }
+    {
+        match self.origins.get(step.number() as usize - 1) {
+            Some(origin) => origin.is_given(),
+            None => false,
+        }
     }
 
     /// The steps that a step follows from.
@@ -294,10 +334,10 @@ impl Parts {
         requires { IsNumberOf (state_of self.now).log.steps step }
         ensures { result.now ≡ hints_of (step_at (state_of self.now).log.steps step).source }
     {
-        match self.origin(step) {
-            Origin::Hints | Origin::Entry(_) => self.solver.log().hints(step),
-            Origin::Axiom(_) | Origin::Side(_) => &[],
+        if self.is_given(step) {
+            return &[];
         }
+        self.solver.log().hints(step)
     }
 
     /// Keeps the clause that was in hand when a search's budget was spent.

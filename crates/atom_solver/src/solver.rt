@@ -1,28 +1,28 @@
 //! The solver, as callers see it.
 
-ghost use Rattle.std.specs.Prelude.{◌≡◌, ◌↔◌, ℕ, ◌≤◌, length, IfNone, IfOk, IfSome, IsTrue, OnOk, OnErr, None};
-ghost use Rattle.certificate_claims.specs.Refutations.{IsAxiomOf};
+ghost use Rattle.std.specs.Prelude.{◌≡◌, ◌↔◌, ℕ, ◌≤◌, true, length, IfNone, IfOk, IfSome, IsTrue, OnOk, OnErr, None};
+ghost use Rattle.certificate_claims.specs.Refutations.{IsAxiomOf, axiom_clause};
 ghost use Rattle.plain_lits.specs.HintCheck.{IsTautology};
 ghost use Rattle.semantics.specs.Frameworks.{Framework};
 ghost use Rattle.meaning_atoms.specs.Literals.{negated};
 ghost use Rattle.hinted_log.specs.declared.log.TheConstants.{MOST_STEPS};
-ghost use Rattle.oracle_face.specs.Logs.{IsNumberOf, step_at, side_at, hints_of};
+ghost use Rattle.oracle_face.specs.Logs.{FactsAreFalse, IsNew, IsNumberOf, hints_of, is_loop, side_at, step_at, working};
 ghost use Rattle.oracle_face.specs.Goals.{IsSide};
 ghost use Rattle.oracle_face.specs.Growing.{HasRun, NoSide, Obliges, OnlySide, halt_of};
-ghost use Rattle.meaning_atoms.specs.Axioms.{IsAfAxiom};
-ghost use Rattle.meaning_atoms.specs.declared.axiom.AxiomName.TheVariants.{Af as OfAf};
-ghost use Rattle.atom_solver.specs.States.{AddsAxiom, IsGuardedLog, StaysLog, empty_log};
+ghost use Rattle.meaning_atoms.specs.AxiomNames.{IsAxiomName};
+ghost use Rattle.atom_solver.specs.States.{AddsAxiom, IsGuardedLog, StaysLog, UsesAxioms, empty_log};
 ghost use Rattle.atom_solver.specs.Searches.{IsAnswer, AreUnfixed, ends_in};
 ghost use Rattle.atom_solver.specs.Imported.{IsImported, IsPlain};
 ghost use Rattle.atom_solver.specs.Lifted.{imported_of, source_of};
 ghost use Rattle.atom_solver.specs.Sides.{HasNoSide, IsSideOf};
 
+use crate::in_hand::copy_of;
 use crate::kept_side::KeptSide;
 use crate::origin::Origin;
 use crate::parts::Parts;
 use crate::searched::Searched;
 use hinted_log::MOST_STEPS;
-use meaning_atoms::{AfAxiom, AtomLit};
+use meaning_atoms::{AtomLit, AxiomName};
 use oracle_face::{AskId, Encoding, EntryName, Pending};
 use plain_lists::{Items, Memory};
 use plain_lits::{Budget, Halt, StepId};
@@ -60,16 +60,36 @@ impl AtomSolver {
         Ok(AtomSolver { parts })
     }
 
-    /// Takes an axiom of abstract frameworks: its step comes and is in use, and no unit is spent. `LogFull` comes exactly at a full log.
-    pub fn take_axiom(&mut self, alloc: Global, name: AfAxiom) -> Result<(), Halt>
-        requires { IsAfAxiom name }
-        ensures ok { OnOk result (AddsAxiom (OfAf name) self.old self.new) }
+    /// Takes an axiom: its step comes and is in use, and no unit is spent. `LogFull` comes exactly at a full log. A
+    /// loop clause, which is a unit, comes by `take_loop`.
+    pub fn take_axiom(&mut self, alloc: Global, name: AxiomName) -> Result<(), Halt>
+        requires { IsAxiomName name }
+        ensures ok { OnOk result (AddsAxiom name self.old self.new) }
         ensures full { (result ≡ Err Halt.LogFull) ↔ (length self.old.log.steps ≡ self.old.log.limit) }
         ensures unspent { (count : ℕ) → result ≡ Err (Halt.Spent count) → ⊥ }
         ensures err { OnErr result (self.new ≡ self.old) }
-        ensures log { (f : Framework) → IsAxiomOf f (OfAf name) → IsGuardedLog f self.old.log → IsGuardedLog f self.new.log }
+        ensures log { (f : Framework) → IsAxiomOf f name → IsGuardedLog f self.old.log → IsGuardedLog f self.new.log }
     {
         self.parts.take_axiom(alloc, name)
+    }
+
+    /// Takes a loop clause, which is a unit where it is new and speaks of no fact but as false. The log's room is looked
+    /// at first; where the budget is spent, the loop clause is kept as `pending`.
+    pub fn take_loop(
+        &mut self,
+        alloc: Global,
+        name: AxiomName,
+        budget: &mut Budget,
+    ) -> Result<(), Halt>
+        requires name { IsAxiomName name }
+        requires loop_clause { is_loop name ≡ true }
+        ensures ok { OnOk result (AddsAxiom name self.old self.new) }
+        ensures run { (f : Framework) → IsGuardedLog f self.old.log → IsAxiomOf f name
+            → IsNew (working self.old.log.steps) (axiom_clause name) → FactsAreFalse f (axiom_clause name)
+            → HasRun NoSide 0 f self.old.log self.new.log self.new.pending budget.old budget.new (halt_of result) }
+        ensures log { (f : Framework) → IsAxiomOf f name → IsGuardedLog f self.old.log → IsGuardedLog f self.new.log }
+    {
+        self.parts.take_loop(alloc, name, budget)
     }
 
     /// The number of a side clause, which is kept with the set that it is made from. Where there is one with the same
@@ -140,6 +160,16 @@ impl AtomSolver {
         self.parts.is_plain(step)
     }
 
+    /// The clause that was in hand when the last budget was spent.
+    pub fn pending(&self, alloc: Global) -> Result<Option<Pending>, Memory>
+        ensures { IfOk result (λ pending. pending ≡ self.now.pending) }
+    {
+        match &self.parts.pending {
+            Some(pending) => Ok(Some(copy_of(alloc, pending)?)),
+            None => Ok(None),
+        }
+    }
+
     /// Takes the clause that was in hand when the last budget was spent.
     pub fn take_pending(&mut self) -> Option<Pending>
         ensures pending { result ≡ self.old.pending }
@@ -153,6 +183,7 @@ impl AtomSolver {
         ensures len { result ≡ length self.now.log.steps }
         ensures within { length self.now.log.steps ≤ self.now.log.limit }
         ensures small { self.now.log.limit ≤ MOST_STEPS }
+        ensures axioms { UsesAxioms self.now.log }
     {
         self.parts.solver.log().len()
     }
@@ -166,13 +197,13 @@ impl AtomSolver {
     }
 
     /// Where a step comes from.
-    pub fn origin(&self, step: StepId) -> Origin
+    pub fn origin(&self, alloc: Global, step: StepId) -> Result<Origin, Memory>
         requires { IsNumberOf self.now.log.steps step }
-        ensures source { (step_at self.now.log.steps step).source
-            ≡ source_of result (hints_of (step_at self.now.log.steps step).source) }
-        ensures imported { (step_at self.now.log.steps step).imported ≡ imported_of result }
+        ensures source { IfOk result (λ origin. (step_at self.now.log.steps step).source
+            ≡ source_of origin (hints_of (step_at self.now.log.steps step).source)) }
+        ensures imported { IfOk result (λ origin. (step_at self.now.log.steps step).imported ≡ imported_of origin) }
     {
-        self.parts.origin(step)
+        self.parts.origin(alloc, step)
     }
 
     /// The steps that a step follows from; none where it is an axiom or the step of a side clause.

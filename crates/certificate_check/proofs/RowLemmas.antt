@@ -5,9 +5,9 @@ use Rattle.std.proofs.lemmas.Bool.{false≢true}
 use Rattle.std.proofs.lemmas.List.{get_or_default}
 use mathlib.Core.Bool.{beq}
 use Rattle.plain_lists.specs.Members.{IsWithin}
-use Rattle.semantics.specs.Frameworks.{Framework, af}
-use Rattle.meaning_atoms.specs.declared.atom.Atom.TheVariants.{Ad}
-use Rattle.meaning_atoms.specs.Worlds.{HoldsOf}
+use Rattle.semantics.specs.Framework.{Af, IsAdmissible}
+use Rattle.semantics.specs.Frameworks.{Framework, af, aba}
+use Rattle.aba_semantics.specs.AbaFrameworks.{Aba}
 use Rattle.iccma_tasks.specs.declared.answer.Answer.{Answer}
 use Rattle.iccma_tasks.specs.declared.answer.Answer.TheVariants.{Yes, No, Sets}
 use Rattle.iccma_tasks.specs.declared.task.Problem.{Problem}
@@ -18,11 +18,13 @@ use Rattle.iccma_tasks.specs.Tasks.{Asked}
 use Rattle.certificate_claims.specs.declared.row.Row.{Row}
 use Rattle.certificate_claims.specs.declared.row.Row.TheVariants.{Misshapen, Tested, Largest, Widest, Excluded, ByGrounded, Covered, Ranged, Ideal as IdealRow, AllTested, AllLargest, AllWidest}
 use Rattle.certificate_claims.specs.Acceptance.{GroundedSays, PassesTest}
-use Rattle.certificate_claims.specs.Claims.{shown, none_accepts, each_accepts, there_is_none, all_shown, credulous_row, sceptical_row, some_row, all_row, row_for, sets_of}
-use Rattle.certificate_claims.specs.SetLiterals.{members}
-use Rattle.answer_claims.specs.SetFacts.{AreSetsOf, HasSetsOf}
+use Rattle.certificate_claims.specs.Claims.{shown, none_accepts, each_accepts, there_is_none, all_shown, credulous_row, sceptical_row, some_row, all_row, row_for, row_of, row_where, sets_of}
+use Rattle.certificate_claims.specs.Ranges.{AreLive}
+use Rattle.certificate_claims.specs.Rights.{Accepts, IsExtension}
+use Rattle.certificate_laws.proofs.KindFacts.{accepts_more, grounded_is}
+use Rattle.answer_claims.specs.SetFacts.{HasSetsOf}
 use Rattle.refutation_check.specs.Standing.{IsFirstWithout}
-use Rattle.certificate_check.specs.Witnesses.{IsTestedRow, ShowsSets}
+use Rattle.certificate_check.specs.Witnesses.{HasRanges, IsRowOf, IsTestedRow, ShowsSets}
 
 -- what is known of a row, and of the sets that the answer shows
 abbrev Known : Row → Semantics → List (List ℕ) → Type 0
@@ -99,7 +101,7 @@ every_known s (No None) = no_known s []
 every_known s (No (Some e)) = (record {}, record {})
 every_known s (Yes e) = (record {}, record {})
 
-pub row_known : (f : Framework) (p : Problem) (s : Semantics) (number : Option ℕ) (answer : Answer)
+row_known : (f : Framework) (p : Problem) (s : Semantics) (number : Option ℕ) (answer : Answer)
     → Known (row_for f p s number answer) s (sets_of answer)
 row_known f Credulous s (Some q) answer = credulous_known f s q answer
 row_known f Credulous s None answer = (record {}, record {})
@@ -110,37 +112,80 @@ row_known f SomeExtension s (Some q) answer = (record {}, record {})
 row_known f AllExtensions s None answer = every_known s answer
 row_known f AllExtensions s (Some q) answer = (record {}, record {})
 
--- sets that pass their tests have members of the framework alone
-admissible_live : (f : Framework) (e : List ℕ) → HoldsOf f e Ad → IsWithin e (members f)
-admissible_live (af f) e is = is.conflict_free.live
+-- the same of the row that the answer has on the framework
+known_where : (f : Framework) (s : Semantics) (row : Row) (shown : List (List ℕ)) → Known row s shown
+    → Known (row_where s f row) s shown
+known_where f Complete row shown known = known
+known_where f Grounded row shown known = known
+known_where f Preferred row shown known = known
+known_where f Stable row shown known = known
+known_where (af f) SemiStable row shown known = known
+known_where (aba f) SemiStable row shown known = (record {}, record {})
+known_where (af f) Ideal row shown known = known
+known_where (aba f) Ideal row shown known = (record {}, record {})
 
-each_live : (f : Framework) (sets : List (List ℕ)) → ((k : ℕ) → k < length sets → HoldsOf f (get_or sets k []) Ad)
-    → AreSetsOf f sets
-each_live f sets all = record {
-  within = λ s c. subst (λ x. IsWithin x (members f)) (get_or_default sets c.0 [] s c.1 ∙ c.2)
-      (admissible_live f (get_or sets c.0 []) (all c.0 c.1));
-}
+-- a row of another semantics lists no sets by their ranges
+not_wide : (f : Aba) (s : Semantics) (row : Row) → (HasRanges s → ⊥) → IsTestedRow row s → IsRowOf (aba f) row
+not_wide f s (AllWidest sets) never is = never is
+not_wide f s _ never is = record {}
+
+row_of_kind : (f : Framework) (s : Semantics) (row : Row) → IsTestedRow row s → IsRowOf f (row_where s f row)
+row_of_kind (af f) s row is = record {}
+row_of_kind (aba f) Complete row is = not_wide f Complete row (λ h. h) is
+row_of_kind (aba f) Grounded row is = not_wide f Grounded row (λ h. h) is
+row_of_kind (aba f) Preferred row is = not_wide f Preferred row (λ h. h) is
+row_of_kind (aba f) Stable row is = not_wide f Stable row (λ h. h) is
+row_of_kind (aba f) SemiStable row is = record {}
+row_of_kind (aba f) Ideal row is = record {}
+
+-- what is known of an answer's row
+pub answer_known : (f : Framework) (asked : Asked) (answer : Answer)
+    → Known (row_of f asked answer) asked.task.semantics (sets_of answer)
+answer_known f asked answer =
+    known_where f asked.task.semantics (row_for f asked.task.problem asked.task.semantics asked.number answer)
+    (sets_of answer) (row_known f asked.task.problem asked.task.semantics asked.number answer)
+
+pub answer_of_kind : (f : Framework) (asked : Asked) (answer : Answer) → IsRowOf f (row_of f asked answer)
+answer_of_kind f asked answer =
+    row_of_kind f asked.task.semantics (row_for f asked.task.problem asked.task.semantics asked.number answer)
+    (row_known f asked.task.problem asked.task.semantics asked.number answer).0
+
+-- sets that pass their tests have live arguments alone
+each_live : (f : Af) (sets : List (List ℕ)) → ((k : ℕ) → k < length sets → IsAdmissible f (get_or sets k []))
+    → AreLive f sets
+each_live f sets all s c = subst (λ x. IsWithin x f.live) (get_or_default sets c.0 [] s c.1 ∙ c.2)
+    (all c.0 c.1).conflict_free.live
 
 pub tested_sets : (f : Framework) (asked : Asked) (row : Row) (listed : List (List ℕ)) → ShowsSets row listed
+    → IsRowOf f row
     → IsFirstWithout (λ k. PassesTest f asked row (get_or listed k [])) (length listed) None → HasSetsOf f row
-tested_sets f asked (AllWidest sets) listed same all = each_live f sets (λ k lt.
-    subst (λ l. HoldsOf f (get_or l k []) Ad) (sym same) (all k (subst (λ l. k < length l) same lt)))
-tested_sets f asked Misshapen listed same all = record {}
-tested_sets f asked (Tested e) listed same all = record {}
-tested_sets f asked (Largest e) listed same all = record {}
-tested_sets f asked (Widest e) listed same all = record {}
-tested_sets f asked (Excluded goals) listed same all = record {}
-tested_sets f asked (ByGrounded says) listed same all = record {}
-tested_sets f asked (Covered q) listed same all = record {}
-tested_sets f asked (Ranged bad) listed same all = record {}
-tested_sets f asked (IdealRow e says) listed same all = record {}
-tested_sets f asked (AllTested mode sets) listed same all = record {}
-tested_sets f asked (AllLargest sets) listed same all = record {}
+tested_sets (af f) asked (AllWidest sets) listed same kind all = each_live f sets (λ k lt.
+    subst (λ l. IsAdmissible f (get_or l k [])) (sym same) (all k (subst (λ l. k < length l) same lt)))
+tested_sets (aba f) asked (AllWidest sets) listed same kind all = absurd kind
+tested_sets f asked Misshapen listed same kind all = record {}
+tested_sets f asked (Tested e) listed same kind all = record {}
+tested_sets f asked (Largest e) listed same kind all = record {}
+tested_sets f asked (Widest e) listed same kind all = record {}
+tested_sets f asked (Excluded goals) listed same kind all = record {}
+tested_sets f asked (ByGrounded says) listed same kind all = record {}
+tested_sets f asked (Covered q) listed same kind all = record {}
+tested_sets f asked (Ranged bad) listed same kind all = record {}
+tested_sets f asked (IdealRow e says) listed same kind all = record {}
+tested_sets f asked (AllTested mode sets) listed same kind all = record {}
+tested_sets f asked (AllLargest sets) listed same kind all = record {}
 
 -- ---- the grounded set
 
 clash : (f : Framework) (q : ℕ) → GroundedSays f true (Some q) → GroundedSays f false (Some q) → ⊥
-clash (af f) q has lacks = lacks.2 (has.1.least lacks.0 lacks.1.complete q has.2)
+clash f q has lacks =
+    let least = (grounded_is f has.0).0 has.1 in
+    let other = (grounded_is f lacks.0).0 lacks.1 in
+    lacks.2 (accepts_more f has.0 lacks.0 q (least.least lacks.0 other.complete) has.2)
+
+pub grounded_says : (f : Framework) (g : List ℕ) (q : ℕ) (accepts : Bool) → IsExtension f Grounded g
+    → (IsTrue accepts ↔ Accepts f g q) → GroundedSays f accepts (Some q)
+grounded_says f g q true is test = (g, is, test.0 refl)
+grounded_says f g q false is test = (g, is, λ h. false≢true (test.1 h))
 
 pub says_same : (f : Framework) (q : ℕ) (a says : Bool) → GroundedSays f a (Some q)
     → IsTrue (beq a says) ↔ GroundedSays f says (Some q)

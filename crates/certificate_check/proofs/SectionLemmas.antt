@@ -186,24 +186,26 @@ count_passed f asked row shown cert cs given refs sets verdict same all e is lon
     )
 
 pub set_failed : (f : Framework) (asked : Asked) (row : Row) (shown : List (List ℕ)) (cert : Certificate)
-    (given : List (List ℕ)) (k : ℕ) → given ≡ cert.sets
-    → IsFirstWithout (λ j. PassesSet f asked row j (get_or given j [])) (length given) (Some k)
+    (given : List (List ℕ)) (bad : Option ℕ) (k : ℕ) → given ≡ cert.sets → bad ≡ Some k
+    → IsFirstWithout (λ j. PassesSet f asked row j (get_or given j [])) (length given) bad
     → FindsFrom f asked row shown cert (after_set_count cert) (Rejected BadSet 0 (k + 1))
-set_failed f asked row shown cert given k e first =
+set_failed f asked row shown cert given bad k e is first =
     let here : IsFirstWithout (λ j. PassesSet f asked row j (get_or cert.sets j [])) (length cert.sets) (Some k) =
-    subst (λ x. IsFirstWithout (λ j. PassesSet f asked row j (get_or x j [])) (length x) (Some k)) e first in
+    subst (λ x. IsFirstWithout (λ j. PassesSet f asked row j (get_or x j [])) (length x) (Some k)) e
+    (subst (λ b. IsFirstWithout (λ j. PassesSet f asked row j (get_or given j [])) (length given) b) is first) in
     found_numbered (Pass f asked row shown cert) (told cert) at_set (after_sets cert)
     (length cert.sets) k here.0 here.1.0
     here.1.1
 
 pub sets_passed : (f : Framework) (asked : Asked) (row : Row) (shown : List (List ℕ)) (cert : Certificate)
-    (given : List (List ℕ)) (verdict : Verdict) → given ≡ cert.sets
-    → IsFirstWithout (λ j. PassesSet f asked row j (get_or given j [])) (length given) None
+    (given : List (List ℕ)) (bad : Option ℕ) (verdict : Verdict) → given ≡ cert.sets → bad ≡ None
+    → IsFirstWithout (λ j. PassesSet f asked row j (get_or given j [])) (length given) bad
     → FindsFrom f asked row shown cert (after_sets cert) verdict
     → FindsFrom f asked row shown cert (after_set_count cert) verdict
-sets_passed f asked row shown cert given verdict e all found =
+sets_passed f asked row shown cert given bad verdict e is all found =
     let here : IsFirstWithout (λ j. PassesSet f asked row j (get_or cert.sets j [])) (length cert.sets) None =
-    subst (λ x. IsFirstWithout (λ j. PassesSet f asked row j (get_or x j [])) (length x) None) e all in
+    subst (λ x. IsFirstWithout (λ j. PassesSet f asked row j (get_or x j [])) (length x) None) e
+    (subst (λ b. IsFirstWithout (λ j. PassesSet f asked row j (get_or given j [])) (length given) b) is all) in
     then_numbered (Pass f asked row shown cert) (told cert) at_set (after_sets cert)
     (length cert.sets) verdict here found
 

@@ -7,6 +7,10 @@ use Rattle.semantics.specs.Framework.{Af, IsGrounded}
 use Rattle.semantics.specs.Frameworks.{Framework}
 use Rattle.semantics.specs.Laws.{HasSameMembers}
 use Rattle.semantics.proofs.SameMembers.{turned, complete_same}
+use Rattle.aba_semantics.specs.AbaFrameworks.{Aba, collective_of}
+use Rattle.aba_semantics.specs.Collectives.{IsGrounded as IsCollectiveGrounded}
+use Rattle.aba_laws.proofs.AbaLemmas.{aba_lawful}
+use Rattle.aba_laws.proofs.CollectiveSets.{complete_same as aba_complete_same}
 use Rattle.meaning_atoms.specs.declared.atom.Atom.TheVariants.{Ad}
 use Rattle.meaning_atoms.specs.Worlds.{HoldsOf}
 use Rattle.iccma_tasks.specs.Tasks.{Asked}
@@ -19,6 +23,16 @@ pub tests_grounded : (f : Af) (s g : List ℕ) (r : Bool) → IsGrounded f g →
 tests_grounded f s g r grounded test = (
   λ t. let same = test.0 t in record {
     complete = complete_same f g s (turned s g same) grounded.complete;
+    least = λ u co x c. grounded.least u co x (same.there x c);
+  },
+  λ is. test.1 (record { there = is.least g grounded.complete; back = grounded.least s is.complete }),
+)
+
+pub tests_aba_grounded : (f : Aba) (s g : List ℕ) (r : Bool) → IsCollectiveGrounded (collective_of f) g
+    → (IsTrue r ↔ HasSameMembers s g) → IsTrue r ↔ IsCollectiveGrounded (collective_of f) s
+tests_aba_grounded f s g r grounded test = (
+  λ t. let same = test.0 t in record {
+    complete = aba_complete_same (collective_of f) (aba_lawful f) g s (turned s g same) grounded.complete;
     least = λ u co x c. grounded.least u co x (same.there x c);
   },
   λ is. test.1 (record { there = is.least g grounded.complete; back = grounded.least s is.complete }),

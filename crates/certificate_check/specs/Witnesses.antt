@@ -1,6 +1,6 @@
 -- What is known of the sets that an answer shows.
 use Rattle.std.specs.Prelude.{◌≡◌, ◌↔◌, ℕ, Bool, List, IsTrue}
-use Rattle.semantics.specs.Frameworks.{Framework}
+use Rattle.semantics.specs.Frameworks.{Framework, aba}
 use Rattle.iccma_tasks.specs.declared.task.Semantics.{Semantics}
 use Rattle.iccma_tasks.specs.declared.task.Semantics.TheVariants.{Complete, Grounded, Preferred, Stable, SemiStable, Ideal}
 use Rattle.certificate_claims.specs.declared.row.Row.{Row}
@@ -16,11 +16,23 @@ IsTested Preferred = ⊥
 IsTested SemiStable = ⊥
 IsTested Ideal = ⊥
 
--- a row that shows extensions is of a semantics whose extensions are tested directly
+-- the extensions under the semantics have the largest ranges
+abbrev pub HasRanges : Semantics → Type 0
+HasRanges SemiStable = Unit {0}
+HasRanges _ = ⊥
+
+-- a row that shows extensions is of a semantics whose extensions are tested directly, and one that lists them by their
+-- ranges of a semantics that ranges define
 abbrev pub IsTestedRow : Row → Semantics → Type 0
 IsTestedRow (Tested e) semantics = IsTested semantics
 IsTestedRow (AllTested mode sets) semantics = IsTested semantics
+IsTestedRow (AllWidest sets) semantics = HasRanges semantics
 IsTestedRow _ semantics = Unit {0}
+
+-- extensions of abstract frameworks alone are listed by their ranges
+abbrev pub IsRowOf : Framework → Row → Type 0
+IsRowOf (aba f) (AllWidest sets) = ⊥
+IsRowOf f row = Unit {0}
 
 -- the sets of a row that are all the extensions by their ranges are those that the answer shows
 abbrev pub ShowsSets : Row → List (List ℕ) → Type 0

@@ -8,7 +8,7 @@ ghost use Rattle.certificate_claims.specs.Verdicts.{IsVerdict, looks};
 ghost use Rattle.edit_rules.specs.Kinds.{framework_of};
 ghost use Rattle.answer_claims.specs.SetFacts.{AreSetsOf, HasSetsOf};
 ghost use Rattle.certificate_check.specs.Sections.{FindsFrom, after_order, after_set_count, after_sets, after_shape, after_witnesses};
-ghost use Rattle.certificate_check.specs.Witnesses.{IsTestedRow, ShowsSets, TellsApart};
+ghost use Rattle.certificate_check.specs.Witnesses.{IsRowOf, IsTestedRow, ShowsSets, TellsApart};
 
 use crate::kinds::grounded_accepts;
 use crate::witness::{first_bad_set, first_bad_witness, is_shaped, takes_sets};
@@ -61,7 +61,7 @@ fn check_sets(
     ensures { IfOk result (FindsFrom (framework_of framework.now) query.now row.now shown.now certificate.now
         (after_set_count certificate.now)) }
 {
-    let bad = first_bad_set(framework, query, row, certificate.sets.as_slice());
+    let bad = first_bad_set(alloc, framework, query, row, certificate.sets.as_slice())?;
     if let Some(index) = bad {
         return Ok(Verdict::Rejected(Cause::BadSet, 0, index + 1));
     }
@@ -131,6 +131,7 @@ fn ranges_apart(alloc: Global, framework: &Framework, sets: &[NumSet]) -> Result
 {
     match framework {
         Framework::Af(plain) => af_ranges_apart(alloc, plain, sets),
+        Framework::Aba(_) => unreachable!(),
     }
 }
 
@@ -223,6 +224,7 @@ fn check_witnesses(
 ) -> Result<Verdict, Memory>
     requires sets { ShowsSets row.now shown.now }
     requires tested { IsTestedRow row.now query.now.task.semantics }
+    requires kind { IsRowOf (framework_of framework.now) row.now }
     ensures { IfOk result (FindsFrom (framework_of framework.now) query.now row.now shown.now certificate.now
         (after_shape shown.now certificate.now)) }
 {
@@ -245,6 +247,7 @@ fn check_row(
 ) -> Result<Verdict, Memory>
     requires sets { ShowsSets row.now shown.now }
     requires tested { IsTestedRow row.now query.now.task.semantics }
+    requires kind { IsRowOf (framework_of framework.now) row.now }
     ensures { IfOk result (FindsFrom (framework_of framework.now) query.now row.now shown.now certificate.now
         (looks shown.now certificate.now)) }
 {

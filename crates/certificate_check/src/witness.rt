@@ -5,7 +5,7 @@ ghost use Rattle.meaning_atoms.specs.declared.atom.Atom.TheVariants.{Ad};
 ghost use Rattle.meaning_atoms.specs.Worlds.{HoldsOf};
 ghost use Rattle.certificate_claims.specs.declared.row.Row.TheVariants.{Ideal};
 ghost use Rattle.certificate_claims.specs.Acceptance.{AcceptsAsSaid, IsShaped, IsShown, PassesSet, PassesTest, Suits, TakesSets};
-ghost use Rattle.certificate_claims.specs.Rights.{IsExtension};
+ghost use Rattle.certificate_claims.specs.Rights.{Accepts, IsExtension};
 ghost use Rattle.edit_rules.specs.Kinds.{framework_of};
 ghost use Rattle.certificate_check.specs.Witnesses.{IsTested, IsTestedRow};
 ghost use Rattle.refutation_check.specs.Standing.{IsFirstWithout};
@@ -29,22 +29,41 @@ pub(crate) fn is_shaped(row: &Row) -> bool
 }
 
 /// Whether a set that shows YES to DC accepts the query, and one that shows NO to DS doesn't.
-fn suits(framework: &Framework, query: &Query, set: &NumSet) -> bool
-    ensures { IsTrue result ↔ Suits (framework_of framework.now) query.now.task.problem query.now.number set.now }
+fn suits(alloc: Global, framework: &Framework, query: &Query, set: &NumSet) -> Result<bool, Memory>
+    ensures { IfOk result (λ suits. IsTrue suits
+        ↔ Suits (framework_of framework.now) query.now.task.problem query.now.number set.now) }
 {
     match (query.task().problem, query.number()) {
-        (Problem::Credulous, Some(number)) => accepts(framework, set, number),
-        (Problem::Sceptical, Some(number)) => !accepts(framework, set, number),
-        _ => true,
+        (Problem::Credulous, Some(number)) => Ok(accepts(alloc, framework, set, number)?),
+        (Problem::Sceptical, Some(number)) => Ok(refuses(alloc, framework, set, number)?),
+        _ => Ok(true),
     }
 }
 
-/// Whether a set is admissible and suits the query.
-fn is_suitable(framework: &Framework, query: &Query, set: &NumSet) -> bool
-    ensures { IsTrue result ↔ (HoldsOf (framework_of framework.now) set.now Ad
-        × Suits (framework_of framework.now) query.now.task.problem query.now.number set.now) }
+/// Whether a set doesn't accept what is asked about.
+fn refuses(alloc: Global, framework: &Framework, set: &NumSet, number: u32) -> Result<bool, Memory>
+    ensures { IfOk result (λ refuses. IsTrue refuses ↔ (Accepts (framework_of framework.now) set.now number → ⊥)) }
 {
-    is_admissible(framework, set) && suits(framework, query, set)
+    let accepts = accepts(alloc, framework, set, number)?;
+    Ok(!accepts)
+}
+
+/// Whether a set is admissible and suits the query.
+fn is_suitable(
+    alloc: Global,
+    framework: &Framework,
+    query: &Query,
+    set: &NumSet,
+) -> Result<bool, Memory>
+    ensures { IfOk result (λ is. IsTrue is ↔ (HoldsOf (framework_of framework.now) set.now Ad
+        × Suits (framework_of framework.now) query.now.task.problem query.now.number set.now)) }
+{
+    let admissible = is_admissible(alloc, framework, set)?;
+    if !admissible {
+        return Ok(false);
+    }
+    let suits = suits(alloc, framework, query, set)?;
+    Ok(suits)
 }
 
 /// Whether a set is an extension and suits the query.
@@ -59,7 +78,11 @@ fn is_suitable_extension(
         × Suits (framework_of framework.now) query.now.task.problem query.now.number set.now)) }
 {
     let extension = is_extension(alloc, framework, query.task().semantics, set)?;
-    Ok(extension && suits(framework, query, set))
+    if !extension {
+        return Ok(false);
+    }
+    let suits = suits(alloc, framework, query, set)?;
+    Ok(suits)
 }
 
 /// Whether a set that the answer shows passes its test.
@@ -76,12 +99,12 @@ fn passes_test(
 {
     match row {
         Row::Tested(_) => Ok(is_suitable_extension(alloc, framework, query, set)?),
-        Row::Largest(_) | Row::Widest(_) => Ok(is_suitable(framework, query, set)),
+        Row::Largest(_) | Row::Widest(_) => Ok(is_suitable(alloc, framework, query, set)?),
         Row::AllTested(_, _) => {
             let semantics = query.task().semantics;
             Ok(is_extension(alloc, framework, semantics, set)?)
         }
-        Row::AllLargest(_) | Row::AllWidest(_) => Ok(is_admissible(framework, set)),
+        Row::AllLargest(_) | Row::AllWidest(_) => Ok(is_admissible(alloc, framework, set)?),
         _ => Ok(true),
     }
 }
@@ -119,47 +142,85 @@ pub(crate) fn takes_sets(row: &Row, count: usize) -> bool
 }
 
 /// Whether the certificate's set at an index passes its test.
-fn passes_set(framework: &Framework, query: &Query, row: &Row, index: usize, set: &NumSet) -> bool
-    ensures { IsTrue result ↔ PassesSet (framework_of framework.now) query.now row.now index set.now }
+fn passes_set(
+    alloc: Global,
+    framework: &Framework,
+    query: &Query,
+    row: &Row,
+    index: usize,
+    set: &NumSet,
+) -> Result<bool, Memory>
+    ensures { IfOk result (λ passes. IsTrue passes
+        ↔ PassesSet (framework_of framework.now) query.now row.now index set.now) }
 {
     match row {
-        Row::Covered(number) => is_admissible(framework, set) && accepts(framework, set, *number),
-        Row::Ranged(_) => is_admissible(framework, set),
-        Row::Ideal(shown, says) => passes_ideal(framework, query, shown, *says, index, set),
-        _ => true,
+        Row::Covered(number) => Ok(covers(alloc, framework, set, *number)?),
+        Row::Ranged(_) => Ok(is_admissible(alloc, framework, set)?),
+        Row::Ideal(shown, says) => {
+            let passes = passes_ideal(alloc, framework, query, shown, *says, index, set)?;
+            Ok(passes)
+        }
+        _ => Ok(true),
     }
+}
+
+/// Whether a set is admissible and accepts what is asked about.
+fn covers(alloc: Global, framework: &Framework, set: &NumSet, number: u32) -> Result<bool, Memory>
+    ensures { IfOk result (λ covers. IsTrue covers ↔ (HoldsOf (framework_of framework.now) set.now Ad
+        × Accepts (framework_of framework.now) set.now number)) }
+{
+    let admissible = is_admissible(alloc, framework, set)?;
+    if !admissible {
+        return Ok(false);
+    }
+    let accepts = accepts(alloc, framework, set, number)?;
+    Ok(accepts)
 }
 
 /// Whether the set at an index of a certificate for the ideal set passes its test.
 fn passes_ideal(
+    alloc: Global,
     framework: &Framework,
     query: &Query,
     shown: &Option<NumSet>,
     says: Option<bool>,
     index: usize,
     set: &NumSet,
-) -> bool
-    ensures { IsTrue result ↔ PassesSet (framework_of framework.now) query.now (Ideal shown.now says) index set.now }
+) -> Result<bool, Memory>
+    ensures { IfOk result (λ passes. IsTrue passes
+        ↔ PassesSet (framework_of framework.now) query.now (Ideal shown.now says) index set.now) }
 {
     if index == 0 {
-        return is_ideal_shown(framework, query, shown, says, set);
+        let first = is_ideal_shown(alloc, framework, query, shown, says, set)?;
+        return Ok(first);
     }
-    is_admissible(framework, set)
+    let admissible = is_admissible(alloc, framework, set)?;
+    Ok(admissible)
 }
 
 /// Whether a set is admissible, the one that the answer shows, and accepts the query or not as the answer says.
 fn is_ideal_shown(
+    alloc: Global,
     framework: &Framework,
     query: &Query,
     shown: &Option<NumSet>,
     says: Option<bool>,
     set: &NumSet,
-) -> bool
-    ensures { IsTrue result ↔ (HoldsOf (framework_of framework.now) set.now Ad × (IsShown shown.now set.now
-        × AcceptsAsSaid (framework_of framework.now) query.now.number says set.now)) }
+) -> Result<bool, Memory>
+    ensures { IfOk result (λ is. IsTrue is
+        ↔ (HoldsOf (framework_of framework.now) set.now Ad × (IsShown shown.now set.now
+        × AcceptsAsSaid (framework_of framework.now) query.now.number says set.now))) }
 {
-    is_admissible(framework, set)
-        && (is_shown(shown, set) && accepts_as_said(framework, query.number(), says, set))
+    let admissible = is_admissible(alloc, framework, set)?;
+    if !admissible {
+        return Ok(false);
+    }
+    let same = is_shown(shown, set);
+    if !same {
+        return Ok(false);
+    }
+    let accepts = accepts_as_said(alloc, framework, query.number(), says, set)?;
+    Ok(accepts)
 }
 
 /// Whether a set is the one that is shown, if one is.
@@ -181,36 +242,39 @@ fn is_equal(set: &NumSet, other: &NumSet) -> bool
 
 /// Whether a set accepts the query or not, as is said, if it is.
 fn accepts_as_said(
+    alloc: Global,
     framework: &Framework,
     number: Option<u32>,
     says: Option<bool>,
     set: &NumSet,
-) -> bool
-    ensures { IsTrue result ↔ AcceptsAsSaid (framework_of framework.now) number says set.now }
+) -> Result<bool, Memory>
+    ensures { IfOk result (λ accepts. IsTrue accepts
+        ↔ AcceptsAsSaid (framework_of framework.now) number says set.now) }
 {
     match (number, says) {
-        (Some(number), Some(true)) => accepts(framework, set, number),
-        (Some(number), Some(false)) => !accepts(framework, set, number),
-        (_, None) => true,
-        (None, Some(_)) => false,
+        (Some(number), Some(true)) => Ok(accepts(alloc, framework, set, number)?),
+        (Some(number), Some(false)) => Ok(refuses(alloc, framework, set, number)?),
+        (_, None) => Ok(true),
+        (None, Some(_)) => Ok(false),
     }
 }
 
 /// The index of the first set of the certificate that fails its test, if there is one.
 pub(crate) fn first_bad_set(
+    alloc: Global,
     framework: &Framework,
     query: &Query,
     row: &Row,
     sets: &[NumSet],
-) -> Option<usize>
-    ensures { IsFirstWithout (λ k. PassesSet (framework_of framework.now) query.now row.now k
-        (slice_index_or sets.now k [])) (length sets.now) result }
+) -> Result<Option<usize>, Memory>
+    ensures { IfOk result (IsFirstWithout (λ k. PassesSet (framework_of framework.now) query.now row.now k
+        (slice_index_or sets.now k [])) (length sets.now)) }
 {
     for index in 0..sets.len() {
-        let passes = passes_set(framework, query, row, index, &sets[index]);
+        let passes = passes_set(alloc, framework, query, row, index, &sets[index])?;
         if !passes {
-            return Some(index);
+            return Ok(Some(index));
         }
     }
-    None
+    Ok(None)
 }

@@ -2,7 +2,7 @@
 use Rattle.std.specs.Prelude.{◌≡◌, ℕ, zero, suc, ◌<◌, Bool, true, false, List, [], length, Contains, slice_index_or, Option, Some, None}
 use Rattle.plain_lists.specs.Members.{IsWithin}
 use Rattle.semantics.specs.Framework.{IsRangeWithin}
-use Rattle.semantics.specs.Frameworks.{Framework, af}
+use Rattle.semantics.specs.Frameworks.{Framework, af, aba}
 use Rattle.meaning_atoms.specs.declared.atom.Atom.TheVariants.{Ad}
 use Rattle.meaning_atoms.specs.Worlds.{HoldsOf}
 use Rattle.iccma_tasks.specs.declared.answer.Answer.{Answer}
@@ -48,6 +48,7 @@ NoneWithin sets = (s t : List ℕ) → Contains sets s → Contains sets t → I
 abbrev pub NoRangeWithin : Framework → List (List ℕ) → Type 0
 NoRangeWithin (af f) sets =
     (s t : List ℕ) → Contains sets s → Contains sets t → IsRangeWithin f s t → IsRangeWithin f t s
+NoRangeWithin (aba f) sets = Unit {0}
 
 -- how the listed sets stand to each other
 abbrev pub PassesOrder : Framework → Row → Type 0

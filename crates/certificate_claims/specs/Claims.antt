@@ -1,7 +1,7 @@
 -- What an answer has to show: its row in the table of certificates, and the claims of a row.
 use Rattle.std.specs.Prelude.{ℕ, Bool, true, false, not, List, [], ◌∷◌, ◌++◌, map, filter, Option, Some, None}
 use Rattle.std.specs.List.{list_any}
-use Rattle.semantics.specs.Frameworks.{Framework}
+use Rattle.semantics.specs.Frameworks.{Framework, aba}
 use Rattle.meaning_atoms.specs.declared.atom.Atom.TheVariants.{Ad, Co, St}
 use Rattle.meaning_atoms.specs.declared.atom.AtomLit.{AtomLit}
 use Rattle.meaning_atoms.specs.Literals.{affirmed, negated}
@@ -86,9 +86,17 @@ row_for f SomeExtension semantics None answer = some_row semantics answer
 row_for f AllExtensions semantics None answer = all_row semantics answer
 row_for f _ semantics _ answer = Misshapen
 
+-- the row, where answers by the semantics have one: those on assumption-based frameworks have none by semi-stable and by
+-- ideal sets
+abbrev pub row_where : Semantics → Framework → Row → Row
+row_where SemiStable (aba f) row = Misshapen
+row_where IdealSets (aba f) row = Misshapen
+row_where semantics f row = row
+
 -- the answer's row
 abbrev pub row_of : Framework → Asked → Answer → Row
-row_of f asked answer = row_for f asked.task.problem asked.task.semantics asked.number answer
+row_of f asked answer =
+    row_where asked.task.semantics f (row_for f asked.task.problem asked.task.semantics asked.number answer)
 
 -- the sets that an answer shows
 abbrev pub sets_of : Answer → List (List ℕ)

@@ -5,17 +5,19 @@
 -- whose last one has only literals that the facts, the goals and the side clauses make false.
 use Rattle.std.specs.Prelude.{◌⊎◌, ℕ, ◌-◌, ◌<◌, ◌≤◌, Bool, false, not, List, [], ◌∷◌, length, map, take, Contains, slice_index_or, Ok}
 use Rattle.plain_lits.specs.HintCheck.{Checks}
-use Rattle.semantics.specs.Frameworks.{Framework, af}
+use Rattle.semantics.specs.Frameworks.{Framework, af, aba}
 use Rattle.meaning_atoms.specs.declared.atom.Atom.{Atom}
 use Rattle.meaning_atoms.specs.declared.atom.Atom.TheVariants.{Ask}
 use Rattle.meaning_atoms.specs.declared.atom.AtomLit.{AtomLit}
 use Rattle.meaning_atoms.specs.declared.axiom.AxiomName.{AxiomName}
 use Rattle.meaning_atoms.specs.declared.axiom.AxiomName.TheVariants.{Af as OfAf, Aba as OfAba}
+use Rattle.meaning_atoms.specs.AbaAxioms.{IsAbaAxiom}
 use Rattle.meaning_atoms.specs.Axioms.{IsAfAxiom}
 use Rattle.meaning_atoms.specs.Literals.{denied, negated, AsksNothing}
 use Rattle.meaning_atoms.specs.Worlds.{world_of, IsWorldOf, HoldsOf, Says, IsTrueAlone}
 use Rattle.af_axioms.specs.Facts.{IsFactValue}
 use Rattle.af_axioms.specs.Table.{table_clause}
+use Rattle.aba_axioms.specs.AbaTable.{aba_clause}
 use Rattle.certificate_claims.specs.declared.certificate.Step.{Step}
 use Rattle.certificate_claims.specs.declared.certificate.Step.TheVariants.{Axiom, Side, Derived}
 
@@ -31,15 +33,17 @@ pub record IsPlain (claim : Claim) : Type 0 where
 
 -- ---- clauses of steps
 
--- the clause of an axiom of abstract frameworks; claims are about these alone, and no other name stands in a step
+-- the clause of an axiom of either kind
 abbrev pub axiom_clause : AxiomName → List AtomLit
 axiom_clause (OfAf name) = table_clause name
-axiom_clause (OfAba name) = []
+axiom_clause (OfAba name) = aba_clause name
 
 -- an axiom of the framework's kind, with arguments that fit its row
 abbrev pub IsAxiomOf : Framework → AxiomName → Type 0
 IsAxiomOf (af f) (OfAf name) = IsAfAxiom name
 IsAxiomOf (af f) (OfAba name) = ⊥
+IsAxiomOf (aba f) (OfAf name) = ⊥
+IsAxiomOf (aba f) (OfAba name) = IsAbaAxiom name
 
 abbrev pub step_clause : List (List AtomLit) → Step → List AtomLit
 step_clause sides (Axiom name) = axiom_clause name

@@ -4,7 +4,9 @@ use Rattle.std.specs.declared.cmp.Ordering.TheVariants.{Less}
 use Rattle.std.specs.Ordering.{nat_cmp}
 use Rattle.std.specs.Cmp.Lexicographic.{slice_cmp}
 use Rattle.semantics.specs.Framework.{Af, IsComplete, IsGrounded, IsPreferred, IsStable, IsSemiStable, IsIdeal}
-use Rattle.semantics.specs.Frameworks.{Framework, af}
+use Rattle.semantics.specs.Frameworks.{Framework, af, aba}
+use Rattle.aba_semantics.specs.AbaFrameworks.{Aba, IsInTheory, collective_of}
+use Rattle.aba_semantics.specs.Collectives as collective
 use Rattle.semantics.specs.Sets.{IsListed}
 use Rattle.iccma_tasks.specs.declared.answer.Answer.{Answer}
 use Rattle.iccma_tasks.specs.declared.answer.Answer.TheVariants.{Yes, No, Sets}
@@ -23,13 +25,24 @@ IsExtensionOfAf f Stable s = IsStable f s
 IsExtensionOfAf f SemiStable s = IsSemiStable f s
 IsExtensionOfAf f Ideal s = IsIdeal f s
 
+-- the set is an extension of an assumption-based framework
+abbrev pub IsExtensionOfAba : Aba → Semantics → List ℕ → Type 0
+IsExtensionOfAba f Complete s = collective.IsComplete (collective_of f) s
+IsExtensionOfAba f Grounded s = collective.IsGrounded (collective_of f) s
+IsExtensionOfAba f Preferred s = collective.IsPreferred (collective_of f) s
+IsExtensionOfAba f Stable s = collective.IsStable (collective_of f) s
+IsExtensionOfAba f SemiStable s = collective.IsSemiStable (collective_of f) s
+IsExtensionOfAba f Ideal s = collective.IsIdeal (collective_of f) s
+
 -- the same of a framework of any kind
 abbrev pub IsExtension : Framework → Semantics → List ℕ → Type 0
 IsExtension (af f) semantics s = IsExtensionOfAf f semantics s
+IsExtension (aba f) semantics s = IsExtensionOfAba f semantics s
 
--- the set accepts the query
+-- the set accepts the query: it has the argument, or derives the atom
 abbrev pub Accepts : Framework → List ℕ → ℕ → Type 0
 Accepts (af f) s q = Contains s q
+Accepts (aba f) s q = IsInTheory f s q
 
 -- some extension accepts the query, and the answer's set is one; or none does
 abbrev pub IsRightCredulous : Framework → Semantics → ℕ → Answer → Type 0

@@ -1,14 +1,16 @@
 -- Literals about sets, which are functions of the sets.
-use Rattle.std.specs.Prelude.{ℕ, ◌==◌, Bool, not, ◌&&◌, ◌||◌, List, ◌++◌, map, filter}
+use Rattle.std.specs.Prelude.{ℕ, ◌==◌, Bool, true, false, not, ◌&&◌, ◌||◌, List, ◌++◌, map, filter}
 use Rattle.std.specs.List.{list_any, list_all}
-use Rattle.semantics.specs.Frameworks.{Framework, af}
-use Rattle.meaning_atoms.specs.declared.atom.Atom.TheVariants.{Member, Range, Tail}
+use Rattle.semantics.specs.Frameworks.{Framework, af, aba}
+use Rattle.meaning_atoms.specs.declared.atom.Atom.TheVariants.{Member, Range, Tail, Der}
 use Rattle.meaning_atoms.specs.declared.atom.AtomLit.{AtomLit}
+use Rattle.meaning_atoms.specs.declared.atom.Closure.TheVariants.{Own}
 use Rattle.meaning_atoms.specs.Literals.{affirmed, denied}
 
--- the literal that the set accepts the query
+-- the literal that the set accepts the query: that it has the argument, or derives the atom
 abbrev pub goal : Framework → ℕ → AtomLit
 goal (af f) q = affirmed (Member q)
+goal (aba f) q = affirmed (Der Own q)
 
 -- ---- tests
 
@@ -19,10 +21,13 @@ has s x = list_any (λ y. y == x) s
 -- the numbers that sets are made of
 abbrev pub members : Framework → List ℕ
 members (af f) = f.live
+members (aba f) = f.assumptions
 
--- whether the set attacks it
+-- whether the set attacks it. Only ranges and ideal sets ask so, for which abstract frameworks alone are asked; in the
+-- other kind nothing counts as attacked, so that a set's range is its members.
 abbrev pub hits : Framework → List ℕ → ℕ → Bool
 hits (af f) s a = list_any (λ p. p.1 == a && has s p.0) f.attacks
+hits (aba f) s a = false
 
 -- whether it is in the set's range
 abbrev pub is_ranged : Framework → List ℕ → ℕ → Bool
@@ -75,6 +80,7 @@ wider f e = are_ranged (filter (λ x. not (is_ranged f e x)) (members f))
 -- the literal that something attacks the member
 abbrev pub struck : Framework → ℕ → AtomLit
 struck (af f) a = affirmed (Tail a 1)
+struck (aba f) a = affirmed (Tail a 1)
 
 -- something attacks a member of the set
 abbrev pub attacked : Framework → List ℕ → List AtomLit

@@ -1,12 +1,14 @@
 //! What a certificate is, what it has to show for an answer, when it does, and the verdict that a check tells.
 #![tactic(auto)]
 
+mod axiom;
 pub mod certificate;
 mod order;
 mod ranges;
 pub mod row;
 pub mod verdict;
 
+pub use axiom::clause_of_axiom;
 pub use certificate::{Certificate, Refutation, Step};
 pub use order::{none_within, sets_rise};
 pub use ranges::{FirstRanged, first_ranged, no_range_within, ranges_of, with_range};

@@ -1,18 +1,21 @@
 -- What the rows of the table show that are about ranges and about the ideal set, which abstract frameworks alone are
 -- asked for: by cases on the kind.
-use Rattle.std.proofs.Common.{◌<◌, ℕ, List, [], ◌∷◌, ◌++◌, length, map, filter, arith}
+use Rattle.std.proofs.Common.{◌≡◌, ◌<◌, ℕ, List, [], ◌∷◌, ◌++◌, length, map, filter, arith, refl}
 use Rattle.std.specs.Prelude.{Contains, slice_index_or}
 use Rattle.plain_lists.proofs.Membership.{Contains-nil, Contains-tail}
 use Rattle.plain_lits.proofs.HintCheckLemmas.{Contains-mapped}
-use Rattle.semantics.specs.Frameworks.{Framework, af, IsNumbered}
+use Rattle.semantics.specs.Frameworks.{Framework, af, aba, IsNumbered}
 use Rattle.meaning_atoms.specs.declared.atom.Atom.TheVariants.{Ad}
 use Rattle.meaning_atoms.specs.declared.atom.AtomLit.{AtomLit}
 use Rattle.meaning_atoms.specs.Literals.{affirmed}
 use Rattle.meaning_atoms.specs.Worlds.{HoldsOf, Says, IsAsk}
-use Rattle.iccma_tasks.specs.declared.task.Semantics.TheVariants.{SemiStable, Ideal as IdealSets}
+use Rattle.iccma_tasks.specs.declared.task.Semantics.{Semantics}
+use Rattle.iccma_tasks.specs.declared.task.Semantics.TheVariants.{Complete, Grounded, Preferred, Stable, SemiStable, Ideal as IdealSets}
+use Rattle.iccma_tasks.specs.Tasks.{Asked}
+use Rattle.certificate_claims.specs.declared.row.Row.{Row}
 use Rattle.certificate_claims.specs.declared.row.Row.TheVariants.{Widest, Ranged, AllWidest}
-use Rattle.certificate_claims.specs.Acceptance.{NoRangeWithin}
-use Rattle.certificate_claims.specs.Claims.{claims, first_ranged, ideal_claims, range_cover, range_free, range_listed}
+use Rattle.certificate_claims.specs.Acceptance.{NoRangeWithin, Tests}
+use Rattle.certificate_claims.specs.Claims.{claims, row_where, first_ranged, ideal_claims, range_cover, range_free, range_listed}
 use Rattle.certificate_claims.specs.Rights.{IsExtension}
 use Rattle.certificate_claims.specs.SetLiterals.{range_of, same_range, hit_by_any, are_in, are_out, are_ranged, outside, differs, wider, attacked}
 use Rattle.certificate_laws.specs.Laws.{AreExcluded}
@@ -22,23 +25,47 @@ use Rattle.certificate_laws.proofs.LargestSets.{AreExactly}
 use Rattle.certificate_laws.proofs.SideClauses.{in_plain, out_plain, ranged_plain, outside_plain, differs_plain, wider_plain, attacked_plain}
 use Rattle.certificate_laws.proofs.WidestSets.{widest_semi_stable, ranged_out, all_semi_stable}
 
+-- ---- the frameworks that are asked for a semantics
+
+-- answers by the semantics have rows: those on assumption-based frameworks have none by semi-stable and by ideal sets
+abbrev pub HasRows : Semantics → Framework → Type 0
+HasRows SemiStable (aba f) = ⊥
+HasRows IdealSets (aba f) = ⊥
+HasRows semantics f = Unit {0}
+
+-- where tests pass, answers by the semantics have rows, and the row is the answer's own
+pub row_is_own : (semantics : Semantics) (f : Framework) (asked : Asked) (row : Row) (shown sets : List (List ℕ))
+    → Tests f asked (row_where semantics f row) shown sets
+    → HasRows semantics f × (row_where semantics f row ≡ row)
+row_is_own Complete f asked row shown sets h = (tt, refl)
+row_is_own Grounded f asked row shown sets h = (tt, refl)
+row_is_own Preferred f asked row shown sets h = (tt, refl)
+row_is_own Stable f asked row shown sets h = (tt, refl)
+row_is_own SemiStable (af f) asked row shown sets h = (tt, refl)
+row_is_own SemiStable (aba f) asked row shown sets h = absurd (h.shape)
+row_is_own IdealSets (af f) asked row shown sets h = (tt, refl)
+row_is_own IdealSets (aba f) asked row shown sets h = absurd (h.shape)
+
 -- ---- semi-stable sets
 
-pub is_semi_stable : (f : Framework) (e : List ℕ) (sets : List (List ℕ)) → IsNumbered f → HoldsOf f e Ad
-    → AreExcluded f (claims f (Widest e) sets)
+pub is_semi_stable : (f : Framework) → HasRows SemiStable f → (e : List ℕ) (sets : List (List ℕ)) → IsNumbered f
+    → HoldsOf f e Ad → AreExcluded f (claims f (Widest e) sets)
     → IsExtension f SemiStable e
-is_semi_stable (af f) e sets numbered ok none =
+is_semi_stable (aba f) rows e sets numbered ok none = absurd rows
+is_semi_stable (af f) rows e sets numbered ok none =
     let goals = are_ranged (range_of (af f) e) in
     widest_semi_stable f e numbered ok
     (none 0 (omega arith)
     (plain_mapped (affirmed Ad ∷ goals) (wider (af f)) (e ∷ [])
     (ad_plain goals (ranged_plain (range_of (af f) e))) (wider_plain (af f))))
 
-pub none_semi_stable : (f : Framework) (bad : AtomLit) (sets : List (List ℕ)) → IsNumbered f → (IsAsk bad.atom → ⊥)
+pub none_semi_stable : (f : Framework) → HasRows SemiStable f → (bad : AtomLit) (sets : List (List ℕ)) → IsNumbered f
+    → (IsAsk bad.atom → ⊥)
     → ((k : ℕ) → k < length sets → HoldsOf f (slice_index_or sets k []) Ad)
     → AreExcluded f (claims f (Ranged bad) sets)
     → (e : List ℕ) → IsExtension f SemiStable e → Says bad.positive (HoldsOf f e bad.atom) → ⊥
-none_semi_stable (af f) bad sets numbered no_ask ok none e semi says =
+none_semi_stable (aba f) rows bad sets numbered no_ask ok none e semi says = absurd rows
+none_semi_stable (af f) rows bad sets numbered no_ask ok none e semi says =
     ranged_out f bad sets numbered (each_of (λ s. HoldsOf (af f) s Ad) sets ok)
     (none 0 (omega arith)
     (plain_mapped (affirmed Ad ∷ bad ∷ []) (wider (af f)) sets
@@ -54,11 +81,12 @@ none_semi_stable (af f) bad sets numbered no_ask ok none e semi says =
     e semi says
 
 -- admissible sets, no range in another, are all semi-stable sets where no set meets the claims of their row
-pub are_widest : (f : Framework) (all sets : List (List ℕ)) → IsNumbered f
+pub are_widest : (f : Framework) → HasRows SemiStable f → (all sets : List (List ℕ)) → IsNumbered f
     → ((e : List ℕ) → Contains all e → HoldsOf f e Ad) → NoRangeWithin f all
     → AreExcluded f (claims f (AllWidest all) sets)
     → AreExactly (IsExtension f SemiStable) all
-are_widest (af f) all sets numbered ok apart none =
+are_widest (aba f) rows all sets numbered ok apart none = absurd rows
+are_widest (af f) rows all sets numbered ok apart none =
     let firsts = first_ranged (af f) all in
     let cover = range_cover (af f) [] firsts in
     all_semi_stable f all numbered ok apart
@@ -73,11 +101,13 @@ are_widest (af f) all sets numbered ok apart none =
 
 -- ---- the ideal set
 
-pub is_ideal : (f : Framework) (e : List ℕ) (others : List (List ℕ)) → IsNumbered f → HoldsOf f e Ad
+pub is_ideal : (f : Framework) → HasRows IdealSets f → (e : List ℕ) (others : List (List ℕ)) → IsNumbered f
+    → HoldsOf f e Ad
     → ((o : List ℕ) → Contains others o → HoldsOf f o Ad)
     → AreExcluded f (ideal_claims f (e ∷ others))
     → IsExtension f IdealSets e
-is_ideal (af f) e others numbered ok each none =
+is_ideal (aba f) rows e others numbered ok each none = absurd rows
+is_ideal (af f) rows e others numbered ok each none =
     let out = are_out (hit_by_any (af f) others) in
     shown_ideal f e others numbered ok each
     (none 0 (omega arith)

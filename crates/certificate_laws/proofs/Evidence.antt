@@ -21,7 +21,7 @@ use Rattle.certificate_claims.specs.Refutations.{IsPlain}
 use Rattle.certificate_claims.specs.Rights.{Accepts, AreAll, IsExtension}
 use Rattle.certificate_claims.specs.SetLiterals.{goal, are_in, outside, differs}
 use Rattle.certificate_laws.specs.Laws.{AreExcluded}
-use Rattle.certificate_laws.proofs.AfEvidence.{is_ideal, are_widest}
+use Rattle.certificate_laws.proofs.AfEvidence.{HasRows, is_ideal, are_widest}
 use Rattle.certificate_laws.proofs.ExtensionFacts.{admissible_world, complete_extension_admissible, stable_extension_admissible}
 use Rattle.certificate_laws.proofs.GoalLists.{meets_nil, meets_cons, asks_nil, asks_cons, ad_plain, plain_mapped, each_of}
 use Rattle.certificate_laws.proofs.KindFacts.{admissible_members, complete_is, stable_is, goal_asks_nothing}
@@ -35,6 +35,7 @@ asked_of problem semantics number = record { task = task_of problem semantics; n
 -- the tests and the excluded claims of a row
 pub record Shows (f : Framework) (asked : Asked) (row : Row) (shown sets : List (List ℕ)) : Type 0 where
   pub numbered : IsNumbered f
+  pub rows : HasRows asked.task.semantics f
   pub tests : Tests f asked row shown sets
   pub none : AreExcluded f (claims f row sets)
 
@@ -101,16 +102,16 @@ pub record IsIdealFound (f : Framework) (number : Option ℕ) (said : Option (Li
   pub shown : IsShown said set
   pub accepts_as_said : AcceptsAsSaid f number accepts set
 
-pub ideal_found : (f : Framework) (asked : Asked) (said : Option (List ℕ)) (accepts : Option Bool)
-    (shown sets : List (List ℕ))
+pub ideal_found : (f : Framework) → HasRows IdealSets f → (asked : Asked) (said : Option (List ℕ))
+    (accepts : Option Bool) (shown sets : List (List ℕ))
     → Shows f asked (Ideal said accepts) shown sets
     → IsIdealFound f asked.number said accepts
-ideal_found f asked said accepts shown [] h = absurd (let lt = h.tests.count in omega arith)
-ideal_found f asked said accepts shown (e ∷ others) h =
+ideal_found f rows asked said accepts shown [] h = absurd (let lt = h.tests.count in omega arith)
+ideal_found f rows asked said accepts shown (e ∷ others) h =
     let first = h.tests.each_set zero (omega arith) in
     record {
       set = e;
-      is = is_ideal f e others h.numbered first.0
+      is = is_ideal f rows e others h.numbered first.0
           (each_of (λ o. HoldsOf f o Ad) others (λ k lt. h.tests.each_set (suc k) (omega arith))) h.none;
       shown = first.1.0;
       accepts_as_said = first.1.1;
@@ -149,7 +150,7 @@ are_all f Stable all sets h = record {
   rise = h.tests.order;
 }
 are_all f SemiStable all sets h =
-    let exact = are_widest f all sets h.numbered (each_of (λ s. HoldsOf f s Ad) all h.tests.witnesses) h.tests.order.1
-    h.none in
+    let exact = are_widest f h.rows all sets h.numbered (each_of (λ s. HoldsOf f s Ad) all h.tests.witnesses)
+    h.tests.order.1 h.none in
     record { each = exact.each; all = exact.all; rise = h.tests.order.0 }
 are_all f IdealSets all sets h = absurd (h.tests.shape)

@@ -9,11 +9,13 @@ use Rattle.iccma_tasks.specs.declared.task.Problem.{Problem}
 use Rattle.iccma_tasks.specs.declared.task.Problem.TheVariants.{Credulous, Sceptical, SomeExtension, AllExtensions}
 use Rattle.iccma_tasks.specs.declared.task.Semantics.{Semantics}
 use Rattle.iccma_tasks.specs.declared.task.Semantics.TheVariants.{Complete, Grounded, Preferred, Stable, SemiStable, Ideal}
-use Rattle.certificate_claims.specs.Claims.{row_for, sets_of, shown as shown_row, none_accepts, each_accepts, there_is_none}
+use Rattle.certificate_claims.specs.declared.row.Row.{Row}
+use Rattle.certificate_claims.specs.Acceptance.{Tests}
+use Rattle.certificate_claims.specs.Claims.{claims, row_for, sets_of, shown as shown_row, none_accepts, each_accepts, there_is_none}
 use Rattle.certificate_claims.specs.Rights.{Accepts, IsExtension, IsRightOf, IsRightCredulous, IsRightSceptical, IsRightSome, IsRightAll}
 use Rattle.certificate_claims.specs.SetLiterals.{goal}
-use Rattle.certificate_laws.specs.Laws.{ShownIsRight, AcceptedIsRight}
-use Rattle.certificate_laws.proofs.AfEvidence.{is_semi_stable, none_semi_stable}
+use Rattle.certificate_laws.specs.Laws.{AreExcluded, ShownIsRight, AcceptedIsRight}
+use Rattle.certificate_laws.proofs.AfEvidence.{is_semi_stable, none_semi_stable, row_is_own}
 use Rattle.certificate_laws.proofs.Evidence.{Shows, asked_of, no_such_set, none_of_mode, is_preferred, is_covered, ideal_found, are_all}
 use Rattle.certificate_laws.proofs.ExtensionFacts.{admissible_world, complete_extension_admissible, preferred_admissible, stable_extension_admissible, grounded_complete, grounded_least, ideal_accepts}
 use Rattle.certificate_laws.proofs.KindFacts.{stable_is, goal_is, denied_is, goal_asks_nothing, decide_accepts}
@@ -32,9 +34,9 @@ shown_is f problem Preferred number accepts e sets h =
     is_preferred f e sets h.numbered (h.tests.witnesses 0 (omega arith)).0 h.none
 shown_is f problem Stable number accepts e sets h = (h.tests.witnesses 0 (omega arith)).0
 shown_is f problem SemiStable number accepts e sets h =
-    is_semi_stable f e sets h.numbered (h.tests.witnesses 0 (omega arith)).0 h.none
+    is_semi_stable f h.rows e sets h.numbered (h.tests.witnesses 0 (omega arith)).0 h.none
 shown_is f problem Ideal number accepts e sets h =
-    let i = ideal_found f (asked_of problem Ideal number) (Some e) accepts (e ∷ []) sets h in
+    let i = ideal_found f h.rows (asked_of problem Ideal number) (Some e) accepts (e ∷ []) sets h in
     subst (λ (s : List ℕ). IsExtension f Ideal s) i.shown i.is
 
 -- for DC it accepts the query
@@ -47,7 +49,7 @@ shown_accepts f Preferred q e sets h = (h.tests.witnesses 0 (omega arith)).1
 shown_accepts f Stable q e sets h = (h.tests.witnesses 0 (omega arith)).1
 shown_accepts f SemiStable q e sets h = (h.tests.witnesses 0 (omega arith)).1
 shown_accepts f Ideal q e sets h =
-    let i = ideal_found f (asked_of Credulous Ideal (Some q)) (Some e) (Some true) (e ∷ []) sets h in
+    let i = ideal_found f h.rows (asked_of Credulous Ideal (Some q)) (Some e) (Some true) (e ∷ []) sets h in
     subst (λ (s : List ℕ). Accepts f s q) i.shown i.accepts_as_said
 
 -- for DS it doesn't
@@ -61,7 +63,7 @@ shown_refuses f Preferred q e sets h = (h.tests.witnesses 0 (omega arith)).1
 shown_refuses f Stable q e sets h = (h.tests.witnesses 0 (omega arith)).1
 shown_refuses f SemiStable q e sets h = (h.tests.witnesses 0 (omega arith)).1
 shown_refuses f Ideal q e sets h =
-    let i = ideal_found f (asked_of Sceptical Ideal (Some q)) (Some e) (Some false) (e ∷ []) sets h in
+    let i = ideal_found f h.rows (asked_of Sceptical Ideal (Some q)) (Some e) (Some false) (e ∷ []) sets h in
     subst (λ (s : List ℕ). Accepts f s q → ⊥) i.shown i.accepts_as_said
 
 -- ---- none and each
@@ -84,10 +86,10 @@ none_right f Stable q shown sets h e is accepts =
     (admissible_world f e h.numbered (stable_extension_admissible f e h.numbered is))
     ((stable_is f e).0 is) ((goal_is f e q).1 accepts)
 none_right f SemiStable q shown sets h e is accepts =
-    none_semi_stable f (goal f q) sets h.numbered (goal_asks_nothing f q) h.tests.each_set h.none e is
+    none_semi_stable f h.rows (goal f q) sets h.numbered (goal_asks_nothing f q) h.tests.each_set h.none e is
     ((goal_is f e q).1 accepts)
 none_right f Ideal q shown sets h e is accepts =
-    let i = ideal_found f (asked_of Credulous Ideal (Some q)) None (Some false) shown sets h in
+    let i = ideal_found f h.rows (asked_of Credulous Ideal (Some q)) None (Some false) shown sets h in
     i.accepts_as_said (ideal_accepts f e i.set q is i.is accepts)
 
 each_right : (f : Framework) (semantics : Semantics) (q : ℕ) (shown sets : List (List ℕ))
@@ -105,11 +107,11 @@ each_right f Stable q shown sets h e is =
     (decide_accepts f e q)
 each_right f SemiStable q shown sets h e is =
     ⊎_elim (λ accepts. accepts)
-    (λ refuses. absurd (none_semi_stable f (negated (goal f q)) sets h.numbered (goal_asks_nothing f q)
+    (λ refuses. absurd (none_semi_stable f h.rows (negated (goal f q)) sets h.numbered (goal_asks_nothing f q)
     h.tests.each_set h.none e is ((denied_is f e q).1 refuses)))
     (decide_accepts f e q)
 each_right f Ideal q shown sets h e is =
-    let i = ideal_found f (asked_of Sceptical Ideal (Some q)) None (Some true) shown sets h in
+    let i = ideal_found f h.rows (asked_of Sceptical Ideal (Some q)) None (Some true) shown sets h in
     ideal_accepts f i.set e q i.is is i.accepts_as_said
 
 none_exist : (f : Framework) (problem : Problem) (semantics : Semantics) (number : Option ℕ)
@@ -173,8 +175,16 @@ right_of f _ semantics _ answer sets h = absurd (h.tests.shape)
 
 pub shown_right : ShownIsRight
 shown_right f asked answer sets numbered tests none =
+    let shown = sets_of answer in
+    let row = row_for f asked.task.problem asked.task.semantics asked.number answer in
+    let own = row_is_own asked.task.semantics f asked row shown sets tests in
     right_of f asked.task.problem asked.task.semantics asked.number answer sets
-    (record { numbered = numbered; tests = tests; none = none })
+    (record {
+      numbered = numbered;
+      rows = own.0;
+      tests = subst (λ (r : Row). Tests f asked r shown sets) own.1 tests;
+      none = subst (λ (r : Row). AreExcluded f (claims f r sets)) own.1 none;
+    })
 
 pub accepted_right : AcceptedIsRight
 accepted_right f asked answer certificate numbered accepted =

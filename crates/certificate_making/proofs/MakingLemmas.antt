@@ -9,7 +9,7 @@ use Rattle.plain_lists.proofs.Membership.{Contains-nil}
 use Rattle.plain_lists.specs.Members.{IsWithin}
 use Rattle.semantics.specs.Arguments.{IsArgument}
 use Rattle.semantics.specs.Framework.{Af, IsAdmissible}
-use Rattle.semantics.specs.Frameworks.{Framework, af, IsNumbered}
+use Rattle.semantics.specs.Frameworks.{Framework, af, aba, IsNumbered}
 use Rattle.meaning_atoms.specs.declared.atom.Atom.TheVariants.{Ad}
 use Rattle.meaning_atoms.specs.declared.atom.AtomLit.{AtomLit}
 use Rattle.meaning_atoms.specs.Worlds.{HoldsOf}
@@ -21,14 +21,14 @@ use Rattle.certificate_claims.specs.declared.certificate.Refutation.{Refutation}
 use Rattle.certificate_claims.specs.declared.row.Row.{Row}
 use Rattle.certificate_claims.specs.declared.row.Row.TheVariants.{Misshapen, Tested, Largest, Widest, Excluded, ByGrounded, Covered, Ranged, Ideal, AllTested, AllLargest, AllWidest}
 use Rattle.certificate_claims.specs.Acceptance.{IsAccepted, PassesSet, PassesTest, TakesSets, Tests, no_claim, no_refutation}
-use Rattle.certificate_claims.specs.Claims.{all_row, all_shown, claims, credulous_row, each_accepts, none_accepts, row_for, row_of, sceptical_row, sets_of, shown as shown_row, some_row, there_is_none}
+use Rattle.certificate_claims.specs.Claims.{all_row, all_shown, claims, credulous_row, each_accepts, none_accepts, row_for, row_of, row_where, sceptical_row, sets_of, shown as shown_row, some_row, there_is_none}
 use Rattle.iccma_tasks.specs.declared.answer.Answer.TheVariants.{Yes, No, Sets}
 use Rattle.iccma_tasks.specs.declared.task.Problem.{Problem}
 use Rattle.iccma_tasks.specs.declared.task.Problem.TheVariants.{Credulous, Sceptical, SomeExtension, AllExtensions}
 use Rattle.iccma_tasks.specs.declared.task.Semantics.{Semantics}
 use Rattle.iccma_tasks.specs.declared.task.Semantics.TheVariants.{Complete, Grounded, Preferred, Stable, SemiStable, Ideal as IdealSets}
 use Rattle.certificate_claims.specs.Refutations.{Claim as TableClaim, IsPlain, IsRefutationOf}
-use Rattle.certificate_claims.specs.SetLiterals.{members}
+use Rattle.certificate_laws.proofs.KindFacts.{admissible_members, numbered_members}
 use Rattle.certificate_text.specs.Written.{IsWritable, IsWritableStep}
 use Rattle.oracle_face.specs.Goals.{Refutes}
 use Rattle.oracle_face.specs.Logs.{OracleLog, SideClause, IsLog, IsNumberOf}
@@ -193,7 +193,8 @@ pub record MadeUpTo (f : Framework) (log : OracleLog) (parts : List Claim) (step
       → IsMade f log (slice_index_or parts k d) (slice_index_or steps k 0) (slice_index_or made k no_refutation)
   pub cut : AreCut log made
 
-pub made_none : (f : Framework) (log : OracleLog) (parts : List Claim) (steps : List ℕ) → MadeUpTo f log parts steps 0 []
+pub made_none : (f : Framework) (log : OracleLog) (parts : List Claim) (steps : List ℕ)
+    → MadeUpTo f log parts steps 0 []
 made_none f log parts steps = record {
   long = refl;
   each = λ k d lt. absurd (omega arith);
@@ -267,12 +268,9 @@ some_part (c ∷ cs) lt = c
 -- ---- the sets
 
 admissible_arguments : (f : Framework) (e : List ℕ) → IsNumbered f → HoldsOf f e Ad → HasArguments e
-admissible_arguments (af f) e numbered holds = λ k d lt.
-    numbered.live (slice_index_or e k d)
-    (holds.conflict_free.live (slice_index_or e k d) (k, lt, get_or_default e k (slice_index_or e k d) d lt))
-
-admissible_within : (f : Framework) (e : List ℕ) → HoldsOf f e Ad → IsWithin e (members f)
-admissible_within (af f) e holds = holds.conflict_free.live
+admissible_arguments f e numbered holds = λ k d lt.
+    numbered_members f numbered (slice_index_or e k d)
+    (admissible_members f e holds (slice_index_or e k d) (k, lt, get_or_default e k (slice_index_or e k d) d lt))
 
 no_set : (sets : List (List ℕ)) (k : ℕ) → length sets ≡ 0 → k < length sets → ⊥
 no_set sets k none lt = omega arith
@@ -298,7 +296,8 @@ set_arguments f asked (AllTested mode all) sets k numbered takes lt passes = abs
 set_arguments f asked (AllLargest all) sets k numbered takes lt passes = absurd (no_set sets k takes lt)
 set_arguments f asked (AllWidest all) sets k numbered takes lt passes = absurd (no_set sets k takes lt)
 
-sets_default : (xs : List (List ℕ)) (i : ℕ) (d e : List ℕ) → i < length xs → slice_index_or xs i d ≡ slice_index_or xs i e
+sets_default : (xs : List (List ℕ)) (i : ℕ) (d e : List ℕ) → i < length xs
+    → slice_index_or xs i d ≡ slice_index_or xs i e
 sets_default [] i d e h = absurd (omega arith)
 sets_default (x ∷ xs) zero d e h = refl
 sets_default (x ∷ xs) (suc i) d e h = sets_default xs i d e (omega arith)
@@ -350,13 +349,21 @@ module _ (f : Framework) (asked : Asked) (answer : Answer) (log : OracleLog) (se
       made_default (x ∷ xs) zero d e h = refl
       made_default (x ∷ xs) (suc i) d e h = made_default xs i d e (omega arith)
 
--- a row whose sets are all the extensions by their ranges has the sets that the answer shows
-abbrev IsOfShown : Row → List (List ℕ) → Type 0
-IsOfShown (AllWidest all) shown = all ≡ shown
-IsOfShown _ shown = Unit {0}
+-- a row whose sets are all the extensions by their ranges has the sets that the answer shows, and is one of answers by
+-- semi-stable sets
+abbrev IsOfShown : Row → Semantics → List (List ℕ) → Type 0
+IsOfShown (AllWidest all) SemiStable shown = all ≡ shown
+IsOfShown (AllWidest all) _ shown = ⊥
+IsOfShown _ semantics shown = Unit {0}
+
+-- and one of answers on abstract frameworks
+abbrev IsShownIn : Row → Framework → List (List ℕ) → Type 0
+IsShownIn (AllWidest all) (af f) shown = all ≡ shown
+IsShownIn (AllWidest all) (aba f) shown = ⊥
+IsShownIn _ f shown = Unit {0}
 
 shown_of : (semantics : Semantics) (e shown : List ℕ) (listed : List (List ℕ)) (accepts : Option Bool)
-    → IsOfShown (shown_row semantics e accepts) listed
+    → IsOfShown (shown_row semantics e accepts) semantics listed
 shown_of Complete e shown listed accepts = tt
 shown_of Grounded e shown listed accepts = tt
 shown_of Preferred e shown listed accepts = tt
@@ -365,7 +372,7 @@ shown_of SemiStable e shown listed accepts = tt
 shown_of IdealSets e shown listed accepts = tt
 
 none_of : (f : Framework) (semantics : Semantics) (q : ℕ) (listed : List (List ℕ))
-    → IsOfShown (none_accepts f semantics q) listed
+    → IsOfShown (none_accepts f semantics q) semantics listed
 none_of f Complete q listed = tt
 none_of f Grounded q listed = tt
 none_of f Preferred q listed = tt
@@ -374,7 +381,7 @@ none_of f SemiStable q listed = tt
 none_of f IdealSets q listed = tt
 
 each_of : (f : Framework) (semantics : Semantics) (q : ℕ) (listed : List (List ℕ))
-    → IsOfShown (each_accepts f semantics q) listed
+    → IsOfShown (each_accepts f semantics q) semantics listed
 each_of f Complete q listed = tt
 each_of f Grounded q listed = tt
 each_of f Preferred q listed = tt
@@ -382,7 +389,7 @@ each_of f Stable q listed = tt
 each_of f SemiStable q listed = tt
 each_of f IdealSets q listed = tt
 
-no_of : (semantics : Semantics) (listed : List (List ℕ)) → IsOfShown (there_is_none semantics) listed
+no_of : (semantics : Semantics) (listed : List (List ℕ)) → IsOfShown (there_is_none semantics) semantics listed
 no_of Complete listed = tt
 no_of Grounded listed = tt
 no_of Preferred listed = tt
@@ -390,7 +397,7 @@ no_of Stable listed = tt
 no_of SemiStable listed = tt
 no_of IdealSets listed = tt
 
-all_of : (semantics : Semantics) (sets : List (List ℕ)) → IsOfShown (all_shown semantics sets) sets
+all_of : (semantics : Semantics) (sets : List (List ℕ)) → IsOfShown (all_shown semantics sets) semantics sets
 all_of Complete sets = tt
 all_of Grounded sets = tt
 all_of Preferred sets = tt
@@ -399,7 +406,7 @@ all_of SemiStable sets = refl
 all_of IdealSets sets = tt
 
 credulous_of : (f : Framework) (semantics : Semantics) (q : ℕ) (answer : Answer)
-    → IsOfShown (credulous_row f semantics q answer) (sets_of answer)
+    → IsOfShown (credulous_row f semantics q answer) semantics (sets_of answer)
 credulous_of f semantics q (Yes (Some e)) = shown_of semantics e e (e ∷ []) (Some true)
 credulous_of f semantics q (Yes None) = tt
 credulous_of f semantics q (No None) = none_of f semantics q []
@@ -407,14 +414,14 @@ credulous_of f semantics q (No (Some e)) = tt
 credulous_of f semantics q (Sets sets) = tt
 
 sceptical_of : (f : Framework) (semantics : Semantics) (q : ℕ) (answer : Answer)
-    → IsOfShown (sceptical_row f semantics q answer) (sets_of answer)
+    → IsOfShown (sceptical_row f semantics q answer) semantics (sets_of answer)
 sceptical_of f semantics q (Yes None) = each_of f semantics q []
 sceptical_of f semantics q (Yes (Some e)) = tt
 sceptical_of f semantics q (No (Some e)) = shown_of semantics e e (e ∷ []) (Some false)
 sceptical_of f semantics q (No None) = tt
 sceptical_of f semantics q (Sets sets) = tt
 
-some_of : (semantics : Semantics) (answer : Answer) → IsOfShown (some_row semantics answer) (sets_of answer)
+some_of : (semantics : Semantics) (answer : Answer) → IsOfShown (some_row semantics answer) semantics (sets_of answer)
 some_of semantics (Sets (e ∷ [])) = shown_of semantics e e (e ∷ []) None
 some_of semantics (Sets []) = tt
 some_of semantics (Sets (e ∷ next ∷ more)) = tt
@@ -422,7 +429,8 @@ some_of semantics (No None) = no_of semantics []
 some_of semantics (No (Some e)) = tt
 some_of semantics (Yes e) = tt
 
-all_row_of : (semantics : Semantics) (answer : Answer) → IsOfShown (all_row semantics answer) (sets_of answer)
+all_row_of : (semantics : Semantics) (answer : Answer)
+    → IsOfShown (all_row semantics answer) semantics (sets_of answer)
 all_row_of semantics (Sets (e ∷ more)) = all_of semantics (e ∷ more)
 all_row_of semantics (Sets []) = tt
 all_row_of semantics (No None) = no_of semantics []
@@ -430,7 +438,7 @@ all_row_of semantics (No (Some e)) = tt
 all_row_of semantics (Yes e) = tt
 
 row_of_shown : (f : Framework) (problem : Problem) (semantics : Semantics) (number : Option ℕ) (answer : Answer)
-    → IsOfShown (row_for f problem semantics number answer) (sets_of answer)
+    → IsOfShown (row_for f problem semantics number answer) semantics (sets_of answer)
 row_of_shown f Credulous semantics (Some q) answer = credulous_of f semantics q answer
 row_of_shown f Credulous semantics None answer = tt
 row_of_shown f Sceptical semantics (Some q) answer = sceptical_of f semantics q answer
@@ -440,15 +448,25 @@ row_of_shown f SomeExtension semantics (Some q) answer = tt
 row_of_shown f AllExtensions semantics None answer = all_row_of semantics answer
 row_of_shown f AllExtensions semantics (Some q) answer = tt
 
-tested_within : (f : Framework) (asked : Asked) (row : Row) (shown : List (List ℕ)) → IsOfShown row shown
+-- answers on assumption-based frameworks have no row by semi-stable sets
+where_shown : (semantics : Semantics) (f : Framework) (row : Row) (shown : List (List ℕ))
+    → IsOfShown row semantics shown
+    → IsShownIn (row_where semantics f row) f shown
+where_shown SemiStable (af f) (AllWidest all) shown h = h
+where_shown SemiStable (af f) _ shown h = tt
+where_shown SemiStable (aba f) row shown h = tt
+where_shown IdealSets (aba f) row shown h = tt
+where_shown _ f (AllWidest all) shown h = absurd h
+where_shown _ f _ shown h = tt
+
+tested_within : (f : Framework) (asked : Asked) (row : Row) (shown : List (List ℕ)) → IsShownIn row f shown
     → ((k : ℕ) → k < length shown → PassesTest f asked row (slice_index_or shown k [])) → HasSetsOf f row
-tested_within f asked (AllWidest all) shown same passes = record {
-  within = λ s there.
-      let lt : there.0 < length shown = subst (λ list. there.0 < length list) same there.1 in
-      subst (λ x. IsWithin x (members f))
-      (sets_default shown there.0 [] s lt ∙ ap (λ list. slice_index_or list there.0 s) (sym same) ∙ there.2)
-      (admissible_within f (slice_index_or shown there.0 []) (passes there.0 lt));
-}
+tested_within (aba f) asked (AllWidest all) shown same passes = absurd same
+tested_within (af f) asked (AllWidest all) shown same passes = λ s there.
+    let lt : there.0 < length shown = subst (λ list. there.0 < length list) same there.1 in
+    subst (λ x. IsWithin x f.live)
+    (sets_default shown there.0 [] s lt ∙ ap (λ list. slice_index_or list there.0 s) (sym same) ∙ there.2)
+    (admissible_members (af f) (slice_index_or shown there.0 []) (passes there.0 lt))
 tested_within f asked Misshapen shown same passes = tt
 tested_within f asked (Tested e) shown same passes = tt
 tested_within f asked (Largest e) shown same passes = tt
@@ -466,7 +484,8 @@ pub row_sets : (f : Framework) (asked : Asked) (answer : Answer) (sets : List (L
     → Tests f asked (row_of f asked answer) (sets_of answer) sets → HasSetsOf f (row_of f asked answer)
 row_sets f asked answer sets tests =
     tested_within f asked (row_of f asked answer) (sets_of answer)
-    (row_of_shown f asked.task.problem asked.task.semantics asked.number answer) tests.witnesses
+    (where_shown asked.task.semantics f (row_for f asked.task.problem asked.task.semantics asked.number answer)
+    (sets_of answer) (row_of_shown f asked.task.problem asked.task.semantics asked.number answer)) tests.witnesses
 
 -- ---- what the calls ask
 

@@ -12,6 +12,10 @@ const COVER: &str = "cert 1\nw 1 4\nw 2 4\nr\na A3 1 3\na A5 1 1 2\na A6 1 3\na 
     d -Ad -Member:3 -Attack:1:3 -Attack:2:3 -Gap:1:1:2 -Gap:1:3:1000001 0 5 1 3 2 4\ns 1\ns 2\na A2 1 2\n\
     d -Ad -Ask:1 -Ask:2 -Attack:1:2 -Attack:1:3 -Attack:2:3 -Gap:1:1:2 -Gap:1:3:1000001 0 5 6 7 8 9\nend\n";
 
+// The clause of a loop of two rules, and literals of the other kind of framework.
+const LOOP: &str =
+    "cert 1\nr\na B17 1 3 2 3 4 1 1 4 1 2 3\nd -Der:1:3 Asm:3 -HGap:3:2:1000001 Body:1:4 0 1\nend\n";
+
 // What the text reads as, written again; or the line and the name of its fault.
 fn shown(alloc: Global, text: &str) -> Result<Bytes, Memory> {
     let bytes = text.as_bytes();
@@ -41,6 +45,7 @@ fn texts(rt: HostRuntime) -> Result<(), Fail> {
             "cert 1\nr\nd Ask:4294967295 0 007\nend",
             "cert 1\nr\nd Ask:4294967295 0 7\nend\n",
         ),
+        (LOOP, LOOP),
         ("cert 1\nr\nd 0\nd 0 0\nend", "4 BadNumber"),
         ("", "1 NoHeader"),
         ("# x\n\n", "3 NoHeader"),
@@ -64,6 +69,7 @@ fn texts(rt: HostRuntime) -> Result<(), Fail> {
         ("cert 1\nr\na A1 x\nend", "3 BadAxiom"),
         ("cert 1\nr\na B1 2\nend", "cert 1\nr\na B1 2\nend\n"),
         ("cert 1\nr\na B0 2\nend", "3 BadAxiom"),
+        ("cert 1\nr\na B17 1 3 2 3 4 1 1 4\nend", "3 BadAxiom"),
         ("cert 1\nr\na A14 0\nend", "3 BadAxiom"),
         ("cert 1\nw 1\n#\n", "4 NoEnd"),
         ("cert 1\nend\n#\n\nend\n", "5 AfterEnd"),

@@ -12,7 +12,7 @@ use Rattle.oracle_face.specs.declared.entry.EntryOrigin.{EntryOrigin}
 use Rattle.oracle_face.specs.declared.entry.EntryOrigin.TheVariants.{Axiom as OfAxiom, Hints}
 use Rattle.oracle_face.specs.declared.entry.HintName.{HintName}
 use Rattle.oracle_face.specs.declared.entry.HintName.TheVariants.{Axiom, Entry as OfEntry}
-use Rattle.oracle_face.specs.Logs.{OracleLog, LogStep, IsNumberOf, IsSameClause, by_axiom, clauses_of, step_at}
+use Rattle.oracle_face.specs.Logs.{OracleLog, LogStep, IsNumberOf, IsSameClause, by_axiom, clauses_of, is_loop, step_at}
 use Rattle.session_log.specs.Steps.{GainsStep, derived_step}
 
 -- ---- what names stand for
@@ -52,10 +52,11 @@ pub record FollowsByNames (own : ℕ) (steps : List LogStep) (clause : List Atom
     pub stand : StandForSteps own steps names hints
     pub checks : Checks negated (clauses_of steps) clause hints (Ok (length hints))
 
--- a clause is what its origin says: that of an axiom of the framework's kind that isn't in the log, or one that follows
+-- a clause is what its origin says: that of an axiom of the framework's kind that isn't in the log, or one that follows;
+-- a loop clause comes only where a model calls for it
 abbrev pub IsShownHere : Framework → ℕ → List LogStep → List AtomLit → EntryOrigin → Type 0
 IsShownHere f own steps clause (OfAxiom name) =
-    IsAxiomOf f name × IsSameClause clause (axiom_clause name)
+    IsAxiomOf f name × (is_loop name ≡ false) × IsSameClause clause (axiom_clause name)
     × ((number : ℕ) → IsNumberOf steps number → (step_at steps number).source ≢ by_axiom name)
 IsShownHere f own steps clause (Hints names) = FollowsByNames own steps clause names
 

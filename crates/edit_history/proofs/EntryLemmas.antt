@@ -1,33 +1,35 @@
 -- What edits tell that are made one after another, and how a change is added to them.
 use Rattle.std.proofs.Common.{arith, ◌≡◌, ℕ, zero, suc, ◌+◌, List, [], ◌∷◌, ◌++◌, map, take, drop}
-use Rattle.std.proofs.Common.{Result, Ok, Err, is_ok, refl, sym, ap, subst, ◌∙◌}
-use Rattle.std.specs.Prelude.{◌<◌, ◌≤◌, length}
-use Rattle.std.proofs.lemmas.Bool.{cond_both, false≢true}
+use Rattle.std.proofs.Common.{Result, Ok, Err, Some, is_ok, refl, sym, ap, subst, ◌∙◌}
+use Rattle.std.specs.Prelude.{◌<◌, ◌≤◌, IfErr, length}
+use Rattle.std.specs.Result.{IsErr, IsErrAnd}
+use Rattle.std.proofs.lemmas.Bool.{false≢true}
 use Rattle.std.proofs.lemmas.List.{length-append, length-map, map-append}
-use Rattle.semantics.specs.Frameworks.{Framework, af}
-use Rattle.edit_rules.specs.declared.edit.Edit.{Edit}
-use Rattle.edit_rules.specs.declared.edit.Edit.TheVariants.{ArgAdd, ArgDrop, AttackAdd, AttackDrop}
-use Rattle.edit_rules.specs.declared.edit.Edit.TheVariants.{AsmAdd, AsmDrop, ConSet, RuleAdd, RuleDrop}
-use Rattle.edit_rules.specs.declared.effect.Effect.{Effect}
-use Rattle.edit_rules.specs.Edits.{Refusal, Row, edit_outcome, row_outcome, unless_refused}
+use Rattle.std.proofs.lemmas.List.Elements.{All-from_recursion}
+use Rattle.turn_lock.specs.Turns.{Continues}
+use Rattle.semantics.specs.Frameworks.{Framework, af, aba}
+use Rattle.edit_words.specs.declared.edit.Edit.{Edit}
+use Rattle.edit_words.specs.declared.edit.Edit.TheVariants.{ArgAdd, ArgDrop, AttackAdd, AttackDrop}
+use Rattle.edit_words.specs.declared.edit.Edit.TheVariants.{AsmAdd, AsmDrop, ConSet, RuleAdd, RuleDrop}
+use Rattle.edit_words.specs.declared.effect.Effect.{Effect}
+use Rattle.edit_words.proofs.RefusalLemmas.{done_row}
+use Rattle.aba_edits.specs.AbaEdits.{AbaRow, assumption_added, assumption_dropped, contrary_set, rule_added, rule_dropped}
+use Rattle.edit_rules.specs.Edits.{Row, any_row, edit_outcome, outcome_in, row_outcome}
 use Rattle.edit_rules.specs.Edits.{argument_added, argument_dropped, attack_added, attack_dropped}
 use Rattle.edit_rules.specs.Replay.{after_edit, left_by, replay}
 use Rattle.edit_history.specs.declared.entry.Change.{Change}
-use Rattle.edit_history.specs.Entries.{AreDone, IsAdded, effect_told, effects_of, entries_in, entry_of, framework_after}
-
-abbrev value_or : {T E : Type 0} → Result T E → T → T
-value_or (Ok x) d = x
-value_or (Err e) d = d
-
--- what a row comes to is what it says
-row_done : (rs : List Refusal) (done made : Framework × Effect) → unless_refused rs done ≡ Ok made → done ≡ made
-row_done [] done made is = ap (λ r. value_or r done) is
-row_done (r ∷ more) done made is =
-    cond_both r.stands (Err r.fault) (unless_refused more done) (λ o. o ≡ Ok made → done ≡ made)
-    (λ _. λ e. absurd (false≢true (ap is_ok e))) (λ _. λ e. row_done more done made e) is
+use Rattle.edit_history.specs.declared.entry.Entry.{Entry}
+use Rattle.edit_history.specs.declared.fault.CommitFault.{CommitFault}
+use Rattle.edit_history.specs.declared.fault.CommitFault.TheVariants.{Memory}
+use Rattle.edit_history.specs.Entries.{AreDone, FaultSays, IsAdded, session_of, effect_told, effects_of, entries_in, entry_of, framework_after}
 
 row_edit : (row : Row) (done : Framework × Effect) → row_outcome row ≡ Ok done → done.1.edit ≡ row.effect.edit
-row_edit row done e = sym (ap (λ d. d.1.edit) (row_done row.refusals (row.framework, row.effect) done e))
+row_edit row done e = sym (ap (λ d. d.1.edit) (done_row row.refusals (row.framework, row.effect) done e).1)
+
+aba_row_edit : (row : AbaRow) (done : Framework × Effect) → outcome_in (any_row (Some row)) ≡ Ok done
+    → done.1.edit ≡ row.effect.edit
+aba_row_edit row done e =
+    row_edit (record { refusals = row.refusals; framework = aba row.framework; effect = row.effect }) done e
 
 -- an effect has its edit
 effect_edit : (f : Framework) (edit : Edit) (done : Framework × Effect) → edit_outcome f edit ≡ Ok done
@@ -41,6 +43,15 @@ effect_edit (af f) (AsmDrop a) done e = absurd (false≢true (ap is_ok e))
 effect_edit (af f) (ConSet a c) done e = absurd (false≢true (ap is_ok e))
 effect_edit (af f) (RuleAdd h body) done e = absurd (false≢true (ap is_ok e))
 effect_edit (af f) (RuleDrop r) done e = absurd (false≢true (ap is_ok e))
+effect_edit (aba f) (ArgAdd n) done e = absurd (false≢true (ap is_ok e))
+effect_edit (aba f) (ArgDrop n) done e = absurd (false≢true (ap is_ok e))
+effect_edit (aba f) (AttackAdd b a) done e = absurd (false≢true (ap is_ok e))
+effect_edit (aba f) (AttackDrop b a) done e = absurd (false≢true (ap is_ok e))
+effect_edit (aba f) (AsmAdd a c) done e = aba_row_edit (assumption_added f a c) done e
+effect_edit (aba f) (AsmDrop a) done e = aba_row_edit (assumption_dropped f a) done e
+effect_edit (aba f) (ConSet a c) done e = aba_row_edit (contrary_set f a c) done e
+effect_edit (aba f) (RuleAdd h body) done e = aba_row_edit (rule_added f h body) done e
+effect_edit (aba f) (RuleDrop r) done e = aba_row_edit (rule_dropped f r) done e
 
 -- the edits of changes
 abbrev edits_in : List Change → List Edit
@@ -117,3 +128,23 @@ pub done_from : (f : Framework) (n : ℕ) (changes : List Change) → AreDone f 
 done_from f zero changes done = done
 done_from f (suc n) [] done = refl
 done_from f (suc n) (c ∷ changes) done = done_from (after_edit f c.effect.edit) n changes (ap rest_of done)
+
+-- an entry of the session's own is what the history gains
+pub continues : (limit : ℕ) (f : Framework) (session : ℕ) (edit : Edit) (before after : List Entry) (effect : Effect)
+    → IsAdded limit f session edit before after effect → Continues session_of session before after
+continues limit f session edit before after effect is =
+    let entry : Entry = record { session = session; edit = edit } in
+    record {
+      added = entry ∷ [];
+      longer = is.longer;
+      each = All-from_recursion (λ e. session_of e ≡ session) (entry ∷ []) (refl, tt);
+    }
+
+-- what the want of memory says
+pub out_of_memory : {X : Type 0} (limit : ℕ) (f : Framework) (changes : List Change) (edit : Edit)
+    (result : Result X CommitFault) → length changes < limit → IsErr result × IsErrAnd result (λ x. x ≡ Memory)
+    → IfErr result (FaultSays limit f (entries_in changes) edit)
+out_of_memory limit f changes edit (Ok x) room is = absurd (false≢true is.0)
+out_of_memory limit f changes edit (Err fault) room is =
+    subst (FaultSays limit f (entries_in changes) edit) (sym is.1)
+    (subst (λ n. n < limit) (sym (length-map changes entry_of)) room)

@@ -1,32 +1,39 @@
 -- What edits keep of a framework, and what the framework and the effect behind an edit tell of the framework before.
-use Rattle.std.proofs.Common.{Result, Ok, Err, ◌≡◌, true, false, Bool, List, [], ◌∷◌, not, ℕ, sym, ◌∙◌, ap, subst, ⊎_elim, inl}
-use Rattle.std.specs.Prelude.{Contains, ◌==◌, ◌&&◌, ◌<◌, filter, is_ok}
-use Rattle.std.proofs.lemmas.Bool.{false≢true, cond_both, not-false, not_from_false, eqb-true}
+use Rattle.std.proofs.Common.{Result, Ok, Err, ◌≡◌, true, false, Bool, List, [], ◌∷◌, ℕ, sym, ◌∙◌, ap, subst, refl, ⊎_elim, inl}
+use Rattle.std.specs.Prelude.{Contains, ◌==◌, ◌&&◌, ◌<◌, is_ok}
+use Rattle.std.proofs.lemmas.Bool.{false≢true, cond_both, not-false, eqb-true}
 use Rattle.std.proofs.lemmas.List.Kept.{AllPairs-from_increasing}
 use Rattle.plain_lists.proofs.Filters.{Contains-filter}
 use Rattle.semantics.specs.Framework.{Af}
-use Rattle.semantics.specs.Frameworks.{Framework, af, IsNumbered, IsNumberedAf}
-use Rattle.edit_rules.specs.declared.edit.Edit.{Edit}
-use Rattle.edit_rules.specs.declared.edit.Edit.TheVariants.{ArgAdd, ArgDrop, AttackAdd, AttackDrop, AsmAdd, AsmDrop, ConSet, RuleAdd, RuleDrop}
-use Rattle.edit_rules.specs.declared.effect.Effect.{Effect}
-use Rattle.edit_rules.specs.Edits.{Refusal, edit_outcome, has_number, has_pair, is_end, unless_refused, with_number, with_pair, argument_added, argument_dropped, attack_added, attack_dropped}
+use Rattle.aba_semantics.specs.AbaFrameworks.{Aba, IsNumberedAba}
+use Rattle.semantics.specs.Frameworks.{Framework, af, aba, IsNumbered, IsNumberedAf}
+use Rattle.edit_words.specs.declared.edit.Edit.{Edit}
+use Rattle.edit_words.specs.declared.edit.Edit.TheVariants.{ArgAdd, ArgDrop, AttackAdd, AttackDrop, AsmAdd, AsmDrop, ConSet, RuleAdd, RuleDrop}
+use Rattle.edit_words.specs.declared.effect.Effect.{Effect}
+use Rattle.edit_words.specs.declared.effect.EditFault.{EditFault}
+use Rattle.edit_words.specs.Numbers.{has_number}
+use Rattle.edit_words.specs.Refusals.{Refusal, done_unless}
+use Rattle.edit_rules.specs.Edits.{edit_outcome, has_pair, is_end, with_pair, argument_added, argument_dropped, attack_added, attack_dropped}
+use Rattle.edit_rules.specs.Kinds.{kind_of}
 use Rattle.edit_rules.specs.Replay.{after_edit, left_by, replay}
-use Rattle.edit_rules.proofs.EditTests.{both_gives, same_pair, number_there, pair_there, there_number, there_pair, within_bounds}
-use Rattle.edit_rules.proofs.RisingLists.{numbers_asymmetric, same_lists}
-use Rattle.edit_rules.proofs.RowForms.{with_argument_form, without_argument_form, with_attack_form, without_attack_form, with_number_members, with_pair_members}
-use Rattle.edit_rules.proofs.SameFrameworks.{equal_members, same_framework}
-
--- none of the refusals stands
-abbrev pub NoneStands : List Refusal → Type 0
-NoneStands [] = Unit
-NoneStands (r ∷ more) = (r.stands ≡ false) × NoneStands more
+use Rattle.edit_words.proofs.EditTests.{absent, both_gives, same_pair, number_there}
+use Rattle.edit_rules.proofs.EditTests.{pair_there, there_pair, within_bounds}
+use Rattle.edit_words.proofs.RisingLists.{numbers_asymmetric, same_lists}
+use Rattle.edit_words.proofs.NumberLists.{equal_members, from_parts, without_number}
+use Rattle.edit_words.proofs.RefusalLemmas.{EachPasses, done_passes}
+use Rattle.edit_rules.proofs.RowForms.{with_argument_form, without_argument_form, with_attack_form, without_attack_form, with_pair_members}
+use Rattle.edit_rules.proofs.SameFrameworks.{same_framework}
+use Rattle.edit_rules.proofs.AbaOutcomes.{any_outcome, aba_edit_outcome}
+use Rattle.aba_edits.specs.AbaEdits.{aba_outcome}
+use Rattle.aba_edits.proofs.LawLemmas.{keeps_form}
+use Rattle.aba_edits.proofs.DetermineLemmas.{determined as aba_determined}
 
 -- what holds of a framework, and of the one behind a row of which none stands, holds of what the row leaves
 after_row : (P : Framework → Type 0) (f : Framework) (rs : List Refusal) (done : Framework × Effect) → P f
-    → (NoneStands rs → P done.0) → P (left_by f (unless_refused rs done))
+    → (EachPasses rs → P done.0) → P (left_by f (done_unless rs done))
 after_row P f [] done before behind = behind tt
 after_row P f (r ∷ more) done before behind =
-    cond_both r.stands (Err r.fault) (unless_refused more done) (λ o. P (left_by f o)) (λ _. before)
+    cond_both r.stands (Err r.fault) (done_unless more done) (λ o. P (left_by f o)) (λ _. before)
     (λ fails. after_row P f more done before (λ rest. behind (fails, rest)))
 
 after_edit_form : (f : Af) (edit : Edit) → IsNumberedAf f → IsNumbered (after_edit (af f) edit)
@@ -53,23 +60,25 @@ after_edit_form f (ConSet a c) ok = ok
 after_edit_form f (RuleAdd h body) ok = ok
 after_edit_form f (RuleDrop r) ok = ok
 
+-- what holds of an assumption-based framework, and of the one behind an edit of it, holds of what the edit leaves
+left_in_form : (f : Aba) (outcome : Result (Aba × Effect) EditFault) → IsNumberedAba f
+    → ((done : Aba × Effect) → outcome ≡ Ok done → IsNumberedAba done.0)
+    → IsNumbered (left_by (aba f) (any_outcome outcome))
+left_in_form f (Ok done) ok behind = behind done refl
+left_in_form f (Err fault) ok behind = ok
+
+after_aba_edit_form : (f : Aba) (edit : Edit) → IsNumberedAba f → IsNumbered (after_edit (aba f) edit)
+after_aba_edit_form f edit ok =
+    subst (λ o. IsNumbered (left_by (aba f) o)) (sym (aba_edit_outcome f edit))
+    (left_in_form f (aba_outcome f edit) ok (λ done is. keeps_form f done.0 edit done.1 ok is))
+
+after_any_edit_form : (f : Framework) (edit : Edit) → IsNumbered f → IsNumbered (after_edit f edit)
+after_any_edit_form (af f) edit ok = after_edit_form f edit ok
+after_any_edit_form (aba f) edit ok = after_aba_edit_form f edit ok
+
 pub edits_keep : (f : Framework) (edits : List Edit) → IsNumbered f → IsNumbered (replay f edits)
-edits_keep (af f) [] ok = ok
-edits_keep (af f) (edit ∷ more) ok = edits_keep (after_edit (af f) edit) more (after_edit_form f edit ok)
-
-abbrev value_or : {T E : Type 0} → Result T E → T → T
-value_or (Ok x) d = x
-value_or (Err e) d = d
-
--- a row that is done was not refused
-pub done_row : (rs : List Refusal) (done made : Framework × Effect) → unless_refused rs done ≡ Ok made
-    → NoneStands rs × (done ≡ made)
-done_row [] done made is = (tt, ap (λ r. value_or r done) is)
-done_row (r ∷ more) done made is =
-    cond_both r.stands (Err r.fault) (unless_refused more done)
-    (λ o. o ≡ Ok made → NoneStands (r ∷ more) × (done ≡ made))
-    (λ _. λ e. absurd (false≢true (ap is_ok e)))
-    (λ fails. λ e. let rest = done_row more done made e in ((fails, rest.0), rest.1)) is
+edits_keep f [] ok = ok
+edits_keep f (edit ∷ more) ok = edits_keep (after_edit f edit) more (after_any_edit_form f edit ok)
 
 -- a test for one pair, and a member of which it is true
 abbrev is_pair : ℕ → ℕ → ℕ × ℕ → Bool
@@ -81,14 +90,7 @@ the_pair b a ps qs there q c t =
     let both = both_gives (q.0 == b) (q.1 == a) t in
     subst (λ z. Contains qs z) (sym (same_pair q (b, a) (eqb-true q.0 b both.0) (eqb-true q.1 a both.1))) there
 
--- a number that wasn't there goes again, and a pair
-without_number : (n : ℕ) (xs ys : List ℕ) → with_number n xs ≡ with_number n ys → has_number xs n ≡ false
-    → (x : ℕ) → Contains xs x → Contains ys x
-without_number n xs ys same free x c =
-    ⊎_elim (λ h. h)
-    (λ (e : x ≡ n). absurd (false≢true (sym free ∙ there_number xs n (subst (λ z. Contains xs z) e c))))
-    ((with_number_members n ys x).0 (subst (λ zs. Contains zs x) same ((with_number_members n xs x).1 (inl c))))
-
+-- a pair that wasn't there goes again
 without_pair : (p : ℕ × ℕ) (ps qs : List (ℕ × ℕ)) → with_pair p ps ≡ with_pair p qs → has_pair ps p ≡ false
     → (q : ℕ × ℕ) → Contains ps q → Contains qs q
 without_pair p ps qs same free q c =
@@ -96,17 +98,10 @@ without_pair p ps qs same free q c =
     (λ (e : q ≡ p). absurd (false≢true (sym free ∙ there_pair ps p (subst (λ z. Contains ps z) e c))))
     ((with_pair_members p qs q).0 (subst (λ zs. Contains zs q) same ((with_pair_members p ps q).1 (inl c))))
 
--- what a filter keeps of two lists is the same, and so is the rest: they have the same members
-from_parts : {X : Type 0} (test : X → Bool) (xs ys : List X)
-    → filter (λ x. not (test x)) xs ≡ filter (λ x. not (test x)) ys
-    → ((x : X) → Contains xs x → test x ≡ true → Contains ys x) → (x : X) → Contains xs x → Contains ys x
-from_parts test xs ys kept gone x c =
-    cond_both (test x) x x (λ _. Contains ys x) (λ t. gone x c t)
-    (λ f. ((Contains-filter (λ x. not (test x)) ys x).0
-    (subst (λ zs. Contains zs x) kept ((Contains-filter (λ x. not (test x)) xs x).1 (c, not_from_false (test x) f)))).0)
-
+-- the abstract framework that a framework is, or one without arguments
 abbrev pub af_of : Framework → Af
 af_of (af f) = f
+af_of (aba f) = record { live = []; attacks = [] }
 
 live_same : (f g : Af) → IsNumberedAf f → IsNumberedAf g → ((x : ℕ) → Contains f.live x → Contains g.live x)
     → ((x : ℕ) → Contains g.live x → Contains f.live x) → f.live ≡ g.live
@@ -118,17 +113,18 @@ determined : (f g : Af) (edit : Edit) (done : Framework × Effect) → IsNumbere
     → edit_outcome (af f) edit ≡ Ok done → edit_outcome (af g) edit ≡ Ok done → f ≡ g
 determined f g (ArgAdd n) done ok ko of_f of_g =
     let row = argument_added f n in let wor = argument_added g n in
-    let a = done_row row.refusals (row.framework, row.effect) done of_f in
-    let b = done_row wor.refusals (wor.framework, wor.effect) done of_g in
+    let a = done_passes row.refusals (row.framework, row.effect) done of_f in
+    let b = done_passes wor.refusals (wor.framework, wor.effect) done of_g in
     let same = ap (λ d. af_of d.0) (a.1 ∙ sym b.1) in
     let lives = ap (λ h. h.live) same in
     same_framework f g ok.form ko.form (live_same f g ok ko
-    (without_number n f.live g.live lives a.0.1.0) (without_number n g.live f.live (sym lives) b.0.1.0))
+    (without_number n f.live g.live lives (absent f.live n a.0.1.0))
+    (without_number n g.live f.live (sym lives) (absent g.live n b.0.1.0)))
     (equal_members f.attacks g.attacks (ap (λ h. h.attacks) same))
 determined f g (ArgDrop n) done ok ko of_f of_g =
     let row = argument_dropped f n in let wor = argument_dropped g n in
-    let a = done_row row.refusals (row.framework, row.effect) done of_f in
-    let b = done_row wor.refusals (wor.framework, wor.effect) done of_g in
+    let a = done_passes row.refusals (row.framework, row.effect) done of_f in
+    let b = done_passes wor.refusals (wor.framework, wor.effect) done of_g in
     let same = ap (λ d. af_of d.0) (a.1 ∙ sym b.1) in
     let lives = ap (λ h. h.live) same in
     let kept = ap (λ h. h.attacks) same in
@@ -146,8 +142,8 @@ determined f g (ArgDrop n) done ok ko of_f of_g =
     ))
 determined f g (AttackAdd b a) done ok ko of_f of_g =
     let row = attack_added f b a in let wor = attack_added g b a in
-    let x = done_row row.refusals (row.framework, row.effect) done of_f in
-    let y = done_row wor.refusals (wor.framework, wor.effect) done of_g in
+    let x = done_passes row.refusals (row.framework, row.effect) done of_f in
+    let y = done_passes wor.refusals (wor.framework, wor.effect) done of_g in
     let same = ap (λ d. af_of d.0) (x.1 ∙ sym y.1) in
     let attacks = ap (λ h. h.attacks) same in
     same_framework f g ok.form ko.form (ap (λ h. h.live) same) (λ p. (
@@ -156,8 +152,8 @@ determined f g (AttackAdd b a) done ok ko of_f of_g =
     ))
 determined f g (AttackDrop b a) done ok ko of_f of_g =
     let row = attack_dropped f b a in let wor = attack_dropped g b a in
-    let x = done_row row.refusals (row.framework, row.effect) done of_f in
-    let y = done_row wor.refusals (wor.framework, wor.effect) done of_g in
+    let x = done_passes row.refusals (row.framework, row.effect) done of_f in
+    let y = done_passes wor.refusals (wor.framework, wor.effect) done of_g in
     let same = ap (λ d. af_of d.0) (x.1 ∙ sym y.1) in
     let kept = ap (λ h. h.attacks) same in
     same_framework f g ok.form ko.form (ap (λ h. h.live) same) (λ p. (
@@ -172,6 +168,83 @@ determined f g (ConSet a c) done ok ko of_f of_g = absurd (false≢true (ap is_o
 determined f g (RuleAdd h body) done ok ko of_f of_g = absurd (false≢true (ap is_ok of_f))
 determined f g (RuleDrop r) done ok ko of_f of_g = absurd (false≢true (ap is_ok of_f))
 
+-- ---- frameworks of both kinds
+
+-- an edit leaves a framework of its kind
+abbrev is_af : Framework → Bool
+is_af (af f) = true
+is_af (aba f) = false
+
+af_stays : (f : Af) (edit : Edit) (done : Framework × Effect) → edit_outcome (af f) edit ≡ Ok done
+    → is_af done.0 ≡ true
+af_stays f (ArgAdd n) done is =
+    let row = argument_added f n in
+    sym (ap (λ d. is_af d.0) (done_passes row.refusals (row.framework, row.effect) done is).1)
+af_stays f (ArgDrop n) done is =
+    let row = argument_dropped f n in
+    sym (ap (λ d. is_af d.0) (done_passes row.refusals (row.framework, row.effect) done is).1)
+af_stays f (AttackAdd b a) done is =
+    let row = attack_added f b a in
+    sym (ap (λ d. is_af d.0) (done_passes row.refusals (row.framework, row.effect) done is).1)
+af_stays f (AttackDrop b a) done is =
+    let row = attack_dropped f b a in
+    sym (ap (λ d. is_af d.0) (done_passes row.refusals (row.framework, row.effect) done is).1)
+af_stays f (AsmAdd a c) done is = absurd (false≢true (ap is_ok is))
+af_stays f (AsmDrop a) done is = absurd (false≢true (ap is_ok is))
+af_stays f (ConSet a c) done is = absurd (false≢true (ap is_ok is))
+af_stays f (RuleAdd h body) done is = absurd (false≢true (ap is_ok is))
+af_stays f (RuleDrop r) done is = absurd (false≢true (ap is_ok is))
+
+-- the assumption-based framework that a framework is, or else another
+abbrev aba_or : Aba → Framework → Aba
+aba_or d (af f) = d
+aba_or d (aba f) = f
+
+abbrev done_or : Framework × Effect → Result (Framework × Effect) EditFault → Framework × Effect
+done_or d (Ok done) = done
+done_or d (Err fault) = d
+
+-- what an edit of an assumption-based framework did
+done_aba : (outcome : Result (Aba × Effect) EditFault) (done : Framework × Effect) → any_outcome outcome ≡ Ok done
+    → (made : Aba × Effect) × (outcome ≡ Ok made) × ((aba made.0, made.1) ≡ done)
+done_aba (Ok made) done is = (made, refl, ap (done_or done) is)
+done_aba (Err fault) done is = absurd (false≢true (ap is_ok is))
+
+edit_done : (f : Aba) (edit : Edit) (done : Framework × Effect) → edit_outcome (aba f) edit ≡ Ok done
+    → (made : Aba × Effect) × (aba_outcome f edit ≡ Ok made) × ((aba made.0, made.1) ≡ done)
+edit_done f edit done is = done_aba (aba_outcome f edit) done (sym (aba_edit_outcome f edit) ∙ is)
+
+both_aba : (f g : Aba) (edit : Edit) (done : Framework × Effect) → IsNumberedAba f → IsNumberedAba g
+    → edit_outcome (aba f) edit ≡ Ok done → edit_outcome (aba g) edit ≡ Ok done → f ≡ g
+both_aba f g edit done ok ko of_f of_g =
+    let x = edit_done f edit done of_f in
+    let y = edit_done g edit done of_g in
+    let same = ap (λ (d : Framework × Effect). (aba_or f d.0, d.1)) (y.2 ∙ sym x.2) in
+    aba_determined f g edit x.0 ok ko x.1 (y.1 ∙ ap Ok same)
+
+not_both : (f : Af) (g : Aba) (edit : Edit) (done : Framework × Effect) → edit_outcome (af f) edit ≡ Ok done
+    → edit_outcome (aba g) edit ≡ Ok done → ⊥
+not_both f g edit done of_f of_g =
+    false≢true (ap (λ d. is_af d.0) (edit_done g edit done of_g).2 ∙ af_stays f edit done of_f)
+
+kind_behind : (f : Framework) (edit : Edit) (done : Framework × Effect) → edit_outcome f edit ≡ Ok done
+    → kind_of done.0 ≡ kind_of f
+kind_behind (af f) edit (af g, effect) is = refl
+kind_behind (af f) edit (aba g, effect) is = absurd (false≢true (af_stays f edit (aba g, effect) is))
+kind_behind (aba f) edit done is = sym (ap (λ d. kind_of d.0) (edit_done f edit done is).2)
+
+kind_left : (f : Framework) (edit : Edit) (outcome : Result (Framework × Effect) EditFault)
+    → edit_outcome f edit ≡ outcome → kind_of (left_by f outcome) ≡ kind_of f
+kind_left f edit (Ok done) is = kind_behind f edit done is
+kind_left f edit (Err fault) is = refl
+
+pub kind_stays : (f : Framework) (edits : List Edit) → kind_of (replay f edits) ≡ kind_of f
+kind_stays f [] = refl
+kind_stays f (edit ∷ more) = kind_stays (after_edit f edit) more ∙ kind_left f edit (edit_outcome f edit) refl
+
 pub effects_tell : (f g : Framework) (edit : Edit) (done : Framework × Effect) → IsNumbered f → IsNumbered g
     → edit_outcome f edit ≡ Ok done → edit_outcome g edit ≡ Ok done → f ≡ g
 effects_tell (af f) (af g) edit done ok ko of_f of_g = ap af (determined f g edit done ok ko of_f of_g)
+effects_tell (aba f) (aba g) edit done ok ko of_f of_g = ap aba (both_aba f g edit done ok ko of_f of_g)
+effects_tell (af f) (aba g) edit done ok ko of_f of_g = absurd (not_both f g edit done of_f of_g)
+effects_tell (aba f) (af g) edit done ok ko of_f of_g = absurd (not_both g f edit done of_g of_f)

@@ -1,62 +1,21 @@
 -- The frameworks behind the edits are in form, and which members their lists have.
-use Rattle.std.proofs.Common.{◌≡◌, ◌<◌, ℕ, true, not, List, ◌∷◌, ◌++◌, take, drop, ap, sym, ◌∙◌, subst, arith, ⊎_elim, inl, inr}
+use Rattle.std.proofs.Common.{◌≡◌, ℕ, true, not, List, ◌∷◌, ◌++◌, take, drop, ap, sym, ◌∙◌, subst, ⊎_elim, inl, inr}
 use Rattle.std.proofs.lemmas.List.{take-append-drop}
-use Rattle.std.specs.Prelude.{◌↔◌, ◌⊎◌, ◌&&◌, ◌==◌, Contains, filter, nat_lt}
+use Rattle.std.specs.Prelude.{◌↔◌, ◌⊎◌, ◌&&◌, ◌==◌, Contains, filter}
 use Rattle.std.specs.List.{AllPairs}
-use Rattle.std.specs.List.Sorted.{IsStrictlyIncreasing}
-use Rattle.std.proofs.lemmas.Bool.{true≢false, ltb-true, lt-ltb, not-true, not_from_false, cases_lt}
+use Rattle.std.proofs.lemmas.Bool.{true≢false, not-true, not_from_false}
 use Rattle.std.proofs.lemmas.List.Elements.{Contains-append_cases, Contains-append_left, Contains-append_right}
-use Rattle.std.proofs.lemmas.List.Kept.{AllPairs-filter, AllPairs-from_increasing, IsStrictlyIncreasing-filter}
-use Rattle.plain_lists.specs.Members.{IsSetOf}
+use Rattle.std.proofs.lemmas.List.Kept.{AllPairs-filter, IsStrictlyIncreasing-filter}
 use Rattle.plain_lists.proofs.Filters.{Contains-filter}
 use Rattle.plain_lists.proofs.Membership.{Contains-head, Contains-tail, Contains-cons_cases}
 use Rattle.semantics.specs.Arguments.{IsArgument}
 use Rattle.semantics.specs.Framework.{Af, IsPairBefore}
 use Rattle.semantics.specs.Frameworks.{IsNumberedAf}
-use Rattle.edit_rules.specs.Edits.{af_with_argument, af_with_attack, is_before, is_end, with_number, with_pair}
-use Rattle.edit_rules.proofs.RisingLists.{increasing_from, middle_rises, numbers_asymmetric, pairs_through, same_lists}
-use Rattle.edit_rules.proofs.EditTests.{before_true, true_before, either_left, either_right, is_false, pair_cases}
-
-pub with_number_rises : (x : ℕ) (xs : List ℕ) → IsStrictlyIncreasing xs → IsStrictlyIncreasing (with_number x xs)
-with_number_rises x xs up =
-    let all = AllPairs-from_increasing xs up in
-    increasing_from (with_number x xs) (middle_rises (λ (a b : ℕ). a < b) (λ a b c low high. omega arith)
-    (filter (λ y. nat_lt y x) xs) x (filter (λ y. nat_lt x y) xs)
-    (AllPairs-filter (λ (a b : ℕ). a < b) (λ y. nat_lt y x) xs all)
-    (AllPairs-filter (λ (a b : ℕ). a < b) (λ y. nat_lt x y) xs all)
-    (λ y c. ltb-true y x ((Contains-filter (λ y. nat_lt y x) xs y).0 c).1)
-    (λ y c. ltb-true x y ((Contains-filter (λ y. nat_lt x y) xs y).0 c).1))
-
-joins : (x : ℕ) (xs : List ℕ) (y : ℕ) → x ≡ y → Contains (with_number x xs) y
-joins x xs y e = Contains-append_right (filter (λ y. nat_lt y x) xs) (x ∷ filter (λ y. nat_lt x y) xs) y
-    (Contains-head x (filter (λ y. nat_lt x y) xs) y e)
-
-stays : (x : ℕ) (xs : List ℕ) (y : ℕ) → Contains xs y → Contains (with_number x xs) y
-stays x xs y c =
-    ⊎_elim (λ lt. Contains-append_left (filter (λ y. nat_lt y x) xs) (x ∷ filter (λ y. nat_lt x y) xs) y
-    ((Contains-filter (λ y. nat_lt y x) xs y).1 (c, lt-ltb y x lt)))
-    (λ ge. ⊎_elim (λ lt. Contains-append_right (filter (λ y. nat_lt y x) xs) (x ∷ filter (λ y. nat_lt x y) xs) y
-    (Contains-tail x (filter (λ y. nat_lt x y) xs) y ((Contains-filter (λ y. nat_lt x y) xs y).1 (c, lt-ltb x y lt))))
-    (λ le. joins x xs y (omega arith)) (cases_lt x y)) (cases_lt y x)
-
-pub with_number_members : (x : ℕ) (xs : List ℕ) (y : ℕ) → Contains (with_number x xs) y ↔ (Contains xs y ⊎ (y ≡ x))
-with_number_members x xs y = (
-  λ c. ⊎_elim (λ h. inl ((Contains-filter (λ y. nat_lt y x) xs y).0 h).0)
-      (λ h. ⊎_elim (λ (e : x ≡ y). inr (sym e)) (λ h'. inl ((Contains-filter (λ y. nat_lt x y) xs y).0 h').0)
-      (Contains-cons_cases x (filter (λ y. nat_lt x y) xs) y h))
-      (Contains-append_cases (filter (λ y. nat_lt y x) xs) (x ∷ filter (λ y. nat_lt x y) xs) y c),
-  λ s. ⊎_elim (λ c. stays x xs y c) (λ (e : y ≡ x). joins x xs y (sym e)) s,
-)
-
--- what has the members of a list and a number more, and rises, is the list with the number more
-pub with_number_is : (x : ℕ) (xs new : List ℕ) → IsStrictlyIncreasing xs
-    → IsSetOf (λ y. Contains xs y ⊎ (y ≡ x)) new → new ≡ with_number x xs
-with_number_is x xs new up set = same_lists (λ (a b : ℕ). a < b) numbers_asymmetric new (with_number x xs)
-    (AllPairs-from_increasing new set.rises)
-    (AllPairs-from_increasing (with_number x xs) (with_number_rises x xs up)) (λ y. (
-      λ c. (with_number_members x xs y).1 ((set.members y).0 c),
-      λ c. (set.members y).1 ((with_number_members x xs y).0 c),
-    ))
+use Rattle.edit_rules.specs.Edits.{af_with_argument, af_with_attack, is_before, is_end, with_pair}
+use Rattle.edit_words.proofs.RisingLists.{middle_rises, pairs_through}
+use Rattle.edit_words.proofs.NumberLists.{with_number_members, with_number_rises}
+use Rattle.edit_words.proofs.EditTests.{either_left, either_right, is_false}
+use Rattle.edit_rules.proofs.EditTests.{before_true, true_before, pair_cases}
 
 pub with_pair_rises : (p : ℕ × ℕ) (ps : List (ℕ × ℕ)) → AllPairs IsPairBefore ps
     → AllPairs IsPairBefore (with_pair p ps)
@@ -160,11 +119,6 @@ without_attack_form f b a ok = record {
 }
 
 -- lists that gained a number and a pair, said of copies
-pub joined_number : (xs copy new : List ℕ) (x : ℕ) → copy ≡ xs → IsStrictlyIncreasing xs
-    → IsSetOf (λ y. Contains copy y ⊎ (y ≡ x)) new → new ≡ with_number x xs
-joined_number xs copy new x e up set =
-    with_number_is x xs new up (subst (λ zs. IsSetOf (λ y. Contains zs y ⊎ (y ≡ x)) new) e set)
-
 pub joined_pairs : (ps copy new : List (ℕ × ℕ)) (p : ℕ × ℕ) → copy ≡ ps
     → ((q : ℕ × ℕ) → Contains new q ↔ (Contains copy q ⊎ (q ≡ p))) → (q : ℕ × ℕ)
     → Contains new q ↔ Contains (with_pair p ps) q

@@ -4,7 +4,7 @@ use Rattle.std.specs.Prelude.{◌↔◌}
 use Rattle.semantics.specs.Framework.{Af, IsAf, IsPairBefore}
 use Rattle.semantics.specs.Frameworks.{IsNumberedAf}
 use Rattle.dung_notions.specs.Neighbours.{AreArguments, AreBetween}
-use Rattle.edit_rules.proofs.RisingLists.{pairs_asymmetric, same_lists}
+use Rattle.edit_words.proofs.RisingLists.{pairs_asymmetric, same_lists}
 
 -- two frameworks with the same live arguments and the same attacks are the same
 pub same_framework : (f g : Af) → IsAf f → IsAf g → f.live ≡ g.live
@@ -36,6 +36,3 @@ pub are_between : (f : Af) (live : List ℕ) (attacks : List (ℕ × ℕ)) → I
 are_between f live attacks ok e same b a c =
     let ends = ok.form.ends b a ((same (b, a)).0 c) in
     (subst (λ xs. Contains xs b) (sym e) ends.0, subst (λ xs. Contains xs a) (sym e) ends.1)
-
-pub equal_members : {X : Type 0} (xs ys : List X) → xs ≡ ys → (x : X) → Contains xs x ↔ Contains ys x
-equal_members xs ys e x = (λ c. subst (λ zs. Contains zs x) e c, λ c. subst (λ zs. Contains zs x) (sym e) c)

@@ -2,22 +2,21 @@
 -- stands is told, the framework behind it, and its effect. Edits of a framework as operations on its graph: C. Cayrol,
 -- F. Dupin de Saint-Cyr, M.-C. Lagasquie-Schiex, "Change in abstract argumentation frameworks: adding an argument",
 -- Journal of Artificial Intelligence Research 38 (2010).
-use Rattle.std.specs.Prelude.{ℕ, ◌==◌, ◌&&◌, ◌||◌, Bool, not, nat_le, nat_lt, if◌then◌else◌}
-use Rattle.std.specs.Prelude.{List, [], ◌∷◌, ◌++◌, filter, Option, Some, None, Result, Ok, Err}
+use Rattle.std.specs.Prelude.{ℕ, ◌==◌, ◌&&◌, ◌||◌, Bool, not, nat_le, nat_lt}
+use Rattle.std.specs.Prelude.{List, [], ◌∷◌, ◌++◌, filter, Option, Some, None, Result, Err}
 use Rattle.std.specs.List.{list_any}
 use Rattle.semantics.specs.Framework.{Af}
-use Rattle.semantics.specs.Frameworks.{Framework, af}
+use Rattle.semantics.specs.Frameworks.{Framework, af, aba}
 use Rattle.semantics.specs.declared.argument.TheConstants.{LAST_ARGUMENT}
-use Rattle.edit_rules.specs.declared.edit.Edit.{Edit}
-use Rattle.edit_rules.specs.declared.edit.Edit.TheVariants.{ArgAdd, ArgDrop, AttackAdd, AttackDrop, AsmAdd, AsmDrop, ConSet, RuleAdd, RuleDrop}
-use Rattle.edit_rules.specs.declared.effect.Effect.{Effect}
-use Rattle.edit_rules.specs.declared.effect.EditFault.{EditFault}
-use Rattle.edit_rules.specs.declared.effect.EditFault.TheVariants.{WrongKind, OutOfRange, ArgumentIsThere, UnknownArgument, AttackIsThere, NoSuchAttack}
-
--- a reason to refuse an edit: the fault is told where the test is true
-pub record Refusal : Type 0 where
-  pub stands : Bool
-  pub fault : EditFault
+use Rattle.edit_words.specs.declared.edit.Edit.{Edit}
+use Rattle.edit_words.specs.declared.edit.Edit.TheVariants.{ArgAdd, ArgDrop, AttackAdd, AttackDrop, AsmAdd, AsmDrop, ConSet, RuleAdd, RuleDrop}
+use Rattle.edit_words.specs.declared.effect.Effect.{Effect}
+use Rattle.edit_words.specs.declared.effect.EditFault.{EditFault}
+use Rattle.edit_words.specs.declared.effect.EditFault.TheVariants.{WrongKind, OutOfRange, ArgumentIsThere, UnknownArgument, AttackIsThere, NoSuchAttack}
+use Rattle.edit_words.specs.Refusals.{Refusal, refused_if, done_unless}
+use Rattle.edit_words.specs.Numbers.{has_number, with_number}
+use Rattle.edit_words.specs.Effects.{plain_effect}
+use Rattle.aba_edits.specs.AbaEdits.{AbaRow, aba_row}
 
 -- the row of an edit: its refusals in their order, and what it does where none stands
 pub record Row : Type 0 where
@@ -25,13 +24,7 @@ pub record Row : Type 0 where
   pub framework : Framework
   pub effect : Effect
 
-abbrev pub refused_if : Bool → EditFault → Refusal
-refused_if stands fault = record { stands = stands; fault = fault }
-
--- the list has the number, the pair
-abbrev pub has_number : List ℕ → ℕ → Bool
-has_number xs x = list_any (λ y. y == x) xs
-
+-- the list has the pair
 abbrev pub has_pair : List (ℕ × ℕ) → ℕ × ℕ → Bool
 has_pair ps p = list_any (λ q. q.0 == p.0 && q.1 == p.1) ps
 
@@ -46,10 +39,6 @@ unknown f x = refused_if (not (has_number f.live x)) (UnknownArgument x)
 -- an attack between numbers of which one is no argument's, or isn't live
 abbrev pub end_refusals : Af → ℕ → ℕ → List Refusal
 end_refusals f b a = outside b ∷ outside a ∷ unknown f b ∷ unknown f a ∷ []
-
--- a rising list with a number more
-abbrev pub with_number : ℕ → List ℕ → List ℕ
-with_number x xs = filter (λ y. nat_lt y x) xs ++ x ∷ filter (λ y. nat_lt x y) xs
 
 -- the first pair comes before the second
 abbrev pub is_before : ℕ × ℕ → ℕ × ℕ → Bool
@@ -79,10 +68,6 @@ af_with_attack f b a = record { live = f.live; attacks = with_pair (b, a) f.atta
 
 abbrev pub af_without_attack : Af → ℕ → ℕ → Af
 af_without_attack f b a = record { live = f.live; attacks = filter (λ p. not (p.0 == b && p.1 == a)) f.attacks }
-
--- an effect that took nothing away
-abbrev pub plain_effect : Edit → Effect
-plain_effect edit = record { edit = edit; rule = 0; dropped = []; gone = 0; head = 0; body = [] }
 
 abbrev pub argument_added : Af → ℕ → Row
 argument_added f n = record {
@@ -137,18 +122,20 @@ af_row f (ConSet a c) = None
 af_row f (RuleAdd h body) = None
 af_row f (RuleDrop r) = None
 
+-- the row of an edit of a flat assumption-based framework, as one of any framework
+abbrev pub any_row : Option AbaRow → Option Row
+any_row None = None
+any_row (Some row) =
+    Some (record { refusals = row.refusals; framework = aba row.framework; effect = row.effect })
+
 -- the row of an edit
 abbrev pub row_of : Framework → Edit → Option Row
 row_of (af f) edit = af_row f edit
-
--- the fault of the first refusal that stands, or else what is done
-abbrev pub unless_refused : List Refusal → Framework × Effect → Result (Framework × Effect) EditFault
-unless_refused [] done = Ok done
-unless_refused (r ∷ more) done = if r.stands then Err r.fault else unless_refused more done
+row_of (aba f) edit = any_row (aba_row f edit)
 
 -- what a row comes to
 abbrev pub row_outcome : Row → Result (Framework × Effect) EditFault
-row_outcome row = unless_refused row.refusals (row.framework, row.effect)
+row_outcome row = done_unless row.refusals (row.framework, row.effect)
 
 -- what a row comes to, where the edit has one
 abbrev pub outcome_in : Option Row → Result (Framework × Effect) EditFault

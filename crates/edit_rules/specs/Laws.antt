@@ -1,14 +1,19 @@
 -- What edits keep, and what an effect tells.
 use Rattle.std.specs.Prelude.{◌≡◌, List, Ok}
 use Rattle.semantics.specs.Frameworks.{Framework, IsNumbered}
-use Rattle.edit_rules.specs.declared.edit.Edit.{Edit}
-use Rattle.edit_rules.specs.declared.effect.Effect.{Effect}
+use Rattle.edit_words.specs.declared.edit.Edit.{Edit}
+use Rattle.edit_words.specs.declared.effect.Effect.{Effect}
 use Rattle.edit_rules.specs.Edits.{edit_outcome}
+use Rattle.edit_rules.specs.Kinds.{kind_of}
 use Rattle.edit_rules.specs.Replay.{replay}
 
 -- a framework in form stays in form, whatever the edits
 abbrev pub EditsKeepForm : Type 0
 EditsKeepForm = (f : Framework) (edits : List Edit) → IsNumbered f → IsNumbered (replay f edits)
+
+-- a framework stays of its kind, whatever the edits
+abbrev pub EditsKeepKind : Type 0
+EditsKeepKind = (f : Framework) (edits : List Edit) → kind_of (replay f edits) ≡ kind_of f
 
 -- the framework behind an edit and the edit's effect determine the framework before it
 abbrev pub EffectsDetermine : Type 0

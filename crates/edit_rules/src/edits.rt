@@ -9,14 +9,15 @@ ghost use Rattle.semantics.specs.Frameworks.{IsNumberedAf, af};
 ghost use Rattle.edit_rules.specs.Kinds.{framework_of};
 ghost use Rattle.edit_rules.specs.Edits.{af_with_argument, af_without_argument, af_with_attack, af_without_attack};
 ghost use Rattle.edit_rules.specs.Edits.{argument_added, argument_dropped, attack_added, attack_dropped};
-ghost use Rattle.edit_rules.specs.Edits.{edit_outcome, end_refusals, is_end, outside, row_outcome, unknown, with_number, with_pair};
+ghost use Rattle.edit_words.specs.Numbers.{with_number};
+ghost use Rattle.edit_rules.specs.Edits.{edit_outcome, end_refusals, is_end, outside, row_outcome, unknown, with_pair};
 ghost use Rattle.edit_rules.specs.Applying.{AreTold, ComesTo};
-ghost use Rattle.edit_rules.specs.declared.effect.EditFault.TheVariants.{Memory};
+ghost use Rattle.edit_words.specs.declared.effect.EditFault.TheVariants.{Memory};
 
-use crate::edit::Edit;
-use crate::effect::{EditFault, Effect};
 use crate::framework::Framework;
+use aba_edits::apply_aba;
 use dung_notions::AfPlain;
+use edit_words::{Edit, EditFault, Effect, numbers_but};
 use plain_lists::{Items, Memory as OutOfMemory};
 use semantics::LAST_ARGUMENT;
 use set_lists::NumSet;
@@ -38,6 +39,7 @@ pub fn apply(alloc: Global, framework: &mut Framework, edit: &Edit) -> Result<Ef
             *plain = after;
             Ok(effect)
         }
+        Framework::Aba(plain) => apply_aba(alloc, plain, edit),
     }
 }
 
@@ -214,28 +216,6 @@ fn without_attack(
     let live = NumSet::from_rising(alloc, plain.live())?;
     let attacks = pairs_but(alloc, plain.attacks(), (attacker, target))?;
     AfPlain::new(alloc, live, attacks)
-}
-
-/// The numbers of a rising list but for one.
-fn numbers_but(alloc: Global, numbers: &[u32], gone: u32) -> Result<NumSet, OutOfMemory>
-    requires { IsStrictlyIncreasing numbers.now }
-    ensures { IfOk result (λ kept. kept ≡ filter (λ a. not (a == gone)) numbers.now) }
-{
-    let kept = others_of(alloc, numbers, gone)?;
-    NumSet::from_rising(alloc, kept.as_slice())
-}
-
-/// The numbers but for one, in their order.
-fn others_of(alloc: Global, numbers: &[u32], gone: u32) -> Result<Vec<u32>, OutOfMemory>
-    ensures { IfOk result (λ kept. kept.items ≡ filter (λ a. not (a == gone)) numbers.now) }
-{
-    Ok(
-        numbers
-            .iter()
-            .copied()
-            .filter(|number| *number != gone)
-            .collect(alloc)?,
-    )
 }
 
 /// The attacks of which the argument is no end.

@@ -5,6 +5,8 @@ ghost use Rattle.semantics.specs.Frameworks.{IsNumbered, IsNumberedAf};
 ghost use Rattle.edit_rules.specs.Kinds.{framework_of, kind_of};
 ghost use Rattle.edit_rules.specs.Fitting.{IsKnown};
 
+use aba_edits::copy_aba;
+use aba_notions::AbaPlain;
 use dung_notions::AfPlain;
 use iccma_tasks::Kind;
 use plain_lists::Memory;
@@ -16,6 +18,8 @@ use std::alloc::Global;
 pub enum Framework {
     /// An abstract framework.
     Af(AfPlain),
+    /// A flat assumption-based framework.
+    Aba(AbaPlain),
 }
 
 impl Framework {
@@ -25,6 +29,7 @@ impl Framework {
     {
         match self {
             Framework::Af(plain) => Ok(Framework::Af(copy_af(alloc, plain)?)),
+            Framework::Aba(plain) => Ok(Framework::Aba(copy_aba(alloc, plain)?)),
         }
     }
 
@@ -38,15 +43,21 @@ impl Framework {
                 let _live = plain.live();
                 Kind::Af
             }
+            Framework::Aba(plain) => {
+                let _atoms = plain.atoms();
+                Kind::Aba
+            }
         }
     }
 
-    /// Whether there is what a query with this number asks about: for an abstract framework, a live argument.
+    /// Whether there is what a query with this number asks about: for an abstract framework a live argument, for an
+    /// assumption-based one an atom.
     pub fn knows(&self, number: u32) -> bool
         ensures { IsTrue result ↔ IsKnown (framework_of self.now) number }
     {
         match self {
             Framework::Af(plain) => plain.is_live(number),
+            Framework::Aba(plain) => 1 <= number && number <= plain.atoms(),
         }
     }
 }

@@ -1,10 +1,15 @@
 //! Each function does nothing; its contract is the law.
 
-ghost use Rattle.edit_rules.specs.Laws.{EditsKeepForm, EffectsDetermine};
+ghost use Rattle.edit_rules.specs.Laws.{EditsKeepForm, EditsKeepKind, EffectsDetermine};
 
 /// Edits keep a framework in form, whether they are taken or refused.
 pub fn edits_keep_form()
     ensures { EditsKeepForm }
+{}
+
+/// Edits keep a framework's kind, whether they are taken or refused.
+pub fn edits_keep_kind()
+    ensures { EditsKeepKind }
 {}
 
 /// The framework behind an edit and the edit's effect determine the framework before the edit.

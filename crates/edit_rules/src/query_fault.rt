@@ -20,7 +20,8 @@ pub enum QueryFault {
 
 /// Tells whether a query fits a framework: frameworks of its kind have the task, and it has what the query asks about.
 /// `TaskNotForKind` comes exactly where they don't have the task; otherwise `UnknownArgument` exactly where an argument
-/// is asked about that isn't live.
+/// of an abstract framework is asked about that isn't live, and `UnknownAtom` exactly where a number is asked about
+/// that is no atom of an assumption-based one.
 pub fn query_fits(framework: &Framework, query: &Query) -> Result<(), QueryFault>
     ensures fits { OnOk result (Fits (framework_of framework.now) query.now) }
     ensures fault { IfErr result (IsFaultOf (framework_of framework.now) query.now) }
@@ -43,6 +44,7 @@ fn unknown(framework: &Framework, number: u32) -> QueryFault
 {
     match framework {
         Framework::Af(_) => QueryFault::UnknownArgument(number),
+        Framework::Aba(_) => QueryFault::UnknownAtom(number),
     }
 }
 

@@ -116,6 +116,7 @@ fn called_behind(
 {
     match framework {
         Framework::Af(after) => Ok(changed(alloc, after, effect)?),
+        Framework::Aba(_) => Err(EditFault::WrongKind),
     }
 }
 

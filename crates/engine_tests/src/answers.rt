@@ -13,16 +13,20 @@ use std::test::Fail;
 
 /// What a query comes to.
 #[derive(Drop)]
-enum End<'a> {
+pub(crate) enum End<'a> {
     Yes,
     No,
+    /// With a set that accepts the query.
+    YesBy(&'a [u32]),
+    /// With a set that doesn't.
+    NoBy(&'a [u32]),
     Sets(&'a [&'a [u32]]),
     Stops(AnswerStop),
 }
 
 /// A query, the units and the extensions that it may have, and what it comes to.
 #[derive(Drop)]
-struct Asked<'a> {
+pub(crate) struct Asked<'a> {
     task: &'a str,
     number: Option<u32>,
     budget: u64,
@@ -31,7 +35,13 @@ struct Asked<'a> {
 }
 
 /// A query with what it comes to.
-fn ask<'a>(task: &'a str, number: Option<u32>, budget: u64, limit: u32, end: End<'a>) -> Asked<'a> {
+pub(crate) fn ask<'a>(
+    task: &'a str,
+    number: Option<u32>,
+    budget: u64,
+    limit: u32,
+    end: End<'a>,
+) -> Asked<'a> {
     Asked {
         task,
         number,
@@ -65,6 +75,14 @@ fn is_end(end: &Result<Answered, AnswerStop>, expected: &End<'_>) -> bool {
         (Err(stop), End::Stops(expected)) => stop == expected,
         (Ok(answered), End::Yes) => matches!(answered.answer, Answer::Yes(_)),
         (Ok(answered), End::No) => matches!(answered.answer, Answer::No(_)),
+        (Ok(answered), End::YesBy(expected)) => match &answered.answer {
+            Answer::Yes(Some(set)) => set.as_slice() == *expected,
+            _ => false,
+        },
+        (Ok(answered), End::NoBy(expected)) => match &answered.answer {
+            Answer::No(Some(set)) => set.as_slice() == *expected,
+            _ => false,
+        },
         (Ok(answered), End::Sets(expected)) => match &answered.answer {
             Answer::Sets(sets) => are_sets(sets.as_slice(), expected),
             _ => false,
@@ -94,8 +112,13 @@ fn engine_for(alloc: Global, row: &Row<'_>) -> Option<Engine> {
 /// Whether all queries of a row end so.
 fn all_hold(alloc: Global, row: &Row<'_>) -> Option<bool> {
     let mut engine = engine_for(alloc, row)?;
-    for asked in row.asks {
-        let so = holds(alloc, &mut engine, asked)?;
+    ask_all(alloc, &mut engine, row.asks)
+}
+
+/// Whether all queries of an engine end so.
+pub(crate) fn ask_all(alloc: Global, engine: &mut Engine, asks: &[Asked<'_>]) -> Option<bool> {
+    for asked in asks {
+        let so = holds(alloc, engine, asked)?;
         if !so {
             return Some(false);
         }

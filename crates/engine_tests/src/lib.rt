@@ -4,4 +4,8 @@
 #[cfg(test)]
 mod answers;
 #[cfg(test)]
+mod assumptions;
+#[cfg(test)]
 mod trades;
+#[cfg(test)]
+mod updates;

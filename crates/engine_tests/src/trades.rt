@@ -4,7 +4,7 @@ use dung_notions::AfPlain;
 use edit_rules::Framework;
 use iccma_tasks::{Query, Task};
 use log_certificates::ReadLog;
-use meaning_atoms::AfAxiom;
+use meaning_atoms::{AfAxiom, AxiomName};
 use oracle_core::Engine;
 use oracle_face::{ClauseTrade, Entry, EntryName, NoTrade};
 use plain_lists::Memory;
@@ -16,7 +16,7 @@ use std::test::Fail;
 #[derive(Drop)]
 struct OneAxiom {
     alloc: Global,
-    rule: Option<AfAxiom>,
+    rule: Option<AxiomName>,
 }
 
 impl ClauseTrade for OneAxiom {
@@ -76,7 +76,7 @@ fn takes_an_axiom(rt: HostRuntime) -> Result<(), Fail> {
     let alloc = rt.alloc();
     let mut trade = OneAxiom {
         alloc,
-        rule: Some(AfAxiom::A13(9)),
+        rule: Some(AxiomName::Af(AfAxiom::A13(9))),
     };
     let with = steps_after(alloc, &mut trade);
     let without = steps_after(alloc, &mut NoTrade);
@@ -91,7 +91,7 @@ fn takes_no_axiom_twice(rt: HostRuntime) -> Result<(), Fail> {
     let alloc = rt.alloc();
     let mut trade = OneAxiom {
         alloc,
-        rule: Some(AfAxiom::A13(2)),
+        rule: Some(AxiomName::Af(AfAxiom::A13(2))),
     };
     let with = steps_after(alloc, &mut trade);
     let without = steps_after(alloc, &mut NoTrade);

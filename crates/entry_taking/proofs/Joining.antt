@@ -4,6 +4,7 @@ use Rattle.std.specs.Prelude.{Contains, Bool, true, Option, Some, None, Result, 
 use Rattle.plain_lists.specs.declared.memory.Memory.{Memory}
 use Rattle.plain_lits.specs.declared.halt.Halt.{Halt}
 use Rattle.plain_lits.specs.declared.halt.Halt.TheVariants.{Spent, LogFull, Memory as OfMemory}
+use Rattle.std.proofs.lemmas.Bool.{false≢true}
 use Rattle.std.proofs.lemmas.List.{get_or_default}
 use Rattle.std.proofs.lemmas.List.Elements.{Contains-get_or, Contains-push}
 use Rattle.plain_lists.proofs.Filters.{Contains-filter}
@@ -11,13 +12,11 @@ use Rattle.plain_lits.specs.HintCheck.{Checks}
 use Rattle.plain_lits.specs.Units.{Units}
 use Rattle.plain_lits.proofs.HintCheckLemmas.{Contains-mapped}
 use Rattle.clause_watches.proofs.Fronts.{from_front}
-use Rattle.semantics.specs.Frameworks.{Framework, af}
+use Rattle.semantics.specs.Frameworks.{Framework, af, aba}
 use Rattle.meaning_atoms.specs.declared.atom.AtomLit.{AtomLit}
-use Rattle.meaning_atoms.specs.declared.aba_axiom.AbaAxiom.{AbaAxiom}
-use Rattle.meaning_atoms.specs.declared.axiom.AfAxiom.{AfAxiom}
 use Rattle.meaning_atoms.specs.declared.axiom.AxiomName.{AxiomName}
 use Rattle.meaning_atoms.specs.declared.axiom.AxiomName.TheVariants.{Af as OfAf, Aba as OfAba}
-use Rattle.meaning_atoms.specs.Axioms.{IsAfAxiom}
+use Rattle.meaning_atoms.specs.AxiomNames.{IsAxiomName}
 use Rattle.meaning_atoms.specs.Literals.{negated}
 use Rattle.certificate_claims.specs.Refutations.{IsAxiomOf, axiom_clause}
 use Rattle.oracle_face.specs.declared.entry.Entry.{Entry as AnEntry}
@@ -28,6 +27,7 @@ use Rattle.oracle_face.specs.declared.entry.HintName.{HintName}
 use Rattle.oracle_face.specs.declared.entry.HintName.TheVariants.{Entry as OfEntry}
 use Rattle.oracle_face.specs.Entries.{IsShareable}
 use Rattle.oracle_face.specs.Growing.{Grows, HasRun, NoSide}
+use Rattle.oracle_face.specs.Kinds.{is_assumption_based}
 use Rattle.oracle_face.specs.Logs.{OracleLog, LogStep, HasPart, IsNumberOf, IsSameClause, by_axiom, clauses_of, is_loop, step_at, working}
 use Rattle.oracle_face.proofs.GrowingLemmas.{grows_same, run_none}
 use Rattle.session_log.specs.Steps.{GainsStep, Spends, StaysGuarded, TakesAxiom, derived_step, own_step}
@@ -41,24 +41,24 @@ use Rattle.atom_solver.specs.States.{AddsAxiom, AtomState, IsGuardedLog}
 use Rattle.entry_taking.specs.declared.names.StepName.TheVariants.{Axiom as OfAxiom, Entry as EntryOf}
 use Rattle.entry_taking.specs.declared.names.StepNames.{StepNames}
 use Rattle.entry_taking.specs.Names.{AreNamed, IsFirstOf, told_of}
-use Rattle.entry_taking.specs.Taking.{ComesIn, ComesInOrMayNot, GoesOn, IsKnown, IsLooked, IsOfAxiom}
+use Rattle.entry_taking.specs.Taking.{ComesIn, ComesInOrMayNot, GoesOn, IsKnown, IsLooked, IsOfAxiom, MayCome, is_of_aba}
 use Rattle.entry_taking.proofs.Finding.{some_name, stand_once}
 
 -- ---- the log goes on
 
-pub goes_same : (s : AtomState) → GoesOn s s
-goes_same s = record {
+pub goes_same : (kind : Bool) (s : AtomState) → GoesOn kind s s
+goes_same kind s = record {
   grows = grows_same NoSide s.log;
-  log = λ f h. h;
+  log = λ f is h. h;
   run = λ f units h. run_none NoSide 0 f s.log s.pending units;
 }
 
-goes_by : (old new : AtomState) → Grows NoSide old.log new.log
-    → ((f : Framework) → IsGuardedLog f old.log → StaysGuarded NoSide f old.log new.log)
-    → ((f : Framework) → Spends f old.log new.log 0 0) → GoesOn old new
-goes_by old new grows stays spends = record {
+goes_by : (kind : Bool) (old new : AtomState) → Grows NoSide old.log new.log
+    → ((f : Framework) → is_assumption_based f ≡ kind → IsGuardedLog f old.log → StaysGuarded NoSide f old.log new.log)
+    → ((f : Framework) → Spends f old.log new.log 0 0) → GoesOn kind old new
+goes_by kind old new grows stays spends = record {
   grows = grows;
-  log = λ f h. let s = stays f h in record { form = s.form; guards = s.guards };
+  log = λ f is h. let s = stays f is h in record { form = s.form; guards = s.guards };
   run = λ f units h. record {
     grows = grows;
     limit = refl;
@@ -70,15 +70,20 @@ goes_by old new grows stays spends = record {
 
 -- ---- an axiom comes
 
-of_kind : (f : Framework) (name : AfAxiom) → IsAfAxiom name → IsAxiomOf f (OfAf name)
-of_kind (af f) name is = is
+of_kind : (f : Framework) (name : AxiomName) → is_of_aba name ≡ is_assumption_based f → IsAxiomName name
+    → IsAxiomOf f name
+of_kind (af f) (OfAf name) same is = is
+of_kind (af f) (OfAba name) same is = absurd (false≢true (sym same))
+of_kind (aba f) (OfAf name) same is = absurd (false≢true same)
+of_kind (aba f) (OfAba name) same is = is
 
-pub axiom_goes : (name : AfAxiom) (old new : AtomState) → IsAfAxiom name → AddsAxiom (OfAf name) old new
-    → GoesOn old new
-axiom_goes name old new is adds =
-    goes_by old new (same_sides_grow (own_step adds.clause (by_axiom (OfAf name))) old.log new.log adds.takes.gains)
-    (λ f h. axiom_stays f (OfAf name) adds.clause old.log new.log h.form h.guards (of_kind f name is) adds.takes)
-    (λ f. axiom_spends f (OfAf name) adds.clause old.log new.log refl adds.takes)
+pub axiom_goes : (kind : Bool) (name : AxiomName) (old new : AtomState) → MayCome kind name → IsAxiomName name
+    → AddsAxiom name old new → GoesOn kind old new
+axiom_goes kind name old new may is adds =
+    goes_by kind old new (same_sides_grow (own_step adds.clause (by_axiom name)) old.log new.log adds.takes.gains)
+    (λ f same h. axiom_stays f name adds.clause old.log new.log h.form h.guards
+    (of_kind f name (may.of_kind ∙ sym same) is) adds.takes)
+    (λ f. axiom_spends f name adds.clause old.log new.log may.no_loop adds.takes)
 
 -- searches use the clause of a step that is gained and didn't only end a search
 gained_used : (step : LogStep) (old new : OracleLog) → GainsStep step old.sides old new → step.closing ≡ false
@@ -90,11 +95,11 @@ gained_used step old new gains kept =
       ap not kept,
     ))
 
-pub axiom_comes : (f : Framework) (own : ℕ) (name : AfAxiom) (clause : List AtomLit) (old new : AtomState)
-    → IsOfAxiom name clause → AddsAxiom (OfAf name) old new → ComesIn f own clause (Axiom (OfAf name)) old.log new.log
+pub axiom_comes : (f : Framework) (own : ℕ) (name : AxiomName) (clause : List AtomLit) (old new : AtomState)
+    → IsOfAxiom name clause → AddsAxiom name old new → ComesIn f own clause (Axiom name) old.log new.log
 axiom_comes f own name clause old new is adds = inl (record {
   part = adds.clause;
-  listed = gained_used (own_step adds.clause (by_axiom (OfAf name))) old.log new.log adds.takes.gains refl;
+  listed = gained_used (own_step adds.clause (by_axiom name)) old.log new.log adds.takes.gains refl;
   inside = λ l c. is.1.back l (adds.takes.same.there l c);
 })
 
@@ -102,27 +107,43 @@ pub full_comes : (f : Framework) (own : ℕ) (clause : List AtomLit) (origin : E
     → length old.steps ≡ old.limit → ComesIn f own clause origin old new
 full_comes f own clause origin old new full = inr (λ room. absurd (omega arith))
 
-name_fits : (f : Framework) (name : AfAxiom) → IsAxiomOf f (OfAf name) → IsAfAxiom name
-name_fits (af f) name is = is
+name_fits : (f : Framework) (name : AxiomName) → IsAxiomOf f name → IsAxiomName name
+name_fits (af f) (OfAf name) is = is
+name_fits (af f) (OfAba name) is = absurd is
+name_fits (aba f) (OfAf name) is = absurd is
+name_fits (aba f) (OfAba name) is = is
 
-pub other_clause : (f : Framework) (own : ℕ) (name : AfAxiom) (clause : List AtomLit) (old new : OracleLog)
-    → (IsOfAxiom name clause → ⊥) → ComesIn f own clause (Axiom (OfAf name)) old new
+pub other_clause : (f : Framework) (own : ℕ) (name : AxiomName) (clause : List AtomLit) (old new : OracleLog)
+    → (IsOfAxiom name clause → ⊥) → ComesIn f own clause (Axiom name) old new
 other_clause f own name clause old new not_so =
-    inr (λ room shown. not_so (name_fits f name shown.0, shown.1))
+    inr (λ room shown. not_so (name_fits f name shown.0, shown.2))
 
-pub axiom_there : (f : Framework) (own : ℕ) (name : AfAxiom) (clause : List AtomLit) (old new : OracleLog)
+kind_fits : (f : Framework) (name : AxiomName) → IsAxiomOf f name → is_of_aba name ≡ is_assumption_based f
+kind_fits (af f) (OfAf name) is = refl
+kind_fits (af f) (OfAba name) is = absurd is
+kind_fits (aba f) (OfAf name) is = absurd is
+kind_fits (aba f) (OfAba name) is = refl
+
+-- an axiom that may not come from an entry isn't what the entry shows
+pub stays_outside : (kind : Bool) (f : Framework) (own : ℕ) (name : AxiomName) (clause : List AtomLit)
+    (old new : OracleLog) → is_assumption_based f ≡ kind → (MayCome kind name → ⊥)
+    → ComesIn f own clause (Axiom name) old new
+stays_outside kind f own name clause old new same not_so =
+    inr (λ room shown. not_so (record { of_kind = kind_fits f name shown.0 ∙ same; no_loop = shown.1 }))
+
+pub axiom_there : (f : Framework) (own : ℕ) (name : AxiomName) (clause : List AtomLit) (old new : OracleLog)
     (names : StepNames) → IsLooked names old.steps → IsSome (told_of names (OfAxiom name))
-    → ComesIn f own clause (Axiom (OfAf name)) old new
+    → ComesIn f own clause (Axiom name) old new
 axiom_there f own name clause old new names looked some = go (told_of names (OfAxiom name)) refl some
   where
     go : (told : Option ℕ) → told_of names (OfAxiom name) ≡ told → IsSome told
-        → ComesIn f own clause (Axiom (OfAf name)) old new
+        → ComesIn f own clause (Axiom name) old new
     go None is said = absurd (cc)
     go (Some k) is said =
         let first = subst (IsFirstOf old.steps names.seen (OfAxiom name)) is (looked.named.each (OfAxiom name)) in
         let high = first.high in
         let all = looked.all in
-        inr (λ room shown. shown.2 k (record { from_one = first.low; within = omega arith }) first.called)
+        inr (λ room shown. shown.3 k (record { from_one = first.low; within = omega arith }) first.called)
 
 -- ---- a derived clause comes
 
@@ -151,12 +172,13 @@ module _ (own : ℕ) (entry : AnEntry) (names : List HintName) (origin : entry.o
     gains = i.gains;
   }
 
-  pub derived_goes : IsShareable entry → Imports entry.clause hints entry.name old new → GoesOn old new
-  derived_goes may i =
+  pub derived_goes : (kind : Bool) → IsShareable entry → Imports entry.clause hints entry.name old new
+      → GoesOn kind old new
+  derived_goes kind may i =
       let t = takes i in
-      goes_by old new
+      goes_by kind old new
       (same_sides_grow (derived_step i.clause (take i.used hints) (Some entry.name) false) old.log new.log i.gains)
-      (λ f h. entry_stays own entry old.log new.log t f h.form h.guards may)
+      (λ f same h. entry_stays own entry old.log new.log t f h.form h.guards may)
       (λ f. entry_spends own entry old.log new.log t f)
 
   pub derived_comes : (f : Framework) → Imports entry.clause hints entry.name old new
@@ -200,75 +222,57 @@ known_stays f own entry old new names looked known = inr (λ may. ⊎_elim (λ s
         let all = looked.all in
         may.absent k (record { from_one = first.low; within = omega arith }) first.called
 
--- ---- axioms of assumption-based frameworks
-
--- no log has one under a name
-pub none_called : (names : StepNames) (steps : List LogStep) (name : AbaAxiom) → IsLooked names steps → (number : ℕ)
-    → IsNumberOf steps number → (step_at steps number).source ≡ by_axiom (OfAba name) → ⊥
-none_called names steps name looked number is source =
-    let all = looked.all in
-    let within = is.within in
-    looked.named.none_of_aba number name is.from_one (omega arith) source
-
--- abstract frameworks have none
-not_of_kind : (f : Framework) (name : AbaAxiom) → IsAxiomOf f (OfAba name) → ⊥
-not_of_kind (af f) name is = absurd is
-
-pub aba_came : (f : Framework) (own : ℕ) (name : AxiomName) (row : AbaAxiom) (clause : List AtomLit)
-    (old new : OracleLog) → name ≡ OfAba row → ComesIn f own clause (Axiom name) old new
-aba_came f own name row clause old new is =
-    inr (λ room shown. not_of_kind f row (subst (IsAxiomOf f) is shown.0))
-
-pub af_came : (r : Result (Unit {0}) Memory) (name : AxiomName) (row : AfAxiom) (clause : List AtomLit)
-    (old new : OracleLog) → name ≡ OfAf row
-    → OnOk r ((f : Framework) (own : ℕ) → ComesIn f own clause (Axiom (OfAf row)) old new)
-    → OnOk r ((f : Framework) (own : ℕ) → ComesIn f own clause (Axiom name) old new)
-af_came r name row clause old new is comes =
-    subst (λ n. OnOk r ((f : Framework) (own : ℕ) → ComesIn f own clause (Axiom n) old new)) (sym is) comes
-
 -- ---- by what a call answers
 
-pub axiom_went : (r : Result (Unit {0}) Halt) (name : AfAxiom) (old new : AtomState) → IsAfAxiom name
-    → OnOk r (AddsAxiom (OfAf name) old new) → OnErr r (new ≡ old) → GoesOn old new
-axiom_went (Ok u) name old new is ok err = axiom_goes name old new is ok
-axiom_went (Err halt) name old new is ok err = subst (GoesOn old) (sym err) (goes_same old)
+pub axiom_went : (r : Result (Unit {0}) Halt) (kind : Bool) (name : AxiomName) (old new : AtomState)
+    → MayCome kind name → IsAxiomName name → OnOk r (AddsAxiom name old new) → OnErr r (new ≡ old)
+    → GoesOn kind old new
+axiom_went (Ok u) kind name old new may is ok err = axiom_goes kind name old new may is ok
+axiom_went (Err halt) kind name old new may is ok err = subst (GoesOn kind old) (sym err) (goes_same kind old)
 
-pub axiom_came : (r : Result (Unit {0}) Halt) (f : Framework) (own : ℕ) (name : AfAxiom) (clause : List AtomLit)
-    (old new : AtomState) → IsOfAxiom name clause → OnOk r (AddsAxiom (OfAf name) old new)
+pub axiom_came : (r : Result (Unit {0}) Halt) (f : Framework) (own : ℕ) (name : AxiomName) (clause : List AtomLit)
+    (old new : AtomState) → IsOfAxiom name clause → OnOk r (AddsAxiom name old new)
     → (r ≡ Err LogFull → length old.log.steps ≡ old.log.limit) → (r ≡ Err OfMemory → ⊥)
-    → ((count : ℕ) → r ≡ Err (Spent count) → ⊥) → ComesIn f own clause (Axiom (OfAf name)) old.log new.log
+    → ((count : ℕ) → r ≡ Err (Spent count) → ⊥) → ComesIn f own clause (Axiom name) old.log new.log
 axiom_came (Ok u) f own name clause old new is ok full not_memory unspent = axiom_comes f own name clause old new is ok
 axiom_came (Err LogFull) f own name clause old new is ok full not_memory unspent =
-    full_comes f own clause (Axiom (OfAf name)) old.log new.log (full refl)
+    full_comes f own clause (Axiom name) old.log new.log (full refl)
 axiom_came (Err OfMemory) f own name clause old new is ok full not_memory unspent = absurd (not_memory refl)
 axiom_came (Err (Spent count)) f own name clause old new is ok full not_memory unspent = absurd (unspent count refl)
 
 module _ (own : ℕ) (entry : AnEntry) (names : List HintName) (origin : entry.origin ≡ Hints names) (hints : List ℕ)
     (old new : AtomState) (stand : StandForSteps own old.log.steps names hints) where
-  pub import_went : (taken : Bool) → IsShareable entry → IsImported entry.clause hints entry.name old new taken
-      → GoesOn old new
-  import_went true may i = derived_goes own entry names origin hints old new stand may i
-  import_went false may i = subst (GoesOn old) (sym i.0) (goes_same old)
+  pub import_went : (kind taken : Bool) → IsShareable entry → IsImported entry.clause hints entry.name old new taken
+      → GoesOn kind old new
+  import_went kind true may i = derived_goes own entry names origin hints old new stand kind may i
+  import_went kind false may i = subst (GoesOn kind old) (sym i.0) (goes_same kind old)
 
   pub import_came : (taken : Bool) (f : Framework) → IsImported entry.clause hints entry.name old new taken
       → ComesIn f own entry.clause (Hints names) old.log new.log
   import_came true f i = derived_comes own entry names origin hints old new stand f i
   import_came false f i = derived_refused own entry names origin hints old new stand f i.1
 
-pub axiom_entry_came : (r : Result (Unit {0}) Memory) (own : ℕ) (entry : AnEntry) (name : AxiomName)
+pub axiom_entry_came : (r : Result (Unit {0}) Memory) (kind : Bool) (own : ℕ) (entry : AnEntry) (name : AxiomName)
     (clause : List AtomLit) (old new : OracleLog) → entry.origin ≡ Axiom name → clause ≡ entry.clause
-    → OnOk r ((f : Framework) (own : ℕ) → ComesIn f own clause (Axiom name) old new)
-    → OnOk r ((f : Framework) → ComesInOrMayNot f own entry old new)
-axiom_entry_came (Ok u) own entry name clause old new is same comes = λ f.
+    → OnOk r ((f : Framework) (own : ℕ) → is_assumption_based f ≡ kind → ComesIn f own clause (Axiom name) old new)
+    → OnOk r ((f : Framework) → is_assumption_based f ≡ kind → ComesInOrMayNot f own entry old new)
+axiom_entry_came (Ok u) kind own entry name clause old new is same comes = λ f of_kind.
     entry_comes f own entry (Axiom name) old new is
-    (subst (λ c. ComesIn f own c (Axiom name) old new) same (comes f own))
-axiom_entry_came (Err e) own entry name clause old new is same comes = tt
+    (subst (λ c. ComesIn f own c (Axiom name) old new) same (comes f own of_kind))
+axiom_entry_came (Err e) kind own entry name clause old new is same comes = tt
 
-pub hints_entry_came : (r : Result (Unit {0}) Memory) (own : ℕ) (entry : AnEntry) (names others : List HintName)
+pub hints_entry_came : (r : Result (Unit {0}) Memory) (kind : Bool) (own : ℕ) (entry : AnEntry) (names others : List HintName)
     (old new : OracleLog) → entry.origin ≡ Hints names → others ≡ names
     → OnOk r ((f : Framework) → ComesIn f own entry.clause (Hints others) old new)
-    → OnOk r ((f : Framework) → ComesInOrMayNot f own entry old new)
-hints_entry_came (Ok u) own entry names others old new is same comes = λ f.
+    → OnOk r ((f : Framework) → is_assumption_based f ≡ kind → ComesInOrMayNot f own entry old new)
+hints_entry_came (Ok u) kind own entry names others old new is same comes = λ f of_kind.
     entry_comes f own entry (Hints names) old new is
     (subst (λ hs. ComesIn f own entry.clause (Hints hs) old new) same (comes f))
-hints_entry_came (Err e) own entry names others old new is same comes = tt
+hints_entry_came (Err e) kind own entry names others old new is same comes = tt
+
+-- what comes beside any framework comes beside those of a kind
+pub came_of_kind : (r : Result (Unit {0}) Memory) (kind : Bool) (name : AxiomName) (clause : List AtomLit)
+    (old new : OracleLog) → OnOk r ((f : Framework) (own : ℕ) → ComesIn f own clause (Axiom name) old new)
+    → OnOk r ((f : Framework) (own : ℕ) → is_assumption_based f ≡ kind → ComesIn f own clause (Axiom name) old new)
+came_of_kind (Ok u) kind name clause old new comes = λ f own same. comes f own
+came_of_kind (Err e) kind name clause old new comes = tt

@@ -3,8 +3,6 @@ use Rattle.std.proofs.Common.{◌≡◌, ℕ, ◌+◌, ◌-◌, ◌<◌, ◌≤�
 use Rattle.std.specs.Prelude.{◌↔◌, ◌⊎◌, cond, Option, Some, None, slice_index_or}
 use Rattle.std.proofs.lemmas.Bool.{cases_lt, cases_eq, cases_Bool, false≢true}
 use Rattle.std.proofs.lemmas.List.{get_or_append_left, length-append}
-use Rattle.meaning_atoms.specs.declared.aba_axiom.AbaAxiom.{AbaAxiom}
-use Rattle.meaning_atoms.specs.declared.axiom.AxiomName.TheVariants.{Af as OfAf, Aba as OfAba}
 use Rattle.oracle_face.specs.declared.entry.EntryName.{EntryName}
 use Rattle.oracle_face.specs.Growing.{Making, Grows}
 use Rattle.oracle_face.specs.Logs.{OracleLog, LogStep, Source, by_axiom, no_step, step_at}
@@ -15,10 +13,8 @@ use Rattle.entry_taking.specs.declared.names.StepName.{StepName}
 use Rattle.entry_taking.specs.declared.names.StepName.TheVariants.{Axiom, Entry}
 use Rattle.entry_taking.specs.declared.names.StepNames.{StepNames}
 use Rattle.entry_taking.specs.contracts.names.StepNamePartialEq.TheImpl.{eq-value as name_eq}
-use Rattle.entry_taking.specs.Names.{AreNamed, IsCalledSo, IsFirstCalled, IsFirstOf, IsNoted, IsSameNames, name_of, told_of}
-
-pub name_decides : (a b : StepName) → ((name_eq).it a b ≡ true) ↔ (a ≡ b)
-name_decides a b = search rules
+use Rattle.entry_taking.specs.NameEquality.{name_decides}
+use Rattle.entry_taking.specs.Names.{AreNamed, IsCalledSo, IsFirstCalled, IsFirstOf, IsNoted, IsPut, IsSameNames, name_of, told_of}
 
 -- ---- a log that grows
 
@@ -48,10 +44,32 @@ named_grown P names old new grows h =
     subst (AreNamed names) (sym more.1) (record {
       within = let few = h.within in omega (arith, length-append old.steps more.0);
       each = λ name. first_still old.steps more.0 names.seen name (told_of names name) h.within (h.each name);
-      none_of_aba = λ number name low high is. let few = h.within in
-          h.none_of_aba number name low high
-          (ap (λ (s : LogStep). s.source) (sym (same_step old.steps more.0 number low (omega arith))) ∙ is);
     })
+
+-- ---- a name is told
+
+pub put_one : (name : StepName) (step : ℕ) (old new : StepNames) → new.seen ≡ old.seen → told_of old name ≡ None
+    → ((other : StepName) → told_of new other ≡ cond ((name_eq).it name other) (Some step) (told_of old other))
+    → IsPut (Some name) step old new
+put_one name step old new seen none told =
+    let same : (other : StepName) → name ≡ other → told_of new other ≡ Some step =
+    λ other e. told other ∙ ap (λ b. cond b (Some step) (told_of old other)) ((name_decides name other).1 e) in
+    let else_ : (other : StepName) → (name_eq).it name other ≡ false → told_of new other ≡ told_of old other =
+    λ other e. told other ∙ ap (λ b. cond b (Some step) (told_of old other)) e in
+    record {
+      seen = seen;
+      kept = λ other number is. ⊎_elim
+          (λ yes_.
+          let e : name ≡ other = (name_decides name other).0 yes_ in
+          let f : None ≡ Some number = sym none ∙ (ap (told_of old) e ∙ is) in absurd (cc))
+          (λ not_. else_ other not_ ∙ is)
+          (cases_Bool ((name_eq).it name other));
+      gained = λ other is by. let e : name ≡ other = cc in same other e;
+      others = λ other is not_by. ⊎_elim
+          (λ yes_. absurd (not_by (ap Some ((name_decides name other).0 yes_))))
+          (λ not_. else_ other not_ ∙ is)
+          (cases_Bool ((name_eq).it name other));
+    }
 
 -- ---- one step more
 
@@ -60,7 +78,7 @@ called_by : (origin : Origin) (name : StepName) (step : LogStep) (hints : List �
     → step.source ≡ source_of origin hints → step.imported ≡ imported_of origin → IsCalledSo name step
     → name_of origin ≡ Some name
 called_by (OfAxiom a) (Axiom b) step hints source imported called =
-    let e : by_axiom (OfAf a) ≡ by_axiom (OfAf b) = sym source ∙ called in cc
+    let e : by_axiom a ≡ by_axiom b = sym source ∙ called in cc
 called_by (OfAxiom a) (Entry s n) step hints source imported called = let e = sym imported ∙ called in absurd (cc)
 called_by (OfSide a) (Axiom b) step hints source imported called = let e = sym source ∙ called in absurd (cc)
 called_by (OfSide a) (Entry s n) step hints source imported called = let e = sym imported ∙ called in absurd (cc)
@@ -74,7 +92,7 @@ calls_so : (origin : Origin) (name : StepName) (step : LogStep) (hints : List �
     → step.source ≡ source_of origin hints → step.imported ≡ imported_of origin → name_of origin ≡ Some name
     → IsCalledSo name step
 calls_so (OfAxiom a) (Axiom b) step hints source imported is =
-    let f : Some (Axiom a) ≡ Some (Axiom b) = is in let e : a ≡ b = cc in source ∙ ap (λ x. by_axiom (OfAf x)) e
+    let f : Some (Axiom a) ≡ Some (Axiom b) = is in let e : a ≡ b = cc in source ∙ ap (λ x. by_axiom x) e
 calls_so (OfAxiom a) (Entry s n) step hints source imported is =
     let f : Some (Axiom a) ≡ Some (Entry s n) = is in absurd (cc)
 calls_so (OfSide a) name step hints source imported is = let e : None ≡ Some name = is in absurd (cc)
@@ -87,13 +105,6 @@ calls_so (OfEntry a) (Entry s n) step hints source imported is =
     imported ∙ (ap (λ x. Some (record { session = x; step = a.step })) e
     ∙ ap (λ x. Some (record { session = s; step = x })) e')
 calls_so Hints name step hints source imported is = let e : None ≡ Some name = is in absurd (cc)
-
--- no origin is an axiom of assumption-based frameworks
-never_of_aba : (origin : Origin) (name : AbaAxiom) (hints : List ℕ) → source_of origin hints ≡ by_axiom (OfAba name) → ⊥
-never_of_aba (OfAxiom a) name hints is = absurd (cc)
-never_of_aba (OfSide a) name hints is = absurd (cc)
-never_of_aba (OfEntry a) name hints is = absurd (cc)
-never_of_aba Hints name hints is = absurd (cc)
 
 -- what was told is told, with one step more to look at
 first_longer : (steps : List LogStep) (seen : ℕ) (name : StepName) (k : ℕ) → IsFirstCalled steps seen name k
@@ -155,13 +166,6 @@ module _ (origin : Origin) (old new : StepNames) (steps : List LogStep) (hints :
         within = omega arith;
         each = λ name. subst (λ n. IsFirstOf steps n name (told_of new name)) (sym seen)
             (one_more name (told_of old name) refl (named.each name));
-        none_of_aba = λ number name low high is. ⊎_elim
-            (λ (early : number < next). named.none_of_aba number name low (omega arith) is)
-            (λ (late : next ≤ number).
-            let same : number ≡ next = omega arith in
-            never_of_aba origin name hints
-            (sym source ∙ (ap (λ n. (step_at steps n).source) (sym same) ∙ is)))
-            (cases_lt number next);
       }
 
 -- names that are told as before
@@ -171,6 +175,4 @@ named_same old new steps same h = record {
   within = subst (λ n. n ≤ length steps) (sym same.seen) h.within;
   each = λ name. subst (λ n. IsFirstOf steps n name (told_of new name)) (sym same.seen)
       (subst (IsFirstOf steps old.seen name) (sym (same.told name)) (h.each name));
-  none_of_aba = λ number name low high is.
-      h.none_of_aba number name low (subst (λ n. number ≤ n) same.seen high) is;
 }

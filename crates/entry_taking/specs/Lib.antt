@@ -1,2 +1,5 @@
+pub mod Digests
+pub mod NameEquality
 pub mod Names
+pub mod Once
 pub mod Taking

@@ -1,8 +1,6 @@
 -- The steps of a log by their names.
-use Rattle.std.specs.Prelude.{◌≡◌, ◌≢◌, ℕ, ◌+◌, ◌<◌, ◌≤◌, List, length, Option, Some, None}
+use Rattle.std.specs.Prelude.{◌≡◌, ℕ, ◌+◌, ◌<◌, ◌≤◌, List, length, Option, Some, None}
 use Rattle.indexmap.specs.IndexMap.{get}
-use Rattle.meaning_atoms.specs.declared.aba_axiom.AbaAxiom.{AbaAxiom}
-use Rattle.meaning_atoms.specs.declared.axiom.AxiomName.TheVariants.{Af as OfAf, Aba as OfAba}
 use Rattle.oracle_face.specs.Logs.{LogStep, by_axiom, step_at}
 use Rattle.atom_solver.specs.declared.origin.Origin.{Origin}
 use Rattle.atom_solver.specs.declared.origin.Origin.TheVariants.{Axiom as OfAxiom, Entry as OfEntry}
@@ -13,7 +11,7 @@ use Rattle.entry_taking.specs.contracts.names.StepNamePartialEq.TheImpl.{eq-valu
 
 -- the step is the axiom's, or was taken from the entry
 abbrev pub IsCalledSo : StepName → LogStep → Type 0
-IsCalledSo (Axiom name) step = step.source ≡ by_axiom (OfAf name)
+IsCalledSo (Axiom name) step = step.source ≡ by_axiom name
 IsCalledSo (Entry session number) step = step.imported ≡ Some (record { session = session; step = number })
 
 -- the first of so many steps that is called so
@@ -38,13 +36,17 @@ name_of _ = None
 abbrev pub told_of : StepNames → StepName → Option ℕ
 told_of names name = get (name_eq).it names.steps name
 
--- of the first steps of a log each name is told with the first step that is called so; no step is an axiom of
--- assumption-based frameworks, which have no name here
+-- of the first steps of a log each name is told with the first step that is called so
 pub record AreNamed (names : StepNames) (steps : List LogStep) : Type 0 where
   pub within : names.seen ≤ length steps
   pub each : (name : StepName) → IsFirstOf steps names.seen name (told_of names name)
-  pub none_of_aba : (number : ℕ) (name : AbaAxiom) → 0 < number → number ≤ names.seen
-      → (step_at steps number).source ≢ by_axiom (OfAba name)
+
+-- a name is told with a step where it wasn't told before
+pub record IsPut (by : Option StepName) (step : ℕ) (old new : StepNames) : Type 0 where
+  pub seen : new.seen ≡ old.seen
+  pub kept : (name : StepName) (number : ℕ) → told_of old name ≡ Some number → told_of new name ≡ Some number
+  pub gained : (name : StepName) → told_of old name ≡ None → by ≡ Some name → told_of new name ≡ Some step
+  pub others : (name : StepName) → told_of old name ≡ None → (by ≡ Some name → ⊥) → told_of new name ≡ None
 
 -- one step more was looked at: its name is told where it wasn't told before
 pub record IsNoted (origin : Origin) (step : ℕ) (old new : StepNames) : Type 0 where

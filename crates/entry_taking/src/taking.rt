@@ -1,70 +1,104 @@
 //! Entries that come into the log of a solver.
 
-ghost use Rattle.std.specs.Prelude.{◌≡◌, ◌↔◌, ℕ, Contains, IfNone, IfOk, IfSome, IsTrue, OnOk, length};
+ghost use Rattle.std.specs.Prelude.{◌≡◌, ◌≢◌, ◌↔◌, ℕ, Bool, Contains, None, IfNone, IfOk, IfSome, IsTrue, OnOk, false, length};
 ghost use Rattle.semantics.specs.Frameworks.{Framework};
 ghost use Rattle.oracle_face.specs.Entries.{IsShareable};
 ghost use Rattle.meaning_atoms.specs.declared.atom.AtomLit.{AtomLit as ALit};
-ghost use Rattle.oracle_face.specs.Logs.{IsSameClause};
+ghost use Rattle.oracle_face.specs.Kinds.{is_assumption_based};
+ghost use Rattle.oracle_face.specs.Logs.{IsSameClause, is_loop};
 ghost use Rattle.oracle_face.specs.declared.entry.EntryOrigin.TheVariants.{Axiom, Hints};
-ghost use Rattle.meaning_atoms.specs.declared.axiom.AxiomName.TheVariants.{Af as OfAf};
-ghost use Rattle.clause_imports.specs.Imports.{StandsFor};
+ghost use Rattle.oracle_face.specs.declared.entry.HintName.TheVariants.{Entry as OfEntry};
+ghost use Rattle.atom_solver.specs.Lifted.{imported_of};
 ghost use Rattle.entry_taking.specs.Names.{AreNamed};
-ghost use Rattle.entry_taking.specs.Taking.{AreFound, ComesIn, ComesInOrMayNot, GoesOn, IsCalledFirst, IsKnown};
-ghost use Rattle.entry_taking.specs.Taking.{IsLooked, IsOfAxiom, IsOwn};
+ghost use Rattle.entry_taking.specs.Taking.{AreFound, ComesIn, ComesInOrMayNot, GoesOn, IsCalledFirst, IsFound, IsKnown};
+ghost use Rattle.entry_taking.specs.Taking.{IsLooked, IsOfAxiom, IsOwn, MayCome, is_of_aba};
 
 use crate::names::{StepName, StepNames};
-use af_axioms::clause_of;
 use atom_solver::{AtomSolver, Origin};
+use certificate_claims::clause_of_axiom;
 use meaning_atoms::laws::literals_are_equal;
-use meaning_atoms::{AfAxiom, AtomLit, AxiomName};
+use meaning_atoms::{AbaAxiom, AtomLit, AxiomName};
 use oracle_face::{Entry, EntryName, EntryOrigin, HintName};
 use plain_lists::{Items, Memory};
 use plain_lits::{Halt, StepId};
 use std::alloc::Global;
 
 /// One's own step of a number, unless it was taken from an entry; None where there is none.
-fn own_step(solver: &AtomSolver, step: StepId) -> Option<StepId>
-    ensures some { IfSome result (λ found. (found ≡ step) × IsOwn solver.now.log.steps step) }
-    ensures none { IfNone result (IsOwn solver.now.log.steps step → ⊥) }
+fn own_step(alloc: Global, solver: &AtomSolver, step: StepId) -> Result<Option<StepId>, Memory>
+    ensures some { IfOk result (λ found. IfSome found (λ own. (own ≡ step) × IsOwn solver.now.log.steps step)) }
+    ensures none { IfOk result (λ found. IfNone found (IsOwn solver.now.log.steps step → ⊥)) }
 {
     let number = step.number() as usize;
     if number == 0 || number > solver.len() {
-        return None;
+        return Ok(None);
     }
-    match solver.origin(step) {
+    let origin = solver.origin(alloc, step)?;
+    Ok(unless_entry(origin, step))
+}
+
+/// A step, unless it comes from an entry.
+fn unless_entry(origin: Origin, step: StepId) -> Option<StepId>
+    ensures some { IfSome result (λ found. (found ≡ step) × (imported_of origin ≡ None)) }
+    ensures none { IfNone result (imported_of origin ≢ None) }
+{
+    match origin {
         Origin::Entry(_) => None,
         Origin::Axiom(_) | Origin::Side(_) | Origin::Hints => Some(step),
     }
 }
 
 /// The first step that a name calls so, in the log of the session of the number `own`.
-fn called(solver: &AtomSolver, names: &StepNames, own: u32, name: &HintName) -> Option<StepId>
+fn called(
+    alloc: Global,
+    solver: &AtomSolver,
+    names: &StepNames,
+    own: u32,
+    name: &HintName,
+) -> Result<Option<StepId>, Memory>
     requires { IsLooked names.now solver.now.log.steps }
-    ensures { IsCalledFirst own solver.now.log.steps name.now result }
+    ensures { IfOk result (IsCalledFirst own solver.now.log.steps name.now) }
 {
     match name {
-        HintName::Axiom(AxiomName::Af(name)) => names.find(&StepName::Axiom(*name)),
-        HintName::Axiom(AxiomName::Aba(_)) => None,
-        HintName::Entry(name) => {
-            if name.session == own {
-                return own_step(solver, name.step);
-            }
-            names.find(&StepName::Entry(name.session, name.step))
-        }
+        HintName::Axiom(name) => names.find_axiom(alloc, name),
+        HintName::Entry(name) => called_entry(alloc, solver, names, own, *name),
     }
 }
 
-/// The step that a name stands for.
-fn step_of(solver: &AtomSolver, names: &StepNames, own: u32, name: &HintName) -> Option<StepId>
+/// The first step that an entry's name calls so.
+fn called_entry(
+    alloc: Global,
+    solver: &AtomSolver,
+    names: &StepNames,
+    own: u32,
+    name: EntryName,
+) -> Result<Option<StepId>, Memory>
     requires { IsLooked names.now solver.now.log.steps }
-    ensures some { IfSome result (StandsFor own solver.now.log.steps name.now) }
-    ensures none { IfNone result ((number : ℕ) → StandsFor own solver.now.log.steps name.now number → ⊥) }
+    ensures { IfOk result (IsCalledFirst own solver.now.log.steps (OfEntry name)) }
 {
-    let step = called(solver, names, own, name)?;
-    if solver.is_plain(step) {
-        return Some(step);
+    if name.session == own {
+        return own_step(alloc, solver, name.step);
     }
-    None
+    Ok(names.find(&StepName::Entry(name.session, name.step)))
+}
+
+/// The step that a name stands for.
+fn step_of(
+    alloc: Global,
+    solver: &AtomSolver,
+    names: &StepNames,
+    own: u32,
+    name: &HintName,
+) -> Result<Option<StepId>, Memory>
+    requires { IsLooked names.now solver.now.log.steps }
+    ensures { IfOk result (IsFound own solver.now.log.steps name.now) }
+{
+    let Some(step) = called(alloc, solver, names, own, name)? else {
+        return Ok(None);
+    };
+    if solver.is_plain(step) {
+        return Ok(Some(step));
+    }
+    Ok(None)
 }
 
 /// The steps that names stand for; None where one of them stands for none.
@@ -80,7 +114,7 @@ fn steps_of(
 {
     let mut steps = Items::new(alloc);
     for hint in hints {
-        let Some(step) = step_of(solver, names, own, hint) else {
+        let Some(step) = step_of(alloc, solver, names, own, hint)? else {
             return Ok(None);
         };
         steps.push(step)?;
@@ -109,14 +143,14 @@ fn is_same_clause(left: &[AtomLit], right: &[AtomLit]) -> bool
     is_part(left, right) && is_part(right, left)
 }
 
-/// Whether a clause is that of an axiom of abstract frameworks, by its name.
-fn is_of_axiom(alloc: Global, name: &AfAxiom, clause: &[AtomLit]) -> Result<bool, Memory>
+/// Whether a clause is that of an axiom, by its name.
+fn is_of_axiom(alloc: Global, name: &AxiomName, clause: &[AtomLit]) -> Result<bool, Memory>
     ensures { IfOk result (λ is. IsTrue is ↔ IsOfAxiom name.now clause.now) }
 {
     if !name.is_name() {
         return Ok(false);
     }
-    let literals = clause_of(alloc, name)?;
+    let literals = clause_of_axiom(alloc, name)?;
     Ok(is_same_clause(clause, literals.as_slice()))
 }
 
@@ -125,44 +159,68 @@ fn take_axiom(
     alloc: Global,
     solver: &mut AtomSolver,
     names: &StepNames,
-    name: AfAxiom,
+    assumption_based: bool,
+    name: &AxiomName,
     clause: &[AtomLit],
 ) -> Result<(), Memory>
-    requires { IsLooked names.now solver.old.log.steps }
-    ensures goes { GoesOn solver.old solver.new }
-    ensures comes { OnOk result ((f : Framework) (own : ℕ) → ComesIn f own clause.now (Axiom (OfAf name)) solver.old.log
+    requires looked { IsLooked names.now solver.old.log.steps }
+    requires may { MayCome assumption_based name.now }
+    ensures goes { GoesOn assumption_based solver.old solver.new }
+    ensures comes { OnOk result ((f : Framework) (own : ℕ) → ComesIn f own clause.now (Axiom name.now) solver.old.log
         solver.new.log) }
 {
-    if names.find(&StepName::Axiom(name)).is_some() {
+    let there = names.find_axiom(alloc, name)?;
+    if there.is_some() {
         return Ok(());
     }
-    let is_of_axiom = is_of_axiom(alloc, &name, clause)?;
+    let is_of_axiom = is_of_axiom(alloc, name, clause)?;
     if !is_of_axiom {
         return Ok(());
     }
-    match solver.take_axiom(alloc, name) {
+    let taken = name.copy(alloc)?;
+    match solver.take_axiom(alloc, taken) {
         Ok(()) | Err(Halt::LogFull) => Ok(()),
         Err(Halt::Memory | Halt::Spent(_)) => Err(Memory),
     }
 }
 
-/// Takes the axiom of this name, as `take_axiom` says; those of assumption-based frameworks stay outside.
+/// Whether an axiom is one of assumption-based frameworks.
+fn is_of_aba(name: &AxiomName) -> bool
+    ensures { result ≡ is_of_aba name.now }
+{
+    matches!(name, AxiomName::Aba(_))
+}
+
+/// Whether an axiom is a loop clause.
+fn is_loop(name: &AxiomName) -> bool
+    ensures { result ≡ is_loop name.now }
+{
+    matches!(name, AxiomName::Aba(AbaAxiom::B17 { .. }))
+}
+
+/// Takes the axiom of this name, as `take_axiom` says; those of the other kind of framework stay outside, and loop
+/// clauses, which come only where a model calls for them.
 fn take_named(
     alloc: Global,
     solver: &mut AtomSolver,
     names: &StepNames,
+    assumption_based: bool,
     name: &AxiomName,
     clause: &[AtomLit],
 ) -> Result<(), Memory>
     requires { IsLooked names.now solver.old.log.steps }
-    ensures goes { GoesOn solver.old solver.new }
-    ensures comes { OnOk result ((f : Framework) (own : ℕ) → ComesIn f own clause.now (Axiom name.now) solver.old.log
-        solver.new.log) }
+    ensures goes { GoesOn assumption_based solver.old solver.new }
+    ensures comes { OnOk result ((f : Framework) (own : ℕ) → is_assumption_based f ≡ assumption_based
+        → ComesIn f own clause.now (Axiom name.now) solver.old.log solver.new.log) }
 {
-    match name {
-        AxiomName::Af(row) => take_axiom(alloc, solver, names, *row, clause),
-        AxiomName::Aba(_) => Ok(()),
+    let of_kind = is_of_aba(name) == assumption_based;
+    if !of_kind {
+        return Ok(());
     }
+    if is_loop(name) {
+        return Ok(());
+    }
+    take_axiom(alloc, solver, names, assumption_based, name, clause)
 }
 
 /// Takes the clause of an entry that follows by its hints, where the log has the steps that they name.
@@ -177,7 +235,7 @@ fn take_derived(
     requires looked { IsLooked names.now solver.old.log.steps }
     requires shareable { IsShareable entry.now }
     requires origin { entry.now.origin ≡ Hints hints.now }
-    ensures goes { GoesOn solver.old solver.new }
+    ensures goes { (assumption_based : Bool) → GoesOn assumption_based solver.old solver.new }
     ensures comes { OnOk result ((f : Framework) → ComesIn f own entry.now.clause (Hints hints.now) solver.old.log
         solver.new.log) }
 {
@@ -188,29 +246,32 @@ fn take_derived(
     Ok(())
 }
 
-/// Takes an entry into the log of the session of the number `own`, where it may come in: an axiom as one's own step, any
-/// other by the steps that its hints name, marked with the entry's name. It spends nothing. After `Memory` the log is as
-/// before.
+/// Takes an entry into the log of the session of the number `own`, whose framework is assumption-based or abstract, where
+/// it may come in: an axiom of such frameworks, but a loop clause, as one's own step; any other entry by the steps that
+/// its hints name, marked with the entry's name. It spends nothing. After `Memory` the log is as before.
 pub fn take_in(
     alloc: Global,
     solver: &mut AtomSolver,
     names: &mut StepNames,
+    assumption_based: bool,
     own: u32,
     entry: &Entry,
 ) -> Result<(), Memory>
     requires named { AreNamed names.old solver.old.log.steps }
     requires shareable { IsShareable entry.now }
     ensures named { AreNamed names.new solver.new.log.steps }
-    ensures goes { GoesOn solver.old solver.new }
-    ensures comes { OnOk result ((f : Framework) → ComesInOrMayNot f own entry.now solver.old.log solver.new.log) }
+    ensures goes { GoesOn assumption_based solver.old solver.new }
+    ensures comes { OnOk result ((f : Framework) → is_assumption_based f ≡ assumption_based
+        → ComesInOrMayNot f own entry.now solver.old.log solver.new.log) }
 {
-    names.look(solver)?;
+    names.look(alloc, solver)?;
     if is_taken(names, own, entry.name) {
         return Ok(());
     }
     match &entry.origin {
         EntryOrigin::Axiom(name) => {
-            take_named(alloc, solver, names, name, entry.clause.as_slice())
+            let clause = entry.clause.as_slice();
+            take_named(alloc, solver, names, assumption_based, name, clause)
         }
         EntryOrigin::Hints(hints) => {
             take_derived(alloc, solver, names, own, entry, hints.as_slice())

@@ -1,11 +1,12 @@
 -- Lists of all extensions by each semantics.
-use Rattle.std.proofs.Common.{◌≡◌, ℕ, ◌+◌, ◌*◌, ◌<◌, List, [], ◌∷◌, length, refl, subst, arith}
+use Rattle.std.proofs.Common.{◌≡◌, ℕ, ◌+◌, ◌*◌, ◌<◌, false, List, [], ◌∷◌, length, refl, subst, sym, arith}
 use Rattle.std.specs.Prelude.{Contains, slice_index_or, Option}
+use Rattle.std.proofs.lemmas.Bool.{false≢true}
 use Rattle.std.proofs.lemmas.List.{get_or_default}
 use Rattle.plain_lists.proofs.Membership.{Contains-nil}
 use Rattle.plain_lits.specs.declared.halt.Halt.{Halt}
 use Rattle.plain_lits.specs.Units.{Units}
-use Rattle.semantics.specs.Frameworks.{Framework, af}
+use Rattle.semantics.specs.Frameworks.{Framework, af, aba}
 use Rattle.meaning_atoms.specs.declared.atom.Atom.{Atom}
 use Rattle.meaning_atoms.specs.declared.atom.Atom.TheVariants.{Ad, Co, St}
 use Rattle.meaning_atoms.specs.declared.atom.AtomLit.{AtomLit}
@@ -31,10 +32,12 @@ use Rattle.certificate_laws.proofs.SideClauses.{differs_plain, outside_plain, wi
 use Rattle.oracle_face.specs.declared.face.Pending.{Pending}
 use Rattle.oracle_face.specs.Goals.{Refutes}
 use Rattle.oracle_face.specs.Growing.{HasRun}
+use Rattle.oracle_face.specs.Kinds.{is_assumption_based}
 use Rattle.oracle_face.specs.Logs.{IsKept, OracleLog}
 use Rattle.oracle_face.proofs.GrowingLemmas.{Makes, run_as}
 use Rattle.oracle_face.proofs.Refuting.{claim_excluded}
 use Rattle.edit_rules.specs.Kinds.{kind_of}
+use Rattle.goal_lists.proofs.GoalKinds.{semi_stable_abstract}
 use Rattle.cegar_preferred.specs.Largest.{MadeOutside}
 use Rattle.enumerate_modes.specs.declared.with_mode.Listed.{Listed}
 use Rattle.enumerate_modes.specs.declared.with_mode.Listed.TheVariants.{Whole, TooMany as MoreThanListed}
@@ -105,6 +108,7 @@ preferred_tests f sets each rise = record {
 semi_stable_order : (f : Framework) (sets : List (List ℕ))
     → ((e : List ℕ) → Contains sets e → IsExtension f SemiStable e) → NoRangeWithin f sets
 semi_stable_order (af f) sets each = no_range_within f sets each
+semi_stable_order (aba f) sets each = tt
 
 semi_stable_tests : (f : Framework) (sets : List (List ℕ))
     → ((e : List ℕ) → Contains sets e → IsExtension f SemiStable e) → SetsRise sets
@@ -191,16 +195,18 @@ preferred_list f log limit (e ∷ more) step kept h = record {
   refuted = refuted_first f log _ step [] [] h.refuted (refuted_none f log);
 }
 
-semi_stable_list : (f : Framework) (log : OracleLog) (limit : ℕ) (sets : List (List ℕ)) (steps : List ℕ) → IsKept f log
-    → IsAllSemiStable f log limit sets steps → AreExtensions f log SemiStable limit sets steps
-semi_stable_list f log limit [] steps kept h =
-    absurd (not_refuted f log Ad (wider f) [] (slice_index_or steps 0 0) kept (λ x. x) (wider_plain f)
-    (h.refuted.each 0 (omega (arith, h.refuted.number))) (none_admissible f) (none_admissible f))
-semi_stable_list f log limit (e ∷ more) steps kept h = record {
+semi_stable_list : (f : Framework) (log : OracleLog) (limit : ℕ) (sets : List (List ℕ)) (steps : List ℕ)
+    → is_assumption_based f ≡ false → IsKept f log → IsAllSemiStable f log limit sets steps
+    → AreExtensions f log SemiStable limit sets steps
+semi_stable_list (aba f) log limit sets steps kind kept h = absurd (false≢true (sym kind))
+semi_stable_list (af f) log limit [] steps kind kept h =
+    absurd (not_refuted (af f) log Ad (wider (af f)) [] (slice_index_or steps 0 0) kept (λ x. x) (wider_plain (af f))
+    (h.refuted.each 0 (omega (arith, h.refuted.number))) (none_admissible (af f)) (none_admissible (af f)))
+semi_stable_list (af f) log limit (e ∷ more) steps kind kept h = record {
   all = record { each = h.each; all = h.all; rise = h.rise };
   differ = they_differ (e ∷ more) h.rise h.one_form;
   within = h.within;
-  tests = semi_stable_tests f (e ∷ more) h.each h.rise;
+  tests = semi_stable_tests (af f) (e ∷ more) h.each h.rise;
   refuted = h.refuted;
 }
 
@@ -252,15 +258,16 @@ pub is_largest : (f g : Framework) (log : OracleLog) (limit : ℕ) (listed : Lis
 is_largest f g log limit listed same kept h =
     largest f log limit (subst (λ (x : Framework). IsKept x log) same kept) listed h
 
-widest : (f : Framework) (log : OracleLog) (limit : ℕ) → IsKept f log → (ranged : Ranged)
+widest : (f : Framework) (log : OracleLog) (limit : ℕ) → is_assumption_based f ≡ false → IsKept f log
+    → (ranged : Ranged)
     → IsRangedList f log limit ranged → IsListOf f log SemiStable limit (with_steps ranged)
-widest f log limit kept (WholeRanged sets steps) h = semi_stable_list f log limit sets.items steps kept h
-widest f log limit kept MoreThanRanged h = h
+widest f log limit kind kept (WholeRanged sets steps) h = semi_stable_list f log limit sets.items steps kind kept h
+widest f log limit kind kept MoreThanRanged h = h
 
-pub is_widest : (f g : Framework) (log : OracleLog) (limit : ℕ) (ranged : Ranged) → g ≡ f → IsKept g log
-    → IsRangedList f log limit ranged → IsListOf f log SemiStable limit (with_steps ranged)
-is_widest f g log limit ranged same kept h =
-    widest f log limit (subst (λ (x : Framework). IsKept x log) same kept) ranged h
+pub is_widest : (f g : Framework) (log : OracleLog) (limit : ℕ) (ranged : Ranged) → is_assumption_based f ≡ false
+    → g ≡ f → IsKept g log → IsRangedList f log limit ranged → IsListOf f log SemiStable limit (with_steps ranged)
+is_widest f g log limit ranged kind same kept h =
+    widest f log limit kind (subst (λ (x : Framework). IsKept x log) same kept) ranged h
 
 -- ---- tasks
 
@@ -269,6 +276,11 @@ has_task : (f : Framework) (task : Task) (semantics : Semantics) → IsListTask 
 has_task f task semantics h is =
     subst (HasTask (kind_of f) AllExtensions) is
     (subst (λ (p : Problem). HasTask (kind_of f) p task.semantics) h.problem h.has)
+
+-- frameworks that are asked for all semi-stable sets are abstract
+pub list_abstract : (f : Framework) (task : Task) → IsListTask f task → task.semantics ≡ SemiStable
+    → is_assumption_based f ≡ false
+list_abstract f task h is = semi_stable_abstract f AllExtensions (has_task f task SemiStable h is)
 
 -- frameworks of no kind are asked for all grounded or all ideal sets
 grounded_is_one : (kind : Kind) → HasTask kind AllExtensions Grounded → ⊥

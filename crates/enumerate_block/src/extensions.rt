@@ -1,7 +1,8 @@
 //! All extensions.
 
-ghost use Rattle.std.specs.Prelude.{◌≡◌, [], ◌∷◌, ◌+◌, ◌*◌, length, IfOk};
+ghost use Rattle.std.specs.Prelude.{◌≡◌, [], ◌∷◌, ◌+◌, ◌*◌, false, length, IfOk};
 ghost use Rattle.iccma_tasks.specs.declared.task.Semantics.{Semantics};
+ghost use Rattle.oracle_face.specs.Kinds.{is_assumption_based};
 ghost use Rattle.oracle_face.specs.Logs.{IsKept};
 ghost use Rattle.oracle_face.specs.Growing.{HasRun, halt_of};
 ghost use Rattle.enumerate_block.specs.Extensions.{IsListOf, IsListTask, IsModeOf, MadeForAll, with_step, with_steps};
@@ -100,13 +101,14 @@ fn all_largest<O: Oracle>(
     Ok(extensions)
 }
 
-/// All semi-stable sets.
+/// All semi-stable sets of an abstract framework.
 fn all_widest<O: Oracle>(
     alloc: Global,
     oracle: &mut O,
     budget: &mut Budget,
     limit: usize,
 ) -> Result<Extensions, Halt>
+    requires { is_assumption_based (O.framework oracle.old) ≡ false }
     ensures listed { IfOk result (IsListOf (O.framework oracle.old) (O.log oracle.new) Semantics.SemiStable limit) }
     ensures run { HasRun (MadeForAll (O.framework oracle.old) Semantics.SemiStable)
         (2 * length (O.log oracle.new).sides + 2) (O.framework oracle.old) (O.log oracle.old) (O.log oracle.new)

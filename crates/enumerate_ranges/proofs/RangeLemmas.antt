@@ -1,8 +1,7 @@
 -- Lists of all semi-stable sets, range by range.
-use Rattle.std.proofs.Common.{◌≡◌, inl, inr, ⊎_elim, ℕ, zero, suc, ◌+◌, ◌-◌, ◌*◌, ◌<◌, ◌≤◌, true, false, Bool, not, List, [], ◌∷◌, ◌++◌, length, map, filter, refl, ap, sym, subst, ◌∙◌, Vec, Global, arith}
+use Rattle.std.proofs.Common.{◌≡◌, inl, inr, ⊎_elim, ℕ, zero, suc, ◌+◌, ◌-◌, ◌*◌, ◌<◌, ◌≤◌, true, false, Bool, List, [], ◌∷◌, ◌++◌, length, map, filter, refl, ap, sym, subst, ◌∙◌, Vec, Global, arith}
 use Rattle.std.specs.Prelude.{◌⊎◌, ◌↔◌, Contains, slice_index_or, Option, Some, None, Result, Ok, Err, IfOk}
-use Rattle.std.specs.Cmp.{both_ways}
-use Rattle.std.proofs.lemmas.Bool.{cases_lt}
+use Rattle.std.proofs.lemmas.Bool.{cases_lt, false≢true}
 use Rattle.std.proofs.lemmas.List.{get_or_append_left, get_or-append_right, get_or_default, length-append}
 use Rattle.std.proofs.lemmas.List.Elements.{Contains-append_left, Contains-append_cases}
 use Rattle.plain_lists.specs.Members.{IsSetOf, IsWithin}
@@ -12,7 +11,7 @@ use Rattle.plain_lits.specs.declared.halt.Halt.{Halt}
 use Rattle.plain_lits.specs.Units.{Units}
 use Rattle.plain_lits.proofs.HintCheckLemmas.{Contains-mapped, Contains-from_mapped}
 use Rattle.semantics.specs.Framework.{Af}
-use Rattle.semantics.specs.Frameworks.{Framework, af, IsNumbered}
+use Rattle.semantics.specs.Frameworks.{Framework, af, aba, IsNumbered}
 use Rattle.semantics.specs.Laws.{HasSameMembers}
 use Rattle.meaning_atoms.specs.declared.atom.Atom.{Atom}
 use Rattle.meaning_atoms.specs.declared.atom.Atom.TheVariants.{Ad, Ask}
@@ -24,9 +23,9 @@ use Rattle.certificate_claims.specs.Acceptance.{NoRangeWithin}
 use Rattle.certificate_claims.specs.Claims.{claim_of, first_ranged, range_cover, range_listed}
 use Rattle.certificate_claims.specs.Refutations.{IsPlain}
 use Rattle.certificate_claims.specs.Rights.{IsExtension, SetsRise}
-use Rattle.certificate_claims.specs.SetLiterals.{are_ranged, differs, has, is_range_within, is_ranged, members, range_of, same_range, wider}
-use Rattle.certificate_claims.proofs.RangeLists.{equal_ranges, kept_alike}
-use Rattle.certificate_claims.proofs.SetTests.{firsts_within, in_range_live, ranged_from, ranged_gives, tests_range_within, tests_same_range, within_gives}
+use Rattle.certificate_claims.specs.SetLiterals.{are_ranged, differs, has, is_range_within, members, range_of, same_range, wider}
+use Rattle.certificate_claims.proofs.RangeLists.{equal_ranges}
+use Rattle.certificate_claims.proofs.SetTests.{firsts_within}
 use Rattle.certificate_laws.proofs.GoalLists.{asks_cons, asks_nil, only_one, plain_mapped}
 use Rattle.certificate_laws.proofs.SideClauses.{differs_plain, ranged_plain, wider_plain}
 use Rattle.certificate_laws.proofs.WidestSets.{all_semi_stable, widest_semi_stable}
@@ -35,13 +34,13 @@ use Rattle.oracle_face.specs.declared.face.Found.TheVariants.{Set, Refuted}
 use Rattle.oracle_face.specs.declared.face.Pending.{Pending}
 use Rattle.oracle_face.specs.Goals.{DeniesSide, Refutes}
 use Rattle.oracle_face.specs.Growing.{Grows, HasRun, IsFound, Making, OnlySide}
-use Rattle.oracle_face.specs.Kinds.{IsRanged}
-use Rattle.oracle_face.specs.Logs.{IsKept, IsLog, IsSameClause, OracleLog, SideClause}
+use Rattle.oracle_face.specs.Kinds.{IsRanged, is_assumption_based}
+use Rattle.oracle_face.specs.Logs.{IsKept, IsLog, OracleLog, SideClause}
 use Rattle.oracle_face.proofs.GrowingLemmas.{Makes, run_as}
 use Rattle.oracle_face.proofs.Refuting.{claim_excluded, refutes_grown}
 use Rattle.goal_lists.specs.Asking.{AreApart, goals_of, IsAskable}
 use Rattle.goal_lists.specs.Sides.{AreAsksOf, IsAskOf}
-use Rattle.goal_lists.proofs.AskedGoals.{not_range_within, same_wider, wider_speaks}
+use Rattle.goal_lists.proofs.AskedGoals.{not_range_within, wider_speaks}
 use Rattle.goal_lists.proofs.Calls.{admissible_members, apart_pushed, asks_fit, found_mode, then_made}
 use Rattle.goal_lists.proofs.Measures.{fewer_left, kept_is_set, left_open, same_as_kept}
 use Rattle.goal_lists.proofs.SideLemmas.{HasWanted, ask_grown, asks_again, asks_kept, asks_more, asks_none, asks_refuted, asks_speak, asks_true, same_number}
@@ -57,64 +56,7 @@ use Rattle.enumerate_ranges.specs.declared.ranges.Ranges.{Ranges}
 use Rattle.enumerate_ranges.specs.Marks.{GainsFirst, IsPaired, mark_at, marked_steps}
 use Rattle.enumerate_ranges.specs.Ranges.{AreFound, AreRefuted, Gains, GrowsRange, IsAllSemiStable, IsMark, IsUncovered, MadeForRanges, Records}
 use Rattle.enumerate_ranges.proofs.StepLemmas.{first_of, firsts_refuted, refuted_first, refuted_member}
-
--- ---- ranges
-
-pub semi_admissible : (f : Framework) (e : List ℕ) → IsExtension f SemiStable e → HoldsOf f e Ad
-semi_admissible (af f) e h = h.admissible
-
--- an admissible set whose range holds that of a semi-stable one has the same range
-same_width : (f : Framework) (e x : List ℕ) → IsExtension f SemiStable e → HoldsOf f x Ad → IsRangeIn f e x
-    → IsRangeIn f x e
-same_width (af f) e x semi ok sub = semi.widest x ok sub
-
--- and is semi-stable
-semi_too : (f : Framework) (e x : List ℕ) → IsExtension f SemiStable e → HoldsOf f x Ad → IsRangeIn f e x
-    → IsExtension f SemiStable x
-semi_too (af f) e x semi ok sub = record {
-  admissible = ok;
-  widest = λ t is in_t a h. sub a (semi.widest t is (λ b k. in_t b (sub b k)) a h);
-}
-
-range_more : (f : Framework) (s t : List ℕ) → IsWithin s t → IsRangeIn f s t
-range_more (af f) s t sub a h =
-    ⊎_elim (λ c. inl (sub a c)) (λ hit. inr (hit.0, sub hit.0 hit.1, hit.2)) h
-
--- the tests of ranges decide them for admissible sets
-alike_from : (f : Framework) (s t : List ℕ) → IsNumbered f → HoldsOf f s Ad → HoldsOf f t Ad → IsRangeIn f s t
-    → IsRangeIn f t s → same_range f s t ≡ true
-alike_from (af f) s t ok left right h k =
-    (tests_same_range f s t ok.form left.conflict_free.live right.conflict_free.live).1 (h, k)
-
-alike_gives : (f : Framework) (s t : List ℕ) → IsNumbered f → HoldsOf f s Ad → HoldsOf f t Ad
-    → same_range f s t ≡ true → IsRangeIn f s t × IsRangeIn f t s
-alike_gives (af f) s t ok left right h =
-    (tests_same_range f s t ok.form left.conflict_free.live right.conflict_free.live).0 h
-
-in_from : (f : Framework) (s t : List ℕ) → IsNumbered f → IsWithin s (members f) → IsRangeIn f s t
-    → is_range_within f s t ≡ true
-in_from (af f) s t ok live h = (tests_range_within f s t ok.form live).1 h
-
-in_gives : (f : Framework) (s t : List ℕ) → IsNumbered f → IsWithin s (members f) → is_range_within f s t ≡ true
-    → IsRangeIn f s t
-in_gives (af f) s t ok live h = (tests_range_within f s t ok.form live).0 h
-
--- sets with the same range have the same side clause
-wider_alike : (f : Framework) (s t : List ℕ) → IsNumbered f → HoldsOf f s Ad → HoldsOf f t Ad → IsRangeIn f s t
-    → IsRangeIn f t s → wider f s ≡ wider f t
-wider_alike f s t ok left right h k =
-    let there = in_from f s t ok (admissible_members f s left) h in
-    let back = in_from f t s ok (admissible_members f t right) k in
-    ap are_ranged (kept_alike (λ x. not (is_ranged f s x)) (λ x. not (is_ranged f t x)) (members f)
-    (λ a c. ap not (both_ways (is_ranged f s a) (is_ranged f t a) (within_gives f s t there a c)
-    (within_gives f t s back a c))))
-
--- where the side clauses have the same literals, the one's range lies in the other's
-same_clause_range : (f : Framework) (d e : List ℕ) → IsNumbered f → HoldsOf f e Ad
-    → IsSameClause (wider f d) (wider f e) → IsRangeIn f e d
-same_clause_range (af f) d e ok adm same a h =
-    ranged_gives f d a (same_wider (af f) d e same a (in_range_live f e a ok.form adm.conflict_free.live h)
-    (ranged_from f e a h))
+use Rattle.enumerate_ranges.proofs.WidthLemmas.{semi_admissible, same_width, semi_too, range_more, alike_from, alike_gives, in_from, in_gives, wider_alike, same_clause_range}
 
 -- ---- claims with more side clauses
 
@@ -141,12 +83,13 @@ refutes_more f log goals few more n all h = record {
 
 -- ---- sets found
 
-pub found_none : (f : Framework) (log : OracleLog) (found : Ranges) → found.sets.items ≡ [] → found.marks.items ≡ []
-    → found.asks ≡ [] → AreFound f log found
-found_none f log found sets marks asks =
+pub found_none : (f : Framework) (log : OracleLog) (found : Ranges) → is_assumption_based f ≡ false
+    → found.sets.items ≡ [] → found.marks.items ≡ [] → found.asks ≡ [] → AreFound f log found
+found_none f log found kind sets marks asks =
     let none : (e : List ℕ) → Contains found.sets.items e → ⊥ =
     λ e c. Contains-nil e (subst (λ (xs : List (List ℕ)). Contains xs e) sets c) in
     record {
+      kind = kind;
       each = λ e c. absurd (none e c);
       asks = asks_none (wider f) log.sides found.sets.items found.asks sets asks;
       apart = record { apart = λ i j lt high e. absurd (omega (arith, ap length asks)) };
@@ -165,6 +108,7 @@ mark_grown f P old new sets s form grows None h = h
 pub found_grown : (f : Framework) (P : Making) (old new : OracleLog) (found : Ranges) → IsLog f old → Grows P old new
     → AreFound f old found → AreFound f new found
 found_grown f P old new found form grows h = record {
+  kind = h.kind;
   each = h.each;
   asks = asks_kept (wider f) P old new found.sets.items found.asks grows h.asks;
   apart = h.apart;
@@ -214,14 +158,16 @@ wanted = record {
   has_ranged = λ a c. absurd (Contains-nil a c);
 }
 
-not_in_range : (f : Framework) (e set : List ℕ) → IsTrueAlone (world_of f set) (wider f e) → IsRangeIn f set e → ⊥
-not_in_range (af f) e set t sub = not_range_within f e set t sub
+not_in_range : (f : Framework) (e set : List ℕ) → is_assumption_based f ≡ false
+    → IsTrueAlone (world_of f set) (wider f e) → IsRangeIn f set e → ⊥
+not_in_range (af f) e set kind t sub = not_range_within f e set t sub
+not_in_range (aba f) e set kind t sub = false≢true (sym kind)
 
 found_uncovered : (f : Framework) (log : OracleLog) (ranges : Ranges) → AreFound f log ranges → (found : Found)
     → IsFound f log (goals_of Ad [] [] [] ranges.asks) found → IsUncovered f log ranges found
 found_uncovered f log ranges h (Set set) makes = (
   found_mode f log Ad [] [] [] ranges.asks set tt makes,
-  λ e c. not_in_range f e set
+  λ e c. not_in_range f e set h.kind
       (asks_true f log (wider f) ranges.sets.items Ad [] [] [] ranges.asks set h.asks makes e c),
 )
 found_uncovered f log ranges h (Refuted step) refuted =
@@ -241,15 +187,18 @@ widest_plain : (f : Framework) (e : List ℕ) → IsPlain (wider_claim f Ad e)
 widest_plain f e = plain_mapped (affirmed Ad ∷ are_ranged (range_of f e)) (wider f) (e ∷ [])
     (asks_cons (affirmed Ad) (are_ranged (range_of f e)) (λ x. x) (ranged_plain (range_of f e))) (wider_plain f)
 
-widest_is_semi : (f : Framework) (log : OracleLog) (given : List ℕ) (widest : Widest) → IsKept f log
-    → IsWidestFrom f log Ad given widest → IsExtension f SemiStable widest.set
-widest_is_semi (af f) log given widest kept h =
+widest_is_semi : (f : Framework) (log : OracleLog) (given : List ℕ) (widest : Widest)
+    → is_assumption_based f ≡ false → IsKept f log → IsWidestFrom f log Ad given widest
+    → IsExtension f SemiStable widest.set
+widest_is_semi (aba f) log given widest kind kept h = absurd (false≢true (sym kind))
+widest_is_semi (af f) log given widest kind kept h =
     widest_semi_stable f widest.set kept.numbered h.has_mode
     (claim_excluded (af f) log (wider_claim (af f) Ad widest.set) widest.refutation kept.form
     (widest_plain (af f) widest.set) h.refuted)
 
 -- the range of a semi-stable set that lies in none of the sets', with its side clause
 pub record IsNewRange (f : Framework) (log : OracleLog) (old : Ranges) (w range : List ℕ) (n : ℕ) : Type 0 where
+  pub kind : is_assumption_based f ≡ false
   pub numbered : IsNumbered f
   pub semi : IsExtension f SemiStable w
   pub is_range : IsSetOf (IsRanged f w) range
@@ -257,11 +206,13 @@ pub record IsNewRange (f : Framework) (log : OracleLog) (old : Ranges) (w range 
   pub ask : IsAskOf log.sides (wider f w) n
 
 pub new_range : (f : Framework) (first log : OracleLog) (old new : Ranges) (set : List ℕ) (widest : Widest)
-    → IsKept f log → IsUncovered f first old (Set set) → (h : GrowsRange f log set old new widest)
+    → is_assumption_based f ≡ false → IsKept f log → IsUncovered f first old (Set set)
+    → (h : GrowsRange f log set old new widest)
     → IsNewRange f log old widest.set widest.range h.number
-new_range f first log old new set widest kept open_set h = record {
+new_range f first log old new set widest kind kept open_set h = record {
+  kind = kind;
   numbered = kept.numbered;
-  semi = widest_is_semi f log set widest kept h.is_widest;
+  semi = widest_is_semi f log set widest kind kept h.is_widest;
   is_range = h.is_widest.range;
   outside_all = λ d c sub. open_set.1 d c (λ a k. sub a (h.is_widest.holds a k));
   ask = h.ask;
@@ -270,6 +221,7 @@ new_range f first log old new set widest kept open_set h = record {
 pub range_grown : (f : Framework) (P : Making) (before after : OracleLog) (old : Ranges) (w range : List ℕ) (n : ℕ)
     → Grows P before after → IsNewRange f before old w range n → IsNewRange f after old w range n
 range_grown f P before after old w range n grows h = record {
+  kind = h.kind;
   numbered = h.numbered;
   semi = h.semi;
   is_range = h.is_range;
@@ -279,15 +231,17 @@ range_grown f P before after old w range n grows h = record {
 
 -- ---- sets with the range
 
-among_in : (f : Framework) (w range x : List ℕ) → IsSetOf (IsRanged f w) range → IsAmong f Ad range x → IsRangeIn f w x
-among_in (af f) w range x is among a h = among.ranged a ((is.members a).1 h)
+among_in : (f : Framework) (w range x : List ℕ) → is_assumption_based f ≡ false → IsSetOf (IsRanged f w) range
+    → IsAmong f Ad range x → IsRangeIn f w x
+among_in (af f) w range x kind is among a h = among.ranged a ((is.members a).1 h)
+among_in (aba f) w range x kind is among a h = absurd (false≢true (sym kind))
 
 -- none of them is one of the sets before
 pub not_among : (f : Framework) (log : OracleLog) (old : Ranges) (w range : List ℕ) (n : ℕ)
     → IsNewRange f log old w range n → (s x : List ℕ) → Contains old.sets.items s → IsAmong f Ad range x
     → IsRangeIn f x s → ⊥
 not_among f log old w range n h s x c among sub =
-    h.outside_all s c (λ a k. sub a (among_in f w range x h.is_range among a k))
+    h.outside_all s c (λ a k. sub a (among_in f w range x h.kind h.is_range among a k))
 
 pub apart_from_old : (f : Framework) (log : OracleLog) (old : Ranges) (w range : List ℕ) (n : ℕ)
     (more : List (List ℕ)) → IsNewRange f log old w range n → ((x : List ℕ) → Contains more x → IsAmong f Ad range x)
@@ -298,17 +252,18 @@ apart_from_old f log old w range n more h each s c d =
 group_alike : (f : Framework) (log : OracleLog) (old : Ranges) (w range x y : List ℕ) (n : ℕ)
     → IsNewRange f log old w range n → IsAmong f Ad range x → IsAmong f Ad range y → IsRangeIn f x y
 group_alike f log old w range x y n h left right a k =
-    among_in f w range y h.is_range right a
-    (same_width f w x h.semi left.has_mode (among_in f w range x h.is_range left) a k)
+    among_in f w range y h.kind h.is_range right a
+    (same_width f w x h.kind h.semi left.has_mode (among_in f w range x h.kind h.is_range left) a k)
 
 group_same : (f : Framework) (log : OracleLog) (old : Ranges) (w range x y : List ℕ) (n : ℕ)
     → IsNewRange f log old w range n → IsAmong f Ad range x → IsAmong f Ad range y → same_range f x y ≡ true
 group_same f log old w range x y n h left right =
-    alike_from f x y h.numbered left.has_mode right.has_mode
+    alike_from f x y h.kind h.numbered left.has_mode right.has_mode
     (group_alike f log old w range x y n h left right) (group_alike f log old w range y x n h right left)
 
 own_among : (f : Framework) (log : OracleLog) (old : Ranges) (w range : List ℕ) (n : ℕ)
     → IsNewRange f log old w range n → IsAmong f Ad range w
+own_among (aba f) log old w range n h = absurd (false≢true (sym h.kind))
 own_among (af f) log old w range n h = record {
   has_mode = semi_admissible (af f) w h.semi;
   ranged = λ a c. (h.is_range.members a).0 c;
@@ -322,7 +277,7 @@ group_refuted f log old w range s n room step more new h all there c =
     let among = all.each s c in
     let same = group_same f log old w range w s n h (own_among f log old w range n h) among in
     let list : range ≡ range_of f s =
-    range_list f w range h.numbered (admissible_members f w (semi_admissible f w h.semi)) h.is_range
+    range_list f w range h.kind h.numbered (admissible_members f w (semi_admissible f w h.semi)) h.is_range
     ∙ equal_ranges f w s same in
     refutes_more f log (affirmed Ad ∷ are_ranged (range_of f s)) (map (differs f) more)
     (map (differs f) (filter (same_range f s) new)) step
@@ -375,7 +330,7 @@ old_mark f log old w range n new more s h are m each c (Some step) is = (
       is.0,
   λ t d same less. ⊎_elim (λ o. is.1 t o same less)
       (λ k. not_among f log old w range n h s t c (each t k)
-      (alike_gives f t s h.numbered (each t k).has_mode (semi_admissible f s (are.each s c)) same).0)
+      (alike_gives f t s h.kind h.numbered (each t k).has_mode (semi_admissible f s (are.each s c)) same).0)
       (m.cases t d),
 )
 old_mark f log old w range n new more s h are m each c None is = (is.0, m.keeps is.0 is.1, is.2, is.3)
@@ -398,7 +353,7 @@ new_mark f log old w range n room step new more s h are m all zero lt is =
       group_refuted f log old w range s n room step more new h all m.gains c,
       λ t d same less. ⊎_elim
           (λ o. not_among f log old w range n h t s o (all.each s c)
-          (alike_gives f t s h.numbered (semi_admissible f t (are.each t o)) (all.each s c).has_mode same).1)
+          (alike_gives f t s h.kind h.numbered (semi_admissible f t (are.each t o)) (all.each s c).has_mode same).1)
           (λ k.
           let at = at_list more t k in
           first_least more at.0 t s all.rise at.1 at.2 is less)
@@ -437,7 +392,7 @@ range_asks f log old w range x n new more asks h are m each c is =
     let sets = old.sets.items in
     let own = own_among f log old w range n h in
     let alike : (y : List ℕ) → IsAmong f Ad range y → wider f w ≡ wider f y = λ y among.
-    wider_alike f w y h.numbered own.has_mode among.has_mode (group_alike f log old w range w y n h own among)
+    wider_alike f w y h.kind h.numbered own.has_mode among.has_mode (group_alike f log old w range w y n h own among)
     (group_alike f log old w range y w n h among own) in
     let ask : IsAskOf log.sides (wider f x) n =
     subst (λ (clause : List AtomLit). IsAskOf log.sides clause n) (alike x (each x c)) h.ask in
@@ -455,7 +410,7 @@ not_asked : (f : Framework) (log : OracleLog) (old : Ranges) (w range : List ℕ
 not_asked f log old w range n h are c =
     let m = are.asks.each n c in
     h.outside_all m.0 m.1
-    (same_clause_range f m.0 w h.numbered (semi_admissible f w h.semi)
+    (same_clause_range f m.0 w h.kind h.numbered (semi_admissible f w h.semi)
     (same_number log.sides (wider f m.0) (wider f w) n m.2 h.ask))
 
 merged_form : (f : Framework) (log : OracleLog) (old : Ranges) (w range : List ℕ) (n : ℕ)
@@ -466,10 +421,10 @@ merged_form : (f : Framework) (log : OracleLog) (old : Ranges) (w range : List �
 merged_form f log old w range n new more h are m each one s t c d same =
     ⊎_elim
     (λ left. ⊎_elim (λ right. are.one_form s t left right same)
-    (λ right. absurd (not_among f log old w range n h s t left (each t right) (range_more f t s same.back)))
+    (λ right. absurd (not_among f log old w range n h s t left (each t right) (range_more f t s h.kind same.back)))
     (m.cases t d))
     (λ left. ⊎_elim
-    (λ right. absurd (not_among f log old w range n h t s right (each s left) (range_more f s t same.there)))
+    (λ right. absurd (not_among f log old w range n h t s right (each s left) (range_more f s t h.kind same.there)))
     (λ right. one s t left right same)
     (m.cases t d))
     (m.cases s c)
@@ -493,8 +448,10 @@ gains_range f log limit room old new w range n step more h are all fits gains as
       outside_all = λ e d sub. not_among f log old w range n h e x d (all.each x c) sub;
       asks = asks;
       found = record {
+        kind = h.kind;
         each = λ s d. ⊎_elim (λ o. are.each s o)
-            (λ k. semi_too f w s h.semi (all.each s k).has_mode (among_in f w range s h.is_range (all.each s k)))
+            (λ k. semi_too f w s h.kind h.semi (all.each s k).has_mode
+            (among_in f w range s h.kind h.is_range (all.each s k)))
             (m.cases s d);
         asks = range_asks f log old w range x n new.sets.items more new.asks h are m all.each c asks;
         apart = subst AreApart (sym asks) (apart_pushed old.asks n are.apart (not_asked f log old w range n h are));
@@ -542,10 +499,11 @@ pub has_more : (f : Framework) (log : OracleLog) (limit room : ℕ) (old : Range
 has_more f log limit room old w range n h are fits more = record {
   sets = old.sets.items ++ more.sets;
   each = λ e c. ⊎_elim (λ o. are.each e o)
-      (λ k. semi_too f w e h.semi (more.each e k).has_mode (among_in f w range e h.is_range (more.each e k)))
+      (λ k. semi_too f w e h.kind h.semi (more.each e k).has_mode
+      (among_in f w range e h.kind h.is_range (more.each e k)))
       (Contains-append_cases old.sets.items more.sets e c);
   differ = differ_across old.sets.items more.sets (they_differ old.sets.items are.rise are.one_form) more.differ
-      (λ s t c d same. not_among f log old w range n h s t c (more.each t d) (range_more f t s same.back));
+      (λ s t c d same. not_among f log old w range n h s t c (more.each t d) (range_more f t s h.kind same.back));
   more = omega (arith, fits, more.more, length-append old.sets.items more.sets);
 }
 
@@ -558,14 +516,15 @@ open_ranges f sets = left_open (is_range_within f) (members f) sets
 pub fewer_open : (f : Framework) (log : OracleLog) (limit : ℕ) (old new : Ranges) → IsNumbered f
     → Gains f log limit old new → open_ranges f new.sets.items < open_ranges f old.sets.items
 fewer_open f log limit old new ok h =
+    let kind = h.found.kind in
     let e = h.set in
     let live = admissible_members f e (semi_admissible f e (h.found.each e h.member)) in
     let s = filter (has e) (members f) in
     let same = same_as_kept (members f) e live in
     let s_live : IsWithin s (members f) = λ x c. live x (same.0 x c) in
     fewer_left (is_range_within f) (members f) old.sets.items new.sets.items e s h.keeps h.member
-    (kept_is_set (has e) (members f)) (in_from f s e ok s_live (range_more f s e same.0))
-    (λ d c sub. h.outside_all d c (λ a k. in_gives f s d ok s_live sub a (range_more f e s same.1 a k)))
+    (kept_is_set (has e) (members f)) (in_from f s e kind ok s_live (range_more f s e kind same.0))
+    (λ d c sub. h.outside_all d c (λ a k. in_gives f s d kind ok s_live sub a (range_more f e s kind same.1 a k)))
 
 -- ---- the end
 
@@ -579,19 +538,20 @@ claim_plain f sets e = plain_mapped (affirmed Ad ∷ are_ranged (range_of f e)) 
     (asks_cons (affirmed Ad) (are_ranged (range_of f e)) (λ x. x) (ranged_plain (range_of f e))) (differs_plain f)
 
 -- what covers the ranges of the sets, covers them by the first sets with their ranges
-cover_firsts : (f : Framework) (log : OracleLog) (sets : List (List ℕ)) (step : ℕ) → IsNumbered f
-    → ((e : List ℕ) → Contains sets e → IsExtension f SemiStable e) → Refutes f log (range_cover f [] sets) step
+cover_firsts : (f : Framework) (log : OracleLog) (sets : List (List ℕ)) (step : ℕ) → is_assumption_based f ≡ false
+    → IsNumbered f → ((e : List ℕ) → Contains sets e → IsExtension f SemiStable e)
+    → Refutes f log (range_cover f [] sets) step
     → Refutes f log (range_cover f [] (first_ranged f sets)) step
-cover_firsts f log sets step ok each refuted =
+cover_firsts f log sets step kind ok each refuted =
     refutes_more f log (affirmed Ad ∷ []) (map (wider f) sets) (map (wider f) (first_ranged f sets)) step
     (λ side c.
     let m = Contains-from_mapped (wider f) sets side c in
     let first = first_of f sets m.0 m.1 in
     let left = semi_admissible f first.0 (each first.0 (firsts_within f sets first.0 first.1)) in
     let right = semi_admissible f m.0 (each m.0 m.1) in
-    let both = alike_gives f first.0 m.0 ok left right first.2 in
+    let both = alike_gives f first.0 m.0 kind ok left right first.2 in
     subst (λ (x : List AtomLit). Contains (map (wider f) (first_ranged f sets)) x)
-    (wider_alike f first.0 m.0 ok left right both.0 both.1 ∙ m.2)
+    (wider_alike f first.0 m.0 kind ok left right both.0 both.1 ∙ m.2)
     (Contains-mapped (wider f) (first_ranged f sets) first.0 first.1))
     refuted
 
@@ -599,10 +559,11 @@ pub all_found : (f : Framework) (log : OracleLog) (limit : ℕ) (found : Ranges)
     → IsKept f log → AreFound f log found → length found.sets.items ≤ limit
     → steps ≡ step ∷ marked_steps found.marks.items → Refutes f log (range_cover f [] found.sets.items) step
     → IsAllSemiStable f log limit found.sets.items steps
+all_found (aba f) log limit found step steps kept h room is refuted = absurd (false≢true (sym h.kind))
 all_found (af f) log limit found step steps kept h room is refuted =
     let sets = found.sets.items in
     let firsts = first_ranged (af f) sets in
-    let cover = cover_firsts (af f) log sets step kept.numbered h.each refuted in
+    let cover = cover_firsts (af f) log sets step h.kind kept.numbered h.each refuted in
     let listed = firsts_refuted (af f) log sets found.marks.items h.rise h.marked h.marks in
     let exact = all_semi_stable f sets kept.numbered (λ e c. semi_admissible (af f) e (h.each e c))
     (no_range_within f sets h.each)
@@ -694,15 +655,16 @@ grown f h P first log after old mid set widest same kept later_kept open_set are
       found = found_grown f P log after old now.form more
           (found_grown f (MadeForRanges f) first log old kept.form grows are);
       range = range_grown f P log after old widest.set widest.range g.number more
-          (new_range f first log old mid set widest now open_set g);
+          (new_range f first log old mid set widest are.kind now open_set g);
     }
 
-pub range_fits : (f h : Framework) (log : OracleLog) (set range : List ℕ) (widest : Widest) → h ≡ f → IsKept h log
-    → range ≡ widest.range → IsWidestFrom f log Ad set widest → IsWithin range (members h)
-range_fits f h log set range widest same kept is found =
+pub range_fits : (f h : Framework) (log : OracleLog) (set range : List ℕ) (widest : Widest)
+    → is_assumption_based f ≡ false → h ≡ f → IsKept h log → range ≡ widest.range → IsWidestFrom f log Ad set widest
+    → IsWithin range (members h)
+range_fits f h log set range widest kind same kept is found =
     subst (λ (x : Framework). IsWithin range (members x)) (sym same)
     (subst (λ (r : List ℕ). IsWithin r (members f)) (sym is)
-    (range_within f widest.set widest.range (subst (λ (x : Framework). IsKept x log) same kept).numbered
+    (range_within f widest.set widest.range kind (subst (λ (x : Framework). IsKept x log) same kept).numbered
     (admissible_members f widest.set found.has_mode) found.range))
 
 listed_all : (f h : Framework) (log : OracleLog) (range list : List ℕ) (room step : ℕ) (sets : Vec (List ℕ) Global)

@@ -14,6 +14,7 @@ use Rattle.oracle_face.specs.declared.face.Found.{Found}
 use Rattle.oracle_face.specs.declared.face.Found.TheVariants.{Set, Refuted}
 use Rattle.oracle_face.specs.Goals.{Refutes}
 use Rattle.oracle_face.specs.Growing.{Making}
+use Rattle.oracle_face.specs.Kinds.{is_assumption_based}
 use Rattle.oracle_face.specs.Logs.{OracleLog, IsSameClause}
 use Rattle.goal_lists.specs.Asking.{AreApart}
 use Rattle.goal_lists.specs.Sides.{AreAsksOf, IsAskOf}
@@ -46,9 +47,10 @@ IsMark f log sets s (Some step) =
     × ((t : List ℕ) → Contains sets t → same_range f t s ≡ true → Precedes t s → ⊥)
 IsMark f log sets s None = (t : List ℕ) × Contains sets t × (same_range f t s ≡ true) × Precedes t s
 
--- semi-stable sets, in order and marked, all with each range that one of them has; and different side clauses, each
--- that something is in the range that isn't in that of one of the sets
+-- semi-stable sets of an abstract framework, in order and marked, all with each range that one of them has; and
+-- different side clauses, each that something is in the range that isn't in that of one of the sets
 pub record AreFound (f : Framework) (log : OracleLog) (found : Ranges) : Type 0 where
+  pub kind : is_assumption_based f ≡ false
   pub each : (e : List ℕ) → Contains found.sets.items e → IsExtension f SemiStable e
   pub asks : AreAsksOf (wider f) log.sides found.sets.items found.asks
   pub apart : AreApart found.asks

@@ -1,6 +1,7 @@
 //! All semi-stable sets.
 
-ghost use Rattle.std.specs.Prelude.{◌≡◌, ◌≤◌, ◌+◌, ◌*◌, length, IfOk};
+ghost use Rattle.std.specs.Prelude.{◌≡◌, ◌≤◌, ◌+◌, ◌*◌, false, length, IfOk};
+ghost use Rattle.oracle_face.specs.Kinds.{is_assumption_based};
 ghost use Rattle.oracle_face.specs.Logs.{IsKept};
 ghost use Rattle.oracle_face.specs.Growing.{HasRun, closes, halt_of};
 ghost use Rattle.enumerate_ranges.specs.Ranges.{AreFound, GrowsRange, IsAllOrMore, IsUncovered, MadeForRanges, Records};
@@ -36,14 +37,16 @@ struct Ranges {
     asks: Items<AskId>,
 }
 
-/// All semi-stable sets, at most so many. Where they have k ranges, it asks k + 1 times for a range that lies in none
-/// of those found, and within each range as often as there are sets with it, besides what it asks to grow each range.
+/// All semi-stable sets of an abstract framework, at most so many. Where they have k ranges, it asks k + 1 times for a
+/// range that lies in none of those found, and within each range as often as there are sets with it, besides what it
+/// asks to grow each range.
 pub fn all_semi_stable<O: Oracle>(
     alloc: Global,
     oracle: &mut O,
     budget: &mut Budget,
     limit: usize,
 ) -> Result<Ranged, Halt>
+    requires { is_assumption_based (O.framework oracle.old) ≡ false }
     ensures ranged { IfOk result (IsAllOrMore (O.framework oracle.old) (O.log oracle.new) limit) }
     ensures run { HasRun (MadeForRanges (O.framework oracle.old)) (2 * length (O.log oracle.new).sides + 2)
         (O.framework oracle.old) (O.log oracle.old) (O.log oracle.new) (O.pending oracle.new) budget.old budget.new
@@ -107,7 +110,8 @@ fn grow_range<O: Oracle>(
     found: &mut Ranges,
     set: &NumSet,
 ) -> Result<Widest, Halt>
-    requires { IsUncovered (O.framework oracle.old) (O.log oracle.old) found.old (Found.Set set.now) }
+    requires kind { is_assumption_based (O.framework oracle.old) ≡ false }
+    requires set { IsUncovered (O.framework oracle.old) (O.log oracle.old) found.old (Found.Set set.now) }
     ensures grows { IfOk result (GrowsRange (O.framework oracle.old) (O.log oracle.new) set.now found.old found.new) }
     ensures run { HasRun (MadeForRanges (O.framework oracle.old)) 1 (O.framework oracle.old) (O.log oracle.old)
         (O.log oracle.new) (O.pending oracle.new) budget.old budget.new (halt_of result) }

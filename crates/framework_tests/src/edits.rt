@@ -30,6 +30,7 @@ fn has_attacks(framework: &Framework, attacks: &[(u32, u32)]) -> bool {
         Framework::Af(plain) => {
             plain.live() == [1, 2, 3].as_slice() && plain.attacks() == attacks
         }
+        Framework::Aba(_) => false,
     }
 }
 

@@ -1,12 +1,15 @@
 -- What of the goals depends on the kind of a framework, by cases on it; certificate_laws has the rest, in KindFacts.
-use Rattle.std.proofs.Common.{◌≡◌, ℕ, Bool, not, List, refl, ap}
+use Rattle.std.proofs.Common.{◌≡◌, ℕ, Bool, true, false, not, List, refl, ap, sym}
 use Rattle.std.specs.Prelude.{Contains}
 use Rattle.std.specs.Cmp.{both_ways}
+use Rattle.std.proofs.lemmas.Bool.{false≢true}
 use Rattle.plain_lists.specs.Members.{IsSetOf}
-use Rattle.semantics.specs.Frameworks.{Framework, af}
+use Rattle.semantics.specs.Frameworks.{Framework, af, aba}
 use Rattle.meaning_atoms.specs.Literals.{affirmed}
+use Rattle.iccma_tasks.specs.declared.task.Kind.TheVariants.{Aba as OfAba}
 use Rattle.iccma_tasks.specs.declared.task.Problem.{Problem}
-use Rattle.iccma_tasks.specs.declared.task.Semantics.TheVariants.{SemiStable}
+use Rattle.iccma_tasks.specs.declared.task.Problem.TheVariants.{Credulous, Sceptical, SomeExtension, AllExtensions}
+use Rattle.iccma_tasks.specs.declared.task.Semantics.TheVariants.{SemiStable, Ideal}
 use Rattle.iccma_tasks.specs.Tasks.{HasTask}
 use Rattle.certificate_claims.specs.SetLiterals.{goal, has, is_ranged, members}
 use Rattle.certificate_claims.proofs.SetTests.{has_from, has_gives, ranged_from, ranged_gives}
@@ -20,21 +23,48 @@ use Rattle.goal_lists.specs.Asking.{query_atom}
 -- the goal of a query is that of its kind
 pub goal_by_kind : (f : Framework) (q : ℕ) → goal f q ≡ affirmed (query_atom (is_assumption_based f) q)
 goal_by_kind (af f) q = refl
+goal_by_kind (aba f) q = refl
 
 -- and may be asked where what it asks about is there
 pub known_goal : (f : Framework) (sides : List SideClause) (q : ℕ) (positive : Bool) → IsKnown f q
     → IsGoal f sides (goal f q).atom positive
 known_goal (af f) sides q positive known = known
+known_goal (aba f) sides q positive known = known
+
+-- frameworks that have a task about semi-stable sets, or about ideal ones, are abstract
+no_semi_stable : (problem : Problem) → HasTask OfAba problem SemiStable → ⊥
+no_semi_stable Credulous has = has
+no_semi_stable Sceptical has = has
+no_semi_stable SomeExtension has = has
+no_semi_stable AllExtensions has = has
+
+no_ideal : (problem : Problem) → HasTask OfAba problem Ideal → ⊥
+no_ideal Credulous has = has
+no_ideal Sceptical has = has
+no_ideal SomeExtension has = has
+no_ideal AllExtensions has = has
+
+pub semi_stable_abstract : (f : Framework) (problem : Problem) → HasTask (kind_of f) problem SemiStable
+    → is_assumption_based f ≡ false
+semi_stable_abstract (af f) problem has = refl
+semi_stable_abstract (aba f) problem has = absurd (no_semi_stable problem has)
+
+pub ideal_abstract : (f : Framework) (problem : Problem) → HasTask (kind_of f) problem Ideal
+    → is_assumption_based f ≡ false
+ideal_abstract (af f) problem has = refl
+ideal_abstract (aba f) problem has = absurd (no_ideal problem has)
 
 -- what is asked about by semi-stable sets is a member of the framework
 pub known_member : (f : Framework) (problem : Problem) (q : ℕ) → HasTask (kind_of f) problem SemiStable → IsKnown f q
     → Contains (members f) q
 known_member (af f) problem q has known = known
+known_member (aba f) problem q has known = absurd (no_semi_stable problem has)
 
--- the test of a range is its fact
-pub range_test : (f : Framework) (set range : List ℕ) (x : ℕ) → IsSetOf (IsRanged f set) range
-    → not (has range x) ≡ not (is_ranged f set x)
-range_test (af f) set range x h =
+-- the test of a range in an abstract framework is its fact
+pub range_test : (f : Framework) (set range : List ℕ) (x : ℕ) → is_assumption_based f ≡ false
+    → IsSetOf (IsRanged f set) range → not (has range x) ≡ not (is_ranged f set x)
+range_test (aba f) set range x kind h = absurd (false≢true (sym kind))
+range_test (af f) set range x kind h =
     ap not (both_ways (has range x) (is_ranged (af f) set x)
     (λ e. ranged_from f set x ((h.members x).0 (has_gives range x e)))
     (λ e. has_from range x ((h.members x).1 (ranged_gives f set x e))))

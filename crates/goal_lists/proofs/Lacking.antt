@@ -7,7 +7,7 @@ use Rattle.semantics.specs.Frameworks.{Framework}
 use Rattle.certificate_claims.specs.SetLiterals.{has, is_ranged, members, wider, are_ranged}
 use Rattle.certificate_claims.proofs.RangeLists.{kept_alike}
 use Rattle.certificate_claims.proofs.SetTests.{one_kept, one_lost}
-use Rattle.oracle_face.specs.Kinds.{IsRanged}
+use Rattle.oracle_face.specs.Kinds.{IsRanged, is_assumption_based}
 use Rattle.goal_lists.proofs.GoalKinds.{range_test}
 
 -- the literal of a number is added, or the number is passed over
@@ -29,9 +29,9 @@ said_more p f xs old new i lt so_far e =
     ∙ ap (map f) (sym (filter-append p (take i xs) (get_or xs i 0 ∷ []))
     ∙ ap (filter p) (sym (take_more xs i 0 lt)))))
 
--- what a range lacks is outside the range
-pub lacks_range : (f : Framework) (set range : List ℕ) → IsSetOf (IsRanged f set) range
+-- what a range in an abstract framework lacks is outside the range
+pub lacks_range : (f : Framework) (set range : List ℕ) → is_assumption_based f ≡ false → IsSetOf (IsRanged f set) range
     → are_ranged (filter (λ x. not (has range x)) (members f)) ≡ wider f set
-lacks_range f set range h =
+lacks_range f set range kind h =
     ap are_ranged (kept_alike (λ x. not (has range x)) (λ x. not (is_ranged f set x)) (members f)
-    (λ x c. range_test f set range x h))
+    (λ x c. range_test f set range x kind h))

@@ -1,12 +1,12 @@
 //! Lists of literals about sets.
 
-ghost use Rattle.std.specs.Prelude.{ℕ, List, ◌≡◌, ◌++◌, ◌∷◌, [], not, map, filter, IfOk, OnOk};
+ghost use Rattle.std.specs.Prelude.{ℕ, List, ◌≡◌, ◌++◌, ◌∷◌, [], false, not, map, filter, IfOk, OnOk};
 ghost use Rattle.semantics.specs.Framework.{Af};
 ghost use Rattle.semantics.specs.Frameworks.{Framework, af};
 ghost use Rattle.meaning_atoms.specs.Literals as literals;
 ghost use Rattle.certificate_claims.specs.SetLiterals.{are_in, are_out, are_ranged, has, members};
 ghost use Rattle.certificate_claims.specs.SetLiterals as set_literals;
-ghost use Rattle.oracle_face.specs.Kinds.{IsRanged};
+ghost use Rattle.oracle_face.specs.Kinds.{IsRanged, is_assumption_based};
 ghost use Rattle.plain_lists.specs.Members.{IsSetOf};
 ghost use Rattle.goal_lists.specs.Words.{literal_of};
 
@@ -140,10 +140,11 @@ pub fn differs(alloc: Global, members: &NumSet, set: &NumSet) -> Result<Vec<Atom
     Ok(clause)
 }
 
-/// The side clause that something is in the range that isn't in a set's range.
+/// The side clause that something is in the range that isn't in a set's range, in an abstract framework.
 pub fn wider(alloc: Global, members: &NumSet, range: &NumSet) -> Result<Vec<AtomLit>, Memory>
-    ensures { IfOk result (λ clause. (f : Framework) (set : List ℕ) → members.now ≡ set_literals.members f
-        → IsSetOf (IsRanged f set) range.now → clause.items ≡ set_literals.wider f set) }
+    ensures { IfOk result (λ clause. (f : Framework) (set : List ℕ) → is_assumption_based f ≡ false
+        → members.now ≡ set_literals.members f → IsSetOf (IsRanged f set) range.now
+        → clause.items ≡ set_literals.wider f set) }
 {
     let clause = lacking(alloc, Word::Ranged, members.as_slice(), range)?;
     Ok(clause)

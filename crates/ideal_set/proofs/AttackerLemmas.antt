@@ -4,7 +4,7 @@ use Rattle.std.specs.Prelude.{Contains, Result, Ok, Err, IfOk}
 use Rattle.plain_lists.specs.Members.{IsWithin}
 use Rattle.plain_lists.specs.declared.memory.Memory.{Memory}
 use Rattle.semantics.specs.Framework.{Af, IsAdmissible, IsConflictFree}
-use Rattle.semantics.specs.Frameworks.{Framework, af}
+use Rattle.semantics.specs.Frameworks.{Framework, af, aba}
 use Rattle.meaning_atoms.specs.declared.atom.Atom.TheVariants.{Ad}
 use Rattle.meaning_atoms.specs.Worlds.{HoldsOf}
 use Rattle.admissible_part.specs.Parts.{IsAdmissiblePart, IsLargestPart}
@@ -14,6 +14,7 @@ use Rattle.ideal_set.specs.Ideals.{IsCut, IsCutBeside, IsFree, IsPicture, IsPict
 -- without attacks of arguments on themselves the set is conflict-free too
 pub conflict_free_of : (f : Framework) (plain : Af) (set : List ℕ) → IsPicture f plain → HoldsOf f set Ad
     → IsConflictFree plain set
+conflict_free_of (aba f) plain set is ok = absurd is
 conflict_free_of (af f) plain set is ok = record {
   live = λ a c. subst (λ (xs : List ℕ). Contains xs a) (sym is.live) (ok.conflict_free.live a c);
   apart = λ b a c d at. ok.conflict_free.apart b a c d ((is.attacks b a).0 at).0;
@@ -35,6 +36,7 @@ admissible_with f plain set part is free inside ok = record {
 
 is_free : (f : Framework) (plain : Af) (set hit part : List ℕ) → IsPicture f plain → HoldsOf f set Ad
     → IsAdmissiblePart plain set hit part → IsFree f hit part
+is_free (aba f) plain set hit part is ok h = absurd is
 is_free (af f) plain set hit part is ok h = record {
   admissible = admissible_with f plain set part is ok.conflict_free h.inside h.admissible;
   apart = h.apart;

@@ -6,13 +6,14 @@ use Rattle.plain_lists.specs.Members.{IsWithin}
 use Rattle.plain_lists.proofs.Membership.{Contains-nil, Contains-head, Contains-tail}
 use Rattle.plain_lits.specs.declared.halt.Halt.{Halt}
 use Rattle.plain_lits.proofs.HintCheckLemmas.{Contains-mapped}
-use Rattle.semantics.specs.Frameworks.{Framework, af, IsNumbered}
+use Rattle.semantics.specs.Frameworks.{Framework, IsNumbered}
 use Rattle.meaning_atoms.specs.declared.atom.Atom.TheVariants.{Member, Ad}
 use Rattle.meaning_atoms.specs.declared.atom.AtomLit.{AtomLit}
 use Rattle.meaning_atoms.specs.Literals.{affirmed, denied}
 use Rattle.meaning_atoms.specs.Worlds.{HoldsOf}
 use Rattle.certificate_claims.specs.Refutations.{IsPlain}
 use Rattle.certificate_claims.specs.SetLiterals.{are_in, are_out, members, outside}
+use Rattle.certificate_laws.proofs.KindFacts.{none_admissible}
 use Rattle.certificate_laws.proofs.GoalLists.{asks_append, asks_cons, plain_mapped}
 use Rattle.certificate_laws.proofs.SideClauses.{in_plain, out_plain, outside_plain}
 use Rattle.oracle_face.specs.declared.face.Found.{Found}
@@ -103,14 +104,8 @@ if_free f log hit e ins outs side is out_is made r h =
 
 -- the empty set is admissible
 pub nothing_free : (f : Framework) (hit : List ℕ) → IsFree f hit []
-nothing_free (af f) hit = record {
-  admissible = record {
-    conflict_free = record {
-      live = λ a c. absurd (Contains-nil a c);
-      apart = λ b a c. absurd (Contains-nil b c);
-    };
-    defended = λ a c. absurd (Contains-nil a c);
-  };
+nothing_free f hit = record {
+  admissible = none_admissible f;
   apart = λ a c. absurd (Contains-nil a c);
 }
 

@@ -1,9 +1,10 @@
 -- Attackers of a set, and the ideal set.
-use Rattle.std.proofs.Common.{◌≡◌, ◌↔◌, inl, inr, ⊎_elim, ℕ, ◌+◌, ◌*◌, ◌<◌, ◌≤◌, not, List, [], ◌∷◌, ◌++◌, length, filter, refl, ap, sym, subst, ◌∙◌, arith}
+use Rattle.std.proofs.Common.{◌≡◌, ◌↔◌, inl, inr, ⊎_elim, ℕ, ◌+◌, ◌*◌, ◌<◌, ◌≤◌, false, not, List, [], ◌∷◌, ◌++◌, length, filter, refl, ap, sym, subst, ◌∙◌, arith}
 use Rattle.std.specs.Prelude.{Contains, Result, Ok, IfOk, Option, None, ◌⊎◌, slice_index_or}
 use Rattle.std.specs.List.{list_any}
 use Rattle.std.specs.List.Sorted.{IsStrictlyIncreasing}
 use Rattle.meaning_atoms.specs.AtomText.{numbers_of}
+use Rattle.std.proofs.lemmas.Bool.{false≢true}
 use Rattle.std.proofs.lemmas.List.{length-append}
 use Rattle.std.proofs.lemmas.List.Kept.{IsStrictlyIncreasing-filter}
 use Rattle.std.proofs.lemmas.List.Elements.{Contains-append_left, Contains-append_cases}
@@ -13,7 +14,7 @@ use Rattle.plain_lits.specs.declared.halt.Halt.{Halt}
 use Rattle.plain_lits.specs.Units.{Units}
 use Rattle.plain_lits.proofs.HintCheckLemmas.{Contains-mapped, Contains-from_mapped}
 use Rattle.semantics.specs.Framework.{Af}
-use Rattle.semantics.specs.Frameworks.{Framework, af, IsNumbered}
+use Rattle.semantics.specs.Frameworks.{Framework, af, aba, IsNumbered}
 use Rattle.meaning_atoms.specs.declared.atom.Atom.TheVariants.{Tail, Ad}
 use Rattle.meaning_atoms.specs.declared.atom.AtomLit.{AtomLit}
 use Rattle.meaning_atoms.specs.Literals.{affirmed}
@@ -32,7 +33,7 @@ use Rattle.oracle_face.specs.declared.face.Found.TheVariants.{Set, Refuted}
 use Rattle.oracle_face.specs.Goals.{IsClaimSide, IsSide, Refutes, SpeaksOf}
 use Rattle.oracle_face.specs.declared.face.Pending.{Pending}
 use Rattle.oracle_face.specs.Growing.{Grows, HasRun, IsFound, Making, OnlySide, closes}
-use Rattle.oracle_face.specs.Kinds.{IsRanged}
+use Rattle.oracle_face.specs.Kinds.{IsRanged, is_assumption_based}
 use Rattle.oracle_face.specs.Logs.{IsKept, IsNumberOf, IsSameClause, OracleLog, SideClause, side_at}
 use Rattle.oracle_face.proofs.GrowingLemmas.{Makes}
 use Rattle.oracle_face.proofs.Refuting.{claim_excluded, grown_side, number_grown, refutes_claim, refutes_grown}
@@ -51,13 +52,15 @@ use Rattle.ideal_set.proofs.FreeLemmas.{free_plain}
 
 -- ---- what is asked
 
-pub attacked_from : (f : Framework) (side : List AtomLit) (e : List ℕ) → ((h : Af) → side ≡ attacked (af h) e)
-    → side ≡ attacked f e
-attacked_from (af h) side e is = is h
+pub attacked_from : (f : Framework) (side : List AtomLit) (e : List ℕ) → is_assumption_based f ≡ false
+    → ((h : Af) → side ≡ attacked (af h) e) → side ≡ attacked f e
+attacked_from (af h) side e kind is = is h
+attacked_from (aba h) side e kind is = absurd (false≢true (sym kind))
 
-pub attacked_is_side : (f : Framework) (e : List ℕ) (side : List AtomLit) → IsNumbered f → HoldsOf f e Ad
-    → side ≡ attacked f e → IsSide side
-attacked_is_side (af f) e side ok adm is = subst IsSide (sym is) (attacked_side f e ok adm.conflict_free.live)
+pub attacked_is_side : (f : Framework) (e : List ℕ) (side : List AtomLit) → is_assumption_based f ≡ false
+    → IsNumbered f → HoldsOf f e Ad → side ≡ attacked f e → IsSide side
+attacked_is_side (aba f) e side kind ok adm is = absurd (false≢true (sym kind))
+attacked_is_side (af f) e side kind ok adm is = subst IsSide (sym is) (attacked_side f e ok adm.conflict_free.live)
 
 pub makes_attacked : (f : Framework) (e : List ℕ) (side : List AtomLit) → HoldsOf f e Ad → side ≡ attacked f e
     → Makes (OnlySide side e) (MadeForIdeal f)
@@ -66,18 +69,20 @@ makes_attacked f e side ok is literals set h = (
   inr (subst (λ (clause : List AtomLit). IsSameClause literals clause) (is ∙ ap (attacked f) (sym h.1)) h.0),
 )
 
-speaks_attacked : (f : Framework) (e : List ℕ) → HoldsOf f e Ad → SpeaksOf f (attacked f e)
-speaks_attacked (af f) e adm = attacked_speaks f e adm.conflict_free.live
+speaks_attacked : (f : Framework) (e : List ℕ) → is_assumption_based f ≡ false → HoldsOf f e Ad
+    → SpeaksOf f (attacked f e)
+speaks_attacked (af f) e kind adm = attacked_speaks f e adm.conflict_free.live
+speaks_attacked (aba f) e kind adm = absurd (false≢true (sym kind))
 
-pub attack_beside : (f : Framework) (e : List ℕ) (side : List AtomLit) → side ≡ attacked f e → HoldsOf f e Ad
-    → IsAskableBeside f Ad [] [] [] side
-attack_beside f e side made adm = record {
+pub attack_beside : (f : Framework) (e : List ℕ) (side : List AtomLit) → is_assumption_based f ≡ false
+    → side ≡ attacked f e → HoldsOf f e Ad → IsAskableBeside f Ad [] [] [] side
+attack_beside f e side kind made adm = record {
   moded = tt;
   in_members = λ a c. absurd (Contains-nil a c);
   out_members = λ a c. absurd (Contains-nil a c);
   ranged_members = λ a c. absurd (Contains-nil a c);
   apart = λ a c. absurd (Contains-nil a c);
-  speaks = subst (SpeaksOf f) (sym made) (speaks_attacked f e adm);
+  speaks = subst (SpeaksOf f) (sym made) (speaks_attacked f e kind adm);
 }
 
 -- ---- what is found
@@ -87,20 +92,23 @@ attacked_claim_plain f e = plain_mapped (affirmed Ad ∷ []) (attacked f) (e ∷
     (asks_cons (affirmed Ad) [] (λ x. x) asks_nil) (attacked_plain f)
 
 attacks_there : (f : Framework) (log : OracleLog) (e : List ℕ) (n : ℕ) (set : List ℕ)
-    → IsAskOf log.sides (attacked f e) n → IsFound f log (goals_of Ad [] [] [] (n ∷ [])) (Set set)
+    → is_assumption_based f ≡ false → IsAskOf log.sides (attacked f e) n
+    → IsFound f log (goals_of Ad [] [] [] (n ∷ [])) (Set set)
     → (a : ℕ) × Contains e a × Hits f set a
-attacks_there (af f) log e n set ask makes =
+attacks_there (aba f) log e n set kind ask makes = absurd (false≢true (sym kind))
+attacks_there (af f) log e n set kind ask makes =
     attacks_one f e set
     (asked_true (af f) log (goals_of Ad [] [] [] (n ∷ [])) set n (attacked (af f) e)
     (asked_there Ad [] [] [] (n ∷ []) n (Contains-head n [] n refl)) ask.number ask.same makes)
 
-found_attack : (f : Framework) (log : OracleLog) (e : List ℕ) (n : ℕ) → IsAskOf log.sides (attacked f e) n
-    → (found : Found) → IsFound f log (goals_of Ad [] [] [] (n ∷ [])) found → Attacks f log e found
-found_attack f log e n ask (Set set) makes = (
+found_attack : (f : Framework) (log : OracleLog) (e : List ℕ) (n : ℕ) → is_assumption_based f ≡ false
+    → IsAskOf log.sides (attacked f e) n → (found : Found) → IsFound f log (goals_of Ad [] [] [] (n ∷ [])) found
+    → Attacks f log e found
+found_attack f log e n kind ask (Set set) makes = (
   found_mode f log Ad [] [] [] (n ∷ []) set tt makes,
-  attacks_there f log e n set ask makes,
+  attacks_there f log e n set kind ask makes,
 )
-found_attack f log e n ask (Refuted step) refuted =
+found_attack f log e n kind ask (Refuted step) refuted =
     refutes_claim f log (attacked_claim f e) (goals_of Ad [] [] [] (n ∷ [])) step (attacked_claim_plain f e).goals
     (within_claim log.sides (attacked_claim f e) Ad [] [] [] (n ∷ []) (record {
       has_mode = Contains-head (affirmed Ad) [] (affirmed Ad) refl;
@@ -112,11 +120,12 @@ found_attack f log e n ask (Refuted step) refuted =
           (Contains-head (attacked f e) [] (attacked f e) refl) ask);
     })) refuted
 
-pub if_attack : (f : Framework) (log : OracleLog) (e : List ℕ) (side : List AtomLit) → side ≡ attacked f e
-    → (r : Result Found Halt) → IfOk r (IsFoundBeside f log Ad [] [] [] side) → IfOk r (Attacks f log e)
-if_attack f log e side made r h =
+pub if_attack : (f : Framework) (log : OracleLog) (e : List ℕ) (side : List AtomLit) → is_assumption_based f ≡ false
+    → side ≡ attacked f e → (r : Result Found Halt) → IfOk r (IsFoundBeside f log Ad [] [] [] side)
+    → IfOk r (Attacks f log e)
+if_attack f log e side kind made r h =
     beside_means f log Ad [] [] [] side (attacked f e) (Attacks f log e) made
-    (λ n found ask k. found_attack f log e n ask found k) r h
+    (λ n found ask k. found_attack f log e n kind ask found k) r h
 
 pub if_asked : (f : Framework) (log : OracleLog) (e : List ℕ) (side : List AtomLit) → side ≡ attacked f e
     → (r : Result Found Halt) → IfOk r (IsFoundBeside f log Ad [] [] [] side) → IfOk r (IsAsked f log e)
@@ -131,6 +140,10 @@ pub struck_by : (f : Framework) (s range : List ℕ) → HoldsOf f s Ad → IsSe
 struck_by (af f) s range adm is a = (
   λ h. ⊎_elim (λ k. absurd (h.1 k)) (λ k. k) ((is.members a).0 h.0),
   λ k. ((is.members a).1 (inr k), λ c. adm.conflict_free.apart k.0 a k.1 c k.2),
+)
+struck_by (aba f) s range adm is a = (
+  λ h. ⊎_elim (λ k. absurd (h.1 k)) (λ k. k) ((is.members a).0 h.0),
+  λ k. ((is.members a).1 (inr k), λ c. adm.conflict_free.apart a c k),
 )
 
 pub hits_set : (f : Framework) (hit set range struck all : List ℕ) → HoldsOf f set Ad → IsSetOf (IsRanged f set) range
@@ -147,8 +160,10 @@ hits_set f hit set range struck all adm ranged less more = record {
   );
 }
 
-pub hits_members : (f : Framework) (s : List ℕ) (a : ℕ) → IsNumbered f → Hits f s a → Contains (members f) a
-hits_members (af f) s a ok k = (ok.form.ends k.0 a k.2).1
+pub hits_members : (f : Framework) (s : List ℕ) (a : ℕ) → is_assumption_based f ≡ false → IsNumbered f → Hits f s a
+    → Contains (members f) a
+hits_members (af f) s a kind ok k = (ok.form.ends k.0 a k.2).1
+hits_members (aba f) s a kind ok k = absurd (false≢true (sym kind))
 
 -- ---- the search
 
@@ -189,12 +204,13 @@ search_grown f P old new others hit grows h = record {
 }
 
 -- what some of the sets attack are members of the framework
-pub hit_within : (f : Framework) (log : OracleLog) (others : List (List ℕ)) (hit : List ℕ) → IsNumbered f
-    → IsSearch f log others hit → IsWithin hit (members f)
-hit_within f log others hit ok h a c = let m = (h.hits.members a).0 c in hits_members f m.0 a ok m.2
+pub hit_within : (f : Framework) (log : OracleLog) (others : List (List ℕ)) (hit : List ℕ)
+    → is_assumption_based f ≡ false → IsNumbered f → IsSearch f log others hit → IsWithin hit (members f)
+hit_within f log others hit kind ok h a c = let m = (h.hits.members a).0 c in hits_members f m.0 a kind ok m.2
 
 attacked_literal : (f : Framework) (e : List ℕ) (a : ℕ) → Contains e a → Contains (attacked f e) (affirmed (Tail a 1))
 attacked_literal (af f) e a c = Contains-mapped (λ x. affirmed (Tail x 1)) e a c
+attacked_literal (aba f) e a c = Contains-mapped (λ x. affirmed (Tail x 1)) e a c
 
 tail_number : (a x : ℕ) → affirmed (Tail a 1) ≡ affirmed (Tail x 1) → a ≡ x
 tail_number a x e = ap (λ (l : AtomLit). slice_index_or (numbers_of l.atom) 0 0) e
@@ -203,10 +219,14 @@ attacked_form : (f : Framework) (e : List ℕ) (a : ℕ) → Contains (attacked 
 attacked_form (af f) e a c =
     let m = Contains-from_mapped (λ x. affirmed (Tail x 1)) e (affirmed (Tail a 1)) c in
     subst (λ (x : ℕ). Contains e x) (tail_number m.0 a m.2) m.1
+attacked_form (aba f) e a c =
+    let m = Contains-from_mapped (λ x. affirmed (Tail x 1)) e (affirmed (Tail a 1)) c in
+    subst (λ (x : ℕ). Contains e x) (tail_number m.0 a m.2) m.1
 
 -- what a set that is free of the numbers attacks is no member of it
 free_of_own : (f : Framework) (hit e : List ℕ) → IsFree f hit e → (a : ℕ) → Contains e a → Hits f e a → ⊥
 free_of_own (af f) hit e free a c k = free.admissible.conflict_free.apart k.0 a k.1 c k.2
+free_of_own (aba f) hit e free a c k = free.admissible.conflict_free.apart a c k
 
 -- sets that were kept, or those and an admissible one more
 pub record HasKept (f : Framework) (others middle : List (List ℕ)) (hit mid : List ℕ) : Type 0 where
@@ -306,9 +326,10 @@ within_bound f P old new others hit m few h grows = omega (arith, few, few_sets 
 
 -- ---- the ideal set
 
-hit_list : (f : Framework) (log : OracleLog) (others : List (List ℕ)) (hit : List ℕ) → IsNumbered f
-    → IsSearch f log others hit → hit ≡ hit_by_any f others
-hit_list (af f) log others hit ok h =
+hit_list : (f : Framework) (log : OracleLog) (others : List (List ℕ)) (hit : List ℕ) → is_assumption_based f ≡ false
+    → IsNumbered f → IsSearch f log others hit → hit ≡ hit_by_any f others
+hit_list (aba f) log others hit kind ok h = absurd (false≢true (sym kind))
+hit_list (af f) log others hit kind ok h =
     same_rising hit (hit_by_any (af f) others) h.hits.rises
     (IsStrictlyIncreasing-filter (λ a. list_any (λ t. hits (af f) t a) others) f.live ok.form.live_rises)
     (λ a. (
@@ -316,29 +337,31 @@ hit_list (af f) log others hit ok h =
       λ c. (h.hits.members a).1 ((in_hit_list f others a ok.form).0 c),
     ))
 
-shown_set : (f : Framework) (log : OracleLog) (e : List ℕ) (others : List (List ℕ)) (first second : ℕ) → IsKept f log
-    → HoldsOf f e Ad → ((t : List ℕ) → Contains others t → HoldsOf f t Ad)
+shown_set : (f : Framework) (log : OracleLog) (e : List ℕ) (others : List (List ℕ)) (first second : ℕ)
+    → is_assumption_based f ≡ false → IsKept f log → HoldsOf f e Ad
+    → ((t : List ℕ) → Contains others t → HoldsOf f t Ad)
     → Refutes f log (attacked_claim f e) first → Refutes f log (free_claim f (hit_by_any f others) e) second
     → IsExtension f Ideal e
-shown_set (af f) log e others first second kept adm each one two =
+shown_set (aba f) log e others first second kind kept adm each one two = absurd (false≢true (sym kind))
+shown_set (af f) log e others first second kind kept adm each one two =
     shown_ideal f e others kept.numbered adm each
     (claim_excluded (af f) log (attacked_claim (af f) e) first kept.form (attacked_claim_plain (af f) e) one)
     (claim_excluded (af f) log (free_claim (af f) (hit_by_any (af f) others) e) second kept.form
     (free_plain (af f) (hit_by_any (af f) others) e) two)
 
 -- an unattacked set without what the others attack, round which nothing larger is without it
-pub is_ideal : (f g : Framework) (log : OracleLog) (found : IdealSet) (hit : List ℕ) → g ≡ f → IsKept g log
-    → IsSearch f log found.others hit → IsFree f hit found.set
+pub is_ideal : (f g : Framework) (log : OracleLog) (found : IdealSet) (hit : List ℕ) → is_assumption_based f ≡ false
+    → g ≡ f → IsKept g log → IsSearch f log found.others hit → IsFree f hit found.set
     → Refutes f log (free_claim f hit found.set) found.largest
     → Refutes f log (attacked_claim f found.set) found.unattacked → IsIdealFound f log found
-is_ideal f g log found hit same was h free two one =
+is_ideal f g log found hit kind same was h free two one =
     let kept = subst (λ (x : Framework). IsKept x log) same was in
     let largest : Refutes f log (free_claim f (hit_by_any f found.others) found.set) found.largest =
     subst (λ (xs : List ℕ). Refutes f log (free_claim f xs found.set) found.largest)
-    (hit_list f log found.others hit kept.numbered h) two in
+    (hit_list f log found.others hit kind kept.numbered h) two in
     record {
-      ideal = shown_set f log found.set found.others found.unattacked found.largest kept free.admissible h.admissible
-          one largest;
+      ideal = shown_set f log found.set found.others found.unattacked found.largest kind kept free.admissible
+          h.admissible one largest;
       admissible = free.admissible;
       others = h.admissible;
       unattacked = one;

@@ -1,16 +1,18 @@
 -- A framework as an oracle's ranges tell it.
-use Rattle.std.proofs.Common.{◌≡◌, ◌≢◌, ◌∙◌, inl, inr, ⊎_elim, ℕ, ◌+◌, ◌<◌, ◌≤◌, List, [], ◌∷◌, ◌++◌, length, get_or, take, refl, ap, sym, subst, arith}
+use Rattle.std.proofs.Common.{◌≡◌, ◌≢◌, ◌∙◌, inl, inr, ⊎_elim, ℕ, ◌+◌, ◌<◌, ◌≤◌, false, List, [], ◌∷◌, ◌++◌, length, get_or, take, refl, ap, sym, subst, arith}
 use Rattle.std.specs.Prelude.{◌↔◌, ◌⊎◌, Contains, Result, Ok, Err, IfOk}
 use Rattle.std.specs.List.Sorted.{IsStrictlyIncreasing}
+use Rattle.std.proofs.lemmas.Bool.{false≢true}
 use Rattle.std.proofs.lemmas.List.{take_all, take_more}
 use Rattle.std.proofs.lemmas.List.Elements.{Contains-append_left, Contains-push, Contains-push_cases}
 use Rattle.plain_lists.specs.Members.{IsSetOf}
 use Rattle.plain_lists.proofs.Membership.{Contains-cons_cases, Contains-head, Contains-nil}
 use Rattle.semantics.specs.Framework.{Af, Attacks}
-use Rattle.semantics.specs.Frameworks.{Framework, af, IsNumbered}
+use Rattle.semantics.specs.Frameworks.{Framework, af, aba, IsNumbered}
 use Rattle.certificate_claims.specs.SetLiterals.{members}
+use Rattle.certificate_laws.proofs.KindFacts.{numbered_members}
 use Rattle.dung_notions.specs.Neighbours.{AreArguments, AreBetween}
-use Rattle.oracle_face.specs.Kinds.{IsRanged}
+use Rattle.oracle_face.specs.Kinds.{IsRanged, is_assumption_based}
 use Rattle.ideal_set.specs.Ideals.{GainsTargets, IsPicture}
 
 pub single_rises : (n : ℕ) → IsStrictlyIncreasing (n ∷ [])
@@ -113,19 +115,22 @@ attack_in f b a h apart =
     ⊎_elim (λ c. absurd (apart (only b a c))) (λ w. subst (λ (x : ℕ). Attacks f x a) (only b w.0 w.1) w.2) h
 
 pub are_arguments : (f : Framework) (live : List ℕ) → IsNumbered f → live ≡ members f → AreArguments live
-are_arguments (af f) live ok e a c = ok.live a (subst (λ (xs : List ℕ). Contains xs a) e c)
+are_arguments f live ok e a c = numbered_members f ok a (subst (λ (xs : List ℕ). Contains xs a) e c)
 
-pub are_between : (f : Framework) (live : List ℕ) (n : ℕ) (found : List (ℕ × ℕ)) → IsNumbered f → live ≡ members f
-    → HasTargets f live n found → AreBetween live found
-are_between (af f) live n found ok e has b a c =
+pub are_between : (f : Framework) (live : List ℕ) (n : ℕ) (found : List (ℕ × ℕ)) → is_assumption_based f ≡ false
+    → IsNumbered f → live ≡ members f → HasTargets f live n found → AreBetween live found
+are_between (aba f) live n found kind ok e has b a c = absurd (false≢true (sym kind))
+are_between (af f) live n found kind ok e has b a c =
     let w = (has (b, a)).0 c in
     let ends = ok.form.ends b a (attack_in f b a w.1 w.2) in
     (subst (λ (xs : List ℕ). Contains xs b) (sym e) ends.0, subst (λ (xs : List ℕ). Contains xs a) (sym e) ends.1)
 
 pub is_picture : {E : Type 0} (f : Framework) (live : List ℕ) (n : ℕ) (found : List (ℕ × ℕ)) (result : Result Af E)
-    → IsNumbered f → live ≡ members f → length live ≤ n → HasTargets f live n found → IfOk result (λ g. g.live ≡ live)
+    → is_assumption_based f ≡ false → IsNumbered f → live ≡ members f → length live ≤ n → HasTargets f live n found
+    → IfOk result (λ g. g.live ≡ live)
     → IfOk result (λ g. (p : ℕ × ℕ) → Contains g.attacks p ↔ Contains found p) → IfOk result (IsPicture f)
-is_picture (af f) live n found (Ok g) ok e end has is_live are_attacks = record {
+is_picture (aba f) live n found result kind ok e end has is_live are_attacks = absurd (false≢true (sym kind))
+is_picture (af f) live n found (Ok g) kind ok e end has is_live are_attacks = record {
   live = is_live ∙ e;
   attacks = λ b a. (
     λ c. let w = (has (b, a)).0 ((are_attacks (b, a)).0 c) in (attack_in f b a w.1 w.2, λ (d : b ≡ a). w.2 (sym d)),
@@ -136,4 +141,4 @@ is_picture (af f) live n found (Ok g) ok e end has is_live are_attacks = record 
     )),
   );
 }
-is_picture (af f) live n found (Err x) ok e end has is_live are_attacks = is_live
+is_picture (af f) live n found (Err x) kind ok e end has is_live are_attacks = is_live

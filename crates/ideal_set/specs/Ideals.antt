@@ -5,7 +5,8 @@
 use Rattle.std.specs.Prelude.{◌≡◌, ◌≢◌, ◌↔◌, ◌⊎◌, ◌≤◌, ◌*◌, ℕ, List, [], ◌∷◌, ◌++◌, length, Contains}
 use Rattle.plain_lists.specs.Members.{IsSetOf, IsWithin}
 use Rattle.semantics.specs.Framework.{Af, Attacks as AttacksIn, IsAttackedBy}
-use Rattle.semantics.specs.Frameworks.{Framework, af}
+use Rattle.semantics.specs.Frameworks.{Framework, af, aba}
+use Rattle.aba_semantics.specs.AbaFrameworks.{AttacksAssumption}
 use Rattle.meaning_atoms.specs.declared.atom.Atom.TheVariants.{Ad, Tail}
 use Rattle.meaning_atoms.specs.Literals.{affirmed}
 use Rattle.meaning_atoms.specs.Worlds.{HoldsOf}
@@ -34,6 +35,7 @@ MadeForIdeal f literals set =
 -- the set attacks the number
 abbrev pub Hits : Framework → List ℕ → ℕ → Type 0
 Hits (af f) s a = IsAttackedBy f s a
+Hits (aba f) s a = AttacksAssumption f s a
 
 -- some set of the list attacks the number
 abbrev pub IsHit : Framework → List (List ℕ) → ℕ → Type 0
@@ -105,6 +107,7 @@ pub record IsPictureOf (f plain : Af) : Type 0 where
 
 abbrev pub IsPicture : Framework → Af → Type 0
 IsPicture (af f) plain = IsPictureOf f plain
+IsPicture (aba f) plain = ⊥
 
 -- there is one set more, with what it attacks
 pub record Keeps (f : Framework) (set : List ℕ) (old new : Attackers) : Type 0 where

@@ -1,10 +1,11 @@
 //! Admissible sets that attack a set, and what is left of the set without what they attack.
 
-ghost use Rattle.std.specs.Prelude.{◌≡◌, ◌⊎◌, Contains, IfOk, OnOk};
+ghost use Rattle.std.specs.Prelude.{◌≡◌, ◌⊎◌, false, Contains, IfOk, OnOk};
 ghost use Rattle.plain_lists.specs.Members.{IsSetOf};
 ghost use Rattle.meaning_atoms.specs.declared.atom.Atom.TheVariants.{Ad};
 ghost use Rattle.meaning_atoms.specs.Worlds.{HoldsOf};
 ghost use Rattle.oracle_face.specs.Growing.{HasRun, closes, halt_of};
+ghost use Rattle.oracle_face.specs.Kinds.{is_assumption_based};
 ghost use Rattle.oracle_face.specs.Logs.{IsKept};
 ghost use Rattle.ideal_set.specs.Ideals.{AreAttackers, Attacks, Hits, IsAsked, IsCut, IsCutBeside, IsFree, IsPicture};
 ghost use Rattle.ideal_set.specs.Ideals.{IsPruned, Keeps, MadeForIdeal};
@@ -32,7 +33,8 @@ pub(crate) fn attacker<O: Oracle>(
     budget: &mut Budget,
     set: &NumSet,
 ) -> Result<Found, Halt>
-    requires { HoldsOf (O.framework oracle.old) set.now Ad }
+    requires kind { is_assumption_based (O.framework oracle.old) ≡ false }
+    requires holds { HoldsOf (O.framework oracle.old) set.now Ad }
     ensures attacks { IfOk result (Attacks (O.framework oracle.old) (O.log oracle.new) set.now) }
     ensures asked { IfOk result (IsAsked (O.framework oracle.old) (O.log oracle.new) set.now) }
     ensures run { HasRun (MadeForIdeal (O.framework oracle.old)) (closes result) (O.framework oracle.old)
@@ -131,6 +133,7 @@ pub(crate) fn prune<O: Oracle>(
     found: &mut Attackers,
     set: &NumSet,
 ) -> Result<NumSet, Halt>
+    requires kind { is_assumption_based (O.framework oracle.old) ≡ false }
     requires plain { IsPicture (O.framework oracle.old) plain.now }
     requires found { AreAttackers (O.framework oracle.old) (O.log oracle.old) found.old }
     requires set { IsFree (O.framework oracle.old) found.old.hit set.now }

@@ -1,6 +1,7 @@
 //! A framework as an oracle tells it.
 
-ghost use Rattle.std.specs.Prelude.{IfOk, OnOk};
+ghost use Rattle.std.specs.Prelude.{◌≡◌, false, IfOk, OnOk};
+ghost use Rattle.oracle_face.specs.Kinds.{is_assumption_based};
 ghost use Rattle.ideal_set.specs.Ideals.{GainsTargets, IsPicture};
 
 use dung_notions::AfPlain;
@@ -27,9 +28,10 @@ fn add_targets<O: Oracle>(
     Ok(())
 }
 
-/// The attacks of one member on another, in time linear in the members and the attacks: the oracle tells the range of
-/// each member.
+/// The attacks of one argument on another in an abstract framework, in time linear in the arguments and the attacks:
+/// the oracle tells the range of each argument.
 pub(crate) fn picture<O: Oracle>(alloc: Global, oracle: &O) -> Result<AfPlain, Memory>
+    requires { is_assumption_based (O.framework oracle.now) ≡ false }
     ensures { IfOk result (IsPicture (O.framework oracle.now)) }
 {
     let live = oracle.members().copy(alloc)?;

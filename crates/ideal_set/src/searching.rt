@@ -1,7 +1,8 @@
 //! The search for the ideal set.
 
-ghost use Rattle.std.specs.Prelude.{◌≡◌, ◌+◌, ◌*◌, length, IfOk};
+ghost use Rattle.std.specs.Prelude.{◌≡◌, ◌+◌, ◌*◌, false, length, IfOk};
 ghost use Rattle.oracle_face.specs.Growing.{HasRun, halt_of};
+ghost use Rattle.oracle_face.specs.Kinds.{is_assumption_based};
 ghost use Rattle.oracle_face.specs.Logs.{IsKept};
 ghost use Rattle.ideal_set.specs.Ideals.{IsIdealFound, MadeForIdeal};
 
@@ -23,15 +24,16 @@ pub struct IdealSet {
     pub largest: StepId,
 }
 
-/// The ideal set. An admissible set is grown to its end. Where admissible sets attack it, it is cut down until none
-/// attacks what is left, and grown anew without what they and the grown set attack; where none does, it is ideal. With
-/// k such sets and n times that a set was cut down and grown, it asks k + n + 1 times for one, besides what it asks to
-/// grow.
+/// The ideal set of an abstract framework. An admissible set is grown to its end. Where admissible sets attack it, it
+/// is cut down until none attacks what is left, and grown anew without what they and the grown set attack; where none
+/// does, it is ideal. With k such sets and n times that a set was cut down and grown, it asks k + n + 1 times for one,
+/// besides what it asks to grow.
 pub fn ideal<O: Oracle>(
     alloc: Global,
     oracle: &mut O,
     budget: &mut Budget,
 ) -> Result<IdealSet, Halt>
+    requires { is_assumption_based (O.framework oracle.old) ≡ false }
     ensures ideal { IfOk result (IsIdealFound (O.framework oracle.old) (O.log oracle.new)) }
     ensures run { HasRun (MadeForIdeal (O.framework oracle.old)) (2 * length (O.log oracle.new).sides + 2)
         (O.framework oracle.old) (O.log oracle.old) (O.log oracle.new) (O.pending oracle.new) budget.old budget.new

@@ -6,7 +6,7 @@ ghost use Rattle.log_refutations.specs.Trimmed.{IsMovedDerived, IsMovedStep, mov
 
 use crate::read_log::{ReadLog, StepOrigin};
 use certificate_claims::Step;
-use meaning_atoms::{Atom, AtomLit, AxiomName};
+use meaning_atoms::{Atom, AtomLit};
 use plain_lists::{Items, Memory};
 use plain_lits::StepId;
 use std::alloc::Global;
@@ -90,8 +90,8 @@ pub(crate) fn moved_step<L: ReadLog>(
     ensures { IfOk result (IsMovedStep positions.now numbers.now (step_at (L.log log.now).steps step).source
         (step_at (L.log log.now).steps step).clause) }
 {
-    match log.origin(step) {
-        StepOrigin::Axiom(name) => Ok(Step::Axiom(AxiomName::Af(name))),
+    match log.origin(alloc, step)? {
+        StepOrigin::Axiom(name) => Ok(Step::Axiom(name)),
         StepOrigin::Side(side) => Ok(Step::Side(position(positions, side.number()))),
         StepOrigin::Derived => moved_derived(alloc, log, step, positions, numbers),
     }

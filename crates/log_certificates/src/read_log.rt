@@ -6,16 +6,16 @@ ghost use Rattle.session_log.specs.Guards.{IsGuarded};
 ghost use Rattle.log_certificates.specs.ClaimSides.{IsAskOf};
 ghost use Rattle.log_certificates.specs.Origins.{IsOrigin};
 
-use meaning_atoms::{AfAxiom, AtomLit};
+use meaning_atoms::{AtomLit, AxiomName};
 use oracle_face::AskId;
 use plain_lists::{Items, Memory};
 use plain_lits::StepId;
 use std::alloc::Global;
 
-/// Where a step comes from: it is an abstract framework's axiom or a side clause's, or it follows from other steps.
-#[derive(Clone, Copy, Debug, PartialEq, Eq)]
+/// Where a step comes from: it is an axiom's or a side clause's, or it follows from other steps.
+#[derive(Debug, Drop, PartialEq, Eq)]
 pub enum StepOrigin {
-    Axiom(AfAxiom),
+    Axiom(AxiomName),
     Side(AskId),
     Derived,
 }
@@ -42,9 +42,9 @@ pub trait ReadLog {
         ensures { IfOk result (λ clause. IsSameClause clause (step_at (log self.now).steps step).clause) };
 
     /// Where a step comes from.
-    fn origin(&self, step: StepId) -> StepOrigin
+    fn origin(&self, alloc: Global, step: StepId) -> Result<StepOrigin, Memory>
         requires { IsNumberOf (log self.now).steps step }
-        ensures { IsOrigin (step_at (log self.now).steps step).source result };
+        ensures { IfOk result (IsOrigin (step_at (log self.now).steps step).source) };
 
     /// The steps that a derived step follows from. Any other has none.
     fn hints(&self, step: StepId) -> &[StepId]

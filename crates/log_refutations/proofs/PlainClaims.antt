@@ -3,7 +3,7 @@ use Rattle.std.proofs.Common.{⊎_elim, ℕ, Bool, true, false, List, [], ◌∷
 use Rattle.std.specs.Prelude.{Contains, Option, Some, None}
 use Rattle.plain_lists.proofs.Membership.{Contains-nil, Contains-cons_cases}
 use Rattle.plain_lits.proofs.HintCheckLemmas.{Contains-from_mapped}
-use Rattle.semantics.specs.Frameworks.{Framework, af}
+use Rattle.semantics.specs.Frameworks.{Framework, af, aba}
 use Rattle.meaning_atoms.specs.declared.atom.Atom.{Atom}
 use Rattle.meaning_atoms.specs.declared.atom.Atom.TheVariants.{Ad, St}
 use Rattle.meaning_atoms.specs.declared.atom.AtomLit.{AtomLit}
@@ -22,7 +22,7 @@ use Rattle.certificate_claims.specs.declared.row.Row.TheVariants.{Largest, Wides
 use Rattle.certificate_claims.specs.declared.row.Row.TheVariants.{AllTested, AllLargest, AllWidest}
 use Rattle.certificate_claims.specs.Claims.{all_row, all_shown, claim_of, claims, credulous_row, each_accepts}
 use Rattle.certificate_claims.specs.Claims.{first_ranged, ideal_claims, none_accepts, range_cover, range_free}
-use Rattle.certificate_claims.specs.Claims.{range_listed, row_for, row_of, sceptical_row, shown, some_row}
+use Rattle.certificate_claims.specs.Claims.{range_listed, row_for, row_where, row_of, sceptical_row, shown, some_row}
 use Rattle.certificate_claims.specs.Claims.{there_is_none}
 use Rattle.certificate_claims.specs.Refutations.{Claim, IsPlain}
 use Rattle.certificate_claims.specs.SetLiterals.{are_in, are_out, are_ranged, attacked, differs, goal, hit_by_any}
@@ -63,6 +63,7 @@ IsPlainRow _ = Unit {0}
 
 goal_plain : (f : Framework) (q : ℕ) → IsAsk (goal f q).atom → ⊥
 goal_plain (af f) q ask = ask
+goal_plain (aba f) q ask = ask
 
 cover_plain : (f : Framework) (goals : List AtomLit) (sets : List (List ℕ)) → AsksNothing goals
     → IsPlain (range_cover f goals sets)
@@ -198,9 +199,19 @@ row_plain f SomeExtension semantics None answer = some_plain semantics answer
 row_plain f AllExtensions semantics None answer = all_row_plain semantics answer
 row_plain f _ semantics _ answer = tt
 
+-- answers on assumption-based frameworks have no row by semi-stable and by ideal sets
+where_plain : (semantics : Semantics) (f : Framework) (row : Row) → IsPlainRow row
+    → IsPlainRow (row_where semantics f row)
+where_plain SemiStable (af f) row plain = plain
+where_plain SemiStable (aba f) row plain = tt
+where_plain IdealSets (af f) row plain = plain
+where_plain IdealSets (aba f) row plain = tt
+where_plain _ f row plain = plain
+
 -- each claim of an answer asks for no side clause
 pub claims_plain : (f : Framework) (asked : Asked) (answer : Answer) (sets : List (List ℕ)) (claim : Claim)
     → Contains (claims f (row_of f asked answer) sets) claim → IsPlain claim
 claims_plain f asked answer sets claim c =
     row_claims f (row_of f asked answer) sets
-    (row_plain f asked.task.problem asked.task.semantics asked.number answer) claim c
+    (where_plain asked.task.semantics f (row_for f asked.task.problem asked.task.semantics asked.number answer)
+    (row_plain f asked.task.problem asked.task.semantics asked.number answer)) claim c

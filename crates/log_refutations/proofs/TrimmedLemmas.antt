@@ -11,7 +11,7 @@ use Rattle.plain_lits.specs.CheckLaws.{Renames, IsImage, IsMovedHint}
 use Rattle.plain_lits.specs.HintCheck.{clause_at}
 use Rattle.plain_lits.proofs.HintCheckLemmas.{Contains-mapped, Contains-from_mapped}
 use Rattle.plain_lits.proofs.Renaming.{checks_moved}
-use Rattle.semantics.specs.Frameworks.{Framework, af}
+use Rattle.semantics.specs.Frameworks.{Framework, af, aba}
 use Rattle.meaning_atoms.specs.declared.atom.Atom.{Atom}
 use Rattle.meaning_atoms.specs.declared.atom.Atom.TheVariants.{Ask}
 use Rattle.meaning_atoms.specs.declared.atom.AtomLit.{AtomLit}
@@ -231,6 +231,8 @@ cert_clause sides steps k n within low high =
 no_ask_fact : (f : Framework) (atom : Atom) → IsFact f atom → IsAsk atom → ⊥
 no_ask_fact (af f) (Ask n) fact ask = fact
 no_ask_fact (af f) _ fact ask = ask
+no_ask_fact (aba f) (Ask n) fact ask = fact
+no_ask_fact (aba f) _ fact ask = ask
 
 module _ (f : Framework) (log : OracleLog) (claim : Claim) (step : ℕ) (positions kept numbers : List ℕ)
     (steps : List Step) (refuting : IsRefutingStep f log claim step positions)
@@ -546,6 +548,8 @@ module _ (f : Framework) (log : OracleLog) (claim : Claim) (step : ℕ) (positio
   axiom_named : (g : Framework) (name : AxiomName) → IsAxiomOf g name → IsWritableStep (Axiom name)
   axiom_named (af g) (OfAf name) is = is
   axiom_named (af g) (OfAba name) is = absurd is
+  axiom_named (aba g) (OfAf name) is = absurd is
+  axiom_named (aba g) (OfAba name) is = is
 
   all_from : {X : Type 0} (P : X → Type 0) (xs : List X) → ((x : X) → Contains xs x → P x) → All P xs
   all_from P xs each k d lt = each (slice_index_or xs k d) (Contains-get_or xs k d lt)

@@ -6,10 +6,10 @@ use Rattle.meaning_atoms.specs.declared.atom.Atom.{Atom}
 use Rattle.meaning_atoms.specs.declared.atom.Atom.TheVariants.{Member, Live, Attack, Gap, Tail, Unmet, Range, Cf, Ad, Co, St, Ask}
 use Rattle.meaning_atoms.specs.declared.atom.Atom.TheVariants.{Asm, Con, Head, HGap, Body, BGap, Der, Miss, Sup}
 use Rattle.meaning_atoms.specs.declared.atom.AtomLit.{AtomLit}
-use Rattle.semantics.specs.Frameworks.{Framework, af}
+use Rattle.semantics.specs.Frameworks.{Framework, af, aba}
 use Rattle.semantics.specs.Framework.{Af, Attacks, IsAttackedBy}
 use Rattle.aba_semantics.specs.AbaFrameworks.{Aba}
-use Rattle.meaning_atoms.specs.Worlds.{AnyFramework, solved, aba, World, HoldsIn, HasGap, HasTail, HasUnmet, HoldsOfAf, HoldsOfAba, HoldsOf, HoldsAlone, Says, IsTrueAlone, IsSideTrue, Holds, HoldsLit, IsTrueBeside}
+use Rattle.meaning_atoms.specs.Worlds.{World, HasGap, HasTail, HasUnmet, HoldsOfAf, HoldsOfAba, HoldsOf, HoldsAlone, Says, IsTrueAlone, IsSideTrue, Holds, HoldsLit, IsTrueBeside}
 use Rattle.meaning_atoms.specs.Valuations.{HasValuation}
 use Rattle.semantics.proofs.Decided.{Decided, decide_both, decide_either, decide_not, decide_some, decide_at_most, decide_below}
 use Rattle.semantics.proofs.Decided.{decide_member, decide_attacks, decide_attacked}
@@ -96,13 +96,10 @@ decide_of_aba f s _ = inr (λ h. h)
 
 pub decide_of : (f : Framework) (s : List ℕ) (atom : Atom) → Decided (HoldsOf f s atom)
 decide_of (af f) s atom = decide_of_af f s atom
-
-decide_in : (f : AnyFramework) (s : List ℕ) (atom : Atom) → Decided (HoldsIn f s atom)
-decide_in (solved f) s atom = decide_of f s atom
-decide_in (aba f) s atom = decide_of_aba f s atom
+decide_of (aba f) s atom = decide_of_aba f s atom
 
 pub decide_alone : (w : World) (atom : Atom) → Decided (HoldsAlone w atom)
-decide_alone w atom = decide_in w.framework w.set atom
+decide_alone w atom = decide_of w.framework w.set atom
 
 decide_says : (positive : Bool) {P : Type 0} → Decided P → Decided (Says positive P)
 decide_says true p = p

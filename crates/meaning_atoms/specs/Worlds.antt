@@ -8,28 +8,20 @@ use Rattle.meaning_atoms.specs.declared.atom.Atom.TheVariants.{Member, Live, Att
 use Rattle.meaning_atoms.specs.declared.atom.Atom.TheVariants.{Asm, Con, Head, HGap, Body, BGap, Der, Miss, Sup}
 use Rattle.meaning_atoms.specs.declared.atom.AtomLit.{AtomLit}
 use Rattle.semantics.specs.Arguments.{IsArgument}
-use Rattle.semantics.specs.Frameworks.{Framework, af, IsNumberedAf}
+use Rattle.semantics.specs.Frameworks.{Framework, af, aba, IsNumberedAf}
 use Rattle.semantics.specs.Framework.{Af, Attacks, IsAttackedBy, IsConflictFree, IsAdmissible, IsComplete, IsStable, IsInRange}
 use Rattle.aba_semantics.specs.AbaFrameworks.{Aba, IsNumberedAba, collective_of}
 use Rattle.aba_semantics.specs.Collectives.{IsConflictFree as IsCollectiveFree, IsAdmissible as IsCollectiveAdmissible}
 use Rattle.aba_semantics.specs.Collectives.{IsComplete as IsCollectiveComplete, IsStable as IsCollectiveStable}
 use Rattle.meaning_atoms.specs.AbaReadings.{HasContrary, HasHead, HasNoHead, HasBodyAtom, HasBodyGap, IsInClosure, HasMiss, HasSupport}
 
--- a framework of either kind: one that tasks are solved on, or an assumption-based one
-pub data AnyFramework : Type 0 where
-  solved : Framework → AnyFramework
-  aba : Aba → AnyFramework
-
 -- a framework of either kind and a set of numbers, of which only the members count
 pub record World : Type 0 where
-  pub framework : AnyFramework
+  pub framework : Framework
   pub set : List ℕ
 
 abbrev pub world_of : Framework → List ℕ → World
-world_of f s = record { framework = solved f; set = s }
-
-abbrev pub aba_world : Aba → List ℕ → World
-aba_world f s = record { framework = aba f; set = s }
+world_of f s = record { framework = f; set = s }
 
 -- any abstract framework and any set, both of numbers from 1 to 1,000,000
 pub record IsAfWorld (f : Af) (s : List ℕ) : Type 0 where
@@ -41,17 +33,13 @@ pub record IsAbaWorld (f : Aba) (s : List ℕ) : Type 0 where
   pub framework : IsNumberedAba f
   pub members : (a : ℕ) → Contains s a → IsArgument a
 
--- any framework that tasks are solved on and any set of its kind
+-- any framework of either kind and any set
 abbrev pub IsWorldOf : Framework → List ℕ → Type 0
 IsWorldOf (af f) s = IsAfWorld f s
-
--- any framework of either kind and any set
-abbrev pub IsWorldIn : AnyFramework → List ℕ → Type 0
-IsWorldIn (solved f) s = IsWorldOf f s
-IsWorldIn (aba f) s = IsAbaWorld f s
+IsWorldOf (aba f) s = IsAbaWorld f s
 
 abbrev pub IsWorld : World → Type 0
-IsWorld w = IsWorldIn w.framework w.set
+IsWorld w = IsWorldOf w.framework w.set
 
 -- no attacker of a has a number from i to just before j
 abbrev pub HasGap : Af → ℕ → ℕ → ℕ → Type 0
@@ -90,10 +78,6 @@ HoldsOfAf f s (Der k x) = 1 ≤ x
 HoldsOfAf f s (Sup k x i) = Unit {0}
 HoldsOfAf f s _ = ⊥
 
--- the same of a framework that tasks are solved on
-abbrev pub HoldsOf : Framework → List ℕ → Atom → Type 0
-HoldsOf (af f) s atom = HoldsOfAf f s atom
-
 -- what the atom says is so of an assumption-based framework and a set; a side clause is not asked. The atoms of abstract
 -- frameworks read so that the clauses which always hold of those hold here too.
 abbrev pub HoldsOfAba : Aba → List ℕ → Atom → Type 0
@@ -118,13 +102,13 @@ HoldsOfAba f s (Range a) = Unit {0}
 HoldsOfAba f s _ = ⊥
 
 -- the same of a framework of either kind
-abbrev pub HoldsIn : AnyFramework → List ℕ → Atom → Type 0
-HoldsIn (solved f) s atom = HoldsOf f s atom
-HoldsIn (aba f) s atom = HoldsOfAba f s atom
+abbrev pub HoldsOf : Framework → List ℕ → Atom → Type 0
+HoldsOf (af f) s atom = HoldsOfAf f s atom
+HoldsOf (aba f) s atom = HoldsOfAba f s atom
 
 -- what the atom says is so in the world; no side clause is asked
 abbrev pub HoldsAlone : World → Atom → Type 0
-HoldsAlone w atom = HoldsIn w.framework w.set atom
+HoldsAlone w atom = HoldsOf w.framework w.set atom
 
 -- a literal says its atom, or that its atom is not so
 abbrev pub Says : Bool → Type 0 → Type 0
@@ -182,6 +166,7 @@ IsAbaFact _ = ⊥
 -- the framework alone fixes whether the atom is true, by its kind
 abbrev pub IsFact : Framework → Atom → Type 0
 IsFact (af f) atom = IsAfFact atom
+IsFact (aba f) atom = IsAbaFact atom
 
 -- the atom is the number of a side clause
 abbrev pub IsAsk : Atom → Type 0

@@ -1,6 +1,6 @@
 -- Entries that are taken from a trade, one after the other.
 use Rattle.std.proofs.Common.{◌≡◌, ℕ, ◌+◌, ◌≤◌, List, [], ◌∷◌, ◌++◌, length, ap, sym, subst, ◌∙◌, refl, arith, inl, inr}
-use Rattle.std.specs.Prelude.{Option, Some, None, Result, Ok, Err, OnOk}
+use Rattle.std.specs.Prelude.{Bool, Option, Some, None, Result, Ok, Err, OnOk}
 use Rattle.std.proofs.lemmas.List.{append_assoc, length-append, length_push}
 use Rattle.plain_lists.specs.declared.memory.Memory.{Memory}
 use Rattle.plain_lits.specs.Units.{Units}
@@ -8,6 +8,7 @@ use Rattle.semantics.specs.Frameworks.{Framework}
 use Rattle.edit_rules.specs.Kinds.{framework_of}
 use Rattle.oracle_face.specs.declared.entry.Entry.{Entry}
 use Rattle.oracle_face.specs.Growing.{Grows, HasRun, NoSide}
+use Rattle.oracle_face.specs.Kinds.{is_assumption_based}
 use Rattle.oracle_face.specs.Logs.{OracleLog}
 use Rattle.oracle_face.specs.Trades.{GivesFirst, GivesFrom}
 use Rattle.oracle_face.proofs.GrowingLemmas.{grows_as, grows_same, run_joined, run_none}
@@ -19,10 +20,12 @@ use Rattle.oracle_core.specs.Trading.{AnySide, TakesAll, TakesFrom}
 use Rattle.oracle_core.specs.TradingLaws.{takes_joined}
 use Rattle.oracle_core.proofs.Forcing.{force_grown}
 
-pub comes_at : (r : Result (Unit {0}) Memory) (f : Framework) (own : ℕ) (entry : Entry) (old new : OracleLog)
-    → OnOk r ((f : Framework) → ComesInOrMayNot f own entry old new) → OnOk r (ComesInOrMayNot f own entry old new)
-comes_at (Ok u) f own entry old new comes = comes f
-comes_at (Err e) f own entry old new comes = tt
+pub comes_at : (r : Result (Unit {0}) Memory) (kind : Bool) (f : Framework) (own : ℕ) (entry : Entry)
+    (old new : OracleLog) → is_assumption_based f ≡ kind
+    → OnOk r ((f : Framework) → is_assumption_based f ≡ kind → ComesInOrMayNot f own entry old new)
+    → OnOk r (ComesInOrMayNot f own entry old new)
+comes_at (Ok u) kind f own entry old new same comes = comes f same
+comes_at (Err e) kind f own entry old new same comes = tt
 
 pub any_side : (a b : OracleLog) → Grows NoSide a b → Grows AnySide a b
 any_side a b h = grows_as NoSide AnySide a b (λ literals set made. tt) h

@@ -1,27 +1,31 @@
 -- A model of the needed axioms and the goals is read as a set that makes the goals true.
-use Rattle.std.proofs.Common.{◌≡◌, ⊎_elim, ℕ, ◌-◌, Bool, true, false, not, List, take, sym, ap, subst, arith}
+use Rattle.std.proofs.Common.{◌≡◌, ◌∙◌, ⊎_elim, ℕ, ◌-◌, ◌≤◌, Bool, true, false, not, List, [], ◌∷◌, take, refl, sym, ap, subst, arith, inl, inr}
 use Rattle.std.specs.Prelude.{Contains, filter}
 use Rattle.std.proofs.lemmas.List.{length-map}
 use Rattle.std.proofs.lemmas.List.Elements.{Contains-get_or}
-use Rattle.plain_lists.proofs.Membership.{Contains-cons_cases}
+use Rattle.plain_lists.proofs.Membership.{Contains-nil, Contains-cons_cases}
 use Rattle.plain_lists.proofs.Filters.{Contains-filter}
-use Rattle.plain_lists.specs.Members.{IsSetOf}
 use Rattle.plain_lits.proofs.HintCheckLemmas.{Contains-mapped}
-use Rattle.semantics.specs.Frameworks.{Framework, IsNumbered}
+use Rattle.semantics.specs.Frameworks.{Framework, af, aba}
 use Rattle.meaning_atoms.specs.declared.atom.Atom.{Atom}
-use Rattle.meaning_atoms.specs.declared.atom.Atom.TheVariants.{Member, Live, Tail, Range, Cf, Ad, Co, St, Ask}
+use Rattle.meaning_atoms.specs.declared.atom.Atom.TheVariants.{Member, Tail, Range, Cf, Ad, Co, St, Der, Ask}
 use Rattle.meaning_atoms.specs.declared.atom.AtomLit.{AtomLit}
-use Rattle.meaning_atoms.specs.Literals.{affirmed, denied}
+use Rattle.meaning_atoms.specs.declared.atom.Closure.{Closure}
+use Rattle.meaning_atoms.specs.declared.atom.Closure.TheVariants.{Own, Rest}
+use Rattle.meaning_atoms.specs.declared.axiom.AxiomName.{AxiomName}
+use Rattle.meaning_atoms.specs.Literals.{affirmed, denied, negated}
 use Rattle.meaning_atoms.specs.Worlds.{world_of, IsTrueAlone, HoldsLit, HoldsOf, Says}
+use Rattle.af_axioms.specs.Table.{notion_clause}
+use Rattle.certificate_claims.specs.Refutations.{axiom_clause}
 use Rattle.certificate_claims.specs.SetLiterals.{members}
-use Rattle.oracle_face.specs.Decoding.{IsDecoded, IsModelOf, IsReadBack, ReadsBack}
-use Rattle.oracle_face.specs.Goals.{AreGoals, IsGoal, MakesTrue, SpeaksOf, Tells}
-use Rattle.oracle_face.specs.Logs.{OracleLog, LogStep, SideClause, IsGiven, IsNumberOf, IsSameClause, Source, by_axiom, by_side, by_hints, guarded, literals_of, no_step, side_at, step_at, working}
+use Rattle.oracle_face.specs.Decoding.{IsModelOf, IsNewLoop, IsReadBack, ReadsBack, TellsMembers}
+use Rattle.oracle_face.specs.Goals.{AreGoals, AsksAtom, IsGoal, IsMode, MakesTrue, SpeaksOf, Tells}
+use Rattle.oracle_face.specs.Logs.{OracleLog, LogStep, SideClause, FactsAreFalse, IsGiven, IsNew, IsNumberOf, IsSameClause, Source, by_axiom, by_side, by_hints, guarded, literals_of, no_step, side_at, step_at, working}
 use Rattle.oracle_face.proofs.StepTruth.{side_literals}
 use Rattle.atom_solver.specs.States.{IsGuardedLog}
 use Rattle.atom_solver.specs.Searches.{AreUnfixed, Satisfies}
 use Rattle.oracle_core.specs.Engines.{AreInForce}
-use Rattle.oracle_core.proofs.EngineKinds.{reads_back, unfixed_goal}
+use Rattle.oracle_core.proofs.EngineKinds.{member_axiom, member_needed, member_spoken, notion_axiom, notion_is, notion_needed, unfixed_goal}
 
 -- ---- goals
 
@@ -34,7 +38,7 @@ unfixed_goals f sides goals are =
 -- ---- models
 
 -- literals that satisfy the log and the goals are a model of the axioms in force
-model_of : (f : Framework) (log : OracleLog) (goals values : List AtomLit) → AreInForce f log
+pub model_of : (f : Framework) (log : OracleLog) (goals values : List AtomLit) → AreInForce f log
     → Satisfies f log goals values → IsModelOf f values
 model_of f log goals values force ok = record {
   plain = ok.plain;
@@ -45,8 +49,70 @@ model_of f log goals values force ok = record {
   facts = ok.facts;
   told = λ name l needed there fact.
       let has = force name needed in
-      ok.told has.clause l has.there (has.same.back l there) fact;
+      ok.told has.clause l has.there (has.same.back l there);
 }
+
+module _ (f : Framework) (log : OracleLog) (goals values : List AtomLit) (force : AreInForce f log)
+    (are : AreGoals f log.sides goals) (ok : Satisfies f log goals values) where
+  -- a notion that is affirmed implies the weaker one
+  weaker : (part : ℕ) (notion other : Atom) → 1 ≤ part → part ≤ 3
+      → notion_clause part ≡ denied notion ∷ affirmed other ∷ [] → Contains values (affirmed notion)
+      → Contains values (affirmed other)
+  weaker part notion other low high is told =
+      let has = force (notion_axiom f part) (notion_needed f part low high) in
+      let found = ok.clauses has.clause has.there in
+      let there = subst (λ clause. Contains clause found.0) (notion_is f part ∙ is)
+      (has.same.there found.0 found.1) in
+      ⊎_elim
+      (λ (e : denied notion ≡ found.0).
+      absurd (ok.plain (affirmed notion, told, subst (λ l. Contains values l) (sym e) found.2)))
+      (λ later. ⊎_elim (λ (e : affirmed other ≡ found.0). subst (λ l. Contains values l) (sym e) found.2)
+      (λ none. absurd (Contains-nil found.0 none))
+      (Contains-cons_cases (affirmed other) [] found.0 later))
+      (Contains-cons_cases (denied notion) (affirmed other ∷ []) found.0 there)
+
+  -- each mode implies freedom from conflict
+  free_by : (mode : Atom) → IsMode mode → Contains values (affirmed mode) → Contains values (affirmed Cf)
+  free_by Cf is told = told
+  free_by Ad is told = weaker 1 Ad Cf (omega arith) (omega arith) refl told
+  free_by Co is told = free_by_ad (weaker 2 Co Ad (omega arith) (omega arith) refl told)
+    where
+      free_by_ad : Contains values (affirmed Ad) → Contains values (affirmed Cf)
+      free_by_ad h = weaker 1 Ad Cf (omega arith) (omega arith) refl h
+  free_by St is told =
+      let complete = weaker 3 St Co (omega arith) (omega arith) refl told in
+      let admissible = weaker 2 Co Ad (omega arith) (omega arith) refl complete in
+      weaker 1 Ad Cf (omega arith) (omega arith) refl admissible
+  free_by _ is told = absurd is
+
+  -- the model affirms freedom from conflict, and says of each member whether it is in the set
+  pub tells_members : TellsMembers f values
+  tells_members = record {
+    free = let mode = are.moded in free_by mode.0 mode.1 (ok.met (affirmed mode.0) mode.2);
+    members_told = λ a there.
+        let has = force (member_axiom f a) (member_needed f a there) in
+        ⊎_elim (λ out. inr out) (λ member. inl member)
+        (ok.told has.clause (denied (Member a)) has.there
+        (has.same.back (denied (Member a)) (member_spoken f a)));
+  }
+
+-- ---- loop clauses
+
+-- an axiom that is false under the values is new to what searches use
+module _ (f : Framework) (log : OracleLog) (goals values : List AtomLit) (name : AxiomName)
+    (ok : Satisfies f log goals values) (lacks : IsNewLoop f values name) where
+  pub loop_fresh : IsNew (working log.steps) (axiom_clause name)
+  loop_fresh = record {
+    plain = λ t. ok.plain (negated t.0, lacks.false_there t.0 t.1, lacks.false_there (negated t.0) t.2);
+    no_part = λ part.
+        let found = ok.clauses part.part part.listed in
+        ok.plain (found.0, found.2, lacks.false_there found.0 (part.inside found.0 found.1));
+  }
+
+  pub loop_facts : FactsAreFalse f (axiom_clause name)
+  loop_facts = record {
+    false_there = λ l there fact. ok.facts (negated l) (lacks.false_there l there) fact;
+  }
 
 -- ---- side clauses
 
@@ -83,25 +149,48 @@ side_used f log n guarded_log named =
 
 -- ---- what is read back
 
-module _ (f : Framework) (log : OracleLog) (goals values : List AtomLit) (set : List ℕ) (numbered : IsNumbered f)
-    (guarded_log : IsGuardedLog f log) (force : AreInForce f log) (are : AreGoals f log.sides goals)
-    (ok : Satisfies f log goals values) (decoded : IsSetOf (IsDecoded Live values) set) where
-  back : ReadsBack f values set
-  back = reads_back f values set numbered (model_of f log goals values force ok) decoded
+-- what may be said of members is read back
+tells_read : (f : Framework) (atom : Atom) (positive : Bool) → Tells (Contains (members f)) atom positive
+    → IsReadBack f atom positive
+tells_read (af f) (Member a) positive tells = tells
+tells_read (af f) (Range a) true tells = tells
+tells_read (af f) (Range a) false tells = absurd tells
+tells_read (af f) (Tail a i) true tells = tells
+tells_read (af f) (Tail a i) false tells = absurd tells
+tells_read (af f) _ positive tells = absurd tells
+tells_read (aba f) (Member a) positive tells = tells
+tells_read (aba f) (Range a) true tells = tt
+tells_read (aba f) (Range a) false tells = absurd tells
+tells_read (aba f) (Tail a i) true tells = tt
+tells_read (aba f) (Tail a i) false tells = absurd tells
+tells_read (aba f) _ positive tells = absurd tells
 
-  -- what may be said of members is read back, and so is its literal in the world of the set
-  tells_read : (atom : Atom) (positive : Bool) → Tells (Contains (members f)) atom positive
-      → IsReadBack f atom positive
-  tells_read (Member a) positive tells = tells
-  tells_read (Range a) true tells = tells
-  tells_read (Range a) false tells = absurd tells
-  tells_read (Tail a i) true tells = tells
-  tells_read (Tail a i) false tells = absurd tells
-  tells_read _ positive tells = absurd tells
+mode_read : (f : Framework) (mode : Atom) → IsMode mode → IsReadBack f mode true
+mode_read (af f) Cf is = tt
+mode_read (af f) Ad is = tt
+mode_read (af f) Co is = tt
+mode_read (af f) St is = tt
+mode_read (af f) _ is = absurd is
+mode_read (aba f) Cf is = tt
+mode_read (aba f) Ad is = tt
+mode_read (aba f) Co is = tt
+mode_read (aba f) St is = tt
+mode_read (aba f) _ is = absurd is
 
+-- what queries on assumption-based frameworks ask is read back
+atom_read : (f : Framework) (k : Closure) (x : ℕ) (positive : Bool) → AsksAtom f k x
+    → IsReadBack f (Der k x) positive
+atom_read (af f) k x positive asks = absurd asks
+atom_read (aba f) Own x positive asks = asks
+atom_read (aba f) Rest x positive asks = absurd asks
+
+module _ (f : Framework) (log : OracleLog) (goals values : List AtomLit) (set : List ℕ)
+    (guarded_log : IsGuardedLog f log) (are : AreGoals f log.sides goals)
+    (ok : Satisfies f log goals values) (back : ReadsBack f values set) where
+  -- what may be said of members is so of the set
   tells_holds : (l : AtomLit) → Tells (Contains (members f)) l.atom l.positive → Contains values l
       → Says l.positive (HoldsOf f set l.atom)
-  tells_holds l tells there = back.says l there (tells_read l.atom l.positive tells)
+  tells_holds l tells there = back.says l there (tells_read f l.atom l.positive tells)
 
   -- a side clause that is affirmed is true of the set
   side_true : (n : ℕ) → IsNumberOf log.sides n → SpeaksOf f (side_at log.sides n).literals
@@ -131,13 +220,13 @@ module _ (f : Framework) (log : OracleLog) (goals values : List AtomLit) (set : 
       → HoldsLit (world_of f set) (literals_of log.sides) (record { atom = atom; positive = positive })
   goal_holds (Ask n) true goal there = side_true n goal.0 goal.1 there
   goal_holds (Ask n) false goal there = absurd goal
-  goal_holds Cf true goal there = back.says (affirmed Cf) there tt
+  goal_holds Cf true goal there = back.says (affirmed Cf) there (mode_read f Cf tt)
   goal_holds Cf false goal there = absurd goal
-  goal_holds Ad true goal there = back.says (affirmed Ad) there tt
+  goal_holds Ad true goal there = back.says (affirmed Ad) there (mode_read f Ad tt)
   goal_holds Ad false goal there = absurd goal
-  goal_holds Co true goal there = back.says (affirmed Co) there tt
+  goal_holds Co true goal there = back.says (affirmed Co) there (mode_read f Co tt)
   goal_holds Co false goal there = absurd goal
-  goal_holds St true goal there = back.says (affirmed St) there tt
+  goal_holds St true goal there = back.says (affirmed St) there (mode_read f St tt)
   goal_holds St false goal there = absurd goal
   goal_holds (Member a) positive goal there =
       tells_holds (record { atom = Member a; positive = positive }) goal there
@@ -145,6 +234,8 @@ module _ (f : Framework) (log : OracleLog) (goals values : List AtomLit) (set : 
       tells_holds (record { atom = Range a; positive = positive }) goal there
   goal_holds (Tail a i) positive goal there =
       tells_holds (record { atom = Tail a i; positive = positive }) goal there
+  goal_holds (Der k x) positive goal there =
+      back.says (record { atom = Der k x; positive = positive }) there (atom_read f k x positive goal)
   goal_holds _ positive goal there = absurd goal
 
   -- the set makes each goal true

@@ -1,32 +1,38 @@
 -- The axioms that a framework needs come into the log, and stay in it.
 use Rattle.std.proofs.Common.{◌≡◌, ◌∙◌, inl, inr, ⊎_elim, ℕ, ◌+◌, ◌<◌, ◌≤◌, suc, Bool, true, false, not, true≢false, List, [], ◌∷◌, ◌++◌, length, refl, sym, ap, subst, arith, None, Some}
-use Rattle.std.specs.Prelude.{Contains, cond, drop, filter, count_by, slice_index_or}
+use Rattle.std.specs.Prelude.{◌-◌, Contains, cond, drop, filter, count_by, slice_index_or}
 use Rattle.plain_lists.proofs.Counts.{count_by-cons}
 use Rattle.std.proofs.lemmas.List.{drop_all, get_or-append-add, length-append, map-append}
 use Rattle.std.proofs.Math.Seq.{drop-cons}
 use Rattle.std.proofs.lemmas.List.Elements.{Contains-get_or, Contains-append_left, Contains-append_right, filter-append}
+use Rattle.plain_lists.proofs.Filters.{Contains-filter}
 use Rattle.plain_lists.proofs.Membership.{Contains-head, Contains-nil, Contains-cons_cases}
 use Rattle.plain_lits.specs.declared.halt.Halt.{Halt}
 use Rattle.plain_lits.specs.declared.halt.Halt.TheVariants.{Spent, LogFull, Memory}
 use Rattle.plain_lits.specs.Units.{Units}
+use Rattle.plain_lits.proofs.HintCheckLemmas.{Contains-mapped}
 use Rattle.semantics.specs.Frameworks.{Framework}
 use Rattle.meaning_atoms.specs.declared.atom.AtomLit.{AtomLit}
 use Rattle.meaning_atoms.specs.declared.axiom.AxiomName.{AxiomName}
-use Rattle.certificate_claims.specs.Refutations.{IsAxiomOf}
+use Rattle.semantics.specs.Frameworks.{IsNumbered}
+use Rattle.certificate_claims.specs.Refutations.{IsAxiomOf, axiom_clause}
+use Rattle.oracle_face.specs.Needed.{IsNeeded}
 use Rattle.edit_rules.specs.Kinds.{framework_of}
-use Rattle.oracle_face.specs.Logs.{OracleLog, LogStep, by_axiom, clauses_of, is_unit, no_step, working, units_of, closings_of}
+use Rattle.oracle_face.specs.Logs.{OracleLog, LogStep, SideClause, Source, by_axiom, clauses_of, is_unit, no_step, step_at, working, units_of, closings_of}
+use Rattle.oracle_face.specs.Logs.{IsGiven, IsLog, IsSameClause}
 use Rattle.oracle_face.specs.Growing.{Making, NoSide, Grows, HasRun}
-use Rattle.oracle_face.proofs.GrowingLemmas.{run_joined, run_none}
+use Rattle.oracle_face.proofs.GrowingLemmas.{grows_same, run_joined, run_none}
 use Rattle.session_log.specs.Steps.{own_step}
 use Rattle.session_log.proofs.Staying.{axiom_stays}
 use Rattle.atom_solver.specs.States.{AtomState, AddsAxiom, IsGuardedLog}
-use Rattle.oracle_core.specs.Needing.{IsOfAf}
 use Rattle.oracle_core.specs.declared.parts.Parts.{Parts}
 use Rattle.entry_taking.proofs.Naming.{named_grown}
 use Rattle.entry_taking.specs.declared.names.StepNames.{StepNames}
 use Rattle.entry_taking.specs.Names.{AreNamed}
+use Rattle.entry_taking.specs.Once.{ComesOnce, HasAxiomStep}
 use Rattle.oracle_core.specs.Engines.{HasAxiom, AreInForce, AreUsedOrWait, IsWhole}
-use Rattle.oracle_core.proofs.EngineKinds.{axiom_named, no_loop}
+use Rattle.oracle_core.specs.Updating.{AddsNeeded, GainsNeeded, TakesNeeded}
+use Rattle.oracle_core.proofs.EngineKinds.{needed_axiom, no_loop}
 
 -- ---- what searches use
 
@@ -105,7 +111,7 @@ one_more p (s ∷ more) step fails =
     count_by-cons p s (more ++ step ∷ [])
     ∙ ap (λ n. cond (p s) 1 0 + n) (one_more p more step fails) ∙ sym (count_by-cons p s more)
 
-module _ (f : Framework) (name : AxiomName) (old new : AtomState) (is : IsAxiomOf f name)
+module _ (f : Framework) (name : AxiomName) (old new : AtomState) (numbered : IsNumbered f) (needed : IsNeeded f name)
     (guarded : IsGuardedLog f old.log) (adds : AddsAxiom name old new) where
   abbrev step : LogStep
   step = own_step adds.clause (by_axiom name)
@@ -114,7 +120,8 @@ module _ (f : Framework) (name : AxiomName) (old new : AtomState) (is : IsAxiomO
   steps_are = adds.takes.gains.steps
 
   axiom_grows : Grows NoSide old.log new.log
-  axiom_grows = (axiom_stays f name adds.clause old.log new.log guarded.form guarded.guards is adds.takes).grows
+  axiom_grows = (axiom_stays f name adds.clause old.log new.log guarded.form guarded.guards (needed_axiom f numbered name needed)
+      adds.takes).grows
 
   no_unit : (k : ℕ) → length old.log.steps ≤ k → k < length new.log.steps
       → is_unit (slice_index_or new.log.steps k no_step) ≡ true → ⊥
@@ -122,14 +129,14 @@ module _ (f : Framework) (name : AxiomName) (old new : AtomState) (is : IsAxiomO
       let there : slice_index_or new.log.steps k no_step ≡ step =
       ap (λ steps. slice_index_or steps k no_step) steps_are
       ∙ one_there old.log.steps step k low (subst (λ steps. k < length steps) steps_are high) in
-      true≢false (sym unit ∙ (ap is_unit there ∙ no_loop f name adds.clause is))
+      true≢false (sym unit ∙ (ap is_unit there ∙ no_loop f name adds.clause needed))
 
   -- an axiom takes no unit, and doesn't only end a search
   pub axiom_run : (units : Units) → HasRun NoSide 0 f old.log new.log new.pending units units None
   axiom_run units =
       let same_units : units_of new.log ≡ units_of old.log =
       ap (λ steps. count_by is_unit steps) steps_are
-      ∙ one_more is_unit old.log.steps step (no_loop f name adds.clause is) in
+      ∙ one_more is_unit old.log.steps step (no_loop f name adds.clause needed) in
       let same_closings : closings_of new.log ≡ closings_of old.log =
       ap (λ steps. count_by (λ (s : LogStep). s.closing) steps) steps_are
       ∙ one_more (λ (s : LogStep). s.closing) old.log.steps step refl in
@@ -157,6 +164,47 @@ module _ (f : Framework) (name : AxiomName) (old new : AtomState) (is : IsAxiomO
     same = adds.takes.same;
   }
 
+-- ---- an axiom that is there
+
+given_same : (f : Framework) (sides : List SideClause) (before : List LogStep) (clause : List AtomLit)
+    (source : Source) (name : AxiomName) → source ≡ by_axiom name → IsGiven f sides before clause source
+    → IsSameClause clause (axiom_clause name)
+given_same f sides before clause source name is given =
+    (subst (IsGiven f sides before clause) is given).1
+
+-- searches use it
+pub step_used : (f : Framework) (name : AxiomName) (log : OracleLog) → IsLog f log → HasAxiomStep log name
+    → HasAxiom log name
+step_used f name log form at =
+    let low = at.named.from_one in
+    let high = at.named.within in
+    let lt : at.number - 1 < length log.steps = omega arith in
+    let step = step_at log.steps at.number in
+    record {
+      clause = step.clause;
+      there = Contains-mapped (λ (s : LogStep). s.clause) (filter is_kept log.steps) step
+          ((Contains-filter is_kept log.steps step).1 (
+            Contains-get_or log.steps (at.number - 1) no_step lt,
+            ap not at.kept,
+          ));
+      same = given_same f log.sides _ step.clause step.source name at.source (form.each (at.number - 1) lt);
+    }
+
+-- ---- axioms come one after the other
+
+pub gains_none : (f : Framework) (log : OracleLog) → GainsNeeded f log log
+gains_none f log = record { names = []; adds = refl }
+
+adds_more : (f : Framework) (names : List AxiomName) (name : AxiomName) (a b c : OracleLog) → AddsNeeded f names a b
+    → TakesNeeded f name b c → AddsNeeded f (names ++ name ∷ []) a c
+adds_more f [] name a b c adds takes = (c, subst (λ log. TakesNeeded f name log c) adds takes, refl)
+adds_more f (x ∷ names) name a b c adds takes = (adds.0, adds.1, adds_more f names name adds.0 b c adds.2 takes)
+
+gains_more : (f : Framework) (name : AxiomName) (a b c : OracleLog) → GainsNeeded f a b → TakesNeeded f name b c
+    → GainsNeeded f a c
+gains_more f name a b c gains takes =
+    record { names = gains.names ++ name ∷ []; adds = adds_more f gains.names name a b c gains.adds takes }
+
 -- ---- the loop over the axioms that wait
 
 pub waiting_there : (p : Parts) (names : List AxiomName) (d : AxiomName) → names ≡ p.needed
@@ -169,9 +217,6 @@ pub waiting_is : (p : Parts) (names : List AxiomName) (d : AxiomName) → names 
     → slice_index_or names p.taken d ≡ slice_index_or p.needed p.taken d
 waiting_is p names d are = ap (λ list. slice_index_or list p.taken d) are
 
-pub named_at : (p : Parts) (name : AxiomName) → IsWhole p → Contains p.needed name → IsOfAf name
-named_at p name whole there = axiom_named (framework_of p.framework) name (whole.axioms name there)
-
 drop_one : {X : Type 0} (xs : List X) (i : ℕ) (x d : X) → i < length xs → x ≡ slice_index_or xs i d
     → drop i xs ≡ x ∷ drop (i + 1) xs
 drop_one xs i x d lt is =
@@ -179,34 +224,36 @@ drop_one xs i x d lt is =
     drop-cons xs i d lt ∙ ap (λ y. y ∷ drop (suc i) xs) (sym is) ∙ ap (λ n. x ∷ drop n xs) next
 
 -- how far the loop over the axioms has come
-pub record HasTaken (first now : Parts) : Type 0 where
+pub record HasTaken (once : Bool) (first now : Parts) : Type 0 where
   pub whole : IsWhole now
   pub begun : now.begun ≡ true
   pub framework : now.framework ≡ first.framework
   pub run : (units : Units) → HasRun NoSide 0 (framework_of first.framework) first.solver.log now.solver.log
       now.solver.pending units units None
+  pub gains : once ≡ true → GainsNeeded (framework_of first.framework) first.solver.log now.solver.log
+  pub pending : now.solver.pending ≡ first.solver.pending
 
-pub taken_none : (p : Parts) → IsWhole p → p.begun ≡ true → HasTaken p p
-taken_none p whole begun = record {
+pub taken_none : (once : Bool) (p : Parts) → IsWhole p → p.begun ≡ true → HasTaken once p p
+taken_none once p whole begun = record {
   whole = whole;
   begun = begun;
   framework = refl;
   run = λ units. run_none NoSide 0 (framework_of p.framework) p.solver.log p.solver.pending units;
+  gains = λ is. gains_none (framework_of p.framework) p.solver.log;
+  pending = refl;
 }
 
--- the log and the parts after one axiom more
-pub taken_more : (first now : Parts) (s : AtomState) (name d : AxiomName) → HasTaken first now
-    → now.taken < length now.needed → name ≡ slice_index_or now.needed now.taken d → Contains now.needed name
-    → AddsAxiom name now.solver s
-    → ((f : Framework) → IsAxiomOf f name → IsGuardedLog f now.solver.log → IsGuardedLog f s.log)
-    → HasTaken first (record now { solver = s; taken = now.taken + 1 })
-taken_more first now s name d has lt is there adds stays =
-    let f = framework_of now.framework in
+-- one axiom fewer waits, which searches use
+taken_on : (once : Bool) (first now : Parts) (s : AtomState) (names : StepNames) (name d : AxiomName)
+    → HasTaken once first now
+    → now.taken < length now.needed → name ≡ slice_index_or now.needed now.taken d
+    → IsGuardedLog (framework_of now.framework) s.log → Grows NoSide now.solver.log s.log → HasAxiom s.log name
+    → AreNamed names s.log.steps
+    → ((units : Units) → HasRun NoSide 0 (framework_of now.framework) now.solver.log s.log s.pending units units None)
+    → (once ≡ true → GainsNeeded (framework_of first.framework) first.solver.log s.log)
+    → s.pending ≡ now.solver.pending → HasTaken once first (record now { solver = s; names = names; taken = now.taken + 1 })
+taken_on once first now s names name d has lt is guarded grows used named run gains pending =
     let whole = has.whole in
-    let known = whole.axioms name there in
-    let guarded = stays f known whole.guarded in
-    let grows = axiom_grows f name now.solver s known whole.guarded adds in
-    let same : f ≡ framework_of first.framework = ap framework_of has.framework in
     record {
       whole = record {
         numbered = whole.numbered;
@@ -214,12 +261,11 @@ taken_more first now s name d has lt is there adds stays =
         guarded = guarded;
         axioms = whole.axioms;
         taken_few = omega arith;
-        named = named_grown NoSide now.names now.solver.log s.log grows whole.named;
+        named = named;
         waits = λ begun. λ other needed. ⊎_elim
-            (λ used. inl (axiom_grown NoSide now.solver.log s.log other grows used))
+            (λ has_it. inl (axiom_grown NoSide now.solver.log s.log other grows has_it))
             (λ waits. ⊎_elim
-            (λ same_name. inl (subst (λ n. HasAxiom s.log n) same_name
-            (axiom_used f name now.solver s known whole.guarded adds)))
+            (λ same_name. inl (subst (λ n. HasAxiom s.log n) same_name used))
             (λ behind. inr behind)
             (Contains-cons_cases name (drop (now.taken + 1) now.needed) other
             (subst (λ names. Contains names other) (drop_one now.needed now.taken name d lt is) waits)))
@@ -230,16 +276,72 @@ taken_more first now s name d has lt is there adds stays =
       run = λ units. run_joined NoSide NoSide NoSide 0 0 0 (framework_of first.framework) first.solver.log now.solver.log
           s.log now.solver.pending s.pending units units units None (λ literals set h. h) (λ literals set h. h) (omega arith)
           (has.run units)
-          (subst (λ g. HasRun NoSide 0 g now.solver.log s.log s.pending units units None) same
-          (axiom_run f name now.solver s known whole.guarded adds units));
+          (subst (λ g. HasRun NoSide 0 g now.solver.log s.log s.pending units units None) (ap framework_of has.framework)
+          (run units));
+      gains = gains;
+      pending = pending ∙ has.pending;
     }
 
+-- the parts after the first axiom that waits: it came, or a step was it already
+pub taken_more : (first now : Parts) (s : AtomState) (names : StepNames) (name d : AxiomName)
+    → HasTaken true first now → now.taken < length now.needed → name ≡ slice_index_or now.needed now.taken d
+    → Contains now.needed name → ComesOnce name now.solver s → AreNamed names s.log.steps
+    → ((f : Framework) → IsAxiomOf f name → IsGuardedLog f now.solver.log → IsGuardedLog f s.log)
+    → HasTaken true first (record now { solver = s; names = names; taken = now.taken + 1 })
+taken_more first now s names name d has lt is there comes named stays =
+    let f = framework_of now.framework in
+    let old = now.solver in
+    let whole = has.whole in
+    let known = whole.axioms name there in
+    let guarded = stays f (needed_axiom f whole.numbered name known) whole.guarded in
+    ⊎_elim
+    (λ had.
+    let same = sym had.1 in
+    taken_on true first now s names name d has lt is guarded
+    (subst (λ (t : AtomState). Grows NoSide old.log t.log) same (grows_same NoSide old.log))
+    (subst (λ (t : AtomState). HasAxiom t.log name) same (step_used f name old.log whole.guarded.form had.0)) named
+    (λ units. subst (λ (t : AtomState). HasRun NoSide 0 f old.log t.log t.pending units units None) same
+    (run_none NoSide 0 f old.log old.pending units))
+    (λ so. subst (λ (t : AtomState). GainsNeeded (framework_of first.framework) first.solver.log t.log) same
+    (has.gains so)) (ap (λ (t : AtomState). t.pending) had.1))
+    (λ came.
+    let adds = came.1 in
+    taken_on true first now s names name d has lt is guarded
+    (axiom_grows f name old s whole.numbered known whole.guarded adds)
+    (axiom_used f name old s whole.numbered known whole.guarded adds) named
+    (axiom_run f name old s whole.numbered known whole.guarded adds)
+    (λ so. gains_more (framework_of first.framework) name first.solver.log old.log s.log (has.gains so) (record {
+      needed = subst (λ g. IsNeeded g name) (ap framework_of has.framework) known;
+      once = came.0;
+      clause = adds.clause;
+      takes = adds.takes;
+    })) adds.pending_same)
+    comes
+
+-- the same where it came without a look at names
+pub taken_plain : (first now : Parts) (s : AtomState) (name d : AxiomName) → HasTaken false first now
+    → now.taken < length now.needed → name ≡ slice_index_or now.needed now.taken d → Contains now.needed name
+    → AddsAxiom name now.solver s
+    → ((f : Framework) → IsAxiomOf f name → IsGuardedLog f now.solver.log → IsGuardedLog f s.log)
+    → HasTaken false first (record now { solver = s; taken = now.taken + 1 })
+taken_plain first now s name d has lt is there adds stays =
+    let f = framework_of now.framework in
+    let whole = has.whole in
+    let known = whole.axioms name there in
+    let guarded = stays f (needed_axiom f whole.numbered name known) whole.guarded in
+    let grows = axiom_grows f name now.solver s whole.numbered known whole.guarded adds in
+    taken_on false first now s now.names name d has lt is guarded grows
+    (axiom_used f name now.solver s whole.numbered known whole.guarded adds)
+    (named_grown NoSide now.names now.solver.log s.log grows whole.named)
+    (axiom_run f name now.solver s whole.numbered known whole.guarded adds)
+    (λ so. absurd (true≢false (sym so))) adds.pending_same
+
 -- a halt before an axiom came
-pub taken_halted : (first now : Parts) (s : AtomState) (halt : Halt) → HasTaken first now → s ≡ now.solver
-    → (halt ≡ LogFull → length now.solver.log.steps ≡ now.solver.log.limit)
+pub taken_halted : (once : Bool) (first now : Parts) (s : AtomState) (halt : Halt) → HasTaken once first now
+    → s ≡ now.solver → (halt ≡ LogFull → length now.solver.log.steps ≡ now.solver.log.limit)
     → ((count : ℕ) → halt ≡ Spent count → ⊥) → (units : Units)
     → HasRun NoSide 0 (framework_of first.framework) first.solver.log s.log s.pending units units (Some halt)
-taken_halted first now s halt has is full unspent units =
+taken_halted once first now s halt has is full unspent units =
     let f = framework_of first.framework in
     let P : AtomState → Type 0 = λ t. HasRun NoSide 0 f first.solver.log t.log t.pending units units (Some halt) in
     subst P (sym is) (go halt full unspent)
@@ -256,8 +358,27 @@ taken_halted first now s halt has is full unspent units =
         record { grows = h.grows; limit = refl; works = h.works; closing = h.closing; stop = full refl }
     go (Spent count) full unspent = absurd (unspent count refl)
 
-pub taken_all : (first now : Parts) → HasTaken first now → length now.needed ≤ now.taken
+-- the parts and the gains then
+pub whole_halted : (p : Parts) (s : AtomState) (names : StepNames) → IsWhole p → s ≡ p.solver
+    → AreNamed names s.log.steps → IsWhole (record p { solver = s; names = names })
+whole_halted p s names whole same named =
+    whole_named p s names whole
+    (subst (λ (t : AtomState). IsGuardedLog (framework_of p.framework) t.log) (sym same) whole.guarded)
+    (subst (λ (t : AtomState). Grows NoSide p.solver.log t.log) (sym same) (grows_same NoSide p.solver.log)) named
+
+pub gains_halted : (first now : Parts) (s : AtomState) → HasTaken true first now → s ≡ now.solver
+    → GainsNeeded (framework_of first.framework) first.solver.log s.log
+gains_halted first now s has same =
+    subst (λ (t : AtomState). GainsNeeded (framework_of first.framework) first.solver.log t.log) (sym same)
+    (has.gains refl)
+
+-- no axiom waits
+pub all_in_force : (p : Parts) → IsWhole p → p.begun ≡ true → length p.needed ≤ p.taken
+    → AreInForce (framework_of p.framework) p.solver.log
+all_in_force p whole begun all = λ name needed. ⊎_elim (λ used. used)
+    (λ waits. absurd (Contains-nil name (subst (λ names. Contains names name) (drop_all p.taken p.needed all) waits)))
+    (whole.waits begun name needed)
+
+pub taken_all : (once : Bool) (first now : Parts) → HasTaken once first now → length now.needed ≤ now.taken
     → AreInForce (framework_of now.framework) now.solver.log
-taken_all first now has all = λ name needed. ⊎_elim (λ used. used)
-    (λ waits. absurd (Contains-nil name (subst (λ names. Contains names name) (drop_all now.taken now.needed all) waits)))
-    (has.whole.waits has.begun name needed)
+taken_all once first now has all = all_in_force now has.whole has.begun all

@@ -1,6 +1,6 @@
 -- What a search leaves where its parts were called one after the other.
-use Rattle.std.proofs.Common.{◌≡◌, ◌∙◌, ℕ, ◌<◌, ◌≤◌, List, [], ◌∷◌, ◌++◌, length, refl, sym, ap, subst, arith, Option, None, Some, Result, Ok, Err}
-use Rattle.std.specs.Prelude.{IsErr, IsErrAnd}
+use Rattle.std.proofs.Common.{◌≡◌, ◌∙◌, ℕ, ◌<◌, ◌≤◌, ◌-◌, List, [], ◌∷◌, ◌++◌, length, refl, sym, ap, subst, arith, Option, None, Some, Result, Ok, Err}
+use Rattle.std.specs.Prelude.{IsErr, IsErrAnd, IfOk}
 use Rattle.std.proofs.lemmas.Bool.{false≢true}
 use Rattle.std.proofs.lemmas.List.{append-nil, length-append}
 use Rattle.plain_lits.specs.declared.halt.Halt.{Halt}
@@ -9,21 +9,18 @@ use Rattle.plain_lits.specs.Units.{Units}
 use Rattle.semantics.specs.Frameworks.{Framework}
 use Rattle.meaning_atoms.specs.declared.atom.AtomLit.{AtomLit}
 use Rattle.oracle_face.specs.declared.face.Found.{Found}
+use Rattle.oracle_face.specs.declared.face.Found.TheVariants.{Set, Refuted}
 use Rattle.oracle_face.specs.declared.face.Pending.{Pending}
-use Rattle.plain_lists.specs.Members.{IsSetOf}
-use Rattle.semantics.specs.Frameworks.{IsNumbered}
-use Rattle.meaning_atoms.specs.declared.atom.Atom.TheVariants.{Live}
 use Rattle.edit_rules.specs.Kinds.{framework_of}
-use Rattle.oracle_face.specs.Decoding.{IsDecoded}
-use Rattle.oracle_face.specs.Goals.{AreGoals, MakesTrue, RefutesGoals}
-use Rattle.atom_solver.specs.States.{AtomState, IsGuardedLog}
-use Rattle.atom_solver.specs.Searches.{AreUnfixed, Satisfies}
+use Rattle.oracle_face.specs.Goals.{AreGoals}
+use Rattle.atom_solver.specs.States.{AtomState}
 use Rattle.oracle_core.specs.declared.parts.Parts.{Parts}
 use Rattle.oracle_core.specs.Engines.{AreInForce, IsWhole}
-use Rattle.oracle_core.proofs.Finding.{makes_true, unfixed_goals}
-use Rattle.oracle_face.specs.Growing.{NoSide, Grows, HasRun, closes, halt_of}
+use Rattle.oracle_core.specs.Readings.{IsTurn, closes_turn}
+use Rattle.oracle_core.proofs.Forcing.{force_grown}
+use Rattle.oracle_face.specs.Growing.{NoSide, Grows, HasRun, IsFound, closes, halt_of}
 use Rattle.oracle_face.specs.Logs.{OracleLog, SideClause}
-use Rattle.oracle_face.proofs.GrowingLemmas.{run_joined}
+use Rattle.oracle_face.proofs.GrowingLemmas.{run_joined, run_none}
 
 -- a halt that a search hands on
 pub halted : (f : Framework) (a b : OracleLog) (p : Option Pending) (u v : Units) (r : Result Found Halt) (halt : Halt)
@@ -84,7 +81,6 @@ pub record IsCourse (p b t s : Parts) (units : Units) : Type 0 where
   pub begun_framework : b.framework ≡ p.framework
   pub begun_solver : b.solver ≡ p.solver
   pub taken_framework : t.framework ≡ b.framework
-  pub searched_framework : s.framework ≡ t.framework
   pub forced : HasRun NoSide 0 (framework_of b.framework) b.solver.log t.solver.log t.solver.pending units units None
 
 module _ (p b t s : Parts) (units : Units) (course : IsCourse p b t s units) where
@@ -102,29 +98,123 @@ module _ (p b t s : Parts) (units : Units) (course : IsCourse p b t s units) whe
       forced_then (framework_of p.framework) (framework_of t.framework) p.solver.log t.solver.log s.solver.log
       t.solver.pending s.solver.pending units after most halt (ap framework_of same_framework) forced_run run
 
-  pub found_set : (goals values : List AtomLit) (set : List ℕ) (after : Units) → IsWhole s
-      → AreInForce (framework_of t.framework) s.solver.log
-      → HasRun NoSide 0 (framework_of t.framework) t.solver.log s.solver.log s.solver.pending units after None
-      → AreGoals (framework_of p.framework) p.solver.log.sides goals
-      → Satisfies (framework_of t.framework) s.solver.log goals values → IsSetOf (IsDecoded Live values) set
-      → MakesTrue (framework_of p.framework) s.solver.log goals set
-  found_set goals values set after whole force run are ok decoded =
-      let f = framework_of p.framework in
-      let same : framework_of t.framework ≡ f = ap framework_of same_framework in
-      let here : framework_of s.framework ≡ f = ap framework_of (course.searched_framework ∙ same_framework) in
-      makes_true f s.solver.log goals values set (subst IsNumbered here whole.numbered)
-      (subst (λ g. IsGuardedLog g s.solver.log) here whole.guarded)
-      (subst (λ g. AreInForce g s.solver.log) same force)
-      (goals_still f f p.solver.log s.solver.log goals (searched_run 0 after None run).grows refl are)
-      (subst (λ g. Satisfies g s.solver.log goals values) same ok) decoded
+  -- what may be asked before the axioms came may be asked then
+  pub forced_goals : (goals : List AtomLit) → AreGoals (framework_of p.framework) p.solver.log.sides goals
+      → AreGoals (framework_of t.framework) t.solver.log.sides goals
+  forced_goals goals are =
+      goals_still (framework_of p.framework) (framework_of t.framework) p.solver.log t.solver.log goals forced_run.grows
+      (ap framework_of same_framework) are
 
-  pub found_step : (goals : List AtomLit) (step : ℕ) → RefutesGoals (framework_of t.framework) s.solver.log goals step
-      → RefutesGoals (framework_of p.framework) s.solver.log goals step
-  found_step goals step refutes =
-      subst (λ g. RefutesGoals g s.solver.log goals step) (ap framework_of same_framework) refutes
+  pub searched_found : (goals : List AtomLit) (r : Result Found Halt)
+      → IfOk r (IsFound (framework_of t.framework) s.solver.log goals)
+      → IfOk r (IsFound (framework_of p.framework) s.solver.log goals)
+  searched_found goals r found =
+      subst (λ f. IfOk r (IsFound f s.solver.log goals)) (ap framework_of same_framework) found
 
-  pub may_search : (goals : List AtomLit) → AreGoals (framework_of p.framework) p.solver.log.sides goals
-      → AreUnfixed (framework_of t.framework) goals
-  may_search goals are =
-      subst (λ g. AreUnfixed g goals) (sym (ap framework_of same_framework))
-      (unfixed_goals (framework_of p.framework) p.solver.log.sides goals are)
+-- ---- one search of several
+
+-- a halt that a search of several hands on
+pub halted_turn : (f : Framework) (a b : OracleLog) (p : Option Pending) (u v : Units)
+    (r : Result (Option Found) Halt) (halt : Halt) → IsErr r × IsErrAnd r (λ x. x ≡ halt)
+    → HasRun NoSide 0 f a b p u v (Some halt) → HasRun NoSide (closes_turn r) f a b p u v (halt_of r)
+halted_turn f a b p u v (Ok found) halt is run = absurd (false≢true is.0)
+halted_turn f a b p u v (Err x) halt is run = subst (λ y. HasRun NoSide 0 f a b p u v (Some y)) (sym is.1) run
+
+pub longer : (a b : OracleLog) → Grows NoSide a b → length a.steps ≤ length b.steps
+longer a b grows =
+    let more = grows.more_steps in
+    omega (arith, ap length more.1, length-append a.steps more.0)
+
+-- a turn that began later is one from before
+pub turn_later : (f : Framework) (a b c : OracleLog) (goals : List AtomLit) (r : Result (Option Found) Halt)
+    → Grows NoSide a b → IfOk r (IsTurn f b c goals) → IfOk r (IsTurn f a c goals)
+turn_later f a b c goals (Ok None) grows turn = let le = longer a b grows in omega arith
+turn_later f a b c goals (Ok (Some found)) grows turn = turn
+turn_later f a b c goals (Err halt) grows turn = tt
+
+-- a search without an end, and then what its model was read as
+pub turn_run : (f g : Framework) (a b c : OracleLog) (p q : Option Pending) (u v w : Units)
+    (r : Result (Option Found) Halt) → g ≡ f → HasRun NoSide 0 f a b p u v None
+    → HasRun NoSide (closes_turn r) g b c q v w (halt_of r) → HasRun NoSide (closes_turn r) f a c q u w (halt_of r)
+turn_run f g a b c p q u v w r same first second =
+    run_joined NoSide NoSide NoSide 0 (closes_turn r) (closes_turn r) f a b c p q u v w (halt_of r)
+    (λ literals set h. h) (λ literals set h. h) (omega arith) first
+    (subst (λ h. HasRun NoSide (closes_turn r) h b c q v w (halt_of r)) same second)
+
+pub closes_found : (found : Found) → closes_turn (Ok (Some found)) ≡ closes (Ok found)
+closes_found (Set set) = refl
+closes_found (Refuted step) = refl
+
+-- how far searches have come, of which each but the last had a model that lacked a loop clause
+pub record HasTurned (first now : Parts) (before after : Units) : Type 0 where
+  pub whole : IsWhole now
+  pub framework : now.framework ≡ first.framework
+  pub in_force : AreInForce (framework_of first.framework) now.solver.log
+  pub run : HasRun NoSide 0 (framework_of first.framework) first.solver.log now.solver.log now.solver.pending before
+      after None
+
+pub turned_none : (p : Parts) (units : Units) → IsWhole p → AreInForce (framework_of p.framework) p.solver.log
+    → HasTurned p p units units
+turned_none p units whole force = record {
+  whole = whole;
+  framework = refl;
+  in_force = force;
+  run = run_none NoSide 0 (framework_of p.framework) p.solver.log p.solver.pending units;
+}
+
+module _ (first now next : Parts) (before between after : Units) (turned : HasTurned first now before between)
+    (framework : next.framework ≡ now.framework) where
+  same_now : framework_of now.framework ≡ framework_of first.framework
+  same_now = ap framework_of turned.framework
+
+  -- one turn more, whatever it comes to
+  pub turned_run : (most : ℕ) (halt : Option Halt)
+      → HasRun NoSide most (framework_of now.framework) now.solver.log next.solver.log next.solver.pending between after
+      halt
+      → HasRun NoSide most (framework_of first.framework) first.solver.log next.solver.log next.solver.pending before
+      after halt
+  turned_run most halt run =
+      run_joined NoSide NoSide NoSide 0 most most (framework_of first.framework) first.solver.log now.solver.log
+      next.solver.log now.solver.pending next.solver.pending before between after halt (λ literals set h. h)
+      (λ literals set h. h) (omega arith) turned.run
+      (subst (λ f. HasRun NoSide most f now.solver.log next.solver.log next.solver.pending between after halt) same_now
+      run)
+
+  pub turned_more : IsWhole next
+      → HasRun NoSide 0 (framework_of now.framework) now.solver.log next.solver.log next.solver.pending between after
+      None
+      → HasTurned first next before after
+  turned_more whole run = record {
+    whole = whole;
+    framework = framework ∙ turned.framework;
+    in_force = force_grown NoSide (framework_of first.framework) now.solver.log next.solver.log run.grows turned.in_force;
+    run = turned_run 0 None run;
+  }
+
+  pub turned_found : (goals : List AtomLit) (found : Found)
+      → IsFound (framework_of now.framework) next.solver.log goals found
+      → IsFound (framework_of first.framework) next.solver.log goals found
+  turned_found goals found is = subst (λ f. IsFound f next.solver.log goals found) same_now is
+
+  -- a turn takes some of the room that is left
+  pub room_left : IsWhole next
+      → HasRun NoSide 0 (framework_of now.framework) now.solver.log next.solver.log next.solver.pending between after
+      None
+      → length now.solver.log.steps < length next.solver.log.steps
+      → next.solver.log.limit - length next.solver.log.steps < now.solver.log.limit - length now.solver.log.steps
+  room_left whole run more =
+      let within = whole.guarded.form.within in
+      let same = run.grows.limit in
+      omega arith
+
+pub turned_goals : (first now : Parts) (before after : Units) (goals : List AtomLit)
+    → HasTurned first now before after → AreGoals (framework_of first.framework) first.solver.log.sides goals
+    → AreGoals (framework_of now.framework) now.solver.log.sides goals
+turned_goals first now before after goals turned are =
+    goals_still (framework_of first.framework) (framework_of now.framework) first.solver.log now.solver.log goals
+    turned.run.grows (ap framework_of turned.framework) are
+
+pub turned_force : (first now : Parts) (before after : Units) → HasTurned first now before after
+    → AreInForce (framework_of now.framework) now.solver.log
+turned_force first now before after turned =
+    subst (λ f. AreInForce f now.solver.log) (sym (ap framework_of turned.framework)) turned.in_force

@@ -5,4 +5,5 @@ pub mod EntriesTaken
 pub mod Finding
 pub mod Joining
 pub mod TradeLemmas
+pub mod UpdateLemmas
 pub mod Writing

@@ -1,14 +1,14 @@
 -- What contracts see of an engine, and what it keeps of the axioms that its framework needs.
 use Rattle.std.specs.Prelude.{◌≡◌, ◌⊎◌, ℕ, ◌≤◌, true, List, drop, length, Contains, Option}
 use Rattle.plain_lists.specs.Members.{IsSetOf}
-use Rattle.semantics.specs.Framework.{IsInRange}
-use Rattle.semantics.specs.Frameworks.{Framework, IsNumbered, af}
+use Rattle.semantics.specs.Frameworks.{Framework, IsNumbered}
 use Rattle.meaning_atoms.specs.declared.atom.AtomLit.{AtomLit}
 use Rattle.meaning_atoms.specs.declared.axiom.AxiomName.{AxiomName}
-use Rattle.certificate_claims.specs.Refutations.{IsAxiomOf, axiom_clause}
+use Rattle.certificate_claims.specs.Refutations.{axiom_clause}
 use Rattle.certificate_claims.specs.SetLiterals.{members}
 use Rattle.edit_rules.specs.Kinds.{framework_of}
 use Rattle.oracle_face.specs.declared.face.Pending.{Pending}
+use Rattle.oracle_face.specs.Kinds.{IsRanged}
 use Rattle.oracle_face.specs.Logs.{OracleLog, IsSameClause, working}
 use Rattle.oracle_face.specs.Needed.{IsNeeded}
 use Rattle.atom_solver.specs.States.{IsGuardedLog}
@@ -35,7 +35,7 @@ AreInForce f log = (name : AxiomName) → IsNeeded f name → HasAxiom log name
 
 -- the range of a set of the framework: its members and what they attack
 abbrev pub HasRange : Framework → List ℕ → List ℕ → Type 0
-HasRange (af f) set range = IsSetOf (IsInRange f set) range
+HasRange f set range = IsSetOf (IsRanged f set) range
 
 -- ---- the inner state, which no caller sees
 
@@ -50,7 +50,7 @@ pub record IsWhole (p : Parts) : Type 0 where
   pub numbered : IsNumbered (framework_of p.framework)
   pub members_are : p.members ≡ members (framework_of p.framework)
   pub guarded : IsGuardedLog (framework_of p.framework) p.solver.log
-  pub axioms : (name : AxiomName) → Contains p.needed name → IsAxiomOf (framework_of p.framework) name
+  pub axioms : (name : AxiomName) → Contains p.needed name → IsNeeded (framework_of p.framework) name
   pub taken_few : p.taken ≤ length p.needed
   pub named : AreNamed p.names p.solver.log.steps
   pub waits : p.begun ≡ true → AreUsedOrWait (framework_of p.framework) p.solver.log p.needed p.taken

@@ -2,5 +2,8 @@ pub mod Answering
 pub mod Answers
 pub mod Engines
 pub mod Needing
+pub mod Readings
+pub mod Stopping
 pub mod Trading
 pub mod TradingLaws
+pub mod Updating

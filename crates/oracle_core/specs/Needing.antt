@@ -2,17 +2,19 @@
 use Rattle.std.specs.Prelude.{List, Contains}
 use Rattle.semantics.specs.Frameworks.{Framework}
 use Rattle.meaning_atoms.specs.declared.axiom.AxiomName.{AxiomName}
-use Rattle.meaning_atoms.specs.declared.axiom.AxiomName.TheVariants.{Af as OfAf, Aba as OfAba}
-use Rattle.meaning_atoms.specs.Axioms.{IsAfAxiom}
-use Rattle.certificate_claims.specs.Refutations.{IsAxiomOf}
+use Rattle.af_encoding.specs.Changes.{IsCalledFor}
 use Rattle.oracle_face.specs.Needed.{IsNeeded}
 
--- an axiom of abstract frameworks, whose arguments fit its row
-abbrev pub IsOfAf : AxiomName → Type 0
-IsOfAf (OfAf name) = IsAfAxiom name
-IsOfAf (OfAba name) = ⊥
+-- the list has axioms that the framework needs, and no others
+pub record AreNeededBy (f : Framework) (names : List AxiomName) : Type 0 where
+  pub only : (name : AxiomName) → Contains names name → IsNeeded f name
 
--- the list has each axiom that the framework needs, and axioms of its kind alone
+-- the list has just the axioms that the framework needs
 pub record AreNeeded (f : Framework) (names : List AxiomName) : Type 0 where
   pub all : (name : AxiomName) → IsNeeded f name → Contains names name
-  pub axioms : (name : AxiomName) → Contains names name → IsAxiomOf f name
+  pub only : (name : AxiomName) → Contains names name → IsNeeded f name
+
+-- the list has just the axioms that the one framework needs and the one before it did not
+pub record AreCalledFor (before after : Framework) (names : List AxiomName) : Type 0 where
+  pub all : (name : AxiomName) → IsCalledFor before after name → Contains names name
+  pub only : (name : AxiomName) → Contains names name → IsCalledFor before after name

@@ -1,12 +1,13 @@
 //! The queries that the grounded set answers.
 
-ghost use Rattle.std.specs.Prelude.{◌≡◌, ◌↔◌, [], ◌∷◌, IfOk, IfSome, IsNone, IsTrue, Some, false};
-ghost use Rattle.certificate_claims.specs.Rights.{Accepts, IsExtension};
+ghost use Rattle.std.specs.Prelude.{◌≡◌, ◌↔◌, [], ◌∷◌, IfOk, IfSome, IsNone, Some, false};
+ghost use Rattle.certificate_claims.specs.Rights.{IsExtension};
 ghost use Rattle.iccma_tasks.specs.Tasks.{FitsTask};
 ghost use Rattle.edit_rules.specs.Kinds.{framework_of};
 ghost use Rattle.oracle_core.specs.Answers.{IsAnswerBy, IsShownBy, answer_by, no_certificate};
 ghost use Rattle.query_answers.specs.Answers as answers;
 
+use crate::engine::accepts;
 use crate::reply::Answered;
 use certificate_claims::Certificate;
 use edit_rules::Framework;
@@ -37,15 +38,7 @@ fn grounded_set(alloc: Global, framework: &Framework) -> Result<NumSet, Memory>
             let grounded = plain.grounded(alloc)?;
             Ok(grounded.set)
         }
-    }
-}
-
-/// Whether a set of a framework accepts a query: whether it has the argument.
-fn accepts(framework: &Framework, set: &NumSet, number: u32) -> bool
-    ensures { IsTrue result ↔ Accepts (framework_of framework.now) set.now number }
-{
-    match framework {
-        Framework::Af(_) => set.contains(number),
+        Framework::Aba(plain) => plain.grounded(alloc),
     }
 }
 
@@ -91,11 +84,11 @@ fn answer_of(
 {
     match (problem, number) {
         (Problem::Credulous, Some(number)) => {
-            let accepted = accepts(framework, &grounded, number);
+            let accepted = accepts(alloc, framework, number, &grounded)?;
             Ok(credulous(grounded, number, accepted))
         }
         (Problem::Sceptical, Some(number)) => {
-            let accepted = accepts(framework, &grounded, number);
+            let accepted = accepts(alloc, framework, number, &grounded)?;
             Ok(sceptical(grounded, number, accepted))
         }
         _ => alone(alloc, grounded),

@@ -1,19 +1,21 @@
 //! The engine: an oracle over a kept solver.
 
-ghost use Rattle.std.specs.Prelude.{◌≡◌, ◌↔◌, ◌≤◌, IfOk, IsTrue, None};
+ghost use Rattle.std.specs.Prelude.{◌≡◌, ◌↔◌, ◌≤◌, IfOk, IsTrue, None, length};
+ghost use Rattle.aba_semantics.specs.AbaFrameworks.{IsInTheory};
 ghost use Rattle.certificate_claims.specs.Rights.{Accepts};
 ghost use Rattle.edit_rules.specs.Kinds.{framework_of};
 ghost use Rattle.hinted_log.specs.declared.log.TheConstants.{MOST_STEPS};
 ghost use Rattle.atom_solver.specs.States.{empty_log};
 ghost use Rattle.oracle_core.specs.Answering.{told_origin};
 
-use crate::parts::{Parts, range_of};
+use crate::parts::{Parts, is_aba, range_of};
+use aba_notions::AbaPlain;
 use atom_solver::Origin;
 use edit_rules::Framework;
 use hinted_log::MOST_STEPS;
 use log_certificates::{ReadLog, StepOrigin};
 use meaning_atoms::AtomLit;
-use oracle_face::{AskId, Found, Oracle};
+use oracle_face::{AskId, Found, Oracle, Pending};
 use plain_lists::{Items, Memory};
 use plain_lits::{Budget, Halt, StepId};
 use set_lists::NumSet;
@@ -57,15 +59,50 @@ impl Engine {
         let parts = Parts::open(alloc, framework, log_limit)?;
         Ok(Engine { number, parts })
     }
+
+    /// The engine's framework.
+    pub fn framework(&self) -> &Framework
+        ensures { framework_of result.now ≡ self.now.framework }
+    {
+        &self.parts.framework
+    }
+
+    /// The number of steps of the log.
+    pub fn steps(&self) -> usize
+        ensures { result ≡ length self.now.log.steps }
+    {
+        self.parts.solver.len()
+    }
+
+    /// The clause that was in hand when the last budget was spent.
+    pub fn pending(&self, alloc: Global) -> Result<Option<Pending>, Memory>
+        ensures { IfOk result (λ pending. pending ≡ self.now.pending) }
+    {
+        self.parts.solver.pending(alloc)
+    }
 }
 
-/// Whether a set of a framework accepts a number.
-fn accepts(framework: &Framework, goal: u32, set: &NumSet) -> bool
-    ensures { IsTrue result ↔ Accepts (framework_of framework.now) set.now goal }
+/// Whether a set of a framework accepts a number: it has the argument, or derives the atom.
+pub(crate) fn accepts(
+    alloc: Global,
+    framework: &Framework,
+    goal: u32,
+    set: &NumSet,
+) -> Result<bool, Memory>
+    ensures { IfOk result (λ accepts. IsTrue accepts ↔ Accepts (framework_of framework.now) set.now goal) }
 {
     match framework {
-        Framework::Af(_) => set.contains(goal),
+        Framework::Af(_) => Ok(set.contains(goal)),
+        Framework::Aba(plain) => derives(alloc, plain, goal, set),
     }
+}
+
+/// Whether a set of assumptions derives an atom.
+fn derives(alloc: Global, plain: &AbaPlain, atom: u32, set: &NumSet) -> Result<bool, Memory>
+    ensures { IfOk result (λ derives. IsTrue derives ↔ IsInTheory plain.now set.now atom) }
+{
+    let theory = plain.closure_of(alloc, set)?;
+    Ok(theory.contains(atom))
 }
 
 impl Oracle for Engine {
@@ -84,7 +121,7 @@ impl Oracle for Engine {
     }
 
     fn is_aba(&self) -> bool {
-        false
+        is_aba(&self.parts.framework)
     }
 
     fn find(
@@ -110,8 +147,8 @@ impl Oracle for Engine {
         range_of(alloc, &self.parts.framework, set)
     }
 
-    fn accepts(&self, _alloc: Global, goal: u32, set: &NumSet) -> Result<bool, Memory> {
-        Ok(accepts(&self.parts.framework, goal, set))
+    fn accepts(&self, alloc: Global, goal: u32, set: &NumSet) -> Result<bool, Memory> {
+        accepts(alloc, &self.parts.framework, goal, set)
     }
 
     ghost stays = { λ e. refl };
@@ -143,8 +180,9 @@ impl ReadLog for Engine {
         self.parts.solver.clause(alloc, step)
     }
 
-    fn origin(&self, step: StepId) -> StepOrigin {
-        told(self.parts.solver.origin(step))
+    fn origin(&self, alloc: Global, step: StepId) -> Result<StepOrigin, Memory> {
+        let origin = self.parts.solver.origin(alloc, step)?;
+        Ok(told(origin))
     }
 
     fn hints(&self, step: StepId) -> &[StepId] {

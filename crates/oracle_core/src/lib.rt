@@ -5,9 +5,12 @@ mod answering;
 mod by_grounded;
 pub mod engine;
 pub(crate) mod parts;
+mod reading;
 pub mod reply;
 pub(crate) mod trading;
+pub mod updating;
 
 pub use by_grounded::{answer_by_grounded, is_by_grounded};
 pub use engine::Engine;
 pub use reply::{AnswerStop, Answered};
+pub use updating::UpdateStop;

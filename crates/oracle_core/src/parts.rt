@@ -3,8 +3,6 @@
 ghost use Rattle.std.specs.Prelude.{◌≡◌, ℕ, ◌≤◌, IfOk, OnOk, None, true};
 ghost use Rattle.plain_lits.specs.HintCheck.{IsTautology};
 ghost use Rattle.plain_lits.specs.Units.{Units};
-ghost use Rattle.meaning_atoms.specs.declared.axiom.AxiomName.TheVariants.{Af as OfAf};
-ghost use Rattle.meaning_atoms.specs.Axioms.{IsAfAxiom};
 ghost use Rattle.meaning_atoms.specs.Literals.{negated};
 ghost use Rattle.certificate_claims.specs.SetLiterals as set_literals;
 ghost use Rattle.edit_rules.specs.Kinds.{framework_of};
@@ -12,18 +10,24 @@ ghost use Rattle.hinted_log.specs.declared.log.TheConstants.{MOST_STEPS};
 ghost use Rattle.oracle_face.specs.Entries.{IsShareable};
 ghost use Rattle.oracle_face.specs.Goals.{AreGoals, IsSide};
 ghost use Rattle.oracle_face.specs.Growing.{HasRun, IsFound, NoSide, Obliges, OnlySide, closes, halt_of};
-ghost use Rattle.atom_solver.specs.Searches.{AreUnfixed, IsAnswer, ends_in};
+ghost use Rattle.atom_solver.specs.Searches.{AreUnfixed, IsAnswer, Satisfies, ends_in};
+ghost use Rattle.oracle_face.specs.Decoding.{IsNewLoop};
 ghost use Rattle.oracle_core.specs.Engines.{AreInForce, HasRange, IsWhole};
 ghost use Rattle.entry_taking.specs.Taking.{ComesInOrMayNot};
-ghost use Rattle.oracle_core.specs.Needing.{AreNeeded, IsOfAf};
+ghost use Rattle.oracle_core.specs.Needing.{AreNeeded};
+ghost use Rattle.oracle_core.specs.Updating.{GainsNeeded};
+ghost use Rattle.oracle_core.specs.Readings.{IsTurn, closes_turn};
+ghost use Rattle.oracle_face.specs.Kinds.{is_assumption_based};
 ghost use Rattle.atom_solver.specs.States.{empty_log};
 
-use af_encoding::{AfEncoding, decode, needed};
+use crate::reading::{Reading, read_model};
+use aba_encoding::AbaEncoding;
+use af_encoding::AfEncoding;
 use atom_solver::{AtomSolver, Searched};
 use edit_rules::Framework;
-use entry_taking::{StepNames, take_in};
+use entry_taking::{StepNames, take_in, take_once};
 use hinted_log::MOST_STEPS;
-use meaning_atoms::{AfAxiom, AtomLit, AxiomName};
+use meaning_atoms::{AtomLit, AxiomName};
 use oracle_face::{AskId, Entry, Found};
 use plain_lists::{Items, Memory};
 use plain_lits::{Budget, Halt};
@@ -31,7 +35,7 @@ use set_lists::NumSet;
 use std::alloc::Global;
 
 /// The framework with its members, the solver, the axioms that the framework needs with the number of those that the
-/// solver has already, and the names of the first steps, of which none is looked at before an entry comes.
+/// solver has already, and the names of the first steps, by which an axiom comes once at most.
 #[derive(Drop)]
 pub(crate) struct Parts {
     pub(crate) framework: Framework,
@@ -43,33 +47,33 @@ pub(crate) struct Parts {
     pub(crate) names: StepNames,
 }
 
-/// The axiom of abstract frameworks that a name is.
-fn af_name(name: &AxiomName) -> AfAxiom
-    requires { IsOfAf name.now }
-    ensures same { OfAf result ≡ name.now }
-    ensures name { IsAfAxiom result }
-{
-    match name {
-        AxiomName::Af(name) => *name,
-        AxiomName::Aba(_) => unreachable!(),
-    }
-}
-
 /// The numbers that sets of a framework are made of.
-fn members_of(alloc: Global, framework: &Framework) -> Result<NumSet, Memory>
+pub(crate) fn members_of(alloc: Global, framework: &Framework) -> Result<NumSet, Memory>
     ensures { IfOk result (λ members. members ≡ set_literals.members (framework_of framework.now)) }
 {
     match framework {
         Framework::Af(plain) => NumSet::from_rising(alloc, plain.live()),
+        Framework::Aba(plain) => plain.assumptions().copy(alloc),
     }
 }
 
 /// The axioms that a framework needs.
-fn needed_of(alloc: Global, framework: &Framework) -> Result<Items<AxiomName>, Memory>
+pub(crate) fn needed_of(alloc: Global, framework: &Framework) -> Result<Items<AxiomName>, Memory>
     ensures { IfOk result (AreNeeded (framework_of framework.now)) }
 {
     match framework {
-        Framework::Af(plain) => needed(alloc, plain),
+        Framework::Af(plain) => af_encoding::needed(alloc, plain),
+        Framework::Aba(plain) => aba_needed::needed(alloc, plain),
+    }
+}
+
+/// Whether a framework is assumption-based.
+pub(crate) fn is_aba(framework: &Framework) -> bool
+    ensures { result ≡ is_assumption_based (framework_of framework.now) }
+{
+    match framework {
+        Framework::Af(_) => false,
+        Framework::Aba(_) => true,
     }
 }
 
@@ -81,6 +85,10 @@ pub(crate) fn range_of(alloc: Global, framework: &Framework, set: &NumSet) -> Re
         Framework::Af(plain) => {
             let range = plain.range_of(alloc, set)?;
             Ok(range)
+        }
+        Framework::Aba(plain) => {
+            let attacked = plain.attacked_by(alloc, set)?;
+            set.union(alloc, &attacked)
         }
     }
 }
@@ -125,7 +133,8 @@ impl Parts {
         Ok(())
     }
 
-    /// Hands the axioms that still wait to the solver.
+    /// Hands the axioms that still wait to the solver. It looks at no names, so it is the quick way where the log can't
+    /// have them.
     fn take_needed(&mut self, alloc: Global) -> Result<(), Halt>
         requires whole { IsWhole self.old }
         requires begun { self.old.begun ≡ true }
@@ -136,8 +145,28 @@ impl Parts {
             self.new.solver.log self.new.solver.pending units units (halt_of result) }
     {
         while self.taken < self.needed.len() {
-            let name = af_name(&self.needed.as_slice()[self.taken]);
+            let name = self.needed.as_slice()[self.taken].copy(alloc)?;
             self.solver.take_axiom(alloc, name)?;
+            self.taken += 1;
+        }
+        Ok(())
+    }
+
+    /// Hands the axioms that still wait to the solver, but those that the log has.
+    pub(crate) fn take_lacking(&mut self, alloc: Global) -> Result<(), Halt>
+        requires whole { IsWhole self.old }
+        requires begun { self.old.begun ≡ true }
+        ensures whole { IsWhole self.new }
+        ensures in_force { OnOk result (AreInForce (framework_of self.new.framework) self.new.solver.log) }
+        ensures framework { self.new.framework ≡ self.old.framework }
+        ensures run { (units : Units) → HasRun NoSide 0 (framework_of self.old.framework) self.old.solver.log
+            self.new.solver.log self.new.solver.pending units units (halt_of result) }
+        ensures gains { GainsNeeded (framework_of self.old.framework) self.old.solver.log self.new.solver.log }
+        ensures pending { self.new.solver.pending ≡ self.old.solver.pending }
+    {
+        while self.taken < self.needed.len() {
+            let name = &self.needed.as_slice()[self.taken];
+            take_once(alloc, &mut self.solver, &mut self.names, name)?;
             self.taken += 1;
         }
         Ok(())
@@ -167,7 +196,15 @@ impl Parts {
         ensures comes { OnOk result (ComesInOrMayNot (framework_of self.old.framework) own entry.now
             self.old.solver.log self.new.solver.log) }
     {
-        take_in(alloc, &mut self.solver, &mut self.names, own, entry)
+        let assumption_based = is_aba(&self.framework);
+        take_in(
+            alloc,
+            &mut self.solver,
+            &mut self.names,
+            assumption_based,
+            own,
+            entry,
+        )
     }
 
     /// Searches under the facts of the framework and goals.
@@ -192,6 +229,9 @@ impl Parts {
             Framework::Af(plain) => self
                 .solver
                 .search::<AfEncoding>(alloc, plain, goals, budget),
+            Framework::Aba(plain) => self
+                .solver
+                .search::<AbaEncoding>(alloc, plain, goals, budget),
         }
     }
 
@@ -214,6 +254,102 @@ impl Parts {
         self.solver.oblige(alloc, side, from, budget)
     }
 
+    /// Takes the loop clause that a model lacks, which is a unit; or tells the set that the model is read as.
+    fn read(
+        &mut self,
+        alloc: Global,
+        goals: &[AtomLit],
+        values: &[AtomLit],
+        budget: &mut Budget,
+    ) -> Result<Option<Found>, Halt>
+        requires whole { IsWhole self.old }
+        requires goals { AreGoals (framework_of self.old.framework) self.old.solver.log.sides goals.now }
+        requires in_force { AreInForce (framework_of self.old.framework) self.old.solver.log }
+        requires model { Satisfies (framework_of self.old.framework) self.old.solver.log goals.now values.now }
+        ensures whole { IsWhole self.new }
+        ensures framework { self.new.framework ≡ self.old.framework }
+        ensures turn { IfOk result (IsTurn (framework_of self.old.framework) self.old.solver.log self.new.solver.log
+            goals.now) }
+        ensures run { HasRun NoSide (closes_turn result) (framework_of self.old.framework) self.old.solver.log
+            self.new.solver.log self.new.solver.pending budget.old budget.new (halt_of result) }
+    {
+        match read_model(alloc, &self.framework, values)? {
+            Reading::Set(set) => Ok(Some(Found::Set(set))),
+            Reading::Lacks(name) => self.take_loop(alloc, goals, values, name, budget),
+        }
+    }
+
+    /// Takes the loop clause that a model lacks.
+    fn take_loop(
+        &mut self,
+        alloc: Global,
+        goals: &[AtomLit],
+        values: &[AtomLit],
+        name: AxiomName,
+        budget: &mut Budget,
+    ) -> Result<Option<Found>, Halt>
+        requires whole { IsWhole self.old }
+        requires model { Satisfies (framework_of self.old.framework) self.old.solver.log goals.now values.now }
+        requires lacks { IsNewLoop (framework_of self.old.framework) values.now name }
+        ensures whole { IsWhole self.new }
+        ensures framework { self.new.framework ≡ self.old.framework }
+        ensures turn { IfOk result (IsTurn (framework_of self.old.framework) self.old.solver.log self.new.solver.log
+            goals.now) }
+        ensures run { HasRun NoSide (closes_turn result) (framework_of self.old.framework) self.old.solver.log
+            self.new.solver.log self.new.solver.pending budget.old budget.new (halt_of result) }
+    {
+        self.solver.take_loop(alloc, name, budget)?;
+        Ok(None)
+    }
+
+    /// One search: what it finds, or None where its model lacked a loop clause, which the log has then.
+    fn turn(
+        &mut self,
+        alloc: Global,
+        goals: &[AtomLit],
+        budget: &mut Budget,
+    ) -> Result<Option<Found>, Halt>
+        requires whole { IsWhole self.old }
+        requires goals { AreGoals (framework_of self.old.framework) self.old.solver.log.sides goals.now }
+        requires in_force { AreInForce (framework_of self.old.framework) self.old.solver.log }
+        ensures whole { IsWhole self.new }
+        ensures framework { self.new.framework ≡ self.old.framework }
+        ensures turn { IfOk result (IsTurn (framework_of self.old.framework) self.old.solver.log self.new.solver.log
+            goals.now) }
+        ensures run { HasRun NoSide (closes_turn result) (framework_of self.old.framework) self.old.solver.log
+            self.new.solver.log self.new.solver.pending budget.old budget.new (halt_of result) }
+    {
+        match self.search(alloc, goals, budget)? {
+            Searched::Model(values) => self.read(alloc, goals, values.as_slice(), budget),
+            Searched::Refuted(step) => Ok(Some(Found::Refuted(step))),
+        }
+    }
+
+    /// A set that makes each goal true, or a step that refutes the goals, where the needed axioms are in force. A model
+    /// that lacks a loop clause is no answer: the search goes on with that clause.
+    fn find_forced(
+        &mut self,
+        alloc: Global,
+        goals: &[AtomLit],
+        budget: &mut Budget,
+    ) -> Result<Found, Halt>
+        requires whole { IsWhole self.old }
+        requires goals { AreGoals (framework_of self.old.framework) self.old.solver.log.sides goals.now }
+        requires in_force { AreInForce (framework_of self.old.framework) self.old.solver.log }
+        ensures whole { IsWhole self.new }
+        ensures framework { self.new.framework ≡ self.old.framework }
+        ensures found { IfOk result (IsFound (framework_of self.old.framework) self.new.solver.log goals.now) }
+        ensures run { HasRun NoSide (closes result) (framework_of self.old.framework) self.old.solver.log
+            self.new.solver.log self.new.solver.pending budget.old budget.new (halt_of result) }
+    {
+        'models: loop {
+            match self.turn(alloc, goals, budget)? {
+                Some(found) => return Ok(found),
+                None => {}
+            }
+        }
+    }
+
     /// A set that makes each goal true, or a step that refutes the goals.
     pub(crate) fn find(
         &mut self,
@@ -231,12 +367,6 @@ impl Parts {
     {
         self.begin(alloc)?;
         self.take_needed(alloc)?;
-        match self.search(alloc, goals, budget)? {
-            Searched::Model(values) => {
-                let set = decode(alloc, values.as_slice())?;
-                Ok(Found::Set(set))
-            }
-            Searched::Refuted(step) => Ok(Found::Refuted(step)),
-        }
+        self.find_forced(alloc, goals, budget)
     }
 }

@@ -7,7 +7,7 @@ use Rattle.std.proofs.lemmas.List.Elements.{Contains-get_or}
 use Rattle.plain_lists.proofs.Membership.{Contains-head, Contains-tail}
 use Rattle.plain_lits.specs.HintCheck.{Checks, IsTrueClause, IsValuation, clause_at}
 use Rattle.plain_lits.proofs.HintCheckLemmas.{taken_sound}
-use Rattle.semantics.specs.Frameworks.{Framework, af}
+use Rattle.semantics.specs.Frameworks.{Framework, af, aba}
 use Rattle.meaning_atoms.specs.declared.atom.Atom.{Atom}
 use Rattle.meaning_atoms.specs.declared.atom.Atom.TheVariants.{Ask}
 use Rattle.meaning_atoms.specs.declared.atom.AtomLit.{AtomLit}
@@ -18,6 +18,7 @@ use Rattle.meaning_atoms.specs.Worlds.{World, IsWorld, IsTrueAlone, IsTrueBeside
 use Rattle.meaning_atoms.proofs.Valuations.{decide_atom, world_valuation}
 use Rattle.meaning_atoms.proofs.Clauses.{from_alone, under, beside}
 use Rattle.af_axioms.proofs.Rows.{rows_are_valid}
+use Rattle.aba_axioms.proofs.Validity.{clauses_are_valid}
 use Rattle.certificate_claims.specs.Refutations.{axiom_clause}
 use Rattle.oracle_face.specs.Logs.{LogStep, SideClause, OracleLog, Source, by_axiom, by_side, by_hints, IsGiven, IsLog, IsNumberOf, IsSameClause, guarded, literals_of, clauses_of, side_at, no_side, no_step}
 
@@ -120,6 +121,10 @@ given_true f w log value met k within before clause (by_axiom (OfAf name)) h =
     under w sides value met.reads clause
     (same_beside w sides clause (axiom_clause (OfAf name)) h.1 (rows_are_valid name w met.world sides))
 given_true (af f) w log value met k within before clause (by_axiom (OfAba name)) h = absurd h.0
+given_true (aba f) w log value met k within before clause (by_axiom (OfAba name)) h =
+    let sides = literals_of log.sides in
+    under w sides value met.reads clause
+    (same_beside w sides clause (axiom_clause (OfAba name)) h.1 (clauses_are_valid name h.0 w met.world sides))
 given_true f w log value met k within before clause (by_side n) h =
     let sides = literals_of log.sides in
     under w sides value met.reads clause

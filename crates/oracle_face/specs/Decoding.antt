@@ -1,12 +1,14 @@
 -- What a model of the needed axioms says of the set that it is read as.
 use Rattle.std.specs.Prelude.{◌≡◌, ◌⊎◌, ℕ, Bool, true, List, Contains}
 use Rattle.plain_lits.specs.HintCheck.{IsTautology}
-use Rattle.semantics.specs.Frameworks.{Framework}
+use Rattle.semantics.specs.Framework.{Af}
+use Rattle.semantics.specs.Frameworks.{Framework, af, aba}
+use Rattle.aba_semantics.specs.AbaFrameworks.{Aba, IsAtom}
 use Rattle.meaning_atoms.specs.declared.atom.Atom.{Atom}
-use Rattle.meaning_atoms.specs.declared.atom.Atom.TheVariants.{Member, Tail, Range, Cf, Ad, Co, St}
+use Rattle.meaning_atoms.specs.declared.atom.Atom.TheVariants.{Member, Tail, Range, Cf, Ad, Co, St, Der}
 use Rattle.meaning_atoms.specs.declared.atom.AtomLit.{AtomLit}
 use Rattle.meaning_atoms.specs.declared.axiom.AxiomName.{AxiomName}
-use Rattle.meaning_atoms.specs.Literals.{affirmed, negated}
+use Rattle.meaning_atoms.specs.Literals.{affirmed, denied, negated}
 use Rattle.meaning_atoms.specs.Worlds.{HoldsOf, IsFact, Says}
 use Rattle.af_axioms.specs.Facts.{IsFactValue}
 use Rattle.certificate_claims.specs.Refutations.{IsAxiomOf, axiom_clause}
@@ -30,21 +32,46 @@ pub record IsModelOf (f : Framework) (values : List AtomLit) : Type 0 where
   pub told : (name : AxiomName) (l : AtomLit) → IsNeeded f name → Contains (axiom_clause name) l → IsFact f l.atom
       → Contains values l ⊎ Contains values (negated l)
 
--- what is read back: modes, and what is said of members of the framework and of their ranges and attackers, both ways
+-- what is read back of an abstract framework: modes, and what is said of its arguments and of their ranges and
+-- attackers, both ways
+abbrev pub IsReadBackInAf : Af → Atom → Bool → Type 0
+IsReadBackInAf f (Member a) positive = Contains f.live a
+IsReadBackInAf f (Range a) positive = Contains f.live a
+IsReadBackInAf f (Tail a i) positive = Contains f.live a × (i ≡ 1)
+IsReadBackInAf f Cf true = Unit {0}
+IsReadBackInAf f Ad true = Unit {0}
+IsReadBackInAf f Co true = Unit {0}
+IsReadBackInAf f St true = Unit {0}
+IsReadBackInAf f _ _ = ⊥
+
+-- and of an assumption-based one: modes, and what is said of assumptions as members and of atoms in closures, both ways;
+-- ranges and attackers have a fixed reading there
+abbrev pub IsReadBackInAba : Aba → Atom → Bool → Type 0
+IsReadBackInAba f (Member a) positive = Contains f.assumptions a
+IsReadBackInAba f (Der k x) positive = IsAtom f.atoms x
+IsReadBackInAba f (Range a) true = Unit {0}
+IsReadBackInAba f (Tail a i) true = Unit {0}
+IsReadBackInAba f Cf true = Unit {0}
+IsReadBackInAba f Ad true = Unit {0}
+IsReadBackInAba f Co true = Unit {0}
+IsReadBackInAba f St true = Unit {0}
+IsReadBackInAba f _ _ = ⊥
+
+-- what is read back, by the kind
 abbrev pub IsReadBack : Framework → Atom → Bool → Type 0
-IsReadBack f (Member a) positive = Contains (members f) a
-IsReadBack f (Range a) positive = Contains (members f) a
-IsReadBack f (Tail a i) positive = Contains (members f) a × (i ≡ 1)
-IsReadBack f Cf true = Unit {0}
-IsReadBack f Ad true = Unit {0}
-IsReadBack f Co true = Unit {0}
-IsReadBack f St true = Unit {0}
-IsReadBack f _ _ = ⊥
+IsReadBack (af f) atom positive = IsReadBackInAf f atom positive
+IsReadBack (aba f) atom positive = IsReadBackInAba f atom positive
 
 -- what the values say in these words is so of the set
 pub record ReadsBack (f : Framework) (values : List AtomLit) (set : List ℕ) : Type 0 where
   pub says : (l : AtomLit) → Contains values l → IsReadBack f l.atom l.positive
       → Says l.positive (HoldsOf f set l.atom)
+
+-- the values affirm freedom from conflict, and say of each member of the framework whether it is in the set
+pub record TellsMembers (f : Framework) (values : List AtomLit) : Type 0 where
+  pub free : Contains values (affirmed Cf)
+  pub members_told : (a : ℕ) → Contains (members f) a
+      → Contains values (affirmed (Member a)) ⊎ Contains values (denied (Member a))
 
 -- an axiom of the framework's kind that only a model calls for, which is false under the values
 pub record IsNewLoop (f : Framework) (values : List AtomLit) (name : AxiomName) : Type 0 where

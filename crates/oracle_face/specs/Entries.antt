@@ -3,9 +3,8 @@ use Rattle.std.specs.Prelude.{All}
 use Rattle.meaning_atoms.specs.Atoms.{IsLit}
 use Rattle.meaning_atoms.specs.Literals.{AsksNothing}
 use Rattle.meaning_atoms.specs.Worlds.{IsValid}
-use Rattle.meaning_atoms.specs.declared.axiom.AfAxiom.{AfAxiom}
-use Rattle.meaning_atoms.specs.declared.axiom.AxiomName.TheVariants.{Af}
-use Rattle.af_axioms.specs.Table.{table_clause}
+use Rattle.meaning_atoms.specs.declared.axiom.AxiomName.{AxiomName}
+use Rattle.certificate_claims.specs.Refutations.{axiom_clause}
 use Rattle.oracle_face.specs.declared.entry.Entry.{Entry}
 use Rattle.oracle_face.specs.declared.entry.EntryName.{EntryName}
 use Rattle.oracle_face.specs.declared.entry.EntryOrigin.TheVariants.{Axiom}
@@ -18,5 +17,5 @@ pub record IsShareable (entry : Entry) : Type 0 where
   pub within : All IsLit entry.clause
 
 -- the entry of an axiom
-abbrev pub axiom_entry : AfAxiom → EntryName → Entry
-axiom_entry rule name = record { clause = table_clause rule; name = name; origin = Axiom (Af rule) }
+abbrev pub axiom_entry : AxiomName → EntryName → Entry
+axiom_entry rule name = record { clause = axiom_clause rule; name = name; origin = Axiom rule }

@@ -2,10 +2,13 @@
 use Rattle.std.specs.Prelude.{◌≡◌, ◌⊎◌, ℕ, Bool, true, false, not, List, Contains}
 use Rattle.plain_lits.specs.HintCheck.{IsTautology}
 use Rattle.semantics.specs.Arguments.{IsArgument}
-use Rattle.semantics.specs.Frameworks.{Framework}
+use Rattle.semantics.specs.Frameworks.{Framework, aba}
+use Rattle.aba_semantics.specs.AbaFrameworks.{IsAtom}
 use Rattle.meaning_atoms.specs.declared.atom.Atom.{Atom}
-use Rattle.meaning_atoms.specs.declared.atom.Atom.TheVariants.{Member, Tail, Range, Cf, Ad, Co, St, Ask}
+use Rattle.meaning_atoms.specs.declared.atom.Atom.TheVariants.{Member, Tail, Range, Cf, Ad, Co, St, Der, Ask}
 use Rattle.meaning_atoms.specs.declared.atom.AtomLit.{AtomLit}
+use Rattle.meaning_atoms.specs.declared.atom.Closure.{Closure}
+use Rattle.meaning_atoms.specs.declared.atom.Closure.TheVariants.{Own}
 use Rattle.meaning_atoms.specs.Literals.{affirmed, negated}
 use Rattle.meaning_atoms.specs.Worlds.{world_of, HoldsLit}
 use Rattle.af_axioms.specs.Facts.{IsFactValue}
@@ -35,14 +38,20 @@ Tells P _ positive = ⊥
 abbrev pub SpeaksOf : Framework → List AtomLit → Type 0
 SpeaksOf f clause = (l : AtomLit) → Contains clause l → Tells (Contains (members f)) l.atom l.positive
 
--- a goal: a mode, what a side clause may say of members of the framework, or that a side clause of the log is true which
--- speaks of such members alone
+-- the set derives an atom of the framework, which is what queries on assumption-based frameworks ask
+abbrev pub AsksAtom : Framework → Closure → ℕ → Type 0
+AsksAtom (aba f) Own x = IsAtom f.atoms x
+AsksAtom _ _ _ = ⊥
+
+-- a goal: a mode, what a side clause may say of members of the framework, what queries ask, or that a side clause of the
+-- log is true which speaks of such members alone
 abbrev pub IsGoal : Framework → List SideClause → Atom → Bool → Type 0
 IsGoal f sides (Ask n) true = IsNumberOf sides n × SpeaksOf f (side_at sides n).literals
 IsGoal f sides Cf true = Unit {0}
 IsGoal f sides Ad true = Unit {0}
 IsGoal f sides Co true = Unit {0}
 IsGoal f sides St true = Unit {0}
+IsGoal f sides (Der k x) positive = AsksAtom f k x
 IsGoal f sides atom positive = Tells (Contains (members f)) atom positive
 
 -- goals that an oracle may be asked: with a mode, and none beside its negation

@@ -1,11 +1,15 @@
 -- What depends on the kind of a framework.
-use Rattle.std.specs.Prelude.{ℕ, Bool, false, List}
+use Rattle.std.specs.Prelude.{ℕ, Bool, true, false, List}
 use Rattle.semantics.specs.Framework.{IsInRange}
-use Rattle.semantics.specs.Frameworks.{Framework, af}
+use Rattle.semantics.specs.Frameworks.{Framework, af, aba}
+use Rattle.aba_semantics.specs.AbaFrameworks.{collective_of}
+use Rattle.aba_semantics.specs.Collectives.{IsInRange as IsInCollectiveRange}
 
 abbrev pub is_assumption_based : Framework → Bool
 is_assumption_based (af f) = false
+is_assumption_based (aba f) = true
 
 -- a is a member of the set, or a member of the framework that the set attacks
 abbrev pub IsRanged : Framework → List ℕ → ℕ → Type 0
 IsRanged (af f) set a = IsInRange f set a
+IsRanged (aba f) set a = IsInCollectiveRange (collective_of f) set a

@@ -1,3 +1,4 @@
+pub mod AbaNeeded
 pub mod Decoding
 pub mod Entries
 pub mod Goals
@@ -7,3 +8,4 @@ pub mod Laws
 pub mod Logs
 pub mod Needed
 pub mod Trades
+pub mod Walks

@@ -4,7 +4,7 @@ ghost use Rattle.std.specs.Prelude.{◌≡◌, ◌↔◌, Contains, IfOk, IfSome
 ghost use Rattle.plain_lists.specs.Members.{IsSetOf};
 ghost use Rattle.meaning_atoms.specs.Worlds.{IsFact};
 ghost use Rattle.af_axioms.specs.Facts.{IsFactValue};
-ghost use Rattle.oracle_face.specs.Decoding.{IsDecoded, IsModelOf, IsNewLoop, ReadsBack};
+ghost use Rattle.oracle_face.specs.Decoding.{IsDecoded, IsModelOf, IsNewLoop, ReadsBack, TellsMembers};
 ghost use Rattle.oracle_face.specs.Needed.{IsNeeded};
 
 use meaning_atoms::{Atom, AtomLit, AxiomName};
@@ -41,14 +41,16 @@ pub trait Encoding {
         ensures some { IfSome result (IsFactValue (framework plain.now) atom.now) }
         ensures none { IfNone result (¬ IsFact (framework plain.now) atom.now) };
 
-    /// The axiom that a model of the needed axioms lacks to be read as a set, or None. Where there is none, what the model
-    /// says reads back: of modes, of members of the framework and of their ranges.
+    /// The axiom that a model of the needed axioms lacks to be read as a set, or None. An axiom that it lacks is false under
+    /// a model that is free from conflict and says of each member whether it is in the set. Where there is none, what the
+    /// model says reads back.
     fn missing(
         alloc: Global,
         plain: &Self::Plain,
         values: &[AtomLit],
     ) -> Result<Option<AxiomName>, Memory>
-        ensures lacks { IfOk result (λ name. IfSome name (IsNewLoop (framework plain.now) values.now)) }
+        ensures lacks { IsModelOf (framework plain.now) values.now → TellsMembers (framework plain.now) values.now
+            → IfOk result (λ name. IfSome name (IsNewLoop (framework plain.now) values.now)) }
         ensures reads { IfOk result (λ name. name ≡ None → IsModelOf (framework plain.now) values.now
             → (set : List ℕ) → IsSetOf (IsDecoded vouches values.now) set
             → ReadsBack (framework plain.now) values.now set) };

@@ -1,11 +1,11 @@
 //! Clauses that sessions hand each other.
 
 ghost use Rattle.std.specs.Prelude.{◌≡◌, IfOk};
-ghost use Rattle.meaning_atoms.specs.Axioms.{IsAfAxiom};
+ghost use Rattle.meaning_atoms.specs.AxiomNames.{IsAxiomName};
 ghost use Rattle.oracle_face.specs.Entries.{IsShareable, axiom_entry};
 
-use af_axioms::clause_of;
-use meaning_atoms::{AfAxiom, AtomLit, AxiomName};
+use certificate_claims::clause_of_axiom;
+use meaning_atoms::{AtomLit, AxiomName};
 use plain_lists::{Items, Memory};
 use plain_lits::StepId;
 use std::alloc::Global;
@@ -40,16 +40,16 @@ pub struct Entry {
 }
 
 impl Entry {
-    /// The entry of an axiom of abstract frameworks by its name. Every such entry may be shared.
-    pub fn of_axiom(alloc: Global, rule: AfAxiom, name: EntryName) -> Result<Entry, Memory>
-        requires { IsAfAxiom rule }
+    /// The entry of an axiom of either kind by its name. Every such entry may be shared.
+    pub fn of_axiom(alloc: Global, rule: AxiomName, name: EntryName) -> Result<Entry, Memory>
+        requires { IsAxiomName rule }
         ensures entry { IfOk result (λ entry. entry ≡ axiom_entry rule name) }
         ensures shareable { IfOk result IsShareable }
     {
         Ok(Entry {
-            clause: clause_of(alloc, &rule)?,
+            clause: clause_of_axiom(alloc, &rule)?,
             name,
-            origin: EntryOrigin::Axiom(AxiomName::Af(rule)),
+            origin: EntryOrigin::Axiom(rule),
         })
     }
 

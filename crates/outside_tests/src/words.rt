@@ -1,4 +1,4 @@
-use argue_words::{CheckWords, Command, SolveWords, read_words};
+use argue_words::{CheckWords, Command, LiveWords, SolveWords, read_words};
 use std::alloc::{AllocError, Global};
 use std::test::Fail;
 
@@ -29,6 +29,16 @@ fn check<'a>(task: &'a str, number: Option<&'a str>, file: &'a str) -> Command<'
         file,
         answer: "b",
         certificate: "c",
+    })
+}
+
+/// The run of the script in `s` on the framework in `a`.
+fn live<'a>(budget: Option<&'a str>, certificate: Option<&'a str>) -> Command<'a> {
+    Command::Live(LiveWords {
+        file: "a",
+        script: "s",
+        budget,
+        certificate,
     })
 }
 
@@ -83,6 +93,10 @@ fn words_of_each_kind(rt: HostRuntime) -> Result<(), Fail> {
             "check -p SE-ST -f check -r b -c c",
             check("SE-ST", None, "check"),
         ),
+        ("live -f a -s s", live(None, None)),
+        ("live -s s -f a", live(None, None)),
+        ("live -c c -b 10 -s s -f a", live(Some("10"), Some("c"))),
+        ("live -ss -fa -b=x", live(Some("x"), None)),
     ];
     for (line, wanted) in rows {
         assert!(rt; reads_as(rt.alloc(), line, wanted) == Some(true), "{line}");
@@ -115,6 +129,15 @@ fn words_of_no_command(rt: HostRuntime) -> Result<(), Fail> {
         "check -p SE-ST -f a -r b -c c x",
         "check --help",
         "check",
+        "live -f a",
+        "live -s s",
+        "live -f a -s s -a 1",
+        "live -p SE-ST -f a -s s",
+        "live -f a -s s -s t",
+        "live -f a -s s live",
+        "-p SE-ST -f a -s s",
+        "live --help",
+        "live",
     ];
     for line in lines {
         assert!(rt;

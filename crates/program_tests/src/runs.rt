@@ -1,11 +1,13 @@
 //! What no clause says: that memory suffices. Whole runs over memory, each compared with what was worked out by hand.
 
 use argue_outside::{Files, MemFiles, MemSink, NoPace, Role, append_all, read_all};
-use argue_program::command::{execute, run};
+use argue_program::run;
 use plain_lists::Items;
 use std::alloc::{AllocError, Global};
 use std::mem::forget;
+use std::sync::Wait;
 use std::test::Fail;
+use std::thread::Threads;
 
 const QUERY: &str = "-p SE-GR -f a";
 
@@ -19,22 +21,29 @@ fn words_of(alloc: Global, line: &str) -> Result<Vec<String>, AllocError> {
 }
 
 /// The exit status of a run of these words. What the run keeps is left to the process's end.
-fn status_of(alloc: Global, words: &[String], files: &mut MemFiles, out: &mut MemSink) -> u8 {
-    let transcript = execute(alloc, words, files, out);
-    let code = transcript.status.code();
-    forget(transcript);
+fn status_of<R: Threads + Wait + Sync>(
+    rt: &R,
+    alloc: Global,
+    words: &[String],
+    files: &mut MemFiles,
+    out: &mut MemSink,
+) -> u8 {
+    let ended = run(rt, alloc, words, files, out, &NoPace);
+    let code = ended.status.code();
+    forget(ended);
     code
 }
 
 /// The exit status of a run.
-fn code_of(
+fn code_of<R: Threads + Wait + Sync>(
+    rt: &R,
     alloc: Global,
     line: &str,
     files: &mut MemFiles,
     out: &mut MemSink,
 ) -> Result<u8, AllocError> {
     let words = words_of(alloc, line)?;
-    Ok(status_of(alloc, words.as_slice(), files, out))
+    Ok(status_of(rt, alloc, words.as_slice(), files, out))
 }
 
 /// The list of one number.
@@ -59,7 +68,7 @@ fn faults(rt: HostRuntime) -> Result<(), Fail> {
         let mut files = MemFiles::failing(alloc, only(alloc, fetch)?, most);
         let mut out = MemSink::failing(alloc, only(alloc, put)?, most);
         append_all(&mut files, "a", b"p af 3\n1 2\n2 3\n")?;
-        let ended = code_of(alloc, QUERY, &mut files, &mut out)?;
+        let ended = code_of(&rt, alloc, QUERY, &mut files, &mut out)?;
         assert!(rt; ended == code, "status at {output:?}");
         assert!(rt; out.bytes() == output.as_bytes(), "output at {output:?}");
     }
@@ -83,7 +92,7 @@ fn certificate_faults(rt: HostRuntime) -> Result<(), Fail> {
         let mut out = MemSink::failing(alloc, only(alloc, put)?, 7);
         append_all(&mut files, "a", b"p af 3\n1 2\n2 3\n")?;
         append_all(&mut files, "c", b"old")?;
-        let ended = code_of(alloc, "-p SE-GR -f a -c c", &mut files, &mut out)?;
+        let ended = code_of(&rt, alloc, "-p SE-GR -f a -c c", &mut files, &mut out)?;
         let held = read_all(alloc, &mut files, Role::Certificate, "c", 100)?;
         assert!(rt; ended == code, "status at {output:?}");
         assert!(rt;
@@ -104,15 +113,8 @@ fn greatest_framework(rt: HostRuntime) -> Result<(), Fail> {
     let mut out = MemSink::new(rt.alloc());
     append_all(&mut files, "a", b"p af 1000000\n1000000 1000000\n")?;
     let words = words_of(rt.alloc(), QUERY)?;
-    let ended = run(
-        &rt,
-        rt.alloc(),
-        words.as_slice(),
-        &mut files,
-        &mut out,
-        &NoPace,
-    );
-    assert!(rt; ended.status.code() == 0);
+    let ended = status_of(&rt, rt.alloc(), words.as_slice(), &mut files, &mut out);
+    assert!(rt; ended == 0);
     // The numbers from 1 to 999,999 have 5,888,889 digits.
     assert!(rt; out.bytes().len() == 1 + 999_999 + 5_888_889 + 1);
     Ok(())
@@ -127,7 +129,7 @@ fn too_long(rt: HostRuntime) -> Result<(), Fail> {
         "a",
         vec![in rt.alloc(); 0u8; 268_435_457]?.as_slice(),
     )?;
-    let ended = code_of(rt.alloc(), QUERY, &mut files, &mut out)?;
+    let ended = code_of(&rt, rt.alloc(), QUERY, &mut files, &mut out)?;
     assert!(rt; ended == 7);
     assert!(rt; out.bytes() == b"error: limit input\n".as_slice());
     Ok(())

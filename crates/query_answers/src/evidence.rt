@@ -102,7 +102,7 @@ pub(crate) fn of_set(
     by_step(alloc, answer, Items::new(alloc), step)
 }
 
-/// Whether all preferred sets accept an argument: `NO` by one that doesn't, or `YES` by a cover.
+/// Whether all preferred sets accept the query: `NO` by one that doesn't, or `YES` by a cover.
 pub(crate) fn of_accepting(alloc: Global, accepting: Accepting) -> Result<Evidence, Memory>
     ensures { IfOk result (λ evidence. evidence ≡ sceptical_evidence accepting) }
 {

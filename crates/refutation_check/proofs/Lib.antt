@@ -1,3 +1,4 @@
+pub mod AxiomKinds
 mod BenchLemmas
 mod GoalLemmas
 mod HintLemmas

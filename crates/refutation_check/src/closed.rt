@@ -1,10 +1,8 @@
 //! Which literals the facts, the goals and the side clauses make false.
 
 ghost use Rattle.std.specs.Prelude.{◌≡◌, ◌↔◌, ◌≤◌, not, length, IfNone, IfOk, IfSome, IsTrue};
-ghost use Rattle.meaning_atoms.specs.Axioms.{IsAfAxiom};
 ghost use Rattle.meaning_atoms.specs.Worlds.{IsFact};
 ghost use Rattle.af_axioms.specs.Facts.{IsFactValue};
-ghost use Rattle.af_axioms.specs.Table.{table_clause};
 ghost use Rattle.certificate_claims.specs.declared.certificate.Step.TheVariants.{Side};
 ghost use Rattle.certificate_claims.specs.Refutations.{IsAxiomOf, IsNotAsked, axiom_clause, step_clause};
 ghost use Rattle.edit_rules.specs.Kinds.{framework_of};
@@ -12,11 +10,12 @@ ghost use Rattle.answer_claims.specs.SetFacts.{IsRangeOf};
 ghost use Rattle.answer_claims.specs.SideClauses.{sides_of};
 ghost use Rattle.refutation_check.specs.Standing.{AreClosed, IsClosedBy, IsNamed};
 
-use af_axioms::{clause_of, fact_value};
+use aba_facts::fact as aba_fact;
+use af_axioms::fact_value;
 use answer_claims::{Claim, is_goal, opposite, side_clause};
-use certificate_claims::Step;
+use certificate_claims::{Step, clause_of_axiom};
 use edit_rules::Framework;
-use meaning_atoms::{AfAxiom, Atom, AtomLit, AxiomName};
+use meaning_atoms::{Atom, AtomLit, AxiomName};
 use plain_lists::Memory;
 use set_lists::NumSet;
 use std::alloc::Global;
@@ -28,6 +27,7 @@ fn fact(framework: &Framework, atom: &Atom) -> Option<bool>
 {
     match framework {
         Framework::Af(plain) => fact_value(plain, atom),
+        Framework::Aba(plain) => aba_fact(plain, atom),
     }
 }
 
@@ -96,26 +96,7 @@ fn axiom_is_closed(
     ensures { IfOk result (λ closed. IsTrue closed
         ↔ AreClosed (framework_of framework.now) claim.now (axiom_clause name.now)) }
 {
-    match name {
-        AxiomName::Af(name) => af_axiom_is_closed(alloc, framework, claim, range, name),
-        AxiomName::Aba(_) => Ok(true),
-    }
-}
-
-/// Whether all literals of the clause of an abstract framework's axiom are closed.
-fn af_axiom_is_closed(
-    alloc: Global,
-    framework: &Framework,
-    claim: &Claim,
-    range: &NumSet,
-    name: &AfAxiom,
-) -> Result<bool, Memory>
-    requires range { IsRangeOf (framework_of framework.now) claim.now.ranged range.now }
-    requires axiom { IsAfAxiom name.now }
-    ensures { IfOk result (λ closed. IsTrue closed
-        ↔ AreClosed (framework_of framework.now) claim.now (table_clause name.now)) }
-{
-    let clause = clause_of(alloc, name)?;
+    let clause = clause_of_axiom(alloc, name)?;
     Ok(are_closed(framework, claim, range, clause.as_slice()))
 }
 

@@ -1,23 +1,32 @@
 //! The steps of a refutation, in turn up to the first that doesn't stand.
 
-ghost use Rattle.std.specs.Prelude.{length, IfOk};
-ghost use Rattle.semantics.specs.Frameworks.{af};
+ghost use Rattle.std.specs.Prelude.{◌↔◌, length, IfOk, IsTrue};
 ghost use Rattle.edit_rules.specs.Kinds.{framework_of};
 ghost use Rattle.certificate_claims.specs.declared.certificate.Step.TheVariants.{Axiom, Side};
+ghost use Rattle.certificate_claims.specs.Refutations.{IsAxiomOf};
 ghost use Rattle.answer_claims.specs.SideClauses.{sides_of};
 ghost use Rattle.refutation_check.specs.Standing.{IsFirstWithout, StandsAt};
 ghost use Rattle.refutation_check.specs.StepRows.{IsTaken, TakesOn};
 
 use crate::taken::Taken;
-use af_axioms::clause_of;
 use answer_claims::{SideKind, side_clause};
-use certificate_claims::Step;
-use dung_notions::AfPlain;
+use certificate_claims::{Step, clause_of_axiom};
 use edit_rules::Framework;
-use meaning_atoms::{AfAxiom, AxiomName};
+use meaning_atoms::AxiomName;
 use plain_lists::Memory;
 use set_lists::NumSet;
 use std::alloc::Global;
+
+/// Whether an axiom is one of the framework's kind, with arguments that fit its row.
+fn is_axiom_of(framework: &Framework, name: &AxiomName) -> bool
+    ensures { IsTrue result ↔ IsAxiomOf (framework_of framework.now) name.now }
+{
+    match (framework, name) {
+        (Framework::Af(_), AxiomName::Af(name)) => name.is_name(),
+        (Framework::Aba(_), AxiomName::Aba(name)) => name.is_name(),
+        (Framework::Af(_), AxiomName::Aba(_)) | (Framework::Aba(_), AxiomName::Af(_)) => false,
+    }
+}
 
 /// Takes an axiom of the framework's kind.
 fn take_axiom(
@@ -31,31 +40,11 @@ fn take_axiom(
     requires { IsTaken (framework_of framework.now) kind sets.now taken.old }
     ensures { IfOk result (TakesOn (framework_of framework.now) kind sets.now taken.old (Axiom name.now) taken.new) }
 {
-    match (framework, name) {
-        (Framework::Af(plain), AxiomName::Af(name)) => {
-            take_af_axiom(alloc, plain, kind, sets, name, taken)
-        }
-        (Framework::Af(_), AxiomName::Aba(_)) => Ok(false),
-    }
-}
-
-/// The same of an abstract framework.
-fn take_af_axiom(
-    alloc: Global,
-    plain: &AfPlain,
-    kind: SideKind,
-    sets: &[NumSet],
-    name: &AfAxiom,
-    taken: &mut Taken,
-) -> Result<bool, Memory>
-    requires { IsTaken (af plain.now) kind sets.now taken.old }
-    ensures { IfOk result (TakesOn (af plain.now) kind sets.now taken.old (Axiom (AxiomName.Af name.now)) taken.new) }
-{
-    let _live = plain.live();
-    if !name.is_name() {
+    let is_axiom = is_axiom_of(framework, name);
+    if !is_axiom {
         return Ok(false);
     }
-    let clause = clause_of(alloc, name)?;
+    let clause = clause_of_axiom(alloc, name)?;
     let _row = taken.push(clause.as_slice())?;
     Ok(true)
 }

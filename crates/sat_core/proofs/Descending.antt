@@ -68,6 +68,12 @@ value_of : (lits : List Lit) (v : ℕ) (positive : Bool) → HasValue lits v
 value_of lits v true h = ⊎_elim (λ no_. inr no_) (λ yes_. inl yes_) h
 value_of lits v false h = ⊎_elim (λ no_. inl no_) (λ yes_. inr yes_) h
 
+-- where all variables have values, each literal of a clause has one
+pub quiet_total : (s : Search) (id : ℕ) → HasRoom s → HaveValues s → IsNamed s.clauses id
+    → (l : Lit) → Contains (clause_at s.clauses id) l → Contains s.lits l ⊎ Contains s.lits (negation l)
+quiet_total s id room values named l c =
+    value_of s.lits l.var l.positive (values.each l.var (omega arith) (room.known id l named c))
+
 -- where nothing is left to do and all variables have values, each clause is true
 pub quiet_true : (s : Search) (id : ℕ) → HasRoom s → IsQuiet s.clauses s.lits → HaveValues s → IsNamed s.clauses id
     → (l : Lit) × Contains (clause_at s.clauses id) l × Contains s.lits l
@@ -75,8 +81,7 @@ quiet_true s id room quiet values named =
     ⊎_elim
     (λ f. absurd (quiet.not_false id named f))
     (λ w. w)
-    (some_true s.lits (clause_at s.clauses id) (λ l c.
-    value_of s.lits l.var l.positive (values.each l.var (omega arith) (room.known id l named c))))
+    (some_true s.lits (clause_at s.clauses id) (quiet_total s id room values named))
 
 pub model_of : (state : SolverState) (s : Search) (assumptions : List Lit)
     → IsMirror s.clauses state.active state.log.steps
@@ -92,6 +97,11 @@ model_of state s assumptions m form run quiet values = record {
             (subst (λ xs. Contains xs w.0) (sym (m.same id.0 id.1)) w.1),
         w.2,
       );
+  total = λ number c l there.
+      let id = id_of s.clauses state.active state.log.steps number m c in
+      quiet_total s id.0 run.room values id.1 l
+      (subst (λ xs. Contains xs l) (m.same id.0 id.1)
+      (subst (λ n. Contains (clause_of state.log.steps n) l) (sym id.2) there));
 }
 
 -- a search goes on

@@ -99,12 +99,15 @@ pub record Closes (old new : SolverState) (number : ℕ) : Type 0 where
   pub active_same : new.active ≡ old.active
   pub pending_same : new.pending ≡ old.pending
 
--- each assumption and each clause in use is true, and no literal stands beside its negation
+-- each assumption and each clause in use is true; no literal stands beside its negation, and each literal of a clause in
+-- use has a value
 pub record IsModel (s : SolverState) (assumptions lits : List Lit) : Type 0 where
   pub plain : IsTautology negation lits → ⊥
   pub assumed : (l : Lit) → Contains assumptions l → Contains lits l
   pub satisfied : (number : ℕ) → Contains s.active number
       → (l : Lit) × Contains (clause_of s.log.steps number) l × Contains lits l
+  pub total : (number : ℕ) → Contains s.active number → (l : Lit) → Contains (clause_of s.log.steps number) l
+      → Contains lits l ⊎ Contains lits (negation l)
 
 -- the budget is spent, and a further clause that may be learned is kept
 pub record IsSpent (s : SolverState) (assumptions : List Lit) (budget : Units) (count : ℕ) : Type 0 where

@@ -4,6 +4,6 @@ mod ReadNumbers
 mod ReadLines
 mod AskedLines
 mod EditLines
-mod FirstFaults
+pub mod FirstFaults
 mod LineCauses
-mod OneScript
+pub mod OneScript

@@ -2,10 +2,12 @@
 use Rattle.std.specs.Prelude.{ℕ, Contains}
 use Rattle.semantics.specs.Arguments.{IsArgument}
 use Rattle.semantics.specs.Framework.{Af, IsAf}
+use Rattle.aba_semantics.specs.AbaFrameworks.{Aba, IsNumberedAba}
 
--- a framework of one of the kinds
+-- a framework of one of the kinds: an abstract one, or a flat assumption-based one
 pub data Framework : Type 0 where
   af : Af → Framework
+  aba : Aba → Framework
 
 -- an abstract framework in its form, whose live arguments have numbers from 1 to 1,000,000
 pub record IsNumberedAf (f : Af) : Type 0 where
@@ -15,3 +17,4 @@ pub record IsNumberedAf (f : Af) : Type 0 where
 -- the framework is in the form of its kind, with numbers within their bounds
 abbrev pub IsNumbered : Framework → Type 0
 IsNumbered (af f) = IsNumberedAf f
+IsNumbered (aba f) = IsNumberedAba f

@@ -1,5 +1,5 @@
 -- Wider ranges, in goals and in lists.
-use Rattle.std.proofs.Common.{◌≡◌, ⊎_elim, ℕ, ◌<◌, true, not, List, [], ◌∷◌, length, filter, refl, ap, sym, subst, ◌∙◌}
+use Rattle.std.proofs.Common.{◌≡◌, ⊎_elim, ℕ, ◌<◌, true, false, not, List, [], ◌∷◌, length, filter, refl, ap, sym, subst, ◌∙◌}
 use Rattle.std.specs.Prelude.{Contains, Result, IfOk}
 use Rattle.std.proofs.lemmas.Bool.{false≢true, not_from_false, false_from_ne_true}
 use Rattle.plain_lists.specs.Members.{IsSetOf, IsWithin}
@@ -7,7 +7,7 @@ use Rattle.plain_lists.proofs.Filters.{Contains-filter}
 use Rattle.plain_lists.proofs.Membership.{Contains-nil, Contains-head, Contains-tail, Contains-cons_cases}
 use Rattle.plain_lits.specs.declared.halt.Halt.{Halt}
 use Rattle.plain_lits.proofs.HintCheckLemmas.{Contains-mapped}
-use Rattle.semantics.specs.Frameworks.{Framework, af, IsNumbered}
+use Rattle.semantics.specs.Frameworks.{Framework, af, aba, IsNumbered}
 use Rattle.meaning_atoms.specs.declared.atom.Atom.{Atom}
 use Rattle.meaning_atoms.specs.declared.atom.Atom.TheVariants.{Member, Live, Attack, Gap, Tail, Unmet, Cf, Ad, Co, St, Range, Ask}
 use Rattle.meaning_atoms.specs.declared.atom.AtomLit.{AtomLit}
@@ -20,14 +20,14 @@ use Rattle.oracle_face.specs.declared.face.Found.{Found}
 use Rattle.oracle_face.specs.declared.face.Found.TheVariants.{Set, Refuted}
 use Rattle.oracle_face.specs.Goals.{IsClaimSide, IsMode, IsSide, SpeaksOf}
 use Rattle.oracle_face.specs.Growing.{IsFound, OnlySide}
-use Rattle.oracle_face.specs.Kinds.{IsRanged}
+use Rattle.oracle_face.specs.Kinds.{IsRanged, is_assumption_based}
 use Rattle.oracle_face.specs.Logs.{IsSameClause, OracleLog}
 use Rattle.oracle_face.proofs.GrowingLemmas.{Makes}
 use Rattle.oracle_face.proofs.Refuting.{refutes_claim}
 use Rattle.goal_lists.specs.Asking.{goals_of, IsAskableBeside}
 use Rattle.goal_lists.specs.Sides.{IsAskOf, IsFoundBeside}
 use Rattle.goal_lists.proofs.AskedGoals.{asked_there, asked_true, ranged_form, wider_form, wider_side, wider_speaks, within_claim}
-use Rattle.goal_lists.proofs.Calls.{found_mode, found_ranged}
+use Rattle.goal_lists.proofs.Calls.{found_mode, found_range}
 use Rattle.goal_lists.proofs.Measures.{not_true, strictly_fewer}
 use Rattle.goal_lists.proofs.SideLemmas.{ask_claim, beside_means, this_one}
 use Rattle.semi_stable.specs.Widest.{IsRangeIn, IsWider, MadeWider, wider_claim}
@@ -41,17 +41,23 @@ mode_within (af f) s Ad is h = h.conflict_free.live
 mode_within (af f) s Co is h = h.admissible.conflict_free.live
 mode_within (af f) s St is h = h.conflict_free.live
 mode_within (af f) s _ is h = absurd is
+mode_within (aba f) s Cf is h = h.live
+mode_within (aba f) s Ad is h = h.conflict_free.live
+mode_within (aba f) s Co is h = h.admissible.conflict_free.live
+mode_within (aba f) s St is h = h.conflict_free.live
+mode_within (aba f) s _ is h = absurd is
 
--- the range of a set as a list
-pub range_list : (f : Framework) (s r : List ℕ) → IsNumbered f → IsWithin s (members f) → IsSetOf (IsRanged f s) r
-    → r ≡ range_of f s
-range_list (af f) s r ok live is = range_is f s r ok live is
+-- the range of a set of an abstract framework as a list
+pub range_list : (f : Framework) (s r : List ℕ) → is_assumption_based f ≡ false → IsNumbered f
+    → IsWithin s (members f) → IsSetOf (IsRanged f s) r → r ≡ range_of f s
+range_list (af f) s r kind ok live is = range_is f s r ok live is
+range_list (aba f) s r kind ok live is = absurd (false≢true (sym kind))
 
-pub range_within : (f : Framework) (s r : List ℕ) → IsNumbered f → IsWithin s (members f) → IsSetOf (IsRanged f s) r
-    → IsWithin r (members f)
-range_within f s r ok live is a c =
+pub range_within : (f : Framework) (s r : List ℕ) → is_assumption_based f ≡ false → IsNumbered f
+    → IsWithin s (members f) → IsSetOf (IsRanged f s) r → IsWithin r (members f)
+range_within f s r kind ok live is a c =
     let there : Contains (range_of f s) a =
-    subst (λ (xs : List ℕ). Contains xs a) (range_list f s r ok live is) c in
+    subst (λ (xs : List ℕ). Contains xs a) (range_list f s r kind ok live is) c in
     ((Contains-filter (is_ranged f s) (members f) a).0 there).0
 
 -- ---- what is asked
@@ -66,8 +72,9 @@ makes_wider f mode e side h same literals set made = (
   subst (λ (clause : List AtomLit). IsSameClause literals clause) (same ∙ ap (wider f) (sym made.1)) made.0,
 )
 
--- what a look is about: a set of a mode with its range, in a framework in its form
+-- what a look is about: a set of a mode with its range, in an abstract framework in its form
 pub record IsLook (f : Framework) (mode : Atom) (e r : List ℕ) : Type 0 where
+  pub kind : is_assumption_based f ≡ false
   pub numbered : IsNumbered f
   pub mode_is : IsMode mode
   pub holds : HoldsOf f e mode
@@ -80,36 +87,45 @@ look_beside f mode e r ranged side is made look =
       moded = look.mode_is;
       in_members = λ a c. absurd (Contains-nil a c);
       out_members = λ a c. absurd (Contains-nil a c);
-      ranged_members = range_within f e r look.numbered (mode_within f e mode look.mode_is look.holds) look.range;
+      ranged_members = range_within f e r look.kind look.numbered
+          (mode_within f e mode look.mode_is look.holds) look.range;
       apart = λ a c d. absurd (Contains-nil a c);
       speaks = subst (SpeaksOf f) (sym made) (wider_speaks f e);
     })
 
 -- ---- what is found
 
-range_holds : (f : Framework) (s : List ℕ) (x : ℕ) → HoldsOf f s (Range x) → IsRanged f s x
-range_holds (af f) s x h = h
+range_holds : (f : Framework) (s : List ℕ) (x : ℕ) → is_assumption_based f ≡ false → HoldsOf f s (Range x)
+    → IsRanged f s x
+range_holds (af f) s x kind h = h
+range_holds (aba f) s x kind h = absurd (false≢true (sym kind))
 
-range_test : (f : Framework) (s : List ℕ) (x : ℕ) → is_ranged f s x ≡ true → IsRanged f s x
-range_test (af f) s x e = ranged_gives f s x e
+range_test : (f : Framework) (s : List ℕ) (x : ℕ) → is_assumption_based f ≡ false → is_ranged f s x ≡ true
+    → IsRanged f s x
+range_test (af f) s x kind e = ranged_gives f s x e
+range_test (aba f) s x kind e = absurd (false≢true (sym kind))
 
-ranged_test : (f : Framework) (s : List ℕ) (x : ℕ) → IsRanged f s x → is_ranged f s x ≡ true
-ranged_test (af f) s x h = ranged_from f s x h
+ranged_test : (f : Framework) (s : List ℕ) (x : ℕ) → is_assumption_based f ≡ false → IsRanged f s x
+    → is_ranged f s x ≡ true
+ranged_test (af f) s x kind h = ranged_from f s x h
+ranged_test (aba f) s x kind h = absurd (false≢true (sym kind))
 
 all_ranged : (f : Framework) (log : OracleLog) (mode : Atom) (e r : List ℕ) (n : ℕ) (set : List ℕ)
-    → IsSetOf (IsRanged f e) r → IsFound f log (goals_of mode [] [] r (n ∷ [])) (Set set) → IsRangeIn f e set
-all_ranged (af f) log mode e r n set range makes a h =
-    found_ranged f log mode [] [] r (n ∷ []) set makes a ((range.members a).1 h)
+    → is_assumption_based f ≡ false → IsSetOf (IsRanged f e) r
+    → IsFound f log (goals_of mode [] [] r (n ∷ [])) (Set set) → IsRangeIn f e set
+all_ranged f log mode e r n set kind range makes a h =
+    range_holds f set a kind (found_range f log mode [] [] r (n ∷ []) set makes a ((range.members a).1 h))
 
 -- one that makes the side clause true has something in its range that the other hasn't
-further_ranged : (f : Framework) (e set : List ℕ) → IsTrueAlone (world_of f set) (wider f e)
+further_ranged : (f : Framework) (e set : List ℕ) → is_assumption_based f ≡ false
+    → IsTrueAlone (world_of f set) (wider f e)
     → (a : ℕ) × Contains (members f) a × IsRanged f set a × ¬ IsRanged f e a
-further_ranged f e set t =
+further_ranged f e set kind t =
     let m = wider_form f e t.literal t.member in (
       m.0,
       m.1,
-      range_holds f set m.0 (subst (λ (k : AtomLit). Says k.positive (HoldsOf f set k.atom)) (sym m.3) t.says),
-      λ h. m.2 (ranged_test f e m.0 h),
+      range_holds f set m.0 kind (subst (λ (k : AtomLit). Says k.positive (HoldsOf f set k.atom)) (sym m.3) t.says),
+      λ h. m.2 (ranged_test f e m.0 kind h),
     )
 
 mode_asks_nothing : (mode : Atom) → IsMode mode → IsAsk mode → ⊥
@@ -129,13 +145,13 @@ found_wider : (f : Framework) (log : OracleLog) (mode : Atom) (e r : List ℕ) (
     → IsWider f log mode e found
 found_wider f log mode e r n look asks (Set set) makes = (
   found_mode f log mode [] [] r (n ∷ []) set look.mode_is makes,
-  all_ranged f log mode e r n set look.range makes,
-  further_ranged f e set
+  all_ranged f log mode e r n set look.kind look.range makes,
+  further_ranged f e set look.kind
       (asked_true f log (goals_of mode [] [] r (n ∷ [])) set n (wider f e)
       (asked_there mode [] [] r (n ∷ []) n (Contains-head n [] n refl)) asks.number asks.same makes),
 )
 found_wider f log mode e r n look asks (Refuted step) refuted =
-    let same = range_list f e r look.numbered (mode_within f e mode look.mode_is look.holds) look.range in
+    let same = range_list f e r look.kind look.numbered (mode_within f e mode look.mode_is look.holds) look.range in
     let ranged = are_ranged (range_of f e) in
     refutes_claim f log (wider_claim f mode e) (goals_of mode [] [] r (n ∷ [])) step
     (claim_plain mode (range_of f e) look.mode_is)
@@ -169,20 +185,23 @@ wider_set f g log mode e r set same is h =
 abbrev pub open_count : Framework → List ℕ → ℕ
 open_count f s = length (filter (λ x. not (is_ranged f s x)) (members f))
 
-lacks_range : (f : Framework) (s : List ℕ) (x : ℕ) → (IsRanged f s x → ⊥) → not (is_ranged f s x) ≡ true
-lacks_range f s x out =
-    not_from_false (is_ranged f s x) (false_from_ne_true (is_ranged f s x) (λ e. out (range_test f s x e)))
+lacks_range : (f : Framework) (s : List ℕ) (x : ℕ) → is_assumption_based f ≡ false → (IsRanged f s x → ⊥)
+    → not (is_ranged f s x) ≡ true
+lacks_range f s x kind out =
+    not_from_false (is_ranged f s x) (false_from_ne_true (is_ranged f s x) (λ e. out (range_test f s x kind e)))
 
-has_no_range : (f : Framework) (s : List ℕ) (x : ℕ) → not (is_ranged f s x) ≡ true → IsRanged f s x → ⊥
-has_no_range f s x out h =
-    let e = ranged_test f s x h in
+has_no_range : (f : Framework) (s : List ℕ) (x : ℕ) → is_assumption_based f ≡ false → not (is_ranged f s x) ≡ true
+    → IsRanged f s x → ⊥
+has_no_range f s x kind out h =
+    let e = ranged_test f s x kind h in
     false≢true (sym (not_true (is_ranged f s x) e) ∙ out)
 
 -- a wider range leaves fewer out
-pub fewer_open : (f : Framework) (log : OracleLog) (mode : Atom) (s t : List ℕ) → IsWider f log mode s (Set t)
-    → open_count f t < open_count f s
-fewer_open f log mode s t h =
+pub fewer_open : (f : Framework) (log : OracleLog) (mode : Atom) (s t : List ℕ) → is_assumption_based f ≡ false
+    → IsWider f log mode s (Set t) → open_count f t < open_count f s
+fewer_open f log mode s t kind h =
     let more = h.2 in
     strictly_fewer (λ x. not (is_ranged f s x)) (λ x. not (is_ranged f t x)) (members f) more.0
-    (λ y out. lacks_range f s y (λ k. has_no_range f t y out (h.1 y k)))
-    more.1 (lacks_range f s more.0 more.3) (not_true (is_ranged f t more.0) (ranged_test f t more.0 more.2))
+    (λ y out. lacks_range f s y kind (λ k. has_no_range f t y kind out (h.1 y k)))
+    more.1 (lacks_range f s more.0 kind more.3)
+    (not_true (is_ranged f t more.0) (ranged_test f t more.0 kind more.2))

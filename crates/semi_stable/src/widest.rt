@@ -1,11 +1,11 @@
 //! The growing of a set by its range.
 
-ghost use Rattle.std.specs.Prelude.{◌≡◌, IfOk};
+ghost use Rattle.std.specs.Prelude.{◌≡◌, false, IfOk};
 ghost use Rattle.plain_lists.specs.Members.{IsSetOf};
 ghost use Rattle.meaning_atoms.specs.Worlds.{HoldsOf};
 ghost use Rattle.oracle_face.specs.Goals.{IsMode};
 ghost use Rattle.oracle_face.specs.Growing.{HasRun, closes, halt_of};
-ghost use Rattle.oracle_face.specs.Kinds.{IsRanged};
+ghost use Rattle.oracle_face.specs.Kinds.{IsRanged, is_assumption_based};
 ghost use Rattle.oracle_face.specs.Logs.{IsKept};
 ghost use Rattle.semi_stable.specs.Widest.{IsWider, IsWidestFrom, MadeWider};
 
@@ -33,6 +33,7 @@ fn wider<O: Oracle>(
     set: &NumSet,
     range: &NumSet,
 ) -> Result<Found, Halt>
+    requires kind { is_assumption_based (O.framework oracle.old) ≡ false }
     requires mode { IsMode mode }
     requires holds { HoldsOf (O.framework oracle.old) set.now mode }
     requires range { IsSetOf (IsRanged (O.framework oracle.old) set.now) range.now }
@@ -53,9 +54,10 @@ fn wider<O: Oracle>(
     search_beside(alloc, oracle, budget, mode, &wanted, &side, set)
 }
 
-/// Grows a set of a mode to one whose range holds that of the set and is part of no other of the mode: by the mode `Ad`
-/// a semi-stable set, by `Cf` a stage set. The search goes on from what each search finds: where the range grows k
-/// times, it asks k + 1 times. The halt is the oracle's, or want of memory; the oracle keeps what it has learned.
+/// Grows a set of a mode, in an abstract framework, to one whose range holds that of the set and is part of no other of
+/// the mode: by the mode `Ad` a semi-stable set, by `Cf` a stage set. The search goes on from what each search finds:
+/// where the range grows k times, it asks k + 1 times. The halt is the oracle's, or want of memory; the oracle keeps
+/// what it has learned.
 pub fn widest_from<O: Oracle>(
     alloc: Global,
     oracle: &mut O,
@@ -63,6 +65,7 @@ pub fn widest_from<O: Oracle>(
     mode: Atom,
     set: &NumSet,
 ) -> Result<Widest, Halt>
+    requires kind { is_assumption_based (O.framework oracle.old) ≡ false }
     requires mode { IsMode mode }
     requires holds { HoldsOf (O.framework oracle.old) set.now mode }
     ensures widest { IfOk result (IsWidestFrom (O.framework oracle.old) (O.log oracle.new) mode set.now) }

@@ -1,6 +1,7 @@
 -- Covers of ranges by sets of which none has a set in its range that makes the literal true.
 use Rattle.std.proofs.Common.{◌≡◌, inl, inr, ⊎_elim, ℕ, suc, ◌+◌, ◌*◌, ◌<◌, ◌≤◌, true, false, Bool, List, [], ◌∷◌, ◌++◌, length, map, filter, refl, ap, sym, subst, ◌∙◌, arith}
 use Rattle.std.specs.Prelude.{◌⊎◌, ◌↔◌, Contains, slice_index_or, Option, Some, None, Result, Ok, Err, IfOk}
+use Rattle.std.proofs.lemmas.Bool.{false≢true}
 use Rattle.std.proofs.lemmas.List.{length-append, map-append}
 use Rattle.std.proofs.lemmas.List.Elements.{Contains-append_left, Contains-append_cases}
 use Rattle.plain_lists.specs.Members.{IsSetOf, IsWithin}
@@ -8,7 +9,7 @@ use Rattle.plain_lists.proofs.Membership.{Contains-nil, Contains-head, Contains-
 use Rattle.plain_lits.specs.declared.halt.Halt.{Halt}
 use Rattle.plain_lits.specs.Units.{Units}
 use Rattle.plain_lits.proofs.HintCheckLemmas.{Contains-mapped}
-use Rattle.semantics.specs.Frameworks.{Framework, af, IsNumbered}
+use Rattle.semantics.specs.Frameworks.{Framework, af, aba, IsNumbered}
 use Rattle.semantics.proofs.SameMembers.{range_more}
 use Rattle.meaning_atoms.specs.declared.atom.Atom.TheVariants.{Member, Range, Ad}
 use Rattle.meaning_atoms.specs.declared.atom.AtomLit.{AtomLit}
@@ -30,7 +31,7 @@ use Rattle.oracle_face.specs.declared.face.Found.TheVariants.{Set, Refuted}
 use Rattle.oracle_face.specs.declared.face.Pending.{Pending}
 use Rattle.oracle_face.specs.Goals.{MakesTrue, Refutes, SpeaksOf}
 use Rattle.oracle_face.specs.Growing.{Grows, HasRun, IsFound, Making}
-use Rattle.oracle_face.specs.Kinds.{IsRanged}
+use Rattle.oracle_face.specs.Kinds.{IsRanged, is_assumption_based}
 use Rattle.oracle_face.specs.Logs.{IsKept, IsLog, IsNumberOf, IsSameClause, OracleLog, SideClause, side_at}
 use Rattle.oracle_face.proofs.GrowingLemmas.{Makes}
 use Rattle.oracle_face.proofs.Refuting.{claim_excluded, refutes_grown}
@@ -130,10 +131,12 @@ goals_as q accepted ranged asks ins outs these numbers are =
     ∙ ap (λ xs. goals_of Ad (ins_of accepted (q ∷ [])) (outs_of accepted (q ∷ [])) ranged xs) are.asks_are))
 
 -- the claims' goals have what is asked
-wanted : (f : Framework) (q : ℕ) (accepted : Bool) (ranged numbers : List ℕ) → IsWithin ranged numbers
+wanted : (f : Framework) (q : ℕ) (accepted : Bool) (ranged numbers : List ℕ) → is_assumption_based f ≡ false
+    → IsWithin ranged numbers
     → HasWanted (affirmed Ad ∷ literal_of f q accepted ∷ are_ranged numbers) Ad (ins_of accepted (q ∷ []))
     (outs_of accepted (q ∷ [])) ranged
-wanted (af f) q true ranged numbers sub =
+wanted (aba f) q accepted ranged numbers kind sub = absurd (false≢true (sym kind))
+wanted (af f) q true ranged numbers kind sub =
     let lit = affirmed (Member q) in
     let rest = are_ranged numbers in
     record {
@@ -146,7 +149,7 @@ wanted (af f) q true ranged numbers sub =
           (Contains-tail lit rest (affirmed (Range a))
           (Contains-mapped (λ x. affirmed (Range x)) numbers a (sub a c)));
     }
-wanted (af f) q false ranged numbers sub =
+wanted (af f) q false ranged numbers kind sub =
     let lit = denied (Member q) in
     let rest = are_ranged numbers in
     record {
@@ -162,25 +165,30 @@ wanted (af f) q false ranged numbers sub =
 
 -- a set that is found makes it true
 found_it : (f : Framework) (log : OracleLog) (q : ℕ) (accepted : Bool) (ranged asks set : List ℕ)
+    → is_assumption_based f ≡ false
     → MakesTrue f log (goals_of Ad (ins_of accepted (q ∷ [])) (outs_of accepted (q ∷ [])) ranged asks) set
     → MakesIt f q accepted set
-found_it (af f) log q true ranged asks set makes =
+found_it (aba f) log q accepted ranged asks set kind makes = absurd (false≢true (sym kind))
+found_it (af f) log q true ranged asks set kind makes =
     found_in (af f) log Ad (q ∷ []) [] ranged asks set makes q (Contains-head q [] q refl)
-found_it (af f) log q false ranged asks set makes =
+found_it (af f) log q false ranged asks set kind makes =
     found_out (af f) log Ad [] (q ∷ []) ranged asks set makes q (Contains-head q [] q refl)
 
-says_it : (f : Framework) (q : ℕ) (accepted : Bool) (e : List ℕ) → MakesIt f q accepted e
-    → Says (literal_of f q accepted).positive (HoldsOf f e (literal_of f q accepted).atom)
-says_it (af f) q true e h = h
-says_it (af f) q false e h = h
+says_it : (f : Framework) (q : ℕ) (accepted : Bool) (e : List ℕ) → is_assumption_based f ≡ false
+    → MakesIt f q accepted e → Says (literal_of f q accepted).positive (HoldsOf f e (literal_of f q accepted).atom)
+says_it (af f) q true e kind h = h
+says_it (af f) q false e kind h = h
+says_it (aba f) q accepted e kind h = absurd (false≢true (sym kind))
 
 -- ---- covers
 
-pub cover_empty : (f : Framework) (log : OracleLog) (q : ℕ) (accepted : Bool) (cover : Cover) → cover.sets ≡ []
-    → cover.steps ≡ [] → cover.asks ≡ [] → IsCover f log q accepted cover
-cover_empty f log q accepted cover sets steps asks =
+pub cover_empty : (f : Framework) (log : OracleLog) (q : ℕ) (accepted : Bool) (cover : Cover)
+    → is_assumption_based f ≡ false → cover.sets ≡ [] → cover.steps ≡ [] → cover.asks ≡ []
+    → IsCover f log q accepted cover
+cover_empty f log q accepted cover kind sets steps asks =
     let free = range_free f (literal_of f q accepted) in
     record {
+      kind = kind;
       each = λ e c. absurd (Contains-nil e (subst (λ (xs : List (List ℕ)). Contains xs e) sets c));
       free = subst (λ (xs : List (List ℕ)). AreRefuted f log (map free xs) cover.steps) (sym sets)
           (subst (λ (xs : List ℕ). AreRefuted f log [] xs) (sym steps) (refuted_none f log));
@@ -191,6 +199,7 @@ cover_empty f log q accepted cover sets steps asks =
 pub cover_grown : (f : Framework) (P : Making) (old new : OracleLog) (q : ℕ) (accepted : Bool) (cover : Cover)
     → IsLog f old → Grows P old new → IsCover f old q accepted cover → IsCover f new q accepted cover
 cover_grown f P old new q accepted cover form grows h = record {
+  kind = h.kind;
   each = h.each;
   free = refuted_grown f P old new (map (range_free f (literal_of f q accepted)) cover.sets) cover.steps form grows
       h.free;
@@ -223,8 +232,10 @@ may_ask_uncovered f log q accepted cover ins outs these numbers are live h =
     (askable f log.sides q accepted [] cover.asks live (λ a c. absurd (Contains-nil a c))
     (asks_speak f (wider f) log.sides cover.sets cover.asks (λ e c. wider_speaks f e) h.asks))
 
-not_in_range : (f : Framework) (e set : List ℕ) → IsTrueAlone (world_of f set) (wider f e) → IsRangeIn f set e → ⊥
-not_in_range (af f) e set t sub = not_range_within f e set t sub
+not_in_range : (f : Framework) (e set : List ℕ) → is_assumption_based f ≡ false
+    → IsTrueAlone (world_of f set) (wider f e) → IsRangeIn f set e → ⊥
+not_in_range (af f) e set kind t sub = not_range_within f e set t sub
+not_in_range (aba f) e set kind t sub = false≢true (sym kind)
 
 found_uncovered : (f : Framework) (log : OracleLog) (q : ℕ) (accepted : Bool) (cover : Cover)
     → IsCover f log q accepted cover → (found : Found)
@@ -234,14 +245,14 @@ found_uncovered f log q accepted cover h (Set set) makes =
     let ins = ins_of accepted (q ∷ []) in
     let outs = outs_of accepted (q ∷ []) in (
       found_mode f log Ad ins outs [] cover.asks set tt makes,
-      found_it f log q accepted [] cover.asks set makes,
-      λ e c. not_in_range f e set
+      found_it f log q accepted [] cover.asks set h.kind makes,
+      λ e c. not_in_range f e set h.kind
           (asks_true f log (wider f) cover.sets Ad ins outs [] cover.asks set h.asks makes e c),
     )
 found_uncovered f log q accepted cover h (Refuted step) refuted =
     asks_refuted f log (wider f) cover.sets (affirmed Ad ∷ literal_of f q accepted ∷ []) Ad (ins_of accepted (q ∷ []))
     (outs_of accepted (q ∷ [])) [] cover.asks step
-    (wanted f q accepted [] [] (λ a c. c)) h.asks refuted
+    (wanted f q accepted [] [] h.kind (λ a c. c)) h.asks refuted
 
 pub if_uncovered : (f : Framework) (P : Making) (old log : OracleLog) (q : ℕ) (accepted : Bool) (cover : Cover)
     (ins outs these numbers : List ℕ) → AreFor q accepted [] cover.asks ins outs these numbers → IsLog f old
@@ -261,12 +272,13 @@ pub may_ask_within : (f : Framework) (log : OracleLog) (q : ℕ) (accepted : Boo
 may_ask_within f log q accepted widest ins outs these numbers are ok live h =
     askable_as f log.sides q accepted widest.range [] ins outs these numbers are
     (askable f log.sides q accepted widest.range [] live
-    (range_within f widest.set widest.range ok (admissible_members f widest.set h.admissible) h.range)
+    (range_within f widest.set widest.range h.kind ok (admissible_members f widest.set h.admissible) h.range)
     (λ n c. absurd (Contains-nil n c)))
 
-all_ranged : (f : Framework) (log : OracleLog) (ins outs e r asks set : List ℕ) → IsSetOf (IsRanged f e) r
-    → MakesTrue f log (goals_of Ad ins outs r asks) set → IsRangeIn f e set
-all_ranged (af f) log ins outs e r asks set range makes a h =
+all_ranged : (f : Framework) (log : OracleLog) (ins outs e r asks set : List ℕ) → is_assumption_based f ≡ false
+    → IsSetOf (IsRanged f e) r → MakesTrue f log (goals_of Ad ins outs r asks) set → IsRangeIn f e set
+all_ranged (aba f) log ins outs e r asks set kind range makes a h = absurd (false≢true (sym kind))
+all_ranged (af f) log ins outs e r asks set kind range makes a h =
     found_ranged f log Ad ins outs r asks set makes a ((range.members a).1 h)
 
 found_within : (f : Framework) (log : OracleLog) (q : ℕ) (accepted : Bool) (widest : Widest) → IsNumbered f
@@ -277,15 +289,15 @@ found_within f log q accepted widest ok h (Set set) makes =
     let ins = ins_of accepted (q ∷ []) in
     let outs = outs_of accepted (q ∷ []) in (
       found_mode f log Ad ins outs widest.range [] set tt makes,
-      found_it f log q accepted widest.range [] set makes,
-      all_ranged f log ins outs widest.set widest.range [] set h.range makes,
+      found_it f log q accepted widest.range [] set h.kind makes,
+      all_ranged f log ins outs widest.set widest.range [] set h.kind h.range makes,
     )
 found_within f log q accepted widest ok h (Refuted step) refuted =
-    let list = range_list f widest.set widest.range ok (admissible_members f widest.set h.admissible) h.range in
+    let list = range_list f widest.set widest.range h.kind ok (admissible_members f widest.set h.admissible) h.range in
     asks_refuted f log (wider f) []
     (affirmed Ad ∷ literal_of f q accepted ∷ are_ranged (range_of f widest.set)) Ad (ins_of accepted (q ∷ []))
     (outs_of accepted (q ∷ [])) widest.range [] step
-    (wanted f q accepted widest.range (range_of f widest.set)
+    (wanted f q accepted widest.range (range_of f widest.set) h.kind
     (λ a c. subst (λ (xs : List ℕ). Contains xs a) list c))
     (asks_none (wider f) log.sides [] [] refl refl) refuted
 
@@ -301,9 +313,10 @@ if_within f log q accepted widest ins outs these numbers are ok h (Err halt) k =
 
 -- ---- a witness
 
-is_semi : (f : Framework) (log : OracleLog) (given : List ℕ) (widest : Widest) → IsKept f log
-    → IsWidestFrom f log Ad given widest → IsExtension f SemiStable widest.set
-is_semi (af f) log given widest kept h =
+is_semi : (f : Framework) (log : OracleLog) (given : List ℕ) (widest : Widest) → is_assumption_based f ≡ false
+    → IsKept f log → IsWidestFrom f log Ad given widest → IsExtension f SemiStable widest.set
+is_semi (aba f) log given widest kind kept h = absurd (false≢true (sym kind))
+is_semi (af f) log given widest kind kept h =
     let e = widest.set in
     let ranged = are_ranged (range_of (af f) e) in
     widest_semi_stable f e kept.numbered h.has_mode
@@ -313,13 +326,15 @@ is_semi (af f) log given widest kept h =
     h.refuted)
 
 -- the range of a semi-stable set is that of each admissible one that has all of it
-no_wider : (f : Framework) (e t : List ℕ) → IsExtension f SemiStable e → HoldsOf f t Ad → IsRangeIn f e t
-    → IsRangeIn f t e
-no_wider (af f) e t semi ok sub = semi.widest t ok sub
+no_wider : (f : Framework) (e t : List ℕ) → is_assumption_based f ≡ false → IsExtension f SemiStable e
+    → HoldsOf f t Ad → IsRangeIn f e t → IsRangeIn f t e
+no_wider (af f) e t kind semi ok sub = semi.widest t ok sub
+no_wider (aba f) e t kind semi ok sub = absurd (false≢true (sym kind))
 
-semi_too : (f : Framework) (e t : List ℕ) → IsExtension f SemiStable e → HoldsOf f t Ad → IsRangeIn f e t
-    → IsExtension f SemiStable t
-semi_too (af f) e t semi ok sub = record {
+semi_too : (f : Framework) (e t : List ℕ) → is_assumption_based f ≡ false → IsExtension f SemiStable e
+    → HoldsOf f t Ad → IsRangeIn f e t → IsExtension f SemiStable t
+semi_too (aba f) e t kind semi ok sub = absurd (false≢true (sym kind))
+semi_too (af f) e t kind semi ok sub = record {
   admissible = ok;
   widest = λ s is in_s a h. sub a (semi.widest s is (λ b k. in_s b (sub b k)) a h);
 }
@@ -332,36 +347,40 @@ range_too f e t r sub back h = record {
 }
 
 -- sets with one range have the same claim
-same_claim : (f : Framework) (e t r : List ℕ) → IsNumbered f → HoldsOf f e Ad → HoldsOf f t Ad
+same_claim : (f : Framework) (e t r : List ℕ) → is_assumption_based f ≡ false → IsNumbered f → HoldsOf f e Ad
+    → HoldsOf f t Ad
     → IsSetOf (IsRanged f e) r → IsSetOf (IsRanged f t) r → wider_claim f Ad e ≡ wider_claim f Ad t
-same_claim f e t r ok left right h k =
+same_claim f e t r kind ok left right h k =
     let ranges : range_of f e ≡ range_of f t =
-    sym (range_list f e r ok (admissible_members f e left) h) ∙ range_list f t r ok (admissible_members f t right) k in
-    let sides : wider f e ≡ wider f t = sym (lacks_range f e r h) ∙ lacks_range f t r k in
+    sym (range_list f e r kind ok (admissible_members f e left) h)
+    ∙ range_list f t r kind ok (admissible_members f t right) k in
+    let sides : wider f e ≡ wider f t = sym (lacks_range f e r kind h) ∙ lacks_range f t r kind k in
     ap (λ xs. claim_of (affirmed Ad ∷ are_ranged xs) (wider f e ∷ [])) ranges
     ∙ ap (λ clause. claim_of (affirmed Ad ∷ are_ranged (range_of f t)) (clause ∷ [])) sides
 
 is_witness : (f : Framework) (log : OracleLog) (q : ℕ) (accepted : Bool) (given t : List ℕ) (widest : Widest)
-    → IsKept f log → IsWidestFrom f log Ad given widest → IsMadeWithin f log q accepted widest.set (Set t)
+    → is_assumption_based f ≡ false → IsKept f log → IsWidestFrom f log Ad given widest
+    → IsMadeWithin f log q accepted widest.set (Set t)
     → IsWitness f log q accepted (record { set = t; range = widest.range; refutation = widest.refutation })
-is_witness f log q accepted given t widest kept h found =
+is_witness f log q accepted given t widest kind kept h found =
     let e = widest.set in
-    let semi = is_semi f log given widest kept h in
-    let range = range_too f e t widest.range found.2 (no_wider f e t semi found.0 found.2) h.range in
+    let semi = is_semi f log given widest kind kept h in
+    let range = range_too f e t widest.range found.2 (no_wider f e t kind semi found.0 found.2) h.range in
     record {
-      has_range = record { admissible = found.0; range = range };
+      has_range = record { kind = kind; admissible = found.0; range = range };
       makes_it = found.1;
       refuted = subst (λ (claim : Claim). Refutes f log claim widest.refutation)
-          (same_claim f e t widest.range kept.numbered h.has_mode found.0 h.range range) h.refuted;
-      semi_stable = semi_too f e t semi found.0 found.2;
+          (same_claim f e t widest.range kind kept.numbered h.has_mode found.0 h.range range) h.refuted;
+      semi_stable = semi_too f e t kind semi found.0 found.2;
     }
 
 -- ---- one set more
 
-pub has_range : (f h : Framework) (log : OracleLog) (given : List ℕ) (widest : Widest) → h ≡ f
-    → IsWidestFrom f log Ad given widest → HasRange h widest
-has_range f h log given widest same is =
-    subst (λ (x : Framework). HasRange x widest) (sym same) (record { admissible = is.has_mode; range = is.range })
+pub has_range : (f h : Framework) (log : OracleLog) (given : List ℕ) (widest : Widest)
+    → is_assumption_based f ≡ false → h ≡ f → IsWidestFrom f log Ad given widest → HasRange h widest
+has_range f h log given widest kind same is =
+    subst (λ (x : Framework). HasRange x widest) (sym same)
+    (record { kind = kind; admissible = is.has_mode; range = is.range })
 
 set_more : (old new : Cover) (e : List ℕ) → new.sets ≡ old.sets ++ e ∷ [] → (s : List ℕ)
     → Contains new.sets s ↔ (Contains old.sets s ⊎ (s ≡ e))
@@ -374,9 +393,10 @@ set_more old new e is s = (
 )
 
 -- where the side clauses have the same literals, the one's range lies in the other's
-same_clause_range : (f : Framework) (d e : List ℕ) → IsNumbered f → HoldsOf f e Ad
+same_clause_range : (f : Framework) (d e : List ℕ) → is_assumption_based f ≡ false → IsNumbered f → HoldsOf f e Ad
     → IsSameClause (wider f d) (wider f e) → IsRangeIn f e d
-same_clause_range (af f) d e ok adm same a h =
+same_clause_range (aba f) d e kind ok adm same a h = absurd (false≢true (sym kind))
+same_clause_range (af f) d e kind ok adm same a h =
     ranged_gives f d a (same_wider (af f) d e same a (in_range_live f e a ok.form adm.conflict_free.live h)
     (ranged_from f e a h))
 
@@ -386,7 +406,7 @@ not_asked : (f : Framework) (log : OracleLog) (q : ℕ) (accepted : Bool) (old n
 not_asked f log q accepted old new e step n ok cover h c =
     let m = cover.asks.each n c in
     h.outside_all m.0 m.1
-    (same_clause_range f m.0 e ok h.admissible (same_number log.sides (wider f m.0) (wider f e) n m.2 h.ask))
+    (same_clause_range f m.0 e cover.kind ok h.admissible (same_number log.sides (wider f m.0) (wider f e) n m.2 h.ask))
 
 pub cover_extended : (f : Framework) (log : OracleLog) (q : ℕ) (accepted : Bool) (old new : Cover) (e : List ℕ)
     (step n : ℕ) → IsNumbered f → IsCover f log q accepted old → IsExtended f log q accepted old new e step n
@@ -395,6 +415,7 @@ cover_extended f log q accepted old new e step n ok cover h =
     let free = range_free f (literal_of f q accepted) in
     let more = set_more old new e h.sets in
     record {
+      kind = cover.kind;
       each = λ d c. ⊎_elim (λ k. cover.each d k)
           (λ k. subst (λ (s : List ℕ). HoldsOf f s Ad) (sym k) h.admissible) ((more d).0 c);
       free = subst (λ (xs : List Claim). AreRefuted f log xs new.steps)
@@ -407,9 +428,10 @@ cover_extended f log q accepted old new e step n ok cover h =
     }
 
 pub fewer_open : (f : Framework) (log : OracleLog) (q : ℕ) (accepted : Bool) (old new : Cover) (e : List ℕ)
-    (step n : ℕ) → IsNumbered f → IsExtended f log q accepted old new e step n
+    (step n : ℕ) → is_assumption_based f ≡ false → IsNumbered f → IsExtended f log q accepted old new e step n
     → open_ranges f new.sets < open_ranges f old.sets
-fewer_open (af f) log q accepted old new e step n ok h =
+fewer_open (aba f) log q accepted old new e step n kind ok h = absurd (false≢true (sym kind))
+fewer_open (af f) log q accepted old new e step n kind ok h =
     let same = same_as_kept f.live e (admissible_members (af f) e h.admissible) in
     let s = filter (has e) f.live in
     let live : IsWithin s f.live = λ x c. admissible_members (af f) e h.admissible x (same.0 x c) in
@@ -462,42 +484,44 @@ witness_of f g log q accepted old new r found same is h =
     (subst (Extends g log q accepted old new) is h)
 
 pub found_witness : (f g h : Framework) (mid log : OracleLog) (P : Making) (q : ℕ) (accepted : Bool) (given t : List ℕ)
-    (widest : Widest) (found : Found) → g ≡ f → h ≡ g → IsKept g mid → IsKept h log → Grows P mid log
-    → IsWidestFrom f mid Ad given widest → found ≡ Set t → IsMadeWithin g log q accepted widest.set found
+    (widest : Widest) (found : Found) → is_assumption_based f ≡ false → g ≡ f → h ≡ g → IsKept g mid → IsKept h log
+    → Grows P mid log → IsWidestFrom f mid Ad given widest → found ≡ Set t
+    → IsMadeWithin g log q accepted widest.set found
     → IsWitness f log q accepted (record { set = t; range = widest.range; refutation = widest.refutation })
-found_witness f g h mid log P q accepted given t widest found left right before kept grows is last made =
-    is_witness f log q accepted given t widest (subst (λ (x : Framework). IsKept x log) (right ∙ left) kept)
+found_witness f g h mid log P q accepted given t widest found kind left right before kept grows is last made =
+    is_witness f log q accepted given t widest kind (subst (λ (x : Framework). IsKept x log) (right ∙ left) kept)
     (widest_kept f mid log P g given widest left before grows is)
     (subst (λ (x : Framework). IsMadeWithin x log q accepted widest.set (Set t)) left
     (subst (IsMadeWithin g log q accepted widest.set) last made))
 
 -- ---- the end
 
-cover_plain : (f : Framework) (q : ℕ) (accepted : Bool) (sets : List (List ℕ))
+cover_plain : (f : Framework) (q : ℕ) (accepted : Bool) (sets : List (List ℕ)) → is_assumption_based f ≡ false
     → IsPlain (range_cover f (literal_of f q accepted ∷ []) sets)
-cover_plain f q accepted sets =
+cover_plain f q accepted sets kind =
     plain_mapped (affirmed Ad ∷ literal_of f q accepted ∷ []) (wider f) sets
-    (wanted f q accepted [] [] (λ a c. c)).plain (wider_plain f)
+    (wanted f q accepted [] [] kind (λ a c. c)).plain (wider_plain f)
 
-free_plain : (f : Framework) (q : ℕ) (accepted : Bool) (e : List ℕ)
+free_plain : (f : Framework) (q : ℕ) (accepted : Bool) (e : List ℕ) → is_assumption_based f ≡ false
     → IsPlain (range_free f (literal_of f q accepted) e)
-free_plain f q accepted e =
+free_plain f q accepted e kind =
     plain_mapped (affirmed Ad ∷ literal_of f q accepted ∷ are_ranged (range_of f e)) (wider f) []
-    (wanted f q accepted [] (range_of f e) (λ a c. absurd (Contains-nil a c))).plain (wider_plain f)
+    (wanted f q accepted [] (range_of f e) kind (λ a c. absurd (Contains-nil a c))).plain (wider_plain f)
 
 none_makes_it : (f : Framework) (log : OracleLog) (q : ℕ) (accepted : Bool) (cover : Cover) (step : ℕ) → IsKept f log
     → IsCover f log q accepted cover → Refutes f log (range_cover f (literal_of f q accepted ∷ []) cover.sets) step
     → (e : List ℕ) → IsExtension f SemiStable e → MakesIt f q accepted e → ⊥
+none_makes_it (aba f) log q accepted cover step kept h refuted e semi makes = false≢true (sym h.kind)
 none_makes_it (af f) log q accepted cover step kept h refuted e semi makes =
     let bad = literal_of (af f) q accepted in
     ranged_out f bad cover.sets kept.numbered h.each
     (claim_excluded (af f) log (range_cover (af f) (bad ∷ []) cover.sets) step kept.form
-    (cover_plain (af f) q accepted cover.sets) refuted)
+    (cover_plain (af f) q accepted cover.sets h.kind) refuted)
     (λ d c.
     let r = refuted_member (af f) log (map (range_free (af f) bad) cover.sets) cover.steps (range_free (af f) bad d)
     h.free (Contains-mapped (range_free (af f) bad) cover.sets d c) in
-    claim_excluded (af f) log (range_free (af f) bad d) r.0 kept.form (free_plain (af f) q accepted d) r.1)
-    e semi (says_it (af f) q accepted e makes)
+    claim_excluded (af f) log (range_free (af f) bad d) r.0 kept.form (free_plain (af f) q accepted d h.kind) r.1)
+    e semi (says_it (af f) q accepted e h.kind makes)
 
 pub no_witness : (f g h : Framework) (log : OracleLog) (q : ℕ) (accepted : Bool) (cover : Cover) (r : Found) (step : ℕ)
     (steps : List ℕ) → g ≡ f → h ≡ f → IsKept h log → IsCover f log q accepted cover → r ≡ Refuted step

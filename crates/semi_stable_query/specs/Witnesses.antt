@@ -15,7 +15,7 @@ use Rattle.certificate_claims.specs.SetLiterals.{goal, wider}
 use Rattle.oracle_face.specs.declared.face.Found.{Found}
 use Rattle.oracle_face.specs.declared.face.Found.TheVariants.{Set, Refuted}
 use Rattle.oracle_face.specs.Goals.{Refutes}
-use Rattle.oracle_face.specs.Kinds.{IsRanged}
+use Rattle.oracle_face.specs.Kinds.{IsRanged, is_assumption_based}
 use Rattle.oracle_face.specs.Logs.{OracleLog}
 use Rattle.goal_lists.specs.Asking.{AreApart}
 use Rattle.goal_lists.specs.Sides.{AreAsksOf, IsAskOf}
@@ -48,8 +48,9 @@ outs_of false goals = goals
 
 -- ---- the evidence
 
--- an admissible set and its range
+-- an admissible set of an abstract framework and its range
 pub record HasRange (f : Framework) (found : Widest) : Type 0 where
+  pub kind : is_assumption_based f ≡ false
   pub admissible : HoldsOf f found.set Ad
   pub range : IsSetOf (IsRanged f found.set) found.range
 
@@ -74,9 +75,11 @@ IsDecided f log q accepted (NoWitness sets steps) = IsNoWitness f log q accepted
 
 -- ---- the search
 
--- admissible sets, each with a step that shows that no admissible set that makes the literal true has all of its range;
--- and different side clauses, each that something is in the range that isn't in that of one of the sets
+-- admissible sets of an abstract framework, each with a step that shows that no admissible set that makes the literal
+-- true has all of its range; and different side clauses, each that something is in the range that isn't in that of one
+-- of the sets
 pub record IsCover (f : Framework) (log : OracleLog) (q : ℕ) (accepted : Bool) (cover : Cover) : Type 0 where
+  pub kind : is_assumption_based f ≡ false
   pub each : (e : List ℕ) → Contains cover.sets e → HoldsOf f e Ad
   pub free : AreRefuted f log (map (range_free f (literal_of f q accepted)) cover.sets) cover.steps
   pub asks : AreAsksOf (wider f) log.sides cover.sets cover.asks

@@ -1,8 +1,9 @@
 //! Whether some semi-stable set makes a literal about membership true.
 
-ghost use Rattle.std.specs.Prelude.{◌≡◌, ◌∷◌, ◌+◌, ◌*◌, length, Contains, IfOk, OnOk};
+ghost use Rattle.std.specs.Prelude.{◌≡◌, ◌∷◌, ◌+◌, ◌*◌, false, length, Contains, IfOk, OnOk};
 ghost use Rattle.meaning_atoms.specs.declared.atom.Atom.TheVariants.{Ad};
 ghost use Rattle.certificate_claims.specs.SetLiterals.{members};
+ghost use Rattle.oracle_face.specs.Kinds.{is_assumption_based};
 ghost use Rattle.oracle_face.specs.Logs.{IsKept};
 ghost use Rattle.oracle_face.specs.Growing.{HasRun, closes, halt_of};
 ghost use Rattle.semi_stable.specs.Widest.{MadeWider};
@@ -38,7 +39,8 @@ struct Cover {
     asks: Items<AskId>,
 }
 
-/// Whether a semi-stable set accepts an argument, or where `accepted` is false, whether one doesn't. Where r ranges of
+/// Whether a semi-stable set of an abstract framework accepts an argument, or where `accepted` is false, whether one
+/// doesn't. Where r ranges of
 /// semi-stable sets are found, it asks r + 1 times at most for a set whose range lies in none of them, and r times for
 /// a set that has one of them, besides what it asks to grow each range.
 pub fn decide<O: Oracle>(
@@ -48,7 +50,8 @@ pub fn decide<O: Oracle>(
     goal: u32,
     accepted: bool,
 ) -> Result<Deciding, Halt>
-    requires { Contains (members (O.framework oracle.old)) goal }
+    requires kind { is_assumption_based (O.framework oracle.old) ≡ false }
+    requires goal { Contains (members (O.framework oracle.old)) goal }
     ensures decided { IfOk result (IsDecided (O.framework oracle.old) (O.log oracle.new) goal accepted) }
     ensures run { HasRun (MadeWider (O.framework oracle.old) Ad) (2 * length (O.log oracle.new).sides + 2)
         (O.framework oracle.old) (O.log oracle.old) (O.log oracle.new) (O.pending oracle.new) budget.old budget.new
@@ -179,6 +182,7 @@ fn extend<O: Oracle>(
     cover: &mut Cover,
     set: &NumSet,
 ) -> Result<Option<Widest>, Halt>
+    requires kind { is_assumption_based (O.framework oracle.old) ≡ false }
     requires goal { Contains (members (O.framework oracle.old)) goal }
     requires set { IsUncovered (O.framework oracle.old) (O.log oracle.old) goal accepted cover.old (Found.Set set.now) }
     ensures extends { IfOk result (Extends (O.framework oracle.old) (O.log oracle.new) goal accepted cover.old

@@ -1,17 +1,23 @@
 -- No clause of an axiom, and no side clause, speaks of a side clause; the numbers of their literals are within bounds.
-use Rattle.std.proofs.Common.{[], ◌≡◌, ◌==◌, ℕ, Bool, true, List, refl, sym, subst, arith}
+use Rattle.std.proofs.Common.{◌≡◌, ◌==◌, ℕ, Bool, true, false, List, refl, sym, subst, arith}
 use Rattle.std.specs.List.{list_all}
 use Rattle.std.specs.Prelude.{Contains}
 use Rattle.std.proofs.lemmas.Bool.{cond_both}
 use Rattle.std.proofs.lemmas.List.Elements.{All-contains}
 use Rattle.semantics.specs.Arguments.{IsArgument}
-use Rattle.semantics.specs.Frameworks.{Framework, af}
+use Rattle.semantics.specs.Frameworks.{Framework, af, aba}
 use Rattle.meaning_atoms.specs.declared.atom.Atom.{Atom}
 use Rattle.meaning_atoms.specs.declared.atom.Atom.TheVariants.{Member, Range, Tail, Ask}
 use Rattle.meaning_atoms.specs.Atoms.{IsAtom, IsLit, IsPosition}
 use Rattle.meaning_atoms.specs.Worlds.{IsAsk}
 use Rattle.af_axioms.proofs.Literals.{rows_fit}
+use Rattle.oracle_face.specs.AbaNeeded.{IsNeededOfAba}
 use Rattle.oracle_face.specs.Goals.{IsSide, Tells}
+use Rattle.oracle_face.specs.Logs.{is_loop}
+use Rattle.oracle_face.specs.Needed.{IsNeeded}
+use Rattle.aba_semantics.specs.AbaFrameworks.{Aba}
+use Rattle.meaning_atoms.specs.declared.aba_axiom.AbaAxiom.{AbaAxiom}
+use Rattle.meaning_atoms.specs.declared.aba_axiom.AbaAxiom.TheVariants.{B1, B2, B3, B4, B5, B6, B7, B8, B9, B9Con, B10, B11, B12, B13, B14, B15, B16, B17}
 use Rattle.meaning_atoms.specs.declared.atom.AtomLit.{AtomLit}
 use Rattle.meaning_atoms.specs.declared.axiom.AfAxiom.{AfAxiom}
 use Rattle.meaning_atoms.specs.declared.axiom.AfAxiom.TheVariants.{A1, A2, A3, A4, A5, A6, A7, A8, A9, A10, A11, A12}
@@ -21,6 +27,8 @@ use Rattle.meaning_atoms.specs.declared.axiom.AxiomName.TheVariants.{Af as OfAf,
 use Rattle.meaning_atoms.specs.Literals.{AsksNothing, not_ask}
 use Rattle.meaning_atoms.proofs.Clauses.{asks_nothing}
 use Rattle.af_axioms.specs.Table.{table_clause, notion_clause}
+use Rattle.aba_axioms.specs.AbaTable.{aba_clause}
+use Rattle.aba_axioms.proofs.Bounds.{rows_fit as aba_rows_fit, asks_nothing as aba_asks_nothing}
 use Rattle.certificate_claims.specs.Refutations.{IsAxiomOf, axiom_clause}
 
 abbrev PassesTest : List AtomLit → Type 0
@@ -49,12 +57,27 @@ row_plain (A14 part) = notion_plain part
 
 pub axiom_plain : (name : AxiomName) → AsksNothing (axiom_clause name)
 axiom_plain (OfAf name) = asks_nothing (table_clause name) (row_plain name)
-axiom_plain (OfAba name) = asks_nothing [] refl
+axiom_plain (OfAba name) = λ l c.
+    All-contains (λ (literal : AtomLit). ¬ IsAsk literal.atom) (aba_clause name) l (aba_asks_nothing name) c
 
 pub axiom_within : (f : Framework) (name : AxiomName) → IsAxiomOf f name → (l : AtomLit)
     → Contains (axiom_clause name) l → IsLit l
 axiom_within (af f) (OfAf name) is l c = All-contains IsLit (table_clause name) l (rows_fit name is) c
 axiom_within (af f) (OfAba name) is l c = absurd is
+axiom_within (aba f) (OfAf name) is l c = absurd is
+axiom_within (aba f) (OfAba name) is l c = All-contains IsLit (aba_clause name) l (aba_rows_fit name is) c
+
+-- ---- loop clauses
+
+needed_of_aba : (f : Aba) (name : AbaAxiom) → IsNeededOfAba f name → is_loop (OfAba name) ≡ false
+needed_of_aba f (B17 k x rows) needed = absurd needed
+needed_of_aba f _ needed = refl
+
+-- no axiom that a search needs is a loop clause
+pub needed_no_loop : (f : Framework) (name : AxiomName) → IsNeeded f name → is_loop name ≡ false
+needed_no_loop f (OfAf name) needed = refl
+needed_no_loop (af f) (OfAba name) needed = absurd needed
+needed_no_loop (aba f) (OfAba name) needed = needed_of_aba f name needed
 
 tells_no_ask : (P : ℕ → Type 0) (atom : Atom) (positive : Bool) → Tells P atom positive → IsAsk atom → ⊥
 tells_no_ask P (Ask n) positive tells ask = tells

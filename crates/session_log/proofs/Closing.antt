@@ -1,7 +1,7 @@
 -- In a guarded log a step whose literals are closed reaches no other side clause.
 use Rattle.std.proofs.Common.{◌≡◌, ⊎_elim, ℕ, Bool, not, List}
 use Rattle.std.specs.Prelude.{◌⊎◌, Contains}
-use Rattle.semantics.specs.Frameworks.{Framework, af}
+use Rattle.semantics.specs.Frameworks.{Framework, af, aba}
 use Rattle.meaning_atoms.specs.declared.atom.Atom.TheVariants.{Ask}
 use Rattle.meaning_atoms.specs.declared.atom.AtomLit.{AtomLit}
 use Rattle.meaning_atoms.specs.Literals.{affirmed, denied, negated, AsksNothing}
@@ -13,6 +13,7 @@ use Rattle.session_log.specs.Guards.{IsGuarded}
 
 ask_no_fact : (f : Framework) (n : ℕ) (value : Bool) → IsFactValue f (Ask n) value → ⊥
 ask_no_fact (af f) n value fact = fact.fact
+ask_no_fact (aba f) n value fact = fact.fact
 
 denied_there : (log : OracleLog) (number k n : ℕ) → IsGuarded log → IsNumberOf log.steps number
     → Reaches log.steps number k → (step_at log.steps k).source ≡ by_side n

@@ -1,5 +1,6 @@
 -- What the log shows is right, and stays shown while the log grows.
 use Rattle.std.proofs.Common.{◌≡◌, ℕ, true, List, subst}
+use Rattle.semantics.specs.Framework.{Af}
 use Rattle.semantics.specs.Frameworks.{Framework, af, IsNumbered}
 use Rattle.meaning_atoms.specs.declared.axiom.AxiomName.{AxiomName}
 use Rattle.meaning_atoms.specs.declared.axiom.AxiomName.TheVariants.{Af as OfAf, Aba as OfAba}
@@ -32,16 +33,17 @@ shown_grown f P asked answer sets old new form grows shown = record {
 }
 
 -- no axiom of abstract frameworks is a loop clause
-not_loop : (f : Framework) (name : AxiomName) → IsAxiomOf f name → is_loop name ≡ true → ⊥
-not_loop (af f) (OfAf name) is e = absurd (cc)
-not_loop (af f) (OfAba name) is e = is
+not_loop : (f : Af) (name : AxiomName) → IsAxiomOf (af f) name → is_loop name ≡ true → ⊥
+not_loop f (OfAf name) is e = absurd (cc)
+not_loop f (OfAba name) is e = is
 
-loop_given : (f : Framework) (sides : List SideClause) (before : List LogStep) (clause : List AtomLit) (source : Source)
-    (name : AxiomName) → IsGiven f sides before clause source → source ≡ by_axiom name → is_loop name ≡ true → ⊥
+loop_given : (f : Af) (sides : List SideClause) (before : List LogStep) (clause : List AtomLit) (source : Source)
+    (name : AxiomName) → IsGiven (af f) sides before clause source → source ≡ by_axiom name → is_loop name ≡ true → ⊥
 loop_given f sides before clause source name given is loop =
-    not_loop f name ((subst (λ s. IsGiven f sides before clause s) is given).0) loop
+    not_loop f name ((subst (λ s. IsGiven (af f) sides before clause s) is given).0) loop
 
-pub no_loops : (f : Framework) (old new : OracleLog) → IsLog f new → LoopsServe old new
+-- so a log of one has none, and each serves
+pub no_loops : (f : Af) (old new : OracleLog) → IsLog (af f) new → LoopsServe old new
 no_loops f old new form = record {
   each = λ k name low high is loop. absurd (loop_given f new.sides _ _ _ name (form.each k high) is loop);
 }

@@ -8,13 +8,14 @@ use Rattle.plain_lists.proofs.Counts.{count_by-cons}
 use Rattle.plain_lists.proofs.Membership.{Contains-cons_cases}
 use Rattle.plain_lits.specs.Units.{Units}
 use Rattle.semantics.specs.Arguments.{IsArgument}
-use Rattle.semantics.specs.Frameworks.{Framework, af}
+use Rattle.semantics.specs.Frameworks.{Framework, af, aba}
 use Rattle.meaning_atoms.specs.declared.atom.Atom.{Atom}
 use Rattle.meaning_atoms.specs.declared.atom.Atom.TheVariants.{Member, Range, Tail, Ask}
 use Rattle.meaning_atoms.specs.declared.atom.AtomLit.{AtomLit}
 use Rattle.meaning_atoms.specs.declared.axiom.AxiomName.{AxiomName}
 use Rattle.meaning_atoms.specs.Literals.{denied}
 use Rattle.meaning_atoms.specs.Worlds.{IsFact}
+use Rattle.certificate_claims.specs.Refutations.{axiom_clause}
 use Rattle.oracle_face.specs.declared.entry.EntryName.{EntryName}
 use Rattle.oracle_face.specs.Goals.{IsSide, Tells}
 use Rattle.oracle_face.specs.Growing.{Works}
@@ -103,6 +104,31 @@ axiom_spends f name clause old new no_loop takes =
     spends_by f (own_step clause (by_axiom name)) old.sides old new takes.gains
     (λ unit. absurd (not_work (is_loop name) no_loop unit)) 0 0 (no_unit (is_loop name) no_loop) refl
 
+is_work_of : (b : Bool) → b ≡ true → one_if (b && true) ≡ 1
+is_work_of true e = refl
+is_work_of false e = absurd (false≢true e)
+
+new_same : (list : List (List AtomLit)) (clause other : List AtomLit) → IsSameClause clause other → IsNew list other
+    → IsNew list clause
+new_same list clause other same fresh = record {
+  plain = λ t. fresh.plain (t.0, same.there t.0 t.1, same.there _ t.2);
+  no_part = λ part. fresh.no_part (record {
+    part = part.part;
+    listed = part.listed;
+    inside = λ l c. same.there l (part.inside l c);
+  });
+}
+
+pub loop_spends : (f : Framework) (name : AxiomName) (clause : List AtomLit) (old new : OracleLog)
+    → is_loop name ≡ true → IsNew (working old.steps) (axiom_clause name) → FactsAreFalse f (axiom_clause name)
+    → TakesAxiom name clause old new → Spends f old new 1 0
+loop_spends f name clause old new loop fresh facts takes =
+    spends_by f (own_step clause (by_axiom name)) old.sides old new takes.gains
+    (λ unit. record {
+      fresh = new_same (working old.steps) clause (axiom_clause name) takes.same fresh;
+      facts = record { false_there = λ l c fact. facts.false_there l (takes.same.there l c) fact };
+    }) 1 0 (is_work_of (is_loop name) loop) refl
+
 -- ---- derived clauses
 
 pub learned_spends : (f : Framework) (clause : List AtomLit) (hints : List ℕ) (old new : OracleLog)
@@ -132,25 +158,19 @@ imported_spends f clause hints name old new derives =
 
 -- ---- side clauses
 
-new_same : (list : List (List AtomLit)) (clause other : List AtomLit) → IsSameClause clause other → IsNew list other
-    → IsNew list clause
-new_same list clause other same fresh = record {
-  plain = λ t. fresh.plain (t.0, same.there t.0 t.1, same.there _ t.2);
-  no_part = λ part. fresh.no_part (record {
-    part = part.part;
-    listed = part.listed;
-    inside = λ l c. same.there l (part.inside l c);
-  });
-}
-
 tells_no_fact : (f : Framework) (atom : Atom) (positive : Bool) → Tells IsArgument atom positive → IsFact f atom → ⊥
 tells_no_fact (af f) (Member a) positive tells fact = fact
 tells_no_fact (af f) (Range a) true tells fact = fact
 tells_no_fact (af f) (Tail a i) true tells fact = fact
 tells_no_fact (af f) _ positive tells fact = absurd tells
+tells_no_fact (aba f) (Member a) positive tells fact = fact
+tells_no_fact (aba f) (Range a) true tells fact = fact
+tells_no_fact (aba f) (Tail a i) true tells fact = fact
+tells_no_fact (aba f) _ positive tells fact = absurd tells
 
 ask_no_fact : (f : Framework) (n : ℕ) → IsFact f (Ask n) → ⊥
 ask_no_fact (af f) n fact = fact
+ask_no_fact (aba f) n fact = fact
 
 side_no_facts : (f : Framework) (n : ℕ) (side clause : List AtomLit) → IsSide side
     → IsSameClause clause (guarded n side) → FactsAreFalse f clause

@@ -8,12 +8,13 @@ use Rattle.af_axioms.specs.Facts.{IsFactValue}
 use Rattle.iccma_tasks.specs.declared.answer.Answer.{Answer}
 use Rattle.iccma_tasks.specs.Tasks.{Asked}
 use Rattle.certificate_claims.specs.Rights.{IsRight}
-use Rattle.certificate_claims.specs.Refutations.{Claim, IsAxiomOf}
+use Rattle.certificate_claims.specs.Refutations.{Claim, IsAxiomOf, axiom_clause}
 use Rattle.oracle_face.specs.declared.entry.EntryName.{EntryName}
 use Rattle.oracle_face.specs.Goals.{IsSide, RefutesGoals, DeniesSide, Refutes}
 use Rattle.oracle_face.specs.Growing.{NoSide, OnlySide}
 use Rattle.oracle_face.specs.Logs.{OracleLog, FactsAreFalse, IsLog, IsNew, IsNumberOf, Reaches, guarded, is_loop}
 use Rattle.oracle_face.specs.Logs.{step_at, working}
+use Rattle.oracle_face.specs.Needed.{IsNeeded}
 use Rattle.session_log.specs.Ends.{IsShownBy}
 use Rattle.session_log.specs.Guards.{IsGuarded}
 use Rattle.session_log.specs.Truth.{IsTrueOfWorlds, MayBeShared}
@@ -44,6 +45,16 @@ DerivedStay = (f : Framework) (clause : List AtomLit) (hints : List ℕ) (import
 abbrev pub AxiomsSpendNothing : Type 0
 AxiomsSpendNothing = (f : Framework) (name : AxiomName) (clause : List AtomLit) (old new : OracleLog)
     → is_loop name ≡ false → TakesAxiom name clause old new → Spends f old new 0 0
+
+-- no axiom that a search needs is a loop clause
+abbrev pub NeededNoLoop : Type 0
+NeededNoLoop = (f : Framework) (name : AxiomName) → IsNeeded f name → is_loop name ≡ false
+
+-- a loop clause that is new, and says no fact but a false one, spends a unit
+abbrev pub LoopsSpendOne : Type 0
+LoopsSpendOne = (f : Framework) (name : AxiomName) (clause : List AtomLit) (old new : OracleLog)
+    → is_loop name ≡ true → IsNew (working old.steps) (axiom_clause name) → FactsAreFalse f (axiom_clause name)
+    → TakesAxiom name clause old new → Spends f old new 1 0
 
 -- a side clause spends a unit
 abbrev pub SidesSpendOne : Type 0

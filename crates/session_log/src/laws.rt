@@ -2,8 +2,9 @@
 
 ghost use Rattle.session_log.specs.Laws.{AxiomsSpendNothing, AxiomsStay, ClosedRefutesClaim, ClosedRefutesGoals};
 ghost use Rattle.session_log.specs.Laws.{ClosingSpendsNone, DerivedStay, ImportedSpendNothing, LearnedSpendOne};
-ghost use Rattle.session_log.specs.Laws.{OpenedGuarded, PlainStepsMayBeShared, ReachedAreUsed, ShownAnswersAreRight};
-ghost use Rattle.session_log.specs.Laws.{SidesAreNew, SidesSpendOne, SidesStay, StepsAreTrue};
+ghost use Rattle.session_log.specs.Laws.{LoopsSpendOne, NeededNoLoop, OpenedGuarded, PlainStepsMayBeShared};
+ghost use Rattle.session_log.specs.Laws.{ReachedAreUsed, ShownAnswersAreRight, SidesAreNew, SidesSpendOne, SidesStay};
+ghost use Rattle.session_log.specs.Laws.{StepsAreTrue};
 
 /// A log with no step and no side clause is a guarded one.
 pub fn opened_logs_are_guarded()
@@ -28,6 +29,16 @@ pub fn derived_steps_keep_the_guards()
 /// An axiom that isn't a loop clause spends nothing.
 pub fn axioms_spend_nothing()
     ensures { AxiomsSpendNothing }
+{}
+
+/// No axiom that a search needs is a loop clause, so that entering these spends nothing.
+pub fn needed_axioms_are_no_loops()
+    ensures { NeededNoLoop }
+{}
+
+/// A loop clause that is new spends a unit.
+pub fn loops_spend_one()
+    ensures { LoopsSpendOne }
 {}
 
 /// A side clause spends a unit.

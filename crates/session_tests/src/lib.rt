@@ -6,6 +6,10 @@ mod hubs;
 #[cfg(test)]
 mod pools;
 #[cfg(test)]
+mod replies;
+#[cfg(test)]
 mod scripts;
+#[cfg(test)]
+mod sessions;
 #[cfg(test)]
 mod turns;

@@ -1,7 +1,7 @@
 //! Entries come and go through a pool and through the trades.
 
 use clause_pool::{Pool, PoolTrade};
-use meaning_atoms::AfAxiom;
+use meaning_atoms::{AfAxiom, AxiomName};
 use oracle_face::{ClauseTrade, Entry, EntryName, NoTrade};
 use plain_lits::StepId;
 use std::test::Fail;
@@ -14,7 +14,7 @@ fn shared_and_found(rt: HostRuntime) -> Result<(), Fail> {
         session: 1,
         step: StepId::new(3),
     };
-    let entry = Entry::of_axiom(alloc, AfAxiom::A6(1, 1), name)?;
+    let entry = Entry::of_axiom(alloc, AxiomName::Af(AfAxiom::A6(1, 1)), name)?;
     let copy = entry.copy(alloc)?;
     let token = pool.share(&rt, entry).ok().ok_or("share")?;
     assert_eq!(rt; *pool.fetch(&token), copy);
@@ -34,7 +34,7 @@ fn traded(rt: HostRuntime) -> Result<(), Fail> {
     };
     let mut trade = PoolTrade::new(&rt, alloc, &pool, 0);
     assert!(rt; trade.take()?.is_none());
-    let entry = Entry::of_axiom(alloc, AfAxiom::A1(7), name)?;
+    let entry = Entry::of_axiom(alloc, AxiomName::Af(AfAxiom::A1(7)), name)?;
     assert_eq!(rt; trade.offer(entry).ok(), Some(true));
     assert_eq!(rt; trade.next(), 0);
     let taken = trade.take()?.ok_or("take")?;

@@ -9,6 +9,7 @@ use Rattle.plain_lists.proofs.Counts.{count_by-cons, count_yes, count_no}
 use Rattle.plain_lits.specs.declared.halt.Halt.{Halt}
 use Rattle.plain_lits.specs.declared.halt.Halt.TheVariants.{Spent, Memory}
 use Rattle.plain_lits.specs.Units.{Units}
+use Rattle.semantics.specs.Framework.{Af}
 use Rattle.semantics.specs.Frameworks.{Framework, af}
 use Rattle.semantics.specs.Arguments.{IsArgument}
 use Rattle.meaning_atoms.specs.declared.atom.Atom.{Atom}
@@ -272,24 +273,25 @@ left_by P most f old new step u v e run kept = record {
 same_clause : (clause : List AtomLit) → IsSameClause clause clause
 same_clause clause = record { there = λ l c. c; back = λ l c. c }
 
-axiom_free : (f : Framework) (name : AxiomName) (clause : List AtomLit) → IsAxiomOf f name
+-- no axiom of an abstract framework is a unit
+axiom_free : (f : Af) (name : AxiomName) (clause : List AtomLit) → IsAxiomOf (af f) name
     → is_unit (record { clause = clause; source = by_axiom name; imported = None; closing = false }) ≡ false
-axiom_free (af f) (OfAf name) clause is = refl
-axiom_free (af f) (OfAba name) clause is = absurd is
+axiom_free f (OfAf name) clause is = refl
+axiom_free f (OfAba name) clause is = absurd is
 
 -- an axiom was added
-pub axiom_added : (f : Framework) (old new : Book) (name : AxiomName) (u : Units) → IsKept f (log_of old)
-    → IsAxiomOf f name → length old.steps.items < old.limit
+pub axiom_added : (f : Af) (old new : Book) (name : AxiomName) (u : Units) → IsKept (af f) (log_of old)
+    → IsAxiomOf (af f) name → length old.steps.items < old.limit
     → log_of new ≡ with_step (log_of old)
     (record { clause = axiom_clause name; source = by_axiom name; imported = None; closing = false })
-    → Runs NoSide 0 f old new u u None
+    → Runs NoSide 0 (af f) old new u u None
 axiom_added f old new name u kept is room e =
     let step : LogStep =
     record { clause = axiom_clause name; source = by_axiom name; imported = None; closing = false } in
-    left_by NoSide 0 f old new step u u e
-    (run_free NoSide 0 f (log_of old) step new.pending u (axiom_free f name (axiom_clause name) is)
+    left_by NoSide 0 (af f) old new step u u e
+    (run_free NoSide 0 (af f) (log_of old) step new.pending u (axiom_free f name (axiom_clause name) is)
     (λ t. absurd (false≢true t)))
-    (step_kept f (log_of old) step kept (is, same_clause (axiom_clause name)) room)
+    (step_kept (af f) (log_of old) step kept (is, same_clause (axiom_clause name)) room)
 
 -- a clause was learned
 pub learned : (f : Framework) (old new : Book) (clause : List AtomLit) (hints : List ℕ) (u v : Units)

@@ -1,5 +1,6 @@
 use Rattle.std.proofs.Common.{◌≡◌, map, drop}
-use Rattle.aba_edits.specs.AbaEdits.{beyond, done_unless}
+use Rattle.edit_words.specs.Refusals.{done_unless}
+use Rattle.aba_edits.specs.AbaEdits.{beyond}
 use Rattle.aba_edits.proofs.checks.check_atoms.Given as goal
 
 -- what the tests of all numbers come to is what those of the numbers that are left come to

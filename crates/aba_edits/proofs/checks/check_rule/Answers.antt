@@ -2,12 +2,12 @@ use Rattle.std.proofs.Common.{◌≡◌, ◌∙◌, ap, sym, [], ◌∷◌, map,
 use Rattle.std.specs.Prelude.{nat_lt}
 use Rattle.std.proofs.lemmas.Bool.{lt-ltb, ltb-true}
 use Rattle.aba_semantics.specs.declared.numbers.TheConstants.{LAST_RULE}
-use Rattle.edit_rules.specs.declared.effect.EditFault.TheVariants.{NotFlat, OutOfRange}
-use Rattle.edit_rules.specs.Edits.{has_number, refused_if}
-use Rattle.edit_rules.proofs.EditTests.{is_false}
-use Rattle.edit_rules.proofs.RowOutcomes.{handed_on}
-use Rattle.aba_edits.specs.AbaEdits.{beyond, done_unless, rule_added}
-use Rattle.aba_edits.proofs.Refusals.{passed, passed_all, stopped, stopped_early}
+use Rattle.edit_words.specs.declared.effect.EditFault.TheVariants.{NotFlat, OutOfRange}
+use Rattle.edit_words.specs.Numbers.{has_number}
+use Rattle.edit_words.specs.Refusals.{refused_if, done_unless}
+use Rattle.edit_words.proofs.EditTests.{is_false}
+use Rattle.edit_words.proofs.RefusalLemmas.{handed_on, passed, passed_all, stopped, stopped_early}
+use Rattle.aba_edits.specs.AbaEdits.{beyond, rule_added}
 use Rattle.aba_edits.proofs.checks.check_rule.Goals as goal
 
 pub returns-in_err-check_numbers : goal.returns-in_err-check_numbers

@@ -1,6 +1,6 @@
 use Rattle.std.proofs.Common.{subst, Contains}
 use Rattle.std.specs.Prelude.{◌≡◌, ◌↔◌, true}
-use Rattle.edit_rules.specs.Edits.{has_number}
+use Rattle.edit_words.specs.Numbers.{has_number}
 use Rattle.aba_edits.proofs.TestLemmas.{has_number_tells, same_test}
 use Rattle.aba_edits.proofs.checks.is_assumption.Goals as goal
 

@@ -3,7 +3,7 @@ use Rattle.std.specs.Prelude.{◌≡◌, ◌↔◌, true}
 use Rattle.std.specs.List.Sorted.{IsStrictlyIncreasing}
 use Rattle.std.proofs.lemmas.List.Sorted.{searched}
 use Rattle.set_lists.proofs.Rising.{rises_along, found}
-use Rattle.edit_rules.specs.Edits.{has_number}
+use Rattle.edit_words.specs.Numbers.{has_number}
 use Rattle.aba_edits.specs.AbaEdits.{numbers_of}
 use Rattle.aba_edits.proofs.TestLemmas.{has_number_tells, same_test}
 use Rattle.aba_edits.proofs.checks.is_rule.Goals as goal

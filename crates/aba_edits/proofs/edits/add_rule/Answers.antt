@@ -1,9 +1,8 @@
 use Rattle.std.proofs.Common.{◌∙◌, ap, sym, inr, Ok}
-use Rattle.edit_rules.specs.declared.edit.Edit.TheVariants.{RuleAdd}
-use Rattle.edit_rules.proofs.RowOutcomes.{handed_on}
+use Rattle.edit_words.specs.declared.edit.Edit.TheVariants.{RuleAdd}
+use Rattle.edit_words.proofs.RefusalLemmas.{handed_on, none_stands, told}
 use Rattle.aba_edits.specs.AbaEdits.{aba_row_outcome, rule_added, rule_effect}
 use Rattle.aba_edits.specs.Parts.{ComesTo}
-use Rattle.aba_edits.proofs.Refusals.{none_stands, told}
 use Rattle.aba_edits.proofs.edits.add_rule.Goals as goal
 
 pub returns-in_err-check_rule : goal.returns-in_err-check_rule

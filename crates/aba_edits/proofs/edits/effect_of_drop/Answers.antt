@@ -1,6 +1,6 @@
 use Rattle.std.proofs.Common.{arith, ap, sym, ◌∙◌}
 use Rattle.aba_semantics.specs.Rules.{Rule}
-use Rattle.edit_rules.specs.declared.edit.Edit.TheVariants.{RuleDrop}
+use Rattle.edit_words.specs.declared.edit.Edit.TheVariants.{RuleDrop}
 use Rattle.aba_edits.specs.AbaEdits.{rule_numbered}
 use Rattle.aba_edits.proofs.MadeFrameworks.{few_rules}
 use Rattle.aba_edits.proofs.RuleLists.{drop_effect_is, head_at, numbered_at}

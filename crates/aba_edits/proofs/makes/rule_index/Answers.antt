@@ -5,7 +5,7 @@ use Rattle.std.proofs.lemmas.List.Sorted.{searched}
 use Rattle.std.proofs.lemmas.List.{length-map}
 use Rattle.aba_semantics.specs.Rules.{Rule}
 use Rattle.set_lists.proofs.Rising.{rises_along, found}
-use Rattle.edit_rules.proofs.EditTests.{number_there}
+use Rattle.edit_words.proofs.EditTests.{number_there}
 use Rattle.aba_edits.proofs.RuleLists.{number_at}
 use Rattle.aba_edits.proofs.makes.rule_index.Goals as goal
 

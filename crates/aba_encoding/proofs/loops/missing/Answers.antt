@@ -1,14 +1,15 @@
 use Rattle.std.proofs.Common.{ℕ, List}
 use Rattle.std.specs.Prelude.{Contains}
 use Rattle.plain_lists.specs.Members.{IsSetOf}
+use Rattle.semantics.specs.Frameworks.{aba}
 use Rattle.aba_semantics.specs.AbaFrameworks.{IsAtom}
 use Rattle.aba_semantics.specs.Rules.{Derives}
 use Rattle.af_encoding.specs.Decoded.{Affirms}
 use Rattle.meaning_atoms.specs.declared.atom.Atom.TheVariants.{Asm, Der}
 use Rattle.meaning_atoms.specs.declared.atom.Closure.{Closure}
 use Rattle.meaning_atoms.specs.declared.atom.Closure.TheVariants.{Own, Rest}
-use Rattle.oracle_face.specs.Decoding.{IsDecoded}
-use Rattle.aba_encoding.specs.AbaModels.{IsFalseUnder, IsFounded, IsLoopBeside, IsLoopName, IsModelOfMembers}
+use Rattle.oracle_face.specs.Decoding.{IsDecoded, IsNewLoop}
+use Rattle.aba_encoding.specs.AbaModels.{IsFounded, IsLoopBeside, IsLoopName}
 use Rattle.aba_encoding.proofs.LoopLemmas.{
   all_founded,
   found_there,
@@ -16,9 +17,9 @@ use Rattle.aba_encoding.proofs.LoopLemmas.{
   loop_is,
   none_else,
   none_there,
-  own_loop_false,
+  own_loop_new,
   own_unfounded,
-  rest_loop_false,
+  rest_loop_new,
   rest_unfounded,
 }
 use Rattle.aba_encoding.proofs.ModelReadings.{model_reads_back}
@@ -32,11 +33,12 @@ returns-in-Some-clause-loops c =
     (found_there (IsLoopBeside f values c.in_ok-own.own Own) c.in_ok-name.field-0 c.in-Some.name c.in-Some.is
     c.in_ok-name.ensures.some)
 
-pub returns-in-Some-clause-false_there : goal.returns-in-Some-clause-false_there
-returns-in-Some-clause-false_there c =
+pub returns-in-Some-clause-lacks : goal.returns-in-Some-clause-lacks
+returns-in-Some-clause-lacks c =
     let f = c.args.plain.now in
     let values = c.args.values.now in
-    λ whole. own_loop_false f values c.in_ok-own.own c.loop_beside.ensures.form c.in_ok-own.ensures whole c.in-Some.name
+    λ model tells. own_loop_new f values c.in_ok-own.own c.loop_beside.ensures.form c.in_ok-own.ensures model tells
+    c.in-Some.name
     (found_there (IsLoopBeside f values c.in_ok-own.own Own) c.in_ok-name.field-0 c.in-Some.name c.in-Some.is
     c.in_ok-name.ensures.some)
 
@@ -66,14 +68,14 @@ returns-clause-loops c =
     found_weaker (IsLoopBeside f values c.in_ok-rest.rest Rest) IsLoopName c.in_ok-found.found
     (λ name h. loop_is f values c.in_ok-rest.rest Rest name c.loop_beside.ensures.form h) c.in_ok-found.ensures.some
 
-pub returns-clause-false_there : goal.returns-clause-false_there
-returns-clause-false_there c =
+pub returns-clause-lacks : goal.returns-clause-lacks
+returns-clause-lacks c =
     let f = c.args.plain.now in
     let values = c.args.values.now in
-    found_weaker (IsLoopBeside f values c.in_ok-rest.rest Rest)
-    (λ name. IsModelOfMembers f values → IsFalseUnder values name) c.in_ok-found.found
-    (λ name h whole. rest_loop_false f values c.in_ok-own.own c.loop_beside.ensures.form c.in_ok-own.ensures
-    whole.model c.in_ok-rest.rest c.in_ok-rest.ensures name h)
+    λ model tells.
+    found_weaker (IsLoopBeside f values c.in_ok-rest.rest Rest) (IsNewLoop (aba f) values) c.in_ok-found.found
+    (λ name h. rest_loop_new f values c.in_ok-own.own c.loop_beside.ensures.form c.in_ok-own.ensures model
+    c.in_ok-rest.rest c.in_ok-rest.ensures name h)
     c.in_ok-found.ensures.some
 
 pub returns-clause-founded : goal.returns-clause-founded

@@ -3,7 +3,7 @@ use Rattle.std.specs.String.{string_bytes}
 use Rattle.argue_words.specs.Words.{requested}
 use Rattle.argue_program.specs.Inputs.{reading}
 use Rattle.argue_program.specs.Rows.{row_of}
-use Rattle.argue_program.proofs.RowsLemmas.{CountsReads-none, EndsCommand-memory, IsEndingOf-stopped, takes_memory}
+use Rattle.argue_program.proofs.RowsLemmas.{CountsReads-none, EndsCommand-memory, IsEndingOf-stopped, takes_memory, wants_no_threads}
 use Rattle.argue_program.proofs.decision.decide.Goals as goal
 
 pub returns-in-Err-clause-ending : goal.returns-in-Err-clause-ending
@@ -16,3 +16,7 @@ returns-in-Err-clause-ending g c =
     IsEndingOf-stopped found row c.stopped.result _ (EndsCommand-memory found row takes) takes
     c.stopped.ensures.status c.stopped.ensures.kept c.stopped.ensures.text c.stopped.ensures.files
     (CountsReads-none found row _ refl)
+
+pub decide_command-requires : goal.decide_command-requires
+decide_command-requires g c =
+    wants_no_threads (map string_bytes c.args.words.now) c.in-Ok.command c.requires c.in-Ok.ensures.request

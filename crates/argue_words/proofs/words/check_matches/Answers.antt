@@ -1,4 +1,4 @@
-use Rattle.argue_words.proofs.SolveLaws.{check_refused_at, check_taken_at, check_values_at}
+use Rattle.argue_words.proofs.SolveLaws.{check_taken_at, check_values_at, refused_of}
 use Rattle.argue_words.proofs.words.check_matches.Goals as goal
 
 pub returns-clause-taken : goal.returns-clause-taken
@@ -8,4 +8,4 @@ pub returns-clause-values : goal.returns-clause-values
 returns-clause-values c = check_values_at _ _ _ c.in_ok-command.ensures c.try_get_matches_from.ensures.matches
 
 pub returns-clause-refused : goal.returns-clause-refused
-returns-clause-refused c = check_refused_at _ _ _ _ c.in_ok-command.ensures c.try_get_matches_from.ensures.passes
+returns-clause-refused c = refused_of _ _ _ _ _ c.in_ok-command.ensures c.try_get_matches_from.ensures.passes

@@ -1,4 +1,4 @@
-use Rattle.argue_words.proofs.SolveLaws.{given_at, refused_at, taken_at, values_at}
+use Rattle.argue_words.proofs.SolveLaws.{given_at, refused_of, taken_at, values_at}
 use Rattle.argue_words.proofs.words.solve_matches.Goals as goal
 
 pub returns-clause-taken : goal.returns-clause-taken
@@ -11,4 +11,4 @@ pub returns-clause-given : goal.returns-clause-given
 returns-clause-given c = given_at _ _ c.in_ok-command.ensures c.try_get_matches_from.ensures.parsed
 
 pub returns-clause-refused : goal.returns-clause-refused
-returns-clause-refused c = refused_at _ _ _ _ c.in_ok-command.ensures c.try_get_matches_from.ensures.passes
+returns-clause-refused c = refused_of _ _ _ _ _ c.in_ok-command.ensures c.try_get_matches_from.ensures.passes

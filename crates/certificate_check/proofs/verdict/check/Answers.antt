@@ -3,18 +3,21 @@ use Rattle.edit_rules.specs.Kinds.{framework_of}
 use Rattle.certificate_claims.specs.Verdicts.{IsVerdict}
 use Rattle.certificate_laws.proofs.Right.{accepted_right}
 use Rattle.certificate_laws.proofs.Verdicts.{accepted_is_verdict}
-use Rattle.certificate_check.proofs.RowLemmas.{row_known}
+use Rattle.certificate_check.proofs.RowLemmas.{answer_known, answer_of_kind}
 use Rattle.certificate_check.proofs.SectionLemmas.{verdict_from}
 use Rattle.certificate_check.proofs.verdict.check.Goals as goal
 
 pub check_row-requires-clause-sets : goal.check_row-requires-clause-sets
-check_row-requires-clause-sets c = rw (c.in_ok-row.ensures, c.as_slice.ensures, c.in_ok-shown.ensures) (row_known
-    (framework_of c.args.framework.now) c.args.query.now.task.problem c.args.query.now.task.semantics
-    c.args.query.now.number c.args.answer.now).1
+check_row-requires-clause-sets c = rw (c.in_ok-row.ensures, c.as_slice.ensures, c.in_ok-shown.ensures)
+    (answer_known (framework_of c.args.framework.now) c.args.query.now c.args.answer.now).1
 
 pub check_row-requires-clause-tested : goal.check_row-requires-clause-tested
-check_row-requires-clause-tested c = rw c.in_ok-row.ensures (row_known (framework_of c.args.framework.now)
-    c.args.query.now.task.problem c.args.query.now.task.semantics c.args.query.now.number c.args.answer.now).0
+check_row-requires-clause-tested c = rw c.in_ok-row.ensures
+    (answer_known (framework_of c.args.framework.now) c.args.query.now c.args.answer.now).0
+
+pub check_row-requires-clause-kind : goal.check_row-requires-clause-kind
+check_row-requires-clause-kind c = rw c.in_ok-row.ensures
+    (answer_of_kind (framework_of c.args.framework.now) c.args.query.now c.args.answer.now)
 
 pub returns : goal.returns
 returns c =

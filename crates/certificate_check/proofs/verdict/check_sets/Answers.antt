@@ -6,10 +6,11 @@ pub returns-in-Some : goal.returns-in-Some
 returns-in-Some c =
     set_failed (framework_of c.args.framework.now) c.args.query.now c.args.row.now c.args.shown.now
     c.args.certificate.now
-    c.as_slice.result.now c.in-Some.index c.as_slice.ensures c.in-Some.ensures
+    c.as_slice.result.now c.in_ok-bad.bad c.in-Some.index c.as_slice.ensures c.in-Some.is c.in_ok-bad.ensures
 
 pub returns : goal.returns
 returns c =
     sets_passed (framework_of c.args.framework.now) c.args.query.now c.args.row.now c.args.shown.now
     c.args.certificate.now
-    c.as_slice.result.now c.in_ok-verdict.verdict c.as_slice.ensures c.in_default.ensures c.in_ok-verdict.ensures
+    c.as_slice.result.now c.in_ok-bad.bad c.in_ok-verdict.verdict c.as_slice.ensures c.in_default.is
+    c.in_ok-bad.ensures c.in_ok-verdict.ensures

@@ -5,7 +5,7 @@ use Rattle.certificate_check.proofs.verdict.check_witnesses.Goals as goal
 
 pub check_order-requires : goal.check_order-requires
 check_order-requires c = tested_sets (framework_of c.args.framework.now) c.args.query.now c.args.row.now
-    c.args.shown.now c.requires.sets (rw c.in_default.is at c.in_ok-bad.ensures)
+    c.args.shown.now c.requires.sets c.requires.kind (rw c.in_default.is at c.in_ok-bad.ensures)
 
 pub returns-in-Some : goal.returns-in-Some
 returns-in-Some c =

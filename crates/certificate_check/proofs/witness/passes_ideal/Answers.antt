@@ -6,4 +6,4 @@ pub returns : goal.returns
 returns c =
     later_set (framework_of c.args.framework.now) c.args.query.now c.args.shown.now c.args.says c.args.index
     c.args.set.now _
-    c.if-index-eq0.false c.is_admissible.ensures
+    c.if-index-eq0.false c.in_ok-admissible.ensures

@@ -1,10 +1,13 @@
 use Rattle.std.proofs.Common.{◌∙◌, sym, ap, refl, inr, [], ◌∷◌, not}
 use Rattle.semantics.specs.Frameworks.{af}
-use Rattle.edit_rules.specs.Edits.{attack_dropped, end_refusals, has_pair, refused_if, row_outcome}
+use Rattle.edit_words.specs.Refusals.{refused_if}
+use Rattle.edit_rules.specs.Edits.{attack_dropped, end_refusals, has_pair, row_outcome}
 use Rattle.edit_rules.specs.Applying.{ComesTo}
-use Rattle.edit_rules.specs.declared.effect.EditFault.TheVariants.{NoSuchAttack}
-use Rattle.edit_rules.proofs.EditTests.{there_pair, pair_there, is_false}
-use Rattle.edit_rules.proofs.RowOutcomes.{done_behind, handed_on, not_so, refused_behind}
+use Rattle.edit_words.specs.declared.effect.EditFault.TheVariants.{NoSuchAttack}
+use Rattle.edit_words.proofs.EditTests.{is_false, not_so}
+use Rattle.edit_rules.proofs.EditTests.{there_pair, pair_there}
+use Rattle.edit_words.proofs.RefusalLemmas.{handed_on}
+use Rattle.edit_rules.proofs.RowOutcomes.{done_behind, refused_behind}
 use Rattle.edit_rules.proofs.edits.drop_attack.Goals as goal
 
 pub returns-in_err-check_ends : goal.returns-in_err-check_ends

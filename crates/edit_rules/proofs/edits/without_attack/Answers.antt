@@ -1,7 +1,8 @@
 use Rattle.std.proofs.Common.{◌∙◌, ap, not, ◌==◌, ◌&&◌, filter}
 use Rattle.edit_rules.specs.Edits.{af_without_attack}
 use Rattle.edit_rules.proofs.RowForms.{without_attack_form}
-use Rattle.edit_rules.proofs.SameFrameworks.{are_arguments, are_between, equal_members, made}
+use Rattle.edit_words.proofs.NumberLists.{equal_members}
+use Rattle.edit_rules.proofs.SameFrameworks.{are_arguments, are_between, made}
 use Rattle.edit_rules.proofs.edits.without_attack.Goals as goal
 
 pub new-requires-clause-arguments : goal.new-requires-clause-arguments

@@ -1,6 +1,7 @@
 use Rattle.std.proofs.Common.{◌∙◌}
 use Rattle.edit_rules.proofs.framework.copy_af.Goals as goal
-use Rattle.edit_rules.proofs.SameFrameworks.{are_arguments, are_between, equal_members, made}
+use Rattle.edit_words.proofs.NumberLists.{equal_members}
+use Rattle.edit_rules.proofs.SameFrameworks.{are_arguments, are_between, made}
 
 -- src/framework.rt:60:5
 pub new-requires-clause-arguments : goal.new-requires-clause-arguments

@@ -1,6 +1,6 @@
 use Rattle.std.proofs.Common.{◌≡◌, ◌+◌, get_or, take, sym, subst}
-use Rattle.std.proofs.lemmas.List.{get_or_default}
 use Rattle.clause_imports.specs.Imports.{StandForSteps}
+use Rattle.entry_taking.specs.Taking.{IsFound}
 use Rattle.entry_taking.proofs.Finding.{stand_more}
 use Rattle.entry_taking.proofs.taking.steps_of.Goals as goal
 
@@ -10,7 +10,8 @@ loop-hint-preserved c =
     let i = c.loop-hint.hint-index in
     let name = c.hint-item.result in
     let at : get_or c.args.hints.now i name ≡ name = sym c.hint-item.is in
+    let found = subst (IsFound c.args.own steps name) c.in-Some.is c.in_ok-step.ensures in
     subst (λ hints. StandForSteps c.args.own steps (take (i + 1) c.args.hints.now)
     hints) (sym c.in_ok-push.ensures.ok)
     (stand_more c.args.own steps c.args.hints.now c.loop-hint.steps i name c.in-Some.step c.loop-hint-test.true at
-    c.loop-hint.invariant c.in-Some.ensures.some)
+    c.loop-hint.invariant found)

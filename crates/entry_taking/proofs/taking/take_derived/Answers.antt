@@ -5,12 +5,12 @@ use Rattle.entry_taking.proofs.Joining.{import_came, import_went}
 use Rattle.entry_taking.proofs.taking.take_derived.Goals as goal
 
 pub returns-clause-goes : goal.returns-clause-goes
-returns-clause-goes c =
+returns-clause-goes c = λ assumption_based.
     let old = c.args.solver.now in
     let entry = c.args.entry.now in
     import_went c.args.own entry c.args.hints.now c.requires.origin c.in-Some.steps old c.import.new.self
     (subst (AreFound c.args.own old.log.steps c.args.hints.now) c.in-Some.is c.in_ok-steps.ensures)
-    c.in_ok-import.field-0 c.requires.shareable
+    assumption_based c.in_ok-import.field-0 c.requires.shareable
     (subst (λ literals. IsImported literals c.in-Some.steps entry.name old c.import.new.self c.in_ok-import.field-0)
     c.as_slice.ensures c.in_ok-import.ensures.imported)
 

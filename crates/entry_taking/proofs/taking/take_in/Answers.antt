@@ -5,8 +5,9 @@ use Rattle.entry_taking.proofs.taking.take_in.Goals as goal
 
 pub returns-in-Axiom-clause-comes : goal.returns-in-Axiom-clause-comes
 returns-in-Axiom-clause-comes c =
-    axiom_entry_came c.take_named.result c.args.own c.args.entry.now c.in-Axiom.name c.as_slice.result.now
-    c.args.solver.now.log c.take_named.new.solver.log c.in-Axiom.is c.as_slice.ensures c.take_named.ensures.comes
+    axiom_entry_came c.take_named.result c.args.assumption_based c.args.own c.args.entry.now c.in-Axiom.name
+    c.as_slice-clause.result.now c.args.solver.now.log c.take_named.new.solver.log c.in-Axiom.is c.as_slice-clause.ensures
+    c.take_named.ensures.comes
 
 pub returns-in-Axiom-clause-named : goal.returns-in-Axiom-clause-named
 returns-in-Axiom-clause-named c =
@@ -16,10 +17,13 @@ returns-in-Axiom-clause-named c =
 pub returns-in-Hints-clause-named : goal.returns-in-Hints-clause-named
 returns-in-Hints-clause-named c =
     named_grown NoSide c.look.new.self c.args.solver.now.log c.take_derived.new.solver.log
-    c.take_derived.ensures.goes.grows c.in_ok-look.ensures.named
+    (c.take_derived.ensures.goes c.args.assumption_based).grows c.in_ok-look.ensures.named
+
+pub returns-in-Hints-clause-goes : goal.returns-in-Hints-clause-goes
+returns-in-Hints-clause-goes c = c.take_derived.ensures.goes c.args.assumption_based
 
 pub returns-in-Hints-clause-comes : goal.returns-in-Hints-clause-comes
 returns-in-Hints-clause-comes c =
-    hints_entry_came c.take_derived.result c.args.own c.args.entry.now c.in-Hints.hints c.as_slice-in-Hints.result.now
-    c.args.solver.now.log c.take_derived.new.solver.log c.in-Hints.is c.as_slice-in-Hints.ensures
-    c.take_derived.ensures.comes
+    hints_entry_came c.take_derived.result c.args.assumption_based c.args.own c.args.entry.now c.in-Hints.hints
+    c.as_slice.result.now c.args.solver.now.log c.take_derived.new.solver.log c.in-Hints.is
+    c.as_slice.ensures c.take_derived.ensures.comes

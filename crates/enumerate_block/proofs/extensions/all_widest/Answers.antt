@@ -18,7 +18,7 @@ returns-clause-listed g c =
     subst (IsListOf f (g.O.Oracle.log c.all_semi_stable.new.oracle) SemiStable c.args.limit)
     (sym c.extensions_with.ensures)
     (is_widest f (g.O.Oracle.framework c.all_semi_stable.new.oracle) (g.O.Oracle.log c.all_semi_stable.new.oracle)
-    c.args.limit c.in_ok-ranged.ranged c.in_ok-ranged.ensures.framework c.in_ok-ranged.ensures.kept
+    c.args.limit c.in_ok-ranged.ranged c.requires c.in_ok-ranged.ensures.framework c.in_ok-ranged.ensures.kept
     c.in_ok-ranged.ensures.ranged)
 
 pub returns-clause-run : goal.returns-clause-run

@@ -6,18 +6,22 @@ use Rattle.enumerate_ranges.proofs.KnownRanges.{range_known}
 use Rattle.enumerate_ranges.proofs.RangeLemmas.{apart_grown, gains_grown, more_grown, range_fits, then_listed}
 use Rattle.enumerate_ranges.proofs.ranges.record_range.Goals as goal
 
+pub grow_range-requires-clause-kind : goal.grow_range-requires-clause-kind
+grow_range-requires-clause-kind g c = c.requires.found.kind
+
 pub all_with_range-requires-clause-range : goal.all_with_range-requires-clause-range
 all_with_range-requires-clause-range g c =
     range_fits (g.O.Oracle.framework c.args.oracle.now) (g.O.Oracle.framework c.grow_range.new.oracle)
     (g.O.Oracle.log c.grow_range.new.oracle) c.args.set.now c.as_slice.result.now c.in_ok-widest.widest
-    c.in_ok-widest.ensures.framework c.in_ok-widest.ensures.kept c.as_slice.ensures.value
+    c.requires.found.kind c.in_ok-widest.ensures.framework c.in_ok-widest.ensures.kept c.as_slice.ensures.value
     c.in_ok-widest.ensures.grows.is_widest
 
 pub all_with_range-requires-clause-known : goal.all_with_range-requires-clause-known
 all_with_range-requires-clause-known g c =
     range_known (g.O.Oracle.framework c.args.oracle.now) (g.O.Oracle.framework c.grow_range.new.oracle)
     (g.O.Oracle.log c.grow_range.new.oracle) c.args.set.now c.as_slice.result.now c.in_ok-widest.widest
-    c.in_ok-widest.ensures.framework c.as_slice.ensures.value c.in_ok-widest.ensures.grows.is_widest
+    c.requires.found.kind c.in_ok-widest.ensures.framework c.as_slice.ensures.value
+    c.in_ok-widest.ensures.grows.is_widest
 
 pub returns-in_err-all_with_range-clause-run : goal.returns-in_err-all_with_range-clause-run
 returns-in_err-all_with_range-clause-run g c =

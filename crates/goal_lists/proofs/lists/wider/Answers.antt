@@ -4,7 +4,7 @@ use Rattle.goal_lists.proofs.Lacking.{lacks_range}
 use Rattle.goal_lists.proofs.lists.wider.Goals as goal
 
 pub returns : goal.returns
-returns c f set same range =
+returns c f set kind same range =
     c.in_ok-clause.ensures
     ∙ (ap (λ xs. are_ranged (filter (λ x. not (has c.args.range.now x)) xs)) (c.as_slice.ensures.value ∙ same)
-    ∙ lacks_range f set c.args.range.now range)
+    ∙ lacks_range f set c.args.range.now kind range)

@@ -8,27 +8,33 @@ use Rattle.ideal_set.proofs.attackers.attacker.Goals as goal
 pub search_beside-requires-clause-side : goal.search_beside-requires-clause-side
 search_beside-requires-clause-side g c =
     let f = g.O.Oracle.framework c.args.oracle.now in
-    attacked_is_side f c.args.set.now c.deref.result.now c.members-members.ensures.kept.numbered c.requires
-    (c.deref.ensures.value ∙ attacked_from f c.in_ok-side.side.items c.args.set.now c.in_ok-side.ensures)
+    attacked_is_side f c.args.set.now c.deref.result.now c.requires.kind c.members-members.ensures.kept.numbered
+    c.requires.holds
+    (c.deref.ensures.value
+    ∙ attacked_from f c.in_ok-side.side.items c.args.set.now c.requires.kind c.in_ok-side.ensures)
 
 pub search_beside-requires-clause-beside : goal.search_beside-requires-clause-beside
 search_beside-requires-clause-beside g c =
     let f = g.O.Oracle.framework c.args.oracle.now in
-    attack_beside f c.args.set.now c.deref.result.now
-    (c.deref.ensures.value ∙ attacked_from f c.in_ok-side.side.items c.args.set.now c.in_ok-side.ensures) c.requires
+    attack_beside f c.args.set.now c.deref.result.now c.requires.kind
+    (c.deref.ensures.value
+    ∙ attacked_from f c.in_ok-side.side.items c.args.set.now c.requires.kind c.in_ok-side.ensures)
+    c.requires.holds
 
 pub returns-clause-attacks : goal.returns-clause-attacks
 returns-clause-attacks g c =
     let f = g.O.Oracle.framework c.args.oracle.now in
-    if_attack f (g.O.Oracle.log c.search_beside.new.oracle) c.args.set.now c.deref.result.now
-    (c.deref.ensures.value ∙ attacked_from f c.in_ok-side.side.items c.args.set.now c.in_ok-side.ensures)
+    if_attack f (g.O.Oracle.log c.search_beside.new.oracle) c.args.set.now c.deref.result.now c.requires.kind
+    (c.deref.ensures.value
+    ∙ attacked_from f c.in_ok-side.side.items c.args.set.now c.requires.kind c.in_ok-side.ensures)
     c.search_beside.result c.search_beside.ensures.found
 
 pub returns-clause-asked : goal.returns-clause-asked
 returns-clause-asked g c =
     let f = g.O.Oracle.framework c.args.oracle.now in
     if_asked f (g.O.Oracle.log c.search_beside.new.oracle) c.args.set.now c.deref.result.now
-    (c.deref.ensures.value ∙ attacked_from f c.in_ok-side.side.items c.args.set.now c.in_ok-side.ensures)
+    (c.deref.ensures.value
+    ∙ attacked_from f c.in_ok-side.side.items c.args.set.now c.requires.kind c.in_ok-side.ensures)
     c.search_beside.result c.search_beside.ensures.found
 
 pub returns-clause-run : goal.returns-clause-run
@@ -36,6 +42,7 @@ returns-clause-run g c =
     let f = g.O.Oracle.framework c.args.oracle.now in
     run_as (OnlySide c.deref.result.now c.args.set.now) (MadeForIdeal f) (closes c.search_beside.result)
     (closes c.search_beside.result) f _ _ _ _ _ _
-    (makes_attacked f c.args.set.now c.deref.result.now c.requires
-    (c.deref.ensures.value ∙ attacked_from f c.in_ok-side.side.items c.args.set.now c.in_ok-side.ensures))
+    (makes_attacked f c.args.set.now c.deref.result.now c.requires.holds
+    (c.deref.ensures.value
+    ∙ attacked_from f c.in_ok-side.side.items c.args.set.now c.requires.kind c.in_ok-side.ensures))
     (omega arith) c.search_beside.ensures.run

@@ -1,10 +1,11 @@
-use Rattle.std.proofs.Common.{◌∙◌, ◌+◌, ◌≤◌, ℕ, List, arith, refl, rules, subst, sym}
+use Rattle.std.proofs.Common.{◌∙◌, ◌+◌, ◌≤◌, ℕ, List, ap, arith, refl, rules, subst, sym}
 use Rattle.plain_lists.proofs.Membership.{IsWithin-refl}
 use Rattle.plain_lits.specs.declared.halt.Halt.TheVariants.{Memory}
 use Rattle.semantics.specs.Frameworks.{Framework, IsNumbered}
 use Rattle.meaning_atoms.specs.declared.atom.Atom.TheVariants.{Ad}
 use Rattle.meaning_atoms.specs.Worlds.{HoldsOf}
 use Rattle.oracle_face.specs.declared.face.Found.TheVariants.{Set, Refuted}
+use Rattle.oracle_face.specs.Kinds.{is_assumption_based}
 use Rattle.oracle_face.proofs.GrowingLemmas.{run_none}
 use Rattle.goal_lists.proofs.Calls.{closes_refuted, closes_set, makes_same, run_handed, then_refused, then_same}
 use Rattle.ideal_set.specs.Ideals.{IsCut, IsFree, IsPicture, MadeForIdeal}
@@ -26,8 +27,11 @@ loop-part-init g c =
       follows = search rules;
     }
 
-pub attacker-requires : goal.attacker-requires
-attacker-requires g c =
+pub attacker-requires-clause-kind : goal.attacker-requires-clause-kind
+attacker-requires-clause-kind g c = ap is_assumption_based c.loop-part.invariant.framework ∙ c.requires.kind
+
+pub attacker-requires-clause-holds : goal.attacker-requires-clause-holds
+attacker-requires-clause-holds g c =
     subst (λ (w : Framework). HoldsOf w c.loop-part.part Ad) (sym c.loop-part.invariant.framework)
     c.loop-part.invariant.free.admissible
 
@@ -105,7 +109,7 @@ loop-part-smaller g c =
     let log = g.O.Oracle.log c.attacker.new.oracle in
     fewer_left f log c.loop-part.found c.cut.new.found c.loop-part.part c.in-Set.other c.in_ok-part-in-Set.part
     c.cut.new.found.hit numbered turn.searched inv.free turn.attacks.1 cut (IsWithin-refl c.cut.new.found.hit)
-    (hit_within f log c.cut.new.found.sets c.cut.new.found.hit numbered
+    (hit_within f log c.cut.new.found.sets c.cut.new.found.hit c.requires.kind numbered
     (search_cut f log c.loop-part.found c.cut.new.found c.loop-part.part c.in-Set.other c.in_ok-part-in-Set.part
     turn.searched inv.free turn.attacks.0 turn.attacks.1 turn.asked cut))
 

@@ -20,7 +20,7 @@ new-requires-clause-arguments g c =
 pub new-requires-clause-between : goal.new-requires-clause-between
 new-requires-clause-between g c =
     let f = g.O.Oracle.framework c.args.oracle.now in
-    are_between f c.in_ok-live.live c.loop-member.member-index c.loop-member.attacks.items
+    are_between f c.in_ok-live.live c.loop-member.member-index c.loop-member.attacks.items c.requires
     c.members.ensures.kept.numbered (c.in_ok-live.ensures.same ∙ c.members.ensures.value)
     (subst (λ (xs : List ℕ). HasTargets f xs c.loop-member.member-index c.loop-member.attacks.items)
     c.as_slice-member-items.ensures.value c.loop-member.invariant)
@@ -29,7 +29,7 @@ pub returns : goal.returns
 returns g c =
     let f = g.O.Oracle.framework c.args.oracle.now in
     let value = c.as_slice-member-items.ensures.value in
-    is_picture f c.in_ok-live.live c.loop-member.member-index c.loop-member.attacks.items c.new.result
+    is_picture f c.in_ok-live.live c.loop-member.member-index c.loop-member.attacks.items c.new.result c.requires
     c.members.ensures.kept.numbered (c.in_ok-live.ensures.same ∙ c.members.ensures.value)
     (subst (λ (xs : List ℕ). length xs ≤ c.loop-member.member-index) value c.loop-member-test.false)
     (subst (λ (xs : List ℕ). HasTargets f xs c.loop-member.member-index c.loop-member.attacks.items) value

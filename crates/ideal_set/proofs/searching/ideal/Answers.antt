@@ -1,9 +1,10 @@
-use Rattle.std.proofs.Common.{◌∙◌, ◌+◌, ◌*◌, None, arith, length, subst, sym}
+use Rattle.std.proofs.Common.{◌∙◌, ◌+◌, ◌*◌, None, ap, arith, length, subst, sym}
 use Rattle.plain_lits.specs.declared.halt.Halt.TheVariants.{Memory}
 use Rattle.semantics.specs.Frameworks.{Framework, IsNumbered}
 use Rattle.meaning_atoms.specs.declared.atom.Atom.TheVariants.{Ad}
 use Rattle.meaning_atoms.specs.Worlds.{HoldsOf}
 use Rattle.oracle_face.specs.declared.face.Found.TheVariants.{Set, Refuted}
+use Rattle.oracle_face.specs.Kinds.{is_assumption_based}
 use Rattle.oracle_face.proofs.GrowingLemmas.{grows_same, run_as}
 use Rattle.goal_lists.proofs.Calls.{closes_refuted, closes_set, makes_same, run_handed, then_refused, then_same}
 use Rattle.ideal_set.specs.Ideals.{AreAttackers, IsCutBeside, IsFree, IsPruned, MadeForIdeal}
@@ -14,7 +15,7 @@ pub largest_free-requires-clause-hit : goal.largest_free-requires-clause-hit
 largest_free-requires-clause-hit g c =
     let inv = c.loop-start.invariant in
     hit_within (g.O.Oracle.framework c.loop-start.oracle) (g.O.Oracle.log c.loop-start.oracle) c.loop-start.found.sets
-    c.loop-start.found.hit inv.kept.numbered
+    c.loop-start.found.hit (ap is_assumption_based inv.framework ∙ c.requires) inv.kept.numbered
     (subst (λ (w : Framework). AreAttackers w (g.O.Oracle.log c.loop-start.oracle) c.loop-start.found)
     (sym inv.framework) inv.searched)
 
@@ -34,6 +35,22 @@ returns-in_err-free-clause-run g c =
     (within_bound f _ (g.O.Oracle.log c.loop-start.oracle) (g.O.Oracle.log c.largest_free.new.oracle)
     c.loop-start.found.sets c.loop-start.found.hit 1 (omega arith) inv.searched c.in_err-free.ensures.run.grows)
     inv.run c.in_err-free.ensures.run)
+
+pub attacker-requires-clause-kind : goal.attacker-requires-clause-kind
+attacker-requires-clause-kind g c =
+    ap is_assumption_based (c.in_ok-free.ensures.framework ∙ c.loop-start.invariant.framework) ∙ c.requires
+
+pub picture-requires : goal.picture-requires
+picture-requires g c =
+    ap is_assumption_based
+    (c.in_ok-unattacked.ensures.framework ∙ (c.in_ok-free.ensures.framework ∙ c.loop-start.invariant.framework))
+    ∙ c.requires
+
+pub prune-requires-clause-kind : goal.prune-requires-clause-kind
+prune-requires-clause-kind g c =
+    ap is_assumption_based
+    (c.in_ok-unattacked.ensures.framework ∙ (c.in_ok-free.ensures.framework ∙ c.loop-start.invariant.framework))
+    ∙ c.requires
 
 pub returns-in_err-unattacked-clause-run : goal.returns-in_err-unattacked-clause-run
 returns-in_err-unattacked-clause-run g c =
@@ -75,7 +92,7 @@ returns-in-Refuted-clause-ideal g c =
       unattacked = c.in-Refuted.unattacked;
       largest = c.in_ok-free.free.refutation;
     })
-    c.loop-start.found.hit same c.in_ok-unattacked.ensures.kept turn.asked.searched turn.largest.is_free
+    c.loop-start.found.hit c.requires same c.in_ok-unattacked.ensures.kept turn.asked.searched turn.largest.is_free
     turn.largest.refuted turn.asked.attacks
 
 pub returns-in-Refuted-clause-run : goal.returns-in-Refuted-clause-run
@@ -240,7 +257,7 @@ loop-start-smaller g c =
     c.prune.new.found c.in_ok-start-in-Set.start) same c.in_ok-start-in-Set.ensures.pruned in
     fewer_beside f c.loop-start.found c.cut_grown.new.found c.in_ok-free.free.set c.in-Set.other
     c.in_ok-left-in-Set.left c.prune.new.found.hit turn.largest.is_free turn.asked.attacks.1 cut pruned.hit
-    (hit_within f (g.O.Oracle.log c.prune.new.oracle) c.prune.new.found.sets c.prune.new.found.hit numbered
+    (hit_within f (g.O.Oracle.log c.prune.new.oracle) c.prune.new.found.sets c.prune.new.found.hit c.requires numbered
     pruned.searched)
 
 pub loop-start-preserved : goal.loop-start-preserved

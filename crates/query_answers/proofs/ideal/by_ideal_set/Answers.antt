@@ -8,8 +8,11 @@ use Rattle.ideal_set.specs.Ideals.{MadeForIdeal}
 use Rattle.query_answers.specs.Answers.{IsEvidence, IsSaid}
 use Rattle.query_answers.specs.Forms.{ideal_evidence}
 use Rattle.query_answers.proofs.CallLemmas.{makes_ideal, run_for, run_no_memory}
-use Rattle.query_answers.proofs.IdealLemmas.{ideal_evidenced}
+use Rattle.query_answers.proofs.IdealLemmas.{by_ideal_abstract, ideal_evidenced}
 use Rattle.query_answers.proofs.ideal.by_ideal_set.Goals as goal
+
+pub ideal-requires : goal.ideal-requires
+ideal-requires g c = by_ideal_abstract (g.O.Oracle.framework c.args.oracle.now) c.args.query.now c.requires
 
 pub returns-in_err-found-clause-run : goal.returns-in_err-found-clause-run
 returns-in_err-found-clause-run g c =

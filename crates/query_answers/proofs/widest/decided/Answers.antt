@@ -8,11 +8,16 @@ use Rattle.semi_stable.specs.Widest.{MadeWider}
 use Rattle.query_answers.specs.Answers.{IsEvidence, problem_of}
 use Rattle.query_answers.specs.Forms.{decided_evidence}
 use Rattle.query_answers.proofs.CallLemmas.{makes_widest, run_for, run_no_memory}
-use Rattle.query_answers.proofs.WidestLemmas.{about_member, semi_stable_shown}
+use Rattle.query_answers.proofs.WidestLemmas.{about_abstract, about_member, semi_stable_shown}
 use Rattle.query_answers.proofs.widest.decided.Goals as goal
 
-pub decide-requires : goal.decide-requires
-decide-requires g c =
+pub decide-requires-clause-kind : goal.decide-requires-clause-kind
+decide-requires-clause-kind g c =
+    about_abstract (g.O.Oracle.framework c.args.oracle.now) c.args.query.now (problem_of c.args.accepted) c.args.goal
+    c.requires
+
+pub decide-requires-clause-goal : goal.decide-requires-clause-goal
+decide-requires-clause-goal g c =
     about_member (g.O.Oracle.framework c.args.oracle.now) c.args.query.now (problem_of c.args.accepted) c.args.goal
     c.requires
 

@@ -8,8 +8,12 @@ use Rattle.semi_stable.specs.Widest.{MadeWider}
 use Rattle.query_answers.specs.Answers.{IsEvidence}
 use Rattle.query_answers.proofs.CallLemmas.{makes_widest, run_for, run_no_memory}
 use Rattle.query_answers.proofs.LargestLemmas.{empty_holds}
-use Rattle.query_answers.proofs.WidestLemmas.{widest_evidence}
+use Rattle.query_answers.proofs.WidestLemmas.{some_abstract, widest_evidence}
 use Rattle.query_answers.proofs.widest.semi_stable_set.Goals as goal
+
+pub widest_from-requires-clause-kind : goal.widest_from-requires-clause-kind
+widest_from-requires-clause-kind g c =
+    some_abstract (g.O.Oracle.framework c.args.oracle.now) c.args.query.now c.requires
 
 pub widest_from-requires-clause-holds : goal.widest_from-requires-clause-holds
 widest_from-requires-clause-holds g c =

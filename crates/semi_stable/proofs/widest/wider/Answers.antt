@@ -9,15 +9,18 @@ pub search_beside-requires-clause-side : goal.search_beside-requires-clause-side
 search_beside-requires-clause-side g c =
     let f = g.O.Oracle.framework c.args.oracle.now in
     wider_is_side f c.args.set.now c.deref.result.now c.members.ensures.kept.numbered
-    (c.deref.ensures.value ∙ c.in_ok-side.ensures f c.args.set.now c.members.ensures.value c.requires.range)
+    (c.deref.ensures.value
+    ∙ c.in_ok-side.ensures f c.args.set.now c.requires.kind c.members.ensures.value c.requires.range)
 
 pub search_beside-requires-clause-beside : goal.search_beside-requires-clause-beside
 search_beside-requires-clause-beside g c =
     let f = g.O.Oracle.framework c.args.oracle.now in
     look_beside f c.args.mode c.args.set.now c.args.range.now c.as_slice.result.now c.deref.result.now
     c.as_slice.ensures.value
-    (c.deref.ensures.value ∙ c.in_ok-side.ensures f c.args.set.now c.members.ensures.value c.requires.range)
+    (c.deref.ensures.value
+    ∙ c.in_ok-side.ensures f c.args.set.now c.requires.kind c.members.ensures.value c.requires.range)
     (record {
+      kind = c.requires.kind;
       numbered = c.members.ensures.kept.numbered;
       mode_is = c.requires.mode;
       holds = c.requires.holds;
@@ -29,8 +32,10 @@ returns-clause-wider g c =
     let f = g.O.Oracle.framework c.args.oracle.now in
     if_wider f (g.O.Oracle.log c.search_beside.new.oracle) c.args.mode c.args.set.now c.args.range.now
     c.as_slice.result.now c.deref.result.now c.as_slice.ensures.value
-    (c.deref.ensures.value ∙ c.in_ok-side.ensures f c.args.set.now c.members.ensures.value c.requires.range)
+    (c.deref.ensures.value
+    ∙ c.in_ok-side.ensures f c.args.set.now c.requires.kind c.members.ensures.value c.requires.range)
     (record {
+      kind = c.requires.kind;
       numbered = c.members.ensures.kept.numbered;
       mode_is = c.requires.mode;
       holds = c.requires.holds;
@@ -44,5 +49,6 @@ returns-clause-run g c =
     run_as (OnlySide c.deref.result.now c.args.set.now) (MadeWider f c.args.mode) (closes c.search_beside.result)
     (closes c.search_beside.result) f _ _ _ _ _ _
     (makes_wider f c.args.mode c.args.set.now c.deref.result.now c.requires.holds
-    (c.deref.ensures.value ∙ c.in_ok-side.ensures f c.args.set.now c.members.ensures.value c.requires.range))
+    (c.deref.ensures.value
+    ∙ c.in_ok-side.ensures f c.args.set.now c.requires.kind c.members.ensures.value c.requires.range))
     (omega arith) c.search_beside.ensures.run

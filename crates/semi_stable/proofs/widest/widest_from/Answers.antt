@@ -27,7 +27,7 @@ pub loop-grown-smaller : goal.loop-grown-smaller
 loop-grown-smaller g c =
     let f = g.O.Oracle.framework c.args.oracle.now in
     let log = g.O.Oracle.log c.wider.new.oracle in
-    fewer_open f log c.args.mode c.loop-grown.grown c.in-Set.found
+    fewer_open f log c.args.mode c.loop-grown.grown c.in-Set.found c.requires.kind
     (wider_set f (g.O.Oracle.framework c.loop-grown.oracle) log c.args.mode c.loop-grown.grown c.in_ok-found.field-0
     c.in-Set.found c.loop-grown.invariant.framework c.in-Set.is c.in_ok-found.ensures.wider)
 

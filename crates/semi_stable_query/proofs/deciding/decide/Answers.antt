@@ -120,6 +120,12 @@ returns-in-Some-clause-run g c =
     (omega (arith, closes_set c.in_ok-step.field-0 c.in-Set.set c.in-Set.is)) inv.run c.in_ok-step.ensures.run)
     c.in_ok-witness-in-Set.ensures.run
 
+pub returns-in-Some-clause-follows : goal.returns-in-Some-clause-follows
+returns-in-Some-clause-follows g c =
+    g.met.O.Oracle.joins _ _ _
+    (g.met.O.Oracle.joins _ _ _ c.loop-cover.invariant.follows c.in_ok-step.ensures.follows)
+    c.in_ok-witness-in-Set.ensures.follows
+
 pub loop-cover-smaller : goal.loop-cover-smaller
 loop-cover-smaller g c =
     let f = g.O.Oracle.framework c.args.oracle.now in
@@ -129,7 +135,7 @@ loop-cover-smaller g c =
     let more = extended_of f k log c.args.goal c.args.accepted c.loop-cover.cover c.extend.new.cover
     c.in_ok-witness-in-Set.field-0 same c.in-None.is c.in_ok-witness-in-Set.ensures.extends in
     fewer_open f log c.args.goal c.args.accepted c.loop-cover.cover c.extend.new.cover more.0 more.1 more.2
-    c.members-members.ensures.kept.numbered more.3
+    c.requires.kind c.members-members.ensures.kept.numbered more.3
 
 pub loop-cover-preserved : goal.loop-cover-preserved
 loop-cover-preserved g c =

@@ -32,8 +32,8 @@ returns-in-Set-clause-extends g c =
     found_witness (g.O.Oracle.framework c.args.oracle.now) (g.O.Oracle.framework c.widest_from.new.oracle)
     (g.O.Oracle.framework c.within_range.new.oracle) (g.O.Oracle.log c.widest_from.new.oracle)
     (g.O.Oracle.log c.within_range.new.oracle) _ c.args.goal c.args.accepted c.args.set.now c.in-Set.set
-    c.in_ok-widest.widest c.in_ok-set.field-0 c.in_ok-widest.ensures.framework c.in_ok-set.ensures.framework
-    c.in_ok-widest.ensures.kept c.in_ok-set.ensures.kept c.in_ok-set.ensures.run.grows
+    c.in_ok-widest.widest c.in_ok-set.field-0 c.requires.kind c.in_ok-widest.ensures.framework
+    c.in_ok-set.ensures.framework c.in_ok-widest.ensures.kept c.in_ok-set.ensures.kept c.in_ok-set.ensures.run.grows
     c.in_ok-widest.ensures.widest c.in-Set.is c.in_ok-set.ensures.within
 
 pub returns-in-Set-clause-run : goal.returns-in-Set-clause-run

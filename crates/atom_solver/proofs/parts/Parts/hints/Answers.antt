@@ -1,5 +1,6 @@
-use Rattle.std.proofs.Common.{rules}
-use Rattle.atom_solver.proofs.Reading.{HasHints, step_named, hints_none, hints_read}
+use Rattle.std.proofs.Common.{refl, get_or, ◌-◌, ◌≡◌, sym, ◌∙◌, true, false}
+use Rattle.atom_solver.specs.declared.origin.Origin.TheVariants.{Hints}
+use Rattle.atom_solver.proofs.Reading.{given_none, given_some, step_named, hints_none, hints_read}
 use Rattle.atom_solver.proofs.parts.Parts.hints.Goals as goal
 
 pub hints-requires : goal.hints-requires
@@ -7,15 +8,17 @@ hints-requires c =
     let p = c.args.self.now in
     rw c.log.ensures.log (step_named p.table p.solver p.origins.items c.args.step c.requires)
 
-pub returns-in-Hints : goal.returns-in-Hints
-returns-in-Hints c =
+pub returns-then-is_given : goal.returns-then-is_given
+returns-then-is_given c =
     let p = c.args.self.now in
-    let has : HasHints c.origin.result = search rules in
-    hints_read p.table p.solver p.origins.items c.args.step c.origin.result c.hints.result.now c.requires
-    c.origin.ensures has (rw c.log.ensures.log at c.hints.ensures.hints)
+    let origin = get_or p.origins.items (c.args.step - 1) Hints in
+    hints_none p.table p.solver p.origins.items c.args.step origin c.requires refl
+    (given_none origin (sym c.is_given.ensures ∙ c.if-is_given.true))
 
-pub returns-in-Axiom : goal.returns-in-Axiom
-returns-in-Axiom c =
+pub returns : goal.returns
+returns c =
     let p = c.args.self.now in
-    let none : HasHints c.origin.result → ⊥ = search rules in
-    hints_none p.table p.solver p.origins.items c.args.step c.origin.result c.requires c.origin.ensures none
+    let origin = get_or p.origins.items (c.args.step - 1) Hints in
+    hints_read p.table p.solver p.origins.items c.args.step origin c.hints.result.now c.requires refl
+    (given_some origin (sym c.is_given.ensures ∙ c.if-is_given.false))
+    (rw c.log.ensures.log at c.hints.ensures.hints)

@@ -1,5 +1,4 @@
 use Rattle.std.proofs.Common.{length, sym, ◌∙◌}
-use Rattle.meaning_atoms.specs.declared.axiom.AxiomName.TheVariants.{Af as OfAf}
 use Rattle.atom_solver.specs.Inner.{state_of}
 use Rattle.atom_solver.specs.Lifted.{lifted_at}
 use Rattle.atom_solver.proofs.Giving.{axiom_guarded}
@@ -15,5 +14,5 @@ returns-clause-full c =
 
 pub returns-clause-log : goal.returns-clause-log
 returns-clause-log c = λ f is. rw (← c.self.view_is)
-    (axiom_guarded c.take_axiom.result (OfAf c.args.name) (state_of c.self.inside.parts) (state_of c.take_axiom.new.self) f
+    (axiom_guarded c.take_axiom.result c.args.name (state_of c.self.inside.parts) (state_of c.take_axiom.new.self) f
     c.take_axiom.ensures.ok c.take_axiom.ensures.err is)

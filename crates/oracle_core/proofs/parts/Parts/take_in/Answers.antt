@@ -1,4 +1,5 @@
 use Rattle.edit_rules.specs.Kinds.{framework_of}
+use Rattle.std.proofs.Common.{sym}
 use Rattle.oracle_core.proofs.Forcing.{whole_named}
 use Rattle.oracle_core.proofs.EntriesTaken.{comes_at}
 use Rattle.oracle_core.proofs.parts.Parts.take_in.Goals as goal
@@ -7,7 +8,8 @@ pub returns-clause-whole : goal.returns-clause-whole
 returns-clause-whole c =
     let p = c.args.self.now in
     whole_named p c.take_in.new.solver c.take_in.new.names c.requires.whole
-    (c.take_in.ensures.goes.log (framework_of p.framework) c.requires.whole.guarded) c.take_in.ensures.goes.grows
+    (c.take_in.ensures.goes.log (framework_of p.framework) (sym c.is_aba-assumption_based.ensures)
+    c.requires.whole.guarded) c.take_in.ensures.goes.grows
     c.take_in.ensures.named
 
 pub returns-clause-run : goal.returns-clause-run
@@ -18,5 +20,5 @@ returns-clause-run c = λ units.
 pub returns-clause-comes : goal.returns-clause-comes
 returns-clause-comes c =
     let p = c.args.self.now in
-    comes_at c.take_in.result (framework_of p.framework) c.args.own c.args.entry.now p.solver.log
-    c.take_in.new.solver.log c.take_in.ensures.comes
+    comes_at c.take_in.result c.is_aba-assumption_based.result (framework_of p.framework) c.args.own c.args.entry.now
+    p.solver.log c.take_in.new.solver.log (sym c.is_aba-assumption_based.ensures) c.take_in.ensures.comes

@@ -1,0 +1,7 @@
+//! The axioms that an edit of a flat assumption-based framework calls for.
+#![tactic(auto)]
+
+mod changing;
+mod places;
+
+pub use changing::changed;

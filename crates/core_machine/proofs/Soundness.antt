@@ -1,0 +1,368 @@
+-- What each step of the core keeps, and so every run.
+use Rattle.std.proofs.Common.{◌≡◌, ◌∙◌, ℕ, ◌==◌, ◌≤◌, Bool, List, [], ◌∷◌, ◌++◌, length, map, take, refl, sym, ap, subst, arith, Option, Some, None, Result, Ok, Err}
+use Rattle.std.specs.Prelude.{nat_le, All}
+use Rattle.std.proofs.lemmas.Bool.{cond_both, eqb-true}
+use Rattle.std.proofs.lemmas.List.{append_assoc, append-nil, length-append, map-append}
+use Rattle.semantics.specs.Frameworks.{Framework, af, aba, IsNumbered}
+use Rattle.meaning_atoms.specs.declared.axiom.AxiomName.{AxiomName}
+use Rattle.meaning_atoms.specs.declared.axiom.AxiomName.TheVariants.{Af as OfAf, Aba as OfAba}
+use Rattle.meaning_atoms.specs.declared.atom.AtomLit.{AtomLit}
+use Rattle.meaning_atoms.specs.Atoms.{IsLit}
+use Rattle.meaning_atoms.specs.Literals.{AsksNothing}
+use Rattle.meaning_atoms.specs.Worlds.{IsValid}
+use Rattle.iccma_tasks.specs.Tasks.{Asked}
+use Rattle.iccma_tasks.specs.declared.answer.Answer.{Answer}
+use Rattle.certificate_claims.specs.Refutations.{IsAxiomOf}
+use Rattle.certificate_claims.specs.Rights.{IsRight}
+use Rattle.edit_words.specs.declared.edit.Edit.{Edit}
+use Rattle.edit_words.specs.declared.effect.Effect.{Effect}
+use Rattle.edit_words.specs.declared.effect.EditFault.{EditFault}
+use Rattle.edit_rules.specs.Edits.{edit_outcome}
+use Rattle.edit_rules.specs.Kinds.{kind_of}
+use Rattle.edit_rules.specs.Replay.{AreTaken, after_edit, left_by, replay}
+use Rattle.edit_rules.proofs.ReplayLemmas.{edits_keep, kind_stays}
+use Rattle.edit_history.specs.declared.entry.Entry.{Entry}
+use Rattle.edit_history.specs.Entries.{framework_after}
+use Rattle.oracle_face.specs.declared.entry.Entry.{Entry as PoolEntry}
+use Rattle.oracle_face.specs.declared.face.Pending.{Pending}
+use Rattle.oracle_face.specs.Entries.{IsShareable}
+use Rattle.oracle_face.specs.Logs.{IsGiven, IsLog, IsNumberOf, LogStep, OracleLog, SideClause, Source, by_axiom, by_hints, by_side}
+use Rattle.session_log.specs.Ends.{definite}
+use Rattle.session_log.specs.Guards.{IsGuarded}
+use Rattle.session_log.specs.Truth.{IsTrueOfWorlds}
+use Rattle.session_log.proofs.Showing.{shown_answer_right}
+use Rattle.session_log.proofs.Staying.{axiom_stays, derived_stays, opened_guarded, side_stays}
+use Rattle.session_log.proofs.StepWorlds.{step_shared, step_true}
+use Rattle.clause_imports.proofs.Taking.{entry_stays}
+use Rattle.log_refutations.specs.Accepted.{HasAccepted}
+use Rattle.log_refutations.proofs.Existing.{shown_is_accepted}
+use Rattle.core_machine.specs.Core.{Core, CoreSession, IsOpened, put_at, seen_framework, with_log, with_session}
+use Rattle.core_machine.specs.Laws.{IsRun}
+use Rattle.core_machine.specs.Steps.{Event, IsStep, LearnsTo, Runs, Shares, TakesFromPool, after_turn, answer, commit, committed, entry_taken, goes, learn, refresh, rests, share, side, take_in, taken_by}
+
+-- ---- one place changes
+
+-- what holds of the new item and of each old one holds at each place
+put_keeps : {X : Type 0} (P : ℕ → X → Type 0) (n : ℕ) (x : X) (items : ℕ → X) → P n x
+    → ((m : ℕ) → P m (items m)) → (m : ℕ) → P m (put_at n x items m)
+put_keeps P n x items new old m =
+    cond_both (m == n) x (items m) (λ y. P m y) (λ is. subst (λ k. P k x) (sym (eqb-true m n is)) new) (λ other. old m)
+
+some_is : {X : Type 0} {x y : X} → Some x ≡ Some y → x ≡ y
+some_is e = cc
+
+-- ---- frameworks of one kind
+
+same_axioms : (f g : Framework) (name : AxiomName) → kind_of f ≡ kind_of g → IsAxiomOf f name → IsAxiomOf g name
+same_axioms (af f) (af g) (OfAf name) kinds is = is
+same_axioms (af f) (af g) (OfAba name) kinds is = is
+same_axioms (aba f) (aba g) (OfAf name) kinds is = is
+same_axioms (aba f) (aba g) (OfAba name) kinds is = is
+same_axioms (af f) (aba g) name kinds is = cc
+same_axioms (aba f) (af g) name kinds is = cc
+
+same_given : (f g : Framework) (sides : List SideClause) (before : List LogStep) (clause : List AtomLit)
+    (source : Source) → kind_of f ≡ kind_of g → IsGiven f sides before clause source
+    → IsGiven g sides before clause source
+same_given f g sides before clause (by_axiom name) kinds given = (same_axioms f g name kinds given.0, given.1)
+same_given f g sides before clause (by_side n) kinds given = given
+same_given f g sides before clause (by_hints hints) kinds given = given
+
+same_log : (f g : Framework) (log : OracleLog) → kind_of f ≡ kind_of g → IsLog f log → IsLog g log
+same_log f g log kinds form = record {
+  each = λ k within. same_given f g log.sides _ _ _ kinds (form.each k within);
+  plain = form.plain;
+  apart = form.apart;
+  within = form.within;
+}
+
+-- ---- edits that are taken
+
+abbrev edits_in : List Entry → List Edit
+edits_in entries = map (λ (e : Entry). e.edit) entries
+
+taken_more : (f : Framework) (edits : List Edit) (edit : Edit) (effect : Effect) → AreTaken f edits
+    → edit_outcome (replay f edits) edit ≡ Ok (after_edit (replay f edits) edit, effect)
+    → AreTaken f (edits ++ edit ∷ [])
+taken_more f [] edit effect taken is = ((effect, is), tt)
+taken_more f (x ∷ edits) edit effect taken is = (taken.0, taken_more (after_edit f x) edits edit effect taken.1 is)
+
+-- ---- what holds at each moment
+
+-- the edits of the history are taken, none of them refused; no session has seen more than there is, and each has a
+-- guarded
+-- log; and each entry of the pool may be shared
+pub record IsGood (core : Core) : Type 0 where
+  pub numbered : IsNumbered core.opening
+  pub taken : AreTaken core.opening (edits_in core.history)
+  pub seen : (s : ℕ) → (core.sessions s).seen ≤ length core.history
+  pub form : (s : ℕ) → IsLog core.opening (core.sessions s).log
+  pub guards : (s : ℕ) → IsGuarded (core.sessions s).log
+  pub pool : (i : ℕ) (entry : PoolEntry) → core.pool i ≡ Some entry → IsShareable entry
+
+opened_good : (core : Core) → IsOpened core → IsNumbered core.opening → IsGood core
+opened_good core opened numbered = record {
+  numbered = numbered;
+  taken = subst (λ history. AreTaken core.opening (edits_in history)) (sym opened.no_history) tt;
+  seen = λ s. omega (arith, opened.none_seen s);
+  form = λ s. (opened_guarded core.opening (core.sessions s).log (opened.no_steps s) (opened.no_sides s)).0;
+  guards = λ s. (opened_guarded core.opening (core.sessions s).log (opened.no_steps s) (opened.no_sides s)).1;
+  pool = λ i entry is. let e : None ≡ Some entry = sym (opened.no_pool i) ∙ is in cc;
+}
+
+-- ---- edits
+
+turned_good : (core : Core) (s : ℕ) (entries : List Entry) → IsGood core
+    → AreTaken core.opening (edits_in (core.history ++ entries)) → IsGood (after_turn core s entries)
+turned_good core s entries good taken =
+    let all = core.history ++ entries in
+    let session : CoreSession = record (core.sessions s) { seen = length all } in
+    let longer : length core.history ≤ length all = omega (arith, length-append core.history entries) in
+    record {
+      numbered = good.numbered;
+      taken = taken;
+      seen = put_keeps (λ m (x : CoreSession). x.seen ≤ length all) s session core.sessions (omega arith)
+          (λ m. let low = good.seen m in omega arith);
+      form = put_keeps (λ m (x : CoreSession). IsLog core.opening x.log)
+          s session core.sessions (good.form s) good.form;
+      guards = put_keeps (λ m (x : CoreSession). IsGuarded x.log) s session core.sessions (good.guards s) good.guards;
+      pool = good.pool;
+    }
+
+entry_added : (core : Core) (s : ℕ) (edit : Edit) (outcome : Result (Framework × Effect) EditFault) → IsGood core
+    → edit_outcome (framework_after core.opening core.history) edit ≡ outcome
+    → AreTaken core.opening (edits_in (core.history ++ entry_taken s edit outcome))
+entry_added core s edit (Ok done) good is =
+    let f = framework_after core.opening core.history in
+    let behind : after_edit f edit ≡ done.0 = ap (left_by f) is in
+    let entry : Entry = record { session = s; edit = edit } in
+    subst (AreTaken core.opening) (sym (map-append (λ (e : Entry). e.edit) core.history (entry ∷ [])))
+    (taken_more core.opening (edits_in core.history) edit done.1 good.taken
+    (is ∙ ap (λ g. Ok (g, done.1)) (sym behind)))
+entry_added core s edit (Err fault) good is =
+    subst (λ entries. AreTaken core.opening (edits_in entries)) (sym (append-nil core.history)) good.taken
+
+commit_taken : (core : Core) (s : ℕ) (edit : Edit) → IsGood core
+    → AreTaken core.opening (edits_in (core.history ++ committed core s edit))
+commit_taken core s edit good =
+    let outcome = edit_outcome (framework_after core.opening core.history) edit in
+    cond_both (nat_le core.limit (length core.history)) [] (entry_taken s edit outcome)
+    (λ entries. AreTaken core.opening (edits_in (core.history ++ entries)))
+    (λ full. subst (λ entries. AreTaken core.opening (edits_in entries)) (sym (append-nil core.history)) good.taken)
+    (λ room. entry_added core s edit outcome good refl)
+
+-- ---- logs
+
+logged_good : (core : Core) (s : ℕ) (log : OracleLog) → IsGood core → IsLog core.opening log → IsGuarded log
+    → IsGood (with_log core s log)
+logged_good core s log good form guards =
+    let session : CoreSession = record (core.sessions s) { log = log } in
+    record {
+      numbered = good.numbered;
+      taken = good.taken;
+      seen = put_keeps (λ m (x : CoreSession). x.seen ≤ length core.history)
+          s session core.sessions (good.seen s) good.seen;
+      form = put_keeps (λ m (x : CoreSession). IsLog core.opening x.log) s session core.sessions form good.form;
+      guards = put_keeps (λ m (x : CoreSession). IsGuarded x.log) s session core.sessions guards good.guards;
+      pool = good.pool;
+    }
+
+learned_good : (core : Core) (s : ℕ) (clause : List AtomLit) (source : Source) (closing : Bool) (log : OracleLog)
+    → IsGood core → LearnsTo core s clause source closing log → IsGood (with_log core s log)
+learned_good core s clause (by_axiom name) closing log good learns =
+    let stays = axiom_stays core.opening name clause (core.sessions s).log log (good.form s) (good.guards s)
+    learns.1.of_kind learns.1.takes in
+    logged_good core s log good stays.form stays.guards
+learned_good core s clause (by_side n) closing log good learns = absurd learns
+learned_good core s clause (by_hints hints) closing log good learns =
+    let stays = derived_stays core.opening clause hints None closing
+    (core.sessions s).log log (good.form s) (good.guards s)
+    learns.1 in
+    logged_good core s log good stays.form stays.guards
+
+-- ---- the pool
+
+shared_good : (core new : Core) (s k i : ℕ) → IsGood core → Shares core s k i new → IsGood new
+shared_good core new s k i good shares =
+    let may = step_shared core.opening (core.sessions s).log k (good.form s) (good.guards s) shares.step shares.plain in
+    let entry = shares.entry in
+    let shareable : IsShareable entry = record {
+      valid = subst IsValid (sym shares.clause) may.valid;
+      plain = subst AsksNothing (sym shares.clause) may.plain;
+      within = subst (All IsLit) (sym shares.clause) may.within;
+    } in
+    let session : CoreSession = record (core.sessions s) { shared = k ∷ (core.sessions s).shared } in
+    subst IsGood (sym shares.is) (record {
+      numbered = good.numbered;
+      taken = good.taken;
+      seen = put_keeps (λ m (x : CoreSession). x.seen ≤ length core.history)
+          s session core.sessions (good.seen s) good.seen;
+      form = put_keeps (λ m (x : CoreSession). IsLog core.opening x.log)
+          s session core.sessions (good.form s) good.form;
+      guards = put_keeps (λ m (x : CoreSession). IsGuarded x.log) s session core.sessions (good.guards s) good.guards;
+      pool = put_keeps (λ j (x : Option PoolEntry). (e : PoolEntry) → x ≡ Some e → IsShareable e)
+          i (Some entry) core.pool
+          (λ e is. subst IsShareable (some_is is) shareable) good.pool;
+    })
+
+taken_in_good : (core new : Core) (s i : ℕ) → IsGood core → TakesFromPool core s i new → IsGood new
+taken_in_good core new s i good takes =
+    let stays = entry_stays s takes.entry (core.sessions s).log takes.log takes.takes core.opening (good.form s)
+    (good.guards s) (good.pool i takes.entry takes.there) in
+    subst IsGood (sym takes.is) (logged_good core s takes.log good stays.form stays.guards)
+
+answered_good : (core : Core) (s n : ℕ) → IsGood core
+    → IsGood (with_session core s (record (core.sessions s) { answered = n }))
+answered_good core s n good =
+    let session : CoreSession = record (core.sessions s) { answered = n } in
+    record {
+      numbered = good.numbered;
+      taken = good.taken;
+      seen = put_keeps (λ m (x : CoreSession). x.seen ≤ length core.history)
+          s session core.sessions (good.seen s) good.seen;
+      form = put_keeps (λ m (x : CoreSession). IsLog core.opening x.log)
+          s session core.sessions (good.form s) good.form;
+      guards = put_keeps (λ m (x : CoreSession). IsGuarded x.log) s session core.sessions (good.guards s) good.guards;
+      pool = good.pool;
+    }
+
+-- ---- steps
+
+step_good : (core new : Core) (event : Event) → IsGood core → IsStep core event new → IsGood new
+step_good core new (commit s edit) good is =
+    subst IsGood (sym is) (turned_good core s (committed core s edit) good (commit_taken core s edit good))
+step_good core new (refresh s) good is =
+    subst IsGood (sym is) (turned_good core s [] good
+    (subst (λ entries. AreTaken core.opening (edits_in entries)) (sym (append-nil core.history)) good.taken))
+step_good core new (learn s clause source closing) good is =
+    subst IsGood (sym is.2) (learned_good core s clause source closing is.0 good is.1)
+step_good core new (side s set literals) good is =
+    let stays = side_stays core.opening literals set is.1.0
+    (core.sessions s).log is.0 (good.form s) (good.guards s) is.1.1 in
+    subst IsGood (sym is.2) (logged_good core s is.0 good stays.form stays.guards)
+step_good core new (share s k i) good is = shared_good core new s k i good is
+step_good core new (take_in s i) good is = taken_in_good core new s i good is
+step_good core new (answer s asked most budget pending ending) good is =
+    subst IsGood (sym is.is) (answered_good core s (length (core.sessions s).log.steps) good)
+
+step_history : (core new : Core) (event : Event) → IsStep core event new
+    → (new.opening ≡ core.opening) × (new.history ≡ core.history ++ taken_by core event)
+step_history core new (commit s edit) is = (ap (λ (c : Core). c.opening) is, ap (λ (c : Core). c.history) is)
+step_history core new (refresh s) is = (ap (λ (c : Core). c.opening) is, ap (λ (c : Core). c.history) is)
+step_history core new (learn s clause source closing) is =
+    (ap (λ (c : Core). c.opening) is.2, ap (λ (c : Core). c.history) is.2 ∙ sym (append-nil core.history))
+step_history core new (side s set literals) is =
+    (ap (λ (c : Core). c.opening) is.2, ap (λ (c : Core). c.history) is.2 ∙ sym (append-nil core.history))
+step_history core new (share s k i) is =
+    (ap (λ (c : Core). c.opening) is.is, ap (λ (c : Core). c.history) is.is ∙ sym (append-nil core.history))
+step_history core new (take_in s i) is =
+    (ap (λ (c : Core). c.opening) is.is, ap (λ (c : Core). c.history) is.is ∙ sym (append-nil core.history))
+step_history core new (answer s asked most budget pending ending) is =
+    (ap (λ (c : Core). c.opening) is.is, ap (λ (c : Core). c.history) is.is ∙ sym (append-nil core.history))
+
+-- what the session at s has seen, where one session was put
+seen_put : (core : Core) (n : ℕ) (session : CoreSession) → (core.sessions n).seen ≤ session.seen → (s : ℕ)
+    → (core.sessions s).seen ≤ (put_at n session core.sessions s).seen
+seen_put core n session more =
+    put_keeps (λ m (x : CoreSession). (core.sessions m).seen ≤ x.seen) n session core.sessions more (λ m. omega arith)
+
+seen_in : (core old new : Core) (s : ℕ) → new ≡ old → (core.sessions s).seen ≤ (old.sessions s).seen
+    → (core.sessions s).seen ≤ (new.sessions s).seen
+seen_in core old new s is le = subst (λ (c : Core). (core.sessions s).seen ≤ (c.sessions s).seen) (sym is) le
+
+turned_seen : (core : Core) (n : ℕ) (entries : List Entry) → IsGood core → (s : ℕ)
+    → (core.sessions s).seen ≤ ((after_turn core n entries).sessions s).seen
+turned_seen core n entries good =
+    let low = good.seen n in
+    seen_put core n (record (core.sessions n) { seen = length (core.history ++ entries) })
+    (omega (arith, length-append core.history entries))
+
+step_seen : (core new : Core) (event : Event) → IsGood core → IsStep core event new → (s : ℕ)
+    → (core.sessions s).seen ≤ (new.sessions s).seen
+step_seen core new (commit n edit) good is s =
+    seen_in core _ new s is (turned_seen core n (committed core n edit) good s)
+step_seen core new (refresh n) good is s = seen_in core _ new s is (turned_seen core n [] good s)
+step_seen core new (learn n clause source closing) good is s =
+    seen_in core _ new s is.2 (seen_put core n (record (core.sessions n) { log = is.0 }) (omega arith) s)
+step_seen core new (side n set literals) good is s =
+    seen_in core _ new s is.2 (seen_put core n (record (core.sessions n) { log = is.0 }) (omega arith) s)
+step_seen core new (share n k i) good is s =
+    seen_in core _ new s is.is (seen_put core n (record (core.sessions n) { shared = k ∷ (core.sessions n).shared })
+    (omega arith) s)
+step_seen core new (take_in n i) good is s =
+    seen_in core _ new s is.is (seen_put core n (record (core.sessions n) { log = is.log }) (omega arith) s)
+step_seen core new (answer n asked most budget pending ending) good is s =
+    seen_in core _ new s is.is
+    (seen_put core n (record (core.sessions n) { answered = length (core.sessions n).log.steps }) (omega arith) s)
+
+-- ---- runs
+
+runs_good : (core new : Core) (events : List Event) (taken : List Entry) → Runs core events taken new → IsGood core
+    → IsGood new
+runs_good core new events taken (rests _) good = good
+runs_good core new events taken (goes _ mid _ event more later step runs) good =
+    runs_good mid new more later runs (step_good core mid event good step)
+
+runs_history : (core new : Core) (events : List Event) (taken : List Entry) → Runs core events taken new
+    → (new.opening ≡ core.opening) × (new.history ≡ core.history ++ taken)
+runs_history core new events taken (rests _) = (refl, sym (append-nil core.history))
+runs_history core new events taken (goes _ mid _ event more later step runs) =
+    let first = step_history core mid event step in
+    let then = runs_history mid new more later runs in (
+      then.0 ∙ first.0,
+      then.1 ∙ (ap (λ history. history ++ later) first.1 ∙ append_assoc core.history (taken_by core event) later),
+    )
+
+runs_seen : (core new : Core) (events : List Event) (taken : List Entry) → Runs core events taken new → IsGood core
+    → (s : ℕ) → (core.sessions s).seen ≤ (new.sessions s).seen
+runs_seen core new events taken (rests _) good s = omega arith
+runs_seen core new events taken (goes _ mid _ event more later step runs) good s =
+    let first = step_seen core mid event good step s in
+    let then = runs_seen mid new more later runs (step_good core mid event good step) s in
+    omega arith
+
+run_good : (start core : Core) (events : List Event) (taken : List Entry) → IsRun start events taken core → IsGood core
+run_good start core events taken run =
+    runs_good start core events taken run.runs (opened_good start run.opened run.numbered)
+
+pub history_taken : (start core : Core) (events : List Event) (taken : List Entry) → IsRun start events taken core
+    → (core.opening ≡ start.opening) × (core.history ≡ taken)
+    × AreTaken start.opening (map (λ (e : Entry). e.edit) core.history)
+history_taken start core events taken run =
+    let all = runs_history start core events taken run.runs in (
+      all.0,
+      all.1 ∙ ap (λ history. history ++ taken) run.opened.no_history,
+      subst (λ f. AreTaken f (edits_in core.history)) all.0 (run_good start core events taken run).taken,
+    )
+
+pub sees_more : (start core new : Core) (before events : List Event) (earlier taken : List Entry)
+    → IsRun start before earlier core → Runs core events taken new → (s : ℕ)
+    → ((core.sessions s).seen ≤ (new.sessions s).seen) × ((new.sessions s).seen ≤ length new.history)
+sees_more start core new before events earlier taken run runs s =
+    let good = run_good start core before earlier run in
+    (runs_seen core new events taken runs good s, (runs_good core new events taken runs good).seen s)
+
+pub logs_true : (start core : Core) (events : List Event) (taken : List Entry) → IsRun start events taken core
+    → (s number : ℕ) → IsNumberOf (core.sessions s).log.steps number → IsTrueOfWorlds (core.sessions s).log number
+logs_true start core events taken run s number is =
+    step_true core.opening (core.sessions s).log number ((run_good start core events taken run).form s) is
+
+pub pool_valid : (start core : Core) (events : List Event) (taken : List Entry) → IsRun start events taken core
+    → (i : ℕ) (entry : PoolEntry) → core.pool i ≡ Some entry → IsShareable entry
+pool_valid start core events taken run = (run_good start core events taken run).pool
+
+pub answers_right : (start core new : Core) (events : List Event) (taken : List Entry) → IsRun start events taken core
+    → (s : ℕ) (asked : Asked) (most budget : ℕ) (pending : Option Pending) (given : Answer) (sets : List (List ℕ))
+    → IsStep core (answer s asked most budget pending (definite given sets)) new
+    → IsRight (seen_framework core s) asked given × HasAccepted (seen_framework core s) asked given sets
+answers_right start core new events taken run s asked most budget pending given sets step =
+    let good = run_good start core events taken run in
+    let f = seen_framework core s in
+    let log = (core.sessions s).log in
+    let edits = edits_in (take (core.sessions s).seen core.history) in
+    let numbered : IsNumbered f = edits_keep core.opening edits good.numbered in
+    let form : IsLog f log = same_log core.opening f log (sym (kind_stays core.opening edits)) (good.form s) in
+    let shown = step.ends.2 in (
+      shown_answer_right f asked given sets log numbered form shown,
+      shown_is_accepted f asked given sets log form (good.guards s) shown,
+    )

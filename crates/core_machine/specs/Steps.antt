@@ -1,0 +1,202 @@
+-- The steps of the core: an edit is committed, a session sees all edits, learns a clause, keeps a side clause, hands a
+-- clause to the pool or takes one from it, and answers a query.
+use Rattle.std.specs.Prelude.{◌≡◌, ◌⊎◌, ℕ, ◌+◌, ◌≤◌, ◌<◌, Bool, true, false, List, [], ◌∷◌, ◌++◌, length, take, Contains, slice_index_or, count_by, Option, Some, None, Result, Ok, Err, if◌then◌else◌, nat_le}
+use Rattle.plain_lits.specs.Units.{Units}
+use Rattle.semantics.specs.Frameworks.{Framework}
+use Rattle.meaning_atoms.specs.declared.atom.AtomLit.{AtomLit}
+use Rattle.meaning_atoms.specs.declared.axiom.AxiomName.{AxiomName}
+use Rattle.meaning_atoms.specs.Literals.{AsksNothing}
+use Rattle.iccma_tasks.specs.Tasks.{Asked}
+use Rattle.certificate_claims.specs.Refutations.{IsAxiomOf, axiom_clause}
+use Rattle.edit_words.specs.declared.edit.Edit.{Edit}
+use Rattle.edit_words.specs.declared.effect.Effect.{Effect}
+use Rattle.edit_words.specs.declared.effect.EditFault.{EditFault}
+use Rattle.edit_rules.specs.Edits.{edit_outcome}
+use Rattle.edit_history.specs.declared.entry.Entry.{Entry}
+use Rattle.edit_history.specs.Entries.{framework_after}
+use Rattle.oracle_face.specs.declared.entry.Entry.{Entry as PoolEntry}
+use Rattle.oracle_face.specs.declared.entry.EntryName.{EntryName}
+use Rattle.oracle_face.specs.declared.entry.EntryOrigin.{EntryOrigin}
+use Rattle.oracle_face.specs.declared.entry.EntryOrigin.TheVariants.{Axiom as OfAxiom, Hints}
+use Rattle.oracle_face.specs.declared.entry.HintName.{HintName}
+use Rattle.oracle_face.specs.declared.entry.HintName.TheVariants.{Axiom, Entry as OfEntry}
+use Rattle.oracle_face.specs.declared.face.Pending.{Pending}
+use Rattle.oracle_face.specs.Logs.{OracleLog, LogStep, Source, by_axiom, by_side, by_hints, HasPart, IsNew, IsNumberOf, clauses_of, is_loop, step_at, working}
+use Rattle.oracle_face.specs.Needed.{IsNeeded}
+use Rattle.session_log.specs.Ends.{Ending, IsEnd}
+use Rattle.session_log.specs.Steps.{Derives, TakesAxiom, TakesSide}
+use Rattle.clause_imports.specs.Imports.{MayImport, TakesEntry}
+use Rattle.core_machine.specs.Core.{Core, put_at, seen_framework, with_log, with_session}
+
+-- what a session does
+pub data Event : Type 0 where
+  commit : (s : ℕ) (edit : Edit) → Event
+  refresh : (s : ℕ) → Event
+  learn : (s : ℕ) (clause : List AtomLit) (source : Source) (closing : Bool) → Event
+  side : (s : ℕ) (set : List ℕ) (literals : List AtomLit) → Event
+  share : (s k i : ℕ) → Event
+  take_in : (s i : ℕ) → Event
+  answer : (s : ℕ) (asked : Asked) (most budget : ℕ) (pending : Option Pending) (ending : Ending) → Event
+
+-- ---- edits
+
+abbrev pub entry_taken : ℕ → Edit → Result (Framework × Effect) EditFault → List Entry
+entry_taken s edit (Ok done) = record { session = s; edit = edit } ∷ []
+entry_taken s edit (Err fault) = []
+
+-- what a commit adds: its entry, where the history has room and the framework after it takes the edit
+abbrev pub committed : Core → ℕ → Edit → List Entry
+committed core s edit =
+    if nat_le core.limit (length core.history) then []
+    else entry_taken s edit (edit_outcome (framework_after core.opening core.history) edit)
+
+-- one turn: the history gains these entries, and the session has seen all of it
+abbrev pub after_turn : Core → ℕ → List Entry → Core
+after_turn core s entries =
+    with_session (record core { history = core.history ++ entries; turns = core.turns + 1 }) s
+    (record (core.sessions s) { seen = length (core.history ++ entries) })
+
+-- ---- clauses
+
+-- some entry of the pool names the axiom
+abbrev pub NamesAxiom : AxiomName → EntryOrigin → Type 0
+NamesAxiom name (OfAxiom other) = other ≡ name
+NamesAxiom name (Hints names) = Contains names (Axiom name)
+
+pub record IsNamedInPool (core : Core) (name : AxiomName) : Type 0 where
+  pub index : ℕ
+  pub entry : PoolEntry
+  pub there : core.pool index ≡ Some entry
+  pub named : NamesAxiom name entry.origin
+
+-- the axiom is needed on the framework after some entries that the session has seen
+pub record IsNeededFor (core : Core) (s : ℕ) (name : AxiomName) : Type 0 where
+  pub count : ℕ
+  pub seen : count ≤ (core.sessions s).seen
+  pub needed : IsNeeded (framework_after core.opening (take count core.history)) name
+
+-- a loop clause is new, and any other axiom is called for: by a framework that the session has seen, or by the pool
+abbrev pub IsCalledFor : Core → ℕ → AxiomName → Bool → Type 0
+IsCalledFor core s name true = IsNew (working (core.sessions s).log.steps) (axiom_clause name)
+IsCalledFor core s name false = IsNeededFor core s name ⊎ IsNamedInPool core name
+
+-- an axiom of the framework's kind comes, which no step of the log is yet
+pub record LearnsAxiom (core : Core) (s : ℕ) (name : AxiomName) (clause : List AtomLit) (log : OracleLog) : Type 0
+  where
+    pub of_kind : IsAxiomOf core.opening name
+    pub once : (number : ℕ) → IsNumberOf (core.sessions s).log.steps number
+        → (step_at (core.sessions s).log.steps number).source ≡ by_axiom name → ⊥
+    pub called : IsCalledFor core s name (is_loop name)
+    pub takes : TakesAxiom name clause (core.sessions s).log log
+
+-- a derived clause only ends a search where no step's clause is a part of it, and else it is new
+abbrev pub IsWorthIt : List LogStep → List AtomLit → Bool → Type 0
+IsWorthIt steps clause true = HasPart (clauses_of steps) clause → ⊥
+IsWorthIt steps clause false = IsNew (working steps) clause
+
+-- what is learned: an axiom, or a clause that follows by hints of which each is needed
+abbrev pub LearnsTo : Core → ℕ → List AtomLit → Source → Bool → OracleLog → Type 0
+LearnsTo core s clause (by_axiom name) closing log = (closing ≡ false) × LearnsAxiom core s name clause log
+LearnsTo core s clause (by_side n) closing log = ⊥
+LearnsTo core s clause (by_hints hints) closing log =
+    IsWorthIt (core.sessions s).log.steps clause closing × Derives clause hints None closing (core.sessions s).log log
+
+-- the name under which a step's clause is handed on: its axiom's, its entry's, or that of an entry of one's own
+abbrev pub name_by_source : ℕ → ℕ → Source → HintName
+name_by_source s number (by_axiom name) = Axiom name
+name_by_source s number source = OfEntry (record { session = s; step = number })
+
+abbrev pub name_in_log : ℕ → ℕ → Option EntryName → Source → HintName
+name_in_log s number None source = name_by_source s number source
+name_in_log s number (Some name) source = OfEntry name
+
+abbrev pub name_of_step : ℕ → List LogStep → ℕ → HintName
+name_of_step s steps number = name_in_log s number (step_at steps number).imported (step_at steps number).source
+
+-- where a shared clause comes from: each hint by its name
+abbrev pub origin_of : ℕ → List LogStep → Source → EntryOrigin → Type 0
+origin_of s steps (by_axiom name) origin = origin ≡ OfAxiom name
+origin_of s steps (by_side n) origin = ⊥
+origin_of s steps (by_hints hints) origin =
+    (names : List HintName) × (origin ≡ Hints names) × (length names ≡ length hints)
+    × ((k : ℕ) (d : HintName) → k < length hints
+    → slice_index_or names k d ≡ name_of_step s steps (slice_index_or hints k 0))
+
+-- a step of one's own that asks for no side clause is handed to a place of the pool that is empty, or has the same
+-- entry
+pub record Shares (core : Core) (s k i : ℕ) (new : Core) : Type 0 where
+  pub step : IsNumberOf (core.sessions s).log.steps k
+  pub plain : AsksNothing (step_at (core.sessions s).log.steps k).clause
+  pub own : (step_at (core.sessions s).log.steps k).imported ≡ None
+  pub entry : PoolEntry
+  pub clause : entry.clause ≡ (step_at (core.sessions s).log.steps k).clause
+  pub name : entry.name ≡ record { session = s; step = k }
+  pub origin : origin_of s (core.sessions s).log.steps (step_at (core.sessions s).log.steps k).source entry.origin
+  pub place : (core.pool i ≡ None) ⊎ (core.pool i ≡ Some entry)
+  pub is : new ≡ with_session (record core { pool = put_at i (Some entry) core.pool }) s
+      (record (core.sessions s) { shared = k ∷ (core.sessions s).shared })
+
+-- an entry of another session comes into the log, by its origin
+pub record TakesFromPool (core : Core) (s i : ℕ) (new : Core) : Type 0 where
+  pub entry : PoolEntry
+  pub there : core.pool i ≡ Some entry
+  pub may : MayImport core.opening s (core.sessions s).log entry
+  pub log : OracleLog
+  pub takes : TakesEntry s entry (core.sessions s).log log
+  pub is : new ≡ with_log core s log
+
+-- ---- answers
+
+-- whether a step is that of a side clause
+abbrev pub is_by_side : Source → Bool
+is_by_side (by_side n) = true
+is_by_side source = false
+
+abbrev pub is_side_step : LogStep → Bool
+is_side_step step = is_by_side step.source
+
+-- the log as it was with so many steps: each side clause has a step
+abbrev pub cut : OracleLog → ℕ → OracleLog
+cut log count = record {
+  limit = log.limit;
+  steps = take count log.steps;
+  sides = take (count_by is_side_step (take count log.steps)) log.sides;
+}
+
+-- a query ends so on the framework after what its session has seen, by what its log has gained since the last answer
+pub record Answers (core : Core) (s : ℕ) (asked : Asked) (most budget : ℕ) (pending : Option Pending) (ending : Ending)
+    (new : Core) : Type 0 where
+  pub after : Units
+  pub ends : IsEnd (seen_framework core s) asked most (record {
+    old = cut (core.sessions s).log (core.sessions s).answered;
+    new = (core.sessions s).log;
+    pending = pending;
+    before = record { limit = budget; used = 0 };
+    after = after;
+  }) ending
+  pub is : new ≡ with_session core s (record (core.sessions s) { answered = length (core.sessions s).log.steps })
+
+-- ---- steps and runs
+
+abbrev pub IsStep : Core → Event → Core → Type 0
+IsStep core (commit s edit) new = new ≡ after_turn core s (committed core s edit)
+IsStep core (refresh s) new = new ≡ after_turn core s []
+IsStep core (learn s clause source closing) new =
+    (log : OracleLog) × LearnsTo core s clause source closing log × (new ≡ with_log core s log)
+IsStep core (side s set literals) new =
+    (log : OracleLog) × ((clause : List AtomLit) × TakesSide literals set clause (core.sessions s).log log)
+    × (new ≡ with_log core s log)
+IsStep core (share s k i) new = Shares core s k i new
+IsStep core (take_in s i) new = TakesFromPool core s i new
+IsStep core (answer s asked most budget pending ending) new = Answers core s asked most budget pending ending new
+
+-- the entries that an event adds to the history
+abbrev pub taken_by : Core → Event → List Entry
+taken_by core (commit s edit) = committed core s edit
+taken_by core event = []
+
+-- the events lead from the one state to the other, and these entries are added
+pub data Runs : Core → List Event → List Entry → Core → Type 0 where
+  rests : (core : Core) → Runs core [] [] core
+  goes : (core mid new : Core) (event : Event) (events : List Event) (taken : List Entry) → IsStep core event mid
+      → Runs mid events taken new → Runs core (event ∷ events) (taken_by core event ++ taken) new

@@ -1,0 +1,31 @@
+//! What holds of every run of the core, whatever the order of its steps. Each function does nothing; its contract is
+//! the law.
+
+ghost use Rattle.core_machine.specs.Laws.{AnswersAreRight, EachSeesMore, HistoryIsTaken, LogsAreTrue, PoolIsValid};
+
+/// The history has what it had, and then the edits that the run took, in order and each once; and none of them is
+/// refused where they are made one after the other on the framework at the beginning.
+pub fn history_is_what_was_taken()
+    ensures { HistoryIsTaken }
+{}
+
+/// No session has ever seen less of the history than before, and none sees more than there is.
+pub fn each_session_sees_more()
+    ensures { EachSeesMore }
+{}
+
+/// Each step of a session's log is true in every world of every framework, beside the session's side clauses.
+pub fn logs_are_true()
+    ensures { LogsAreTrue }
+{}
+
+/// Each clause of the pool is true of every framework, and asks for no side clause.
+pub fn pools_are_valid()
+    ensures { PoolIsValid }
+{}
+
+/// Each answer is right on the framework after the edits that its session has seen, and has a certificate that the
+/// check accepts, of which no step could be left out.
+pub fn answers_are_right()
+    ensures { AnswersAreRight }
+{}

@@ -1,0 +1,4 @@
+pub mod RisingLists
+pub mod EditTests
+pub mod NumberLists
+pub mod RefusalLemmas

@@ -1,1 +1,0 @@
-use Rattle.entry_taking.proofs.names.StepNames.note.Goals as goal

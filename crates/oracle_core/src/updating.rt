@@ -1,0 +1,180 @@
+//! Edits of an engine's framework.
+
+ghost use Rattle.std.specs.Prelude.{◌≡◌, ◌≢◌, ◌⊎◌, true, length, Err, IfOk, IsTrue, OnErr, OnOk};
+ghost use Rattle.edit_rules.specs.Kinds.{framework_of};
+ghost use Rattle.edit_rules.specs.Replay.{IsTaken, after_edit};
+ghost use Rattle.af_encoding.specs.Changes.{IsEffectOf};
+ghost use Rattle.oracle_core.specs.Engines.{AreInForce, AreUsedOrWait, IsWhole};
+ghost use Rattle.oracle_core.specs.Needing.{AreCalledFor, AreNeededBy};
+ghost use Rattle.oracle_core.specs.Updating.{GainsNeeded};
+
+use crate::engine::Engine;
+use crate::parts::{Parts, members_of, needed_of};
+use edit_rules::{Effect, Framework, apply};
+use meaning_atoms::AxiomName;
+use plain_lists::{Items, Memory};
+use plain_lits::Halt;
+use std::alloc::Global;
+
+/// Why an update stopped.
+#[derive(Clone, Copy, Debug, PartialEq, Eq)]
+pub enum UpdateStop {
+    /// The log had no room for an axiom.
+    LogFull,
+    /// An allocation was refused.
+    Memory,
+}
+
+impl From<Halt> for UpdateStop {
+    ghost use Rattle.std.specs.Prelude.{◌≡◌};
+    ghost use Rattle.oracle_core.specs.Stopping.{update_stop_of};
+
+    ghost from_gives = { λ halt stop. stop ≡ update_stop_of halt };
+
+    fn from(halt: Halt) -> UpdateStop {
+        match halt {
+            Halt::LogFull => UpdateStop::LogFull,
+            // Axioms spend nothing, so no budget ends an update.
+            Halt::Memory | Halt::Spent(_) => UpdateStop::Memory,
+        }
+    }
+}
+
+impl From<Memory> for UpdateStop {
+    ghost use Rattle.std.specs.Prelude.{◌≡◌};
+    ghost use Rattle.oracle_core.specs.declared.updating.UpdateStop.TheVariants.{Memory};
+
+    ghost from_gives = { λ _ stop. stop ≡ Memory };
+
+    fn from(_error: Memory) -> UpdateStop {
+        UpdateStop::Memory
+    }
+}
+
+/// The framework behind an edit that it takes.
+fn edited(alloc: Global, framework: &Framework, effect: &Effect) -> Result<Framework, Memory>
+    requires { IsTaken (framework_of framework.now) effect.now.edit effect.now }
+    ensures { IfOk result (λ after.
+        framework_of after ≡ after_edit (framework_of framework.now) effect.now.edit) }
+{
+    let mut after = framework.copy(alloc)?;
+    // No fault but want of memory is left, since the edit is taken.
+    match apply(alloc, &mut after, &effect.edit) {
+        Ok(_) => Ok(after),
+        Err(_) => Err(Memory),
+    }
+}
+
+/// The axioms that the framework behind an edit needs and the one before it did not.
+fn changed_of(
+    alloc: Global,
+    before: &Framework,
+    after: &Framework,
+    effect: &Effect,
+) -> Result<Items<AxiomName>, Memory>
+    requires { IsEffectOf (framework_of before.now) (framework_of after.now) effect.now }
+    ensures { IfOk result (AreCalledFor (framework_of before.now) (framework_of after.now)) }
+{
+    let _form = before.kind();
+    match after {
+        Framework::Af(plain) => af_encoding::changed(alloc, plain, effect),
+        Framework::Aba(plain) => aba_changed::changed(alloc, plain, effect),
+    }
+}
+
+impl Parts {
+    /// Whether no axiom waits.
+    fn has_all(&self) -> bool
+        requires { IsWhole self.now }
+        ensures { IsTrue result → AreInForce (framework_of self.now.framework) self.now.solver.log }
+    {
+        self.begun && self.taken == self.needed.len()
+    }
+
+    /// The axioms that the log may lack behind an edit. Where no axiom waits, these are the ones that the edit calls for,
+    /// found without a walk over the framework.
+    fn lacking(
+        &self,
+        alloc: Global,
+        after: &Framework,
+        effect: &Effect,
+    ) -> Result<Items<AxiomName>, Memory>
+        requires whole { IsWhole self.now }
+        requires effect { IsEffectOf (framework_of self.now.framework) (framework_of after.now) effect.now }
+        ensures needed { IfOk result (AreNeededBy (framework_of after.now)) }
+        ensures waits { IfOk result (λ names.
+            AreUsedOrWait (framework_of after.now) self.now.solver.log names 0) }
+    {
+        if self.has_all() {
+            return changed_of(alloc, &self.framework, after, effect);
+        }
+        needed_of(alloc, after)
+    }
+
+    /// Changes the framework by an edit that it takes; the axioms that the log may lack wait then.
+    fn follow(&mut self, alloc: Global, effect: &Effect) -> Result<(), Memory>
+        requires whole { IsWhole self.old }
+        requires taken { IsTaken (framework_of self.old.framework) effect.now.edit effect.now }
+        ensures whole { IsWhole self.new }
+        ensures begun { OnOk result (self.new.begun ≡ true) }
+        ensures framework { OnOk result (framework_of self.new.framework
+            ≡ after_edit (framework_of self.old.framework) effect.now.edit) }
+        ensures solver { self.new.solver ≡ self.old.solver }
+        ensures err { OnErr result (self.new ≡ self.old) }
+    {
+        let framework = edited(alloc, &self.framework, effect)?;
+        let members = members_of(alloc, &framework)?;
+        let needed = self.lacking(alloc, &framework, effect)?;
+        self.framework = framework;
+        self.members = members;
+        self.needed = needed;
+        self.taken = 0;
+        self.begun = true;
+        Ok(())
+    }
+
+    /// Changes the framework by an edit that it takes, and puts the axioms that it needs then in force.
+    fn update(&mut self, alloc: Global, effect: &Effect) -> Result<(), UpdateStop>
+        requires whole { IsWhole self.old }
+        requires taken { IsTaken (framework_of self.old.framework) effect.now.edit effect.now }
+        ensures whole { IsWhole self.new }
+        ensures framework { result ≢ Err UpdateStop.Memory → framework_of self.new.framework
+            ≡ after_edit (framework_of self.old.framework) effect.now.edit }
+        ensures stays { (self.new ≡ self.old) ⊎ (framework_of self.new.framework
+            ≡ after_edit (framework_of self.old.framework) effect.now.edit) }
+        ensures in_force { OnOk result (AreInForce (framework_of self.new.framework) self.new.solver.log) }
+        ensures full { result ≡ Err UpdateStop.LogFull
+            → length self.new.solver.log.steps ≡ self.new.solver.log.limit }
+        ensures gains { GainsNeeded (framework_of self.new.framework) self.old.solver.log self.new.solver.log }
+        ensures pending { self.new.solver.pending ≡ self.old.solver.pending }
+    {
+        self.follow(alloc, effect)?;
+        self.take_lacking(alloc)?;
+        Ok(())
+    }
+}
+
+impl Engine {
+    /// Follows an edit of the framework: `effect` is what the edit does to the engine's framework. Nothing is withdrawn
+    /// from the log. It gains the axioms that the framework needs behind the edit and that no step is yet; so an engine
+    /// that had all of those before takes time for what the edit changed, beside the copies of the framework's flat
+    /// arrays. The first update of an engine that was asked nothing works out all axioms that the framework needs.
+    ///
+    /// `LogFull` comes only at a full log: the framework is the edited one then, and the next answer that takes steps
+    /// adds the axioms that lack, or stops so. After `Memory` either nothing has changed, or the framework is the edited
+    /// one and some axioms may lack, which the next answer adds.
+    pub fn update(&mut self, alloc: Global, effect: &Effect) -> Result<(), UpdateStop>
+        requires { IsTaken self.old.framework effect.now.edit effect.now }
+        ensures framework { result ≢ Err UpdateStop.Memory
+            → self.new.framework ≡ after_edit self.old.framework effect.now.edit }
+        ensures stays { (self.new ≡ self.old)
+            ⊎ (self.new.framework ≡ after_edit self.old.framework effect.now.edit) }
+        ensures in_force { OnOk result (AreInForce self.new.framework self.new.log) }
+        ensures full { result ≡ Err UpdateStop.LogFull → length self.new.log.steps ≡ self.new.log.limit }
+        ensures gains { GainsNeeded self.new.framework self.old.log self.new.log }
+        ensures number { self.new.number ≡ self.old.number }
+        ensures pending { self.new.pending ≡ self.old.pending }
+    {
+        self.parts.update(alloc, effect)
+    }
+}

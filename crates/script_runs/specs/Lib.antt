@@ -1,0 +1,4 @@
+pub mod Served
+pub mod Running
+pub mod Transcripts
+pub mod Finishing

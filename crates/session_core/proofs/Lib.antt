@@ -1,0 +1,3 @@
+mod FollowingLemmas
+mod ReplyLemmas
+mod SessionLemmas

@@ -1,0 +1,131 @@
+-- The reply that an engine's end of a query comes to.
+use Rattle.std.proofs.Common.{◌≡◌, ◌∙◌, ℕ, ◌+◌, ◌*◌, ◌≤◌, true, length, refl, sym, ap, subst, arith}
+use Rattle.std.proofs.Common.{Option, Result, Ok, Err}
+use Rattle.std.specs.Prelude.{IfErr, IfOk, OnOk}
+use Rattle.plain_lits.specs.Units.{Units}
+use Rattle.semantics.specs.Frameworks.{Framework}
+use Rattle.iccma_tasks.specs.Tasks.{Asked}
+use Rattle.edit_rules.specs.Fitting.{Fits}
+use Rattle.oracle_face.specs.declared.face.Pending.{Pending}
+use Rattle.oracle_face.specs.Growing.{HasRun, IsStop}
+use Rattle.oracle_face.specs.Logs.{OracleLog}
+use Rattle.session_log.specs.Ends.{MadeFor}
+use Rattle.log_certificates.specs.Cuts.{AreCut}
+use Rattle.query_answers.specs.Answers.{is_by_grounded}
+use Rattle.oracle_core.specs.declared.reply.Answered.{Answered}
+use Rattle.oracle_core.specs.declared.reply.AnswerStop.{AnswerStop}
+use Rattle.oracle_core.specs.declared.reply.AnswerStop.TheVariants as stop
+use Rattle.oracle_core.specs.Answering.{IsCause, halt_behind}
+use Rattle.oracle_core.specs.Answers.{IsShownBy}
+use Rattle.session_replies.specs.declared.reply.Body.{Body}
+use Rattle.session_replies.specs.declared.reply.Body.TheVariants.{Done, EditRefused, Full}
+use Rattle.session_replies.specs.declared.reply.Body.TheVariants.{Answered as OfAnswered, QueryRefused, Unknown}
+use Rattle.session_replies.specs.declared.reply.Body.TheVariants.{TooMany, LogFull}
+use Rattle.session_core.specs.declared.answering.TheConstants.{EXTENSION_LIMIT}
+use Rattle.session_core.specs.declared.answering.Told.{Told}
+use Rattle.session_core.specs.Replies.{Keeps, QuerySays, halt_told, units_used}
+use Rattle.session_core.specs.Telling.{IsBodyOf, IsTold, clause_kept}
+
+-- what the reply says
+says_of : (f : Framework) (asked : Asked) (log : OracleLog) (end : Result Answered AnswerStop) (said : Body)
+    → IsBodyOf end said → OnOk end (Fits f asked) → IfOk end (λ a. IsShownBy f asked a.answer a.certificate)
+    → IfOk end (λ a. AreCut log a.certificate.refutations) → IfErr end (IsCause f asked EXTENSION_LIMIT)
+    → QuerySays f asked log said
+says_of f asked log (Ok a) said is fits shown cut cause = subst (QuerySays f asked log) (sym is) (fits, shown, cut)
+says_of f asked log (Err (stop.Query fault)) said is fits shown cut cause = subst (QuerySays f asked log) (sym is) cause
+says_of f asked log (Err (stop.Spent count)) said is fits shown cut cause = subst (QuerySays f asked log) (sym is) cause
+says_of f asked log (Err stop.TooMany) said is fits shown cut cause = subst (QuerySays f asked log) (sym is) cause
+says_of f asked log (Err stop.LogFull) said is fits shown cut cause = subst (QuerySays f asked log) (sym is) cause
+says_of f asked log (Err stop.Memory) said is fits shown cut cause = absurd is
+
+-- the halt that it tells
+halt_same : (end : Result Answered AnswerStop) (said : Body) → IsBodyOf end said → halt_behind end ≡ halt_told said
+halt_same (Ok a) said is = sym (ap halt_told is)
+halt_same (Err (stop.Query fault)) said is = sym (ap halt_told is)
+halt_same (Err (stop.Spent count)) said is = sym (ap halt_told is)
+halt_same (Err stop.TooMany) said is = sym (ap halt_told is)
+halt_same (Err stop.LogFull) said is = sym (ap halt_told is)
+halt_same (Err stop.Memory) said is = absurd is
+
+-- the clause that is kept is the one in hand, where a halt wants it
+module _ (f : Framework) (asked : Asked) (log : OracleLog) (pending : Option Pending) (after : Units) where
+  abbrev Stops : Option Pending → Body → Type 0
+  Stops kept said = IsStop (MadeFor f asked) f log kept after (halt_told said)
+
+  stop_kept : (said : Body) → Stops pending said → Stops (clause_kept said pending) said
+  stop_kept (Done effect) h = h
+  stop_kept (EditRefused fault) h = h
+  stop_kept Full h = h
+  stop_kept (OfAnswered answer certificate) h = h
+  stop_kept (QueryRefused fault) h = h
+  stop_kept (Unknown count) h = h
+  stop_kept TooMany h = h
+  stop_kept LogFull h = h
+
+-- it is kept only where a budget was spent
+keeps : (said : Body) (pending : Option Pending) → Keeps said (clause_kept said pending)
+keeps (Done effect) pending = refl
+keeps (EditRefused fault) pending = refl
+keeps Full pending = refl
+keeps (OfAnswered answer certificate) pending = refl
+keeps (QueryRefused fault) pending = refl
+keeps (Unknown count) pending = tt
+keeps TooMany pending = refl
+keeps LogFull pending = refl
+
+units_are : (units : Units) (limit used : ℕ) → units.limit ≡ limit → units.used ≡ used
+    → units ≡ units_used limit used
+units_are units limit used is uses = λ i. record { limit = is i; used = uses i }
+
+run_kept : (f : Framework) (asked : Asked) (limit : ℕ) (old new : OracleLog) (pending : Option Pending)
+    (before after : Units) (end : Result Answered AnswerStop) (said : Body) → before.limit ≡ limit → before.used ≡ 0
+    → IsBodyOf end said
+    → HasRun (MadeFor f asked) (2 * length new.sides + 2) f old new pending before after (halt_behind end)
+    → HasRun (MadeFor f asked) (2 * length new.sides + 2) f old new (clause_kept said pending) (units_used limit 0)
+    (units_used limit after.used) (halt_told said)
+run_kept f asked limit old new pending before after end said of unused is run =
+    let Run : Units → Units → Type 0 = λ one two. HasRun (MadeFor f asked) (2 * length new.sides + 2) f old new
+    (clause_kept said pending) one two (halt_told said) in
+    let told = subst (λ halt. HasRun (MadeFor f asked) (2 * length new.sides + 2) f old new pending before after halt)
+    (halt_same end said is) run in
+    subst (λ one. Run one (units_used limit after.used)) (units_are before limit 0 of unused)
+    (subst (Run before) (units_are after limit after.used (told.limit ∙ of) refl)
+    (record {
+      grows = told.grows;
+      limit = told.limit;
+      works = told.works;
+      closing = told.closing;
+      stop = stop_kept f asked new pending after said told.stop;
+    }))
+
+-- what a query came to, as the session tells it
+pub told_is : (f : Framework) (asked : Asked) (limit : ℕ) (old new : OracleLog) (pending : Option Pending)
+    (before after : Units) (end : Result Answered AnswerStop) (told : Told) → before.limit ≡ limit → before.used ≡ 0
+    → after.used ≤ after.limit → OnOk end (Fits f asked)
+    → IfOk end (λ a. IsShownBy f asked a.answer a.certificate) → IfOk end (λ a. AreCut new a.certificate.refutations)
+    → IfErr end (IsCause f asked EXTENSION_LIMIT)
+    → HasRun (MadeFor f asked) (2 * length new.sides + 2) f old new pending before after (halt_behind end)
+    → (is_by_grounded asked.task.problem asked.task.semantics ≡ true → new ≡ old) → IsBodyOf end told.body
+    → told.kept.pending ≡ clause_kept told.body pending → told.kept.before ≡ length old.steps
+    → told.kept.after ≡ length new.steps → IsTold f asked limit old new told
+told_is f asked limit old new pending before after end told of unused within fits shown cut cause run grounded is kept
+    first last = record {
+      used = after.used;
+      replied = record {
+        says = says_of f asked new end told.body is fits shown cut cause;
+        within =
+            let most : after.used ≤ after.limit = within in
+            let same : after.limit ≡ before.limit = run.limit in
+            let is_limit : before.limit ≡ limit = of in
+            omega arith;
+        run = subst (λ p. HasRun (MadeFor f asked) (2 * length new.sides + 2) f old new p (units_used limit 0)
+            (units_used limit after.used) (halt_told told.body)) (sym kept)
+            (run_kept f asked limit old new pending before after end told.body of unused is run);
+        by_grounded = grounded;
+      };
+      kept_is = record {
+        before = first;
+        after = last;
+        pending = subst (λ p. Keeps told.body p) (sym kept) (keeps told.body pending);
+      };
+    }

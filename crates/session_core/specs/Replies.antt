@@ -1,0 +1,108 @@
+-- What a session's replies say.
+use Rattle.std.specs.Prelude.{◌≡◌, ℕ, ◌+◌, ◌*◌, ◌<◌, ◌≤◌, true, List, length, take, Option, Some, None, Err}
+use Rattle.plain_lits.specs.declared.halt.Halt.{Halt}
+use Rattle.plain_lits.specs.declared.halt.Halt.TheVariants.{Spent, LogFull as OfLogFull}
+use Rattle.plain_lits.specs.Units.{Units}
+use Rattle.semantics.specs.Frameworks.{Framework}
+use Rattle.iccma_tasks.specs.Tasks.{Asked}
+use Rattle.edit_words.specs.declared.edit.Edit.{Edit}
+use Rattle.edit_rules.specs.Edits.{edit_outcome}
+use Rattle.edit_rules.specs.Fitting.{Fits, IsFaultOf}
+use Rattle.edit_history.specs.declared.entry.Entry.{Entry}
+use Rattle.edit_history.specs.Entries.{framework_after}
+use Rattle.edit_history.specs.Hubs.{GainsOthers, IsCommitted}
+use Rattle.oracle_face.specs.declared.face.Pending.{Pending}
+use Rattle.oracle_face.specs.Growing.{Grows, HasRun}
+use Rattle.oracle_face.specs.Logs.{OracleLog}
+use Rattle.session_log.specs.Ends.{MadeFor}
+use Rattle.log_certificates.specs.Cuts.{AreCut}
+use Rattle.query_answers.specs.Answers.{AreTooMany, is_by_grounded}
+use Rattle.oracle_core.specs.Answering.{NeedsSearch}
+use Rattle.oracle_core.specs.Answers.{IsShownBy}
+use Rattle.oracle_core.specs.Trading.{AnySide}
+use Rattle.session_replies.specs.declared.reply.Body.{Body}
+use Rattle.session_replies.specs.declared.reply.Body.TheVariants.{Done, EditRefused, Full}
+use Rattle.session_replies.specs.declared.reply.Body.TheVariants.{Answered, QueryRefused, Unknown, TooMany, LogFull}
+use Rattle.session_replies.specs.declared.reply.Reply.{Reply}
+use Rattle.session_core.specs.declared.answering.TheConstants.{EXTENSION_LIMIT}
+use Rattle.session_core.specs.declared.kept.KeptAnswer.{KeptAnswer}
+
+-- ---- edits
+
+-- what the reply to a session's edit says, where the history was so before and is so now: the edit was taken on the
+-- framework after all others, and is the last entry; or else only other sessions added to it, and the framework after
+-- all of it refuses the edit, or it is full
+abbrev pub EditSays : ℕ → Framework → ℕ → Edit → List Entry → List Entry → Body → Type 0
+EditSays limit f session edit before now (Done effect) = IsCommitted limit f session edit before now effect
+EditSays limit f session edit before now (EditRefused fault) =
+    GainsOthers session before now
+    × (length now < limit)
+    × (edit_outcome (framework_after f now) edit ≡ Err fault)
+EditSays limit f session edit before now Full = GainsOthers session before now × (length now ≡ limit)
+EditSays limit f session edit before now body = ⊥
+
+-- the reply says so, of the whole history
+pub record IsEditReply (limit : ℕ) (f : Framework) (session : ℕ) (edit : Edit) (before now : List Entry)
+    (reply : Reply) : Type 0 where
+  pub front : reply.front ≡ length now
+  pub says : EditSays limit f session edit before now reply.body
+
+-- ---- queries
+
+-- so many units of so many are used
+abbrev pub units_used : ℕ → ℕ → Units
+units_used limit used = record { limit = limit; used = used }
+
+-- the halt that a reply tells
+abbrev pub halt_told : Body → Option Halt
+halt_told (Unknown count) = Some (Spent count)
+halt_told LogFull = Some OfLogFull
+halt_told body = None
+
+-- what the reply to a query says of the framework, beside the log behind it: the answer is right, and its certificate
+-- is accepted and cut out of the log; the query has this fault; there are too many extensions; or a search was halted
+abbrev pub QuerySays : Framework → Asked → OracleLog → Body → Type 0
+QuerySays f asked log (Answered answer certificate) =
+    Fits f asked
+    × IsShownBy f asked answer certificate
+    × AreCut log certificate.refutations
+QuerySays f asked log (QueryRefused fault) = IsFaultOf f asked fault
+QuerySays f asked log (Unknown count) = NeedsSearch f asked
+QuerySays f asked log TooMany = NeedsSearch f asked × AreTooMany f asked EXTENSION_LIMIT
+QuerySays f asked log LogFull = NeedsSearch f asked
+QuerySays f asked log body = ⊥
+
+-- a query about the framework, with so many units for it, has this reply, beside the logs before it and behind it: what
+-- was added serves the query, and its units are counted; where they were spent, the further clause is kept; where the
+-- log is full, it has as many steps as it may. A query that the grounded set answers adds nothing.
+pub record IsReplied (f : Framework) (asked : Asked) (limit : ℕ) (old new : OracleLog) (pending : Option Pending)
+    (used : ℕ) (body : Body) : Type 0 where
+  pub says : QuerySays f asked new body
+  pub within : used ≤ limit
+  pub run : HasRun (MadeFor f asked) (2 * length new.sides + 2) f old new pending (units_used limit 0)
+      (units_used limit used) (halt_told body)
+  pub by_grounded : is_by_grounded asked.task.problem asked.task.semantics ≡ true → new ≡ old
+
+-- a clause is kept only where a budget was spent
+abbrev pub Keeps : Body → Option Pending → Type 0
+Keeps (Unknown count) pending = Unit {0}
+Keeps body pending = pending ≡ None
+
+-- what is kept of a query with this reply: how long the log was before it and behind it, and the clause in hand
+pub record IsKeptOf (old new : OracleLog) (body : Body) (kept : KeptAnswer) : Type 0 where
+  pub before : kept.before ≡ length old.steps
+  pub after : kept.after ≡ length new.steps
+  pub pending : Keeps body kept.pending
+
+-- the reply to a query can be read off a log that may have grown since: the log before the query and the one behind it
+-- are beginnings of it, as long as what is kept of the query says
+pub record IsReadable (f : Framework) (asked : Asked) (limit : ℕ) (log : OracleLog) (kept : KeptAnswer) (body : Body)
+    : Type 0 where
+  pub old : OracleLog
+  pub new : OracleLog
+  pub used : ℕ
+  pub replied : IsReplied f asked limit old new kept.pending used body
+  pub kept_is : IsKeptOf old new body kept
+  pub first : old.steps ≡ take kept.before log.steps
+  pub last : new.steps ≡ take kept.after log.steps
+  pub since : Grows AnySide new log

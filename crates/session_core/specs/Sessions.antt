@@ -1,0 +1,46 @@
+-- What is said of a session at a hub.
+use Rattle.std.specs.Prelude.{◌≡◌, ℕ, false, List, [], ◌∷◌, ◌++◌, length, take, drop}
+use Rattle.semantics.specs.Frameworks.{Framework}
+use Rattle.iccma_tasks.specs.Tasks.{Asked}
+use Rattle.turn_lock.specs.Seats.{list_of}
+use Rattle.edit_history.specs.declared.entry.Entry.{Entry}
+use Rattle.edit_history.specs.declared.hub.Hub.{Hub}
+use Rattle.edit_history.specs.Entries.{framework_after}
+use Rattle.edit_history.specs.Hubs.{start_of}
+use Rattle.oracle_face.specs.Logs.{OracleLog}
+use Rattle.session_replies.specs.declared.reply.Reply.{Reply}
+use Rattle.session_core.specs.declared.kept.KeptAnswer.{KeptAnswer}
+use Rattle.session_core.specs.declared.session.Session.{Session}
+use Rattle.session_core.specs.Following.{CatchesUp, HasFollowed}
+use Rattle.session_core.specs.Replies.{IsKeptOf, IsReplied}
+
+-- the history that the session has seen
+abbrev pub seen_by : Session → List Entry
+seen_by session = list_of session.seat
+
+-- unless memory was refused, the session's engine is for the framework after the first entries that it has seen, as
+-- many as it has followed
+abbrev pub Follows : Hub → Session → Type 0
+Follows hub session =
+    session.lost ≡ false → HasFollowed (start_of hub) (seen_by session) session.followed session.engine
+
+-- the session follows each hub that began with the framework
+abbrev pub FollowsFrom : Framework → Session → Type 0
+FollowsFrom f session = (hub : Hub) → start_of hub ≡ f → Follows hub session
+
+-- the session took a query, and this is its reply: it followed the whole history as it then was, the log gained axioms
+-- that were needed on the way, the reply is about the framework after the whole history, and what is kept of the query
+-- is added
+pub record IsAsked (hub : Hub) (asked : Asked) (limit : ℕ) (old new : Session) (reply : Reply) : Type 0 where
+  pub front : reply.front ≡ length (seen_by new)
+  pub followed : new.followed ≡ length (seen_by new)
+  pub framework : new.engine.framework ≡ framework_after (start_of hub) (seen_by new)
+  pub log : OracleLog
+  pub catches_up : CatchesUp (framework_after (start_of hub) (take old.followed (seen_by new)))
+      (drop old.followed (seen_by new)) old.engine.log log
+  pub used : ℕ
+  pub kept : KeptAnswer
+  pub replied : IsReplied (framework_after (start_of hub) (seen_by new)) asked limit log new.engine.log kept.pending
+      used reply.body
+  pub kept_is : IsKeptOf log new.engine.log reply.body kept
+  pub answers : new.answers.items ≡ old.answers.items ++ kept ∷ []

@@ -1,0 +1,77 @@
+//! The reply to a query, on the framework that the engine is for.
+
+ghost use Rattle.std.specs.Prelude.{◌≡◌, IfOk};
+ghost use Rattle.oracle_core.specs.Trading.{AnySide};
+ghost use Rattle.oracle_face.specs.Growing.{Grows};
+ghost use Rattle.session_core.specs.Telling.{IsBodyOf, IsTold, clause_kept};
+
+use crate::kept::KeptAnswer;
+use iccma_tasks::Query;
+use oracle_core::{AnswerStop, Answered, Engine};
+use oracle_face::{NoTrade, Pending};
+use plain_lists::Memory;
+use plain_lits::Budget;
+use session_replies::Body;
+use std::alloc::Global;
+
+/// How many extensions are listed at most.
+pub const EXTENSION_LIMIT: u32 = 10_000;
+
+/// What a query came to.
+#[derive(Drop)]
+pub(crate) struct Told {
+    pub(crate) body: Body,
+    pub(crate) kept: KeptAnswer,
+}
+
+/// What a reply says where the engine answered so.
+fn body_of(end: Result<Answered, AnswerStop>) -> Result<Body, Memory>
+    ensures { IfOk result (IsBodyOf end) }
+{
+    match end {
+        Ok(answered) => Ok(Body::Answered(answered.answer, answered.certificate)),
+        Err(AnswerStop::Query(fault)) => Ok(Body::QueryRefused(fault)),
+        Err(AnswerStop::Spent(count)) => Ok(Body::Unknown(count)),
+        Err(AnswerStop::TooMany) => Ok(Body::TooMany),
+        Err(AnswerStop::LogFull) => Ok(Body::LogFull),
+        Err(AnswerStop::Memory) => Err(Memory),
+    }
+}
+
+/// The clause that is kept of a query with this reply.
+fn clause_of(alloc: Global, engine: &Engine, body: &Body) -> Result<Option<Pending>, Memory>
+    ensures { IfOk result (λ kept. kept ≡ clause_kept body.now engine.now.pending) }
+{
+    match body {
+        Body::Unknown(_) => engine.pending(alloc),
+        _ => Ok(None),
+    }
+}
+
+/// Answers a query by at most so many units, without any lock.
+pub(crate) fn tell(
+    alloc: Global,
+    engine: &mut Engine,
+    query: &Query,
+    limit: u64,
+) -> Result<Told, Memory>
+    ensures told { IfOk result (IsTold engine.old.framework query.now limit engine.old.log engine.new.log) }
+    ensures framework { engine.new.framework ≡ engine.old.framework }
+    ensures number { engine.new.number ≡ engine.old.number }
+    ensures grows { Grows AnySide engine.old.log engine.new.log }
+{
+    let before = engine.steps() as u64;
+    let mut budget = Budget::new(limit);
+    let end = engine.answer(alloc, query, &mut budget, EXTENSION_LIMIT, &mut NoTrade);
+    let body = body_of(end)?;
+    let pending = clause_of(alloc, engine, &body)?;
+    let after = engine.steps() as u64;
+    Ok(Told {
+        body,
+        kept: KeptAnswer {
+            before,
+            after,
+            pending,
+        },
+    })
+}

@@ -1,0 +1,67 @@
+//! A session's edits.
+
+ghost use Rattle.std.specs.Prelude.{◌≡◌, ◌<◌, length, true, false, IfOk, IsErr, OnErr, OnOk};
+ghost use mathlib.Core.List.{IsPrefix};
+ghost use Rattle.turn_lock.specs.Seats.{number_of, turns_of};
+ghost use Rattle.edit_history.specs.Hubs.{IsSeatAt, limit_of, start_of};
+ghost use Rattle.session_core.specs.Replies.{IsEditReply};
+ghost use Rattle.session_core.specs.Sessions.{Follows, seen_by};
+
+use crate::session::Session;
+use edit_history::{CommitFault, Hub};
+use edit_rules::Edit;
+use plain_lists::Memory;
+use session_replies::{Body, Reply};
+use std::alloc::Global;
+use std::sync::Wait;
+
+impl Session {
+    /// Commits an edit at one turn. The reply is `Done` where the edit was taken, `EditRefused` where the framework
+    /// after the whole history refuses it, and `Full` exactly where the history has as many entries as it may have; its
+    /// front is the history's length behind the turn. After `Memory` the session answers nothing any more.
+    pub fn edit<R: Wait>(
+        &mut self,
+        rt: &R,
+        alloc: Global,
+        hub: &Hub,
+        edit: Edit,
+    ) -> Result<Reply, Memory>
+        requires { IsSeatAt hub.now self.old.seat }
+        ensures seat { IsSeatAt hub.now self.new.seat × (number_of self.new.seat ≡ number_of self.old.seat) }
+        ensures later { self.old.lost ≡ false → turns_of self.old.seat < turns_of self.new.seat }
+        ensures longer { IsPrefix (seen_by self.old) (seen_by self.new) }
+        ensures ok { IfOk result (IsEditReply (limit_of hub.now) (start_of hub.now) (number_of self.old.seat) edit
+            (seen_by self.old) (seen_by self.new)) }
+        ensures room { self.old.lost ≡ false → OnErr result (length (seen_by self.new) < limit_of hub.now) }
+        ensures number { self.new.number ≡ self.old.number }
+        ensures engine { self.new.engine ≡ self.old.engine }
+        ensures followed { self.new.followed ≡ self.old.followed }
+        ensures answers { self.new.answers ≡ self.old.answers }
+        ensures follows { Follows hub.now self.old → Follows hub.now self.new }
+        ensures kept { OnOk result (self.new.lost ≡ false) }
+        ensures lost { OnErr result (self.new.lost ≡ true) }
+        ensures still_lost { self.old.lost ≡ true → IsErr result × (self.new ≡ self.old) }
+    {
+        if self.lost {
+            return Err(Memory);
+        }
+        match hub.commit(rt, alloc, &mut self.seat, edit) {
+            Ok(done) => Ok(Reply {
+                front: done.front,
+                body: Body::Done(done.effect),
+            }),
+            Err(CommitFault::Edit(fault, front)) => Ok(Reply {
+                front,
+                body: Body::EditRefused(fault),
+            }),
+            Err(CommitFault::HistoryFull(front)) => Ok(Reply {
+                front,
+                body: Body::Full,
+            }),
+            Err(CommitFault::Memory) => {
+                self.lost = true;
+                Err(Memory)
+            }
+        }
+    }
+}

@@ -1,0 +1,22 @@
+//! What is left of a session.
+
+use oracle_core::Engine;
+use oracle_face::Pending;
+
+/// What is kept of a query that got a reply: what the log gained for it stands between two lengths.
+#[derive(Debug, Drop)]
+pub struct KeptAnswer {
+    /// How many steps the log had before the query, with the axioms that the framework needs by then.
+    pub before: u64,
+    /// How many it had behind the query.
+    pub after: u64,
+    /// Where the budget was spent, the clause that was in hand.
+    pub pending: Option<Pending>,
+}
+
+/// An engine with its log, and where in the log each query's work stands.
+#[derive(Drop)]
+pub struct Kept {
+    pub engine: Engine,
+    pub answers: Vec<KeptAnswer>,
+}

@@ -1,0 +1,93 @@
+//! Sessions of a script: what they are told, whichever of them takes its turn first.
+
+use argue_outside::NoPace;
+use dung_notions::AfPlain;
+use edit_rules::Framework;
+use plain_lists::{Bytes, Memory};
+use script_runs::run_script;
+use script_text::{Script, read_script};
+use session_replies::transcript_text;
+use std::alloc::Global;
+use std::mem::forget;
+use std::sync::Wait;
+use std::test::Fail;
+use std::thread::Threads;
+
+/// Arguments 1 to n, and attacks.
+fn framework(alloc: Global, n: u32, attacks: &[(u32, u32)]) -> Result<Framework, Memory> {
+    let live = [1, 2, 3];
+    let some = live.get(..n as usize).unwrap_or(&live);
+    let plain = AfPlain::of_lists(alloc, some, attacks)?;
+    Ok(Framework::Af(plain))
+}
+
+/// The transcript of a script, with 1,000 units for each query. What the run keeps is left to the end of the tests.
+fn transcript<R: Threads + Wait + Sync>(
+    rt: &R,
+    alloc: Global,
+    framework: Framework,
+    script: &Script,
+) -> Result<Bytes, Memory> {
+    let told = run_script(rt, alloc, framework, script, 1_000, &NoPace)?;
+    let text = transcript_text(alloc, &told.replies, &told.history.entries);
+    forget(told);
+    text
+}
+
+/// The same of a script's text.
+fn transcript_of<R: Threads + Wait + Sync>(
+    rt: &R,
+    alloc: Global,
+    framework: Framework,
+    script: &str,
+) -> Result<Bytes, Fail> {
+    let script = read_script(alloc, script.as_bytes())?;
+    Ok(transcript(rt, alloc, framework, &script)?)
+}
+
+/// One session edits and asks: a query is about the framework behind the edits before it.
+#[test]
+fn one_session(rt: HostRuntime) -> Result<(), Fail> {
+    let alloc = rt.alloc();
+    let opening = framework(alloc, 3, &[(1, 2), (2, 1), (2, 3)])?;
+    let script = "1 noatt 2 1\n1 ask DC-CO 2\n1 att 2 1\n1 ask DC-CO 2\n";
+    let told = transcript_of(&rt, alloc, opening, script)?;
+    let wanted =
+        "session 1\nat 1\nOK\nat 1\nNO\nat 2\nOK\nat 2\nYES\nw 2\nhistory\n1 noatt 2 1\n1 att 2 1\n";
+    assert!(rt; told.as_slice() == wanted.as_bytes());
+    Ok(())
+}
+
+/// Two sessions add the same attack: one of them is told that it is there, behind the other's entry.
+#[test]
+fn two_of_one_edit(rt: HostRuntime) -> Result<(), Fail> {
+    let alloc = rt.alloc();
+    let opening = framework(alloc, 2, &[])?;
+    let told = transcript_of(&rt, alloc, opening, "1 att 1 2\n2 att 1 2\n")?;
+    let first = "session 1\nat 1\nOK\nsession 2\nat 1\nREFUSED AttackIsThere\nhistory\n1 att 1 2\n";
+    let second =
+        "session 1\nat 1\nREFUSED AttackIsThere\nsession 2\nat 1\nOK\nhistory\n2 att 1 2\n";
+    assert!(rt; told.as_slice() == first.as_bytes() || told.as_slice() == second.as_bytes());
+    Ok(())
+}
+
+/// One session edits while another asks: the answer is of the framework at its front.
+#[test]
+fn one_asks_meanwhile(rt: HostRuntime) -> Result<(), Fail> {
+    let alloc = rt.alloc();
+    let opening = framework(alloc, 2, &[])?;
+    let told = transcript_of(&rt, alloc, opening, "1 att 1 2\n1 ask SE-GR\n2 ask SE-GR\n")?;
+    let before = "session 1\nat 1\nOK\nat 1\nw 1\nsession 2\nat 0\nw 1 2\nhistory\n1 att 1 2\n";
+    let behind = "session 1\nat 1\nOK\nat 1\nw 1\nsession 2\nat 1\nw 1\nhistory\n1 att 1 2\n";
+    assert!(rt; told.as_slice() == before.as_bytes() || told.as_slice() == behind.as_bytes());
+    Ok(())
+}
+
+/// A script without lines has no session.
+#[test]
+fn no_session(rt: HostRuntime) -> Result<(), Fail> {
+    let alloc = rt.alloc();
+    let told = transcript_of(&rt, alloc, framework(alloc, 1, &[])?, "# nobody\n")?;
+    assert!(rt; told.as_slice() == "history\n".as_bytes());
+    Ok(())
+}
