@@ -8,6 +8,7 @@ ghost use Rattle.script_text.specs.declared.script.ScriptLine.{ScriptLine as ALi
 ghost use Rattle.script_runs.specs.Running.{HasServed, IsReady, IsTold};
 
 use argue_outside::{Pace, Point};
+use clause_pool::Pool;
 use edit_history::{Hub, Seat};
 use edit_rules::Framework;
 use plain_lists::{Items, Memory};
@@ -58,6 +59,7 @@ impl Runner {
         rt: &R,
         alloc: Global,
         hub: &Hub,
+        pool: &Pool,
         command: &Command,
         budget: u64,
         pace: &P,
@@ -79,7 +81,7 @@ impl Runner {
             }
             Command::Ask(query) => {
                 pace.at(number, Point::BeforeAsk);
-                let reply = self.session.ask(rt, alloc, hub, query, budget, pace)?;
+                let reply = self.session.ask(rt, alloc, hub, pool, query, budget, pace)?;
                 pace.at(number, Point::AfterAsk);
                 Ok(reply)
             }
@@ -92,6 +94,7 @@ impl Runner {
         rt: &R,
         alloc: Global,
         hub: &Hub,
+        pool: &Pool,
         line: &ScriptLine,
         budget: u64,
         pace: &P,
@@ -104,7 +107,7 @@ impl Runner {
         if line.session != self.session.number() {
             return Ok(());
         }
-        let reply = self.obey(rt, alloc, hub, &line.command, budget, pace)?;
+        let reply = self.obey(rt, alloc, hub, pool, &line.command, budget, pace)?;
         self.replies.push(reply)?;
         Ok(())
     }
@@ -115,6 +118,7 @@ impl Runner {
         rt: &R,
         alloc: Global,
         hub: &Hub,
+        pool: &Pool,
         script: &Script,
         budget: u64,
         pace: &P,
@@ -124,7 +128,7 @@ impl Runner {
         ensures number { self.new.session.number ≡ self.old.session.number }
     {
         for line in script.lines.as_slice() {
-            self.take_line(rt, alloc, hub, line, budget, pace)?;
+            self.take_line(rt, alloc, hub, pool, line, budget, pace)?;
         }
         Ok(())
     }

@@ -8,7 +8,7 @@ ghost use Rattle.session_core.specs.Telling.{IsBodyOf, IsTold, clause_kept};
 use crate::kept::KeptAnswer;
 use iccma_tasks::Query;
 use oracle_core::{AnswerStop, Answered, Engine};
-use oracle_face::{NoTrade, Pending};
+use oracle_face::{ClauseTrade, Pending};
 use plain_lists::Memory;
 use plain_lits::Budget;
 use session_replies::Body;
@@ -48,10 +48,11 @@ fn clause_of(alloc: Global, engine: &Engine, body: &Body) -> Result<Option<Pendi
     }
 }
 
-/// Answers a query by at most so many units, without any lock.
-pub(crate) fn tell(
+/// Answers a query by at most so many units, without any lock. Clauses come and go by a trade meanwhile.
+pub(crate) fn tell<T: ClauseTrade>(
     alloc: Global,
     engine: &mut Engine,
+    trade: &mut T,
     query: &Query,
     limit: u64,
 ) -> Result<Told, Memory>
@@ -62,7 +63,7 @@ pub(crate) fn tell(
 {
     let before = engine.steps() as u64;
     let mut budget = Budget::new(limit);
-    let end = engine.answer(alloc, query, &mut budget, EXTENSION_LIMIT, &mut NoTrade);
+    let end = engine.answer(alloc, query, &mut budget, EXTENSION_LIMIT, trade);
     let body = body_of(end)?;
     let pending = clause_of(alloc, engine, &body)?;
     let after = engine.steps() as u64;

@@ -5,6 +5,7 @@ ghost use Rattle.turn_lock.specs.Seats.{number_of, turns_of};
 ghost use Rattle.edit_history.specs.Hubs.{GainsOthers, IsSeatAt, start_of};
 ghost use Rattle.oracle_core.specs.Trading.{AnySide};
 ghost use Rattle.oracle_face.specs.Growing.{Grows};
+ghost use Rattle.oracle_face.specs.Logs.{IsKept};
 ghost use Rattle.session_core.specs.Following.{HasFollowed};
 ghost use Rattle.session_core.specs.Sessions.{Follows, IsAsked, seen_by};
 ghost use Rattle.session_core.specs.Telling.{HasTold, HasTurn, IsCaughtUp};
@@ -13,8 +14,10 @@ use crate::answering::tell;
 use crate::following::follow;
 use crate::session::Session;
 use argue_outside::{Pace, Point};
+use clause_pool::{Pool, PoolTrade};
 use edit_history::{Fresh, Hub};
 use iccma_tasks::Query;
+use oracle_face::Oracle;
 use plain_lists::Memory;
 use session_replies::{Body, Reply};
 use std::alloc::Global;
@@ -39,8 +42,15 @@ impl Session {
     }
 
     /// Answers a query on the framework that the engine is for, and keeps where its work stands in the log. Room for
-    /// that is made first.
-    fn answer(&mut self, alloc: Global, query: &Query, limit: u64) -> Result<Body, Memory>
+    /// that is made first. Clauses come from the pool and go there meanwhile.
+    fn answer<R: Wait>(
+        &mut self,
+        rt: &R,
+        alloc: Global,
+        pool: &Pool,
+        query: &Query,
+        limit: u64,
+    ) -> Result<Body, Memory>
         ensures ok { IfOk result (HasTold query.now limit self.old self.new) }
         ensures grows { Grows AnySide self.old.engine.log self.new.engine.log }
         ensures framework { self.new.engine.framework ≡ self.old.engine.framework }
@@ -51,7 +61,9 @@ impl Session {
         ensures lost { self.new.lost ≡ self.old.lost }
     {
         self.answers.reserve(1)?;
-        let told = tell(alloc, &mut self.engine, query, limit)?;
+        let mut trade = PoolTrade::new(rt, alloc, pool, self.taken);
+        let told = tell(alloc, &mut self.engine, &mut trade, query, limit)?;
+        self.taken = trade.next();
         self.answers.push(told.kept)?;
         Ok(told.body)
     }
@@ -62,6 +74,7 @@ impl Session {
         rt: &R,
         alloc: Global,
         hub: &Hub,
+        pool: &Pool,
         query: &Query,
         limit: u64,
         pace: &P,
@@ -77,13 +90,15 @@ impl Session {
     {
         let front = self.catch_up(rt, alloc, hub)?;
         pace.at(self.number, Point::InAsk);
-        let body = self.answer(alloc, query, limit)?;
+        let body = self.answer(rt, alloc, pool, query, limit)?;
         Ok(Reply { front, body })
     }
 
     /// Answers a query by at most so many units of new clauses. The session sees the whole history at one turn, and the
     /// reply is about the framework after it; its front is the history's length then. Others may edit meanwhile, since
-    /// nothing is locked while the query is answered. `Unknown` comes only where the units were spent on clauses that
+    /// nothing is locked while the query is answered. Before each search the engine takes in what others share through
+    /// the pool, where it may come in. Each step of the log stands beside those before it, be it one's own or taken from
+    /// another's entry. `Unknown` comes only where the units were spent on clauses that
     /// were new and serve the query and a further one was in hand, `LogFull` only where the log is full, neither where
     /// the grounded set answers; `TooMany` where there are more than [`EXTENSION_LIMIT`](crate::EXTENSION_LIMIT)
     /// extensions to list. After `Memory` the session answers nothing any more.
@@ -92,6 +107,7 @@ impl Session {
         rt: &R,
         alloc: Global,
         hub: &Hub,
+        pool: &Pool,
         query: &Query,
         limit: u64,
         pace: &P,
@@ -106,14 +122,18 @@ impl Session {
         ensures numbers { (self.new.number ≡ self.old.number) × (self.new.engine.number ≡ self.old.engine.number) }
         ensures answers { OnErr result (self.new.answers.items ≡ self.old.answers.items) }
         ensures follows { Follows hub.now self.new }
+        ensures stands { IsKept self.new.engine.framework self.new.engine.log }
         ensures kept { OnOk result (self.new.lost ≡ false) }
         ensures lost { OnErr result (self.new.lost ≡ true) }
         ensures still_lost { self.old.lost ≡ true → IsErr result × (self.new ≡ self.old) }
     {
         if self.lost {
+            let _stands = self.engine.members();
             return Err(Memory);
         }
-        match self.reply_to(rt, alloc, hub, query, limit, pace) {
+        let told = self.reply_to(rt, alloc, hub, pool, query, limit, pace);
+        let _stands = self.engine.members();
+        match told {
             Ok(reply) => Ok(reply),
             Err(_) => {
                 self.lost = true;

@@ -15,14 +15,15 @@ use oracle_core::Engine;
 use std::alloc::Global;
 
 /// One user's session. Contracts see its seat at the hub, with the history that it saw last; its engine; how many
-/// entries of that history the engine has followed; what is kept of its queries; and whether memory was refused, behind
-/// which it answers nothing.
+/// entries of that history the engine has followed; the index of the pool up to which the engine has looked at what
+/// others share; what is kept of its queries; and whether memory was refused, behind which it answers nothing.
 #[derive(Drop)]
 pub struct Session {
     pub(crate) number: u32,
     pub(crate) seat: Seat,
     pub(crate) engine: Engine,
     pub(crate) followed: u64,
+    pub(crate) taken: u64,
     pub(crate) answers: Vec<KeptAnswer>,
     pub(crate) lost: bool,
 }
@@ -48,6 +49,7 @@ impl Session {
           pending = None;
         }) }
         ensures followed { IfOk result (λ session. session.followed ≡ 0) }
+        ensures taken { IfOk result (λ session. session.taken ≡ 0) }
         ensures answers { IfOk result (λ session. session.answers.items ≡ []) }
         ensures lost { IfOk result (λ session. session.lost ≡ false) }
         ensures follows { IfOk result (FollowsFrom (framework_of framework)) }
@@ -59,6 +61,7 @@ impl Session {
                 seat,
                 engine,
                 followed: 0,
+                taken: 0,
                 answers: Vec::new(alloc),
                 lost: false,
             }),
@@ -84,6 +87,7 @@ impl Session {
             seat,
             engine,
             followed: _,
+            taken: _,
             answers,
             lost: _,
         } = self;

@@ -4,7 +4,7 @@ use Rattle.session_core.proofs.ReplyLemmas.{told_is}
 use Rattle.session_core.proofs.answering.tell.Goals as goal
 
 pub returns-clause-told : goal.returns-clause-told
-returns-clause-told c =
+returns-clause-told g c =
     let end = c.answer-end in
     let new = end.new.self in
     told_is c.args.engine.now.framework c.args.query.now c.args.limit c.args.engine.now.log new.log new.pending

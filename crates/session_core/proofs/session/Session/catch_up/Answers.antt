@@ -18,6 +18,7 @@ returns-clause-ok g c =
       seat = c.refresh.new.seat;
       engine = engine;
       followed = fresh.front;
+      taken = old.taken;
       answers = old.answers;
       lost = old.lost;
     })
