@@ -4,6 +4,7 @@ pub mod Forcing
 pub mod EntriesTaken
 pub mod Finding
 pub mod Joining
+pub mod OfferLemmas
 pub mod TradeLemmas
 pub mod UpdateLemmas
 pub mod Writing

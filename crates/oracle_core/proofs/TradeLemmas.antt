@@ -33,6 +33,12 @@ called_trades P a b left lost number framework grows =
       taken = λ so told is. from_none a.framework a.number told left a.log b.log is any;
     }
 
+-- a call that leaves what the trade has left to give
+pub offered_trades : (P : Making) (a b : EngineState) (left later : Option (List Entry)) (lost : Bool) → later ≡ left
+    → b.number ≡ a.number → b.framework ≡ a.framework → Grows P a.log b.log → Trades a b left later lost lost
+offered_trades P a b left later lost same number framework grows =
+    subst (λ l. Trades a b left l lost lost) (sym same) (called_trades P a b left lost number framework grows)
+
 -- the trade gave what it has
 pub all_trades : (a b : EngineState) (left new : Option (List Entry)) (lost : Bool) → b.number ≡ a.number
     → b.framework ≡ a.framework → Grows NoSide a.log b.log

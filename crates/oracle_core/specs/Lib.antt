@@ -3,6 +3,7 @@ pub mod Answers
 pub mod Engines
 pub mod Needing
 pub mod Readings
+pub mod Sharing
 pub mod Stopping
 pub mod Trading
 pub mod TradingLaws

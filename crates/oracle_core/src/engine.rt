@@ -29,6 +29,8 @@ use std::marker::Model;
 pub struct Engine {
     pub(crate) number: u32,
     pub(crate) parts: Parts,
+    /// How many steps need not be offered any more: a trade kept them, or they don't go to others.
+    pub(crate) offered: usize,
 }
 
 impl Model for Engine {
@@ -57,7 +59,11 @@ impl Engine {
         ensures pending { IfOk result (λ e. e.pending ≡ None) }
     {
         let parts = Parts::open(alloc, framework, log_limit)?;
-        Ok(Engine { number, parts })
+        Ok(Engine {
+            number,
+            parts,
+            offered: 0,
+        })
     }
 
     /// The engine's framework.

@@ -7,6 +7,7 @@ pub mod engine;
 pub(crate) mod parts;
 mod reading;
 pub mod reply;
+pub mod sharing;
 pub(crate) mod trading;
 pub mod updating;
 

@@ -1,8 +1,9 @@
 //! Entries that an engine takes from a trade before it searches.
 
-ghost use Rattle.std.specs.Prelude.{◌≡◌, ◌≢◌, Err, List, None, OnOk, Some};
+ghost use Rattle.std.specs.Prelude.{◌≡◌, ◌≢◌, Err, IfOk, List, None, OnOk, Some};
 ghost use Rattle.edit_rules.specs.Kinds.{framework_of};
-ghost use Rattle.oracle_face.specs.Growing.{HasRun, NoSide, halt_of};
+ghost use Rattle.oracle_face.specs.Goals.{AreGoals};
+ghost use Rattle.oracle_face.specs.Growing.{HasRun, IsFound, NoSide, closes, halt_of};
 ghost use Rattle.oracle_face.specs.Logs.{IsKept};
 ghost use Rattle.oracle_face.specs.declared.entry.Entry.{Entry as AnEntry};
 ghost use Rattle.plain_lits.specs.Units.{Units};
@@ -102,7 +103,32 @@ impl Engine {
     }
 }
 
-/// An engine with the trade of a query: before each search the trade gives what it has.
+impl Engine {
+    /// One search, behind which a trade is offered what was derived.
+    fn find_and_offer<T: ClauseTrade>(
+        &mut self,
+        alloc: Global,
+        goals: &[AtomLit],
+        budget: &mut Budget,
+        trade: &mut T,
+    ) -> Result<Found, Halt>
+        requires { AreGoals self.old.framework self.old.log.sides goals.now }
+        ensures found { IfOk result (IsFound self.old.framework self.new.log goals.now) }
+        ensures run { HasRun NoSide (closes result) self.old.framework self.old.log self.new.log self.new.pending
+            budget.old budget.new (halt_of result) }
+        ensures framework { self.new.framework ≡ self.old.framework }
+        ensures kept { IsKept self.new.framework self.new.log }
+        ensures number { self.new.number ≡ self.old.number }
+        ensures left { T.left trade.new ≡ T.left trade.old }
+    {
+        let end = self.find(alloc, goals, budget);
+        self.offer(alloc, trade);
+        end
+    }
+}
+
+/// An engine with the trade of a query: before each search the trade gives what it has, and behind it the trade is offered
+/// what was derived.
 #[derive(Drop)]
 pub(crate) struct Trading<'a, T: ClauseTrade> {
     pub(crate) engine: &'a mut Engine,
@@ -145,10 +171,10 @@ impl<'a, T: ClauseTrade> Oracle for Trading<'a, T> {
     ) -> Result<Found, Halt> {
         if self.ready {
             self.ready = false;
-            return self.engine.find(alloc, goals, budget);
+            return self.engine.find_and_offer(alloc, goals, budget, self.trade);
         }
         self.engine.prepare(alloc, self.trade, &mut self.lost)?;
-        self.engine.find(alloc, goals, budget)
+        self.engine.find_and_offer(alloc, goals, budget, self.trade)
     }
 
     fn oblige(

@@ -2,7 +2,7 @@ use Rattle.std.proofs.Common.{refl}
 use Rattle.oracle_face.specs.Growing.{NoSide, closes, halt_of}
 use Rattle.oracle_core.specs.TradingLaws.{trades_joined}
 use Rattle.oracle_core.proofs.Joining.{forced_then, goals_still, halted}
-use Rattle.oracle_core.proofs.TradeLemmas.{called_trades}
+use Rattle.oracle_core.proofs.TradeLemmas.{offered_trades}
 use Rattle.oracle_core.proofs.trading.TradingOracle.find.Goals as goal
 
 pub returns-in_err-prepare-clause-run : goal.returns-in_err-prepare-clause-run
@@ -12,8 +12,8 @@ returns-in_err-prepare-clause-run g c =
     c.from_residual.result c.in_err-prepare.field-0.0 c.from_residual.ensures
     (c.in_err-prepare.ensures.run c.args.budget.now)
 
-pub find-requires-2 : goal.find-requires-2
-find-requires-2 g c =
+pub find_and_offer-requires-2 : goal.find_and_offer-requires-2
+find_and_offer-requires-2 g c =
     let a = c.args.self.now.engine.now in
     goals_still a.framework c.prepare.new.self.framework a.log c.prepare.new.self.log c.args.goals.now
     (c.in_ok-prepare.ensures.run c.args.budget.now).grows c.in_ok-prepare.ensures.trades.framework c.requires
@@ -22,22 +22,24 @@ pub returns-clause-run : goal.returns-clause-run
 returns-clause-run g c =
     let a = c.args.self.now.engine.now in
     let b = c.prepare.new.self in
-    let d = c.find-2.new.self in
-    forced_then a.framework b.framework a.log b.log d.log b.pending d.pending c.args.budget.now c.find-2.new.budget
-    (closes c.find-2.result) (halt_of c.find-2.result) c.in_ok-prepare.ensures.trades.framework
-    (c.in_ok-prepare.ensures.run c.args.budget.now) c.find-2.ensures.run
+    let d = c.find_and_offer-2.new.self in
+    forced_then a.framework b.framework a.log b.log d.log b.pending d.pending c.args.budget.now c.find_and_offer-2.new.budget
+    (closes c.find_and_offer-2.result) (halt_of c.find_and_offer-2.result) c.in_ok-prepare.ensures.trades.framework
+    (c.in_ok-prepare.ensures.run c.args.budget.now) c.find_and_offer-2.ensures.run
 
 pub returns-clause-follows : goal.returns-clause-follows
 returns-clause-follows g c =
     let a = c.args.self.now.engine.now in
     let b = c.prepare.new.self in
-    let d = c.find-2.new.self in
+    let d = c.find_and_offer-2.new.self in
     let left = g.T.ClauseTrade.left c.args.self.now.trade.now in
     let later = g.T.ClauseTrade.left c.prepare.new.trade in (
       refl,
       refl,
-      trades_joined a b d left later later c.args.self.now.lost c.prepare.new.lost c.prepare.new.lost
+      trades_joined a b d left later (g.T.ClauseTrade.left c.find_and_offer-2.new.trade)
+          c.args.self.now.lost c.prepare.new.lost c.prepare.new.lost
           c.in_ok-prepare.ensures.trades
-          (called_trades NoSide b d later c.prepare.new.lost c.find-2.ensures.follows c.find-2.ensures.framework
-          c.find-2.ensures.run.grows),
+          (offered_trades NoSide b d later (g.T.ClauseTrade.left c.find_and_offer-2.new.trade) c.prepare.new.lost
+          c.find_and_offer-2.ensures.left c.find_and_offer-2.ensures.number c.find_and_offer-2.ensures.framework
+          c.find_and_offer-2.ensures.run.grows),
     )

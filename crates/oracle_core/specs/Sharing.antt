@@ -1,0 +1,38 @@
+-- The entry that a step of a log goes to others as.
+use Rattle.std.specs.Prelude.{◌≡◌, ℕ, ◌<◌, List, length, slice_index_or, None}
+use Rattle.oracle_face.specs.declared.entry.Entry.{Entry}
+use Rattle.oracle_face.specs.declared.entry.EntryOrigin.TheVariants.{Hints}
+use Rattle.oracle_face.specs.declared.entry.HintName.{HintName}
+use Rattle.oracle_face.specs.Logs.{LogStep, hints_of, step_at}
+use Rattle.atom_solver.specs.declared.origin.Origin.{Origin}
+use Rattle.atom_solver.specs.Imported.{IsPlain}
+use Rattle.atom_solver.specs.Lifted.{imported_of, source_of}
+use Rattle.clause_imports.specs.Imports.{IsCalled}
+
+-- the step may go to others: it wasn't taken from an entry, didn't only end a search, and asks for no side clause
+pub record MayGo (step : LogStep) : Type 0 where
+  pub own : step.imported ≡ None
+  pub plain : IsPlain step
+
+-- the name calls every step of the number that comes from there
+abbrev pub CallsAny : ℕ → Origin → ℕ → HintName → Type 0
+CallsAny own origin number name =
+    (step : LogStep) → step.source ≡ source_of origin (hints_of step.source) → step.imported ≡ imported_of origin
+    → IsCalled own name number step
+
+-- names call steps, one for one, in entries of the session of the number `own`
+pub record AreNamesOf (own : ℕ) (steps : List LogStep) (numbers : List ℕ) (names : List HintName) : Type 0 where
+  pub long : length names ≡ length numbers
+  pub each : (k : ℕ) (d : HintName) → k < length numbers
+      → IsCalled own (slice_index_or names k d) (slice_index_or numbers k 0)
+      (step_at steps (slice_index_or numbers k 0))
+
+-- the entry of a step that may go to others: its clause, under the session's number and its own, with its hints by
+-- their names
+pub record IsEntryOf (own : ℕ) (steps : List LogStep) (number : ℕ) (entry : Entry) : Type 0 where
+  pub may : MayGo (step_at steps number)
+  pub clause : entry.clause ≡ (step_at steps number).clause
+  pub name : entry.name ≡ record { session = own; step = number }
+  pub names : List HintName
+  pub origin : entry.origin ≡ Hints names
+  pub named : AreNamesOf own steps (hints_of (step_at steps number).source) names

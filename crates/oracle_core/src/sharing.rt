@@ -1,0 +1,202 @@
+//! Clauses that an engine hands to others.
+
+ghost use Rattle.std.specs.Prelude.{◌≡◌, ℕ, IfOk, IfSome, IsTrue, None};
+ghost use Rattle.atom_solver.specs.Lifted.{imported_of};
+ghost use Rattle.atom_solver.specs.declared.origin.Origin.TheVariants.{Entry as OfEntry};
+ghost use Rattle.clause_imports.specs.Imports.{IsCalled};
+ghost use Rattle.oracle_face.specs.Logs.{IsNumberOf, step_at};
+ghost use Rattle.oracle_core.specs.Engines.{IsWhole};
+ghost use Rattle.oracle_core.specs.Sharing.{AreNamesOf, CallsAny, IsEntryOf, MayGo};
+
+use crate::engine::Engine;
+use crate::parts::Parts;
+use atom_solver::{AtomSolver, Origin};
+use oracle_face::{ClauseTrade, Entry, EntryName, EntryOrigin, HintName};
+use plain_lists::{Items, Memory};
+use plain_lits::StepId;
+use std::alloc::Global;
+
+/// The name of an entry, where it is another session's.
+fn of_other(own: u32, name: EntryName) -> Option<HintName>
+    ensures { (number : ℕ) → IfSome result (CallsAny own (OfEntry name) number) }
+{
+    if name.session == own {
+        return None;
+    }
+    Some(HintName::Entry(name))
+}
+
+/// What entries of the session of the number `own` call a step that comes from there; None where they don't name it.
+fn called(own: u32, origin: Origin, step: StepId) -> Option<HintName>
+    ensures { IfSome result (CallsAny own origin step) }
+{
+    match origin {
+        Origin::Axiom(name) => Some(HintName::Axiom(name)),
+        Origin::Side(_) => None,
+        Origin::Entry(name) => of_other(own, name),
+        Origin::Hints => Some(HintName::Entry(EntryName { session: own, step })),
+    }
+}
+
+/// What entries of the session of the number `own` call a step; None where they don't name it.
+fn name_of(
+    alloc: Global,
+    own: u32,
+    solver: &AtomSolver,
+    step: StepId,
+) -> Result<Option<HintName>, Memory>
+    ensures { IfOk result (λ found. IfSome found (λ name. IsCalled own name step
+        (step_at solver.now.log.steps step))) }
+{
+    let number = step.number() as usize;
+    if number == 0 || number > solver.len() {
+        return Ok(None);
+    }
+    let origin = solver.origin(alloc, step)?;
+    Ok(called(own, origin, step))
+}
+
+/// What entries call steps, one for one; None where they don't name one of them.
+fn names_of(
+    alloc: Global,
+    own: u32,
+    solver: &AtomSolver,
+    steps: &[StepId],
+) -> Result<Option<Items<HintName>>, Memory>
+    ensures { IfOk result (λ found. IfSome found (AreNamesOf own solver.now.log.steps steps.now)) }
+{
+    let mut names = Items::new(alloc);
+    for step in steps {
+        let Some(name) = name_of(alloc, own, solver, *step)? else {
+            return Ok(None);
+        };
+        names.push(name)?;
+    }
+    Ok(Some(names))
+}
+
+/// Whether what comes from there is one's own and follows from other steps.
+fn is_derived(origin: &Origin) -> bool
+    ensures { IsTrue result → imported_of origin.now ≡ None }
+{
+    matches!(origin, Origin::Hints)
+}
+
+/// Whether a step may go to others: it is one's own, follows from other steps, didn't only end a search, and asks for no
+/// side clause.
+fn may_go(alloc: Global, solver: &AtomSolver, step: StepId) -> Result<bool, Memory>
+    requires { IsNumberOf solver.now.log.steps step }
+    ensures { IfOk result (λ may. IsTrue may → MayGo (step_at solver.now.log.steps step)) }
+{
+    let origin = solver.origin(alloc, step)?;
+    Ok(is_derived(&origin) && solver.is_plain(step))
+}
+
+/// The entry of a step that may go to others; None for every other step.
+fn entry_of(
+    alloc: Global,
+    own: u32,
+    solver: &AtomSolver,
+    step: StepId,
+) -> Result<Option<Entry>, Memory>
+    requires { IsNumberOf solver.now.log.steps step }
+    ensures { IfOk result (λ found. IfSome found (IsEntryOf own solver.now.log.steps step)) }
+{
+    if !may_go(alloc, solver, step)? {
+        return Ok(None);
+    }
+    let Some(names) = names_of(alloc, own, solver, solver.hints(step))? else {
+        return Ok(None);
+    };
+    let clause = solver.clause(alloc, step)?;
+    Ok(Some(Entry {
+        clause,
+        name: EntryName { session: own, step },
+        origin: EntryOrigin::Hints(names),
+    }))
+}
+
+/// Offers a trade a step, where the step may go to others. False where the trade doesn't keep it.
+fn offer_step<T: ClauseTrade>(
+    alloc: Global,
+    own: u32,
+    parts: &Parts,
+    step: StepId,
+    trade: &mut T,
+) -> bool
+    requires whole { IsWhole parts.now }
+    requires step { IsNumberOf parts.now.solver.log.steps step }
+    ensures { T.left trade.new ≡ T.left trade.old }
+{
+    match entry_of(alloc, own, &parts.solver, step) {
+        Ok(Some(entry)) => match trade.offer(entry) {
+            Ok(kept) => kept,
+            Err(_entry) => false,
+        },
+        Ok(None) => true,
+        Err(_) => false,
+    }
+}
+
+/// Offers a trade the steps behind the first so many, up to one that it doesn't keep. Tells how many steps need no offer
+/// any more.
+fn offer_from<T: ClauseTrade>(
+    alloc: Global,
+    own: u32,
+    parts: &Parts,
+    from: usize,
+    trade: &mut T,
+) -> usize
+    requires { IsWhole parts.now }
+    ensures { T.left trade.new ≡ T.left trade.old }
+{
+    let mut offered = from;
+    while offered < parts.solver.len() {
+        let step = StepId::new(offered as u32 + 1);
+        if !offer_step(alloc, own, parts, step, trade) {
+            return offered;
+        }
+        offered += 1;
+    }
+    offered
+}
+
+impl Engine {
+    /// Offers a trade the steps that may go to others and weren't kept by a trade yet, in their order.
+    pub(crate) fn offer<T: ClauseTrade>(&mut self, alloc: Global, trade: &mut T)
+        ensures same { self.new ≡ self.old }
+        ensures left { T.left trade.new ≡ T.left trade.old }
+    {
+        self.offered = offer_from(alloc, self.number, &self.parts, self.offered, trade);
+    }
+
+    /// Whether a step went to others: it was offered to a trade, which kept it.
+    pub fn is_shared(&self, alloc: Global, step: StepId) -> Result<bool, Memory>
+        requires { IsNumberOf self.now.log.steps step }
+        ensures { IfOk result (λ shared. IsTrue shared → MayGo (step_at self.now.log.steps step)) }
+    {
+        if step.number() as usize > self.offered {
+            return Ok(false);
+        }
+        may_go(alloc, &self.parts.solver, step)
+    }
+
+    /// The name of the entry that a step was taken from, where it was taken from one.
+    pub fn imported(&self, alloc: Global, step: StepId) -> Result<Option<EntryName>, Memory>
+        requires { IsNumberOf self.now.log.steps step }
+        ensures { IfOk result (λ name. name ≡ (step_at self.now.log.steps step).imported) }
+    {
+        let origin = self.parts.solver.origin(alloc, step)?;
+        Ok(entry_name(&origin))
+    }
+}
+
+/// The name of the entry that something comes from.
+fn entry_name(origin: &Origin) -> Option<EntryName>
+    ensures { result ≡ imported_of origin.now }
+{
+    match origin {
+        Origin::Entry(name) => Some(*name),
+        _ => None,
+    }
+}
