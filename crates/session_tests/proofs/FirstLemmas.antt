@@ -1,6 +1,9 @@
 -- What holds of each of some items, of which the first is lent.
 use Rattle.std.proofs.Common.{arith, ◌≡◌, ℕ, zero, suc, List, ◌∷◌, map, sym, ap, subst, ◌∙◌}
-use Rattle.std.specs.Prelude.{All}
+use Rattle.std.specs.Prelude.{All, IfSome, Option, Some, None, ◌++◌, [], length}
+use Rattle.std.specs.Option.{option_to_list}
+use Rattle.std.proofs.lemmas.List.{get_or_append_left, get_or_push, length_push}
+use Rattle.std.proofs.lemmas.List.{append-nil}
 
 module _ {X : Type 0} (P : X → Type 0) where
   pub first_of : (xs : List X) (x : X) (rest : List X) → All P xs → xs ≡ x ∷ rest → P x
@@ -21,3 +24,18 @@ module _ {X : Type 0} (P : X → Type 0) where
     each_of y more here.0 others.0,
     ap (λ n. n ∷ map f more) here.1 ∙ ap (λ l. f x ∷ l) others.1 ∙ ap (map f) (sym is),
   )
+
+  -- the last has it where each has, and so have the others
+  pub last_of : (xs all : List X) (r : Option X) → All P all → all ≡ xs ++ option_to_list r → IfSome r P
+  last_of xs all (Some x) each is =
+      let pushed : All P (xs ++ x ∷ []) = subst (All P) is each in
+      let long = length_push xs x in
+      subst P (get_or_push xs x x (length xs) (omega arith)) (pushed (length xs) x (omega (arith, long)))
+  last_of xs all None each is = tt
+
+  pub front_of : (xs all : List X) (r : Option X) → All P all → all ≡ xs ++ option_to_list r → All P xs
+  front_of xs all (Some x) each is = λ k d low.
+      let pushed : All P (xs ++ x ∷ []) = subst (All P) is each in
+      let long = length_push xs x in
+      subst P (get_or_append_left xs (x ∷ []) d k low) (pushed k d (omega (arith, long, low)))
+  front_of xs all None each is = subst (All P) (is ∙ append-nil xs) each
