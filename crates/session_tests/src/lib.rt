@@ -2,6 +2,8 @@
 #![tactic(auto)]
 
 #[cfg(test)]
+mod gates;
+#[cfg(test)]
 mod hubs;
 #[cfg(test)]
 mod pools;
@@ -11,5 +13,7 @@ mod replies;
 mod scripts;
 #[cfg(test)]
 mod sessions;
+#[cfg(test)]
+mod trades;
 #[cfg(test)]
 mod turns;

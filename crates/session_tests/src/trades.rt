@@ -1,0 +1,102 @@
+//! What is shared while a query stands is taken before the query's next search.
+
+use clause_pool::{Pool, PoolTrade};
+use dung_notions::AfPlain;
+use edit_rules::Framework;
+use iccma_tasks::{Query, Task};
+use meaning_atoms::{AfAxiom, AxiomName};
+use oracle_core::Engine;
+use oracle_face::{ClauseTrade, Entry, EntryName};
+use plain_lists::Memory;
+use plain_lits::{Budget, StepId};
+use std::alloc::Global;
+use std::sync::Wait;
+use std::test::Fail;
+
+/// A trade over a pool that counts how often it is asked for an entry. Before it gives what stands there at the second
+/// time, which is behind a search, session 1 shares an axiom.
+#[derive(Drop)]
+struct Meanwhile<'a, R: Wait> {
+    rt: &'a R,
+    alloc: Global,
+    pool: &'a Pool,
+    over: PoolTrade<'a, R>,
+    asked: u32,
+    /// Whether that axiom was given at that time.
+    given: bool,
+}
+
+/// The name of session 1's entry.
+fn shared_name() -> EntryName {
+    EntryName {
+        session: 1,
+        step: StepId::new(7),
+    }
+}
+
+/// Session 1 shares an axiom of an argument that the framework of the query lacks.
+fn share<R: Wait>(rt: &R, alloc: Global, pool: &Pool) -> Result<(), Memory> {
+    let entry = Entry::of_axiom(alloc, AxiomName::Af(AfAxiom::A13(9)), shared_name())?;
+    match pool.share(rt, entry) {
+        Ok(_token) => Ok(()),
+        Err(_entry) => Err(Memory),
+    }
+}
+
+/// Whether session 1's entry was given.
+fn is_shared(taken: &Option<Entry>) -> bool {
+    match taken {
+        Some(entry) => entry.name == shared_name(),
+        None => false,
+    }
+}
+
+impl<'a, R: Wait> ClauseTrade for Meanwhile<'a, R> {
+    ghost use Rattle.std.specs.Prelude.{true, None};
+
+    ghost keeps = { λ _. true };
+
+    ghost left = { λ _. None };
+
+    fn offer(&mut self, entry: Entry) -> Result<bool, Entry> {
+        self.over.offer(entry)
+    }
+
+    fn take(&mut self) -> Result<Option<Entry>, Memory> {
+        self.asked = self.asked.saturating_add(1);
+        if self.asked == 2 {
+            share(self.rt, self.alloc, self.pool)?;
+            let taken = self.over.take()?;
+            self.given = is_shared(&taken);
+            return Ok(taken);
+        }
+        self.over.take()
+    }
+}
+
+/// Session 2 asks for a preferred set of two arguments that attack each other, which takes two searches at least.
+fn ask<T: ClauseTrade>(alloc: Global, trade: &mut T) -> Result<bool, Fail> {
+    let plain = AfPlain::of_lists(alloc, &[1, 2], &[(1, 2), (2, 1)])?;
+    let mut engine = Engine::new(alloc, 2, Framework::Af(plain), 1_000_000)?;
+    let query = Query::new(Task::read(b"SE-PR")?, None).ok_or("query")?;
+    let mut budget = Budget::new(1_000);
+    let end = engine.answer(alloc, &query, &mut budget, 10, trade);
+    Ok(end.is_ok())
+}
+
+#[test]
+fn shared_between_searches(rt: HostRuntime) -> Result<(), Fail> {
+    let alloc = rt.alloc();
+    let pool = Pool::open(alloc)?;
+    let mut trade = Meanwhile {
+        rt: &rt,
+        alloc,
+        pool: &pool,
+        over: PoolTrade::new(&rt, alloc, &pool, 0),
+        asked: 0,
+        given: false,
+    };
+    assert!(rt; ask(alloc, &mut trade)?);
+    assert!(rt; trade.given);
+    Ok(())
+}
