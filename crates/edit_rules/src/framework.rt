@@ -21,7 +21,7 @@ pub enum Framework {
     Aba(AbaPlain),
 }
 
-// By hand, so that each place where a framework is dropped calls this, and doesn't spell out all that it has.
+// By hand, so that a drop is one call (docs/PROVING.md).
 impl Drop for Framework {
     fn drop(self) {
         match self {
