@@ -7,7 +7,8 @@ use std::test::Fail;
 
 /// What is told of a query, where the task has one of this number.
 fn told(framework: &Framework, task: Task, number: Option<u32>) -> Option<Result<(), QueryFault>> {
-    Some(query_fits(framework, &Query::new(task, number)?))
+    let query = Query::new(task, number)?;
+    Some(query_fits(framework, &query))
 }
 
 #[test]
