@@ -10,6 +10,7 @@ use oracle_face::{ClauseTrade, Entry, EntryName};
 use plain_lists::Memory;
 use plain_lits::{Budget, StepId};
 use std::alloc::Global;
+use std::mem::forget;
 use std::sync::Wait;
 use std::test::Fail;
 
@@ -76,27 +77,32 @@ impl<'a, R: Wait> ClauseTrade for Meanwhile<'a, R> {
 
 /// Session 2 asks for a preferred set of two arguments that attack each other, which takes two searches at least.
 fn ask<T: ClauseTrade>(alloc: Global, trade: &mut T) -> Result<bool, Fail> {
+    let query = Query::new(Task::read(b"SE-PR")?, None).ok_or("query")?;
     let plain = AfPlain::of_lists(alloc, &[1, 2], &[(1, 2), (2, 1)])?;
     let mut engine = Engine::new(alloc, 2, Framework::Af(plain), 1_000_000)?;
-    let query = Query::new(Task::read(b"SE-PR")?, None).ok_or("query")?;
     let mut budget = Budget::new(1_000);
     let end = engine.answer(alloc, &query, &mut budget, 10, trade);
+    forget(engine);
     Ok(end.is_ok())
+}
+
+/// Whether the axiom that session 1 shares between two searches of session 2 is given before the second.
+fn is_given_meanwhile<R: Wait>(rt: &R, alloc: Global) -> Result<bool, Fail> {
+    let pool = Pool::open(alloc)?;
+    let mut trade = Meanwhile {
+        rt,
+        alloc,
+        pool: &pool,
+        over: PoolTrade::new(rt, alloc, &pool, 0),
+        asked: 0,
+        given: false,
+    };
+    let answered = ask(alloc, &mut trade)?;
+    Ok(answered && trade.given)
 }
 
 #[test]
 fn shared_between_searches(rt: HostRuntime) -> Result<(), Fail> {
-    let alloc = rt.alloc();
-    let pool = Pool::open(alloc)?;
-    let mut trade = Meanwhile {
-        rt: &rt,
-        alloc,
-        pool: &pool,
-        over: PoolTrade::new(&rt, alloc, &pool, 0),
-        asked: 0,
-        given: false,
-    };
-    assert!(rt; ask(alloc, &mut trade)?);
-    assert!(rt; trade.given);
+    assert!(rt; is_given_meanwhile(&rt, rt.alloc())?);
     Ok(())
 }
