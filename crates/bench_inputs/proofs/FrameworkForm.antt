@@ -51,9 +51,9 @@ drawn_between n seed some b a c =
     let second : ℕ × ℕ = (attacker_of n (next_state one), x) in
     let third : ℕ × ℕ = (attacker_of n (next_state (next_state one)), x) in
     let ends : (state : ℕ) → (attacker_of n state, x) ≡ (b, a)
-        → Contains (range_with_len 1 n) b × Contains (range_with_len 1 n) a = λ state e.
-        let at = subst (λ z. Contains (range_with_len 1 n) z) (ap (λ (p : ℕ × ℕ). p.1) e) found.1 in
-        (pair_between n b a state some at (sym (ap (λ (p : ℕ × ℕ). p.0) e)), at) in
+    → Contains (range_with_len 1 n) b × Contains (range_with_len 1 n) a = λ state e.
+    let at = subst (λ z. Contains (range_with_len 1 n) z) (ap (λ (p : ℕ × ℕ). p.1) e) found.1 in
+    (pair_between n b a state some at (sym (ap (λ (p : ℕ × ℕ). p.0) e)), at) in
     ⊎_elim (ends one)
     (λ d. ⊎_elim (ends (next_state one))
     (λ e. ⊎_elim (ends (next_state (next_state one))) (λ none. absurd (Contains-nil (b, a) none))

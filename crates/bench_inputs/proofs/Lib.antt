@@ -1,3 +1,5 @@
 pub mod Numbers
 pub mod DrawLemmas
 pub mod FrameworkForm
+pub mod Moves
+pub mod ScriptLines

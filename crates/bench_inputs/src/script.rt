@@ -31,11 +31,7 @@ fn ask(problem: Problem, semantics: Semantics, argument: u32) -> Command
 }
 
 /// Adds a line of the session of an argument.
-fn push_line(
-    lines: &mut Items<ScriptLine>,
-    argument: u32,
-    command: Command,
-) -> Result<(), Memory>
+fn push_line(lines: &mut Items<ScriptLine>, argument: u32, command: Command) -> Result<(), Memory>
     requires { 0 < argument }
     ensures { OnOk result (lines.new ≡ lines.old ++ line_for argument command ∷ []) }
 {
@@ -44,11 +40,7 @@ fn push_line(
 }
 
 /// Adds the lines of an argument with a first attacker.
-fn push_lines(
-    lines: &mut Items<ScriptLine>,
-    attacker: u32,
-    argument: u32,
-) -> Result<(), Memory>
+fn push_lines(lines: &mut Items<ScriptLine>, attacker: u32, argument: u32) -> Result<(), Memory>
     requires { 0 < argument }
     ensures { OnOk result (lines.new ≡ lines.old ++ lines_by attacker argument) }
 {
