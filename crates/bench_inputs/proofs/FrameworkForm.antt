@@ -9,8 +9,8 @@ use Rattle.dung_notions.specs.Neighbours.{AreArguments, AreBetween}
 use Rattle.plain_lists.proofs.Membership.{Contains-cons_cases, Contains-head, Contains-nil, Contains-tail}
 use Rattle.edit_rules.specs.Edits.{with_pair}
 use Rattle.edit_rules.proofs.RowForms.{with_attack_form, with_pair_members}
-use Rattle.bench_inputs.specs.Generator.{attacker_of, attacks_drawn, attacks_on, bench_framework, next_state, rising, state_before}
-use Rattle.bench_inputs.proofs.Numbers.{listed_for, number_from, number_in, numbers_rise}
+use Rattle.bench_inputs.specs.Generator.{attacker_of, attacks_drawn, attacks_on, bench_framework, first, next_state, rising, state_before}
+use Rattle.bench_inputs.proofs.Numbers.{for_listed, listed_for, number_from, number_in, numbers_rise}
 use Rattle.bench_inputs.proofs.DrawLemmas.{attacker_within}
 
 pub rising_members : (ps : List (ℕ × ℕ)) (q : ℕ × ℕ) → Contains ps q ↔ Contains (rising ps) q
@@ -78,3 +78,10 @@ pub bench_members : (n seed : ℕ) (attacks : List (ℕ × ℕ)) → attacks ≡
 bench_members n seed attacks e p =
     subst (λ l. Contains l p ↔ Contains (rising (attacks_drawn n seed)) p) (sym e)
     (rising_members (attacks_drawn n seed) p)
+
+-- the first attack on each argument is there
+pub first_there : (n seed a : ℕ) → 1 ≤ a → a ≤ n → Contains (bench_framework n seed).attacks (first n seed a, a)
+first_there n seed a low high =
+    (rising_members (attacks_drawn n seed) (first n seed a, a)).0
+    (for_listed (attacks_on n seed) (range_with_len 1 n) a (first n seed a, a) (number_from n a low high)
+    (0, omega arith, refl))

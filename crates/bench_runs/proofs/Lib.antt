@@ -1,0 +1,5 @@
+pub mod ListLemmas
+pub mod MadeLemmas
+pub mod TakenLemmas
+pub mod EndLemmas
+pub mod SummaryLemmas
