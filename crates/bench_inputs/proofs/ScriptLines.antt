@@ -3,6 +3,7 @@ use Rattle.std.proofs.Common.{Bool, true, false, ◌≡◌, ◌⊎◌, ℕ, zero
 use Rattle.std.specs.Prelude.{◌%◌, min, All, count_by}
 use Rattle.std.specs.List.{AllPairs, flat_map, range_with_len, sum_by}
 use Rattle.std.proofs.Math.Nat.{mod-lt}
+use Rattle.std.proofs.lemmas.List.{length-append}
 use Rattle.std.proofs.lemmas.List.Elements.{All-contains, All-cons, All-from_recursion, Contains-get_or}
 use Rattle.std.proofs.lemmas.List.FromFn.{get_or-range_with_len, length-range_with_len}
 use Rattle.std.proofs.lemmas.List.Kept.{AllPairs-cons}
@@ -171,6 +172,15 @@ asks_from n seed a zero = refl
 asks_from n seed a (suc k) =
     let more = asks_from n seed (a + 1) k in
     sum_by-append _ (lines_for n seed a) (flat_map (lines_for n seed) (range_with_len (a + 1) k)) ∙ omega arith
+
+lines_from : (n seed a k : ℕ) → length (flat_map (lines_for n seed) (range_with_len a k)) ≡ 4 * k
+lines_from n seed a zero = refl
+lines_from n seed a (suc k) =
+    let more = lines_from n seed (a + 1) k in
+    length-append (lines_for n seed a) (flat_map (lines_for n seed) (range_with_len (a + 1) k)) ∙ omega arith
+
+pub script_long : (n seed : ℕ) → length (bench_script n seed).lines ≡ 4 * asked_about n
+script_long n seed = lines_from n seed 1 (asked_about n)
 
 pub edit_lines : (n seed : ℕ) → count_by (λ l. is_edit l.command) (bench_script n seed).lines ≡ 2 * asked_about n
 edit_lines n seed = edits_from n seed 1 (asked_about n)

@@ -3,3 +3,5 @@ pub mod MadeLemmas
 pub mod TakenLemmas
 pub mod EndLemmas
 pub mod SummaryLemmas
+pub mod CheckLemmas
+pub mod RunLemmas

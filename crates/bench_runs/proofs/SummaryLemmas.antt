@@ -87,7 +87,7 @@ front_is history found front one e =
 none_rejected : (f : Framework) (limit budget s : ℕ) (history : List Entry) (log : OracleLog) (answers : List KeptAnswer)
     (command : Command) (front : ℕ) (body : Body) (count : ℕ)
     → CommandEnds f limit budget s history log answers command front body
-    → IsRejection f history command front body count → count ≡ 0
+    → IsRejection (framework_after f (take front history)) command body count → count ≡ 0
 none_rejected f limit budget s history log answers (change_by edit) front body count h is = is
 none_rejected f limit budget s history log answers (Ask asked) front (Done effect) count h is = is
 none_rejected f limit budget s history log answers (Ask asked) front (EditRefused fault) count h is = is

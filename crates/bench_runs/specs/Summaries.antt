@@ -25,17 +25,13 @@ use Rattle.bench_runs.specs.declared.counts.Counts.{Counts}
 
 -- ---- the text
 
--- a line of a name and a number, and the lines behind it
-abbrev pub number_line : List ℕ → ℕ → List ℕ → List ℕ
-number_line name count more = name ++ (codes " " ++ (decimal count ++ (codes "\n" ++ more)))
-
--- the seven lines
+-- the seven lines: a name and a number each
 abbrev pub counts_text : Counts → List ℕ
 counts_text c =
-    number_line (codes "arguments") c.arguments (number_line (codes "attacks") c.attacks
-    (number_line (codes "sessions") BENCH_SESSIONS (number_line (codes "edits") c.edits
-    (number_line (codes "queries") c.queries (number_line (codes "rejected") c.rejected
-    (number_line (codes "grounded") c.grounded []))))))
+    codes "arguments " ++ (decimal c.arguments ++ (codes "\nattacks " ++ (decimal c.attacks
+    ++ (codes "\nsessions " ++ (decimal BENCH_SESSIONS ++ (codes "\nedits " ++ (decimal c.edits
+    ++ (codes "\nqueries " ++ (decimal c.queries ++ (codes "\nrejected " ++ (decimal c.rejected
+    ++ (codes "\ngrounded " ++ (decimal c.grounded ++ codes "\n")))))))))))))
 
 -- what there is to count of n arguments and a seed, whatever the run: each argument that is asked about has two edits and
 -- two queries, no answer is rejected, and no argument is without attackers at the end
@@ -71,18 +67,16 @@ abbrev pub rejections : Verdict → ℕ
 rejections Accepted = 0
 rejections (Rejected cause refutation step) = 1
 
--- how many certificates of a reply are rejected on the framework behind the entries up to the front: that of an answer
--- may be, and other replies have none
-abbrev pub IsRejection : Framework → List Entry → Command → ℕ → Body → ℕ → Type 0
-IsRejection f history (Ask asked) front (Answered answer certificate) count = (verdict : Verdict)
-    × IsVerdict (framework_after f (take front history)) asked answer certificate verdict
-    × (count ≡ rejections verdict)
-IsRejection f history command front body count = count ≡ 0
+-- how many certificates of a reply are rejected on a framework: that of an answer may be, and other replies have none
+abbrev pub IsRejection : Framework → Command → Body → ℕ → Type 0
+IsRejection f (Ask asked) (Answered answer certificate) count =
+    (verdict : Verdict) × IsVerdict f asked answer certificate verdict × (count ≡ rejections verdict)
+IsRejection f command body count = count ≡ 0
 
--- of the replies of a session to its lines
+-- of the replies of a session to its lines, each on the framework behind the entries up to its front
 abbrev pub AreRejections : Framework → List Entry → List ScriptLine → List Reply → ℕ → Type 0
 AreRejections f history (line ∷ lines) (reply ∷ replies) count = (here : ℕ) × (more : ℕ)
-    × IsRejection f history line.command reply.front reply.body here
+    × IsRejection (framework_after f (take reply.front history)) line.command reply.body here
     × AreRejections f history lines replies more
     × (count ≡ here + more)
 AreRejections f history lines replies count = count ≡ 0
