@@ -1,5 +1,5 @@
 -- The framework that is drawn is in form.
-use Rattle.std.proofs.Common.{◌≡◌, ◌⊎◌, ℕ, ◌+◌, ◌-◌, ◌<◌, ◌≤◌, List, [], ◌∷◌, ◌++◌, Contains, arith, refl, ap, sym, subst, ◌∙◌, inl, inr, ⊎_elim}
+use Rattle.std.proofs.Common.{◌≡◌, ℕ, ◌<◌, ◌≤◌, List, [], ◌∷◌, Contains, arith, refl, ap, sym, subst, inl, inr, ⊎_elim}
 use Rattle.std.specs.Prelude.{◌↔◌}
 use Rattle.std.specs.List.{range_with_len}
 use Rattle.semantics.specs.declared.argument.TheConstants.{LAST_ARGUMENT}
@@ -7,7 +7,6 @@ use Rattle.semantics.specs.Framework.{Af}
 use Rattle.semantics.specs.Frameworks.{IsNumberedAf}
 use Rattle.dung_notions.specs.Neighbours.{AreArguments, AreBetween}
 use Rattle.plain_lists.proofs.Membership.{Contains-cons_cases, Contains-head, Contains-nil, Contains-tail}
-use Rattle.edit_rules.specs.Edits.{with_pair}
 use Rattle.edit_rules.proofs.RowForms.{with_attack_form, with_pair_members}
 use Rattle.bench_inputs.specs.Generator.{attacker_of, attacks_drawn, attacks_on, bench_framework, first, next_state, rising, state_before}
 use Rattle.bench_inputs.proofs.Numbers.{for_listed, listed_for, number_from, number_in, numbers_rise}

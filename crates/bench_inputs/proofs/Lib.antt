@@ -3,3 +3,4 @@ pub mod DrawLemmas
 pub mod FrameworkForm
 pub mod Moves
 pub mod ScriptLines
+pub mod SessionLines

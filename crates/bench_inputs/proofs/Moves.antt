@@ -1,6 +1,6 @@
 -- Attacks that come and go, one by one.
-use Rattle.std.proofs.Common.{Bool, true, false, Result, Ok, Err, is_ok, ◌≡◌, ◌⊎◌, ℕ, List, [], ◌∷◌, ◌++◌, Contains, not, arith, refl, ap, sym, subst, ◌∙◌, inl, inr, ⊎_elim}
-use Rattle.std.specs.Prelude.{◌==◌, ◌&&◌, ◌↔◌, if◌then◌else◌}
+use Rattle.std.proofs.Common.{Bool, true, false, Result, Ok, Err, is_ok, ◌≡◌, ℕ, List, [], ◌∷◌, ◌++◌, Contains, not, refl, ap, sym, subst, ◌∙◌, inl, inr, ⊎_elim}
+use Rattle.std.specs.Prelude.{◌==◌, ◌&&◌}
 use Rattle.std.proofs.lemmas.Bool.{cond_both, false≢true, not_from_true, not-true, not_from_false, eqb-true, eq-eqb, true≢false}
 use Rattle.plain_lists.proofs.Filters.{Contains-filter}
 use Rattle.plain_lists.proofs.Membership.{Contains-head, Contains-nil, Contains-tail}
@@ -15,7 +15,7 @@ use Rattle.edit_words.specs.Refusals.{Refusal, done_unless, refused_if}
 use Rattle.edit_words.specs.Numbers.{has_number}
 use Rattle.edit_words.proofs.EditTests.{both_gives, both_from, same_pair, is_false, there_number}
 use Rattle.edit_words.proofs.RefusalLemmas.{done_row, passed}
-use Rattle.edit_rules.specs.Edits.{attack_added, attack_dropped, edit_outcome, end_refusals, has_pair, outside, unknown, with_pair}
+use Rattle.edit_rules.specs.Edits.{attack_added, attack_dropped, edit_outcome, end_refusals, has_pair, outside, unknown}
 use Rattle.edit_rules.specs.Replay.{IsTaken, after_edit, left_by, replay}
 use Rattle.edit_rules.proofs.EditTests.{bounds_within, pair_there, there_pair}
 use Rattle.edit_rules.proofs.RowForms.{with_pair_members}

@@ -1,19 +1,19 @@
 -- The lines of a large input's script: which there are, and that no edit stands twice.
-use Rattle.std.proofs.Common.{Bool, true, false, ◌≡◌, ◌⊎◌, ℕ, zero, suc, ◌+◌, ◌-◌, ◌*◌, ◌<◌, ◌≤◌, List, [], ◌∷◌, ◌++◌, Contains, length, get_or, arith, refl, ap, sym, subst, ◌∙◌, inl, inr, ⊎_elim, Option, Some, None}
-use Rattle.std.specs.Prelude.{◌%◌, min, All, count_by}
-use Rattle.std.specs.List.{AllPairs, flat_map, range_with_len, sum_by}
+use Rattle.std.proofs.Common.{Bool, true, false, ◌≡◌, ◌⊎◌, ℕ, zero, suc, ◌+◌, ◌-◌, ◌*◌, ◌<◌, ◌≤◌, List, ◌∷◌, Contains, length, get_or, arith, refl, subst, ◌∙◌, inl, inr, Option, Some}
+use Rattle.std.specs.Prelude.{All, count_by}
+use Rattle.std.specs.List.{AllPairs, flat_map, range_with_len}
 use Rattle.std.proofs.Math.Nat.{mod-lt}
 use Rattle.std.proofs.lemmas.List.{length-append}
 use Rattle.std.proofs.lemmas.List.Elements.{All-contains, All-cons, All-from_recursion, Contains-get_or}
 use Rattle.std.proofs.lemmas.List.FromFn.{get_or-range_with_len, length-range_with_len}
 use Rattle.std.proofs.lemmas.List.Kept.{AllPairs-cons}
 use Rattle.std.proofs.lemmas.List.Sums.{sum_by-append}
-use Rattle.plain_lists.proofs.Membership.{Contains-cons_cases, Contains-head, Contains-nil, Contains-tail}
+use Rattle.plain_lists.proofs.Membership.{Contains-nil}
 use Rattle.iccma_tasks.specs.declared.task.Problem.{Problem}
-use Rattle.iccma_tasks.specs.declared.task.Problem.TheVariants.{Credulous, Sceptical, SomeExtension, AllExtensions}
+use Rattle.iccma_tasks.specs.declared.task.Problem.TheVariants.{Credulous, Sceptical}
 use Rattle.iccma_tasks.specs.declared.task.Semantics.TheVariants.{Complete, Preferred}
 use Rattle.edit_words.specs.declared.edit.Edit.{Edit}
-use Rattle.edit_words.specs.declared.edit.Edit.TheVariants.{ArgAdd, ArgDrop, AttackAdd, AttackDrop, AsmAdd, AsmDrop, ConSet, RuleAdd, RuleDrop}
+use Rattle.edit_words.specs.declared.edit.Edit.TheVariants.{AttackAdd, AttackDrop}
 use Rattle.script_text.specs.declared.script.Command.{Command}
 use Rattle.script_text.specs.declared.script.Command.TheVariants.{Edit as change_by, Ask}
 use Rattle.script_text.specs.declared.script.ScriptLine.{ScriptLine}

@@ -5,6 +5,7 @@
 mod draws;
 mod framework;
 mod input;
+pub mod laws;
 mod script;
 
 pub use draws::{INCREMENT, MULTIPLIER};

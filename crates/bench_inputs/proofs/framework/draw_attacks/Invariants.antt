@@ -1,4 +1,3 @@
-use Rattle.std.proofs.Common.{◌≡◌}
 use Rattle.bench_inputs.proofs.DrawLemmas.{IsDrawing}
 use Rattle.bench_inputs.proofs.framework.draw_attacks.Given as goal
 

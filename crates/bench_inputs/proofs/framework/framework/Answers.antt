@@ -1,8 +1,5 @@
-use Rattle.std.proofs.Common.{arith, sym, ◌∙◌, subst}
-use Rattle.std.specs.Prelude.{◌↔◌, Contains}
-use Rattle.dung_notions.specs.Neighbours.{AreArguments, AreBetween}
 use Rattle.edit_rules.proofs.SameFrameworks.{are_arguments, are_between, made}
-use Rattle.bench_inputs.specs.Generator.{attacks_drawn, bench_framework}
+use Rattle.bench_inputs.specs.Generator.{bench_framework}
 use Rattle.bench_inputs.proofs.FrameworkForm.{bench_form, bench_members}
 use Rattle.bench_inputs.proofs.framework.framework.Goals as goal
 

@@ -1,4 +1,3 @@
-use Rattle.std.proofs.Common.{◌≡◌}
 use Rattle.bench_inputs.proofs.DrawLemmas.{IsScripting}
 use Rattle.bench_inputs.proofs.script.script.Given as goal
 
