@@ -11,12 +11,24 @@ use std::alloc::Global;
 
 /// A sink over memory. A put fails whose number is in the list of those that are to fail, counted
 /// from 1, and otherwise only for want of memory.
-#[derive(Debug, Drop)]
+#[derive(Debug)]
 pub struct MemSink {
     bytes: Bytes,
     faults: u64,
     plan: Plan,
     most: usize,
+}
+
+// By hand, so that a drop is one call (docs/PROVING.md).
+impl Drop for MemSink {
+    fn drop(self) {
+        let MemSink {
+            bytes: _,
+            faults: _,
+            plan: _,
+            most: _,
+        } = self;
+    }
 }
 
 impl MemSink {

@@ -24,19 +24,40 @@ use std::alloc::Global;
 use std::mem::forget;
 
 /// The bytes of the files of a check.
-#[derive(Debug, Drop)]
+#[derive(Debug)]
 pub(crate) struct CheckBytes {
     pub framework: Bytes,
     pub answer: Bytes,
     pub certificate: Bytes,
 }
 
+// By hand, so that a drop is one call (docs/PROVING.md).
+impl Drop for CheckBytes {
+    fn drop(self) {
+        let CheckBytes {
+            framework: _,
+            answer: _,
+            certificate: _,
+        } = self;
+    }
+}
+
 /// What the files of a check read as.
-#[derive(Drop)]
 pub(crate) struct Checked {
     pub framework: Framework,
     pub answer: Answer,
     pub certificate: Certificate,
+}
+
+// By hand, so that a drop is one call (docs/PROVING.md).
+impl Drop for Checked {
+    fn drop(self) {
+        let Checked {
+            framework: _,
+            answer: _,
+            certificate: _,
+        } = self;
+    }
 }
 
 /// Reads the files of a check whole, in order.

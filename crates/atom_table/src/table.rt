@@ -72,10 +72,19 @@ fn note(recent: &mut Vec<u32>, place: usize, var: usize) {
 /// Atoms in the order in which they came, each once. An atom's variable is its index, so variables begin at 0 and none
 /// is left out. It keeps the allocator that it was made with. `recent` has at each place the variable of the last atom
 /// that has this place, as a guess that is compared before it is used: most looks then hash nothing.
-#[derive(Drop)]
 pub struct AtomTable {
     atoms: IndexSet<Atom>,
     recent: Vec<u32>,
+}
+
+// By hand, so that a drop is one call (docs/PROVING.md).
+impl Drop for AtomTable {
+    fn drop(self) {
+        let AtomTable {
+            atoms: _,
+            recent: _,
+        } = self;
+    }
 }
 
 impl Model for AtomTable {

@@ -21,7 +21,7 @@ const LAST_STEP: u64 = 1 << 56;
 /// rule of Moskewicz and others, Chaff, 2001, with the heap and the growing step of MiniSat, 2003). Each has a phase,
 /// the value that it is decided with: its first one, or the one that it had last. All of it is advice, so contracts
 /// see no more than the number below which each variable lies.
-#[derive(Debug, Drop)]
+#[derive(Debug)]
 pub struct DecisionOrder {
     heap: Vec<usize>,
     indices: Vec<usize>,
@@ -30,6 +30,21 @@ pub struct DecisionOrder {
     phases: Vec<bool>,
     firsts: Vec<bool>,
     step: u64,
+}
+
+// By hand, so that a drop is one call (docs/PROVING.md).
+impl Drop for DecisionOrder {
+    fn drop(self) {
+        let DecisionOrder {
+            heap: _,
+            indices: _,
+            activities: _,
+            named: _,
+            phases: _,
+            firsts: _,
+            step: _,
+        } = self;
+    }
 }
 
 impl Model for DecisionOrder {

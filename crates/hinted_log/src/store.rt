@@ -11,11 +11,22 @@ use std::marker::Model;
 
 /// Steps, each with its clause, its kind and its hints. The literals of all clauses lie in one array, and so do
 /// all hints. Contracts see it as the list of the steps.
-#[derive(Debug, Drop)]
+#[derive(Debug)]
 pub(crate) struct Store {
     clauses: Rows<PackedLit>,
     kinds: Vec<Kind>,
     hints: Rows<StepId>,
+}
+
+// By hand, so that a drop is one call (docs/PROVING.md).
+impl Drop for Store {
+    fn drop(self) {
+        let Store {
+            clauses: _,
+            kinds: _,
+            hints: _,
+        } = self;
+    }
 }
 
 impl Model for Store {

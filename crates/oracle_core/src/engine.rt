@@ -25,10 +25,19 @@ use std::marker::Model;
 /// An oracle for one framework, over a solver that is kept from one search to the next with what it has learned. It means
 /// its number, by which its entries are named, the framework, the log, and the clause that was in hand when the last budget
 /// was spent.
-#[derive(Drop)]
 pub struct Engine {
     pub(crate) number: u32,
     pub(crate) parts: Parts,
+}
+
+// By hand, so that a drop is one call (docs/PROVING.md).
+impl Drop for Engine {
+    fn drop(self) {
+        let Engine {
+            number: _,
+            parts: _,
+        } = self;
+    }
 }
 
 impl Model for Engine {

@@ -32,11 +32,22 @@ pub enum EntryOrigin {
 }
 
 /// A clause with its name and its origin.
-#[derive(Debug, Drop, PartialEq, Eq)]
+#[derive(Debug, PartialEq, Eq)]
 pub struct Entry {
     pub clause: Items<AtomLit>,
     pub name: EntryName,
     pub origin: EntryOrigin,
+}
+
+// By hand, so that a drop is one call (docs/PROVING.md).
+impl Drop for Entry {
+    fn drop(self) {
+        let Entry {
+            clause: _,
+            name: _,
+            origin: _,
+        } = self;
+    }
 }
 
 impl Entry {

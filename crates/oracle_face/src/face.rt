@@ -18,7 +18,7 @@ pub enum Found {
 }
 
 /// A clause that would have been a unit more, where the budget was spent.
-#[derive(Debug, Drop)]
+#[derive(Debug)]
 pub enum Pending {
     /// A side clause, and the set that it is made from.
     Side(Items<AtomLit>, NumSet),
@@ -26,6 +26,15 @@ pub enum Pending {
     Learned(Items<AtomLit>, Items<StepId>),
     /// An axiom that only a model calls for.
     Loop(AxiomName),
+}
+
+// By hand, so that a drop is one call (docs/PROVING.md).
+impl Drop for Pending {
+    fn drop(self) {
+        match self {
+            Pending::Side(_, _) | Pending::Learned(_, _) | Pending::Loop(_) => {}
+        }
+    }
 }
 
 /// The number of a side clause in an oracle's log, which contracts see as that number. Side clauses are counted from 1.

@@ -13,11 +13,22 @@ use std::marker::Model;
 
 /// The true literals in the order in which they came. `values` has the value of each variable, `positions` where
 /// its literal stands; there is room in `trail` for a literal of each variable.
-#[derive(Debug, Drop)]
+#[derive(Debug)]
 pub(crate) struct Assignment {
     trail: Vec<Lit>,
     values: Vec<Value>,
     positions: Vec<usize>,
+}
+
+// By hand, so that a drop is one call (docs/PROVING.md).
+impl Drop for Assignment {
+    fn drop(self) {
+        let Assignment {
+            trail: _,
+            values: _,
+            positions: _,
+        } = self;
+    }
 }
 
 impl Model for Assignment {

@@ -10,7 +10,6 @@ use plain_lits::StepId;
 use std::alloc::Global;
 
 /// Steps, each with the row of its clause.
-#[derive(Drop)]
 pub(crate) struct Taken {
     bench: Bench,
     /// The row of each step, counted from 1.
@@ -19,6 +18,18 @@ pub(crate) struct Taken {
     sides: Vec<u32>,
     /// The rows that the hints of a step name.
     named: Vec<StepId>,
+}
+
+// By hand, so that a drop is one call (docs/PROVING.md).
+impl Drop for Taken {
+    fn drop(self) {
+        let Taken {
+            bench: _,
+            rows: _,
+            sides: _,
+            named: _,
+        } = self;
+    }
 }
 
 impl Taken {

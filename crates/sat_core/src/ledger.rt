@@ -17,10 +17,17 @@ use plain_lits::{Clause, Lit, PackedLit, StepId, Trail, Value};
 use std::alloc::Global;
 
 /// A log, and for each clause of the propagator, in the order of the ids, the number of its step.
-#[derive(Debug, Drop)]
+#[derive(Debug)]
 pub(crate) struct Ledger {
     pub(crate) log: Log,
     pub(crate) active: Vec<StepId>,
+}
+
+// By hand, so that a drop is one call (docs/PROVING.md).
+impl Drop for Ledger {
+    fn drop(self) {
+        let Ledger { log: _, active: _ } = self;
+    }
 }
 
 /// The steps of clauses.

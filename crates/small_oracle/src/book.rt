@@ -22,12 +22,23 @@ use plain_lits::{Budget, Halt, StepId};
 use std::alloc::Global;
 
 /// The log with its limit, and the clause in hand when the last budget was spent.
-#[derive(Drop)]
 pub(crate) struct Book {
     pub(crate) limit: usize,
     pub(crate) steps: Vec<Step>,
     pub(crate) sides: Vec<Side>,
     pub(crate) pending: Option<Pending>,
+}
+
+// By hand, so that a drop is one call (docs/PROVING.md).
+impl Drop for Book {
+    fn drop(self) {
+        let Book {
+            limit: _,
+            steps: _,
+            sides: _,
+            pending: _,
+        } = self;
+    }
 }
 
 impl Book {
