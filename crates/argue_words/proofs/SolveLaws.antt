@@ -8,7 +8,7 @@ use Rattle.clap.specs.declared.builder.command.Command.{Command}
 use Rattle.clap.specs.declared.error.Error.{Error}
 use Rattle.clap.specs.declared.parser.matches.ArgMatches.{ArgMatches}
 use Rattle.clap.proofs.WalkLemmas.{first_value-rows}
-use Rattle.argue_words.specs.Words.{check_app, check_value, live_app, live_value, option_of, script_app, solve_app, solve_value, task_app, value_option}
+use Rattle.argue_words.specs.Words.{bench_app, bench_value, check_app, check_value, live_app, live_value, option_of, script_app, solve_app, solve_value, task_app, value_option}
 use Rattle.argue_words.proofs.NoFault.{takes_if}
 use Rattle.argue_words.proofs.ValuesGiven.{solve_rules, values_given}
 
@@ -114,6 +114,25 @@ pub live_values_at : (app : App) (words : List Text) (r : Result ArgMatches Erro
     → IfOk r (HasMatchesOf app words)
     → IfOk r (λ m. (id : Text) → first_value (found_of m) id ≡ live_value words id)
 live_values_at app words r is = values_of live_app live_is_plain_app app is words r
+
+-- ---- the words of a large input's run
+
+bench_is_plain_app : IsPlain bench_app
+unfolding bench_app
+bench_is_plain_app = record {
+  simple = refl;
+  free = refl;
+  whole = λ words e. takes_if bench_app words refl refl refl refl e;
+}
+
+pub bench_taken_at : {T : Type 0} (app : App) (words : List Text) (r : Result T Error) → app ≡ bench_app
+    → (is_simple_and_free app ≡ true → FailsBy (fault_of app words) r) → IfOk r (λ _. takes bench_app words ≡ true)
+bench_taken_at app words r is = taken_of bench_app bench_is_plain_app app is words r
+
+pub bench_values_at : (app : App) (words : List Text) (r : Result ArgMatches Error) → app ≡ bench_app
+    → IfOk r (HasMatchesOf app words)
+    → IfOk r (λ m. (id : Text) → first_value (found_of m) id ≡ bench_value words id)
+bench_values_at app words r is = values_of bench_app bench_is_plain_app app is words r
 
 -- ---- how the commands are made
 

@@ -1,4 +1,4 @@
--- Words that clap takes for a query, a check or a script's run, and words that it does not.
+-- Words that clap takes for a query, a check, a script's run or that of a large input, and words that it does not.
 use Rattle.std.proofs.Common.{◌≡◌, ◌≢◌, ◌∙◌, ◌&&◌, Bool, true, false, true≢false, refl, sym, ap, subst}
 use Rattle.std.proofs.Common.{List, [], ◌∷◌, None, Some, codes, drop}
 use Rattle.std.specs.List.{list_all}
@@ -8,8 +8,8 @@ use Rattle.clap.specs.Takes.{default_passes, is_valid, settle_passes, walk_passe
 use Rattle.clap.specs.Words.{Shape, Text, built, first_of, takes}
 use Rattle.clap.proofs.TakesLemmas.{leaf_takes}
 use Rattle.clap.proofs.OnLiterals.{clap_on_literals}
-use Rattle.argue_words.specs.Words.{AreUnknown, IsCheckQuery, IsLiveQuery, IsSolveQuery, SolveTexts, check_app, is_check, is_live, live_app, script_app, solve_app, task_app, words_are_problems}
-use Rattle.argue_words.proofs.RequestLaws.{no_check_in, no_live_in}
+use Rattle.argue_words.specs.Words.{AreUnknown, IsBenchQuery, IsCheckQuery, IsLiveQuery, IsSolveQuery, SolveTexts, bench_app, check_app, is_bench, is_check, is_live, live_app, script_app, solve_app, task_app, words_are_problems}
+use Rattle.argue_words.proofs.RequestLaws.{no_bench_in, no_check_in, no_live_in}
 use Rattle.argue_words.proofs.NoFault.{and_true}
 use Rattle.argue_words.proofs.ValueWords.{no_flag, value_turn, value_walked}
 
@@ -47,6 +47,7 @@ task_first file other =
     record {
       no_check = refl;
       no_live = refl;
+      no_bench = refl;
       no_list = refl;
       has = record {
         taken = and_true _ _ refl (leaf_takes (built solve_app) nothing_held words refl
@@ -72,6 +73,7 @@ file_first file other =
     record {
       no_check = refl;
       no_live = refl;
+      no_bench = refl;
       no_list = refl;
       has = record {
         taken = and_true _ _ refl (leaf_takes (built solve_app) nothing_held words refl
@@ -93,6 +95,7 @@ unfolding clap_on_literals solve_app task_app
 values_attached = record {
   no_check = refl;
   no_live = refl;
+  no_bench = refl;
   no_list = refl;
   has = record { taken = refl; task = refl; file = refl; number = refl; budget = refl; certificate = refl };
 }
@@ -112,6 +115,7 @@ unfolding clap_on_literals solve_app task_app
 query_with_all = record {
   no_check = refl;
   no_live = refl;
+  no_bench = refl;
   no_list = refl;
   has = record { taken = refl; task = refl; file = refl; number = refl; budget = refl; certificate = refl };
 }
@@ -172,19 +176,29 @@ no_script = record {
       let rest : codes "-f" ∷ codes "a.af" ∷ [] ≡ query.rest = ap (drop 1) query.words_are in
       let refused : takes live_app (codes "-f" ∷ codes "a.af" ∷ []) ≡ false = refl in
       true≢false (sym query.has.taken ∙ (ap (takes live_app) (sym rest) ∙ refused));
-  others = λ _ lives. absurd (true≢false lives);
+  no_bench = λ texts query. no_bench_in _ refl texts query;
+  others = λ _ lives _. absurd (true≢false lives);
 }
+
+abbrev bench_words : List Text
+bench_words = codes "-x" ∷ codes "7" ∷ codes "-n" ∷ codes "40" ∷ []
+
+pub bench_with_both : IsBenchQuery (codes "bench" ∷ bench_words) (record { arguments = codes "40"; seed = codes "7" })
+unfolding clap_on_literals bench_app
+bench_with_both =
+    record { rest = bench_words; words_are = refl; has = record { taken = refl; arguments = refl; seed = refl } }
 
 pub list_alone : words_are_problems (codes "--problems" ∷ []) ≡ true
 list_alone = refl
 
 refused : (words : List Text) → (words ≡ [] → ⊥) → is_check words ≡ false → is_live words ≡ false
-    → words_are_problems words ≡ false → takes solve_app words ≡ false → AreUnknown words
-refused words some checks lives listed e = record {
+    → is_bench words ≡ false → words_are_problems words ≡ false → takes solve_app words ≡ false → AreUnknown words
+refused words some checks lives benches listed e = record {
   some_words = some;
   no_check = λ texts query. no_check_in words checks texts query;
   no_live = λ texts query. no_live_in words lives texts query;
-  others = λ _ _. record {
+  no_bench = λ texts query. no_bench_in words benches texts query;
+  others = λ _ _ _. record {
     no_list = λ is. true≢false (sym is ∙ listed);
     refused = λ taken. true≢false (sym taken ∙ e);
   };
@@ -192,21 +206,21 @@ refused words some checks lives listed e = record {
 
 pub no_task : AreUnknown (codes "-f" ∷ codes "a.af" ∷ [])
 unfolding clap_on_literals solve_app task_app
-no_task = refused _ (λ none. cc) refl refl refl refl
+no_task = refused _ (λ none. cc) refl refl refl refl refl
 
 pub no_file : AreUnknown (codes "-p" ∷ codes "SE-GR" ∷ [])
 unfolding clap_on_literals solve_app task_app
-no_file = refused _ (λ none. cc) refl refl refl refl
+no_file = refused _ (λ none. cc) refl refl refl refl refl
 
 pub file_twice : AreUnknown
     (codes "-p" ∷ codes "SE-GR" ∷ codes "-f" ∷ codes "a.af" ∷ codes "-f" ∷ codes "a.af" ∷ [])
 unfolding clap_on_literals solve_app task_app
-file_twice = refused _ (λ none. cc) refl refl refl refl
+file_twice = refused _ (λ none. cc) refl refl refl refl refl
 
 pub list_with_a_file : AreUnknown (codes "--problems" ∷ codes "-f" ∷ codes "a.af" ∷ [])
 unfolding clap_on_literals solve_app task_app
-list_with_a_file = refused _ (λ none. cc) refl refl refl refl
+list_with_a_file = refused _ (λ none. cc) refl refl refl refl refl
 
 pub help_asked : AreUnknown (codes "--help" ∷ [])
 unfolding clap_on_literals solve_app task_app
-help_asked = refused _ (λ none. cc) refl refl refl refl
+help_asked = refused _ (λ none. cc) refl refl refl refl refl

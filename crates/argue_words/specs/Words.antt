@@ -6,7 +6,8 @@ use Rattle.clap.specs.Words.{App, Rule, Text, first_of, matches_of, new_app, new
 use Rattle.clap.specs.Words.{with_rule}
 use Rattle.clap.specs.declared.builder.ArgAction.TheVariants.{Set}
 use Rattle.argue_words.specs.declared.words.Command.{Command}
-use Rattle.argue_words.specs.declared.words.Command.TheVariants.{Version, Problems, Solve, Check, Live, Unknown}
+use Rattle.argue_words.specs.declared.words.Command.TheVariants.{Version, Problems, Solve, Check, Live, Bench, Unknown}
+use Rattle.argue_words.specs.declared.words.BenchWords.{BenchWords}
 use Rattle.argue_words.specs.declared.words.CheckWords.{CheckWords}
 use Rattle.argue_words.specs.declared.words.LiveWords.{LiveWords}
 use Rattle.argue_words.specs.declared.words.SolveWords.{SolveWords}
@@ -52,6 +53,10 @@ unfoldable pub live_app : App
 live_app = with_rule (with_rule script_app (option_of (codes "budget") 98 false))
     (option_of (codes "certificate") 99 false)
 
+-- the command of `-n N` and `-x SEED`
+unfoldable pub bench_app : App
+bench_app = with_rule (with_rule bare_app (value_option (codes "arguments") 110)) (value_option (codes "seed") 120)
+
 -- the first word is `check`
 abbrev pub is_check : List Text → Bool
 is_check [] = false
@@ -61,6 +66,11 @@ is_check (word ∷ more) = bytes_eq word (codes "check")
 abbrev pub is_live : List Text → Bool
 is_live [] = false
 is_live (word ∷ more) = bytes_eq word (codes "live")
+
+-- the first word is `bench`
+abbrev pub is_bench : List Text → Bool
+is_bench [] = false
+is_bench (word ∷ more) = bytes_eq word (codes "bench")
 
 -- the words are `--problems` alone
 abbrev pub words_are_problems : List Text → Bool
@@ -95,6 +105,7 @@ pub record HasSolveTexts (words : List Text) (texts : SolveTexts) : Type 0 where
 pub record IsSolveQuery (words : List Text) (texts : SolveTexts) : Type 0 where
   pub no_check : is_check words ≡ false
   pub no_live : is_live words ≡ false
+  pub no_bench : is_bench words ≡ false
   pub no_list : words_are_problems words ≡ false
   pub has : HasSolveTexts words texts
 
@@ -155,29 +166,54 @@ pub record IsLiveQuery (words : List Text) (texts : LiveTexts) : Type 0 where
   pub words_are : words ≡ codes "live" ∷ rest
   pub has : HasLiveTexts rest texts
 
+-- ---- large inputs
+
+-- the texts of a run of a large input: a number of arguments and a seed
+pub record BenchTexts : Type 0 where
+  pub arguments : Text
+  pub seed : Text
+
+-- the value of an option of `bench`
+abbrev pub bench_value : List Text → Text → Option Text
+bench_value words id = first_of id (matches_of bench_app words)
+
+-- the words behind the command's name, which clap takes, have these texts
+pub record HasBenchTexts (words : List Text) (texts : BenchTexts) : Type 0 where
+  pub taken : takes bench_app words ≡ true
+  pub arguments : bench_value words (codes "arguments") ≡ Some texts.arguments
+  pub seed : bench_value words (codes "seed") ≡ Some texts.seed
+
+-- the words ask for the run of a large input with these texts
+pub record IsBenchQuery (words : List Text) (texts : BenchTexts) : Type 0 where
+  pub rest : List Text
+  pub words_are : words ≡ codes "bench" ∷ rest
+  pub has : HasBenchTexts rest texts
+
 -- ---- all words
 
--- the words are well-formed, whatever the task, the number and the budget: there is none, or they ask for the list of
--- tasks, a query, a check or a script's run
+-- the words are well-formed, whatever the task and the numbers: there is none, or they ask for the list of tasks, a
+-- query, a check, a script's run or that of a large input
 abbrev pub AreWords : List Text → Type 0
 AreWords words =
     (words ≡ [])
     ⊎ ((words_are_problems words ≡ true)
     ⊎ (((texts : SolveTexts) × IsSolveQuery words texts)
-    ⊎ (((texts : CheckTexts) × IsCheckQuery words texts) ⊎ ((texts : LiveTexts) × IsLiveQuery words texts))))
+    ⊎ (((texts : CheckTexts) × IsCheckQuery words texts)
+    ⊎ (((texts : LiveTexts) × IsLiveQuery words texts) ⊎ ((texts : BenchTexts) × IsBenchQuery words texts)))))
 
 -- the words aren't `--problems` alone, and clap refuses them for a query
 pub record RefusesOthers (words : List Text) : Type 0 where
   pub no_list : words_are_problems words ≢ true
   pub refused : takes solve_app words ≢ true
 
--- there are words that ask for no check, for no script's run and, where they name no command, neither for the list of
--- tasks nor for a query
+-- there are words that ask for no check, for no script's run and for none of a large input, and, where they name no
+-- command, neither for the list of tasks nor for a query
 pub record AreUnknown (words : List Text) : Type 0 where
   pub some_words : words ≢ []
   pub no_check : (texts : CheckTexts) → ¬ IsCheckQuery words texts
   pub no_live : (texts : LiveTexts) → ¬ IsLiveQuery words texts
-  pub others : is_check words ≡ false → is_live words ≡ false → RefusesOthers words
+  pub no_bench : (texts : BenchTexts) → ¬ IsBenchQuery words texts
+  pub others : is_check words ≡ false → is_live words ≡ false → is_bench words ≡ false → RefusesOthers words
 
 -- what words ask for: a row for each command
 pub data Request : Type 0 where
@@ -186,6 +222,7 @@ pub data Request : Type 0 where
   solving : SolveTexts → Request
   checking : CheckTexts → Request
   living : LiveTexts → Request
+  benching : BenchTexts → Request
   unknown : Request
 
 -- what the values of a query's options ask for
@@ -206,6 +243,11 @@ live_request (Some file) (Some script) budget certificate =
     living (record { file = file; script = script; budget = budget; certificate = certificate })
 live_request _ _ _ _ = unknown
 
+-- what the values of a large input's options ask for
+abbrev pub bench_request : Option Text → Option Text → Request
+bench_request (Some arguments) (Some seed) = benching (record { arguments = arguments; seed = seed })
+bench_request _ _ = unknown
+
 -- what the words behind `check` ask for
 unfoldable pub check_requested : List Text → Request
 check_requested words =
@@ -218,6 +260,12 @@ unfoldable pub live_requested : List Text → Request
 live_requested words =
     if takes live_app words then live_request (live_value words (codes "file")) (live_value words (codes "script"))
     (live_value words (codes "budget")) (live_value words (codes "certificate")) else unknown
+
+-- what the words behind `bench` ask for
+unfoldable pub bench_requested : List Text → Request
+bench_requested words =
+    if takes bench_app words then bench_request (bench_value words (codes "arguments"))
+    (bench_value words (codes "seed")) else unknown
 
 -- what the words of a query ask for
 unfoldable pub solve_requested : List Text → Request
@@ -235,7 +283,8 @@ abbrev pub requested : List Text → Request
 requested [] = version
 requested (word ∷ more) =
     if bytes_eq word (codes "check") then check_requested more
-    else (if bytes_eq word (codes "live") then live_requested more else other_requested (word ∷ more))
+    else (if bytes_eq word (codes "live") then live_requested more
+    else (if bytes_eq word (codes "bench") then bench_requested more else other_requested (word ∷ more)))
 
 -- the texts of a query's words
 abbrev pub solve_texts : SolveWords → SolveTexts
@@ -266,6 +315,10 @@ live_texts words = record {
   certificate = option_map (λ text. text.now) words.certificate;
 }
 
+-- the texts of a large input's words
+abbrev pub bench_texts : BenchWords → BenchTexts
+bench_texts words = record { arguments = words.arguments.now; seed = words.seed.now }
+
 -- what a command asks for
 abbrev pub request_of : Command → Request
 request_of Version = version
@@ -273,4 +326,5 @@ request_of Problems = problems
 request_of (Solve words) = solving (solve_texts words)
 request_of (Check words) = checking (check_texts words)
 request_of (Live words) = living (live_texts words)
+request_of (Bench words) = benching (bench_texts words)
 request_of Unknown = unknown

@@ -2,7 +2,7 @@
 
 ghost use Rattle.std.specs.Prelude.{◌≡◌, IfOk, codes, false};
 ghost use Rattle.clap.specs.Words.{app_of, rule_of, with_rule};
-ghost use Rattle.argue_words.specs.Words.{bare_app, check_app, live_app, option_of, script_app, solve_app, task_app};
+ghost use Rattle.argue_words.specs.Words.{bare_app, bench_app, check_app, live_app, option_of, script_app, solve_app, task_app};
 
 use clap::{Arg, ArgAction, Command};
 use std::alloc::{AllocError, Global};
@@ -79,4 +79,16 @@ pub(crate) fn live_command<'a>(alloc: Global) -> Result<Command<'a>, AllocError>
     let command = script_command(alloc)?;
     let command = with_arg(command, value_arg(alloc, "budget", 'b', false))?;
     with_arg(command, value_arg(alloc, "certificate", 'c', false))
+}
+
+/// The command of `-n N` and `-x SEED`, whose words begin after the name of the command.
+#[tactic(auto, unfolding(crate::specs::Words::bench_app))]
+pub(crate) fn bench_command<'a>(alloc: Global) -> Result<Command<'a>, AllocError>
+    ensures { IfOk result (λ c. app_of c ≡ bench_app) }
+{
+    let command = with_arg(
+        bare_command(alloc),
+        value_arg(alloc, "arguments", 'n', true),
+    )?;
+    with_arg(command, value_arg(alloc, "seed", 'x', true))
 }

@@ -3,9 +3,9 @@
 ghost use Rattle.std.specs.Prelude.{◌≡◌, ◌≢◌, IfErr, IfOk, IsErr, IsSome, List, [], ℕ, codes, map};
 ghost use Rattle.std.specs.Prelude.{string_bytes, true};
 ghost use Rattle.clap.specs.Words.{first_value, found_of, kind_of, takes};
-ghost use Rattle.argue_words.specs.Words.{AreUnknown, RefusesOthers, check_app, check_request, check_requested, check_value, live_app, live_request, live_requested, live_value, other_requested, request_of, requested, solve_app, solve_request, solve_requested, solve_value, words_are_problems};
+ghost use Rattle.argue_words.specs.Words.{AreUnknown, RefusesOthers, bench_app, bench_request, bench_requested, bench_value, check_app, check_request, check_requested, check_value, live_app, live_request, live_requested, live_value, other_requested, request_of, requested, solve_app, solve_request, solve_requested, solve_value, words_are_problems};
 
-use crate::options::{check_command, live_command, solve_command};
+use crate::options::{bench_command, check_command, live_command, solve_command};
 use clap::ArgMatches;
 use clap::error::ErrorKind;
 use plain_lists::Memory;
@@ -24,6 +24,8 @@ pub enum Command<'a> {
     Check(CheckWords<'a>),
     /// A run of a script's sessions.
     Live(LiveWords<'a>),
+    /// A run of a large input.
+    Bench(BenchWords<'a>),
     /// Words that clap refuses.
     Unknown,
 }
@@ -62,14 +64,23 @@ pub struct LiveWords<'a> {
     pub certificate: Option<&'a str>,
 }
 
+/// The words of a large input's run: how many arguments it has, and a seed. Whether they are numbers, and whether an input
+/// may have so many arguments, is for the caller to see.
+#[derive(Clone, Copy, Debug, PartialEq, Eq)]
+pub struct BenchWords<'a> {
+    pub arguments: &'a str,
+    pub seed: &'a str,
+}
+
 /// Reads the words after the program's name. No words ask for the version, and `--problems` alone for the list of tasks.
 /// Where the first is `check`, those behind it are read by clap as the options `-p TASK`, `-f FILE`, `-r ANSWER`, `-c CERT`
 /// and perhaps `-a N`, in any order: `Check` comes exactly where clap takes them. Where the first is `live`, those behind
 /// it are read as the options `-f FILE`, `-s SCRIPT` and perhaps `-b BUDGET` and `-c CERT`, in any order: `Live` comes
-/// exactly where clap takes them. All others are read by clap as the options `-p TASK` and `-f FILE`, both required, and
-/// perhaps `-a N`, `-b BUDGET` and `-c CERT`, each with one value, in any order: `Solve` comes exactly where clap takes
-/// them. `Unknown` comes for all other words, also for those that ask for help. `Memory` is want of memory and no fault of
-/// the words; it comes only where there are words.
+/// exactly where clap takes them. Where the first is `bench`, those behind it are read as the options `-n N` and `-x SEED`,
+/// in any order: `Bench` comes exactly where clap takes them. All others are read by clap as the options `-p TASK` and
+/// `-f FILE`, both required, and perhaps `-a N`, `-b BUDGET` and `-c CERT`, each with one value, in any order: `Solve` comes
+/// exactly where clap takes them. `Unknown` comes for all other words, also for those that ask for help. `Memory` is want of
+/// memory and no fault of the words; it comes only where there are words.
 pub fn read_words<'a>(alloc: Global, words: &'a [String]) -> Result<Command<'a>, Memory>
     ensures request { IfOk result (λ c. request_of c ≡ requested (map string_bytes words.now)) }
     ensures unknown { IfOk result (λ c. c ≡ Command.Unknown → AreUnknown (map string_bytes words.now)) }
@@ -82,6 +93,8 @@ pub fn read_words<'a>(alloc: Global, words: &'a [String]) -> Result<Command<'a>,
         read_check(alloc, rest)
     } else if first.as_str() == "live" {
         read_live(alloc, rest)
+    } else if first.as_str() == "bench" {
+        read_bench(alloc, rest)
     } else {
         read_other(alloc, words)
     }
@@ -137,6 +150,16 @@ fn read_live<'a>(alloc: Global, words: &'a [String]) -> Result<Command<'a>, Memo
     }
 }
 
+// What the words behind `bench` ask for.
+fn read_bench<'a>(alloc: Global, words: &'a [String]) -> Result<Command<'a>, Memory>
+    ensures request { IfOk result (λ c. request_of c ≡ bench_requested (map string_bytes words.now)) }
+{
+    match bench_matches(alloc, words) {
+        Ok(matches) => Ok(bench_of(&matches)),
+        Err(error) => refusal(&error),
+    }
+}
+
 // What clap matches on the words of a query.
 fn solve_matches<'a>(alloc: Global, words: &'a [String]) -> Result<ArgMatches<'a>, clap::Error>
     ensures taken { IfOk result (λ _. takes solve_app (map string_bytes words.now) ≡ true) }
@@ -172,6 +195,18 @@ fn live_matches<'a>(alloc: Global, words: &'a [String]) -> Result<ArgMatches<'a>
         → kind_of e ≡ ErrorKind.OutOfMemory) }
 {
     let command = live_command(alloc)?;
+    command.try_get_matches_from(words)
+}
+
+// What clap matches on the words of a large input's run.
+fn bench_matches<'a>(alloc: Global, words: &'a [String]) -> Result<ArgMatches<'a>, clap::Error>
+    ensures taken { IfOk result (λ _. takes bench_app (map string_bytes words.now) ≡ true) }
+    ensures values { IfOk result (λ m. (id : List ℕ)
+        → first_value (found_of m) id ≡ bench_value (map string_bytes words.now) id) }
+    ensures refused { IfErr result (λ e. takes bench_app (map string_bytes words.now) ≡ true
+        → kind_of e ≡ ErrorKind.OutOfMemory) }
+{
+    let command = bench_command(alloc)?;
     command.try_get_matches_from(words)
 }
 
@@ -224,6 +259,20 @@ fn live_of<'a>(matches: &ArgMatches<'a>) -> Command<'a>
         budget,
         certificate,
     })
+}
+
+// The large input's run of words that clap takes.
+fn bench_of<'a>(matches: &ArgMatches<'a>) -> Command<'a>
+    ensures { request_of result ≡ bench_request (first_value (found_of matches.now) (codes "arguments"))
+        (first_value (found_of matches.now) (codes "seed")) }
+{
+    let Some(arguments) = matches.get_str("arguments") else {
+        return Command::Unknown;
+    };
+    let Some(seed) = matches.get_str("seed") else {
+        return Command::Unknown;
+    };
+    Command::Bench(BenchWords { arguments, seed })
 }
 
 // The query of words that clap takes.

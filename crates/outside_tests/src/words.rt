@@ -1,4 +1,4 @@
-use argue_words::{CheckWords, Command, LiveWords, SolveWords, read_words};
+use argue_words::{BenchWords, CheckWords, Command, LiveWords, SolveWords, read_words};
 use std::alloc::{AllocError, Global};
 use std::test::Fail;
 
@@ -39,6 +39,14 @@ fn live<'a>(budget: Option<&'a str>, certificate: Option<&'a str>) -> Command<'a
         script: "s",
         budget,
         certificate,
+    })
+}
+
+/// The run of a large input with 7 as its seed.
+fn bench(arguments: &str) -> Command<'_> {
+    Command::Bench(BenchWords {
+        arguments,
+        seed: "7",
     })
 }
 
@@ -97,6 +105,8 @@ fn words_of_each_kind(rt: HostRuntime) -> Result<(), Fail> {
         ("live -s s -f a", live(None, None)),
         ("live -c c -b 10 -s s -f a", live(Some("10"), Some("c"))),
         ("live -ss -fa -b=x", live(Some("x"), None)),
+        ("bench -n 40 -x 7", bench("40")),
+        ("bench -x=7 -nbench", bench("bench")),
     ];
     for (line, wanted) in rows {
         assert!(rt; reads_as(rt.alloc(), line, wanted) == Some(true), "{line}");
@@ -138,6 +148,10 @@ fn words_of_no_command(rt: HostRuntime) -> Result<(), Fail> {
         "-p SE-ST -f a -s s",
         "live --help",
         "live",
+        "bench -n 1",
+        "bench -x 1",
+        "bench -n 1 -x 1 -b 1",
+        "bench",
     ];
     for line in lines {
         assert!(rt;

@@ -6,6 +6,8 @@ mod gates;
 #[cfg(test)]
 mod hubs;
 #[cfg(test)]
+mod inputs;
+#[cfg(test)]
 mod pools;
 #[cfg(test)]
 mod replies;

@@ -1,0 +1,135 @@
+-- The entries that a session's lines made.
+use Rattle.std.proofs.Common.{arith, Bool, true, false, ◌≡◌, ◌⊎◌, ℕ, zero, suc, ◌+◌, ◌<◌, ◌≤◌, List, [], ◌∷◌, ◌++◌, Contains, length, get_or, cond, refl, sym, ap, subst, ◌∙◌, inl, inr, ⊎_elim}
+use Rattle.std.specs.Prelude.{All, count_by}
+use Rattle.std.specs.List.{AllPairs, AllZip}
+use Rattle.std.proofs.lemmas.List.{length-append}
+use Rattle.std.proofs.lemmas.List.Elements.{Contains-append_cases, Contains-get_or}
+use Rattle.std.proofs.lemmas.List.Kept.{AllPairs-cons}
+use Rattle.plain_lists.proofs.Counts.{count_by-cons}
+use Rattle.plain_lists.proofs.Membership.{Contains-cons_cases, Contains-nil}
+use Rattle.edit_words.specs.declared.edit.Edit.{Edit}
+use Rattle.edit_history.specs.declared.entry.Entry.{Entry}
+use Rattle.script_text.specs.declared.script.Command.{Command}
+use Rattle.script_text.specs.declared.script.Command.TheVariants.{Edit as change_by, Ask}
+use Rattle.script_text.specs.declared.script.ScriptLine.{ScriptLine}
+use Rattle.session_replies.specs.declared.reply.Body.{Body}
+use Rattle.session_replies.specs.declared.reply.Body.TheVariants.{Done, EditRefused, Full, Answered, QueryRefused, Unknown, TooMany, LogFull}
+use Rattle.session_replies.specs.declared.reply.Reply.{Reply}
+use Rattle.script_runs.specs.Served.{entries_made, entry_by, made_by}
+use Rattle.bench_runs.specs.Taken.{IsDone, IsTakenOn}
+use Rattle.bench_inputs.proofs.ScriptLines.{IsPlacedBefore, edit_place, is_edit, place_of}
+
+-- the entry is the edit of a line, and the reply to it tells that it was taken
+pub record IsOfLine (command : Command) (body : Body) (x : Entry) : Type 0 where
+  pub command_is : command ≡ change_by x.edit
+  pub done : IsDone body
+
+made_here : (s : ℕ) (command : Command) (body : Body) (x : Entry) → Contains (made_by s command body) x
+    → IsOfLine command body x
+made_here s (change_by edit) (Done effect) x c =
+    ⊎_elim (λ (e : entry_by s edit ≡ x). record { command_is = ap (λ (y : Entry). change_by y.edit) e; done = tt })
+    (λ none. absurd (Contains-nil x none)) (Contains-cons_cases (entry_by s edit) [] x c)
+made_here s (change_by edit) (EditRefused fault) x c = absurd (Contains-nil x c)
+made_here s (change_by edit) Full x c = absurd (Contains-nil x c)
+made_here s (change_by edit) (Answered answer certificate) x c = absurd (Contains-nil x c)
+made_here s (change_by edit) (QueryRefused fault) x c = absurd (Contains-nil x c)
+made_here s (change_by edit) (Unknown count) x c = absurd (Contains-nil x c)
+made_here s (change_by edit) TooMany x c = absurd (Contains-nil x c)
+made_here s (change_by edit) LogFull x c = absurd (Contains-nil x c)
+made_here s (Ask asked) body x c = absurd (Contains-nil x c)
+
+-- the line and the reply that an entry comes from
+pub record MadeAt (lines : List ScriptLine) (replies : List Reply) (x : Entry) : Type 0 where
+  pub at : ℕ
+  pub inside : at < length lines
+  pub of_line : (d : ScriptLine) (e : Reply) → IsOfLine (get_or lines at d).command (get_or replies at e).body x
+
+pub made_at : (s : ℕ) (lines : List ScriptLine) (replies : List Reply) (x : Entry)
+    → Contains (entries_made s lines replies) x → MadeAt lines replies x
+made_at s [] replies x c = absurd (Contains-nil x c)
+made_at s (line ∷ lines) [] x c = absurd (Contains-nil x c)
+made_at s (line ∷ lines) (reply ∷ replies) x c =
+    ⊎_elim (λ h. record {
+      at = 0;
+      inside = omega arith;
+      of_line = λ d e. made_here s line.command reply.body x h;
+    }) (λ h.
+    let rest = made_at s lines replies x h in
+    record { at = suc rest.at; inside = omega (arith, rest.inside); of_line = λ d e. rest.of_line d e })
+    (Contains-append_cases (made_by s line.command reply.body) (entries_made s lines replies) x c)
+
+-- the place of an entry that a line made is the line's
+abbrev pub IsEntryBefore : Entry → Entry → Type 0
+IsEntryBefore x y = edit_place x.edit < edit_place y.edit
+
+places_on : (s : ℕ) (line : ScriptLine) (lines : List ScriptLine) (replies : List Reply)
+    → AllPairs IsPlacedBefore (line ∷ lines) → (y : Entry) → Contains (entries_made s lines replies) y
+    → place_of line.command < edit_place y.edit
+places_on s line lines replies rise y c =
+    let made = made_at s lines replies y c in
+    let after : place_of line.command < place_of (get_or lines made.at line).command =
+    rise 0 (suc made.at) line (omega arith) (omega (arith, made.inside)) in
+    subst (λ p. place_of line.command < place_of p)
+    (made.of_line line (record { front = 0; body = Full })).command_is after
+
+made_rise : (s : ℕ) (command : Command) (body : Body) (rest : List Entry) → AllPairs IsEntryBefore rest
+    → ((y : Entry) → Contains rest y → place_of command < edit_place y.edit)
+    → AllPairs IsEntryBefore (made_by s command body ++ rest)
+made_rise s (change_by edit) (Done effect) rest up after =
+    AllPairs-cons IsEntryBefore (entry_by s edit) rest
+    (λ k d lt. after (get_or rest k d) (Contains-get_or rest k d lt)) up
+made_rise s (change_by edit) (EditRefused fault) rest up after = up
+made_rise s (change_by edit) Full rest up after = up
+made_rise s (change_by edit) (Answered answer certificate) rest up after = up
+made_rise s (change_by edit) (QueryRefused fault) rest up after = up
+made_rise s (change_by edit) (Unknown count) rest up after = up
+made_rise s (change_by edit) TooMany rest up after = up
+made_rise s (change_by edit) LogFull rest up after = up
+made_rise s (Ask asked) body rest up after = up
+
+pub entries_rise : (s : ℕ) (lines : List ScriptLine) (replies : List Reply) → AllPairs IsPlacedBefore lines
+    → AllPairs IsEntryBefore (entries_made s lines replies)
+entries_rise s [] replies rise = λ i j d lt within. absurd (omega arith)
+entries_rise s (line ∷ lines) [] rise = λ i j d lt within. absurd (omega arith)
+entries_rise s (line ∷ lines) (reply ∷ replies) rise =
+    made_rise s line.command reply.body (entries_made s lines replies)
+    (entries_rise s lines replies (λ i j d lt within. rise (suc i) (suc j) d (omega arith) (omega arith)))
+    (places_on s line lines replies rise)
+
+-- ---- how many entries lines make
+
+made_long : (s : ℕ) (command : Command) (body : Body)
+    → (length (made_by s command body) ≤ cond (is_edit command) 1 0)
+    × (IsTakenOn command body → length (made_by s command body) ≡ cond (is_edit command) 1 0)
+made_long s (change_by edit) (Done effect) = (omega arith, λ _. refl)
+made_long s (change_by edit) (EditRefused fault) = (omega arith, λ h. absurd h)
+made_long s (change_by edit) Full = (omega arith, λ h. absurd h)
+made_long s (change_by edit) (Answered answer certificate) = (omega arith, λ h. absurd h)
+made_long s (change_by edit) (QueryRefused fault) = (omega arith, λ h. absurd h)
+made_long s (change_by edit) (Unknown count) = (omega arith, λ h. absurd h)
+made_long s (change_by edit) TooMany = (omega arith, λ h. absurd h)
+made_long s (change_by edit) LogFull = (omega arith, λ h. absurd h)
+made_long s (Ask asked) body = (omega arith, λ _. refl)
+
+pub made_few : (s : ℕ) (lines : List ScriptLine) (replies : List Reply)
+    → length (entries_made s lines replies) ≤ count_by (λ l. is_edit l.command) lines
+made_few s [] replies = omega arith
+made_few s (line ∷ lines) [] = omega arith
+made_few s (line ∷ lines) (reply ∷ replies) =
+    let rest = made_few s lines replies in
+    let here = (made_long s line.command reply.body).0 in
+    let whole = length-append (made_by s line.command reply.body) (entries_made s lines replies) in
+    let count = count_by-cons (λ l. is_edit l.command) line lines in
+    omega arith
+
+pub made_each : (s : ℕ) (lines : List ScriptLine) (replies : List Reply)
+    → AllZip (λ line reply. IsTakenOn line.command reply.body) lines replies
+    → count_by (λ l. is_edit l.command) lines ≤ length (entries_made s lines replies)
+made_each s [] replies all = omega arith
+made_each s (line ∷ lines) [] all = absurd all
+made_each s (line ∷ lines) (reply ∷ replies) all =
+    let rest = made_each s lines replies all.1 in
+    let here = (made_long s line.command reply.body).1 all.0 in
+    let whole = length-append (made_by s line.command reply.body) (entries_made s lines replies) in
+    let count = count_by-cons (λ l. is_edit l.command) line lines in
+    omega arith

@@ -1,0 +1,21 @@
+use Rattle.std.proofs.Common.{arith, ◌≡◌, ◌<◌, length, subst}
+use Rattle.std.specs.Prelude.{take}
+use Rattle.edit_rules.specs.Kinds.{framework_of}
+use Rattle.edit_history.specs.Entries.{entries_in, framework_after}
+use Rattle.bench_runs.proofs.CheckLemmas.{led_next}
+use Rattle.bench_runs.proofs.replay.lead.Goals as goal
+
+pub loop-index-preserved : goal.loop-index-preserved
+loop-index-preserved c = λ f e.
+    let lt : c.loop-index.index < length c.args.history.now =
+    omega (arith, c.loop-index-test.true, c.requires.inside) in
+    led_next f (framework_of c.loop-index.framework) (framework_of c.redo.new.framework) c.args.history.now
+    c.loop-index.index c.index-history-index.result lt (c.loop-index.invariant f e)
+    c.in_ok-redo.ensures
+
+pub returns : goal.returns
+returns c = λ f e.
+    let end : c.loop-index.index ≡ c.args.to =
+    omega (arith, c.loop-index-test.false, c.loop-index.auto.index-end, c.requires.order) in
+    subst (λ i. framework_of c.loop-index.framework ≡ framework_after f (take i (entries_in c.args.history.now))) end
+    (c.loop-index.invariant f e)
