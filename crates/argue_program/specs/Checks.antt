@@ -31,8 +31,8 @@ abbrev pub check_inputs : CheckTexts → List Input
 check_inputs texts =
     input (role.Framework 1) texts.file ∷ input role.Answer texts.answer ∷ input role.Certificate texts.certificate ∷ []
 
--- how a check ends by its framework, query, answer and certificate: done where the certificate is accepted, else with its
--- first failure; a query that doesn't fit is refused before
+-- how a check ends by its framework, query, answer and certificate: done where the certificate is accepted, else with
+-- its first failure; a query that doesn't fit is refused before
 abbrev pub CheckEnds : Framework → Asked → Answer → Certificate → Status → Type 0
 CheckEnds f asked answer certificate Done = Fits f asked × IsVerdict f asked answer certificate Accepted
 CheckEnds f asked answer certificate (Rejected failure refutation step) =

@@ -243,8 +243,8 @@ pub record EndsSession (session : KeptSession) (name : Option (List ℕ)) (endin
   pub text : text_bytes ending.text ≡ unwrap_or (common_text ending.status) (reply_text session.reply)
   pub files : map file_text ending.files ≡ files_beside (common_text ending.status) (reply_files name session.reply)
 
--- the ending of a script's run: it keeps what the sessions came to, is done, and writes the transcript and the file of the
--- certificates
+-- the ending of a script's run: it keeps what the sessions came to, is done, and writes the transcript and the file of
+-- the certificates
 pub record EndsScript (transcript : ScriptTranscript) (name : Option (List ℕ)) (ending : Ending) : Type 0 where
   pub status : ending.status ≡ Done
   pub keeps : ending.kept ≡ script_kept transcript

@@ -64,8 +64,8 @@ pub record AsksSession (words : List (List ℕ)) (holds : List ℕ → KnownFile
   pub query_is : solving_by texts ≡ Some query
   pub on : IsSessionOn (holds texts.file) query session
 
--- the run keeps the session of the words' query, and its log shows that the budget was spent: it has as many units as the
--- budget, each of them a clause that was new when it came, and a further clause that would be one is in hand
+-- the run keeps the session of the words' query, and its log shows that the budget was spent: it has as many units as
+-- the budget, each of them a clause that was new when it came, and a further clause that would be one is in hand
 pub record SpendsBudget (words : List (List ℕ)) (holds : List ℕ → KnownFile) (kept : Transcript) : Type 0 where
   pub session : KeptSession
   pub keeps : kept.session ≡ Some session
@@ -86,8 +86,8 @@ pub record FillsLog (words : List (List ℕ)) (holds : List ℕ → KnownFile) (
   pub asks : AsksSession words holds session
   pub full : length session.engine.log.steps ≡ LOG_LIMIT
 
--- the output has gained the text of a right answer to the words' query on the framework in its file, and the file that is
--- named for the certificate has that of one that is accepted for the answer
+-- the output has gained the text of a right answer to the words' query on the framework in its file, and the file that
+-- is named for the certificate has that of one that is accepted for the answer
 pub record WritesAnswer (holds : List ℕ → KnownFile) (texts : SolveTexts) (old new : Output) : Type 0 where
   pub query : Solving
   pub query_is : solving_by texts ≡ Some query
@@ -130,8 +130,8 @@ pub record EndsAsReplied (f : Framework) (query : Solving) (kept : Transcript) (
   pub is : IsSessionOf f query session
   pub ends : end ≡ status_of session.reply
 
--- a query ends as its session says, but for want of memory or a write fault: answered where it fits and its budget and the
--- limits allow it
+-- a query ends as its session says, but for want of memory or a write fault: answered where it fits and its budget and
+-- the limits allow it
 abbrev pub IsSolveEnd : Framework → Solving → Transcript → Status → Type 0
 IsSolveEnd f query kept WantOfMemory = Unit {0}
 IsSolveEnd f query kept WriteFault = Unit {0}
@@ -218,8 +218,8 @@ pub record AsksScript (words : List (List ℕ)) (holds : List ℕ → KnownFile)
   pub budget_is : budget_of texts.budget ≡ Some budget
   pub runs : RunsScript holds budget texts transcript
 
--- the run keeps what the sessions of the script in its file come to on the framework in its file; the output has gained the
--- text of it, and the file that is named for the certificates has those of all answers
+-- the run keeps what the sessions of the script in its file come to on the framework in its file; the output has gained
+-- the text of it, and the file that is named for the certificates has those of all answers
 pub record WritesTranscript (holds : List ℕ → KnownFile) (texts : LiveTexts) (kept : Transcript) (old new : Output)
     : Type 0 where
   pub budget : ℕ

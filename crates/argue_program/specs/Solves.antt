@@ -37,9 +37,9 @@ abbrev pub Replies : Framework → Solving → ℕ → Result Answered AnswerSto
 Replies f solving used (Ok reply) = IsReplyTo f solving reply × (reply.units ≡ used)
 Replies f solving used (Err why) = IsCause f solving.query EXTENSION_LIMIT why
 
--- a session of this query alone on the framework: its engine began with no step; each unit that its log has was a clause
--- that was new when it came, and the budget counts them; and the reply is so. Where the budget was spent, the units
--- are as many as it has, and the further clause is kept; where the log is full, it has as many steps as it may.
+-- a session of this query alone on the framework: its engine began with no step; each unit that its log has was a
+-- clause that was new when it came, and the budget counts them; and the reply is so. Where the budget was spent, the
+-- units are as many as it has, and the further clause is kept; where the log is full, it has as many steps as it may.
 pub record IsSessionOf (f : Framework) (solving : Solving) (session : KeptSession) : Type 0 where
   pub framework : session.engine.framework ≡ f
   pub after : Units

@@ -173,8 +173,8 @@ fn judge(alloc: Global, query: &Query, read: &Checked) -> Result<(), Status>
     }
 }
 
-/// Checks the answer in one file with the certificate in another, on the framework in a third. `Ok` where the certificate
-/// is accepted, else how the run ends.
+/// Checks the answer in one file with the certificate in another, on the framework in a third. `Ok` where the
+/// certificate is accepted, else how the run ends.
 pub(crate) fn check_files<F: Files>(
     alloc: Global,
     files: &mut F,

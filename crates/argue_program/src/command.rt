@@ -50,7 +50,8 @@ pub fn execute<F: Files, O: Sink>(
         (output (F.holds files.new) (F.write_count files.new) (O.contents out.new) (O.fault_count out.new)) }
 
     // The headline, for the one query there is, over what the run keeps: an answer is right and its certificate is
-    // accepted; a run is unknown only where the log has spent the budget, and is stopped by a full log only where it is.
+    // accepted; a run is unknown only where the log has spent the budget, and is stopped by a full log only where it
+    // is.
     ensures right { (session : KeptSession) → result.kept.session ≡ Some session
         → AsksSession (map string_bytes words.now) (F.holds files.old) session }
     ensures unknown { result.status ≡ Status.Unknown
@@ -72,8 +73,8 @@ pub fn execute<F: Files, O: Sink>(
         (map string_bytes words.now) texts query f
         → IsSolveEnd f query result.kept result.status }
 
-    // The converses: words that aren't well-formed, or that ask a query which there isn't, are refused, and so is a file
-    // with a fault and one over the limit.
+    // The converses: words that aren't well-formed, or that ask a query which there isn't, are refused, and so is a
+    // file with a fault and one over the limit.
     ensures usage { ¬ AreWords (map string_bytes words.now) → RefusesWords result.status }
     ensures no_query { (texts : SolveTexts) → IsSolveQuery (map string_bytes words.now) texts
         → solving_by texts ≡ None → RefusesWords result.status }
@@ -98,8 +99,8 @@ pub fn execute<F: Files, O: Sink>(
     ensures unasked { (texts : CheckTexts) → IsCheckQuery (map string_bytes words.now) texts
         → asked_by texts.task texts.number ≡ None → RefusesWords result.status }
 
-    // A write fault was counted. No file changes but that for certificates, and that one only where the run is done or its
-    // writing fails; and no other count of faults does.
+    // A write fault was counted. No file changes but that for certificates, and that one only where the run is done or
+    // its writing fails; and no other count of faults does.
     ensures write_fault { result.status ≡ Status.WriteFault
         → FaultCounted (O.fault_count out.old) (O.fault_count out.new)
         ⊎ FaultCounted (F.write_count files.old) (F.write_count files.new) }
@@ -135,7 +136,8 @@ pub fn run<F: Files, O: Sink, P: Pace + Sync, R: Threads + Wait + Sync>(
         (output (F.holds files.new) (F.write_count files.new) (O.contents out.new) (O.fault_count out.new)) }
 
     // The headline, for the one query there is, over what the run keeps: an answer is right and its certificate is
-    // accepted; a run is unknown only where the log has spent the budget, and is stopped by a full log only where it is.
+    // accepted; a run is unknown only where the log has spent the budget, and is stopped by a full log only where it
+    // is.
     ensures right { (session : KeptSession) → result.kept.session ≡ Some session
         → AsksSession (map string_bytes words.now) (F.holds files.old) session }
     ensures unknown { result.status ≡ Status.Unknown
@@ -147,8 +149,9 @@ pub fn run<F: Files, O: Sink, P: Pace + Sync, R: Threads + Wait + Sync>(
         (output (F.holds files.old) (F.write_count files.old) (O.contents out.old) (O.fault_count out.old))
         (output (F.holds files.new) (F.write_count files.new) (O.contents out.new) (O.fault_count out.new)) }
 
-    // The same for scripts: a transcript that is kept is that of the words' script on the framework in its file; and where
-    // the run is done, it has written that transcript, and the certificates of all its answers where a file is named.
+    // The same for scripts: a transcript that is kept is that of the words' script on the framework in its file; and
+    // where the run is done, it has written that transcript, and the certificates of all its answers where a file is
+    // named.
     ensures transcript { (transcript : ScriptTranscript) → result.kept.script ≡ Some transcript
         → AsksScript (map string_bytes words.now) (F.holds files.old) transcript }
     ensures live { (texts : LiveTexts) → IsLiveQuery (map string_bytes words.now) texts
@@ -171,8 +174,8 @@ pub fn run<F: Files, O: Sink, P: Pace + Sync, R: Threads + Wait + Sync>(
         (map string_bytes words.now) texts budget f script
         → IsLiveEnd f script budget result.kept result.status }
 
-    // The converses: words that aren't well-formed, or that ask a query which there isn't, are refused, and so is a file
-    // with a fault and one over the limit.
+    // The converses: words that aren't well-formed, or that ask a query which there isn't, are refused, and so is a
+    // file with a fault and one over the limit.
     ensures usage { ¬ AreWords (map string_bytes words.now) → RefusesWords result.status }
     ensures no_query { (texts : SolveTexts) → IsSolveQuery (map string_bytes words.now) texts
         → solving_by texts ≡ None → RefusesWords result.status }
@@ -208,8 +211,8 @@ pub fn run<F: Files, O: Sink, P: Pace + Sync, R: Threads + Wait + Sync>(
     ensures unasked { (texts : CheckTexts) → IsCheckQuery (map string_bytes words.now) texts
         → asked_by texts.task texts.number ≡ None → RefusesWords result.status }
 
-    // A write fault was counted. No file changes but that for certificates, and that one only where the run is done or its
-    // writing fails; and no other count of faults does.
+    // A write fault was counted. No file changes but that for certificates, and that one only where the run is done or
+    // its writing fails; and no other count of faults does.
     ensures write_fault { result.status ≡ Status.WriteFault
         → FaultCounted (O.fault_count out.old) (O.fault_count out.new)
         ⊎ FaultCounted (F.write_count files.old) (F.write_count files.new) }

@@ -66,7 +66,8 @@ pub enum Status {
     Unknown,
     /// A bound was met.
     Limit(Limit),
-    /// The certificate isn't accepted for the answer: why, and the numbers of the refutation and of the step or the set.
+    /// The certificate isn't accepted for the answer: why, and the numbers of the refutation and of the step or the
+    /// set.
     Rejected(Failure, usize, usize),
 }
 
@@ -89,9 +90,9 @@ impl Status {
     }
 }
 
-/// What a session keeps: the answer to its query with the certificate, or why there is none; and its engine, which means
-/// the log of what was added for the query, the side clauses with their sets, and the clause that was in hand when the
-/// budget was spent.
+/// What a session keeps: the answer to its query with the certificate, or why there is none; and its engine, which
+/// means the log of what was added for the query, the side clauses with their sets, and the clause that was in hand
+/// when the budget was spent.
 #[derive(Drop)]
 pub struct KeptSession {
     pub reply: Result<Answered, AnswerStop>,

@@ -50,8 +50,8 @@ fn asked_with(task: Task, number: Option<u32>) -> Option<Query>
     Query::new(task, number)
 }
 
-/// The query that a task's name and the text of a number ask. `None` where there is no such task, the text is no number,
-/// or the task wants a number and there is none, or wants none and there is one.
+/// The query that a task's name and the text of a number ask. `None` where there is no such task, the text is no
+/// number, or the task wants a number and there is none, or wants none and there is one.
 #[tactic(auto, unfolding(crate::specs::Queries::asked_by))]
 pub(crate) fn query_of<'a>(task: &'a str, number: Option<&'a str>) -> Option<Query>
     ensures { result ≡ asked_by task.entry.now (option_map (λ text. text.now) number.entry) }

@@ -210,8 +210,9 @@ fn live<R: Threads + Wait + Sync, F: Files, P: Pace + Sync>(
     }
 }
 
-/// Decides how a run on any words ends: what it keeps, and what it has to write. Files are read, and nothing is written.
-/// All memory of a run is taken here. Where the words ask for it, the sessions of a script run in threads of their own.
+/// Decides how a run on any words ends: what it keeps, and what it has to write. Files are read, and nothing is
+/// written. All memory of a run is taken here. Where the words ask for it, the sessions of a script run in threads of
+/// their own.
 pub fn decide_with<R: Threads + Wait + Sync, F: Files, P: Pace + Sync>(
     rt: &R,
     alloc: Global,
