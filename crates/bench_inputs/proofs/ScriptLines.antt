@@ -161,13 +161,15 @@ abbrev pub is_ask : Command → Bool
 is_ask (change_by edit) = false
 is_ask (Ask asked) = true
 
-edits_from : (n seed a k : ℕ) → count_by (λ l. is_edit l.command) (flat_map (lines_for n seed) (range_with_len a k)) ≡ 2 * k
+edits_from : (n seed a k : ℕ)
+    → count_by (λ l. is_edit l.command) (flat_map (lines_for n seed) (range_with_len a k)) ≡ 2 * k
 edits_from n seed a zero = refl
 edits_from n seed a (suc k) =
     let more = edits_from n seed (a + 1) k in
     sum_by-append _ (lines_for n seed a) (flat_map (lines_for n seed) (range_with_len (a + 1) k)) ∙ omega arith
 
-asks_from : (n seed a k : ℕ) → count_by (λ l. is_ask l.command) (flat_map (lines_for n seed) (range_with_len a k)) ≡ 2 * k
+asks_from : (n seed a k : ℕ)
+    → count_by (λ l. is_ask l.command) (flat_map (lines_for n seed) (range_with_len a k)) ≡ 2 * k
 asks_from n seed a zero = refl
 asks_from n seed a (suc k) =
     let more = asks_from n seed (a + 1) k in

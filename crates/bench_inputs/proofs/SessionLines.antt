@@ -30,12 +30,15 @@ same_in_four r s lt some few =
     ⊎_elim (λ (a : r < 3).
     let e = below a in
     ⊎_elim (λ (b : s < 4). let d = small b in agree (1 + r) s x y (λ h. omega arith) (λ h. omega arith))
-    (λ (b : 4 ≤ s). let d = four (omega arith) in agree (1 + r) s x y (λ h. absurd (omega arith)) (λ h. absurd (omega arith)))
+    (λ (b : 4 ≤ s). let d = four (omega arith) in agree (1 + r) s x y (λ h. absurd (omega arith)) (λ h.
+    absurd (omega arith)))
     (cases_lt s 4))
     (λ (a : 3 ≤ r).
     let e = last (omega arith) in
-    ⊎_elim (λ (b : s < 4). let d = small b in agree (1 + r) s x y (λ h. absurd (omega arith)) (λ h. absurd (omega arith)))
-    (λ (b : 4 ≤ s). let d = four (omega arith) in agree (1 + r) s x y (λ h. omega arith) (λ h. omega arith)) (cases_lt s 4))
+    ⊎_elim (λ (b : s < 4). let d = small b in agree (1 + r) s x y (λ h. absurd (omega arith)) (λ h.
+    absurd (omega arith)))
+    (λ (b : 4 ≤ s). let d = four (omega arith) in agree (1 + r) s x y (λ h. omega arith) (λ h. omega arith))
+    (cases_lt s 4))
     (cases_lt r 3)
 
 same_session : (a s : ℕ) → 1 ≤ a → 1 ≤ s → s ≤ 4 → (session_for a == s) ≡ (a % 4 == s % 4)

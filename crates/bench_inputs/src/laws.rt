@@ -2,7 +2,8 @@
 
 ghost use Rattle.bench_inputs.specs.Laws.{SessionsHaveTheirs};
 
-/// The lines of each of the four sessions are, by rising argument, those of the arguments that equal its number modulo 4.
+/// The lines of each of the four sessions are, by rising argument, those of the arguments that equal its number modulo
+/// 4.
 pub fn sessions_have_theirs()
     ensures { SessionsHaveTheirs }
 {}

@@ -28,7 +28,8 @@ led_next f g h history i d lt before after =
     let long = length-map history entry_of in
     let here : get_or (entries_in history) i one ≡ one = get_or-map entry_of history i d one lt in
     let more : take (i + 1) (entries_in history) ≡ take i (entries_in history) ++ one ∷ [] =
-    take_more (entries_in history) i one (omega (arith, long, lt)) ∙ ap (λ e. take i (entries_in history) ++ e ∷ []) here in
+    take_more (entries_in history) i one (omega (arith, long, lt))
+    ∙ ap (λ e. take i (entries_in history) ++ e ∷ []) here in
     after ∙ ap (λ k. after_edit k change.effect.edit) before
     ∙ sym (ap (framework_after f) more
     ∙ ap (replay f) (map-append (λ (e : Entry). e.edit) (take i (entries_in history)) (one ∷ []))
@@ -88,7 +89,8 @@ pub checked_next : (f : Framework) (history : List Change) (lines : List ScriptL
     → next ≡ framework_after f (take reply.front (entries_in history)))
     → IsRejection next line.command reply.body count → count ≤ 1
     → IsCheckedTo f history lines replies (lines_of s left) next reply.front (checked + 1) (rejected + count)
-checked_next f history lines replies left framework next front checked rejected count s line reply mine is to led found one =
+checked_next f history lines replies left framework next front checked rejected count s line reply mine is to led
+    found one =
     let few = to.may.few in
     let inside = is.inside in
     let at = led to.replayed in
@@ -104,7 +106,8 @@ checked_next f history lines replies left framework next front checked rejected 
           (to.counted (count + more)
           (subst (λ l. AreRejections f (entries_in history) l (drop checked replies) (count + more))
           (sym (kept s line left mine))
-          (subst (λ l. AreRejections f (entries_in history) (line ∷ lines_of s left) l (count + more)) (sym is.left) both)));
+          (subst (λ l. AreRejections f (entries_in history) (line ∷ lines_of s left) l (count + more))
+          (sym is.left) both)));
     }
 
 no_rejections : (f : Framework) (entries : List Entry) (lines : List ScriptLine) (n : ℕ)
@@ -126,7 +129,8 @@ checked_all f history lines replies left framework front checked rejected s line
       counted = λ more are.
           let zero_more = (no_rejections f (entries_in history) (lines_of s left) more).0
           (subst (λ l. AreRejections f (entries_in history) (lines_of s left) l more) none are) in
-          to.counted more (subst (λ l. AreRejections f (entries_in history) (lines_of s (line ∷ left)) l more) (sym none)
+          to.counted more (subst (λ l. AreRejections f (entries_in history) (lines_of s (line ∷ left)) l more)
+              (sym none)
           ((no_rejections f (entries_in history) (lines_of s (line ∷ left)) more).1 zero_more));
     }
 

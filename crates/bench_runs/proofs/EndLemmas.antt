@@ -89,7 +89,8 @@ module _ (n seed limit budget sessions : ℕ) (history : List Entry) (replies : 
       let none = none_counted (λ (l : ScriptLine). l.session == 0) edits (λ i d below.
       let line = get_or edits i d in
       no_session line.session (sessions_few n seed line
-      ((Contains-filter (λ l. is_edit l.command) (bench_script n seed).lines line).0 (Contains-get_or edits i d below)).0).0) in
+      ((Contains-filter (λ l. is_edit l.command) (bench_script n seed).lines line).0
+      (Contains-get_or edits i d below)).0).0) in
       omega arith
   own_each (suc k) lt =
       let on : k + 1 ≡ suc k = omega arith in
@@ -179,16 +180,19 @@ module _ (n seed limit budget sessions : ℕ) (history : List Entry) (replies : 
       let b = first n seed a in
       let at = added_at a low high in
       let reply = get_or (replies at.k) at.at no_reply in
-      let ends = edit_ends n seed limit budget sessions history replies log answers is at.k at.at (AttackAdd b a) at.below
+      let ends = edit_ends n seed limit budget sessions history replies log answers is at.k at.at
+      (AttackAdd b a) at.below
       at.inside at.command_is in
-      let done = add_done n seed limit budget sessions history replies log answers is at.k at.at a at.below at.inside low
+      let done = add_done n seed limit budget sessions history replies log answers is at.k at.at a at.below at.inside
+      low
       high at.command_is in
       let takes = takes_of f limit (at.k + 1) history (AttackAdd b a) reply.front reply.body done ends in
       let found = takes.1.found in
       let add = entry_by (at.k + 1) (AttackAdd b a) in
       let rest = takes.1.at.beginning.0 in
       let split = takes.1.at.beginning.1 in
-      let mine = bench_edit n seed limit budget sessions history replies log answers is at.k at.at (AttackAdd b a) at.inside
+      let mine = bench_edit n seed limit budget sessions history replies log answers is at.k at.at
+      (AttackAdd b a) at.inside
       at.command_is in
       let within : (x : Entry) → Contains rest x → Contains history x = λ x c.
       subst (λ l. Contains l x) split (Contains-append_right (found ++ add ∷ []) rest x c) in

@@ -16,12 +16,8 @@ use Rattle.session_replies.specs.declared.reply.Body.{Body}
 use Rattle.session_replies.specs.declared.reply.Body.TheVariants.{Done, EditRefused, Full, Answered, QueryRefused, Unknown, TooMany, LogFull}
 use Rattle.session_replies.specs.declared.reply.Reply.{Reply}
 use Rattle.script_runs.specs.Served.{entries_made, entry_by, made_by}
+use Rattle.bench_runs.specs.Taken.{IsDone, IsTakenOn}
 use Rattle.bench_inputs.proofs.ScriptLines.{IsPlacedBefore, edit_place, is_edit, place_of}
-
--- the reply tells that the edit was taken
-abbrev pub IsDone : Body → Type 0
-IsDone (Done effect) = Unit {0}
-IsDone _ = ⊥
 
 -- the entry is the edit of a line, and the reply to it tells that it was taken
 pub record IsOfLine (command : Command) (body : Body) (x : Entry) : Type 0 where
@@ -80,7 +76,8 @@ made_rise : (s : ℕ) (command : Command) (body : Body) (rest : List Entry) → 
     → ((y : Entry) → Contains rest y → place_of command < edit_place y.edit)
     → AllPairs IsEntryBefore (made_by s command body ++ rest)
 made_rise s (change_by edit) (Done effect) rest up after =
-    AllPairs-cons IsEntryBefore (entry_by s edit) rest (λ k d lt. after (get_or rest k d) (Contains-get_or rest k d lt)) up
+    AllPairs-cons IsEntryBefore (entry_by s edit) rest
+        (λ k d lt. after (get_or rest k d) (Contains-get_or rest k d lt)) up
 made_rise s (change_by edit) (EditRefused fault) rest up after = up
 made_rise s (change_by edit) Full rest up after = up
 made_rise s (change_by edit) (Answered answer certificate) rest up after = up
@@ -100,11 +97,6 @@ entries_rise s (line ∷ lines) (reply ∷ replies) rise =
     (places_on s line lines replies rise)
 
 -- ---- how many entries lines make
-
--- where the command is an edit, it was taken
-abbrev pub IsTakenOn : Command → Body → Type 0
-IsTakenOn (change_by edit) body = IsDone body
-IsTakenOn (Ask asked) body = Unit {0}
 
 made_long : (s : ℕ) (command : Command) (body : Body)
     → (length (made_by s command body) ≤ cond (is_edit command) 1 0)

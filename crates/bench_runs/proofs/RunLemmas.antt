@@ -1,7 +1,7 @@
 -- What is counted of any run of a large input, and that it may be counted.
 use Rattle.std.proofs.Common.{arith, Result, Ok, Err, IfOk, ◌≡◌, ℕ, zero, suc, ◌+◌, ◌*◌, ◌^◌, ◌<◌, ◌≤◌, List, [], ◌∷◌, Contains, length, get_or, refl, sym, ap, subst, ◌∙◌, ⊎_elim}
 use Rattle.std.specs.Prelude.{All, ◌⊎◌, ◌==◌, count_by, filter, min}
-use Rattle.std.specs.List.{range_with_len, sum_by}
+use Rattle.std.specs.List.{AllZip, range_with_len, sum_by}
 use Rattle.std.proofs.lemmas.List.{get_or_default, length-map}
 use Rattle.std.proofs.lemmas.List.FromFn.{length-range_with_len}
 use Rattle.std.proofs.lemmas.List.Sums.{count_by-le-length, length-filter, sum_by-cons}
@@ -29,18 +29,21 @@ use Rattle.bench_inputs.proofs.ScriptLines.{dropped_in, script_long, sessions_fe
 use Rattle.bench_runs.specs.declared.counts.Counts.{Counts}
 use Rattle.bench_runs.specs.declared.run.BenchRun.{BenchRun}
 use Rattle.bench_runs.specs.declared.run.TheConstants.{BENCH_BUDGET}
+use Rattle.bench_runs.specs.Laws.{EditsAreTaken, IsUndisturbed}
+use Rattle.bench_runs.specs.Taken.{IsTakenOn}
 use Rattle.bench_runs.specs.Runs.{AreCounts, IsBenchRun}
 use Rattle.bench_runs.specs.Summaries.{bench_counts, counts_text, queries_told, summary}
 use Rattle.bench_runs.proofs.EndLemmas.{history_long, same_at_end}
 use Rattle.bench_runs.proofs.ListLemmas.{zip_long}
 use Rattle.bench_runs.proofs.SummaryLemmas.{none_grounded, queries_long, rejected_none}
-use Rattle.bench_runs.proofs.TakenLemmas.{IsHistoryOf}
+use Rattle.bench_runs.proofs.TakenLemmas.{IsHistoryOf, all_taken}
 
 some_item : {X : Type 0} (xs : List X) → 0 < length xs → X
 some_item [] lt = absurd (omega arith)
 some_item (x ∷ xs) lt = x
 
-sum_at_most : {X : Type 0} (g : X → ℕ) (most : ℕ) (xs : List X) → ((k : ℕ) (d : X) → k < length xs → g (get_or xs k d) ≤ most)
+sum_at_most : {X : Type 0} (g : X → ℕ) (most : ℕ) (xs : List X)
+    → ((k : ℕ) (d : X) → k < length xs → g (get_or xs k d) ≤ most)
     → sum_by g xs ≤ most * length xs
 sum_at_most g most [] each = omega arith
 sum_at_most g most (x ∷ xs) each =
@@ -52,7 +55,8 @@ sum_at_most g most (x ∷ xs) each =
 at_most : (lines : List ScriptLine) (count : ℕ) → AreSessions lines count
     → ((line : ScriptLine) → Contains lines line → line.session ≤ 4) → count ≤ 4
 at_most lines count are each =
-    ⊎_elim (λ (e : count ≡ 0). omega arith) (λ (named : (line : ScriptLine) × Contains lines line × (line.session ≡ count)).
+    ⊎_elim (λ (e : count ≡ 0). omega arith)
+    (λ (named : (line : ScriptLine) × Contains lines line × (line.session ≡ count)).
     let four = each named.0 named.1 in omega (arith, four, named.2)) are.named
 
 -- what the counting of a transcript needs to know of it
@@ -90,14 +94,16 @@ module _ (n seed budget : ℕ) (t : ScriptTranscript) (some : 1 ≤ n) (few : n 
   }
 
   few_sessions : is.sessions ≤ 4
-  few_sessions = at_most (bench_script n seed).lines is.sessions is.sessions_are (λ line c. (sessions_few n seed line c).1)
+  few_sessions = at_most (bench_script n seed).lines is.sessions is.sessions_are
+      (λ line c. (sessions_few n seed line c).1)
 
   replies_long : (k : ℕ) → k < is.sessions → length (get_or t.replies.items k []) ≤ 128
   replies_long k lt =
       let log = (get_or t.kept.items k nothing).engine.log in
       let answers = (get_or t.kept.items k nothing).answers.items in
       let lines = lines_of (k + 1) (bench_script n seed).lines in
-      let told = zip_long (LineEnds (af (bench_framework n seed)) HISTORY_LIMIT budget (k + 1) (entries_in history) log answers)
+      let told = zip_long (LineEnds (af (bench_framework n seed)) HISTORY_LIMIT budget (k + 1)
+      (entries_in history) log answers)
       lines (get_or t.replies.items k []) (is.served k [] nothing lt).each in
       let own = length-filter (λ (l : ScriptLine). l.session == k + 1) (bench_script n seed).lines in
       let some_of = count_by-le-length (λ (l : ScriptLine). l.session == k + 1) (bench_script n seed).lines in
@@ -113,7 +119,8 @@ module _ (n seed budget : ℕ) (t : ScriptTranscript) (some : 1 ≤ n) (few : n 
       served in
       let four = few_sessions in
       let total = sum_at_most length 128 t.replies.items (λ k d lt.
-      subst (λ l. length l ≤ 128) (get_or_default t.replies.items k [] d lt) (replies_long k (omega (arith, long, lt)))) in
+      subst (λ l. length l ≤ 128) (get_or_default t.replies.items k [] d lt)
+      (replies_long k (omega (arith, long, lt)))) in
       record {
         rise = λ k d lt.
             subst (λ l. FrontsRise 0 l (length history)) (get_or_default t.replies.items k [] d lt)
@@ -124,15 +131,30 @@ module _ (n seed budget : ℕ) (t : ScriptTranscript) (some : 1 ≤ n) (few : n 
         queries = omega arith;
       }
 
+  pub all_undisturbed : IsUndisturbed n seed t
+  all_undisturbed =
+      let long = is.replies in
+      record {
+        taken = λ k none lt.
+            subst (λ replies. AllZip (λ line reply. IsTakenOn line.command reply.body)
+            (lines_of (k + 1) (bench_script n seed).lines) replies) (get_or_default t.replies.items k [] none lt)
+            (all_taken n seed HISTORY_LIMIT budget is.sessions (entries_in history) (λ k. get_or t.replies.items k [])
+            (λ k. (get_or t.kept.items k nothing).engine.log) (λ k. (get_or t.kept.items k nothing).answers.items) served k
+            (omega (arith, long, lt)));
+        entries = sym (length-map history entry_of)
+            ∙ history_long n seed HISTORY_LIMIT budget is.sessions (entries_in history) (λ k. get_or t.replies.items k [])
+            (λ k. (get_or t.kept.items k nothing).engine.log) (λ k. (get_or t.kept.items k nothing).answers.items) served;
+        same = same_at_end n seed HISTORY_LIMIT budget is.sessions (entries_in history)
+            (λ k. get_or t.replies.items k []) (λ k. (get_or t.kept.items k nothing).engine.log)
+            (λ k. (get_or t.kept.items k nothing).answers.items) served;
+      }
+
   -- whatever the run, this is counted of it
   pub counts_are : (counts : Counts) → AreCounts (bench_framework n seed) (bench_script n seed) t counts
       → counts ≡ bench_counts n seed
   counts_are counts are =
       let arguments : counts.arguments ≡ n = are.arguments ∙ length-range_with_len 1 n in
-      let edits : counts.edits ≡ 2 * asked_about n =
-      are.edits ∙ sym (length-map history entry_of)
-      ∙ history_long n seed HISTORY_LIMIT budget is.sessions (entries_in history) (λ k. get_or t.replies.items k [])
-      (λ k. (get_or t.kept.items k nothing).engine.log) (λ k. (get_or t.kept.items k nothing).answers.items) served in
+      let edits : counts.edits ≡ 2 * asked_about n = are.edits ∙ all_undisturbed.entries in
       let queries : counts.queries ≡ 2 * asked_about n =
       are.queries
       ∙ queries_long n seed HISTORY_LIMIT budget is.sessions (entries_in history) t.replies.items
@@ -142,13 +164,10 @@ module _ (n seed budget : ℕ) (t : ScriptTranscript) (some : 1 ≤ n) (few : n 
       rejected_none n seed HISTORY_LIMIT budget is.sessions (entries_in history) t.replies.items
       (λ k. (get_or t.kept.items k nothing).engine.log) (λ k. (get_or t.kept.items k nothing).answers.items) is.replies
       served counts.rejected are.rejected in
-      let same = same_at_end n seed HISTORY_LIMIT budget is.sessions (entries_in history)
-      (λ k. get_or t.replies.items k []) (λ k. (get_or t.kept.items k nothing).engine.log)
-      (λ k. (get_or t.kept.items k nothing).answers.items) served in
       let grounded : counts.grounded ≡ 0 =
       are.grounded.size_is
       ∙ none_grounded n seed are.grounded.set
-      (subst (λ g. IsExtension g Grounded are.grounded.set) same are.grounded.grounded) in
+      (subst (λ g. IsExtension g Grounded are.grounded.set) all_undisturbed.same are.grounded.grounded) in
       λ i. record {
         arguments = arguments i;
         attacks = are.attacks i;
@@ -158,9 +177,13 @@ module _ (n seed budget : ℕ) (t : ScriptTranscript) (some : 1 ≤ n) (few : n 
         grounded = grounded i;
       }
 
+pub undisturbed : EditsAreTaken
+undisturbed n seed budget t some few is = all_undisturbed n seed budget t some few is
+
 run_counts : (n seed : ℕ) → 1 ≤ n → n ≤ MOST_ARGUMENTS → (run : BenchRun) → IsBenchRun n seed run
     → run.counts ≡ bench_counts n seed
-run_counts n seed some few run is = counts_are n seed BENCH_BUDGET run.transcript some few is.transcript run.counts is.counts
+run_counts n seed some few run is = counts_are n seed BENCH_BUDGET run.transcript some few is.transcript run.counts
+    is.counts
 
 pub counts_told : {E : Type 0} (n seed : ℕ) (r : Result BenchRun E) → 1 ≤ n → n ≤ MOST_ARGUMENTS
     → IfOk r (IsBenchRun n seed) → IfOk r (λ run. run.counts ≡ bench_counts n seed)

@@ -72,7 +72,8 @@ zip_counts R p q (x ∷ xs) (y ∷ ys) same all =
 not_below_one : (s : ℕ) → 1 ≤ s → nat_lt s 1 ≡ false
 not_below_one s low = grind (arith, nat_tests)
 
-take_next : {X : Type 0} (k : ℕ) (xs : List X) (d : X) → k < length xs → take (suc k) xs ≡ take k xs ++ get_or xs k d ∷ []
+take_next : {X : Type 0} (k : ℕ) (xs : List X) (d : X) → k < length xs
+    → take (suc k) xs ≡ take k xs ++ get_or xs k d ∷ []
 take_next k [] d lt = absurd (omega arith)
 take_next zero (x ∷ xs) d lt = refl
 take_next (suc k) (x ∷ xs) d lt = ap (λ l. x ∷ l) (take_next k xs d (omega arith))
@@ -84,7 +85,8 @@ front_is : (history found : List Entry) (front : ℕ) → IsPrefix found history
 front_is history found front one e =
     ap (take front) (sym one.1) ∙ take-append-le front found one.0 (omega arith) ∙ take_all front found (omega arith)
 
-none_rejected : (f : Framework) (limit budget s : ℕ) (history : List Entry) (log : OracleLog) (answers : List KeptAnswer)
+none_rejected : (f : Framework) (limit budget s : ℕ) (history : List Entry) (log : OracleLog)
+    (answers : List KeptAnswer)
     (command : Command) (front : ℕ) (body : Body) (count : ℕ)
     → CommandEnds f limit budget s history log answers command front body
     → IsRejection (framework_after f (take front history)) command body count → count ≡ 0
@@ -112,7 +114,8 @@ none_of_lines f limit budget s history log answers [] [] count all are = are
 none_of_lines f limit budget s history log answers [] (reply ∷ replies) count all are = are
 none_of_lines f limit budget s history log answers (line ∷ lines) [] count all are = are
 none_of_lines f limit budget s history log answers (line ∷ lines) (reply ∷ replies) count all are =
-    let here = none_rejected f limit budget s history log answers line.command reply.front reply.body are.0 all.0 are.2 in
+    let here = none_rejected f limit budget s history log answers line.command reply.front reply.body are.0 all.0
+    are.2 in
     let more = none_of_lines f limit budget s history log answers lines replies are.1 all.1 are.3 in
     let sum = are.4 in
     omega arith
@@ -177,13 +180,15 @@ module _ (n seed limit budget sessions : ℕ) (history : List Entry) (lists : Li
   told_upto zero le = sym (none_counted (λ (l : ScriptLine). nat_lt l.session 1) asks (λ i d below.
       let line = get_or asks i d in
       not_below_one line.session (sessions_few n seed line
-      ((Contains-filter (λ l. is_ask l.command) (bench_script n seed).lines line).0 (Contains-get_or asks i d below)).0).0))
+      ((Contains-filter (λ l. is_ask l.command) (bench_script n seed).lines line).0
+      (Contains-get_or asks i d below)).0).0))
   told_upto (suc k) le =
       let replies = get_or lists k [] in
       let served = is.served k (omega (arith, long, le)) in
       let here = zip_counts (LineEnds f limit budget (k + 1) history (log k) (answers k)) (λ l. is_ask l.command)
       (λ reply. is_told_query reply.body) (lines_of (k + 1) (bench_script n seed).lines) replies
-      (λ line reply ends. asked_one f limit budget (k + 1) history (log k) (answers k) line.command reply.front reply.body
+      (λ line reply ends. asked_one f limit budget (k + 1) history (log k) (answers k)
+      line.command reply.front reply.body
       ends) served.each in
       let swap = count_swap (λ l. l.session == k + 1) (λ l. is_ask l.command) (bench_script n seed).lines in
       let next = count_next (λ (l : ScriptLine). l.session) (k + 1) asks in

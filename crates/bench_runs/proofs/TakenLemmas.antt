@@ -43,11 +43,13 @@ use Rattle.bench_inputs.proofs.Moves.{AreMoves, IsMove, add_passes, attacks_in, 
 use Rattle.bench_inputs.proofs.Numbers.{number_from}
 use Rattle.bench_inputs.proofs.ScriptLines.{IsBenchEdit, IsPlacedBefore, dropped_in, edit_lines, edit_of_line, is_edit, lines_rise, place_of}
 use Rattle.bench_runs.proofs.ListLemmas.{count_all, count_swap, prefix_within, total_within, zip_at, zip_from, zip_long}
-use Rattle.bench_runs.proofs.MadeLemmas.{IsDone, IsTakenOn, MadeAt, made_at, made_each, made_few}
+use Rattle.bench_runs.proofs.MadeLemmas.{MadeAt, made_at, made_each, made_few}
+use Rattle.bench_runs.specs.Taken.{IsDone, IsTakenOn}
 
 -- ---- lists
 
-pub mapped : {A B : Type 0} (g : A → B) (xs : List A) (y : B) → Contains (map g xs) y → (x : A) × Contains xs x × (g x ≡ y)
+pub mapped : {A B : Type 0} (g : A → B) (xs : List A) (y : B) → Contains (map g xs) y
+    → (x : A) × Contains xs x × (g x ≡ y)
 mapped g [] y c = absurd (Contains-nil y c)
 mapped g (x ∷ xs) y c =
     ⊎_elim (λ e. (x, Contains-head x xs x refl, e))
@@ -110,7 +112,8 @@ told_done f limit s history edit front real (Unknown count) is ends full refuses
 told_done f limit s history edit front real TooMany is ends full refuses = ends
 told_done f limit s history edit front real LogFull is ends full refuses = ends
 
-pub takes_of : (f : Framework) (limit s : ℕ) (history : List Entry) (edit : Edit) (front : ℕ) (body : Body) → IsDone body
+pub takes_of : (f : Framework) (limit s : ℕ) (history : List Entry) (edit : Edit) (front : ℕ) (body : Body)
+    → IsDone body
     → EditEnds f limit s history edit front body → (effect : Effect) × TakesEdit f s history edit front effect
 takes_of f limit s history edit front (Done effect) done ends = (effect, ends)
 takes_of f limit s history edit front (EditRefused fault) done ends = absurd done
@@ -337,11 +340,13 @@ module _ (n seed limit budget sessions : ℕ) (history : List Entry) (replies : 
   dropped_before k i a lt low high is_add =
       let b = first n seed a in
       let line = line_for a (change_by (AttackDrop b a)) in
-      let s : k + 1 ≡ session_for a = session_at n seed (k + 1) (AttackAdd b a) (bench_edit k i (AttackAdd b a) lt is_add) in
+      let s : k + 1 ≡ session_for a = session_at n seed (k + 1) (AttackAdd b a)
+      (bench_edit k i (AttackAdd b a) lt is_add) in
       let c = (Contains-filter (λ l. l.session == k + 1) (bench_script n seed).lines line).1
       (dropped_in n seed a low high, eq-eqb (session_for a) (k + 1) (sym s)) in
       let e : get_or (lines k) c.0 no_line ≡ line = get_or_default (lines k) c.0 no_line line c.1 ∙ c.2 in
-      let drop : (get_or (lines k) c.0 no_line).command ≡ change_by (AttackDrop b a) = ap (λ (l : ScriptLine). l.command) e in
+      let drop : (get_or (lines k) c.0 no_line).command ≡ change_by (AttackDrop b a) =
+      ap (λ (l : ScriptLine). l.command) e in
       let placed_drop : place_of (get_or (lines k) c.0 no_line).command ≡ 4 * a = ap place_of drop in
       let placed_add : place_of (get_or (lines k) i no_line).command ≡ 4 * a + 2 = ap place_of is_add in
       let first : c.0 < i =

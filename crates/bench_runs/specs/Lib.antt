@@ -1,3 +1,5 @@
 pub mod Summaries
+pub mod Taken
 pub mod Checking
 pub mod Runs
+pub mod Laws

@@ -80,7 +80,8 @@ fn summarized(
     requires script { script.now ≡ bench_script n seed }
     requires transcript { IsTranscriptOf (af (bench_framework n seed)) (bench_script n seed) BENCH_BUDGET
         transcript.now }
-    ensures counts { IfOk result (λ told. AreCounts (bench_framework n seed) (bench_script n seed) transcript.now told.0) }
+    ensures counts { IfOk result
+        (λ told. AreCounts (bench_framework n seed) (bench_script n seed) transcript.now told.0) }
     ensures text { IfOk result (λ told. told.1 ≡ counts_text told.0) }
 {
     let counts = count(alloc, n, seed, script, transcript)?;

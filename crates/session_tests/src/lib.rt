@@ -4,6 +4,8 @@
 #[cfg(test)]
 mod hubs;
 #[cfg(test)]
+mod inputs;
+#[cfg(test)]
 mod pools;
 #[cfg(test)]
 mod replies;

@@ -9,7 +9,8 @@ new-requires c =
     record {
       arguments = are_arguments (bench_framework c.args.n c.args.seed) c.in_ok-live.live form c.in_ok-live.ensures;
       between = are_between (bench_framework c.args.n c.args.seed) c.in_ok-live.live c.in_ok-attacks.attacks.items form
-          c.in_ok-live.ensures (bench_members c.args.n c.args.seed c.in_ok-attacks.attacks.items c.in_ok-attacks.ensures);
+          c.in_ok-live.ensures
+          (bench_members c.args.n c.args.seed c.in_ok-attacks.attacks.items c.in_ok-attacks.ensures);
     }
 
 pub returns : goal.returns

@@ -11,5 +11,6 @@ returns c =
     let long = length-map c.args.history.now entry_of in
     let led = c.in_ok-lead.ensures f (ap framework_of c.in_ok-framework.ensures) in
     subst (λ g. IfOk c.grounded_size.result (IsGroundedSize g))
-    (led ∙ ap (framework_after f) (take_all (length c.args.history.now) (entries_in c.args.history.now) (omega (arith, long))))
+    (led ∙ ap (framework_after f) (take_all (length c.args.history.now) (entries_in c.args.history.now)
+    (omega (arith, long))))
     c.grounded_size.ensures

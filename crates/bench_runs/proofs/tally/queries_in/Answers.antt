@@ -9,6 +9,7 @@ use Rattle.bench_runs.proofs.tally.queries_in.Goals as goal
 pub returns : goal.returns
 returns c =
     count_from_yields_List _ c.count.result c.count.ensures.ran
-    (YieldsList-from_filter _ (λ (reply : Reply). is_told_query reply.body) (YieldsList-from_slice c.args.replies.now cc)
+    (YieldsList-from_filter _ (λ (reply : Reply). is_told_query reply.body)
+    (YieldsList-from_slice c.args.replies.now cc)
     c.filter.ensures.closure (λ x b q k. search rules))
     ∙ length-filter (λ (reply : Reply). is_told_query reply.body) c.args.replies.now

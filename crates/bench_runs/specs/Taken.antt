@@ -1,0 +1,15 @@
+-- Edits that were taken.
+use Rattle.script_text.specs.declared.script.Command.{Command}
+use Rattle.script_text.specs.declared.script.Command.TheVariants.{Edit as change_by, Ask}
+use Rattle.session_replies.specs.declared.reply.Body.{Body}
+use Rattle.session_replies.specs.declared.reply.Body.TheVariants.{Done}
+
+-- the reply tells that the edit was taken
+abbrev pub IsDone : Body → Type 0
+IsDone (Done effect) = Unit {0}
+IsDone _ = ⊥
+
+-- where the command is an edit, it was taken
+abbrev pub IsTakenOn : Command → Body → Type 0
+IsTakenOn (change_by edit) body = IsDone body
+IsTakenOn (Ask asked) body = Unit {0}

@@ -1,0 +1,58 @@
+//! The smallest large inputs, and the summary of the first.
+
+use argue_outside::NoPace;
+use bench_inputs::bench_input;
+use bench_runs::{BenchRun, run_bench};
+use edit_rules::Framework;
+use plain_lists::{Bytes, Memory};
+use std::alloc::Global;
+use std::mem::forget;
+use std::sync::Wait;
+use std::test::Fail;
+use std::thread::Threads;
+
+/// Whether an abstract framework has these attacks alone.
+fn has_attacks(framework: &Framework, attacks: &[(u32, u32)]) -> bool {
+    match framework {
+        Framework::Af(plain) => plain.attacks() == attacks,
+        Framework::Aba(_) => false,
+    }
+}
+
+/// One argument can but attack itself, whatever is drawn.
+#[test]
+fn one_argument(rt: HostRuntime) -> Result<(), Fail> {
+    let (framework, script) = bench_input(rt.alloc(), 1, 1)?;
+    assert!(rt; has_attacks(&framework, &[(1, 1)]));
+    assert!(rt; script.lines.len() == 4);
+    Ok(())
+}
+
+/// Of two arguments each attacks both, by what the seed 1 draws.
+#[test]
+fn two_arguments(rt: HostRuntime) -> Result<(), Fail> {
+    let (framework, script) = bench_input(rt.alloc(), 2, 1)?;
+    assert!(rt; has_attacks(&framework, &[(1, 1), (1, 2), (2, 1), (2, 2)]));
+    assert!(rt; script.lines.len() == 8);
+    Ok(())
+}
+
+/// The summary of one argument. What the run keeps is left to the end of the tests.
+fn summary<R: Threads + Wait + Sync>(rt: &R, alloc: Global) -> Result<Bytes, Memory> {
+    let BenchRun {
+        transcript,
+        counts: _,
+        summary,
+    } = run_bench(rt, alloc, 1, 1, &NoPace)?;
+    forget(transcript);
+    Ok(summary)
+}
+
+/// Its seven lines.
+#[test]
+fn seven_lines(rt: HostRuntime) -> Result<(), Fail> {
+    let told = summary(&rt, rt.alloc())?;
+    let wanted = "arguments 1\nattacks 1\nsessions 4\nedits 2\nqueries 2\nrejected 0\ngrounded 0\n";
+    assert!(rt; told.as_slice() == wanted.as_bytes());
+    Ok(())
+}
