@@ -21,33 +21,6 @@ returns-in_err-take_in-clause-run g c =
     run_more c.args.parts.now c.loop-count.parts c.take_in.new.self c.loop-count.invariant.framework
     c.loop-count.invariant.run c.in_err-take_in.ensures.run
 
-pub loop-count-preserved-in_ok-take_in : goal.loop-count-preserved-in_ok-take_in
-loop-count-preserved-in_ok-take_in g c =
-    taking_more c.args.own c.args.parts.now c.loop-count.parts c.take_in.new.self
-    (g.T.ClauseTrade.left c.args.trade.now) (g.T.ClauseTrade.left c.loop-count.trade)
-    (g.T.ClauseTrade.left c.take.new.self) c.in-Some.entry c.loop-count.count c.loop-count.invariant
-    (subst (λ taken. GivesFirst (g.T.ClauseTrade.left c.loop-count.trade) (Ok taken)
-    (g.T.ClauseTrade.left c.take.new.self)) c.in-Some.is c.in_ok-entry.ensures.first) c.in_ok-take_in.ensures.whole
-    c.in_ok-take_in.ensures.framework c.in_ok-take_in.ensures.run c.in_ok-take_in.ensures.comes
-
-pub loop-count-preserved-in_ok-take_in-2 : goal.loop-count-preserved-in_ok-take_in-2
-loop-count-preserved-in_ok-take_in-2 g c =
-    taking_more c.args.own c.args.parts.now c.loop-count.parts c.take_in.new.self
-    (g.T.ClauseTrade.left c.args.trade.now) (g.T.ClauseTrade.left c.loop-count.trade)
-    (g.T.ClauseTrade.left c.take.new.self) c.in-Some.entry c.loop-count.count c.loop-count.invariant
-    (subst (λ taken. GivesFirst (g.T.ClauseTrade.left c.loop-count.trade) (Ok taken)
-    (g.T.ClauseTrade.left c.take.new.self)) c.in-Some.is c.in_ok-entry.ensures.first) c.in_ok-take_in.ensures.whole
-    c.in_ok-take_in.ensures.framework c.in_ok-take_in.ensures.run c.in_ok-take_in.ensures.comes
-
-pub loop-count-preserved-in_ok-take_in-3 : goal.loop-count-preserved-in_ok-take_in-3
-loop-count-preserved-in_ok-take_in-3 g c =
-    taking_more c.args.own c.args.parts.now c.loop-count.parts c.take_in.new.self
-    (g.T.ClauseTrade.left c.args.trade.now) (g.T.ClauseTrade.left c.loop-count.trade)
-    (g.T.ClauseTrade.left c.take.new.self) c.in-Some.entry c.loop-count.count c.loop-count.invariant
-    (subst (λ taken. GivesFirst (g.T.ClauseTrade.left c.loop-count.trade) (Ok taken)
-    (g.T.ClauseTrade.left c.take.new.self)) c.in-Some.is c.in_ok-entry.ensures.first) c.in_ok-take_in.ensures.whole
-    c.in_ok-take_in.ensures.framework c.in_ok-take_in.ensures.run c.in_ok-take_in.ensures.comes
-
 pub loop-count-preserved : goal.loop-count-preserved
 loop-count-preserved g c =
     taking_more c.args.own c.args.parts.now c.loop-count.parts c.take_in.new.self
