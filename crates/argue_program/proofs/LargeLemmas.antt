@@ -1,5 +1,5 @@
 -- What the run of a large input ends with.
-use Rattle.std.proofs.Common.{◌≡◌, ◌∙◌, ℕ, [], sym, ap, subst, inr, Option, Some, map}
+use Rattle.std.proofs.Common.{◌≡◌, ◌∙◌, [], sym, ap, subst, inr, Option, Some, map}
 use Rattle.std.specs.Option.{unwrap_or}
 use Rattle.bench_runs.specs.Runs.{IsBenchRun}
 use Rattle.bench_runs.specs.Summaries.{summary}
