@@ -130,7 +130,7 @@ checked_all f history lines replies left framework front checked rejected s line
           let zero_more = (no_rejections f (entries_in history) (lines_of s left) more).0
           (subst (λ l. AreRejections f (entries_in history) (lines_of s left) l more) none are) in
           to.counted more (subst (λ l. AreRejections f (entries_in history) (lines_of s (line ∷ left)) l more)
-              (sym none)
+          (sym none)
           ((no_rejections f (entries_in history) (lines_of s (line ∷ left)) more).1 zero_more));
     }
 

@@ -77,7 +77,7 @@ made_rise : (s : ℕ) (command : Command) (body : Body) (rest : List Entry) → 
     → AllPairs IsEntryBefore (made_by s command body ++ rest)
 made_rise s (change_by edit) (Done effect) rest up after =
     AllPairs-cons IsEntryBefore (entry_by s edit) rest
-        (λ k d lt. after (get_or rest k d) (Contains-get_or rest k d lt)) up
+    (λ k d lt. after (get_or rest k d) (Contains-get_or rest k d lt)) up
 made_rise s (change_by edit) (EditRefused fault) rest up after = up
 made_rise s (change_by edit) Full rest up after = up
 made_rise s (change_by edit) (Answered answer certificate) rest up after = up

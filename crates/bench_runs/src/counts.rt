@@ -37,7 +37,9 @@ pub(crate) fn summary_text(alloc: Global, counts: &Counts) -> Result<Bytes, Memo
         grounded,
     } = *counts;
     let sessions = BENCH_SESSIONS;
-    let text = format!(in alloc; "arguments {arguments}\nattacks {attacks}\nsessions {sessions}\nedits {edits}\n\
-        queries {queries}\nrejected {rejected}\ngrounded {grounded}\n")?;
+    let text = format!(in alloc;
+        "arguments {arguments}\nattacks {attacks}\nsessions {sessions}\nedits {edits}\n\
+        queries {queries}\nrejected {rejected}\ngrounded {grounded}\n"
+    )?;
     Ok(Bytes::from_vec(text.into_bytes()))
 }

@@ -31,6 +31,6 @@ returns c =
           (lines_of c.args.session c.args.lines.now) c.args.lines.now c.args.replies.now
           (framework_of c.loop-line.checking.framework) c.loop-line.checking.front c.loop-line.checking.checked
           c.loop-line.checking.rejected c.args.session c.loop-line.line-index c.loop-line-test.false
-              c.loop-line.invariant;
+          c.loop-line.invariant;
       few = omega arith;
     }
