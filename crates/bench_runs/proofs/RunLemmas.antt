@@ -6,13 +6,14 @@ use Rattle.std.proofs.lemmas.List.{get_or_default, length-map}
 use Rattle.std.proofs.lemmas.List.FromFn.{length-range_with_len}
 use Rattle.std.proofs.lemmas.List.Sums.{count_by-le-length, length-filter, sum_by-cons}
 use Rattle.semantics.specs.Framework.{Af}
-use Rattle.semantics.specs.Frameworks.{af}
+use Rattle.semantics.specs.Frameworks.{Framework as AnyFramework, af}
 use Rattle.certificate_claims.specs.Rights.{IsExtension}
 use Rattle.iccma_tasks.specs.declared.task.Semantics.TheVariants.{Grounded}
 use Rattle.edit_rules.specs.Kinds.{framework_of}
 use Rattle.edit_history.specs.declared.entry.Change.{Change}
 use Rattle.edit_history.specs.Entries.{entries_in, entry_of, framework_after}
 use Rattle.script_text.specs.declared.script.Command.TheVariants.{Edit as change_by}
+use Rattle.script_text.specs.declared.script.Script.{Script}
 use Rattle.script_text.specs.declared.script.ScriptLine.{ScriptLine}
 use Rattle.script_text.specs.declared.script.TheConstants.{MOST_SESSIONS}
 use Rattle.edit_words.specs.declared.edit.Edit.TheVariants.{AttackDrop}
@@ -32,7 +33,7 @@ use Rattle.bench_runs.specs.declared.run.TheConstants.{BENCH_BUDGET}
 use Rattle.bench_runs.specs.Laws.{EditsAreTaken, IsUndisturbed}
 use Rattle.bench_runs.specs.Taken.{IsTakenOn}
 use Rattle.bench_runs.specs.Runs.{AreCounts, IsBenchRun}
-use Rattle.bench_runs.specs.Summaries.{bench_counts, counts_text, queries_told, summary}
+use Rattle.bench_runs.specs.Summaries.{AreRejected, IsGroundedSize, bench_counts, counts_text, queries_told, summary}
 use Rattle.bench_runs.proofs.EndLemmas.{history_long, same_at_end}
 use Rattle.bench_runs.proofs.ListLemmas.{zip_long}
 use Rattle.bench_runs.proofs.SummaryLemmas.{none_grounded, queries_long, rejected_none}
@@ -194,3 +195,35 @@ pub summary_told : {E : Type 0} (n seed : ℕ) (r : Result BenchRun E) → 1 ≤
     → IfOk r (IsBenchRun n seed) → IfOk r (λ run. run.summary ≡ summary n seed)
 summary_told n seed (Ok run) some few is = is.text ∙ ap counts_text (run_counts n seed some few run is)
 summary_told n seed (Err e) some few is = is
+
+-- what is counted of the parts of a transcript is counted of it
+pub all_counted : (f : Af) (script : Script) (t : ScriptTranscript) (opening : AnyFramework) (history : List Change)
+    (lines : List ScriptLine) (replies : List (List Reply)) (arguments attacks edits queries rejected grounded : ℕ)
+    → opening ≡ af f → history ≡ t.history.entries.items → lines ≡ script.lines → replies ≡ t.replies.items
+    → ((g : Af) → opening ≡ af g → arguments ≡ length g.live) → ((g : Af) → opening ≡ af g → attacks ≡ length g.attacks)
+    → edits ≡ length history → queries ≡ queries_told replies
+    → AreRejected opening (entries_in history) lines 1 replies rejected
+    → IsGroundedSize (framework_after opening (entries_in history)) grounded
+    → AreCounts f script t (record {
+      arguments = arguments;
+      attacks = attacks;
+      edits = edits;
+      queries = queries;
+      rejected = rejected;
+      grounded = grounded;
+    })
+all_counted f script t opening history lines replies arguments attacks edits queries rejected grounded is_f is_h is_l is_r
+    lives attack long told checked size = record {
+      arguments = lives f is_f;
+      attacks = attack f is_f;
+      edits = long ∙ ap length is_h;
+      queries = told ∙ ap queries_told is_r;
+      rejected =
+          subst (λ g. AreRejected g (entries_in t.history.entries.items) script.lines 1 t.replies.items rejected) is_f
+          (subst (λ h. AreRejected opening (entries_in h) script.lines 1 t.replies.items rejected) is_h
+          (subst (λ l. AreRejected opening (entries_in history) l 1 t.replies.items rejected) is_l
+          (subst (λ r. AreRejected opening (entries_in history) lines 1 r rejected) is_r checked)));
+      grounded =
+          subst (λ g. IsGroundedSize (framework_after g (entries_in t.history.entries.items)) grounded) is_f
+          (subst (λ h. IsGroundedSize (framework_after opening (entries_in h)) grounded) is_h size);
+    }
