@@ -7,10 +7,11 @@ use Rattle.argue_words.proofs.RequestLaws.{requested_query}
 use Rattle.framework_text.specs.FrameworkText.{IsFaulty, IsReadable, ReadsAs}
 use Rattle.framework_text.proofs.Readings.{ReadsAs-faultless, ReadsAs-numbered, ReadsAs-same}
 use Rattle.argue_program.specs.Inputs.{HasBytes, HasFirstFault, HasReadFault, Input, IsFirstFaultIn, IsFrameworkOf, IsScriptOf, IsSoundIn, Reading, StopsAt, StopsAtFirst, input}
-use Rattle.argue_program.specs.Rows.{EndsCommand, EndsLive, EndsSolved, check_row, live_row, problems_row, row_of, solve_row, unknown_row, version_row}
+use Rattle.argue_program.specs.Rows.{EndsCommand, EndsLarge, EndsLive, EndsSolved, bench_row, check_row, live_row, problems_row, row_of, solve_row, unknown_row, version_row}
 use Rattle.iccma_tasks.specs.Tasks.{Asked}
 use Rattle.argue_program.specs.Queries.{asked_by, solving_by}
 use Rattle.argue_program.specs.Solves.{IsSessionOf}
+use Rattle.argue_program.specs.declared.query.LargeInput.{LargeInput}
 use Rattle.argue_program.specs.declared.query.Solving.{Solving}
 use Rattle.argue_program.specs.Checks.{CheckEnds, ChecksFiles, IsAnswerOf, IsCertificateOf, check_inputs}
 use Rattle.argue_program.proofs.CheckLemmas.{answer_sound, certificate_sound, framework_sound, stops_told}
@@ -573,3 +574,19 @@ module _ (found : Reading) (words : List (List ℕ)) (texts : LiveTexts) (budget
   refuses_long_script end long (inl (inr (passed, inr stops))) = absurd stops.1
   refuses_long_script end long (inr (inl is)) = subst RefusesLength (sym is) tt
   refuses_long_script end long (inr (inr lives)) = absurd (no_long_script end lives long)
+
+-- ---- the laws of a large input's run
+
+-- it is done, but for want of memory
+pub large_done : (found : Reading) (large : LargeInput) (kept : Transcript) (end : Status)
+    → EndsCommand found (bench_row (Some large)) kept end → IsDoneOrMemory end
+large_done found large kept end (inl (nothing, inl stops)) = absurd stops
+large_done found large kept end (inl (nothing, inr memory)) = subst IsDoneOrMemory (sym memory.0) tt
+large_done found large kept end (inr runs) = subst IsDoneOrMemory (sym runs.ends) tt
+
+-- where it is done, its sessions have run
+pub ends_large : (found : Reading) (large : LargeInput) (kept : Transcript)
+    → EndsCommand found (bench_row (Some large)) kept Done → EndsLarge large kept Done
+ends_large found large kept (inl (nothing, inl stops)) = absurd stops
+ends_large found large kept (inl (nothing, inr memory)) = absurd (done_no_memory memory.0)
+ends_large found large kept (inr runs) = runs

@@ -1,5 +1,6 @@
 mod CheckLemmas
 mod EndsLemmas
+mod LargeLemmas
 mod ScriptLemmas
 pub mod RowsLemmas
 pub mod RunsLemmas

@@ -6,17 +6,19 @@ use Rattle.plain_lists.specs.declared.memory.Memory.{Memory}
 use Rattle.argue_outside.specs.Outside.{KnownFile, OtherCountsKept}
 use Rattle.argue_outside.specs.declared.Role.{Role}
 use Rattle.argue_outside.specs.declared.Role.TheVariants as role
-use Rattle.argue_words.specs.Words.{CheckTexts, LiveTexts, Request, version, problems, solving, checking, living, unknown, SolveTexts, is_live, live_texts, request_of, requested}
-use Rattle.argue_words.proofs.RequestLaws.{no_live_in, none_requested, script_requested}
+use Rattle.argue_words.specs.Words.{CheckTexts, LiveTexts, Request, version, problems, solving, checking, living, benching, unknown, SolveTexts, bench_texts, is_bench, is_live, live_texts, request_of, requested}
+use Rattle.argue_words.proofs.RequestLaws.{input_requested, no_bench_in, no_live_in, none_requested, script_requested}
 use Rattle.argue_words.specs.declared.words.Command.{Command}
-use Rattle.argue_words.specs.declared.words.Command.TheVariants.{Live}
+use Rattle.argue_words.specs.declared.words.Command.TheVariants.{Bench, Live}
+use Rattle.argue_words.specs.declared.words.BenchWords.{BenchWords}
 use Rattle.argue_words.specs.declared.words.LiveWords.{LiveWords}
 use Rattle.argue_program.specs.Inputs.{EndsReading, Follow, Input, Reading, StopsAtFirst, input}
-use Rattle.argue_program.specs.Rows.{CountsReads, EndsCommand, EndsSession, IsEndingOf, Row, check_row, files_beside, live_row, nothing_kept, row_of, session_files, session_text, solve_row, unknown_row}
+use Rattle.argue_program.specs.Rows.{CountsReads, EndsCommand, EndsSession, IsEndingOf, Row, bench_row, check_row, files_beside, live_row, nothing_kept, row_of, session_files, session_text, solve_row, unknown_row}
 use Rattle.iccma_tasks.specs.Tasks.{Asked}
 use Rattle.argue_program.specs.Checks.{ChecksFiles, EndsChecking}
-use Rattle.argue_program.specs.Queries.{asked_by, budget_of, solving_by}
+use Rattle.argue_program.specs.Queries.{asked_by, budget_of, large_by, solving_by}
 use Rattle.argue_program.specs.Solves.{IsSessionOn, status_of}
+use Rattle.argue_program.specs.declared.query.LargeInput.{LargeInput}
 use Rattle.argue_program.specs.declared.query.Solving.{Solving}
 use Rattle.argue_program.specs.declared.ended.KeptSession.{KeptSession}
 use Rattle.argue_program.specs.declared.ended.Limit.TheVariants as bound
@@ -122,6 +124,10 @@ live_takes : (holds : List ℕ → KnownFile) (budget : Option ℕ) (texts : Liv
 live_takes holds None texts = refl
 live_takes holds (Some budget) texts = refl
 
+bench_takes : (large : Option LargeInput) → IsTrue (bench_row large).takes_memory
+bench_takes None = refl
+bench_takes (Some large) = refl
+
 takes_unless : (holds : List ℕ → KnownFile) (words : List (List ℕ)) (request : Request) → requested words ≡ request
     → words ≢ []
     → IsTrue (row_of holds request).takes_memory
@@ -130,6 +136,7 @@ takes_unless holds words problems is some = refl
 takes_unless holds words (solving texts) is some = solve_takes holds (solving_by texts) texts
 takes_unless holds words (checking texts) is some = check_takes holds (asked_by texts.task texts.number) texts
 takes_unless holds words (living texts) is some = live_takes holds (budget_of texts.budget) texts
+takes_unless holds words (benching texts) is some = bench_takes (large_by texts)
 takes_unless holds words unknown is some = refl
 
 -- where there are words, the command that they ask for takes memory
@@ -137,12 +144,18 @@ pub takes_memory : (holds : List ℕ → KnownFile) (words : List (List ℕ)) �
     → IsTrue (row_of holds (requested words)).takes_memory
 takes_memory holds words some = takes_unless holds words (requested words) refl some
 
--- words whose first isn't `live` ask for no threads
-pub wants_no_threads : (words : List (List ℕ)) (c : Command) → is_live words ≡ false → request_of c ≡ requested words
+-- words whose first is neither `live` nor `bench` ask for no threads
+pub wants_no_script : (words : List (List ℕ)) (c : Command) → is_live words ≡ false → request_of c ≡ requested words
     → (texts : LiveWords) → c ≢ Live texts
-wants_no_threads words c other asks texts is =
+wants_no_script words c other asks texts is =
     no_live_in words other (live_texts texts)
     (script_requested words (live_texts texts) (sym asks ∙ ap request_of is))
+
+pub wants_no_large : (words : List (List ℕ)) (c : Command) → is_bench words ≡ false → request_of c ≡ requested words
+    → (texts : BenchWords) → c ≢ Bench texts
+wants_no_large words c other asks texts is =
+    no_bench_in words other (bench_texts texts)
+    (input_requested words (bench_texts texts) (sym asks ∙ ap request_of is))
 
 -- the cause of want of memory in a row that takes any
 pub EndsCommand-memory : (found : Reading) (row : Row) → IsTrue row.takes_memory
@@ -322,6 +335,10 @@ no_live_fault : (holds : List ℕ → KnownFile) (budget : Option ℕ) (texts : 
 no_live_fault holds None texts kept unasked = let e : WriteFault ≡ Usage = unasked.1 in cc
 no_live_fault holds (Some budget) texts kept lives = let e : WriteFault ≡ Done = lives.ends in cc
 
+no_bench_fault : (large : Option LargeInput) (kept : Transcript) → ¬ (bench_row large).Ends kept WriteFault
+no_bench_fault None kept unasked = let e : WriteFault ≡ Usage = unasked.1 in cc
+no_bench_fault (Some large) kept runs = let e : WriteFault ≡ Done = runs.ends in cc
+
 no_row_fault : (found : Reading) (holds : List ℕ → KnownFile) (request : Request) (kept : Transcript)
     → ¬ EndsCommand found (row_of holds request) kept WriteFault
 no_row_fault found holds request kept (inl (nothing, inl stops)) =
@@ -334,6 +351,7 @@ no_row_fault found holds (solving texts) kept (inr ends) = no_solve_fault holds 
 no_row_fault found holds (checking texts) kept (inr ends) =
     no_check_fault holds (asked_by texts.task texts.number) texts kept ends
 no_row_fault found holds (living texts) kept (inr ends) = no_live_fault holds (budget_of texts.budget) texts kept ends
+no_row_fault found holds (benching texts) kept (inr ends) = no_bench_fault (large_by texts) kept ends
 no_row_fault found holds unknown kept (inr unasked) = let e : WriteFault ≡ Usage = unasked.1 in cc
 
 -- what is decided is no write fault

@@ -5,17 +5,24 @@ use Rattle.std.specs.Option.{unwrap_or}
 use Rattle.argue_outside.specs.Outside.{FaultCounted, KnownFile}
 use Rattle.argue_outside.specs.declared.Role.{Role}
 use Rattle.argue_outside.specs.declared.Role.TheVariants.{Framework, Script as OfScript}
-use Rattle.argue_words.specs.Words.{AreWords, CheckTexts, IsCheckQuery, IsLiveQuery, IsSolveQuery, LiveTexts, Request, version, problems, solving, checking, living, unknown, SolveTexts, requested, words_are_problems}
-use Rattle.argue_words.proofs.RequestLaws.{query_requested, requested_list, requested_script, requested_texts, requested_none, requested_query, requested_unknown, script_requested}
+use Rattle.argue_words.specs.Words.{AreWords, BenchTexts, CheckTexts, IsBenchQuery, IsCheckQuery, IsLiveQuery, IsSolveQuery, LiveTexts, Request, version, problems, solving, checking, living, benching, unknown, SolveTexts, requested, words_are_problems}
+use Rattle.argue_words.proofs.RequestLaws.{input_requested, query_requested, requested_input, requested_list, requested_script, requested_texts, requested_none, requested_query, requested_unknown, script_requested}
 use Rattle.framework_text.specs.FrameworkText.{IsFaulty}
 use Rattle.argue_program.specs.Inputs.{Input, Reading, StopsAt, StopsAtFirst}
-use Rattle.argue_program.specs.Rows.{EndsCommand, EndsLive, EndsSolved, FileText, HasNoInput, IsEndingOf, Row, check_row, certificate_files, certificates_files, file_text, files_beside, live_row, nothing_kept, reply_files, reply_text, row_of, script_files, script_kept, script_text, session_files, session_text, solve_row, text_of}
+use Rattle.argue_program.specs.Rows.{EndsCommand, EndsLarge, EndsLive, EndsSolved, FileText, HasNoInput, IsEndingOf, Row, bench_row, check_row, certificate_files, certificates_files, file_text, files_beside, live_row, nothing_kept, reply_files, reply_text, row_of, script_files, script_kept, script_text, session_files, session_text, solve_row, text_of}
 use Rattle.iccma_tasks.specs.Tasks.{Asked}
-use Rattle.argue_program.specs.Queries.{asked_by, budget_of, solving_by}
+use Rattle.argue_program.specs.Queries.{asked_by, budget_of, large_by, solving_by}
 use Rattle.argue_program.specs.Scripts.{RunsScript, live_inputs, transcript_bytes}
+use Rattle.semantics.specs.Frameworks.{af}
+use Rattle.bench_inputs.specs.Generator.{bench_framework}
+use Rattle.bench_inputs.specs.Scripts.{bench_script}
+use Rattle.bench_runs.specs.Summaries.{summary}
+use Rattle.bench_runs.specs.declared.run.TheConstants.{BENCH_BUDGET}
+use Rattle.script_runs.specs.Transcripts.{IsTranscriptOf}
 use Rattle.script_runs.specs.declared.transcript.ScriptTranscript.{ScriptTranscript}
 use Rattle.script_text.specs.declared.script.Script.{Script}
 use Rattle.argue_program.specs.Solves.{IsSessionOn, status_of}
+use Rattle.argue_program.specs.declared.query.LargeInput.{LargeInput}
 use Rattle.argue_program.specs.declared.query.Solving.{Solving}
 use Rattle.oracle_core.specs.declared.reply.AnswerStop.{AnswerStop}
 use Rattle.oracle_core.specs.declared.reply.Answered.{Answered}
@@ -26,7 +33,7 @@ use Rattle.semantics.specs.Frameworks.{Framework as AnyFramework}
 use Rattle.iccma_tasks.specs.WrittenText.{text_of as answer_text}
 use Rattle.iccma_tasks.specs.declared.answer.Answer.{Answer}
 use Rattle.certificate_claims.specs.declared.certificate.Certificate.{Certificate}
-use Rattle.argue_program.specs.Runs.{AnswersRight, AsksScript, AsksSession, ChecksContents, FillsLog, IsCheckEnd, IsDoneOrMemory, IsFaultyScript, IsLiveEnd, IsRunOf, IsSolveEnd, LivesContents, NamesCertificate, QueriesBytes, RefusesBytes, RefusesLength, RefusesWords, ScriptsBytes, SolvesContents, SpendsBudget, WritesAnswer, WritesTranscript}
+use Rattle.argue_program.specs.Runs.{AnswersRight, AsksLarge, AsksScript, AsksSession, AsksTranscript, ChecksContents, FillsLog, IsCheckEnd, IsDoneOrMemory, IsFaultyScript, IsLiveEnd, IsRunOf, IsSolveEnd, LivesContents, NamesCertificate, QueriesBytes, RefusesBytes, RefusesLength, RefusesWords, ScriptsBytes, SolvesContents, SpendsBudget, WritesAnswer, WritesSummary, WritesTranscript}
 use Rattle.argue_program.specs.Texts.{common_text, text_bytes}
 use Rattle.argue_program.specs.Writing.{BreaksFiles, BreaksOff, BreaksReplacing, IsWritten, Output, WritesFiles}
 use Rattle.argue_program.specs.declared.decision.Ending.{Ending}
@@ -37,7 +44,7 @@ use Rattle.argue_program.specs.declared.ended.Status.{Status}
 use Rattle.argue_program.specs.declared.ended.Status.TheVariants.{Done, Usage, InputRefused, ReadFault, WriteFault, WantOfMemory, Unknown, Limit, Rejected}
 use Rattle.argue_program.specs.declared.ended.Transcript.{Transcript}
 use Rattle.num_text.specs.declared.limit.TheConstants.{INPUT_LIMIT}
-use Rattle.argue_program.proofs.EndsLemmas.{EndsLiving, EndsQuery, at_query, done_no_memory, done_right, ends_check, ends_live, ends_living, ends_query, ends_solve, ends_unknown, problems_done, refuses_bytes, refuses_length, refuses_long_script, refuses_script, refuses_words, version_done}
+use Rattle.argue_program.proofs.EndsLemmas.{EndsLiving, EndsQuery, at_query, done_no_memory, done_right, ends_check, ends_live, ends_large, ends_living, ends_query, ends_solve, ends_unknown, large_done, problems_done, refuses_bytes, refuses_length, refuses_long_script, refuses_script, refuses_words, version_done}
 
 -- ---- runs
 
@@ -96,6 +103,11 @@ live_other : (holds : List ℕ → KnownFile) (budget : Option ℕ) (texts : Liv
 live_other holds None texts kept end name other = tt
 live_other holds (Some budget) texts kept end name other = script_other name texts.certificate kept.script other
 
+bench_other : (large : Option LargeInput) (kept : Transcript) (end : Status) (name : List ℕ)
+    → HaveOtherNames name ((bench_row large).files kept end)
+bench_other None kept end name = tt
+bench_other (Some large) kept end name = tt
+
 -- a row writes no file but that for certificates
 row_other : (holds : List ℕ → KnownFile) (words : List (List ℕ)) (request : Request) (kept : Transcript) (end : Status)
     (name : List ℕ) → requested words ≡ request → ¬ NamesCertificate words name
@@ -110,6 +122,7 @@ row_other holds words (checking texts) kept end name is other =
 row_other holds words (living texts) kept end name is other =
     live_other holds (budget_of texts.budget) texts kept end name
     (λ e. other (inr (record { texts = texts; asks = script_requested words texts is; named = e })))
+row_other holds words (benching texts) kept end name is other = bench_other (large_by texts) kept end name
 row_other holds words unknown kept end name is other = tt
 
 -- files of other names stay
@@ -187,6 +200,13 @@ live_session found words texts None kept end session unasked is = none_kept foun
 live_session found words texts (Some budget) kept end session lives is =
     no_session words found.holds kept lives.transcript session lives.keeps is
 
+bench_session : (found : Reading) (words : List (List ℕ)) (by : Option LargeInput) (kept : Transcript) (end : Status)
+    (session : KeptSession) → (bench_row by).Ends kept end → kept.session ≡ Some session
+    → AsksSession words found.holds session
+bench_session found words None kept end session unasked is = none_kept found words kept session unasked.0 is
+bench_session found words (Some large) kept end session ends is =
+    no_session words found.holds kept ends.run.transcript session ends.keeps is
+
 -- a check keeps nothing
 check_keeps : (holds : List ℕ → KnownFile) (asked : Option Asked) (texts : CheckTexts) (kept : Transcript) (end : Status)
     → (check_row holds asked texts).Ends kept end → kept ≡ nothing_kept
@@ -221,6 +241,8 @@ kept_at found words (checking texts) kept end session asked (inr checks) is =
 kept_at found words unknown kept end session asked (inr unasked) is = none_kept found words kept session unasked.0 is
 kept_at found words (living texts) kept end session asked (inr ends) is =
     live_session found words texts (budget_of texts.budget) kept end session ends is
+kept_at found words (benching texts) kept end session asked (inr ends) is =
+    bench_session found words (large_by texts) kept end session ends is
 kept_at found words (solving texts) kept end session asked (inr ends) is =
     kept_by found words texts (solving_by texts) kept end session (query_requested words texts asked) refl ends is
 
@@ -253,10 +275,26 @@ script_by found words texts (Some budget) kept end transcript asks budget_is liv
       subst (RunsScript found.holds budget texts) e lives.runs;
 }
 
+large_from : (words : List (List ℕ)) (texts : BenchTexts) (by : Option LargeInput) (kept : Transcript) (end : Status)
+    (transcript : ScriptTranscript) → IsBenchQuery words texts → large_by texts ≡ by → (bench_row by).Ends kept end
+    → kept.script ≡ Some transcript → AsksLarge words transcript
+large_from words texts None kept end transcript asks large_is unasked is =
+    absurd (nothing_no_script kept transcript unasked.0 is)
+large_from words texts (Some large) kept end transcript asks large_is ends is = record {
+  texts = texts;
+  asks = asks;
+  large = large;
+  large_is = large_is;
+  is = let e : ends.run.transcript ≡ transcript
+      = some_is (sym (ap (λ (k : Transcript). k.script) ends.keeps) ∙ is) in
+      subst (IsTranscriptOf (af (bench_framework large.arguments large.seed)) (bench_script large.arguments large.seed)
+      BENCH_BUDGET) e ends.is.transcript;
+}
+
 script_at : (found : Reading) (words : List (List ℕ)) (request : Request) (kept : Transcript) (end : Status)
     (transcript : ScriptTranscript) → requested words ≡ request
     → EndsCommand found (row_of found.holds request) kept end → kept.script ≡ Some transcript
-    → AsksScript words found.holds transcript
+    → AsksTranscript words found.holds transcript
 script_at found words request kept end transcript asked (inl (nothing, why)) is =
     absurd (nothing_no_script kept transcript nothing is)
 script_at found words version kept end transcript asked (inr done) is =
@@ -269,8 +307,10 @@ script_at found words (checking texts) kept end transcript asked (inr checks) is
     absurd (nothing_no_script kept transcript
     (check_keeps found.holds (asked_by texts.task texts.number) texts kept end checks) is)
 script_at found words (living texts) kept end transcript asked (inr ends) is =
-    script_by found words texts (budget_of texts.budget) kept end transcript (script_requested words texts asked) refl ends
-    is
+    inl (script_by found words texts (budget_of texts.budget) kept end transcript (script_requested words texts asked)
+    refl ends is)
+script_at found words (benching texts) kept end transcript asked (inr ends) is =
+    inr (large_from words texts (large_by texts) kept end transcript (input_requested words texts asked) refl ends is)
 script_at found words unknown kept end transcript asked (inr unasked) is =
     absurd (nothing_no_script kept transcript unasked.0 is)
 
@@ -346,6 +386,10 @@ live_why : (holds : List ℕ → KnownFile) (by : Option ℕ) (texts : LiveTexts
 live_why holds None texts kept end why unasked = not_why end Usage why (λ w. w) unasked.1
 live_why holds (Some budget) texts kept end why lives = not_why end Done why (λ w. w) lives.ends
 
+bench_why : (by : Option LargeInput) (kept : Transcript) (end : Status) → SaysWhy end → ¬ (bench_row by).Ends kept end
+bench_why None kept end why unasked = not_why end Usage why (λ w. w) unasked.1
+bench_why (Some large) kept end why ends = not_why end Done why (λ w. w) ends.ends
+
 keeps_asked : (found : Reading) (words : List (List ℕ)) (request : Request) (kept : Transcript) (end : Status)
     → SaysWhy end → requested words ≡ request → EndsCommand found (row_of found.holds request) kept end
     → KeepsAsked words found.holds kept end
@@ -360,6 +404,8 @@ keeps_asked found words (checking texts) kept end why asked (inr checks) =
 keeps_asked found words unknown kept end why asked (inr unasked) = absurd (not_why end Usage why (λ w. w) unasked.1)
 keeps_asked found words (living texts) kept end why asked (inr ends) =
     absurd (live_why found.holds (budget_of texts.budget) texts kept end why ends)
+keeps_asked found words (benching texts) kept end why asked (inr ends) =
+    absurd (bench_why (large_by texts) kept end why ends)
 keeps_asked found words (solving texts) kept end why asked (inr ends) =
     solve_why found words texts (solving_by texts) kept end why (query_requested words texts asked) refl ends
 
@@ -643,9 +689,9 @@ module _ (found : Reading) (words : List (List ℕ)) (ended : Ended) (old new : 
 
   -- ---- scripts
 
-  -- a transcript that the run keeps is that of the words' script
+  -- a transcript that the run keeps is that of the words' script or large input
   pub right_transcript : (transcript : ScriptTranscript) → ended.kept.script ≡ Some transcript
-      → AsksScript words found.holds transcript
+      → AsksTranscript words found.holds transcript
   right_transcript transcript is =
       let P : Transcript → Type 0 = λ k. EndsCommand found (row_of found.holds (requested words)) k run.ending.status in
       script_at found words (requested words) ended.kept run.ending.status transcript refl (subst P
@@ -746,3 +792,66 @@ module _ (found : Reading) (words : List (List ℕ)) (ended : Ended) (old new : 
       at_done_script texts (budget_of texts.budget) asks refl done
       (subst P done (at_script texts (budget_of texts.budget) asks refl (λ e. let x : Done ≡ WriteFault =
       sym done ∙ e in cc)))
+
+  -- ---- large inputs
+
+  -- at a large input's run, the row is that of what the words ask for
+  at_bench : (texts : BenchTexts) (by : Option LargeInput) → IsBenchQuery words texts → large_by texts ≡ by
+      → ended.status ≢ WriteFault → EndsCommand found (bench_row by) ended.kept ended.status
+  at_bench texts by asks large_is whole =
+      let P : Request → Type 0 = λ r. EndsCommand found (row_of found.holds r) ended.kept ended.status in
+      let Q : Option LargeInput → Type 0 = λ o. EndsCommand found (bench_row o) ended.kept ended.status in
+      subst Q large_is (subst P (requested_input words texts asks) (ends whole))
+
+  pub complete_bench : (texts : BenchTexts) (large : LargeInput) → IsBenchQuery words texts
+      → large_by texts ≡ Some large → ended.status ≢ WriteFault → IsDoneOrMemory ended.status
+  complete_bench texts large asks large_is whole =
+      large_done found large ended.kept ended.status (at_bench texts (Some large) asks large_is whole)
+
+  -- words that ask for no large input are refused
+  pub no_large : (texts : BenchTexts) → IsBenchQuery words texts → large_by texts ≡ None → RefusesWords ended.status
+  no_large texts asks none =
+      refuses_words found ended.kept ended.status (λ whole. at_bench texts None asks none whole)
+
+  written_large : (texts : BenchTexts) (large : LargeInput) → IsBenchQuery words texts → large_by texts ≡ Some large
+      → ended.status ≡ Done → EndsLarge large ended.kept Done → WritesSummary texts ended.kept old new
+  written_large texts large asks large_is done runs =
+      let both = run.whole (λ e. let x : Done ≡ WriteFault = sym done ∙ e in cc) in
+      let status : run.ending.status ≡ Done = sym both.0 ∙ done in
+      let Says : Row → Type 0 = λ row.
+      (text_bytes run.ending.text ≡ text_of row run.ending.kept run.ending.status)
+      × (map file_text run.ending.files
+      ≡ files_beside (common_text run.ending.status) (row.files run.ending.kept run.ending.status)) in
+      let P : Request → Type 0 = λ r. Says (row_of found.holds r) in
+      let Q : Option LargeInput → Type 0 = λ o. Says (bench_row o) in
+      let says = subst Q large_is
+      (subst P (requested_input words texts asks) (run.decided.text, run.decided.files)) in
+      let text : text_bytes run.ending.text ≡ summary large.arguments large.seed =
+      says.0 ∙ ap (λ e. unwrap_or (common_text e) (summary large.arguments large.seed)) status in
+      let files : map file_text run.ending.files ≡ [] =
+      says.1 ∙ ap (λ e. files_beside (common_text e) []) status in
+      record {
+        large = large;
+        large_is = large_is;
+        run = runs.run;
+        keeps = ap (λ (k : Transcript). k.script) runs.keeps;
+        is = runs.is;
+        text = subst (Appends old.contents new.contents) text both.1.text;
+        no_file = subst (λ list. WritesFiles list old.holds new.holds) files both.1.files;
+      }
+
+  at_done_large : (texts : BenchTexts) (by : Option LargeInput) → IsBenchQuery words texts → large_by texts ≡ by
+      → ended.status ≡ Done → EndsCommand found (bench_row by) ended.kept Done
+      → WritesSummary texts ended.kept old new
+  at_done_large texts None asks large_is done cause =
+      absurd (ends_unknown found ended.kept Done (λ e. cc) (λ e. cc) cause)
+  at_done_large texts (Some large) asks large_is done cause =
+      written_large texts large asks large_is done (ends_large found large ended.kept cause)
+
+  -- a large input's run that is done writes its summary
+  pub summary_written : (texts : BenchTexts) → IsBenchQuery words texts → ended.status ≡ Done
+      → WritesSummary texts ended.kept old new
+  summary_written texts asks done =
+      let P : Status → Type 0 = EndsCommand found (bench_row (large_by texts)) ended.kept in
+      at_done_large texts (large_by texts) asks refl done
+      (subst P done (at_bench texts (large_by texts) asks refl (λ e. let x : Done ≡ WriteFault = sym done ∙ e in cc)))

@@ -7,7 +7,9 @@ use Rattle.iccma_tasks.specs.declared.task.Problem.{Problem}
 use Rattle.iccma_tasks.specs.declared.task.Problem.TheVariants.{Credulous, Sceptical, SomeExtension, AllExtensions}
 use Rattle.iccma_tasks.specs.declared.task.Task.{Task}
 use Rattle.iccma_tasks.specs.Tasks.{Asked, all_tasks, task_name}
-use Rattle.argue_words.specs.Words.{SolveTexts}
+use Rattle.argue_words.specs.Words.{BenchTexts, SolveTexts}
+use Rattle.bench_inputs.specs.declared.input.TheConstants.{MOST_ARGUMENTS}
+use Rattle.argue_program.specs.declared.query.LargeInput.{LargeInput}
 use Rattle.argue_program.specs.declared.query.Solving.{Solving}
 use Rattle.argue_program.specs.declared.query.TheConstants.{DEFAULT_BUDGET}
 
@@ -67,3 +69,22 @@ solving_with _ _ = None
 -- the query that the texts of a query's words ask, with its budget
 unfoldable pub solving_by : SolveTexts → Option Solving
 solving_by texts = solving_with (asked_by texts.task texts.number) (budget_of texts.budget)
+
+-- ---- large inputs
+
+-- as many arguments as a large input may have: from 1 to 100,000
+abbrev pub within_most : Option ℕ → Option ℕ
+within_most None = None
+within_most (Some n) = if nat_le 1 n && nat_le n MOST_ARGUMENTS then Some n else None
+
+-- how many arguments a text asks for
+abbrev pub arguments_of : List ℕ → Option ℕ
+arguments_of text = within_most (number_of text)
+
+abbrev pub large_with : Option ℕ → Option ℕ → Option LargeInput
+large_with (Some arguments) (Some seed) = Some (record { arguments = arguments; seed = seed })
+large_with _ _ = None
+
+-- the large input that the texts of its words ask for
+unfoldable pub large_by : BenchTexts → Option LargeInput
+large_by texts = large_with (arguments_of texts.arguments) (number_of texts.seed)

@@ -11,12 +11,13 @@ use Rattle.oracle_core.specs.declared.reply.AnswerStop.{AnswerStop}
 use Rattle.oracle_core.specs.declared.reply.Answered.{Answered}
 use Rattle.argue_outside.specs.declared.Role.{Role}
 use Rattle.argue_outside.specs.declared.Role.TheVariants.{Framework}
-use Rattle.argue_words.specs.Words.{CheckTexts, LiveTexts, Request, version, problems, solving, checking, living, unknown, SolveTexts}
+use Rattle.argue_words.specs.Words.{CheckTexts, LiveTexts, Request, version, problems, solving, checking, living, benching, unknown, SolveTexts}
 use Rattle.iccma_tasks.specs.Tasks.{Asked, tasks_line}
 use Rattle.argue_program.specs.Checks.{ChecksFiles, check_inputs}
-use Rattle.argue_program.specs.Queries.{asked_by, budget_of, solving_by}
+use Rattle.argue_program.specs.Queries.{asked_by, budget_of, large_by, solving_by}
 use Rattle.argue_program.specs.Scripts.{RunsScript, live_inputs, transcript_bytes}
 use Rattle.argue_program.specs.Solves.{IsSessionOn, status_of}
+use Rattle.argue_program.specs.declared.query.LargeInput.{LargeInput}
 use Rattle.argue_program.specs.declared.query.Solving.{Solving}
 use Rattle.argue_program.specs.Inputs.{Input, Reading, StopsAtFirst, input}
 use Rattle.argue_program.specs.Texts.{common_text, text_bytes}
@@ -26,6 +27,9 @@ use Rattle.argue_program.specs.declared.ended.Status.{Status}
 use Rattle.argue_program.specs.declared.ended.Status.TheVariants.{Done, Usage, ReadFault, WantOfMemory}
 use Rattle.argue_program.specs.declared.ended.Transcript.{Transcript}
 use Rattle.argue_program.specs.declared.writing.Written.{Written}
+use Rattle.bench_runs.specs.Runs.{IsBenchRun}
+use Rattle.bench_runs.specs.Summaries.{summary}
+use Rattle.bench_runs.specs.declared.run.BenchRun.{BenchRun}
 use Rattle.script_runs.specs.declared.transcript.ScriptTranscript.{ScriptTranscript}
 use Rattle.script_runs.specs.Transcripts.{IsTranscriptOf}
 use Rattle.script_text.specs.declared.script.Script.{Script}
@@ -188,6 +192,24 @@ live_row holds (Some budget) texts = record {
   files = λ kept end. script_files texts.certificate kept.script;
 }
 
+-- the sessions of the large input have run, and it keeps what they came to
+pub record EndsLarge (large : LargeInput) (kept : Transcript) (end : Status) : Type 0 where
+  pub run : BenchRun
+  pub keeps : kept ≡ script_kept run.transcript
+  pub is : IsBenchRun large.arguments large.seed run
+  pub ends : end ≡ Done
+
+-- the run of a large input, or words that ask for none
+abbrev pub bench_row : Option LargeInput → Row
+bench_row None = unknown_row
+bench_row (Some large) = record {
+  inputs = [];
+  takes_memory = true;
+  Ends = EndsLarge large;
+  text = λ kept end. summary large.arguments large.seed;
+  files = λ kept end. [];
+}
+
 -- the table: what is known of the files matters to some rows
 abbrev pub row_of : (List ℕ → KnownFile) → Request → Row
 row_of holds version = version_row
@@ -195,6 +217,7 @@ row_of holds problems = problems_row
 row_of holds (solving texts) = solve_row holds (solving_by texts) texts
 row_of holds (checking texts) = check_row holds (asked_by texts.task texts.number) texts
 row_of holds (living texts) = live_row holds (budget_of texts.budget) texts
+row_of holds (benching texts) = bench_row (large_by texts)
 row_of holds unknown = unknown_row
 
 -- ---- the cause of an ending
@@ -257,3 +280,10 @@ pub record EndsServed (f : AnyFramework) (script : Script) (budget : ℕ) (name 
   pub transcript : ScriptTranscript
   pub is : IsTranscriptOf f script budget transcript
   pub ends : EndsScript transcript name ending
+
+-- the ending of a large input's run: it keeps what the sessions came to, is done, and writes the summary alone
+pub record EndsSummed (run : BenchRun) (ending : Ending) : Type 0 where
+  pub status : ending.status ≡ Done
+  pub keeps : ending.kept ≡ script_kept run.transcript
+  pub text : text_bytes ending.text ≡ run.summary
+  pub files : ending.files ≡ []

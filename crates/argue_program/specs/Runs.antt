@@ -4,9 +4,9 @@ use Rattle.std.specs.Io.KnownBytes.{Appends}
 use Rattle.argue_outside.specs.Outside.{FaultCounted, KnownFile}
 use Rattle.argue_outside.specs.declared.Role.{Role}
 use Rattle.argue_outside.specs.declared.Role.TheVariants as role
-use Rattle.semantics.specs.Frameworks.{Framework}
+use Rattle.semantics.specs.Frameworks.{Framework, af}
 use Rattle.num_text.specs.declared.limit.TheConstants.{INPUT_LIMIT}
-use Rattle.argue_words.specs.Words.{CheckTexts, IsCheckQuery, IsLiveQuery, IsSolveQuery, LiveTexts, SolveTexts}
+use Rattle.argue_words.specs.Words.{BenchTexts, CheckTexts, IsBenchQuery, IsCheckQuery, IsLiveQuery, IsSolveQuery, LiveTexts, SolveTexts}
 use Rattle.iccma_tasks.specs.AnswerText.{filled_fields, ReadsAs as AnswerReadsAs}
 use Rattle.iccma_tasks.specs.WrittenText.{text_of as answer_text}
 use Rattle.iccma_tasks.specs.Tasks.{Asked}
@@ -16,10 +16,17 @@ use Rattle.certificate_claims.specs.declared.certificate.Certificate.{Certificat
 use Rattle.certificate_text.specs.Reading.{ReadsAs as CertReadsAs}
 use Rattle.framework_text.specs.FrameworkText.{ReadsAs}
 use Rattle.argue_program.specs.Checks.{CheckEnds, IsAnswerOf}
-use Rattle.argue_program.specs.Queries.{asked_by, budget_of, solving_by}
+use Rattle.argue_program.specs.Queries.{asked_by, budget_of, large_by, solving_by}
 use Rattle.argue_program.specs.Scripts.{RunsScript, transcript_bytes}
 use Rattle.argue_program.specs.Solves.{IsReplyTo, IsSessionOf, IsSessionOn, status_of}
+use Rattle.argue_program.specs.declared.query.LargeInput.{LargeInput}
 use Rattle.argue_program.specs.declared.query.Solving.{Solving}
+use Rattle.bench_inputs.specs.Generator.{bench_framework}
+use Rattle.bench_inputs.specs.Scripts.{bench_script}
+use Rattle.bench_runs.specs.Runs.{IsBenchRun}
+use Rattle.bench_runs.specs.Summaries.{summary}
+use Rattle.bench_runs.specs.declared.run.BenchRun.{BenchRun}
+use Rattle.bench_runs.specs.declared.run.TheConstants.{BENCH_BUDGET}
 use Rattle.script_runs.specs.Transcripts.{IsTranscriptOf}
 use Rattle.script_runs.specs.declared.transcript.ScriptTranscript.{ScriptTranscript}
 use Rattle.script_text.specs.ScriptFaults.{StandsAt}
@@ -264,3 +271,28 @@ pub record ScriptsBytes (found : Reading) (words : List (List ℕ)) (texts : Liv
   pub of_framework : HasText found (input (role.Framework 1) texts.file) (λ bytes. ReadsAs bytes f)
   pub known : found.holds texts.script ≡ Some (Some bytes)
   pub no_fault : found.Serves texts.script ⊎ ¬ FaultCounted (found.old_count role.Script) (found.new_count role.Script)
+
+-- ---- large inputs
+
+-- the words ask for a large input's run, and this is what its sessions come to
+pub record AsksLarge (words : List (List ℕ)) (transcript : ScriptTranscript) : Type 0 where
+  pub texts : BenchTexts
+  pub asks : IsBenchQuery words texts
+  pub large : LargeInput
+  pub large_is : large_by texts ≡ Some large
+  pub is : IsTranscriptOf (af (bench_framework large.arguments large.seed))
+      (bench_script large.arguments large.seed) BENCH_BUDGET transcript
+
+-- the words ask for a script's run or for that of a large input, and this is what its sessions come to
+abbrev pub AsksTranscript : List (List ℕ) → (List ℕ → KnownFile) → ScriptTranscript → Type 0
+AsksTranscript words holds transcript = AsksScript words holds transcript ⊎ AsksLarge words transcript
+
+-- the run keeps what the sessions of the large input come to; the output has gained the summary, and no file changes
+pub record WritesSummary (texts : BenchTexts) (kept : Transcript) (old new : Output) : Type 0 where
+  pub large : LargeInput
+  pub large_is : large_by texts ≡ Some large
+  pub run : BenchRun
+  pub keeps : kept.script ≡ Some run.transcript
+  pub is : IsBenchRun large.arguments large.seed run
+  pub text : Appends old.contents new.contents (summary large.arguments large.seed)
+  pub no_file : new.holds ≡ old.holds

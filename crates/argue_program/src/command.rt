@@ -5,19 +5,20 @@ ghost use Rattle.std.specs.String.{string_bytes};
 ghost use Rattle.argue_outside.specs.Outside.{FaultCounted};
 ghost use Rattle.argue_outside.specs.declared.Role.{Role as ARole};
 ghost use Rattle.semantics.specs.Frameworks.{Framework};
-ghost use Rattle.argue_words.specs.Words.{AreWords, CheckTexts, IsCheckQuery, IsLiveQuery, IsSolveQuery, LiveTexts, SolveTexts, is_live, requested, words_are_problems};
+ghost use Rattle.argue_words.specs.Words.{AreWords, BenchTexts, CheckTexts, IsBenchQuery, IsCheckQuery, IsLiveQuery, IsSolveQuery, LiveTexts, SolveTexts, is_bench, is_live, requested, words_are_problems};
 ghost use Rattle.iccma_tasks.specs.Tasks.{Asked};
 ghost use Rattle.iccma_tasks.specs.declared.answer.Answer.{Answer};
 ghost use Rattle.certificate_claims.specs.declared.certificate.Certificate.{Certificate};
 ghost use Rattle.argue_program.specs.declared.ended.KeptSession.{KeptSession};
-ghost use Rattle.argue_program.specs.Queries.{asked_by, budget_of, solving_by};
+ghost use Rattle.argue_program.specs.Queries.{asked_by, budget_of, large_by, solving_by};
+ghost use Rattle.argue_program.specs.declared.query.LargeInput.{LargeInput};
 ghost use Rattle.argue_program.specs.declared.query.Solving.{Solving};
 ghost use Rattle.argue_program.specs.Inputs.{reading};
 ghost use Rattle.argue_program.specs.Rows.{HasNoInput, row_of};
-ghost use Rattle.argue_program.specs.Runs.{AnswersRight, AsksScript, AsksSession, ChecksContents, FillsLog, IsCheckEnd, IsDoneOrMemory, IsRunOf};
+ghost use Rattle.argue_program.specs.Runs.{AnswersRight, AsksSession, AsksTranscript, ChecksContents, FillsLog, IsCheckEnd, IsDoneOrMemory, IsRunOf};
 ghost use Rattle.framework_text.specs.FrameworkText.{IsFaulty};
 ghost use Rattle.argue_program.specs.Runs.{IsFaultyScript, IsLiveEnd, IsSolveEnd, LivesContents, NamesCertificate, QueriesBytes, RefusesBytes, RefusesLength, RefusesWords, ScriptsBytes, SolvesContents, SpendsBudget};
-ghost use Rattle.argue_program.specs.Runs.{WritesAnswer, WritesTranscript};
+ghost use Rattle.argue_program.specs.Runs.{WritesAnswer, WritesSummary, WritesTranscript};
 ghost use Rattle.argue_program.specs.Writing.{output};
 ghost use Rattle.script_runs.specs.declared.transcript.ScriptTranscript.{ScriptTranscript};
 ghost use Rattle.script_text.specs.declared.script.Script.{Script};
@@ -32,15 +33,16 @@ use std::alloc::Global;
 use std::sync::Wait;
 use std::thread::Threads;
 
-/// Runs the program on the words after its name, the first of which isn't `live`: decides the ending, and writes it. It
-/// waits for nobody, so it is proved to return.
+/// Runs the program on the words after its name, the first of which is neither `live` nor `bench`: decides the ending,
+/// and writes it. It waits for nobody, so it is proved to return.
 pub fn execute<F: Files, O: Sink>(
     alloc: Global,
     words: &[String],
     files: &mut F,
     out: &mut O,
 ) -> Ended
-    requires { is_live (map string_bytes words.now) ≡ false }
+    requires live { is_live (map string_bytes words.now) ≡ false }
+    requires bench { is_bench (map string_bytes words.now) ≡ false }
 
     // What the run does, by the row of what its words ask for. The rest follows.
     ensures run { IsRunOf
@@ -118,8 +120,8 @@ pub fn execute<F: Files, O: Sink>(
 }
 
 /// Runs the program on the words after its name, with what its sessions need beside files and output: a runtime, and a
-/// gate for tests. Where the words ask for a script's run, its sessions run in threads of their own, and this returns
-/// where they do; on all other words it does what `execute` does.
+/// gate for tests. Where the words ask for a script's run or that of a large input, its sessions run in threads of their
+/// own, and this returns where they do; on all other words it does what `execute` does.
 pub fn run<F: Files, O: Sink, P: Pace + Sync, R: Threads + Wait + Sync>(
     rt: &R,
     alloc: Global,
@@ -149,13 +151,17 @@ pub fn run<F: Files, O: Sink, P: Pace + Sync, R: Threads + Wait + Sync>(
         (output (F.holds files.old) (F.write_count files.old) (O.contents out.old) (O.fault_count out.old))
         (output (F.holds files.new) (F.write_count files.new) (O.contents out.new) (O.fault_count out.new)) }
 
-    // The same for scripts: a transcript that is kept is that of the words' script on the framework in its file; and
-    // where the run is done, it has written that transcript, and the certificates of all its answers where a file is
-    // named.
+    // The same for scripts and large inputs: a transcript that is kept is that of the words' script on the framework in
+    // its file, or of the words' large input; and where the run is done, it has written that transcript, and the
+    // certificates of all its answers where a file is named, or of a large input the summary.
     ensures transcript { (transcript : ScriptTranscript) → result.kept.script ≡ Some transcript
-        → AsksScript (map string_bytes words.now) (F.holds files.old) transcript }
+        → AsksTranscript (map string_bytes words.now) (F.holds files.old) transcript }
     ensures live { (texts : LiveTexts) → IsLiveQuery (map string_bytes words.now) texts
         → result.status ≡ Status.Done → WritesTranscript (F.holds files.old) texts result.kept
+        (output (F.holds files.old) (F.write_count files.old) (O.contents out.old) (O.fault_count out.old))
+        (output (F.holds files.new) (F.write_count files.new) (O.contents out.new) (O.fault_count out.new)) }
+    ensures bench { (texts : BenchTexts) → IsBenchQuery (map string_bytes words.now) texts
+        → result.status ≡ Status.Done → WritesSummary texts result.kept
         (output (F.holds files.old) (F.write_count files.old) (O.contents out.old) (O.fault_count out.old))
         (output (F.holds files.new) (F.write_count files.new) (O.contents out.new) (O.fault_count out.new)) }
 
@@ -173,6 +179,8 @@ pub fn run<F: Files, O: Sink, P: Pace + Sync, R: Threads + Wait + Sync>(
         (reading (F.holds files.old) (F.serves files.old) (F.read_count files.old) (F.read_count files.new))
         (map string_bytes words.now) texts budget f script
         → IsLiveEnd f script budget result.kept result.status }
+    ensures complete_bench { (texts : BenchTexts) (large : LargeInput) → IsBenchQuery (map string_bytes words.now) texts
+        → large_by texts ≡ Some large → result.status ≢ Status.WriteFault → IsDoneOrMemory result.status }
 
     // The converses: words that aren't well-formed, or that ask a query which there isn't, are refused, and so is a
     // file with a fault and one over the limit.
@@ -190,6 +198,8 @@ pub fn run<F: Files, O: Sink, P: Pace + Sync, R: Threads + Wait + Sync>(
 
     ensures no_budget { (texts : LiveTexts) → IsLiveQuery (map string_bytes words.now) texts
         → budget_of texts.budget ≡ None → RefusesWords result.status }
+    ensures no_large { (texts : BenchTexts) → IsBenchQuery (map string_bytes words.now) texts
+        → large_by texts ≡ None → RefusesWords result.status }
     ensures faulty_script { (texts : LiveTexts) (budget : ℕ) (f : Framework) (bytes : List ℕ) → ScriptsBytes
         (reading (F.holds files.old) (F.serves files.old) (F.read_count files.old) (F.read_count files.new))
         (map string_bytes words.now) texts budget f bytes

@@ -3,7 +3,8 @@
 ghost use Rattle.std.specs.Prelude.{◌≡◌, ◌≢◌, ◌⊎◌, ℕ, List, [], Ok, Err, IfErr, IfOk, IsErrOf, IsSome, Option, Some, false, map};
 ghost use Rattle.std.specs.Option.{option_map};
 ghost use Rattle.std.specs.String.{string_bytes};
-ghost use Rattle.argue_words.specs.Words.{check_texts, checking, is_live, request_of, requested, solve_texts, solving};
+ghost use Rattle.argue_words.specs.Words.{check_texts, checking, is_bench, is_live, request_of, requested, solve_texts, solving};
+ghost use Rattle.argue_words.specs.declared.words.BenchWords.{BenchWords as ABenchWords};
 ghost use Rattle.argue_words.specs.declared.words.LiveWords.{LiveWords as ALiveWords};
 ghost use Rattle.argue_program.specs.Inputs.{reading};
 ghost use Rattle.argue_program.specs.Rows.{EndsSession, IsEndingOf, nothing_kept, row_of, session_kept};
@@ -175,7 +176,8 @@ fn check<F: Files>(alloc: Global, files: &mut F, words: CheckWords<'_>) -> Endin
 
 /// The ending of a command that wants no sessions in threads.
 pub(crate) fn decide_command<F: Files>(alloc: Global, command: Command, files: &mut F) -> Ending
-    requires { (words : ALiveWords) → command ≢ Command.Live words }
+    requires live { (words : ALiveWords) → command ≢ Command.Live words }
+    requires bench { (words : ABenchWords) → command ≢ Command.Bench words }
     ensures ending { IsEndingOf (reading (F.holds files.old) (F.serves files.old) (F.read_count files.old)
         (F.read_count files.new)) (row_of (F.holds files.old) (request_of command.entry)) result }
     ensures same { F.holds files.new ≡ F.holds files.old }
@@ -186,15 +188,16 @@ pub(crate) fn decide_command<F: Files>(alloc: Global, command: Command, files: &
         Command::Problems => done(alloc, Text::Fixed(PROBLEMS)),
         Command::Solve(words) => solve(alloc, files, words),
         Command::Check(words) => check(alloc, files, words),
-        Command::Live(_) => unreachable!(),
+        Command::Live(_) | Command::Bench(_) => unreachable!(),
         Command::Unknown => stopped(alloc, Status::Usage),
     }
 }
 
-/// Decides how a run on these words ends, which don't name `live`: what it keeps, and what it has to write. Files are
-/// read, and nothing is written. All memory of a run is taken here.
+/// Decides how a run on these words ends, which name neither `live` nor `bench`: what it keeps, and what it has to
+/// write. Files are read, and nothing is written. All memory of a run is taken here.
 pub fn decide<F: Files>(alloc: Global, words: &[String], files: &mut F) -> Ending
-    requires { is_live (map string_bytes words.now) ≡ false }
+    requires live { is_live (map string_bytes words.now) ≡ false }
+    requires bench { is_bench (map string_bytes words.now) ≡ false }
     ensures ending { IsEndingOf (reading (F.holds files.old) (F.serves files.old) (F.read_count files.old)
         (F.read_count files.new)) (row_of (F.holds files.old) (requested (map string_bytes words.now))) result }
     ensures same { F.holds files.new ≡ F.holds files.old }

@@ -50,7 +50,7 @@ pub enum Limit {
 /// How a run ended, as its exit status says it.
 #[derive(Clone, Copy, Debug, PartialEq, Eq)]
 pub enum Status {
-    /// The query got its answer, or each line of the script its reply, and all output was taken.
+    /// The query got its answer, or each line of a script its reply, and all output was taken.
     Done,
     /// The words aren't well-formed.
     Usage,
@@ -99,7 +99,8 @@ pub struct KeptSession {
     pub engine: Engine,
 }
 
-/// What a run keeps: the session of its query, or what the sessions of its script came to, where it had any.
+/// What a run keeps: the session of its query, or what the sessions of its script or large input came to, where it had
+/// any.
 #[derive(Drop)]
 pub struct Transcript {
     pub session: Option<KeptSession>,

@@ -10,6 +10,7 @@ pub mod command;
 pub mod decision;
 pub mod ended;
 pub mod input;
+mod large;
 pub mod process;
 pub mod query;
 pub mod scripts;

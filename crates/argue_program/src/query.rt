@@ -1,12 +1,14 @@
 //! The queries of words.
 
-ghost use Rattle.std.specs.Prelude.{◌≡◌};
+ghost use Rattle.std.specs.Prelude.{◌≡◌, ◌≤◌, IfSome};
 ghost use Rattle.std.specs.Option.{option_map};
-ghost use Rattle.argue_words.specs.Words.{solve_texts};
+ghost use Rattle.argue_words.specs.Words.{bench_texts, solve_texts};
+ghost use Rattle.bench_inputs.specs.declared.input.TheConstants.{MOST_ARGUMENTS};
 ghost use Rattle.iccma_tasks.specs.Tasks.{all_tasks};
-ghost use Rattle.argue_program.specs.Queries.{asked_by, asked_with, budget_of, first_named, number_of, solving_by};
+ghost use Rattle.argue_program.specs.Queries.{arguments_of, asked_by, asked_with, budget_of, first_named, large_by, number_of, solving_by};
 
-use argue_words::SolveWords;
+use argue_words::{BenchWords, SolveWords};
+use bench_inputs::MOST_ARGUMENTS;
 use iccma_tasks::{Query, Task};
 use num_text::decimal;
 
@@ -24,6 +26,13 @@ pub const LOG_LIMIT: u64 = 50_000_000;
 pub struct Solving {
     pub query: Query,
     pub budget: u32,
+}
+
+/// A large input that is asked for: how many arguments it has, and the seed of its draws.
+#[derive(Clone, Copy, Debug)]
+pub struct LargeInput {
+    pub arguments: u32,
+    pub seed: u32,
 }
 
 // The task of a name.
@@ -83,4 +92,30 @@ pub(crate) fn solving_of(words: &SolveWords<'_>) -> Option<Solving>
     let query = query_of(words.task, words.number)?;
     let budget = budget_in(words.budget)?;
     Some(Solving { query, budget })
+}
+
+// How many arguments a text asks for.
+fn arguments_in(text: &str) -> Option<u32>
+    ensures is { result ≡ arguments_of text.now }
+    ensures some { IfSome result (λ n. 1 ≤ n) }
+    ensures few { IfSome result (λ n. n ≤ MOST_ARGUMENTS) }
+{
+    let number = number_in(text)?;
+    if 1 <= number && number <= MOST_ARGUMENTS {
+        Some(number)
+    } else {
+        None
+    }
+}
+
+/// The large input that words ask for. `None` where a text is no number, or a large input doesn't have so many arguments.
+#[tactic(auto, unfolding(crate::specs::Queries::large_by))]
+pub(crate) fn large_of(words: &BenchWords<'_>) -> Option<LargeInput>
+    ensures is { result ≡ large_by (bench_texts words.now) }
+    ensures some { IfSome result (λ large. 1 ≤ large.arguments) }
+    ensures few { IfSome result (λ large. large.arguments ≤ MOST_ARGUMENTS) }
+{
+    let arguments = arguments_in(words.arguments)?;
+    let seed = number_in(words.seed)?;
+    Some(LargeInput { arguments, seed })
 }

@@ -15,6 +15,7 @@ ghost use Rattle.argue_program.specs.Texts.{common_text};
 use crate::decision::{Ending, decide_command, stopped};
 use crate::ended::{Cause, Refusal, Status, Transcript};
 use crate::input::{read_input, refused};
+use crate::large::bench;
 use crate::query::budget_in;
 use crate::texts::Text;
 use crate::writing::Written;
@@ -211,8 +212,8 @@ fn live<R: Threads + Wait + Sync, F: Files, P: Pace + Sync>(
 }
 
 /// Decides how a run on any words ends: what it keeps, and what it has to write. Files are read, and nothing is
-/// written. All memory of a run is taken here. Where the words ask for it, the sessions of a script run in threads of
-/// their own.
+/// written. All memory of a run is taken here. Where the words ask for it, the sessions of a script, or those of a large
+/// input, run in threads of their own.
 pub fn decide_with<R: Threads + Wait + Sync, F: Files, P: Pace + Sync>(
     rt: &R,
     alloc: Global,
@@ -227,6 +228,7 @@ pub fn decide_with<R: Threads + Wait + Sync, F: Files, P: Pace + Sync>(
 {
     match read_words(alloc, words) {
         Ok(Command::Live(words)) => live(rt, alloc, files, words, pace),
+        Ok(Command::Bench(words)) => bench(rt, alloc, &*files, words, pace),
         Ok(command) => decide_command(alloc, command, files),
         Err(Memory) => stopped(alloc, Status::WantOfMemory),
     }

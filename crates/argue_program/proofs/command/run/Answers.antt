@@ -2,7 +2,7 @@ use Rattle.std.proofs.Common.{map}
 use Rattle.std.specs.String.{string_bytes}
 use Rattle.argue_words.specs.Words.{requested}
 use Rattle.argue_program.proofs.RowsLemmas.{decides_no_fault}
-use Rattle.argue_program.proofs.RunsLemmas.{IsRunOf-written, accepted, checked, complete, complete_script, faulty, faulty_script, filled, long_script, no_budget, no_query, no_write, other_counts, other_files, problems_told, right_session, right_transcript, script_written, solved_written, spent, too_long, unasked, untouched, usage, write_fault}
+use Rattle.argue_program.proofs.RunsLemmas.{IsRunOf-written, accepted, checked, complete, complete_bench, complete_script, faulty, faulty_script, filled, long_script, no_budget, no_large, no_query, no_write, other_counts, other_files, problems_told, right_session, right_transcript, script_written, solved_written, spent, summary_written, too_long, unasked, untouched, usage, write_fault}
 use Rattle.argue_program.proofs.command.run.Goals as goal
 
 pub write_ending-requires : goal.write_ending-requires
@@ -88,3 +88,12 @@ returns-clause-faulty_script g c = faulty_script _ (map string_bytes c.args.word
 
 pub returns-clause-long_script : goal.returns-clause-long_script
 returns-clause-long_script g c = long_script _ (map string_bytes c.args.words.now) _ _ _ (returns-clause-run g c)
+
+pub returns-clause-bench : goal.returns-clause-bench
+returns-clause-bench g c = summary_written _ (map string_bytes c.args.words.now) _ _ _ (returns-clause-run g c)
+
+pub returns-clause-complete_bench : goal.returns-clause-complete_bench
+returns-clause-complete_bench g c = complete_bench _ (map string_bytes c.args.words.now) _ _ _ (returns-clause-run g c)
+
+pub returns-clause-no_large : goal.returns-clause-no_large
+returns-clause-no_large g c = no_large _ (map string_bytes c.args.words.now) _ _ _ (returns-clause-run g c)

@@ -3,7 +3,7 @@ use Rattle.std.specs.String.{string_bytes}
 use Rattle.argue_words.specs.Words.{requested}
 use Rattle.argue_program.specs.Inputs.{reading}
 use Rattle.argue_program.specs.Rows.{row_of}
-use Rattle.argue_program.proofs.RowsLemmas.{CountsReads-none, EndsCommand-memory, IsEndingOf-stopped, takes_memory, wants_no_threads}
+use Rattle.argue_program.proofs.RowsLemmas.{CountsReads-none, EndsCommand-memory, IsEndingOf-stopped, takes_memory, wants_no_large, wants_no_script}
 use Rattle.argue_program.proofs.decision.decide.Goals as goal
 
 pub returns-in-Err-clause-ending : goal.returns-in-Err-clause-ending
@@ -17,6 +17,10 @@ returns-in-Err-clause-ending g c =
     c.stopped.ensures.status c.stopped.ensures.kept c.stopped.ensures.text c.stopped.ensures.files
     (CountsReads-none found row _ refl)
 
-pub decide_command-requires : goal.decide_command-requires
-decide_command-requires g c =
-    wants_no_threads (map string_bytes c.args.words.now) c.in-Ok.command c.requires c.in-Ok.ensures.request
+pub decide_command-requires-clause-live : goal.decide_command-requires-clause-live
+decide_command-requires-clause-live g c =
+    wants_no_script (map string_bytes c.args.words.now) c.in-Ok.command c.requires.live c.in-Ok.ensures.request
+
+pub decide_command-requires-clause-bench : goal.decide_command-requires-clause-bench
+decide_command-requires-clause-bench g c =
+    wants_no_large (map string_bytes c.args.words.now) c.in-Ok.command c.requires.bench c.in-Ok.ensures.request
