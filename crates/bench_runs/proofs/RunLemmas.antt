@@ -75,7 +75,7 @@ module _ (n seed budget : ℕ) (t : ScriptTranscript) (some : 1 ≤ n) (few : n 
   some_session : 1 ≤ is.sessions
   some_session =
       let line = line_for 1 (change_by (AttackDrop (first n seed 1) 1)) in
-      let there = dropped_in n seed 1 (omega arith) (omega arith) in
+      let there = dropped_in n seed (suc zero) (omega arith) (omega arith) in
       let low = (sessions_few n seed line there).0 in
       let high = is.sessions_are.each line there in
       omega arith

@@ -28,7 +28,7 @@ fn one_argument(rt: HostRuntime) -> Result<(), Fail> {
     Ok(())
 }
 
-/// Of two arguments each attacks both, by what the seed 1 draws.
+/// Of two arguments each attacks both, by what a seed of one draws.
 #[test]
 fn two_arguments(rt: HostRuntime) -> Result<(), Fail> {
     let (framework, script) = bench_input(rt.alloc(), 2, 1)?;
