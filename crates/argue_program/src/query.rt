@@ -29,7 +29,7 @@ pub struct Solving {
 }
 
 /// A large input that is asked for: how many arguments it has, and the seed of its draws.
-#[derive(Clone, Copy, Debug)]
+#[derive(Clone, Copy)]
 pub struct LargeInput {
     pub arguments: u32,
     pub seed: u32,
