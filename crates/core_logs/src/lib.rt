@@ -1,0 +1,9 @@
+//! The log of a session of the core, and what may come into it: plain tests, each of which tells exactly what its
+//! definition says.
+#![tactic(auto)]
+
+pub mod log;
+pub mod steps;
+
+pub use log::CoreLog;
+pub use steps::{CoreSide, CoreStep, StepSource};
