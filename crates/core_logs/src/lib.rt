@@ -2,6 +2,8 @@
 //! definition says.
 #![tactic(auto)]
 
+pub mod checking;
+pub mod literals;
 pub mod log;
 pub mod steps;
 

@@ -1,6 +1,7 @@
 //! The steps of a log, and its side clauses.
 
-ghost use Rattle.std.specs.Prelude.{◌≡◌};
+ghost use Rattle.std.specs.Prelude.{◌≡◌, ◌↔◌, ◌-◌, IsTrue};
+ghost use Rattle.oracle_face.specs.Logs.{IsNumberOf, step_at};
 ghost use Rattle.core_logs.specs.Sources.{source_of};
 
 use meaning_atoms::{AtomLit, AxiomName};
@@ -129,5 +130,44 @@ impl CoreSide {
         ensures { result.now ≡ self.now.set }
     {
         &self.set
+    }
+}
+
+/// Whether a number names one of the items, which are numbered from 1.
+pub fn is_number<T>(items: &[T], number: StepId) -> bool
+    ensures { IsTrue result ↔ IsNumberOf items.now number }
+{
+    let number = number.number() as usize;
+    0 < number && number <= items.len()
+}
+
+/// The index of the step of a number.
+fn index_of(number: StepId) -> usize
+    ensures { result ≡ number - 1 }
+{
+    let number = number.number() as usize;
+    if number == 0 {
+        return 0;
+    }
+    number - 1
+}
+
+/// The literals of the step of a number. Where there is no step, there are none.
+pub fn clause_at(steps: &[CoreStep], number: StepId) -> &[AtomLit]
+    ensures { result.now ≡ (step_at steps.now number).clause }
+{
+    match steps.get(index_of(number)) {
+        Some(step) => step.clause(),
+        None => &[],
+    }
+}
+
+/// Whether the step of a number only ended a search. Where there is no step, it is so.
+pub fn is_closing_at(steps: &[CoreStep], number: StepId) -> bool
+    ensures { result ≡ (step_at steps.now number).closing }
+{
+    match steps.get(index_of(number)) {
+        Some(step) => step.closing(),
+        None => true,
     }
 }

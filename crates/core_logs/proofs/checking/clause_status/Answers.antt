@@ -1,0 +1,1 @@
+use Rattle.core_logs.proofs.checking.clause_status.Goals as goal
