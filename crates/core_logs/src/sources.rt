@@ -14,7 +14,7 @@ use plain_lists::Memory;
 use std::alloc::Global;
 
 /// Whether a step is the axiom's.
-fn is_of_axiom(step: &CoreStep, name: &AxiomName) -> bool
+pub fn is_of_axiom(step: &CoreStep, name: &AxiomName) -> bool
     ensures { IsTrue result ↔ IsOfAxiom step.now name.now }
 {
     match step.source() {
@@ -31,7 +31,7 @@ pub fn has_axiom(steps: &[CoreStep], name: &AxiomName) -> bool
 }
 
 /// Whether a step was taken from the entry.
-fn is_from_entry(step: &CoreStep, name: EntryName) -> bool
+pub fn is_from_entry(step: &CoreStep, name: EntryName) -> bool
     ensures { IsTrue result ↔ IsFromEntry step.now name }
 {
     match step.imported() {

@@ -156,6 +156,7 @@ fn index_of(number: StepId) -> usize
 pub fn find_step(steps: &[CoreStep], number: StepId) -> Option<&CoreStep>
     ensures some { IfSome result (λ step. step.now ≡ step_at steps.now number) }
     ensures none { IfNone result (step_at steps.now number ≡ no_step) }
+    ensures unnamed { IfNone result (¬ IsNumberOf steps.now number) }
 {
     steps.get(index_of(number))
 }
