@@ -1,4 +1,6 @@
 pub mod NamingLemmas
+pub mod NeedLemmas
 pub mod PlaceLemmas
 pub mod SeatLemmas
+pub mod StateLemmas
 pub mod Tests
