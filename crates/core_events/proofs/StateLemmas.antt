@@ -3,7 +3,7 @@ use Rattle.std.proofs.Common.{◌≡◌, ⊎_elim, ℕ, ◌==◌, Bool, true, fa
 use Rattle.std.specs.Prelude.{Result, Ok, Err, if◌then◌else◌}
 use Rattle.std.specs.Result.{IsErr, IsErrAnd}
 use Rattle.std.specs.Vec.{with_item}
-use Rattle.std.proofs.lemmas.Bool.{cases_Bool, eqb-true}
+use Rattle.std.proofs.lemmas.Bool.{cases_Bool, eqb-true, false≢true}
 use Rattle.oracle_face.specs.Logs.{OracleLog}
 use Rattle.core_machine.specs.Core.{Core, CoreSession, put_at, with_log, with_session}
 use Rattle.core_events.specs.declared.machine.Machine.{Machine}
@@ -107,7 +107,7 @@ seat_comes before m s index seat P Q new r same at read to back h =
 -- want of memory
 pub stopped : (P : Core → Type 0) (core now : Core) (r : Result (Unit {0}) StepStop)
     → IsErr r × IsErrAnd r (λ stop. stop ≡ Memory) → now ≡ core → Comes P core now r
-stopped P core now (Ok done) h same = absurd (h.0)
+stopped P core now (Ok done) h same = absurd (false≢true h.0)
 stopped P core now (Err stop) h same = subst (λ (x : StepStop). Comes P core now (Err x)) (sym h.1) same
 
 -- what comes of an event, as another word says it

@@ -5,3 +5,4 @@ pub mod Needs
 pub mod Places
 pub mod Seats
 pub mod Stops
+pub mod Turns

@@ -62,7 +62,7 @@ impl Machine {
     }
 
     /// The index of a session's seat, which is made if there is none. What the machine means stays.
-    fn seat(&mut self, alloc: Global, session: u32) -> Result<usize, Memory>
+    pub(crate) fn seat(&mut self, alloc: Global, session: u32) -> Result<usize, Memory>
         ensures at { IfOk result (IsSeatAt self.new.seats.items session) }
         ensures same { core_of self.new ≡ core_of self.old }
     {
