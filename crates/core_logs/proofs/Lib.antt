@@ -1,3 +1,5 @@
 pub mod Fronts
 pub mod HintTests
 pub mod LiteralTests
+pub mod NewTests
+pub mod Walked

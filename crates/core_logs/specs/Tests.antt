@@ -1,12 +1,16 @@
 -- What the tests tell, where it has no word yet.
-use Rattle.std.specs.Prelude.{◌≡◌, ◌≢◌, ◌⊎◌, ℕ, true, false, List, Contains}
+use Rattle.std.specs.Prelude.{◌≡◌, ◌≢◌, ◌⊎◌, ℕ, true, false, List, Contains, Some}
 use Rattle.plain_lits.specs.HintCheck.{IsFalsified, IsUnit, IsFalseHint, IsUnitHint, IsOtherHint}
 use Rattle.semantics.specs.Arguments.{IsArgument}
 use Rattle.meaning_atoms.specs.declared.atom.AtomLit.{AtomLit}
+use Rattle.meaning_atoms.specs.declared.axiom.AxiomName.{AxiomName}
+use Rattle.meaning_atoms.specs.AxiomNames.{IsAxiomName}
 use Rattle.meaning_atoms.specs.Literals.{negated}
 use Rattle.meaning_atoms.specs.Worlds.{IsAsk}
+use Rattle.certificate_claims.specs.Refutations.{axiom_clause}
 use Rattle.oracle_face.specs.Goals.{IsMemberAtom, Tells}
-use Rattle.oracle_face.specs.Logs.{LogStep, step_at}
+use Rattle.oracle_face.specs.declared.entry.EntryName.{EntryName}
+use Rattle.oracle_face.specs.Logs.{IsNumberOf, IsSameClause, LogStep, SideClause, by_axiom, side_at, step_at}
 use Rattle.session_log.specs.Steps.{StandsInHint}
 use Rattle.core_logs.specs.declared.checking.Status.{Status}
 use Rattle.core_logs.specs.declared.checking.Status.TheVariants.{Falsified, Unit as Single, Other}
@@ -74,3 +78,40 @@ pub record IsUsed (steps : List LogStep) (clause : List AtomLit) (hints : List �
 -- the hint's step didn't only end a search
 pub record IsKeptHint (steps : List LogStep) (hint : ℕ) : Type 0 where
   pub kept : (step_at steps hint).closing ≡ false
+
+-- ---- where steps come from
+
+-- the step is the axiom's
+pub record IsOfAxiom (step : LogStep) (name : AxiomName) : Type 0 where
+  pub is : step.source ≡ by_axiom name
+
+-- some step is
+pub record HasAxiom (steps : List LogStep) (name : AxiomName) : Type 0 where
+  pub number : ℕ
+  pub named : IsNumberOf steps number
+  pub is : (step_at steps number).source ≡ by_axiom name
+
+-- the step was taken from the entry
+pub record IsFromEntry (step : LogStep) (name : EntryName) : Type 0 where
+  pub is : step.imported ≡ Some name
+
+-- some step was
+pub record HasEntry (steps : List LogStep) (name : EntryName) : Type 0 where
+  pub number : ℕ
+  pub named : IsNumberOf steps number
+  pub is : (step_at steps number).imported ≡ Some name
+
+-- the name is that of an axiom, whose literals the clause has
+pub record IsClauseOf (name : AxiomName) (clause : List AtomLit) : Type 0 where
+  pub is_name : IsAxiomName name
+  pub same : IsSameClause clause (axiom_clause name)
+
+-- the side clause has these literals
+pub record IsSideLike (side : SideClause) (literals : List AtomLit) : Type 0 where
+  pub same : IsSameClause side.literals literals
+
+-- some side clause does
+pub record HasSideLike (sides : List SideClause) (literals : List AtomLit) : Type 0 where
+  pub number : ℕ
+  pub named : IsNumberOf sides number
+  pub same : IsSameClause (side_at sides number).literals literals

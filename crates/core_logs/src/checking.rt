@@ -99,7 +99,7 @@ fn propagates(steps: &[CoreStep], truths: &mut Vec<AtomLit>, hints: &[StepId]) -
 }
 
 /// The negations of the literals.
-fn negations(alloc: Global, clause: &[AtomLit]) -> Result<Vec<AtomLit>, Memory>
+pub fn negations(alloc: Global, clause: &[AtomLit]) -> Result<Vec<AtomLit>, Memory>
     ensures { IfOk result (λ negations. negations.items ≡ map negated clause.now) }
 {
     let mut negations = Vec::new(alloc);

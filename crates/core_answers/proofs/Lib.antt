@@ -1,0 +1,4 @@
+pub mod Fronts
+pub mod FactLemmas
+pub mod ReachLemmas
+pub mod RestLemmas

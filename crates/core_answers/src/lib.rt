@@ -1,0 +1,8 @@
+//! Which ending an answer of the core may have: tests over a session's log, each of which tells exactly what its
+//! definition says.
+#![tactic(auto)]
+
+mod facts;
+mod marks;
+mod reach;
+mod rest;
