@@ -27,3 +27,9 @@ front_whole P xs i e all x c = all x (subst (λ ys. Contains ys x) (sym (take_al
 pub below_next : (P : ℕ → Type 0) (i : ℕ) → ((k : ℕ) → k < i → P k) → P i → (k : ℕ) → k < i + 1 → P k
 below_next P i all here k lt =
     ⊎_elim (λ (e : k ≡ i). subst P (sym e) here) (λ ne. all k (omega (arith, ne))) (cases_eq k i)
+
+-- the same of indices from a first one on
+pub below_from : (P : ℕ → Type 0) (from i : ℕ) → ((k : ℕ) → from ≤ k → k < i → P k) → P i
+    → (k : ℕ) → from ≤ k → k < i + 1 → P k
+below_from P from i all here k low lt =
+    ⊎_elim (λ (e : k ≡ i). subst P (sym e) here) (λ ne. all k low (omega (arith, ne))) (cases_eq k i)

@@ -2,3 +2,4 @@ pub mod Fronts
 pub mod FactLemmas
 pub mod ReachLemmas
 pub mod RestLemmas
+pub mod ServeLemmas

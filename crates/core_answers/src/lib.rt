@@ -2,7 +2,9 @@
 //! definition says.
 #![tactic(auto)]
 
+mod counts;
 mod facts;
 mod marks;
 mod reach;
 mod rest;
+mod serving;
