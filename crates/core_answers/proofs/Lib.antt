@@ -3,3 +3,4 @@ pub mod FactLemmas
 pub mod ReachLemmas
 pub mod RestLemmas
 pub mod ServeLemmas
+pub mod PendingLemmas

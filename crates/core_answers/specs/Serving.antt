@@ -89,3 +89,9 @@ pub record HasServed (f : Framework) (asked : Asked) (log : OracleLog) (from : �
 abbrev pub IsTold : Option Halt → Type 0
 IsTold (Some Memory) = ⊥
 IsTold halt = Unit {0}
+
+-- ---- a clause in hand
+
+-- the side clause has other literals
+pub record IsOtherSide (literals : List AtomLit) (side : SideClause) : Type 0 where
+  pub other : IsSameClause side.literals literals → ⊥

@@ -5,6 +5,8 @@
 mod counts;
 mod facts;
 mod marks;
+mod pending;
 mod reach;
+mod refuting;
 mod rest;
 mod serving;
