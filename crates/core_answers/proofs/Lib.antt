@@ -4,3 +4,4 @@ pub mod ReachLemmas
 pub mod RestLemmas
 pub mod ServeLemmas
 pub mod PendingLemmas
+pub mod RefuteLemmas
