@@ -5,3 +5,4 @@ pub mod RestLemmas
 pub mod ServeLemmas
 pub mod PendingLemmas
 pub mod RefuteLemmas
+pub mod ShowLemmas

@@ -10,3 +10,4 @@ mod reach;
 mod refuting;
 mod rest;
 mod serving;
+mod showing;
