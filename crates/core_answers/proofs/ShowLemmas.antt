@@ -43,7 +43,7 @@ behind_found passes tells (look ∷ section) more verdict all found =
 
 -- ---- a certificate without refutations
 
-abbrev bare : List (List ℕ) → Certificate
+abbrev pub bare : List (List ℕ) → Certificate
 bare sets = record { sets = sets; refutations = [] }
 
 never_mapped : (certificate : Certificate) (part : ℕ → Look) (n : ℕ)
@@ -111,3 +111,11 @@ past_from f asked answer sets verdict is tests =
     let e = behind_found P T (map at_set (indices (length sets))) counted verdict
     (pass_map_from P at_set (length sets) 0 (λ k low less. tests.each_set k (omega (arith, less)))) d in
     ⊎_elim (λ h. ap is_past_tests h.1) (λ h. ap is_past_tests h.1) e
+
+-- a verdict on a certificate with these sets and without refutations
+pub on_bare : (f : Framework) (asked : Asked) (answer : Answer) (certificate : Certificate) (sets : List (List ℕ))
+    (verdict : Verdict) → certificate.sets ≡ sets → certificate.refutations ≡ []
+    → IsVerdict f asked answer certificate verdict → IsVerdict f asked answer (bare sets) verdict
+on_bare f asked answer certificate sets verdict same none is =
+    let path : certificate ≡ bare sets = λ i. record { sets = same i; refutations = none i } in
+    subst (λ (c : Certificate). IsVerdict f asked answer c verdict) path is
