@@ -6,3 +6,4 @@ pub mod ServeLemmas
 pub mod PendingLemmas
 pub mod RefuteLemmas
 pub mod ShowLemmas
+pub mod EndLemmas

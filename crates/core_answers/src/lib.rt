@@ -3,11 +3,16 @@
 #![tactic(auto)]
 
 mod counts;
+mod ends;
 mod facts;
 mod marks;
+pub mod outcome;
 mod pending;
 mod reach;
 mod refuting;
 mod rest;
 mod serving;
 mod showing;
+
+pub use ends::ends as may_end;
+pub use outcome::Outcome;
