@@ -1,7 +1,8 @@
 -- A query ends with an outcome, from its parts and back.
-use Rattle.std.proofs.Common.{◌≡◌, ◌∙◌, ℕ, ◌+◌, ◌*◌, ◌<◌, ◌≤◌, Bool, true, false, List, [], ◌∷◌, ◌++◌, cond, length, take, drop, arith, ap, sym, subst, refl}
+use Rattle.std.proofs.Common.{◌≡◌, ◌∙◌, ℕ, ◌+◌, ◌-◌, ◌*◌, ◌<◌, ◌≤◌, Bool, true, false, List, [], ◌∷◌, ◌++◌, cond, length, min, take, drop, arith, ap, sym, subst, refl, ⊎_elim}
 use Rattle.std.specs.Prelude.{◌↔◌, IsTrue, Option, None, Some, count_by, slice_index_or}
-use Rattle.std.proofs.lemmas.List.{get_or_default, length-take, length-take-le, take-append-drop}
+use Rattle.std.proofs.lemmas.Bool.{cases_lt}
+use Rattle.std.proofs.lemmas.List.{get_or_default, length-drop, length-take, length-take-le, take-append-drop, take_all}
 use Rattle.std.proofs.lemmas.List.Sums.{sum_by-take-drop}
 use Rattle.plain_lits.specs.declared.halt.Halt.{Halt}
 use Rattle.plain_lits.specs.declared.halt.Halt.TheVariants.{LogFull as FullLog, Memory, Spent}
@@ -21,10 +22,11 @@ use Rattle.edit_rules.specs.Fitting.{AsksUnknown, Fits, IsFaultOf}
 use Rattle.session_log.specs.Ends.{IsEnd, IsShownBy, IsTakenByNone, MadeFor, WorksFor, some_asked}
 use Rattle.core_machine.specs.Steps.{cut, is_side_step}
 use Rattle.refutation_check.proofs.AxiomKinds.{axiom_fits}
+use Rattle.core_answers.specs.declared.counts.Count.{Count}
 use Rattle.core_answers.specs.declared.outcome.Outcome.{Outcome}
 use Rattle.core_answers.specs.declared.outcome.Outcome.TheVariants.{Definite, LogFull, Refused, TooMany, Unknown}
 use Rattle.core_answers.specs.Outcomes.{Comes, EndsFit, EndsSo, IsNamedFor, IsOutcome, course_since, ending_of}
-use Rattle.core_answers.specs.Serving.{HasServed, IsNamedInHand, IsTold, LoopServes}
+use Rattle.core_answers.specs.Serving.{HasServed, IsNamedInHand, IsTold, LoopServes, counts}
 use Rattle.core_answers.specs.Showing.{AreTooMany}
 use Rattle.core_answers.proofs.PendingLemmas.{facts_each, facts_from}
 
@@ -275,3 +277,55 @@ no_fault (af f) asked (UnknownArgument n) fits h = known_there (af f) asked n fi
 no_fault (af f) asked (UnknownAtom n) fits h = h
 no_fault (aba f) asked (UnknownArgument n) fits h = h
 no_fault (aba f) asked (UnknownAtom n) fits h = known_there (aba f) asked n fits h
+
+-- ---- slices
+
+-- what stands behind so many steps
+pub tail_whole : {X : Type 0} (xs : List X) (from : ℕ) → take (length xs - from) (drop from xs) ≡ drop from xs
+tail_whole xs from = take_all (length xs - from) (drop from xs) (omega (arith, length-drop from xs))
+
+-- counts behind so many steps
+pub tail_count : (what : Count) (found from : ℕ) (given steps : List LogStep) → given ≡ steps
+    → found ≡ count_by (counts what) (take (length given - from) (drop from given))
+    → found ≡ count_by (counts what) (drop from steps)
+tail_count what found from given steps e is =
+    is ∙ (ap (λ (xs : List LogStep). count_by (counts what) (take (length xs - from) (drop from xs))) e
+    ∙ ap (λ (xs : List LogStep). count_by (counts what) xs) (tail_whole steps from))
+
+-- the front up to the least of both
+pub front_least : {X : Type 0} (xs : List X) (n m : ℕ) → m ≡ min n (length xs) → take m xs ≡ take n xs
+front_least xs n m e =
+    ⊎_elim
+    (λ (small : n < length xs). ap (λ k. take k xs) (omega (arith, e, small)))
+    (λ (past : length xs ≤ n). take_all m xs (omega (arith, e, past)) ∙ sym (take_all n xs past))
+    (cases_lt n (length xs))
+
+-- ---- the whole
+
+pub refused_comes : (f : Framework) (asked : Asked) (most : ℕ) (log : OracleLog) (answered budget : ℕ)
+    (pending : Option Pending) (outcome : Outcome) (fault : QueryFault) (is_so : Bool) → outcome ≡ Refused fault
+    → IsTrue is_so ↔ IsFaultOf f asked fault
+    → IsTrue is_so ↔ Comes f asked most log answered budget pending outcome
+refused_comes f asked most log answered budget pending outcome fault is_so e is =
+    subst (λ (o : Outcome). IsTrue is_so ↔ Comes f asked most log answered budget pending o) (sym e)
+    (λ t. (record { limit = 0; used = 0 }, is.0 t), λ h. is.1 h.1)
+
+no_fault_told : (outcome : Outcome) → ((fault : QueryFault) → outcome ≡ Refused fault → ⊥) → IsNoFault outcome
+no_fault_told (Refused fault) never = never fault refl
+no_fault_told (Definite answer sets) never = tt
+no_fault_told (Unknown count) never = tt
+no_fault_told (TooMany sets) never = tt
+no_fault_told LogFull never = tt
+
+pub fit_comes : (f : Framework) (asked : Asked) (most : ℕ) (log : OracleLog) (answered from budget : ℕ)
+    (pending : Option Pending) (outcome : Outcome) (ends : Bool)
+    → ((fault : QueryFault) → outcome ≡ Refused fault → ⊥) → from ≡ min answered (length log.steps)
+    → IsTrue ends ↔ EndsFit f asked most log from pending (units_since log from budget) outcome
+    → IsTrue ends ↔ Comes f asked most log answered budget pending outcome
+fit_comes f asked most log answered from budget pending outcome ends never least is =
+    let le : from ≤ length log.steps = omega (arith, least) in
+    let same = comes_clamped f asked most log answered from budget pending outcome
+    (front_least log.steps answered from least) in (
+      λ t. same.0 (comes_from f asked most log from budget pending outcome le (is.0 t)),
+      λ h. is.1 (comes_back f asked most log from budget pending outcome le (no_fault_told outcome never) (same.1 h)),
+    )
