@@ -1,5 +1,5 @@
 -- A query ends with an outcome, from its parts and back.
-use Rattle.std.proofs.Common.{◌≡◌, ◌∙◌, ℕ, ◌+◌, ◌-◌, ◌*◌, ◌<◌, ◌≤◌, Bool, true, false, List, [], ◌∷◌, ◌++◌, cond, length, min, take, drop, arith, ap, sym, subst, refl, ⊎_elim}
+use Rattle.std.proofs.Common.{◌≡◌, ◌∙◌, ℕ, ◌+◌, ◌-◌, ◌<◌, ◌≤◌, Bool, true, List, [], ◌∷◌, cond, length, min, take, drop, arith, ap, sym, subst, refl, ⊎_elim}
 use Rattle.std.specs.Prelude.{◌↔◌, IsTrue, Option, None, Some, count_by, slice_index_or}
 use Rattle.std.proofs.lemmas.Bool.{cases_lt}
 use Rattle.std.proofs.lemmas.List.{get_or_default, length-drop, length-take, length-take-le, take-append-drop, take_all}
@@ -14,13 +14,13 @@ use Rattle.iccma_tasks.specs.Tasks.{Asked}
 use Rattle.certificate_claims.specs.Refutations.{axiom_clause}
 use Rattle.oracle_face.specs.declared.face.Pending.{Pending}
 use Rattle.oracle_face.specs.declared.face.Pending.TheVariants.{Learned, Loop, Side}
-use Rattle.oracle_face.specs.Growing.{IsFurther, IsSpent, IsStop, UnlessMemory, Works}
-use Rattle.oracle_face.specs.Logs.{LogStep, OracleLog, Source, by_axiom, by_hints, by_side, is_loop, is_unit, no_side, no_step}
+use Rattle.oracle_face.specs.Growing.{IsFurther, IsSpent, IsStop, UnlessMemory}
+use Rattle.oracle_face.specs.Logs.{LogStep, OracleLog, Source, by_axiom, by_hints, by_side, is_loop, is_unit, no_step}
 use Rattle.edit_rules.specs.declared.query_fault.QueryFault.{QueryFault}
 use Rattle.edit_rules.specs.declared.query_fault.QueryFault.TheVariants.{TaskNotForKind, UnknownArgument, UnknownAtom}
 use Rattle.edit_rules.specs.Fitting.{AsksUnknown, Fits, IsFaultOf}
 use Rattle.session_log.specs.Ends.{IsEnd, IsShownBy, IsTakenByNone, MadeFor, WorksFor, some_asked}
-use Rattle.core_machine.specs.Steps.{cut, is_side_step}
+use Rattle.core_machine.specs.Steps.{is_side_step}
 use Rattle.refutation_check.proofs.AxiomKinds.{axiom_fits}
 use Rattle.core_answers.specs.declared.counts.Count.{Count}
 use Rattle.core_answers.specs.declared.outcome.Outcome.{Outcome}
@@ -159,18 +159,22 @@ pub comes_from : (f : Framework) (asked : Asked) (most : ℕ) (log : OracleLog) 
     → EndsFit f asked most log from pending (units_since log from budget) outcome
     → Comes f asked most log from budget pending outcome
 comes_from f asked most log from budget pending (Refused fault) le h = absurd h.so
-comes_from f asked most log from budget pending (Definite answer sets) le h =
-    (units_since log from budget,
-    (h.fits, works_from f asked log from budget pending None _ le refl h.within h.served tt, h.so))
-comes_from f asked most log from budget pending (Unknown count) le h =
-    (units_since log from budget,
-    (h.fits, works_from f asked log from budget pending (Some (Spent count)) _ le refl h.within h.served h.so.0, h.so.1))
-comes_from f asked most log from budget pending (TooMany sets) le h =
-    (units_since log from budget,
-    (h.fits, works_from f asked log from budget pending None _ le refl h.within h.served tt, h.so))
-comes_from f asked most log from budget pending LogFull le h =
-    (units_since log from budget,
-    (h.fits, works_from f asked log from budget pending (Some FullLog) _ le refl h.within h.served h.so.0, h.so.1))
+comes_from f asked most log from budget pending (Definite answer sets) le h = (
+  units_since log from budget,
+  (h.fits, works_from f asked log from budget pending None _ le refl h.within h.served tt, h.so),
+)
+comes_from f asked most log from budget pending (Unknown count) le h = (
+  units_since log from budget,
+  (h.fits, works_from f asked log from budget pending (Some (Spent count)) _ le refl h.within h.served h.so.0, h.so.1),
+)
+comes_from f asked most log from budget pending (TooMany sets) le h = (
+  units_since log from budget,
+  (h.fits, works_from f asked log from budget pending None _ le refl h.within h.served tt, h.so),
+)
+comes_from f asked most log from budget pending LogFull le h = (
+  units_since log from budget,
+  (h.fits, works_from f asked log from budget pending (Some FullLog) _ le refl h.within h.served h.so.0, h.so.1),
+)
 
 fit_from : (f : Framework) (asked : Asked) (most : ℕ) (log : OracleLog) (from budget : ℕ) (pending : Option Pending)
     (halt : Option Halt) (after : Units) (outcome : Outcome) → Fits f asked
@@ -236,15 +240,24 @@ ending_from f asked most log answered budget pending (Refused fault) h = h
 ending_from f asked most log answered budget pending (Definite answer sets) h = h
 ending_from f asked most log answered budget pending (Unknown count) h = h
 ending_from f asked most log answered budget pending (TooMany sets) h =
-    let many : AreTooMany f asked.task most log sets = h.1.2 in
-    (h.0, (h.1.0, h.1.1, record {
-      all = many.all;
-      sets = sets;
-      more = many.more;
-      rise = many.rise;
-      each = λ e c. ([], subst (λ (x : List ℕ). IsShownBy f (some_asked asked.task.semantics) (Sets (x ∷ [])) [] log)
-          (get_or_default sets c.0 [] e c.1 ∙ c.2) (many.each c.0 c.1));
-    }))
+    let many : AreTooMany f asked.task most log sets = h.1.2 in (
+      h.0,
+      (
+        h.1.0,
+        h.1.1,
+        record {
+          all = many.all;
+          sets = sets;
+          more = many.more;
+          rise = many.rise;
+          each = λ e c. (
+            [],
+            subst (λ (x : List ℕ). IsShownBy f (some_asked asked.task.semantics) (Sets (x ∷ [])) [] log)
+                (get_or_default sets c.0 [] e c.1 ∙ c.2) (many.each c.0 c.1),
+          );
+        },
+      ),
+    )
 ending_from f asked most log answered budget pending LogFull h = h
 
 -- ---- names

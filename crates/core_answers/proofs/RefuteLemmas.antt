@@ -1,6 +1,6 @@
 -- Which steps refute a claim, from what is marked and back.
-use Rattle.std.proofs.Common.{◌≡◌, ◌∙◌, ℕ, ◌+◌, ◌-◌, ◌<◌, ◌≤◌, Bool, true, false, not, List, [], ◌∷◌, ◌++◌, length, get_or, map, take, drop, arith, ap, sym, subst, refl, inl, inr, ⊎_elim}
-use Rattle.std.specs.Prelude.{◌↔◌, ◌⊎◌, Contains, IsTrue}
+use Rattle.std.proofs.Common.{◌≡◌, ◌∙◌, ℕ, ◌+◌, ◌-◌, ◌<◌, ◌≤◌, Bool, true, false, List, [], ◌∷◌, ◌++◌, length, get_or, take, drop, arith, ap, sym, subst, inl, inr, ⊎_elim}
+use Rattle.std.specs.Prelude.{◌↔◌, ◌⊎◌, Contains}
 use Rattle.std.proofs.lemmas.Bool.{cases_eq}
 use Rattle.std.proofs.lemmas.List.{map-append, take_all, take_more}
 use Rattle.std.proofs.lemmas.List.Elements.{Contains-append_left, Contains-push, Contains-push_cases}
@@ -9,25 +9,27 @@ use Rattle.meaning_atoms.specs.declared.atom.Atom.{Atom}
 use Rattle.meaning_atoms.specs.declared.atom.Atom.TheVariants.{Ask}
 use Rattle.meaning_atoms.specs.declared.atom.AtomLit.{AtomLit}
 use Rattle.meaning_atoms.specs.Literals.{negated}
-use Rattle.af_axioms.specs.Facts.{IsFactValue}
 use Rattle.certificate_claims.specs.Refutations.{Claim as TableClaim}
-use Rattle.oracle_face.specs.Goals.{DeniesSide, IsClaimSide, Refutes}
+use Rattle.oracle_face.specs.Goals.{DeniesSide, IsClaimSide}
 use Rattle.oracle_face.specs.Logs.{IsNumberOf, IsSameClause, LogStep, OracleLog, Reaches, SideClause, no_side, no_step, side_at, step_at}
 use Rattle.session_log.specs.Ends.{HasRefuting}
 use Rattle.answer_claims.specs.declared.claim.Claim.{Claim}
 use Rattle.answer_claims.specs.declared.sides.SideKind.{SideKind}
-use Rattle.answer_claims.specs.ClaimParts.{IsClaimOf, IsGoal}
+use Rattle.answer_claims.specs.ClaimParts.{IsClaimOf}
 use Rattle.answer_claims.specs.SideClauses.{side_of, sides_of}
 use Rattle.core_answers.specs.Parts.{ReachOwn}
-use Rattle.core_answers.specs.Refuting.{AddsLike, DeniesOwn, HasNumbers, IsClosedBy, IsLikeHere, IsLikeOne, RefutesAt}
+use Rattle.core_answers.specs.Refuting.{AddsLike, DeniesOwn, HasNumbers, IsLikeHere, IsLikeOne, RefutesAt}
 
 -- ---- the side clauses of a claim
 
 pub none_like : (sides : List SideClause) (literals : List AtomLit) (own : List ℕ)
     → AddsLike sides literals 0 own own
 none_like sides literals own = record {
-  each = λ n. (λ c. inl c, λ h. ⊎_elim (λ c. c)
-      (λ (here : IsLikeHere sides literals 0 n). let low = here.early in absurd (omega (arith, low))) h);
+  each = λ n. (
+    λ c. inl c,
+    λ h. ⊎_elim (λ c. c)
+        (λ (here : IsLikeHere sides literals 0 n). let low = here.early in absurd (omega (arith, low))) h,
+  );
 }
 
 pub like_more : (sides : List SideClause) (literals : List AtomLit) (i number : ℕ) (old mid new : List ℕ)

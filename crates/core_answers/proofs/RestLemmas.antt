@@ -1,11 +1,11 @@
 -- Unit propagation by all steps that searches use tells whether hints could take a clause.
-use Rattle.std.proofs.Common.{◌≡◌, ◌≢◌, ◌∙◌, ℕ, ◌+◌, ◌-◌, ◌<◌, ◌≤◌, Bool, true, false, not, List, [], ◌∷◌, ◌++◌, append_assoc, length, get_or, map, set, arith, ap, sym, subst, refl, inl, inr, ⊎_elim}
-use Rattle.std.specs.Prelude.{◌↔◌, ◌⊎◌, Contains, IsTrue, Ok, Err, Result}
+use Rattle.std.proofs.Common.{◌≡◌, ◌∙◌, ℕ, ◌+◌, ◌-◌, ◌<◌, Bool, true, false, not, List, [], ◌∷◌, ◌++◌, append_assoc, length, get_or, map, set, arith, ap, sym, subst, refl, inl, inr, ⊎_elim}
+use Rattle.std.specs.Prelude.{◌⊎◌, Contains, IsTrue, Ok, Err, Result}
 use Rattle.std.proofs.lemmas.Bool.{cases_eq, false≢true}
 use Rattle.std.proofs.lemmas.List.{get_or-map, get_or-set_other, get_or-set_same, length-append, length-map, length-set}
-use Rattle.std.proofs.lemmas.List.Elements.{Contains-append_cases, Contains-append_left, Contains-push, Contains-push_cases}
+use Rattle.std.proofs.lemmas.List.Elements.{Contains-append_left, Contains-push, Contains-push_cases}
 use Rattle.plain_lists.proofs.Membership.{Contains-head, Contains-nil, Contains-tail}
-use Rattle.plain_lits.specs.HintCheck.{Checks, IsFalseHint, IsFalsified, IsNamed, IsTautology, IsUnit, IsUnitHint, Propagates, clause_at}
+use Rattle.plain_lits.specs.HintCheck.{IsFalseHint, IsFalsified, IsNamed, IsTautology, IsUnit, IsUnitHint, Propagates, clause_at}
 use Rattle.plain_lits.proofs.HintCheckLemmas.{Contains-from_mapped}
 use Rattle.plain_lits.proofs.OneOutcome.{cases_member}
 use Rattle.meaning_atoms.specs.declared.atom.Atom.{Atom}
@@ -16,7 +16,7 @@ use Rattle.oracle_face.specs.Logs.{LogStep, clauses_of, no_step, step_at}
 use Rattle.session_log.specs.Ends.{IsTakenByNone}
 use Rattle.core_logs.specs.declared.checking.Status.TheVariants.{Falsified, Unit as Single, Other}
 use Rattle.core_logs.specs.Tests.{IsOther}
-use Rattle.core_answers.specs.Parts.{HasMarks, IsMove, IsWorking, StatusAt}
+use Rattle.core_answers.specs.Parts.{HasMarks, IsWorking, StatusAt}
 
 -- ---- literals
 
@@ -119,9 +119,12 @@ way_goes_on steps start truths k unset lt is unit way = record {
       } in
       subst (λ hints. Propagates negated (clauses_of steps) start 1 hints outcome)
       (sym (append_assoc way.hints ((k + 1) ∷ []) rest))
-      (way.leads ((k + 1) ∷ rest) outcome (inr (inl (unset, there,
-      subst (λ place. Propagates negated (clauses_of steps) (truths ++ unset ∷ []) place rest outcome)
-      (omega (arith, length-append way.hints ((k + 1) ∷ []))) h))));
+      (way.leads ((k + 1) ∷ rest) outcome (inr (inl (
+        unset,
+        there,
+        subst (λ place. Propagates negated (clauses_of steps) (truths ++ unset ∷ []) place rest outcome)
+            (omega (arith, length-append way.hints ((k + 1) ∷ []))) h,
+      ))));
 }
 
 -- a false clause at the end of the way

@@ -1,6 +1,6 @@
 -- What serves a query, from its parts and back.
-use Rattle.std.proofs.Common.{◌≡◌, ◌∙◌, ℕ, ◌+◌, ◌*◌, ◌<◌, ◌≤◌, Bool, true, false, List, [], ◌∷◌, length, map, take, drop, arith, ap, sym, subst, refl}
-use Rattle.std.specs.Prelude.{◌↔◌, Contains, IsTrue}
+use Rattle.std.proofs.Common.{◌≡◌, ℕ, List, map, sym, subst}
+use Rattle.std.specs.Prelude.{Contains}
 use Rattle.plain_lits.proofs.HintCheckLemmas.{Contains-from_mapped}
 use Rattle.semantics.specs.Frameworks.{Framework}
 use Rattle.meaning_atoms.specs.declared.atom.AtomLit.{AtomLit}

@@ -1,6 +1,6 @@
 -- What the check of a certificate without refutations tells of the direct tests.
-use Rattle.std.proofs.Common.{◌≡◌, ◌∙◌, ℕ, zero, suc, ◌+◌, ◌<◌, ◌≤◌, Bool, true, false, List, [], ◌∷◌, ◌++◌, length, map, arith, ap, sym, subst, refl, inl, inr, ⊎_elim}
-use Rattle.std.specs.Prelude.{◌↔◌, Contains, IsTrue}
+use Rattle.std.proofs.Common.{◌≡◌, ◌∙◌, ℕ, true, false, List, [], ◌∷◌, ◌++◌, length, map, arith, ap, sym, subst, refl, ⊎_elim}
+use Rattle.std.specs.Prelude.{Contains}
 use Rattle.std.proofs.lemmas.Bool.{false≢true}
 use Rattle.plain_lists.proofs.Membership.{Contains-cons_cases, Contains-head, Contains-nil, Contains-tail}
 use Rattle.plain_lits.proofs.HintCheckLemmas.{Contains-from_mapped}
@@ -8,12 +8,10 @@ use Rattle.semantics.specs.Frameworks.{Framework}
 use Rattle.iccma_tasks.specs.declared.answer.Answer.{Answer}
 use Rattle.iccma_tasks.specs.Tasks.{Asked}
 use Rattle.certificate_claims.specs.declared.certificate.Certificate.{Certificate}
-use Rattle.certificate_claims.specs.declared.row.Row.{Row}
 use Rattle.certificate_claims.specs.declared.verdict.Verdict.{Verdict}
-use Rattle.certificate_claims.specs.declared.verdict.Verdict.TheVariants.{Accepted}
 use Rattle.certificate_claims.specs.Acceptance.{Tests}
 use Rattle.certificate_claims.specs.Claims.{row_of, sets_of}
-use Rattle.certificate_claims.specs.Verdicts.{Finds, IsVerdict, Look, PassesLook, at_order, at_refutation_count, at_set, at_set_count, at_shape, at_witness, indices, looks, told}
+use Rattle.certificate_claims.specs.Verdicts.{Finds, IsVerdict, Look, PassesLook, at_order, at_refutation_count, at_set, at_set_count, at_shape, at_witness, indices, told}
 use Rattle.certificate_claims.proofs.Found.{AllPass, map_passes_from, pass_cons, pass_first, pass_map_from, pass_nil, pass_rest}
 use Rattle.core_answers.specs.Showing.{is_past_tests}
 

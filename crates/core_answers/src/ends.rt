@@ -138,9 +138,7 @@ fn is_unknown(
     if !may_stop(query.task()) {
         return Ok(false);
     }
-    let spent = is_spent(
-        alloc, framework, query, log, used, budget, pending, count,
-    )?;
+    let spent = is_spent(alloc, framework, query, log, used, budget, pending, count)?;
     Ok(spent)
 }
 
@@ -173,9 +171,7 @@ fn ends_so(
             Ok(is_shown(alloc, framework, query, answer, sets, log)?)
         }
         Outcome::Unknown(count) => {
-            let is = is_unknown(
-                alloc, framework, query, log, used, budget, pending, *count,
-            )?;
+            let is = is_unknown(alloc, framework, query, log, used, budget, pending, *count)?;
             Ok(is)
         }
         Outcome::TooMany(sets) => {

@@ -50,7 +50,9 @@ fn is_false_if_fact(framework: &Framework, literal: &AtomLit) -> bool
 pub(crate) fn facts_are_false(framework: &Framework, clause: &[AtomLit]) -> bool
     ensures { IsTrue result ↔ ((l : ALit) → Contains clause.now l → IsFalseIfFact (framework_of framework.now) l) }
 {
-    clause.iter().all(|literal| is_false_if_fact(framework, literal))
+    clause
+        .iter()
+        .all(|literal| is_false_if_fact(framework, literal))
 }
 
 /// Whether an axiom is one of the framework's kind, with arguments that fit its row.

@@ -5,8 +5,8 @@ ghost use Rattle.session_log.specs.Ends.{IsTakenByNone};
 ghost use Rattle.core_answers.specs.Parts.{IsMove, IsStatusAt};
 
 use crate::marks::working_marks;
-use core_logs::checking::{Status, clause_status, negations};
 use core_logs::CoreStep;
+use core_logs::checking::{Status, clause_status, negations};
 use core_logs::literals::is_tautology;
 use meaning_atoms::AtomLit;
 use plain_lists::Memory;

@@ -1,4 +1,4 @@
-use Rattle.std.proofs.Common.{◌≡◌, ◌≤◌, arith, drop, refl, subst, sym}
+use Rattle.std.proofs.Common.{◌≡◌, ◌≤◌, arith, drop, refl, subst}
 use Rattle.std.specs.Prelude.{ℕ, count_by}
 use Rattle.edit_rules.specs.Kinds.{framework_of}
 use Rattle.oracle_face.specs.Logs.{is_unit}

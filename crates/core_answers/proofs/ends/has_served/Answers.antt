@@ -1,6 +1,5 @@
 use Rattle.std.proofs.Common.{◌≡◌, ◌≤◌, ◌+◌, ◌*◌, ap, arith, drop, length, refl, sym}
 use Rattle.std.specs.Prelude.{count_by}
-use Rattle.edit_rules.specs.Kinds.{framework_of}
 use Rattle.core_answers.specs.declared.counts.Count.TheVariants.{Closings}
 use Rattle.core_answers.specs.Serving.{counts}
 use Rattle.core_answers.proofs.EndLemmas.{tail_count}

@@ -1,4 +1,4 @@
-use Rattle.std.proofs.Common.{◌∙◌, refl, sym}
+use Rattle.std.proofs.Common.{◌∙◌, sym}
 use Rattle.edit_rules.specs.Kinds.{framework_of}
 use Rattle.core_answers.proofs.PendingLemmas.{further_loop}
 use Rattle.core_answers.proofs.pending.is_further_loop.Goals as goal

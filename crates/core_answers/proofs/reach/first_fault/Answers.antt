@@ -1,4 +1,4 @@
-use Rattle.std.proofs.Common.{◌∙◌, ap, arith, false, get_or, refl, subst, sym, true}
+use Rattle.std.proofs.Common.{◌∙◌, arith, false, get_or, refl, subst, true}
 use Rattle.std.specs.Prelude.{IsTrue}
 use Rattle.std.proofs.lemmas.List.{get_or_default}
 use Rattle.oracle_face.specs.Logs.{LogStep, no_step}

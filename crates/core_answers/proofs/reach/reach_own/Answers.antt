@@ -1,6 +1,4 @@
-use Rattle.std.proofs.Common.{subst}
-use Rattle.core_answers.specs.Parts.{HandOn, IsFault}
-use Rattle.core_answers.proofs.ReachLemmas.{mark_fewer, settled, settling_begins, settling_goes_on}
+use Rattle.core_answers.proofs.ReachLemmas.{settled, settling_begins, settling_goes_on}
 use Rattle.core_answers.proofs.reach.reach_own.Goals as goal
 
 pub loop-index-init : goal.loop-index-init

@@ -1,6 +1,4 @@
-use Rattle.std.proofs.Common.{◌∙◌, subst}
 use Rattle.edit_rules.specs.Kinds.{framework_of}
-use Rattle.oracle_face.specs.Logs.{LogStep, SideClause}
 use Rattle.answer_claims.specs.SideClauses.{sides_of}
 use Rattle.core_answers.specs.Parts.{ReachOwn}
 use Rattle.core_answers.specs.Refuting.{HasNumbers}

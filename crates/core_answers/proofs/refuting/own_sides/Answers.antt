@@ -1,4 +1,4 @@
-use Rattle.std.proofs.Common.{◌∙◌, ap, sym}
+use Rattle.std.proofs.Common.{◌∙◌}
 use Rattle.edit_rules.specs.Kinds.{framework_of}
 use Rattle.core_answers.proofs.RefuteLemmas.{behind_first, none_numbered, numbered_all, numbered_more}
 use Rattle.core_answers.proofs.refuting.own_sides.Goals as goal

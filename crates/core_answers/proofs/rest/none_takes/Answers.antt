@@ -1,4 +1,4 @@
-use Rattle.std.proofs.Common.{arith, false, refl}
+use Rattle.std.proofs.Common.{refl}
 use Rattle.std.proofs.lemmas.Bool.{false≢true}
 use Rattle.core_answers.proofs.RestLemmas.{spreading_begins, spreading_fails, spreading_goes_on, spreading_rests}
 use Rattle.core_answers.proofs.rest.none_takes.Goals as goal

@@ -1,4 +1,4 @@
-use Rattle.std.proofs.Common.{◌∙◌, arith, get_or, refl, subst, take}
+use Rattle.std.proofs.Common.{◌∙◌, get_or, subst, take}
 use Rattle.std.proofs.lemmas.List.{get_or_default}
 use Rattle.edit_rules.specs.Kinds.{framework_of}
 use Rattle.oracle_face.specs.Logs.{LogStep, no_step}
