@@ -1,6 +1,6 @@
 -- What the tests of literals come to.
-use Rattle.std.proofs.Common.{◌≡◌, inl, inr, ⊎_elim, Bool, true, false, not, List, ap, sym, ◌∙◌, refl}
-use Rattle.std.specs.Prelude.{◌↔◌, ◌⊎◌, IsTrue, Contains}
+use Rattle.std.proofs.Common.{◌≡◌, inl, inr, ⊎_elim, Bool, true, false, not, List, sym, ◌∙◌, refl}
+use Rattle.std.specs.Prelude.{◌↔◌, IsTrue, Contains}
 use Rattle.std.proofs.lemmas.Bool.{false≢true}
 use Rattle.plain_lits.specs.HintCheck.{IsTautology}
 use Rattle.meaning_atoms.specs.declared.atom.AtomLit.{AtomLit}

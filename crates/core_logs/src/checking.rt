@@ -84,7 +84,11 @@ fn hint_status(steps: &[CoreStep], truths: &[AtomLit], hint: StepId) -> Status
 }
 
 /// Whether unit propagation by the hints in turn, from literals that are true, ends with a false clause at the last.
-fn propagates(steps: &[CoreStep], truths: &mut Vec<AtomLit>, hints: &[StepId]) -> Result<bool, Memory>
+fn propagates(
+    steps: &[CoreStep],
+    truths: &mut Vec<AtomLit>,
+    hints: &[StepId],
+) -> Result<bool, Memory>
     ensures { IfOk result (λ taken. IsTrue taken
         ↔ Propagates negated (clauses_of steps.now) truths.old.items 1 hints.now (Ok (length hints.now))) }
 {

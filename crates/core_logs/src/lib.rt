@@ -3,9 +3,12 @@
 #![tactic(auto)]
 
 pub mod checking;
+pub mod equality;
 pub mod literals;
 pub mod log;
+pub mod sources;
 pub mod steps;
+pub mod taking;
 
 pub use log::CoreLog;
 pub use steps::{CoreSide, CoreStep, StepSource};

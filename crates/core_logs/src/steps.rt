@@ -1,7 +1,7 @@
 //! The steps of a log, and its side clauses.
 
-ghost use Rattle.std.specs.Prelude.{◌≡◌, ◌↔◌, ◌-◌, IsTrue};
-ghost use Rattle.oracle_face.specs.Logs.{IsNumberOf, step_at};
+ghost use Rattle.std.specs.Prelude.{◌≡◌, ◌↔◌, ◌-◌, IfNone, IfSome, IsTrue};
+ghost use Rattle.oracle_face.specs.Logs.{IsNumberOf, no_step, step_at};
 ghost use Rattle.core_logs.specs.Sources.{source_of};
 
 use meaning_atoms::{AtomLit, AxiomName};
@@ -152,11 +152,20 @@ fn index_of(number: StepId) -> usize
     number - 1
 }
 
+/// The step of a number, if there is one.
+pub fn find_step(steps: &[CoreStep], number: StepId) -> Option<&CoreStep>
+    ensures some { IfSome result (λ step. step.now ≡ step_at steps.now number) }
+    ensures none { IfNone result (step_at steps.now number ≡ no_step) }
+    ensures unnamed { IfNone result (¬ IsNumberOf steps.now number) }
+{
+    steps.get(index_of(number))
+}
+
 /// The literals of the step of a number. Where there is no step, there are none.
 pub fn clause_at(steps: &[CoreStep], number: StepId) -> &[AtomLit]
     ensures { result.now ≡ (step_at steps.now number).clause }
 {
-    match steps.get(index_of(number)) {
+    match find_step(steps, number) {
         Some(step) => step.clause(),
         None => &[],
     }
@@ -166,7 +175,7 @@ pub fn clause_at(steps: &[CoreStep], number: StepId) -> &[AtomLit]
 pub fn is_closing_at(steps: &[CoreStep], number: StepId) -> bool
     ensures { result ≡ (step_at steps.now number).closing }
 {
-    match steps.get(index_of(number)) {
+    match find_step(steps, number) {
         Some(step) => step.closing(),
         None => true,
     }

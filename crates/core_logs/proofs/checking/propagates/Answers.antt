@@ -10,7 +10,7 @@ use Rattle.core_logs.proofs.checking.propagates.Goals as goal
 pub loop-at-preserved : goal.loop-at-preserved
 loop-at-preserved c =
     let read = c.index-hints-at.is
-        ∙ get_or_default c.args.hints.now c.loop-at.at c.index-hints-at.result 0 c.loop-at-test.true in
+    ∙ get_or_default c.args.hints.now c.loop-at.at c.index-hints-at.result 0 c.loop-at-test.true in
     let clauses = clauses_of c.args.steps.now in
     along_unit clauses c.loop-at.truths.items c.push.new.self.items c.args.truths.now.items c.args.hints.now
     c.loop-at.at c.in-Unit.literal c.loop-at-test.true
@@ -22,7 +22,7 @@ loop-at-preserved c =
 pub returns-in-Falsified : goal.returns-in-Falsified
 returns-in-Falsified c =
     let read = c.index-hints-at.is
-        ∙ get_or_default c.args.hints.now c.loop-at.at c.index-hints-at.result 0 c.loop-at-test.true in
+    ∙ get_or_default c.args.hints.now c.loop-at.at c.index-hints-at.result 0 c.loop-at-test.true in
     let clauses = clauses_of c.args.steps.now in
     along_false clauses c.loop-at.truths.items c.args.truths.now.items c.args.hints.now c.loop-at.at
     c.loop-at-test.true
@@ -34,7 +34,7 @@ returns-in-Falsified c =
 pub returns-in-Other : goal.returns-in-Other
 returns-in-Other c =
     let read = c.index-hints-at.is
-        ∙ get_or_default c.args.hints.now c.loop-at.at c.index-hints-at.result 0 c.loop-at-test.true in
+    ∙ get_or_default c.args.hints.now c.loop-at.at c.index-hints-at.result 0 c.loop-at-test.true in
     let clauses = clauses_of c.args.steps.now in
     along_other clauses c.loop-at.truths.items c.args.truths.now.items c.args.hints.now c.loop-at.at
     c.loop-at-test.true

@@ -1,0 +1,4 @@
+pub mod NamingLemmas
+pub mod PlaceLemmas
+pub mod SeatLemmas
+pub mod Tests

@@ -1,0 +1,13 @@
+//! The core of a server as a program: a machine that takes each event that is a step of the core, and refuses any other.
+#![tactic(auto)]
+
+pub mod log_events;
+pub mod machine;
+pub mod naming;
+pub mod needs;
+pub mod places;
+pub mod seats;
+pub mod stop;
+
+pub use machine::Machine;
+pub use stop::StepStop;

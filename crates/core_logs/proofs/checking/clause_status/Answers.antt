@@ -1,1 +1,0 @@
-use Rattle.core_logs.proofs.checking.clause_status.Goals as goal
