@@ -15,7 +15,7 @@ use Rattle.certificate_claims.specs.Refutations.{axiom_clause}
 use Rattle.oracle_face.specs.declared.face.Pending.{Pending}
 use Rattle.oracle_face.specs.declared.face.Pending.TheVariants.{Learned, Loop, Side}
 use Rattle.oracle_face.specs.Growing.{IsFurther, IsSpent, IsStop, UnlessMemory}
-use Rattle.oracle_face.specs.Logs.{LogStep, OracleLog, Source, by_axiom, by_hints, by_side, is_loop, is_unit, no_step}
+use Rattle.oracle_face.specs.Logs.{IsGiven, IsLog, LogStep, OracleLog, Source, by_axiom, by_hints, by_side, is_loop, is_unit, no_step}
 use Rattle.edit_rules.specs.declared.query_fault.QueryFault.{QueryFault}
 use Rattle.edit_rules.specs.declared.query_fault.QueryFault.TheVariants.{TaskNotForKind, UnknownArgument, UnknownAtom}
 use Rattle.edit_rules.specs.Fitting.{AsksUnknown, Fits, IsFaultOf}
@@ -26,7 +26,7 @@ use Rattle.core_answers.specs.declared.counts.Count.{Count}
 use Rattle.core_answers.specs.declared.outcome.Outcome.{Outcome}
 use Rattle.core_answers.specs.declared.outcome.Outcome.TheVariants.{Definite, LogFull, Refused, TooMany, Unknown}
 use Rattle.core_answers.specs.Outcomes.{Comes, EndsFit, EndsSo, IsNamedFor, IsOutcome, course_since, ending_of}
-use Rattle.core_answers.specs.Serving.{HasServed, IsNamedInHand, IsTold, LoopServes, counts}
+use Rattle.core_answers.specs.Serving.{AreNamed, HasServed, IsNamedInHand, IsTold, LoopServes, counts}
 use Rattle.core_answers.specs.Showing.{AreTooMany}
 use Rattle.core_answers.proofs.PendingLemmas.{facts_each, facts_from}
 
@@ -268,13 +268,21 @@ named_further f asked log (Side literals set) h = tt
 named_further f asked log (Learned clause hints) h = tt
 named_further f asked log (Loop name) h = axiom_fits f name h.2
 
+-- the names in a log fit their rows
+pub named_log : (f : Framework) (log : OracleLog) → IsLog f log → AreNamed log.steps
+named_log f log h = record {
+  each = λ k name lt e. axiom_fits f name (subst (λ (s : Source). IsGiven f log.sides (take k log.steps)
+      (slice_index_or log.steps k no_step).clause s) e (h.each k lt)).0;
+}
+
 pub named_for : (f : Framework) (asked : Asked) (most : ℕ) (log : OracleLog) (pending : Option Pending) (units : Units)
     (outcome : Outcome) → EndsSo f asked most log pending units outcome → IsNamedFor pending outcome
     → IsNamedInHand pending
 named_for f asked most log pending units (Refused fault) so is = is
 named_for f asked most log pending units (Definite answer sets) so is = is
 named_for f asked most log pending units (Unknown count) so is =
-    subst (λ (p : Option Pending). IsNamedInHand p) (sym so.0.kept) (named_further f asked log so.0.in_hand so.0.further)
+    subst (λ (p : Option Pending). IsNamedInHand p) (sym so.0.kept)
+    (named_further f asked log so.0.in_hand so.0.further)
 named_for f asked most log pending units (TooMany sets) so is = is
 named_for f asked most log pending units LogFull so is = is
 

@@ -36,7 +36,8 @@ other_by_member sides literals none side c = record {
   other = λ same.
       let here : side_at sides (c.0 + 1) ≡ side =
       ap (λ k. get_or sides k no_side) (omega arith) ∙ (get_or_default sides c.0 no_side side c.1 ∙ c.2) in
-      none (c.0 + 1) (record { from_one = omega arith; within = let lt : c.0 < length sides = c.1 in omega (arith, lt) })
+      let lt : c.0 < length sides = c.1 in
+      none (c.0 + 1) (record { from_one = omega arith; within = omega (arith, lt) })
       (subst (λ (s : SideClause). IsSameClause s.literals literals) (sym here) same);
 }
 

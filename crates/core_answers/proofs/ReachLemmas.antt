@@ -42,7 +42,9 @@ same_place : (steps : List LogStep) (own : List ℕ) (m n : ℕ) → m - 1 ≡ n
 same_place steps own m n e all to s (itself _) is =
     all m s (itself m) (ap (λ i. (get_or steps i no_step).source) e ∙ is)
 same_place steps own m n e all to s (by_hint _ hint _ c rest) is =
-    all to s (by_hint m hint to (subst (λ i. Contains (hints_of (get_or steps i no_step).source) hint) (sym e) c) rest) is
+    let there : Contains (hints_of (step_at steps m).source) hint =
+    subst (λ i. Contains (hints_of (get_or steps i no_step).source) hint) (sym e) c in
+    all to s (by_hint m hint to there rest) is
 
 -- the marks so far: of own steps, and of each that reaches none but own
 pub record IsSettling (own : List ℕ) (steps : List LogStep) (marks : List Bool) : Type 0 where
@@ -102,7 +104,8 @@ reached_own : (own : List ℕ) (steps : List LogStep) (marks : List Bool) → Is
 reached_own own steps marks h rest from to n marked (itself _) is =
     ⊎_elim
     (λ (lt : from - 1 < length steps). (h.low (from - 1) lt marked).is n is)
-    (λ past. absurd (no_side_step n (ap (λ (s : LogStep). s.source) (sym (get_or_past steps (from - 1) no_step past)) ∙ is)))
+    (λ past. absurd (no_side_step n (ap (λ (s : LogStep). s.source) (sym (get_or_past steps (from - 1) no_step past))
+    ∙ is)))
     (cases_lt (from - 1) (length steps))
 reached_own own steps marks h rest from to n marked (by_hint _ hint _ c more) is =
     ⊎_elim

@@ -219,10 +219,10 @@ fn ends_fit(
 }
 
 /// Whether a query may end with an outcome on a framework, by what a log has gained since it had `answered` steps, with
-/// `budget` units at most, a clause in hand, and `most` extensions at most in a list. It is exactly so where the outcome
-/// is an ending that the definition allows; where there are too many extensions, the outcome's sets have to show it.
+/// `budget` units at most, a clause in hand, and `most` extensions at most in a list. It is so exactly where the
+/// outcome is an ending that the definition allows; of too many extensions the outcome's sets have to tell.
 /// `Memory` says that an allocation was refused.
-pub fn ends(
+pub fn may_end(
     alloc: Global,
     framework: &Framework,
     query: &Query,

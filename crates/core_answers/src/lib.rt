@@ -14,5 +14,5 @@ mod rest;
 mod serving;
 mod showing;
 
-pub use ends::ends as may_end;
+pub use ends::may_end;
 pub use outcome::Outcome;

@@ -5,7 +5,8 @@ use Rattle.core_answers.proofs.rest.none_takes.Goals as goal
 
 pub loop-marks-init : goal.loop-marks-init
 loop-marks-init c = spreading_begins c.args.steps.now c.args.clause.now c.in_ok-truths.truths.items
-    c.in_ok-marks.marks.items (λ t. false≢true (c.if-tautology.ensures.1 t)) c.in_ok-truths.ensures c.in_ok-marks.ensures
+    c.in_ok-marks.marks.items (λ t. false≢true (c.if-tautology.ensures.1 t)) c.in_ok-truths.ensures
+    c.in_ok-marks.ensures
 
 pub returns-in-Conflict : goal.returns-in-Conflict
 returns-in-Conflict c =

@@ -20,7 +20,8 @@ returns-then-not-refuted c = λ list all.
     (sym (c.index-claims-index.is ∙ get_or_default claims at c.index-claims-index.result no_claim lt))
     (claim_at_index f claims list at no_claim no_table_claim all lt) in (
       λ t. absurd (false≢true t),
-      λ h. absurd (false≢true (sym c.if-not-refuted.true ∙ (c.in_ok-refuted.ensures (get_or list at no_table_claim) here).1
+      λ h. absurd (false≢true (sym c.if-not-refuted.true
+          ∙ (c.in_ok-refuted.ensures (get_or list at no_table_claim) here).1
           (h at (omega (arith, lt, same_length f claims list all))))),
     )
 
@@ -31,6 +32,7 @@ returns c = λ list all.
       λ t k lt.
           c.loop-index.invariant k (omega (arith, lt, same_length f claims list all, c.loop-index-test.false))
           (get_or list k no_table_claim)
-          (claim_at_index f claims list k no_claim no_table_claim all (omega (arith, lt, same_length f claims list all))),
+          (claim_at_index f claims list k no_claim no_table_claim all
+          (omega (arith, lt, same_length f claims list all))),
       λ h. refl,
     )

@@ -1,7 +1,7 @@
 use Rattle.std.proofs.Common.{◌≡◌, ap, arith, length, min}
 use Rattle.edit_rules.specs.Kinds.{framework_of}
 use Rattle.core_answers.proofs.EndLemmas.{ending_from, fit_comes, refused_comes}
-use Rattle.core_answers.proofs.ends.ends.Goals as goal
+use Rattle.core_answers.proofs.ends.may_end.Goals as goal
 
 pub returns-in-Refused : goal.returns-in-Refused
 returns-in-Refused c =
