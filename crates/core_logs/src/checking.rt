@@ -103,7 +103,7 @@ fn propagates(
 }
 
 /// The negations of the literals.
-fn negations(alloc: Global, clause: &[AtomLit]) -> Result<Vec<AtomLit>, Memory>
+pub fn negations(alloc: Global, clause: &[AtomLit]) -> Result<Vec<AtomLit>, Memory>
     ensures { IfOk result (λ negations. negations.items ≡ map negated clause.now) }
 {
     let mut negations = Vec::new(alloc);
