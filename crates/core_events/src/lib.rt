@@ -4,6 +4,7 @@
 pub mod history;
 pub mod log_events;
 pub mod machine;
+pub mod named_log;
 pub mod naming;
 pub mod needs;
 pub mod places;

@@ -1,4 +1,4 @@
-use Rattle.std.proofs.Common.{[], ap, length, ◌∙◌}
+use Rattle.std.proofs.Common.{[], ap, length}
 use Rattle.core_events.specs.Machines.{core_of}
 use Rattle.core_events.proofs.TurnLemmas.{nothing_added, turn_stopped, turned}
 use Rattle.core_events.proofs.machine.Machine.refresh.Goals as goal
@@ -11,5 +11,5 @@ returns-in_err-index c =
 pub returns : goal.returns
 returns c =
     turned c.seat.new.self c.args.session c.in_ok-index.index c.index_mut.result.now c.in_ok-index.ensures.at
-    c.index_mut.ensures.value (core_of c.args.self.now) c.in_ok-turns.turns c.seat.new.self.history SEENRES []
-    c.in_ok-index.ensures.same c.in_ok-turns.ensures (nothing_added c.seat.new.self.history.items) (SEENENS ∙ ap length c.AA.ensures.value)
+    c.index_mut.ensures.value (core_of c.args.self.now) c.in_ok-turns.turns c.seat.new.self.history (length c.as_slice-seen.result.now) []
+    c.in_ok-index.ensures.same c.in_ok-turns.ensures (nothing_added c.seat.new.self.history.items) (ap length c.as_slice-seen.ensures.value)
