@@ -79,8 +79,8 @@ module _ (core : Core) (s : ℕ) (name : AxiomName) where
       → IsTrue b ↔ IsNew (working steps) clause → IsTrue b ↔ IsCalledFor core s name (is_loop name)
   loop_called b steps clause e e1 e2 h =
       let here : IsTrue b ↔ IsCalledFor core s name true =
-          subst (λ (xs : List LogStep). IsTrue b ↔ IsNew (working xs) (axiom_clause name)) e1
-          (subst (λ (c : List AtomLit). IsTrue b ↔ IsNew (working steps) c) e2 h) in
+      subst (λ (xs : List LogStep). IsTrue b ↔ IsNew (working xs) (axiom_clause name)) e1
+      (subst (λ (c : List AtomLit). IsTrue b ↔ IsNew (working steps) c) e2 h) in
       subst (λ x. IsTrue b ↔ IsCalledFor core s name x) (sym e) here
 
   -- an axiom that isn't called for doesn't come

@@ -91,7 +91,7 @@ placed (place ∷ places) index entry e =
       is = sym (eqb-true index place.index t);
     })
     (λ f. let w = placed places index entry
-        (sym (if_false (index == place.index) (Some place.entry) (pool_of places index) f) ∙ e) in
+    (sym (if_false (index == place.index) (Some place.entry) (pool_of places index) f) ∙ e) in
     record { item = w.item; there = Contains-tail place places w.item w.there; is = w.is })
     (cases_Bool (index == place.index))
 

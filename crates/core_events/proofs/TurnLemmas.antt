@@ -55,17 +55,17 @@ module _ (m : Machine) (s index : ℕ) (seat : Seat) (at : IsSeatAt m.seats.item
   turned_here turns history seen entries et eh es =
       let long : seen ≡ length (m.history.items ++ entries) = es ∙ ap length eh in
       let session = ap (seen_now (session_of seat.session)) long
-          ∙ ap (λ (x : CoreSession). seen_now x (length (m.history.items ++ entries)))
-          (sym (seated m s index seat at read)) in
+      ∙ ap (λ (x : CoreSession). seen_now x (length (m.history.items ++ entries)))
+      (sym (seated m s index seat at read)) in
       let new : Seat = record {
-            number = seat.number;
-            session = record {
-              seen = seen;
-              log = seat.session.log;
-              shared = seat.session.shared;
-              answered = seat.session.answered;
-            };
-          } in
+        number = seat.number;
+        session = record {
+          seen = seen;
+          log = seat.session.log;
+          shared = seat.session.shared;
+          answered = seat.session.answered;
+        };
+      } in
       λ i. record (core_of m) {
         history = eh i;
         turns = et i;

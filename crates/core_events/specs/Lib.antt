@@ -1,3 +1,4 @@
+pub mod Answering
 pub mod LogEvents
 pub mod Machines
 pub mod Naming

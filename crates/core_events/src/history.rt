@@ -76,7 +76,12 @@ impl Machine {
     }
 
     /// A session commits an edit.
-    pub(crate) fn commit(&mut self, alloc: Global, session: u32, edit: &Edit) -> Result<(), StepStop>
+    pub(crate) fn commit(
+        &mut self,
+        alloc: Global,
+        session: u32,
+        edit: &Edit,
+    ) -> Result<(), StepStop>
         ensures { Comes (IsStep (core_of self.old) (commit session edit.now)) (core_of self.old) (core_of self.new)
             result }
     {

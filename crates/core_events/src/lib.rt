@@ -1,6 +1,7 @@
 //! The core of a server as a program: a machine that takes each event that is a step of the core, and refuses any other.
 #![tactic(auto)]
 
+pub mod answering;
 pub mod history;
 pub mod log_events;
 pub mod machine;

@@ -82,7 +82,13 @@ impl Machine {
             (core_of self.old) (core_of self.new) result }
     {
         let index = self.seat(alloc, session)?;
-        derive(alloc, &mut self.seats[index].session.log, clause, hints, closing)
+        derive(
+            alloc,
+            &mut self.seats[index].session.log,
+            clause,
+            hints,
+            closing,
+        )
     }
 
     /// Whether an axiom of the framework's kind is called for: a loop clause where it is new, any other by a framework

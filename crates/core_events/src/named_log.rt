@@ -109,7 +109,12 @@ impl NamedLog {
     }
 
     /// Takes a side clause with its step. After `Memory`, which also says that there are too many, the log is as before.
-    pub fn take_side(&mut self, alloc: Global, literals: &[AtomLit], set: &NumSet) -> Result<(), Memory>
+    pub fn take_side(
+        &mut self,
+        alloc: Global,
+        literals: &[AtomLit],
+        set: &NumSet,
+    ) -> Result<(), Memory>
         requires room { length self.old.steps < self.old.limit }
         requires side { IsSide literals.now }
         requires other { HasSideLike self.old.sides literals.now → ⊥ }

@@ -7,13 +7,13 @@ ghost use Rattle.clause_imports.specs.Imports.{IsCalled, IsOfEntry};
 ghost use Rattle.core_events.specs.Naming.{CallsFirst, Imports, IsCalledAt, StandForSome, StandsForSome};
 ghost use Rattle.core_events.specs.Stops.{Comes};
 
+use crate::named_log::NamedLog;
 use crate::stop::StepStop;
+use core_logs::CoreStep;
 use core_logs::checking::is_taken;
 use core_logs::literals::asks_nothing;
 use core_logs::sources::{has_entry, is_from_entry, is_of_axiom};
 use core_logs::steps::{clause_at, find_step, is_closing_at, is_number};
-use crate::named_log::NamedLog;
-use core_logs::CoreStep;
 use oracle_face::{Entry, EntryName, EntryOrigin, HintName};
 use plain_lists::{Items, Memory};
 use plain_lits::StepId;

@@ -43,7 +43,11 @@ fn follow(alloc: Global, framework: &mut Framework, edit: &Edit) -> Result<(), M
 }
 
 /// The framework after entries.
-pub(crate) fn replay(alloc: Global, opening: &Framework, entries: &[Entry]) -> Result<Framework, Memory>
+pub(crate) fn replay(
+    alloc: Global,
+    opening: &Framework,
+    entries: &[Entry],
+) -> Result<Framework, Memory>
     ensures { IfOk result (λ framework. framework_of framework
         ≡ framework_after (framework_of opening.now) entries.now) }
 {

@@ -36,8 +36,8 @@ returns c =
     let P : OracleLog → OracleLog → Type 0 = TakesOnce c.args.name.now c.args.clause.now in
     let Q : Core → Core → Type 0 = λ core next. IsStep core event next in
     let kind = subst (λ (f : Framework). IsAxiomOf f c.args.name.now)
-        (sym (ap (λ (core : Core). core.opening) c.in_ok-index.ensures.same))
-        (c.is_axiom_of.ensures.0 c.if-not-is_axiom_of.false) in
+    (sym (ap (λ (core : Core). core.opening) c.in_ok-index.ensures.same))
+    (c.is_axiom_of.ensures.0 c.if-not-is_axiom_of.false) in
     seat_comes (core_of c.args.self.now) c.seat.new.self c.args.session c.in_ok-index.index c.index_mut.result.now P Q
     c.take_axiom.new.log c.take_axiom.result c.in_ok-index.ensures.same c.in_ok-index.ensures.at
     c.index_mut.ensures.value
