@@ -4,6 +4,7 @@ pub mod NamingLemmas
 pub mod NeedLemmas
 pub mod PlaceLemmas
 pub mod SeatLemmas
+pub mod SharingLemmas
 pub mod StateLemmas
 pub mod Tests
 pub mod TurnLemmas

@@ -5,5 +5,6 @@ pub mod Naming
 pub mod Needs
 pub mod Places
 pub mod Seats
+pub mod Sharing
 pub mod Stops
 pub mod Turns

@@ -10,6 +10,7 @@ pub mod naming;
 pub mod needs;
 pub mod places;
 pub mod seats;
+pub mod sharing;
 pub mod stop;
 
 pub use machine::Machine;
