@@ -1,6 +1,6 @@
 //! Whether a log shows an answer.
 
-ghost use Rattle.std.specs.Prelude.{◌≡◌, ◌↔◌, ◌<◌, ℕ, List, [], ◌∷◌, length, slice_index_or, IfOk, IsTrue};
+ghost use Rattle.std.specs.Prelude.{◌≡◌, ◌↔◌, ◌<◌, ℕ, List, [], ◌∷◌, length, Contains, slice_index_or, IfOk, IsTrue};
 ghost use Rattle.iccma_tasks.specs.declared.answer.Answer.TheVariants.{Sets};
 ghost use Rattle.certificate_claims.specs.Acceptance.{Tests, no_claim};
 ghost use Rattle.certificate_claims.specs.Claims.{row_of, sets_of};
@@ -8,12 +8,12 @@ ghost use Rattle.certificate_claims.specs.Refutations.{Claim as TableClaim};
 ghost use Rattle.edit_rules.specs.Kinds.{framework_of};
 ghost use Rattle.session_log.specs.Ends.{HasRefuting, IsShownBy, some_asked};
 ghost use Rattle.answer_claims.specs.ClaimParts.{AreClaims};
-ghost use Rattle.core_answers.specs.Showing.{AreTooMany, ShowAlone, is_past_tests};
+ghost use Rattle.core_answers.specs.Showing.{AreDifferent, AreTooMany, ShowAlone, is_past_tests};
 
 use crate::refuting::is_refuted;
 use answer_claims::{Claim, claims_of, row};
 use certificate_check::check;
-use certificate_claims::{Cause, Certificate, Verdict, sets_rise};
+use certificate_claims::{Cause, Certificate, Verdict};
 use core_logs::CoreLog;
 use edit_rules::Framework;
 use iccma_tasks::{Answer, Problem, Query, Semantics, Task};
@@ -149,7 +149,34 @@ fn show_alone(
     Ok(true)
 }
 
-/// Whether the sets are more extensions than so many, in order, and each is shown as an answer to the query for one.
+/// Whether two sets are the same.
+fn is_equal(set: &NumSet, other: &NumSet) -> bool
+    ensures { IsTrue result ↔ (set.now ≡ other.now) }
+{
+    set.as_slice() == other.as_slice()
+}
+
+/// Whether a set is one of the sets.
+fn is_listed(sets: &[NumSet], set: &NumSet) -> bool
+    ensures { IsTrue result ↔ Contains sets.now set.now }
+{
+    sets.iter().any(|other| is_equal(other, set))
+}
+
+/// Whether no two of the sets are the same. It compares each two of them.
+fn are_different(sets: &[NumSet]) -> bool
+    ensures { IsTrue result ↔ AreDifferent sets.now }
+{
+    for index in 0..sets.len() {
+        let again = is_listed(&sets[..index], &sets[index]);
+        if again {
+            return false;
+        }
+    }
+    true
+}
+
+/// Whether the sets are more different extensions than so many, each shown as an answer to the query for one.
 pub(crate) fn are_too_many(
     alloc: Global,
     framework: &Framework,
@@ -167,7 +194,7 @@ pub(crate) fn are_too_many(
     if sets.len() as u64 <= most as u64 {
         return Ok(false);
     }
-    if !sets_rise(sets) {
+    if !are_different(sets) {
         return Ok(false);
     }
     let show = show_alone(alloc, framework, task.semantics, sets, log)?;
