@@ -1,7 +1,7 @@
-use Rattle.std.proofs.Common.{refl}
+use Rattle.std.proofs.Common.{arith, refl}
 use Rattle.std.proofs.lemmas.Bool.{false≢true}
 use Rattle.core_answers.proofs.OrderLemmas.{comes_twice, differs_next}
-use Rattle.core_answers.proofs.showing.are_different.Goals as goal
+use Rattle.core_answers.proofs.showing.they_differ.Goals as goal
 
 pub returns-then-again : goal.returns-then-again
 returns-then-again c = (
@@ -11,5 +11,9 @@ returns-then-again c = (
 )
 
 pub loop-index-preserved : goal.loop-index-preserved
-loop-index-preserved c = differs_next c.args.sets.now c.loop-index.index c.index-sets-index.result c.loop-index-test.true
+loop-index-preserved c = differs_next c.args.sets.now c.loop-index.index c.index-sets-index.result
+    c.loop-index-test.true
     c.index-sets-index.is (λ there. false≢true (c.if-again.ensures.1 there)) c.loop-index.invariant
+
+pub returns : goal.returns
+returns c = (λ t i j less lt. c.loop-index.invariant i j less (omega (arith, lt, c.loop-index-test.false)), λ all. refl)
