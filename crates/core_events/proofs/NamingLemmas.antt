@@ -147,7 +147,7 @@ module _ (f : Framework) (own : ℕ) (entry : Entry) (names : List HintName) (ol
   follows_here : MayImport f own old entry → FollowsByNames own old.steps entry.clause names
   follows_here may =
       let h : IsShownHere f own old.steps entry.clause (Hints names) =
-          subst (λ o. IsShownHere f own old.steps entry.clause o) e may.shown in h
+      subst (λ o. IsShownHere f own old.steps entry.clause o) e may.shown in h
 
   pub none_stand : ((hints : List ℕ) → StandForSteps own old.steps names hints → ⊥) → (new : OracleLog)
       → Imports f own entry old new → ⊥

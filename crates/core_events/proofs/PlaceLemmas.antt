@@ -21,10 +21,10 @@ entry_added (place ∷ places) new i e =
     let rest = pool_of places i in
     let before = pool_of (place ∷ places) i in
     let apart : new.index ≢ place.index = λ h. some_not_none place.entry
-        (sym (if_true (new.index == place.index) own (pool_of places new.index) (same_test new.index place.index h)) ∙ e) in
+    (sym (if_true (new.index == place.index) own (pool_of places new.index) (same_test new.index place.index h)) ∙ e) in
     let step = entry_added places new i
-        (sym (if_false (new.index == place.index) own (pool_of places new.index)
-        (other_test new.index place.index apart)) ∙ e) in
+    (sym (if_false (new.index == place.index) own (pool_of places new.index)
+    (other_test new.index place.index apart)) ∙ e) in
     ⊎_elim
     (λ t. if_true (i == place.index) own later t
     ∙ (sym (if_true (i == place.index) own rest t)

@@ -1,3 +1,4 @@
+pub mod Answering
 pub mod LogEvents
 pub mod Machines
 pub mod Naming
@@ -5,3 +6,4 @@ pub mod Needs
 pub mod Places
 pub mod Seats
 pub mod Stops
+pub mod Turns

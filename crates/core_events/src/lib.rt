@@ -1,8 +1,11 @@
 //! The core of a server as a program: a machine that takes each event that is a step of the core, and refuses any other.
 #![tactic(auto)]
 
+pub mod answering;
+pub mod history;
 pub mod log_events;
 pub mod machine;
+pub mod named_log;
 pub mod naming;
 pub mod needs;
 pub mod places;

@@ -6,12 +6,13 @@ ghost use Rattle.core_machine.specs.Steps.{IsWorthIt};
 ghost use Rattle.core_events.specs.LogEvents.{DerivesNew, KeepsSide, TakesOnce};
 ghost use Rattle.core_events.specs.Stops.{Comes};
 
+use crate::named_log::NamedLog;
 use crate::stop::StepStop;
+use core_logs::CoreStep;
 use core_logs::checking::{follows, has_part, is_new};
 use core_logs::literals::is_side;
 use core_logs::sources::{has_axiom, is_clause_of};
 use core_logs::taking::has_side_like;
-use core_logs::{CoreLog, CoreStep};
 use meaning_atoms::{AtomLit, AxiomName};
 use plain_lits::StepId;
 use set_lists::NumSet;
@@ -31,7 +32,7 @@ fn is_worth_it(steps: &[CoreStep], clause: &[AtomLit], closing: bool) -> bool
 /// Derives a clause by hints.
 pub(crate) fn derive(
     alloc: Global,
-    log: &mut CoreLog,
+    log: &mut NamedLog,
     clause: &[AtomLit],
     hints: &[StepId],
     closing: bool,
@@ -54,7 +55,7 @@ pub(crate) fn derive(
 /// Takes an axiom.
 pub(crate) fn take_axiom(
     alloc: Global,
-    log: &mut CoreLog,
+    log: &mut NamedLog,
     name: &AxiomName,
     clause: &[AtomLit],
 ) -> Result<(), StepStop>
@@ -77,7 +78,7 @@ pub(crate) fn take_axiom(
 /// Keeps a side clause that is made from a set.
 pub(crate) fn keep_side(
     alloc: Global,
-    log: &mut CoreLog,
+    log: &mut NamedLog,
     literals: &[AtomLit],
     set: &NumSet,
 ) -> Result<(), StepStop>

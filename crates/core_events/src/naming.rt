@@ -7,12 +7,13 @@ ghost use Rattle.clause_imports.specs.Imports.{IsCalled, IsOfEntry};
 ghost use Rattle.core_events.specs.Naming.{CallsFirst, Imports, IsCalledAt, StandForSome, StandsForSome};
 ghost use Rattle.core_events.specs.Stops.{Comes};
 
+use crate::named_log::NamedLog;
 use crate::stop::StepStop;
+use core_logs::CoreStep;
 use core_logs::checking::is_taken;
 use core_logs::literals::asks_nothing;
 use core_logs::sources::{has_entry, is_from_entry, is_of_axiom};
 use core_logs::steps::{clause_at, find_step, is_closing_at, is_number};
-use core_logs::{CoreLog, CoreStep};
 use oracle_face::{Entry, EntryName, EntryOrigin, HintName};
 use plain_lists::{Items, Memory};
 use plain_lits::StepId;
@@ -114,7 +115,7 @@ fn steps_of(
 pub(crate) fn import(
     alloc: Global,
     own: u32,
-    log: &mut CoreLog,
+    log: &mut NamedLog,
     entry: &Entry,
 ) -> Result<(), StepStop>
     ensures { (f : Framework) → Comes (Imports f own entry.now log.old) log.old log.new result }
@@ -129,7 +130,7 @@ pub(crate) fn import(
 fn import_by(
     alloc: Global,
     own: u32,
-    log: &mut CoreLog,
+    log: &mut NamedLog,
     entry: &Entry,
     names: &[HintName],
 ) -> Result<(), StepStop>

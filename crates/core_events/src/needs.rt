@@ -12,8 +12,8 @@ ghost use Rattle.core_machine.specs.Steps.{NamesAxiom};
 ghost use Rattle.core_events.specs.Needs.{IsNamedAmong, IsNamedUnder, IsNeededAmong};
 
 use crate::places::{Place, find_entry};
-use aba_needed::needed as aba_needed;
-use af_encoding::needed as af_needed;
+use aba_needed::needed as needed_of_aba;
+use af_encoding::needed as needed_of_af;
 use core_logs::equality::axioms_are_equal;
 use edit_history::Entry;
 use edit_rules::{Edit, EditFault, Framework, apply};
@@ -43,7 +43,11 @@ fn follow(alloc: Global, framework: &mut Framework, edit: &Edit) -> Result<(), M
 }
 
 /// The framework after entries.
-pub(crate) fn replay(alloc: Global, opening: &Framework, entries: &[Entry]) -> Result<Framework, Memory>
+pub(crate) fn replay(
+    alloc: Global,
+    opening: &Framework,
+    entries: &[Entry],
+) -> Result<Framework, Memory>
     ensures { IfOk result (λ framework. framework_of framework
         ≡ framework_after (framework_of opening.now) entries.now) }
 {
@@ -60,8 +64,8 @@ fn needed(alloc: Global, framework: &Framework) -> Result<Items<AxiomName>, Memo
         ↔ IsNeeded (framework_of framework.now) name) }
 {
     match framework {
-        Framework::Af(plain) => af_needed(alloc, plain),
-        Framework::Aba(plain) => aba_needed(alloc, plain),
+        Framework::Af(plain) => needed_of_af(alloc, plain),
+        Framework::Aba(plain) => needed_of_aba(alloc, plain),
     }
 }
 
@@ -80,6 +84,24 @@ fn is_needed(alloc: Global, framework: &Framework, name: &AxiomName) -> Result<b
     Ok(is_listed(names.as_slice(), name))
 }
 
+/// Whether the framework after some of the entries needs an axiom. The framework is changed on the way.
+fn is_needed_along(
+    alloc: Global,
+    framework: &mut Framework,
+    entries: &[Entry],
+    name: &AxiomName,
+) -> Result<bool, Memory>
+    ensures { IfOk result (λ is. IsTrue is ↔ IsNeededAmong (framework_of framework.old) entries.now name.now) }
+{
+    for entry in entries {
+        if is_needed(alloc, framework, name)? {
+            return Ok(true);
+        }
+        follow(alloc, framework, &entry.edit)?;
+    }
+    is_needed(alloc, framework, name)
+}
+
 /// Whether the framework after some of the entries needs an axiom.
 pub(crate) fn is_needed_among(
     alloc: Global,
@@ -90,13 +112,7 @@ pub(crate) fn is_needed_among(
     ensures { IfOk result (λ is. IsTrue is ↔ IsNeededAmong (framework_of opening.now) entries.now name.now) }
 {
     let mut framework = opening.copy(alloc)?;
-    for entry in entries {
-        if is_needed(alloc, &framework, name)? {
-            return Ok(true);
-        }
-        follow(alloc, &mut framework, &entry.edit)?;
-    }
-    is_needed(alloc, &framework, name)
+    is_needed_along(alloc, &mut framework, entries, name)
 }
 
 /// Whether a hint is an axiom.

@@ -3,7 +3,7 @@
 ghost use Rattle.std.specs.Prelude.{◌≡◌, ◌+◌, ◌<◌, length, OnErr, OnOk, IfOk, IfSome, IfNone, take, slice_index_or};
 ghost use Rattle.core_events.specs.Seats.{HasNoSeat, IsSeatAt, fresh, session_of, sessions_of};
 
-use core_logs::CoreLog;
+use crate::named_log::NamedLog;
 use plain_lists::Memory;
 use plain_lits::StepId;
 use std::alloc::Global;
@@ -13,7 +13,7 @@ use std::alloc::Global;
 #[derive(Drop)]
 pub struct SessionState {
     pub(crate) seen: usize,
-    pub(crate) log: CoreLog,
+    pub(crate) log: NamedLog,
     pub(crate) shared: Vec<StepId>,
     pub(crate) answered: usize,
 }
@@ -31,7 +31,7 @@ fn fresh_session(alloc: Global, log_limit: u64) -> SessionState
 {
     SessionState {
         seen: 0,
-        log: CoreLog::new(alloc, log_limit),
+        log: NamedLog::new(alloc, log_limit),
         shared: Vec::new(alloc),
         answered: 0,
     }

@@ -11,11 +11,11 @@ pub returns-then-not-branch : goal.returns-then-not-branch
 returns-then-not-branch c =
     let old = c.args.log.now in
     let checks = lent_checks c.in_ok-is_taken.field-0 old.steps c.steps-3.result.now c.args.entry.now.clause
-        c.as_slice-clause.result.now c.in-Some.hints c.as_slice.result.now c.steps-3.ensures c.as_slice-clause.ensures
-        c.as_slice.ensures c.in_ok-is_taken.ensures in
+    c.as_slice-clause.result.now c.in-Some.hints c.as_slice.result.now c.steps-3.ensures c.as_slice-clause.ensures
+    c.as_slice.ensures c.in_ok-is_taken.ensures in
     let stand = subst (λ (s : List LogStep). StandForSteps c.args.own s c.args.names.now c.in-Some.hints)
-        c.steps-2.ensures
-        (subst (StandForSome c.args.own c.steps-2.result.now c.args.names.now) c.in-Some.is c.in_ok-hints.ensures) in
+    c.steps-2.ensures
+    (subst (StandForSome c.args.own c.steps-2.result.now c.args.names.now) c.in-Some.is c.in_ok-hints.ensures) in
     λ f. (
       refl,
       λ next is. not_taken f c.args.own c.args.entry.now c.args.names.now old c.requires c.in-Some.hints stand
@@ -27,11 +27,11 @@ returns c =
     let old = c.args.log.now in
     let entry = c.args.entry.now in
     let checks = lent_checks c.in_ok-is_taken.field-0 old.steps c.steps-3.result.now entry.clause
-        c.as_slice-clause.result.now c.in-Some.hints c.as_slice.result.now c.steps-3.ensures c.as_slice-clause.ensures
-        c.as_slice.ensures c.in_ok-is_taken.ensures in
+    c.as_slice-clause.result.now c.in-Some.hints c.as_slice.result.now c.steps-3.ensures c.as_slice-clause.ensures
+    c.as_slice.ensures c.in_ok-is_taken.ensures in
     let stand = subst (λ (s : List LogStep). StandForSteps c.args.own s c.args.names.now c.in-Some.hints)
-        c.steps-2.ensures
-        (subst (StandForSome c.args.own c.steps-2.result.now c.args.names.now) c.in-Some.is c.in_ok-hints.ensures) in
+    c.steps-2.ensures
+    (subst (StandForSome c.args.own c.steps-2.result.now c.args.names.now) c.in-Some.is c.in_ok-hints.ensures) in
     λ f. imports_by f c.args.own entry c.args.names.now old c.requires c.in-Some.hints c.take_derived.new.self
     (c.has_room.ensures.0 c.if-not-has_room.false)
     c.if-entry-own.false
