@@ -29,6 +29,7 @@ use Rattle.core_answers.specs.Outcomes.{Comes, EndsFit, EndsSo, IsNamedFor, IsOu
 use Rattle.core_answers.specs.Serving.{AreNamed, HasServed, IsNamedInHand, IsTold, LoopServes, counts}
 use Rattle.core_answers.specs.Showing.{AreTooMany}
 use Rattle.core_answers.proofs.PendingLemmas.{facts_each, facts_from}
+use Rattle.core_answers.proofs.OrderLemmas.{in_order}
 
 -- ---- halts
 
@@ -240,17 +241,20 @@ ending_from f asked most log answered budget pending (Refused fault) h = h
 ending_from f asked most log answered budget pending (Definite answer sets) h = h
 ending_from f asked most log answered budget pending (Unknown count) h = h
 ending_from f asked most log answered budget pending (TooMany sets) h =
-    let many : AreTooMany f asked.task most log sets = h.1.2 in (
+    let many : AreTooMany f asked.task most log sets = h.1.2 in
+    let sorted = in_order sets many.different in
+    let long = sorted.long in
+    let more = many.more in (
       h.0,
       (
         h.1.0,
         h.1.1,
         record {
           all = many.all;
-          sets = sets;
-          more = many.more;
-          rise = many.rise;
-          each = λ e c. (
+          sets = sorted.sets;
+          more = omega (arith, long, more);
+          rise = sorted.rise;
+          each = λ e there. let c = sorted.within e there in (
             [],
             subst (λ (x : List ℕ). IsShownBy f (some_asked asked.task.semantics) (Sets (x ∷ [])) [] log)
                 (get_or_default sets c.0 [] e c.1 ∙ c.2) (many.each c.0 c.1),

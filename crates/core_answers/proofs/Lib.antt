@@ -6,4 +6,5 @@ pub mod ServeLemmas
 pub mod PendingLemmas
 pub mod RefuteLemmas
 pub mod ShowLemmas
+pub mod OrderLemmas
 pub mod EndLemmas

@@ -8,8 +8,8 @@ use Rattle.iccma_tasks.specs.declared.task.Task.{Task}
 use Rattle.certificate_claims.specs.declared.verdict.Cause.TheVariants.{RefutationCount}
 use Rattle.certificate_claims.specs.declared.verdict.Verdict.{Verdict}
 use Rattle.certificate_claims.specs.declared.verdict.Verdict.TheVariants.{Accepted, Rejected}
-use Rattle.certificate_claims.specs.Rights.{SetsRise}
 use Rattle.oracle_face.specs.Logs.{OracleLog}
+use Rattle.enumerate_modes.specs.Ordered.{TheyDiffer}
 use Rattle.session_log.specs.Ends.{IsShownBy, some_asked}
 
 -- whether a verdict is told of no direct test
@@ -24,9 +24,9 @@ ShowAlone f semantics log sets =
     (k : ℕ) → k < length sets
     → IsShownBy f (some_asked semantics) (Sets (slice_index_or sets k [] ∷ [])) [] log
 
--- the sets are more extensions than so many, in order, each shown
+-- the sets are more different extensions than so many, each shown
 pub record AreTooMany (f : Framework) (task : Task) (most : ℕ) (log : OracleLog) (sets : List (List ℕ)) : Type 0 where
   pub all : task.problem ≡ AllExtensions
   pub more : most < length sets
-  pub rise : SetsRise sets
+  pub different : TheyDiffer sets
   pub each : ShowAlone f task.semantics log sets

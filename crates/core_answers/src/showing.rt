@@ -1,11 +1,15 @@
 //! Whether a log shows an answer.
 
 ghost use Rattle.std.specs.Prelude.{◌≡◌, ◌↔◌, ◌<◌, ℕ, List, [], ◌∷◌, length, slice_index_or, IfOk, IsTrue};
+ghost use Rattle.semantics.specs.Laws.{HasSameMembers};
+ghost use Rattle.semantics.specs.Sets.{IsListed};
 ghost use Rattle.iccma_tasks.specs.declared.answer.Answer.TheVariants.{Sets};
+ghost use Rattle.iccma_tasks.specs.declared.task.Problem.TheVariants.{AllExtensions};
 ghost use Rattle.certificate_claims.specs.Acceptance.{Tests, no_claim};
 ghost use Rattle.certificate_claims.specs.Claims.{row_of, sets_of};
 ghost use Rattle.certificate_claims.specs.Refutations.{Claim as TableClaim};
 ghost use Rattle.edit_rules.specs.Kinds.{framework_of};
+ghost use Rattle.enumerate_modes.specs.Ordered.{TheyDiffer};
 ghost use Rattle.session_log.specs.Ends.{HasRefuting, IsShownBy, some_asked};
 ghost use Rattle.answer_claims.specs.ClaimParts.{AreClaims};
 ghost use Rattle.core_answers.specs.Showing.{AreTooMany, ShowAlone, is_past_tests};
@@ -13,7 +17,7 @@ ghost use Rattle.core_answers.specs.Showing.{AreTooMany, ShowAlone, is_past_test
 use crate::refuting::is_refuted;
 use answer_claims::{Claim, claims_of, row};
 use certificate_check::check;
-use certificate_claims::{Cause, Certificate, Verdict, sets_rise};
+use certificate_claims::{Cause, Certificate, Verdict};
 use core_logs::CoreLog;
 use edit_rules::Framework;
 use iccma_tasks::{Answer, Problem, Query, Semantics, Task};
@@ -149,7 +153,41 @@ fn show_alone(
     Ok(true)
 }
 
-/// Whether the sets are more extensions than so many, in order, and each is shown as an answer to the query for one.
+/// Whether two sets have the same members.
+fn is_same(set: &NumSet, other: &NumSet) -> bool
+    ensures { IsTrue result ↔ HasSameMembers set.now other.now }
+{
+    set.within(other) && other.within(set)
+}
+
+/// Whether one of the sets has the same members as a set.
+fn is_listed(sets: &[NumSet], set: &NumSet) -> bool
+    ensures { IsTrue result ↔ IsListed sets.now set.now }
+{
+    sets.iter().any(|other| is_same(other, set))
+}
+
+/// Whether no two of the sets have the same members. It compares each two of them.
+fn they_differ(sets: &[NumSet]) -> bool
+    ensures { IsTrue result ↔ TheyDiffer sets.now }
+{
+    for index in 0..sets.len() {
+        let again = is_listed(&sets[..index], &sets[index]);
+        if again {
+            return false;
+        }
+    }
+    true
+}
+
+/// Whether a task asks for all extensions.
+fn asks_for_all(task: Task) -> bool
+    ensures { IsTrue result ↔ (task.problem ≡ AllExtensions) }
+{
+    matches!(task.problem, Problem::AllExtensions)
+}
+
+/// Whether the sets are more different extensions than so many, each shown as an answer to the query for one.
 pub(crate) fn are_too_many(
     alloc: Global,
     framework: &Framework,
@@ -161,13 +199,13 @@ pub(crate) fn are_too_many(
     ensures { IfOk result (λ are. IsTrue are
         ↔ AreTooMany (framework_of framework.now) task most log.now sets.now) }
 {
-    if !matches!(task.problem, Problem::AllExtensions) {
+    if !asks_for_all(task) {
         return Ok(false);
     }
     if sets.len() as u64 <= most as u64 {
         return Ok(false);
     }
-    if !sets_rise(sets) {
+    if !they_differ(sets) {
         return Ok(false);
     }
     let show = show_alone(alloc, framework, task.semantics, sets, log)?;
