@@ -1,5 +1,6 @@
 pub mod AnswerLemmas
 pub mod CallLemmas
+pub mod EventLemmas
 pub mod NamingLemmas
 pub mod NeedLemmas
 pub mod PlaceLemmas

@@ -1,4 +1,5 @@
 pub mod Answering
+pub mod Events
 pub mod LogEvents
 pub mod Machines
 pub mod Naming

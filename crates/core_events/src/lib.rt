@@ -2,6 +2,7 @@
 #![tactic(auto)]
 
 pub mod answering;
+pub mod event;
 pub mod history;
 pub mod log_events;
 pub mod machine;
@@ -13,5 +14,6 @@ pub mod seats;
 pub mod sharing;
 pub mod stop;
 
+pub use event::{Event, Origin};
 pub use machine::Machine;
 pub use stop::StepStop;

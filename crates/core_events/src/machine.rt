@@ -70,7 +70,7 @@ impl Machine {
     }
 
     /// A session derives a clause by hints.
-    fn learn_derived(
+    pub(crate) fn learn_derived(
         &mut self,
         alloc: Global,
         session: u32,
@@ -130,7 +130,7 @@ impl Machine {
     }
 
     /// A session takes an axiom.
-    fn learn_axiom(
+    pub(crate) fn learn_axiom(
         &mut self,
         alloc: Global,
         session: u32,
@@ -152,7 +152,7 @@ impl Machine {
     }
 
     /// A session keeps a side clause that is made from a set.
-    fn keep_side(
+    pub(crate) fn keep_side(
         &mut self,
         alloc: Global,
         session: u32,
@@ -167,7 +167,7 @@ impl Machine {
     }
 
     /// A session takes an entry from the pool.
-    fn import(&mut self, alloc: Global, session: u32, place: u64) -> Result<(), StepStop>
+    pub(crate) fn import(&mut self, alloc: Global, session: u32, place: u64) -> Result<(), StepStop>
         ensures { Comes (IsStep (core_of self.old) (take_in session place)) (core_of self.old) (core_of self.new) result }
     {
         let index = self.seat(alloc, session)?;

@@ -1,0 +1,31 @@
+-- What comes of an event, by what comes of the step of its kind.
+use Rattle.std.proofs.Common.{◌≡◌, ℕ, Bool, List, subst, sym}
+use Rattle.std.specs.Prelude.{Result}
+use Rattle.meaning_atoms.specs.declared.atom.AtomLit.{AtomLit}
+use Rattle.oracle_face.specs.Logs.{Source}
+use Rattle.core_machine.specs.Core.{Core}
+use Rattle.core_machine.specs.Steps.{IsStep, learn, side}
+use Rattle.core_events.specs.declared.event.Event.{Event}
+use Rattle.core_events.specs.declared.event.Event.TheVariants.{Side}
+use Rattle.core_events.specs.declared.stop.StepStop.{StepStop}
+use Rattle.core_events.specs.Events.{IsEventStep}
+use Rattle.core_events.specs.Stops.{Comes}
+
+module _ (core now : Core) (r : Result (Unit {0}) StepStop) where
+  pub event_comes : (event known : Event) → event ≡ known → Comes (IsEventStep known core) core now r
+      → Comes (IsEventStep event core) core now r
+  event_comes event known is h = subst (λ (e : Event). Comes (IsEventStep e core) core now r) (sym is) h
+
+  pub learn_comes : (s : ℕ) (closing : Bool) (clause known : List AtomLit) (source told : Source) → known ≡ clause
+      → told ≡ source → Comes (IsStep core (learn s known told closing)) core now r
+      → Comes (IsStep core (learn s clause source closing)) core now r
+  learn_comes s closing clause known source told ec es h =
+      subst (λ (x : Source). Comes (IsStep core (learn s clause x closing)) core now r) es
+      (subst (λ (x : List AtomLit). Comes (IsStep core (learn s x told closing)) core now r) ec h)
+
+  pub side_comes : (event : Event) (s : ℕ) (set : List ℕ) (literals known : List AtomLit)
+      → event ≡ Side s set literals → known ≡ literals → Comes (IsStep core (side s set known)) core now r
+      → Comes (IsEventStep event core) core now r
+  side_comes event s set literals known is e h =
+      event_comes event (Side s set literals) is
+      (subst (λ (x : List AtomLit). Comes (IsStep core (side s set x)) core now r) e h)

@@ -1,0 +1,25 @@
+-- The steps that a machine's events stand for.
+use Rattle.std.specs.Prelude.{ℕ}
+use Rattle.core_machine.specs.Core.{Core}
+use Rattle.core_machine.specs.Steps.{IsStep, commit, learn, refresh, share, side, take_in}
+use Rattle.oracle_face.specs.Logs.{Source, by_axiom, by_hints}
+use Rattle.core_events.specs.declared.event.Event.{Event}
+use Rattle.core_events.specs.declared.event.Event.TheVariants.{Answer, Commit, Import, Learn, Refresh, Share, Side}
+use Rattle.core_events.specs.declared.event.Origin.{Origin}
+use Rattle.core_events.specs.declared.event.Origin.TheVariants.{Axiom, Hints}
+use Rattle.core_events.specs.Answering.{IsAnswered, in_hand}
+
+abbrev pub source_by : Origin → Source
+source_by (Axiom name) = by_axiom name
+source_by (Hints hints) = by_hints hints
+
+-- the event leads from the one state to the other
+abbrev pub IsEventStep : Event → Core → Core → Type 0
+IsEventStep (Commit s edit) core new = IsStep core (commit s edit) new
+IsEventStep (Refresh s) core new = IsStep core (refresh s) new
+IsEventStep (Learn s clause origin closing) core new = IsStep core (learn s clause (source_by origin) closing) new
+IsEventStep (Side s set literals) core new = IsStep core (side s set literals) new
+IsEventStep (Share s step index) core new = IsStep core (share s step index) new
+IsEventStep (Import s index) core new = IsStep core (take_in s index) new
+IsEventStep (Answer s query limit pending result) core new =
+    IsAnswered core s query limit (in_hand result pending) result new
