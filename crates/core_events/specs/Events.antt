@@ -1,7 +1,8 @@
 -- The steps that a machine's events stand for.
 use Rattle.std.specs.Prelude.{ℕ}
 use Rattle.core_machine.specs.Core.{Core}
-use Rattle.core_machine.specs.Steps.{IsStep, commit, learn, refresh, share, side, take_in}
+use Rattle.core_machine.specs.Steps.{Event as CoreEvent, IsStep, answer, commit, learn, refresh, share, side, take_in}
+use Rattle.core_answers.specs.Outcomes.{ending_of}
 use Rattle.oracle_face.specs.Logs.{Source, by_axiom, by_hints}
 use Rattle.core_events.specs.declared.event.Event.{Event}
 use Rattle.core_events.specs.declared.event.Event.TheVariants.{Answer, Commit, Import, Learn, Refresh, Share, Side}
@@ -23,3 +24,18 @@ IsEventStep (Share s step index) core new = IsStep core (share s step index) new
 IsEventStep (Import s index) core new = IsStep core (take_in s index) new
 IsEventStep (Answer s query limit pending result) core new =
     IsAnswered core s query limit (in_hand result pending) result new
+
+-- the core's event that it is: an answer lists 10,000 extensions at most
+abbrev pub event_of : Event → CoreEvent
+event_of (Commit s edit) = commit s edit
+event_of (Refresh s) = refresh s
+event_of (Learn s clause origin closing) = learn s clause (source_by origin) closing
+event_of (Side s set literals) = side s set literals
+event_of (Share s step index) = share s step index
+event_of (Import s index) = take_in s index
+event_of (Answer s query limit pending result) =
+    answer s query 10000 limit (in_hand result pending) (ending_of result)
+
+-- what an event leads to, a step of the core leads to
+abbrev pub EventsAreSteps : Type 0
+EventsAreSteps = (event : Event) (core new : Core) → IsEventStep event core new → IsStep core (event_of event) new

@@ -4,6 +4,7 @@
 pub mod answering;
 pub mod event;
 pub mod history;
+pub mod laws;
 pub mod log_events;
 pub mod machine;
 pub mod named_log;
