@@ -1,9 +1,8 @@
 -- What calls for an axiom, in the core's words, and how an axiom or an entry comes.
-use Rattle.std.proofs.Common.{◌≡◌, inl, inr, ⊎_elim, ℕ, ◌+◌, ◌<◌, ◌≤◌, min, Bool, true, false, List, length, take, refl, ap, sym, subst, ◌∙◌, arith}
-use Rattle.std.specs.Prelude.{◌⊎◌, ◌↔◌, IsTrue, Option, Some, None}
+use Rattle.std.proofs.Common.{◌≡◌, inl, ⊎_elim, ℕ, ◌<◌, ◌≤◌, min, Bool, true, false, List, length, take, refl, ap, sym, subst, ◌∙◌, arith}
+use Rattle.std.specs.Prelude.{◌↔◌, IsTrue, Some, None}
 use Rattle.std.proofs.lemmas.Bool.{cases_lt, false≢true}
 use Rattle.std.proofs.lemmas.List.{length-take, take_all, take-take}
-use Rattle.semantics.specs.Frameworks.{Framework}
 use Rattle.meaning_atoms.specs.declared.atom.AtomLit.{AtomLit}
 use Rattle.meaning_atoms.specs.declared.axiom.AxiomName.{AxiomName}
 use Rattle.certificate_claims.specs.Refutations.{axiom_clause}
@@ -13,7 +12,7 @@ use Rattle.oracle_face.specs.declared.entry.Entry.{Entry as PoolEntry}
 use Rattle.oracle_face.specs.Logs.{IsNew, LogStep, OracleLog, by_axiom, is_loop, working}
 use Rattle.oracle_face.specs.Needed.{IsNeeded}
 use Rattle.core_machine.specs.Core.{Core, with_log}
-use Rattle.core_machine.specs.Steps.{IsCalledFor, IsNamedInPool, IsNeededFor, IsStep, TakesFromPool, learn, take_in}
+use Rattle.core_machine.specs.Steps.{IsCalledFor, IsNamedInPool, IsNeededFor, IsStep, learn, take_in}
 use Rattle.core_events.specs.declared.machine.Machine.{Machine}
 use Rattle.core_events.specs.declared.places.Place.{Place}
 use Rattle.core_events.specs.Machines.{core_of}

@@ -1,6 +1,6 @@
 -- What the looks for named steps come to.
-use Rattle.std.proofs.Common.{◌≡◌, ◌≢◌, inl, inr, ⊎_elim, ℕ, ◌+◌, ◌-◌, ◌<◌, ◌≤◌, Bool, true, false, List, [], ◌∷◌, ◌++◌, length, take, get_or, refl, ap, sym, subst, ◌∙◌, arith}
-use Rattle.std.specs.Prelude.{◌⊎◌, ◌↔◌, IsTrue, Contains, slice_index_or, Option, Some, None, Result, Ok, Err}
+use Rattle.std.proofs.Common.{◌≡◌, ◌≢◌, ⊎_elim, ℕ, ◌+◌, ◌<◌, ◌≤◌, Bool, true, false, List, [], ◌∷◌, ◌++◌, length, get_or, refl, ap, sym, subst, ◌∙◌, arith}
+use Rattle.std.specs.Prelude.{◌↔◌, IsTrue, Contains, slice_index_or, Some, Result, Ok, Err}
 use Rattle.std.proofs.lemmas.Bool.{cases_lt, false≢true}
 use Rattle.std.proofs.lemmas.List.{get_or_append_left, get_or_default, get_or_push, length-append}
 use Rattle.std.proofs.lemmas.Grind.{same_number_lists}
@@ -17,11 +17,11 @@ use Rattle.oracle_face.specs.declared.entry.EntryOrigin.{EntryOrigin}
 use Rattle.oracle_face.specs.declared.entry.EntryOrigin.TheVariants.{Axiom as OfAxiom, Hints}
 use Rattle.oracle_face.specs.declared.entry.HintName.{HintName}
 use Rattle.oracle_face.specs.declared.entry.HintName.TheVariants.{Entry as OfEntry}
-use Rattle.oracle_face.specs.Logs.{LogStep, OracleLog, IsNumberOf, IsSameClause, clauses_of, step_at}
+use Rattle.oracle_face.specs.Logs.{LogStep, OracleLog, IsNumberOf, clauses_of, step_at}
 use Rattle.session_log.specs.Steps.{GainsStep, derived_step}
-use Rattle.clause_imports.specs.Imports.{FollowsByNames, IsHintOf, IsShownHere, MayImport, StandsFor, StandForSteps, TakesEntry}
+use Rattle.clause_imports.specs.Imports.{FollowsByNames, IsHintOf, IsShownHere, MayImport, StandsFor, StandForSteps}
 use Rattle.clause_imports.proofs.Naming.{names_single}
-use Rattle.core_events.specs.Naming.{CallsFirst, Imports, IsCalledAt, IsFirstCalled, StandForSome, StandsForSome}
+use Rattle.core_events.specs.Naming.{Imports, IsCalledAt, IsFirstCalled}
 
 -- ---- one name
 

@@ -1,6 +1,6 @@
 -- What the looks for axioms come to.
-use Rattle.std.proofs.Common.{◌≡◌, inl, inr, ⊎_elim, ℕ, ◌+◌, ◌<◌, ◌≤◌, ◌==◌, Bool, true, false, List, [], ◌∷◌, ◌++◌, length, map, take, get_or, refl, ap, sym, subst, ◌∙◌, arith}
-use Rattle.std.specs.Prelude.{◌⊎◌, ◌↔◌, IsTrue, Contains, Option, Some, None, if◌then◌else◌}
+use Rattle.std.proofs.Common.{◌≡◌, ⊎_elim, ℕ, ◌+◌, ◌<◌, ◌≤◌, ◌==◌, Bool, true, false, List, [], ◌∷◌, ◌++◌, length, take, get_or, refl, ap, sym, subst, ◌∙◌, arith}
+use Rattle.std.specs.Prelude.{◌↔◌, IsTrue, Some}
 use Rattle.std.proofs.lemmas.Bool.{cases_Bool, cases_lt, eqb-true, false≢true}
 use Rattle.std.proofs.lemmas.List.{take_all, take_more}
 use Rattle.plain_lists.proofs.Membership.{Contains-head, Contains-tail}
@@ -15,7 +15,7 @@ use Rattle.core_logs.proofs.Walked.{IsSome}
 use Rattle.core_events.specs.declared.places.Place.{Place}
 use Rattle.core_events.specs.Needs.{IsNamedAmong, IsNamedUnder, IsNeededAmong}
 use Rattle.core_events.specs.Places.{pool_of}
-use Rattle.core_events.proofs.Tests.{if_false, if_true}
+use Rattle.core_events.proofs.Tests.{if_false}
 
 -- ---- frameworks
 

@@ -1,10 +1,9 @@
 -- How sessions change where one seat does.
-use Rattle.std.proofs.Common.{◌≡◌, ◌≢◌, inl, inr, ⊎_elim, ℕ, zero, suc, ◌+◌, ◌<◌, ◌≤◌, ◌==◌, Bool, true, false, List, [], ◌∷◌, ◌++◌, length, get_or, refl, ap, sym, subst, ◌∙◌, arith}
-use Rattle.std.specs.Prelude.{◌⊎◌, slice_index_or, slice_set, if◌then◌else◌}
+use Rattle.std.proofs.Common.{◌≡◌, ◌≢◌, ⊎_elim, ℕ, zero, suc, ◌==◌, List, [], ◌∷◌, ◌++◌, ap, sym, ◌∙◌, arith}
+use Rattle.std.specs.Prelude.{slice_index_or, slice_set, if◌then◌else◌}
 use Rattle.std.proofs.lemmas.Bool.{cases_Bool, eqb-true, false≢true}
 use Rattle.core_machine.specs.Core.{CoreSession, put_at}
 use Rattle.core_events.specs.declared.seats.Seat.{Seat}
-use Rattle.core_events.specs.declared.seats.SessionState.{SessionState}
 use Rattle.core_events.specs.Seats.{IsSeatAt, fresh, session_of, sessions_of}
 use Rattle.core_events.proofs.Tests.{if_false, if_true, other_test, same_test}
 

@@ -9,11 +9,11 @@ use Rattle.meaning_atoms.specs.declared.atom.AtomLit.{AtomLit}
 use Rattle.meaning_atoms.specs.Literals.{AsksNothing}
 use Rattle.oracle_face.specs.declared.entry.Entry.{Entry}
 use Rattle.oracle_face.specs.declared.entry.EntryOrigin.{EntryOrigin}
-use Rattle.oracle_face.specs.declared.entry.EntryOrigin.TheVariants.{Axiom as OfAxiom, Hints}
+use Rattle.oracle_face.specs.declared.entry.EntryOrigin.TheVariants.{Hints}
 use Rattle.oracle_face.specs.declared.entry.HintName.{HintName}
 use Rattle.oracle_face.specs.Logs.{IsNumberOf, LogStep, Source, by_axiom, by_hints, by_side, step_at}
-use Rattle.core_machine.specs.Core.{Core, CoreSession, put_at, with_session}
-use Rattle.core_machine.specs.Steps.{IsStep, Shares, name_of_step, origin_of, share}
+use Rattle.core_machine.specs.Core.{Core, CoreSession, put_at}
+use Rattle.core_machine.specs.Steps.{IsStep, name_of_step, origin_of, share}
 use Rattle.core_events.specs.declared.machine.Machine.{Machine}
 use Rattle.core_events.specs.declared.places.Place.{Place}
 use Rattle.core_events.specs.declared.seats.Seat.{Seat}

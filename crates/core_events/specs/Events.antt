@@ -1,5 +1,4 @@
 -- The steps that a machine's events stand for.
-use Rattle.std.specs.Prelude.{ℕ}
 use Rattle.core_machine.specs.Core.{Core}
 use Rattle.core_machine.specs.Steps.{Event as CoreEvent, IsStep, answer, commit, learn, refresh, share, side, take_in}
 use Rattle.core_answers.specs.Outcomes.{ending_of}

@@ -1,5 +1,5 @@
 -- The sessions that a list of seats means.
-use Rattle.std.specs.Prelude.{◌≡◌, ◌≢◌, ℕ, ◌<◌, ◌==◌, List, [], ◌∷◌, length, Contains, slice_index_or, if◌then◌else◌}
+use Rattle.std.specs.Prelude.{◌≡◌, ◌≢◌, ℕ, ◌<◌, ◌==◌, List, [], ◌∷◌, length, slice_index_or, if◌then◌else◌}
 use Rattle.core_machine.specs.Core.{CoreSession}
 use Rattle.core_events.specs.declared.seats.Seat.{Seat}
 use Rattle.core_events.specs.declared.seats.SessionState.{SessionState}

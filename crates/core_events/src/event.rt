@@ -52,7 +52,10 @@ pub enum Event {
         index: u64,
     },
     /// A session takes the entry at an index of the pool.
-    Import { session: u32, index: u64 },
+    Import {
+        session: u32,
+        index: u64,
+    },
     /// A session answers a query with so many units at most.
     Answer {
         session: u32,

@@ -1,4 +1,4 @@
-use Rattle.std.proofs.Common.{[], ◌∷◌, ℕ, List, ap, sym, ◌∙◌}
+use Rattle.std.proofs.Common.{[], ◌∷◌, ℕ, ap, sym, ◌∙◌}
 use Rattle.std.specs.Prelude.{if◌then◌else◌}
 use Rattle.edit_words.specs.declared.edit.Edit.{Edit}
 use Rattle.edit_history.specs.declared.entry.Entry.{Entry}

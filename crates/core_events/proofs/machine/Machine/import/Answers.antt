@@ -1,8 +1,7 @@
-use Rattle.std.proofs.Common.{◌∙◌, ap, Some, subst, sym}
+use Rattle.std.proofs.Common.{◌∙◌, ap, sym}
 use Rattle.oracle_face.specs.Logs.{OracleLog}
 use Rattle.core_machine.specs.Core.{Core}
 use Rattle.core_machine.specs.Steps.{IsStep, take_in}
-use Rattle.core_events.specs.declared.places.Place.{Place}
 use Rattle.core_events.specs.Machines.{core_of}
 use Rattle.core_events.specs.Naming.{Imports}
 use Rattle.core_events.specs.Places.{pool_of}
