@@ -6,6 +6,8 @@ mod answers;
 #[cfg(test)]
 mod assumptions;
 #[cfg(test)]
+mod machines;
+#[cfg(test)]
 mod trades;
 #[cfg(test)]
 mod updates;

@@ -1,0 +1,10 @@
+pub mod Fronts
+pub mod FactLemmas
+pub mod ReachLemmas
+pub mod RestLemmas
+pub mod ServeLemmas
+pub mod PendingLemmas
+pub mod RefuteLemmas
+pub mod ShowLemmas
+pub mod OrderLemmas
+pub mod EndLemmas

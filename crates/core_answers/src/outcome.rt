@@ -1,0 +1,21 @@
+//! What comes of a query.
+
+use edit_rules::QueryFault;
+use iccma_tasks::Answer;
+use plain_lists::Items;
+use set_lists::NumSet;
+
+/// How an answer of the core ends.
+#[derive(Debug, Drop)]
+pub enum Outcome {
+    /// The query doesn't fit the framework.
+    Refused(QueryFault),
+    /// An answer, with the sets of its certificate.
+    Definite(Answer, Items<NumSet>),
+    /// The budget was spent, at this number of units.
+    Unknown(u64),
+    /// More extensions than may be listed.
+    TooMany(Items<NumSet>),
+    /// The log was full.
+    LogFull,
+}

@@ -1,0 +1,129 @@
+-- What calls for an axiom, in the core's words, and how an axiom or an entry comes.
+use Rattle.std.proofs.Common.{◌≡◌, inl, ⊎_elim, ℕ, ◌<◌, ◌≤◌, min, Bool, true, false, List, length, take, refl, ap, sym, subst, ◌∙◌, arith}
+use Rattle.std.specs.Prelude.{◌↔◌, IsTrue, Some, None}
+use Rattle.std.proofs.lemmas.Bool.{cases_lt, false≢true}
+use Rattle.std.proofs.lemmas.List.{length-take, take_all, take-take}
+use Rattle.meaning_atoms.specs.declared.atom.AtomLit.{AtomLit}
+use Rattle.meaning_atoms.specs.declared.axiom.AxiomName.{AxiomName}
+use Rattle.certificate_claims.specs.Refutations.{axiom_clause}
+use Rattle.edit_history.specs.declared.entry.Entry.{Entry}
+use Rattle.edit_history.specs.Entries.{framework_after}
+use Rattle.oracle_face.specs.declared.entry.Entry.{Entry as PoolEntry}
+use Rattle.oracle_face.specs.Logs.{IsNew, LogStep, OracleLog, by_axiom, is_loop, working}
+use Rattle.oracle_face.specs.Needed.{IsNeeded}
+use Rattle.core_machine.specs.Core.{Core, with_log}
+use Rattle.core_machine.specs.Steps.{IsCalledFor, IsNamedInPool, IsNeededFor, IsStep, learn, take_in}
+use Rattle.core_events.specs.declared.machine.Machine.{Machine}
+use Rattle.core_events.specs.declared.places.Place.{Place}
+use Rattle.core_events.specs.Machines.{core_of}
+use Rattle.core_events.specs.Naming.{Imports}
+use Rattle.core_events.specs.Needs.{IsNamedAmong, IsNeededAmong}
+
+-- ---- needed axioms
+
+module _ (core : Core) (s : ℕ) (name : AxiomName) where
+  abbrev seen_part : List Entry
+  seen_part = take (core.sessions s).seen core.history
+
+  -- fewer entries of a front are a front
+  shorter : (count : ℕ) → count ≤ (core.sessions s).seen → take count seen_part ≡ take count core.history
+  shorter count le = take-take count (core.sessions s).seen core.history le
+
+  long : length seen_part ≡ min (core.sessions s).seen (length core.history)
+  long = length-take (core.sessions s).seen core.history
+
+  needed_to : IsNeededAmong core.opening seen_part name → IsNeededFor core s name
+  needed_to w =
+      let within = w.within in
+      let le : w.count ≤ (core.sessions s).seen = omega (arith, long) in
+      record {
+        count = w.count;
+        seen = le;
+        needed = subst (λ (es : List Entry). IsNeeded (framework_after core.opening es) name) (shorter w.count le)
+            w.needed;
+      }
+
+  needed_from : IsNeededFor core s name → IsNeededAmong core.opening seen_part name
+  needed_from w =
+      let seen = w.seen in
+      ⊎_elim
+      (λ (more : length seen_part < w.count). record {
+        count = length seen_part;
+        within = omega arith;
+        needed = subst (λ (es : List Entry). IsNeeded (framework_after core.opening es) name)
+            (take_all w.count core.history (omega (arith, long))
+            ∙ (sym (take_all (core.sessions s).seen core.history (omega (arith, long)))
+            ∙ sym (take_all (length seen_part) seen_part (omega arith)))) w.needed;
+      })
+      (λ few. record {
+        count = w.count;
+        within = omega (arith, few);
+        needed = subst (λ (es : List Entry). IsNeeded (framework_after core.opening es) name)
+            (sym (shorter w.count w.seen)) w.needed;
+      })
+      (cases_lt (length seen_part) w.count)
+
+  pub wanted_needed : (b named : Bool) (seen : List Entry) → seen ≡ seen_part
+      → IsTrue named ↔ IsNamedInPool core name → named ≡ false → IsTrue b ↔ IsNeededAmong core.opening seen name
+      → IsTrue b ↔ IsCalledFor core s name false
+  wanted_needed b named seen e hn no_ h = (
+    λ t. inl (needed_to (subst (λ (es : List Entry). IsNeededAmong core.opening es name) e (h.0 t))),
+    λ called. ⊎_elim (λ w. h.1 (subst (λ (es : List Entry). IsNeededAmong core.opening es name) (sym e)
+        (needed_from w)))
+        (λ w. absurd (false≢true (sym no_ ∙ hn.1 w))) called,
+  )
+
+  pub loop_called : (b : Bool) (steps : List LogStep) (clause : List AtomLit) → is_loop name ≡ true
+      → steps ≡ (core.sessions s).log.steps → clause ≡ axiom_clause name
+      → IsTrue b ↔ IsNew (working steps) clause → IsTrue b ↔ IsCalledFor core s name (is_loop name)
+  loop_called b steps clause e e1 e2 h =
+      let here : IsTrue b ↔ IsCalledFor core s name true =
+      subst (λ (xs : List LogStep). IsTrue b ↔ IsNew (working xs) (axiom_clause name)) e1
+      (subst (λ (c : List AtomLit). IsTrue b ↔ IsNew (working steps) c) e2 h) in
+      subst (λ x. IsTrue b ↔ IsCalledFor core s name x) (sym e) here
+
+  -- an axiom that isn't called for doesn't come
+  pub not_called : (before : Core) (clause : List AtomLit) (closing b : Bool) → core ≡ before
+      → IsTrue b ↔ IsCalledFor core s name (is_loop name) → b ≡ false → (next : Core)
+      → IsStep before (learn s clause (by_axiom name) closing) next → ⊥
+  not_called before clause closing b same h no_ next q =
+      false≢true (sym no_
+      ∙ h.1 (subst (λ (c : Core). IsCalledFor c s name (is_loop name)) (sym same) q.1.1.called))
+
+-- ---- the pool
+
+pub named_in_pool : (m : Machine) (b : Bool) (places : List Place) (name : AxiomName) → places ≡ m.pool.items
+    → IsTrue b ↔ IsNamedAmong places name → IsTrue b ↔ IsNamedInPool (core_of m) name
+named_in_pool m b places name e h = (
+  λ t. let w = subst (λ (ps : List Place). IsNamedAmong ps name) e (h.0 t) in
+      record { index = w.index; entry = w.entry; there = w.there; named = w.named },
+  λ w. h.1 (subst (λ (ps : List Place). IsNamedAmong ps name) (sym e)
+      (record { index = w.index; entry = w.entry; there = w.there; named = w.named })),
+)
+
+-- ---- entries
+
+same_some : (a b : PoolEntry) → Some a ≡ Some b → a ≡ b
+same_some a b e = cc
+
+none_some : (a : PoolEntry) → None ≡ Some a → ⊥
+none_some a e = absurd (cc)
+
+pub nothing_there : (core before : Core) (s i : ℕ) → core ≡ before → core.pool i ≡ None → (next : Core)
+    → IsStep before (take_in s i) next → ⊥
+nothing_there core before s i same none next q =
+    none_some q.entry (sym none ∙ (ap (λ (c : Core). c.pool i) same ∙ q.there))
+
+pub comes_in : (core : Core) (s i : ℕ) (entry : PoolEntry) → core.pool i ≡ Some entry → (log : OracleLog)
+    → Imports core.opening s entry (core.sessions s).log log → IsStep core (take_in s i) (with_log core s log)
+comes_in core s i entry there log p =
+    record { entry = entry; there = there; may = p.may; log = log; takes = p.takes; is = refl }
+
+pub came_in : (core : Core) (s i : ℕ) (entry : PoolEntry) → core.pool i ≡ Some entry → (next : Core)
+    → IsStep core (take_in s i) next → (log : OracleLog) × Imports core.opening s entry (core.sessions s).log log
+came_in core s i entry there next q =
+    let same = same_some q.entry entry (sym q.there ∙ there) in (
+      q.log,
+      subst (λ (e : PoolEntry). Imports core.opening s e (core.sessions s).log q.log) same
+          (record { may = q.may; takes = q.takes }),
+    )

@@ -1,0 +1,11 @@
+pub mod AnswerLemmas
+pub mod CallLemmas
+pub mod EventLemmas
+pub mod NamingLemmas
+pub mod NeedLemmas
+pub mod PlaceLemmas
+pub mod SeatLemmas
+pub mod SharingLemmas
+pub mod StateLemmas
+pub mod Tests
+pub mod TurnLemmas

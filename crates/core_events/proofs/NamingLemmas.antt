@@ -1,0 +1,221 @@
+-- What the looks for named steps come to.
+use Rattle.std.proofs.Common.{◌≡◌, ◌≢◌, ⊎_elim, ℕ, ◌+◌, ◌<◌, ◌≤◌, Bool, true, false, List, [], ◌∷◌, ◌++◌, length, get_or, refl, ap, sym, subst, ◌∙◌, arith}
+use Rattle.std.specs.Prelude.{◌↔◌, IsTrue, Contains, slice_index_or, Some, Result, Ok, Err}
+use Rattle.std.proofs.lemmas.Bool.{cases_lt, false≢true}
+use Rattle.std.proofs.lemmas.List.{get_or_append_left, get_or_default, get_or_push, length-append}
+use Rattle.std.proofs.lemmas.Grind.{same_number_lists}
+use Rattle.std.proofs.lemmas.List.Elements.{Contains-get_or}
+use Rattle.plain_lists.proofs.Membership.{Contains-head}
+use Rattle.plain_lits.specs.HintCheck.{Checks}
+use Rattle.semantics.specs.Frameworks.{Framework}
+use Rattle.meaning_atoms.specs.declared.axiom.AxiomName.{AxiomName}
+use Rattle.meaning_atoms.specs.declared.atom.AtomLit.{AtomLit}
+use Rattle.meaning_atoms.specs.Literals.{AsksNothing, negated}
+use Rattle.oracle_face.specs.declared.entry.Entry.{Entry}
+use Rattle.oracle_face.specs.declared.entry.EntryName.{EntryName}
+use Rattle.oracle_face.specs.declared.entry.EntryOrigin.{EntryOrigin}
+use Rattle.oracle_face.specs.declared.entry.EntryOrigin.TheVariants.{Axiom as OfAxiom, Hints}
+use Rattle.oracle_face.specs.declared.entry.HintName.{HintName}
+use Rattle.oracle_face.specs.declared.entry.HintName.TheVariants.{Entry as OfEntry}
+use Rattle.oracle_face.specs.Logs.{LogStep, OracleLog, IsNumberOf, clauses_of, step_at}
+use Rattle.session_log.specs.Steps.{GainsStep, derived_step}
+use Rattle.clause_imports.specs.Imports.{FollowsByNames, IsHintOf, IsShownHere, MayImport, StandsFor, StandForSteps}
+use Rattle.clause_imports.proofs.Naming.{names_single}
+use Rattle.core_events.specs.Naming.{Imports, IsCalledAt, IsFirstCalled}
+
+-- ---- one name
+
+pub called_first : (own : ℕ) (steps : List LogStep) (name : HintName) (before number : ℕ) → number ≡ before + 1
+    → ((n : ℕ) → n ≤ before → IsCalledAt own steps name n → ⊥) → IsCalledAt own steps name number
+    → IsFirstCalled own steps name number
+called_first own steps name before number e none at = record {
+  at = at;
+  first = λ other is. ⊎_elim (λ early. absurd (none other (omega arith) is)) (λ late. omega (arith, e, late))
+      (cases_lt other number);
+}
+
+-- a step that stands for the name is the first that it calls
+stands_first : (own : ℕ) (steps : List LogStep) (name : HintName) (number other : ℕ)
+    → IsFirstCalled own steps name number → StandsFor own steps name other → other ≡ number
+stands_first own steps name number other is stands =
+    let low = is.first other (record { named = stands.named; called = stands.called }) in
+    let high = stands.first number is.at.named is.at.called in
+    omega (arith, low, high)
+
+pub stands_by : (own : ℕ) (steps : List LogStep) (name : HintName) (number : ℕ) → IsFirstCalled own steps name number
+    → (step_at steps number).closing ≡ false → AsksNothing (step_at steps number).clause
+    → StandsFor own steps name number
+stands_by own steps name number is kept plain = record {
+  named = is.at.named;
+  called = is.at.called;
+  first = λ other named called. is.first other (record { named = named; called = called });
+  kept = kept;
+  plain = plain;
+}
+
+pub none_called : (own : ℕ) (steps : List LogStep) (name : HintName)
+    → ((number : ℕ) → IsCalledAt own steps name number → ⊥) → (number : ℕ) → StandsFor own steps name number → ⊥
+none_called own steps name none number stands =
+    none number (record { named = stands.named; called = stands.called })
+
+pub none_closing : (own : ℕ) (steps : List LogStep) (name : HintName) (number : ℕ)
+    → IsFirstCalled own steps name number → (step_at steps number).closing ≡ true
+    → (other : ℕ) → StandsFor own steps name other → ⊥
+none_closing own steps name number is e other stands =
+    false≢true (sym stands.kept
+    ∙ (ap (λ n. (step_at steps n).closing) (stands_first own steps name number other is stands) ∙ e))
+
+pub none_asking : (own : ℕ) (steps : List LogStep) (name : HintName) (number : ℕ)
+    → IsFirstCalled own steps name number → (AsksNothing (step_at steps number).clause → ⊥)
+    → (other : ℕ) → StandsFor own steps name other → ⊥
+none_asking own steps name number is asks other stands =
+    asks (subst (λ n. AsksNothing (step_at steps n).clause) (stands_first own steps name number other is stands)
+    stands.plain)
+
+-- ---- names in turn
+
+-- the steps of the first names
+pub record StandSoFar (own : ℕ) (steps : List LogStep) (names : List HintName) (i : ℕ) (found : List ℕ) : Type 0 where
+  pub long : length found ≡ i
+  pub each : (k : ℕ) (d : HintName) → k < i → StandsFor own steps (slice_index_or names k d) (slice_index_or found k 0)
+
+pub so_far_none : (own : ℕ) (steps : List LogStep) (names : List HintName) (found : List ℕ) → found ≡ []
+    → StandSoFar own steps names 0 found
+so_far_none own steps names found e = record {
+  long = ap length e;
+  each = λ k d lt. absurd (omega (arith, lt));
+}
+
+pub so_far_more : (own : ℕ) (steps : List LogStep) (names : List HintName) (i : ℕ) (found new : List ℕ)
+    (name : HintName) (step : ℕ) → i < length names → name ≡ get_or names i name → StandsFor own steps name step
+    → new ≡ found ++ step ∷ [] → StandSoFar own steps names i found → StandSoFar own steps names (i + 1) new
+so_far_more own steps names i found new name step lt read stands e so_far = record {
+  long = ap length e ∙ (length-append found (step ∷ []) ∙ ap (λ n. n + 1) so_far.long);
+  each = λ k d less. ⊎_elim
+      (λ early. subst (λ n. StandsFor own steps (slice_index_or names k d) n)
+      (sym (ap (λ xs. slice_index_or xs k 0) e ∙ get_or_append_left found (step ∷ []) 0 k
+      (subst (λ n. k < n) (sym so_far.long) early)))
+      (so_far.each k d early))
+      (λ late. let same : k ≡ i = omega (arith, less, late) in
+      subst (λ n. StandsFor own steps (slice_index_or names k d) n)
+      (sym (ap (λ xs. slice_index_or xs k 0) e ∙ get_or_push found step 0 k (so_far.long ∙ sym same)))
+      (subst (λ (x : HintName). StandsFor own steps x step)
+      (read ∙ (get_or_default names i name d lt ∙ ap (λ n. get_or names n d) (sym same))) stands))
+      (cases_lt k i);
+}
+
+pub so_far_all : (own : ℕ) (steps : List LogStep) (names : List HintName) (i : ℕ) (found : List ℕ)
+    → i ≡ length names → StandSoFar own steps names i found → StandForSteps own steps names found
+so_far_all own steps names i found e so_far = record {
+  long = so_far.long ∙ e;
+  each = λ k d lt. so_far.each k d (subst (λ n. k < n) (sym e) lt);
+}
+
+pub so_far_stops : (own : ℕ) (steps : List LogStep) (names : List HintName) (i : ℕ) (name : HintName)
+    → i < length names → name ≡ get_or names i name → ((number : ℕ) → StandsFor own steps name number → ⊥)
+    → (hints : List ℕ) → StandForSteps own steps names hints → ⊥
+so_far_stops own steps names i name lt read none hints stand =
+    none (slice_index_or hints i 0)
+    (subst (λ (x : HintName). StandsFor own steps x (slice_index_or hints i 0)) (sym read) (stand.each i name lt))
+
+-- ---- entries
+
+abbrev told : ℕ → Result ℕ ℕ
+told n = Ok n
+
+ok_not_err : (m n : ℕ) → told m ≡ Err n → ⊥
+ok_not_err m n e = absurd (cc)
+
+no_hints : (clauses : List (List AtomLit)) (clause : List AtomLit) (hints : List ℕ)
+    → Checks negated clauses clause hints (Ok (length hints)) → ((hint : ℕ) → Contains hints hint → ⊥) → ⊥
+no_hints clauses clause [] checks none = ⊎_elim (λ f. ok_not_err 0 0 f.1) (λ f. ok_not_err 0 1 f.1) checks
+no_hints clauses clause (hint ∷ more) checks none = none hint (Contains-head hint more hint refl)
+
+-- an entry of an axiom has no hints that could take it
+pub no_axiom_entry : (f : Framework) (own : ℕ) (entry : Entry) (name : AxiomName) (old new : OracleLog)
+    → entry.origin ≡ OfAxiom name → Imports f own entry old new → ⊥
+no_axiom_entry f own entry name old new e is =
+    no_hints (clauses_of old.steps) is.takes.clause is.takes.hints is.takes.checks
+    (λ hint c. subst (λ (o : EntryOrigin). IsHintOf own old.steps o hint) e (is.takes.named hint c))
+
+abbrev blank : HintName
+blank = OfEntry (record { session = 0; step = 0 })
+
+-- the same of an entry that follows by names
+module _ (f : Framework) (own : ℕ) (entry : Entry) (names : List HintName) (old : OracleLog)
+    (e : entry.origin ≡ Hints names) where
+  follows_here : MayImport f own old entry → FollowsByNames own old.steps entry.clause names
+  follows_here may =
+      let h : IsShownHere f own old.steps entry.clause (Hints names) =
+      subst (λ o. IsShownHere f own old.steps entry.clause o) e may.shown in h
+
+  pub none_stand : ((hints : List ℕ) → StandForSteps own old.steps names hints → ⊥) → (new : OracleLog)
+      → Imports f own entry old new → ⊥
+  none_stand none new is = let h = follows_here is.may in none h.hints h.stand
+
+  -- names stand for one list of steps
+  pub same_hints : (hints others : List ℕ) → StandForSteps own old.steps names hints
+      → StandForSteps own old.steps names others → others ≡ hints
+  same_hints hints others here there = same_number_lists others hints (there.long ∙ sym here.long)
+      (λ k lt. let within = subst (λ n. k < n) there.long lt in
+      names_single own old.steps (slice_index_or names k blank) (slice_index_or others k 0) (slice_index_or hints k 0)
+      (there.each k blank within) (here.each k blank within))
+
+  pub not_taken : (hints : List ℕ) → StandForSteps own old.steps names hints
+      → (Checks negated (clauses_of old.steps) entry.clause hints (Ok (length hints)) → ⊥) → (new : OracleLog)
+      → Imports f own entry old new → ⊥
+  not_taken hints stand none new is =
+      let h = follows_here is.may in
+      none (subst (λ (hs : List ℕ). Checks negated (clauses_of old.steps) entry.clause hs (Ok (length hs)))
+      (same_hints hints h.hints stand h.stand) h.checks)
+
+  hint_of : (hints : List ℕ) → StandForSteps own old.steps names hints → (hint : ℕ) → Contains hints hint
+      → IsHintOf own old.steps (Hints names) hint
+  hint_of hints stand hint c =
+      let within = subst (λ n. c.0 < n) stand.long c.1 in (
+        slice_index_or names c.0 blank,
+        Contains-get_or names c.0 blank within,
+        subst (λ n. StandsFor own old.steps (slice_index_or names c.0 blank) n)
+            (get_or_default hints c.0 0 hint c.1 ∙ c.2) (stand.each c.0 blank within),
+      )
+
+  pub imports_by : (hints : List ℕ) (new : OracleLog) → length old.steps < old.limit → entry.name.session ≢ own
+      → ((number : ℕ) → IsNumberOf old.steps number → (step_at old.steps number).imported ≢ Some entry.name)
+      → StandForSteps own old.steps names hints
+      → Checks negated (clauses_of old.steps) entry.clause hints (Ok (length hints))
+      → GainsStep (derived_step entry.clause hints (Some entry.name) false) old.sides old new
+      → Imports f own entry old new
+  imports_by hints new room other absent stand checks gains = record {
+    may = record {
+      room = room;
+      other = other;
+      absent = absent;
+      shown = subst (λ o. IsShownHere f own old.steps entry.clause o) (sym e)
+          (record { hints = hints; stand = stand; checks = checks });
+    };
+    takes = record {
+      clause = entry.clause;
+      hints = hints;
+      same = record { there = λ l c. c; back = λ l c. c };
+      checks = checks;
+      named = λ hint c. subst (λ o. IsHintOf own old.steps o hint) (sym e) (hint_of hints stand hint c);
+      gains = gains;
+    };
+  }
+
+-- what the check says of slices, it says of what they lend
+pub lent_checks : (b : Bool) (steps behind : List LogStep) (clause given : List AtomLit) (hints named : List ℕ)
+    → behind ≡ steps → given ≡ clause → named ≡ hints
+    → IsTrue b ↔ Checks negated (clauses_of behind) given named (Ok (length named))
+    → IsTrue b ↔ Checks negated (clauses_of steps) clause hints (Ok (length hints))
+lent_checks b steps behind clause given hints named e1 e2 e3 h =
+    subst (λ (s : List LogStep). IsTrue b ↔ Checks negated (clauses_of s) clause hints (Ok (length hints))) e1
+    (subst (λ (c : List AtomLit). IsTrue b ↔ Checks negated (clauses_of behind) c hints (Ok (length hints))) e2
+    (subst (λ (n : List ℕ). IsTrue b ↔ Checks negated (clauses_of behind) given n (Ok (length n))) e3 h))
+
+pub lent_gains : (old new : OracleLog) (clause given : List AtomLit) (hints named : List ℕ) (name : EntryName)
+    → given ≡ clause → named ≡ hints → GainsStep (derived_step given named (Some name) false) old.sides old new
+    → GainsStep (derived_step clause hints (Some name) false) old.sides old new
+lent_gains old new clause given hints named name e2 e3 h =
+    subst (λ (c : List AtomLit). GainsStep (derived_step c hints (Some name) false) old.sides old new) e2
+    (subst (λ (n : List ℕ). GainsStep (derived_step given n (Some name) false) old.sides old new) e3 h)

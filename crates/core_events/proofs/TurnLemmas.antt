@@ -1,0 +1,125 @@
+-- What a turn leaves.
+use Rattle.std.proofs.Common.{◌≡◌, ℕ, ◌+◌, true, false, List, [], ◌++◌, length, get_or, ap, sym, subst, ◌∙◌}
+use Rattle.std.specs.Prelude.{Result, Ok, Err, nat_le}
+use Rattle.std.specs.Result.{IsErr, IsErrAnd}
+use Rattle.std.specs.Global.{Vec}
+use Rattle.std.specs.Vec.{with_item}
+use Rattle.std.proofs.lemmas.Bool.{false≢true}
+use Rattle.std.proofs.lemmas.List.{append-nil}
+use Rattle.semantics.specs.Frameworks.{Framework}
+use Rattle.edit_words.specs.declared.edit.Edit.{Edit}
+use Rattle.edit_words.specs.declared.effect.Effect.{Effect}
+use Rattle.edit_words.specs.declared.effect.EditFault.{EditFault}
+use Rattle.edit_rules.specs.Edits.{edit_outcome}
+use Rattle.edit_history.specs.declared.entry.Entry.{Entry}
+use Rattle.edit_history.specs.Entries.{framework_after}
+use Rattle.core_machine.specs.Core.{Core, CoreSession, put_at}
+use Rattle.core_machine.specs.Steps.{IsStep, after_turn, commit, committed, entry_taken, refresh}
+use Rattle.core_events.specs.declared.machine.Machine.{Machine}
+use Rattle.core_events.specs.declared.seats.Seat.{Seat}
+use Rattle.core_events.specs.declared.stop.StepStop.{StepStop}
+use Rattle.core_events.specs.declared.stop.StepStop.TheVariants.{Memory, NotAStep}
+use Rattle.core_events.specs.Machines.{core_of}
+use Rattle.core_events.specs.Seats.{IsSeatAt, session_of, sessions_of}
+use Rattle.core_events.specs.Stops.{Comes}
+use Rattle.core_events.specs.Turns.{Turns}
+use Rattle.core_events.proofs.SeatLemmas.{session_replaced}
+use Rattle.core_events.proofs.StateLemmas.{seat_number, seated}
+use Rattle.core_events.proofs.Tests.{if_false, if_true}
+
+-- ---- one turn
+
+abbrev seen_now : CoreSession → ℕ → CoreSession
+seen_now session n = record session { seen = n }
+
+abbrev with_seen : Machine → ℕ → ℕ → Seat → Vec Entry → ℕ → Machine
+with_seen m index turns seat history seen = record m {
+  history = history;
+  turns = turns;
+  seats = with_item m.seats index (record {
+    number = seat.number;
+    session = record {
+      seen = seen;
+      log = seat.session.log;
+      shared = seat.session.shared;
+      answered = seat.session.answered;
+    };
+  });
+}
+
+module _ (m : Machine) (s index : ℕ) (seat : Seat) (at : IsSeatAt m.seats.items s index)
+    (read : seat ≡ get_or m.seats.items index seat) where
+  turned_here : (turns : ℕ) (history : Vec Entry) (seen : ℕ) (entries : List Entry) → turns ≡ m.turns + 1
+      → history.items ≡ m.history.items ++ entries → seen ≡ length history.items
+      → core_of (with_seen m index turns seat history seen) ≡ after_turn (core_of m) s entries
+  turned_here turns history seen entries et eh es =
+      let long : seen ≡ length (m.history.items ++ entries) = es ∙ ap length eh in
+      let session = ap (seen_now (session_of seat.session)) long
+      ∙ ap (λ (x : CoreSession). seen_now x (length (m.history.items ++ entries)))
+      (sym (seated m s index seat at read)) in
+      let new : Seat = record {
+        number = seat.number;
+        session = record {
+          seen = seen;
+          log = seat.session.log;
+          shared = seat.session.shared;
+          answered = seat.session.answered;
+        };
+      } in
+      λ i. record (core_of m) {
+        history = eh i;
+        turns = et i;
+        sessions = λ n. (session_replaced m.log_limit m.seats.items s index new n at
+            (seat_number m s index seat at read)
+            ∙ ap (λ (x : CoreSession). put_at s x (sessions_of m.log_limit m.seats.items) n) session) i;
+      }
+
+  pub turned : (before : Core) (turns : ℕ) (history : Vec Entry) (seen : ℕ) (entries : List Entry)
+      → core_of m ≡ before → turns ≡ before.turns + 1 → history.items ≡ m.history.items ++ entries
+      → seen ≡ length history.items
+      → core_of (with_seen m index turns seat history seen) ≡ after_turn before s entries
+  turned before turns history seen entries same et eh es =
+      turned_here turns history seen entries (et ∙ ap (λ (c : Core). c.turns + 1) (sym same)) eh es
+      ∙ ap (λ (c : Core). after_turn c s entries) same
+
+pub nothing_added : (entries : List Entry) → entries ≡ entries ++ []
+nothing_added entries = sym (append-nil entries)
+
+-- entries that weren't added
+pub same_history : (m : Machine) (before : Core) (history : Vec Entry) → history.items ≡ m.history.items
+    → core_of m ≡ before → core_of (record m { history = history }) ≡ before
+same_history m before history e same = (λ i. record (core_of m) { history = e i }) ∙ same
+
+pub turn_stopped : (core now : Core) (s : ℕ) (entries : List Entry) (r : Result (Unit {0}) StepStop)
+    → IsErr r × IsErrAnd r (λ stop. stop ≡ Memory) → now ≡ core → Turns core s entries now r
+turn_stopped core now s entries (Ok done) h same = absurd (false≢true h.0)
+turn_stopped core now s entries (Err stop) h same =
+    subst (λ (x : StepStop). Turns core s entries now (Err x)) (sym h.1) same
+
+-- ---- commits
+
+pub commit_comes : (core now : Core) (s : ℕ) (edit : Edit) (entries : List Entry) (r : Result (Unit {0}) StepStop)
+    → committed core s edit ≡ entries → Turns core s entries now r → Comes (IsStep core (commit s edit)) core now r
+commit_comes core now s edit entries (Ok done) e h = h ∙ ap (after_turn core s) (sym e)
+commit_comes core now s edit entries (Err NotAStep) e h = absurd h
+commit_comes core now s edit entries (Err Memory) e h = h
+
+pub refresh_comes : (core now : Core) (s : ℕ) (r : Result (Unit {0}) StepStop) → Turns core s [] now r
+    → Comes (IsStep core (refresh s)) core now r
+refresh_comes core now s (Ok done) h = h
+refresh_comes core now s (Err NotAStep) h = absurd h
+refresh_comes core now s (Err Memory) h = h
+
+pub committed_full : (core : Core) (s : ℕ) (edit : Edit) → nat_le core.limit (length core.history) ≡ true
+    → committed core s edit ≡ []
+committed_full core s edit full =
+    if_true (nat_le core.limit (length core.history)) [] (entry_taken s edit
+    (edit_outcome (framework_after core.opening core.history) edit)) full
+
+pub committed_by : (core : Core) (s : ℕ) (edit : Edit) (f : Framework) (outcome : Result (Framework × Effect) EditFault)
+    → nat_le core.limit (length core.history) ≡ false → f ≡ framework_after core.opening core.history
+    → edit_outcome f edit ≡ outcome → committed core s edit ≡ entry_taken s edit outcome
+committed_by core s edit f outcome room e h =
+    if_false (nat_le core.limit (length core.history)) [] (entry_taken s edit
+    (edit_outcome (framework_after core.opening core.history) edit)) room
+    ∙ ap (entry_taken s edit) (ap (λ (g : Framework). edit_outcome g edit) (sym e) ∙ h)

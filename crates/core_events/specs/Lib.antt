@@ -1,0 +1,11 @@
+pub mod Answering
+pub mod Events
+pub mod LogEvents
+pub mod Machines
+pub mod Naming
+pub mod Needs
+pub mod Places
+pub mod Seats
+pub mod Sharing
+pub mod Stops
+pub mod Turns

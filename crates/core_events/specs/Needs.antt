@@ -1,0 +1,30 @@
+-- What calls for an axiom.
+use Rattle.std.specs.Prelude.{◌≡◌, ◌≤◌, ℕ, List, length, take, Some}
+use Rattle.semantics.specs.Frameworks.{Framework}
+use Rattle.meaning_atoms.specs.declared.axiom.AxiomName.{AxiomName}
+use Rattle.edit_history.specs.declared.entry.Entry.{Entry}
+use Rattle.edit_history.specs.Entries.{framework_after}
+use Rattle.oracle_face.specs.declared.entry.Entry.{Entry as PoolEntry}
+use Rattle.oracle_face.specs.Needed.{IsNeeded}
+use Rattle.core_machine.specs.Steps.{NamesAxiom}
+use Rattle.core_events.specs.declared.places.Place.{Place}
+use Rattle.core_events.specs.Places.{pool_of}
+
+-- the axiom is needed on the framework after some of the entries
+pub record IsNeededAmong (opening : Framework) (entries : List Entry) (name : AxiomName) : Type 0 where
+  pub count : ℕ
+  pub within : count ≤ length entries
+  pub needed : IsNeeded (framework_after opening (take count entries)) name
+
+-- some entry of the pool names it
+pub record IsNamedAmong (places : List Place) (name : AxiomName) : Type 0 where
+  pub index : ℕ
+  pub entry : PoolEntry
+  pub there : pool_of places index ≡ Some entry
+  pub named : NamesAxiom name entry.origin
+
+-- the entry under the index does
+pub record IsNamedUnder (places : List Place) (name : AxiomName) (index : ℕ) : Type 0 where
+  pub entry : PoolEntry
+  pub there : pool_of places index ≡ Some entry
+  pub named : NamesAxiom name entry.origin

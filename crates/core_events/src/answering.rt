@@ -1,0 +1,113 @@
+//! Answers to queries.
+
+ghost use Rattle.std.specs.Prelude.{◌≡◌, ◌↔◌, None, IfOk, IsTrue};
+ghost use Rattle.core_answers.specs.Outcomes.{IsNamedFor};
+ghost use Rattle.core_events.specs.Answering.{IsAnswered, MayAnswer, in_hand};
+ghost use Rattle.core_events.specs.Machines.{core_of};
+ghost use Rattle.core_events.specs.Seats.{IsSeatAt};
+ghost use Rattle.core_events.specs.Stops.{Comes};
+
+use crate::machine::Machine;
+use crate::needs::{front, replay};
+use crate::stop::StepStop;
+use core_answers::{Outcome, may_end};
+use iccma_tasks::Query;
+use oracle_face::Pending;
+use plain_lists::Memory;
+use std::alloc::Global;
+
+/// How many extensions an answer may list.
+pub const MOST_EXTENSIONS: u32 = 10_000;
+
+/// The clause in hand, where the budget was spent.
+fn in_hand<'a>(
+    outcome: &Outcome,
+    pending: &'a Option<Pending>,
+    none: &'a Option<Pending>,
+) -> &'a Option<Pending>
+    requires { none.now ≡ None }
+    ensures { result.now ≡ in_hand outcome.now pending.now }
+{
+    match outcome {
+        Outcome::Unknown(_) => pending,
+        Outcome::Refused(_) | Outcome::Definite(..) | Outcome::TooMany(_) | Outcome::LogFull =>
+            none,
+    }
+}
+
+impl Machine {
+    /// Whether the session of a seat may answer a query so.
+    fn may_answer(
+        &self,
+        alloc: Global,
+        session: u32,
+        index: usize,
+        query: &Query,
+        budget: u64,
+        pending: &Option<Pending>,
+        outcome: &Outcome,
+    ) -> Result<bool, Memory>
+        requires at { IsSeatAt self.now.seats.items session index }
+        requires in_hand { IsNamedFor pending.now outcome.now }
+        ensures { IfOk result (λ may. IsTrue may
+            ↔ MayAnswer (core_of self.now) session query.now budget pending.now outcome.now) }
+    {
+        let seat = &self.seats[index];
+        let seen = front(self.history.as_slice(), seat.session.seen);
+        let framework = replay(alloc, &self.opening, seen)?;
+        let log = seat.session.log.log();
+        let answered = seat.session.answered;
+        may_end(
+            alloc,
+            &framework,
+            query,
+            MOST_EXTENSIONS,
+            log,
+            answered,
+            budget,
+            pending,
+            outcome,
+        )
+    }
+
+    /// A session answers a query, with a clause in hand.
+    fn answer_so(
+        &mut self,
+        alloc: Global,
+        session: u32,
+        query: &Query,
+        budget: u64,
+        pending: &Option<Pending>,
+        outcome: &Outcome,
+    ) -> Result<(), StepStop>
+        requires { IsNamedFor pending.now outcome.now }
+        ensures { Comes (IsAnswered (core_of self.old) session query.now budget pending.now outcome.now)
+            (core_of self.old) (core_of self.new) result }
+    {
+        let index = self.seat(alloc, session)?;
+        if !self.may_answer(alloc, session, index, query, budget, pending, outcome)? {
+            return Err(StepStop::NotAStep);
+        }
+        let answered = self.seats[index].session.log.steps().len();
+        self.seats[index].session.answered = answered;
+        Ok(())
+    }
+
+    /// A session answers a query. A clause in hand is told only where the budget was spent.
+    pub(crate) fn answer(
+        &mut self,
+        alloc: Global,
+        session: u32,
+        query: &Query,
+        budget: u64,
+        pending: &Option<Pending>,
+        outcome: &Outcome,
+    ) -> Result<(), StepStop>
+        ensures { Comes (IsAnswered (core_of self.old) session query.now budget (in_hand outcome.now pending.now)
+            outcome.now) (core_of self.old) (core_of self.new) result }
+    {
+        let none = None;
+        let told = in_hand(outcome, pending, &none);
+        self.answer_so(alloc, session, query, budget, told, outcome)
+    }
+}

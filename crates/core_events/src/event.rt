@@ -1,0 +1,133 @@
+//! The events that a machine takes.
+
+ghost use Rattle.core_events.specs.Events.{IsEventStep, source_by};
+ghost use Rattle.std.specs.Prelude.{◌≡◌};
+ghost use Rattle.core_machine.specs.Steps.{IsStep, learn, refresh};
+ghost use Rattle.core_events.specs.Machines.{core_of};
+ghost use Rattle.core_events.specs.Stops.{Comes};
+
+use crate::machine::Machine;
+use crate::stop::StepStop;
+use core_answers::Outcome;
+use edit_rules::Edit;
+use iccma_tasks::Query;
+use meaning_atoms::{AtomLit, AxiomName};
+use oracle_face::Pending;
+use plain_lists::Items;
+use plain_lits::StepId;
+use set_lists::NumSet;
+use std::alloc::Global;
+
+/// Where a learned clause comes from: it is an axiom's, or it follows from the steps of hints.
+#[derive(Drop)]
+pub enum Origin {
+    Axiom(AxiomName),
+    Hints(Items<StepId>),
+}
+
+/// What a session does. Sessions are numbered from 1.
+#[derive(Drop)]
+pub enum Event {
+    /// A session commits an edit.
+    Commit(u32, Edit),
+    /// A session looks at all edits.
+    Refresh(u32),
+    /// A session learns a clause; `closing` marks one that only ends a search.
+    Learn {
+        session: u32,
+        clause: Items<AtomLit>,
+        origin: Origin,
+        closing: bool,
+    },
+    /// A session keeps a side clause that is made from a set.
+    Side {
+        session: u32,
+        from: NumSet,
+        literals: Items<AtomLit>,
+    },
+    /// A session hands a step's clause to an index of the pool.
+    Share {
+        session: u32,
+        step: StepId,
+        index: u64,
+    },
+    /// A session takes the entry at an index of the pool.
+    Import {
+        session: u32,
+        index: u64,
+    },
+    /// A session answers a query with so many units at most.
+    Answer {
+        session: u32,
+        query: Query,
+        limit: u64,
+        pending: Option<Pending>,
+        result: Outcome,
+    },
+}
+
+impl Machine {
+    /// Takes an event, if it is a step of the core: `NotAStep` comes exactly where it isn't. After every `Err` the
+    /// machine means the same state as before. `Memory` says that an allocation was refused.
+    pub fn step(&mut self, alloc: Global, event: &Event) -> Result<(), StepStop>
+        ensures { Comes (IsEventStep event.now (core_of self.old)) (core_of self.old) (core_of self.new) result }
+    {
+        match event {
+            Event::Commit(session, edit) => self.commit(alloc, *session, edit),
+            Event::Refresh(session) => self.look(alloc, *session),
+            Event::Learn {
+                session,
+                clause,
+                origin,
+                closing,
+            } => self.learn(alloc, *session, clause, origin, *closing),
+            Event::Side {
+                session,
+                from,
+                literals,
+            } => self.keep_side(alloc, *session, from, literals.as_slice()),
+            Event::Share {
+                session,
+                step,
+                index,
+            } => self.share(alloc, *session, *step, *index),
+            Event::Import { session, index } => self.import(alloc, *session, *index),
+            Event::Answer {
+                session,
+                query,
+                limit,
+                pending,
+                result,
+            } => self.answer(alloc, *session, query, *limit, pending, result),
+        }
+    }
+
+    /// A session looks at all edits.
+    fn look(&mut self, alloc: Global, session: u32) -> Result<(), StepStop>
+        ensures { Comes (IsStep (core_of self.old) (refresh session)) (core_of self.old) (core_of self.new) result }
+    {
+        self.refresh(alloc, session)
+    }
+
+    /// A session learns a clause.
+    fn learn(
+        &mut self,
+        alloc: Global,
+        session: u32,
+        clause: &Items<AtomLit>,
+        origin: &Origin,
+        closing: bool,
+    ) -> Result<(), StepStop>
+        ensures { Comes (IsStep (core_of self.old) (learn session clause.now (source_by origin.now) closing))
+            (core_of self.old) (core_of self.new) result }
+    {
+        match origin {
+            Origin::Axiom(name) => {
+                self.learn_axiom(alloc, session, clause.as_slice(), name, closing)
+            }
+            Origin::Hints(hints) => {
+                self.learn_derived(alloc, session, clause.as_slice(), hints.as_slice(), closing)
+            }
+        }
+    }
+}

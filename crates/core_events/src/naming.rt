@@ -1,0 +1,152 @@
+//! The steps that names call, and entries that come into a log by them.
+
+ghost use Rattle.std.specs.Prelude.{◌≡◌, ◌↔◌, IfOk, IsTrue};
+ghost use Rattle.semantics.specs.Frameworks.{Framework};
+ghost use Rattle.oracle_face.specs.declared.entry.EntryOrigin.TheVariants.{Hints};
+ghost use Rattle.clause_imports.specs.Imports.{IsCalled, IsOfEntry};
+ghost use Rattle.core_events.specs.Naming.{CallsFirst, Imports, IsCalledAt, StandForSome, StandsForSome};
+ghost use Rattle.core_events.specs.Stops.{Comes};
+
+use crate::named_log::NamedLog;
+use crate::stop::StepStop;
+use core_logs::CoreStep;
+use core_logs::checking::is_taken;
+use core_logs::literals::asks_nothing;
+use core_logs::sources::{has_entry, is_from_entry, is_of_axiom};
+use core_logs::steps::{clause_at, find_step, is_closing_at, is_number};
+use oracle_face::{Entry, EntryName, EntryOrigin, HintName};
+use plain_lists::{Items, Memory};
+use plain_lits::StepId;
+use std::alloc::Global;
+
+/// Whether the name of an entry calls a step of this number.
+fn is_of_entry(own: u32, name: EntryName, number: StepId, step: &CoreStep) -> bool
+    ensures { IsTrue result ↔ IsOfEntry own name number step.now }
+{
+    if name.session == own {
+        return name.step == number && step.imported().is_none();
+    }
+    is_from_entry(step, name)
+}
+
+/// Whether a name calls a step of this number, in the log of the session of the number `own`.
+fn is_called(own: u32, name: &HintName, number: StepId, step: &CoreStep) -> bool
+    ensures { IsTrue result ↔ IsCalled own name.now number step.now }
+{
+    match name {
+        HintName::Axiom(name) => is_of_axiom(step, name),
+        HintName::Entry(name) => is_of_entry(own, *name, number, step),
+    }
+}
+
+/// Whether a name calls the step of a number.
+fn is_called_at(own: u32, steps: &[CoreStep], name: &HintName, number: StepId) -> bool
+    ensures { IsTrue result ↔ IsCalledAt own steps.now name.now number }
+{
+    if !is_number(steps, number) {
+        return false;
+    }
+    match find_step(steps, number) {
+        Some(step) => is_called(own, name, number, step),
+        None => false,
+    }
+}
+
+/// The number of the last of so many steps.
+fn number_of(count: usize) -> Result<u32, Memory>
+    ensures { IfOk result (λ number. number ≡ count) }
+{
+    if count > u32::MAX as usize {
+        return Err(Memory);
+    }
+    Ok(count as u32)
+}
+
+/// The first step that a name calls. `Memory` says that there are too many steps.
+fn first_called(own: u32, steps: &[CoreStep], name: &HintName) -> Result<Option<StepId>, Memory>
+    ensures { IfOk result (CallsFirst own steps.now name.now) }
+{
+    let count = number_of(steps.len())?;
+    for before in 0..count {
+        let number = StepId::new(before + 1);
+        if is_called_at(own, steps, name, number) {
+            return Ok(Some(number));
+        }
+    }
+    Ok(None)
+}
+
+/// The step that a name stands for.
+fn step_of(own: u32, steps: &[CoreStep], name: &HintName) -> Result<Option<StepId>, Memory>
+    ensures { IfOk result (StandsForSome own steps.now name.now) }
+{
+    let Some(number) = first_called(own, steps, name)? else {
+        return Ok(None);
+    };
+    if is_closing_at(steps, number) {
+        return Ok(None);
+    }
+    if asks_nothing(clause_at(steps, number)) {
+        return Ok(Some(number));
+    }
+    Ok(None)
+}
+
+/// The steps that names stand for; None where one of them stands for none.
+fn steps_of(
+    alloc: Global,
+    own: u32,
+    steps: &[CoreStep],
+    names: &[HintName],
+) -> Result<Option<Items<StepId>>, Memory>
+    ensures { IfOk result (StandForSome own steps.now names.now) }
+{
+    let mut found = Items::new(alloc);
+    for name in names {
+        let Some(step) = step_of(own, steps, name)? else {
+            return Ok(None);
+        };
+        found.push(step)?;
+    }
+    Ok(Some(found))
+}
+
+/// Takes an entry into the log of the session of the number `own`, by the steps that its hints name.
+pub(crate) fn import(
+    alloc: Global,
+    own: u32,
+    log: &mut NamedLog,
+    entry: &Entry,
+) -> Result<(), StepStop>
+    ensures { (f : Framework) → Comes (Imports f own entry.now log.old) log.old log.new result }
+{
+    match &entry.origin {
+        EntryOrigin::Axiom(_) => Err(StepStop::NotAStep),
+        EntryOrigin::Hints(names) => import_by(alloc, own, log, entry, names.as_slice()),
+    }
+}
+
+/// Takes an entry that follows by names.
+fn import_by(
+    alloc: Global,
+    own: u32,
+    log: &mut NamedLog,
+    entry: &Entry,
+    names: &[HintName],
+) -> Result<(), StepStop>
+    requires { entry.now.origin ≡ Hints names.now }
+    ensures { (f : Framework) → Comes (Imports f own entry.now log.old) log.old log.new result }
+{
+    if !log.has_room() || entry.name.session == own || has_entry(log.steps(), entry.name) {
+        return Err(StepStop::NotAStep);
+    }
+    let Some(hints) = steps_of(alloc, own, log.steps(), names)? else {
+        return Err(StepStop::NotAStep);
+    };
+    let clause = entry.clause.as_slice();
+    if !is_taken(alloc, log.steps(), clause, hints.as_slice())? {
+        return Err(StepStop::NotAStep);
+    }
+    log.take_derived(alloc, clause, hints.as_slice(), Some(entry.name), false)?;
+    Ok(())
+}

@@ -1,0 +1,173 @@
+//! What calls for an axiom: a framework that a session has seen, or the pool.
+
+ghost use Rattle.std.specs.Prelude.{◌≡◌, ◌↔◌, Contains, IfOk, IsTrue, OnOk, take};
+ghost use Rattle.meaning_atoms.specs.declared.axiom.AxiomName.{AxiomName as AName};
+ghost use Rattle.oracle_face.specs.declared.entry.HintName.TheVariants.{Axiom};
+ghost use Rattle.oracle_face.specs.Needed.{IsNeeded};
+ghost use Rattle.certificate_claims.specs.Refutations.{IsAxiomOf};
+ghost use Rattle.edit_rules.specs.Kinds.{framework_of};
+ghost use Rattle.edit_rules.specs.Replay.{after_edit};
+ghost use Rattle.edit_history.specs.Entries.{framework_after};
+ghost use Rattle.core_machine.specs.Steps.{NamesAxiom};
+ghost use Rattle.core_events.specs.Needs.{IsNamedAmong, IsNamedUnder, IsNeededAmong};
+
+use crate::places::{Place, find_entry};
+use aba_needed::needed as needed_of_aba;
+use af_encoding::needed as needed_of_af;
+use core_logs::equality::axioms_are_equal;
+use edit_history::Entry;
+use edit_rules::{Edit, EditFault, Framework, apply};
+use meaning_atoms::AxiomName;
+use oracle_face::{EntryOrigin, HintName};
+use plain_lists::{Items, Memory};
+use std::alloc::Global;
+
+/// The first so many entries, or all of them.
+pub(crate) fn front(entries: &[Entry], count: usize) -> &[Entry]
+    ensures { result.now ≡ take count entries.now }
+{
+    if entries.len() <= count {
+        return entries;
+    }
+    &entries[..count]
+}
+
+/// Changes a framework by an edit, which leaves it as it was where it is refused.
+fn follow(alloc: Global, framework: &mut Framework, edit: &Edit) -> Result<(), Memory>
+    ensures { OnOk result (framework_of framework.new ≡ after_edit (framework_of framework.old) edit.now) }
+{
+    match apply(alloc, framework, edit) {
+        Err(EditFault::Memory) => Err(Memory),
+        Ok(_) | Err(_) => Ok(()),
+    }
+}
+
+/// The framework after entries.
+pub(crate) fn replay(
+    alloc: Global,
+    opening: &Framework,
+    entries: &[Entry],
+) -> Result<Framework, Memory>
+    ensures { IfOk result (λ framework. framework_of framework
+        ≡ framework_after (framework_of opening.now) entries.now) }
+{
+    let mut framework = opening.copy(alloc)?;
+    for entry in entries {
+        follow(alloc, &mut framework, &entry.edit)?;
+    }
+    Ok(framework)
+}
+
+/// The axioms that searches need for a framework.
+fn needed(alloc: Global, framework: &Framework) -> Result<Items<AxiomName>, Memory>
+    ensures { IfOk result (λ names. (name : AName) → Contains names name
+        ↔ IsNeeded (framework_of framework.now) name) }
+{
+    match framework {
+        Framework::Af(plain) => needed_of_af(alloc, plain),
+        Framework::Aba(plain) => needed_of_aba(alloc, plain),
+    }
+}
+
+/// Whether an axiom is among these.
+fn is_listed(names: &[AxiomName], name: &AxiomName) -> bool
+    ensures { IsTrue result ↔ Contains names.now name.now }
+{
+    names.iter().any(|other| axioms_are_equal(other, name))
+}
+
+/// Whether a framework needs an axiom.
+fn is_needed(alloc: Global, framework: &Framework, name: &AxiomName) -> Result<bool, Memory>
+    ensures { IfOk result (λ is. IsTrue is ↔ IsNeeded (framework_of framework.now) name.now) }
+{
+    let names = needed(alloc, framework)?;
+    Ok(is_listed(names.as_slice(), name))
+}
+
+/// Whether the framework after some of the entries needs an axiom. The framework is changed on the way.
+fn is_needed_along(
+    alloc: Global,
+    framework: &mut Framework,
+    entries: &[Entry],
+    name: &AxiomName,
+) -> Result<bool, Memory>
+    ensures { IfOk result (λ is. IsTrue is ↔ IsNeededAmong (framework_of framework.old) entries.now name.now) }
+{
+    for entry in entries {
+        if is_needed(alloc, framework, name)? {
+            return Ok(true);
+        }
+        follow(alloc, framework, &entry.edit)?;
+    }
+    is_needed(alloc, framework, name)
+}
+
+/// Whether the framework after some of the entries needs an axiom.
+pub(crate) fn is_needed_among(
+    alloc: Global,
+    opening: &Framework,
+    entries: &[Entry],
+    name: &AxiomName,
+) -> Result<bool, Memory>
+    ensures { IfOk result (λ is. IsTrue is ↔ IsNeededAmong (framework_of opening.now) entries.now name.now) }
+{
+    let mut framework = opening.copy(alloc)?;
+    is_needed_along(alloc, &mut framework, entries, name)
+}
+
+/// Whether a hint is an axiom.
+fn is_hint(hint: &HintName, name: &AxiomName) -> bool
+    ensures { IsTrue result ↔ (hint.now ≡ Axiom name.now) }
+{
+    match hint {
+        HintName::Axiom(other) => axioms_are_equal(other, name),
+        HintName::Entry(_) => false,
+    }
+}
+
+/// Whether an axiom is among hints.
+fn has_hint(hints: &[HintName], name: &AxiomName) -> bool
+    ensures { IsTrue result ↔ Contains hints.now (Axiom name.now) }
+{
+    hints.iter().any(|hint| is_hint(hint, name))
+}
+
+/// Whether an origin names an axiom.
+fn names_axiom(origin: &EntryOrigin, name: &AxiomName) -> bool
+    ensures { IsTrue result ↔ NamesAxiom name.now origin.now }
+{
+    match origin {
+        EntryOrigin::Axiom(other) => axioms_are_equal(other, name),
+        EntryOrigin::Hints(hints) => has_hint(hints.as_slice(), name),
+    }
+}
+
+/// Whether the entry under an index names an axiom.
+fn is_named_at(places: &[Place], index: u64, name: &AxiomName) -> bool
+    ensures { IsTrue result ↔ IsNamedUnder places.now name.now index }
+{
+    match find_entry(places, index) {
+        Some(entry) => names_axiom(&entry.origin, name),
+        None => false,
+    }
+}
+
+/// Whether some entry of the pool names an axiom.
+pub(crate) fn is_named(places: &[Place], name: &AxiomName) -> bool
+    ensures { IsTrue result ↔ IsNamedAmong places.now name.now }
+{
+    places
+        .iter()
+        .any(|place| is_named_at(places, place.index, name))
+}
+
+/// Whether an axiom is one of the framework's kind, with arguments that fit its row.
+pub(crate) fn is_axiom_of(framework: &Framework, name: &AxiomName) -> bool
+    ensures { IsTrue result ↔ IsAxiomOf (framework_of framework.now) name.now }
+{
+    match (framework, name) {
+        (Framework::Af(_), AxiomName::Af(name)) => name.is_name(),
+        (Framework::Aba(_), AxiomName::Aba(name)) => name.is_name(),
+        (Framework::Af(_), AxiomName::Aba(_)) | (Framework::Aba(_), AxiomName::Af(_)) => false,
+    }
+}

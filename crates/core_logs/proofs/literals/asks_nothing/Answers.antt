@@ -1,0 +1,14 @@
+use Rattle.std.proofs.Common.{rules}
+use Rattle.std.proofs.lemmas.Iterator.{cases_from_all, YieldsList-from_slice}
+use Rattle.meaning_atoms.specs.declared.atom.AtomLit.{AtomLit}
+use Rattle.semantics.proofs.Walks.{all_members}
+use Rattle.core_logs.specs.Tests.{AsksNone}
+use Rattle.core_logs.proofs.LiteralTests.{asks_nothing_is}
+use Rattle.core_logs.proofs.literals.asks_nothing.Goals as goal
+
+pub returns : goal.returns
+returns c =
+    let P : AtomLit → Type 0 = AsksNone in
+    asks_nothing_is _ c.args.clause.now (all_members P c.args.clause.now _
+    (cases_from_all _ _ _ P (λ x. P x → ⊥) c.all.ensures.ran (YieldsList-from_slice c.args.clause.now cc)
+    (λ x q k. search rules) (λ x q k. search rules)))
