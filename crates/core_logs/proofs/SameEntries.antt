@@ -79,38 +79,45 @@ row_decides a b = (
 rows_decide : (xs ys : List LoopRow) → (pointwise (row_eq).it xs ys ≡ true) ↔ (xs ≡ ys)
 rows_decide = lists_decide (row_eq).it row_decides
 
-loop_decides : (k : Closure) (x y : ℕ) (rows others : List LoopRow)
-    → (nat_eq x y && pointwise (row_eq).it rows others ≡ true) ↔ (B17 k x rows ≡ B17 k y others)
-loop_decides k x y rows others = (
-  λ e. let both = and_parts (nat_eq x y) (pointwise (row_eq).it rows others) e in
-      ap (λ z. B17 k z rows) ((nat_decides x y).0 both.0) ∙ ap (λ zs. B17 k y zs) ((rows_decide rows others).0 both.1),
-  λ e. let first : x ≡ y = cc in
-      let second : rows ≡ others = cc in
-      and_from (nat_eq x y) (pointwise (row_eq).it rows others) ((nat_decides x y).1 first)
-      ((rows_decide rows others).1 second),
-)
+loop_same : (k : Closure) (x y : ℕ) (rows others : List LoopRow)
+    → nat_eq x y && pointwise (row_eq).it rows others ≡ true → B17 k x rows ≡ B17 k y others
+loop_same k x y rows others e =
+    let both = and_parts (nat_eq x y) (pointwise (row_eq).it rows others) e in
+    ap (λ z. B17 k z rows) ((nat_decides x y).0 both.0) ∙ ap (λ zs. B17 k y zs) ((rows_decide rows others).0 both.1)
+
+loop_itself : (x : ℕ) (rows : List LoopRow) → nat_eq x x && pointwise (row_eq).it rows rows ≡ true
+loop_itself x rows =
+    and_from (nat_eq x x) (pointwise (row_eq).it rows rows) ((nat_decides x x).1 refl) ((rows_decide rows rows).1 refl)
+
+aba_same : (a b : AbaAxiom) → (aba_eq).it a b ≡ true → a ≡ b
+aba_same (B1 a) (B1 b) = search rules
+aba_same (B2 a) (B2 b) = search rules
+aba_same (B3 a c) (B3 b d) = search rules
+aba_same (B4 k) (B4 l) = search rules
+aba_same (B5 k r x) (B5 l s y) = search rules
+aba_same (B6 k r x) (B6 l s y) = search rules
+aba_same (B7 k r i j) (B7 l s m n) = search rules
+aba_same (B8 k r i) (B8 l s m) = search rules
+aba_same (B9 k x) (B9 l y) = search rules
+aba_same (B9Con a c) (B9Con b d) = search rules
+aba_same (B10 k x i j) (B10 l y m n) = search rules
+aba_same (B11 k x i) (B11 l y m) = search rules
+aba_same (B12 a c) (B12 b d) = search rules
+aba_same (B13 a c) (B13 b d) = search rules
+aba_same (B14 a c) (B14 b d) = search rules
+aba_same (B15 a c) (B15 b d) = search rules
+aba_same (B16 a) (B16 b) = search rules
+aba_same (B17 Own x rows) (B17 Own y others) = loop_same Own x y rows others
+aba_same (B17 Rest x rows) (B17 Rest y others) = loop_same Rest x y rows others
+aba_same a b = λ e. absurd (false≢true e)
+
+aba_itself : (a : AbaAxiom) → (aba_eq).it a a ≡ true
+aba_itself (B17 Own x rows) = loop_itself x rows
+aba_itself (B17 Rest x rows) = loop_itself x rows
+aba_itself a = search rules
 
 pub aba_decides : (a b : AbaAxiom) → ((aba_eq).it a b ≡ true) ↔ (a ≡ b)
-aba_decides (B1 a) (B1 b) = search rules
-aba_decides (B2 a) (B2 b) = search rules
-aba_decides (B3 a c) (B3 b d) = search rules
-aba_decides (B4 k) (B4 l) = search rules
-aba_decides (B5 k r x) (B5 l s y) = search rules
-aba_decides (B6 k r x) (B6 l s y) = search rules
-aba_decides (B7 k r i j) (B7 l s m n) = search rules
-aba_decides (B8 k r i) (B8 l s m) = search rules
-aba_decides (B9 k x) (B9 l y) = search rules
-aba_decides (B9Con a c) (B9Con b d) = search rules
-aba_decides (B10 k x i j) (B10 l y m n) = search rules
-aba_decides (B11 k x i) (B11 l y m) = search rules
-aba_decides (B12 a c) (B12 b d) = search rules
-aba_decides (B13 a c) (B13 b d) = search rules
-aba_decides (B14 a c) (B14 b d) = search rules
-aba_decides (B15 a c) (B15 b d) = search rules
-aba_decides (B16 a) (B16 b) = search rules
-aba_decides (B17 Own x rows) (B17 Own y others) = loop_decides Own x y rows others
-aba_decides (B17 Rest x rows) (B17 Rest y others) = loop_decides Rest x y rows others
-aba_decides a b = (λ e. absurd (cc), λ e. absurd (cc))
+aba_decides a b = (aba_same a b, λ e. rw (sym e) (aba_itself a))
 
 pub axiom_decides : (a b : AxiomName) → ((axiom_eq).it a b ≡ true) ↔ (a ≡ b)
 axiom_decides (OfAf a) (OfAf b) = (
