@@ -5,20 +5,20 @@ use Rattle.std.specs.List.{AllByRecursion, flat_map}
 use Rattle.std.proofs.lemmas.Bool.{cond_both, eqb-false}
 use Rattle.std.proofs.lemmas.List.Elements.{All-from_recursion}
 use Rattle.std.proofs.lemmas.List.Kept.{AllPairs-from_increasing}
-use Rattle.semantics.specs.Arguments.{IsArgument}
-use Rattle.meaning_atoms.specs.declared.atom.Atom.{Atom}
-use Rattle.meaning_atoms.specs.declared.atom.Atom.TheVariants.{Member, Asm, HGap, BGap, Body, Miss}
-use Rattle.meaning_atoms.specs.declared.atom.Closure.{Closure}
-use Rattle.meaning_atoms.specs.declared.atom.Closure.TheVariants.{Own, Rest}
-use Rattle.meaning_atoms.specs.declared.atom.AtomLit.{AtomLit}
-use Rattle.meaning_atoms.specs.declared.aba_axiom.AbaAxiom.{AbaAxiom}
-use Rattle.meaning_atoms.specs.declared.aba_axiom.AbaAxiom.TheVariants.{B1, B2, B3, B4, B5, B6, B7, B8, B9, B9Con, B10, B11, B12, B13, B14, B15, B16, B17}
-use Rattle.meaning_atoms.specs.declared.loop_rows.LoopRow.{LoopRow}
-use Rattle.meaning_atoms.specs.AbaAxioms.{IsAbaAxiom, IsLoop, IsLoopAtom, IsLoopPair, IsLoopRow}
-use Rattle.meaning_atoms.specs.Atoms.{IsAtom, IsAtomOrNone, IsLit, IsPosition}
-use Rattle.meaning_atoms.specs.Axioms.{IsStretch}
-use Rattle.meaning_atoms.specs.Literals.{affirmed}
-use Rattle.meaning_atoms.specs.Worlds.{IsAsk}
+use Rattle.af_axioms.specs.semantics.specs.Arguments.{IsArgument}
+use Rattle.af_axioms.specs.meaning_atoms.specs.declared.atom.Atom.{Atom}
+use Rattle.af_axioms.specs.meaning_atoms.specs.declared.atom.Atom.TheVariants.{Member, Asm, HGap, BGap, Body, Miss}
+use Rattle.af_axioms.specs.meaning_atoms.specs.declared.atom.Closure.{Closure}
+use Rattle.af_axioms.specs.meaning_atoms.specs.declared.atom.Closure.TheVariants.{Own, Rest}
+use Rattle.af_axioms.specs.meaning_atoms.specs.declared.atom.AtomLit.{AtomLit}
+use Rattle.af_axioms.specs.meaning_atoms.specs.declared.aba_axiom.AbaAxiom.{AbaAxiom}
+use Rattle.af_axioms.specs.meaning_atoms.specs.declared.aba_axiom.AbaAxiom.TheVariants.{B1, B2, B3, B4, B5, B6, B7, B8, B9, B9Con, B10, B11, B12, B13, B14, B15, B16, B17}
+use Rattle.af_axioms.specs.meaning_atoms.specs.declared.loop_rows.LoopRow.{LoopRow}
+use Rattle.af_axioms.specs.meaning_atoms.specs.AbaAxioms.{IsAbaAxiom, IsLoop, IsLoopAtom, IsLoopPair, IsLoopRow}
+use Rattle.af_axioms.specs.meaning_atoms.specs.Atoms.{IsAtom, IsAtomOrNone, IsLit, IsPosition}
+use Rattle.af_axioms.specs.meaning_atoms.specs.Axioms.{IsStretch}
+use Rattle.af_axioms.specs.meaning_atoms.specs.Literals.{affirmed}
+use Rattle.af_axioms.specs.meaning_atoms.specs.Worlds.{IsAsk}
 use Rattle.af_axioms.specs.Table.{notion_clause}
 use Rattle.aba_axioms.specs.AbaTable.{aba_clause, filled_gap, given_atom, loop_clause, other_heads, pair_literal, row_literals}
 

@@ -1,12 +1,12 @@
 -- Every row of the table is true in every world of both kinds.
 use Rattle.std.proofs.Common.{ℕ, List}
-use Rattle.semantics.specs.Frameworks.{Framework, af, aba}
-use Rattle.meaning_atoms.specs.declared.atom.AtomLit.{AtomLit}
-use Rattle.meaning_atoms.specs.declared.aba_axiom.AbaAxiom.{AbaAxiom}
-use Rattle.meaning_atoms.specs.declared.aba_axiom.AbaAxiom.TheVariants.{B1, B2, B3, B4, B5, B6, B7, B8, B9, B9Con, B10, B11, B12, B13, B14, B15, B16, B17}
-use Rattle.meaning_atoms.specs.declared.axiom.AfAxiom.TheVariants.{A14}
-use Rattle.meaning_atoms.specs.AbaAxioms.{IsAbaAxiom}
-use Rattle.meaning_atoms.specs.Worlds.{world_of, IsTrueBeside, IsValid, IsWorldOf}
+use Rattle.af_axioms.specs.semantics.specs.Frameworks.{Framework, af, aba}
+use Rattle.af_axioms.specs.meaning_atoms.specs.declared.atom.AtomLit.{AtomLit}
+use Rattle.af_axioms.specs.meaning_atoms.specs.declared.aba_axiom.AbaAxiom.{AbaAxiom}
+use Rattle.af_axioms.specs.meaning_atoms.specs.declared.aba_axiom.AbaAxiom.TheVariants.{B1, B2, B3, B4, B5, B6, B7, B8, B9, B9Con, B10, B11, B12, B13, B14, B15, B16, B17}
+use Rattle.af_axioms.specs.meaning_atoms.specs.declared.axiom.AfAxiom.TheVariants.{A14}
+use Rattle.af_axioms.specs.meaning_atoms.specs.AbaAxioms.{IsAbaAxiom}
+use Rattle.af_axioms.specs.meaning_atoms.specs.Worlds.{world_of, IsTrueBeside, IsValid, IsWorldOf}
 use Rattle.af_axioms.proofs.AbaRows.{IsValidOfAba, notions_imply}
 use Rattle.af_axioms.proofs.Rows.{rows_are_valid}
 use Rattle.aba_axioms.specs.AbaTable.{aba_clause}

@@ -4,4 +4,5 @@
 mod changing;
 mod places;
 
+pub use aba_needed;
 pub use changing::changed;

@@ -5,7 +5,7 @@ use Rattle.std.specs.List.Sorted.{IsStrictlyIncreasing}
 use Rattle.std.proofs.lemmas.Bool.{false≢true, cases_eq, eqb-true, not-false}
 use Rattle.std.proofs.Math.Seq.{take-append_seam}
 use Rattle.std.proofs.lemmas.List.{length_push}
-use Rattle.aba_laws.proofs.Images.{image_there, image_from}
+use Rattle.aba_notions.specs.aba_laws.proofs.Images.{image_there, image_from}
 use Rattle.aba_semantics.specs.Rules.{Rule}
 use Rattle.aba_semantics.specs.AbaFrameworks.{Aba, IsNumberedAba}
 use Rattle.aba_notions.proofs.FormLemmas.{same_rising}

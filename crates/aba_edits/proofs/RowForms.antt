@@ -9,7 +9,7 @@ use Rattle.std.proofs.lemmas.List.Kept.{IsStrictlyIncreasing-filter}
 use Rattle.plain_lists.proofs.Filters.{Contains-filter, filter_whole}
 use Rattle.plain_lists.proofs.Membership.{Contains-nil, Contains-head, Contains-tail, Contains-cons_cases}
 use Rattle.set_lists.proofs.Rising.{rises_append}
-use Rattle.aba_laws.proofs.Images.{image_there, image_from}
+use Rattle.aba_notions.specs.aba_laws.proofs.Images.{image_there, image_from}
 use Rattle.aba_semantics.specs.declared.numbers.TheConstants.{LAST_RULE}
 use Rattle.aba_semantics.specs.Rules.{Rule}
 use Rattle.aba_semantics.specs.AbaFrameworks.{Aba, IsAtom, IsRuleOf, IsNumberedAba}

@@ -5,7 +5,7 @@ use Rattle.std.proofs.lemmas.Bool.{eqb-true, false≢true, not_from_false}
 use Rattle.std.proofs.lemmas.List.{get_or_default}
 use Rattle.std.proofs.lemmas.List.Elements.{Contains-get_or}
 use Rattle.plain_lists.proofs.Membership.{Contains-nil, Contains-head}
-use Rattle.aba_laws.proofs.Images.{image_there, image_from}
+use Rattle.aba_notions.specs.aba_laws.proofs.Images.{image_there, image_from}
 use Rattle.set_lists.proofs.Rising.{IsPlaceOf, found}
 use Rattle.aba_semantics.specs.Rules.{Rule}
 use Rattle.aba_notions.specs.Storage.{no_rule, rule_at}

@@ -6,7 +6,7 @@ use Rattle.semantics.specs.Framework as single
 use Rattle.semantics.specs.Framework.{Af, IsAf, Attacks, IsAttackedBy}
 use Rattle.semantics.proofs.AdmissibleSets.{attacked_more}
 use Rattle.semantics.proofs.Decided.{decide_attacked}
-use Rattle.aba_semantics.specs.Collectives as joint
+use Rattle.semantics.specs.aba_semantics.specs.Collectives as joint
 use Rattle.aba_laws.specs.AfNotions.{collective_af, NotionsAgree}
 use Rattle.aba_laws.proofs.CollectiveSets.{IsLawful}
 

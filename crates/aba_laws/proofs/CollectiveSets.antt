@@ -6,7 +6,7 @@ use Rattle.plain_lists.specs.Members.{IsWithin}
 use Rattle.plain_lists.proofs.Membership.{Contains-nil}
 use Rattle.semantics.specs.Laws.{HasSameMembers}
 use Rattle.semantics.proofs.Decided.{Decided, decide_both, decide_not, decide_each, decide_some, decide_implied, decide_member}
-use Rattle.aba_semantics.specs.Collectives.{Collective, AttacksMember, Defends, IsUnattacked, IsConflictFree, IsAdmissible, IsComplete, IsStable}
+use Rattle.semantics.specs.aba_semantics.specs.Collectives.{Collective, AttacksMember, Defends, IsUnattacked, IsConflictFree, IsAdmissible, IsComplete, IsStable}
 use Rattle.aba_laws.specs.Laws.{DefendsByRest, UnionIsAdmissible, DefendedIsAdmissible, AdmissibleBySets}
 use Rattle.aba_laws.proofs.Choosing.{chosen, decide_within}
 

@@ -9,9 +9,9 @@ use Rattle.plain_lists.specs.Members.{IsWithin}
 use Rattle.plain_lists.proofs.Membership.{Contains-nil, Contains-pushed}
 use Rattle.semantics.specs.Laws.{HasSameMembers}
 use Rattle.semantics.specs.Sets.{HasAllSets}
-use Rattle.aba_semantics.specs.Rules.{IsClosureOf}
-use Rattle.aba_semantics.specs.AbaFrameworks.{Aba, AttacksAssumption, collective_of}
-use Rattle.aba_semantics.specs.Collectives.{AttacksMember, Defends, IsConflictFree, IsStable, IsAdmissible, IsComplete, IsPreferred, IsInAllPreferred}
+use Rattle.semantics.specs.aba_semantics.specs.Rules.{IsClosureOf}
+use Rattle.semantics.specs.aba_semantics.specs.AbaFrameworks.{Aba, AttacksAssumption, collective_of}
+use Rattle.semantics.specs.aba_semantics.specs.Collectives.{AttacksMember, Defends, IsConflictFree, IsStable, IsAdmissible, IsComplete, IsPreferred, IsInAllPreferred}
 use Rattle.aba_laws.specs.declared.theories.Theory.{Theory}
 use Rattle.aba_laws.specs.Deciding.{IsTheory, HasAllTheories, IsHitBy, HasContrary, HitsMember, Answers, IsInComplete, HasNoLarger, IsInPreferred, HoldsInAll}
 use Rattle.aba_laws.proofs.AbaLemmas.{aba_lawful, attacks_more}

@@ -5,7 +5,7 @@ use Rattle.std.proofs.lemmas.List.Elements.{Contains-append_left, Contains-appen
 use Rattle.plain_lists.specs.Members.{IsWithin}
 use Rattle.plain_lists.proofs.Membership.{Contains-cons_cases, Contains-pushed}
 use Rattle.semantics.proofs.Decided.{Decided, Found, search_list, found_in, decide_member}
-use Rattle.aba_semantics.specs.Rules.{Rule, Derives, given, by_rule, IsClosureOf, IsClosedUnder}
+use Rattle.semantics.specs.aba_semantics.specs.Rules.{Rule, Derives, given, by_rule, IsClosureOf, IsClosedUnder}
 use Rattle.aba_laws.specs.Laws.{ClosureExists, ClosureIsLeast}
 use Rattle.aba_laws.proofs.Choosing.{decide_within}
 

@@ -3,8 +3,8 @@
 
 ghost use Rattle.std.specs.Prelude.{◌≡◌, ◌↔◌, ℕ, List, Contains, IfOk, IsTrue};
 ghost use Rattle.plain_lists.specs.Members.{IsWithin};
-ghost use Rattle.aba_semantics.specs.AbaFrameworks.{collective_of};
-ghost use Rattle.aba_semantics.specs.Collectives.{Defends, IsAdmissible, IsComplete, IsConflictFree, IsGrounded, IsIdeal, IsInAllPreferred, IsPreferred, IsStable};
+ghost use Rattle.semantics.specs.aba_semantics.specs.AbaFrameworks.{collective_of};
+ghost use Rattle.semantics.specs.aba_semantics.specs.Collectives.{Defends, IsAdmissible, IsComplete, IsConflictFree, IsGrounded, IsIdeal, IsInAllPreferred, IsPreferred, IsStable};
 ghost use Rattle.aba_laws.specs.declared.theories.Theory.{Theory};
 ghost use Rattle.aba_laws.specs.Deciding.{AbaOf, Answers, HasAllTheories, HasContrary, HasNoLarger, HitsMember, HoldsInAll, IsHitBy, IsInComplete, IsInPreferred, IsOfNotion, IsTheory};
 

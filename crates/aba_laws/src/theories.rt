@@ -3,7 +3,7 @@
 ghost use Rattle.std.specs.Prelude.{◌≡◌, ◌↔◌, ℕ, List, ◌<◌, Contains, IfNone, IfOk, IfSome, IsTrue, OnOk, length, map};
 ghost use Rattle.plain_lists.specs.Members.{IsWithin};
 ghost use Rattle.semantics.specs.Sets.{HasAllSets};
-ghost use Rattle.aba_semantics.specs.Rules.{IsClosureOf};
+ghost use Rattle.semantics.specs.aba_semantics.specs.Rules.{IsClosureOf};
 ghost use Rattle.aba_laws.specs.declared.aba_lists.PlainRule.{PlainRule};
 ghost use Rattle.aba_laws.specs.Deciding.{AbaOf, HasAllTheories, IsReady, rule_of};
 

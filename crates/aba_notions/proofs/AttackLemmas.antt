@@ -5,7 +5,7 @@ use Rattle.std.proofs.lemmas.Bool.{cases_eq}
 use Rattle.std.proofs.lemmas.List.{get_or_default}
 use Rattle.std.proofs.lemmas.List.Elements.{Contains-get_or}
 use Rattle.plain_lists.specs.Members.{IsSetOf, IsWithin}
-use Rattle.semantics.proofs.Decided.{decide_member}
+use Rattle.aba_laws.specs.semantics.proofs.Decided.{decide_member}
 use Rattle.aba_semantics.specs.Rules.{Derives, given, by_rule}
 use Rattle.aba_semantics.specs.Collectives.{Collective, IsUnattacked, IsDefended, IsConflictFree, IsAdmissible, IsComplete, IsStable}
 use Rattle.aba_semantics.specs.AbaFrameworks.{Aba, AttacksAssumption, IsNumberedAba, collective_of}

@@ -9,9 +9,9 @@ use Rattle.plain_lists.specs.Members.{IsSetOf}
 use Rattle.set_lists.proofs.Rising.{rises_append}
 use Rattle.plain_lists.proofs.Filters.{Contains-filter}
 use Rattle.plain_lists.proofs.Membership.{Contains-pushed}
-use Rattle.attack_index.specs.PairOrder.{PairsRise, reversed}
-use Rattle.attack_index.proofs.OffsetLemmas.{count_reversed}
-use Rattle.semantics.specs.Framework.{Af}
+use Rattle.dung_notions.specs.attack_index.specs.PairOrder.{PairsRise, reversed}
+use Rattle.dung_notions.specs.attack_index.proofs.OffsetLemmas.{count_reversed}
+use Rattle.aba_laws.specs.semantics.specs.Framework.{Af}
 use Rattle.dung_notions.specs.Search.{reaching}
 use Rattle.dung_notions.proofs.SearchLemmas.{all_out, none_open}
 use Rattle.dung_notions.proofs.UndefeatedLemmas.{open_at_first, open_when_marked, reaching_here, reaching_else, reaching_both}

@@ -8,8 +8,8 @@ use Rattle.std.proofs.lemmas.List.Elements.{Contains-get_or}
 use Rattle.plain_lists.proofs.Filters.{Contains-filter}
 use Rattle.plain_lists.proofs.Membership.{Contains-nil, Contains-head, Contains-tail, Contains-cons_cases}
 use Rattle.set_lists.proofs.Rising.{below_across, rises_right}
-use Rattle.attack_index.specs.PairOrder.{PairsRise}
-use Rattle.attack_index.proofs.OffsetLemmas.{PairsRise-filter}
+use Rattle.dung_notions.specs.attack_index.specs.PairOrder.{PairsRise}
+use Rattle.dung_notions.specs.attack_index.proofs.OffsetLemmas.{PairsRise-filter}
 use Rattle.aba_semantics.specs.Rules.{Rule}
 use Rattle.aba_semantics.specs.AbaFrameworks.{IsRuleOf, IsNumberedAba}
 use Rattle.aba_notions.specs.declared.rule_table.RuleLists.{RuleLists}

@@ -14,7 +14,7 @@ use Rattle.std.proofs.lemmas.Map.Made.{length-le_from_is_member, IsDistinct-from
 use Rattle.plain_lists.specs.Members.{IsSetOf, IsWithin}
 use Rattle.plain_lists.proofs.ListTests.{any_gives, any_from}
 use Rattle.plain_lists.proofs.Membership.{Contains-nil}
-use Rattle.semantics.proofs.Decided.{search_list, found_in, decide_not, decide_member}
+use Rattle.aba_laws.specs.semantics.proofs.Decided.{search_list, found_in, decide_not, decide_member}
 use Rattle.aba_semantics.specs.Collectives.{Collective, IsDefended, IsAdmissible, IsComplete, IsGrounded}
 use Rattle.aba_laws.proofs.CollectiveSets.{IsLawful, defends_more, defended_admissible, empty_admissible, admissible_same}
 

@@ -7,8 +7,8 @@ use Rattle.std.proofs.lemmas.List.Elements.{Contains-get_or, Contains-push_cases
 use Rattle.std.proofs.lemmas.List.Kept.{AllPairs-from_increasing}
 use Rattle.plain_lists.specs.Members.{IsSetOf}
 use Rattle.plain_lists.proofs.Membership.{Contains-nil}
-use Rattle.semantics.proofs.Decided.{search_list, found_in, decide_not, decide_member}
-use Rattle.attack_index.specs.PairOrder.{PairsRise}
+use Rattle.aba_laws.specs.semantics.proofs.Decided.{search_list, found_in, decide_not, decide_member}
+use Rattle.dung_notions.specs.attack_index.specs.PairOrder.{PairsRise}
 use Rattle.aba_semantics.specs.Rules.{Rule, Derives}
 use Rattle.aba_semantics.specs.AbaFrameworks.{Aba, IsNumberedAba}
 use Rattle.aba_laws.proofs.DerivationLemmas.{decide_derives, head_derived}

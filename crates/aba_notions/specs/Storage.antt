@@ -5,8 +5,8 @@ use Rattle.std.specs.List.Sorted.{IsStrictlyIncreasing}
 use Rattle.aba_semantics.specs.declared.numbers.TheConstants.{LAST_ATOM, LAST_RULE}
 use Rattle.aba_semantics.specs.Rules.{Rule}
 use Rattle.aba_semantics.specs.AbaFrameworks.{Aba, IsAtom, IsNumberedAba}
-use Rattle.attack_index.specs.PairOrder.{PairsRise, reversed}
-use Rattle.attack_index.specs.Offsets.{IndexedPairs}
+use Rattle.dung_notions.specs.attack_index.specs.PairOrder.{PairsRise, reversed}
+use Rattle.dung_notions.specs.attack_index.specs.Offsets.{IndexedPairs}
 use Rattle.aba_notions.specs.declared.rule_table.RuleLists.{RuleLists}
 use Rattle.aba_notions.specs.declared.rule_table.RuleTable.{RuleTable}
 

@@ -5,11 +5,11 @@ ghost use Rattle.std.specs.Prelude.{Contains, IfOk, IsTrue, length, map};
 ghost use Rattle.plain_lists.specs.Members.{IsSetOf};
 ghost use Rattle.aba_semantics.specs.AbaFrameworks.{IsNumberedAba};
 ghost use Rattle.aba_semantics.specs.Rules.{Derives};
-ghost use Rattle.attack_index.specs.PairOrder.{PairsRise};
+ghost use Rattle.dung_notions.specs.attack_index.specs.PairOrder.{PairsRise};
 ghost use Rattle.aba_notions.specs.Storage.{AreParts, AreRulesOf, rule_at};
 
 use crate::rule_table::{RuleLists, RuleTable};
-use attack_index::AttackIndex;
+use dung_notions::attack_index::AttackIndex;
 use plain_lists::Memory;
 use set_lists::NumSet;
 use std::alloc::Global;

@@ -4,7 +4,7 @@ ghost use Rattle.std.specs.Prelude.{◌≡◌, ◌↔◌, ℕ, ◌<◌, ◌≤�
 ghost use Rattle.aba_semantics.specs.declared.numbers.TheConstants.{LAST_ATOM, LAST_RULE};
 ghost use Rattle.aba_notions.specs.Storage.{AreRuleLists, AreRulesOf, IsTableOf, rules_in};
 
-use attack_index::AttackIndex;
+use dung_notions::attack_index::AttackIndex;
 use plain_lists::Memory;
 use std::alloc::Global;
 

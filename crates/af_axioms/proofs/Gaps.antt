@@ -1,13 +1,13 @@
 -- A gap is found where the attackers, by rising number, are cut at the gap's beginning.
-use Rattle.std.proofs.Common.{◌≡◌, ◌≤◌, ◌<◌, ℕ, List, length, get_or, true, false, arith, ap, refl, ◌∙◌, ⊎_elim}
-use Rattle.std.proofs.Common.{ltb, leb, ltb-true, ltb-false, leb-true, le-leb}
+use Rattle.std.proofs.Common.{◌≡◌, ◌≤◌, ◌<◌, ℕ, List, length, get_or, true, false, arith, ap, refl, sym, subst, ◌∙◌, ⊎_elim}
+use Rattle.std.proofs.Common.{eqb, ltb, leb, ltb-true, ltb-false, leb-true, le-leb, eqb-true, eq-eqb}
 use Rattle.std.specs.Prelude.{Contains, ◌↔◌, IsTrue}
 use Rattle.std.specs.List.Sorted.{IsNonDecreasingBy, IsPartitionedBy, IsPartitionPoint}
 use Rattle.std.proofs.lemmas.Bool.{cases_eq, cases_lt}
 use Rattle.std.proofs.lemmas.List.{get_or_default}
 use Rattle.std.proofs.lemmas.List.Sorted.{IsPartitionedBy-ltb}
 use Rattle.std.proofs.lemmas.List.Elements.{Contains-get_or}
-use Rattle.semantics.specs.Framework.{Af, Attacks}
+use Rattle.meaning_atoms.specs.semantics.specs.Framework.{Af, Attacks}
 use Rattle.meaning_atoms.specs.Worlds.{HasGap}
 use Rattle.dung_notions.specs.Neighbours.{ListsAttackers}
 
@@ -71,4 +71,28 @@ gap_at f a i j pairs n first h cut within e =
           let late = ltb-false _ _ (cut.1 n first (omega arith) within) in
           ⊎_elim (λ before. absurd (gap _ there.1 late before)) (λ le. le-leb _ _ (omega (arith, same)))
           (cases_lt (get_or pairs n first).1 j),
+    )
+
+-- ---- attackers
+
+-- with no attacker from b on, b is none
+pub none_past_all : (f : Af) (a b : ℕ) (pairs : List (ℕ × ℕ)) (n : ℕ)
+    → ListsAttackers f a pairs → IsCutAt b pairs n → length pairs ≤ n → Attacks f b a → ⊥
+none_past_all f a b pairs n h cut past at =
+    let k = (after_cut f a b pairs n h cut b at (omega arith)).1 in omega arith
+
+-- otherwise b is one exactly where it is the first attacker from b on
+pub attacker_at : (f : Af) (a b : ℕ) (pairs : List (ℕ × ℕ)) (n : ℕ) (first : ℕ × ℕ)
+    → ListsAttackers f a pairs → IsCutAt b pairs n → n < length pairs → first ≡ get_or pairs n first
+    → IsTrue (eqb first.1 b) ↔ Attacks f b a
+attacker_at f a b pairs n first h cut within e =
+    let same = ap (λ (p : ℕ × ℕ). p.1) e in
+    let there = (h.attackers _ _).0 (Contains-get_or pairs n first within) in (
+      λ t. subst (λ x. Attacks f x a) (sym same ∙ eqb-true _ _ t) there.1,
+      λ at.
+          let found = after_cut f a b pairs n h cut b at (omega arith) in
+          let k = found.1 in
+          let rise = attackers_rise f a pairs h n found.0 first k.late k.within in
+          let late = ltb-false _ _ (cut.1 n first (omega arith) within) in
+          eq-eqb _ _ (omega (arith, same, late, k.there first, rise)),
     )

@@ -7,7 +7,7 @@ use Rattle.std.proofs.lemmas.List.Elements.{All-from_recursion}
 use Rattle.meaning_atoms.specs.declared.atom.Atom.TheVariants.{Gap}
 use Rattle.meaning_atoms.specs.declared.axiom.AfAxiom.{AfAxiom}
 use Rattle.meaning_atoms.specs.declared.axiom.AfAxiom.TheVariants.{A1, A2, A3, A4, A5, A6, A7, A8, A9, A10, A11, A12, A13, A14}
-use Rattle.semantics.specs.Arguments.{IsArgument}
+use Rattle.meaning_atoms.specs.semantics.specs.Arguments.{IsArgument}
 use Rattle.meaning_atoms.specs.Atoms.{IsPosition, IsAtom, IsLit}
 use Rattle.meaning_atoms.specs.Axioms.{IsStretch, IsAfAxiom}
 use Rattle.af_axioms.specs.Table.{table_clause, notion_clause}

@@ -6,14 +6,14 @@ use Rattle.meaning_atoms.specs.declared.atom.Atom.TheVariants.{Member, Live, Att
 use Rattle.meaning_atoms.specs.declared.atom.Atom.TheVariants.{Cf, Ad, Co, St}
 use Rattle.meaning_atoms.specs.declared.axiom.AfAxiom.{AfAxiom}
 use Rattle.meaning_atoms.specs.declared.axiom.AfAxiom.TheVariants.{A1, A2, A3, A4, A5, A6, A7, A8, A9, A10, A11, A12, A13, A14}
-use Rattle.semantics.specs.Framework.{Af, Attacks, IsAttackedBy, Defends}
-use Rattle.semantics.specs.Frameworks.{Framework, af, aba}
+use Rattle.meaning_atoms.specs.semantics.specs.Framework.{Af, Attacks, IsAttackedBy, Defends}
+use Rattle.meaning_atoms.specs.semantics.specs.Frameworks.{Framework, af, aba}
 use Rattle.meaning_atoms.specs.declared.atom.AtomLit.{AtomLit}
 use Rattle.meaning_atoms.specs.Literals.{affirmed, denied}
 use Rattle.meaning_atoms.specs.Worlds.{world_of, IsWorldOf, IsAfWorld, HasGap, HasTail, HasUnmet, IsTrueBeside, IsValid}
-use Rattle.semantics.proofs.Decided.{decide_attacked}
+use Rattle.meaning_atoms.specs.semantics.proofs.Decided.{decide_attacked}
 use Rattle.meaning_atoms.proofs.Valuations.{decide_unmet}
-use Rattle.semantics.proofs.Extensions.{stable_largest, preferred_complete}
+use Rattle.meaning_atoms.specs.semantics.proofs.Extensions.{stable_largest, preferred_complete}
 use Rattle.meaning_atoms.proofs.Clauses.{so, or_else, given}
 use Rattle.af_axioms.specs.Table.{table_clause, notion_clause}
 use Rattle.af_axioms.proofs.AbaRows.{rows_of_aba}

@@ -1,8 +1,8 @@
 -- The value of a gap in a framework is its value in each world of the framework.
 use Rattle.std.proofs.Common.{◌≡◌, ℕ, Bool}
 use Rattle.std.specs.Prelude.{◌↔◌, IsTrue}
-use Rattle.semantics.specs.Framework.{Af}
-use Rattle.semantics.specs.Frameworks.{af}
+use Rattle.meaning_atoms.specs.semantics.specs.Framework.{Af}
+use Rattle.meaning_atoms.specs.semantics.specs.Frameworks.{af}
 use Rattle.meaning_atoms.specs.declared.atom.Atom.{Atom}
 use Rattle.meaning_atoms.specs.declared.atom.Atom.TheVariants.{Gap}
 use Rattle.meaning_atoms.specs.Worlds.{HasGap}

@@ -1,6 +1,6 @@
 -- The values of the atoms that a framework alone fixes.
 use Rattle.std.specs.Prelude.{◌↔◌, ℕ, Bool, IsTrue, List}
-use Rattle.semantics.specs.Frameworks.{Framework}
+use Rattle.meaning_atoms.specs.semantics.specs.Frameworks.{Framework}
 use Rattle.meaning_atoms.specs.declared.atom.Atom.{Atom}
 use Rattle.meaning_atoms.specs.declared.atom.AtomLit.{AtomLit}
 use Rattle.meaning_atoms.specs.Worlds.{world_of, Holds, IsFact}

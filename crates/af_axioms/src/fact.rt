@@ -1,7 +1,8 @@
 //! The atoms whose value the framework alone fixes.
 
 ghost use Rattle.std.specs.Prelude.{◌↔◌, IfNone, IfSome, IsTrue};
-ghost use Rattle.semantics.specs.Frameworks.{af};
+ghost use Rattle.meaning_atoms.specs.semantics.specs.Framework.{Attacks};
+ghost use Rattle.meaning_atoms.specs.semantics.specs.Frameworks.{af};
 ghost use Rattle.meaning_atoms.specs.Worlds.{HasGap, IsFact};
 ghost use Rattle.af_axioms.specs.Facts.{IsFactValue};
 
@@ -17,7 +18,7 @@ pub fn fact_value(plain: &AfPlain, atom: &Atom) -> Option<bool>
 {
     match *atom {
         Atom::Live(a) => Some(plain.is_live(a)),
-        Atom::Attack(b, a) => Some(plain.has_attack(b, a)),
+        Atom::Attack(b, a) => Some(has_attacker(plain, a, b)),
         Atom::Gap(a, i, j) => Some(has_gap(plain, a, i, j)),
         _ => None,
     }
@@ -32,5 +33,17 @@ fn has_gap(plain: &AfPlain, argument: u32, begin: u32, end: u32) -> bool
     match attackers.get(first) {
         Some(attacker) => end <= attacker.1,
         None => true,
+    }
+}
+
+/// Whether an argument has an attacker: looked up among its attackers, which are few as a rule.
+fn has_attacker(plain: &AfPlain, argument: u32, attacker: u32) -> bool
+    ensures { IsTrue result ↔ Attacks plain.now attacker argument }
+{
+    let attackers = plain.attackers_of(argument);
+    let first = attackers.partition_point(|pair| pair.1 < attacker);
+    match attackers.get(first) {
+        Some(pair) => pair.1 == attacker,
+        None => false,
     }
 }

@@ -23,9 +23,9 @@ use Rattle.argue_program.specs.declared.query.Solving.{Solving}
 use Rattle.argue_program.specs.declared.ended.KeptSession.{KeptSession}
 use Rattle.argue_program.specs.declared.ended.Limit.TheVariants as bound
 use Rattle.argue_program.specs.declared.ended.Refusal.TheVariants.{Query}
-use Rattle.oracle_core.specs.declared.reply.AnswerStop.{AnswerStop}
-use Rattle.oracle_core.specs.declared.reply.AnswerStop.TheVariants as stop
-use Rattle.oracle_core.specs.declared.reply.Answered.{Answered}
+use Rattle.bench_runs.specs.oracle_core.specs.declared.reply.AnswerStop.{AnswerStop}
+use Rattle.bench_runs.specs.oracle_core.specs.declared.reply.AnswerStop.TheVariants as stop
+use Rattle.bench_runs.specs.oracle_core.specs.declared.reply.Answered.{Answered}
 use Rattle.argue_program.specs.Texts.{IsRefusal, common_text, text_bytes}
 use Rattle.argue_program.specs.declared.decision.Ending.{Ending}
 use Rattle.argue_program.specs.declared.ended.Status.{Status}

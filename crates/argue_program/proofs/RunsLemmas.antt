@@ -18,14 +18,14 @@ use Rattle.bench_inputs.specs.Generator.{bench_framework}
 use Rattle.bench_inputs.specs.Scripts.{bench_script}
 use Rattle.bench_runs.specs.Summaries.{summary}
 use Rattle.bench_runs.specs.declared.run.TheConstants.{BENCH_BUDGET}
-use Rattle.script_runs.specs.Transcripts.{IsTranscriptOf}
-use Rattle.script_runs.specs.declared.transcript.ScriptTranscript.{ScriptTranscript}
+use Rattle.bench_runs.specs.script_runs.specs.Transcripts.{IsTranscriptOf}
+use Rattle.bench_runs.specs.script_runs.specs.declared.transcript.ScriptTranscript.{ScriptTranscript}
 use Rattle.script_text.specs.declared.script.Script.{Script}
 use Rattle.argue_program.specs.Solves.{IsSessionOn, status_of}
 use Rattle.argue_program.specs.declared.query.LargeInput.{LargeInput}
 use Rattle.argue_program.specs.declared.query.Solving.{Solving}
-use Rattle.oracle_core.specs.declared.reply.AnswerStop.{AnswerStop}
-use Rattle.oracle_core.specs.declared.reply.Answered.{Answered}
+use Rattle.bench_runs.specs.oracle_core.specs.declared.reply.AnswerStop.{AnswerStop}
+use Rattle.bench_runs.specs.oracle_core.specs.declared.reply.Answered.{Answered}
 use Rattle.argue_program.proofs.SolveLemmas.{done_reply, fills, spends_all}
 use Rattle.argue_program.specs.Checks.{CheckEnds}
 use Rattle.argue_program.proofs.CheckLemmas.{stops_told}

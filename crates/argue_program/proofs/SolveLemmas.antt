@@ -12,12 +12,12 @@ use Rattle.oracle_face.specs.Growing.{HasRun, IsFurther}
 use Rattle.oracle_face.specs.Logs.{OracleLog, IsNew, is_unit, no_step, units_of, working}
 use Rattle.session_log.specs.Ends.{MadeFor}
 use Rattle.atom_solver.specs.States.{empty_log}
-use Rattle.oracle_core.specs.Answering.{IsCause, halt_behind}
-use Rattle.oracle_core.specs.Answers.{IsShownBy}
-use Rattle.oracle_core.specs.Engines.{EngineState}
-use Rattle.oracle_core.specs.declared.reply.AnswerStop.{AnswerStop}
-use Rattle.oracle_core.specs.declared.reply.AnswerStop.TheVariants as stop
-use Rattle.oracle_core.specs.declared.reply.Answered.{Answered}
+use Rattle.bench_runs.specs.oracle_core.specs.Answering.{IsCause, halt_behind}
+use Rattle.bench_runs.specs.oracle_core.specs.Answers.{IsShownBy}
+use Rattle.bench_runs.specs.oracle_core.specs.Engines.{EngineState}
+use Rattle.bench_runs.specs.oracle_core.specs.declared.reply.AnswerStop.{AnswerStop}
+use Rattle.bench_runs.specs.oracle_core.specs.declared.reply.AnswerStop.TheVariants as stop
+use Rattle.bench_runs.specs.oracle_core.specs.declared.reply.Answered.{Answered}
 use Rattle.argue_program.specs.Solves.{IsReplyTo, IsSessionOf, Replies, status_after, status_of, unspent}
 use Rattle.argue_program.specs.Texts.{common_text}
 use Rattle.argue_program.specs.declared.ended.KeptSession.{KeptSession}
@@ -39,11 +39,12 @@ common_text-after stop.LogFull = refl
 common_text-after stop.Memory = refl
 
 module _ (f : Framework) (solving : Solving) where
-  replies_are : (before after : Units) (reply : Result Answered AnswerStop) → before.limit ≡ solving.budget
+  replies_are : (log : OracleLog) (before after : Units) (reply : Result Answered AnswerStop)
+      → before.limit ≡ solving.budget
       → after.limit ≡ before.limit → after.used ≤ after.limit → OnOk reply (Fits f solving.query)
       → IfOk reply (λ a. IsShownBy f solving.query a.answer a.certificate) → IfOk reply (λ a. a.units ≡ after.used)
-      → IfErr reply (IsCause f solving.query EXTENSION_LIMIT) → Replies f solving after.used reply
-  replies_are before after (Ok reply) limit stays within fits shown units cause = (
+      → IfErr reply (IsCause f solving.query EXTENSION_LIMIT log) → Replies f solving log after.used reply
+  replies_are log before after (Ok reply) limit stays within fits shown units cause = (
     record {
       fits = fits;
       shown = shown;
@@ -56,14 +57,15 @@ module _ (f : Framework) (solving : Solving) where
     },
     units,
   )
-  replies_are before after (Err why) limit stays within fits shown units cause = cause
+  replies_are log before after (Err why) limit stays within fits shown units cause = cause
 
 -- what an engine with an empty log answers to a query makes up its session
 pub session_is : (f g : Framework) (solving : Solving) (session : KeptSession) (old : OracleLog) (before after : Units)
     → g ≡ f → session.engine.framework ≡ g → old ≡ empty_log LOG_LIMIT → before.limit ≡ solving.budget
     → before.used ≡ 0 → after.used ≤ after.limit → OnOk session.reply (Fits g solving.query)
     → IfOk session.reply (λ a. IsShownBy g solving.query a.answer a.certificate)
-    → IfOk session.reply (λ a. a.units ≡ after.used) → IfErr session.reply (IsCause g solving.query EXTENSION_LIMIT)
+    → IfOk session.reply (λ a. a.units ≡ after.used)
+    → IfErr session.reply (IsCause g solving.query EXTENSION_LIMIT session.engine.log)
     → HasRun (MadeFor g solving.query) (2 * length session.engine.log.sides + 2) g old session.engine.log
     session.engine.pending before after (halt_behind session.reply)
     → IsSessionOf f solving session
@@ -76,7 +78,7 @@ session_is f g solving session old before after same stays empty limit unused wi
       after = after;
       run = subst (Run (empty_log LOG_LIMIT)) (nothing_used before solving.budget limit unused)
           (subst (λ log. Run log before) empty run);
-      replies = replies_are g solving before after session.reply limit run.limit within fits shown units cause;
+      replies = replies_are g solving session.engine.log before after session.reply limit run.limit within fits shown units cause;
     })
 
 -- ---- why there is no answer
@@ -145,7 +147,8 @@ pub record HasReply (f : Framework) (solving : Solving) (session : KeptSession) 
   pub replies : IsReplyTo f solving reply
 
 has_reply : (f : Framework) (solving : Solving) (session : KeptSession) (used : ℕ)
-    (reply : Result Answered AnswerStop) → session.reply ≡ reply → Done ≡ status_of reply → Replies f solving used reply
+    (reply : Result Answered AnswerStop) → session.reply ≡ reply → Done ≡ status_of reply
+    → Replies f solving session.engine.log used reply
     → HasReply f solving session
 has_reply f solving session used (Ok reply) is ends replies =
     record { reply = reply; is = is; replies = replies.0 }

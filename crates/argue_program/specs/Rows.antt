@@ -7,8 +7,8 @@ use Rattle.argue_outside.specs.Outside.{KnownFile}
 use Rattle.iccma_tasks.specs.WrittenText.{text_of as answer_text}
 use Rattle.certificate_claims.specs.declared.certificate.Certificate.{Certificate}
 use Rattle.certificate_text.specs.Written.{certificate_text}
-use Rattle.oracle_core.specs.declared.reply.AnswerStop.{AnswerStop}
-use Rattle.oracle_core.specs.declared.reply.Answered.{Answered}
+use Rattle.bench_runs.specs.oracle_core.specs.declared.reply.AnswerStop.{AnswerStop}
+use Rattle.bench_runs.specs.oracle_core.specs.declared.reply.Answered.{Answered}
 use Rattle.argue_outside.specs.declared.Role.{Role}
 use Rattle.argue_outside.specs.declared.Role.TheVariants.{Framework}
 use Rattle.argue_words.specs.Words.{CheckTexts, LiveTexts, Request, version, problems, solving, checking, living, benching, unknown, SolveTexts}
@@ -30,8 +30,8 @@ use Rattle.argue_program.specs.declared.writing.Written.{Written}
 use Rattle.bench_runs.specs.Runs.{IsBenchRun}
 use Rattle.bench_runs.specs.Summaries.{summary}
 use Rattle.bench_runs.specs.declared.run.BenchRun.{BenchRun}
-use Rattle.script_runs.specs.declared.transcript.ScriptTranscript.{ScriptTranscript}
-use Rattle.script_runs.specs.Transcripts.{IsTranscriptOf}
+use Rattle.bench_runs.specs.script_runs.specs.declared.transcript.ScriptTranscript.{ScriptTranscript}
+use Rattle.bench_runs.specs.script_runs.specs.Transcripts.{IsTranscriptOf}
 use Rattle.script_text.specs.declared.script.Script.{Script}
 use Rattle.semantics.specs.Frameworks.{Framework as AnyFramework}
 use Rattle.session_replies.specs.Replies.{certificates_of}

@@ -27,8 +27,8 @@ use Rattle.bench_runs.specs.Runs.{IsBenchRun}
 use Rattle.bench_runs.specs.Summaries.{summary}
 use Rattle.bench_runs.specs.declared.run.BenchRun.{BenchRun}
 use Rattle.bench_runs.specs.declared.run.TheConstants.{BENCH_BUDGET}
-use Rattle.script_runs.specs.Transcripts.{IsTranscriptOf}
-use Rattle.script_runs.specs.declared.transcript.ScriptTranscript.{ScriptTranscript}
+use Rattle.bench_runs.specs.script_runs.specs.Transcripts.{IsTranscriptOf}
+use Rattle.bench_runs.specs.script_runs.specs.declared.transcript.ScriptTranscript.{ScriptTranscript}
 use Rattle.script_text.specs.ScriptFaults.{StandsAt}
 use Rattle.script_text.specs.ScriptText.{IsScript}
 use Rattle.script_text.specs.declared.fault.ScriptCause.{ScriptCause}
@@ -38,7 +38,7 @@ use Rattle.oracle_face.specs.declared.face.Pending.{Pending}
 use Rattle.oracle_face.specs.Growing.{IsFurther}
 use Rattle.oracle_face.specs.Logs.{IsNew, is_unit, no_step, units_of, working}
 use Rattle.session_log.specs.Ends.{MadeFor}
-use Rattle.oracle_core.specs.declared.reply.Answered.{Answered}
+use Rattle.bench_runs.specs.oracle_core.specs.declared.reply.Answered.{Answered}
 use Rattle.argue_program.specs.Inputs.{Input, IsFirstFaultIn, IsFrameworkOf, Reading, input}
 use Rattle.argue_program.specs.Rows.{IsEndingOf, Row, certificate_files, certificates_files}
 use Rattle.argue_program.specs.Writing.{BreaksOff, IsWritten, Output, WritesFiles}

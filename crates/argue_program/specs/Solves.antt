@@ -5,13 +5,14 @@ use Rattle.plain_lits.specs.Units.{Units}
 use Rattle.semantics.specs.Frameworks.{Framework}
 use Rattle.edit_rules.specs.Fitting.{Fits}
 use Rattle.oracle_face.specs.Growing.{HasRun}
+use Rattle.oracle_face.specs.Logs.{OracleLog}
 use Rattle.session_log.specs.Ends.{MadeFor}
 use Rattle.atom_solver.specs.States.{empty_log}
-use Rattle.oracle_core.specs.Answering.{IsCause, halt_behind}
-use Rattle.oracle_core.specs.Answers.{IsShownBy}
-use Rattle.oracle_core.specs.declared.reply.AnswerStop.{AnswerStop}
-use Rattle.oracle_core.specs.declared.reply.AnswerStop.TheVariants as stop
-use Rattle.oracle_core.specs.declared.reply.Answered.{Answered}
+use Rattle.bench_runs.specs.oracle_core.specs.Answering.{IsCause, halt_behind}
+use Rattle.bench_runs.specs.oracle_core.specs.Answers.{IsShownBy}
+use Rattle.bench_runs.specs.oracle_core.specs.declared.reply.AnswerStop.{AnswerStop}
+use Rattle.bench_runs.specs.oracle_core.specs.declared.reply.AnswerStop.TheVariants as stop
+use Rattle.bench_runs.specs.oracle_core.specs.declared.reply.Answered.{Answered}
 use Rattle.argue_program.specs.Inputs.{IsFrameworkOf}
 use Rattle.argue_program.specs.declared.ended.KeptSession.{KeptSession}
 use Rattle.argue_program.specs.declared.ended.Limit.TheVariants as limit
@@ -32,10 +33,11 @@ pub record IsReplyTo (f : Framework) (solving : Solving) (reply : Answered) : Ty
 abbrev pub unspent : ℕ → Units
 unspent limit = record { limit = limit; used = 0 }
 
--- the query was answered by these units; or it has the fault or the cause that says why it has no answer
-abbrev pub Replies : Framework → Solving → ℕ → Result Answered AnswerStop → Type 0
-Replies f solving used (Ok reply) = IsReplyTo f solving reply × (reply.units ≡ used)
-Replies f solving used (Err why) = IsCause f solving.query EXTENSION_LIMIT why
+-- the query was answered by these units; or it has the fault or the cause that says why it has no answer, beside the log
+-- behind it
+abbrev pub Replies : Framework → Solving → OracleLog → ℕ → Result Answered AnswerStop → Type 0
+Replies f solving log used (Ok reply) = IsReplyTo f solving reply × (reply.units ≡ used)
+Replies f solving log used (Err why) = IsCause f solving.query EXTENSION_LIMIT log why
 
 -- a session of this query alone on the framework: its engine began with no step; each unit that its log has was a
 -- clause that was new when it came, and the budget counts them; and the reply is so. Where the budget was spent, the
@@ -45,7 +47,7 @@ pub record IsSessionOf (f : Framework) (solving : Solving) (session : KeptSessio
   pub after : Units
   pub run : HasRun (MadeFor f solving.query) (2 * length session.engine.log.sides + 2) f (empty_log LOG_LIMIT)
       session.engine.log session.engine.pending (unspent solving.budget) after (halt_behind session.reply)
-  pub replies : Replies f solving after.used session.reply
+  pub replies : Replies f solving session.engine.log after.used session.reply
 
 -- the same on the framework that the file's bytes read as
 pub record IsSessionOn (known : KnownFile) (solving : Solving) (session : KeptSession) : Type 0 where

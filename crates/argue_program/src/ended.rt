@@ -6,12 +6,12 @@ ghost use Rattle.argue_program.specs.Statuses.{code_of};
 
 use af_format::LineCause;
 use argue_outside::Role;
+use bench_runs::oracle_core::{AnswerStop, Answered, Engine};
+use bench_runs::script_runs::ScriptTranscript;
 use certificate_claims::Cause as Failure;
 use certificate_text::CertCause;
 use edit_rules::QueryFault;
 use iccma_tasks::AnswerCause;
-use oracle_core::{AnswerStop, Answered, Engine};
-use script_runs::ScriptTranscript;
 use script_text::ScriptCause;
 
 /// What is wrong with a line of an input: a variant for each kind of text.

@@ -1,17 +1,17 @@
 -- A clause that is taken from an entry, and why one is refused.
-use Rattle.std.proofs.Common.{◌≡◌, ℕ, ◌+◌, ◌-◌, ◌<◌, ◌≤◌, Bool, true, false, not, List, [], ◌∷◌, ◌++◌, length, take, map, get_or, ap, sym, subst, ◌∙◌, refl, arith, inl, inr, ⊎_elim}
-use Rattle.std.specs.Prelude.{◌⊎◌, ◌↔◌, IsTrue, Contains, Option, Some, Result, Ok, Err, IfOk}
+use Rattle.std.proofs.Common.{◌≡◌, ℕ, ◌+◌, ◌-◌, ◌<◌, Bool, true, false, not, List, [], ◌∷◌, ◌++◌, length, take, map, get_or, ap, sym, subst, ◌∙◌, refl, arith, inl, inr, ⊎_elim}
+use Rattle.std.specs.Prelude.{◌↔◌, IsTrue, Contains, Option, Result, Ok, Err, IfOk}
 use Rattle.std.proofs.lemmas.List.{take_all, length-take-le, get_or_default}
 use Rattle.std.proofs.lemmas.Bool.{false≢true}
 use Rattle.plain_lists.specs.declared.memory.Memory.{Memory}
 use Rattle.plain_lits.specs.declared.lit.Lit.{Lit}
 use Rattle.plain_lits.specs.Literals.{negation}
-use Rattle.plain_lits.specs.HintCheck.{Checks, Propagates, IsTautology}
+use Rattle.plain_lits.specs.HintCheck.{Checks, IsTautology}
 use Rattle.plain_lits.specs.Checking.{HasRoomFor}
 use Rattle.plain_lits.proofs.HintCheckLemmas.{IsSameSet, Contains-mapped, Contains-from_mapped, propagates_same_set, taken_sound}
 use Rattle.plain_lits.proofs.OneOutcome.{one_outcome}
 use Rattle.clause_watches.proofs.Fronts.{front_cases}
-use Rattle.hinted_log.specs.Logs.{LogState, Step, IsStepOf, clauses_of, derived_step, step_at}
+use Rattle.hinted_log.specs.Logs.{LogState, IsStepOf, clauses_of, derived_step, step_at}
 use Rattle.hinted_log.specs.declared.fault.LogFault.{LogFault}
 use Rattle.hinted_log.specs.declared.fault.LogFault.TheVariants.{LogFull, Rejected, Memory as OfMemory}
 use Rattle.sat_core.specs.declared.answer.Added.TheVariants.{Derived}
@@ -32,7 +32,6 @@ use Rattle.atom_solver.specs.States.{AtomState}
 use Rattle.atom_solver.specs.Imported.{Imports, IsImported, IsPlain, IsRefused}
 use Rattle.atom_solver.specs.Inner.{IsFilled}
 use Rattle.atom_solver.specs.Lifted.{IsLifting, atom_at, atoms_of, in_use, lit_of, lifted_at, listed, log_over, state_over}
-use Rattle.atom_solver.specs.Tables.{StandsFor}
 use Rattle.atom_solver.proofs.Lifting.{checks_lifted, in_use_no, in_use_yes, step_lifted}
 use Rattle.atom_solver.proofs.Listing.{length-listed}
 use Rattle.atom_solver.proofs.Reading.{step_named}
@@ -56,7 +55,7 @@ turned xs ys same = record { there = same.back; back = same.there }
 tautology_same : (xs ys : List AtomLit) → IsSameClause xs ys → IsTautology negated xs → IsTautology negated ys
 tautology_same xs ys same t = (t.0, same.there t.0 t.1, same.there (negated t.0) t.2)
 
-checks_same : (steps : List (List AtomLit)) (xs ys : List AtomLit) (hints : List ℕ) (outcome : Result ℕ ℕ)
+pub checks_same : (steps : List (List AtomLit)) (xs ys : List AtomLit) (hints : List ℕ) (outcome : Result ℕ ℕ)
     → IsSameClause xs ys → Checks negated steps xs hints outcome → Checks negated steps ys hints outcome
 checks_same steps xs ys hints outcome same w =
     ⊎_elim (λ t. inl (tautology_same xs ys same t.0, t.1))

@@ -13,12 +13,11 @@ use Rattle.plain_lists.specs.declared.memory.Memory.{Memory}
 use Rattle.plain_lits.specs.declared.halt.Halt.{Halt}
 use Rattle.hinted_log.specs.declared.fault.LogFault.{LogFault}
 use Rattle.hinted_log.specs.declared.fault.LogFault.TheVariants.{LogFull}
-use Rattle.semantics.specs.Frameworks.{Framework, af}
+use Rattle.semantics.specs.Frameworks.{Framework}
 use Rattle.meaning_atoms.specs.declared.axiom.AxiomName.{AxiomName}
 use Rattle.certificate_claims.specs.Refutations.{IsAxiomOf}
 use Rattle.session_log.proofs.Staying.{axiom_stays}
 use Rattle.atom_solver.specs.States.{AtomState, AddsAxiom, IsGuardedLog}
-use Rattle.hinted_log.specs.declared.kind.Kind.{Kind}
 use Rattle.hinted_log.specs.declared.kind.Kind.TheVariants as kind
 use Rattle.sat_core.specs.declared.answer.Added.{Added}
 use Rattle.sat_core.specs.declared.answer.Added.TheVariants.{Axiom, Side, Derived}

@@ -13,3 +13,4 @@ pub mod Searching
 pub mod Siding
 pub mod TableLemmas
 pub mod Using
+pub mod Worth

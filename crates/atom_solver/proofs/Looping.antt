@@ -1,5 +1,5 @@
 -- What it leaves that a loop clause comes.
-use Rattle.std.proofs.Common.{◌≡◌, ◌+◌, true, ap, sym, subst, ◌∙◌, refl, arith}
+use Rattle.std.proofs.Common.{◌≡◌, ℕ, ◌+◌, true, ap, sym, subst, ◌∙◌, refl, arith}
 use Rattle.std.specs.Prelude.{Option, Some, Result, Ok, Err, IfErr, OnOk, OnErr}
 use Rattle.plain_lits.specs.Units.{Units}
 use Rattle.plain_lits.specs.declared.halt.Halt.{Halt}
@@ -87,3 +87,12 @@ module _ (name : AxiomName) (old new : AtomState) (f : Framework) (loop_clause :
     closing = tt;
     stop = tt;
   }
+
+-- the loop clause is in hand where the budget was spent
+pub loop_in_hand : (name : AxiomName) (new : AtomState) (before after : Units) (r : Result (Unit {0}) Halt)
+    → IfErr r (StopsUnit (OfLoop name) new before after) → (count : ℕ) → r ≡ Err (Spent count)
+    → new.pending ≡ Some (OfLoop name)
+loop_in_hand name new before after (Ok u) stops count e = cc
+loop_in_hand name new before after (Err (Spent n)) stops count e = stops.kept
+loop_in_hand name new before after (Err LogFull) stops count e = cc
+loop_in_hand name new before after (Err Memory) stops count e = cc

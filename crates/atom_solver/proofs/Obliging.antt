@@ -1,6 +1,6 @@
 -- What it leaves that a side clause is kept, or was there.
-use Rattle.std.proofs.Common.{◌≡◌, ℕ, ◌+◌, ◌-◌, List, [], ◌∷◌, ◌++◌, length, take, get_or, ap, sym, subst, ◌∙◌, refl, arith, inl, inr, ⊎_elim, Bool}
-use Rattle.std.specs.Prelude.{slice_index_or, Option, Some, Result, Ok, Err, IfOk, IfErr, OnOk, OnErr}
+use Rattle.std.proofs.Common.{◌≡◌, ℕ, ◌+◌, ◌-◌, List, [], ◌∷◌, ◌++◌, length, ap, sym, subst, ◌∙◌, refl, arith, inl, inr, ⊎_elim}
+use Rattle.std.specs.Prelude.{◌⊎◌, slice_index_or, Option, Some, Result, Ok, Err, IfOk, IfErr, OnOk, OnErr}
 use Rattle.std.proofs.lemmas.List.{length_push, get_or_push}
 use Rattle.plain_lits.specs.HintCheck.{IsTautology}
 use Rattle.plain_lits.specs.Units.{Units}
@@ -18,7 +18,7 @@ use Rattle.oracle_face.proofs.GrowingLemmas.{grows_same, grows_as}
 use Rattle.session_log.specs.Steps.{TakesSide, GainsStep, own_step, side_made}
 use Rattle.session_log.proofs.Staying.{side_stays}
 use Rattle.session_log.proofs.Spending.{side_spends}
-use Rattle.atom_solver.specs.States.{AtomState, IsGuardedLog}
+use Rattle.atom_solver.specs.States.{AtomState, IsGuardedLog, IsNoLoop, TakesSideOf}
 use Rattle.atom_solver.specs.Sides.{IsOrderOf, IsSideAt, IsNowhere}
 use Rattle.atom_solver.specs.Inner.{KeepsSide, StopsUnit}
 use Rattle.atom_solver.proofs.Running.{unless_all}
@@ -86,6 +86,29 @@ takes_side side literals set old new number is order none keeps = record {
 }
 
 -- ---- what is answered
+
+-- the side clause comes with its step, or the log is the same
+pub added_keeps : (side literals : List AtomLit) (from : List ℕ) (old new : AtomState) → IsSide side
+    → IsOrderOf side literals → IsNowhere old.log.sides literals → (r : Result ℕ Halt)
+    → IfOk r (KeepsSide literals from old new) → OnErr r (new.log ≡ old.log)
+    → (new.log ≡ old.log) ⊎ TakesSideOf side from old.log new.log
+added_keeps side literals from old new is order none (Ok number) ok err = inr (record {
+  literals = literals;
+  clause = ok.clause;
+  same = order.same;
+  takes = takes_side side literals from old new number is order none ok;
+})
+added_keeps side literals from old new is order none (Err halt) ok err = inl err
+
+-- the clause in hand of a budget that was spent is the side clause
+pub added_no_loop : (literals : List AtomLit) (from : List ℕ) (new : AtomState) (before after : Units)
+    (r : Result ℕ Halt) → IfErr r (StopsUnit (OfSide literals from) new before after) → (count : ℕ)
+    → r ≡ Err (Spent count) → IsNoLoop new.pending
+added_no_loop literals from new before after (Ok number) stops count e = absurd (cc)
+added_no_loop literals from new before after (Err (Spent n)) stops count e =
+    subst (λ (p : Option Pending). IsNoLoop p) (sym stops.kept) tt
+added_no_loop literals from new before after (Err LogFull) stops count e = absurd (cc)
+added_no_loop literals from new before after (Err Memory) stops count e = absurd (cc)
 
 pub obliged_found : (side literals : List AtomLit) (log : OracleLog) (f : Framework) (index : ℕ)
     → IsOrderOf side literals → IsSideAt log.sides literals index → IsGuardedLog f log

@@ -27,6 +27,7 @@ use Rattle.oracle_face.specs.Growing.{HasRun, NoSide, UnlessMemory, Works, IsSto
 use Rattle.atom_solver.specs.declared.origin.Origin.{Origin}
 use Rattle.atom_solver.specs.Assumed.{AreAssumed}
 use Rattle.session_log.specs.Guards.{IsGuarded}
+use Rattle.atom_solver.specs.States.{IsNoLoop}
 use Rattle.atom_solver.specs.declared.searched.Searched.{Searched}
 use Rattle.atom_solver.specs.declared.parts.Parts.{Parts}
 use Rattle.atom_solver.specs.Inner.{IsKept, KeepsInHand, Tells}
@@ -40,11 +41,19 @@ use Rattle.atom_solver.proofs.Lifting.{in_use_gives, in_use_yes, room_at, log_gr
 use Rattle.atom_solver.proofs.Searching.{LeavesAs, gained_of, gained_works, gained_closings, closing_left, unit_further, AreValues, model_satisfies, core_refutes}
 use Rattle.atom_solver.proofs.TableLemmas.{told_whole}
 
+memory_not_spent : (count : ℕ) → Memory ≡ Spent count → ⊥
+memory_not_spent count e = cc
+
 -- a halt that is handed on
 pub handed_on : {T : Type 0} (P : Option Halt → Type 0) (r : Result T Halt) (halt : Halt)
     → IsErr r × IsErrAnd r (λ x. x ≡ halt) → P (Some halt) → P (halt_of r)
 handed_on P (Ok value) halt h p = absurd (false≢true h.0)
 handed_on P (Err x) halt h p = subst (λ y. P (Some y)) (sym h.1) p
+
+pub not_spent : {T : Type 0} (r : Result T Halt) → IsErr r × IsErrAnd r (λ x. x ≡ Memory) → (count : ℕ)
+    → r ≡ Err (Spent count) → ⊥
+not_spent (Ok value) h count e = absurd (false≢true h.0)
+not_spent (Err x) h count e = let halt : x ≡ Spent count = cc in memory_not_spent count (sym h.1 ∙ halt)
 
 abbrev pub halted : Halt → Result Solved Halt
 halted halt = Err halt
@@ -63,10 +72,10 @@ handed_on_ending f old new pending before after r h run =
 pub ok_not_memory : (solved : Solved) → answered solved ≡ halted Memory → ⊥
 ok_not_memory solved e = cc
 
-spent_not_memory : (count : ℕ) → halted (Spent count) ≡ halted Memory → ⊥
+pub spent_not_memory : (count : ℕ) → halted (Spent count) ≡ halted Memory → ⊥
 spent_not_memory count e = cc
 
-full_not_memory : halted LogFull ≡ halted Memory → ⊥
+pub full_not_memory : halted LogFull ≡ halted Memory → ⊥
 full_not_memory e = cc
 
 pub unless_all : (P : Type 0) (halt : Option Halt) → P → UnlessMemory halt P
@@ -221,6 +230,21 @@ module _ (atoms : List Atom) (old new : SolverState) (origins : List Origin) (si
       (length-listed (lifted_at atoms new origins) (length new.log.steps) ∙ h.ends.1)
   halted_run Memory pending searched kept =
       run_memory atoms old new origins sides f pending before after 0 keeps limit
+
+-- the clause in hand of a search whose budget was spent is one that it learned
+pub halted_no_loop : (atoms : List Atom) (old new : SolverState) (assumed : List Lit) (before after : Units)
+    (halt : Halt) (pending : Option Pending)
+    → (halted halt ≢ halted Memory → HasSearched old new assumed before after (halted halt))
+    → IsKept atoms new.pending pending → (count : ℕ) → halt ≡ Spent count → IsNoLoop pending
+halted_no_loop atoms old new assumed before after (Spent n) pending searched kept count e =
+    let h = searched (λ x. spent_not_memory n x) in
+    let spent = h.ends.2 in
+    let kept_as : pending ≡ Some (Learned (told atoms spent.in_hand.clause) spent.in_hand.hints) =
+    subst (λ x. IsKept atoms x pending) spent.kept kept in
+    subst (λ (p : Option Pending). IsNoLoop p) (sym kept_as) tt
+halted_no_loop atoms old new assumed before after LogFull pending searched kept count e = absurd (cc)
+halted_no_loop atoms old new assumed before after Memory pending searched kept count e =
+    absurd (memory_not_spent count e)
 
 -- ---- parts
 

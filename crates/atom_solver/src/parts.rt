@@ -1,6 +1,6 @@
 //! What a solver over atoms is made of.
 
-ghost use Rattle.std.specs.Prelude.{◌+◌, ◌-◌, IfErr, IfNone, None, IfSome, slice_index_or, ◌≡◌, ◌↔◌, ℕ, ◌≤◌, [], length, List, IfOk, OnOk, OnErr, Contains, ◌<◌, vec_len, vec_capacity};
+ghost use Rattle.std.specs.Prelude.{◌+◌, ◌-◌, ◌⊎◌, IfErr, IfNone, None, IfSome, slice_index_or, ◌≡◌, ◌↔◌, ℕ, ◌≤◌, [], length, List, IfOk, OnOk, OnErr, Contains, ◌<◌, vec_len, vec_capacity};
 ghost use Rattle.plain_lits.specs.declared.lit.Lit.{Lit as ALit};
 ghost use Rattle.plain_lits.specs.HintCheck.{IsTautology};
 ghost use Rattle.plain_lits.specs.Literals.{negation};
@@ -11,7 +11,7 @@ ghost use Rattle.plain_lits.specs.Checking.{HasRoomFor};
 ghost use Rattle.meaning_atoms.specs.declared.atom.AtomLit.{AtomLit as AnAtomLit};
 ghost use Rattle.meaning_atoms.specs.Literals.{negated};
 ghost use Rattle.oracle_face.specs.Goals.{IsSide};
-ghost use Rattle.oracle_face.specs.Growing.{HasRun, NoSide, Obliges, OnlySide, halt_of};
+ghost use Rattle.oracle_face.specs.Growing.{HasRun, NoSide, Obliges, OnlySide, UnlessMemory, halt_of};
 ghost use Rattle.oracle_face.specs.Logs.{IsNumberOf, hints_of, step_at};
 ghost use Rattle.meaning_atoms.specs.AxiomNames.{IsAxiomName};
 ghost use Rattle.oracle_face.specs.declared.face.Pending.TheVariants.{Loop as OfLoop, Side as OfSide};
@@ -22,7 +22,8 @@ ghost use Rattle.atom_solver.specs.Inner.{state_of, GainsGiven, IsFilled, IsKept
 ghost use Rattle.atom_solver.specs.Inner.{KeepsInHand, KeepsSide, NeedsNoHints, StopsUnit, Tells};
 ghost use Rattle.atom_solver.specs.Searches.{IsAnswer, AreUnfixed, ends_in};
 ghost use Rattle.atom_solver.specs.Lifted.{atoms_of, imported_of, is_given, source_of};
-ghost use Rattle.atom_solver.specs.States.{AddsAxiom, IsGuardedLog, StaysLog, empty_state};
+ghost use Rattle.atom_solver.specs.States.{AddsAxiom, IsGuardedLog, IsNoLoop, StaysLog, TakesSideOf, empty_state};
+ghost use Rattle.session_log.specs.Steps.{LearnsClauses};
 ghost use Rattle.atom_solver.specs.Tables.{StandsFor};
 
 use crate::kept_side::{KeptSide, find, guarded_literals, in_order, number_at};
@@ -299,6 +300,10 @@ impl Parts {
         ensures run { (f : Framework) → IsGuardedLog f (state_of self.old).log
             → HasRun (OnlySide side.now from.now) 0 f (state_of self.old).log (state_of self.new).log self.new.pending
             budget.old budget.new (halt_of result) }
+        ensures same { OnErr result ((state_of self.new).log ≡ (state_of self.old).log) }
+        ensures keeps { ((state_of self.new).log ≡ (state_of self.old).log)
+            ⊎ TakesSideOf side.now from.now (state_of self.old).log (state_of self.new).log }
+        ensures in_hand { (count : ℕ) → result ≡ Err (Halt.Spent count) → IsNoLoop self.new.pending }
         ensures log { StaysLog (state_of self.old).log (state_of self.new).log }
     {
         let literals = in_order(alloc, side)?;
@@ -378,6 +383,8 @@ impl Parts {
         ensures run { (f : Framework) (goals : List AnAtomLit)
             → AreAssumed f self.old.table goals self.old.assumed.items → HasRun NoSide (ends_in result) f
             (state_of self.old).log (state_of self.new).log self.new.pending budget.old budget.new (halt_of result) }
+        ensures learns { UnlessMemory (halt_of result) (LearnsClauses (state_of self.old).log (state_of self.new).log) }
+        ensures in_hand { (count : ℕ) → result ≡ Err (Halt.Spent count) → IsNoLoop self.new.pending }
         ensures log { StaysLog (state_of self.old).log (state_of self.new).log }
     {
         self.solver.reset_phases();
@@ -413,6 +420,8 @@ impl Parts {
             → IfOk result (IsAnswer (E.framework plain.now) (state_of self.new).log goals.now) }
         ensures run { HasRun NoSide (ends_in result) (E.framework plain.now) (state_of self.old).log
             (state_of self.new).log self.new.pending budget.old budget.new (halt_of result) }
+        ensures learns { UnlessMemory (halt_of result) (LearnsClauses (state_of self.old).log (state_of self.new).log) }
+        ensures in_hand { (count : ℕ) → result ≡ Err (Halt.Spent count) → IsNoLoop self.new.pending }
         ensures log { StaysLog (state_of self.old).log (state_of self.new).log }
     {
         self.assume::<E>(plain, goals)?;

@@ -1,6 +1,6 @@
 //! The solver, as callers see it.
 
-ghost use Rattle.std.specs.Prelude.{◌≡◌, ◌↔◌, ℕ, ◌≤◌, true, length, IfNone, IfOk, IfSome, IsTrue, OnOk, OnErr, None};
+ghost use Rattle.std.specs.Prelude.{◌≡◌, ◌⊎◌, ◌↔◌, ℕ, ◌≤◌, true, length, IfNone, IfOk, IfSome, IsTrue, OnOk, OnErr, None, Some};
 ghost use Rattle.certificate_claims.specs.Refutations.{IsAxiomOf, axiom_clause};
 ghost use Rattle.plain_lits.specs.HintCheck.{IsTautology};
 ghost use Rattle.semantics.specs.Frameworks.{Framework};
@@ -8,9 +8,11 @@ ghost use Rattle.meaning_atoms.specs.Literals.{negated};
 ghost use Rattle.hinted_log.specs.declared.log.TheConstants.{MOST_STEPS};
 ghost use Rattle.oracle_face.specs.Logs.{FactsAreFalse, IsNew, IsNumberOf, hints_of, is_loop, side_at, step_at, working};
 ghost use Rattle.oracle_face.specs.Goals.{IsSide};
-ghost use Rattle.oracle_face.specs.Growing.{HasRun, NoSide, Obliges, OnlySide, halt_of};
+ghost use Rattle.oracle_face.specs.Growing.{HasRun, NoSide, Obliges, OnlySide, UnlessMemory, halt_of};
 ghost use Rattle.meaning_atoms.specs.AxiomNames.{IsAxiomName};
-ghost use Rattle.atom_solver.specs.States.{AddsAxiom, IsGuardedLog, StaysLog, UsesAxioms, empty_log};
+ghost use Rattle.oracle_face.specs.declared.face.Pending.TheVariants.{Loop as OfLoop};
+ghost use Rattle.atom_solver.specs.States.{AddsAxiom, IsGuardedLog, IsNoLoop, StaysLog, TakesSideOf, UsesAxioms, empty_log};
+ghost use Rattle.session_log.specs.Steps.{LearnsClauses};
 ghost use Rattle.atom_solver.specs.Searches.{IsAnswer, AreUnfixed, ends_in};
 ghost use Rattle.atom_solver.specs.Imported.{IsImported, IsPlain};
 ghost use Rattle.atom_solver.specs.Lifted.{imported_of, source_of};
@@ -87,6 +89,8 @@ impl AtomSolver {
         ensures run { (f : Framework) → IsGuardedLog f self.old.log → IsAxiomOf f name
             → IsNew (working self.old.log.steps) (axiom_clause name) → FactsAreFalse f (axiom_clause name)
             → HasRun NoSide 0 f self.old.log self.new.log self.new.pending budget.old budget.new (halt_of result) }
+        ensures same { OnErr result (self.new.log ≡ self.old.log) }
+        ensures in_hand { (count : ℕ) → result ≡ Err (Halt.Spent count) → self.new.pending ≡ Some (OfLoop name) }
         ensures log { (f : Framework) → IsAxiomOf f name → IsGuardedLog f self.old.log → IsGuardedLog f self.new.log }
     {
         self.parts.take_loop(alloc, name, budget)
@@ -94,7 +98,8 @@ impl AtomSolver {
 
     /// The number of a side clause, which is kept with the set that it is made from. Where there is one with the same
     /// literals, that one's number is given, and nothing changes. A new one takes a unit of the budget. The log's room
-    /// is looked at first; where the budget is spent, the side clause is kept as `pending`.
+    /// is looked at first; where the budget is spent, the side clause is kept as `pending`. After every `Err` the log is
+    /// as before.
     pub fn oblige(
         &mut self,
         alloc: Global,
@@ -107,6 +112,9 @@ impl AtomSolver {
             → IfOk result (Obliges side.now self.old.log self.new.log) }
         ensures run { (f : Framework) → IsGuardedLog f self.old.log → HasRun (OnlySide side.now from.now) 0 f
             self.old.log self.new.log self.new.pending budget.old budget.new (halt_of result) }
+        ensures same { OnErr result (self.new.log ≡ self.old.log) }
+        ensures keeps { (self.new.log ≡ self.old.log) ⊎ TakesSideOf side.now from.now self.old.log self.new.log }
+        ensures in_hand { (count : ℕ) → result ≡ Err (Halt.Spent count) → IsNoLoop self.new.pending }
         ensures log { StaysLog self.old.log self.new.log }
     {
         self.parts.oblige(alloc, side, from, budget)
@@ -114,8 +122,8 @@ impl AtomSolver {
 
     /// Searches for literals under which each clause in use and each goal is true, where facts are as the framework has
     /// them. Each clause that is learned takes a unit of the budget; where it has none, the further clause is kept as
-    /// `pending`. Where the goals are refuted, one step at most is logged that only ends the search. After `Memory` the
-    /// log may have learned steps that no budget counts.
+    /// `pending`. Where the goals are refuted, one step at most is logged that only ends the search, and only where no
+    /// step's clause is a part of its own. After `Memory` the log may have learned steps that no budget counts.
     pub fn search<E: Encoding>(
         &mut self,
         alloc: Global,
@@ -129,6 +137,8 @@ impl AtomSolver {
             → IfOk result (IsAnswer (E.framework plain.now) self.new.log goals.now) }
         ensures run { HasRun NoSide (ends_in result) (E.framework plain.now) self.old.log self.new.log
             self.new.pending budget.old budget.new (halt_of result) }
+        ensures learns { UnlessMemory (halt_of result) (LearnsClauses self.old.log self.new.log) }
+        ensures in_hand { (count : ℕ) → result ≡ Err (Halt.Spent count) → IsNoLoop self.new.pending }
         ensures log { StaysLog self.old.log self.new.log }
     {
         self.parts.search::<E>(alloc, plain, goals, budget)

@@ -1,3 +1,4 @@
+pub mod ChangeLemmas
 pub mod OffsetLemmas
 pub mod PairOrderLemmas
 pub mod StableSortLemmas

@@ -1,3 +1,5 @@
+pub mod Changes
 pub mod Offsets
 pub mod PairOrder
 pub mod StableSort
+pub use Rattle.semantics as semantics

@@ -2,7 +2,9 @@
 //! counting, in time linear in the pairs.
 #![tactic(auto)]
 
+mod changes;
 mod index;
 mod stable_sort;
 
 pub use index::AttackIndex;
+pub use semantics;

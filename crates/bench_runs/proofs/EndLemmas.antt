@@ -22,7 +22,7 @@ use Rattle.script_text.specs.declared.script.Command.TheVariants.{Edit as change
 use Rattle.script_text.specs.declared.script.ScriptLine.{ScriptLine}
 use Rattle.session_replies.specs.declared.reply.Reply.{Reply}
 use Rattle.oracle_face.specs.Logs.{OracleLog}
-use Rattle.session_core.specs.declared.kept.KeptAnswer.{KeptAnswer}
+use Rattle.script_runs.specs.session_core.specs.declared.kept.KeptAnswer.{KeptAnswer}
 use Rattle.script_runs.specs.Served.{entries_made, entry_by, lines_of}
 use Rattle.bench_inputs.specs.Generator.{bench_framework, first}
 use Rattle.bench_inputs.specs.Scripts.{asked_about, bench_script, line_for, session_for}

@@ -17,7 +17,7 @@ use Rattle.script_text.specs.declared.script.Script.{Script}
 use Rattle.script_text.specs.declared.script.ScriptLine.{ScriptLine}
 use Rattle.script_text.specs.declared.script.TheConstants.{MOST_SESSIONS}
 use Rattle.edit_words.specs.declared.edit.Edit.TheVariants.{AttackDrop}
-use Rattle.session_core.specs.declared.kept.Kept.{Kept}
+use Rattle.script_runs.specs.session_core.specs.declared.kept.Kept.{Kept}
 use Rattle.session_replies.specs.declared.reply.Reply.{Reply}
 use Rattle.script_runs.specs.Served.{FrontsRise, LineEnds, lines_of}
 use Rattle.script_runs.specs.Transcripts.{AreSessions, IsTranscriptOf}

@@ -27,7 +27,7 @@ use Rattle.session_replies.specs.declared.reply.Body.{Body}
 use Rattle.session_replies.specs.declared.reply.Body.TheVariants.{Done, EditRefused, Full, Answered, QueryRefused, Unknown, TooMany, LogFull}
 use Rattle.session_replies.specs.declared.reply.Reply.{Reply}
 use Rattle.oracle_face.specs.Logs.{OracleLog}
-use Rattle.session_core.specs.declared.kept.KeptAnswer.{KeptAnswer}
+use Rattle.script_runs.specs.session_core.specs.declared.kept.KeptAnswer.{KeptAnswer}
 use Rattle.script_runs.specs.Served.{AnswersQuery, CommandEnds, LineEnds, lines_of}
 use Rattle.bench_inputs.specs.Generator.{bench_framework, first}
 use Rattle.bench_inputs.specs.Scripts.{asked_about, bench_script}

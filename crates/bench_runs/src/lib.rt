@@ -10,3 +10,5 @@ mod tally;
 
 pub use counts::Counts;
 pub use run::{BENCH_BUDGET, BenchRun, run_bench};
+pub use script_runs;
+pub use script_runs::{oracle_core, session_core};

@@ -13,8 +13,8 @@ use Rattle.plain_lists.proofs.ListTests.{any_gives, any_from}
 use Rattle.plain_lists.proofs.Membership.{Contains-nil, Contains-head, Contains-tail, Contains-cons_cases}
 use Rattle.plain_lits.proofs.HintCheckLemmas.{Contains-mapped, Contains-from_mapped}
 use Rattle.set_lists.proofs.Rising.{below_across, rises_right}
-use Rattle.semantics.specs.Framework.{Af, IsAf, IsInRange, IsRangeWithin}
-use Rattle.semantics.specs.Frameworks.{Framework, af, IsNumberedAf}
+use Rattle.iccma_tasks.specs.semantics.specs.Framework.{Af, IsAf, IsInRange, IsRangeWithin}
+use Rattle.iccma_tasks.specs.semantics.specs.Frameworks.{Framework, af, IsNumberedAf}
 use Rattle.certificate_claims.specs.declared.ranges.FirstRanged.{FirstRanged}
 use Rattle.certificate_claims.specs.Acceptance.{NoneWithin, NoRangeWithin}
 use Rattle.certificate_claims.specs.Claims.{first_ranged, has_ranged}

@@ -9,8 +9,8 @@ use Rattle.plain_lists.specs.Members.{IsWithin}
 use Rattle.plain_lists.proofs.Filters.{Contains-filter}
 use Rattle.plain_lists.proofs.ListTests.{any_gives, any_from, all_gives, all_from}
 use Rattle.plain_lists.proofs.Membership.{Contains-head, Contains-tail, Contains-cons_cases}
-use Rattle.semantics.specs.Framework.{Af, IsAf, IsAttackedBy, IsInRange, IsRangeWithin}
-use Rattle.semantics.specs.Frameworks.{Framework, af}
+use Rattle.iccma_tasks.specs.semantics.specs.Framework.{Af, IsAf, IsAttackedBy, IsInRange, IsRangeWithin}
+use Rattle.iccma_tasks.specs.semantics.specs.Frameworks.{Framework, af}
 use Rattle.certificate_claims.specs.Claims.{first_ranged, has_ranged}
 use Rattle.certificate_claims.specs.SetLiterals.{has, hits, hit_by_any, is_range_within, is_ranged, members, range_of, same_range}
 

@@ -1,10 +1,10 @@
 -- When a certificate is accepted for an answer.
 use Rattle.std.specs.Prelude.{◌≡◌, ℕ, zero, suc, ◌<◌, Bool, true, false, List, [], length, Contains, slice_index_or, Option, Some, None}
 use Rattle.plain_lists.specs.Members.{IsWithin}
-use Rattle.semantics.specs.Framework.{IsRangeWithin}
-use Rattle.semantics.specs.Frameworks.{Framework, af, aba}
-use Rattle.meaning_atoms.specs.declared.atom.Atom.TheVariants.{Ad}
-use Rattle.meaning_atoms.specs.Worlds.{HoldsOf}
+use Rattle.iccma_tasks.specs.semantics.specs.Framework.{IsRangeWithin}
+use Rattle.iccma_tasks.specs.semantics.specs.Frameworks.{Framework, af, aba}
+use Rattle.aba_axioms.specs.meaning_atoms.specs.declared.atom.Atom.TheVariants.{Ad}
+use Rattle.aba_axioms.specs.meaning_atoms.specs.Worlds.{HoldsOf}
 use Rattle.iccma_tasks.specs.declared.answer.Answer.{Answer}
 use Rattle.iccma_tasks.specs.declared.task.Problem.{Problem}
 use Rattle.iccma_tasks.specs.declared.task.Problem.TheVariants.{Credulous, Sceptical}

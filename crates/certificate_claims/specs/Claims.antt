@@ -1,10 +1,10 @@
 -- What an answer has to show: its row in the table of certificates, and the claims of a row.
 use Rattle.std.specs.Prelude.{ℕ, Bool, true, false, not, List, [], ◌∷◌, ◌++◌, map, filter, Option, Some, None}
 use Rattle.std.specs.List.{list_any}
-use Rattle.semantics.specs.Frameworks.{Framework, aba}
-use Rattle.meaning_atoms.specs.declared.atom.Atom.TheVariants.{Ad, Co, St}
-use Rattle.meaning_atoms.specs.declared.atom.AtomLit.{AtomLit}
-use Rattle.meaning_atoms.specs.Literals.{affirmed, negated}
+use Rattle.iccma_tasks.specs.semantics.specs.Frameworks.{Framework, aba}
+use Rattle.aba_axioms.specs.meaning_atoms.specs.declared.atom.Atom.TheVariants.{Ad, Co, St}
+use Rattle.aba_axioms.specs.meaning_atoms.specs.declared.atom.AtomLit.{AtomLit}
+use Rattle.aba_axioms.specs.meaning_atoms.specs.Literals.{affirmed, negated}
 use Rattle.iccma_tasks.specs.declared.answer.Answer.{Answer}
 use Rattle.iccma_tasks.specs.declared.answer.Answer.TheVariants.{Yes, No, Sets}
 use Rattle.iccma_tasks.specs.declared.task.Problem.{Problem}

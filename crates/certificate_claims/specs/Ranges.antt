@@ -1,8 +1,8 @@
 -- The ranges of listed sets.
 use Rattle.std.specs.Prelude.{◌≡◌, ℕ, ◌∷◌, ◌++◌, if◌then◌else◌, List, [], Contains, filter, map}
 use Rattle.plain_lists.specs.Members.{IsWithin}
-use Rattle.semantics.specs.Framework.{Af}
-use Rattle.semantics.specs.Frameworks.{Framework}
+use Rattle.iccma_tasks.specs.semantics.specs.Framework.{Af}
+use Rattle.iccma_tasks.specs.semantics.specs.Frameworks.{Framework}
 use Rattle.certificate_claims.specs.declared.ranges.FirstRanged.{FirstRanged}
 use Rattle.certificate_claims.specs.Claims.{first_ranged, has_ranged}
 use Rattle.certificate_claims.specs.SetLiterals.{range_of, same_range}

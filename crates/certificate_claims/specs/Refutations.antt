@@ -5,18 +5,18 @@
 -- whose last one has only literals that the facts, the goals and the side clauses make false.
 use Rattle.std.specs.Prelude.{◌⊎◌, ℕ, ◌-◌, ◌<◌, ◌≤◌, Bool, false, not, List, [], ◌∷◌, length, map, take, Contains, slice_index_or, Ok}
 use Rattle.plain_lits.specs.HintCheck.{Checks}
-use Rattle.semantics.specs.Frameworks.{Framework, af, aba}
-use Rattle.meaning_atoms.specs.declared.atom.Atom.{Atom}
-use Rattle.meaning_atoms.specs.declared.atom.Atom.TheVariants.{Ask}
-use Rattle.meaning_atoms.specs.declared.atom.AtomLit.{AtomLit}
-use Rattle.meaning_atoms.specs.declared.axiom.AxiomName.{AxiomName}
-use Rattle.meaning_atoms.specs.declared.axiom.AxiomName.TheVariants.{Af as OfAf, Aba as OfAba}
-use Rattle.meaning_atoms.specs.AbaAxioms.{IsAbaAxiom}
-use Rattle.meaning_atoms.specs.Axioms.{IsAfAxiom}
-use Rattle.meaning_atoms.specs.Literals.{denied, negated, AsksNothing}
-use Rattle.meaning_atoms.specs.Worlds.{world_of, IsWorldOf, HoldsOf, Says, IsTrueAlone}
-use Rattle.af_axioms.specs.Facts.{IsFactValue}
-use Rattle.af_axioms.specs.Table.{table_clause}
+use Rattle.iccma_tasks.specs.semantics.specs.Frameworks.{Framework, af, aba}
+use Rattle.aba_axioms.specs.meaning_atoms.specs.declared.atom.Atom.{Atom}
+use Rattle.aba_axioms.specs.meaning_atoms.specs.declared.atom.Atom.TheVariants.{Ask}
+use Rattle.aba_axioms.specs.meaning_atoms.specs.declared.atom.AtomLit.{AtomLit}
+use Rattle.aba_axioms.specs.meaning_atoms.specs.declared.axiom.AxiomName.{AxiomName}
+use Rattle.aba_axioms.specs.meaning_atoms.specs.declared.axiom.AxiomName.TheVariants.{Af as OfAf, Aba as OfAba}
+use Rattle.aba_axioms.specs.meaning_atoms.specs.AbaAxioms.{IsAbaAxiom}
+use Rattle.aba_axioms.specs.meaning_atoms.specs.Axioms.{IsAfAxiom}
+use Rattle.aba_axioms.specs.meaning_atoms.specs.Literals.{denied, negated, AsksNothing}
+use Rattle.aba_axioms.specs.meaning_atoms.specs.Worlds.{world_of, IsWorldOf, HoldsOf, Says, IsTrueAlone}
+use Rattle.aba_axioms.specs.af_axioms.specs.Facts.{IsFactValue}
+use Rattle.aba_axioms.specs.af_axioms.specs.Table.{table_clause}
 use Rattle.aba_axioms.specs.AbaTable.{aba_clause}
 use Rattle.certificate_claims.specs.declared.certificate.Step.{Step}
 use Rattle.certificate_claims.specs.declared.certificate.Step.TheVariants.{Axiom, Side, Derived}

@@ -3,11 +3,11 @@ use Rattle.std.specs.Prelude.{◌≡◌, ℕ, ◌<◌, List, [], ◌∷◌, Cont
 use Rattle.std.specs.declared.cmp.Ordering.TheVariants.{Less}
 use Rattle.std.specs.Ordering.{nat_cmp}
 use Rattle.std.specs.Cmp.Lexicographic.{slice_cmp}
-use Rattle.semantics.specs.Framework.{Af, IsComplete, IsGrounded, IsPreferred, IsStable, IsSemiStable, IsIdeal}
-use Rattle.semantics.specs.Frameworks.{Framework, af, aba}
-use Rattle.aba_semantics.specs.AbaFrameworks.{Aba, IsInTheory, collective_of}
-use Rattle.aba_semantics.specs.Collectives as collective
-use Rattle.semantics.specs.Sets.{IsListed}
+use Rattle.iccma_tasks.specs.semantics.specs.Framework.{Af, IsComplete, IsGrounded, IsPreferred, IsStable, IsSemiStable, IsIdeal}
+use Rattle.iccma_tasks.specs.semantics.specs.Frameworks.{Framework, af, aba}
+use Rattle.iccma_tasks.specs.aba_semantics.specs.AbaFrameworks.{Aba, IsInTheory, collective_of}
+use Rattle.iccma_tasks.specs.aba_semantics.specs.Collectives as collective
+use Rattle.iccma_tasks.specs.semantics.specs.Sets.{IsListed}
 use Rattle.iccma_tasks.specs.declared.answer.Answer.{Answer}
 use Rattle.iccma_tasks.specs.declared.answer.Answer.TheVariants.{Yes, No, Sets}
 use Rattle.iccma_tasks.specs.declared.task.Problem.{Problem}

@@ -1,11 +1,11 @@
 -- Literals about sets, which are functions of the sets.
 use Rattle.std.specs.Prelude.{ℕ, ◌==◌, Bool, true, false, not, ◌&&◌, ◌||◌, List, ◌++◌, map, filter}
 use Rattle.std.specs.List.{list_any, list_all}
-use Rattle.semantics.specs.Frameworks.{Framework, af, aba}
-use Rattle.meaning_atoms.specs.declared.atom.Atom.TheVariants.{Member, Range, Tail, Der}
-use Rattle.meaning_atoms.specs.declared.atom.AtomLit.{AtomLit}
-use Rattle.meaning_atoms.specs.declared.atom.Closure.TheVariants.{Own}
-use Rattle.meaning_atoms.specs.Literals.{affirmed, denied}
+use Rattle.iccma_tasks.specs.semantics.specs.Frameworks.{Framework, af, aba}
+use Rattle.aba_axioms.specs.meaning_atoms.specs.declared.atom.Atom.TheVariants.{Member, Range, Tail, Der}
+use Rattle.aba_axioms.specs.meaning_atoms.specs.declared.atom.AtomLit.{AtomLit}
+use Rattle.aba_axioms.specs.meaning_atoms.specs.declared.atom.Closure.TheVariants.{Own}
+use Rattle.aba_axioms.specs.meaning_atoms.specs.Literals.{affirmed, denied}
 
 -- the literal that the set accepts the query: that it has the argument, or derives the atom
 abbrev pub goal : Framework → ℕ → AtomLit

@@ -1,8 +1,8 @@
 -- The verdict on a certificate: accepted, or the first failure in the order in which it is looked at.
 use Rattle.std.specs.Prelude.{◌≡◌, ◌⊎◌, ℕ, ◌+◌, ◌-◌, ◌<◌, List, [], ◌∷◌, ◌++◌, length, map, take, flat_map, codes, Contains, slice_index_or}
 use Rattle.std.specs.List.{range_with_len}
-use Rattle.semantics.specs.Frameworks.{Framework}
-use Rattle.meaning_atoms.specs.declared.atom.AtomLit.{AtomLit}
+use Rattle.iccma_tasks.specs.semantics.specs.Frameworks.{Framework}
+use Rattle.aba_axioms.specs.meaning_atoms.specs.declared.atom.AtomLit.{AtomLit}
 use Rattle.iccma_tasks.specs.declared.answer.Answer.{Answer}
 use Rattle.iccma_tasks.specs.Tasks.{Asked}
 use Rattle.certificate_claims.specs.declared.certificate.Certificate.{Certificate}

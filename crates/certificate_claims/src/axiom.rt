@@ -1,14 +1,14 @@
 //! The clauses of axioms of either kind.
 
 ghost use Rattle.std.specs.Prelude.{◌≡◌, All, IfOk};
-ghost use Rattle.meaning_atoms.specs.Atoms.{IsLit};
-ghost use Rattle.meaning_atoms.specs.AxiomNames.{IsAxiomName};
-ghost use Rattle.meaning_atoms.specs.Worlds.{IsAsk, IsValid};
+ghost use Rattle.aba_axioms.specs.meaning_atoms.specs.Atoms.{IsLit};
+ghost use Rattle.aba_axioms.specs.meaning_atoms.specs.AxiomNames.{IsAxiomName};
+ghost use Rattle.aba_axioms.specs.meaning_atoms.specs.Worlds.{IsAsk, IsValid};
 ghost use Rattle.certificate_claims.specs.Refutations.{axiom_clause};
 
+use aba_axioms::af_axioms::clause_of as af_clause_of;
 use aba_axioms::clause_of as aba_clause_of;
-use af_axioms::clause_of as af_clause_of;
-use meaning_atoms::{AtomLit, AxiomName};
+use aba_axioms::meaning_atoms::{AtomLit, AxiomName};
 use plain_lists::{Items, Memory};
 use std::alloc::Global;
 

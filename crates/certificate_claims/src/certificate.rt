@@ -1,6 +1,6 @@
 //! Certificates: sets, and refutations with the steps that they are made of.
 
-use meaning_atoms::{AtomLit, AxiomName};
+use aba_axioms::meaning_atoms::{AtomLit, AxiomName};
 use plain_lists::Items;
 use set_lists::NumSet;
 

@@ -1,6 +1,6 @@
 //! The rows of the table of certificates: what an answer of one shape to one task has to show.
 
-use meaning_atoms::{Atom, AtomLit};
+use aba_axioms::meaning_atoms::{Atom, AtomLit};
 use plain_lists::Items;
 use set_lists::NumSet;
 

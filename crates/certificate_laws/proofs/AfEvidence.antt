@@ -5,13 +5,13 @@ use Rattle.std.specs.Prelude.{Contains, slice_index_or}
 use Rattle.plain_lists.proofs.Membership.{Contains-nil, Contains-tail}
 use Rattle.plain_lits.proofs.HintCheckLemmas.{Contains-mapped}
 use Rattle.semantics.specs.Frameworks.{Framework, af, aba, IsNumbered}
-use Rattle.meaning_atoms.specs.declared.atom.Atom.TheVariants.{Ad}
-use Rattle.meaning_atoms.specs.declared.atom.AtomLit.{AtomLit}
-use Rattle.meaning_atoms.specs.Literals.{affirmed}
-use Rattle.meaning_atoms.specs.Worlds.{HoldsOf, Says, IsAsk}
-use Rattle.iccma_tasks.specs.declared.task.Semantics.{Semantics}
-use Rattle.iccma_tasks.specs.declared.task.Semantics.TheVariants.{Complete, Grounded, Preferred, Stable, SemiStable, Ideal as IdealSets}
-use Rattle.iccma_tasks.specs.Tasks.{Asked}
+use Rattle.certificate_claims.specs.meaning_atoms.specs.declared.atom.Atom.TheVariants.{Ad}
+use Rattle.certificate_claims.specs.meaning_atoms.specs.declared.atom.AtomLit.{AtomLit}
+use Rattle.certificate_claims.specs.meaning_atoms.specs.Literals.{affirmed}
+use Rattle.certificate_claims.specs.meaning_atoms.specs.Worlds.{HoldsOf, Says, IsAsk}
+use Rattle.certificate_claims.specs.iccma_tasks.specs.declared.task.Semantics.{Semantics}
+use Rattle.certificate_claims.specs.iccma_tasks.specs.declared.task.Semantics.TheVariants.{Complete, Grounded, Preferred, Stable, SemiStable, Ideal as IdealSets}
+use Rattle.certificate_claims.specs.iccma_tasks.specs.Tasks.{Asked}
 use Rattle.certificate_claims.specs.declared.row.Row.{Row}
 use Rattle.certificate_claims.specs.declared.row.Row.TheVariants.{Widest, Ranged, AllWidest}
 use Rattle.certificate_claims.specs.Acceptance.{NoRangeWithin, Tests}

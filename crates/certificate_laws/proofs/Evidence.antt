@@ -3,16 +3,16 @@ use Rattle.std.proofs.Common.{◌<◌, ℕ, zero, suc, Bool, List, [], ◌∷◌
 use Rattle.std.specs.Prelude.{slice_index_or}
 use Rattle.plain_lists.proofs.Membership.{Contains-nil}
 use Rattle.semantics.specs.Frameworks.{Framework, IsNumbered}
-use Rattle.meaning_atoms.specs.declared.atom.Atom.{Atom}
-use Rattle.meaning_atoms.specs.declared.atom.Atom.TheVariants.{Ad, Co, St}
-use Rattle.meaning_atoms.specs.declared.atom.AtomLit.{AtomLit}
-use Rattle.meaning_atoms.specs.Literals.{affirmed, negated}
-use Rattle.meaning_atoms.specs.Worlds.{IsWorldOf, HoldsOf, Says, IsAsk}
-use Rattle.iccma_tasks.specs.declared.task.Problem.{Problem}
-use Rattle.iccma_tasks.specs.declared.task.Problem.TheVariants.{AllExtensions}
-use Rattle.iccma_tasks.specs.declared.task.Semantics.{Semantics}
-use Rattle.iccma_tasks.specs.declared.task.Semantics.TheVariants.{Complete, Grounded, Preferred, Stable, SemiStable, Ideal as IdealSets}
-use Rattle.iccma_tasks.specs.Tasks.{Asked, task_of}
+use Rattle.certificate_claims.specs.meaning_atoms.specs.declared.atom.Atom.{Atom}
+use Rattle.certificate_claims.specs.meaning_atoms.specs.declared.atom.Atom.TheVariants.{Ad, Co, St}
+use Rattle.certificate_claims.specs.meaning_atoms.specs.declared.atom.AtomLit.{AtomLit}
+use Rattle.certificate_claims.specs.meaning_atoms.specs.Literals.{affirmed, negated}
+use Rattle.certificate_claims.specs.meaning_atoms.specs.Worlds.{IsWorldOf, HoldsOf, Says, IsAsk}
+use Rattle.certificate_claims.specs.iccma_tasks.specs.declared.task.Problem.{Problem}
+use Rattle.certificate_claims.specs.iccma_tasks.specs.declared.task.Problem.TheVariants.{AllExtensions}
+use Rattle.certificate_claims.specs.iccma_tasks.specs.declared.task.Semantics.{Semantics}
+use Rattle.certificate_claims.specs.iccma_tasks.specs.declared.task.Semantics.TheVariants.{Complete, Grounded, Preferred, Stable, SemiStable, Ideal as IdealSets}
+use Rattle.certificate_claims.specs.iccma_tasks.specs.Tasks.{Asked, task_of}
 use Rattle.certificate_claims.specs.declared.row.Row.{Row}
 use Rattle.certificate_claims.specs.declared.row.Row.TheVariants.{Excluded, Largest, Covered, Ideal}
 use Rattle.certificate_claims.specs.Acceptance.{AcceptsAsSaid, IsShown, Tests}

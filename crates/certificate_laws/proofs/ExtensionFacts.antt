@@ -2,10 +2,10 @@
 use Rattle.std.proofs.Common.{ℕ, List}
 use Rattle.plain_lists.specs.Members.{IsWithin}
 use Rattle.semantics.specs.Frameworks.{Framework, IsNumbered}
-use Rattle.meaning_atoms.specs.declared.atom.Atom.TheVariants.{Ad}
-use Rattle.meaning_atoms.specs.Worlds.{IsWorldOf, HoldsOf}
-use Rattle.iccma_tasks.specs.declared.task.Semantics.{Semantics}
-use Rattle.iccma_tasks.specs.declared.task.Semantics.TheVariants.{Complete, Grounded, Preferred, Stable, SemiStable, Ideal}
+use Rattle.certificate_claims.specs.meaning_atoms.specs.declared.atom.Atom.TheVariants.{Ad}
+use Rattle.certificate_claims.specs.meaning_atoms.specs.Worlds.{IsWorldOf, HoldsOf}
+use Rattle.certificate_claims.specs.iccma_tasks.specs.declared.task.Semantics.{Semantics}
+use Rattle.certificate_claims.specs.iccma_tasks.specs.declared.task.Semantics.TheVariants.{Complete, Grounded, Preferred, Stable, SemiStable, Ideal}
 use Rattle.certificate_claims.specs.Rights.{Accepts, IsExtension}
 use Rattle.certificate_laws.proofs.KindFacts.{admissible_members, members_world, complete_admissible, stable_admissible, complete_is, stable_is, preferred_is, grounded_is, semi_stable_admissible, ideal_admissible, ideal_within, accepts_more}
 

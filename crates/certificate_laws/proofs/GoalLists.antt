@@ -7,11 +7,11 @@ use Rattle.plain_lists.proofs.Membership.{Contains-nil, Contains-cons_cases}
 use Rattle.plain_lits.proofs.HintCheckLemmas.{Contains-from_mapped}
 use Rattle.semantics.specs.Frameworks.{Framework}
 use Rattle.semantics.proofs.Decided.{search_list, found_in, decide_not}
-use Rattle.meaning_atoms.specs.declared.atom.Atom.TheVariants.{Ad}
-use Rattle.meaning_atoms.specs.declared.atom.AtomLit.{AtomLit}
-use Rattle.meaning_atoms.specs.Literals.{affirmed, AsksNothing}
-use Rattle.meaning_atoms.specs.Worlds.{world_of, IsWorldOf, HoldsOf, Says, IsAsk, IsTrueAlone}
-use Rattle.meaning_atoms.proofs.Valuations.{decide_true_alone}
+use Rattle.certificate_claims.specs.meaning_atoms.specs.declared.atom.Atom.TheVariants.{Ad}
+use Rattle.certificate_claims.specs.meaning_atoms.specs.declared.atom.AtomLit.{AtomLit}
+use Rattle.certificate_claims.specs.meaning_atoms.specs.Literals.{affirmed, AsksNothing}
+use Rattle.certificate_claims.specs.meaning_atoms.specs.Worlds.{world_of, IsWorldOf, HoldsOf, Says, IsAsk, IsTrueAlone}
+use Rattle.certificate_claims.specs.meaning_atoms.proofs.Valuations.{decide_true_alone}
 use Rattle.certificate_claims.specs.Acceptance.{no_claim}
 use Rattle.certificate_claims.specs.Claims.{claim_of}
 use Rattle.certificate_claims.specs.Refutations.{Claim, IsExcluded, IsPlain, MeetsGoals}

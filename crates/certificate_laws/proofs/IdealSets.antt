@@ -13,10 +13,10 @@ use Rattle.semantics.specs.Laws.{AttacksMember}
 use Rattle.semantics.proofs.AdmissibleSets.{union_admissible}
 use Rattle.semantics.proofs.Existence.{preferred_round}
 use Rattle.semantics.proofs.Extensions.{unattacked_in_all}
-use Rattle.meaning_atoms.specs.declared.atom.Atom.TheVariants.{Member, Tail, Ad}
-use Rattle.meaning_atoms.specs.declared.atom.AtomLit.{AtomLit}
-use Rattle.meaning_atoms.specs.Literals.{affirmed, denied}
-use Rattle.meaning_atoms.specs.Worlds.{world_of, IsTrueAlone}
+use Rattle.certificate_claims.specs.meaning_atoms.specs.declared.atom.Atom.TheVariants.{Member, Tail, Ad}
+use Rattle.certificate_claims.specs.meaning_atoms.specs.declared.atom.AtomLit.{AtomLit}
+use Rattle.certificate_claims.specs.meaning_atoms.specs.Literals.{affirmed, denied}
+use Rattle.certificate_claims.specs.meaning_atoms.specs.Worlds.{world_of, IsTrueAlone}
 use Rattle.certificate_claims.proofs.SetTests.{hits_gives}
 use Rattle.certificate_claims.specs.Claims.{claim_of}
 use Rattle.certificate_claims.specs.Refutations.{IsExcluded}

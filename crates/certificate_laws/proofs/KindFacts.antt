@@ -9,18 +9,18 @@ use Rattle.aba_semantics.specs.AbaFrameworks.{collective_of}
 use Rattle.semantics.proofs.Decided.{Decided, decide_member}
 use Rattle.semantics.proofs.Existence.{empty_admissible, preferred_round}
 use Rattle.semantics.proofs.Extensions.{preferred_complete, stable_largest}
-use Rattle.aba_laws.proofs.AbaLemmas.{aba_lawful}
-use Rattle.aba_laws.proofs.CollectiveExtensions as collective_extensions
-use Rattle.aba_laws.proofs.CollectiveSets as collective_sets
-use Rattle.aba_laws.proofs.DerivationLemmas.{decide_derives, derives_more}
-use Rattle.meaning_atoms.specs.declared.atom.Atom.TheVariants.{Member, Ad, Co, St}
-use Rattle.meaning_atoms.specs.declared.axiom.AxiomName.{AxiomName}
-use Rattle.meaning_atoms.specs.declared.axiom.AxiomName.TheVariants.{Af as OfAf, Aba as OfAba}
-use Rattle.meaning_atoms.specs.Literals.{negated}
-use Rattle.meaning_atoms.specs.Worlds.{IsWorldOf, HoldsOf, Says, IsAsk, IsValid}
-use Rattle.af_axioms.proofs.Rows.{rows_are_valid}
-use Rattle.aba_axioms.proofs.Validity.{clauses_are_valid}
-use Rattle.iccma_tasks.specs.declared.task.Semantics.TheVariants.{Complete, Grounded, Preferred, Stable, SemiStable, Ideal}
+use Rattle.certificate_claims.specs.aba_laws.proofs.AbaLemmas.{aba_lawful}
+use Rattle.certificate_claims.specs.aba_laws.proofs.CollectiveExtensions as collective_extensions
+use Rattle.certificate_claims.specs.aba_laws.proofs.CollectiveSets as collective_sets
+use Rattle.certificate_claims.specs.aba_laws.proofs.DerivationLemmas.{decide_derives, derives_more}
+use Rattle.certificate_claims.specs.meaning_atoms.specs.declared.atom.Atom.TheVariants.{Member, Ad, Co, St}
+use Rattle.certificate_claims.specs.meaning_atoms.specs.declared.axiom.AxiomName.{AxiomName}
+use Rattle.certificate_claims.specs.meaning_atoms.specs.declared.axiom.AxiomName.TheVariants.{Af as OfAf, Aba as OfAba}
+use Rattle.certificate_claims.specs.meaning_atoms.specs.Literals.{negated}
+use Rattle.certificate_claims.specs.meaning_atoms.specs.Worlds.{IsWorldOf, HoldsOf, Says, IsAsk, IsValid}
+use Rattle.certificate_claims.specs.af_axioms.proofs.Rows.{rows_are_valid}
+use Rattle.certificate_claims.specs.aba_axioms.proofs.Validity.{clauses_are_valid}
+use Rattle.certificate_claims.specs.iccma_tasks.specs.declared.task.Semantics.TheVariants.{Complete, Grounded, Preferred, Stable, SemiStable, Ideal}
 use Rattle.certificate_claims.specs.Refutations.{IsAxiomOf, axiom_clause}
 use Rattle.certificate_claims.specs.Rights.{Accepts, IsExtension}
 use Rattle.certificate_claims.specs.SetLiterals.{goal, members, struck}

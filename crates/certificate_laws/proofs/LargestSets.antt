@@ -5,11 +5,11 @@ use Rattle.plain_lists.specs.Members.{IsWithin}
 use Rattle.plain_lists.proofs.Membership.{IsWithin-trans}
 use Rattle.semantics.specs.Frameworks.{Framework, IsNumbered}
 use Rattle.semantics.specs.Sets.{IsListed}
-use Rattle.meaning_atoms.specs.declared.atom.Atom.{Atom}
-use Rattle.meaning_atoms.specs.declared.atom.Atom.TheVariants.{Ad}
-use Rattle.meaning_atoms.specs.Literals.{affirmed, negated}
-use Rattle.meaning_atoms.specs.Worlds.{IsWorldOf, HoldsOf}
-use Rattle.iccma_tasks.specs.declared.task.Semantics.TheVariants.{Preferred}
+use Rattle.certificate_claims.specs.meaning_atoms.specs.declared.atom.Atom.{Atom}
+use Rattle.certificate_claims.specs.meaning_atoms.specs.declared.atom.Atom.TheVariants.{Ad}
+use Rattle.certificate_claims.specs.meaning_atoms.specs.Literals.{affirmed, negated}
+use Rattle.certificate_claims.specs.meaning_atoms.specs.Worlds.{IsWorldOf, HoldsOf}
+use Rattle.certificate_claims.specs.iccma_tasks.specs.declared.task.Semantics.TheVariants.{Preferred}
 use Rattle.certificate_claims.specs.Acceptance.{NoneWithin}
 use Rattle.certificate_claims.specs.Claims.{claim_of}
 use Rattle.certificate_claims.specs.Refutations.{IsExcluded}

@@ -8,16 +8,16 @@ use Rattle.plain_lists.proofs.Membership.{Contains-tail}
 use Rattle.plain_lits.specs.HintCheck.{Checks, IsTrueClause, IsValuation, clause_at}
 use Rattle.plain_lits.proofs.HintCheckLemmas.{taken_sound}
 use Rattle.semantics.specs.Frameworks.{Framework}
-use Rattle.meaning_atoms.specs.declared.atom.Atom.{Atom}
-use Rattle.meaning_atoms.specs.declared.atom.Atom.TheVariants.{Ask}
-use Rattle.meaning_atoms.specs.declared.atom.AtomLit.{AtomLit}
-use Rattle.meaning_atoms.specs.declared.axiom.AxiomName.{AxiomName}
-use Rattle.meaning_atoms.specs.Literals.{denied, negated, lit_value}
-use Rattle.meaning_atoms.specs.Valuations.{IsValuation as IsWorldValuation}
-use Rattle.meaning_atoms.specs.Worlds.{world_of, IsWorldOf, Holds, HoldsOf, IsTrueAlone, IsTrueBeside}
-use Rattle.meaning_atoms.proofs.Valuations.{world_valuation}
-use Rattle.meaning_atoms.proofs.Clauses.{from_alone, alone_holds, holds_alone, says_moved, read_true, under}
-use Rattle.af_axioms.specs.Facts.{IsFactValue}
+use Rattle.certificate_claims.specs.meaning_atoms.specs.declared.atom.Atom.{Atom}
+use Rattle.certificate_claims.specs.meaning_atoms.specs.declared.atom.Atom.TheVariants.{Ask}
+use Rattle.certificate_claims.specs.meaning_atoms.specs.declared.atom.AtomLit.{AtomLit}
+use Rattle.certificate_claims.specs.meaning_atoms.specs.declared.axiom.AxiomName.{AxiomName}
+use Rattle.certificate_claims.specs.meaning_atoms.specs.Literals.{denied, negated, lit_value}
+use Rattle.certificate_claims.specs.meaning_atoms.specs.Valuations.{IsValuation as IsWorldValuation}
+use Rattle.certificate_claims.specs.meaning_atoms.specs.Worlds.{world_of, IsWorldOf, Holds, HoldsOf, IsTrueAlone, IsTrueBeside}
+use Rattle.certificate_claims.specs.meaning_atoms.proofs.Valuations.{world_valuation}
+use Rattle.certificate_claims.specs.meaning_atoms.proofs.Clauses.{from_alone, alone_holds, holds_alone, says_moved, read_true, under}
+use Rattle.certificate_claims.specs.af_axioms.specs.Facts.{IsFactValue}
 use Rattle.certificate_claims.specs.declared.certificate.Step.{Step}
 use Rattle.certificate_claims.specs.declared.certificate.Step.TheVariants.{Axiom, Side, Derived}
 use Rattle.certificate_claims.specs.Refutations.{IsAxiomOf, Claim, IsPlain, axiom_clause, step_clause, step_clauses, no_step, StepHolds, IsNotAsked, IsClosed, IsRefutationOf, MeetsGoals, MeetsSides}

@@ -1,14 +1,14 @@
 -- What is shown is right, and what is accepted is shown.
 use Rattle.std.proofs.Common.{⊎_elim, ℕ, Bool, true, false, List, [], ◌∷◌, Option, Some, None, subst, arith}
 use Rattle.semantics.specs.Frameworks.{Framework}
-use Rattle.meaning_atoms.specs.declared.atom.Atom.TheVariants.{Ad, St}
-use Rattle.meaning_atoms.specs.Literals.{negated}
-use Rattle.iccma_tasks.specs.declared.answer.Answer.{Answer}
-use Rattle.iccma_tasks.specs.declared.answer.Answer.TheVariants.{Yes, No, Sets}
-use Rattle.iccma_tasks.specs.declared.task.Problem.{Problem}
-use Rattle.iccma_tasks.specs.declared.task.Problem.TheVariants.{Credulous, Sceptical, SomeExtension, AllExtensions}
-use Rattle.iccma_tasks.specs.declared.task.Semantics.{Semantics}
-use Rattle.iccma_tasks.specs.declared.task.Semantics.TheVariants.{Complete, Grounded, Preferred, Stable, SemiStable, Ideal}
+use Rattle.certificate_claims.specs.meaning_atoms.specs.declared.atom.Atom.TheVariants.{Ad, St}
+use Rattle.certificate_claims.specs.meaning_atoms.specs.Literals.{negated}
+use Rattle.certificate_claims.specs.iccma_tasks.specs.declared.answer.Answer.{Answer}
+use Rattle.certificate_claims.specs.iccma_tasks.specs.declared.answer.Answer.TheVariants.{Yes, No, Sets}
+use Rattle.certificate_claims.specs.iccma_tasks.specs.declared.task.Problem.{Problem}
+use Rattle.certificate_claims.specs.iccma_tasks.specs.declared.task.Problem.TheVariants.{Credulous, Sceptical, SomeExtension, AllExtensions}
+use Rattle.certificate_claims.specs.iccma_tasks.specs.declared.task.Semantics.{Semantics}
+use Rattle.certificate_claims.specs.iccma_tasks.specs.declared.task.Semantics.TheVariants.{Complete, Grounded, Preferred, Stable, SemiStable, Ideal}
 use Rattle.certificate_claims.specs.declared.row.Row.{Row}
 use Rattle.certificate_claims.specs.Acceptance.{Tests}
 use Rattle.certificate_claims.specs.Claims.{claims, row_for, sets_of, shown as shown_row, none_accepts, each_accepts, there_is_none}

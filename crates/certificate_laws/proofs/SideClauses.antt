@@ -9,9 +9,9 @@ use Rattle.plain_lits.proofs.HintCheckLemmas.{Contains-mapped}
 use Rattle.semantics.specs.Frameworks.{Framework}
 use Rattle.semantics.specs.Laws.{HasSameMembers}
 use Rattle.semantics.proofs.Decided.{decide_member}
-use Rattle.meaning_atoms.specs.declared.atom.Atom.TheVariants.{Member, Range}
-use Rattle.meaning_atoms.specs.Literals.{affirmed, denied, AsksNothing}
-use Rattle.meaning_atoms.specs.Worlds.{world_of, IsTrueAlone}
+use Rattle.certificate_claims.specs.meaning_atoms.specs.declared.atom.Atom.TheVariants.{Member, Range}
+use Rattle.certificate_claims.specs.meaning_atoms.specs.Literals.{affirmed, denied, AsksNothing}
+use Rattle.certificate_claims.specs.meaning_atoms.specs.Worlds.{world_of, IsTrueAlone}
 use Rattle.certificate_claims.specs.Refutations.{MeetsGoals}
 use Rattle.certificate_claims.proofs.SetTests.{has_gives}
 use Rattle.certificate_claims.specs.SetLiterals.{has, is_ranged, are_in, are_out, are_ranged, members, outside, differs, wider, struck, attacked}

@@ -1,7 +1,7 @@
 -- There is one verdict, and it is Accepted exactly where the certificate is accepted.
 use Rattle.std.proofs.Common.{◌≡◌, ◌++◌, ⊎_elim, ℕ, List, [], ◌∷◌, length, map, flat_map, sym, arith, ◌∙◌}
 use Rattle.semantics.specs.Frameworks.{Framework}
-use Rattle.iccma_tasks.specs.Tasks.{Asked}
+use Rattle.certificate_claims.specs.iccma_tasks.specs.Tasks.{Asked}
 use Rattle.certificate_claims.specs.declared.certificate.Certificate.{Certificate}
 use Rattle.certificate_claims.specs.declared.row.Row.{Row}
 use Rattle.certificate_claims.specs.declared.verdict.Verdict.{Verdict}

@@ -8,10 +8,10 @@ use Rattle.plain_lists.proofs.Membership.{Contains-nil}
 use Rattle.plain_lits.proofs.HintCheckLemmas.{Contains-mapped}
 use Rattle.semantics.specs.Framework.{Af, IsAf, IsAdmissible, IsSemiStable, IsRangeWithin}
 use Rattle.semantics.specs.Frameworks.{af, IsNumberedAf}
-use Rattle.meaning_atoms.specs.declared.atom.Atom.TheVariants.{Range, Ad}
-use Rattle.meaning_atoms.specs.declared.atom.AtomLit.{AtomLit}
-use Rattle.meaning_atoms.specs.Literals.{affirmed}
-use Rattle.meaning_atoms.specs.Worlds.{world_of, HoldsOf, IsTrueAlone, Says}
+use Rattle.certificate_claims.specs.meaning_atoms.specs.declared.atom.Atom.TheVariants.{Range, Ad}
+use Rattle.certificate_claims.specs.meaning_atoms.specs.declared.atom.AtomLit.{AtomLit}
+use Rattle.certificate_claims.specs.meaning_atoms.specs.Literals.{affirmed}
+use Rattle.certificate_claims.specs.meaning_atoms.specs.Worlds.{world_of, HoldsOf, IsTrueAlone, Says}
 use Rattle.certificate_claims.proofs.SetTests.{firsts_within, ranged_gives, in_range_live}
 use Rattle.certificate_claims.specs.Acceptance.{NoRangeWithin}
 use Rattle.certificate_claims.specs.Claims.{claim_of, first_ranged, range_cover, range_free, range_listed}

@@ -1,8 +1,8 @@
 -- The laws of certificates.
 use Rattle.std.specs.Prelude.{◌≡◌, ◌↔◌, ℕ, ◌<◌, List, length, slice_index_or}
 use Rattle.semantics.specs.Frameworks.{Framework, IsNumbered}
-use Rattle.iccma_tasks.specs.declared.answer.Answer.{Answer}
-use Rattle.iccma_tasks.specs.Tasks.{Asked}
+use Rattle.certificate_claims.specs.iccma_tasks.specs.declared.answer.Answer.{Answer}
+use Rattle.certificate_claims.specs.iccma_tasks.specs.Tasks.{Asked}
 use Rattle.certificate_claims.specs.declared.certificate.Certificate.{Certificate}
 use Rattle.certificate_claims.specs.declared.certificate.Step.{Step}
 use Rattle.certificate_claims.specs.declared.verdict.Verdict.{Verdict}

@@ -33,9 +33,9 @@ use Rattle.certificate_text.specs.Written.{IsWritable, IsWritableStep}
 use Rattle.oracle_face.specs.Goals.{Refutes}
 use Rattle.oracle_face.specs.Logs.{OracleLog, SideClause, IsLog, IsNumberOf}
 use Rattle.session_log.specs.Guards.{IsGuarded}
-use Rattle.log_refutations.specs.Refuted.{AreRefuting, IsRefutingStep}
-use Rattle.log_refutations.specs.Trimmed.{ArePositions}
-use Rattle.log_refutations.proofs.PlainClaims.{claims_plain}
+use Rattle.log_certificates.specs.log_refutations.specs.Refuted.{AreRefuting, IsRefutingStep}
+use Rattle.log_certificates.specs.log_refutations.specs.Trimmed.{ArePositions}
+use Rattle.log_certificates.specs.log_refutations.proofs.PlainClaims.{claims_plain}
 use Rattle.log_certificates.specs.ClaimSides.{AreAsksOf, ArePositionsIn, AreWithin, IsAskOf}
 use Rattle.log_certificates.specs.Cuts.{AreCut, IsCut, IsCutAt}
 use Rattle.answer_claims.specs.declared.claim.Claim.{Claim}

@@ -3,4 +3,5 @@
 
 mod making;
 
+pub use log_certificates;
 pub use making::certificate_for;

@@ -137,6 +137,7 @@ pub fn certificate_for<L: ReadLog>(
         (row_of (framework_of framework.now) query.now answer.now) (sets_of answer.now) sets }
     requires refuted { AreRefuted (framework_of framework.now) (L.log log.now)
         (claims (framework_of framework.now) (row_of (framework_of framework.now) query.now answer.now) sets) steps.now }
+    ensures sets { IfOk result (λ certificate. certificate.sets ≡ sets) }
     ensures accepted { IfOk result (IsAccepted (framework_of framework.now) query.now answer.now) }
     ensures writable { IfOk result IsWritable }
     ensures cut { IfOk result (λ certificate. AreCut (L.log log.now) certificate.refutations) }

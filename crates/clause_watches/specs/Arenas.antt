@@ -1,6 +1,7 @@
 -- Clauses with their watched pairs, as contracts see them.
-use Rattle.std.specs.Prelude.{◌≡◌, ℕ, List, ◌∷◌, false, slice_index_or}
+use Rattle.std.specs.Prelude.{ℕ, List, ◌∷◌, false, map, slice_index_or}
 use Rattle.plain_lits.specs.declared.lit.Lit.{Lit}
+use Rattle.clause_watches.specs.declared.arena.Watched.{Watched}
 use Rattle.clause_watches.specs.declared.pair.Pair.{Pair}
 
 -- the clauses in the order of their ids, and the watched pair of each
@@ -20,7 +21,6 @@ no_pair = record { first = blank; second = blank }
 abbrev pub pair_of : List Pair → ℕ → Pair
 pair_of pairs id = slice_index_or (no_pair ∷ pairs) id no_pair
 
--- there are as many pairs as clauses, and as many indexes at which looks begin
-pub record AreAsMany (clauses pairs begins : ℕ) : Type 0 where
-  pub pairs_as_many : pairs ≡ clauses
-  pub begins_as_many : begins ≡ clauses
+-- the watched pairs of what is kept of each clause
+abbrev pub pairs_in : List Watched → List Pair
+pairs_in watched = map (λ (w : Watched). w.pair) watched

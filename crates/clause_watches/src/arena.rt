@@ -14,14 +14,19 @@ use plain_lits::{Lit, PackedLit, Rows, Trail};
 use std::alloc::Global;
 use std::marker::Model;
 
-/// The clauses by their ids, which count from 1, and for each its watched pair and the index at which a look for
-/// another literal to watch begins. The pairs lie by themselves, close together: most visits of a clause need no more
-/// than its pair.
+/// A clause's watched pair, and the index at which a look for another literal to watch begins.
+#[derive(Clone, Copy, Debug)]
+struct Watched {
+    pair: Pair,
+    begin: u32,
+}
+
+/// The clauses by their ids, which count from 1, and what is watched of each. That lies by itself, close together: most
+/// visits of a clause need no more.
 #[derive(Debug)]
 pub struct Arena {
     rows: Rows<PackedLit>,
-    pairs: Vec<Pair>,
-    begins: Vec<u32>,
+    watched: Vec<Watched>,
 }
 
 // By hand, so that a drop is one call (docs/PROVING.md).
@@ -29,21 +34,20 @@ impl Drop for Arena {
     fn drop(self) {
         let Arena {
             rows: _,
-            pairs: _,
-            begins: _,
+            watched: _,
         } = self;
     }
 }
 
 impl Model for Arena {
-    ghost use Rattle.std.specs.Prelude.{length};
-    ghost use Rattle.clause_watches.specs.Arenas.{Store, AreAsMany};
+    ghost use Rattle.std.specs.Prelude.{◌≡◌, length};
+    ghost use Rattle.clause_watches.specs.Arenas.{Store, pairs_in};
 
     ghost Value = { Store };
 
-    ghost view = { λ a. record { clauses = a.rows; pairs = a.pairs.items } };
+    ghost view = { λ a. record { clauses = a.rows; pairs = pairs_in a.watched.items } };
 
-    ghost invariant = { λ a. AreAsMany (length a.rows) (length a.pairs.items) (length a.begins.items) };
+    ghost invariant = { λ a. length a.watched.items ≡ length a.rows };
 }
 
 /// The literals of a clause, packed.
@@ -84,8 +88,7 @@ impl Arena {
     {
         Arena {
             rows: Rows::new(alloc),
-            pairs: Vec::new(alloc),
-            begins: Vec::new(alloc),
+            watched: Vec::new(alloc),
         }
     }
 
@@ -109,8 +112,8 @@ impl Arena {
         requires { IsNamed self.now.clauses id }
         ensures { result ≡ pair_of self.now.pairs id }
     {
-        let pairs = self.pairs.as_slice();
-        pairs[id as usize - 1]
+        let watched = self.watched.as_slice();
+        watched[id as usize - 1].pair
     }
 
     /// A literal of a clause that isn't false and isn't the other watched one, whose code is given. The look begins
@@ -119,9 +122,9 @@ impl Arena {
         requires { IsNamed self.now.clauses id }
         ensures { FindsWatch trail.now.lits (clause_at self.now.clauses id) other result }
     {
-        let begins = self.begins.as_slice();
+        let watched = self.watched.as_slice();
         let clause = self.rows.row(id as usize - 1);
-        let begin = begin_within(begins[id as usize - 1], clause.len());
+        let begin = begin_within(watched[id as usize - 1].begin, clause.len());
         find_around(trail, clause, begin, other)
     }
 
@@ -132,8 +135,10 @@ impl Arena {
         ensures pairs { self.new.pairs ≡ slice_set self.old.pairs (id - 1) pair }
     {
         let index = id as usize - 1;
-        self.pairs[index] = pair;
-        self.begins[index] = short_index(begin);
+        self.watched[index] = Watched {
+            pair,
+            begin: short_index(begin),
+        };
     }
 
     /// Adds a clause with its pair. After `Memory` nothing has changed.
@@ -145,11 +150,9 @@ impl Arena {
         ensures same_pairs { OnErr result (self.new.pairs ≡ self.old.pairs) }
     {
         let row = packed_all(alloc, clause)?;
-        self.pairs.reserve(1)?;
-        self.begins.reserve(1)?;
+        self.watched.reserve(1)?;
         self.rows.push(row.as_slice())?;
-        let _ = self.pairs.push(pair);
-        let _ = self.begins.push(0);
+        let _ = self.watched.push(Watched { pair, begin: 0 });
         Ok(())
     }
 }

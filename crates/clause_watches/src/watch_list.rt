@@ -10,26 +10,27 @@ ghost use Rattle.clause_watches.specs.WatchLists.{ClaimsOne, HasMoreRoom};
 
 use plain_lists::Memory;
 use plain_lits::Lit;
+use smallvec::SmallVec;
 use std::alloc::Global;
 use std::marker::Model;
 
 /// Ids of clauses, with room for `uses` of them: for each clause that holds the literal. So an id can come without
-/// memory.
+/// memory. Up to six lie in the list itself: a search mostly waits for memory, and looks into one place less so.
 #[derive(Debug, Drop)]
 pub struct WatchList {
-    ids: Vec<u32>,
+    ids: SmallVec<u32, 6>,
     uses: usize,
 }
 
 impl Model for WatchList {
-    ghost use Rattle.std.specs.Prelude.{◌≤◌, length, vec_capacity};
+    ghost use Rattle.std.specs.Prelude.{◌≤◌, length};
     ghost use Rattle.clause_watches.specs.WatchLists.{Listed, IsRoomy};
 
     ghost Value = { Listed };
 
     ghost view = { λ w. record { ids = w.ids.items; uses = w.uses } };
 
-    ghost invariant = { λ w. IsRoomy w.ids.items w.uses (vec_capacity w.ids) };
+    ghost invariant = { λ w. IsRoomy w.ids.items w.uses w.ids.capacity };
 }
 
 impl WatchList {
@@ -38,7 +39,7 @@ impl WatchList {
         ensures { result ≡ no_list }
     {
         WatchList {
-            ids: Vec::new(alloc),
+            ids: SmallVec::new(alloc),
             uses: 0,
         }
     }
@@ -74,6 +75,10 @@ impl WatchList {
         ensures ok { OnOk result (self.new.uses ≡ self.old.uses + 1) }
         ensures err { OnErr result (self.new.uses ≡ self.old.uses) }
     {
+        // No id is past four bytes, so no list comes to have more.
+        if self.uses >= u32::MAX as usize {
+            return Err(Memory);
+        }
         let more = self.uses - self.ids.len();
         self.ids.reserve(more + 1)?;
         self.uses += 1;

@@ -1,15 +1,14 @@
 -- A query ends with an outcome, from its parts and back.
-use Rattle.std.proofs.Common.{◌≡◌, ◌∙◌, ℕ, ◌+◌, ◌-◌, ◌<◌, ◌≤◌, Bool, true, List, [], ◌∷◌, cond, length, min, take, drop, arith, ap, sym, subst, refl, ⊎_elim}
+use Rattle.std.proofs.Common.{◌≡◌, ◌∙◌, ℕ, ◌+◌, ◌-◌, ◌<◌, ◌≤◌, Bool, true, List, cond, length, min, take, drop, arith, ap, sym, subst, refl, ⊎_elim}
 use Rattle.std.specs.Prelude.{◌↔◌, IsTrue, Option, None, Some, count_by, slice_index_or}
 use Rattle.std.proofs.lemmas.Bool.{cases_lt}
-use Rattle.std.proofs.lemmas.List.{get_or_default, length-drop, length-take, length-take-le, take-append-drop, take_all}
+use Rattle.std.proofs.lemmas.List.{length-drop, length-take, length-take-le, take-append-drop, take_all}
 use Rattle.std.proofs.lemmas.List.Sums.{sum_by-take-drop}
 use Rattle.plain_lits.specs.declared.halt.Halt.{Halt}
 use Rattle.plain_lits.specs.declared.halt.Halt.TheVariants.{LogFull as FullLog, Memory, Spent}
 use Rattle.plain_lits.specs.Units.{Units}
 use Rattle.semantics.specs.Frameworks.{Framework, aba, af}
 use Rattle.meaning_atoms.specs.declared.axiom.AxiomName.{AxiomName}
-use Rattle.iccma_tasks.specs.declared.answer.Answer.TheVariants.{Sets}
 use Rattle.iccma_tasks.specs.Tasks.{Asked}
 use Rattle.certificate_claims.specs.Refutations.{axiom_clause}
 use Rattle.oracle_face.specs.declared.face.Pending.{Pending}
@@ -19,17 +18,15 @@ use Rattle.oracle_face.specs.Logs.{IsGiven, IsLog, LogStep, OracleLog, Source, b
 use Rattle.edit_rules.specs.declared.query_fault.QueryFault.{QueryFault}
 use Rattle.edit_rules.specs.declared.query_fault.QueryFault.TheVariants.{TaskNotForKind, UnknownArgument, UnknownAtom}
 use Rattle.edit_rules.specs.Fitting.{AsksUnknown, Fits, IsFaultOf}
-use Rattle.session_log.specs.Ends.{IsEnd, IsShownBy, IsTakenByNone, MadeFor, WorksFor, some_asked}
+use Rattle.session_log.specs.Ends.{IsEnd, IsTakenByNone, MadeFor, WorksFor}
 use Rattle.core_machine.specs.Steps.{is_side_step}
 use Rattle.refutation_check.proofs.AxiomKinds.{axiom_fits}
 use Rattle.core_answers.specs.declared.counts.Count.{Count}
 use Rattle.core_answers.specs.declared.outcome.Outcome.{Outcome}
 use Rattle.core_answers.specs.declared.outcome.Outcome.TheVariants.{Definite, LogFull, Refused, TooMany, Unknown}
-use Rattle.core_answers.specs.Outcomes.{Comes, EndsFit, EndsSo, IsNamedFor, IsOutcome, course_since, ending_of}
+use Rattle.core_answers.specs.Outcomes.{Comes, EndsFit, EndsSo, course_since, ending_of}
 use Rattle.core_answers.specs.Serving.{AreNamed, HasServed, IsNamedInHand, IsTold, LoopServes, counts}
-use Rattle.core_answers.specs.Showing.{AreTooMany}
 use Rattle.core_answers.proofs.PendingLemmas.{facts_each, facts_from}
-use Rattle.core_answers.proofs.OrderLemmas.{in_order}
 
 -- ---- halts
 
@@ -72,7 +69,7 @@ taken_high xs count k low = omega (arith, length-take count xs, low)
 
 pub works_from : (f : Framework) (asked : Asked) (log : OracleLog) (from budget : ℕ) (pending : Option Pending)
     (halt : Option Halt) (used : ℕ) → from ≤ length log.steps → used ≡ count_by is_unit (drop from log.steps)
-    → used ≤ budget → HasServed f asked log from pending
+    → used ≤ budget → HasServed f asked log from
     → IsStop (MadeFor f asked) f log pending (record { limit = budget; used = used }) halt
     → WorksFor f asked (course_since log from budget pending (record { limit = budget; used = used })) halt
 works_from f asked log from budget pending halt used le e within h stop =
@@ -101,14 +98,13 @@ works_from f asked log from budget pending halt used le e within h stop =
         each = λ k name low lt is loop. loop_at (take k log.steps) (slice_index_or log.steps k no_step).source name
             (h.steps k (omega (arith, front, low)) lt).loop is loop;
       };
-      in_hand = h.in_hand;
       within = within;
     }
 
 -- what a query's course tells of what came
 pub record HasWorked (f : Framework) (asked : Asked) (log : OracleLog) (from budget : ℕ) (pending : Option Pending)
     (after : Units) (halt : Option Halt) : Type 0 where
-  pub served : HasServed f asked log from pending
+  pub served : HasServed f asked log from
   pub units : after ≡ record { limit = budget; used = count_by is_unit (drop from log.steps) }
   pub within : after.used ≤ after.limit
   pub stop : IsStop (MadeFor f asked) f log pending after halt
@@ -137,7 +133,6 @@ works_back f asked log from budget pending halt after le is h =
               (λ name e loop. h.loops.each k name (omega (arith, front, low)) lt e loop);
         };
         closing = let parts = count_parts (λ s. s.closing) log.steps from in omega (arith, closing, parts);
-        in_hand = h.in_hand;
       };
       units = λ i. record { limit = h.run.limit i; used = used i };
       within = h.within;
@@ -166,7 +161,12 @@ comes_from f asked most log from budget pending (Definite answer sets) le h = (
 )
 comes_from f asked most log from budget pending (Unknown count) le h = (
   units_since log from budget,
-  (h.fits, works_from f asked log from budget pending (Some (Spent count)) _ le refl h.within h.served h.so.0, h.so.1),
+  (
+    h.fits,
+    works_from f asked log from budget pending (Some (Spent count)) _ le refl h.within h.served h.so.0,
+    h.so.1,
+    h.so.2,
+  ),
 )
 comes_from f asked most log from budget pending (TooMany sets) le h = (
   units_since log from budget,
@@ -202,6 +202,7 @@ comes_back f asked most log from budget pending (Unknown count) le is h =
     fit_from f asked most log from budget pending (Some (Spent count)) h.0 (Unknown count) h.1.0 worked (
       subst (λ (u : Units). IsSpent (MadeFor f asked) f log pending u count) worked.units worked.stop,
       h.1.2,
+      h.1.3,
     )
 comes_back f asked most log from budget pending (TooMany sets) le is h =
     let worked = works_back f asked log from budget pending None h.0 le tt h.1.1 in
@@ -222,47 +223,16 @@ pub comes_clamped : (f : Framework) (asked : Asked) (most : ℕ) (log : OracleLo
     (pending : Option Pending) (outcome : Outcome) → take from log.steps ≡ take answered log.steps
     → Comes f asked most log from budget pending outcome ↔ Comes f asked most log answered budget pending outcome
 comes_clamped f asked most log answered from budget pending outcome e =
-    let P = λ (front : List LogStep). (after : Units) × IsOutcome f asked most (record {
+    let P = λ (front : List LogStep). (after : Units) × IsEnd f asked most (record {
       old = front_log log front;
       new = log;
       pending = pending;
       before = record { limit = budget; used = 0 };
       after = after;
-    }) outcome in (
+    }) (ending_of outcome) in (
       λ h. subst P e h,
       λ h. subst P (sym e) h,
     )
-
--- what comes is an ending of the definition
-pub ending_from : (f : Framework) (asked : Asked) (most : ℕ) (log : OracleLog) (answered budget : ℕ)
-    (pending : Option Pending) (outcome : Outcome) → Comes f asked most log answered budget pending outcome
-    → (after : Units) × IsEnd f asked most (course_since log answered budget pending after) (ending_of outcome)
-ending_from f asked most log answered budget pending (Refused fault) h = h
-ending_from f asked most log answered budget pending (Definite answer sets) h = h
-ending_from f asked most log answered budget pending (Unknown count) h = h
-ending_from f asked most log answered budget pending (TooMany sets) h =
-    let many : AreTooMany f asked.task most log sets = h.1.2 in
-    let sorted = in_order sets many.different in
-    let long = sorted.long in
-    let more = many.more in (
-      h.0,
-      (
-        h.1.0,
-        h.1.1,
-        record {
-          all = many.all;
-          sets = sorted.sets;
-          more = omega (arith, long, more);
-          rise = sorted.rise;
-          each = λ e there. let c = sorted.within e there in (
-            [],
-            subst (λ (x : List ℕ). IsShownBy f (some_asked asked.task.semantics) (Sets (x ∷ [])) [] log)
-                (get_or_default sets c.0 [] e c.1 ∙ c.2) (many.each c.0 c.1),
-          );
-        },
-      ),
-    )
-ending_from f asked most log answered budget pending LogFull h = h
 
 -- ---- names
 
@@ -279,16 +249,12 @@ named_log f log h = record {
       (slice_index_or log.steps k no_step).clause s) e (h.each k lt)).0;
 }
 
-pub named_for : (f : Framework) (asked : Asked) (most : ℕ) (log : OracleLog) (pending : Option Pending) (units : Units)
-    (outcome : Outcome) → EndsSo f asked most log pending units outcome → IsNamedFor pending outcome
-    → IsNamedInHand pending
-named_for f asked most log pending units (Refused fault) so is = is
-named_for f asked most log pending units (Definite answer sets) so is = is
-named_for f asked most log pending units (Unknown count) so is =
-    subst (λ (p : Option Pending). IsNamedInHand p) (sym so.0.kept)
-    (named_further f asked log so.0.in_hand so.0.further)
-named_for f asked most log pending units (TooMany sets) so is = is
-named_for f asked most log pending units LogFull so is = is
+-- so does that of a loop clause in hand where the budget was spent
+pub named_spent : (f : Framework) (asked : Asked) (log : OracleLog) (pending : Option Pending) (units : Units)
+    (count : ℕ) → IsSpent (MadeFor f asked) f log pending units count → IsNamedInHand pending
+named_spent f asked log pending units count spent =
+    subst (λ (p : Option Pending). IsNamedInHand p) (sym spent.kept)
+    (named_further f asked log spent.in_hand spent.further)
 
 -- ---- faults
 

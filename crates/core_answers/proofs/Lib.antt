@@ -6,5 +6,5 @@ pub mod ServeLemmas
 pub mod PendingLemmas
 pub mod RefuteLemmas
 pub mod ShowLemmas
-pub mod OrderLemmas
+pub mod DifferLemmas
 pub mod EndLemmas

@@ -1,11 +1,16 @@
--- What the check of a certificate without refutations tells of the direct tests.
-use Rattle.std.proofs.Common.{◌≡◌, ◌∙◌, ℕ, true, false, List, [], ◌∷◌, ◌++◌, length, map, arith, ap, sym, subst, refl, ⊎_elim}
+-- What the check of a certificate without refutations tells of the direct tests, and what is shown of each of some sets.
+use Rattle.std.proofs.Common.{◌≡◌, ◌∙◌, ℕ, true, false, List, [], ◌∷◌, ◌++◌, length, get_or, map, arith, ap, sym}
+use Rattle.std.proofs.Common.{subst, refl, ⊎_elim}
 use Rattle.std.specs.Prelude.{Contains}
 use Rattle.std.proofs.lemmas.Bool.{false≢true}
+use Rattle.std.proofs.lemmas.List.{get_or_default}
+use Rattle.std.proofs.lemmas.List.Elements.{Contains-get_or}
 use Rattle.plain_lists.proofs.Membership.{Contains-cons_cases, Contains-head, Contains-nil, Contains-tail}
 use Rattle.plain_lits.proofs.HintCheckLemmas.{Contains-from_mapped}
 use Rattle.semantics.specs.Frameworks.{Framework}
 use Rattle.iccma_tasks.specs.declared.answer.Answer.{Answer}
+use Rattle.iccma_tasks.specs.declared.answer.Answer.TheVariants.{Sets}
+use Rattle.iccma_tasks.specs.declared.task.Semantics.{Semantics}
 use Rattle.iccma_tasks.specs.Tasks.{Asked}
 use Rattle.certificate_claims.specs.declared.certificate.Certificate.{Certificate}
 use Rattle.certificate_claims.specs.declared.verdict.Verdict.{Verdict}
@@ -13,7 +18,9 @@ use Rattle.certificate_claims.specs.Acceptance.{Tests}
 use Rattle.certificate_claims.specs.Claims.{row_of, sets_of}
 use Rattle.certificate_claims.specs.Verdicts.{Finds, IsVerdict, Look, PassesLook, at_order, at_refutation_count, at_set, at_set_count, at_shape, at_witness, indices, told}
 use Rattle.certificate_claims.proofs.Found.{AllPass, map_passes_from, pass_cons, pass_first, pass_map_from, pass_nil, pass_rest}
-use Rattle.core_answers.specs.Showing.{is_past_tests}
+use Rattle.oracle_face.specs.Logs.{OracleLog}
+use Rattle.session_log.specs.Ends.{IsShownBy, some_asked}
+use Rattle.core_answers.specs.Showing.{ShowAlone, is_past_tests}
 
 -- ---- what is found behind a section
 
@@ -117,3 +124,16 @@ pub on_bare : (f : Framework) (asked : Asked) (answer : Answer) (certificate : C
 on_bare f asked answer certificate sets verdict same none is =
     let path : certificate ≡ bare sets = λ i. record { sets = same i; refutations = none i } in
     subst (λ (c : Certificate). IsVerdict f asked answer c verdict) path is
+
+-- ---- each set shown
+
+module _ (f : Framework) (semantics : Semantics) (log : OracleLog) (sets : List (List ℕ)) where
+  pub shown_members : ShowAlone f semantics log sets → (e : List ℕ) → Contains sets e
+      → IsShownBy f (some_asked semantics) (Sets (e ∷ [])) [] log
+  shown_members all e there =
+      subst (λ (x : List ℕ). IsShownBy f (some_asked semantics) (Sets (x ∷ [])) [] log)
+      (get_or_default sets there.0 [] e there.1 ∙ there.2) (all there.0 there.1)
+
+  pub shown_alone : ((e : List ℕ) → Contains sets e → IsShownBy f (some_asked semantics) (Sets (e ∷ [])) [] log)
+      → ShowAlone f semantics log sets
+  shown_alone all k lt = all (get_or sets k []) (Contains-get_or sets k [] lt)

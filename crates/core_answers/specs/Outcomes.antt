@@ -1,6 +1,5 @@
 -- How an answer of the core ends.
-use Rattle.std.specs.Prelude.{◌≡◌, ◌≤◌, ℕ, Option, None, length}
-use Rattle.plain_lits.specs.declared.halt.Halt.TheVariants.{LogFull as FullLog, Spent}
+use Rattle.std.specs.Prelude.{◌≡◌, ◌≤◌, ℕ, Option, length}
 use Rattle.plain_lits.specs.Units.{Units}
 use Rattle.semantics.specs.Frameworks.{Framework}
 use Rattle.iccma_tasks.specs.Tasks.{Asked}
@@ -8,20 +7,20 @@ use Rattle.oracle_face.specs.declared.face.Pending.{Pending}
 use Rattle.oracle_face.specs.Growing.{IsSpent}
 use Rattle.oracle_face.specs.Logs.{OracleLog}
 use Rattle.edit_rules.specs.Fitting.{Fits}
-use Rattle.session_log.specs.Ends.{Course, Ending, IsEnd, IsShownBy, MadeFor, MayStop, WorksFor, definite, refused, stopped, too_many}
+use Rattle.session_log.specs.Ends.{AreTooMany, Course, Ending, IsEnd, IsShownBy, LoopInHand, MadeFor, MayStop, definite}
+use Rattle.session_log.specs.Ends.{log_full, refused, too_many, unknown}
 use Rattle.core_machine.specs.Steps.{cut}
 use Rattle.core_answers.specs.declared.outcome.Outcome.{Outcome}
 use Rattle.core_answers.specs.declared.outcome.Outcome.TheVariants.{Definite, LogFull, Refused, TooMany, Unknown}
-use Rattle.core_answers.specs.Serving.{HasServed, IsNamedInHand}
-use Rattle.core_answers.specs.Showing.{AreTooMany}
+use Rattle.core_answers.specs.Serving.{HasServed}
 
--- the ending of an outcome, which tells no sets of too many
+-- the ending that an outcome is
 abbrev pub ending_of : Outcome → Ending
 ending_of (Refused fault) = refused fault
 ending_of (Definite answer sets) = definite answer sets
-ending_of (Unknown count) = stopped (Spent count)
-ending_of (TooMany sets) = too_many
-ending_of LogFull = stopped FullLog
+ending_of (Unknown count) = unknown count
+ending_of (TooMany sets) = too_many sets
+ending_of LogFull = log_full
 
 -- the course of a query by what its log has gained since it had so many steps
 abbrev pub course_since : OracleLog → ℕ → ℕ → Option Pending → Units → Course
@@ -33,19 +32,10 @@ course_since log answered budget pending after = record {
   after = after;
 }
 
--- a query may end with the outcome; where there are too many extensions, its sets are more than so many
-abbrev pub IsOutcome : Framework → Asked → ℕ → Course → Outcome → Type 0
-IsOutcome f asked most course (TooMany sets) =
-    Fits f asked × WorksFor f asked course None × AreTooMany f asked.task most course.new sets
-IsOutcome f asked most course (Refused fault) = IsEnd f asked most course (refused fault)
-IsOutcome f asked most course (Definite answer sets) = IsEnd f asked most course (definite answer sets)
-IsOutcome f asked most course (Unknown count) = IsEnd f asked most course (stopped (Spent count))
-IsOutcome f asked most course LogFull = IsEnd f asked most course (stopped FullLog)
-
--- so it may with some number of units used
+-- a query may end with the outcome, with some number of units used
 abbrev pub Comes : Framework → Asked → ℕ → OracleLog → ℕ → ℕ → Option Pending → Outcome → Type 0
 Comes f asked most log answered budget pending outcome =
-    (after : Units) × IsOutcome f asked most (course_since log answered budget pending after) outcome
+    (after : Units) × IsEnd f asked most (course_since log answered budget pending after) (ending_of outcome)
 
 -- ---- where the query fits
 
@@ -54,19 +44,14 @@ abbrev pub EndsSo : Framework → Asked → ℕ → OracleLog → Option Pending
 EndsSo f asked most log pending units (Refused fault) = ⊥
 EndsSo f asked most log pending units (Definite answer sets) = IsShownBy f asked answer sets log
 EndsSo f asked most log pending units (Unknown count) =
-    IsSpent (MadeFor f asked) f log pending units count × MayStop asked (Spent count)
-EndsSo f asked most log pending units (TooMany sets) = AreTooMany f asked.task most log sets
-EndsSo f asked most log pending units LogFull = (length log.steps ≡ log.limit) × MayStop asked FullLog
+    IsSpent (MadeFor f asked) f log pending units count × MayStop asked × LoopInHand log pending
+EndsSo f asked most log pending units (TooMany sets) = AreTooMany f asked most log sets
+EndsSo f asked most log pending units LogFull = (length log.steps ≡ log.limit) × MayStop asked
 
 -- the query fits, what came behind so many steps serves it within the budget, and the rest is so
 pub record EndsFit (f : Framework) (asked : Asked) (most : ℕ) (log : OracleLog) (from : ℕ) (pending : Option Pending)
     (units : Units) (outcome : Outcome) : Type 0 where
   pub fits : Fits f asked
-  pub served : HasServed f asked log from pending
+  pub served : HasServed f asked log from
   pub within : units.used ≤ units.limit
   pub so : EndsSo f asked most log pending units outcome
-
--- the name of a loop clause in hand fits its row; of a spent budget the ending itself tells so
-abbrev pub IsNamedFor : Option Pending → Outcome → Type 0
-IsNamedFor pending (Unknown count) = Unit {0}
-IsNamedFor pending outcome = IsNamedInHand pending

@@ -11,7 +11,7 @@ use Rattle.certificate_claims.specs.Refutations.{axiom_clause}
 use Rattle.oracle_face.specs.declared.face.Pending.{Pending}
 use Rattle.oracle_face.specs.declared.face.Pending.TheVariants.{Loop}
 use Rattle.oracle_face.specs.Logs.{LogStep, OracleLog, SideClause, Source, IsNew, IsSameClause, by_axiom, is_loop, is_unit, no_side, no_step, working}
-use Rattle.session_log.specs.Ends.{IsTakenByNone, LoopInHand, SideServes}
+use Rattle.session_log.specs.Ends.{IsTakenByNone, SideServes}
 use Rattle.core_machine.specs.Steps.{is_side_step}
 use Rattle.answer_claims.specs.declared.sides.SideKind.{SideKind}
 use Rattle.answer_claims.specs.SideClauses.{side_of}
@@ -34,7 +34,7 @@ pub record AreNamed (steps : List LogStep) : Type 0 where
   pub each : (k : ℕ) (name : AxiomName) → k < length steps
       → (slice_index_or steps k no_step).source ≡ by_axiom name → IsAxiomName name
 
--- so do those of a loop clause in hand
+-- the arguments of the name of a loop clause in hand fit its row
 abbrev pub IsNamedInHand : Option Pending → Type 0
 IsNamedInHand (Some (Loop name)) = IsAxiomName name
 IsNamedInHand pending = Unit {0}
@@ -78,12 +78,10 @@ SidesServe f asked sides from =
 -- ---- all that came
 
 -- what came behind so many steps serves the query, with no more steps that only ended a search than there may be
-pub record HasServed (f : Framework) (asked : Asked) (log : OracleLog) (from : ℕ) (pending : Option Pending) : Type 0
-  where
-    pub sides : SidesServe f asked log.sides (count_by is_side_step (take from log.steps))
-    pub steps : StepsServe f log.steps from
-    pub closing : count_by (counts Closings) (drop from log.steps) ≤ 2 * length log.sides + 2
-    pub in_hand : LoopInHand log pending
+pub record HasServed (f : Framework) (asked : Asked) (log : OracleLog) (from : ℕ) : Type 0 where
+  pub sides : SidesServe f asked log.sides (count_by is_side_step (take from log.steps))
+  pub steps : StepsServe f log.steps from
+  pub closing : count_by (counts Closings) (drop from log.steps) ≤ 2 * length log.sides + 2
 
 -- the halt isn't want of memory
 abbrev pub IsTold : Option Halt → Type 0

@@ -1,15 +1,12 @@
 -- What shows an answer.
-use Rattle.std.specs.Prelude.{◌≡◌, ◌<◌, ℕ, Bool, true, false, List, [], ◌∷◌, length, slice_index_or}
+use Rattle.std.specs.Prelude.{◌<◌, ℕ, Bool, true, false, List, [], ◌∷◌, length, slice_index_or}
 use Rattle.semantics.specs.Frameworks.{Framework}
 use Rattle.iccma_tasks.specs.declared.answer.Answer.TheVariants.{Sets}
-use Rattle.iccma_tasks.specs.declared.task.Problem.TheVariants.{AllExtensions}
 use Rattle.iccma_tasks.specs.declared.task.Semantics.{Semantics}
-use Rattle.iccma_tasks.specs.declared.task.Task.{Task}
 use Rattle.certificate_claims.specs.declared.verdict.Cause.TheVariants.{RefutationCount}
 use Rattle.certificate_claims.specs.declared.verdict.Verdict.{Verdict}
 use Rattle.certificate_claims.specs.declared.verdict.Verdict.TheVariants.{Accepted, Rejected}
 use Rattle.oracle_face.specs.Logs.{OracleLog}
-use Rattle.enumerate_modes.specs.Ordered.{TheyDiffer}
 use Rattle.session_log.specs.Ends.{IsShownBy, some_asked}
 
 -- whether a verdict is told of no direct test
@@ -23,10 +20,3 @@ abbrev pub ShowAlone : Framework → Semantics → OracleLog → List (List ℕ)
 ShowAlone f semantics log sets =
     (k : ℕ) → k < length sets
     → IsShownBy f (some_asked semantics) (Sets (slice_index_or sets k [] ∷ [])) [] log
-
--- the sets are more different extensions than so many, each shown
-pub record AreTooMany (f : Framework) (task : Task) (most : ℕ) (log : OracleLog) (sets : List (List ℕ)) : Type 0 where
-  pub all : task.problem ≡ AllExtensions
-  pub more : most < length sets
-  pub different : TheyDiffer sets
-  pub each : ShowAlone f task.semantics log sets

@@ -1,15 +1,13 @@
 //! Whether a query may end with an outcome.
 
-ghost use Rattle.std.specs.Prelude.{◌≡◌, ◌↔◌, ◌≤◌, ◌*◌, ◌+◌, None, Some, count_by, drop, length, IfOk, IsTrue};
-ghost use Rattle.plain_lits.specs.declared.halt.Halt.TheVariants.{Spent};
-ghost use Rattle.plain_lits.specs.Units.{Units as AllUnits};
+ghost use Rattle.std.specs.Prelude.{◌≡◌, ◌↔◌, ◌≤◌, ◌*◌, ◌+◌, count_by, drop, length, IfOk, IsTrue};
 ghost use Rattle.edit_rules.specs.Fitting.{Fits, IsFaultOf};
 ghost use Rattle.edit_rules.specs.Kinds.{framework_of};
 ghost use Rattle.oracle_face.specs.Growing.{IsSpent};
 ghost use Rattle.oracle_face.specs.Logs.{is_unit};
-ghost use Rattle.session_log.specs.Ends.{IsByGrounded, IsEnd, MadeFor, MayStop};
-ghost use Rattle.core_answers.specs.Outcomes.{Comes, EndsFit, EndsSo, IsNamedFor, course_since, ending_of};
-ghost use Rattle.core_answers.specs.Serving.{AreNamed, HasServed, IsNamedInHand};
+ghost use Rattle.session_log.specs.Ends.{IsByGrounded, LoopInHand, MadeFor, MayStop};
+ghost use Rattle.core_answers.specs.Outcomes.{Comes, EndsFit, EndsSo};
+ghost use Rattle.core_answers.specs.Serving.{AreNamed, HasServed};
 
 use crate::counts::{Count, number_of};
 use crate::outcome::Outcome;
@@ -68,13 +66,11 @@ fn has_served(
     query: &Query,
     log: &CoreLog,
     from: usize,
-    pending: &Option<Pending>,
 ) -> Result<bool, Memory>
     requires within { from ≤ length log.now.steps }
     requires names { AreNamed log.now.steps }
-    requires in_hand { IsNamedInHand pending.now }
     ensures { IfOk result (λ served. IsTrue served
-        ↔ HasServed (framework_of framework.now) query.now log.now from pending.now) }
+        ↔ HasServed (framework_of framework.now) query.now log.now from) }
 {
     let steps = log.steps();
     let closings = number_of(Count::Closings, &steps[from..]);
@@ -87,11 +83,7 @@ fn has_served(
         return Ok(false);
     }
     let served = steps_serve(alloc, framework, steps, from)?;
-    if !served {
-        return Ok(false);
-    }
-    let in_hand = in_hand_serves(alloc, steps, pending)?;
-    Ok(in_hand)
+    Ok(served)
 }
 
 /// Whether the budget was spent at a count, with a further clause in hand.
@@ -120,7 +112,7 @@ fn is_spent(
     }
 }
 
-/// Whether a query is unknown at a count of units.
+/// Whether a query is unknown at a count of units: the budget was spent, and a loop clause in hand serves the query.
 fn is_unknown(
     alloc: Global,
     framework: &Framework,
@@ -133,13 +125,17 @@ fn is_unknown(
 ) -> Result<bool, Memory>
     ensures { IfOk result (λ is. IsTrue is ↔ (IsSpent (MadeFor (framework_of framework.now) query.now)
         (framework_of framework.now) log.now pending.now (record { limit = budget; used = used }) count
-        × MayStop query.now (Spent count))) }
+        × MayStop query.now × LoopInHand log.now pending.now)) }
 {
     if !may_stop(query.task()) {
         return Ok(false);
     }
     let spent = is_spent(alloc, framework, query, log, used, budget, pending, count)?;
-    Ok(spent)
+    if !spent {
+        return Ok(false);
+    }
+    let serves = in_hand_serves(alloc, log.steps(), pending)?;
+    Ok(serves)
 }
 
 /// Whether a log is full.
@@ -176,7 +172,7 @@ fn ends_so(
         }
         Outcome::TooMany(sets) => {
             let sets = sets.as_slice();
-            Ok(are_too_many(alloc, framework, query.task(), most, sets, log)?)
+            Ok(are_too_many(alloc, framework, query, most, sets, log)?)
         }
         Outcome::LogFull => Ok(is_full(log) && may_stop(query.task())),
     }
@@ -196,7 +192,6 @@ fn ends_fit(
 ) -> Result<bool, Memory>
     requires within { from ≤ length log.now.steps }
     requires names { AreNamed log.now.steps }
-    requires in_hand { IsNamedFor pending.now outcome.now }
     ensures { IfOk result (λ ends. IsTrue ends
         ↔ EndsFit (framework_of framework.now) query.now most log.now from pending.now
         (record { limit = budget; used = count_by is_unit (drop from log.now.steps) }) outcome.now) }
@@ -214,14 +209,13 @@ fn ends_fit(
     if !so {
         return Ok(false);
     }
-    let served = has_served(alloc, framework, query, log, from, pending)?;
+    let served = has_served(alloc, framework, query, log, from)?;
     Ok(served)
 }
 
 /// Whether a query may end with an outcome on a framework, by what a log has gained since it had `answered` steps, with
 /// `budget` units at most, a clause in hand, and `most` extensions at most in a list. It is so exactly where the
-/// outcome is an ending that the definition allows; of too many extensions the outcome's sets have to tell.
-/// `Memory` says that an allocation was refused.
+/// outcome is an ending that the definition allows. `Memory` says that an allocation was refused.
 pub fn may_end(
     alloc: Global,
     framework: &Framework,
@@ -233,12 +227,9 @@ pub fn may_end(
     pending: &Option<Pending>,
     outcome: &Outcome,
 ) -> Result<bool, Memory>
-    requires names { AreNamed log.now.steps }
-    requires in_hand { IsNamedFor pending.now outcome.now }
-    ensures exact { IfOk result (λ ends. IsTrue ends
+    requires { AreNamed log.now.steps }
+    ensures { IfOk result (λ ends. IsTrue ends
         ↔ Comes (framework_of framework.now) query.now most log.now answered budget pending.now outcome.now) }
-    ensures ending { IfOk result (λ ends. IsTrue ends → ((after : AllUnits) × IsEnd (framework_of framework.now)
-        query.now most (course_since log.now answered budget pending.now after) (ending_of outcome.now))) }
 {
     if let Outcome::Refused(fault) = outcome {
         return Ok(is_fault(framework, query, *fault));

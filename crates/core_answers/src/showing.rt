@@ -9,10 +9,9 @@ ghost use Rattle.certificate_claims.specs.Acceptance.{Tests, no_claim};
 ghost use Rattle.certificate_claims.specs.Claims.{row_of, sets_of};
 ghost use Rattle.certificate_claims.specs.Refutations.{Claim as TableClaim};
 ghost use Rattle.edit_rules.specs.Kinds.{framework_of};
-ghost use Rattle.enumerate_modes.specs.Ordered.{TheyDiffer};
-ghost use Rattle.session_log.specs.Ends.{HasRefuting, IsShownBy, some_asked};
+ghost use Rattle.session_log.specs.Ends.{AreDifferent, AreTooMany, HasRefuting, IsShownBy, some_asked};
 ghost use Rattle.answer_claims.specs.ClaimParts.{AreClaims};
-ghost use Rattle.core_answers.specs.Showing.{AreTooMany, ShowAlone, is_past_tests};
+ghost use Rattle.core_answers.specs.Showing.{ShowAlone, is_past_tests};
 
 use crate::refuting::is_refuted;
 use answer_claims::{Claim, claims_of, row};
@@ -169,7 +168,7 @@ fn is_listed(sets: &[NumSet], set: &NumSet) -> bool
 
 /// Whether no two of the sets have the same members. It compares each two of them.
 fn they_differ(sets: &[NumSet]) -> bool
-    ensures { IsTrue result ↔ TheyDiffer sets.now }
+    ensures { IsTrue result ↔ AreDifferent sets.now }
 {
     for index in 0..sets.len() {
         let again = is_listed(&sets[..index], &sets[index]);
@@ -187,18 +186,20 @@ fn asks_for_all(task: Task) -> bool
     matches!(task.problem, Problem::AllExtensions)
 }
 
-/// Whether the sets are more different extensions than so many, each shown as an answer to the query for one.
+/// Whether a query asks for all extensions, and the sets are more than so many different ones, each shown as an answer
+/// to the query for one.
 pub(crate) fn are_too_many(
     alloc: Global,
     framework: &Framework,
-    task: Task,
+    query: &Query,
     most: u32,
     sets: &[NumSet],
     log: &CoreLog,
 ) -> Result<bool, Memory>
     ensures { IfOk result (λ are. IsTrue are
-        ↔ AreTooMany (framework_of framework.now) task most log.now sets.now) }
+        ↔ AreTooMany (framework_of framework.now) query.now most log.now sets.now) }
 {
+    let task = query.task();
     if !asks_for_all(task) {
         return Ok(false);
     }

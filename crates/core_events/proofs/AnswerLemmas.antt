@@ -1,6 +1,6 @@
 -- How an answer changes the core.
 use Rattle.std.proofs.Common.{◌≡◌, ℕ, Bool, false, length, get_or, ap, sym, subst, ◌∙◌}
-use Rattle.std.specs.Prelude.{◌↔◌, IsTrue, Option, Result}
+use Rattle.std.specs.Prelude.{◌↔◌, IsTrue, Option}
 use Rattle.std.specs.Vec.{with_item}
 use Rattle.std.proofs.lemmas.Bool.{false≢true}
 use Rattle.semantics.specs.Frameworks.{Framework}
@@ -8,17 +8,14 @@ use Rattle.iccma_tasks.specs.Tasks.{Asked}
 use Rattle.oracle_face.specs.declared.face.Pending.{Pending}
 use Rattle.oracle_face.specs.Logs.{OracleLog}
 use Rattle.core_machine.specs.Core.{Core, CoreSession, seen_framework, with_session}
+use Rattle.core_machine.specs.Steps.{IsStep, answer}
 use Rattle.core_answers.specs.declared.outcome.Outcome.{Outcome}
-use Rattle.core_answers.specs.declared.outcome.Outcome.TheVariants.{Definite, LogFull, Refused, TooMany, Unknown}
-use Rattle.core_answers.specs.Outcomes.{Comes as ComesOut, IsNamedFor}
-use Rattle.core_answers.specs.Serving.{IsNamedInHand}
+use Rattle.core_answers.specs.Outcomes.{Comes as ComesOut, ending_of}
 use Rattle.core_events.specs.declared.machine.Machine.{Machine}
 use Rattle.core_events.specs.declared.seats.Seat.{Seat}
-use Rattle.core_events.specs.declared.stop.StepStop.{StepStop}
-use Rattle.core_events.specs.Answering.{IsAnswered, MayAnswer, in_hand}
+use Rattle.core_events.specs.Answering.{MayAnswer}
 use Rattle.core_events.specs.Machines.{core_of}
 use Rattle.core_events.specs.Seats.{IsSeatAt, session_of}
-use Rattle.core_events.specs.Stops.{Comes}
 use Rattle.core_events.proofs.StateLemmas.{seat_number, seated, session_changed}
 
 abbrev with_answered : Machine → ℕ → Seat → ℕ → Machine
@@ -51,18 +48,21 @@ may_by core s asked budget pending outcome f log answered b e1 e2 e3 h =
 
 pub not_answered : (core before : Core) (s : ℕ) (asked : Asked) (budget : ℕ) (pending : Option Pending)
     (outcome : Outcome) (b : Bool) → core ≡ before → IsTrue b ↔ MayAnswer core s asked budget pending outcome
-    → b ≡ false → (next : Core) → IsAnswered before s asked budget pending outcome next → ⊥
+    → b ≡ false → (next : Core) → IsStep before (answer s asked 10000 budget pending (ending_of outcome)) next → ⊥
 not_answered core before s asked budget pending outcome b same h no_ next is =
-    false≢true (sym no_ ∙ h.1 (subst (λ (c : Core). MayAnswer c s asked budget pending outcome) (sym same) is.may))
+    let may : MayAnswer before s asked budget pending outcome = (is.after, is.ends) in
+    false≢true (sym no_ ∙ h.1 (subst (λ (c : Core). MayAnswer c s asked budget pending outcome) (sym same) may))
 
 answered_here : (m : Machine) (s index : ℕ) (seat : Seat) (asked : Asked) (budget : ℕ) (pending : Option Pending)
     (outcome : Outcome) (answered : ℕ) → IsSeatAt m.seats.items s index → seat ≡ get_or m.seats.items index seat
     → answered ≡ length seat.session.log.steps → MayAnswer (core_of m) s asked budget pending outcome
-    → IsAnswered (core_of m) s asked budget pending outcome (core_of (with_answered m index seat answered))
+    → IsStep (core_of m) (answer s asked 10000 budget pending (ending_of outcome))
+    (core_of (with_answered m index seat answered))
 answered_here m s index seat asked budget pending outcome answered at read e may =
     let there = seated m s index seat at read in
     record {
-      may = may;
+      after = may.0;
+      ends = may.1;
       is = session_changed m s index (record {
         number = seat.number;
         session = record {
@@ -81,23 +81,9 @@ pub answered_so : (before : Core) (m : Machine) (s index : ℕ) (seat : Seat) (a
     (pending : Option Pending) (outcome : Outcome) (answered : ℕ) → core_of m ≡ before
     → IsSeatAt m.seats.items s index → seat ≡ get_or m.seats.items index seat
     → answered ≡ length seat.session.log.steps → MayAnswer (core_of m) s asked budget pending outcome
-    → IsAnswered before s asked budget pending outcome (core_of (with_answered m index seat answered))
+    → IsStep before (answer s asked 10000 budget pending (ending_of outcome))
+    (core_of (with_answered m index seat answered))
 answered_so before m s index seat asked budget pending outcome answered same at read e may =
-    subst (λ (c : Core). IsAnswered c s asked budget pending outcome (core_of (with_answered m index seat answered)))
+    subst (λ (c : Core). IsStep c (answer s asked 10000 budget pending (ending_of outcome))
+    (core_of (with_answered m index seat answered)))
     same (answered_here m s index seat asked budget pending outcome answered at read e may)
-
--- no clause in hand wants a look
-pub named_in_hand : (outcome : Outcome) (pending given : Option Pending) → given ≡ in_hand outcome pending
-    → IsNamedFor given outcome
-named_in_hand (Refused fault) pending given e = subst (λ (p : Option Pending). IsNamedInHand p) (sym e) tt
-named_in_hand (Definite answer sets) pending given e = subst (λ (p : Option Pending). IsNamedInHand p) (sym e) tt
-named_in_hand (Unknown count) pending given e = tt
-named_in_hand (TooMany sets) pending given e = subst (λ (p : Option Pending). IsNamedInHand p) (sym e) tt
-named_in_hand LogFull pending given e = subst (λ (p : Option Pending). IsNamedInHand p) (sym e) tt
-
-pub answer_comes : (core now : Core) (s : ℕ) (asked : Asked) (budget : ℕ) (pending given : Option Pending)
-    (outcome : Outcome) (r : Result (Unit {0}) StepStop) → given ≡ in_hand outcome pending
-    → Comes (IsAnswered core s asked budget given outcome) core now r
-    → Comes (IsAnswered core s asked budget (in_hand outcome pending) outcome) core now r
-answer_comes core now s asked budget pending given outcome r e h =
-    subst (λ (p : Option Pending). Comes (IsAnswered core s asked budget p outcome) core now r) e h

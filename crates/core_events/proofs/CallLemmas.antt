@@ -11,6 +11,7 @@ use Rattle.edit_history.specs.Entries.{framework_after}
 use Rattle.oracle_face.specs.declared.entry.Entry.{Entry as PoolEntry}
 use Rattle.oracle_face.specs.Logs.{IsNew, LogStep, OracleLog, by_axiom, is_loop, working}
 use Rattle.oracle_face.specs.Needed.{IsNeeded}
+use Rattle.clause_imports.specs.OwnSteps.{IsWanted}
 use Rattle.core_machine.specs.Core.{Core, with_log}
 use Rattle.core_machine.specs.Steps.{IsCalledFor, IsNamedInPool, IsNeededFor, IsStep, learn, take_in}
 use Rattle.core_events.specs.declared.machine.Machine.{Machine}
@@ -63,32 +64,33 @@ module _ (core : Core) (s : ℕ) (name : AxiomName) where
       })
       (cases_lt (length seen_part) w.count)
 
-  pub wanted_needed : (b named : Bool) (seen : List Entry) → seen ≡ seen_part
+  pub called_needed : (b named : Bool) (seen : List Entry) → seen ≡ seen_part
       → IsTrue named ↔ IsNamedInPool core name → named ≡ false → IsTrue b ↔ IsNeededAmong core.opening seen name
-      → IsTrue b ↔ IsCalledFor core s name false
-  wanted_needed b named seen e hn no_ h = (
+      → IsTrue b ↔ IsCalledFor core s name
+  called_needed b named seen e hn no_ h = (
     λ t. inl (needed_to (subst (λ (es : List Entry). IsNeededAmong core.opening es name) e (h.0 t))),
     λ called. ⊎_elim (λ w. h.1 (subst (λ (es : List Entry). IsNeededAmong core.opening es name) (sym e)
         (needed_from w)))
         (λ w. absurd (false≢true (sym no_ ∙ hn.1 w))) called,
   )
 
-  pub loop_called : (b : Bool) (steps : List LogStep) (clause : List AtomLit) → is_loop name ≡ true
-      → steps ≡ (core.sessions s).log.steps → clause ≡ axiom_clause name
-      → IsTrue b ↔ IsNew (working steps) clause → IsTrue b ↔ IsCalledFor core s name (is_loop name)
-  loop_called b steps clause e e1 e2 h =
-      let here : IsTrue b ↔ IsCalledFor core s name true =
+  pub loop_wanted : (b : Bool) (steps : List LogStep) (clause : List AtomLit) → is_loop name ≡ true
+      → steps ≡ (core.sessions s).log.steps → clause ≡ axiom_clause name → IsTrue b ↔ IsNew (working steps) clause
+      → IsTrue b ↔ IsWanted (IsCalledFor core s) (core.sessions s).log name (is_loop name)
+  loop_wanted b steps clause e e1 e2 h =
+      let here : IsTrue b ↔ IsWanted (IsCalledFor core s) (core.sessions s).log name true =
       subst (λ (xs : List LogStep). IsTrue b ↔ IsNew (working xs) (axiom_clause name)) e1
       (subst (λ (c : List AtomLit). IsTrue b ↔ IsNew (working steps) c) e2 h) in
-      subst (λ x. IsTrue b ↔ IsCalledFor core s name x) (sym e) here
+      subst (λ x. IsTrue b ↔ IsWanted (IsCalledFor core s) (core.sessions s).log name x) (sym e) here
 
-  -- an axiom that isn't called for doesn't come
-  pub not_called : (before : Core) (clause : List AtomLit) (closing b : Bool) → core ≡ before
-      → IsTrue b ↔ IsCalledFor core s name (is_loop name) → b ≡ false → (next : Core)
-      → IsStep before (learn s clause (by_axiom name) closing) next → ⊥
-  not_called before clause closing b same h no_ next q =
+  -- an axiom that isn't wanted doesn't come
+  pub not_wanted : (before : Core) (clause : List AtomLit) (closing b : Bool) → core ≡ before
+      → IsTrue b ↔ IsWanted (IsCalledFor core s) (core.sessions s).log name (is_loop name) → b ≡ false
+      → (next : Core) → IsStep before (learn s clause (by_axiom name) closing) next → ⊥
+  not_wanted before clause closing b same h no_ next q =
       false≢true (sym no_
-      ∙ h.1 (subst (λ (c : Core). IsCalledFor c s name (is_loop name)) (sym same) q.1.1.called))
+      ∙ h.1 (subst (λ (c : Core). IsWanted (IsCalledFor c s) (c.sessions s).log name (is_loop name)) (sym same)
+      q.1.1.called))
 
 -- ---- the pool
 

@@ -4,6 +4,7 @@ pub mod EventLemmas
 pub mod NamingLemmas
 pub mod NeedLemmas
 pub mod PlaceLemmas
+pub mod RunLemmas
 pub mod SeatLemmas
 pub mod SharingLemmas
 pub mod StateLemmas

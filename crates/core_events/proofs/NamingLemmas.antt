@@ -1,5 +1,5 @@
 -- What the looks for named steps come to.
-use Rattle.std.proofs.Common.{◌≡◌, ◌≢◌, ⊎_elim, ℕ, ◌+◌, ◌<◌, ◌≤◌, Bool, true, false, List, [], ◌∷◌, ◌++◌, length, get_or, refl, ap, sym, subst, ◌∙◌, arith}
+use Rattle.std.proofs.Common.{◌≡◌, ◌≢◌, ⊎_elim, ℕ, ◌+◌, ◌<◌, ◌≤◌, Bool, true, false, not, List, [], ◌∷◌, ◌++◌, length, get_or, refl, ap, sym, subst, ◌∙◌, arith}
 use Rattle.std.specs.Prelude.{◌↔◌, IsTrue, Contains, slice_index_or, Some, Result, Ok, Err}
 use Rattle.std.proofs.lemmas.Bool.{cases_lt, false≢true}
 use Rattle.std.proofs.lemmas.List.{get_or_append_left, get_or_default, get_or_push, length-append}
@@ -11,17 +11,22 @@ use Rattle.semantics.specs.Frameworks.{Framework}
 use Rattle.meaning_atoms.specs.declared.axiom.AxiomName.{AxiomName}
 use Rattle.meaning_atoms.specs.declared.atom.AtomLit.{AtomLit}
 use Rattle.meaning_atoms.specs.Literals.{AsksNothing, negated}
+use Rattle.certificate_claims.specs.Refutations.{IsAxiomOf}
 use Rattle.oracle_face.specs.declared.entry.Entry.{Entry}
 use Rattle.oracle_face.specs.declared.entry.EntryName.{EntryName}
 use Rattle.oracle_face.specs.declared.entry.EntryOrigin.{EntryOrigin}
 use Rattle.oracle_face.specs.declared.entry.EntryOrigin.TheVariants.{Axiom as OfAxiom, Hints}
 use Rattle.oracle_face.specs.declared.entry.HintName.{HintName}
 use Rattle.oracle_face.specs.declared.entry.HintName.TheVariants.{Entry as OfEntry}
-use Rattle.oracle_face.specs.Logs.{LogStep, OracleLog, IsNumberOf, clauses_of, step_at}
-use Rattle.session_log.specs.Steps.{GainsStep, derived_step}
+use Rattle.oracle_face.specs.Logs.{LogStep, OracleLog, IsNumberOf, by_axiom, clauses_of, is_loop, step_at}
+use Rattle.session_log.specs.Steps.{GainsStep, axiom_step, derived_step}
 use Rattle.clause_imports.specs.Imports.{FollowsByNames, IsHintOf, IsShownHere, MayImport, StandsFor, StandForSteps}
+use Rattle.clause_imports.specs.Imports.{TakesEntry}
 use Rattle.clause_imports.proofs.Naming.{names_single}
-use Rattle.core_events.specs.Naming.{Imports, IsCalledAt, IsFirstCalled}
+use Rattle.refutation_check.proofs.AxiomKinds.{axiom_fits}
+use Rattle.core_logs.specs.Tests.{HasAxiom, IsClauseOf}
+use Rattle.core_machine.specs.Steps.{TakesAxiomEntry, TakesByOrigin}
+use Rattle.core_events.specs.Naming.{Imports, IsCalledAt, IsFirstCalled, MayCome}
 
 -- ---- one name
 
@@ -120,23 +125,58 @@ so_far_stops own steps names i name lt read none hints stand =
 
 -- ---- entries
 
-abbrev told : ℕ → Result ℕ ℕ
-told n = Ok n
+pub come_from : (f : Framework) (steps : List LogStep) (name : AxiomName) (has : Bool)
+    → IsTrue has ↔ HasAxiom steps name → IsAxiomOf f name → is_loop name ≡ false
+    → IsTrue (not has) ↔ MayCome f steps name
+come_from f steps name true h kind no_loop = (
+  λ t. absurd (false≢true t),
+  λ come. let at = h.0 refl in absurd (come.once at.number at.named at.is),
+)
+come_from f steps name false h kind no_loop = (
+  λ t. record {
+    of_kind = kind;
+    no_loop = no_loop;
+    once = λ number named is. false≢true (h.1 (record { number = number; named = named; is = is }));
+  },
+  λ come. refl,
+)
 
-ok_not_err : (m n : ℕ) → told m ≡ Err n → ⊥
-ok_not_err m n e = absurd (cc)
+-- an entry of an axiom
+module _ (f : Framework) (own : ℕ) (entry : Entry) (name : AxiomName) (old : OracleLog)
+    (e : entry.origin ≡ OfAxiom name) where
+  axiom_here : MayImport f own old entry → IsShownHere f own old.steps entry.clause (OfAxiom name)
+  axiom_here may = subst (λ o. IsShownHere f own old.steps entry.clause o) e may.shown
 
-no_hints : (clauses : List (List AtomLit)) (clause : List AtomLit) (hints : List ℕ)
-    → Checks negated clauses clause hints (Ok (length hints)) → ((hint : ℕ) → Contains hints hint → ⊥) → ⊥
-no_hints clauses clause [] checks none = ⊎_elim (λ f. ok_not_err 0 0 f.1) (λ f. ok_not_err 0 1 f.1) checks
-no_hints clauses clause (hint ∷ more) checks none = none hint (Contains-head hint more hint refl)
+  pub not_come : (MayCome f old.steps name → ⊥) → (new : OracleLog) → Imports f own entry old new → ⊥
+  not_come none new is =
+      let h = axiom_here is.may in
+      none (record { of_kind = h.0; no_loop = h.1; once = h.3 })
 
--- an entry of an axiom has no hints that could take it
-pub no_axiom_entry : (f : Framework) (own : ℕ) (entry : Entry) (name : AxiomName) (old new : OracleLog)
-    → entry.origin ≡ OfAxiom name → Imports f own entry old new → ⊥
-no_axiom_entry f own entry name old new e is =
-    no_hints (clauses_of old.steps) is.takes.clause is.takes.hints is.takes.checks
-    (λ hint c. subst (λ (o : EntryOrigin). IsHintOf own old.steps o hint) e (is.takes.named hint c))
+  pub not_its_clause : (IsClauseOf name entry.clause → ⊥) → (new : OracleLog) → Imports f own entry old new → ⊥
+  not_its_clause none new is =
+      let h = axiom_here is.may in
+      none (record { is_name = axiom_fits f name h.0; same = h.2 })
+
+  pub imports_axiom : (new : OracleLog) → length old.steps < old.limit → entry.name.session ≢ own
+      → ((number : ℕ) → IsNumberOf old.steps number → (step_at old.steps number).imported ≢ Some entry.name)
+      → MayCome f old.steps name → IsClauseOf name entry.clause
+      → GainsStep (axiom_step name entry.clause (Some entry.name)) old.sides old new → Imports f own entry old new
+  imports_axiom new room other absent come clause gains =
+      let taken : TakesAxiomEntry name entry old new = record {
+        clause = entry.clause;
+        same = record { there = λ l c. c; back = λ l c. c };
+        gains = gains;
+      } in
+      record {
+        may = record {
+          room = room;
+          other = other;
+          absent = absent;
+          shown = subst (λ o. IsShownHere f own old.steps entry.clause o) (sym e)
+              (come.of_kind, come.no_loop, clause.same, come.once);
+        };
+        takes = subst (λ o. TakesByOrigin own entry o old new) (sym e) taken;
+      }
 
 abbrev blank : HintName
 blank = OfEntry (record { session = 0; step = 0 })
@@ -185,23 +225,25 @@ module _ (f : Framework) (own : ℕ) (entry : Entry) (names : List HintName) (ol
       → Checks negated (clauses_of old.steps) entry.clause hints (Ok (length hints))
       → GainsStep (derived_step entry.clause hints (Some entry.name) false) old.sides old new
       → Imports f own entry old new
-  imports_by hints new room other absent stand checks gains = record {
-    may = record {
-      room = room;
-      other = other;
-      absent = absent;
-      shown = subst (λ o. IsShownHere f own old.steps entry.clause o) (sym e)
-          (record { hints = hints; stand = stand; checks = checks });
-    };
-    takes = record {
-      clause = entry.clause;
-      hints = hints;
-      same = record { there = λ l c. c; back = λ l c. c };
-      checks = checks;
-      named = λ hint c. subst (λ o. IsHintOf own old.steps o hint) (sym e) (hint_of hints stand hint c);
-      gains = gains;
-    };
-  }
+  imports_by hints new room other absent stand checks gains =
+      let taken : TakesEntry own entry old new = record {
+        clause = entry.clause;
+        hints = hints;
+        same = record { there = λ l c. c; back = λ l c. c };
+        checks = checks;
+        named = λ hint c. subst (λ o. IsHintOf own old.steps o hint) (sym e) (hint_of hints stand hint c);
+        gains = gains;
+      } in
+      record {
+        may = record {
+          room = room;
+          other = other;
+          absent = absent;
+          shown = subst (λ o. IsShownHere f own old.steps entry.clause o) (sym e)
+              (record { hints = hints; stand = stand; checks = checks });
+        };
+        takes = subst (λ o. TakesByOrigin own entry o old new) (sym e) taken;
+      }
 
 -- what the check says of slices, it says of what they lend
 pub lent_checks : (b : Bool) (steps behind : List LogStep) (clause given : List AtomLit) (hints named : List ℕ)
@@ -219,3 +261,10 @@ pub lent_gains : (old new : OracleLog) (clause given : List AtomLit) (hints name
 lent_gains old new clause given hints named name e2 e3 h =
     subst (λ (c : List AtomLit). GainsStep (derived_step c hints (Some name) false) old.sides old new) e2
     (subst (λ (n : List ℕ). GainsStep (derived_step given n (Some name) false) old.sides old new) e3 h)
+
+-- what was gained by an axiom's clause, as it is lent
+pub lent_axiom : (old new : OracleLog) (clause given : List AtomLit) (rule : AxiomName) (name : EntryName)
+    → given ≡ clause → GainsStep (axiom_step rule given (Some name)) old.sides old new
+    → GainsStep (axiom_step rule clause (Some name)) old.sides old new
+lent_axiom old new clause given rule name e h =
+    subst (λ (c : List AtomLit). GainsStep (axiom_step rule c (Some name)) old.sides old new) e h

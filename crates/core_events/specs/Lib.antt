@@ -5,6 +5,7 @@ pub mod Machines
 pub mod Naming
 pub mod Needs
 pub mod Places
+pub mod Runs
 pub mod Seats
 pub mod Sharing
 pub mod Stops

@@ -1,15 +1,9 @@
 -- The events that change one log alone.
-use Rattle.std.specs.Prelude.{◌≡◌, ℕ, Bool, List, None}
+use Rattle.std.specs.Prelude.{◌≡◌, ℕ, List}
 use Rattle.meaning_atoms.specs.declared.atom.AtomLit.{AtomLit}
 use Rattle.meaning_atoms.specs.declared.axiom.AxiomName.{AxiomName}
 use Rattle.oracle_face.specs.Logs.{OracleLog, IsNumberOf, by_axiom, step_at}
-use Rattle.session_log.specs.Steps.{Derives, TakesAxiom, TakesSide}
-use Rattle.core_machine.specs.Steps.{IsWorthIt}
-
--- a clause is derived that is worth it
-pub record DerivesNew (clause : List AtomLit) (hints : List ℕ) (closing : Bool) (old new : OracleLog) : Type 0 where
-  pub worth : IsWorthIt old.steps clause closing
-  pub derives : Derives clause hints None closing old new
+use Rattle.session_log.specs.Steps.{TakesAxiom, TakesSide}
 
 -- an axiom comes that no step is yet
 pub record TakesOnce (name : AxiomName) (clause : List AtomLit) (old new : OracleLog) : Type 0 where

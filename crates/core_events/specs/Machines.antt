@@ -1,6 +1,6 @@
 -- The state of the core that a machine means.
 use Rattle.std.specs.Prelude.{◌≡◌, ℕ}
-use Rattle.semantics.specs.Frameworks.{Framework}
+use Rattle.semantics.specs.Frameworks.{Framework, IsNumbered}
 use Rattle.edit_rules.specs.Kinds.{framework_of}
 use Rattle.core_machine.specs.Core.{Core, IsOpened}
 use Rattle.core_events.specs.declared.machine.Machine.{Machine}
@@ -17,9 +17,10 @@ core_of m = record {
   sessions = sessions_of m.log_limit m.seats.items;
 }
 
--- nothing was done yet over this framework, with these limits of the history and of each log
+-- nothing was done yet over this framework, which is in its form, with these limits of the history and of each log
 pub record IsNewMachine (f : Framework) (limit log_limit : ℕ) (m : Machine) : Type 0 where
   pub opened : IsOpened (core_of m)
   pub opening : (core_of m).opening ≡ f
+  pub numbered : IsNumbered (core_of m).opening
   pub limits : (core_of m).limit ≡ limit
   pub log_limits : (s : ℕ) → ((core_of m).sessions s).log.limit ≡ log_limit

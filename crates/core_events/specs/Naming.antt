@@ -1,10 +1,13 @@
 -- The steps that names call.
-use Rattle.std.specs.Prelude.{◌≤◌, ℕ, List, Option, Some, None}
+use Rattle.std.specs.Prelude.{◌≡◌, ◌≤◌, ℕ, false, List, Option, Some, None}
 use Rattle.semantics.specs.Frameworks.{Framework}
+use Rattle.meaning_atoms.specs.declared.axiom.AxiomName.{AxiomName}
+use Rattle.certificate_claims.specs.Refutations.{IsAxiomOf}
 use Rattle.oracle_face.specs.declared.entry.Entry.{Entry}
 use Rattle.oracle_face.specs.declared.entry.HintName.{HintName}
-use Rattle.oracle_face.specs.Logs.{LogStep, OracleLog, IsNumberOf, step_at}
-use Rattle.clause_imports.specs.Imports.{IsCalled, MayImport, StandsFor, StandForSteps, TakesEntry}
+use Rattle.oracle_face.specs.Logs.{LogStep, OracleLog, IsNumberOf, by_axiom, is_loop, step_at}
+use Rattle.clause_imports.specs.Imports.{IsCalled, MayImport, StandsFor, StandForSteps}
+use Rattle.core_machine.specs.Steps.{TakesByOrigin}
 
 -- the name calls the step of the number
 pub record IsCalledAt (own : ℕ) (steps : List LogStep) (name : HintName) (number : ℕ) : Type 0 where
@@ -31,7 +34,13 @@ abbrev pub StandForSome : ℕ → List LogStep → List HintName → Option (Lis
 StandForSome own steps names (Some hints) = StandForSteps own steps names hints
 StandForSome own steps names None = (hints : List ℕ) → StandForSteps own steps names hints → ⊥
 
+-- the axiom may come from an entry: it is of the framework's kind and no loop clause, and no step is it yet
+pub record MayCome (f : Framework) (steps : List LogStep) (name : AxiomName) : Type 0 where
+  pub of_kind : IsAxiomOf f name
+  pub no_loop : is_loop name ≡ false
+  pub once : (number : ℕ) → IsNumberOf steps number → (step_at steps number).source ≡ by_axiom name → ⊥
+
 -- the entry may come into the log, and does
 pub record Imports (f : Framework) (own : ℕ) (entry : Entry) (old new : OracleLog) : Type 0 where
   pub may : MayImport f own old entry
-  pub takes : TakesEntry own entry old new
+  pub takes : TakesByOrigin own entry entry.origin old new

@@ -1,8 +1,9 @@
 //! Answers to queries.
 
-ghost use Rattle.std.specs.Prelude.{◌≡◌, ◌↔◌, None, IfOk, IsTrue};
-ghost use Rattle.core_answers.specs.Outcomes.{IsNamedFor};
-ghost use Rattle.core_events.specs.Answering.{IsAnswered, MayAnswer, in_hand};
+ghost use Rattle.std.specs.Prelude.{◌↔◌, IfOk, IsTrue};
+ghost use Rattle.core_machine.specs.Steps.{IsStep, answer};
+ghost use Rattle.core_answers.specs.Outcomes.{ending_of};
+ghost use Rattle.core_events.specs.Answering.{MayAnswer};
 ghost use Rattle.core_events.specs.Machines.{core_of};
 ghost use Rattle.core_events.specs.Seats.{IsSeatAt};
 ghost use Rattle.core_events.specs.Stops.{Comes};
@@ -19,22 +20,6 @@ use std::alloc::Global;
 /// How many extensions an answer may list.
 pub const MOST_EXTENSIONS: u32 = 10_000;
 
-/// The clause in hand, where the budget was spent.
-fn in_hand<'a>(
-    outcome: &Outcome,
-    pending: &'a Option<Pending>,
-    none: &'a Option<Pending>,
-) -> &'a Option<Pending>
-    requires { none.now ≡ None }
-    ensures { result.now ≡ in_hand outcome.now pending.now }
-{
-    match outcome {
-        Outcome::Unknown(_) => pending,
-        Outcome::Refused(_) | Outcome::Definite(..) | Outcome::TooMany(_) | Outcome::LogFull =>
-            none,
-    }
-}
-
 impl Machine {
     /// Whether the session of a seat may answer a query so.
     fn may_answer(
@@ -47,8 +32,7 @@ impl Machine {
         pending: &Option<Pending>,
         outcome: &Outcome,
     ) -> Result<bool, Memory>
-        requires at { IsSeatAt self.now.seats.items session index }
-        requires in_hand { IsNamedFor pending.now outcome.now }
+        requires { IsSeatAt self.now.seats.items session index }
         ensures { IfOk result (λ may. IsTrue may
             ↔ MayAnswer (core_of self.now) session query.now budget pending.now outcome.now) }
     {
@@ -71,29 +55,6 @@ impl Machine {
     }
 
     /// A session answers a query, with a clause in hand.
-    fn answer_so(
-        &mut self,
-        alloc: Global,
-        session: u32,
-        query: &Query,
-        budget: u64,
-        pending: &Option<Pending>,
-        outcome: &Outcome,
-    ) -> Result<(), StepStop>
-        requires { IsNamedFor pending.now outcome.now }
-        ensures { Comes (IsAnswered (core_of self.old) session query.now budget pending.now outcome.now)
-            (core_of self.old) (core_of self.new) result }
-    {
-        let index = self.seat(alloc, session)?;
-        if !self.may_answer(alloc, session, index, query, budget, pending, outcome)? {
-            return Err(StepStop::NotAStep);
-        }
-        let answered = self.seats[index].session.log.steps().len();
-        self.seats[index].session.answered = answered;
-        Ok(())
-    }
-
-    /// A session answers a query. A clause in hand is told only where the budget was spent.
     pub(crate) fn answer(
         &mut self,
         alloc: Global,
@@ -103,11 +64,16 @@ impl Machine {
         pending: &Option<Pending>,
         outcome: &Outcome,
     ) -> Result<(), StepStop>
-        ensures { Comes (IsAnswered (core_of self.old) session query.now budget (in_hand outcome.now pending.now)
-            outcome.now) (core_of self.old) (core_of self.new) result }
+        ensures { Comes (IsStep (core_of self.old)
+            (answer session query.now 10000 budget pending.now (ending_of outcome.now)))
+            (core_of self.old) (core_of self.new) result }
     {
-        let none = None;
-        let told = in_hand(outcome, pending, &none);
-        self.answer_so(alloc, session, query, budget, told, outcome)
+        let index = self.seat(alloc, session)?;
+        if !self.may_answer(alloc, session, index, query, budget, pending, outcome)? {
+            return Err(StepStop::NotAStep);
+        }
+        let answered = self.seats[index].session.log.steps().len();
+        self.seats[index].session.answered = answered;
+        Ok(())
     }
 }

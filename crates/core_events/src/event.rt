@@ -1,9 +1,9 @@
 //! The events that a machine takes.
 
-ghost use Rattle.core_events.specs.Events.{IsEventStep, source_by};
-ghost use Rattle.std.specs.Prelude.{◌≡◌};
 ghost use Rattle.core_machine.specs.Steps.{IsStep, learn, refresh};
+ghost use Rattle.core_events.specs.Events.{event_of, source_by};
 ghost use Rattle.core_events.specs.Machines.{core_of};
+ghost use Rattle.core_events.specs.Runs.{ComeTo};
 ghost use Rattle.core_events.specs.Stops.{Comes};
 
 use crate::machine::Machine;
@@ -70,7 +70,7 @@ impl Machine {
     /// Takes an event, if it is a step of the core: `NotAStep` comes exactly where it isn't. After every `Err` the
     /// machine means the same state as before. `Memory` says that an allocation was refused.
     pub fn step(&mut self, alloc: Global, event: &Event) -> Result<(), StepStop>
-        ensures { Comes (IsEventStep event.now (core_of self.old)) (core_of self.old) (core_of self.new) result }
+        ensures { Comes (IsStep (core_of self.old) (event_of event.now)) (core_of self.old) (core_of self.new) result }
     {
         match event {
             Event::Commit(session, edit) => self.commit(alloc, *session, edit),
@@ -100,6 +100,17 @@ impl Machine {
                 result,
             } => self.answer(alloc, *session, query, *limit, pending, result),
         }
+    }
+
+    /// Takes events one after the other, up to the first that is no step of the core: `NotAStep` comes exactly there.
+    /// What was taken before an `Err` stays. From a machine in which nothing was done yet they are a run of the core.
+    pub fn run(&mut self, alloc: Global, events: &[Event]) -> Result<(), StepStop>
+        ensures { ComeTo (core_of self.old) events.now (core_of self.new) result }
+    {
+        for event in events {
+            self.step(alloc, event)?;
+        }
+        Ok(())
     }
 
     /// A session looks at all edits.

@@ -1,9 +1,9 @@
 //! What the events of a machine are to the core.
 
-ghost use Rattle.core_events.specs.Events.{EventsAreSteps};
+ghost use Rattle.core_events.specs.Runs.{MachinesRun};
 
-/// Each event that a machine takes is a step of the core, so what holds of every run of the core holds of every
-/// machine. The function does nothing; its contract is the law.
-pub fn events_are_steps()
-    ensures { EventsAreSteps }
+/// Whatever events a machine takes from its opening on, one after the other, are a run of the core: what holds of every
+/// run of the core holds of every machine. The function does nothing; its contract is the law.
+pub fn machines_make_runs()
+    ensures { MachinesRun }
 {}

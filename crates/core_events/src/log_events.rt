@@ -2,8 +2,8 @@
 
 ghost use Rattle.std.specs.Prelude.{◌↔◌, IsTrue};
 ghost use Rattle.meaning_atoms.specs.AxiomNames.{IsAxiomName};
-ghost use Rattle.core_machine.specs.Steps.{IsWorthIt};
-ghost use Rattle.core_events.specs.LogEvents.{DerivesNew, KeepsSide, TakesOnce};
+ghost use Rattle.session_log.specs.Steps.{IsWorthIt, LearnsClause};
+ghost use Rattle.core_events.specs.LogEvents.{KeepsSide, TakesOnce};
 ghost use Rattle.core_events.specs.Stops.{Comes};
 
 use crate::named_log::NamedLog;
@@ -37,7 +37,7 @@ pub(crate) fn derive(
     hints: &[StepId],
     closing: bool,
 ) -> Result<(), StepStop>
-    ensures { Comes (DerivesNew clause.now hints.now closing log.old) log.old log.new result }
+    ensures { Comes (LearnsClause clause.now hints.now closing log.old) log.old log.new result }
 {
     if !log.has_room() {
         return Err(StepStop::NotAStep);
@@ -71,7 +71,7 @@ pub(crate) fn take_axiom(
     if !is_clause_of(alloc, name, clause)? {
         return Err(StepStop::NotAStep);
     }
-    log.take_axiom(alloc, name, clause)?;
+    log.take_axiom(alloc, name, clause, None)?;
     Ok(())
 }
 

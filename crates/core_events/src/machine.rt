@@ -4,6 +4,7 @@ ghost use Rattle.std.specs.Prelude.{◌≡◌, ◌↔◌, false, IfOk, IsTrue};
 ghost use Rattle.edit_rules.specs.Kinds.{framework_of};
 ghost use Rattle.meaning_atoms.specs.AxiomNames.{IsAxiomName};
 ghost use Rattle.oracle_face.specs.Logs.{by_axiom, by_hints, is_loop};
+ghost use Rattle.clause_imports.specs.OwnSteps.{IsWanted};
 ghost use Rattle.core_machine.specs.Steps.{IsCalledFor, IsStep, learn, side, take_in};
 ghost use Rattle.core_events.specs.Machines.{IsNewMachine, core_of};
 ghost use Rattle.core_events.specs.Seats.{IsSeatAt};
@@ -50,6 +51,7 @@ impl Machine {
     ) -> Result<Machine, Memory>
         ensures { IfOk result (IsNewMachine (framework_of framework) limit log_limit) }
     {
+        let _kind = framework.kind();
         Ok(Machine {
             opening: framework,
             limit,
@@ -91,9 +93,9 @@ impl Machine {
         )
     }
 
-    /// Whether an axiom of the framework's kind is called for: a loop clause where it is new, any other by a framework
-    /// that the session of a seat has seen, or by the pool.
-    fn is_called_for(
+    /// Whether an axiom of the framework's kind may come: a loop clause where it is new, any other where it is called
+    /// for.
+    fn is_wanted(
         &self,
         alloc: Global,
         session: u32,
@@ -102,17 +104,18 @@ impl Machine {
     ) -> Result<bool, Memory>
         requires at { IsSeatAt self.now.seats.items session index }
         requires name { IsAxiomName name.now }
-        ensures { IfOk result (λ is. IsTrue is ↔ IsCalledFor (core_of self.now) session name.now (is_loop name.now)) }
+        ensures { IfOk result (λ is. IsTrue is ↔ IsWanted (IsCalledFor (core_of self.now) session)
+            ((core_of self.now).sessions session).log name.now (is_loop name.now)) }
     {
         if is_loop_clause(name) {
             let clause = clause_of_axiom(alloc, name)?;
             return Ok(is_new(self.seats[index].session.log.steps(), clause.as_slice()));
         }
-        self.is_wanted(alloc, session, index, name)
+        self.is_called_for(alloc, session, index, name)
     }
 
     /// Whether a framework that the session of a seat has seen needs an axiom, or the pool names it.
-    fn is_wanted(
+    fn is_called_for(
         &self,
         alloc: Global,
         session: u32,
@@ -120,7 +123,7 @@ impl Machine {
         name: &AxiomName,
     ) -> Result<bool, Memory>
         requires { IsSeatAt self.now.seats.items session index }
-        ensures { IfOk result (λ is. IsTrue is ↔ IsCalledFor (core_of self.now) session name.now false) }
+        ensures { IfOk result (λ is. IsTrue is ↔ IsCalledFor (core_of self.now) session name.now) }
     {
         if is_named(self.pool.as_slice(), name) {
             return Ok(true);
@@ -145,7 +148,7 @@ impl Machine {
             return Err(StepStop::NotAStep);
         }
         let index = self.seat(alloc, session)?;
-        if !self.is_called_for(alloc, session, index, name)? {
+        if !self.is_wanted(alloc, session, index, name)? {
             return Err(StepStop::NotAStep);
         }
         take_axiom(alloc, &mut self.seats[index].session.log, name, clause)
@@ -174,6 +177,7 @@ impl Machine {
         let Some(entry) = find_entry(self.pool.as_slice(), place) else {
             return Err(StepStop::NotAStep);
         };
-        import(alloc, session, &mut self.seats[index].session.log, entry)
+        let log = &mut self.seats[index].session.log;
+        import(alloc, &self.opening, session, log, entry)
     }
 }

@@ -2,10 +2,9 @@
 
 ghost use Rattle.std.specs.Prelude.{◌≡◌, ◌↔◌, ◌<◌, ◌+◌, [], length, IsTrue, OnErr, OnOk};
 ghost use Rattle.meaning_atoms.specs.AxiomNames.{IsAxiomName};
-ghost use Rattle.certificate_claims.specs.Refutations.{axiom_clause};
 ghost use Rattle.oracle_face.specs.Goals.{IsSide};
-ghost use Rattle.oracle_face.specs.Logs.{IsSameClause, guarded};
-ghost use Rattle.session_log.specs.Steps.{GainsStep, TakesAxiom, TakesSide, derived_step};
+ghost use Rattle.oracle_face.specs.Logs.{guarded};
+ghost use Rattle.session_log.specs.Steps.{GainsStep, TakesSide, axiom_step, derived_step};
 ghost use Rattle.core_logs.specs.Tests.{HasSideLike};
 ghost use Rattle.core_answers.specs.Serving.{AreNamed};
 
@@ -74,20 +73,21 @@ impl NamedLog {
         self.log.sides()
     }
 
-    /// Takes an axiom with this clause. After `Memory` the log is as before.
+    /// Takes an axiom with this clause, from an entry or by oneself. After `Memory` the log is as before.
     pub fn take_axiom(
         &mut self,
         alloc: Global,
         name: &AxiomName,
         clause: &[AtomLit],
+        imported: Option<EntryName>,
     ) -> Result<(), Memory>
         requires room { length self.old.steps < self.old.limit }
-        requires same { IsSameClause clause.now (axiom_clause name.now) }
         requires name { IsAxiomName name.now }
-        ensures ok { OnOk result (TakesAxiom name.now clause.now self.old self.new) }
+        ensures ok { OnOk result (GainsStep (axiom_step name.now clause.now imported) self.old.sides
+            self.old self.new) }
         ensures err { OnErr result (self.new ≡ self.old) }
     {
-        self.log.take_axiom(alloc, name, clause)
+        self.log.take_axiom(alloc, name, clause, imported)
     }
 
     /// Takes a clause that follows by hints. After `Memory` the log is as before.

@@ -1,19 +1,25 @@
 //! The steps that names call, and entries that come into a log by them.
 
 ghost use Rattle.std.specs.Prelude.{◌≡◌, ◌↔◌, IfOk, IsTrue};
-ghost use Rattle.semantics.specs.Frameworks.{Framework};
-ghost use Rattle.oracle_face.specs.declared.entry.EntryOrigin.TheVariants.{Hints};
+ghost use Rattle.semantics.specs.Frameworks.{Framework as AnyFramework};
+ghost use Rattle.edit_rules.specs.Kinds.{framework_of};
+ghost use Rattle.oracle_face.specs.declared.entry.EntryOrigin.TheVariants.{Axiom as OfAxiom, Hints};
 ghost use Rattle.clause_imports.specs.Imports.{IsCalled, IsOfEntry};
-ghost use Rattle.core_events.specs.Naming.{CallsFirst, Imports, IsCalledAt, StandForSome, StandsForSome};
+ghost use Rattle.core_events.specs.Naming.{CallsFirst, Imports, IsCalledAt, MayCome, StandForSome, StandsForSome};
 ghost use Rattle.core_events.specs.Stops.{Comes};
 
 use crate::named_log::NamedLog;
+use crate::needs::is_axiom_of;
 use crate::stop::StepStop;
 use core_logs::CoreStep;
 use core_logs::checking::is_taken;
 use core_logs::literals::asks_nothing;
-use core_logs::sources::{has_entry, is_from_entry, is_of_axiom};
+use core_logs::sources::{
+    has_axiom, has_entry, is_clause_of, is_from_entry, is_loop_clause, is_of_axiom,
+};
 use core_logs::steps::{clause_at, find_step, is_closing_at, is_number};
+use edit_rules::Framework;
+use meaning_atoms::AxiomName;
 use oracle_face::{Entry, EntryName, EntryOrigin, HintName};
 use plain_lists::{Items, Memory};
 use plain_lits::StepId;
@@ -111,19 +117,60 @@ fn steps_of(
     Ok(Some(found))
 }
 
-/// Takes an entry into the log of the session of the number `own`, by the steps that its hints name.
+/// Takes an entry into the log of the session of the number `own`: as its axiom, which has to be one of the opening
+/// framework's kind, or by the steps that its hints name.
 pub(crate) fn import(
     alloc: Global,
+    opening: &Framework,
     own: u32,
     log: &mut NamedLog,
     entry: &Entry,
 ) -> Result<(), StepStop>
-    ensures { (f : Framework) → Comes (Imports f own entry.now log.old) log.old log.new result }
+    ensures { Comes (Imports (framework_of opening.now) own entry.now log.old) log.old log.new result }
 {
     match &entry.origin {
-        EntryOrigin::Axiom(_) => Err(StepStop::NotAStep),
+        EntryOrigin::Axiom(name) => import_axiom(alloc, opening, own, log, entry, name),
         EntryOrigin::Hints(names) => import_by(alloc, own, log, entry, names.as_slice()),
     }
+}
+
+/// Whether an axiom may come from an entry: it is of the framework's kind and no loop clause, and no step is it yet.
+fn may_come(opening: &Framework, steps: &[CoreStep], name: &AxiomName) -> bool
+    ensures { IsTrue result ↔ MayCome (framework_of opening.now) steps.now name.now }
+{
+    if !is_axiom_of(opening, name) {
+        return false;
+    }
+    if is_loop_clause(name) {
+        return false;
+    }
+    !has_axiom(steps, name)
+}
+
+/// Takes an entry of an axiom.
+fn import_axiom(
+    alloc: Global,
+    opening: &Framework,
+    own: u32,
+    log: &mut NamedLog,
+    entry: &Entry,
+    name: &AxiomName,
+) -> Result<(), StepStop>
+    requires { entry.now.origin ≡ OfAxiom name.now }
+    ensures { Comes (Imports (framework_of opening.now) own entry.now log.old) log.old log.new result }
+{
+    if !log.has_room() || entry.name.session == own || has_entry(log.steps(), entry.name) {
+        return Err(StepStop::NotAStep);
+    }
+    if !may_come(opening, log.steps(), name) {
+        return Err(StepStop::NotAStep);
+    }
+    let clause = entry.clause.as_slice();
+    if !is_clause_of(alloc, name, clause)? {
+        return Err(StepStop::NotAStep);
+    }
+    log.take_axiom(alloc, name, clause, Some(entry.name))?;
+    Ok(())
 }
 
 /// Takes an entry that follows by names.
@@ -135,7 +182,7 @@ fn import_by(
     names: &[HintName],
 ) -> Result<(), StepStop>
     requires { entry.now.origin ≡ Hints names.now }
-    ensures { (f : Framework) → Comes (Imports f own entry.now log.old) log.old log.new result }
+    ensures { (f : AnyFramework) → Comes (Imports f own entry.now log.old) log.old log.new result }
 {
     if !log.has_room() || entry.name.session == own || has_entry(log.steps(), entry.name) {
         return Err(StepStop::NotAStep);

@@ -8,7 +8,7 @@ ghost use Rattle.certificate_claims.specs.Refutations.{IsAxiomOf};
 ghost use Rattle.edit_rules.specs.Kinds.{framework_of};
 ghost use Rattle.edit_rules.specs.Replay.{after_edit};
 ghost use Rattle.edit_history.specs.Entries.{framework_after};
-ghost use Rattle.core_machine.specs.Steps.{NamesAxiom};
+ghost use Rattle.clause_imports.specs.OwnSteps.{NamesAxiom};
 ghost use Rattle.core_events.specs.Needs.{IsNamedAmong, IsNamedUnder, IsNeededAmong};
 
 use crate::places::{Place, find_entry};

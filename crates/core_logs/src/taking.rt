@@ -1,10 +1,9 @@
 //! How a log grows by one step.
 
 ghost use Rattle.std.specs.Prelude.{◌≡◌, ◌↔◌, ◌<◌, ◌+◌, length, IfOk, IsTrue, OnErr, OnOk};
-ghost use Rattle.certificate_claims.specs.Refutations.{axiom_clause};
 ghost use Rattle.oracle_face.specs.Goals.{IsSide};
-ghost use Rattle.oracle_face.specs.Logs.{IsSameClause, guarded};
-ghost use Rattle.session_log.specs.Steps.{GainsStep, TakesAxiom, TakesSide, derived_step};
+ghost use Rattle.oracle_face.specs.Logs.{guarded};
+ghost use Rattle.session_log.specs.Steps.{GainsStep, TakesSide, axiom_step, derived_step};
 ghost use Rattle.core_logs.specs.Tests.{HasSideLike, IsSideLike};
 
 use crate::literals::{copy_clause, is_same_clause, opposite};
@@ -18,21 +17,22 @@ use set_lists::NumSet;
 use std::alloc::Global;
 
 impl CoreLog {
-    /// Takes an axiom with this clause. After `Memory` the log is as before.
+    /// Takes an axiom with this clause, from an entry or by oneself. After `Memory` the log is as before.
     pub fn take_axiom(
         &mut self,
         alloc: Global,
         name: &AxiomName,
         clause: &[AtomLit],
+        imported: Option<EntryName>,
     ) -> Result<(), Memory>
-        requires room { length self.old.steps < self.old.limit }
-        requires same { IsSameClause clause.now (axiom_clause name.now) }
-        ensures ok { OnOk result (TakesAxiom name.now clause.now self.old self.new) }
+        requires { length self.old.steps < self.old.limit }
+        ensures ok { OnOk result (GainsStep (axiom_step name.now clause.now imported) self.old.sides
+            self.old self.new) }
         ensures err { OnErr result (self.new ≡ self.old) }
     {
         let literals = copy_clause(alloc, clause)?;
         let source = StepSource::Axiom(name.copy(alloc)?);
-        self.push_step(CoreStep::new(literals, source, None, false))
+        self.push_step(CoreStep::new(literals, source, imported, false))
     }
 
     /// Takes a clause that follows by hints. After `Memory` the log is as before.

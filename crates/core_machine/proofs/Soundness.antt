@@ -1,7 +1,7 @@
 -- What each step of the core keeps, and so every run.
 use Rattle.std.proofs.Common.{◌≡◌, ◌∙◌, ℕ, ◌==◌, ◌≤◌, Bool, List, [], ◌∷◌, ◌++◌, length, map, take, refl, sym, ap, subst, arith, Option, Some, None, Result, Ok, Err}
 use Rattle.std.specs.Prelude.{nat_le, All}
-use Rattle.std.proofs.lemmas.Bool.{cond_both, eqb-true}
+use Rattle.std.proofs.lemmas.Bool.{cond_both, eq-eqb, eqb-true, false≢true}
 use Rattle.std.proofs.lemmas.List.{append_assoc, append-nil, length-append, map-append}
 use Rattle.semantics.specs.Frameworks.{Framework, af, aba, IsNumbered}
 use Rattle.meaning_atoms.specs.declared.axiom.AxiomName.{AxiomName}
@@ -24,21 +24,29 @@ use Rattle.edit_rules.proofs.ReplayLemmas.{edits_keep, kind_stays}
 use Rattle.edit_history.specs.declared.entry.Entry.{Entry}
 use Rattle.edit_history.specs.Entries.{framework_after}
 use Rattle.oracle_face.specs.declared.entry.Entry.{Entry as PoolEntry}
+use Rattle.oracle_face.specs.declared.entry.EntryOrigin.{EntryOrigin}
+use Rattle.oracle_face.specs.declared.entry.EntryOrigin.TheVariants.{Axiom as OfAxiom, Hints}
 use Rattle.oracle_face.specs.declared.face.Pending.{Pending}
 use Rattle.oracle_face.specs.Entries.{IsShareable}
+use Rattle.oracle_face.specs.Growing.{NoSide}
 use Rattle.oracle_face.specs.Logs.{IsGiven, IsLog, IsNumberOf, LogStep, OracleLog, SideClause, Source, by_axiom, by_hints, by_side}
 use Rattle.session_log.specs.Ends.{definite}
 use Rattle.session_log.specs.Guards.{IsGuarded}
+use Rattle.session_log.specs.Steps.{Spends, StaysGuarded}
 use Rattle.session_log.specs.Truth.{IsTrueOfWorlds}
 use Rattle.session_log.proofs.Showing.{shown_answer_right}
-use Rattle.session_log.proofs.Staying.{axiom_stays, derived_stays, opened_guarded, side_stays}
+use Rattle.session_log.proofs.Spending.{axiom_entry_spends}
+use Rattle.session_log.proofs.Staying.{axiom_stays, axiom_step_stays, derived_stays, opened_guarded, side_stays}
 use Rattle.session_log.proofs.StepWorlds.{step_shared, step_true}
-use Rattle.clause_imports.proofs.Taking.{entry_stays}
+use Rattle.clause_imports.specs.Imports.{IsShownHere}
+use Rattle.clause_imports.proofs.Taking.{entry_spends, entry_stays}
 use Rattle.log_refutations.specs.Accepted.{HasAccepted}
 use Rattle.log_refutations.proofs.Existing.{shown_is_accepted}
 use Rattle.core_machine.specs.Core.{Core, CoreSession, IsOpened, put_at, seen_framework, with_log, with_session}
 use Rattle.core_machine.specs.Laws.{IsRun}
-use Rattle.core_machine.specs.Steps.{Event, IsStep, LearnsTo, Runs, Shares, TakesFromPool, after_turn, answer, commit, committed, entry_taken, goes, learn, refresh, rests, share, side, take_in, taken_by}
+use Rattle.core_machine.specs.Steps.{Event, IsStep, LearnsTo, Runs, Shares, TakesByOrigin, TakesFromPool, after_turn}
+use Rattle.core_machine.specs.Steps.{answer, commit, committed, entry_taken, goes, learn, refresh, rests, share, side}
+use Rattle.core_machine.specs.Steps.{take_in, taken_by}
 
 -- ---- one place changes
 
@@ -177,7 +185,7 @@ learned_good core s clause (by_side n) closing log good learns = absurd learns
 learned_good core s clause (by_hints hints) closing log good learns =
     let stays = derived_stays core.opening clause hints None closing
     (core.sessions s).log log (good.form s) (good.guards s)
-    learns.1 in
+    learns.derives in
     logged_good core s log good stays.form stays.guards
 
 -- ---- the pool
@@ -205,11 +213,45 @@ shared_good core new s k i good shares =
           (λ e is. subst IsShareable (some_is is) shareable) good.pool;
     })
 
+-- what an entry brings keeps the log guarded, whatever its origin
+origin_stays : (f : Framework) (s : ℕ) (entry : PoolEntry) (origin : EntryOrigin) (old new : OracleLog) → IsLog f old
+    → IsGuarded old → IsShareable entry → IsShownHere f s old.steps entry.clause origin
+    → TakesByOrigin s entry origin old new → StaysGuarded NoSide f old new
+origin_stays f s entry (OfAxiom name) old new form guards may shown takes =
+    axiom_step_stays f name takes.clause (Some entry.name) old new form guards shown.0
+    (record {
+      there = λ l c. shown.2.there l (takes.same.there l c);
+      back = λ l c. takes.same.back l (shown.2.back l c);
+    })
+    takes.gains
+origin_stays f s entry (Hints names) old new form guards may shown takes =
+    entry_stays s entry old new takes f form guards may
+
 taken_in_good : (core new : Core) (s i : ℕ) → IsGood core → TakesFromPool core s i new → IsGood new
 taken_in_good core new s i good takes =
-    let stays = entry_stays s takes.entry (core.sessions s).log takes.log takes.takes core.opening (good.form s)
-    (good.guards s) (good.pool i takes.entry takes.there) in
+    let stays = origin_stays core.opening s takes.entry takes.entry.origin (core.sessions s).log takes.log
+    (good.form s) (good.guards s) (good.pool i takes.entry takes.there) takes.may.shown takes.takes in
     subst IsGood (sym takes.is) (logged_good core s takes.log good stays.form stays.guards)
+
+-- it spends nothing
+origin_spends : (f : Framework) (s : ℕ) (entry : PoolEntry) (origin : EntryOrigin) (old new : OracleLog)
+    → TakesByOrigin s entry origin old new → Spends f old new 0 0
+origin_spends f s entry (OfAxiom name) old new takes =
+    axiom_entry_spends f name takes.clause entry.name old new takes.gains
+origin_spends f s entry (Hints names) old new takes = entry_spends s entry old new takes f
+
+put_there : {X : Type 0} (n : ℕ) (x : X) (items : ℕ → X) → put_at n x items n ≡ x
+put_there n x items =
+    cond_both (n == n) x (items n) (λ y. y ≡ x) (λ is. refl) (λ other. absurd (false≢true (sym other ∙ eq-eqb n n refl)))
+
+pub imports_spend : (f : Framework) (core new : Core) (s i : ℕ) → IsStep core (take_in s i) new
+    → Spends f (core.sessions s).log (new.sessions s).log 0 0
+imports_spend f core new s i step =
+    let there : (new.sessions s).log ≡ step.log =
+    ap (λ (c : Core). (c.sessions s).log) step.is
+    ∙ ap (λ (x : CoreSession). x.log) (put_there s (record (core.sessions s) { log = step.log }) core.sessions) in
+    subst (λ (log : OracleLog). Spends f (core.sessions s).log log 0 0) (sym there)
+    (origin_spends f s step.entry step.entry.origin (core.sessions s).log step.log step.takes)
 
 answered_good : (core : Core) (s n : ℕ) → IsGood core
     → IsGood (with_session core s (record (core.sessions s) { answered = n }))

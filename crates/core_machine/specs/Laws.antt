@@ -1,6 +1,6 @@
 -- What holds of every run of the core from its beginning.
 use Rattle.std.specs.Prelude.{◌≡◌, ℕ, ◌≤◌, List, length, map, Option, Some}
-use Rattle.semantics.specs.Frameworks.{IsNumbered}
+use Rattle.semantics.specs.Frameworks.{Framework, IsNumbered}
 use Rattle.iccma_tasks.specs.Tasks.{Asked}
 use Rattle.iccma_tasks.specs.declared.answer.Answer.{Answer}
 use Rattle.certificate_claims.specs.Rights.{IsRight}
@@ -11,10 +11,11 @@ use Rattle.oracle_face.specs.declared.face.Pending.{Pending}
 use Rattle.oracle_face.specs.Entries.{IsShareable}
 use Rattle.oracle_face.specs.Logs.{IsNumberOf}
 use Rattle.session_log.specs.Ends.{definite}
+use Rattle.session_log.specs.Steps.{Spends}
 use Rattle.session_log.specs.Truth.{IsTrueOfWorlds}
 use Rattle.log_refutations.specs.Accepted.{HasAccepted}
 use Rattle.core_machine.specs.Core.{Core, IsOpened, seen_framework}
-use Rattle.core_machine.specs.Steps.{Event, IsStep, Runs, answer}
+use Rattle.core_machine.specs.Steps.{Event, IsStep, Runs, answer, take_in}
 
 -- a run from the beginning, over a framework in its form
 pub record IsRun (start : Core) (events : List Event) (taken : List Entry) (core : Core) : Type 0 where
@@ -50,3 +51,8 @@ AnswersAreRight = (start core new : Core) (events : List Event) (taken : List En
     → (s : ℕ) (asked : Asked) (most budget : ℕ) (pending : Option Pending) (given : Answer) (sets : List (List ℕ))
     → IsStep core (answer s asked most budget pending (definite given sets)) new
     → IsRight (seen_framework core s) asked given × HasAccepted (seen_framework core s) asked given sets
+
+-- what a session takes from the pool spends no unit of its budget
+abbrev pub ImportsSpendNothing : Type 0
+ImportsSpendNothing = (f : Framework) (core new : Core) (s i : ℕ) → IsStep core (take_in s i) new
+    → Spends f (core.sessions s).log (new.sessions s).log 0 0

@@ -7,7 +7,6 @@ use Rattle.meaning_atoms.specs.declared.atom.AtomLit.{AtomLit}
 use Rattle.meaning_atoms.specs.declared.axiom.AxiomName.{AxiomName}
 use Rattle.meaning_atoms.specs.Literals.{AsksNothing}
 use Rattle.iccma_tasks.specs.Tasks.{Asked}
-use Rattle.certificate_claims.specs.Refutations.{IsAxiomOf, axiom_clause}
 use Rattle.edit_words.specs.declared.edit.Edit.{Edit}
 use Rattle.edit_words.specs.declared.effect.Effect.{Effect}
 use Rattle.edit_words.specs.declared.effect.EditFault.{EditFault}
@@ -21,11 +20,12 @@ use Rattle.oracle_face.specs.declared.entry.EntryOrigin.TheVariants.{Axiom as Of
 use Rattle.oracle_face.specs.declared.entry.HintName.{HintName}
 use Rattle.oracle_face.specs.declared.entry.HintName.TheVariants.{Axiom, Entry as OfEntry}
 use Rattle.oracle_face.specs.declared.face.Pending.{Pending}
-use Rattle.oracle_face.specs.Logs.{OracleLog, LogStep, Source, by_axiom, by_side, by_hints, HasPart, IsNew, IsNumberOf, clauses_of, is_loop, step_at, working}
+use Rattle.oracle_face.specs.Logs.{OracleLog, LogStep, Source, by_axiom, by_side, by_hints, IsNumberOf, IsSameClause, step_at}
 use Rattle.oracle_face.specs.Needed.{IsNeeded}
 use Rattle.session_log.specs.Ends.{Ending, IsEnd}
-use Rattle.session_log.specs.Steps.{Derives, TakesAxiom, TakesSide}
+use Rattle.session_log.specs.Steps.{GainsStep, LearnsClause, TakesSide, axiom_step}
 use Rattle.clause_imports.specs.Imports.{MayImport, TakesEntry}
+use Rattle.clause_imports.specs.OwnSteps.{LearnsAxiom, NamesAxiom}
 use Rattle.core_machine.specs.Core.{Core, put_at, seen_framework, with_log, with_session}
 
 -- what a session does
@@ -59,10 +59,6 @@ after_turn core s entries =
 -- ---- clauses
 
 -- some entry of the pool names the axiom
-abbrev pub NamesAxiom : AxiomName → EntryOrigin → Type 0
-NamesAxiom name (OfAxiom other) = other ≡ name
-NamesAxiom name (Hints names) = Contains names (Axiom name)
-
 pub record IsNamedInPool (core : Core) (name : AxiomName) : Type 0 where
   pub index : ℕ
   pub entry : PoolEntry
@@ -75,31 +71,17 @@ pub record IsNeededFor (core : Core) (s : ℕ) (name : AxiomName) : Type 0 where
   pub seen : count ≤ (core.sessions s).seen
   pub needed : IsNeeded (framework_after core.opening (take count core.history)) name
 
--- a loop clause is new, and any other axiom is called for: by a framework that the session has seen, or by the pool
-abbrev pub IsCalledFor : Core → ℕ → AxiomName → Bool → Type 0
-IsCalledFor core s name true = IsNew (working (core.sessions s).log.steps) (axiom_clause name)
-IsCalledFor core s name false = IsNeededFor core s name ⊎ IsNamedInPool core name
+-- an axiom is called for by a framework that the session has seen, or by the pool
+abbrev pub IsCalledFor : Core → ℕ → AxiomName → Type 0
+IsCalledFor core s name = IsNeededFor core s name ⊎ IsNamedInPool core name
 
--- an axiom of the framework's kind comes, which no step of the log is yet
-pub record LearnsAxiom (core : Core) (s : ℕ) (name : AxiomName) (clause : List AtomLit) (log : OracleLog) : Type 0
-  where
-    pub of_kind : IsAxiomOf core.opening name
-    pub once : (number : ℕ) → IsNumberOf (core.sessions s).log.steps number
-        → (step_at (core.sessions s).log.steps number).source ≡ by_axiom name → ⊥
-    pub called : IsCalledFor core s name (is_loop name)
-    pub takes : TakesAxiom name clause (core.sessions s).log log
-
--- a derived clause only ends a search where no step's clause is a part of it, and else it is new
-abbrev pub IsWorthIt : List LogStep → List AtomLit → Bool → Type 0
-IsWorthIt steps clause true = HasPart (clauses_of steps) clause → ⊥
-IsWorthIt steps clause false = IsNew (working steps) clause
-
--- what is learned: an axiom, or a clause that follows by hints of which each is needed
+-- what is learned: an axiom that is called for, a loop clause that is new, or a clause that follows by hints of which
+-- each is needed
 abbrev pub LearnsTo : Core → ℕ → List AtomLit → Source → Bool → OracleLog → Type 0
-LearnsTo core s clause (by_axiom name) closing log = (closing ≡ false) × LearnsAxiom core s name clause log
+LearnsTo core s clause (by_axiom name) closing log =
+    (closing ≡ false) × LearnsAxiom (IsCalledFor core s) core.opening name clause (core.sessions s).log log
 LearnsTo core s clause (by_side n) closing log = ⊥
-LearnsTo core s clause (by_hints hints) closing log =
-    IsWorthIt (core.sessions s).log.steps clause closing × Derives clause hints None closing (core.sessions s).log log
+LearnsTo core s clause (by_hints hints) closing log = LearnsClause clause hints closing (core.sessions s).log log
 
 -- the name under which a step's clause is handed on: its axiom's, its entry's, or that of an entry of one's own
 abbrev pub name_by_source : ℕ → ℕ → Source → HintName
@@ -136,13 +118,24 @@ pub record Shares (core : Core) (s k i : ℕ) (new : Core) : Type 0 where
   pub is : new ≡ with_session (record core { pool = put_at i (Some entry) core.pool }) s
       (record (core.sessions s) { shared = k ∷ (core.sessions s).shared })
 
--- an entry of another session comes into the log, by its origin
+-- the axiom of an entry comes, marked as taken from it
+pub record TakesAxiomEntry (name : AxiomName) (entry : PoolEntry) (old new : OracleLog) : Type 0 where
+  pub clause : List AtomLit
+  pub same : IsSameClause clause entry.clause
+  pub gains : GainsStep (axiom_step name clause (Some entry.name)) old.sides old new
+
+-- an entry comes by its origin: as its axiom, or by steps that its hints name
+abbrev pub TakesByOrigin : ℕ → PoolEntry → EntryOrigin → OracleLog → OracleLog → Type 0
+TakesByOrigin s entry (OfAxiom name) old new = TakesAxiomEntry name entry old new
+TakesByOrigin s entry (Hints names) old new = TakesEntry s entry old new
+
+-- an entry of another session comes into the log
 pub record TakesFromPool (core : Core) (s i : ℕ) (new : Core) : Type 0 where
   pub entry : PoolEntry
   pub there : core.pool i ≡ Some entry
   pub may : MayImport core.opening s (core.sessions s).log entry
   pub log : OracleLog
-  pub takes : TakesEntry s entry (core.sessions s).log log
+  pub takes : TakesByOrigin s entry entry.origin (core.sessions s).log log
   pub is : new ≡ with_log core s log
 
 -- ---- answers

@@ -1,7 +1,8 @@
 //! What holds of every run of the core, whatever the order of its steps. Each function does nothing; its contract is
 //! the law.
 
-ghost use Rattle.core_machine.specs.Laws.{AnswersAreRight, EachSeesMore, HistoryIsTaken, LogsAreTrue, PoolIsValid};
+ghost use Rattle.core_machine.specs.Laws.{AnswersAreRight, EachSeesMore, HistoryIsTaken, ImportsSpendNothing};
+ghost use Rattle.core_machine.specs.Laws.{LogsAreTrue, PoolIsValid};
 
 /// The history has what it had, and then the edits that the run took, in order and each once; and none of them is
 /// refused where they are made one after the other on the framework at the beginning.
@@ -28,4 +29,9 @@ pub fn pools_are_valid()
 /// check accepts, of which no step could be left out.
 pub fn answers_are_right()
     ensures { AnswersAreRight }
+{}
+
+/// What a session takes from the pool, an axiom or a clause that follows by hints, spends nothing of its budget.
+pub fn imports_spend_nothing()
+    ensures { ImportsSpendNothing }
 {}

@@ -1,3 +1,4 @@
+pub mod ChangeLemmas
 pub mod NeighbourLemmas
 pub mod NotionLemmas
 pub mod Numbering

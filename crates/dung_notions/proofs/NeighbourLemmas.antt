@@ -3,16 +3,15 @@ use Rattle.std.proofs.Common.{◌≡◌, ℕ, List, eqb}
 use Rattle.std.specs.Prelude.{Contains, ◌↔◌, filter, true}
 use Rattle.std.proofs.lemmas.Bool.{eq-eqb, eqb-true}
 use Rattle.plain_lists.proofs.Filters.{Contains-filter}
-use Rattle.attack_index.specs.PairOrder.{PairsRise}
 use Rattle.attack_index.specs.Offsets.{IndexedPairs}
 use Rattle.attack_index.proofs.OffsetLemmas.{PairsRise-filter}
-use Rattle.semantics.specs.Framework.{Af}
+use Rattle.attack_index.specs.semantics.specs.Framework.{Af}
 use Rattle.dung_notions.specs.Neighbours.{ListsTargets, ListsAttackers}
 use Rattle.dung_notions.specs.Storage.{IsStored}
 
-pub targets_from_filter : (f : Af) (a : ℕ) (incoming : IndexedPairs) (pairs : List (ℕ × ℕ))
-    → IsStored f incoming → pairs ≡ filter (λ p. eqb p.0 a) f.attacks → ListsTargets f a pairs
-targets_from_filter f a incoming pairs h e = rw e (record {
+pub targets_from_filter : (f : Af) (a bound : ℕ) (incoming : IndexedPairs) (pairs : List (ℕ × ℕ))
+    → IsStored f bound incoming → pairs ≡ filter (λ p. eqb p.0 a) f.attacks → ListsTargets f a pairs
+targets_from_filter f a bound incoming pairs h e = rw e (record {
   rise = PairsRise-filter (λ (p : ℕ × ℕ). eqb p.0 a) f.attacks (record { order = h.form.form.attacks_rise });
   targets = λ x y.
       let kept = Contains-filter (λ (p : ℕ × ℕ). eqb p.0 a) f.attacks (x, y) in (
@@ -21,9 +20,9 @@ targets_from_filter f a incoming pairs h e = rw e (record {
       );
 })
 
-pub attackers_from_filter : (f : Af) (a : ℕ) (incoming : IndexedPairs) (pairs : List (ℕ × ℕ))
-    → IsStored f incoming → pairs ≡ filter (λ p. eqb p.0 a) incoming.pairs → ListsAttackers f a pairs
-attackers_from_filter f a incoming pairs h e = rw e (record {
+pub attackers_from_filter : (f : Af) (a bound : ℕ) (incoming : IndexedPairs) (pairs : List (ℕ × ℕ))
+    → IsStored f bound incoming → pairs ≡ filter (λ p. eqb p.0 a) incoming.pairs → ListsAttackers f a pairs
+attackers_from_filter f a bound incoming pairs h e = rw e (record {
   rise = PairsRise-filter (λ (p : ℕ × ℕ). eqb p.0 a) incoming.pairs h.rise;
   attackers = λ x y.
       let kept : Contains (filter (λ p. eqb p.0 a) incoming.pairs) (x, y) ↔

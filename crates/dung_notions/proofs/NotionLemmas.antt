@@ -3,7 +3,7 @@ use Rattle.std.proofs.Common.{◌<◌, ℕ, Bool, true, false, List, [], ◌∷�
 use Rattle.std.specs.Prelude.{Contains, ◌↔◌, IsTrue, MatchBool}
 use Rattle.std.specs.List.{HoldsAt, AllWithin}
 use Rattle.std.proofs.lemmas.List.Elements.{Contains-get_or}
-use Rattle.semantics.specs.Framework.{Af, IsAf, IsAttackedBy, Defends, IsConflictFree}
+use Rattle.attack_index.specs.semantics.specs.Framework.{Af, IsAf, IsAttackedBy, Defends, IsConflictFree}
 use Rattle.dung_notions.specs.Neighbours.{ListsTargets, ListsAttackers}
 use Rattle.dung_notions.specs.Notions.{AttacksInto}
 

@@ -3,7 +3,7 @@ use Rattle.std.proofs.Common.{◌≡◌, ℕ, ◌+◌, ◌<◌, List, length, ge
 use Rattle.std.specs.Prelude.{Contains}
 use Rattle.std.proofs.lemmas.List.{length-take, get_or-take, get_or_default}
 use Rattle.plain_lists.specs.Members.{IsWithin}
-use Rattle.semantics.specs.Framework.{Af, Attacks, Defends, IsComplete, IsGrounded}
+use Rattle.attack_index.specs.semantics.specs.Framework.{Af, Attacks, Defends, IsComplete, IsGrounded}
 use Rattle.dung_notions.specs.Grounding.{EntersAfterDefenders}
 
 -- an order whose arguments are defended by those before them, and which holds all that it defends

@@ -9,7 +9,7 @@ use Rattle.std.proofs.lemmas.List.Kept.{AllPairs-from_increasing, IsStrictlyIncr
 use Rattle.std.proofs.lemmas.List.Sums.{sum_by-set}
 use Rattle.plain_lists.specs.Members.{IsWithin}
 use Rattle.plain_lists.proofs.Membership.{Contains-head, Contains-tail}
-use Rattle.semantics.specs.Framework.{Af, IsAf, Attacks, IsAttackedBy, Defends}
+use Rattle.attack_index.specs.semantics.specs.Framework.{Af, IsAf, Attacks, IsAttackedBy, Defends}
 use Rattle.dung_notions.specs.Grounding.{EntersAfterDefenders, GroundsInOrder}
 use Rattle.dung_notions.specs.Search.{
   IsOnce,

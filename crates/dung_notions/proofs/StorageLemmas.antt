@@ -1,5 +1,5 @@
 -- A framework's attacks from either end, made from one list of attacks.
-use Rattle.std.proofs.Common.{◌≡◌, ℕ, ◌-◌, ◌<◌, ◌≤◌, List, length, get_or, arith, ap, sym, ◌∙◌, subst, ⊎_elim, [], ◌∷◌, ◌++◌}
+use Rattle.std.proofs.Common.{◌≡◌, ℕ, ◌-◌, ◌<◌, ◌≤◌, List, length, get_or, arith, ap, ◌∙◌, subst, ⊎_elim, [], ◌∷◌, ◌++◌}
 use Rattle.std.specs.Prelude.{Contains, ◌↔◌}
 use Rattle.std.specs.List.Sorted.{IsStrictlyIncreasing}
 use Rattle.std.proofs.lemmas.Bool.{cases_eq}
@@ -8,7 +8,7 @@ use Rattle.std.proofs.lemmas.List.Elements.{Contains-push_cases}
 use Rattle.std.proofs.lemmas.List.Kept.{AllPairs-from_increasing}
 use Rattle.attack_index.specs.PairOrder.{PairsRise, reversed}
 use Rattle.attack_index.specs.Offsets.{IndexedPairs}
-use Rattle.semantics.specs.Frameworks.{IsNumberedAf}
+use Rattle.attack_index.specs.semantics.specs.Frameworks.{IsNumberedAf}
 use Rattle.dung_notions.specs.Neighbours.{AreArguments, AreBetween}
 use Rattle.dung_notions.specs.Storage.{IsStored, framework_of}
 
@@ -25,18 +25,20 @@ numbered live given attacks up arguments between rise same = record {
   live = arguments;
 }
 
-pub stores : (live : List ℕ) (given attacks : List (ℕ × ℕ)) (incoming : IndexedPairs) (bound : ℕ)
+pub stores : (live : List ℕ) (given attacks : List (ℕ × ℕ)) (incoming : IndexedPairs) (bound outgoing_bound : ℕ)
     → IsStrictlyIncreasing live → AreArguments live → ((a : ℕ) → Contains live a → a < bound)
     → AreBetween live given → PairsRise attacks → ((p : ℕ × ℕ) → Contains attacks p ↔ Contains given p)
     → PairsRise incoming.pairs → ((p : ℕ × ℕ) → Contains incoming.pairs (reversed p) ↔ Contains attacks p)
-    → incoming.bound ≡ bound
-    → IsStored (framework_of live attacks) incoming
-stores live given attacks incoming bound up arguments below between rise same inward in_same is = record {
-  form = numbered live given attacks up arguments between rise same;
-  rise = inward;
-  same = in_same;
-  reach = λ a c. rw is (below a c);
-}
+    → outgoing_bound ≡ bound → incoming.bound ≡ bound
+    → IsStored (framework_of live attacks) outgoing_bound incoming
+stores live given attacks incoming bound outgoing_bound up arguments below between rise same inward in_same out_is is =
+    record {
+      form = numbered live given attacks up arguments between rise same;
+      leave = λ a c. rw out_is (below a c);
+      rise = inward;
+      same = in_same;
+      reach = λ a c. rw is (below a c);
+    }
 
 -- the last of rising numbers is the largest
 pub largest_is_last : (xs : List ℕ) (d a : ℕ) → IsStrictlyIncreasing xs → Contains xs a

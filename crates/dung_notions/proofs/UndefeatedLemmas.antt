@@ -1,9 +1,9 @@
 -- Counts over a list of attacks.
-use Rattle.std.proofs.Common.{◌≡◌, ℕ, ◌+◌, ◌<◌, ◌≤◌, List, [], ◌∷◌, ◌++◌, length, get_or, set, replicate, arith, sym, ◌∙◌, refl, cond, eqb, not, ◌&&◌, Bool, true, false, ⊎_elim}
-use Rattle.std.specs.Prelude.{Contains, filter, All, count_by}
-use Rattle.std.proofs.lemmas.Bool.{eq-eqb, ne_eqb, cases_eq, cases_Bool}
+use Rattle.std.proofs.Common.{◌≡◌, ℕ, ◌+◌, ◌<◌, List, [], ◌∷◌, ◌++◌, length, get_or, set, replicate, arith, sym, ◌∙◌, refl, cond, eqb, not, ◌&&◌, Bool, true, false, ⊎_elim}
+use Rattle.std.specs.Prelude.{filter, All}
+use Rattle.std.proofs.lemmas.Bool.{eq-eqb, ne_eqb, cases_eq}
 use Rattle.std.proofs.lemmas.List.{get_or-set_same, get_or-set_other, get_or-replicate}
-use Rattle.std.proofs.lemmas.List.Sums.{sum_by-cons, sum_by-append, get_or-le-sum_by}
+use Rattle.std.proofs.lemmas.List.Sums.{sum_by-append}
 use Rattle.plain_lists.proofs.Counts.{count_by-cons, count_yes, count_no, count_agree}
 use Rattle.dung_notions.specs.Search.{is_out, count_undefeated, reaching}
 

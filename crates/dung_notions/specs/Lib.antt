@@ -6,3 +6,4 @@ pub mod Search
 pub mod Solid
 pub mod Storage
 pub mod WrittenOut
+pub use Rattle.attack_index as attack_index

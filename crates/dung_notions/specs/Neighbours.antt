@@ -1,7 +1,7 @@
 -- The attacks that leave an argument, and those that reach it.
 use Rattle.std.specs.Prelude.{◌≡◌, ◌↔◌, ℕ, List, Contains}
-use Rattle.semantics.specs.Framework.{Af, Attacks}
-use Rattle.semantics.specs.Arguments.{IsArgument}
+use Rattle.attack_index.specs.semantics.specs.Framework.{Af, Attacks}
+use Rattle.attack_index.specs.semantics.specs.Arguments.{IsArgument}
 use Rattle.attack_index.specs.PairOrder.{PairsRise}
 
 -- the pairs (argument, target) of exactly the attacks that leave the argument, by rising target

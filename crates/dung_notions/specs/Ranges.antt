@@ -1,6 +1,6 @@
 -- What is added to a list on the way to a range.
 use Rattle.std.specs.Prelude.{◌↔◌, ◌⊎◌, ℕ, List, Contains}
-use Rattle.semantics.specs.Framework.{Af, Attacks}
+use Rattle.attack_index.specs.semantics.specs.Framework.{Af, Attacks}
 
 -- the list has gained what the argument attacks, and nothing else
 abbrev pub GainsTargets : Af → ℕ → List ℕ → List ℕ → Type 0

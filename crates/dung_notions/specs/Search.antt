@@ -4,7 +4,7 @@
 -- counts of open attackers still hold them.
 use Rattle.std.specs.Prelude.{◌≡◌, ◌≢◌, ◌↔◌, ℕ, ◌+◌, ◌-◌, ◌<◌, ◌≤◌, Bool, true, not, ◌&&◌, ◌==◌, if◌then◌else◌}
 use Rattle.std.specs.Prelude.{List, [], ◌∷◌, ◌++◌, Contains, length, slice_index, slice_index_or, slice_set, count_by, sum}
-use Rattle.semantics.specs.Framework.{Af, Attacks, IsAttackedBy, Defends}
+use Rattle.attack_index.specs.semantics.specs.Framework.{Af, Attacks, IsAttackedBy, Defends}
 use Rattle.dung_notions.specs.Grounding.{EntersAfterDefenders}
 use Rattle.dung_notions.specs.declared.grounded.Search.{Search}
 

@@ -2,8 +2,8 @@
 
 ghost use Rattle.std.specs.Prelude.{◌≡◌, ℕ, ◌<◌, ◌==◌, []};
 ghost use Rattle.std.specs.Prelude.{Contains, IfOk, OnOk, length, filter, slice_index};
-ghost use Rattle.semantics.specs.Framework.{Attacks, IsAttackedBy};
-ghost use Rattle.semantics.specs.Frameworks.{IsNumberedAf};
+ghost use Rattle.attack_index.specs.semantics.specs.Framework.{Attacks, IsAttackedBy};
+ghost use Rattle.attack_index.specs.semantics.specs.Frameworks.{IsNumberedAf};
 ghost use Rattle.dung_notions.specs.Grounding.{GroundsInOrder};
 ghost use Rattle.dung_notions.specs.Search.{Defeats, IsAttackedFrom, IsFinished, IsSearchOf, ReleasesTarget, ReleasesTargets};
 

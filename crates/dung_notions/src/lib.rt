@@ -3,10 +3,12 @@
 #![tactic(auto)]
 
 mod af_plain;
+mod changes;
 mod grounded;
 mod notions;
 mod range;
 mod written_out;
 
 pub use af_plain::AfPlain;
+pub use attack_index;
 pub use grounded::Grounded;

@@ -10,7 +10,7 @@
 ghost use Rattle.std.specs.Prelude.{◌≡◌, ◌↔◌, ℕ, Contains, IsTrue, length};
 ghost use Rattle.std.specs.List.{range_with_len};
 ghost use Rattle.std.specs.List.Sorted.{IsStrictlyIncreasing};
-ghost use Rattle.semantics.specs.Framework.{IsAttackedBy, Defends, IsConflictFree, IsAdmissible, IsComplete, IsStable};
+ghost use Rattle.attack_index.specs.semantics.specs.Framework.{IsAttackedBy, Defends, IsConflictFree, IsAdmissible, IsComplete, IsStable};
 ghost use Rattle.dung_notions.specs.Neighbours.{AreArguments};
 ghost use Rattle.dung_notions.specs.Notions.{AttacksInto};
 ghost use Rattle.dung_notions.specs.Solid.{IsSolid};

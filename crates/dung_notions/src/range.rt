@@ -2,7 +2,7 @@
 
 ghost use Rattle.std.specs.Prelude.{IfOk, OnOk};
 ghost use Rattle.plain_lists.specs.Members.{IsSetOf};
-ghost use Rattle.semantics.specs.Framework.{IsInRange};
+ghost use Rattle.attack_index.specs.semantics.specs.Framework.{IsInRange};
 ghost use Rattle.dung_notions.specs.Ranges.{GainsTargets};
 
 use crate::af_plain::AfPlain;

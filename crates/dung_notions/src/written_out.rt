@@ -2,12 +2,12 @@
 
 ghost use Rattle.std.specs.Prelude.{◌↔◌, ℕ, Contains, IfOk, IsTrue, OnOk};
 ghost use Rattle.plain_lists.specs.Members.{IsSetOf};
-ghost use Rattle.semantics.specs.Arguments.{IsArgument};
+ghost use Rattle.attack_index.specs.semantics.specs.Arguments.{IsArgument};
 ghost use Rattle.dung_notions.specs.WrittenOut.{HasAdded, IsBetween};
 
 use crate::af_plain::AfPlain;
+use attack_index::semantics::is_argument;
 use plain_lists::Memory;
-use semantics::is_argument;
 use set_lists::NumSet;
 use std::alloc::Global;
 

@@ -7,7 +7,7 @@ use Rattle.plain_lists.proofs.ListTests.{any_gives, any_from}
 use Rattle.semantics.specs.Arguments.{IsArgument}
 use Rattle.semantics.specs.declared.argument.TheConstants.{LAST_ARGUMENT}
 use Rattle.semantics.specs.Framework.{IsPairBefore}
-use Rattle.edit_words.proofs.EditTests.{both_from, both_gives, either_gives, either_left, either_right, is_false, same_pair}
+use Rattle.aba_edits.specs.edit_words.proofs.EditTests.{both_from, both_gives, either_gives, either_left, either_right, is_false, same_pair}
 use Rattle.edit_rules.specs.Edits.{has_pair, is_before}
 
 pub pair_there : (ps : List (ℕ × ℕ)) (p : ℕ × ℕ) → has_pair ps p ≡ true → Contains ps p

@@ -1,6 +1,5 @@
 -- The frameworks behind the edits are in form, and which members their lists have.
-use Rattle.std.proofs.Common.{◌≡◌, ℕ, true, not, List, ◌∷◌, ◌++◌, take, drop, ap, sym, ◌∙◌, subst, ⊎_elim, inl, inr}
-use Rattle.std.proofs.lemmas.List.{take-append-drop}
+use Rattle.std.proofs.Common.{◌≡◌, ℕ, true, not, List, ◌∷◌, ap, sym, ◌∙◌, subst, ⊎_elim, inl, inr}
 use Rattle.std.specs.Prelude.{◌↔◌, ◌⊎◌, ◌&&◌, ◌==◌, Contains, filter}
 use Rattle.std.specs.List.{AllPairs}
 use Rattle.std.proofs.lemmas.Bool.{true≢false, not-true, not_from_false}
@@ -12,9 +11,9 @@ use Rattle.semantics.specs.Arguments.{IsArgument}
 use Rattle.semantics.specs.Framework.{Af, IsPairBefore}
 use Rattle.semantics.specs.Frameworks.{IsNumberedAf}
 use Rattle.edit_rules.specs.Edits.{af_with_argument, af_with_attack, is_before, is_end, with_pair}
-use Rattle.edit_words.proofs.RisingLists.{middle_rises, pairs_through}
-use Rattle.edit_words.proofs.NumberLists.{with_number_members, with_number_rises}
-use Rattle.edit_words.proofs.EditTests.{either_left, either_right, is_false}
+use Rattle.aba_edits.specs.edit_words.proofs.RisingLists.{middle_rises, pairs_through}
+use Rattle.aba_edits.specs.edit_words.proofs.NumberLists.{with_number_members, with_number_rises}
+use Rattle.aba_edits.specs.edit_words.proofs.EditTests.{either_left, either_right, is_false}
 use Rattle.edit_rules.proofs.EditTests.{before_true, true_before, pair_cases}
 
 pub with_pair_rises : (p : ℕ × ℕ) (ps : List (ℕ × ℕ)) → AllPairs IsPairBefore ps
@@ -117,30 +116,3 @@ without_attack_form f b a ok = record {
   };
   live = ok.live;
 }
-
--- lists that gained a number and a pair, said of copies
-pub joined_pairs : (ps copy new : List (ℕ × ℕ)) (p : ℕ × ℕ) → copy ≡ ps
-    → ((q : ℕ × ℕ) → Contains new q ↔ (Contains copy q ⊎ (q ≡ p))) → (q : ℕ × ℕ)
-    → Contains new q ↔ Contains (with_pair p ps) q
-joined_pairs ps copy new p e has q =
-    let gains = subst (λ zs. Contains new q ↔ (Contains zs q ⊎ (q ≡ p))) e (has q) in (
-      λ c. (with_pair_members p ps q).1 (gains.0 c),
-      λ c. gains.1 ((with_pair_members p ps q).0 c),
-    )
-
--- a list with an item put between two parts of it
-pub inserted_members : {X : Type 0} (xs : List X) (i : ℕ) (x y : X)
-    → Contains (take i xs ++ x ∷ drop i xs) y ↔ (Contains xs y ⊎ (y ≡ x))
-inserted_members xs i x y = (
-  λ c. ⊎_elim (λ h. inl (subst (λ zs. Contains zs y) (take-append-drop i xs)
-      (Contains-append_left (take i xs) (drop i xs) y h)))
-      (λ h. ⊎_elim (λ (e : x ≡ y). inr (sym e))
-      (λ h'. inl (subst (λ zs. Contains zs y) (take-append-drop i xs)
-      (Contains-append_right (take i xs) (drop i xs) y h')))
-      (Contains-cons_cases x (drop i xs) y h))
-      (Contains-append_cases (take i xs) (x ∷ drop i xs) y c),
-  λ s. ⊎_elim (λ c. ⊎_elim (λ h. Contains-append_left (take i xs) (x ∷ drop i xs) y h)
-      (λ h. Contains-append_right (take i xs) (x ∷ drop i xs) y (Contains-tail x (drop i xs) y h))
-      (Contains-append_cases (take i xs) (drop i xs) y (subst (λ zs. Contains zs y) (sym (take-append-drop i xs)) c)))
-      (λ (e : y ≡ x). Contains-append_right (take i xs) (x ∷ drop i xs) y (Contains-head x (drop i xs) y (sym e))) s,
-)

@@ -1,23 +1,23 @@
 //! Edits of a framework.
 
-ghost use Rattle.std.specs.Prelude.{◌≡◌, ◌↔◌, ◌==◌, ◌&&◌, ◌⊎◌, ◌∷◌, ◌++◌, [], ℕ, not, Contains};
+ghost use Rattle.std.specs.Prelude.{◌≡◌, ◌↔◌, ◌==◌, ◌⊎◌, ◌∷◌, ◌++◌, [], ℕ, not, Contains};
 ghost use Rattle.std.specs.Prelude.{IfOk, IfErr, OnErr, OnOk, filter, Ok, Err};
 ghost use Rattle.std.specs.List.Sorted.{IsStrictlyIncreasing};
 ghost use Rattle.semantics.specs.Arguments.{IsArgument};
 ghost use Rattle.semantics.specs.Framework.{Af};
 ghost use Rattle.semantics.specs.Frameworks.{IsNumberedAf, af};
 ghost use Rattle.edit_rules.specs.Kinds.{framework_of};
-ghost use Rattle.edit_rules.specs.Edits.{af_with_argument, af_without_argument, af_with_attack, af_without_attack};
+ghost use Rattle.edit_rules.specs.Edits.{af_with_argument};
 ghost use Rattle.edit_rules.specs.Edits.{argument_added, argument_dropped, attack_added, attack_dropped};
-ghost use Rattle.edit_words.specs.Numbers.{with_number};
-ghost use Rattle.edit_rules.specs.Edits.{edit_outcome, end_refusals, is_end, outside, row_outcome, unknown, with_pair};
+ghost use Rattle.aba_edits.specs.edit_words.specs.Numbers.{with_number};
+ghost use Rattle.edit_rules.specs.Edits.{edit_outcome, end_refusals, is_end, outside, row_outcome, unknown};
 ghost use Rattle.edit_rules.specs.Applying.{AreTold, ComesTo};
-ghost use Rattle.edit_words.specs.declared.effect.EditFault.TheVariants.{Memory};
+ghost use Rattle.aba_edits.specs.edit_words.specs.declared.effect.EditFault.TheVariants.{Memory};
 
 use crate::framework::Framework;
 use aba_edits::apply_aba;
-use dung_notions::AfPlain;
-use edit_words::{Edit, EditFault, Effect, numbers_but};
+use aba_edits::dung_notions::AfPlain;
+use aba_edits::edit_words::{Edit, EditFault, Effect, numbers_but};
 use plain_lists::{Items, Memory as OutOfMemory};
 use semantics::LAST_ARGUMENT;
 use set_lists::NumSet;
@@ -25,7 +25,7 @@ use std::alloc::Global;
 
 /// Changes a framework by an edit. Each edit refuses in the order of its row: `WrongKind`, `OutOfRange` with the first
 /// number outside its range, and then what the edit itself asks for. After every `Err` the framework is as before.
-/// The time is linear in the framework.
+/// The time is linear in the framework. An attack comes or goes in place: nothing is sorted or made anew.
 pub fn apply(alloc: Global, framework: &mut Framework, edit: &Edit) -> Result<Effect, EditFault>
     ensures done { IfOk result (λ effect.
         edit_outcome (framework_of framework.old) edit.now ≡ Ok (framework_of framework.new, effect)) }
@@ -34,22 +34,28 @@ pub fn apply(alloc: Global, framework: &mut Framework, edit: &Edit) -> Result<Ef
     ensures kept { OnErr result (framework.new ≡ framework.old) }
 {
     match framework {
-        Framework::Af(plain) => {
-            let (after, effect) = edited(alloc, plain, edit)?;
-            *plain = after;
-            Ok(effect)
-        }
+        Framework::Af(plain) => apply_af(alloc, plain, edit),
         Framework::Aba(plain) => apply_aba(alloc, plain, edit),
     }
 }
 
-/// The abstract framework after an edit, and what the edit did.
-fn edited(alloc: Global, plain: &AfPlain, edit: &Edit) -> Result<(AfPlain, Effect), EditFault>
-    ensures { ComesTo (edit_outcome (af plain.now) edit.now) result }
+/// Changes an abstract framework by an edit.
+fn apply_af(alloc: Global, plain: &mut AfPlain, edit: &Edit) -> Result<Effect, EditFault>
+    ensures done { IfOk result (λ effect. edit_outcome (af plain.old) edit.now ≡ Ok (af plain.new, effect)) }
+    ensures fault { IfErr result (λ fault. (fault ≡ Memory) ⊎ (edit_outcome (af plain.old) edit.now ≡ Err fault)) }
+    ensures kept { OnErr result (plain.new ≡ plain.old) }
 {
     match edit {
-        Edit::ArgAdd(number) => add_argument(alloc, plain, *number),
-        Edit::ArgDrop(number) => drop_argument(alloc, plain, *number),
+        Edit::ArgAdd(number) => {
+            let (after, effect) = add_argument(alloc, plain, *number)?;
+            *plain = after;
+            Ok(effect)
+        }
+        Edit::ArgDrop(number) => {
+            let (after, effect) = drop_argument(alloc, plain, *number)?;
+            *plain = after;
+            Ok(effect)
+        }
         Edit::AttackAdd(attacker, target) => add_attack(alloc, plain, *attacker, *target),
         Edit::AttackDrop(attacker, target) => drop_attack(alloc, plain, *attacker, *target),
         Edit::AsmAdd(_, _)
@@ -126,41 +132,45 @@ fn drop_argument(
 /// Adds an attack.
 fn add_attack(
     alloc: Global,
-    plain: &AfPlain,
+    plain: &mut AfPlain,
     attacker: u32,
     target: u32,
-) -> Result<(AfPlain, Effect), EditFault>
-    ensures { ComesTo (row_outcome (attack_added plain.now attacker target)) result }
+) -> Result<Effect, EditFault>
+    ensures done { IfOk result (λ effect.
+        row_outcome (attack_added plain.old attacker target) ≡ Ok (af plain.new, effect)) }
+    ensures fault { IfErr result (λ fault.
+        (fault ≡ Memory) ⊎ (row_outcome (attack_added plain.old attacker target) ≡ Err fault)) }
+    ensures kept { OnErr result (plain.new ≡ plain.old) }
 {
+    let _form = plain.live();
     check_ends(plain, attacker, target)?;
     if plain.has_attack(attacker, target) {
         return Err(EditFault::AttackIsThere);
     }
-    let after = with_attack(alloc, plain, attacker, target)?;
-    Ok((
-        after,
-        Effect::of_edit(alloc, Edit::AttackAdd(attacker, target)),
-    ))
+    plain.insert_attack(attacker, target)?;
+    Ok(Effect::of_edit(alloc, Edit::AttackAdd(attacker, target)))
 }
 
 /// Takes an attack away.
 fn drop_attack(
     alloc: Global,
-    plain: &AfPlain,
+    plain: &mut AfPlain,
     attacker: u32,
     target: u32,
-) -> Result<(AfPlain, Effect), EditFault>
-    ensures { ComesTo (row_outcome (attack_dropped plain.now attacker target)) result }
+) -> Result<Effect, EditFault>
+    ensures done { IfOk result (λ effect.
+        row_outcome (attack_dropped plain.old attacker target) ≡ Ok (af plain.new, effect)) }
+    ensures fault { IfErr result (λ fault.
+        (fault ≡ Memory) ⊎ (row_outcome (attack_dropped plain.old attacker target) ≡ Err fault)) }
+    ensures kept { OnErr result (plain.new ≡ plain.old) }
 {
+    let _form = plain.live();
     check_ends(plain, attacker, target)?;
     if !plain.has_attack(attacker, target) {
         return Err(EditFault::NoSuchAttack);
     }
-    let after = without_attack(alloc, plain, attacker, target)?;
-    Ok((
-        after,
-        Effect::of_edit(alloc, Edit::AttackDrop(attacker, target)),
-    ))
+    plain.remove_attack(attacker, target);
+    Ok(Effect::of_edit(alloc, Edit::AttackDrop(attacker, target)))
 }
 
 /// The framework with an argument more.
@@ -183,38 +193,6 @@ fn without_argument(alloc: Global, plain: &AfPlain, number: u32) -> Result<AfPla
 {
     let live = numbers_but(alloc, plain.live(), number)?;
     let attacks = attacks_but(alloc, plain.attacks(), number)?;
-    AfPlain::new(alloc, live, attacks)
-}
-
-/// The framework with an attack more.
-fn with_attack(
-    alloc: Global,
-    plain: &AfPlain,
-    attacker: u32,
-    target: u32,
-) -> Result<AfPlain, OutOfMemory>
-    requires { Contains plain.now.live attacker × Contains plain.now.live target }
-    ensures { IfOk result (λ after. after ≡ af_with_attack plain.now attacker target) }
-{
-    let live = NumSet::from_rising(alloc, plain.live())?;
-    let attacks = pairs_with(alloc, plain.attacks(), (attacker, target))?;
-    AfPlain::new(alloc, live, attacks)
-}
-
-/// The framework without an attack.
-fn without_attack(
-    alloc: Global,
-    plain: &AfPlain,
-    attacker: u32,
-    target: u32,
-) -> Result<AfPlain, OutOfMemory>
-    ensures { IfOk result (λ after. after ≡ record {
-      live = plain.now.live;
-      attacks = filter (λ p. not (p.0 == attacker && p.1 == target)) plain.now.attacks;
-    }) }
-{
-    let live = NumSet::from_rising(alloc, plain.live())?;
-    let attacks = pairs_but(alloc, plain.attacks(), (attacker, target))?;
     AfPlain::new(alloc, live, attacks)
 }
 
@@ -249,35 +227,4 @@ fn attacks_at(
         .filter(|pair| pair.0 == argument || pair.1 == argument)
         .collect(alloc)?;
     Ok(Items::from_vec(found))
-}
-
-/// The pairs but for one.
-fn pairs_but(
-    alloc: Global,
-    pairs: &[(u32, u32)],
-    gone: (u32, u32),
-) -> Result<Vec<(u32, u32)>, OutOfMemory>
-    ensures { IfOk result (λ kept. kept.items ≡ filter (λ p. not (p.0 == gone.0 && p.1 == gone.1)) pairs.now) }
-{
-    Ok(
-        pairs
-            .iter()
-            .copied()
-            .filter(|pair| !(pair.0 == gone.0 && pair.1 == gone.1))
-            .collect(alloc)?,
-    )
-}
-
-/// The pairs and one more, which stands where it keeps pairs that rise in their order.
-fn pairs_with(
-    alloc: Global,
-    pairs: &[(u32, u32)],
-    pair: (u32, u32),
-) -> Result<Vec<(u32, u32)>, OutOfMemory>
-    ensures { IfOk result (λ more. (p : ℕ × ℕ) → Contains more.items p ↔ (Contains pairs.now p ⊎ (p ≡ pair))) }
-{
-    let index = pairs.partition_point(|other| *other < pair);
-    let mut more = Vec::from_slice(alloc, pairs)?;
-    more.insert(index, pair)?;
-    Ok(more)
 }

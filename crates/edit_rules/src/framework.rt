@@ -1,16 +1,15 @@
 //! Frameworks of both kinds.
 
 ghost use Rattle.std.specs.Prelude.{◌≡◌, ◌↔◌, IfOk, IsTrue};
-ghost use Rattle.semantics.specs.Frameworks.{IsNumbered, IsNumberedAf};
+ghost use Rattle.semantics.specs.Frameworks.{IsNumbered};
 ghost use Rattle.edit_rules.specs.Kinds.{framework_of, kind_of};
 ghost use Rattle.edit_rules.specs.Fitting.{IsKnown};
 
+use aba_edits::aba_notions::AbaPlain;
 use aba_edits::copy_aba;
-use aba_notions::AbaPlain;
-use dung_notions::AfPlain;
+use aba_edits::dung_notions::AfPlain;
 use iccma_tasks::Kind;
 use plain_lists::Memory;
-use set_lists::NumSet;
 use std::alloc::Global;
 
 /// A framework of either kind.
@@ -36,7 +35,7 @@ impl Framework {
         ensures { IfOk result (λ copy. copy ≡ self.now) }
     {
         match self {
-            Framework::Af(plain) => Ok(Framework::Af(copy_af(alloc, plain)?)),
+            Framework::Af(plain) => Ok(Framework::Af(plain.copy(alloc)?)),
             Framework::Aba(plain) => Ok(Framework::Aba(copy_aba(alloc, plain)?)),
         }
     }
@@ -68,13 +67,4 @@ impl Framework {
             Framework::Aba(plain) => 1 <= number && number <= plain.atoms(),
         }
     }
-}
-
-/// The same abstract framework again.
-fn copy_af(alloc: Global, plain: &AfPlain) -> Result<AfPlain, Memory>
-    ensures { IfOk result (λ copy. copy ≡ plain.now) }
-{
-    let live = NumSet::from_rising(alloc, plain.live())?;
-    let attacks = Vec::from_slice(alloc, plain.attacks())?;
-    AfPlain::new(alloc, live, attacks)
 }

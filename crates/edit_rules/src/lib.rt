@@ -6,7 +6,7 @@ pub mod framework;
 pub mod laws;
 pub mod query_fault;
 
-pub use edit_words::{Edit, EditFault, Effect};
+pub use aba_edits::edit_words::{Edit, EditFault, Effect};
 pub use edits::apply;
 pub use framework::Framework;
 pub use query_fault::{QueryFault, query_fits};

@@ -1,15 +1,14 @@
 -- The steps that names stand for.
-use Rattle.std.proofs.Common.{◌≡◌, ℕ, zero, suc, ◌+◌, ◌<◌, ◌≤◌, List, [], ◌∷◌, ◌++◌, length, take, get_or, ap, sym, subst, ◌∙◌, refl, arith, ⊎_elim}
-use Rattle.std.specs.Prelude.{Option, Some, None}
+use Rattle.std.proofs.Common.{◌≡◌, ℕ, suc, ◌+◌, ◌<◌, ◌≤◌, List, [], ◌∷◌, ◌++◌, length, take, get_or, ap, sym, subst, ◌∙◌, refl, arith, ⊎_elim}
 use Rattle.std.proofs.lemmas.Bool.{cases_lt}
-use Rattle.std.proofs.lemmas.List.{get_or_append_left, get_or_push, get_or-take, get_or_default, length_push, length-take-le, take_all}
+use Rattle.std.proofs.lemmas.List.{get_or_append_left, get_or_push, get_or-take, get_or_default, length_push, length-take-le}
 use Rattle.oracle_face.specs.declared.entry.HintName.{HintName}
 use Rattle.oracle_face.specs.declared.entry.HintName.TheVariants.{Entry}
 use Rattle.oracle_face.specs.Logs.{LogStep, step_at}
 use Rattle.clause_imports.specs.Imports.{StandsFor, StandForSteps}
 use Rattle.clause_imports.proofs.Naming.{names_single}
 use Rattle.atom_solver.specs.Imported.{IsPlain}
-use Rattle.entry_taking.specs.Taking.{AreFound, IsCalledFirst, IsFirst}
+use Rattle.entry_taking.specs.Taking.{IsFirst}
 
 pub stands : (own : ℕ) (steps : List LogStep) (name : HintName) (number : ℕ) → IsFirst own steps name number
     → IsPlain (step_at steps number) → StandsFor own steps name number

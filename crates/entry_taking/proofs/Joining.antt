@@ -1,5 +1,5 @@
 -- What a log gains by an entry, and why it gains nothing.
-use Rattle.std.proofs.Common.{◌≡◌, ℕ, ◌+◌, ◌<◌, ◌≤◌, List, [], ◌∷◌, ◌++◌, length, take, get_or, ap, sym, subst, ◌∙◌, refl, arith, inl, inr, ⊎_elim, false, not, filter}
+use Rattle.std.proofs.Common.{◌≡◌, ℕ, ◌<◌, List, length, take, ap, sym, subst, ◌∙◌, refl, arith, inl, inr, ⊎_elim, false, not, filter}
 use Rattle.std.specs.Prelude.{Contains, Bool, true, Option, Some, None, Result, Ok, Err, OnOk, OnErr, slice_index_or, IsSome}
 use Rattle.plain_lists.specs.declared.memory.Memory.{Memory}
 use Rattle.plain_lits.specs.declared.halt.Halt.{Halt}
@@ -9,7 +9,6 @@ use Rattle.std.proofs.lemmas.List.{get_or_default}
 use Rattle.std.proofs.lemmas.List.Elements.{Contains-get_or, Contains-push}
 use Rattle.plain_lists.proofs.Filters.{Contains-filter}
 use Rattle.plain_lits.specs.HintCheck.{Checks}
-use Rattle.plain_lits.specs.Units.{Units}
 use Rattle.plain_lits.proofs.HintCheckLemmas.{Contains-mapped}
 use Rattle.clause_watches.proofs.Fronts.{from_front}
 use Rattle.semantics.specs.Frameworks.{Framework, af, aba}
@@ -18,19 +17,17 @@ use Rattle.meaning_atoms.specs.declared.axiom.AxiomName.{AxiomName}
 use Rattle.meaning_atoms.specs.declared.axiom.AxiomName.TheVariants.{Af as OfAf, Aba as OfAba}
 use Rattle.meaning_atoms.specs.AxiomNames.{IsAxiomName}
 use Rattle.meaning_atoms.specs.Literals.{negated}
-use Rattle.certificate_claims.specs.Refutations.{IsAxiomOf, axiom_clause}
+use Rattle.certificate_claims.specs.Refutations.{IsAxiomOf}
 use Rattle.oracle_face.specs.declared.entry.Entry.{Entry as AnEntry}
-use Rattle.oracle_face.specs.declared.entry.EntryName.{EntryName}
 use Rattle.oracle_face.specs.declared.entry.EntryOrigin.{EntryOrigin}
 use Rattle.oracle_face.specs.declared.entry.EntryOrigin.TheVariants.{Axiom, Hints}
 use Rattle.oracle_face.specs.declared.entry.HintName.{HintName}
-use Rattle.oracle_face.specs.declared.entry.HintName.TheVariants.{Entry as OfEntry}
 use Rattle.oracle_face.specs.Entries.{IsShareable}
-use Rattle.oracle_face.specs.Growing.{Grows, HasRun, NoSide}
+use Rattle.oracle_face.specs.Growing.{Grows, NoSide}
 use Rattle.oracle_face.specs.Kinds.{is_assumption_based}
-use Rattle.oracle_face.specs.Logs.{OracleLog, LogStep, HasPart, IsNumberOf, IsSameClause, by_axiom, clauses_of, is_loop, step_at, working}
+use Rattle.oracle_face.specs.Logs.{OracleLog, LogStep, by_axiom, clauses_of, working}
 use Rattle.oracle_face.proofs.GrowingLemmas.{grows_same, run_none}
-use Rattle.session_log.specs.Steps.{GainsStep, Spends, StaysGuarded, TakesAxiom, derived_step, own_step}
+use Rattle.session_log.specs.Steps.{GainsStep, Spends, StaysGuarded, derived_step, own_step}
 use Rattle.session_log.proofs.Spending.{axiom_spends}
 use Rattle.session_log.proofs.Staying.{axiom_stays}
 use Rattle.session_log.proofs.StepLemmas.{same_sides_grow}
@@ -40,7 +37,7 @@ use Rattle.atom_solver.specs.Imported.{Imports, IsImported, IsRefused}
 use Rattle.atom_solver.specs.States.{AddsAxiom, AtomState, IsGuardedLog}
 use Rattle.entry_taking.specs.declared.names.StepName.TheVariants.{Axiom as OfAxiom, Entry as EntryOf}
 use Rattle.entry_taking.specs.declared.names.StepNames.{StepNames}
-use Rattle.entry_taking.specs.Names.{AreNamed, IsFirstOf, told_of}
+use Rattle.entry_taking.specs.Names.{IsFirstOf, told_of}
 use Rattle.entry_taking.specs.Taking.{ComesIn, ComesInOrMayNot, GoesOn, IsKnown, IsLooked, IsOfAxiom, MayCome, is_of_aba}
 use Rattle.entry_taking.proofs.Finding.{some_name, stand_once}
 
@@ -70,7 +67,7 @@ goes_by kind old new grows stays spends = record {
 
 -- ---- an axiom comes
 
-of_kind : (f : Framework) (name : AxiomName) → is_of_aba name ≡ is_assumption_based f → IsAxiomName name
+pub of_kind : (f : Framework) (name : AxiomName) → is_of_aba name ≡ is_assumption_based f → IsAxiomName name
     → IsAxiomOf f name
 of_kind (af f) (OfAf name) same is = is
 of_kind (af f) (OfAba name) same is = absurd (false≢true (sym same))

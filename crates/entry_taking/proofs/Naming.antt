@@ -1,11 +1,10 @@
 -- The names of a log's steps, as more of them are looked at and as the log grows.
-use Rattle.std.proofs.Common.{◌≡◌, ℕ, ◌+◌, ◌-◌, ◌<◌, ◌≤◌, Bool, true, false, List, ◌++◌, length, ap, sym, subst, ◌∙◌, refl, arith, rules, inl, inr, ⊎_elim}
-use Rattle.std.specs.Prelude.{◌↔◌, ◌⊎◌, cond, Option, Some, None, slice_index_or}
-use Rattle.std.proofs.lemmas.Bool.{cases_lt, cases_eq, cases_Bool, false≢true}
+use Rattle.std.proofs.Common.{◌≡◌, ℕ, ◌+◌, ◌-◌, ◌<◌, ◌≤◌, false, List, ◌++◌, length, ap, sym, subst, ◌∙◌, refl, arith, inl, inr, ⊎_elim}
+use Rattle.std.specs.Prelude.{◌⊎◌, cond, Option, Some, None}
+use Rattle.std.proofs.lemmas.Bool.{cases_lt, cases_Bool, false≢true}
 use Rattle.std.proofs.lemmas.List.{get_or_append_left, length-append}
-use Rattle.oracle_face.specs.declared.entry.EntryName.{EntryName}
 use Rattle.oracle_face.specs.Growing.{Making, Grows}
-use Rattle.oracle_face.specs.Logs.{OracleLog, LogStep, Source, by_axiom, no_step, step_at}
+use Rattle.oracle_face.specs.Logs.{OracleLog, LogStep, by_axiom, no_step, step_at}
 use Rattle.atom_solver.specs.declared.origin.Origin.{Origin}
 use Rattle.atom_solver.specs.declared.origin.Origin.TheVariants.{Axiom as OfAxiom, Side as OfSide, Entry as OfEntry, Hints}
 use Rattle.atom_solver.specs.Lifted.{imported_of, source_of}

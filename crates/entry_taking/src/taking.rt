@@ -1,6 +1,6 @@
 //! Entries that come into the log of a solver.
 
-ghost use Rattle.std.specs.Prelude.{◌≡◌, ◌≢◌, ◌↔◌, ℕ, Bool, Contains, None, IfNone, IfOk, IfSome, IsTrue, OnOk, false, length};
+ghost use Rattle.std.specs.Prelude.{◌≡◌, ◌≢◌, ◌⊎◌, ◌↔◌, ℕ, Bool, Contains, None, IfNone, IfOk, IfSome, IsTrue, OnOk, false, length};
 ghost use Rattle.semantics.specs.Frameworks.{Framework};
 ghost use Rattle.oracle_face.specs.Entries.{IsShareable};
 ghost use Rattle.meaning_atoms.specs.declared.atom.AtomLit.{AtomLit as ALit};
@@ -9,6 +9,7 @@ ghost use Rattle.oracle_face.specs.Logs.{IsSameClause, is_loop};
 ghost use Rattle.oracle_face.specs.declared.entry.EntryOrigin.TheVariants.{Axiom, Hints};
 ghost use Rattle.oracle_face.specs.declared.entry.HintName.TheVariants.{Entry as OfEntry};
 ghost use Rattle.atom_solver.specs.Lifted.{imported_of};
+ghost use Rattle.clause_imports.specs.OwnSteps.{IsNamedByEntry, OwnStep};
 ghost use Rattle.entry_taking.specs.Names.{AreNamed};
 ghost use Rattle.entry_taking.specs.Taking.{AreFound, ComesIn, ComesInOrMayNot, GoesOn, IsCalledFirst, IsFound, IsKnown};
 ghost use Rattle.entry_taking.specs.Taking.{IsLooked, IsOfAxiom, IsOwn, MayCome, is_of_aba};
@@ -168,6 +169,8 @@ fn take_axiom(
     ensures goes { GoesOn assumption_based solver.old solver.new }
     ensures comes { OnOk result ((f : Framework) (own : ℕ) → ComesIn f own clause.now (Axiom name.now) solver.old.log
         solver.new.log) }
+    ensures steps { (f : Framework) (own : ℕ) → is_assumption_based f ≡ assumption_based → IsNamedByEntry name.now
+        → (solver.new.log ≡ solver.old.log) ⊎ OwnStep f own solver.old.log solver.new.log }
 {
     let there = names.find_axiom(alloc, name)?;
     if there.is_some() {
@@ -212,6 +215,8 @@ fn take_named(
     ensures goes { GoesOn assumption_based solver.old solver.new }
     ensures comes { OnOk result ((f : Framework) (own : ℕ) → is_assumption_based f ≡ assumption_based
         → ComesIn f own clause.now (Axiom name.now) solver.old.log solver.new.log) }
+    ensures steps { (f : Framework) (own : ℕ) → is_assumption_based f ≡ assumption_based → IsNamedByEntry name.now
+        → (solver.new.log ≡ solver.old.log) ⊎ OwnStep f own solver.old.log solver.new.log }
 {
     let of_kind = is_of_aba(name) == assumption_based;
     if !of_kind {
@@ -238,6 +243,8 @@ fn take_derived(
     ensures goes { (assumption_based : Bool) → GoesOn assumption_based solver.old solver.new }
     ensures comes { OnOk result ((f : Framework) → ComesIn f own entry.now.clause (Hints hints.now) solver.old.log
         solver.new.log) }
+    ensures steps { (f : Framework) → (IsKnown names.now own entry.now.name → ⊥)
+        → (solver.new.log ≡ solver.old.log) ⊎ OwnStep f own solver.old.log solver.new.log }
 {
     let Some(steps) = steps_of(alloc, solver, names, own, hints)? else {
         return Ok(());
@@ -263,6 +270,8 @@ pub fn take_in(
     ensures goes { GoesOn assumption_based solver.old solver.new }
     ensures comes { OnOk result ((f : Framework) → is_assumption_based f ≡ assumption_based
         → ComesInOrMayNot f own entry.now solver.old.log solver.new.log) }
+    ensures steps { (f : Framework) → is_assumption_based f ≡ assumption_based
+        → (solver.new.log ≡ solver.old.log) ⊎ OwnStep f own solver.old.log solver.new.log }
 {
     names.look(alloc, solver)?;
     if is_taken(names, own, entry.name) {

@@ -38,20 +38,21 @@ use Rattle.oracle_face.proofs.GrowingLemmas.{Makes, run_as}
 use Rattle.oracle_face.proofs.Refuting.{claim_excluded}
 use Rattle.edit_rules.specs.Kinds.{kind_of}
 use Rattle.goal_lists.proofs.GoalKinds.{semi_stable_abstract}
-use Rattle.cegar_preferred.specs.Largest.{MadeOutside}
-use Rattle.enumerate_modes.specs.declared.with_mode.Listed.{Listed}
-use Rattle.enumerate_modes.specs.declared.with_mode.Listed.TheVariants.{Whole, TooMany as MoreThanListed}
-use Rattle.enumerate_modes.specs.Modes.{IsAllOf, IsAllOrMore as IsModeList, IsAmong, IsListMode, MadeDiffers}
-use Rattle.enumerate_modes.specs.Ordered.{HasMore}
-use Rattle.enumerate_modes.proofs.OrderedLemmas.{they_differ}
-use Rattle.enumerate_preferred.specs.Preferred.{IsAllPreferred, IsAllOrMore as IsPreferredList}
+use Rattle.enumerate_preferred.specs.cegar_preferred.specs.Largest.{MadeOutside}
+use Rattle.enumerate_ranges.specs.enumerate_modes.specs.declared.with_mode.Listed.{Listed}
+use Rattle.enumerate_ranges.specs.enumerate_modes.specs.declared.with_mode.Listed.TheVariants.{Whole, TooMany as MoreThanListed}
+use Rattle.enumerate_ranges.specs.enumerate_modes.specs.Modes.{IsAllOf, IsAllOrMore as IsModeList, IsAmong, IsListMode, MadeDiffers}
+use Rattle.enumerate_ranges.specs.enumerate_modes.specs.Ordered.{HasMore}
+use Rattle.enumerate_ranges.specs.enumerate_modes.proofs.OrderedLemmas.{they_differ}
+use Rattle.enumerate_preferred.specs.Preferred.{IsAllPreferred, IsAllOrMore as IsPreferredList, IsShownLargest}
 use Rattle.enumerate_preferred.proofs.PreferredLemmas.{none_within}
 use Rattle.enumerate_ranges.specs.declared.ranges.Ranged.{Ranged}
 use Rattle.enumerate_ranges.specs.declared.ranges.Ranged.TheVariants.{Whole as WholeRanged, TooMany as MoreThanRanged}
-use Rattle.enumerate_ranges.specs.Ranges.{IsAllSemiStable, IsAllOrMore as IsRangedList, MadeForRanges}
+use Rattle.enumerate_ranges.specs.Ranges.{IsAllSemiStable, IsAllOrMore as IsRangedList, IsShownWidest, MadeForRanges}
 use Rattle.enumerate_ranges.proofs.RangeLemmas.{no_range_within}
 use Rattle.enumerate_ranges.proofs.StepLemmas.{refuted_first, refuted_none}
-use Rattle.enumerate_block.specs.Extensions.{AreExtensions, IsListOf, IsListTask, IsModeOf, MadeForAll, asked_all, with_step, with_steps}
+use Rattle.enumerate_block.specs.Extensions.{AreExtensions, IsListOf, IsListTask, IsModeOf, IsShownOne, MadeForAll, asked_all, with_step, with_steps}
+use Rattle.enumerate_block.proofs.OneSet.{largest_shown, mode_shown, widest_shown}
 
 -- ---- the direct tests
 
@@ -220,13 +221,6 @@ more_as P Q limit all h = record {
   more = h.more;
 }
 
--- the mode of a complete or stable set
-mode_extension : (f : Framework) (semantics : Semantics) (mode : Atom) (e : List ℕ) → IsModeOf semantics mode
-    → IsAmong f mode [] e → IsExtension f semantics e
-mode_extension f Complete Co e ok h = (complete_is f e).1 h.has_mode
-mode_extension f Stable St e ok h = (stable_is f e).1 h.has_mode
-mode_extension f _ _ e ok h = absurd ok
-
 mode_list : (f : Framework) (log : OracleLog) (semantics : Semantics) (mode : Atom) (limit : ℕ) (sets : List (List ℕ))
     (step : ℕ) → IsKept f log → IsModeOf semantics mode → IsAllOf f log mode [] limit sets step
     → AreExtensions f log semantics limit sets (step ∷ [])
@@ -240,7 +234,7 @@ tested : (f : Framework) (log : OracleLog) (semantics : Semantics) (mode : Atom)
 tested f log semantics mode limit kept ok (Whole sets step) h =
     mode_list f log semantics mode limit sets.items step kept ok h
 tested f log semantics mode limit kept ok MoreThanListed h =
-    more_as (IsAmong f mode []) (IsExtension f semantics) limit (λ e. mode_extension f semantics mode e ok) h
+    more_as (IsAmong f mode []) (IsShownOne f log semantics) limit (mode_shown f log semantics mode ok) h
 
 pub is_tested : (f g : Framework) (log : OracleLog) (semantics : Semantics) (mode : Atom) (limit : ℕ)
     (listed : Listed) → g ≡ f → IsKept g log → IsModeOf semantics mode → IsModeList f log mode [] limit listed
@@ -251,7 +245,8 @@ is_tested f g log semantics mode limit listed same kept ok h =
 largest : (f : Framework) (log : OracleLog) (limit : ℕ) → IsKept f log → (listed : Listed)
     → IsPreferredList f log limit listed → IsListOf f log Preferred limit (with_step listed)
 largest f log limit kept (Whole sets step) h = preferred_list f log limit sets.items step kept h
-largest f log limit kept MoreThanListed h = h
+largest f log limit kept MoreThanListed h =
+    more_as (IsShownLargest f log) (IsShownOne f log Preferred) limit (largest_shown f log) h
 
 pub is_largest : (f g : Framework) (log : OracleLog) (limit : ℕ) (listed : Listed) → g ≡ f → IsKept g log
     → IsPreferredList f log limit listed → IsListOf f log Preferred limit (with_step listed)
@@ -262,7 +257,8 @@ widest : (f : Framework) (log : OracleLog) (limit : ℕ) → is_assumption_based
     → (ranged : Ranged)
     → IsRangedList f log limit ranged → IsListOf f log SemiStable limit (with_steps ranged)
 widest f log limit kind kept (WholeRanged sets steps) h = semi_stable_list f log limit sets.items steps kind kept h
-widest f log limit kind kept MoreThanRanged h = h
+widest f log limit kind kept MoreThanRanged h =
+    more_as (IsShownWidest f log) (IsShownOne f log SemiStable) limit (widest_shown f log kind) h
 
 pub is_widest : (f g : Framework) (log : OracleLog) (limit : ℕ) (ranged : Ranged) → is_assumption_based f ≡ false
     → g ≡ f → IsKept g log → IsRangedList f log limit ranged → IsListOf f log SemiStable limit (with_steps ranged)

@@ -14,14 +14,15 @@ use Rattle.iccma_tasks.specs.Tasks.{Asked, IsTaskOf, task_of}
 use Rattle.certificate_claims.specs.declared.row.Row.{Row}
 use Rattle.certificate_claims.specs.Acceptance.{Tests}
 use Rattle.certificate_claims.specs.Claims.{claims, row_of, sets_of}
-use Rattle.certificate_claims.specs.Rights.{AreAll, IsExtension}
+use Rattle.certificate_claims.specs.Rights.{AreAll}
 use Rattle.certificate_claims.specs.SetLiterals.{differs, outside, wider}
 use Rattle.oracle_face.specs.Growing.{Making}
 use Rattle.oracle_face.specs.Logs.{IsSameClause, OracleLog}
 use Rattle.edit_rules.specs.Kinds.{kind_of}
-use Rattle.enumerate_modes.specs.declared.with_mode.Listed.{Listed}
-use Rattle.enumerate_modes.specs.declared.with_mode.Listed.TheVariants.{Whole, TooMany as MoreThanListed}
-use Rattle.enumerate_modes.specs.Ordered.{HasMore, TheyDiffer}
+use Rattle.session_log.specs.Ends.{IsShownBy, some_asked}
+use Rattle.enumerate_ranges.specs.enumerate_modes.specs.declared.with_mode.Listed.{Listed}
+use Rattle.enumerate_ranges.specs.enumerate_modes.specs.declared.with_mode.Listed.TheVariants.{Whole, TooMany as MoreThanListed}
+use Rattle.enumerate_ranges.specs.enumerate_modes.specs.Ordered.{HasMore, TheyDiffer}
 use Rattle.enumerate_ranges.specs.declared.ranges.Ranged.{Ranged}
 use Rattle.enumerate_ranges.specs.declared.ranges.Ranged.TheVariants.{Whole as WholeRanged, TooMany as MoreThanRanged}
 use Rattle.enumerate_ranges.specs.Ranges.{AreRefuted}
@@ -74,10 +75,14 @@ pub record AreExtensions (f : Framework) (log : OracleLog) (semantics : Semantic
   pub tests : Tests f (asked_all semantics) (row_all f semantics sets) (sets_of (answer_of sets)) []
   pub refuted : AreRefuted f log (claims f (row_all f semantics sets) []) steps
 
--- all extensions with what shows so, or there are more different ones than the limit
+-- the set is shown as an answer to the query for one extension
+abbrev pub IsShownOne : Framework → OracleLog → Semantics → List ℕ → Type 0
+IsShownOne f log semantics e = IsShownBy f (some_asked semantics) (Sets (e ∷ [])) [] log
+
+-- all extensions with what shows so, or more different sets than the limit, each shown to be an extension
 abbrev pub IsListOf : Framework → OracleLog → Semantics → ℕ → Extensions → Type 0
 IsListOf f log semantics limit (All sets steps) = AreExtensions f log semantics limit sets steps
-IsListOf f log semantics limit TooMany = HasMore (IsExtension f semantics) limit
+IsListOf f log semantics limit TooMany = HasMore (IsShownOne f log semantics) limit
 
 -- ---- lists from below
 

@@ -4,4 +4,5 @@
 
 mod extensions;
 
+pub use enumerate_preferred::cegar_preferred;
 pub use extensions::{Extensions, all};

@@ -4,5 +4,6 @@
 mod ordered;
 mod with_mode;
 
+pub use goal_lists;
 pub use ordered::insert_in_order;
 pub use with_mode::{Listed, all_with_mode, all_with_range};

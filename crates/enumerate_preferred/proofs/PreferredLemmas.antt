@@ -22,19 +22,21 @@ use Rattle.oracle_face.specs.declared.face.Found.{Found}
 use Rattle.oracle_face.specs.declared.face.Found.TheVariants.{Set, Refuted}
 use Rattle.oracle_face.specs.Goals.{Refutes}
 use Rattle.oracle_face.specs.Growing.{Grows, IsFound, Making}
-use Rattle.oracle_face.specs.Logs.{IsKept, OracleLog}
-use Rattle.oracle_face.proofs.Refuting.{claim_excluded}
-use Rattle.goal_lists.specs.AllSets.{is_part}
-use Rattle.goal_lists.specs.Asking.{AreApart, goals_of, IsAskable}
-use Rattle.goal_lists.specs.Sides.{IsAskOf}
-use Rattle.goal_lists.proofs.AskedGoals.{not_within, outside_speaks, same_outside}
-use Rattle.goal_lists.proofs.Calls.{admissible_members, apart_pushed, asks_fit, found_mode}
-use Rattle.goal_lists.proofs.Measures.{fewer_left, kept_is_set, left_open, part_from, part_gives, same_as_kept}
-use Rattle.goal_lists.proofs.SideLemmas.{HasWanted, asks_kept, asks_more, asks_none, asks_refuted, asks_speak, asks_true, same_number}
+use Rattle.oracle_face.specs.Logs.{IsKept, IsLog, OracleLog}
+use Rattle.oracle_face.proofs.Refuting.{claim_excluded, refutes_grown}
+use Rattle.cegar_preferred.specs.declared.maximal.Maximal.{Maximal}
+use Rattle.cegar_preferred.specs.Largest.{IsMaximalFrom, largest_claim}
+use Rattle.enumerate_modes.specs.goal_lists.specs.AllSets.{is_part}
+use Rattle.enumerate_modes.specs.goal_lists.specs.Asking.{AreApart, goals_of, IsAskable}
+use Rattle.enumerate_modes.specs.goal_lists.specs.Sides.{IsAskOf}
+use Rattle.enumerate_modes.specs.goal_lists.proofs.AskedGoals.{not_within, outside_speaks, same_outside}
+use Rattle.enumerate_modes.specs.goal_lists.proofs.Calls.{admissible_members, apart_pushed, asks_fit, found_mode}
+use Rattle.enumerate_modes.specs.goal_lists.proofs.Measures.{fewer_left, kept_is_set, left_open, part_from, part_gives, same_as_kept}
+use Rattle.enumerate_modes.specs.goal_lists.proofs.SideLemmas.{HasWanted, asks_kept, asks_more, asks_none, asks_refuted, asks_speak, asks_true, same_number}
 use Rattle.enumerate_modes.specs.Ordered.{GainsInOrder, HasMore}
 use Rattle.enumerate_modes.proofs.OrderedLemmas.{each_more, one_form_more, they_differ}
 use Rattle.enumerate_preferred.specs.declared.preferred.Preferred.{Preferred}
-use Rattle.enumerate_preferred.specs.Preferred.{AreFound, Gains, IsAllPreferred, IsUncovered, Records, cover_claim}
+use Rattle.enumerate_preferred.specs.Preferred.{AreFound, Gains, IsAllPreferred, IsShownLargest, IsUncovered, Records, cover_claim}
 
 -- ---- sets found
 
@@ -51,10 +53,26 @@ found_none f log found sets asks =
       one_form = λ s t c d same. absurd (none s c);
     }
 
-pub found_grown : (f : Framework) (P : Making) (old new : OracleLog) (found : Preferred) → Grows P old new
-    → AreFound f old found → AreFound f new found
-found_grown f P old new found grows h = record {
-  each = h.each;
+-- a set that was grown is shown by the step that came with it
+pub shown_maximal : (f : Framework) (log : OracleLog) (set : List ℕ) (found : Maximal) → IsMaximalFrom f log set found
+    → IsShownLargest f log found.set
+shown_maximal f log set found h =
+    record { preferred = h.preferred; number = found.refutation; refuted = h.refuted }
+
+-- what shows a set shows it after a call, too
+pub shown_later : (f g : Framework) (P : Making) (old new : OracleLog) (e : List ℕ) → g ≡ f → IsKept g old
+    → Grows P old new → IsShownLargest f old e → IsShownLargest f new e
+shown_later f g P old new e same kept grows h = record {
+  preferred = h.preferred;
+  number = h.number;
+  refuted = refutes_grown f P old new (largest_claim f e) h.number
+      (subst (λ (x : Framework). IsLog x old) same kept.form) grows h.refuted;
+}
+
+pub found_later : (f g : Framework) (P : Making) (old new : OracleLog) (found : Preferred) → g ≡ f → IsKept g old
+    → Grows P old new → AreFound f old found → AreFound f new found
+found_later f g P old new found same kept grows h = record {
+  each = λ e c. shown_later f g P old new e same kept grows (h.each e c);
   asks = asks_kept (outside f) P old new found.sets.items found.asks grows h.asks;
   apart = h.apart;
   rise = h.rise;
@@ -62,9 +80,10 @@ found_grown f P old new found grows h = record {
 }
 
 pub found_kept : (f g h : Framework) (P : Making) (old new : OracleLog) (found : Preferred) → g ≡ f → h ≡ g
-    → Grows P old new → AreFound f old found → AreFound h new found
-found_kept f g h P old new found left right grows is =
-    subst (λ (x : Framework). AreFound x new found) (sym (right ∙ left)) (found_grown f P old new found grows is)
+    → IsKept g old → Grows P old new → AreFound f old found → AreFound h new found
+found_kept f g h P old new found left right kept grows is =
+    subst (λ (x : Framework). AreFound x new found) (sym (right ∙ left))
+    (found_later f g P old new found left kept grows is)
 
 -- as many closing steps as sets, and one more, are no more than the side clauses allow
 pub few_closings : (f : Framework) (P : Making) (old new : OracleLog) (found : Preferred) → AreFound f old found
@@ -110,12 +129,12 @@ found_uncovered f log sets h (Refuted step) refuted =
     asks_refuted f log (outside f) sets.sets.items (affirmed Ad ∷ []) Ad [] [] [] sets.asks step wanted h.asks refuted
 
 pub if_uncovered : (f : Framework) (P : Making) (old log : OracleLog) (sets : Preferred) (asks : List ℕ)
-    → asks ≡ sets.asks → Grows P old log → AreFound f old sets → (r : Result Found Halt)
+    → asks ≡ sets.asks → IsKept f old → Grows P old log → AreFound f old sets → (r : Result Found Halt)
     → IfOk r (IsFound f log (goals_of Ad [] [] [] asks)) → IfOk r (IsUncovered f log sets)
-if_uncovered f P old log sets asks is grows h (Ok found) k =
-    found_uncovered f log sets (found_grown f P old log sets grows h) found
+if_uncovered f P old log sets asks is kept grows h (Ok found) k =
+    found_uncovered f log sets (found_later f f P old log sets refl kept grows h) found
     (subst (λ (xs : List ℕ). IsFound f log (goals_of Ad [] [] [] xs) found) is k)
-if_uncovered f P old log sets asks is grows h (Err halt) k = k
+if_uncovered f P old log sets asks is kept grows h (Err halt) k = k
 
 -- ---- one set more
 
@@ -133,12 +152,12 @@ not_asked f log found e n h ok out ask c =
     (admissible_members f e ok))
 
 pub has_more : (f : Framework) (log : OracleLog) (limit : ℕ) (found : Preferred) (e : List ℕ) (new : List (List ℕ))
-    → AreFound f log found → IsExtension f Largest e
+    → AreFound f log found → IsShownLargest f log e
     → ((d : List ℕ) → Contains found.sets.items d → IsWithin e d → ⊥) → GainsInOrder e found.sets.items new
-    → limit < length new → HasMore (IsExtension f Largest) limit
+    → limit < length new → HasMore (IsShownLargest f log) limit
 has_more f log limit found e new h is out gains more = record {
   sets = new;
-  each = each_more (IsExtension f Largest) e found.sets.items new is gains h.each;
+  each = each_more (IsShownLargest f log) e found.sets.items new is gains h.each;
   differ = they_differ new gains.rise
       (one_form_more e found.sets.items new h.one_form (λ d c same. out d c same.back) gains);
   more = more;
@@ -146,7 +165,7 @@ has_more f log limit found e new h is out gains more = record {
 
 pub gains_one : (f : Framework) (log : OracleLog) (limit : ℕ) (old new : Preferred) (e : List ℕ) (n : ℕ)
     → AreFound f log old
-    → IsExtension f Largest e → ((d : List ℕ) → Contains old.sets.items d → IsWithin e d → ⊥)
+    → IsShownLargest f log e → ((d : List ℕ) → Contains old.sets.items d → IsWithin e d → ⊥)
     → GainsInOrder e old.sets.items new.sets.items → new.asks ≡ old.asks ++ n ∷ []
     → IsAskOf log.sides (outside f e) n → length new.sets.items ≤ limit → Gains f log limit old new
 gains_one f log limit old new e n h is out gains asks ask room = record {
@@ -156,12 +175,12 @@ gains_one f log limit old new e n h is out gains asks ask room = record {
   asks = asks;
   outside_all = out;
   found = record {
-    each = each_more (IsExtension f Largest) e old.sets.items new.sets.items is gains h.each;
+    each = each_more (IsShownLargest f log) e old.sets.items new.sets.items is gains h.each;
     asks = asks_more (outside f) log.sides old.sets.items new.sets.items e old.asks new.asks n gains.members asks ask
         h.asks;
     apart = subst AreApart (sym asks)
         (apart_pushed old.asks n h.apart
-        (not_asked f log old e n h (preferred_admissible f e is) out ask));
+        (not_asked f log old e n h (preferred_admissible f e is.preferred) out ask));
     rise = gains.rise;
     one_form = one_form_more e old.sets.items new.sets.items h.one_form (λ d c same. out d c same.back) gains;
   };
@@ -180,7 +199,7 @@ fewer_open f log limit old new h =
     let e = h.set in
     let last = (h.sets.members e).1 (inr refl) in
     let same = same_as_kept (members f) e
-    (admissible_members f e (preferred_admissible f e (h.found.each e last))) in
+    (admissible_members f e (preferred_admissible f e (h.found.each e last).preferred)) in
     fewer_left is_part (members f) old.sets.items new.sets.items e (filter (has e) (members f))
     (λ d c. (h.sets.members d).1 (inl c)) last (kept_is_set (has e) (members f))
     (part_from (filter (has e) (members f)) e same.0)
@@ -201,11 +220,12 @@ all_found : (f : Framework) (log : OracleLog) (limit : ℕ) (found : Preferred) 
     → IsAllPreferred f log limit found.sets.items step
 all_found f log limit found step kept h room refuted =
     let sets = found.sets.items in
-    let exact = all_preferred f sets kept.numbered (λ e c. preferred_admissible f e (h.each e c))
-    (none_within f sets h.each)
+    let each : (e : List ℕ) → Contains sets e → IsExtension f Largest e = λ e c. (h.each e c).preferred in
+    let exact = all_preferred f sets kept.numbered (λ e c. preferred_admissible f e (each e c))
+    (none_within f sets each)
     (claim_excluded f log (cover_claim f sets) step kept.form (cover_plain f sets) refuted) in
     record {
-      each = h.each;
+      each = each;
       all = exact.all;
       rise = h.rise;
       one_form = h.one_form;
@@ -228,6 +248,6 @@ recorded f g log limit old new room same is h =
     subst (λ (x : Framework). Gains x log limit old new) same (subst (Records g log limit old new) is h)
 
 pub not_recorded : (f g : Framework) (log : OracleLog) (limit : ℕ) (old new : Preferred) (room : Bool) → g ≡ f
-    → room ≡ false → Records g log limit old new room → HasMore (IsExtension f Largest) limit
+    → room ≡ false → Records g log limit old new room → HasMore (IsShownLargest f log) limit
 not_recorded f g log limit old new room same is h =
-    subst (λ (x : Framework). HasMore (IsExtension x Largest) limit) same (subst (Records g log limit old new) is h)
+    subst (λ (x : Framework). HasMore (IsShownLargest x log) limit) same (subst (Records g log limit old new) is h)

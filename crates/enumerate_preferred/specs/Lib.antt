@@ -1,1 +1,2 @@
 pub mod Preferred
+pub use Rattle.cegar_preferred as cegar_preferred

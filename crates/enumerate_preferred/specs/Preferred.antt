@@ -15,8 +15,9 @@ use Rattle.oracle_face.specs.declared.face.Found.{Found}
 use Rattle.oracle_face.specs.declared.face.Found.TheVariants.{Set, Refuted}
 use Rattle.oracle_face.specs.Goals.{Refutes}
 use Rattle.oracle_face.specs.Logs.{OracleLog}
-use Rattle.goal_lists.specs.Asking.{AreApart}
-use Rattle.goal_lists.specs.Sides.{AreAsksOf}
+use Rattle.cegar_preferred.specs.Largest.{largest_claim}
+use Rattle.enumerate_modes.specs.goal_lists.specs.Asking.{AreApart}
+use Rattle.enumerate_modes.specs.goal_lists.specs.Sides.{AreAsksOf}
 use Rattle.enumerate_modes.specs.declared.with_mode.Listed.{Listed}
 use Rattle.enumerate_modes.specs.declared.with_mode.Listed.TheVariants.{Whole, TooMany}
 use Rattle.enumerate_modes.specs.Ordered.{GainsInOrder, HasMore, HaveOneForm}
@@ -26,9 +27,16 @@ use Rattle.enumerate_preferred.specs.declared.preferred.Preferred.{Preferred}
 abbrev pub cover_claim : Framework → List (List ℕ) → Claim
 cover_claim f sets = claim_of (affirmed Ad ∷ []) (map (outside f) sets)
 
--- preferred sets, in order, and different side clauses, each that something lies outside one of the sets
+-- a preferred set, and a step of the log that refutes that an admissible set holds it and more
+pub record IsShownLargest (f : Framework) (log : OracleLog) (e : List ℕ) : Type 0 where
+  pub preferred : IsExtension f Largest e
+  pub number : ℕ
+  pub refuted : Refutes f log (largest_claim f e) number
+
+-- preferred sets, in order, each with a step that shows that it is one; and different side clauses, each that something
+-- lies outside one of the sets
 pub record AreFound (f : Framework) (log : OracleLog) (found : Preferred) : Type 0 where
-  pub each : (e : List ℕ) → Contains found.sets.items e → IsExtension f Largest e
+  pub each : (e : List ℕ) → Contains found.sets.items e → IsShownLargest f log e
   pub asks : AreAsksOf (outside f) log.sides found.sets.items found.asks
   pub apart : AreApart found.asks
   pub rise : SetsRise found.sets.items
@@ -53,7 +61,7 @@ pub record Gains (f : Framework) (log : OracleLog) (limit : ℕ) (old new : Pref
 -- one preferred set more is listed, or the list is longer than the limit then
 abbrev pub Records : Framework → OracleLog → ℕ → Preferred → Preferred → Bool → Type 0
 Records f log limit old new true = Gains f log limit old new
-Records f log limit old new false = HasMore (IsExtension f Largest) limit
+Records f log limit old new false = HasMore (IsShownLargest f log) limit
 
 -- all preferred sets, no more than the limit, in order, with the evidence that their certificate asks for
 pub record IsAllPreferred (f : Framework) (log : OracleLog) (limit : ℕ) (sets : List (List ℕ)) (step : ℕ) : Type 0 where
@@ -64,7 +72,7 @@ pub record IsAllPreferred (f : Framework) (log : OracleLog) (limit : ℕ) (sets 
   pub within : length sets ≤ limit
   pub refuted : Refutes f log (cover_claim f sets) step
 
--- all preferred sets, or that there are more than the limit
+-- all preferred sets, or more than the limit, each shown to be one
 abbrev pub IsAllOrMore : Framework → OracleLog → ℕ → Listed → Type 0
 IsAllOrMore f log limit (Whole sets step) = IsAllPreferred f log limit sets.items step
-IsAllOrMore f log limit TooMany = HasMore (IsExtension f Largest) limit
+IsAllOrMore f log limit TooMany = HasMore (IsShownLargest f log) limit

@@ -3,4 +3,5 @@
 
 mod preferred;
 
+pub use cegar_preferred;
 pub use preferred::all_preferred;

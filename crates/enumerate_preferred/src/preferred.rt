@@ -7,8 +7,8 @@ ghost use Rattle.cegar_preferred.specs.Largest.{MadeOutside};
 ghost use Rattle.enumerate_preferred.specs.Preferred.{AreFound, IsAllOrMore, IsUncovered, Records};
 
 use cegar_preferred::maximal_from;
+use enumerate_modes::goal_lists::{Wanted, outside, search_for};
 use enumerate_modes::{Listed, insert_in_order};
-use goal_lists::{Wanted, outside, search_for};
 use meaning_atoms::Atom;
 use oracle_face::{AskId, Budget, Found, Halt, Oracle};
 use plain_lists::Items;
@@ -71,6 +71,7 @@ fn uncovered<O: Oracle>(
     ensures kept { IsKept (O.framework oracle.new) (O.log oracle.new) }
     ensures follows { O.follows oracle.old oracle.new }
 {
+    let _members = oracle.members();
     let wanted = Wanted {
         ins: &[],
         outs: &[],
@@ -98,6 +99,7 @@ fn record_grown<O: Oracle>(
     ensures kept { IsKept (O.framework oracle.new) (O.log oracle.new) }
     ensures follows { O.follows oracle.old oracle.new }
 {
+    let _members = oracle.members();
     let maximal = maximal_from(alloc, oracle, budget, set)?;
     let side = outside(alloc, oracle.members(), &maximal.set)?;
     insert_in_order(&mut found.sets, maximal.set.copy(alloc)?)?;

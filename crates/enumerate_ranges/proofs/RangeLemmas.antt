@@ -38,12 +38,12 @@ use Rattle.oracle_face.specs.Kinds.{IsRanged, is_assumption_based}
 use Rattle.oracle_face.specs.Logs.{IsKept, IsLog, OracleLog, SideClause}
 use Rattle.oracle_face.proofs.GrowingLemmas.{Makes, run_as}
 use Rattle.oracle_face.proofs.Refuting.{claim_excluded, refutes_grown}
-use Rattle.goal_lists.specs.Asking.{AreApart, goals_of, IsAskable}
-use Rattle.goal_lists.specs.Sides.{AreAsksOf, IsAskOf}
-use Rattle.goal_lists.proofs.AskedGoals.{not_range_within, wider_speaks}
-use Rattle.goal_lists.proofs.Calls.{admissible_members, apart_pushed, asks_fit, found_mode, then_made}
-use Rattle.goal_lists.proofs.Measures.{fewer_left, kept_is_set, left_open, same_as_kept}
-use Rattle.goal_lists.proofs.SideLemmas.{HasWanted, ask_grown, asks_again, asks_kept, asks_more, asks_none, asks_refuted, asks_speak, asks_true, same_number}
+use Rattle.enumerate_modes.specs.goal_lists.specs.Asking.{AreApart, goals_of, IsAskable}
+use Rattle.enumerate_modes.specs.goal_lists.specs.Sides.{AreAsksOf, IsAskOf}
+use Rattle.enumerate_modes.specs.goal_lists.proofs.AskedGoals.{not_range_within, wider_speaks}
+use Rattle.enumerate_modes.specs.goal_lists.proofs.Calls.{admissible_members, apart_pushed, asks_fit, found_mode, then_made}
+use Rattle.enumerate_modes.specs.goal_lists.proofs.Measures.{fewer_left, kept_is_set, left_open, same_as_kept}
+use Rattle.enumerate_modes.specs.goal_lists.proofs.SideLemmas.{HasWanted, ask_grown, asks_again, asks_kept, asks_more, asks_none, asks_refuted, asks_speak, asks_true, same_number}
 use Rattle.semi_stable.specs.declared.widest.Widest.{Widest}
 use Rattle.semi_stable.specs.Widest.{IsRangeIn, IsWidestFrom, MadeWider, wider_claim}
 use Rattle.semi_stable.proofs.WidestLemmas.{makes_wider, range_list, range_within}
@@ -54,7 +54,7 @@ use Rattle.enumerate_modes.specs.Ordered.{HasMore, Precedes, TheyDiffer}
 use Rattle.enumerate_modes.proofs.OrderedLemmas.{not_both_ways, not_itself, they_differ}
 use Rattle.enumerate_ranges.specs.declared.ranges.Ranges.{Ranges}
 use Rattle.enumerate_ranges.specs.Marks.{GainsFirst, IsPaired, mark_at, marked_steps}
-use Rattle.enumerate_ranges.specs.Ranges.{AreFound, AreRefuted, Gains, GrowsRange, IsAllSemiStable, IsMark, IsUncovered, MadeForRanges, Records}
+use Rattle.enumerate_ranges.specs.Ranges.{AreFound, AreRefuted, Gains, GrowsRange, IsAllSemiStable, IsMark, IsShownWidest, IsUncovered, MadeForRanges, Records}
 use Rattle.enumerate_ranges.proofs.StepLemmas.{first_of, firsts_refuted, refuted_first, refuted_member}
 use Rattle.enumerate_ranges.proofs.WidthLemmas.{semi_admissible, same_width, semi_too, range_more, alike_from, alike_gives, in_from, in_gives, wider_alike, same_clause_range}
 
@@ -105,11 +105,20 @@ mark_grown f P old new sets s form grows (Some step) h =
     (refutes_grown f P old new (range_listed f sets s) step form grows h.0, h.1)
 mark_grown f P old new sets s form grows None h = h
 
+-- what shows a set shows it while the log grows
+shown_grown : (f : Framework) (P : Making) (old new : OracleLog) (e : List ℕ) → IsLog f old → Grows P old new
+    → IsShownWidest f old e → IsShownWidest f new e
+shown_grown f P old new e form grows h = record {
+  semi_stable = h.semi_stable;
+  number = h.number;
+  refuted = refutes_grown f P old new (wider_claim f Ad e) h.number form grows h.refuted;
+}
+
 pub found_grown : (f : Framework) (P : Making) (old new : OracleLog) (found : Ranges) → IsLog f old → Grows P old new
     → AreFound f old found → AreFound f new found
 found_grown f P old new found form grows h = record {
   kind = h.kind;
-  each = h.each;
+  each = λ e c. shown_grown f P old new e form grows (h.each e c);
   asks = asks_kept (wider f) P old new found.sets.items found.asks grows h.asks;
   apart = h.apart;
   rise = h.rise;
@@ -200,7 +209,7 @@ widest_is_semi (af f) log given widest kind kept h =
 pub record IsNewRange (f : Framework) (log : OracleLog) (old : Ranges) (w range : List ℕ) (n : ℕ) : Type 0 where
   pub kind : is_assumption_based f ≡ false
   pub numbered : IsNumbered f
-  pub semi : IsExtension f SemiStable w
+  pub shown : IsShownWidest f log w
   pub is_range : IsSetOf (IsRanged f w) range
   pub outside_all : (d : List ℕ) → Contains old.sets.items d → IsRangeIn f w d → ⊥
   pub ask : IsAskOf log.sides (wider f w) n
@@ -212,18 +221,22 @@ pub new_range : (f : Framework) (first log : OracleLog) (old new : Ranges) (set 
 new_range f first log old new set widest kind kept open_set h = record {
   kind = kind;
   numbered = kept.numbered;
-  semi = widest_is_semi f log set widest kind kept h.is_widest;
+  shown = record {
+    semi_stable = widest_is_semi f log set widest kind kept h.is_widest;
+    number = widest.refutation;
+    refuted = h.is_widest.refuted;
+  };
   is_range = h.is_widest.range;
   outside_all = λ d c sub. open_set.1 d c (λ a k. sub a (h.is_widest.holds a k));
   ask = h.ask;
 }
 
 pub range_grown : (f : Framework) (P : Making) (before after : OracleLog) (old : Ranges) (w range : List ℕ) (n : ℕ)
-    → Grows P before after → IsNewRange f before old w range n → IsNewRange f after old w range n
-range_grown f P before after old w range n grows h = record {
+    → IsLog f before → Grows P before after → IsNewRange f before old w range n → IsNewRange f after old w range n
+range_grown f P before after old w range n form grows h = record {
   kind = h.kind;
   numbered = h.numbered;
-  semi = h.semi;
+  shown = shown_grown f P before after w form grows h.shown;
   is_range = h.is_range;
   outside_all = h.outside_all;
   ask = ask_grown P before after (wider f w) n grows h.ask;
@@ -253,7 +266,7 @@ group_alike : (f : Framework) (log : OracleLog) (old : Ranges) (w range x y : Li
     → IsNewRange f log old w range n → IsAmong f Ad range x → IsAmong f Ad range y → IsRangeIn f x y
 group_alike f log old w range x y n h left right a k =
     among_in f w range y h.kind h.is_range right a
-    (same_width f w x h.kind h.semi left.has_mode (among_in f w range x h.kind h.is_range left) a k)
+    (same_width f w x h.kind h.shown.semi_stable left.has_mode (among_in f w range x h.kind h.is_range left) a k)
 
 group_same : (f : Framework) (log : OracleLog) (old : Ranges) (w range x y : List ℕ) (n : ℕ)
     → IsNewRange f log old w range n → IsAmong f Ad range x → IsAmong f Ad range y → same_range f x y ≡ true
@@ -265,9 +278,28 @@ own_among : (f : Framework) (log : OracleLog) (old : Ranges) (w range : List ℕ
     → IsNewRange f log old w range n → IsAmong f Ad range w
 own_among (aba f) log old w range n h = absurd (false≢true (sym h.kind))
 own_among (af f) log old w range n h = record {
-  has_mode = semi_admissible (af f) w h.semi;
+  has_mode = semi_admissible (af f) w h.shown.semi_stable;
   ranged = λ a c. (h.is_range.members a).0 c;
 }
+
+-- each set with the range is shown by the step that shows the one: their claims are the same
+range_shown : (f : Framework) (log : OracleLog) (old : Ranges) (w range x : List ℕ) (n : ℕ)
+    → IsNewRange f log old w range n → IsAmong f Ad range x → IsShownWidest f log x
+range_shown f log old w range x n h among =
+    let own = own_among f log old w range n h in
+    let side = wider_alike f w x h.kind h.numbered own.has_mode among.has_mode
+    (group_alike f log old w range w x n h own among) (group_alike f log old w range x w n h among own) in
+    let list = equal_ranges f w x (group_same f log old w range w x n h own among) in
+    record {
+      semi_stable = semi_too f w x h.kind h.shown.semi_stable among.has_mode
+          (among_in f w range x h.kind h.is_range among);
+      number = h.shown.number;
+      refuted = subst
+          (λ (r : List ℕ). Refutes f log (claim_of (affirmed Ad ∷ are_ranged r) (wider f x ∷ [])) h.shown.number) list
+          (subst (λ (clause : List AtomLit).
+          Refutes f log (claim_of (affirmed Ad ∷ are_ranged (range_of f w)) (clause ∷ [])) h.shown.number) side
+          h.shown.refuted);
+    }
 
 -- the step that refutes that there is another set with the range does so for each set with it
 group_refuted : (f : Framework) (log : OracleLog) (old : Ranges) (w range s : List ℕ) (n room step : ℕ)
@@ -277,7 +309,7 @@ group_refuted f log old w range s n room step more new h all there c =
     let among = all.each s c in
     let same = group_same f log old w range w s n h (own_among f log old w range n h) among in
     let list : range ≡ range_of f s =
-    range_list f w range h.kind h.numbered (admissible_members f w (semi_admissible f w h.semi)) h.is_range
+    range_list f w range h.kind h.numbered (admissible_members f w (semi_admissible f w h.shown.semi_stable)) h.is_range
     ∙ equal_ranges f w s same in
     refutes_more f log (affirmed Ad ∷ are_ranged (range_of f s)) (map (differs f) more)
     (map (differs f) (filter (same_range f s) new)) step
@@ -330,7 +362,7 @@ old_mark f log old w range n new more s h are m each c (Some step) is = (
       is.0,
   λ t d same less. ⊎_elim (λ o. is.1 t o same less)
       (λ k. not_among f log old w range n h s t c (each t k)
-      (alike_gives f t s h.kind h.numbered (each t k).has_mode (semi_admissible f s (are.each s c)) same).0)
+      (alike_gives f t s h.kind h.numbered (each t k).has_mode (semi_admissible f s (are.each s c).semi_stable) same).0)
       (m.cases t d),
 )
 old_mark f log old w range n new more s h are m each c None is = (is.0, m.keeps is.0 is.1, is.2, is.3)
@@ -353,7 +385,8 @@ new_mark f log old w range n room step new more s h are m all zero lt is =
       group_refuted f log old w range s n room step more new h all m.gains c,
       λ t d same less. ⊎_elim
           (λ o. not_among f log old w range n h t s o (all.each s c)
-          (alike_gives f t s h.kind h.numbered (semi_admissible f t (are.each t o)) (all.each s c).has_mode same).1)
+          (alike_gives f t s h.kind h.numbered (semi_admissible f t (are.each t o).semi_stable) (all.each s c).has_mode
+          same).1)
           (λ k.
           let at = at_list more t k in
           first_least more at.0 t s all.rise at.1 at.2 is less)
@@ -410,7 +443,7 @@ not_asked : (f : Framework) (log : OracleLog) (old : Ranges) (w range : List ℕ
 not_asked f log old w range n h are c =
     let m = are.asks.each n c in
     h.outside_all m.0 m.1
-    (same_clause_range f m.0 w h.kind h.numbered (semi_admissible f w h.semi)
+    (same_clause_range f m.0 w h.kind h.numbered (semi_admissible f w h.shown.semi_stable)
     (same_number log.sides (wider f m.0) (wider f w) n m.2 h.ask))
 
 merged_form : (f : Framework) (log : OracleLog) (old : Ranges) (w range : List ℕ) (n : ℕ)
@@ -450,8 +483,7 @@ gains_range f log limit room old new w range n step more h are all fits gains as
       found = record {
         kind = h.kind;
         each = λ s d. ⊎_elim (λ o. are.each s o)
-            (λ k. semi_too f w s h.kind h.semi (all.each s k).has_mode
-            (among_in f w range s h.kind h.is_range (all.each s k)))
+            (λ k. range_shown f log old w range s n h (all.each s k))
             (m.cases s d);
         asks = range_asks f log old w range x n new.sets.items more new.asks h are m all.each c asks;
         apart = subst AreApart (sym asks) (apart_pushed old.asks n are.apart (not_asked f log old w range n h are));
@@ -495,12 +527,11 @@ differ_across xs ys left right across i j lt high same =
 
 pub has_more : (f : Framework) (log : OracleLog) (limit room : ℕ) (old : Ranges) (w range : List ℕ) (n : ℕ)
     → IsNewRange f log old w range n → AreFound f log old → limit ≤ length old.sets.items + room
-    → HasMore (IsAmong f Ad range) room → HasMore (IsExtension f SemiStable) limit
+    → HasMore (IsAmong f Ad range) room → HasMore (IsShownWidest f log) limit
 has_more f log limit room old w range n h are fits more = record {
   sets = old.sets.items ++ more.sets;
   each = λ e c. ⊎_elim (λ o. are.each e o)
-      (λ k. semi_too f w e h.kind h.semi (more.each e k).has_mode
-      (among_in f w range e h.kind h.is_range (more.each e k)))
+      (λ k. range_shown f log old w range e n h (more.each e k))
       (Contains-append_cases old.sets.items more.sets e c);
   differ = differ_across old.sets.items more.sets (they_differ old.sets.items are.rise are.one_form) more.differ
       (λ s t c d same. not_among f log old w range n h s t c (more.each t d) (range_more f t s h.kind same.back));
@@ -518,7 +549,7 @@ pub fewer_open : (f : Framework) (log : OracleLog) (limit : ℕ) (old new : Rang
 fewer_open f log limit old new ok h =
     let kind = h.found.kind in
     let e = h.set in
-    let live = admissible_members f e (semi_admissible f e (h.found.each e h.member)) in
+    let live = admissible_members f e (semi_admissible f e (h.found.each e h.member).semi_stable) in
     let s = filter (has e) (members f) in
     let same = same_as_kept (members f) e live in
     let s_live : IsWithin s (members f) = λ x c. live x (same.0 x c) in
@@ -563,10 +594,11 @@ all_found (aba f) log limit found step steps kept h room is refuted = absurd (fa
 all_found (af f) log limit found step steps kept h room is refuted =
     let sets = found.sets.items in
     let firsts = first_ranged (af f) sets in
-    let cover = cover_firsts (af f) log sets step h.kind kept.numbered h.each refuted in
+    let each : (e : List ℕ) → Contains sets e → IsExtension (af f) SemiStable e = λ e c. (h.each e c).semi_stable in
+    let cover = cover_firsts (af f) log sets step h.kind kept.numbered each refuted in
     let listed = firsts_refuted (af f) log sets found.marks.items h.rise h.marked h.marks in
-    let exact = all_semi_stable f sets kept.numbered (λ e c. semi_admissible (af f) e (h.each e c))
-    (no_range_within f sets h.each)
+    let exact = all_semi_stable f sets kept.numbered (λ e c. semi_admissible (af f) e (each e c))
+    (no_range_within f sets each)
     (claim_excluded (af f) log (range_cover (af f) [] firsts) step kept.form
     (plain_mapped (affirmed Ad ∷ []) (wider (af f)) firsts wanted.plain (wider_plain (af f))) cover)
     (λ e c.
@@ -574,7 +606,7 @@ all_found (af f) log limit found step steps kept h room is refuted =
     (range_listed (af f) sets e) listed (Contains-mapped (range_listed (af f) sets) firsts e c) in
     claim_excluded (af f) log (range_listed (af f) sets e) r.0 kept.form (claim_plain (af f) sets e) r.1) in
     record {
-      each = h.each;
+      each = each;
       all = exact.all;
       rise = h.rise;
       one_form = h.one_form;
@@ -601,9 +633,9 @@ recorded f g log limit old new room same is h =
     subst (λ (x : Framework). Gains x log limit old new) same (subst (Records g log limit old new) is h)
 
 pub not_recorded : (f g : Framework) (log : OracleLog) (limit : ℕ) (old new : Ranges) (room : Bool) → g ≡ f
-    → room ≡ false → Records g log limit old new room → HasMore (IsExtension f SemiStable) limit
+    → room ≡ false → Records g log limit old new room → HasMore (IsShownWidest f log) limit
 not_recorded f g log limit old new room same is h =
-    subst (λ (x : Framework). HasMore (IsExtension x SemiStable) limit) same
+    subst (λ (x : Framework). HasMore (IsShownWidest x log) limit) same
     (subst (Records g log limit old new) is h)
 
 -- ---- one call after the other
@@ -654,7 +686,7 @@ grown f h P first log after old mid set widest same kept later_kept open_set are
     record {
       found = found_grown f P log after old now.form more
           (found_grown f (MadeForRanges f) first log old kept.form grows are);
-      range = range_grown f P log after old widest.set widest.range g.number more
+      range = range_grown f P log after old widest.set widest.range g.number now.form more
           (new_range f first log old mid set widest are.kind now open_set g);
     }
 
@@ -728,7 +760,7 @@ pub more_grown : (f h : Framework) (first log after : OracleLog) (limit : ℕ) (
     → IsKept f first → IsKept h log → IsUncovered f first old (Set set) → AreFound f first old
     → Grows (MadeForRanges f) first log → Grows (MadeDiffers h) log after → GrowsRange f log set old mid widest
     → range ≡ widest.range → r ≡ TooMany → IsListedOrMore h after Ad range room r
-    → limit ≤ length mid.sets.items + room → HasMore (IsExtension f SemiStable) limit
+    → limit ≤ length mid.sets.items + room → HasMore (IsShownWidest f after) limit
 more_grown f h first log after limit old mid set range widest room r same kept later_kept open_set are grows later g is
     many
     all fits =

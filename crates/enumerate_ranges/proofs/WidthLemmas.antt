@@ -14,8 +14,8 @@ use Rattle.certificate_claims.proofs.RangeLists.{kept_alike}
 use Rattle.certificate_claims.proofs.SetTests.{in_range_live, ranged_from, ranged_gives, tests_range_within, tests_same_range, within_gives}
 use Rattle.oracle_face.specs.Kinds.{is_assumption_based}
 use Rattle.oracle_face.specs.Logs.{IsSameClause}
-use Rattle.goal_lists.proofs.AskedGoals.{same_wider}
-use Rattle.goal_lists.proofs.Calls.{admissible_members}
+use Rattle.enumerate_modes.specs.goal_lists.proofs.AskedGoals.{same_wider}
+use Rattle.enumerate_modes.specs.goal_lists.proofs.Calls.{admissible_members}
 use Rattle.semi_stable.specs.Widest.{IsRangeIn}
 
 pub semi_admissible : (f : Framework) (e : List ℕ) → IsExtension f SemiStable e → HoldsOf f e Ad

@@ -16,10 +16,10 @@ use Rattle.oracle_face.specs.Goals.{Refutes}
 use Rattle.oracle_face.specs.Growing.{Making}
 use Rattle.oracle_face.specs.Kinds.{is_assumption_based}
 use Rattle.oracle_face.specs.Logs.{OracleLog, IsSameClause}
-use Rattle.goal_lists.specs.Asking.{AreApart}
-use Rattle.goal_lists.specs.Sides.{AreAsksOf, IsAskOf}
+use Rattle.enumerate_modes.specs.goal_lists.specs.Asking.{AreApart}
+use Rattle.enumerate_modes.specs.goal_lists.specs.Sides.{AreAsksOf, IsAskOf}
 use Rattle.semi_stable.specs.declared.widest.Widest.{Widest}
-use Rattle.semi_stable.specs.Widest.{IsRangeIn, IsWidestFrom}
+use Rattle.semi_stable.specs.Widest.{IsRangeIn, IsWidestFrom, wider_claim}
 use Rattle.enumerate_modes.specs.Ordered.{HasMore, HaveOneForm, Precedes}
 use Rattle.enumerate_ranges.specs.declared.ranges.Ranged.{Ranged}
 use Rattle.enumerate_ranges.specs.declared.ranges.Ranged.TheVariants.{Whole, TooMany}
@@ -47,11 +47,18 @@ IsMark f log sets s (Some step) =
     × ((t : List ℕ) → Contains sets t → same_range f t s ≡ true → Precedes t s → ⊥)
 IsMark f log sets s None = (t : List ℕ) × Contains sets t × (same_range f t s ≡ true) × Precedes t s
 
--- semi-stable sets of an abstract framework, in order and marked, all with each range that one of them has; and
--- different side clauses, each that something is in the range that isn't in that of one of the sets
+-- a semi-stable set, and a step of the log that refutes that an admissible set has all of its range and more
+pub record IsShownWidest (f : Framework) (log : OracleLog) (e : List ℕ) : Type 0 where
+  pub semi_stable : IsExtension f SemiStable e
+  pub number : ℕ
+  pub refuted : Refutes f log (wider_claim f Ad e) number
+
+-- semi-stable sets of an abstract framework, in order and marked, all with each range that one of them has, and each
+-- with a step that shows that it is one; and different side clauses, each that something is in the range that isn't in
+-- that of one of the sets
 pub record AreFound (f : Framework) (log : OracleLog) (found : Ranges) : Type 0 where
   pub kind : is_assumption_based f ≡ false
-  pub each : (e : List ℕ) → Contains found.sets.items e → IsExtension f SemiStable e
+  pub each : (e : List ℕ) → Contains found.sets.items e → IsShownWidest f log e
   pub asks : AreAsksOf (wider f) log.sides found.sets.items found.asks
   pub apart : AreApart found.asks
   pub rise : SetsRise found.sets.items
@@ -90,7 +97,7 @@ pub record Gains (f : Framework) (log : OracleLog) (limit : ℕ) (old new : Rang
 -- the sets with one range more are listed, or the list is longer than the limit then
 abbrev pub Records : Framework → OracleLog → ℕ → Ranges → Ranges → Bool → Type 0
 Records f log limit old new true = Gains f log limit old new
-Records f log limit old new false = HasMore (IsExtension f SemiStable) limit
+Records f log limit old new false = HasMore (IsShownWidest f log) limit
 
 -- ---- the end
 
@@ -105,7 +112,7 @@ pub record IsAllSemiStable (f : Framework) (log : OracleLog) (limit : ℕ) (sets
   pub refuted : AreRefuted f log
       (range_cover f [] (first_ranged f sets) ∷ map (range_listed f sets) (first_ranged f sets)) steps
 
--- all semi-stable sets, or that there are more than the limit
+-- all semi-stable sets, or more than the limit, each shown to be one
 abbrev pub IsAllOrMore : Framework → OracleLog → ℕ → Ranged → Type 0
 IsAllOrMore f log limit (Whole sets steps) = IsAllSemiStable f log limit sets.items steps
-IsAllOrMore f log limit TooMany = HasMore (IsExtension f SemiStable) limit
+IsAllOrMore f log limit TooMany = HasMore (IsShownWidest f log) limit

@@ -4,4 +4,6 @@
 mod marks;
 mod ranges;
 
+pub use enumerate_modes;
 pub use ranges::{Ranged, all_semi_stable};
+pub use semi_stable;

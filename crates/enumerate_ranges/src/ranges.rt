@@ -7,8 +7,8 @@ ghost use Rattle.oracle_face.specs.Growing.{HasRun, closes, halt_of};
 ghost use Rattle.enumerate_ranges.specs.Ranges.{AreFound, GrowsRange, IsAllOrMore, IsUncovered, MadeForRanges, Records};
 
 use crate::marks::{insert_all, steps_of};
+use enumerate_modes::goal_lists::{Wanted, search_for, wider};
 use enumerate_modes::{Listed, all_with_range};
-use goal_lists::{Wanted, search_for, wider};
 use meaning_atoms::Atom;
 use oracle_face::{AskId, Budget, Found, Halt, Oracle, StepId};
 use plain_lists::Items;

@@ -19,9 +19,9 @@ use Rattle.semantics.specs.Laws.{AttacksMember, HasSameMembers}
 use Rattle.meaning_atoms.specs.AtomText.{numbers_of}
 use Rattle.meaning_atoms.specs.Literals.{affirmed, denied, negated}
 use Rattle.meaning_atoms.specs.Worlds.{world_of, HoldsOf, Says, IsTrueAlone}
-use Rattle.certificate_claims.specs.Refutations.{Claim}
-use Rattle.certificate_claims.proofs.SetTests.{has_from, has_gives, ranged_from}
-use Rattle.certificate_claims.specs.SetLiterals.{has, is_ranged, members, are_in, are_out, are_ranged, outside, differs, wider, attacked}
+use Rattle.oracle_face.specs.certificate_claims.specs.Refutations.{Claim}
+use Rattle.oracle_face.specs.certificate_claims.proofs.SetTests.{has_from, has_gives, ranged_from}
+use Rattle.oracle_face.specs.certificate_claims.specs.SetLiterals.{has, is_ranged, members, are_in, are_out, are_ranged, outside, differs, wider, attacked}
 use Rattle.certificate_laws.proofs.KindFacts.{member_is, numbered_members}
 use Rattle.oracle_face.specs.Logs.{OracleLog, SideClause, IsNumberOf, IsSameClause, side_at}
 use Rattle.oracle_face.specs.Goals.{AreGoals, AsksSide, IsClaimSide, IsGoal, IsMode, IsOneSided, IsSide, IsWithinClaim, MakesTrue, SpeaksOf, Tells}

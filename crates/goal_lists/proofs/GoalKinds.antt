@@ -11,13 +11,13 @@ use Rattle.iccma_tasks.specs.declared.task.Problem.{Problem}
 use Rattle.iccma_tasks.specs.declared.task.Problem.TheVariants.{Credulous, Sceptical, SomeExtension, AllExtensions}
 use Rattle.iccma_tasks.specs.declared.task.Semantics.TheVariants.{SemiStable, Ideal}
 use Rattle.iccma_tasks.specs.Tasks.{HasTask}
-use Rattle.certificate_claims.specs.SetLiterals.{goal, has, is_ranged, members}
-use Rattle.certificate_claims.proofs.SetTests.{has_from, has_gives, ranged_from, ranged_gives}
+use Rattle.oracle_face.specs.certificate_claims.specs.SetLiterals.{goal, has, is_ranged, members}
+use Rattle.oracle_face.specs.certificate_claims.proofs.SetTests.{has_from, has_gives, ranged_from, ranged_gives}
 use Rattle.oracle_face.specs.Goals.{IsGoal}
 use Rattle.oracle_face.specs.Kinds.{IsRanged, is_assumption_based}
 use Rattle.oracle_face.specs.Logs.{SideClause}
-use Rattle.edit_rules.specs.Fitting.{IsKnown}
-use Rattle.edit_rules.specs.Kinds.{kind_of}
+use Rattle.answer_claims.specs.edit_rules.specs.Fitting.{IsKnown}
+use Rattle.answer_claims.specs.edit_rules.specs.Kinds.{kind_of}
 use Rattle.goal_lists.specs.Asking.{query_atom}
 
 -- the goal of a query is that of its kind

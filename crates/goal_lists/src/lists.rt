@@ -4,8 +4,8 @@ ghost use Rattle.std.specs.Prelude.{ℕ, List, ◌≡◌, ◌++◌, ◌∷◌, [
 ghost use Rattle.semantics.specs.Framework.{Af};
 ghost use Rattle.semantics.specs.Frameworks.{Framework, af};
 ghost use Rattle.meaning_atoms.specs.Literals as literals;
-ghost use Rattle.certificate_claims.specs.SetLiterals.{are_in, are_out, are_ranged, has, members};
-ghost use Rattle.certificate_claims.specs.SetLiterals as set_literals;
+ghost use Rattle.oracle_face.specs.certificate_claims.specs.SetLiterals.{are_in, are_out, are_ranged, has, members};
+ghost use Rattle.oracle_face.specs.certificate_claims.specs.SetLiterals as set_literals;
 ghost use Rattle.oracle_face.specs.Kinds.{IsRanged, is_assumption_based};
 ghost use Rattle.plain_lists.specs.Members.{IsSetOf};
 ghost use Rattle.goal_lists.specs.Words.{literal_of};

@@ -7,6 +7,7 @@ mod reached;
 pub mod read_log;
 pub mod refute;
 
+pub use log_refutations;
 pub use positions::positions_of;
 pub use read_log::{ReadLog, StepOrigin};
 pub use refute::refutation;

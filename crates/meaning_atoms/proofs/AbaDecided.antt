@@ -2,7 +2,7 @@
 use Rattle.std.proofs.Common.{◌≡◌, inl, inr, ⊎_elim, ℕ, ◌≤◌, ◌<◌, List, [], refl, subst}
 use Rattle.std.specs.Prelude.{Contains}
 use Rattle.std.proofs.lemmas.Bool.{cases_eq}
-use Rattle.semantics.proofs.Decided.{
+use Rattle.aba_laws.specs.semantics.proofs.Decided.{
   Decided,
   decide_at_most,
   decide_below,
@@ -13,9 +13,9 @@ use Rattle.semantics.proofs.Decided.{
   decide_not,
   decide_some,
 }
-use Rattle.aba_semantics.specs.AbaFrameworks.{Aba, collective_of}
-use Rattle.aba_semantics.specs.Collectives.{IsUnattacked, IsConflictFree, IsAdmissible, IsComplete, IsStable, Defends}
-use Rattle.aba_semantics.specs.Rules.{Rule, Derives}
+use Rattle.aba_laws.specs.aba_semantics.specs.AbaFrameworks.{Aba, collective_of}
+use Rattle.aba_laws.specs.aba_semantics.specs.Collectives.{IsUnattacked, IsConflictFree, IsAdmissible, IsComplete, IsStable, Defends}
+use Rattle.aba_laws.specs.aba_semantics.specs.Rules.{Rule, Derives}
 use Rattle.aba_laws.proofs.AbaLemmas.{aba_lawful, decide_attacks}
 use Rattle.aba_laws.proofs.Choosing.{decide_within}
 use Rattle.aba_laws.proofs.CollectiveSets.{decide_defends, rest_of}

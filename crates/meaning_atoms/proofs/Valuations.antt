@@ -6,13 +6,13 @@ use Rattle.meaning_atoms.specs.declared.atom.Atom.{Atom}
 use Rattle.meaning_atoms.specs.declared.atom.Atom.TheVariants.{Member, Live, Attack, Gap, Tail, Unmet, Range, Cf, Ad, Co, St, Ask}
 use Rattle.meaning_atoms.specs.declared.atom.Atom.TheVariants.{Asm, Con, Head, HGap, Body, BGap, Der, Miss, Sup}
 use Rattle.meaning_atoms.specs.declared.atom.AtomLit.{AtomLit}
-use Rattle.semantics.specs.Frameworks.{Framework, af, aba}
-use Rattle.semantics.specs.Framework.{Af, Attacks, IsAttackedBy}
-use Rattle.aba_semantics.specs.AbaFrameworks.{Aba}
+use Rattle.aba_laws.specs.semantics.specs.Frameworks.{Framework, af, aba}
+use Rattle.aba_laws.specs.semantics.specs.Framework.{Af, Attacks, IsAttackedBy}
+use Rattle.aba_laws.specs.aba_semantics.specs.AbaFrameworks.{Aba}
 use Rattle.meaning_atoms.specs.Worlds.{World, HasGap, HasTail, HasUnmet, HoldsOfAf, HoldsOfAba, HoldsOf, HoldsAlone, Says, IsTrueAlone, IsSideTrue, Holds, HoldsLit, IsTrueBeside}
 use Rattle.meaning_atoms.specs.Valuations.{HasValuation}
-use Rattle.semantics.proofs.Decided.{Decided, decide_both, decide_either, decide_not, decide_some, decide_at_most, decide_below}
-use Rattle.semantics.proofs.Decided.{decide_member, decide_attacks, decide_attacked}
+use Rattle.aba_laws.specs.semantics.proofs.Decided.{Decided, decide_both, decide_either, decide_not, decide_some, decide_at_most, decide_below}
+use Rattle.aba_laws.specs.semantics.proofs.Decided.{decide_member, decide_attacks, decide_attacked}
 use Rattle.meaning_atoms.proofs.AbaDecided.{decide_body_atom, decide_body_gap, decide_closure, decide_contrary, decide_head}
 use Rattle.meaning_atoms.proofs.AbaDecided.{decide_miss, decide_no_head, decide_support}
 use Rattle.meaning_atoms.proofs.AbaDecided.{
@@ -21,7 +21,7 @@ use Rattle.meaning_atoms.proofs.AbaDecided.{
   decide_free as decide_collective_free,
   decide_stable as decide_collective_stable,
 }
-use Rattle.semantics.proofs.DecidedNotions.{decide_conflict_free, decide_admissible, decide_complete, decide_stable}
+use Rattle.aba_laws.specs.semantics.proofs.DecidedNotions.{decide_conflict_free, decide_admissible, decide_complete, decide_stable}
 
 -- no attacker of a that stands from i to just before j
 pub decide_gap : (f : Af) (a i j : ℕ) → Decided (HasGap f a i j)

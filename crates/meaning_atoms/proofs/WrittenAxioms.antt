@@ -6,7 +6,7 @@ use Rattle.std.specs.Fmt.{decimal}
 use Rattle.std.proofs.lemmas.Bool.{and_parts, not-true}
 use Rattle.std.proofs.lemmas.List.Elements.{All-nil, All-cons}
 use Rattle.num_text.specs.Cuts.{is_blank, field_texts}
-use Rattle.semantics.specs.Arguments.{IsArgument}
+use Rattle.aba_laws.specs.semantics.specs.Arguments.{IsArgument}
 use Rattle.meaning_atoms.specs.Atoms.{IsPosition}
 use Rattle.meaning_atoms.specs.declared.axiom.AfAxiom.{AfAxiom}
 use Rattle.meaning_atoms.specs.declared.axiom.AfAxiom.TheVariants.{A1, A2, A3, A4, A5, A6, A7, A8, A9, A10, A11, A12, A13, A14}

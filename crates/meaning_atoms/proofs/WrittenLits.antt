@@ -14,7 +14,7 @@ use Rattle.meaning_atoms.specs.declared.atom.Atom.TheVariants.{Asm, Con, Head, H
 use Rattle.meaning_atoms.specs.declared.atom.Closure.{Closure}
 use Rattle.meaning_atoms.specs.declared.atom.Closure.TheVariants.{Own, Rest}
 use Rattle.meaning_atoms.specs.declared.atom.AtomLit.{AtomLit}
-use Rattle.semantics.specs.Arguments.{IsArgument}
+use Rattle.aba_laws.specs.semantics.specs.Arguments.{IsArgument}
 use Rattle.meaning_atoms.specs.Atoms.{IsPosition, IsAtom, IsAtomOrNone, IsLit, closure_number}
 use Rattle.meaning_atoms.specs.AtomText.{is_colon, lit_text, name_of, numbers_of, signed, IsLitText}
 

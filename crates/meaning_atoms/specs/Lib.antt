@@ -10,3 +10,6 @@ pub mod LoopRows
 pub mod Pieces
 pub mod Valuations
 pub mod Worlds
+pub use Rattle.aba_laws as aba_laws
+pub use Rattle.aba_laws.specs.aba_semantics as aba_semantics
+pub use Rattle.aba_laws.specs.semantics as semantics

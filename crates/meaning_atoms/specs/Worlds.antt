@@ -7,12 +7,12 @@ use Rattle.meaning_atoms.specs.declared.atom.Atom.{Atom}
 use Rattle.meaning_atoms.specs.declared.atom.Atom.TheVariants.{Member, Live, Attack, Gap, Tail, Unmet, Range, Cf, Ad, Co, St, Ask}
 use Rattle.meaning_atoms.specs.declared.atom.Atom.TheVariants.{Asm, Con, Head, HGap, Body, BGap, Der, Miss, Sup}
 use Rattle.meaning_atoms.specs.declared.atom.AtomLit.{AtomLit}
-use Rattle.semantics.specs.Arguments.{IsArgument}
-use Rattle.semantics.specs.Frameworks.{Framework, af, aba, IsNumberedAf}
-use Rattle.semantics.specs.Framework.{Af, Attacks, IsAttackedBy, IsConflictFree, IsAdmissible, IsComplete, IsStable, IsInRange}
-use Rattle.aba_semantics.specs.AbaFrameworks.{Aba, IsNumberedAba, collective_of}
-use Rattle.aba_semantics.specs.Collectives.{IsConflictFree as IsCollectiveFree, IsAdmissible as IsCollectiveAdmissible}
-use Rattle.aba_semantics.specs.Collectives.{IsComplete as IsCollectiveComplete, IsStable as IsCollectiveStable}
+use Rattle.aba_laws.specs.semantics.specs.Arguments.{IsArgument}
+use Rattle.aba_laws.specs.semantics.specs.Frameworks.{Framework, af, aba, IsNumberedAf}
+use Rattle.aba_laws.specs.semantics.specs.Framework.{Af, Attacks, IsAttackedBy, IsConflictFree, IsAdmissible, IsComplete, IsStable, IsInRange}
+use Rattle.aba_laws.specs.aba_semantics.specs.AbaFrameworks.{Aba, IsNumberedAba, collective_of}
+use Rattle.aba_laws.specs.aba_semantics.specs.Collectives.{IsConflictFree as IsCollectiveFree, IsAdmissible as IsCollectiveAdmissible}
+use Rattle.aba_laws.specs.aba_semantics.specs.Collectives.{IsComplete as IsCollectiveComplete, IsStable as IsCollectiveStable}
 use Rattle.meaning_atoms.specs.AbaReadings.{HasContrary, HasHead, HasNoHead, HasBodyAtom, HasBodyGap, IsInClosure, HasMiss, HasSupport}
 
 -- a framework of either kind and a set of numbers, of which only the members count

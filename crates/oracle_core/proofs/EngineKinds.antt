@@ -24,7 +24,7 @@ use Rattle.oracle_face.specs.Logs.{LogStep, OracleLog, SideClause, Source, by_ax
 use Rattle.oracle_face.specs.Logs.{IsGiven, IsLog}
 use Rattle.oracle_face.specs.Needed.{IsNeeded}
 use Rattle.af_encoding.proofs.NeededLemmas.{needed_is_name}
-use Rattle.aba_needed.proofs.NeededLemmas.{needed_fits}
+use Rattle.aba_changed.specs.aba_needed.proofs.NeededLemmas.{needed_fits}
 use Rattle.oracle_core.specs.Engines.{HasRange}
 use Rattle.session_log.specs.Steps.{own_step}
 use Rattle.session_log.proofs.AxiomLemmas.{needed_no_loop}

@@ -16,6 +16,8 @@ use Rattle.entry_taking.specs.Taking.{ComesInOrMayNot}
 use Rattle.oracle_core.specs.declared.parts.Parts.{Parts}
 use Rattle.oracle_core.specs.declared.trading.TheConstants.{MOST_TAKEN}
 use Rattle.oracle_core.specs.Engines.{AreInForce, IsWhole}
+use Rattle.oracle_core.specs.Stepping.{GoesOnBySteps}
+use Rattle.oracle_core.specs.SteppingLaws.{goes_on_joined, goes_on_none}
 use Rattle.oracle_core.specs.Trading.{AnySide, TakesAll, TakesFrom}
 use Rattle.oracle_core.specs.TradingLaws.{takes_joined}
 use Rattle.oracle_core.proofs.Forcing.{force_grown}
@@ -112,6 +114,7 @@ pub record IsTaking (own : ℕ) (first now : Parts) (left_first left : Option (L
   pub run : (units : Units) → HasRun NoSide 0 (framework_of first.framework) first.solver.log now.solver.log
       now.solver.pending units units None
   pub in_force : AreInForce (framework_of first.framework) now.solver.log
+  pub steps : GoesOnBySteps (framework_of first.framework) own first.solver.log now.solver.log
   pub given : (told : List Entry) → left_first ≡ Some told
       → TakesSome (framework_of first.framework) own told left first.solver.log now.solver.log count
 
@@ -122,6 +125,7 @@ taking_none own p left whole force = record {
   framework = refl;
   run = λ units. run_none NoSide 0 (framework_of p.framework) p.solver.log p.solver.pending units;
   in_force = force;
+  steps = goes_on_none (framework_of p.framework) own p.solver.log;
   given = λ told is. some_none (framework_of p.framework) own told left p.solver.log is;
 }
 
@@ -139,14 +143,23 @@ run_more first now after framework run next units =
     (subst (λ g. HasRun NoSide 0 g now.solver.log after.solver.log after.solver.pending units units None)
     (ap framework_of framework) (next units))
 
+pub steps_more : (own : ℕ) (first now after : Parts) → now.framework ≡ first.framework
+    → GoesOnBySteps (framework_of first.framework) own first.solver.log now.solver.log
+    → GoesOnBySteps (framework_of now.framework) own now.solver.log after.solver.log
+    → GoesOnBySteps (framework_of first.framework) own first.solver.log after.solver.log
+steps_more own first now after framework steps next =
+    goes_on_joined (framework_of first.framework) own first.solver.log now.solver.log after.solver.log steps
+    (subst (λ f. GoesOnBySteps f own now.solver.log after.solver.log) (ap framework_of framework) next)
+
 pub taking_more : (own : ℕ) (first now after : Parts) (left_first left new : Option (List Entry)) (entry : Entry)
     (count : ℕ) → IsTaking own first now left_first left count → GivesFirst left (Ok (Some entry)) new → IsWhole after
     → after.framework ≡ now.framework
     → ((units : Units) → HasRun NoSide 0 (framework_of now.framework) now.solver.log after.solver.log
     after.solver.pending units units None)
+    → GoesOnBySteps (framework_of now.framework) own now.solver.log after.solver.log
     → ComesInOrMayNot (framework_of now.framework) own entry now.solver.log after.solver.log
     → IsTaking own first after left_first new (count + 1)
-taking_more own first now after left_first left new entry count h gives whole framework run comes =
+taking_more own first now after left_first left new entry count h gives whole framework run steps comes =
     let f = framework_of first.framework in
     let grows = (run (record { limit = 0; used = 0 })).grows in
     record {
@@ -154,6 +167,7 @@ taking_more own first now after left_first left new entry count h gives whole fr
       framework = framework ∙ h.framework;
       run = run_more first now after h.framework h.run run;
       in_force = force_grown NoSide f now.solver.log after.solver.log grows h.in_force;
+      steps = steps_more own first now after h.framework h.steps steps;
       given = λ told is. some_more f own told left new entry first.solver.log now.solver.log after.solver.log count
           (h.given told is) gives h.in_force (any_side now.solver.log after.solver.log grows)
           (subst (λ g. ComesInOrMayNot g own entry now.solver.log after.solver.log) (ap framework_of h.framework) comes);

@@ -1,11 +1,13 @@
 -- A model of the needed axioms and the goals is read as a set that makes the goals true.
-use Rattle.std.proofs.Common.{◌≡◌, ◌∙◌, ⊎_elim, ℕ, ◌-◌, ◌≤◌, Bool, true, false, not, List, [], ◌∷◌, take, refl, sym, ap, subst, arith, inl, inr}
+use Rattle.std.proofs.Common.{◌≡◌, ◌∙◌, ⊎_elim, ℕ, ◌-◌, ◌<◌, ◌≤◌, Bool, true, false, true≢false, not, List, [], ◌∷◌, length, take, refl, sym, ap, subst, arith, inl, inr}
 use Rattle.std.specs.Prelude.{Contains, filter}
-use Rattle.std.proofs.lemmas.List.{length-map}
+use Rattle.std.proofs.lemmas.List.{get_or-map, length-map, take_all}
 use Rattle.std.proofs.lemmas.List.Elements.{Contains-get_or}
 use Rattle.plain_lists.proofs.Membership.{Contains-nil, Contains-cons_cases}
 use Rattle.plain_lists.proofs.Filters.{Contains-filter}
-use Rattle.plain_lits.proofs.HintCheckLemmas.{Contains-mapped}
+use Rattle.plain_lits.specs.HintCheck.{IsNamed, IsTautology, IsTrueClause, IsValuation, clause_at}
+use Rattle.plain_lits.proofs.HintCheckLemmas.{Contains-mapped, taken_sound}
+use Rattle.semantics.proofs.Decided.{Decided, decide_contains}
 use Rattle.semantics.specs.Frameworks.{Framework, af, aba}
 use Rattle.meaning_atoms.specs.declared.atom.Atom.{Atom}
 use Rattle.meaning_atoms.specs.declared.atom.Atom.TheVariants.{Member, Tail, Range, Cf, Ad, Co, St, Der, Ask}
@@ -13,19 +15,37 @@ use Rattle.meaning_atoms.specs.declared.atom.AtomLit.{AtomLit}
 use Rattle.meaning_atoms.specs.declared.atom.Closure.{Closure}
 use Rattle.meaning_atoms.specs.declared.atom.Closure.TheVariants.{Own, Rest}
 use Rattle.meaning_atoms.specs.declared.axiom.AxiomName.{AxiomName}
-use Rattle.meaning_atoms.specs.Literals.{affirmed, denied, negated}
+use Rattle.meaning_atoms.specs.Literals.{affirmed, denied, lit_value, negated}
+use Rattle.meaning_atoms.proofs.SameAtoms.{same_literal}
 use Rattle.meaning_atoms.specs.Worlds.{world_of, IsTrueAlone, HoldsLit, HoldsOf, Says}
 use Rattle.af_axioms.specs.Table.{notion_clause}
 use Rattle.certificate_claims.specs.Refutations.{axiom_clause}
 use Rattle.certificate_claims.specs.SetLiterals.{members}
 use Rattle.oracle_face.specs.Decoding.{IsModelOf, IsNewLoop, IsReadBack, ReadsBack, TellsMembers}
 use Rattle.oracle_face.specs.Goals.{AreGoals, AsksAtom, IsGoal, IsMode, MakesTrue, SpeaksOf, Tells}
-use Rattle.oracle_face.specs.Logs.{OracleLog, LogStep, SideClause, FactsAreFalse, IsGiven, IsNew, IsNumberOf, IsSameClause, Source, by_axiom, by_side, by_hints, guarded, literals_of, no_step, side_at, step_at, working}
+use Rattle.oracle_face.specs.Logs.{OracleLog, LogStep, SideClause, FactsAreFalse, IsGiven, IsLog, IsNew, IsNumberOf, IsSameClause, Source, by_axiom, by_side, by_hints, clauses_of, guarded, literals_of, no_step, side_at, step_at, working}
 use Rattle.oracle_face.proofs.StepTruth.{side_literals}
-use Rattle.atom_solver.specs.States.{IsGuardedLog}
+use Rattle.session_log.specs.Ends.{IsTakenByNone}
+use Rattle.atom_solver.specs.States.{IsGuardedLog, UsesAxioms}
 use Rattle.atom_solver.specs.Searches.{AreUnfixed, Satisfies}
 use Rattle.oracle_core.specs.Engines.{AreInForce}
+use Rattle.oracle_core.proofs.Forcing.{step_used}
 use Rattle.oracle_core.proofs.EngineKinds.{member_axiom, member_needed, member_spoken, notion_axiom, notion_is, notion_needed, unfixed_goal}
+
+twice : (b : Bool) → not (not b) ≡ b
+twice true = refl
+twice false = refl
+
+abbrev is_decided : {P : Type 0} → Decided P → Bool
+is_decided d = ⊎_elim (λ yes_. true) (λ no_. false) d
+
+decided_so : {P : Type 0} (d : Decided P) → P → is_decided d ≡ true
+decided_so (inl p) so = refl
+decided_so (inr n) so = absurd (n so)
+
+decided_not : {P : Type 0} (d : Decided P) → (P → ⊥) → is_decided d ≡ false
+decided_not (inl p) not_so = absurd (not_so p)
+decided_not (inr n) not_so = refl
 
 -- ---- goals
 
@@ -96,6 +116,13 @@ module _ (f : Framework) (log : OracleLog) (goals values : List AtomLit) (force 
         (has.same.back (denied (Member a)) (member_spoken f a)));
   }
 
+-- a step that didn't only end a search is one of those that searches use
+in_working : (steps : List LogStep) (step : LogStep) → Contains steps step → step.closing ≡ false
+    → Contains (working steps) step.clause
+in_working steps step there kept =
+    Contains-mapped (λ (s : LogStep). s.clause) (filter (λ (s : LogStep). not s.closing) steps) step
+    ((Contains-filter (λ (s : LogStep). not s.closing) steps step).1 (there, ap not kept))
+
 -- ---- loop clauses
 
 -- an axiom that is false under the values is new to what searches use
@@ -114,14 +141,74 @@ module _ (f : Framework) (log : OracleLog) (goals values : List AtomLit) (name :
     false_there = λ l there fact. ok.facts (negated l) (lacks.false_there l there) fact;
   }
 
--- ---- side clauses
+-- whether the values affirm an atom, and then a literal
+module _ (values : List AtomLit) (plain : IsTautology negated values → ⊥) where
+  abbrev affirms : Atom → Bool
+  affirms atom = is_decided (decide_contains same_literal values (affirmed atom))
 
--- a step that didn't only end a search is one of those that searches use
-in_working : (steps : List LogStep) (step : LogStep) → Contains steps step → step.closing ≡ false
-    → Contains (working steps) step.clause
-in_working steps step there kept =
-    Contains-mapped (λ (s : LogStep). s.clause) (filter (λ (s : LogStep). not s.closing) steps) step
-    ((Contains-filter (λ (s : LogStep). not s.closing) steps step).1 (there, ap not kept))
+  said_of : (atom : Atom) (positive : Bool) → Contains values (record { atom = atom; positive = positive })
+      → lit_value affirms (record { atom = atom; positive = positive }) ≡ true
+  said_of atom true there = decided_so (decide_contains same_literal values (affirmed atom)) there
+  said_of atom false there =
+      ap not (decided_not (decide_contains same_literal values (affirmed atom))
+      (λ also. plain (affirmed atom, also, there)))
+
+  said : (l : AtomLit) → Contains values l → lit_value affirms l ≡ true
+  said l there = said_of l.atom l.positive there
+
+  opposite_of : (atom : Atom) (positive : Bool)
+      → lit_value affirms (negated (record { atom = atom; positive = positive })) ≡ not
+      (lit_value affirms (record { atom = atom; positive = positive }))
+  opposite_of atom true = refl
+  opposite_of atom false = sym (twice (affirms atom))
+
+  opposite : IsValuation negated (lit_value affirms)
+  opposite l = opposite_of l.atom l.positive
+
+-- a clause that is false under the values is taken by no hints that searches use, since the values make each of these true
+module _ (f : Framework) (log : OracleLog) (goals values : List AtomLit) (name : AxiomName)
+    (ok : Satisfies f log goals values) (lacks : IsNewLoop f values name) where
+  hint_true : (hint : ℕ) → IsNamed (clauses_of log.steps) hint → (step_at log.steps hint).closing ≡ false
+      → IsTrueClause (lit_value (affirms values ok.plain)) (clause_at (clauses_of log.steps) hint)
+  hint_true hint named kept =
+      let low = named.from_one in
+      let high = named.within in
+      let lt : hint - 1 < length log.steps = omega (arith, length-map log.steps (λ (s : LogStep). s.clause)) in
+      let step = step_at log.steps hint in
+      let found = ok.clauses step.clause
+      (in_working log.steps step (Contains-get_or log.steps (hint - 1) no_step lt) kept) in
+      let same : clause_at (clauses_of log.steps) hint ≡ step.clause =
+      get_or-map (λ (s : LogStep). s.clause) log.steps (hint - 1) no_step [] lt in
+      subst (λ clause. IsTrueClause (lit_value (affirms values ok.plain)) clause) (sym same)
+      (found.0, found.1, said values ok.plain found.0 found.2)
+
+  pub loop_by_none : IsTakenByNone log.steps (axiom_clause name)
+  loop_by_none = record {
+    none = λ hints kept checks.
+        let clauses = clauses_of log.steps in
+        let sound = taken_sound negated clauses (axiom_clause name) hints (length hints) checks in
+        let all : take (length hints) hints ≡ hints = take_all (length hints) hints (omega arith) in
+        let found = sound.follows (lit_value (affirms values ok.plain)) (opposite values ok.plain)
+        (λ hint there. hint_true hint (sound.named hint there) (kept hint (subst (λ xs. Contains xs hint) all there))) in
+        let l = found.0 in
+        let denies = said values ok.plain (negated l) (lacks.false_there l found.1) in
+        true≢false (sym denies ∙ (opposite values ok.plain l ∙ ap not found.2));
+  }
+
+-- a clause that is new to what searches use is no step's that they use
+pub fresh_is_no_step : (f : Framework) (log : OracleLog) (name : AxiomName) → IsLog f log → UsesAxioms log
+    → IsNew (working log.steps) (axiom_clause name) → (number : ℕ) → IsNumberOf log.steps number
+    → (step_at log.steps number).source ≡ by_axiom name → ⊥
+fresh_is_no_step f log name form uses fresh number named source =
+    let used = step_used f name log form (record {
+      number = number;
+      named = named;
+      source = source;
+      kept = uses.kept number name named source;
+    }) in
+    fresh.no_part (record { part = used.clause; listed = used.there; inside = used.same.there })
+
+-- ---- side clauses
 
 side_given : (f : Framework) (sides : List SideClause) (before : List LogStep) (clause : List AtomLit) (source : Source)
     (n : ℕ) → IsGiven f sides before clause source → source ≡ by_side n

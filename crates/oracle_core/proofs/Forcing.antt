@@ -1,8 +1,9 @@
 -- The axioms that a framework needs come into the log, and stay in it.
 use Rattle.std.proofs.Common.{◌≡◌, ◌∙◌, inl, inr, ⊎_elim, ℕ, ◌+◌, ◌<◌, ◌≤◌, suc, Bool, true, false, not, true≢false, List, [], ◌∷◌, ◌++◌, length, refl, sym, ap, subst, arith, None, Some}
-use Rattle.std.specs.Prelude.{◌-◌, Contains, cond, drop, filter, count_by, slice_index_or}
+use Rattle.std.specs.Prelude.{◌≢◌, ◌-◌, AllPairs, Contains, cond, drop, filter, count_by, slice_index_or}
+use Rattle.std.proofs.lemmas.Bool.{cases_lt}
 use Rattle.plain_lists.proofs.Counts.{count_by-cons}
-use Rattle.std.proofs.lemmas.List.{drop_all, get_or-append-add, length-append, map-append}
+use Rattle.std.proofs.lemmas.List.{drop_all, get_or-append-add, get_or_append_left, get_or_default, length-append, map-append}
 use Rattle.std.proofs.Math.Seq.{drop-cons}
 use Rattle.std.proofs.lemmas.List.Elements.{Contains-get_or, Contains-append_left, Contains-append_right, filter-append}
 use Rattle.plain_lists.proofs.Filters.{Contains-filter}
@@ -29,8 +30,9 @@ use Rattle.oracle_core.specs.declared.parts.Parts.{Parts}
 use Rattle.entry_taking.proofs.Naming.{named_grown}
 use Rattle.entry_taking.specs.declared.names.StepNames.{StepNames}
 use Rattle.entry_taking.specs.Names.{AreNamed}
-use Rattle.entry_taking.specs.Once.{ComesOnce, HasAxiomStep}
+use Rattle.entry_taking.specs.Once.{ComesOnce, HasAxiomStep, HasNoStepOf}
 use Rattle.oracle_core.specs.Engines.{HasAxiom, AreInForce, AreUsedOrWait, IsWhole}
+use Rattle.oracle_core.specs.Stepping.{AreListed}
 use Rattle.oracle_core.specs.Updating.{AddsNeeded, GainsNeeded, TakesNeeded}
 use Rattle.oracle_core.proofs.EngineKinds.{needed_axiom, no_loop}
 
@@ -97,6 +99,9 @@ whole_named p s names whole guarded grows named = record {
 }
 
 -- ---- one axiom more
+
+axiom_is : (a b : AxiomName) → by_axiom a ≡ by_axiom b → a ≡ b
+axiom_is a b e = cc
 
 one_there : (old : List LogStep) (step : LogStep) (k : ℕ) → length old ≤ k → k < length (old ++ step ∷ [])
     → slice_index_or (old ++ step ∷ []) k no_step ≡ step
@@ -224,35 +229,34 @@ drop_one xs i x d lt is =
     drop-cons xs i d lt ∙ ap (λ y. y ∷ drop (suc i) xs) (sym is) ∙ ap (λ n. x ∷ drop n xs) next
 
 -- how far the loop over the axioms has come
-pub record HasTaken (once : Bool) (first now : Parts) : Type 0 where
+pub record HasTaken (first now : Parts) : Type 0 where
   pub whole : IsWhole now
   pub begun : now.begun ≡ true
   pub framework : now.framework ≡ first.framework
   pub run : (units : Units) → HasRun NoSide 0 (framework_of first.framework) first.solver.log now.solver.log
       now.solver.pending units units None
-  pub gains : once ≡ true → GainsNeeded (framework_of first.framework) first.solver.log now.solver.log
+  pub gains : GainsNeeded (framework_of first.framework) first.solver.log now.solver.log
   pub pending : now.solver.pending ≡ first.solver.pending
 
-pub taken_none : (once : Bool) (p : Parts) → IsWhole p → p.begun ≡ true → HasTaken once p p
-taken_none once p whole begun = record {
+pub taken_none : (p : Parts) → IsWhole p → p.begun ≡ true → HasTaken p p
+taken_none p whole begun = record {
   whole = whole;
   begun = begun;
   framework = refl;
   run = λ units. run_none NoSide 0 (framework_of p.framework) p.solver.log p.solver.pending units;
-  gains = λ is. gains_none (framework_of p.framework) p.solver.log;
+  gains = gains_none (framework_of p.framework) p.solver.log;
   pending = refl;
 }
 
 -- one axiom fewer waits, which searches use
-taken_on : (once : Bool) (first now : Parts) (s : AtomState) (names : StepNames) (name d : AxiomName)
-    → HasTaken once first now
+taken_on : (first now : Parts) (s : AtomState) (names : StepNames) (name d : AxiomName) → HasTaken first now
     → now.taken < length now.needed → name ≡ slice_index_or now.needed now.taken d
     → IsGuardedLog (framework_of now.framework) s.log → Grows NoSide now.solver.log s.log → HasAxiom s.log name
     → AreNamed names s.log.steps
     → ((units : Units) → HasRun NoSide 0 (framework_of now.framework) now.solver.log s.log s.pending units units None)
-    → (once ≡ true → GainsNeeded (framework_of first.framework) first.solver.log s.log)
-    → s.pending ≡ now.solver.pending → HasTaken once first (record now { solver = s; names = names; taken = now.taken + 1 })
-taken_on once first now s names name d has lt is guarded grows used named run gains pending =
+    → GainsNeeded (framework_of first.framework) first.solver.log s.log
+    → s.pending ≡ now.solver.pending → HasTaken first (record now { solver = s; names = names; taken = now.taken + 1 })
+taken_on first now s names name d has lt is guarded grows used named run gains pending =
     let whole = has.whole in
     record {
       whole = record {
@@ -282,12 +286,32 @@ taken_on once first now s names name d has lt is guarded grows used named run ga
       pending = pending ∙ has.pending;
     }
 
--- the parts after the first axiom that waits: it came, or a step was it already
+-- the parts after the first axiom that waits, where it came and no step was it
+taken_came : (first now : Parts) (s : AtomState) (names : StepNames) (name d : AxiomName) → HasTaken first now
+    → now.taken < length now.needed → name ≡ slice_index_or now.needed now.taken d → IsNeeded (framework_of now.framework) name
+    → IsGuardedLog (framework_of now.framework) s.log → HasNoStepOf now.solver.log.steps name
+    → AddsAxiom name now.solver s → AreNamed names s.log.steps
+    → HasTaken first (record now { solver = s; names = names; taken = now.taken + 1 })
+taken_came first now s names name d has lt is known guarded none adds named =
+    let f = framework_of now.framework in
+    let old = now.solver in
+    let whole = has.whole in
+    taken_on first now s names name d has lt is guarded (axiom_grows f name old s whole.numbered known whole.guarded adds)
+    (axiom_used f name old s whole.numbered known whole.guarded adds) named
+    (axiom_run f name old s whole.numbered known whole.guarded adds)
+    (gains_more (framework_of first.framework) name first.solver.log old.log s.log has.gains (record {
+      needed = subst (λ g. IsNeeded g name) (ap framework_of has.framework) known;
+      once = none;
+      clause = adds.clause;
+      takes = adds.takes;
+    })) adds.pending_same
+
+-- the same where it came, or a step was it already
 pub taken_more : (first now : Parts) (s : AtomState) (names : StepNames) (name d : AxiomName)
-    → HasTaken true first now → now.taken < length now.needed → name ≡ slice_index_or now.needed now.taken d
+    → HasTaken first now → now.taken < length now.needed → name ≡ slice_index_or now.needed now.taken d
     → Contains now.needed name → ComesOnce name now.solver s → AreNamed names s.log.steps
     → ((f : Framework) → IsAxiomOf f name → IsGuardedLog f now.solver.log → IsGuardedLog f s.log)
-    → HasTaken true first (record now { solver = s; names = names; taken = now.taken + 1 })
+    → HasTaken first (record now { solver = s; names = names; taken = now.taken + 1 })
 taken_more first now s names name d has lt is there comes named stays =
     let f = framework_of now.framework in
     let old = now.solver in
@@ -297,51 +321,95 @@ taken_more first now s names name d has lt is there comes named stays =
     ⊎_elim
     (λ had.
     let same = sym had.1 in
-    taken_on true first now s names name d has lt is guarded
+    taken_on first now s names name d has lt is guarded
     (subst (λ (t : AtomState). Grows NoSide old.log t.log) same (grows_same NoSide old.log))
     (subst (λ (t : AtomState). HasAxiom t.log name) same (step_used f name old.log whole.guarded.form had.0)) named
     (λ units. subst (λ (t : AtomState). HasRun NoSide 0 f old.log t.log t.pending units units None) same
     (run_none NoSide 0 f old.log old.pending units))
-    (λ so. subst (λ (t : AtomState). GainsNeeded (framework_of first.framework) first.solver.log t.log) same
-    (has.gains so)) (ap (λ (t : AtomState). t.pending) had.1))
-    (λ came.
-    let adds = came.1 in
-    taken_on true first now s names name d has lt is guarded
-    (axiom_grows f name old s whole.numbered known whole.guarded adds)
-    (axiom_used f name old s whole.numbered known whole.guarded adds) named
-    (axiom_run f name old s whole.numbered known whole.guarded adds)
-    (λ so. gains_more (framework_of first.framework) name first.solver.log old.log s.log (has.gains so) (record {
-      needed = subst (λ g. IsNeeded g name) (ap framework_of has.framework) known;
-      once = came.0;
-      clause = adds.clause;
-      takes = adds.takes;
-    })) adds.pending_same)
+    (subst (λ (t : AtomState). GainsNeeded (framework_of first.framework) first.solver.log t.log) same has.gains)
+    (ap (λ (t : AtomState). t.pending) had.1))
+    (λ came. taken_came first now s names name d has lt is known guarded came.0 came.1 named)
     comes
 
--- the same where it came without a look at names
-pub taken_plain : (first now : Parts) (s : AtomState) (name d : AxiomName) → HasTaken false first now
+-- ---- the loop that looks at no names
+
+-- each axiom among the steps is one of those that were taken, and none is listed twice
+pub record HasListed (first now : Parts) : Type 0 where
+  pub taken : HasTaken first now
+  pub once : AllPairs (λ x y. x ≢ y) now.needed
+  pub listed : AreListed now.solver.log.steps now.needed now.taken
+
+pub listed_none : (p : Parts) → IsWhole p → p.begun ≡ true → AllPairs (λ x y. x ≢ y) p.needed
+    → length p.solver.log.steps ≡ 0 → HasListed p p
+listed_none p whole begun once empty = record {
+  taken = taken_none p whole begun;
+  once = once;
+  listed = record {
+    each = λ number name named source.
+        let low = named.from_one in
+        let high = named.within in
+        absurd (omega (arith, empty));
+  };
+}
+
+-- so the next one that is listed is no step yet
+next_is_new : (first now : Parts) (name d : AxiomName) → HasListed first now → now.taken < length now.needed
+    → name ≡ slice_index_or now.needed now.taken d → HasNoStepOf now.solver.log.steps name
+next_is_new first now name d has lt is number named source =
+    let at = has.listed.each number name named source in
+    has.once at.0 now.taken d at.1 lt
+    (get_or_default now.needed at.0 d name at.2 ∙ (at.3 ∙ is))
+
+-- a step more, which is the next one
+listed_more : (old : List LogStep) (step : LogStep) (names : List AxiomName) (count : ℕ) (name d : AxiomName)
+    → AreListed old names count → step.source ≡ by_axiom name → count < length names
+    → name ≡ slice_index_or names count d → AreListed (old ++ step ∷ []) names (count + 1)
+listed_more old step names count name d listed source lt is = record {
+  each = λ number other named other_source.
+      let low = named.from_one in
+      let high = named.within in
+      let many : length (old ++ step ∷ []) ≡ length old + 1 = length-append old (step ∷ []) in
+      ⊎_elim
+      (λ (early : number - 1 < length old).
+      let same : step_at (old ++ step ∷ []) number ≡ step_at old number =
+      get_or_append_left old (step ∷ []) no_step (number - 1) early in
+      let at = listed.each number other (record { from_one = low; within = omega arith })
+      (ap (λ (s : LogStep). s.source) (sym same) ∙ other_source) in
+      (at.0, omega (arith, at.1), at.2, at.3))
+      (λ (late : length old ≤ number - 1).
+      let here : step_at (old ++ step ∷ []) number ≡ step = one_there old step (number - 1) late (omega arith) in
+      let same_name : name ≡ other =
+      axiom_is name other (sym source ∙ (ap (λ (s : LogStep). s.source) (sym here) ∙ other_source)) in
+      (count, omega arith, lt, get_or_default names count other d lt ∙ (sym is ∙ same_name)))
+      (cases_lt (number - 1) (length old));
+}
+
+pub listed_plain : (first now : Parts) (s : AtomState) (name d : AxiomName) → HasListed first now
     → now.taken < length now.needed → name ≡ slice_index_or now.needed now.taken d → Contains now.needed name
     → AddsAxiom name now.solver s
     → ((f : Framework) → IsAxiomOf f name → IsGuardedLog f now.solver.log → IsGuardedLog f s.log)
-    → HasTaken false first (record now { solver = s; taken = now.taken + 1 })
-taken_plain first now s name d has lt is there adds stays =
+    → HasListed first (record now { solver = s; taken = now.taken + 1 })
+listed_plain first now s name d has lt is there adds stays =
     let f = framework_of now.framework in
-    let whole = has.whole in
+    let whole = has.taken.whole in
     let known = whole.axioms name there in
     let guarded = stays f (needed_axiom f whole.numbered name known) whole.guarded in
     let grows = axiom_grows f name now.solver s whole.numbered known whole.guarded adds in
-    taken_on false first now s now.names name d has lt is guarded grows
-    (axiom_used f name now.solver s whole.numbered known whole.guarded adds)
-    (named_grown NoSide now.names now.solver.log s.log grows whole.named)
-    (axiom_run f name now.solver s whole.numbered known whole.guarded adds)
-    (λ so. absurd (true≢false (sym so))) adds.pending_same
+    record {
+      taken = taken_came first now s now.names name d has.taken lt is known guarded (next_is_new first now name d has lt is)
+          adds (named_grown NoSide now.names now.solver.log s.log grows whole.named);
+      once = has.once;
+      listed = subst (λ (steps : List LogStep). AreListed steps now.needed (now.taken + 1)) (sym adds.takes.gains.steps)
+          (listed_more now.solver.log.steps (own_step adds.clause (by_axiom name)) now.needed now.taken name d has.listed
+          refl lt is);
+    }
 
 -- a halt before an axiom came
-pub taken_halted : (once : Bool) (first now : Parts) (s : AtomState) (halt : Halt) → HasTaken once first now
+pub taken_halted : (first now : Parts) (s : AtomState) (halt : Halt) → HasTaken first now
     → s ≡ now.solver → (halt ≡ LogFull → length now.solver.log.steps ≡ now.solver.log.limit)
     → ((count : ℕ) → halt ≡ Spent count → ⊥) → (units : Units)
     → HasRun NoSide 0 (framework_of first.framework) first.solver.log s.log s.pending units units (Some halt)
-taken_halted once first now s halt has is full unspent units =
+taken_halted first now s halt has is full unspent units =
     let f = framework_of first.framework in
     let P : AtomState → Type 0 = λ t. HasRun NoSide 0 f first.solver.log t.log t.pending units units (Some halt) in
     subst P (sym is) (go halt full unspent)
@@ -366,11 +434,11 @@ whole_halted p s names whole same named =
     (subst (λ (t : AtomState). IsGuardedLog (framework_of p.framework) t.log) (sym same) whole.guarded)
     (subst (λ (t : AtomState). Grows NoSide p.solver.log t.log) (sym same) (grows_same NoSide p.solver.log)) named
 
-pub gains_halted : (first now : Parts) (s : AtomState) → HasTaken true first now → s ≡ now.solver
+pub gains_halted : (first now : Parts) (s : AtomState) → HasTaken first now → s ≡ now.solver
     → GainsNeeded (framework_of first.framework) first.solver.log s.log
 gains_halted first now s has same =
     subst (λ (t : AtomState). GainsNeeded (framework_of first.framework) first.solver.log t.log) (sym same)
-    (has.gains refl)
+    has.gains
 
 -- no axiom waits
 pub all_in_force : (p : Parts) → IsWhole p → p.begun ≡ true → length p.needed ≤ p.taken
@@ -379,6 +447,6 @@ all_in_force p whole begun all = λ name needed. ⊎_elim (λ used. used)
     (λ waits. absurd (Contains-nil name (subst (λ names. Contains names name) (drop_all p.taken p.needed all) waits)))
     (whole.waits begun name needed)
 
-pub taken_all : (once : Bool) (first now : Parts) → HasTaken once first now → length now.needed ≤ now.taken
+pub taken_all : (first now : Parts) → HasTaken first now → length now.needed ≤ now.taken
     → AreInForce (framework_of now.framework) now.solver.log
-taken_all once first now has all = all_in_force now has.whole has.begun all
+taken_all first now has all = all_in_force now has.whole has.begun all

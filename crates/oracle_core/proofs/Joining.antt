@@ -1,10 +1,10 @@
 -- What a search leaves where its parts were called one after the other.
 use Rattle.std.proofs.Common.{◌≡◌, ◌∙◌, ℕ, ◌<◌, ◌≤◌, ◌-◌, List, [], ◌∷◌, ◌++◌, length, refl, sym, ap, subst, arith, Option, None, Some, Result, Ok, Err}
-use Rattle.std.specs.Prelude.{IsErr, IsErrAnd, IfOk}
+use Rattle.std.specs.Prelude.{Bool, false, IsErr, IsErrAnd, IfOk}
 use Rattle.std.proofs.lemmas.Bool.{false≢true}
 use Rattle.std.proofs.lemmas.List.{append-nil, length-append}
 use Rattle.plain_lits.specs.declared.halt.Halt.{Halt}
-use Rattle.plain_lits.specs.declared.halt.Halt.TheVariants.{Memory}
+use Rattle.plain_lits.specs.declared.halt.Halt.TheVariants.{Spent, LogFull, Memory}
 use Rattle.plain_lits.specs.Units.{Units}
 use Rattle.semantics.specs.Frameworks.{Framework}
 use Rattle.meaning_atoms.specs.declared.atom.AtomLit.{AtomLit}
@@ -13,14 +13,20 @@ use Rattle.oracle_face.specs.declared.face.Found.TheVariants.{Set, Refuted}
 use Rattle.oracle_face.specs.declared.face.Pending.{Pending}
 use Rattle.edit_rules.specs.Kinds.{framework_of}
 use Rattle.oracle_face.specs.Goals.{AreGoals}
+use Rattle.session_log.specs.Ends.{LoopInHand}
+use Rattle.session_log.specs.Steps.{LearnsClauses}
 use Rattle.atom_solver.specs.States.{AtomState}
 use Rattle.oracle_core.specs.declared.parts.Parts.{Parts}
 use Rattle.oracle_core.specs.Engines.{AreInForce, IsWhole}
 use Rattle.oracle_core.specs.Readings.{IsTurn, closes_turn}
-use Rattle.oracle_core.proofs.Forcing.{force_grown}
-use Rattle.oracle_face.specs.Growing.{NoSide, Grows, HasRun, IsFound, closes, halt_of}
+use Rattle.oracle_core.specs.Stepping.{EndsInHand, GoesOnBySteps, in_hand_behind, lost_by}
+use Rattle.oracle_core.specs.SteppingLaws.{goes_on_joined, goes_on_none}
+use Rattle.oracle_core.specs.Updating.{GainsNeeded}
+use Rattle.oracle_core.proofs.Forcing.{force_grown, whole_with}
+use Rattle.oracle_core.proofs.GoingOn.{learned_go_on}
+use Rattle.oracle_face.specs.Growing.{Making, NoSide, Grows, HasRun, IsFound, UnlessMemory, closes, halt_of}
 use Rattle.oracle_face.specs.Logs.{OracleLog, SideClause}
-use Rattle.oracle_face.proofs.GrowingLemmas.{run_joined, run_none}
+use Rattle.oracle_face.proofs.GrowingLemmas.{grows_same, run_joined, run_none, unless_then}
 
 -- a halt that a search hands on
 pub halted : (f : Framework) (a b : OracleLog) (p : Option Pending) (u v : Units) (r : Result Found Halt) (halt : Halt)
@@ -76,40 +82,51 @@ begun_run p b c q u v halt framework solver run =
     subst (λ (k : AtomState). HasRun NoSide 0 (framework_of p.framework) k.log c q u v halt) solver
     (subst (λ f. HasRun NoSide 0 (framework_of f) b.solver.log c q u v halt) framework run)
 
--- the parts as they are before a search, then with a list of axioms, then with the axioms in force, and then after it
-pub record IsCourse (p b t s : Parts) (units : Units) : Type 0 where
-  pub begun_framework : b.framework ≡ p.framework
-  pub begun_solver : b.solver ≡ p.solver
-  pub taken_framework : t.framework ≡ b.framework
-  pub forced : HasRun NoSide 0 (framework_of b.framework) b.solver.log t.solver.log t.solver.pending units units None
+-- and so it is with axioms that came to them
+pub begun_gains : (p b : Parts) (c : OracleLog) → b.framework ≡ p.framework → b.solver ≡ p.solver
+    → GainsNeeded (framework_of b.framework) b.solver.log c → GainsNeeded (framework_of p.framework) p.solver.log c
+begun_gains p b c framework solver gains =
+    subst (λ (k : AtomState). GainsNeeded (framework_of p.framework) k.log c) solver
+    (subst (λ f. GainsNeeded (framework_of f) b.solver.log c) framework gains)
 
-module _ (p b t s : Parts) (units : Units) (course : IsCourse p b t s units) where
-  same_framework : t.framework ≡ p.framework
-  same_framework = course.taken_framework ∙ course.begun_framework
+-- the parts as they are before a search, and then with the axioms in force
+pub record IsCourse (p t : Parts) (units : Units) : Type 0 where
+  pub framework : t.framework ≡ p.framework
+  pub forced : HasRun NoSide 0 (framework_of p.framework) p.solver.log t.solver.log t.solver.pending units units None
 
-  forced_run : HasRun NoSide 0 (framework_of p.framework) p.solver.log t.solver.log t.solver.pending units units None
-  forced_run =
-      begun_run p b t.solver.log t.solver.pending units units None course.begun_framework course.begun_solver course.forced
-
+module _ (p t s : Parts) (units : Units) (course : IsCourse p t units) where
   pub searched_run : (most : ℕ) (after : Units) (halt : Option Halt)
       → HasRun NoSide most (framework_of t.framework) t.solver.log s.solver.log s.solver.pending units after halt
       → HasRun NoSide most (framework_of p.framework) p.solver.log s.solver.log s.solver.pending units after halt
   searched_run most after halt run =
       forced_then (framework_of p.framework) (framework_of t.framework) p.solver.log t.solver.log s.solver.log
-      t.solver.pending s.solver.pending units after most halt (ap framework_of same_framework) forced_run run
+      t.solver.pending s.solver.pending units after most halt (ap framework_of course.framework) course.forced run
 
   -- what may be asked before the axioms came may be asked then
   pub forced_goals : (goals : List AtomLit) → AreGoals (framework_of p.framework) p.solver.log.sides goals
       → AreGoals (framework_of t.framework) t.solver.log.sides goals
   forced_goals goals are =
-      goals_still (framework_of p.framework) (framework_of t.framework) p.solver.log t.solver.log goals forced_run.grows
-      (ap framework_of same_framework) are
+      goals_still (framework_of p.framework) (framework_of t.framework) p.solver.log t.solver.log goals
+      course.forced.grows (ap framework_of course.framework) are
 
   pub searched_found : (goals : List AtomLit) (r : Result Found Halt)
       → IfOk r (IsFound (framework_of t.framework) s.solver.log goals)
       → IfOk r (IsFound (framework_of p.framework) s.solver.log goals)
   searched_found goals r found =
-      subst (λ f. IfOk r (IsFound f s.solver.log goals)) (ap framework_of same_framework) found
+      subst (λ f. IfOk r (IsFound f s.solver.log goals)) (ap framework_of course.framework) found
+
+  -- axioms that came, and what the search added
+  pub searched_steps : ((own : ℕ) → GoesOnBySteps (framework_of p.framework) own p.solver.log t.solver.log)
+      → (halt : Option Halt)
+      → UnlessMemory halt ((own : ℕ) → GoesOnBySteps (framework_of t.framework) own t.solver.log s.solver.log)
+      → UnlessMemory halt ((own : ℕ) → GoesOnBySteps (framework_of p.framework) own p.solver.log s.solver.log)
+  searched_steps first halt steps =
+      let f = framework_of p.framework in
+      unless_then ((own : ℕ) → GoesOnBySteps (framework_of t.framework) own t.solver.log s.solver.log)
+      ((own : ℕ) → GoesOnBySteps f own p.solver.log s.solver.log)
+      (λ then own. goes_on_joined f own p.solver.log t.solver.log s.solver.log
+      (first own) (subst (λ g. GoesOnBySteps g own t.solver.log s.solver.log) (ap framework_of course.framework) (then own)))
+      halt steps
 
 -- ---- one search of several
 
@@ -124,6 +141,13 @@ pub longer : (a b : OracleLog) → Grows NoSide a b → length a.steps ≤ lengt
 longer a b grows =
     let more = grows.more_steps in
     omega (arith, ap length more.1, length-append a.steps more.0)
+
+-- what was learned, and what the model was read as
+pub turn_steps : (f g : Framework) (a b c : OracleLog) → g ≡ f → LearnsClauses a b
+    → ((own : ℕ) → GoesOnBySteps g own b c) → (own : ℕ) → GoesOnBySteps f own a c
+turn_steps f g a b c same learns then own =
+    goes_on_joined f own a b c (learned_go_on f own a b learns)
+    (subst (λ h. GoesOnBySteps h own b c) same (then own))
 
 -- a turn that began later is one from before
 pub turn_later : (f : Framework) (a b c : OracleLog) (goals : List AtomLit) (r : Result (Option Found) Halt)
@@ -152,6 +176,7 @@ pub record HasTurned (first now : Parts) (before after : Units) : Type 0 where
   pub in_force : AreInForce (framework_of first.framework) now.solver.log
   pub run : HasRun NoSide 0 (framework_of first.framework) first.solver.log now.solver.log now.solver.pending before
       after None
+  pub steps : (own : ℕ) → GoesOnBySteps (framework_of first.framework) own first.solver.log now.solver.log
 
 pub turned_none : (p : Parts) (units : Units) → IsWhole p → AreInForce (framework_of p.framework) p.solver.log
     → HasTurned p p units units
@@ -160,6 +185,7 @@ turned_none p units whole force = record {
   framework = refl;
   in_force = force;
   run = run_none NoSide 0 (framework_of p.framework) p.solver.log p.solver.pending units;
+  steps = λ own. goes_on_none (framework_of p.framework) own p.solver.log;
 }
 
 module _ (first now next : Parts) (before between after : Units) (turned : HasTurned first now before between)
@@ -180,15 +206,27 @@ module _ (first now next : Parts) (before between after : Units) (turned : HasTu
       (subst (λ f. HasRun NoSide most f now.solver.log next.solver.log next.solver.pending between after halt) same_now
       run)
 
+  pub turned_steps : (halt : Option Halt)
+      → UnlessMemory halt ((own : ℕ) → GoesOnBySteps (framework_of now.framework) own now.solver.log next.solver.log)
+      → UnlessMemory halt ((own : ℕ) → GoesOnBySteps (framework_of first.framework) own first.solver.log next.solver.log)
+  turned_steps halt steps =
+      unless_then ((own : ℕ) → GoesOnBySteps (framework_of now.framework) own now.solver.log next.solver.log)
+      ((own : ℕ) → GoesOnBySteps (framework_of first.framework) own first.solver.log next.solver.log)
+      (λ then own. goes_on_joined (framework_of first.framework) own first.solver.log now.solver.log next.solver.log
+      (turned.steps own) (subst (λ f. GoesOnBySteps f own now.solver.log next.solver.log) same_now (then own)))
+      halt steps
+
   pub turned_more : IsWhole next
       → HasRun NoSide 0 (framework_of now.framework) now.solver.log next.solver.log next.solver.pending between after
       None
+      → ((own : ℕ) → GoesOnBySteps (framework_of now.framework) own now.solver.log next.solver.log)
       → HasTurned first next before after
-  turned_more whole run = record {
+  turned_more whole run steps = record {
     whole = whole;
     framework = framework ∙ turned.framework;
     in_force = force_grown NoSide (framework_of first.framework) now.solver.log next.solver.log run.grows turned.in_force;
     run = turned_run 0 None run;
+    steps = turned_steps None steps;
   }
 
   pub turned_found : (goals : List AtomLit) (found : Found)
@@ -218,3 +256,45 @@ pub turned_force : (first now : Parts) (before after : Units) → HasTurned firs
     → AreInForce (framework_of now.framework) now.solver.log
 turned_force first now before after turned =
     subst (λ f. AreInForce f now.solver.log) (sym (ap framework_of turned.framework)) turned.in_force
+
+-- ---- the clause in hand behind a call
+
+pub run_settled : (P : Making) (most : ℕ) (f : Framework) (a b : OracleLog) (p : Option Pending) (u v : Units)
+    (halt : Option Halt) → HasRun P most f a b p u v halt → HasRun P most f a b (in_hand_behind halt p) u v halt
+run_settled P most f a b p u v None run =
+    record { grows = run.grows; limit = run.limit; works = run.works; closing = run.closing; stop = tt }
+run_settled P most f a b p u v (Some (Spent count)) run = run
+run_settled P most f a b p u v (Some LogFull) run =
+    record { grows = run.grows; limit = run.limit; works = run.works; closing = run.closing; stop = run.stop }
+run_settled P most f a b p u v (Some Memory) run =
+    record { grows = run.grows; limit = run.limit; works = run.works; closing = run.closing; stop = tt }
+
+pub settled_in_hand : (log : OracleLog) (p : Option Pending) (halt : Option Halt) → EndsInHand halt log p
+    → LoopInHand log (in_hand_behind halt p)
+settled_in_hand log p None h = tt
+settled_in_hand log p (Some (Spent count)) h = h
+settled_in_hand log p (Some LogFull) h = tt
+settled_in_hand log p (Some Memory) h = tt
+
+pub not_lost : (halt : Option Halt) (lost : Bool) → lost_by halt lost ≡ false → lost ≡ false
+not_lost None lost so = so
+not_lost (Some (Spent count)) lost so = so
+not_lost (Some LogFull) lost so = so
+not_lost (Some Memory) lost so = absurd (false≢true (sym so))
+
+pub without_memory : (P : Type 0) (halt : Option Halt) (lost : Bool) → lost_by halt lost ≡ false → UnlessMemory halt P
+    → P
+without_memory P None lost so h = h
+without_memory P (Some (Spent count)) lost so h = h
+without_memory P (Some LogFull) lost so h = h
+without_memory P (Some Memory) lost so h = absurd (false≢true (sym so))
+
+-- the same parts, but for the clause in hand
+abbrev pub settled : Parts → Option Halt → Parts
+settled p halt = record p { solver = record { log = p.solver.log; pending = in_hand_behind halt p.solver.pending } }
+
+pub whole_settled : (p : Parts) (halt : Option Halt) → IsWhole p → IsWhole (settled p halt)
+whole_settled p halt whole = whole_with NoSide p (record {
+  log = p.solver.log;
+  pending = in_hand_behind halt p.solver.pending;
+}) whole whole.guarded (grows_same NoSide p.solver.log)

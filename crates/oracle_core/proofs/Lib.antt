@@ -3,6 +3,7 @@ pub mod GroundedLemmas
 pub mod Forcing
 pub mod EntriesTaken
 pub mod Finding
+pub mod GoingOn
 pub mod Joining
 pub mod OfferLemmas
 pub mod TradeLemmas

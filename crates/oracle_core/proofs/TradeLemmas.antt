@@ -5,7 +5,7 @@ use Rattle.plain_lists.specs.declared.memory.Memory.{Memory as OfMemory}
 use Rattle.std.proofs.lemmas.Bool.{false≢true}
 use Rattle.std.proofs.lemmas.List.{length-append}
 use Rattle.plain_lits.specs.declared.halt.Halt.{Halt}
-use Rattle.plain_lits.specs.declared.halt.Halt.TheVariants.{Memory}
+use Rattle.plain_lits.specs.declared.halt.Halt.TheVariants.{Spent, LogFull, Memory}
 use Rattle.plain_lits.specs.Units.{Units}
 use Rattle.semantics.specs.Frameworks.{Framework}
 use Rattle.oracle_face.specs.declared.entry.Entry.{Entry}
@@ -13,43 +13,57 @@ use Rattle.oracle_face.specs.declared.face.Pending.{Pending}
 use Rattle.oracle_face.specs.Growing.{Making, Grows, HasRun, NoSide, halt_of}
 use Rattle.oracle_face.specs.Logs.{OracleLog}
 use Rattle.iccma_tasks.specs.Tasks.{Asked}
-use Rattle.session_log.specs.Ends.{MadeFor}
+use Rattle.session_log.specs.Ends.{LoopInHand, MadeFor}
 use Rattle.oracle_face.proofs.GrowingLemmas.{grows_as, run_as, run_joined}
-use Rattle.oracle_core.specs.Engines.{EngineState}
+use Rattle.oracle_core.specs.Engines.{EngineState, forgotten}
+use Rattle.oracle_core.specs.Stepping.{GoesOnBySteps, ServesInHand}
 use Rattle.oracle_core.specs.Trading.{AnySide, IsEmptied, TakesAll, TakesFrom, Trades}
 use Rattle.oracle_core.specs.TradingLaws.{from_none}
 use Rattle.oracle_core.proofs.EntriesTaken.{any_side}
 
 -- a call that the trade has no part in
-pub called_trades : (P : Making) (a b : EngineState) (left : Option (List Entry)) (lost : Bool) → b.number ≡ a.number
-    → b.framework ≡ a.framework → Grows P a.log b.log → Trades a b left left lost lost
-called_trades P a b left lost number framework grows =
+pub called_trades : (P : Making) (a b : EngineState) (left : Option (List Entry)) (lost lost_after : Bool)
+    → b.number ≡ a.number → b.framework ≡ a.framework → Grows P a.log b.log → (lost_after ≡ false → lost ≡ false)
+    → (lost_after ≡ false → GoesOnBySteps a.framework a.number a.log b.log) → Trades a b left left lost lost_after
+called_trades P a b left lost lost_after number framework grows kept steps =
     let any = grows_as P AnySide a.log b.log (λ literals set made. tt) grows in
     record {
       number = number;
       framework = framework;
       grows = any;
-      kept = λ so. so;
+      kept = kept;
       taken = λ so told is. from_none a.framework a.number told left a.log b.log is any;
+      stepped = steps;
     }
 
 -- a call that leaves what the trade has left to give
-pub offered_trades : (P : Making) (a b : EngineState) (left later : Option (List Entry)) (lost : Bool) → later ≡ left
-    → b.number ≡ a.number → b.framework ≡ a.framework → Grows P a.log b.log → Trades a b left later lost lost
-offered_trades P a b left later lost same number framework grows =
-    subst (λ l. Trades a b left l lost lost) (sym same) (called_trades P a b left lost number framework grows)
+pub offered_trades : (P : Making) (a b : EngineState) (left later : Option (List Entry)) (lost lost_after : Bool)
+    → later ≡ left → b.number ≡ a.number → b.framework ≡ a.framework → Grows P a.log b.log
+    → (lost_after ≡ false → lost ≡ false)
+    → (lost_after ≡ false → GoesOnBySteps a.framework a.number a.log b.log) → Trades a b left later lost lost_after
+offered_trades P a b left later lost lost_after same number framework grows kept steps =
+    subst (λ l. Trades a b left l lost lost_after) (sym same)
+    (called_trades P a b left lost lost_after number framework grows kept steps)
+
+-- the axioms came
+pub forced_trades : (a b : EngineState) (left : Option (List Entry)) (lost : Bool) → b.number ≡ a.number
+    → b.framework ≡ a.framework → Grows NoSide a.log b.log → GoesOnBySteps a.framework a.number a.log b.log
+    → Trades a b left left lost lost
+forced_trades a b left lost number framework grows steps =
+    called_trades NoSide a b left lost lost number framework grows (λ so. so) (λ so. steps)
 
 -- the trade gave what it has
 pub all_trades : (a b : EngineState) (left new : Option (List Entry)) (lost : Bool) → b.number ≡ a.number
-    → b.framework ≡ a.framework → Grows NoSide a.log b.log
+    → b.framework ≡ a.framework → Grows NoSide a.log b.log → GoesOnBySteps a.framework a.number a.log b.log
     → ((told : List Entry) → left ≡ Some told → TakesAll a.framework a.number told new a.log b.log)
     → Trades a b left new lost lost
-all_trades a b left new lost number framework grows all = record {
+all_trades a b left new lost number framework grows steps all = record {
   number = number;
   framework = framework;
   grows = any_side a.log b.log grows;
   kept = λ so. so;
   taken = λ so told is. (all told is).from;
+  stepped = λ so. steps;
 }
 
 -- memory was refused
@@ -61,6 +75,7 @@ lost_trades a b left new lost number framework grows = record {
   grows = any_side a.log b.log grows;
   kept = λ so. absurd (false≢true (sym so));
   taken = λ so told is. absurd (false≢true (sym so));
+  stepped = λ so. absurd (false≢true (sym so));
 }
 
 -- ---- what is left
@@ -127,3 +142,40 @@ ok_so (Err error) p = tt
 pub ok_of : {P : Type 0} (r : Result (Unit {0}) OfMemory) → is_err r ≡ false → OnOk r P → P
 ok_of (Ok value) e p = p
 ok_of (Err error) e p = absurd (false≢true (sym e))
+
+-- ---- no clause in hand
+
+-- a call that spends nothing leaves the same run where the clause in hand is forgotten
+pub run_forgotten : (f : Framework) (a b : OracleLog) (p : Option Pending) (halt : Option Halt)
+    → ((units : Units) → HasRun NoSide 0 f a b p units units halt) → (units : Units)
+    → HasRun NoSide 0 f a b None units units halt
+run_forgotten f a b p None run units =
+    let h = run units in
+    record { grows = h.grows; limit = h.limit; works = h.works; closing = h.closing; stop = tt }
+run_forgotten f a b p (Some (Spent count)) run units =
+    let low = (run (record { limit = 0; used = 0 })).stop.is_limit in
+    let high = (run (record { limit = 1; used = 0 })).stop.is_limit in
+    absurd (omega (arith, low, high))
+run_forgotten f a b p (Some LogFull) run units =
+    let h = run units in
+    record { grows = h.grows; limit = h.limit; works = h.works; closing = h.closing; stop = h.stop }
+run_forgotten f a b p (Some Memory) run units =
+    let h = run units in
+    record { grows = h.grows; limit = h.limit; works = tt; closing = tt; stop = tt }
+
+pub trades_forgotten : (a b : EngineState) (left later : Option (List Entry)) (lost lost_after : Bool)
+    → Trades a b left later lost lost_after → Trades a (forgotten b) left later lost lost_after
+trades_forgotten a b left later lost lost_after h = record {
+  number = h.number;
+  framework = h.framework;
+  grows = h.grows;
+  kept = h.kept;
+  taken = h.taken;
+  stepped = h.stepped;
+}
+
+-- where no clause was in hand before, no hints take one that is in hand now
+pub serves_at : (a b : EngineState) → a.pending ≡ None → ServesInHand a b → LoopInHand b.log b.pending
+serves_at a b none serves =
+    ⊎_elim (λ here. here)
+    (λ same. subst (λ (p : Option Pending). LoopInHand b.log p) (sym (same.1 ∙ none)) tt) serves

@@ -1,5 +1,5 @@
 -- An answer that is right can be written.
-use Rattle.std.proofs.Common.{ℕ, ◌<◌, List, [], ◌∷◌, length, arith, Option, Some, None}
+use Rattle.std.proofs.Common.{◌≡◌, ℕ, ◌<◌, List, [], ◌∷◌, length, ap, arith, Option, Some, None}
 use Rattle.std.specs.Prelude.{Contains, All, slice_index_or}
 use Rattle.std.proofs.lemmas.List.{get_or_default}
 use Rattle.std.proofs.lemmas.List.Elements.{All-nil, All-cons}
@@ -18,6 +18,10 @@ use Rattle.certificate_text.specs.Written.{IsWritable}
 use Rattle.certificate_laws.proofs.ExtensionFacts.{extension_admissible}
 use Rattle.certificate_laws.proofs.KindFacts.{admissible_members, numbered_members}
 use Rattle.certificate_laws.proofs.Right.{accepted_right}
+use Rattle.oracle_face.specs.Logs.{OracleLog}
+use Rattle.session_log.specs.Ends.{IsShownBy as IsShownByLog}
+use Rattle.query_answers.specs.declared.evidence.Evidence.{Evidence}
+use Rattle.query_answers.specs.Answers.{IsEvidence}
 use Rattle.oracle_core.specs.Answers.{IsShownBy}
 
 stands : {X : Type 0} (xs : List X) (k : ℕ) (d : X) → k < length xs → Contains xs (slice_index_or xs k d)
@@ -76,3 +80,23 @@ shown_by f asked answer certificate numbered accepted writable =
       writable_answer = written f numbered asked.task.semantics asked.task.problem asked.number answer right;
       writable = writable;
     }
+
+-- steps that refute the claims show the answer by the log
+pub evidence_by_log : (f : Framework) (asked : Asked) (log : OracleLog) (evidence : Evidence)
+    → IsEvidence f asked log evidence → IsShownByLog f asked evidence.answer evidence.sets log
+evidence_by_log f asked log evidence is = record {
+  tests = is.tests;
+  refuted = λ k lt. record {
+    number = slice_index_or evidence.steps k 0;
+    refutes = is.refuted.each k (omega (arith, is.refuted.number));
+  };
+}
+
+-- an answer whose row has no claim is shown by any log
+pub empty_by_log : (f : Framework) (asked : Asked) (answer : Answer) (certificate : Certificate)
+    → IsShownBy f asked answer certificate → certificate.refutations ≡ [] → (log : OracleLog)
+    → IsShownByLog f asked answer certificate.sets log
+empty_by_log f asked answer certificate shown none log = record {
+  tests = shown.accepted.tests;
+  refuted = λ k lt. absurd (omega (arith, shown.accepted.number, ap length none));
+}

@@ -5,10 +5,11 @@ use Rattle.plain_lits.specs.declared.halt.Halt.TheVariants.{Spent as OfSpent, Lo
 use Rattle.semantics.specs.Frameworks.{Framework}
 use Rattle.iccma_tasks.specs.Tasks.{Asked}
 use Rattle.edit_rules.specs.Fitting.{Fits, IsFaultOf}
+use Rattle.oracle_face.specs.Logs.{OracleLog}
 use Rattle.atom_solver.specs.declared.origin.Origin.{Origin}
 use Rattle.atom_solver.specs.declared.origin.Origin.TheVariants.{Axiom, Side, Entry, Hints}
-use Rattle.log_certificates.specs.declared.read_log.StepOrigin.{StepOrigin}
-use Rattle.log_certificates.specs.declared.read_log.StepOrigin.TheVariants.{Axiom as OfAxiom, Side as OfSide, Derived}
+use Rattle.certificate_making.specs.log_certificates.specs.declared.read_log.StepOrigin.{StepOrigin}
+use Rattle.certificate_making.specs.log_certificates.specs.declared.read_log.StepOrigin.TheVariants.{Axiom as OfAxiom, Side as OfSide, Derived}
 use Rattle.query_answers.specs.Answers.{AreTooMany, is_by_grounded}
 use Rattle.oracle_core.specs.declared.reply.Answered.{Answered}
 use Rattle.oracle_core.specs.declared.reply.AnswerStop.{AnswerStop}
@@ -40,11 +41,11 @@ halt_behind (Err Memory) = Some OfMemory
 abbrev pub NeedsSearch : Framework → Asked → Type 0
 NeedsSearch f asked = Fits f asked × (is_by_grounded asked.task.problem asked.task.semantics ≡ false)
 
--- why there is no answer: the query has a fault, or else it fits, and a search was halted, more extensions than so many
--- were found, or memory was refused
-abbrev pub IsCause : Framework → Asked → ℕ → AnswerStop → Type 0
-IsCause f asked most (Query fault) = IsFaultOf f asked fault
-IsCause f asked most (Spent count) = NeedsSearch f asked
-IsCause f asked most TooMany = NeedsSearch f asked × AreTooMany f asked most
-IsCause f asked most LogFull = NeedsSearch f asked
-IsCause f asked most Memory = Fits f asked
+-- why there is no answer: the query has a fault, or else it fits, and a search was halted, the log behind it shows more
+-- extensions than so many, or memory was refused
+abbrev pub IsCause : Framework → Asked → ℕ → OracleLog → AnswerStop → Type 0
+IsCause f asked most log (Query fault) = IsFaultOf f asked fault
+IsCause f asked most log (Spent count) = NeedsSearch f asked
+IsCause f asked most log TooMany = NeedsSearch f asked × AreTooMany f asked most log
+IsCause f asked most log LogFull = NeedsSearch f asked
+IsCause f asked most log Memory = Fits f asked

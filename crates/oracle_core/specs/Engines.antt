@@ -1,5 +1,5 @@
 -- What contracts see of an engine, and what it keeps of the axioms that its framework needs.
-use Rattle.std.specs.Prelude.{◌≡◌, ◌⊎◌, ℕ, ◌≤◌, true, List, drop, length, Contains, Option}
+use Rattle.std.specs.Prelude.{◌≡◌, ◌⊎◌, ℕ, ◌≤◌, true, List, drop, length, Contains, Option, None}
 use Rattle.plain_lists.specs.Members.{IsSetOf}
 use Rattle.semantics.specs.Frameworks.{Framework, IsNumbered}
 use Rattle.meaning_atoms.specs.declared.atom.AtomLit.{AtomLit}
@@ -22,6 +22,10 @@ pub record EngineState : Type 0 where
   pub framework : Framework
   pub log : OracleLog
   pub pending : Option Pending
+
+-- the same with no clause in hand
+abbrev pub forgotten : EngineState → EngineState
+forgotten e = record e { pending = None }
 
 -- searches use the axiom
 pub record HasAxiom (log : OracleLog) (name : AxiomName) : Type 0 where

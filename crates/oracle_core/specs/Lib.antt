@@ -4,7 +4,11 @@ pub mod Engines
 pub mod Needing
 pub mod Readings
 pub mod Sharing
+pub mod Stepping
+pub mod SteppingLaws
 pub mod Stopping
 pub mod Trading
 pub mod TradingLaws
 pub mod Updating
+pub use Rattle.certificate_making.specs.log_certificates as log_certificates
+pub use Rattle.query_answers as query_answers

@@ -6,6 +6,7 @@ use Rattle.oracle_face.specs.Growing.{Making, Grows}
 use Rattle.oracle_face.specs.Logs.{OracleLog}
 use Rattle.entry_taking.specs.Taking.{ComesInOrMayNot}
 use Rattle.oracle_core.specs.Engines.{AreInForce, EngineState}
+use Rattle.oracle_core.specs.Stepping.{GoesOnBySteps}
 use Rattle.oracle_core.specs.declared.trading.TheConstants.{MOST_TAKEN}
 
 -- any side clauses
@@ -45,8 +46,8 @@ pub record TakesAll (f : Framework) (own : ℕ) (told : List Entry) (left : Opti
   pub from : TakesFrom f own told left old new
   pub emptied : IsEmptied told left
 
--- what a query leaves of an engine and a trade: where no entry was lost for want of memory, each that went from the list
--- was looked at
+-- what a query leaves of an engine and a trade: where memory wasn't refused on the way, each entry that went from the list
+-- was looked at, and the log went on by steps of the session
 pub record Trades (before after : EngineState) (left_before left_after : Option (List Entry))
     (lost_before lost_after : Bool) : Type 0 where
   pub number : after.number ≡ before.number
@@ -55,3 +56,4 @@ pub record Trades (before after : EngineState) (left_before left_after : Option 
   pub kept : lost_after ≡ false → lost_before ≡ false
   pub taken : lost_after ≡ false → (told : List Entry) → left_before ≡ Some told
       → TakesFrom before.framework before.number told left_after before.log after.log
+  pub stepped : lost_after ≡ false → GoesOnBySteps before.framework before.number before.log after.log

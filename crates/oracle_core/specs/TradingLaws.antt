@@ -7,6 +7,8 @@ use Rattle.oracle_face.specs.Growing.{Grows}
 use Rattle.oracle_face.specs.Logs.{OracleLog}
 use Rattle.oracle_face.proofs.GrowingLemmas.{grows_joined, grows_same}
 use Rattle.oracle_core.specs.Engines.{EngineState}
+use Rattle.oracle_core.specs.Stepping.{GoesOnBySteps}
+use Rattle.oracle_core.specs.SteppingLaws.{goes_on_joined, goes_on_none}
 use Rattle.oracle_core.specs.Trading.{AnySide, TakesFrom, TakesIn, Trades}
 
 pub goes_on : (a b c : OracleLog) → Grows AnySide a b → Grows AnySide b c → Grows AnySide a c
@@ -63,6 +65,7 @@ trades_none e left lost = record {
   grows = grows_same AnySide e.log;
   kept = λ so. so;
   taken = λ so told is. from_none e.framework e.number told left e.log e.log is (grows_same AnySide e.log);
+  stepped = λ so. goes_on_none e.framework e.number e.log;
 }
 
 pub trades_joined : (a b c : EngineState) (left_a left_b left_c : Option (List Entry)) (lost_a lost_b lost_c : Bool)
@@ -77,4 +80,7 @@ trades_joined a b c left_a left_b left_c lost_a lost_b lost_c h k = record {
       (h.taken (k.kept so) told is)
       (λ rest is_rest. subst (λ f. TakesFrom f a.number rest left_c b.log c.log) h.framework
       (subst (λ n. TakesFrom b.framework n rest left_c b.log c.log) h.number (k.taken so rest is_rest)));
+  stepped = λ so. goes_on_joined a.framework a.number a.log b.log c.log (h.stepped (k.kept so))
+      (subst (λ f. GoesOnBySteps f a.number b.log c.log) h.framework
+      (subst (λ n. GoesOnBySteps b.framework n b.log c.log) h.number (k.stepped so)));
 }

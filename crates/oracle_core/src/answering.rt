@@ -1,13 +1,14 @@
 //! Answers to queries.
 
-ghost use Rattle.std.specs.Prelude.{◌≡◌, ◌≢◌, ◌+◌, ◌*◌, ◌≤◌, true, false, length, IfErr, IfOk, OnOk, List, Some, Err};
+ghost use Rattle.std.specs.Prelude.{◌≡◌, ◌≢◌, ◌+◌, ◌*◌, ◌≤◌, true, false, length, IfErr, IfOk, OnOk, List, Some, Err, ℕ};
 ghost use Rattle.edit_rules.specs.Fitting.{Fits};
-ghost use Rattle.log_certificates.specs.Cuts.{AreCut};
+ghost use Rattle.certificate_making.specs.log_certificates.specs.Cuts.{AreCut};
 ghost use Rattle.oracle_face.specs.Growing.{HasRun, halt_of};
 ghost use Rattle.oracle_face.specs.declared.entry.Entry.{Entry as AnEntry};
-ghost use Rattle.session_log.specs.Ends.{MadeFor};
+ghost use Rattle.session_log.specs.Ends.{IsShownBy as IsShownByLog, LoopInHand, MadeFor};
 ghost use Rattle.query_answers.specs.Answers.{IsEvidence, IsOutcome, is_by_grounded};
 ghost use Rattle.oracle_core.specs.Answers.{IsShownBy};
+ghost use Rattle.oracle_core.specs.Stepping.{GoesOnBySteps};
 ghost use Rattle.oracle_core.specs.Trading.{IsEmptied, TakesFrom};
 ghost use Rattle.oracle_core.specs.Answering.{IsCause, NeedsSearch, halt_behind};
 
@@ -35,6 +36,8 @@ impl Engine {
     ) -> Result<Answered, Memory>
         requires { IsEvidence self.now.framework query.now self.now.log evidence }
         ensures shown { IfOk result (λ a. IsShownBy self.now.framework query.now a.answer a.certificate) }
+        ensures by_log { IfOk result (λ a.
+            IsShownByLog self.now.framework query.now a.answer a.certificate.sets self.now.log) }
         ensures units { IfOk result (λ a. a.units ≡ units) }
         ensures cut { IfOk result (λ a. AreCut self.now.log a.certificate.refutations) }
     {
@@ -75,6 +78,9 @@ impl Engine {
             self.old.framework self.old.log self.new.log self.new.pending budget.old budget.new (halt_of result) }
         ensures framework { self.new.framework ≡ self.old.framework }
         ensures number { self.new.number ≡ self.old.number }
+        ensures steps { result ≢ Err Halt.Memory
+            → GoesOnBySteps self.old.framework self.old.number self.old.log self.new.log }
+        ensures in_hand { LoopInHand self.new.log self.new.pending }
         ensures trade { result ≢ Err Halt.Memory → (told : List AnEntry) → T.left trade.old ≡ Some told
             → TakesFrom self.old.framework self.old.number told (T.left trade.new) self.old.log self.new.log }
         ensures emptied { OnOk result ((told : List AnEntry) → T.left trade.old ≡ Some told
@@ -106,13 +112,18 @@ impl Engine {
     ) -> Result<Answered, AnswerStop>
         requires { NeedsSearch self.old.framework query.now }
         ensures shown { IfOk result (λ a. IsShownBy self.old.framework query.now a.answer a.certificate) }
+        ensures by_log { IfOk result (λ a.
+            IsShownByLog self.old.framework query.now a.answer a.certificate.sets self.new.log) }
         ensures units { IfOk result (λ a. a.units ≡ budget.new.used) }
         ensures cut { IfOk result (λ a. AreCut self.new.log a.certificate.refutations) }
-        ensures cause { IfErr result (IsCause self.old.framework query.now limit) }
+        ensures cause { IfErr result (IsCause self.old.framework query.now limit self.new.log) }
         ensures run { HasRun (MadeFor self.old.framework query.now) (2 * length self.new.log.sides + 2)
             self.old.framework self.old.log self.new.log self.new.pending budget.old budget.new (halt_behind result) }
         ensures framework { self.new.framework ≡ self.old.framework }
         ensures number { self.new.number ≡ self.old.number }
+        ensures steps { result ≢ Err AnswerStop.Memory
+            → GoesOnBySteps self.old.framework self.old.number self.old.log self.new.log }
+        ensures in_hand { LoopInHand self.new.log self.new.pending }
         ensures trade { result ≢ Err AnswerStop.Memory → (told : List AnEntry) → T.left trade.old ≡ Some told
             → TakesFrom self.old.framework self.old.number told (T.left trade.new) self.old.log self.new.log }
         ensures emptied { OnOk result ((told : List AnEntry) → T.left trade.old ≡ Some told
@@ -143,16 +154,22 @@ impl Engine {
         requires { budget.old.used ≡ 0 }
         ensures fits { OnOk result (Fits self.old.framework query.now) }
         ensures shown { IfOk result (λ a. IsShownBy self.old.framework query.now a.answer a.certificate) }
+        ensures by_log { IfOk result (λ a.
+            IsShownByLog self.old.framework query.now a.answer a.certificate.sets self.new.log) }
         ensures units { IfOk result (λ a. a.units ≡ budget.new.used) }
         ensures within { budget.new.used ≤ budget.new.limit }
         ensures cut { IfOk result (λ a. AreCut self.new.log a.certificate.refutations) }
-        ensures cause { IfErr result (IsCause self.old.framework query.now limit) }
+        ensures cause { IfErr result (IsCause self.old.framework query.now limit self.new.log) }
         ensures run { HasRun (MadeFor self.old.framework query.now) (2 * length self.new.log.sides + 2)
             self.old.framework self.old.log self.new.log self.new.pending budget.old budget.new (halt_behind result) }
         ensures by_grounded { is_by_grounded query.now.task.problem query.now.task.semantics ≡ true
             → (self.new ≡ self.old) × (budget.new ≡ budget.old) }
         ensures framework { self.new.framework ≡ self.old.framework }
         ensures number { self.new.number ≡ self.old.number }
+        ensures steps { result ≢ Err AnswerStop.Memory
+            → GoesOnBySteps self.old.framework self.old.number self.old.log self.new.log }
+        ensures in_hand { (count : ℕ) → result ≡ Err (AnswerStop.Spent count)
+            → LoopInHand self.new.log self.new.pending }
         ensures trade { result ≢ Err AnswerStop.Memory → (told : List AnEntry) → T.left trade.old ≡ Some told
             → TakesFrom self.old.framework self.old.number told (T.left trade.new) self.old.log self.new.log }
         ensures emptied { OnOk result (is_by_grounded query.now.task.problem query.now.task.semantics ≡ false

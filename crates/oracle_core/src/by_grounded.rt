@@ -5,6 +5,8 @@ ghost use Rattle.certificate_claims.specs.Rights.{IsExtension};
 ghost use Rattle.iccma_tasks.specs.Tasks.{FitsTask};
 ghost use Rattle.edit_rules.specs.Kinds.{framework_of};
 ghost use Rattle.oracle_core.specs.Answers.{IsAnswerBy, IsShownBy, answer_by, no_certificate};
+ghost use Rattle.oracle_face.specs.Logs.{OracleLog};
+ghost use Rattle.session_log.specs.Ends.{IsShownBy as IsShownByLog};
 ghost use Rattle.query_answers.specs.Answers as answers;
 
 use crate::engine::accepts;
@@ -107,6 +109,8 @@ pub fn answer_by_grounded(
         a.certificate)) }
     ensures units { IfOk result (λ found. IfSome found (λ a. a.units ≡ 0)) }
     ensures empty { IfOk result (λ found. IfSome found (λ a. a.certificate.refutations ≡ [])) }
+    ensures by_log { IfOk result (λ found. IfSome found (λ a. (log : OracleLog)
+        → IsShownByLog (framework_of framework.now) query.now a.answer a.certificate.sets log)) }
     ensures others { IfOk result (λ found. IsNone found
         ↔ (answers.is_by_grounded query.now.task.problem query.now.task.semantics ≡ false)) }
 {

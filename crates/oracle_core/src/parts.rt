@@ -1,6 +1,6 @@
 //! What an engine is made of.
 
-ghost use Rattle.std.specs.Prelude.{◌≡◌, ℕ, ◌≤◌, IfOk, OnOk, None, true};
+ghost use Rattle.std.specs.Prelude.{◌≡◌, ◌≢◌, ℕ, ◌≤◌, AllPairs, IfOk, OnOk, None, false, length, true};
 ghost use Rattle.plain_lits.specs.HintCheck.{IsTautology};
 ghost use Rattle.plain_lits.specs.Units.{Units};
 ghost use Rattle.meaning_atoms.specs.Literals.{negated};
@@ -9,7 +9,9 @@ ghost use Rattle.edit_rules.specs.Kinds.{framework_of};
 ghost use Rattle.hinted_log.specs.declared.log.TheConstants.{MOST_STEPS};
 ghost use Rattle.oracle_face.specs.Entries.{IsShareable};
 ghost use Rattle.oracle_face.specs.Goals.{AreGoals, IsSide};
-ghost use Rattle.oracle_face.specs.Growing.{HasRun, IsFound, NoSide, Obliges, OnlySide, closes, halt_of};
+ghost use Rattle.oracle_face.specs.Growing.{HasRun, IsFound, NoSide, Obliges, OnlySide, UnlessMemory, closes, halt_of};
+ghost use Rattle.session_log.specs.Ends.{LoopInHand};
+ghost use Rattle.session_log.specs.Steps.{LearnsClauses};
 ghost use Rattle.atom_solver.specs.Searches.{AreUnfixed, IsAnswer, Satisfies, ends_in};
 ghost use Rattle.oracle_face.specs.Decoding.{IsNewLoop};
 ghost use Rattle.oracle_core.specs.Engines.{AreInForce, HasRange, IsWhole};
@@ -17,6 +19,7 @@ ghost use Rattle.entry_taking.specs.Taking.{ComesInOrMayNot};
 ghost use Rattle.oracle_core.specs.Needing.{AreNeeded};
 ghost use Rattle.oracle_core.specs.Updating.{GainsNeeded};
 ghost use Rattle.oracle_core.specs.Readings.{IsTurn, closes_turn};
+ghost use Rattle.oracle_core.specs.Stepping.{EndsInHand, GoesOnBySteps, in_hand_behind, lost_by};
 ghost use Rattle.oracle_face.specs.Kinds.{is_assumption_based};
 ghost use Rattle.atom_solver.specs.States.{empty_log};
 
@@ -77,7 +80,7 @@ pub(crate) fn needed_of(alloc: Global, framework: &Framework) -> Result<Items<Ax
 {
     match framework {
         Framework::Af(plain) => af_encoding::needed(alloc, plain),
-        Framework::Aba(plain) => aba_needed::needed(alloc, plain),
+        Framework::Aba(plain) => aba_changed::aba_needed::needed(alloc, plain),
     }
 }
 
@@ -130,33 +133,34 @@ impl Parts {
         })
     }
 
-    /// Works out which axioms the framework needs, where that isn't done.
-    fn begin(&mut self, alloc: Global) -> Result<(), Memory>
-        requires { IsWhole self.old }
+    /// Works out which axioms the framework needs.
+    fn list_needed(&mut self, alloc: Global) -> Result<(), Memory>
+        requires whole { IsWhole self.old }
         ensures whole { IsWhole self.new }
         ensures begun { OnOk result (self.new.begun ≡ true) }
+        ensures once { OnOk result (AllPairs (λ x y. x ≢ y) self.new.needed) }
         ensures framework { self.new.framework ≡ self.old.framework }
         ensures solver { self.new.solver ≡ self.old.solver }
     {
-        if self.begun {
-            return Ok(());
-        }
         self.needed = needed_of(alloc, &self.framework)?;
         self.taken = 0;
         self.begun = true;
         Ok(())
     }
 
-    /// Hands the axioms that still wait to the solver. It looks at no names, so it is the quick way where the log can't
-    /// have them.
-    fn take_needed(&mut self, alloc: Global) -> Result<(), Halt>
+    /// Hands the listed axioms to the solver, of which the log has none, since it has no step. It looks at no names, so it
+    /// is the quick way.
+    fn take_listed(&mut self, alloc: Global) -> Result<(), Halt>
         requires whole { IsWhole self.old }
         requires begun { self.old.begun ≡ true }
+        requires once { AllPairs (λ x y. x ≢ y) self.old.needed }
+        requires empty { length self.old.solver.log.steps ≡ 0 }
         ensures whole { IsWhole self.new }
         ensures in_force { OnOk result (AreInForce (framework_of self.new.framework) self.new.solver.log) }
         ensures framework { self.new.framework ≡ self.old.framework }
         ensures run { (units : Units) → HasRun NoSide 0 (framework_of self.old.framework) self.old.solver.log
             self.new.solver.log self.new.solver.pending units units (halt_of result) }
+        ensures gains { GainsNeeded (framework_of self.old.framework) self.old.solver.log self.new.solver.log }
     {
         while self.taken < self.needed.len() {
             let name = self.needed.as_slice()[self.taken].copy(alloc)?;
@@ -186,7 +190,24 @@ impl Parts {
         Ok(())
     }
 
-    /// Puts the axioms that the framework needs in force.
+    /// Works out which axioms the framework needs, and puts them in force.
+    fn begin(&mut self, alloc: Global) -> Result<(), Halt>
+        requires whole { IsWhole self.old }
+        ensures whole { IsWhole self.new }
+        ensures in_force { OnOk result (AreInForce (framework_of self.new.framework) self.new.solver.log) }
+        ensures framework { self.new.framework ≡ self.old.framework }
+        ensures run { (units : Units) → HasRun NoSide 0 (framework_of self.old.framework) self.old.solver.log
+            self.new.solver.log self.new.solver.pending units units (halt_of result) }
+        ensures gains { GainsNeeded (framework_of self.old.framework) self.old.solver.log self.new.solver.log }
+    {
+        self.list_needed(alloc)?;
+        if self.solver.len() > 0 {
+            return self.take_lacking(alloc);
+        }
+        self.take_listed(alloc)
+    }
+
+    /// Puts the axioms that the framework needs in force, each of which comes once at most.
     pub(crate) fn force(&mut self, alloc: Global) -> Result<(), Halt>
         requires whole { IsWhole self.old }
         ensures whole { IsWhole self.new }
@@ -194,9 +215,13 @@ impl Parts {
         ensures framework { self.new.framework ≡ self.old.framework }
         ensures run { (units : Units) → HasRun NoSide 0 (framework_of self.old.framework) self.old.solver.log
             self.new.solver.log self.new.solver.pending units units (halt_of result) }
+        ensures steps { (own : ℕ) → GoesOnBySteps (framework_of self.old.framework) own self.old.solver.log
+            self.new.solver.log }
     {
-        self.begin(alloc)?;
-        self.take_needed(alloc)
+        if self.begun {
+            return self.take_lacking(alloc);
+        }
+        self.begin(alloc)
     }
 
     /// Takes an entry in, where it may come in.
@@ -209,6 +234,7 @@ impl Parts {
             self.new.solver.log self.new.solver.pending units units None }
         ensures comes { OnOk result (ComesInOrMayNot (framework_of self.old.framework) own entry.now
             self.old.solver.log self.new.solver.log) }
+        ensures steps { GoesOnBySteps (framework_of self.old.framework) own self.old.solver.log self.new.solver.log }
     {
         let assumption_based = is_aba(&self.framework);
         take_in(
@@ -238,6 +264,8 @@ impl Parts {
             → AreInForce (framework_of self.old.framework) self.new.solver.log }
         ensures run { HasRun NoSide (ends_in result) (framework_of self.old.framework) self.old.solver.log
             self.new.solver.log self.new.solver.pending budget.old budget.new (halt_of result) }
+        ensures learns { UnlessMemory (halt_of result) (LearnsClauses self.old.solver.log self.new.solver.log) }
+        ensures in_hand { EndsInHand (halt_of result) self.new.solver.log self.new.solver.pending }
     {
         match &self.framework {
             Framework::Af(plain) => self
@@ -264,6 +292,9 @@ impl Parts {
         ensures obliges { IfOk result (Obliges side.now self.old.solver.log self.new.solver.log) }
         ensures run { HasRun (OnlySide side.now from.now) 0 (framework_of self.old.framework) self.old.solver.log
             self.new.solver.log self.new.solver.pending budget.old budget.new (halt_of result) }
+        ensures steps { (own : ℕ) → GoesOnBySteps (framework_of self.old.framework) own self.old.solver.log
+            self.new.solver.log }
+        ensures in_hand { EndsInHand (halt_of result) self.new.solver.log self.new.solver.pending }
     {
         self.solver.oblige(alloc, side, from, budget)
     }
@@ -286,6 +317,9 @@ impl Parts {
             goals.now) }
         ensures run { HasRun NoSide (closes_turn result) (framework_of self.old.framework) self.old.solver.log
             self.new.solver.log self.new.solver.pending budget.old budget.new (halt_of result) }
+        ensures steps { (own : ℕ) → GoesOnBySteps (framework_of self.old.framework) own self.old.solver.log
+            self.new.solver.log }
+        ensures in_hand { EndsInHand (halt_of result) self.new.solver.log self.new.solver.pending }
     {
         match read_model(alloc, &self.framework, values)? {
             Reading::Set(set) => Ok(Some(Found::Set(set))),
@@ -311,7 +345,11 @@ impl Parts {
             goals.now) }
         ensures run { HasRun NoSide (closes_turn result) (framework_of self.old.framework) self.old.solver.log
             self.new.solver.log self.new.solver.pending budget.old budget.new (halt_of result) }
+        ensures steps { (own : ℕ) → GoesOnBySteps (framework_of self.old.framework) own self.old.solver.log
+            self.new.solver.log }
+        ensures in_hand { EndsInHand (halt_of result) self.new.solver.log self.new.solver.pending }
     {
+        let _uses = self.solver.len();
         self.solver.take_loop(alloc, name, budget)?;
         Ok(None)
     }
@@ -332,6 +370,9 @@ impl Parts {
             goals.now) }
         ensures run { HasRun NoSide (closes_turn result) (framework_of self.old.framework) self.old.solver.log
             self.new.solver.log self.new.solver.pending budget.old budget.new (halt_of result) }
+        ensures steps { UnlessMemory (halt_of result) ((own : ℕ) → GoesOnBySteps (framework_of self.old.framework) own
+            self.old.solver.log self.new.solver.log) }
+        ensures in_hand { EndsInHand (halt_of result) self.new.solver.log self.new.solver.pending }
     {
         match self.search(alloc, goals, budget)? {
             Searched::Model(values) => self.read(alloc, goals, values.as_slice(), budget),
@@ -355,6 +396,9 @@ impl Parts {
         ensures found { IfOk result (IsFound (framework_of self.old.framework) self.new.solver.log goals.now) }
         ensures run { HasRun NoSide (closes result) (framework_of self.old.framework) self.old.solver.log
             self.new.solver.log self.new.solver.pending budget.old budget.new (halt_of result) }
+        ensures steps { UnlessMemory (halt_of result) ((own : ℕ) → GoesOnBySteps (framework_of self.old.framework) own
+            self.old.solver.log self.new.solver.log) }
+        ensures in_hand { EndsInHand (halt_of result) self.new.solver.log self.new.solver.pending }
     {
         'models: loop {
             match self.turn(alloc, goals, budget)? {
@@ -378,9 +422,97 @@ impl Parts {
         ensures found { IfOk result (IsFound (framework_of self.old.framework) self.new.solver.log goals.now) }
         ensures run { HasRun NoSide (closes result) (framework_of self.old.framework) self.old.solver.log
             self.new.solver.log self.new.solver.pending budget.old budget.new (halt_of result) }
+        ensures steps { UnlessMemory (halt_of result) ((own : ℕ) → GoesOnBySteps (framework_of self.old.framework) own
+            self.old.solver.log self.new.solver.log) }
+        ensures in_hand { EndsInHand (halt_of result) self.new.solver.log self.new.solver.pending }
     {
-        self.begin(alloc)?;
-        self.take_needed(alloc)?;
+        self.force(alloc)?;
         self.find_forced(alloc, goals, budget)
+    }
+
+    /// Behind a call that ended so, forgets the clause in hand unless the budget was spent, and raises the flag where memory
+    /// was refused.
+    fn settle(&mut self, halt: Option<Halt>, lost: &mut bool)
+        ensures parts { self.new ≡ record self.old {
+          solver = record {
+            log = self.old.solver.log;
+            pending = in_hand_behind halt self.old.solver.pending;
+          };
+        } }
+        ensures lost { lost.new ≡ lost_by halt lost.old }
+    {
+        match halt {
+            Some(Halt::Spent(_)) => {}
+            Some(Halt::Memory) => {
+                *lost = true;
+                self.solver.take_pending();
+            }
+            Some(Halt::LogFull) | None => {
+                self.solver.take_pending();
+            }
+        }
+    }
+
+    /// As `find`; behind it a clause is in hand only where the budget was spent, and the flag is raised where memory was
+    /// refused.
+    pub(crate) fn find_settled(
+        &mut self,
+        alloc: Global,
+        goals: &[AtomLit],
+        budget: &mut Budget,
+        lost: &mut bool,
+    ) -> Result<Found, Halt>
+        requires whole { IsWhole self.old }
+        requires goals { AreGoals (framework_of self.old.framework) self.old.solver.log.sides goals.now }
+        ensures whole { IsWhole self.new }
+        ensures framework { self.new.framework ≡ self.old.framework }
+        ensures found { IfOk result (IsFound (framework_of self.old.framework) self.new.solver.log goals.now) }
+        ensures run { HasRun NoSide (closes result) (framework_of self.old.framework) self.old.solver.log
+            self.new.solver.log self.new.solver.pending budget.old budget.new (halt_of result) }
+        ensures kept { lost.new ≡ false → lost.old ≡ false }
+        ensures steps { lost.new ≡ false → (own : ℕ) → GoesOnBySteps (framework_of self.old.framework) own
+            self.old.solver.log self.new.solver.log }
+        ensures in_hand { LoopInHand self.new.solver.log self.new.solver.pending }
+    {
+        let end = self.find(alloc, goals, budget);
+        self.settle(halt_in(&end), lost);
+        end
+    }
+
+    /// As `oblige`; behind it a clause is in hand only where the budget was spent, and the flag is raised where memory was
+    /// refused.
+    pub(crate) fn oblige_settled(
+        &mut self,
+        alloc: Global,
+        side: &[AtomLit],
+        from: &NumSet,
+        budget: &mut Budget,
+        lost: &mut bool,
+    ) -> Result<AskId, Halt>
+        requires whole { IsWhole self.old }
+        requires side { IsSide side.now }
+        ensures whole { IsWhole self.new }
+        ensures framework { self.new.framework ≡ self.old.framework }
+        ensures obliges { IfOk result (Obliges side.now self.old.solver.log self.new.solver.log) }
+        ensures run { HasRun (OnlySide side.now from.now) 0 (framework_of self.old.framework) self.old.solver.log
+            self.new.solver.log self.new.solver.pending budget.old budget.new (halt_of result) }
+        ensures kept { lost.new ≡ false → lost.old ≡ false }
+        ensures steps { (own : ℕ) → GoesOnBySteps (framework_of self.old.framework) own self.old.solver.log
+            self.new.solver.log }
+        ensures in_hand { LoopInHand self.new.solver.log self.new.solver.pending }
+    {
+        let end = self.oblige(alloc, side, from, budget);
+        self.settle(halt_in(&end), lost);
+        end
+    }
+}
+
+/// The halt that a call answered, if it did.
+fn halt_in<T>(end: &Result<T, Halt>) -> Option<Halt>
+    ensures { result ≡ halt_of end.now }
+{
+    match end {
+        Ok(_) => None,
+        Err(halt) => Some(*halt),
     }
 }

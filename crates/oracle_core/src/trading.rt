@@ -1,13 +1,16 @@
 //! Entries that an engine takes from a trade before it searches.
 
-ghost use Rattle.std.specs.Prelude.{◌≡◌, ◌≢◌, Err, IfOk, List, None, OnOk, Some};
+ghost use Rattle.std.specs.Prelude.{◌≡◌, ◌≢◌, Err, IfOk, List, None, OnOk, Option, Some, false};
 ghost use Rattle.edit_rules.specs.Kinds.{framework_of};
-ghost use Rattle.oracle_face.specs.Goals.{AreGoals};
-ghost use Rattle.oracle_face.specs.Growing.{HasRun, IsFound, NoSide, closes, halt_of};
+ghost use Rattle.oracle_face.specs.Goals.{AreGoals, IsSide};
+ghost use Rattle.oracle_face.specs.Growing.{HasRun, IsFound, NoSide, Obliges, OnlySide, closes, halt_of};
 ghost use Rattle.oracle_face.specs.Logs.{IsKept};
 ghost use Rattle.oracle_face.specs.declared.entry.Entry.{Entry as AnEntry};
 ghost use Rattle.plain_lits.specs.Units.{Units};
 ghost use Rattle.oracle_core.specs.Engines.{AreInForce, IsWhole};
+ghost use Rattle.session_log.specs.Ends.{LoopInHand};
+ghost use Rattle.oracle_core.specs.Engines.{forgotten};
+ghost use Rattle.oracle_core.specs.Stepping.{GoesOnBySteps};
 ghost use Rattle.oracle_core.specs.Trading.{IsEmptied, TakesAll, Trades};
 
 use crate::engine::Engine;
@@ -35,6 +38,7 @@ pub(crate) fn take_all<T: ClauseTrade>(
     ensures framework { parts.new.framework ≡ parts.old.framework }
     ensures run { (units : Units) → HasRun NoSide 0 (framework_of parts.old.framework) parts.old.solver.log
         parts.new.solver.log parts.new.solver.pending units units None }
+    ensures steps { GoesOnBySteps (framework_of parts.old.framework) own parts.old.solver.log parts.new.solver.log }
     ensures all { OnOk result ((told : List AnEntry) → T.left trade.old ≡ Some told
         → TakesAll (framework_of parts.old.framework) own told (T.left trade.new) parts.old.solver.log
         parts.new.solver.log) }
@@ -56,6 +60,7 @@ impl Engine {
         ensures in_force { OnOk result (AreInForce self.new.framework self.new.log) }
         ensures run { (units : Units) → HasRun NoSide 0 self.old.framework self.old.log self.new.log self.new.pending
             units units (halt_of result) }
+        ensures steps { GoesOnBySteps self.old.framework self.old.number self.old.log self.new.log }
         ensures number { self.new.number ≡ self.old.number }
         ensures framework { self.new.framework ≡ self.old.framework }
         ensures kept { IsKept self.new.framework self.new.log }
@@ -70,6 +75,7 @@ impl Engine {
             → TakesAll self.old.framework self.old.number told (T.left trade.new) self.old.log self.new.log) }
         ensures run { (units : Units) → HasRun NoSide 0 self.old.framework self.old.log self.new.log self.new.pending
             units units None }
+        ensures steps { GoesOnBySteps self.old.framework self.old.number self.old.log self.new.log }
         ensures number { self.new.number ≡ self.old.number }
         ensures framework { self.new.framework ≡ self.old.framework }
         ensures kept { IsKept self.new.framework self.new.log }
@@ -79,6 +85,38 @@ impl Engine {
 
     /// Puts the axioms in force and takes what a trade gives. The flag is raised where memory is refused while entries are
     /// taken: one may be lost then.
+    fn force_and_take<T: ClauseTrade>(
+        &mut self,
+        alloc: Global,
+        trade: &mut T,
+        lost: &mut bool,
+    ) -> Result<(), Halt>
+        ensures trades { Trades self.old self.new (T.left trade.old) (T.left trade.new) lost.old lost.new }
+        ensures all { OnOk result ((told : List AnEntry) → T.left trade.old ≡ Some told
+            → IsEmptied told (T.left trade.new)) }
+        ensures only_lost { result ≢ Err Halt.Memory → lost.new ≡ lost.old }
+        ensures run { (units : Units) → HasRun NoSide 0 self.old.framework self.old.log self.new.log self.new.pending
+            units units (halt_of result) }
+    {
+        self.force(alloc)?;
+        let taken = self.take_all(alloc, trade);
+        if taken.is_err() {
+            *lost = true;
+            return Err(Halt::Memory);
+        }
+        Ok(())
+    }
+
+    /// Forgets the clause in hand.
+    fn forget(&mut self)
+        ensures forgotten { self.new ≡ forgotten self.old }
+        ensures kept { IsKept self.new.framework self.new.log }
+    {
+        self.parts.solver.take_pending();
+    }
+
+    /// Puts the axioms in force and takes what a trade gives, behind which no clause is in hand. The flag is raised where
+    /// memory is refused while entries are taken: one may be lost then.
     pub(crate) fn prepare<T: ClauseTrade>(
         &mut self,
         alloc: Global,
@@ -91,39 +129,79 @@ impl Engine {
         ensures only_lost { result ≢ Err Halt.Memory → lost.new ≡ lost.old }
         ensures run { (units : Units) → HasRun NoSide 0 self.old.framework self.old.log self.new.log self.new.pending
             units units (halt_of result) }
+        ensures pending { self.new.pending ≡ None }
         ensures kept { IsKept self.new.framework self.new.log }
     {
-        self.force(alloc)?;
-        let taken = self.take_all(alloc, trade);
-        if taken.is_err() {
-            *lost = true;
-            return Err(Halt::Memory);
-        }
-        Ok(())
+        let end = self.force_and_take(alloc, trade, lost);
+        self.forget();
+        end
     }
 }
 
 impl Engine {
-    /// One search, behind which a trade is offered what was derived.
+    /// One search. The flag is raised where memory is refused.
+    fn find_settled(
+        &mut self,
+        alloc: Global,
+        goals: &[AtomLit],
+        budget: &mut Budget,
+        lost: &mut bool,
+    ) -> Result<Found, Halt>
+        requires { AreGoals self.old.framework self.old.log.sides goals.now }
+        ensures found { IfOk result (IsFound self.old.framework self.new.log goals.now) }
+        ensures run { HasRun NoSide (closes result) self.old.framework self.old.log self.new.log self.new.pending
+            budget.old budget.new (halt_of result) }
+        ensures number { self.new.number ≡ self.old.number }
+        ensures framework { self.new.framework ≡ self.old.framework }
+        ensures kept { IsKept self.new.framework self.new.log }
+        ensures lost { lost.new ≡ false → lost.old ≡ false }
+        ensures steps { lost.new ≡ false
+            → GoesOnBySteps self.old.framework self.old.number self.old.log self.new.log }
+        ensures in_hand { LoopInHand self.new.log self.new.pending }
+    {
+        self.parts.find_settled(alloc, goals, budget, lost)
+    }
+
+    /// One search, behind which a trade is offered what was derived. The flag is raised where memory is refused.
     fn find_and_offer<T: ClauseTrade>(
         &mut self,
         alloc: Global,
         goals: &[AtomLit],
         budget: &mut Budget,
         trade: &mut T,
+        lost: &mut bool,
     ) -> Result<Found, Halt>
         requires { AreGoals self.old.framework self.old.log.sides goals.now }
         ensures found { IfOk result (IsFound self.old.framework self.new.log goals.now) }
         ensures run { HasRun NoSide (closes result) self.old.framework self.old.log self.new.log self.new.pending
             budget.old budget.new (halt_of result) }
-        ensures framework { self.new.framework ≡ self.old.framework }
+        ensures trades { Trades self.old self.new (T.left trade.old) (T.left trade.new) lost.old lost.new }
         ensures kept { IsKept self.new.framework self.new.log }
-        ensures number { self.new.number ≡ self.old.number }
-        ensures left { T.left trade.new ≡ T.left trade.old }
+        ensures in_hand { LoopInHand self.new.log self.new.pending }
     {
-        let end = self.find(alloc, goals, budget);
+        let end = self.find_settled(alloc, goals, budget, lost);
         self.offer(alloc, trade);
         end
+    }
+
+    /// The number of a side clause. The flag is raised where memory is refused.
+    fn oblige_settled(
+        &mut self,
+        alloc: Global,
+        side: &[AtomLit],
+        from: &NumSet,
+        budget: &mut Budget,
+        lost: &mut bool,
+    ) -> Result<AskId, Halt>
+        requires { IsSide side.now }
+        ensures obliges { IfOk result (Obliges side.now self.old.log self.new.log) }
+        ensures run { HasRun (OnlySide side.now from.now) 0 self.old.framework self.old.log self.new.log
+            self.new.pending budget.old budget.new (halt_of result) }
+        ensures trades { (left : Option (List AnEntry)) → Trades self.old self.new left left lost.old lost.new }
+        ensures kept { IsKept self.new.framework self.new.log }
+        ensures in_hand { LoopInHand self.new.log self.new.pending }
+    {
+        self.parts.oblige_settled(alloc, side, from, budget, lost)
     }
 }
 
@@ -135,11 +213,13 @@ pub(crate) struct Trading<'a, T: ClauseTrade> {
     pub(crate) trade: &'a mut T,
     /// Whether the trade gave what it has for the next search already.
     pub(crate) ready: bool,
-    /// Whether an entry may have been lost for want of memory.
+    /// Whether memory was refused on the way: an entry may be lost then, and steps may have come that nothing tells.
     pub(crate) lost: bool,
 }
 
 impl<'a, T: ClauseTrade> Oracle for Trading<'a, T> {
+    ghost use Rattle.oracle_core.specs.Stepping.{ServesInHand};
+    ghost use Rattle.oracle_core.specs.SteppingLaws.{in_hand_joined, in_hand_none};
     ghost use Rattle.oracle_core.specs.Trading.{Trades};
     ghost use Rattle.oracle_core.specs.TradingLaws.{trades_none, trades_joined};
     ghost use Rattle.std.proofs.Common.{◌≡◌, ◌∙◌, refl};
@@ -153,7 +233,8 @@ impl<'a, T: ClauseTrade> Oracle for Trading<'a, T> {
     ghost follows = { λ before after. (after.engine.ghost_name ≡ before.engine.ghost_name)
         × (after.trade.ghost_name ≡ before.trade.ghost_name)
         × Trades before.engine.now after.engine.now (T.left before.trade.now) (T.left after.trade.now) before.lost
-        after.lost };
+        after.lost
+        × ServesInHand before.engine.now after.engine.now };
 
     fn members(&self) -> &NumSet {
         self.engine.members()
@@ -171,10 +252,13 @@ impl<'a, T: ClauseTrade> Oracle for Trading<'a, T> {
     ) -> Result<Found, Halt> {
         if self.ready {
             self.ready = false;
-            return self.engine.find_and_offer(alloc, goals, budget, self.trade);
+            return self
+                .engine
+                .find_and_offer(alloc, goals, budget, self.trade, &mut self.lost);
         }
         self.engine.prepare(alloc, self.trade, &mut self.lost)?;
-        self.engine.find_and_offer(alloc, goals, budget, self.trade)
+        self.engine
+            .find_and_offer(alloc, goals, budget, self.trade, &mut self.lost)
     }
 
     fn oblige(
@@ -184,7 +268,8 @@ impl<'a, T: ClauseTrade> Oracle for Trading<'a, T> {
         from: &NumSet,
         budget: &mut Budget,
     ) -> Result<AskId, Halt> {
-        self.engine.oblige(alloc, side, from, budget)
+        self.engine
+            .oblige_settled(alloc, side, from, budget, &mut self.lost)
     }
 
     fn range(&self, alloc: Global, set: &NumSet) -> Result<NumSet, Memory> {
@@ -195,12 +280,18 @@ impl<'a, T: ClauseTrade> Oracle for Trading<'a, T> {
         self.engine.accepts(alloc, goal, set)
     }
 
-    ghost stays = { λ t. (refl, refl, trades_none t.engine.now (T.left t.trade.now) t.lost) };
+    ghost stays = { λ t. (
+      refl,
+      refl,
+      trades_none t.engine.now (T.left t.trade.now) t.lost,
+      in_hand_none t.engine.now,
+    ) };
 
     ghost joins = { λ before between after first second. (
       second.0 ∙ first.0,
       second.1 ∙ first.1,
       trades_joined before.engine.now between.engine.now after.engine.now (T.left before.trade.now)
           (T.left between.trade.now) (T.left after.trade.now) before.lost between.lost after.lost first.2 second.2,
+      in_hand_joined before.engine.now between.engine.now after.engine.now first.3 second.3,
     ) };
 }

@@ -3,14 +3,14 @@ use Rattle.std.proofs.Common.{◌≡◌, inl, inr, ⊎_elim, ℕ, ◌-◌, ◌<�
 use Rattle.std.specs.Prelude.{Contains}
 use Rattle.std.proofs.lemmas.List.{get_or_append_left, length-append, length-map, length-take-le, take_all}
 use Rattle.plain_lits.proofs.HintCheckLemmas.{taken_sound}
-use Rattle.semantics.specs.Frameworks.{Framework}
-use Rattle.meaning_atoms.specs.declared.atom.Atom.{Atom}
-use Rattle.meaning_atoms.specs.declared.atom.Atom.TheVariants.{Ask}
-use Rattle.meaning_atoms.specs.declared.atom.AtomLit.{AtomLit}
-use Rattle.meaning_atoms.specs.Literals.{affirmed, negated, AsksNothing}
-use Rattle.meaning_atoms.specs.Worlds.{world_of, IsWorldOf, Holds, HoldsOf, Says, IsTrueAlone}
-use Rattle.meaning_atoms.proofs.Clauses.{alone_holds, holds_alone, says_moved}
-use Rattle.af_axioms.specs.Facts.{IsFactValue}
+use Rattle.certificate_claims.specs.semantics.specs.Frameworks.{Framework}
+use Rattle.certificate_claims.specs.meaning_atoms.specs.declared.atom.Atom.{Atom}
+use Rattle.certificate_claims.specs.meaning_atoms.specs.declared.atom.Atom.TheVariants.{Ask}
+use Rattle.certificate_claims.specs.meaning_atoms.specs.declared.atom.AtomLit.{AtomLit}
+use Rattle.certificate_claims.specs.meaning_atoms.specs.Literals.{affirmed, negated, AsksNothing}
+use Rattle.certificate_claims.specs.meaning_atoms.specs.Worlds.{world_of, IsWorldOf, Holds, HoldsOf, Says, IsTrueAlone}
+use Rattle.certificate_claims.specs.meaning_atoms.proofs.Clauses.{alone_holds, holds_alone, says_moved}
+use Rattle.certificate_claims.specs.af_axioms.specs.Facts.{IsFactValue}
 use Rattle.certificate_claims.specs.Refutations.{Claim, IsPlain, IsExcluded, MeetsSides}
 use Rattle.oracle_face.specs.Logs.{LogStep, SideClause, OracleLog, Source, by_axiom, by_side, by_hints, IsGiven, IsLog, IsNumberOf, IsSameClause, Reaches, itself, by_hint, hints_of, literals_of, clauses_of, step_at, side_at, no_side, no_step}
 use Rattle.oracle_face.specs.Goals.{MakesTrue, RefutesGoals, IsClaimSide, DeniesSide, IsWithinClaim, Refutes}

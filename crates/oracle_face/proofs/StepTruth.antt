@@ -7,18 +7,18 @@ use Rattle.std.proofs.lemmas.List.Elements.{Contains-get_or}
 use Rattle.plain_lists.proofs.Membership.{Contains-head, Contains-tail}
 use Rattle.plain_lits.specs.HintCheck.{Checks, IsTrueClause, IsValuation, clause_at}
 use Rattle.plain_lits.proofs.HintCheckLemmas.{taken_sound}
-use Rattle.semantics.specs.Frameworks.{Framework, af, aba}
-use Rattle.meaning_atoms.specs.declared.atom.Atom.{Atom}
-use Rattle.meaning_atoms.specs.declared.atom.Atom.TheVariants.{Ask}
-use Rattle.meaning_atoms.specs.declared.atom.AtomLit.{AtomLit}
-use Rattle.meaning_atoms.specs.declared.axiom.AxiomName.TheVariants.{Af as OfAf, Aba as OfAba}
-use Rattle.meaning_atoms.specs.Literals.{denied, negated, lit_value}
-use Rattle.meaning_atoms.specs.Valuations.{IsValuation as IsWorldValuation}
-use Rattle.meaning_atoms.specs.Worlds.{World, IsWorld, IsTrueAlone, IsTrueBeside}
-use Rattle.meaning_atoms.proofs.Valuations.{decide_atom, world_valuation}
-use Rattle.meaning_atoms.proofs.Clauses.{from_alone, under, beside}
-use Rattle.af_axioms.proofs.Rows.{rows_are_valid}
-use Rattle.aba_axioms.proofs.Validity.{clauses_are_valid}
+use Rattle.certificate_claims.specs.semantics.specs.Frameworks.{Framework, af, aba}
+use Rattle.certificate_claims.specs.meaning_atoms.specs.declared.atom.Atom.{Atom}
+use Rattle.certificate_claims.specs.meaning_atoms.specs.declared.atom.Atom.TheVariants.{Ask}
+use Rattle.certificate_claims.specs.meaning_atoms.specs.declared.atom.AtomLit.{AtomLit}
+use Rattle.certificate_claims.specs.meaning_atoms.specs.declared.axiom.AxiomName.TheVariants.{Af as OfAf, Aba as OfAba}
+use Rattle.certificate_claims.specs.meaning_atoms.specs.Literals.{denied, negated, lit_value}
+use Rattle.certificate_claims.specs.meaning_atoms.specs.Valuations.{IsValuation as IsWorldValuation}
+use Rattle.certificate_claims.specs.meaning_atoms.specs.Worlds.{World, IsWorld, IsTrueAlone, IsTrueBeside}
+use Rattle.certificate_claims.specs.meaning_atoms.proofs.Valuations.{decide_atom, world_valuation}
+use Rattle.certificate_claims.specs.meaning_atoms.proofs.Clauses.{from_alone, under, beside}
+use Rattle.certificate_claims.specs.af_axioms.proofs.Rows.{rows_are_valid}
+use Rattle.certificate_claims.specs.aba_axioms.proofs.Validity.{clauses_are_valid}
 use Rattle.certificate_claims.specs.Refutations.{axiom_clause}
 use Rattle.oracle_face.specs.Logs.{LogStep, SideClause, OracleLog, Source, by_axiom, by_side, by_hints, IsGiven, IsLog, IsNumberOf, IsSameClause, guarded, literals_of, clauses_of, side_at, no_side, no_step}
 

@@ -1,16 +1,16 @@
 -- What a model of the needed axioms says of the set that it is read as.
 use Rattle.std.specs.Prelude.{◌≡◌, ◌⊎◌, ℕ, Bool, true, List, Contains}
 use Rattle.plain_lits.specs.HintCheck.{IsTautology}
-use Rattle.semantics.specs.Framework.{Af}
-use Rattle.semantics.specs.Frameworks.{Framework, af, aba}
+use Rattle.certificate_claims.specs.semantics.specs.Framework.{Af}
+use Rattle.certificate_claims.specs.semantics.specs.Frameworks.{Framework, af, aba}
 use Rattle.aba_semantics.specs.AbaFrameworks.{Aba, IsAtom}
-use Rattle.meaning_atoms.specs.declared.atom.Atom.{Atom}
-use Rattle.meaning_atoms.specs.declared.atom.Atom.TheVariants.{Member, Tail, Range, Cf, Ad, Co, St, Der}
-use Rattle.meaning_atoms.specs.declared.atom.AtomLit.{AtomLit}
-use Rattle.meaning_atoms.specs.declared.axiom.AxiomName.{AxiomName}
-use Rattle.meaning_atoms.specs.Literals.{affirmed, denied, negated}
-use Rattle.meaning_atoms.specs.Worlds.{HoldsOf, IsFact, Says}
-use Rattle.af_axioms.specs.Facts.{IsFactValue}
+use Rattle.certificate_claims.specs.meaning_atoms.specs.declared.atom.Atom.{Atom}
+use Rattle.certificate_claims.specs.meaning_atoms.specs.declared.atom.Atom.TheVariants.{Member, Tail, Range, Cf, Ad, Co, St, Der}
+use Rattle.certificate_claims.specs.meaning_atoms.specs.declared.atom.AtomLit.{AtomLit}
+use Rattle.certificate_claims.specs.meaning_atoms.specs.declared.axiom.AxiomName.{AxiomName}
+use Rattle.certificate_claims.specs.meaning_atoms.specs.Literals.{affirmed, denied, negated}
+use Rattle.certificate_claims.specs.meaning_atoms.specs.Worlds.{HoldsOf, IsFact, Says}
+use Rattle.certificate_claims.specs.af_axioms.specs.Facts.{IsFactValue}
 use Rattle.certificate_claims.specs.Refutations.{IsAxiomOf, axiom_clause}
 use Rattle.certificate_claims.specs.SetLiterals.{members}
 use Rattle.oracle_face.specs.Logs.{is_loop}

@@ -1,9 +1,9 @@
 -- Clauses that sessions hand each other.
 use Rattle.std.specs.Prelude.{All}
-use Rattle.meaning_atoms.specs.Atoms.{IsLit}
-use Rattle.meaning_atoms.specs.Literals.{AsksNothing}
-use Rattle.meaning_atoms.specs.Worlds.{IsValid}
-use Rattle.meaning_atoms.specs.declared.axiom.AxiomName.{AxiomName}
+use Rattle.certificate_claims.specs.meaning_atoms.specs.Atoms.{IsLit}
+use Rattle.certificate_claims.specs.meaning_atoms.specs.Literals.{AsksNothing}
+use Rattle.certificate_claims.specs.meaning_atoms.specs.Worlds.{IsValid}
+use Rattle.certificate_claims.specs.meaning_atoms.specs.declared.axiom.AxiomName.{AxiomName}
 use Rattle.certificate_claims.specs.Refutations.{axiom_clause}
 use Rattle.oracle_face.specs.declared.entry.Entry.{Entry}
 use Rattle.oracle_face.specs.declared.entry.EntryName.{EntryName}

@@ -1,17 +1,17 @@
 -- What is asked of an oracle, and what it may be asked.
 use Rattle.std.specs.Prelude.{◌≡◌, ◌⊎◌, ℕ, Bool, true, false, not, List, Contains}
 use Rattle.plain_lits.specs.HintCheck.{IsTautology}
-use Rattle.semantics.specs.Arguments.{IsArgument}
-use Rattle.semantics.specs.Frameworks.{Framework, aba}
+use Rattle.certificate_claims.specs.semantics.specs.Arguments.{IsArgument}
+use Rattle.certificate_claims.specs.semantics.specs.Frameworks.{Framework, aba}
 use Rattle.aba_semantics.specs.AbaFrameworks.{IsAtom}
-use Rattle.meaning_atoms.specs.declared.atom.Atom.{Atom}
-use Rattle.meaning_atoms.specs.declared.atom.Atom.TheVariants.{Member, Tail, Range, Cf, Ad, Co, St, Der, Ask}
-use Rattle.meaning_atoms.specs.declared.atom.AtomLit.{AtomLit}
-use Rattle.meaning_atoms.specs.declared.atom.Closure.{Closure}
-use Rattle.meaning_atoms.specs.declared.atom.Closure.TheVariants.{Own}
-use Rattle.meaning_atoms.specs.Literals.{affirmed, negated}
-use Rattle.meaning_atoms.specs.Worlds.{world_of, HoldsLit}
-use Rattle.af_axioms.specs.Facts.{IsFactValue}
+use Rattle.certificate_claims.specs.meaning_atoms.specs.declared.atom.Atom.{Atom}
+use Rattle.certificate_claims.specs.meaning_atoms.specs.declared.atom.Atom.TheVariants.{Member, Tail, Range, Cf, Ad, Co, St, Der, Ask}
+use Rattle.certificate_claims.specs.meaning_atoms.specs.declared.atom.AtomLit.{AtomLit}
+use Rattle.certificate_claims.specs.meaning_atoms.specs.declared.atom.Closure.{Closure}
+use Rattle.certificate_claims.specs.meaning_atoms.specs.declared.atom.Closure.TheVariants.{Own}
+use Rattle.certificate_claims.specs.meaning_atoms.specs.Literals.{affirmed, negated}
+use Rattle.certificate_claims.specs.meaning_atoms.specs.Worlds.{world_of, HoldsLit}
+use Rattle.certificate_claims.specs.af_axioms.specs.Facts.{IsFactValue}
 use Rattle.certificate_claims.specs.Refutations.{Claim}
 use Rattle.certificate_claims.specs.SetLiterals.{members}
 use Rattle.oracle_face.specs.Logs.{OracleLog, SideClause, IsNumberOf, IsSameClause, Reaches, by_side, step_at, side_at, literals_of}

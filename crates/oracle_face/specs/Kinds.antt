@@ -1,7 +1,7 @@
 -- What depends on the kind of a framework.
 use Rattle.std.specs.Prelude.{ℕ, Bool, true, false, List}
-use Rattle.semantics.specs.Framework.{IsInRange}
-use Rattle.semantics.specs.Frameworks.{Framework, af, aba}
+use Rattle.certificate_claims.specs.semantics.specs.Framework.{IsInRange}
+use Rattle.certificate_claims.specs.semantics.specs.Frameworks.{Framework, af, aba}
 use Rattle.aba_semantics.specs.AbaFrameworks.{collective_of}
 use Rattle.aba_semantics.specs.Collectives.{IsInRange as IsInCollectiveRange}
 

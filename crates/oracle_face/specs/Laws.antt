@@ -1,9 +1,9 @@
 -- Laws of what an oracle tells.
 use Rattle.std.specs.Prelude.{ℕ, List}
-use Rattle.semantics.specs.Frameworks.{Framework}
-use Rattle.meaning_atoms.specs.declared.atom.AtomLit.{AtomLit}
-use Rattle.meaning_atoms.specs.Literals.{AsksNothing}
-use Rattle.meaning_atoms.specs.Worlds.{IsWorldOf}
+use Rattle.certificate_claims.specs.semantics.specs.Frameworks.{Framework}
+use Rattle.certificate_claims.specs.meaning_atoms.specs.declared.atom.AtomLit.{AtomLit}
+use Rattle.certificate_claims.specs.meaning_atoms.specs.Literals.{AsksNothing}
+use Rattle.certificate_claims.specs.meaning_atoms.specs.Worlds.{IsWorldOf}
 use Rattle.certificate_claims.specs.Refutations.{Claim, IsExcluded, IsPlain}
 use Rattle.oracle_face.specs.Logs.{OracleLog, IsLog}
 use Rattle.oracle_face.specs.Goals.{MakesTrue, RefutesGoals, IsWithinClaim, Refutes}

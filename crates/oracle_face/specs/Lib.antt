@@ -9,3 +9,6 @@ pub mod Logs
 pub mod Needed
 pub mod Trades
 pub mod Walks
+pub use Rattle.certificate_claims as certificate_claims
+pub use Rattle.certificate_claims.specs.aba_axioms as aba_axioms
+pub use Rattle.certificate_claims.specs.af_axioms as af_axioms

@@ -5,15 +5,15 @@
 use Rattle.std.specs.Prelude.{◌≡◌, ℕ, ◌-◌, ◌<◌, ◌≤◌, ◌&&◌, Bool, true, false, not, List, [], ◌∷◌}
 use Rattle.std.specs.Prelude.{length, map, filter, take, count_by, Contains, slice_index_or, Option, Some, None, Ok}
 use Rattle.plain_lits.specs.HintCheck.{Checks, IsTautology}
-use Rattle.semantics.specs.Frameworks.{Framework, IsNumbered}
-use Rattle.meaning_atoms.specs.declared.atom.Atom.TheVariants.{Ask}
-use Rattle.meaning_atoms.specs.declared.atom.AtomLit.{AtomLit}
-use Rattle.meaning_atoms.specs.declared.axiom.AxiomName.{AxiomName}
-use Rattle.meaning_atoms.specs.declared.axiom.AxiomName.TheVariants.{Aba as OfAba}
-use Rattle.meaning_atoms.specs.declared.aba_axiom.AbaAxiom.TheVariants.{B17}
-use Rattle.meaning_atoms.specs.Literals.{denied, negated, AsksNothing}
-use Rattle.meaning_atoms.specs.Worlds.{IsFact}
-use Rattle.af_axioms.specs.Facts.{IsFactValue}
+use Rattle.certificate_claims.specs.semantics.specs.Frameworks.{Framework, IsNumbered}
+use Rattle.certificate_claims.specs.meaning_atoms.specs.declared.atom.Atom.TheVariants.{Ask}
+use Rattle.certificate_claims.specs.meaning_atoms.specs.declared.atom.AtomLit.{AtomLit}
+use Rattle.certificate_claims.specs.meaning_atoms.specs.declared.axiom.AxiomName.{AxiomName}
+use Rattle.certificate_claims.specs.meaning_atoms.specs.declared.axiom.AxiomName.TheVariants.{Aba as OfAba}
+use Rattle.certificate_claims.specs.meaning_atoms.specs.declared.aba_axiom.AbaAxiom.TheVariants.{B17}
+use Rattle.certificate_claims.specs.meaning_atoms.specs.Literals.{denied, negated, AsksNothing}
+use Rattle.certificate_claims.specs.meaning_atoms.specs.Worlds.{IsFact}
+use Rattle.certificate_claims.specs.af_axioms.specs.Facts.{IsFactValue}
 use Rattle.certificate_claims.specs.Refutations.{IsAxiomOf, axiom_clause}
 use Rattle.oracle_face.specs.declared.entry.EntryName.{EntryName}
 

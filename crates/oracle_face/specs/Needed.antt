@@ -1,13 +1,13 @@
 -- The axioms that a search needs for a framework: from these its models read back as sets.
 use Rattle.std.specs.Prelude.{◌≡◌, ◌⊎◌, ℕ, ◌+◌, ◌≤◌, Contains}
-use Rattle.semantics.specs.Framework.{Af, Attacks}
-use Rattle.semantics.specs.Frameworks.{Framework, af, aba}
-use Rattle.meaning_atoms.specs.declared.atom.TheConstants.{END}
-use Rattle.meaning_atoms.specs.declared.axiom.AfAxiom.{AfAxiom}
-use Rattle.meaning_atoms.specs.declared.axiom.AfAxiom.TheVariants.{A1, A2, A3, A4, A5, A6, A7, A8, A9, A10, A11, A12, A13, A14}
-use Rattle.meaning_atoms.specs.declared.axiom.AxiomName.{AxiomName}
-use Rattle.meaning_atoms.specs.declared.axiom.AxiomName.TheVariants.{Af as OfAf, Aba as OfAba}
-use Rattle.meaning_atoms.specs.Worlds.{HasGap}
+use Rattle.certificate_claims.specs.semantics.specs.Framework.{Af, Attacks}
+use Rattle.certificate_claims.specs.semantics.specs.Frameworks.{Framework, af, aba}
+use Rattle.certificate_claims.specs.meaning_atoms.specs.declared.atom.TheConstants.{END}
+use Rattle.certificate_claims.specs.meaning_atoms.specs.declared.axiom.AfAxiom.{AfAxiom}
+use Rattle.certificate_claims.specs.meaning_atoms.specs.declared.axiom.AfAxiom.TheVariants.{A1, A2, A3, A4, A5, A6, A7, A8, A9, A10, A11, A12, A13, A14}
+use Rattle.certificate_claims.specs.meaning_atoms.specs.declared.axiom.AxiomName.{AxiomName}
+use Rattle.certificate_claims.specs.meaning_atoms.specs.declared.axiom.AxiomName.TheVariants.{Af as OfAf, Aba as OfAba}
+use Rattle.certificate_claims.specs.meaning_atoms.specs.Worlds.{HasGap}
 use Rattle.oracle_face.specs.AbaNeeded.{IsNeededOfAba}
 
 -- the walk along the attackers of a begins at 1 and goes on just past an attacker

@@ -1,6 +1,6 @@
 -- Walks along the numbers of a kind, such as the atoms of a body or the rules that head an atom.
 use Rattle.std.specs.Prelude.{◌≡◌, ◌⊎◌, ℕ, ◌+◌, ◌≤◌, ◌<◌}
-use Rattle.meaning_atoms.specs.declared.atom.TheConstants.{END}
+use Rattle.certificate_claims.specs.meaning_atoms.specs.declared.atom.TheConstants.{END}
 
 -- none of the numbers lies from i to just before j
 abbrev pub IsFree : (ℕ → Type 0) → ℕ → ℕ → Type 0

@@ -2,12 +2,12 @@
 
 ghost use Rattle.std.specs.Prelude.{◌≡◌, ◌↔◌, Contains, IfOk, IfSome, IfNone, None};
 ghost use Rattle.plain_lists.specs.Members.{IsSetOf};
-ghost use Rattle.meaning_atoms.specs.Worlds.{IsFact};
-ghost use Rattle.af_axioms.specs.Facts.{IsFactValue};
+ghost use Rattle.certificate_claims.specs.meaning_atoms.specs.Worlds.{IsFact};
+ghost use Rattle.certificate_claims.specs.af_axioms.specs.Facts.{IsFactValue};
 ghost use Rattle.oracle_face.specs.Decoding.{IsDecoded, IsModelOf, IsNewLoop, ReadsBack, TellsMembers};
 ghost use Rattle.oracle_face.specs.Needed.{IsNeeded};
 
-use meaning_atoms::{Atom, AtomLit, AxiomName};
+use certificate_claims::meaning_atoms::{Atom, AtomLit, AxiomName};
 use plain_lists::{Items, Memory};
 use set_lists::NumSet;
 use std::alloc::Global;
@@ -15,8 +15,8 @@ use std::alloc::Global;
 /// One kind of framework in clauses over atoms.
 pub trait Encoding {
     ghost use Rattle.std.specs.Prelude.{ℕ, List};
-    ghost use Rattle.semantics.specs.Frameworks.{Framework};
-    ghost use Rattle.meaning_atoms.specs.declared.atom.Atom.{Atom};
+    ghost use Rattle.certificate_claims.specs.semantics.specs.Frameworks.{Framework};
+    ghost use Rattle.certificate_claims.specs.meaning_atoms.specs.declared.atom.Atom.{Atom};
 
     /// A framework of this kind.
     type Plain;

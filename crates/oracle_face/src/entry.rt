@@ -1,11 +1,11 @@
 //! Clauses that sessions hand each other.
 
 ghost use Rattle.std.specs.Prelude.{◌≡◌, IfOk};
-ghost use Rattle.meaning_atoms.specs.AxiomNames.{IsAxiomName};
+ghost use Rattle.certificate_claims.specs.meaning_atoms.specs.AxiomNames.{IsAxiomName};
 ghost use Rattle.oracle_face.specs.Entries.{IsShareable, axiom_entry};
 
 use certificate_claims::clause_of_axiom;
-use meaning_atoms::{AtomLit, AxiomName};
+use certificate_claims::meaning_atoms::{AtomLit, AxiomName};
 use plain_lists::{Items, Memory};
 use plain_lits::StepId;
 use std::alloc::Global;

@@ -1,10 +1,10 @@
 //! What an oracle answers with.
 
 ghost use Rattle.std.specs.Prelude.{◌≡◌};
-ghost use Rattle.meaning_atoms.specs.declared.atom.Atom.TheVariants.{Ask};
-ghost use Rattle.meaning_atoms.specs.Literals.{affirmed};
+ghost use Rattle.certificate_claims.specs.meaning_atoms.specs.declared.atom.Atom.TheVariants.{Ask};
+ghost use Rattle.certificate_claims.specs.meaning_atoms.specs.Literals.{affirmed};
 
-use meaning_atoms::{Atom, AtomLit, AxiomName};
+use certificate_claims::meaning_atoms::{Atom, AtomLit, AxiomName};
 use plain_lists::Items;
 use plain_lits::StepId;
 use set_lists::NumSet;

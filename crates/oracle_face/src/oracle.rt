@@ -10,7 +10,7 @@ ghost use Rattle.oracle_face.specs.Growing.{HasRun, IsFound, NoSide, Obliges, On
 ghost use Rattle.oracle_face.specs.Kinds.{IsRanged, is_assumption_based};
 
 use crate::face::{AskId, Found};
-use meaning_atoms::AtomLit;
+use certificate_claims::meaning_atoms::AtomLit;
 use plain_lists::Memory;
 use plain_lits::{Budget, Halt};
 use set_lists::NumSet;
@@ -21,7 +21,7 @@ use std::alloc::Global;
 /// and the log keeps all that it has.
 pub trait Oracle {
     ghost use Rattle.std.specs.Prelude.{Option};
-    ghost use Rattle.semantics.specs.Frameworks.{Framework};
+    ghost use Rattle.certificate_claims.specs.semantics.specs.Frameworks.{Framework};
     ghost use Rattle.oracle_face.specs.declared.face.Pending.{Pending};
     ghost use Rattle.oracle_face.specs.Logs.{OracleLog};
 

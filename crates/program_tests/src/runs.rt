@@ -5,6 +5,7 @@ use argue_program::run;
 use plain_lists::Items;
 use std::alloc::{AllocError, Global};
 use std::mem::forget;
+use std::process::Abort;
 use std::sync::Wait;
 use std::test::Fail;
 use std::thread::Threads;
@@ -75,36 +76,67 @@ fn faults(rt: HostRuntime) -> Result<(), Fail> {
     Ok(())
 }
 
-#[test]
-fn certificate_faults(rt: HostRuntime) -> Result<(), Fail> {
-    let alloc = rt.alloc();
-    // The call of the files that fails, the call of the sink that fails, the output, the certificate's file, and the
-    // status. Three calls write the framework, four read it, the next clears the file, and two more write it.
+/// Runs that write certificates, each beside one call that fails, and what they end with. Six calls write the files
+/// before; `calls` are then those that clear the certificates' file and write it twice.
+fn certificate_faults_of<R: Threads + Wait + Sync + Abort>(
+    rt: &R,
+    alloc: Global,
+    line: &str,
+    calls: [u64; 3],
+    told: &'static [u8],
+    first: &'static [u8],
+    shown: &'static [u8],
+) -> Result<(), Fail> {
+    // The call of the files that fails, the call of the sink that fails, the output, the certificates' file, and the
+    // status.
     let rows = [
-        (0, 0, "w 1 3\n", "cert 1\nend\n", 0),
-        (9, 0, "", "old", 4),
-        (10, 0, "", "", 4),
-        (11, 0, "", "cert 1\n", 4),
-        (0, 1, "", "cert 1\nend\n", 4),
+        (0, 0, told, shown, 0),
+        (calls[0], 0, b"".as_slice(), b"old".as_slice(), 4),
+        (calls[1], 0, b"".as_slice(), b"".as_slice(), 4),
+        (calls[2], 0, b"".as_slice(), first, 4),
+        (0, 1, b"".as_slice(), shown, 4),
     ];
-    for (file, put, output, certificate, code) in rows {
+    for (file, put, output, certificates, code) in rows {
         let mut files = MemFiles::failing(alloc, only(alloc, file)?, 7);
         let mut out = MemSink::failing(alloc, only(alloc, put)?, 7);
         append_all(&mut files, "a", b"p af 3\n1 2\n2 3\n")?;
+        append_all(&mut files, "s", b"1 ask SE-GR\n")?;
         append_all(&mut files, "c", b"old")?;
-        let ended = code_of(&rt, alloc, "-p SE-GR -f a -c c", &mut files, &mut out)?;
+        let ended = code_of(rt, alloc, line, &mut files, &mut out)?;
         let held = read_all(alloc, &mut files, Role::Certificate, "c", 100)?;
-        assert!(rt; ended == code, "status at {output:?}");
-        assert!(rt;
-            out.bytes() == output.as_bytes(),
-            "output at {certificate:?}"
-        );
-        assert!(rt;
-            held.as_slice() == certificate.as_bytes(),
-            "file at {certificate:?}"
-        );
+        assert!(rt; ended == code, "status at {file} and {put}");
+        assert!(rt; out.bytes() == output, "output at {file} and {put}");
+        assert!(rt; held.as_slice() == certificates, "file at {file} and {put}");
     }
     Ok(())
+}
+
+#[test]
+fn certificate_faults(rt: HostRuntime) -> Result<(), Fail> {
+    // Four calls read the framework.
+    certificate_faults_of(
+        &rt,
+        rt.alloc(),
+        "-p SE-GR -f a -c c",
+        [11, 12, 13],
+        b"w 1 3\n",
+        b"cert 1\n",
+        b"cert 1\nend\n",
+    )
+}
+
+#[test]
+fn session_certificate_faults(rt: HostRuntime) -> Result<(), Fail> {
+    // Four calls read the framework, and three the script.
+    certificate_faults_of(
+        &rt,
+        rt.alloc(),
+        "live -f a -s s -c c",
+        [14, 15, 16],
+        b"session 1\nat 0\nw 1 3\nhistory\n",
+        b"# sessi",
+        b"# session 1 reply 1 front 0\ncert 1\nend\n",
+    )
 }
 
 #[test]
@@ -122,15 +154,22 @@ fn greatest_framework(rt: HostRuntime) -> Result<(), Fail> {
 
 #[test]
 fn too_long(rt: HostRuntime) -> Result<(), Fail> {
-    let mut files = MemFiles::new(rt.alloc());
-    let mut out = MemSink::new(rt.alloc());
-    append_all(
-        &mut files,
-        "a",
-        vec![in rt.alloc(); 0u8; 268_435_457]?.as_slice(),
-    )?;
-    let ended = code_of(&rt, rt.alloc(), QUERY, &mut files, &mut out)?;
-    assert!(rt; ended == 7);
-    assert!(rt; out.bytes() == b"error: limit input\n".as_slice());
+    // The words, and the name of the file that has too many bytes.
+    for (line, long) in [(QUERY, "a"), ("live -f b -s s", "s")] {
+        let mut files = MemFiles::new(rt.alloc());
+        let mut out = MemSink::new(rt.alloc());
+        append_all(&mut files, "b", b"p af 1\n")?;
+        append_all(
+            &mut files,
+            long,
+            vec![in rt.alloc(); 0u8; 268_435_457]?.as_slice(),
+        )?;
+        let ended = code_of(&rt, rt.alloc(), line, &mut files, &mut out)?;
+        assert!(rt; ended == 7, "status at {line:?}");
+        assert!(rt;
+            out.bytes() == b"error: limit input\n".as_slice(),
+            "output at {line:?}"
+        );
+    }
     Ok(())
 }

@@ -25,7 +25,8 @@ listed : (f : Framework) (log : OracleLog) (semantics : Semantics) (most : ℕ) 
     → IsListOf f log semantics most extensions
     → IsOutcome f (asked_of AllExtensions semantics None) most log (all_outcome extensions)
 listed f log semantics most (All sets steps) h = record { tests = h.tests; refuted = h.refuted }
-listed f log semantics most MoreThanListed h = record { all = refl; more = h }
+listed f log semantics most MoreThanListed h =
+    (h.sets, record { all = refl; more = h.more; different = h.differ; each = h.each })
 
 pub all_listed : (f : Framework) (log : OracleLog) (asked : Asked) (most : ℕ) (extensions : Extensions)
     → AsksAll f asked → FitsTask asked.task.problem asked.number

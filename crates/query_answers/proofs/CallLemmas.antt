@@ -23,8 +23,8 @@ use Rattle.oracle_face.specs.Logs.{IsSameClause, OracleLog}
 use Rattle.oracle_face.proofs.GrowingLemmas.{Makes, run_as, run_joined, run_refused}
 use Rattle.session_log.specs.Ends.{MadeFor, sides_for}
 use Rattle.goal_lists.proofs.Calls.{makes_none, makes_same}
-use Rattle.cegar_preferred.specs.Largest.{MadeOutside}
-use Rattle.semi_stable.specs.Widest.{MadeWider}
+use Rattle.enumerate_block.specs.cegar_preferred.specs.Largest.{MadeOutside}
+use Rattle.semi_stable_query.specs.semi_stable.specs.Widest.{MadeWider}
 use Rattle.ideal_set.specs.Ideals.{MadeForIdeal}
 use Rattle.enumerate_block.specs.Extensions.{MadeForAll}
 

@@ -35,10 +35,11 @@ use Rattle.goal_lists.specs.Asking.{IsAskable, IsAskableAbout, goals_of, query_g
 use Rattle.goal_lists.proofs.AskedGoals.{in_form}
 use Rattle.goal_lists.proofs.Calls.{admissible_members, found_in, found_mode}
 use Rattle.goal_lists.proofs.QueryGoals.{query_mode, query_plain, query_said}
-use Rattle.enumerate_ranges.proofs.StepLemmas.{refuted_none}
+use Rattle.semi_stable_query.specs.enumerate_ranges.proofs.StepLemmas.{refuted_none}
+use Rattle.enumerate_block.proofs.OneSet.{tests_one}
 use Rattle.query_answers.specs.Answers.{AsksAbout, AsksSome, IsAdmissibleIn, IsCompleted, IsEvidence, problem_of}
 use Rattle.query_answers.specs.Forms.{evidence_of}
-use Rattle.query_answers.proofs.TestLemmas.{asked_of, goals_refuted, refuted_one, tests_none, tests_one}
+use Rattle.query_answers.proofs.TestLemmas.{asked_of, goals_refuted, refuted_one, tests_none}
 
 -- ---- goals
 

@@ -22,15 +22,16 @@ use Rattle.oracle_face.specs.Growing.{IsFound}
 use Rattle.oracle_face.specs.Logs.{OracleLog}
 use Rattle.goal_lists.specs.Asking.{query_goals}
 use Rattle.goal_lists.proofs.QueryGoals.{query_mode, query_said}
-use Rattle.cegar_preferred.specs.declared.accepting.Accepting.{Accepting}
-use Rattle.cegar_preferred.specs.declared.accepting.Accepting.TheVariants.{Counter, Cover}
-use Rattle.cegar_preferred.specs.declared.maximal.Maximal.{Maximal}
-use Rattle.cegar_preferred.specs.Covers.{IsAccepting, cover_claim}
-use Rattle.cegar_preferred.specs.Largest.{IsMaximalFrom, largest_claim}
+use Rattle.enumerate_block.specs.cegar_preferred.specs.declared.accepting.Accepting.{Accepting}
+use Rattle.enumerate_block.specs.cegar_preferred.specs.declared.accepting.Accepting.TheVariants.{Counter, Cover}
+use Rattle.enumerate_block.specs.cegar_preferred.specs.declared.maximal.Maximal.{Maximal}
+use Rattle.enumerate_block.specs.cegar_preferred.specs.Covers.{IsAccepting, cover_claim}
+use Rattle.enumerate_block.specs.cegar_preferred.specs.Largest.{IsMaximalFrom, largest_claim}
+use Rattle.enumerate_block.proofs.OneSet.{tests_one}
 use Rattle.query_answers.specs.Answers.{AsksAbout, BeginsLargest, HoldsQuery, IsEvidence}
 use Rattle.query_answers.specs.Forms.{evidence_of, evidence_with, sceptical_evidence}
 use Rattle.query_answers.proofs.ExcludedLemmas.{admissible_refuted, asked_about}
-use Rattle.query_answers.proofs.TestLemmas.{asked_of, index_there, refuted_one, tests_none, tests_one}
+use Rattle.query_answers.proofs.TestLemmas.{asked_of, index_there, refuted_one, tests_none}
 
 -- ---- the set begun with
 

@@ -1,5 +1,5 @@
--- The direct tests of answers that show one set or none, and steps that refute one claim.
-use Rattle.std.proofs.Common.{inl, ℕ, zero, suc, ◌<◌, List, [], ◌∷◌, length, refl, arith}
+-- The direct tests of answers that show no set, and steps that refute one claim.
+use Rattle.std.proofs.Common.{inl, ℕ, ◌<◌, List, [], ◌∷◌, length, refl, arith}
 use Rattle.std.specs.Prelude.{Contains, slice_index_or, Option}
 use Rattle.std.proofs.lemmas.List.{get_or_default}
 use Rattle.semantics.specs.Frameworks.{Framework}
@@ -8,38 +8,21 @@ use Rattle.meaning_atoms.specs.Literals.{AsksNothing}
 use Rattle.iccma_tasks.specs.declared.task.Problem.{Problem}
 use Rattle.iccma_tasks.specs.declared.task.Semantics.{Semantics}
 use Rattle.iccma_tasks.specs.Tasks.{Asked, task_of}
-use Rattle.certificate_claims.specs.declared.row.Row.{Row}
 use Rattle.certificate_claims.specs.declared.row.Row.TheVariants.{Excluded}
-use Rattle.certificate_claims.specs.Acceptance.{IsShaped, PassesGrounded, PassesOrder, PassesTest, TakesSets, Tests}
+use Rattle.certificate_claims.specs.Acceptance.{Tests}
 use Rattle.certificate_claims.specs.Claims.{claim_of}
 use Rattle.certificate_claims.specs.Refutations.{Claim}
 use Rattle.oracle_face.specs.Goals.{Refutes, RefutesGoals}
 use Rattle.oracle_face.specs.Logs.{OracleLog}
 use Rattle.oracle_face.proofs.Refuting.{refutes_claim}
-use Rattle.enumerate_ranges.specs.Ranges.{AreRefuted}
-use Rattle.enumerate_ranges.proofs.StepLemmas.{refuted_first, refuted_none}
+use Rattle.semi_stable_query.specs.enumerate_ranges.specs.Ranges.{AreRefuted}
+use Rattle.semi_stable_query.specs.enumerate_ranges.proofs.StepLemmas.{refuted_first, refuted_none}
 
 abbrev pub asked_of : Problem → Semantics → Option ℕ → Asked
 asked_of problem semantics number = record { task = task_of problem semantics; number = number }
 
 pub index_there : (sets : List (List ℕ)) (i : ℕ) → i < length sets → Contains sets (slice_index_or sets i [])
 index_there sets i lt = (i, lt, get_or_default sets i (slice_index_or sets i []) [] lt)
-
-only_set : (P : List ℕ → Type 0) (set : List ℕ) → P set → (k : ℕ) → k < length (set ∷ [])
-    → P (slice_index_or (set ∷ []) k [])
-only_set P set h zero lt = h
-only_set P set h (suc k) lt = absurd (omega arith)
-
-pub tests_one : (f : Framework) (asked : Asked) (row : Row) (set : List ℕ) → IsShaped row → PassesTest f asked row set
-    → PassesOrder f row → PassesGrounded f asked row → TakesSets row 0 → Tests f asked row (set ∷ []) []
-tests_one f asked row set shape test order grounded count = record {
-  shape = shape;
-  witnesses = only_set (PassesTest f asked row) set test;
-  order = order;
-  grounded = grounded;
-  count = count;
-  each_set = λ k lt. absurd (omega arith);
-}
 
 pub tests_none : (f : Framework) (asked : Asked) (goals : List AtomLit) → Tests f asked (Excluded goals) [] []
 tests_none f asked goals = record {

@@ -15,9 +15,9 @@ use Rattle.certificate_claims.specs.Rights.{Accepts, IsExtension}
 use Rattle.oracle_face.specs.declared.face.Found.{Found}
 use Rattle.oracle_face.specs.declared.face.Found.TheVariants.{Set, Refuted}
 use Rattle.oracle_face.specs.Logs.{OracleLog}
+use Rattle.session_log.specs.Ends.{AreTooMany as ShownAreTooMany}
 use Rattle.edit_rules.specs.Fitting.{Fits}
-use Rattle.enumerate_modes.specs.Ordered.{HasMore}
-use Rattle.enumerate_ranges.specs.Ranges.{AreRefuted}
+use Rattle.semi_stable_query.specs.enumerate_ranges.specs.Ranges.{AreRefuted}
 use Rattle.query_answers.specs.declared.evidence.Evidence.{Evidence}
 use Rattle.query_answers.specs.declared.evidence.Outcome.{Outcome}
 use Rattle.query_answers.specs.declared.evidence.Outcome.TheVariants.{Shown, TooMany}
@@ -30,15 +30,14 @@ pub record IsEvidence (f : Framework) (asked : Asked) (log : OracleLog) (evidenc
   pub tests : Tests f asked (row_of f asked evidence.answer) (sets_of evidence.answer) evidence.sets
   pub refuted : AreRefuted f log (claims f (row_of f asked evidence.answer) evidence.sets) evidence.steps
 
--- all extensions are asked for, and there are more than so many
-pub record AreTooMany (f : Framework) (asked : Asked) (most : ℕ) : Type 0 where
-  pub all : asked.task.problem ≡ AllExtensions
-  pub more : HasMore (IsExtension f asked.task.semantics) most
+-- all extensions are asked for, and there are more different ones than so many, each shown by the log
+abbrev pub AreTooMany : Framework → Asked → ℕ → OracleLog → Type 0
+AreTooMany f asked most log = (sets : List (List ℕ)) × ShownAreTooMany f asked most log sets
 
 -- an answer with what shows it, or more extensions than so many
 abbrev pub IsOutcome : Framework → Asked → ℕ → OracleLog → Outcome → Type 0
 IsOutcome f asked most log (Shown evidence) = IsEvidence f asked log evidence
-IsOutcome f asked most log TooMany = AreTooMany f asked most
+IsOutcome f asked most log TooMany = AreTooMany f asked most log
 
 -- ---- tasks
 

@@ -6,8 +6,8 @@ use Rattle.iccma_tasks.specs.declared.task.Problem.{Problem}
 use Rattle.iccma_tasks.specs.declared.task.Problem.TheVariants.{Credulous, Sceptical}
 use Rattle.oracle_face.specs.declared.face.Found.{Found}
 use Rattle.oracle_face.specs.declared.face.Found.TheVariants.{Set, Refuted}
-use Rattle.cegar_preferred.specs.declared.accepting.Accepting.{Accepting}
-use Rattle.cegar_preferred.specs.declared.accepting.Accepting.TheVariants.{Counter, Cover}
+use Rattle.enumerate_block.specs.cegar_preferred.specs.declared.accepting.Accepting.{Accepting}
+use Rattle.enumerate_block.specs.cegar_preferred.specs.declared.accepting.Accepting.TheVariants.{Counter, Cover}
 use Rattle.ideal_set.specs.declared.searching.IdealSet.{IdealSet}
 use Rattle.enumerate_block.specs.declared.extensions.Extensions.{Extensions}
 use Rattle.enumerate_block.specs.declared.extensions.Extensions.TheVariants.{All, TooMany as MoreThanListed}

@@ -11,7 +11,7 @@ use Rattle.turn_lock.specs.Turns.{entries_of}
 use Rattle.edit_history.specs.declared.entry.Entry.{Entry}
 use Rattle.edit_history.specs.Entries.{session_of}
 use Rattle.edit_words.specs.declared.edit.Edit.{Edit}
-use Rattle.oracle_core.specs.Trading.{AnySide}
+use Rattle.session_core.specs.oracle_core.specs.Trading.{AnySide}
 use Rattle.oracle_face.proofs.GrowingLemmas.{grows_joined, grows_same}
 use Rattle.oracle_face.specs.Growing.{Grows}
 use Rattle.oracle_face.specs.Logs.{OracleLog}

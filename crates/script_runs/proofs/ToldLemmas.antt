@@ -13,7 +13,7 @@ use Rattle.edit_history.specs.declared.entry.Entry.{Entry}
 use Rattle.edit_history.specs.declared.hub.Hub.{Hub}
 use Rattle.edit_history.specs.Entries.{framework_after, session_of}
 use Rattle.edit_history.specs.Hubs.{GainsOthers, limit_of, start_of}
-use Rattle.oracle_core.specs.Trading.{AnySide}
+use Rattle.session_core.specs.oracle_core.specs.Trading.{AnySide}
 use Rattle.oracle_face.specs.Growing.{Grows, NoSide}
 use Rattle.oracle_face.specs.Logs.{OracleLog}
 use Rattle.oracle_face.proofs.GrowingLemmas.{grows_as, grows_same}

@@ -7,7 +7,7 @@ use Rattle.edit_history.specs.declared.entry.Entry.{Entry}
 use Rattle.edit_history.specs.declared.hub.Hub.{Hub}
 use Rattle.edit_history.specs.Entries.{session_of}
 use Rattle.edit_history.specs.Hubs.{IsSeatAt, limit_of, start_of}
-use Rattle.oracle_core.specs.Trading.{AnySide}
+use Rattle.session_core.specs.oracle_core.specs.Trading.{AnySide}
 use Rattle.oracle_face.specs.Growing.{Grows}
 use Rattle.oracle_face.specs.Logs.{OracleLog}
 use Rattle.script_text.specs.declared.script.Command.{Command}

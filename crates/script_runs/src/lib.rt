@@ -8,4 +8,6 @@ mod transcript;
 
 pub use run::{HISTORY_LIMIT, run_script};
 pub use runner::LOG_LIMIT;
+pub use session_core;
+pub use session_core::oracle_core;
 pub use transcript::ScriptTranscript;

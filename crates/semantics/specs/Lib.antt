@@ -5,3 +5,4 @@ pub mod Frameworks
 pub mod Laws
 pub mod Notions
 pub mod Sets
+pub use Rattle.aba_semantics as aba_semantics

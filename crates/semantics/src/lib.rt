@@ -8,6 +8,7 @@ pub mod deciding;
 pub mod laws;
 mod sets;
 
+pub use aba_semantics;
 pub use af_lists::AfLists;
 pub use argument::{LAST_ARGUMENT, is_argument};
 pub use deciding::{Notion, decide};

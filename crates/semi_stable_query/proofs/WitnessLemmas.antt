@@ -42,9 +42,9 @@ use Rattle.goal_lists.proofs.Calls.{admissible_members, apart_pushed, asks_fit, 
 use Rattle.goal_lists.proofs.Lacking.{lacks_range}
 use Rattle.goal_lists.proofs.Measures.{fewer_left, kept_is_set, same_as_kept}
 use Rattle.goal_lists.proofs.SideLemmas.{HasWanted, asks_kept, asks_more, asks_none, asks_refuted, asks_speak, asks_true, same_number}
-use Rattle.semi_stable.specs.declared.widest.Widest.{Widest}
-use Rattle.semi_stable.specs.Widest.{IsRangeIn, IsWidestFrom, MadeWider, wider_claim}
-use Rattle.semi_stable.proofs.WidestLemmas.{range_list, range_within}
+use Rattle.enumerate_ranges.specs.semi_stable.specs.declared.widest.Widest.{Widest}
+use Rattle.enumerate_ranges.specs.semi_stable.specs.Widest.{IsRangeIn, IsWidestFrom, MadeWider, wider_claim}
+use Rattle.enumerate_ranges.specs.semi_stable.proofs.WidestLemmas.{range_list, range_within}
 use Rattle.enumerate_ranges.specs.Ranges.{AreRefuted}
 use Rattle.enumerate_ranges.proofs.RangeLemmas.{log_kept, open_ranges, widest_kept}
 use Rattle.enumerate_ranges.proofs.StepLemmas.{refuted_first, refuted_member, refuted_none}

@@ -19,8 +19,8 @@ use Rattle.oracle_face.specs.Kinds.{IsRanged, is_assumption_based}
 use Rattle.oracle_face.specs.Logs.{OracleLog}
 use Rattle.goal_lists.specs.Asking.{AreApart}
 use Rattle.goal_lists.specs.Sides.{AreAsksOf, IsAskOf}
-use Rattle.semi_stable.specs.declared.widest.Widest.{Widest}
-use Rattle.semi_stable.specs.Widest.{IsRangeIn, wider_claim}
+use Rattle.enumerate_ranges.specs.semi_stable.specs.declared.widest.Widest.{Widest}
+use Rattle.enumerate_ranges.specs.semi_stable.specs.Widest.{IsRangeIn, wider_claim}
 use Rattle.enumerate_ranges.specs.Ranges.{AreRefuted}
 use Rattle.semi_stable_query.specs.declared.deciding.Cover.{Cover}
 use Rattle.semi_stable_query.specs.declared.deciding.Deciding.{Deciding}

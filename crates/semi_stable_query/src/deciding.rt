@@ -6,15 +6,15 @@ ghost use Rattle.certificate_claims.specs.SetLiterals.{members};
 ghost use Rattle.oracle_face.specs.Kinds.{is_assumption_based};
 ghost use Rattle.oracle_face.specs.Logs.{IsKept};
 ghost use Rattle.oracle_face.specs.Growing.{HasRun, closes, halt_of};
-ghost use Rattle.semi_stable.specs.Widest.{MadeWider};
+ghost use Rattle.enumerate_ranges.specs.semi_stable.specs.Widest.{MadeWider};
 ghost use Rattle.semi_stable_query.specs.Witnesses.{Extends, HasRange, IsCover, IsDecided, IsMadeWithin};
 ghost use Rattle.semi_stable_query.specs.Witnesses.{IsUncovered, Takes, ins_of, outs_of};
 
+use enumerate_ranges::semi_stable::{Widest, widest_from};
 use goal_lists::{Wanted, search_for, wider};
 use meaning_atoms::Atom;
 use oracle_face::{AskId, Budget, Found, Halt, Oracle, StepId};
 use plain_lists::{Items, Memory};
-use semi_stable::{Widest, widest_from};
 use set_lists::NumSet;
 use std::alloc::Global;
 

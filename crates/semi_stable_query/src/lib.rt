@@ -4,3 +4,5 @@
 mod deciding;
 
 pub use deciding::{Deciding, decide};
+pub use enumerate_ranges;
+pub use enumerate_ranges::{enumerate_modes, semi_stable};

@@ -29,7 +29,7 @@ use Rattle.session_core.specs.Following.{AddsNeededAfter, CatchesUp}
 
 -- ---- frameworks
 
-replay_parts : (f : Framework) (first rest : List Edit) → replay (replay f first) rest ≡ replay f (first ++ rest)
+pub replay_parts : (f : Framework) (first rest : List Edit) → replay (replay f first) rest ≡ replay f (first ++ rest)
 replay_parts f [] rest = refl
 replay_parts f (edit ∷ first) rest = replay_parts (after_edit f edit) first rest
 

@@ -1,3 +1,5 @@
+mod AskRuns
 mod FollowingLemmas
 mod ReplyLemmas
+mod RunLemmas
 mod SessionLemmas

@@ -1,7 +1,7 @@
 -- The reply that an engine's end of a query comes to.
 use Rattle.std.proofs.Common.{◌≡◌, ◌∙◌, ℕ, ◌+◌, ◌*◌, ◌≤◌, true, length, refl, sym, ap, subst, arith}
 use Rattle.std.proofs.Common.{Option, Result, Ok, Err}
-use Rattle.std.specs.Prelude.{IfErr, IfOk, OnOk}
+use Rattle.std.specs.Prelude.{◌≢◌, IfErr, IfOk, OnOk}
 use Rattle.plain_lits.specs.Units.{Units}
 use Rattle.semantics.specs.Frameworks.{Framework}
 use Rattle.iccma_tasks.specs.Tasks.{Asked}
@@ -9,27 +9,28 @@ use Rattle.edit_rules.specs.Fitting.{Fits}
 use Rattle.oracle_face.specs.declared.face.Pending.{Pending}
 use Rattle.oracle_face.specs.Growing.{HasRun, IsStop}
 use Rattle.oracle_face.specs.Logs.{OracleLog}
-use Rattle.session_log.specs.Ends.{MadeFor}
-use Rattle.log_certificates.specs.Cuts.{AreCut}
-use Rattle.query_answers.specs.Answers.{is_by_grounded}
+use Rattle.session_log.specs.Ends.{IsShownBy as IsShownByLog, LoopInHand, MadeFor}
+use Rattle.oracle_core.specs.log_certificates.specs.Cuts.{AreCut}
+use Rattle.oracle_core.specs.query_answers.specs.Answers.{is_by_grounded}
 use Rattle.oracle_core.specs.declared.reply.Answered.{Answered}
 use Rattle.oracle_core.specs.declared.reply.AnswerStop.{AnswerStop}
 use Rattle.oracle_core.specs.declared.reply.AnswerStop.TheVariants as stop
 use Rattle.oracle_core.specs.Answering.{IsCause, halt_behind}
 use Rattle.oracle_core.specs.Answers.{IsShownBy}
+use Rattle.oracle_core.specs.Stepping.{GoesOnBySteps}
 use Rattle.session_replies.specs.declared.reply.Body.{Body}
 use Rattle.session_replies.specs.declared.reply.Body.TheVariants.{Done, EditRefused, Full}
 use Rattle.session_replies.specs.declared.reply.Body.TheVariants.{Answered as OfAnswered, QueryRefused, Unknown}
 use Rattle.session_replies.specs.declared.reply.Body.TheVariants.{TooMany, LogFull}
 use Rattle.session_core.specs.declared.answering.TheConstants.{EXTENSION_LIMIT}
 use Rattle.session_core.specs.declared.answering.Told.{Told}
-use Rattle.session_core.specs.Replies.{Keeps, QuerySays, halt_told, units_used}
+use Rattle.session_core.specs.Replies.{IsShownIn, Keeps, QuerySays, halt_told, units_used}
 use Rattle.session_core.specs.Telling.{IsBodyOf, IsTold, clause_kept}
 
 -- what the reply says
 says_of : (f : Framework) (asked : Asked) (log : OracleLog) (end : Result Answered AnswerStop) (said : Body)
     → IsBodyOf end said → OnOk end (Fits f asked) → IfOk end (λ a. IsShownBy f asked a.answer a.certificate)
-    → IfOk end (λ a. AreCut log a.certificate.refutations) → IfErr end (IsCause f asked EXTENSION_LIMIT)
+    → IfOk end (λ a. AreCut log a.certificate.refutations) → IfErr end (IsCause f asked EXTENSION_LIMIT log)
     → QuerySays f asked log said
 says_of f asked log (Ok a) said is fits shown cut cause = subst (QuerySays f asked log) (sym is) (fits, shown, cut)
 says_of f asked log (Err (stop.Query fault)) said is fits shown cut cause = subst (QuerySays f asked log) (sym is) cause
@@ -98,18 +99,47 @@ run_kept f asked limit old new pending before after end said of unused is run =
       stop = stop_kept f asked new pending after said told.stop;
     }))
 
+-- ---- the steps of the log
+
+not_memory : (end : Result Answered AnswerStop) (said : Body) → IsBodyOf end said → end ≢ Err stop.Memory
+not_memory end said is e = subst (λ r. IsBodyOf r said) e is
+
+hand_kept : (new : OracleLog) (pending : Option Pending) (end : Result Answered AnswerStop) (said : Body)
+    → IsBodyOf end said → ((count : ℕ) → end ≡ Err (stop.Spent count) → LoopInHand new pending)
+    → LoopInHand new (clause_kept said pending)
+hand_kept new pending (Ok a) said is h = subst (λ b. LoopInHand new (clause_kept b pending)) (sym is) tt
+hand_kept new pending (Err (stop.Query fault)) said is h = subst (λ b. LoopInHand new (clause_kept b pending)) (sym is) tt
+hand_kept new pending (Err (stop.Spent count)) said is h =
+    subst (λ b. LoopInHand new (clause_kept b pending)) (sym is) (h count refl)
+hand_kept new pending (Err stop.TooMany) said is h = subst (λ b. LoopInHand new (clause_kept b pending)) (sym is) tt
+hand_kept new pending (Err stop.LogFull) said is h = subst (λ b. LoopInHand new (clause_kept b pending)) (sym is) tt
+hand_kept new pending (Err stop.Memory) said is h = absurd is
+
+shown_in : (f : Framework) (asked : Asked) (new : OracleLog) (end : Result Answered AnswerStop) (said : Body)
+    → IsBodyOf end said → IfOk end (λ a. IsShownByLog f asked a.answer a.certificate.sets new)
+    → IsShownIn f asked new said
+shown_in f asked new (Ok a) said is by_log = subst (IsShownIn f asked new) (sym is) by_log
+shown_in f asked new (Err (stop.Query fault)) said is by_log = subst (IsShownIn f asked new) (sym is) tt
+shown_in f asked new (Err (stop.Spent count)) said is by_log = subst (IsShownIn f asked new) (sym is) tt
+shown_in f asked new (Err stop.TooMany) said is by_log = subst (IsShownIn f asked new) (sym is) tt
+shown_in f asked new (Err stop.LogFull) said is by_log = subst (IsShownIn f asked new) (sym is) tt
+shown_in f asked new (Err stop.Memory) said is by_log = absurd is
+
 -- what a query came to, as the session tells it
-pub told_is : (f : Framework) (asked : Asked) (limit : ℕ) (old new : OracleLog) (pending : Option Pending)
+pub told_is : (f : Framework) (own : ℕ) (asked : Asked) (limit : ℕ) (old new : OracleLog) (pending : Option Pending)
     (before after : Units) (end : Result Answered AnswerStop) (told : Told) → before.limit ≡ limit → before.used ≡ 0
     → after.used ≤ after.limit → OnOk end (Fits f asked)
     → IfOk end (λ a. IsShownBy f asked a.answer a.certificate) → IfOk end (λ a. AreCut new a.certificate.refutations)
-    → IfErr end (IsCause f asked EXTENSION_LIMIT)
+    → IfErr end (IsCause f asked EXTENSION_LIMIT new)
     → HasRun (MadeFor f asked) (2 * length new.sides + 2) f old new pending before after (halt_behind end)
-    → (is_by_grounded asked.task.problem asked.task.semantics ≡ true → new ≡ old) → IsBodyOf end told.body
+    → (is_by_grounded asked.task.problem asked.task.semantics ≡ true → new ≡ old)
+    → (end ≢ Err stop.Memory → GoesOnBySteps f own old new)
+    → ((count : ℕ) → end ≡ Err (stop.Spent count) → LoopInHand new pending)
+    → IfOk end (λ a. IsShownByLog f asked a.answer a.certificate.sets new) → IsBodyOf end told.body
     → told.kept.pending ≡ clause_kept told.body pending → told.kept.before ≡ length old.steps
-    → told.kept.after ≡ length new.steps → IsTold f asked limit old new told
-told_is f asked limit old new pending before after end told of unused within fits shown cut cause run grounded is kept
-    first last = record {
+    → told.kept.after ≡ length new.steps → IsTold f own asked limit old new told
+told_is f own asked limit old new pending before after end told of unused within fits shown cut cause run grounded steps
+    in_hand by_log is kept first last = record {
       used = after.used;
       replied = record {
         says = says_of f asked new end told.body is fits shown cut cause;
@@ -122,6 +152,11 @@ told_is f asked limit old new pending before after end told of unused within fit
             (units_used limit after.used) (halt_told told.body)) (sym kept)
             (run_kept f asked limit old new pending before after end told.body of unused is run);
         by_grounded = grounded;
+      };
+      steps = record {
+        goes_on = steps (not_memory end told.body is);
+        in_hand = subst (λ p. LoopInHand new p) (sym kept) (hand_kept new pending end told.body is in_hand);
+        shown = shown_in f asked new end told.body is by_log;
       };
       kept_is = record {
         before = first;

@@ -3,3 +3,5 @@ pub mod Following
 pub mod Sessions
 pub mod Telling
 pub mod Laws
+pub mod CoreRuns
+pub use Rattle.oracle_core as oracle_core

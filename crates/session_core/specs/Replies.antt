@@ -14,11 +14,12 @@ use Rattle.edit_history.specs.Hubs.{GainsOthers, IsCommitted}
 use Rattle.oracle_face.specs.declared.face.Pending.{Pending}
 use Rattle.oracle_face.specs.Growing.{Grows, HasRun}
 use Rattle.oracle_face.specs.Logs.{OracleLog}
-use Rattle.session_log.specs.Ends.{MadeFor}
-use Rattle.log_certificates.specs.Cuts.{AreCut}
-use Rattle.query_answers.specs.Answers.{AreTooMany, is_by_grounded}
+use Rattle.session_log.specs.Ends.{IsShownBy as IsShownByLog, LoopInHand, MadeFor}
+use Rattle.oracle_core.specs.log_certificates.specs.Cuts.{AreCut}
+use Rattle.oracle_core.specs.query_answers.specs.Answers.{AreTooMany, is_by_grounded}
 use Rattle.oracle_core.specs.Answering.{NeedsSearch}
 use Rattle.oracle_core.specs.Answers.{IsShownBy}
+use Rattle.oracle_core.specs.Stepping.{GoesOnBySteps}
 use Rattle.oracle_core.specs.Trading.{AnySide}
 use Rattle.session_replies.specs.declared.reply.Body.{Body}
 use Rattle.session_replies.specs.declared.reply.Body.TheVariants.{Done, EditRefused, Full}
@@ -60,7 +61,8 @@ halt_told LogFull = Some OfLogFull
 halt_told body = None
 
 -- what the reply to a query says of the framework, beside the log behind it: the answer is right, and its certificate
--- is accepted and cut out of the log; the query has this fault; there are too many extensions; or a search was halted
+-- is accepted and cut out of the log; the query has this fault; the log shows too many extensions; or a search was
+-- halted
 abbrev pub QuerySays : Framework → Asked → OracleLog → Body → Type 0
 QuerySays f asked log (Answered answer certificate) =
     Fits f asked
@@ -68,7 +70,7 @@ QuerySays f asked log (Answered answer certificate) =
     × AreCut log certificate.refutations
 QuerySays f asked log (QueryRefused fault) = IsFaultOf f asked fault
 QuerySays f asked log (Unknown count) = NeedsSearch f asked
-QuerySays f asked log TooMany = NeedsSearch f asked × AreTooMany f asked EXTENSION_LIMIT
+QuerySays f asked log TooMany = NeedsSearch f asked × AreTooMany f asked EXTENSION_LIMIT log
 QuerySays f asked log LogFull = NeedsSearch f asked
 QuerySays f asked log body = ⊥
 
@@ -106,3 +108,16 @@ pub record IsReadable (f : Framework) (asked : Asked) (limit : ℕ) (log : Oracl
   pub first : old.steps ≡ take kept.before log.steps
   pub last : new.steps ≡ take kept.after log.steps
   pub since : Grows AnySide new log
+
+-- steps of the log show the answer that the reply gives
+abbrev pub IsShownIn : Framework → Asked → OracleLog → Body → Type 0
+IsShownIn f asked log (Answered answer certificate) = IsShownByLog f asked answer certificate.sets log
+IsShownIn f asked log body = Unit {0}
+
+-- what was added for a query with this reply is steps of the session of the number `own` on this framework, and each loop
+-- clause among them was taken by no hints when it came; so is a loop clause in hand; and the log shows the answer
+pub record IsBySteps (f : Framework) (own : ℕ) (asked : Asked) (old new : OracleLog) (pending : Option Pending)
+    (body : Body) : Type 0 where
+  pub goes_on : GoesOnBySteps f own old new
+  pub in_hand : LoopInHand new pending
+  pub shown : IsShownIn f asked new body

@@ -12,7 +12,7 @@ use Rattle.session_replies.specs.declared.reply.Reply.{Reply}
 use Rattle.session_core.specs.declared.kept.KeptAnswer.{KeptAnswer}
 use Rattle.session_core.specs.declared.session.Session.{Session}
 use Rattle.session_core.specs.Following.{CatchesUp, HasFollowed}
-use Rattle.session_core.specs.Replies.{IsKeptOf, IsReplied}
+use Rattle.session_core.specs.Replies.{IsBySteps, IsKeptOf, IsReplied}
 
 -- the history that the session has seen
 abbrev pub seen_by : Session → List Entry
@@ -29,8 +29,8 @@ abbrev pub FollowsFrom : Framework → Session → Type 0
 FollowsFrom f session = (hub : Hub) → start_of hub ≡ f → Follows hub session
 
 -- the session took a query, and this is its reply: it followed the whole history as it then was, the log gained axioms
--- that were needed on the way, the reply is about the framework after the whole history, and what is kept of the query
--- is added
+-- that were needed on the way, and then steps of the session, the reply is about the framework after the whole history,
+-- and what is kept of the query is added
 pub record IsAsked (hub : Hub) (asked : Asked) (limit : ℕ) (old new : Session) (reply : Reply) : Type 0 where
   pub front : reply.front ≡ length (seen_by new)
   pub followed : new.followed ≡ length (seen_by new)
@@ -42,5 +42,7 @@ pub record IsAsked (hub : Hub) (asked : Asked) (limit : ℕ) (old new : Session)
   pub kept : KeptAnswer
   pub replied : IsReplied (framework_after (start_of hub) (seen_by new)) asked limit log new.engine.log kept.pending
       used reply.body
+  pub steps : IsBySteps (framework_after (start_of hub) (seen_by new)) old.engine.number asked log new.engine.log
+      kept.pending reply.body
   pub kept_is : IsKeptOf log new.engine.log reply.body kept
   pub answers : new.answers.items ≡ old.answers.items ++ kept ∷ []

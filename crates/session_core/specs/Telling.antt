@@ -17,7 +17,7 @@ use Rattle.session_core.specs.declared.answering.Told.{Told}
 use Rattle.session_core.specs.declared.kept.KeptAnswer.{KeptAnswer}
 use Rattle.session_core.specs.declared.session.Session.{Session}
 use Rattle.session_core.specs.Following.{CatchesUp}
-use Rattle.session_core.specs.Replies.{IsKeptOf, IsReplied}
+use Rattle.session_core.specs.Replies.{IsBySteps, IsKeptOf, IsReplied}
 use Rattle.session_core.specs.Sessions.{seen_by}
 
 -- ---- the engine's part
@@ -36,11 +36,13 @@ abbrev pub clause_kept : Body → Option Pending → Option Pending
 clause_kept (body.Unknown count) in_hand = in_hand
 clause_kept said in_hand = None
 
--- a query came to a reply, and what is kept of it
-pub record IsTold (f : Framework) (asked : Asked) (limit : ℕ) (old new : OracleLog) (told : Told) : Type 0 where
-  pub used : ℕ
-  pub replied : IsReplied f asked limit old new told.kept.pending used told.body
-  pub kept_is : IsKeptOf old new told.body told.kept
+-- a query to the engine of a number came to a reply, and what is kept of it
+pub record IsTold (f : Framework) (own : ℕ) (asked : Asked) (limit : ℕ) (old new : OracleLog) (told : Told) : Type 0
+  where
+    pub used : ℕ
+    pub replied : IsReplied f asked limit old new told.kept.pending used told.body
+    pub steps : IsBySteps f own asked old new told.kept.pending told.body
+    pub kept_is : IsKeptOf old new told.body told.kept
 
 -- ---- the session's parts
 
@@ -64,5 +66,6 @@ pub record HasTold (asked : Asked) (limit : ℕ) (old new : Session) (said : Bod
   pub used : ℕ
   pub kept : KeptAnswer
   pub replied : IsReplied old.engine.framework asked limit old.engine.log new.engine.log kept.pending used said
+  pub steps : IsBySteps old.engine.framework old.engine.number asked old.engine.log new.engine.log kept.pending said
   pub kept_is : IsKeptOf old.engine.log new.engine.log said kept
   pub answers : new.answers.items ≡ old.answers.items ++ kept ∷ []

@@ -56,7 +56,8 @@ pub(crate) fn tell<T: ClauseTrade>(
     query: &Query,
     limit: u64,
 ) -> Result<Told, Memory>
-    ensures told { IfOk result (IsTold engine.old.framework query.now limit engine.old.log engine.new.log) }
+    ensures told { IfOk result (IsTold engine.old.framework engine.old.number query.now limit engine.old.log
+        engine.new.log) }
     ensures framework { engine.new.framework ≡ engine.old.framework }
     ensures number { engine.new.number ≡ engine.old.number }
     ensures grows { Grows AnySide engine.old.log engine.new.log }

@@ -1,5 +1,6 @@
-//! What holds of what a session keeps. Each function does nothing; its contract is the law.
+//! What holds of a session's queries and of what it keeps. Each function does nothing; its contract is the law.
 
+ghost use Rattle.session_core.specs.CoreRuns.{AsksAreRuns};
 ghost use Rattle.session_core.specs.Laws.{AskedIsReadable, ReadableStays};
 
 /// The reply to a query can be read off the session's log behind it.
@@ -10,4 +11,10 @@ pub fn replies_can_be_read()
 /// It can be read off each log that has grown from there, so off the log that is left when the session ends.
 pub fn replies_stay_readable()
     ensures { ReadableStays }
+{}
+
+/// A query is a run of the core: a refresh, steps of the session's own log, and the answer that the reply tells. A reply
+/// that there are too many extensions doesn't tell them: the answer then tells some that the log shows.
+pub fn asks_are_runs()
+    ensures { AsksAreRuns }
 {}

@@ -12,4 +12,5 @@ pub mod session;
 
 pub use answering::EXTENSION_LIMIT;
 pub use kept::{Kept, KeptAnswer};
+pub use oracle_core;
 pub use session::Session;

@@ -10,7 +10,7 @@ use Rattle.meaning_atoms.specs.declared.atom.Atom.{Atom}
 use Rattle.meaning_atoms.specs.declared.atom.Atom.TheVariants.{Member, Range, Tail, Ask}
 use Rattle.meaning_atoms.specs.Atoms.{IsAtom, IsLit, IsPosition}
 use Rattle.meaning_atoms.specs.Worlds.{IsAsk}
-use Rattle.af_axioms.proofs.Literals.{rows_fit}
+use Rattle.oracle_face.specs.af_axioms.proofs.Literals.{rows_fit}
 use Rattle.oracle_face.specs.AbaNeeded.{IsNeededOfAba}
 use Rattle.oracle_face.specs.Goals.{IsSide, Tells}
 use Rattle.oracle_face.specs.Logs.{is_loop}
@@ -26,10 +26,10 @@ use Rattle.meaning_atoms.specs.declared.axiom.AxiomName.{AxiomName}
 use Rattle.meaning_atoms.specs.declared.axiom.AxiomName.TheVariants.{Af as OfAf, Aba as OfAba}
 use Rattle.meaning_atoms.specs.Literals.{AsksNothing, not_ask}
 use Rattle.meaning_atoms.proofs.Clauses.{asks_nothing}
-use Rattle.af_axioms.specs.Table.{table_clause, notion_clause}
-use Rattle.aba_axioms.specs.AbaTable.{aba_clause}
-use Rattle.aba_axioms.proofs.Bounds.{rows_fit as aba_rows_fit, asks_nothing as aba_asks_nothing}
-use Rattle.certificate_claims.specs.Refutations.{IsAxiomOf, axiom_clause}
+use Rattle.oracle_face.specs.af_axioms.specs.Table.{table_clause, notion_clause}
+use Rattle.oracle_face.specs.aba_axioms.specs.AbaTable.{aba_clause}
+use Rattle.oracle_face.specs.aba_axioms.proofs.Bounds.{rows_fit as aba_rows_fit, asks_nothing as aba_asks_nothing}
+use Rattle.oracle_face.specs.certificate_claims.specs.Refutations.{IsAxiomOf, axiom_clause}
 
 abbrev PassesTest : List AtomLit → Type 0
 PassesTest clause = list_all (λ (l : AtomLit). not_ask l.atom) clause ≡ true

@@ -5,8 +5,8 @@ use Rattle.semantics.specs.Frameworks.{Framework, af, aba}
 use Rattle.meaning_atoms.specs.declared.atom.Atom.TheVariants.{Ask}
 use Rattle.meaning_atoms.specs.declared.atom.AtomLit.{AtomLit}
 use Rattle.meaning_atoms.specs.Literals.{affirmed, denied, negated, AsksNothing}
-use Rattle.af_axioms.specs.Facts.{IsFactValue}
-use Rattle.certificate_claims.specs.Refutations.{Claim}
+use Rattle.oracle_face.specs.af_axioms.specs.Facts.{IsFactValue}
+use Rattle.oracle_face.specs.certificate_claims.specs.Refutations.{Claim}
 use Rattle.oracle_face.specs.Goals.{RefutesGoals, DeniesSide, Refutes}
 use Rattle.oracle_face.specs.Logs.{OracleLog, IsNumberOf, Reaches, by_side, step_at}
 use Rattle.session_log.specs.Guards.{IsGuarded}

@@ -1,19 +1,21 @@
 -- What the log shows is right, and stays shown while the log grows.
-use Rattle.std.proofs.Common.{◌≡◌, ℕ, true, List, subst}
+use Rattle.std.proofs.Common.{◌≡◌, ℕ, true, List, [], ◌∷◌, subst}
+use Rattle.std.specs.Prelude.{Contains}
 use Rattle.semantics.specs.Framework.{Af}
 use Rattle.semantics.specs.Frameworks.{Framework, af, IsNumbered}
 use Rattle.meaning_atoms.specs.declared.axiom.AxiomName.{AxiomName}
 use Rattle.meaning_atoms.specs.declared.axiom.AxiomName.TheVariants.{Af as OfAf, Aba as OfAba}
 use Rattle.iccma_tasks.specs.declared.answer.Answer.{Answer}
+use Rattle.iccma_tasks.specs.declared.answer.Answer.TheVariants.{Sets}
 use Rattle.iccma_tasks.specs.Tasks.{Asked}
-use Rattle.certificate_claims.specs.Refutations.{IsAxiomOf}
-use Rattle.certificate_claims.specs.Rights.{IsRight}
+use Rattle.oracle_face.specs.certificate_claims.specs.Refutations.{IsAxiomOf}
+use Rattle.oracle_face.specs.certificate_claims.specs.Rights.{IsExtension, IsRight}
 use Rattle.meaning_atoms.specs.declared.atom.AtomLit.{AtomLit}
 use Rattle.certificate_laws.proofs.Right.{shown_right}
 use Rattle.oracle_face.specs.Growing.{Making, Grows}
 use Rattle.oracle_face.specs.Logs.{OracleLog, LogStep, SideClause, Source, by_axiom, IsGiven, IsLog, is_loop}
 use Rattle.oracle_face.proofs.Refuting.{claim_excluded, refutes_grown}
-use Rattle.session_log.specs.Ends.{IsShownBy, LoopsServe}
+use Rattle.session_log.specs.Ends.{AreTooMany, IsShownBy, LoopsServe, some_asked}
 
 pub shown_answer_right : (f : Framework) (asked : Asked) (answer : Answer) (sets : List (List ℕ)) (log : OracleLog)
     → IsNumbered f → IsLog f log → IsShownBy f asked answer sets log → IsRight f asked answer
@@ -21,6 +23,12 @@ shown_answer_right f asked answer sets log numbered form shown =
     shown_right f asked answer sets numbered shown.tests (λ k lt plain.
     let has = shown.refuted k lt in
     claim_excluded f log _ has.number form plain has.refutes)
+
+pub shown_sets_right : (f : Framework) (asked : Asked) (most : ℕ) (log : OracleLog) (sets : List (List ℕ))
+    → IsNumbered f → IsLog f log → AreTooMany f asked most log sets
+    → (e : List ℕ) → Contains sets e → IsExtension f asked.task.semantics e
+shown_sets_right f asked most log sets numbered form many e has =
+    shown_answer_right f (some_asked asked.task.semantics) (Sets (e ∷ [])) [] log numbered form (many.each e has)
 
 pub shown_grown : (f : Framework) (P : Making) (asked : Asked) (answer : Answer) (sets : List (List ℕ))
     (old new : OracleLog) → IsLog f old → Grows P old new → IsShownBy f asked answer sets old

@@ -15,14 +15,14 @@ use Rattle.meaning_atoms.specs.declared.atom.AtomLit.{AtomLit}
 use Rattle.meaning_atoms.specs.declared.axiom.AxiomName.{AxiomName}
 use Rattle.meaning_atoms.specs.Literals.{denied}
 use Rattle.meaning_atoms.specs.Worlds.{IsFact}
-use Rattle.certificate_claims.specs.Refutations.{axiom_clause}
+use Rattle.oracle_face.specs.certificate_claims.specs.Refutations.{axiom_clause}
 use Rattle.oracle_face.specs.declared.entry.EntryName.{EntryName}
 use Rattle.oracle_face.specs.Goals.{IsSide, Tells}
 use Rattle.oracle_face.specs.Growing.{Works}
 use Rattle.oracle_face.specs.Logs.{OracleLog, LogStep, SideClause, by_axiom, by_side, FactsAreFalse, IsLog, IsNew}
 use Rattle.oracle_face.specs.Logs.{IsSameClause, closings_of, guarded, is_loop, is_unit, no_step, units_of, working}
 use Rattle.session_log.specs.Guards.{IsGuarded}
-use Rattle.session_log.specs.Steps.{GainsStep, TakesAxiom, TakesSide, Derives, Spends, derived_step, own_step}
+use Rattle.session_log.specs.Steps.{GainsStep, TakesAxiom, TakesSide, Derives, Spends, axiom_step, derived_step, own_step}
 use Rattle.session_log.proofs.NewSides.{side_is_new}
 
 -- ---- one step more
@@ -103,6 +103,19 @@ pub axiom_spends : (f : Framework) (name : AxiomName) (clause : List AtomLit) (o
 axiom_spends f name clause old new no_loop takes =
     spends_by f (own_step clause (by_axiom name)) old.sides old new takes.gains
     (λ unit. absurd (not_work (is_loop name) no_loop unit)) 0 0 (no_unit (is_loop name) no_loop) refl
+
+-- an axiom that is taken from an entry
+no_unit_imported : (b : Bool) → b && false ≡ false
+no_unit_imported true = refl
+no_unit_imported false = refl
+
+pub axiom_entry_spends : (f : Framework) (name : AxiomName) (clause : List AtomLit) (entry : EntryName)
+    (old new : OracleLog) → GainsStep (axiom_step name clause (Some entry)) old.sides old new
+    → Spends f old new 0 0
+axiom_entry_spends f name clause entry old new gains =
+    let none = no_unit_imported (is_loop name) in
+    spends_by f (axiom_step name clause (Some entry)) old.sides old new gains
+    (λ unit. absurd (false≢true (sym none ∙ unit))) 0 0 (ap one_if none) refl
 
 is_work_of : (b : Bool) → b ≡ true → one_if (b && true) ≡ 1
 is_work_of true e = refl

@@ -1,7 +1,7 @@
 -- A guarded log stays one, whichever step it gains.
 use Rattle.std.proofs.Common.{◌≡◌, inl, inr, ⊎_elim, ℕ, ◌+◌, ◌-◌, Bool, List, [], ◌∷◌, ◌++◌, length, refl, ap, sym}
 use Rattle.std.proofs.Common.{subst, ◌∙◌, arith}
-use Rattle.std.specs.Prelude.{◌⊎◌, Contains, slice_index_or, Option}
+use Rattle.std.specs.Prelude.{◌⊎◌, Contains, slice_index_or, Option, None}
 use Rattle.std.proofs.lemmas.Bool.{cases_lt, false≢true}
 use Rattle.std.proofs.lemmas.List.{length_push, get_or_push}
 use Rattle.std.proofs.lemmas.List.Elements.{Contains-push_cases}
@@ -12,15 +12,15 @@ use Rattle.meaning_atoms.specs.declared.atom.AtomLit.{AtomLit}
 use Rattle.meaning_atoms.specs.declared.axiom.AxiomName.{AxiomName}
 use Rattle.meaning_atoms.specs.Worlds.{IsAsk}
 use Rattle.meaning_atoms.specs.Literals.{affirmed, denied, AsksNothing}
-use Rattle.certificate_claims.specs.Refutations.{IsAxiomOf, axiom_clause}
+use Rattle.oracle_face.specs.certificate_claims.specs.Refutations.{IsAxiomOf, axiom_clause}
 use Rattle.oracle_face.specs.declared.entry.EntryName.{EntryName}
 use Rattle.oracle_face.specs.Logs.{LogStep, SideClause, OracleLog, by_axiom, by_side, by_hints, IsGiven, IsLog}
 use Rattle.oracle_face.specs.Logs.{IsNumberOf, IsSameClause, Reaches, itself, by_hint, hints_of, guarded, step_at}
 use Rattle.oracle_face.specs.Logs.{side_at, no_side}
 use Rattle.oracle_face.specs.Growing.{NoSide, OnlySide}
 use Rattle.session_log.specs.Guards.{RestsOn, IsGuarded}
-use Rattle.session_log.specs.Steps.{GainsStep, TakesAxiom, TakesSide, FollowsByHints, Derives, StaysGuarded, own_step}
-use Rattle.session_log.specs.Steps.{derived_step, side_made}
+use Rattle.session_log.specs.Steps.{GainsStep, TakesAxiom, TakesSide, FollowsByHints, Derives, StaysGuarded, axiom_step}
+use Rattle.session_log.specs.Steps.{derived_step, own_step, side_made}
 use Rattle.session_log.proofs.AxiomLemmas.{axiom_plain, axiom_within, side_plain, side_within}
 use Rattle.session_log.proofs.StepLemmas.{AreSides, guarded_step, given_hints, top_step, top_named, side_step_still}
 use Rattle.session_log.proofs.StepLemmas.{rests_still, rests_back, same_sides_form, same_sides_grow, side_still}
@@ -63,24 +63,30 @@ no_ask_in : (name : AxiomName) (clause : List AtomLit) (n : ℕ) (positive : Boo
     → IsSameClause clause (axiom_clause name) → Contains clause (record { atom = Ask n; positive = positive }) → ⊥
 no_ask_in name clause n positive same c = axiom_plain name _ (same.there _ c) tt
 
+pub axiom_step_stays : (f : Framework) (name : AxiomName) (clause : List AtomLit) (imported : Option EntryName)
+    (old new : OracleLog) → IsLog f old → IsGuarded old → IsAxiomOf f name → IsSameClause clause (axiom_clause name)
+    → GainsStep (axiom_step name clause imported) old.sides old new → StaysGuarded NoSide f old new
+axiom_step_stays f name clause imported old new form guards is same gains =
+    let step = axiom_step name clause imported in
+    record {
+      grows = same_sides_grow step old new gains;
+      form = same_sides_form f step old new form gains (is, same);
+      guards = guarded_step step old.sides old new gains f form guards (record {
+        denies_top = λ n rests. ⊎_elim (λ source. absurd (cc))
+            (λ by. absurd (Contains-nil by.0 by.1))
+            (rests_top_by step old.sides old new gains n rests);
+        rests_top = λ n c. absurd (no_ask_in name clause n _ same c);
+        unasked_top = λ n c. no_ask_in name clause n _ same c;
+        within_top = λ l c plain. axiom_within f name is l (same.there l c);
+        stepped_all = λ n named. side_step_still step old.sides old new gains n
+            (guards.stepped n (subst (λ (sides : List SideClause). IsNumberOf sides n) gains.sides_now named));
+      });
+    }
+
 pub axiom_stays : (f : Framework) (name : AxiomName) (clause : List AtomLit) (old new : OracleLog) → IsLog f old
     → IsGuarded old → IsAxiomOf f name → TakesAxiom name clause old new → StaysGuarded NoSide f old new
 axiom_stays f name clause old new form guards is takes =
-    let step = own_step clause (by_axiom name) in
-    record {
-      grows = same_sides_grow step old new takes.gains;
-      form = same_sides_form f step old new form takes.gains (is, takes.same);
-      guards = guarded_step step old.sides old new takes.gains f form guards (record {
-        denies_top = λ n rests. ⊎_elim (λ source. absurd (cc))
-            (λ by. absurd (Contains-nil by.0 by.1))
-            (rests_top_by step old.sides old new takes.gains n rests);
-        rests_top = λ n c. absurd (no_ask_in name clause n _ takes.same c);
-        unasked_top = λ n c. no_ask_in name clause n _ takes.same c;
-        within_top = λ l c plain. axiom_within f name is l (takes.same.there l c);
-        stepped_all = λ n named. side_step_still step old.sides old new takes.gains n
-            (guards.stepped n (subst (λ (sides : List SideClause). IsNumberOf sides n) takes.gains.sides_now named));
-      });
-    }
+    axiom_step_stays f name clause None old new form guards is takes.same takes.gains
 
 -- ---- derived clauses
 

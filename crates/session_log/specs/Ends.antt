@@ -2,10 +2,11 @@
 use Rattle.std.specs.Prelude.{◌≡◌, ℕ, ◌+◌, ◌*◌, ◌<◌, ◌≤◌, true, false, List, [], ◌∷◌, length, take, Contains}
 use Rattle.std.specs.Prelude.{slice_index_or, Option, Some, None, Ok}
 use Rattle.plain_lits.specs.declared.halt.Halt.{Halt}
-use Rattle.plain_lits.specs.declared.halt.Halt.TheVariants.{Memory}
+use Rattle.plain_lits.specs.declared.halt.Halt.TheVariants.{LogFull, Spent}
 use Rattle.plain_lits.specs.HintCheck.{Checks}
 use Rattle.plain_lits.specs.Units.{Units}
 use Rattle.semantics.specs.Frameworks.{Framework}
+use Rattle.semantics.specs.Laws.{HasSameMembers}
 use Rattle.meaning_atoms.specs.declared.atom.Atom.TheVariants.{Ad}
 use Rattle.meaning_atoms.specs.declared.atom.AtomLit.{AtomLit}
 use Rattle.meaning_atoms.specs.declared.axiom.AxiomName.{AxiomName}
@@ -19,11 +20,10 @@ use Rattle.iccma_tasks.specs.declared.task.Semantics.{Semantics}
 use Rattle.iccma_tasks.specs.declared.task.Semantics.TheVariants.{Complete, Grounded, Preferred, Stable, SemiStable}
 use Rattle.iccma_tasks.specs.declared.task.Semantics.TheVariants.{Ideal}
 use Rattle.iccma_tasks.specs.Tasks.{Asked, task_of}
-use Rattle.certificate_claims.specs.Acceptance.{Tests, no_claim}
-use Rattle.certificate_claims.specs.Claims.{claims, row_of, sets_of}
-use Rattle.certificate_claims.specs.Refutations.{Claim, axiom_clause}
-use Rattle.certificate_claims.specs.Rights.{SetsRise}
-use Rattle.certificate_claims.specs.SetLiterals.{outside, differs, wider, attacked}
+use Rattle.oracle_face.specs.certificate_claims.specs.Acceptance.{Tests, no_claim}
+use Rattle.oracle_face.specs.certificate_claims.specs.Claims.{claims, row_of, sets_of}
+use Rattle.oracle_face.specs.certificate_claims.specs.Refutations.{Claim, axiom_clause}
+use Rattle.oracle_face.specs.certificate_claims.specs.SetLiterals.{outside, differs, wider, attacked}
 use Rattle.oracle_face.specs.declared.face.Pending.{Pending}
 use Rattle.oracle_face.specs.declared.face.Pending.TheVariants.{Loop}
 use Rattle.oracle_face.specs.Goals.{Refutes}
@@ -66,7 +66,7 @@ pub record LoopsServe (old new : OracleLog) : Type 0 where
       → (slice_index_or new.steps k no_step).source ≡ by_axiom name → is_loop name ≡ true
       → IsTakenByNone (take k new.steps) (axiom_clause name)
 
--- so is a loop clause in hand
+-- no such hints take a loop clause in hand
 abbrev pub LoopInHand : OracleLog → Option Pending → Type 0
 LoopInHand log (Some (Loop name)) = IsTakenByNone log.steps (axiom_clause name)
 LoopInHand log _ = Unit {0}
@@ -87,7 +87,6 @@ pub record WorksFor (f : Framework) (asked : Asked) (course : Course) (halt : Op
   pub run : HasRun (MadeFor f asked) (2 * length course.new.sides + 2) f course.old course.new course.pending
       course.before course.after halt
   pub loops : LoopsServe course.old course.new
-  pub in_hand : LoopInHand course.new course.pending
   pub within : course.after.used ≤ course.after.limit
 
 -- ---- what an answer rests on
@@ -108,14 +107,19 @@ pub record IsShownBy (f : Framework) (asked : Asked) (answer : Answer) (sets : L
 abbrev pub some_asked : Semantics → Asked
 some_asked semantics = record { task = task_of SomeExtension semantics; number = None }
 
--- more extensions than so many, each shown as an answer to the query for one
-pub record HasTooMany (f : Framework) (asked : Asked) (most : ℕ) (log : OracleLog) : Type 0 where
+-- no two sets of the list have the same members
+abbrev pub AreDifferent : List (List ℕ) → Type 0
+AreDifferent sets =
+    (i j : ℕ) → i < j → j < length sets → HasSameMembers (slice_index_or sets i []) (slice_index_or sets j []) → ⊥
+
+-- a task asks for all extensions, and these are more than so many different ones, each shown as an answer to the query
+-- for one
+pub record AreTooMany (f : Framework) (asked : Asked) (most : ℕ) (log : OracleLog) (sets : List (List ℕ)) : Type 0 where
   pub all : asked.task.problem ≡ AllExtensions
-  pub sets : List (List ℕ)
   pub more : most < length sets
-  pub rise : SetsRise sets
-  pub each : (e : List ℕ) → Contains sets e → (others : List (List ℕ))
-      × IsShownBy f (some_asked asked.task.semantics) (Sets (e ∷ [])) others log
+  pub different : AreDifferent sets
+  pub each : (e : List ℕ) → Contains sets e
+      → IsShownBy f (some_asked asked.task.semantics) (Sets (e ∷ [])) [] log
 
 -- ---- how it ends
 
@@ -126,24 +130,28 @@ IsByGrounded Sceptical Complete = Unit {0}
 IsByGrounded SomeExtension Complete = Unit {0}
 IsByGrounded problem semantics = ⊥
 
--- what may stop a query: want of memory, or a spent budget or a full log where the grounded set doesn't answer
-abbrev pub MayStop : Asked → Halt → Type 0
-MayStop asked Memory = Unit {0}
-MayStop asked halt = IsByGrounded asked.task.problem asked.task.semantics → ⊥
+-- the grounded set doesn't answer the task, so that a spent budget or a full log may stop its queries
+abbrev pub MayStop : Asked → Type 0
+MayStop asked = IsByGrounded asked.task.problem asked.task.semantics → ⊥
 
--- a fault; an answer with the sets of its certificate; a halt; or more extensions than may be listed
+-- a fault; an answer with the sets of its certificate; that the budget was spent, at a number of units; these
+-- extensions, which are more than may be listed; or that the log was full
 pub data Ending : Type 0 where
   refused : QueryFault → Ending
   definite : Answer → List (List ℕ) → Ending
-  stopped : Halt → Ending
-  too_many : Ending
+  unknown : ℕ → Ending
+  too_many : List (List ℕ) → Ending
+  log_full : Ending
 
 -- a query may end so: it has that first fault, or else fits the framework, and what was added serves it; an answer is
--- shown by the log, a halt has its cause, and of extensions there are more than so many
+-- shown by the log; a spent budget and a full log have their cause, and a loop clause in hand serves the query too; and
+-- the extensions are more different ones than so many
 abbrev pub IsEnd : Framework → Asked → ℕ → Course → Ending → Type 0
 IsEnd f asked most course (refused fault) = IsFaultOf f asked fault
 IsEnd f asked most course (definite answer sets) =
     Fits f asked × WorksFor f asked course None × IsShownBy f asked answer sets course.new
-IsEnd f asked most course (stopped halt) = Fits f asked × WorksFor f asked course (Some halt) × MayStop asked halt
-IsEnd f asked most course too_many =
-    Fits f asked × WorksFor f asked course None × HasTooMany f asked most course.new
+IsEnd f asked most course (unknown count) =
+    Fits f asked × WorksFor f asked course (Some (Spent count)) × MayStop asked × LoopInHand course.new course.pending
+IsEnd f asked most course (too_many sets) =
+    Fits f asked × WorksFor f asked course None × AreTooMany f asked most course.new sets
+IsEnd f asked most course log_full = Fits f asked × WorksFor f asked course (Some LogFull) × MayStop asked

@@ -4,18 +4,18 @@ use Rattle.semantics.specs.Frameworks.{Framework, IsNumbered}
 use Rattle.meaning_atoms.specs.declared.atom.AtomLit.{AtomLit}
 use Rattle.meaning_atoms.specs.declared.axiom.AxiomName.{AxiomName}
 use Rattle.meaning_atoms.specs.Literals.{negated, AsksNothing}
-use Rattle.af_axioms.specs.Facts.{IsFactValue}
+use Rattle.oracle_face.specs.af_axioms.specs.Facts.{IsFactValue}
 use Rattle.iccma_tasks.specs.declared.answer.Answer.{Answer}
 use Rattle.iccma_tasks.specs.Tasks.{Asked}
-use Rattle.certificate_claims.specs.Rights.{IsRight}
-use Rattle.certificate_claims.specs.Refutations.{Claim, IsAxiomOf, axiom_clause}
+use Rattle.oracle_face.specs.certificate_claims.specs.Rights.{IsExtension, IsRight}
+use Rattle.oracle_face.specs.certificate_claims.specs.Refutations.{Claim, IsAxiomOf, axiom_clause}
 use Rattle.oracle_face.specs.declared.entry.EntryName.{EntryName}
 use Rattle.oracle_face.specs.Goals.{IsSide, RefutesGoals, DeniesSide, Refutes}
 use Rattle.oracle_face.specs.Growing.{NoSide, OnlySide}
 use Rattle.oracle_face.specs.Logs.{OracleLog, FactsAreFalse, IsLog, IsNew, IsNumberOf, Reaches, guarded, is_loop}
 use Rattle.oracle_face.specs.Logs.{step_at, working}
 use Rattle.oracle_face.specs.Needed.{IsNeeded}
-use Rattle.session_log.specs.Ends.{IsShownBy}
+use Rattle.session_log.specs.Ends.{AreTooMany, IsShownBy}
 use Rattle.session_log.specs.Guards.{IsGuarded}
 use Rattle.session_log.specs.Truth.{IsTrueOfWorlds, MayBeShared}
 use Rattle.session_log.specs.Steps.{TakesAxiom, TakesSide, Derives, Spends, StaysGuarded}
@@ -118,3 +118,9 @@ ClosedRefutesClaim = (f : Framework) (log : OracleLog) (claim : Claim) (number :
 abbrev pub ShownAnswersAreRight : Type 0
 ShownAnswersAreRight = (f : Framework) (asked : Asked) (answer : Answer) (sets : List (List ℕ)) (log : OracleLog)
     → IsNumbered f → IsLog f log → IsShownBy f asked answer sets log → IsRight f asked answer
+
+-- the sets that a log shows where there are too many are extensions
+abbrev pub ShownSetsAreExtensions : Type 0
+ShownSetsAreExtensions = (f : Framework) (asked : Asked) (most : ℕ) (log : OracleLog) (sets : List (List ℕ))
+    → IsNumbered f → IsLog f log → AreTooMany f asked most log sets
+    → (e : List ℕ) → Contains sets e → IsExtension f asked.task.semantics e

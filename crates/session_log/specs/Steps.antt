@@ -1,16 +1,17 @@
 -- How a log grows by one step: an axiom comes, a side clause comes with its step, or a clause is derived.
-use Rattle.std.specs.Prelude.{◌≡◌, ◌⊎◌, ℕ, ◌+◌, ◌<◌, Bool, false, List, [], ◌∷◌, ◌++◌, length, Contains, Option, None}
-use Rattle.std.specs.Prelude.{Ok}
+use Rattle.std.specs.Prelude.{◌≡◌, ◌⊎◌, ℕ, ◌+◌, ◌<◌, Bool, true, false, List, [], ◌∷◌, ◌++◌, length, Contains, Option}
+use Rattle.std.specs.Prelude.{None, Ok}
 use Rattle.plain_lits.specs.HintCheck.{Checks}
 use Rattle.plain_lits.specs.Units.{Units}
 use Rattle.semantics.specs.Frameworks.{Framework}
 use Rattle.meaning_atoms.specs.declared.atom.AtomLit.{AtomLit}
 use Rattle.meaning_atoms.specs.declared.axiom.AxiomName.{AxiomName}
 use Rattle.meaning_atoms.specs.Literals.{negated}
-use Rattle.certificate_claims.specs.Refutations.{axiom_clause}
+use Rattle.oracle_face.specs.certificate_claims.specs.Refutations.{axiom_clause}
 use Rattle.oracle_face.specs.declared.entry.EntryName.{EntryName}
 use Rattle.oracle_face.specs.Logs.{OracleLog, LogStep, SideClause, Source, by_axiom, by_side, by_hints, IsLog}
-use Rattle.oracle_face.specs.Logs.{IsNumberOf, IsSameClause, guarded, clauses_of, closings_of, side_at, step_at}
+use Rattle.oracle_face.specs.Logs.{HasPart, IsNew, IsNumberOf, IsSameClause, guarded, clauses_of, closings_of, side_at}
+use Rattle.oracle_face.specs.Logs.{step_at, working}
 use Rattle.oracle_face.specs.Goals.{IsSide}
 use Rattle.oracle_face.specs.Growing.{Making, Grows, Works}
 use Rattle.session_log.specs.Guards.{IsGuarded}
@@ -25,6 +26,11 @@ pub record GainsStep (step : LogStep) (sides : List SideClause) (old new : Oracl
 -- a step of one's own that searches use
 abbrev pub own_step : List AtomLit → Source → LogStep
 own_step clause source = record { clause = clause; source = source; imported = None; closing = false }
+
+-- the step of an axiom, which is one's own or taken from an entry
+abbrev pub axiom_step : AxiomName → List AtomLit → Option EntryName → LogStep
+axiom_step name clause imported =
+    record { clause = clause; source = by_axiom name; imported = imported; closing = false }
 
 -- an axiom comes
 pub record TakesAxiom (name : AxiomName) (clause : List AtomLit) (old new : OracleLog) : Type 0 where
@@ -67,6 +73,22 @@ pub record Derives (clause : List AtomLit) (hints : List ℕ) (imported : Option
     (old new : OracleLog) : Type 0 where
   pub follows : FollowsByHints old.steps clause hints
   pub gains : GainsStep (derived_step clause hints imported closing) old.sides old new
+
+-- a derived clause only ends a search where no step's clause is a part of it, and else it is new
+abbrev pub IsWorthIt : List LogStep → List AtomLit → Bool → Type 0
+IsWorthIt steps clause true = HasPart (clauses_of steps) clause → ⊥
+IsWorthIt steps clause false = IsNew (working steps) clause
+
+-- a clause of one's own is derived that is worth it
+pub record LearnsClause (clause : List AtomLit) (hints : List ℕ) (closing : Bool) (old new : OracleLog) : Type 0 where
+  pub worth : IsWorthIt old.steps clause closing
+  pub derives : Derives clause hints None closing old new
+
+-- such clauses are derived, one after the other
+pub data LearnsClauses : OracleLog → OracleLog → Type 0 where
+  nothing : (log : OracleLog) → LearnsClauses log log
+  one_more : (old mid new : OracleLog) (clause : List AtomLit) (hints : List ℕ) (closing : Bool)
+      → LearnsClauses old mid → LearnsClause clause hints closing mid new → LearnsClauses old new
 
 -- the log grows, and stays a guarded log
 pub record StaysGuarded (P : Making) (f : Framework) (old new : OracleLog) : Type 0 where

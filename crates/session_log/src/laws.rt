@@ -3,7 +3,7 @@
 ghost use Rattle.session_log.specs.Laws.{AxiomsSpendNothing, AxiomsStay, ClosedRefutesClaim, ClosedRefutesGoals};
 ghost use Rattle.session_log.specs.Laws.{ClosingSpendsNone, DerivedStay, ImportedSpendNothing, LearnedSpendOne};
 ghost use Rattle.session_log.specs.Laws.{LoopsSpendOne, NeededNoLoop, OpenedGuarded, PlainStepsMayBeShared};
-ghost use Rattle.session_log.specs.Laws.{ReachedAreUsed, ShownAnswersAreRight, SidesAreNew, SidesSpendOne, SidesStay};
+ghost use Rattle.session_log.specs.Laws.{ReachedAreUsed, ShownAnswersAreRight, ShownSetsAreExtensions, SidesAreNew, SidesSpendOne, SidesStay};
 ghost use Rattle.session_log.specs.Laws.{StepsAreTrue};
 
 /// A log with no step and no side clause is a guarded one.
@@ -94,4 +94,9 @@ pub fn closed_steps_refute_claims()
 /// An answer whose direct tests pass, and whose claims are refuted by steps of the log, is right.
 pub fn shown_answers_are_right()
     ensures { ShownAnswersAreRight }
+{}
+
+/// The sets that a log shows where there are more than may be listed are extensions.
+pub fn shown_sets_are_extensions()
+    ensures { ShownSetsAreExtensions }
 {}

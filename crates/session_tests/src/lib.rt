@@ -8,6 +8,8 @@ mod hubs;
 #[cfg(test)]
 mod inputs;
 #[cfg(test)]
+mod limits;
+#[cfg(test)]
 mod pools;
 #[cfg(test)]
 mod replies;

@@ -1,13 +1,13 @@
 //! Sessions of a script: what they are told, whichever of them takes its turn first.
 
 use argue_outside::NoPace;
+use bench_runs::script_runs::run_script;
 use dung_notions::AfPlain;
 use edit_rules::Framework;
 use plain_lists::{Bytes, Memory};
-use script_runs::run_script;
 use script_text::{Script, read_script};
 use session_replies::transcript_text;
-use std::alloc::Global;
+use std::alloc::{AllocError, Global};
 use std::mem::forget;
 use std::sync::Wait;
 use std::test::Fail;
@@ -68,6 +68,44 @@ fn two_of_one_edit(rt: HostRuntime) -> Result<(), Fail> {
     let second =
         "session 1\nat 1\nREFUSED AttackIsThere\nsession 2\nat 1\nOK\nhistory\n2 att 1 2\n";
     assert!(rt; told.as_slice() == first.as_bytes() || told.as_slice() == second.as_bytes());
+    Ok(())
+}
+
+/// The transcript where eight sessions add the same attack, and one of them comes first.
+fn first_of_eight(alloc: Global, first: u32) -> Result<String, AllocError> {
+    let mut text = String::new(alloc);
+    for session in 1..9u32 {
+        let told = if session == first {
+            "OK"
+        } else {
+            "REFUSED AttackIsThere"
+        };
+        write!(text, "session {session}\nat 1\n{told}\n")?;
+    }
+    write!(text, "history\n{first} att 1 2\n")?;
+    Ok(text)
+}
+
+/// Which of eight sessions came first, by the transcript.
+fn winner(alloc: Global, told: &[u8]) -> Result<Option<u32>, AllocError> {
+    for first in 1..9u32 {
+        let wanted = first_of_eight(alloc, first)?;
+        if told == wanted.as_bytes() {
+            return Ok(Some(first));
+        }
+    }
+    Ok(None)
+}
+
+/// Eight sessions add the same attack: all but one are told that it is there.
+#[test]
+fn eight_of_one_edit(rt: HostRuntime) -> Result<(), Fail> {
+    let alloc = rt.alloc();
+    let opening = framework(alloc, 2, &[])?;
+    let script =
+        "1 att 1 2\n2 att 1 2\n3 att 1 2\n4 att 1 2\n5 att 1 2\n6 att 1 2\n7 att 1 2\n8 att 1 2\n";
+    let told = transcript_of(&rt, alloc, opening, script)?;
+    assert!(rt; winner(alloc, told.as_slice())?.is_some());
     Ok(())
 }
 

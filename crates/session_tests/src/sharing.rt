@@ -3,19 +3,19 @@
 ghost use Rattle.std.specs.Prelude.{◌≡◌, All, IfSome};
 ghost use Rattle.edit_rules.specs.Kinds.{framework_of};
 ghost use Rattle.edit_history.specs.Hubs.{IsSeatAt, start_of};
-ghost use Rattle.session_core.specs.Sessions.{Follows};
+ghost use Rattle.bench_runs.specs.session_core.specs.Sessions.{Follows};
 ghost use Rattle.session_tests.specs.Seats.{IsNewSeat};
 
 use argue_outside::NoPace;
+use bench_runs::oracle_core::Engine;
+use bench_runs::session_core::Session;
 use clause_pool::Pool;
 use dung_notions::AfPlain;
 use edit_history::{Hub, Seat};
 use edit_rules::Framework;
 use iccma_tasks::{Query, Task};
-use oracle_core::Engine;
 use plain_lists::Memory;
 use plain_lits::StepId;
-use session_core::Session;
 use std::alloc::Global;
 use std::mem::forget;
 use std::sync::Wait;

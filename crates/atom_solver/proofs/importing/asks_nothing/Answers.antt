@@ -1,7 +1,6 @@
-use Rattle.std.proofs.Common.{◌≡◌, get_or, length, ap, sym, subst, refl, ◌∙◌, arith, ◌<◌}
+use Rattle.std.proofs.Common.{◌≡◌, get_or, sym, subst, refl, ◌∙◌}
 use Rattle.std.proofs.lemmas.Bool.{false≢true}
 use Rattle.std.proofs.lemmas.List.{get_or_default, take_all}
-use Rattle.plain_lits.specs.declared.lit.Lit.{Lit}
 use Rattle.meaning_atoms.specs.Literals.{AsksNothing}
 use Rattle.atom_solver.specs.Lifted.{atoms_of}
 use Rattle.atom_solver.proofs.EntryLemmas.{asks_at, asks_front}

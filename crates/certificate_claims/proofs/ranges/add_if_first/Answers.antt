@@ -1,4 +1,4 @@
-use Rattle.semantics.specs.Frameworks.{af}
+use Rattle.iccma_tasks.specs.semantics.specs.Frameworks.{af}
 use Rattle.certificate_claims.proofs.RangeLists.{adds_known, adds_new}
 use Rattle.certificate_claims.proofs.ranges.add_if_first.Goals as goal
 

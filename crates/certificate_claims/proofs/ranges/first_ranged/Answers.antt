@@ -1,4 +1,4 @@
-use Rattle.semantics.specs.Frameworks.{af}
+use Rattle.iccma_tasks.specs.semantics.specs.Frameworks.{af}
 use Rattle.certificate_claims.proofs.RangeLists.{first_more, live_at}
 use Rattle.certificate_claims.proofs.ranges.first_ranged.Goals as goal
 

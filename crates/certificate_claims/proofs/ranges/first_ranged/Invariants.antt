@@ -1,5 +1,5 @@
 use Rattle.std.proofs.Common.{take}
-use Rattle.semantics.specs.Frameworks.{af}
+use Rattle.iccma_tasks.specs.semantics.specs.Frameworks.{af}
 use Rattle.certificate_claims.specs.Ranges.{IsFirstRanged}
 use Rattle.certificate_claims.proofs.ranges.first_ranged.Given as goal
 

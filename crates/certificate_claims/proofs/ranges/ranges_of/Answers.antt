@@ -1,4 +1,4 @@
-use Rattle.semantics.specs.Frameworks.{af}
+use Rattle.iccma_tasks.specs.semantics.specs.Frameworks.{af}
 use Rattle.certificate_claims.proofs.RangeLists.{live_at, ranges_more}
 use Rattle.certificate_claims.proofs.ranges.ranges_of.Goals as goal
 

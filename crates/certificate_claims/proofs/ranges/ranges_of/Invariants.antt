@@ -1,5 +1,5 @@
 use Rattle.std.proofs.Common.{◌≡◌, map, take}
-use Rattle.semantics.specs.Frameworks.{af}
+use Rattle.iccma_tasks.specs.semantics.specs.Frameworks.{af}
 use Rattle.certificate_claims.specs.SetLiterals.{range_of}
 use Rattle.certificate_claims.proofs.ranges.ranges_of.Given as goal
 

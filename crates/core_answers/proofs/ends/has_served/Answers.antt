@@ -1,4 +1,4 @@
-use Rattle.std.proofs.Common.{◌≡◌, ◌≤◌, ◌+◌, ◌*◌, ap, arith, drop, length, refl, sym}
+use Rattle.std.proofs.Common.{◌≡◌, ◌≤◌, ◌+◌, ◌*◌, ap, arith, drop, length, refl}
 use Rattle.std.specs.Prelude.{count_by}
 use Rattle.core_answers.specs.declared.counts.Count.TheVariants.{Closings}
 use Rattle.core_answers.specs.Serving.{counts}
@@ -11,14 +11,12 @@ returns c =
     let many : c.number_of-closings.result ≡ count_by (counts Closings) (drop c.args.from c.args.log.now.steps) =
     tail_count Closings c.number_of-closings.result c.args.from c.steps-steps.result.now c.args.log.now.steps
     c.steps-steps.ensures c.number_of-closings.ensures in
-    let long : length c.sides.result.now ≡ length c.args.log.now.sides = ap (λ xs. length xs) c.sides.ensures in
-    let hand = c.in_ok-in_hand.ensures c.args.log.now (sym c.steps-steps.ensures) in (
+    let long : length c.sides.result.now ≡ length c.args.log.now.sides = ap (λ xs. length xs) c.sides.ensures in (
       λ t. record {
         sides = rw (← c.steps-steps.ensures, ← c.number_of-before.ensures, ← c.sides-2.ensures)
             (c.in_ok-sides.ensures.0 c.if-not-sides.false);
-        steps = rw (← c.steps-steps.ensures) (c.in_ok-served.ensures.0 c.if-not-served.false);
+        steps = rw (← c.steps-steps.ensures) (c.in_ok-served.ensures.0 t);
         closing = omega (arith, few, many, long);
-        in_hand = hand.0 t;
       },
-      λ h. hand.1 h.in_hand,
+      λ h. c.in_ok-served.ensures.1 (rw c.steps-steps.ensures h.steps),
     )

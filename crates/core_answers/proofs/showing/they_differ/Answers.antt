@@ -1,6 +1,6 @@
 use Rattle.std.proofs.Common.{arith, refl}
 use Rattle.std.proofs.lemmas.Bool.{false≢true}
-use Rattle.core_answers.proofs.OrderLemmas.{comes_twice, differs_next}
+use Rattle.core_answers.proofs.DifferLemmas.{comes_twice, differs_next}
 use Rattle.core_answers.proofs.showing.they_differ.Goals as goal
 
 pub returns-then-again : goal.returns-then-again

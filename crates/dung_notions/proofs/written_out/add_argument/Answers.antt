@@ -1,4 +1,4 @@
-use Rattle.semantics.specs.Arguments.{IsArgument}
+use Rattle.attack_index.specs.semantics.specs.Arguments.{IsArgument}
 use Rattle.dung_notions.proofs.WrittenOutLemmas.{added_pushed, added_nothing}
 use Rattle.std.proofs.lemmas.Bool.{both_ways}
 use Rattle.dung_notions.proofs.written_out.add_argument.Goals as goal

@@ -1,8 +1,6 @@
-use Rattle.std.proofs.Common.{length, arith}
-use Rattle.std.specs.Prelude.{Contains}
 use Rattle.std.proofs.lemmas.List.{take_all}
 use Rattle.std.proofs.lemmas.Result.{IfOk-weaker}
-use Rattle.semantics.specs.Arguments.{IsArgument}
+use Rattle.attack_index.specs.semantics.specs.Arguments.{IsArgument}
 use Rattle.dung_notions.proofs.WrittenOutLemmas.{fitting_none, fitting_more}
 use Rattle.dung_notions.proofs.written_out.arguments.Goals as goal
 

@@ -1,4 +1,4 @@
-use Rattle.semantics.specs.Arguments.{IsArgument}
+use Rattle.attack_index.specs.semantics.specs.Arguments.{IsArgument}
 use Rattle.dung_notions.proofs.WrittenOutLemmas.{HasFitting}
 use Rattle.dung_notions.proofs.written_out.arguments.Given as goal
 

@@ -1,4 +1,7 @@
+use Rattle.std.proofs.Common.{refl, sym, subst, ◌∙◌}
+use Rattle.std.proofs.lemmas.Bool.{false≢true}
 use Rattle.oracle_face.specs.Growing.{NoSide}
+use Rattle.clause_imports.specs.OwnSteps.{NamesAxiom}
 use Rattle.entry_taking.proofs.Joining.{axiom_entry_came, hints_entry_came}
 use Rattle.entry_taking.proofs.Naming.{named_grown}
 use Rattle.entry_taking.proofs.taking.take_in.Goals as goal
@@ -27,3 +30,15 @@ returns-in-Hints-clause-comes c =
     hints_entry_came c.take_derived.result c.args.assumption_based c.args.own c.args.entry.now c.in-Hints.hints
     c.as_slice.result.now c.args.solver.now.log c.take_derived.new.solver.log c.in-Hints.is
     c.as_slice.ensures c.take_derived.ensures.comes
+
+pub returns-in-Axiom-clause-steps : goal.returns-in-Axiom-clause-steps
+returns-in-Axiom-clause-steps c = λ f same.
+    c.take_named.ensures.steps f c.args.own same (record {
+      entry = c.args.entry.now;
+      shareable = c.requires.shareable;
+      named = subst (NamesAxiom c.in-Axiom.name) (sym c.in-Axiom.is) refl;
+    })
+
+pub returns-in-Hints-clause-steps : goal.returns-in-Hints-clause-steps
+returns-in-Hints-clause-steps c = λ f same.
+    c.take_derived.ensures.steps f (λ known. false≢true (sym c.if-is_taken.false ∙ c.is_taken.ensures.1 known))

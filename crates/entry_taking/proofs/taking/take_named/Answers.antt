@@ -14,3 +14,6 @@ pub returns-clause-comes : goal.returns-clause-comes
 returns-clause-comes c =
     came_of_kind c.take_axiom.result c.args.assumption_based c.args.name.now c.args.clause.now c.args.solver.now.log
     c.take_axiom.new.solver.log c.take_axiom.ensures.comes
+
+pub returns-clause-steps : goal.returns-clause-steps
+returns-clause-steps c = c.take_axiom.ensures.steps

@@ -1,7 +1,7 @@
 use Rattle.std.proofs.Common.{◌∙◌, ◌+◌, ◌*◌, length, arith}
-use Rattle.goal_lists.proofs.Calls.{closes_refuted, closes_set, run_handed, then_same}
+use Rattle.enumerate_modes.specs.goal_lists.proofs.Calls.{closes_refuted, closes_set, run_handed, then_same}
 use Rattle.cegar_preferred.specs.Largest.{MadeOutside}
-use Rattle.enumerate_preferred.proofs.PreferredLemmas.{all_refuted, few_closings, fewer_open, found_grown, found_kept, not_recorded, one_more, recorded}
+use Rattle.enumerate_preferred.proofs.PreferredLemmas.{all_refuted, few_closings, fewer_open, found_kept, found_later, not_recorded, one_more, recorded}
 use Rattle.enumerate_preferred.proofs.preferred.all_preferred.Goals as goal
 
 pub returns-in_err-step-clause-run : goal.returns-in_err-step-clause-run
@@ -27,8 +27,8 @@ returns-in-Refuted-clause-listed g c =
     all_refuted f h (g.O.Oracle.framework c.uncovered.new.oracle) (g.O.Oracle.log c.uncovered.new.oracle)
     c.args.limit c.loop-found.found c.in_ok-step.field-0 c.in-Refuted.step inv.framework
     (c.in_ok-step.ensures.framework ∙ inv.framework) c.in_ok-step.ensures.kept
-    (found_grown f (MadeOutside h) (g.O.Oracle.log c.loop-found.oracle) (g.O.Oracle.log c.uncovered.new.oracle)
-    c.loop-found.found c.in_ok-step.ensures.run.grows inv.found) inv.room
+    (found_later f h (MadeOutside h) (g.O.Oracle.log c.loop-found.oracle) (g.O.Oracle.log c.uncovered.new.oracle)
+    c.loop-found.found inv.framework inv.kept c.in_ok-step.ensures.run.grows inv.found) inv.room
     c.in-Refuted.is c.in_ok-step.ensures.uncovered
 
 pub returns-in-Refuted-clause-run : goal.returns-in-Refuted-clause-run
@@ -54,7 +54,7 @@ record_grown-requires-clause-found g c =
     let inv = c.loop-found.invariant in
     found_kept f h (g.O.Oracle.framework c.uncovered.new.oracle) (MadeOutside h) (g.O.Oracle.log c.loop-found.oracle)
     (g.O.Oracle.log c.uncovered.new.oracle) c.loop-found.found inv.framework c.in_ok-step.ensures.framework
-    c.in_ok-step.ensures.run.grows inv.found
+    inv.kept c.in_ok-step.ensures.run.grows inv.found
 
 pub returns-in_err-room-in-Set-clause-run : goal.returns-in_err-room-in-Set-clause-run
 returns-in_err-room-in-Set-clause-run g c =
@@ -65,8 +65,9 @@ returns-in_err-room-in-Set-clause-run g c =
     let inv = c.loop-found.invariant in
     let same = c.in_ok-step.ensures.framework ∙ inv.framework in
     let most = 2 * length (g.O.Oracle.log c.record_grown.new.oracle).sides + 2 in
-    let found = found_grown f (MadeOutside h) (g.O.Oracle.log c.loop-found.oracle)
-    (g.O.Oracle.log c.uncovered.new.oracle) c.loop-found.found c.in_ok-step.ensures.run.grows inv.found in
+    let found = found_later f h (MadeOutside h) (g.O.Oracle.log c.loop-found.oracle)
+    (g.O.Oracle.log c.uncovered.new.oracle) c.loop-found.found inv.framework inv.kept c.in_ok-step.ensures.run.grows
+    inv.found in
     run_handed (MadeOutside f) most f _ _ _ _ _ _ c.in_err-room-in-Set.field-0.0
     c.from_residual-in_err-room-in-Set.ensures
     (then_same MadeOutside f k (length asks) 1 most _ _ _ _ _ _ _ _ _ same
@@ -91,8 +92,9 @@ returns-then-not-room-clause-run g c =
     let asks = c.loop-found.found.asks in
     let inv = c.loop-found.invariant in
     let same = c.in_ok-step.ensures.framework ∙ inv.framework in
-    let found = found_grown f (MadeOutside h) (g.O.Oracle.log c.loop-found.oracle)
-    (g.O.Oracle.log c.uncovered.new.oracle) c.loop-found.found c.in_ok-step.ensures.run.grows inv.found in
+    let found = found_later f h (MadeOutside h) (g.O.Oracle.log c.loop-found.oracle)
+    (g.O.Oracle.log c.uncovered.new.oracle) c.loop-found.found inv.framework inv.kept c.in_ok-step.ensures.run.grows
+    inv.found in
     then_same MadeOutside f k (length asks) 1 (2 * length (g.O.Oracle.log c.record_grown.new.oracle).sides + 2)
     _ _ _ _ _ _ _ _ _ same
     (few_closings f (MadeOutside k) (g.O.Oracle.log c.uncovered.new.oracle) (g.O.Oracle.log c.record_grown.new.oracle)

@@ -1,14 +1,14 @@
-use Rattle.std.proofs.Common.{◌∙◌, ◌≤◌, ◌<◌, ap, length, subst, arith}
+use Rattle.std.proofs.Common.{◌∙◌, ◌≤◌, ◌<◌, ap, length, refl, subst, arith}
 use Rattle.std.specs.Prelude.{Contains}
 use Rattle.plain_lits.specs.declared.halt.Halt.TheVariants.{Memory}
 use Rattle.certificate_claims.specs.SetLiterals.{outside}
 use Rattle.oracle_face.specs.Growing.{OnlySide}
-use Rattle.goal_lists.proofs.Calls.{makes_same, run_handed, then_refused}
-use Rattle.goal_lists.proofs.SideLemmas.{ask_of}
+use Rattle.enumerate_modes.specs.goal_lists.proofs.Calls.{makes_same, run_handed, then_refused}
+use Rattle.enumerate_modes.specs.goal_lists.proofs.SideLemmas.{ask_of}
 use Rattle.cegar_preferred.specs.Largest.{MadeOutside}
 use Rattle.cegar_preferred.proofs.LargestLemmas.{outside_is_side, then_oblige}
 use Rattle.enumerate_modes.specs.Ordered.{GainsInOrder}
-use Rattle.enumerate_preferred.proofs.PreferredLemmas.{found_grown, gains_one, grown_outside, has_more}
+use Rattle.enumerate_preferred.proofs.PreferredLemmas.{found_later, gains_one, grown_outside, has_more, shown_later, shown_maximal}
 use Rattle.enumerate_preferred.proofs.preferred.record_grown.Goals as goal
 
 pub insert_in_order-requires-clause-other : goal.insert_in_order-requires-clause-other
@@ -21,12 +21,16 @@ insert_in_order-requires-clause-other g c =
 pub returns-then-len-limit-clause-records : goal.returns-then-len-limit-clause-records
 returns-then-len-limit-clause-records g c =
     let f = g.O.Oracle.framework c.args.oracle.now in
-    let log = g.O.Oracle.log c.args.oracle.now in
+    let first = g.O.Oracle.log c.args.oracle.now in
+    let log = g.O.Oracle.log c.maximal_from.new.oracle in
     let e = c.in_ok-maximal.maximal.set in
     let new = c.insert_in_order.new.sets.items in
     let more : c.args.limit < length new = omega (arith, c.len.ensures, c.if-len-limit.true) in
-    has_more f log c.args.limit c.args.found.now e new c.requires.found c.in_ok-maximal.ensures.maximal.preferred
-    (grown_outside f log c.args.found.now c.args.set.now e c.requires.set c.in_ok-maximal.ensures.maximal.holds)
+    has_more f log c.args.limit c.args.found.now e new
+    (found_later f f (MadeOutside f) first log c.args.found.now refl c.members-members.ensures.kept
+    c.in_ok-maximal.ensures.run.grows c.requires.found)
+    (shown_maximal f log c.args.set.now c.in_ok-maximal.maximal c.in_ok-maximal.ensures.maximal)
+    (grown_outside f first c.args.found.now c.args.set.now e c.requires.set c.in_ok-maximal.ensures.maximal.holds)
     (subst (λ s. GainsInOrder s c.args.found.now.sets.items new) c.in_ok-copy.ensures.same
     c.in_ok-insert_in_order.ensures.gains) more
 
@@ -72,9 +76,13 @@ returns-clause-records g c =
     ∙ ap (λ x. outside x e) c.in_ok-maximal.ensures.framework) in
     gains_one f log c.args.limit found (record { sets = c.insert_in_order.new.sets; asks = c.push.new.self }) e
     c.in_ok-ask.ask
-    (found_grown f (OnlySide c.deref.result.now e) middle log found c.in_ok-ask.ensures.run.grows
-    (found_grown f (MadeOutside f) first middle found c.in_ok-maximal.ensures.run.grows c.requires.found))
-    c.in_ok-maximal.ensures.maximal.preferred
+    (found_later f h (OnlySide c.deref.result.now e) middle log found c.in_ok-maximal.ensures.framework
+    c.in_ok-maximal.ensures.kept c.in_ok-ask.ensures.run.grows
+    (found_later f f (MadeOutside f) first middle found refl c.members-members.ensures.kept
+    c.in_ok-maximal.ensures.run.grows c.requires.found))
+    (shown_later f h (OnlySide c.deref.result.now e) middle log e c.in_ok-maximal.ensures.framework
+    c.in_ok-maximal.ensures.kept c.in_ok-ask.ensures.run.grows
+    (shown_maximal f middle c.args.set.now c.in_ok-maximal.maximal c.in_ok-maximal.ensures.maximal))
     (grown_outside f first found c.args.set.now e c.requires.set c.in_ok-maximal.ensures.maximal.holds)
     (subst (λ s. GainsInOrder s found.sets.items new) c.in_ok-copy.ensures.same c.in_ok-insert_in_order.ensures.gains)
     c.in_ok-push.ensures.ok

@@ -1,7 +1,7 @@
 use Rattle.std.proofs.Common.{arith}
 use Rattle.cegar_preferred.specs.Largest.{MadeOutside}
 use Rattle.oracle_face.proofs.GrowingLemmas.{run_as}
-use Rattle.goal_lists.proofs.Calls.{makes_none}
+use Rattle.enumerate_modes.specs.goal_lists.proofs.Calls.{makes_none}
 use Rattle.enumerate_preferred.proofs.PreferredLemmas.{if_uncovered, may_ask_uncovered}
 use Rattle.enumerate_preferred.proofs.preferred.uncovered.Goals as goal
 
@@ -14,7 +14,8 @@ pub returns-clause-uncovered : goal.returns-clause-uncovered
 returns-clause-uncovered g c =
     if_uncovered (g.O.Oracle.framework c.args.oracle.now) _ (g.O.Oracle.log c.args.oracle.now)
     (g.O.Oracle.log c.search_for.new.oracle) c.args.found.now c.as_slice.result.now c.as_slice.ensures
-    c.search_for.ensures.run.grows c.requires c.search_for.result c.search_for.ensures.found
+    c.members-members.ensures.kept c.search_for.ensures.run.grows c.requires c.search_for.result
+    c.search_for.ensures.found
 
 pub returns-clause-run : goal.returns-clause-run
 returns-clause-run g c =

@@ -1,6 +1,6 @@
 use Rattle.std.proofs.Common.{◌∷◌, ◌∙◌, ◌+◌, ◌*◌, ◌≤◌, ap, length, arith}
 use Rattle.plain_lits.specs.declared.halt.Halt.TheVariants.{Memory}
-use Rattle.goal_lists.proofs.Calls.{closes_refuted, closes_set, makes_same, run_handed, then_refused, then_same}
+use Rattle.enumerate_modes.specs.goal_lists.proofs.Calls.{closes_refuted, closes_set, makes_same, run_handed, then_refused, then_same}
 use Rattle.enumerate_ranges.specs.Marks.{marked_steps}
 use Rattle.enumerate_ranges.specs.Ranges.{MadeForRanges}
 use Rattle.enumerate_ranges.proofs.RangeLemmas.{all_refuted, few_closings, fewer_open, found_grown, found_kept, log_kept, not_recorded, recorded, two_more}

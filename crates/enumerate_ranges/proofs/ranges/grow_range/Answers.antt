@@ -3,8 +3,8 @@ use Rattle.plain_lists.specs.Members.{IsSetOf}
 use Rattle.plain_lits.specs.declared.halt.Halt.TheVariants.{Memory}
 use Rattle.certificate_claims.specs.SetLiterals.{wider}
 use Rattle.oracle_face.specs.Kinds.{IsRanged, is_assumption_based}
-use Rattle.goal_lists.proofs.Calls.{makes_same, run_handed, then_refused}
-use Rattle.goal_lists.proofs.SideLemmas.{ask_of}
+use Rattle.enumerate_modes.specs.goal_lists.proofs.Calls.{makes_same, run_handed, then_refused}
+use Rattle.enumerate_modes.specs.goal_lists.proofs.SideLemmas.{ask_of}
 use Rattle.semi_stable.proofs.WidestLemmas.{wider_is_side}
 use Rattle.enumerate_ranges.specs.Ranges.{MadeForRanges}
 use Rattle.enumerate_ranges.proofs.RangeLemmas.{as_widest, then_oblige, widest_kept}

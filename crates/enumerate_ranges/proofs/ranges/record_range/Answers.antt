@@ -1,6 +1,6 @@
 use Rattle.std.proofs.Common.{◌+◌, ◌-◌, ◌≤◌, ap, length, refl, arith}
 use Rattle.plain_lits.specs.declared.halt.Halt.TheVariants.{Memory}
-use Rattle.goal_lists.proofs.Calls.{makes_same, run_handed, then_refused}
+use Rattle.enumerate_modes.specs.goal_lists.proofs.Calls.{makes_same, run_handed, then_refused}
 use Rattle.enumerate_ranges.specs.Ranges.{MadeForRanges}
 use Rattle.enumerate_ranges.proofs.KnownRanges.{range_known}
 use Rattle.enumerate_ranges.proofs.RangeLemmas.{apart_grown, gains_grown, more_grown, range_fits, then_listed}

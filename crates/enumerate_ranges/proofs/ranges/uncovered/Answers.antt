@@ -1,6 +1,6 @@
 use Rattle.std.proofs.Common.{arith}
 use Rattle.oracle_face.proofs.GrowingLemmas.{run_as}
-use Rattle.goal_lists.proofs.Calls.{makes_none}
+use Rattle.enumerate_modes.specs.goal_lists.proofs.Calls.{makes_none}
 use Rattle.enumerate_ranges.specs.Ranges.{MadeForRanges}
 use Rattle.enumerate_ranges.proofs.RangeLemmas.{if_uncovered, may_ask_uncovered}
 use Rattle.enumerate_ranges.proofs.ranges.uncovered.Goals as goal

@@ -1,5 +1,5 @@
 use Rattle.std.proofs.Common.{◌≡◌, not, map, filter, take}
-use Rattle.certificate_claims.specs.SetLiterals.{has}
+use Rattle.oracle_face.specs.certificate_claims.specs.SetLiterals.{has}
 use Rattle.goal_lists.specs.Words.{literal_of}
 use Rattle.goal_lists.proofs.lists.lacking.Given as goal
 

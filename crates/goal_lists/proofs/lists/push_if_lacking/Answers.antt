@@ -1,5 +1,5 @@
 use Rattle.std.proofs.Common.{not, ◌∙◌, sym, ap, ◌++◌, ◌∷◌, []}
-use Rattle.certificate_claims.specs.SetLiterals.{has}
+use Rattle.oracle_face.specs.certificate_claims.specs.SetLiterals.{has}
 use Rattle.goal_lists.specs.Words.{literal_of}
 use Rattle.goal_lists.proofs.Lacking.{said_one, passed_one}
 use Rattle.goal_lists.proofs.lists.push_if_lacking.Goals as goal

@@ -3,7 +3,7 @@ use Rattle.plain_lits.specs.declared.halt.Halt.TheVariants.{Memory}
 use Rattle.iccma_tasks.specs.declared.task.Task.{Task}
 use Rattle.session_log.specs.Ends.{MadeFor}
 use Rattle.goal_lists.proofs.Calls.{run_handed}
-use Rattle.cegar_preferred.specs.Largest.{MadeOutside}
+use Rattle.enumerate_block.specs.cegar_preferred.specs.Largest.{MadeOutside}
 use Rattle.query_answers.specs.Answers.{IsEvidence}
 use Rattle.query_answers.specs.Forms.{evidence_with}
 use Rattle.query_answers.proofs.CallLemmas.{makes_largest, run_for, run_no_memory}

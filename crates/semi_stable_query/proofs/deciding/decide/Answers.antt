@@ -2,7 +2,7 @@ use Rattle.std.proofs.Common.{◌∙◌, ◌+◌, ◌*◌, ◌≤◌, length, ar
 use Rattle.meaning_atoms.specs.declared.atom.Atom.TheVariants.{Ad}
 use Rattle.plain_lits.specs.declared.halt.Halt.TheVariants.{Memory}
 use Rattle.goal_lists.proofs.Calls.{closes_refuted, closes_set, makes_same, run_handed, then_refused}
-use Rattle.semi_stable.specs.Widest.{MadeWider}
+use Rattle.enumerate_ranges.specs.semi_stable.specs.Widest.{MadeWider}
 use Rattle.enumerate_ranges.proofs.RangeLemmas.{log_kept, two_more}
 use Rattle.semi_stable_query.proofs.WitnessLemmas.{cover_extended, cover_grown, extended_of, few_closings, fewer_open, no_witness, then_call, witness_of}
 use Rattle.semi_stable_query.proofs.deciding.decide.Goals as goal

@@ -3,7 +3,7 @@ use Rattle.std.specs.Prelude.{None}
 use Rattle.meaning_atoms.specs.declared.atom.Atom.TheVariants.{Ad}
 use Rattle.oracle_face.specs.Logs.{IsKept}
 use Rattle.oracle_face.specs.Growing.{HasRun}
-use Rattle.semi_stable.specs.Widest.{MadeWider}
+use Rattle.enumerate_ranges.specs.semi_stable.specs.Widest.{MadeWider}
 use Rattle.enumerate_ranges.proofs.RangeLemmas.{open_ranges}
 use Rattle.semi_stable_query.specs.Witnesses.{IsCover}
 use Rattle.semi_stable_query.proofs.deciding.decide.Given as goal

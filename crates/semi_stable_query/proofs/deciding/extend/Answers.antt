@@ -1,7 +1,7 @@
 use Rattle.std.proofs.Common.{◌∙◌, ◌+◌, ◌≤◌, arith}
 use Rattle.meaning_atoms.specs.declared.atom.Atom.TheVariants.{Ad}
 use Rattle.goal_lists.proofs.Calls.{closes_refuted, closes_set, run_handed}
-use Rattle.semi_stable.specs.Widest.{MadeWider}
+use Rattle.enumerate_ranges.specs.semi_stable.specs.Widest.{MadeWider}
 use Rattle.semi_stable_query.proofs.WitnessLemmas.{found_witness, taken, then_call}
 use Rattle.semi_stable_query.proofs.deciding.extend.Goals as goal
 

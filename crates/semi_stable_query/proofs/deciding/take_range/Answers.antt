@@ -1,5 +1,5 @@
 use Rattle.std.proofs.Common.{◌∙◌}
-use Rattle.semi_stable.proofs.WidestLemmas.{wider_is_side}
+use Rattle.enumerate_ranges.specs.semi_stable.proofs.WidestLemmas.{wider_is_side}
 use Rattle.semi_stable_query.proofs.deciding.take_range.Goals as goal
 
 pub oblige-requires : goal.oblige-requires

@@ -2,7 +2,7 @@ use Rattle.std.proofs.Common.{[], ◌∙◌, arith}
 use Rattle.meaning_atoms.specs.declared.atom.Atom.TheVariants.{Ad}
 use Rattle.oracle_face.proofs.GrowingLemmas.{run_as}
 use Rattle.goal_lists.proofs.Calls.{makes_none}
-use Rattle.semi_stable.specs.Widest.{MadeWider}
+use Rattle.enumerate_ranges.specs.semi_stable.specs.Widest.{MadeWider}
 use Rattle.semi_stable_query.proofs.WitnessLemmas.{AreFor, if_uncovered, may_ask_uncovered}
 use Rattle.semi_stable_query.proofs.deciding.uncovered.Goals as goal
 

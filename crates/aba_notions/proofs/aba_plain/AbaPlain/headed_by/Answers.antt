@@ -1,5 +1,5 @@
 use Rattle.std.proofs.Common.{eqb, ℕ}
-use Rattle.attack_index.proofs.OffsetLemmas.{PairsRise-filter}
+use Rattle.dung_notions.specs.attack_index.proofs.OffsetLemmas.{PairsRise-filter}
 use Rattle.aba_notions.proofs.TableLemmas.{headed_cut}
 use Rattle.aba_notions.proofs.aba_plain.AbaPlain.headed_by.Goals as goal
 

@@ -1,7 +1,7 @@
-use Rattle.std.proofs.Common.{◌≡◌, ◌++◌, ◌∷◌, [], ◌<◌, length, rules, ap, sym, subst, ◌∙◌, ⊎_elim, arith}
+use Rattle.std.proofs.Common.{◌≡◌, ◌++◌, ◌∷◌, [], ◌<◌, length, rules, ap, subst, ◌∙◌, ⊎_elim, arith}
 use Rattle.std.proofs.lemmas.Bool.{cases_lt}
 use Rattle.atom_solver.specs.declared.origin.Origin.TheVariants.{Entry}
-use Rattle.hinted_log.specs.declared.fault.LogFault.TheVariants.{LogFull, Rejected, Memory}
+use Rattle.hinted_log.specs.declared.fault.LogFault.TheVariants.{Memory}
 use Rattle.atom_solver.specs.Inner.{IsFilled}
 use Rattle.atom_solver.proofs.Giving.{filled_state, filled_whole, ok_not_full, refused}
 use Rattle.atom_solver.proofs.EntryLemmas.{entry_imports, entry_whole, refused_by}

@@ -1,4 +1,4 @@
-use Rattle.std.proofs.Common.{refl, get_or, ◌-◌, ◌≡◌, sym, ◌∙◌, true, false}
+use Rattle.std.proofs.Common.{refl, get_or, ◌-◌, sym, ◌∙◌}
 use Rattle.atom_solver.specs.declared.origin.Origin.TheVariants.{Hints}
 use Rattle.atom_solver.proofs.Reading.{given_none, given_some, step_named, hints_none, hints_read}
 use Rattle.atom_solver.proofs.parts.Parts.hints.Goals as goal

@@ -1,4 +1,4 @@
-use Rattle.std.proofs.Common.{subst, sym}
+use Rattle.std.proofs.Common.{subst}
 use Rattle.std.specs.Prelude.{IfOk}
 use Rattle.atom_solver.specs.States.{AtomState}
 use Rattle.atom_solver.specs.Inner.{state_of}

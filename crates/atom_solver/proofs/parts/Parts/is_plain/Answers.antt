@@ -1,8 +1,8 @@
-use Rattle.std.proofs.Common.{◌≡◌, ◌-◌, ◌<◌, List, arith, length, ap, sym, subst, refl, ◌∙◌}
+use Rattle.std.proofs.Common.{◌≡◌, ◌-◌, arith, length, sym, subst, ◌∙◌}
 use Rattle.std.specs.Prelude.{Contains}
 use Rattle.std.proofs.lemmas.Bool.{false≢true}
 use Rattle.plain_lits.specs.Checking.{HasRoomFor}
-use Rattle.hinted_log.specs.Logs.{step_at, IsStepOf, LogState}
+use Rattle.hinted_log.specs.Logs.{step_at}
 use Rattle.atom_solver.proofs.EntryLemmas.{plain_unused, plain_used}
 use Rattle.atom_solver.proofs.Lifting.{room_at}
 use Rattle.atom_solver.proofs.Reading.{step_named}

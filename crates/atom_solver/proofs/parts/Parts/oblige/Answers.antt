@@ -1,8 +1,8 @@
-use Rattle.std.proofs.Common.{sym, subst}
+use Rattle.std.proofs.Common.{inl, refl, sym, subst}
 use Rattle.oracle_face.specs.Growing.{Obliges}
 use Rattle.atom_solver.specs.Inner.{state_of}
 use Rattle.atom_solver.specs.Lifted.{log_over}
-use Rattle.atom_solver.proofs.Obliging.{obliged_found, added_guarded, added_obliges, added_run}
+use Rattle.atom_solver.proofs.Obliging.{obliged_found, added_guarded, added_keeps, added_no_loop, added_obliges, added_run}
 use Rattle.atom_solver.proofs.parts.Parts.oblige.Goals as goal
 
 pub returns-in_ok-number-in-Some-clause-obliges : goal.returns-in_ok-number-in-Some-clause-obliges
@@ -34,3 +34,24 @@ returns-in-None-clause-log c = λ f guarded.
     added_guarded c.args.side.now c.in_ok-literals.literals c.args.from.now (state_of c.args.self.now)
     (state_of c.add_side.new.self) f c.requires.side c.in_ok-literals.ensures none guarded c.add_side.result
     c.add_side.ensures.ok c.add_side.ensures.log
+
+pub returns-in_ok-number-in-Some-clause-keeps : goal.returns-in_ok-number-in-Some-clause-keeps
+returns-in_ok-number-in-Some-clause-keeps c = inl refl
+
+pub returns-in_err-number-in-Some-clause-keeps : goal.returns-in_err-number-in-Some-clause-keeps
+returns-in_err-number-in-Some-clause-keeps c = inl refl
+
+pub returns-in_err-literals-clause-keeps : goal.returns-in_err-literals-clause-keeps
+returns-in_err-literals-clause-keeps c = inl refl
+
+pub returns-in-None-clause-keeps : goal.returns-in-None-clause-keeps
+returns-in-None-clause-keeps c =
+    let none = rw (c.as_slice.ensures.value, c.as_slice-2.ensures) at c.in-None.ensures.none in
+    added_keeps c.args.side.now c.in_ok-literals.literals c.args.from.now (state_of c.args.self.now)
+    (state_of c.add_side.new.self) c.requires.side c.in_ok-literals.ensures none c.add_side.result
+    c.add_side.ensures.ok c.add_side.ensures.log
+
+pub returns-in-None-clause-in_hand : goal.returns-in-None-clause-in_hand
+returns-in-None-clause-in_hand c =
+    added_no_loop c.in_ok-literals.literals c.args.from.now (state_of c.add_side.new.self) c.args.budget.now
+    c.add_side.new.budget c.add_side.result c.add_side.ensures.stops

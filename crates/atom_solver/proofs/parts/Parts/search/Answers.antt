@@ -1,4 +1,7 @@
 use Rattle.std.proofs.Common.{sym, subst}
+use Rattle.oracle_face.specs.Growing.{UnlessMemory, halt_of}
+use Rattle.session_log.specs.Steps.{LearnsClauses}
+use Rattle.atom_solver.specs.Inner.{state_of}
 use Rattle.atom_solver.specs.States.{AtomState, IsGuardedLog}
 use Rattle.atom_solver.proofs.Assuming.{assumed_plain}
 use Rattle.atom_solver.proofs.parts.Parts.search.Goals as goal
@@ -12,3 +15,8 @@ pub returns-clause-log : goal.returns-clause-log
 returns-clause-log g c = λ f guarded.
     c.search_assumed.ensures.log f
     (subst (λ (s : AtomState). IsGuardedLog f s.log) (sym c.assume.ensures.state) guarded)
+
+pub returns-clause-learns : goal.returns-clause-learns
+returns-clause-learns g c =
+    subst (λ (s : AtomState). UnlessMemory (halt_of c.search_assumed.result)
+    (LearnsClauses s.log (state_of c.search_assumed.new.self).log)) c.assume.ensures.state c.search_assumed.ensures.learns

@@ -8,3 +8,12 @@ returns-clause-run c = rw (← c.self.view_is) c.oblige.ensures.run
 
 pub returns-clause-log : goal.returns-clause-log
 returns-clause-log c = rw (← c.self.view_is) c.oblige.ensures.log
+
+pub returns-clause-same : goal.returns-clause-same
+returns-clause-same c = rw (← c.self.view_is) c.oblige.ensures.same
+
+pub returns-clause-keeps : goal.returns-clause-keeps
+returns-clause-keeps c = rw (← c.self.view_is) c.oblige.ensures.keeps
+
+pub returns-clause-in_hand : goal.returns-clause-in_hand
+returns-clause-in_hand c = c.oblige.ensures.in_hand

@@ -32,4 +32,4 @@ returns c =
     c.import.new.log c.import.result c.in_ok-index.ensures.same c.in_ok-index.ensures.at c.index_mut.ensures.value
     (comes_in (core_of m) c.args.session c.args.place c.in-Some.entry.now there)
     (came_in (core_of m) c.args.session c.args.place c.in-Some.entry.now there)
-    (c.import.ensures (core_of m).opening)
+    c.import.ensures

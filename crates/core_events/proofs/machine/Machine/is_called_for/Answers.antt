@@ -1,22 +1,23 @@
-use Rattle.std.proofs.Common.{◌∙◌, ap, subst, sym}
-use Rattle.std.specs.Prelude.{◌↔◌, IfOk, IsTrue}
+use Rattle.std.proofs.Common.{◌∙◌, List, ap, sym, take}
+use Rattle.edit_history.specs.declared.entry.Entry.{Entry}
+use Rattle.core_logs.proofs.NewTests.{ok_carried}
 use Rattle.core_machine.specs.Core.{CoreSession}
-use Rattle.core_machine.specs.Steps.{IsCalledFor}
 use Rattle.core_events.specs.Machines.{core_of}
-use Rattle.core_events.proofs.CallLemmas.{loop_called}
+use Rattle.core_events.proofs.CallLemmas.{named_in_pool, called_needed}
 use Rattle.core_events.proofs.StateLemmas.{seated}
 use Rattle.core_events.proofs.machine.Machine.is_called_for.Goals as goal
 
-pub returns-then-is_loop_clause : goal.returns-then-is_loop_clause
-returns-then-is_loop_clause c =
-    loop_called (core_of c.args.self.now) c.args.session c.args.name.now c.is_new.result c.steps.result.now
-    c.as_slice.result.now (sym c.is_loop_clause.ensures ∙ c.if-is_loop_clause.true)
-    (c.steps.ensures ∙ ap (λ (x : CoreSession). x.log.steps)
-    (sym (seated c.args.self.now c.args.session c.args.index c.index.result.now c.requires.at c.index.ensures)))
-    (c.as_slice.ensures ∙ c.in_ok-clause.ensures.table) c.is_new.ensures
-
 pub returns : goal.returns
 returns c =
-    subst (λ loop. IfOk c.is_wanted.result
-    (λ is. IsTrue is ↔ IsCalledFor (core_of c.args.self.now) c.args.session c.args.name.now loop))
-    (sym (sym c.is_loop_clause.ensures ∙ c.if-is_loop_clause.false)) c.is_wanted.ensures
+    ok_carried c.is_needed_among.result c.is_needed_among.ensures
+    (λ b h.
+    let m = c.args.self.now in
+    let there = seated m c.args.session c.args.index c.index.result.now c.requires c.index.ensures in
+    called_needed (core_of c.args.self.now) c.args.session c.args.name.now b c.is_named.result
+    c.front-seen.result.now
+    (c.front-seen.ensures
+    ∙ (ap (λ (es : List Entry). take c.index.result.now.session.seen es) c.as_slice-2.ensures.value
+    ∙ ap (λ (x : CoreSession). take x.seen m.history.items) (sym there)))
+    (named_in_pool m c.is_named.result c.as_slice.result.now c.args.name.now c.as_slice.ensures.value
+    c.is_named.ensures)
+    c.if-is_named.false h)

@@ -1,23 +1,24 @@
-use Rattle.std.proofs.Common.{◌∙◌, List, ap, sym, take}
-use Rattle.edit_history.specs.declared.entry.Entry.{Entry}
-use Rattle.core_logs.proofs.NewTests.{ok_carried}
+use Rattle.std.proofs.Common.{◌∙◌, ap, subst, sym}
+use Rattle.std.specs.Prelude.{◌↔◌, IfOk, IsTrue}
+use Rattle.clause_imports.specs.OwnSteps.{IsWanted}
 use Rattle.core_machine.specs.Core.{CoreSession}
+use Rattle.core_machine.specs.Steps.{IsCalledFor}
 use Rattle.core_events.specs.Machines.{core_of}
-use Rattle.core_events.proofs.CallLemmas.{named_in_pool, wanted_needed}
+use Rattle.core_events.proofs.CallLemmas.{loop_wanted}
 use Rattle.core_events.proofs.StateLemmas.{seated}
 use Rattle.core_events.proofs.machine.Machine.is_wanted.Goals as goal
 
+pub returns-then-is_loop_clause : goal.returns-then-is_loop_clause
+returns-then-is_loop_clause c =
+    loop_wanted (core_of c.args.self.now) c.args.session c.args.name.now c.is_new.result c.steps.result.now
+    c.as_slice.result.now (sym c.is_loop_clause.ensures ∙ c.if-is_loop_clause.true)
+    (c.steps.ensures ∙ ap (λ (x : CoreSession). x.log.steps)
+    (sym (seated c.args.self.now c.args.session c.args.index c.index.result.now c.requires.at c.index.ensures)))
+    (c.as_slice.ensures ∙ c.in_ok-clause.ensures.table) c.is_new.ensures
+
 pub returns : goal.returns
 returns c =
-    ok_carried c.is_needed_among.result c.is_needed_among.ensures
-    (λ b h.
-    let m = c.args.self.now in
-    let there = seated m c.args.session c.args.index c.index.result.now c.requires c.index.ensures in
-    wanted_needed (core_of c.args.self.now) c.args.session c.args.name.now b c.is_named.result
-    c.front-seen.result.now
-    (c.front-seen.ensures
-    ∙ (ap (λ (es : List Entry). take c.index.result.now.session.seen es) c.as_slice-2.ensures.value
-    ∙ ap (λ (x : CoreSession). take x.seen m.history.items) (sym there)))
-    (named_in_pool m c.is_named.result c.as_slice.result.now c.args.name.now c.as_slice.ensures.value
-    c.is_named.ensures)
-    c.if-is_named.false h)
+    let core = core_of c.args.self.now in
+    subst (λ loop. IfOk c.is_called_for.result (λ is. IsTrue is
+    ↔ IsWanted (IsCalledFor core c.args.session) (core.sessions c.args.session).log c.args.name.now loop))
+    (sym (sym c.is_loop_clause.ensures ∙ c.if-is_loop_clause.false)) c.is_called_for.ensures

@@ -6,7 +6,7 @@ use Rattle.core_machine.specs.Core.{Core}
 use Rattle.core_machine.specs.Steps.{IsStep, learn}
 use Rattle.core_events.specs.LogEvents.{TakesOnce}
 use Rattle.core_events.specs.Machines.{core_of}
-use Rattle.core_events.proofs.CallLemmas.{not_called}
+use Rattle.core_events.proofs.CallLemmas.{not_wanted}
 use Rattle.core_events.proofs.StateLemmas.{seat_comes, stopped}
 use Rattle.core_events.proofs.machine.Machine.learn_axiom.Goals as goal
 
@@ -16,17 +16,17 @@ returns-in_err-index c =
     stopped (IsStep (core_of c.args.self.now) event) (core_of c.args.self.now) (core_of c.seat.new.self)
     c.from_residual.result c.from_residual.ensures c.in_err-index.ensures.same
 
-pub returns-in_err-is_called_for : goal.returns-in_err-is_called_for
-returns-in_err-is_called_for c =
+pub returns-in_err-is_wanted : goal.returns-in_err-is_wanted
+returns-in_err-is_wanted c =
     let event = learn c.args.session c.args.clause.now (by_axiom c.args.name.now) c.args.closing in
     stopped (IsStep (core_of c.args.self.now) event) (core_of c.args.self.now) (core_of c.seat.new.self)
-    c.from_residual-in_err-is_called_for.result c.from_residual-in_err-is_called_for.ensures c.in_ok-index.ensures.same
+    c.from_residual-in_err-is_wanted.result c.from_residual-in_err-is_wanted.ensures c.in_ok-index.ensures.same
 
 pub returns-then-not-branch : goal.returns-then-not-branch
 returns-then-not-branch c = (
   c.in_ok-index.ensures.same,
-  not_called (core_of c.seat.new.self) c.args.session c.args.name.now (core_of c.args.self.now) c.args.clause.now
-      c.args.closing c.in_ok-is_called_for.field-0 c.in_ok-index.ensures.same c.in_ok-is_called_for.ensures
+  not_wanted (core_of c.seat.new.self) c.args.session c.args.name.now (core_of c.args.self.now) c.args.clause.now
+      c.args.closing c.in_ok-is_wanted.field-0 c.in_ok-index.ensures.same c.in_ok-is_wanted.ensures
       c.if-not-branch.true,
 )
 
@@ -48,7 +48,7 @@ returns c =
         record {
           of_kind = kind;
           once = p.once;
-          called = c.in_ok-is_called_for.ensures.0 c.if-not-branch.false;
+          called = c.in_ok-is_wanted.ensures.0 c.if-not-branch.false;
           takes = p.takes;
         },
       ),

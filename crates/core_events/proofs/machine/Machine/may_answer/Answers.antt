@@ -11,10 +11,10 @@ use Rattle.core_events.proofs.machine.Machine.may_answer.Goals as goal
 
 pub returns : goal.returns
 returns c =
-    ok_carried c.may_end.result c.may_end.ensures.exact
+    ok_carried c.may_end.result c.may_end.ensures
     (λ b h.
     let m = c.args.self.now in
-    let there = seated m c.args.session c.args.index c.index-seat.result.now c.requires.at c.index-seat.ensures in
+    let there = seated m c.args.session c.args.index c.index-seat.result.now c.requires c.index-seat.ensures in
     let seen = c.front-seen.ensures
     ∙ (ap (λ (es : List Entry). take c.index-seat.result.now.session.seen es) c.as_slice.ensures.value
     ∙ ap (λ (x : CoreSession). take x.seen m.history.items) (sym there)) in

@@ -1,4 +1,4 @@
-use Rattle.std.proofs.Common.{◌≡◌, ◌∙◌, arith, refl, sym, true, false, rules}
+use Rattle.std.proofs.Common.{◌≡◌, ◌∙◌, arith, sym, true, false, rules}
 use Rattle.std.proofs.lemmas.List.{get_or_default}
 use Rattle.dung_notions.specs.Search.{is_out}
 use Rattle.dung_notions.proofs.SearchLemmas.{defeats_one}

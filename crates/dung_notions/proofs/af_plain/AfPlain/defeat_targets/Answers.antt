@@ -1,7 +1,7 @@
 use Rattle.std.proofs.Common.{arith, sym, subst}
 use Rattle.std.specs.Prelude.{Contains}
 use Rattle.dung_notions.proofs.SearchLemmas.{defeats_weaker, leaves, left_at}
-use Rattle.semantics.specs.Framework.{Attacks}
+use Rattle.attack_index.specs.semantics.specs.Framework.{Attacks}
 use Rattle.dung_notions.proofs.af_plain.AfPlain.defeat_targets.Goals as goal
 
 pub defeat-requires-clause-attacked : goal.defeat-requires-clause-attacked

@@ -1,5 +1,5 @@
 use Rattle.std.proofs.Common.{◌≡◌, ◌≤◌, ◌<◌, ℕ, get_or}
-use Rattle.semantics.specs.Framework.{Attacks}
+use Rattle.attack_index.specs.semantics.specs.Framework.{Attacks}
 use Rattle.dung_notions.specs.Search.{PutsOut}
 use Rattle.dung_notions.proofs.af_plain.AfPlain.defeat_targets_from.Given as goal
 

@@ -1,6 +1,6 @@
 use Rattle.std.proofs.Common.{ℕ, rules}
 use Rattle.std.proofs.lemmas.Iterator.{cases_from_all, YieldsList-from_slice}
-use Rattle.semantics.specs.Framework.{IsAttackedBy}
+use Rattle.attack_index.specs.semantics.specs.Framework.{IsAttackedBy}
 use Rattle.dung_notions.specs.Notions.{AttacksInto}
 use Rattle.dung_notions.proofs.NotionLemmas.{defends_itself_walk}
 use Rattle.dung_notions.proofs.af_plain.AfPlain.defends_itself.Goals as goal

@@ -1,5 +1,5 @@
 use Rattle.std.proofs.Common.{◌≡◌, ◌≤◌, ◌<◌, ◌+◌, ◌-◌, ℕ, [], length, get_or, sum, true}
-use Rattle.semantics.specs.Framework.{Attacks}
+use Rattle.attack_index.specs.semantics.specs.Framework.{Attacks}
 use Rattle.dung_notions.specs.Search.{IsSearchOf, is_out}
 use Rattle.dung_notions.proofs.af_plain.AfPlain.run_rounds.Given as goal
 

@@ -1,4 +1,4 @@
-use Rattle.std.proofs.Common.{◌≡◌, ◌+◌, ◌<◌, subst, sym, ap, arith, length}
+use Rattle.std.proofs.Common.{◌≡◌, ◌+◌, ◌<◌, subst, length}
 use Rattle.oracle_face.specs.Logs.{hints_of, step_at}
 use Rattle.atom_solver.specs.Lifted.{imported_of, source_of}
 use Rattle.entry_taking.specs.Names.{IsNoted}

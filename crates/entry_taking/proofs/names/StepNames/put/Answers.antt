@@ -1,4 +1,4 @@
-use Rattle.std.proofs.Common.{◌≡◌, ◌∙◌, None, refl, rules, sym}
+use Rattle.std.proofs.Common.{◌≡◌, None, refl, rules}
 use Rattle.entry_taking.specs.Names.{told_of}
 use Rattle.entry_taking.proofs.Naming.{put_one}
 use Rattle.entry_taking.proofs.names.StepNames.put.Goals as goal

@@ -1,69 +1,26 @@
-use Rattle.std.proofs.Common.{sym, ◌∙◌, true, None}
+use Rattle.std.proofs.Common.{◌≡◌, sym, subst}
 use Rattle.plain_lits.specs.Units.{Units}
-use Rattle.oracle_face.specs.Growing.{NoSide}
-use Rattle.oracle_core.specs.TradingLaws.{trades_joined}
-use Rattle.oracle_core.proofs.Joining.{forced_then, halted_any}
-use Rattle.oracle_core.proofs.TradeLemmas.{all_trades, called_trades, lost_trades, ok_of, run_lost}
+use Rattle.oracle_face.specs.Growing.{HasRun, NoSide, halt_of}
+use Rattle.oracle_core.specs.Engines.{EngineState}
+use Rattle.oracle_core.specs.Trading.{Trades}
+use Rattle.oracle_core.proofs.TradeLemmas.{run_forgotten, trades_forgotten}
 use Rattle.oracle_core.proofs.engine.Engine.prepare.Goals as goal
-
-abbrev no_units : Units
-no_units = record { limit = 0; used = 0 }
-
-pub returns-in_err-force-clause-trades : goal.returns-in_err-force-clause-trades
-returns-in_err-force-clause-trades g c =
-    called_trades NoSide c.args.self.now c.force.new.self (g.T.ClauseTrade.left c.args.trade.now) c.args.lost.now
-    c.in_err-force.ensures.number c.in_err-force.ensures.framework (c.in_err-force.ensures.run no_units).grows
-
-pub returns-in_err-force-clause-run : goal.returns-in_err-force-clause-run
-returns-in_err-force-clause-run g c = λ units.
-    halted_any c.args.self.now.framework c.args.self.now.log c.force.new.self.log c.force.new.self.pending units units
-    c.from_residual.result c.in_err-force.field-0.0 c.from_residual.ensures (c.in_err-force.ensures.run units)
-
-pub returns-then-is_err-clause-trades : goal.returns-then-is_err-clause-trades
-returns-then-is_err-clause-trades g c =
-    let a = c.args.self.now in
-    let b = c.force.new.self in
-    let d = c.take_all-taken.new.self in
-    let left = g.T.ClauseTrade.left c.args.trade.now in
-    let later = g.T.ClauseTrade.left c.take_all-taken.new.trade in
-    trades_joined a b d left left later c.args.lost.now c.args.lost.now true
-    (called_trades NoSide a b left c.args.lost.now c.in_ok-force.ensures.number c.in_ok-force.ensures.framework
-    (c.in_ok-force.ensures.run no_units).grows)
-    (lost_trades b d left later c.args.lost.now c.take_all-taken.ensures.number c.take_all-taken.ensures.framework
-    (c.take_all-taken.ensures.run no_units).grows)
-
-pub returns-clause-run : goal.returns-clause-run
-returns-clause-run g c = λ units.
-    let a = c.args.self.now in
-    let b = c.force.new.self in
-    let d = c.take_all-taken.new.self in
-    forced_then a.framework b.framework a.log b.log d.log b.pending d.pending units units 0 None
-    c.in_ok-force.ensures.framework (c.in_ok-force.ensures.run units) (c.take_all-taken.ensures.run units)
-
-pub returns-then-is_err-clause-run : goal.returns-then-is_err-clause-run
-returns-then-is_err-clause-run g c = λ units.
-    let a = c.args.self.now in
-    let b = c.force.new.self in
-    let d = c.take_all-taken.new.self in
-    run_lost NoSide 0 a.framework a.log d.log d.pending units units None
-    (forced_then a.framework b.framework a.log b.log d.log b.pending d.pending units units 0 None
-    c.in_ok-force.ensures.framework (c.in_ok-force.ensures.run units) (c.take_all-taken.ensures.run units))
 
 pub returns-clause-trades : goal.returns-clause-trades
 returns-clause-trades g c =
     let a = c.args.self.now in
-    let b = c.force.new.self in
-    let d = c.take_all-taken.new.self in
+    let b = c.force_and_take-end.new.self in
     let left = g.T.ClauseTrade.left c.args.trade.now in
-    let later = g.T.ClauseTrade.left c.take_all-taken.new.trade in
-    trades_joined a b d left left later c.args.lost.now c.args.lost.now c.args.lost.now
-    (called_trades NoSide a b left c.args.lost.now c.in_ok-force.ensures.number c.in_ok-force.ensures.framework
-    (c.in_ok-force.ensures.run no_units).grows)
-    (all_trades b d left later c.args.lost.now c.take_all-taken.ensures.number c.take_all-taken.ensures.framework
-    (c.take_all-taken.ensures.run no_units).grows
-    (ok_of c.take_all-taken.result (sym c.is_err.ensures.value ∙ c.if-is_err.false) c.take_all-taken.ensures.all))
+    let later = g.T.ClauseTrade.left c.force_and_take-end.new.trade in
+    subst (λ (e : EngineState). Trades a e left later c.args.lost.now c.force_and_take-end.new.lost)
+    (sym c.forget.ensures.forgotten)
+    (trades_forgotten a b left later c.args.lost.now c.force_and_take-end.new.lost c.force_and_take-end.ensures.trades)
 
-pub returns-clause-all : goal.returns-clause-all
-returns-clause-all g c = λ told is.
-    (ok_of c.take_all-taken.result (sym c.is_err.ensures.value ∙ c.if-is_err.false) c.take_all-taken.ensures.all told
-    is).emptied
+pub returns-clause-run : goal.returns-clause-run
+returns-clause-run g c = λ (units : Units).
+    let a = c.args.self.now in
+    let b = c.force_and_take-end.new.self in
+    let halt = halt_of c.force_and_take-end.result in
+    subst (λ (e : EngineState). HasRun NoSide 0 a.framework a.log e.log e.pending units units halt)
+    (sym c.forget.ensures.forgotten)
+    (run_forgotten a.framework a.log b.log b.pending halt c.force_and_take-end.ensures.run units)

@@ -1,11 +1,13 @@
-use Rattle.std.proofs.Common.{◌≡◌, ◌+◌, ◌*◌, rules, sym, subst, false, length, Some}
+use Rattle.std.proofs.Common.{◌≡◌, ◌+◌, ◌*◌, rules, sym, subst, false, length, Option, Some}
 use Rattle.plain_lits.specs.declared.halt.Halt.TheVariants.{Memory}
 use Rattle.oracle_face.specs.Growing.{HasRun, halt_of}
-use Rattle.session_log.specs.Ends.{MadeFor}
+use Rattle.oracle_face.specs.declared.face.Pending.{Pending}
+use Rattle.session_log.specs.Ends.{LoopInHand, MadeFor}
 use Rattle.oracle_core.specs.Engines.{EngineState}
+use Rattle.oracle_core.specs.Stepping.{GoesOnBySteps}
 use Rattle.oracle_core.specs.Trading.{IsEmptied, TakesFrom}
 use Rattle.oracle_core.specs.TradingLaws.{trades_joined}
-use Rattle.oracle_core.proofs.TradeLemmas.{emptied_later, not_memory, ok_so, only_prepared, run_lost, searched}
+use Rattle.oracle_core.proofs.TradeLemmas.{emptied_later, not_memory, ok_so, only_prepared, run_lost, searched, serves_at}
 use Rattle.oracle_core.proofs.engine.Engine.search.Goals as goal
 
 pub returns-in_err-prepare-clause-run : goal.returns-in_err-prepare-clause-run
@@ -72,3 +74,40 @@ returns-clause-emptied g c =
     (emptied_later b.framework b.number told (g.T.ClauseTrade.left c.prepare.new.trade)
     (g.T.ClauseTrade.left o.trade.now) b.log o.engine.now.log (c.in_ok-prepare.ensures.all told here)
     (λ rest left. c.answer-end.ensures.follows.2.taken c.if-trading.false rest left)))
+
+pub returns-in_err-prepare-clause-steps : goal.returns-in_err-prepare-clause-steps
+returns-in_err-prepare-clause-steps g c = λ other.
+    c.in_err-prepare.ensures.trades.stepped
+    (c.in_err-prepare.ensures.only_lost
+    (not_memory c.from_residual.result c.in_err-prepare.field-0.0 c.from_residual.ensures other))
+
+pub returns-in_err-prepare-clause-in_hand : goal.returns-in_err-prepare-clause-in_hand
+returns-in_err-prepare-clause-in_hand g c =
+    subst (λ (p : Option Pending). LoopInHand c.prepare.new.self.log p) (sym c.in_err-prepare.ensures.pending) tt
+
+pub returns-then-trading-clause-in_hand : goal.returns-then-trading-clause-in_hand
+returns-then-trading-clause-in_hand g c =
+    let b = c.prepare.new.self in
+    let o = c.answer-end.new.oracle in
+    let is : c.self-1.given.0 ≡ o.engine.now = search rules in
+    subst (λ (e : EngineState). LoopInHand e.log e.pending) (sym is)
+    (serves_at b o.engine.now c.in_ok-prepare.ensures.pending c.answer-end.ensures.follows.3)
+
+pub returns-clause-steps : goal.returns-clause-steps
+returns-clause-steps g c = λ other.
+    let a = c.args.self.now in
+    let b = c.prepare.new.self in
+    let o = c.answer-end.new.oracle in
+    let is : c.self-1.given.0 ≡ o.engine.now = search rules in
+    let all = trades_joined a b o.engine.now (g.T.ClauseTrade.left c.args.trade.now)
+    (g.T.ClauseTrade.left c.prepare.new.trade) (g.T.ClauseTrade.left o.trade.now) false c.prepare.new.lost o.lost
+    c.in_ok-prepare.ensures.trades c.answer-end.ensures.follows.2 in
+    subst (λ (e : EngineState). GoesOnBySteps a.framework a.number a.log e.log) (sym is) (all.stepped c.if-trading.false)
+
+pub returns-clause-in_hand : goal.returns-clause-in_hand
+returns-clause-in_hand g c =
+    let b = c.prepare.new.self in
+    let o = c.answer-end.new.oracle in
+    let is : c.self-1.given.0 ≡ o.engine.now = search rules in
+    subst (λ (e : EngineState). LoopInHand e.log e.pending) (sym is)
+    (serves_at b o.engine.now c.in_ok-prepare.ensures.pending c.answer-end.ensures.follows.3)

@@ -1,40 +1,58 @@
+use Rattle.std.proofs.Common.{ℕ}
+use Rattle.edit_rules.specs.Kinds.{framework_of}
 use Rattle.oracle_face.specs.Growing.{closes, halt_of}
-use Rattle.oracle_core.proofs.Joining.{begun_run, forced_goals, halted, searched_found, searched_run}
+use Rattle.atom_solver.proofs.Running.{unless_all}
+use Rattle.oracle_core.specs.Stepping.{EndsInHand, GoesOnBySteps}
+use Rattle.oracle_core.proofs.GoingOn.{handed_on, none_in_hand}
+use Rattle.oracle_core.proofs.Joining.{IsCourse, forced_goals, halted, searched_found, searched_run, searched_steps}
 use Rattle.oracle_core.proofs.parts.Parts.find.Goals as goal
 
-pub returns-in_err-take_needed-clause-run : goal.returns-in_err-take_needed-clause-run
-returns-in_err-take_needed-clause-run c =
-    halted _ _ _ _ c.args.budget.now c.args.budget.now c.from_residual-in_err-take_needed.result
-    c.in_err-take_needed.field-0.0 c.from_residual-in_err-take_needed.ensures
-    (begun_run c.args.self.now c.begin.new.self _ _ c.args.budget.now c.args.budget.now _ c.in_ok-begin.ensures.framework
-    c.in_ok-begin.ensures.solver (c.in_err-take_needed.ensures.run c.args.budget.now))
+pub returns-in_err-force-clause-run : goal.returns-in_err-force-clause-run
+returns-in_err-force-clause-run c =
+    halted _ _ _ _ c.args.budget.now c.args.budget.now c.from_residual.result c.in_err-force.field-0.0
+    c.from_residual.ensures (c.in_err-force.ensures.run c.args.budget.now)
+
+pub returns-in_err-force-clause-steps : goal.returns-in_err-force-clause-steps
+returns-in_err-force-clause-steps c =
+    let p = c.args.self.now in
+    let t = c.force.new.self in
+    let f = framework_of p.framework in
+    unless_all ((own : ℕ) → GoesOnBySteps f own p.solver.log t.solver.log) (halt_of c.from_residual.result)
+    c.in_err-force.ensures.steps
+
+pub returns-in_err-force-clause-in_hand : goal.returns-in_err-force-clause-in_hand
+returns-in_err-force-clause-in_hand c =
+    let p = c.args.self.now in
+    let t = c.force.new.self in
+    handed_on (λ halt. EndsInHand halt t.solver.log t.solver.pending) c.from_residual.result c.in_err-force.field-0.0
+    c.from_residual.ensures
+    (none_in_hand (framework_of p.framework) p.solver.log t.solver.log t.solver.pending c.in_err-force.field-0.0
+    c.in_err-force.ensures.run)
 
 pub find_forced-requires-clause-goals : goal.find_forced-requires-clause-goals
 find_forced-requires-clause-goals c =
-    forced_goals c.args.self.now c.begin.new.self c.take_needed.new.self c.take_needed.new.self c.args.budget.now
-    (record {
-      begun_framework = c.in_ok-begin.ensures.framework;
-      begun_solver = c.in_ok-begin.ensures.solver;
-      taken_framework = c.in_ok-take_needed.ensures.framework;
-      forced = c.in_ok-take_needed.ensures.run c.args.budget.now;
+    forced_goals c.args.self.now c.force.new.self c.force.new.self c.args.budget.now (record {
+      framework = c.in_ok-force.ensures.framework;
+      forced = c.in_ok-force.ensures.run c.args.budget.now;
     }) c.args.goals.now c.requires.goals
 
 pub returns-clause-found : goal.returns-clause-found
 returns-clause-found c =
-    searched_found c.args.self.now c.begin.new.self c.take_needed.new.self c.find_forced.new.self c.args.budget.now
-    (record {
-      begun_framework = c.in_ok-begin.ensures.framework;
-      begun_solver = c.in_ok-begin.ensures.solver;
-      taken_framework = c.in_ok-take_needed.ensures.framework;
-      forced = c.in_ok-take_needed.ensures.run c.args.budget.now;
+    searched_found c.args.self.now c.force.new.self c.find_forced.new.self c.args.budget.now (record {
+      framework = c.in_ok-force.ensures.framework;
+      forced = c.in_ok-force.ensures.run c.args.budget.now;
     }) c.args.goals.now c.find_forced.result c.find_forced.ensures.found
 
 pub returns-clause-run : goal.returns-clause-run
 returns-clause-run c =
-    searched_run c.args.self.now c.begin.new.self c.take_needed.new.self c.find_forced.new.self c.args.budget.now
-    (record {
-      begun_framework = c.in_ok-begin.ensures.framework;
-      begun_solver = c.in_ok-begin.ensures.solver;
-      taken_framework = c.in_ok-take_needed.ensures.framework;
-      forced = c.in_ok-take_needed.ensures.run c.args.budget.now;
+    searched_run c.args.self.now c.force.new.self c.find_forced.new.self c.args.budget.now (record {
+      framework = c.in_ok-force.ensures.framework;
+      forced = c.in_ok-force.ensures.run c.args.budget.now;
     }) (closes c.find_forced.result) c.find_forced.new.budget (halt_of c.find_forced.result) c.find_forced.ensures.run
+
+pub returns-clause-steps : goal.returns-clause-steps
+returns-clause-steps c =
+    searched_steps c.args.self.now c.force.new.self c.find_forced.new.self c.args.budget.now (record {
+      framework = c.in_ok-force.ensures.framework;
+      forced = c.in_ok-force.ensures.run c.args.budget.now;
+    }) c.in_ok-force.ensures.steps (halt_of c.find_forced.result) c.find_forced.ensures.steps

@@ -1,9 +1,15 @@
-use Rattle.oracle_face.specs.Growing.{halt_of}
-use Rattle.oracle_core.proofs.Joining.{begun_run}
+use Rattle.edit_rules.specs.Kinds.{framework_of}
+use Rattle.oracle_core.proofs.GoingOn.{gains_go_on}
 use Rattle.oracle_core.proofs.parts.Parts.force.Goals as goal
 
-pub returns-clause-run : goal.returns-clause-run
-returns-clause-run c = λ units.
-    begun_run c.args.self.now c.begin.new.self c.take_needed.new.self.solver.log c.take_needed.new.self.solver.pending
-    units units (halt_of c.take_needed.result) c.in_ok-begin.ensures.framework c.in_ok-begin.ensures.solver
-    (c.take_needed.ensures.run units)
+pub returns-then-self-clause-steps : goal.returns-then-self-clause-steps
+returns-then-self-clause-steps c = λ own.
+    let p = c.args.self.now in
+    gains_go_on (framework_of p.framework) own p.solver.log c.take_lacking.new.self.solver.log
+    c.requires.whole.numbered c.take_lacking.ensures.gains
+
+pub returns-clause-steps : goal.returns-clause-steps
+returns-clause-steps c = λ own.
+    let p = c.args.self.now in
+    gains_go_on (framework_of p.framework) own p.solver.log c.begin.new.self.solver.log c.requires.whole.numbered
+    c.begin.ensures.gains

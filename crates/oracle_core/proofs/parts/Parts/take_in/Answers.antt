@@ -1,8 +1,13 @@
+use Rattle.std.proofs.Common.{arith, sym}
+use Rattle.plain_lits.specs.Units.{Units}
 use Rattle.edit_rules.specs.Kinds.{framework_of}
-use Rattle.std.proofs.Common.{sym}
 use Rattle.oracle_core.proofs.Forcing.{whole_named}
 use Rattle.oracle_core.proofs.EntriesTaken.{comes_at}
+use Rattle.oracle_core.proofs.GoingOn.{entry_goes_on}
 use Rattle.oracle_core.proofs.parts.Parts.take_in.Goals as goal
+
+abbrev no_units : Units
+no_units = record { limit = 0; used = 0 }
 
 pub returns-clause-whole : goal.returns-clause-whole
 returns-clause-whole c =
@@ -22,3 +27,11 @@ returns-clause-comes c =
     let p = c.args.self.now in
     comes_at c.take_in.result c.is_aba-assumption_based.result (framework_of p.framework) c.args.own c.args.entry.now
     p.solver.log c.take_in.new.solver.log (sym c.is_aba-assumption_based.ensures) c.take_in.ensures.comes
+
+pub returns-clause-steps : goal.returns-clause-steps
+returns-clause-steps c =
+    let p = c.args.self.now in
+    let f = framework_of p.framework in
+    let counted = (c.take_in.ensures.goes.run f no_units c.requires.whole.guarded).works.counted in
+    entry_goes_on f c.args.own p.solver.log c.take_in.new.solver.log (omega (arith, counted))
+    (c.take_in.ensures.steps f (sym c.is_aba-assumption_based.ensures))

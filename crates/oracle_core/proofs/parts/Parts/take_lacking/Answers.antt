@@ -1,4 +1,4 @@
-use Rattle.std.proofs.Common.{true, ◌<◌, ◌∙◌, ap, subst, sym, Err}
+use Rattle.std.proofs.Common.{◌<◌, ◌∙◌, ap, subst, sym, Err}
 use Rattle.std.specs.Prelude.{Contains}
 use Rattle.edit_rules.specs.Kinds.{framework_of}
 use Rattle.oracle_core.proofs.EngineKinds.{needed_name}
@@ -29,7 +29,7 @@ returns-in_err-take_once-clause-gains c =
 pub returns-in_err-take_once-clause-run : goal.returns-in_err-take_once-clause-run
 returns-in_err-take_once-clause-run c = λ units.
     halted_any _ _ _ _ units units c.from_residual.result c.in_err-take_once.field-0.0 c.from_residual.ensures
-    (taken_halted true c.args.self.now c.loop-self.self c.take_once.new.solver c.in_err-take_once.field-0.0
+    (taken_halted c.args.self.now c.loop-self.self c.take_once.new.solver c.in_err-take_once.field-0.0
     c.loop-self.invariant c.in_err-take_once.ensures.err (λ e. c.in_err-take_once.ensures.full (ap Err e))
     (λ count e. c.in_err-take_once.ensures.unspent count (ap Err e)) units)
 

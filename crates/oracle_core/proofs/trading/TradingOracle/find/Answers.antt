@@ -1,8 +1,7 @@
-use Rattle.std.proofs.Common.{refl}
+use Rattle.std.proofs.Common.{inl, refl}
 use Rattle.oracle_face.specs.Growing.{NoSide, closes, halt_of}
 use Rattle.oracle_core.specs.TradingLaws.{trades_joined}
 use Rattle.oracle_core.proofs.Joining.{forced_then, goals_still, halted}
-use Rattle.oracle_core.proofs.TradeLemmas.{offered_trades}
 use Rattle.oracle_core.proofs.trading.TradingOracle.find.Goals as goal
 
 pub returns-in_err-prepare-clause-run : goal.returns-in_err-prepare-clause-run
@@ -37,9 +36,7 @@ returns-clause-follows g c =
       refl,
       refl,
       trades_joined a b d left later (g.T.ClauseTrade.left c.find_and_offer-2.new.trade)
-          c.args.self.now.lost c.prepare.new.lost c.prepare.new.lost
-          c.in_ok-prepare.ensures.trades
-          (offered_trades NoSide b d later (g.T.ClauseTrade.left c.find_and_offer-2.new.trade) c.prepare.new.lost
-          c.find_and_offer-2.ensures.left c.find_and_offer-2.ensures.number c.find_and_offer-2.ensures.framework
-          c.find_and_offer-2.ensures.run.grows),
+          c.args.self.now.lost c.prepare.new.lost c.find_and_offer-2.new.lost
+          c.in_ok-prepare.ensures.trades c.find_and_offer-2.ensures.trades,
+      inl c.find_and_offer-2.ensures.in_hand,
     )

@@ -1,0 +1,10 @@
+use Rattle.oracle_core.specs.SteppingLaws.{goes_on_none}
+use Rattle.oracle_core.proofs.engine.Engine.answer.Goals as goal
+
+pub returns-in_err-query_fits-clause-steps : goal.returns-in_err-query_fits-clause-steps
+returns-in_err-query_fits-clause-steps g c = λ other.
+    let a = c.args.self.now in goes_on_none a.framework a.number a.log
+
+pub returns-in-Some-clause-steps : goal.returns-in-Some-clause-steps
+returns-in-Some-clause-steps g c = λ other.
+    let a = c.args.self.now in goes_on_none a.framework a.number a.log

@@ -1,0 +1,107 @@
+-- Steps of a session that come one after the other.
+use Rattle.std.proofs.Common.{◌≡◌, ◌∙◌, ⊎_elim, ℕ, ◌+◌, ◌<◌, ◌≤◌, true, false, refl, List, [], ◌∷◌, ◌++◌, length, take, ap, arith, sym, subst, inl, inr}
+use Rattle.std.specs.Prelude.{slice_index_or, None, Some}
+use Rattle.std.proofs.lemmas.Bool.{cases_lt}
+use Rattle.std.proofs.lemmas.List.{append_assoc, append-nil, get_or-append-add, get_or_append_left, length-append}
+use Rattle.std.proofs.lemmas.List.{take-append-le, take_all}
+use Rattle.semantics.specs.Frameworks.{Framework}
+use Rattle.meaning_atoms.specs.declared.axiom.AxiomName.{AxiomName}
+use Rattle.certificate_claims.specs.Refutations.{axiom_clause}
+use Rattle.oracle_face.specs.Logs.{OracleLog, LogStep, by_axiom, by_side, is_loop, no_step}
+use Rattle.session_log.specs.Ends.{IsTakenByNone, LoopInHand, LoopsServe}
+use Rattle.session_log.specs.Steps.{derived_step, own_step}
+use Rattle.clause_imports.specs.OwnSteps.{OwnStep, OwnSteps, keeps_side, learns_axiom, learns_clause, nothing, one_more}
+use Rattle.clause_imports.specs.OwnSteps.{takes_entry}
+use Rattle.oracle_core.specs.Engines.{EngineState}
+use Rattle.oracle_core.specs.Stepping.{GoesOnBySteps, ServesInHand}
+
+-- ---- what stands behind a step
+
+-- one step more
+abbrev pub gains_one : (f : Framework) (own : ℕ) (a b : OracleLog) → OwnStep f own a b
+    → (step : LogStep) × (b.steps ≡ a.steps ++ step ∷ [])
+gains_one f own a b (learns_axiom name clause learns) = (own_step clause (by_axiom name), learns.takes.gains.steps)
+gains_one f own a b (learns_clause clause hints closing learns) =
+    (derived_step clause hints None closing, learns.derives.gains.steps)
+gains_one f own a b (keeps_side literals set clause takes) =
+    (own_step clause (by_side (length a.sides + 1)), takes.gains.steps)
+gains_one f own a b (takes_entry entry shareable may takes) =
+    (derived_step takes.clause takes.hints (Some entry.name) false, takes.gains.steps)
+
+pub gains_some : (f : Framework) (own : ℕ) (a b : OracleLog) → OwnSteps f own a b
+    → (more : List LogStep) × (b.steps ≡ a.steps ++ more)
+gains_some f own a b (nothing _) = ([], sym (append-nil a.steps))
+gains_some f own a b (one_more _ mid _ before last) =
+    let first = gains_some f own a mid before in
+    let then = gains_one f own mid b last in (
+      first.0 ++ then.0 ∷ [],
+      then.1 ∙ (ap (λ xs. xs ++ then.0 ∷ []) first.1 ∙ append_assoc a.steps first.0 (then.0 ∷ [])),
+    )
+
+pub steps_joined : (f : Framework) (own : ℕ) (a b c : OracleLog) → OwnSteps f own a b → OwnSteps f own b c
+    → OwnSteps f own a c
+steps_joined f own a b c first (nothing _) = first
+steps_joined f own a b c first (one_more _ mid _ before last) =
+    one_more a mid c (steps_joined f own a b mid first before) last
+
+-- ---- loop clauses
+
+pub loops_none : (log : OracleLog) → LoopsServe log log
+loops_none log = record { each = λ k name low high source loop. absurd (omega arith) }
+
+pub loops_joined : (a b c : OracleLog) (more : List LogStep) → c.steps ≡ b.steps ++ more → LoopsServe a b
+    → LoopsServe b c → LoopsServe a c
+loops_joined a b c more is first then = record {
+  each = λ k name low high source loop. ⊎_elim
+      (λ (early : k < length b.steps).
+      let same : slice_index_or c.steps k no_step ≡ slice_index_or b.steps k no_step =
+      ap (λ xs. slice_index_or xs k no_step) is ∙ get_or_append_left b.steps more no_step k early in
+      let front : take k c.steps ≡ take k b.steps =
+      ap (λ xs. take k xs) is ∙ take-append-le k b.steps more (omega arith) in
+      subst (λ (steps : List LogStep). IsTakenByNone steps (axiom_clause name)) (sym front)
+      (first.each k name low early (ap (λ (s : LogStep). s.source) (sym same) ∙ source) loop))
+      (λ late. then.each k name late high source loop)
+      (cases_lt k (length b.steps));
+}
+
+-- a step came that is no loop clause, or one that no hints take
+pub loops_one : (a b : OracleLog) (step : LogStep) → b.steps ≡ a.steps ++ step ∷ []
+    → ((name : AxiomName) → step.source ≡ by_axiom name → is_loop name ≡ true
+    → IsTakenByNone a.steps (axiom_clause name)) → LoopsServe a b
+loops_one a b step is serves = record {
+  each = λ k name low high source loop.
+      let end : k ≡ length a.steps + 0 = omega (arith, ap length is, length-append a.steps (step ∷ [])) in
+      let there : slice_index_or b.steps k no_step ≡ step =
+      ap (λ xs. slice_index_or xs k no_step) is
+      ∙ (ap (λ i. slice_index_or (a.steps ++ step ∷ []) i no_step) end
+      ∙ get_or-append-add a.steps (step ∷ []) 0 no_step) in
+      let front : take k b.steps ≡ a.steps =
+      ap (λ xs. take k xs) is
+      ∙ (take-append-le k a.steps (step ∷ []) (omega arith) ∙ take_all k a.steps (omega arith)) in
+      subst (λ (steps : List LogStep). IsTakenByNone steps (axiom_clause name)) (sym front)
+      (serves name (ap (λ (s : LogStep). s.source) (sym there) ∙ source) loop);
+}
+
+-- ---- both
+
+pub goes_on_none : (f : Framework) (own : ℕ) (log : OracleLog) → GoesOnBySteps f own log log
+goes_on_none f own log = record { steps = nothing log; loops = loops_none log }
+
+pub goes_on_joined : (f : Framework) (own : ℕ) (a b c : OracleLog) → GoesOnBySteps f own a b
+    → GoesOnBySteps f own b c → GoesOnBySteps f own a c
+goes_on_joined f own a b c first then =
+    let gained = gains_some f own b c then.steps in
+    record {
+      steps = steps_joined f own a b c first.steps then.steps;
+      loops = loops_joined a b c gained.0 gained.1 first.loops then.loops;
+    }
+
+pub in_hand_none : (e : EngineState) → ServesInHand e e
+in_hand_none e = inr (refl, refl)
+
+pub in_hand_joined : (a b c : EngineState) → ServesInHand a b → ServesInHand b c → ServesInHand a c
+in_hand_joined a b c first then = ⊎_elim (λ serves. inl serves)
+    (λ same. ⊎_elim
+    (λ serves. inl (subst (λ log. LoopInHand log c.pending) (sym same.0)
+    (subst (λ pending. LoopInHand b.log pending) (sym same.1) serves)))
+    (λ before. inr (same.0 ∙ before.0, same.1 ∙ before.1)) first) then
