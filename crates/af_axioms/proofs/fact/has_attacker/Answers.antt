@@ -1,4 +1,4 @@
-use Rattle.std.proofs.Common.{ℕ, ltb, rules, Bool, bool_no_confusion, true, false}
+use Rattle.std.proofs.Common.{ℕ, ltb, rules}
 use Rattle.std.proofs.lemmas.List.Sorted.{IsPartitionPoint-from_clause}
 use Rattle.af_axioms.proofs.Gaps.{attackers_parted, none_past_all, attacker_at}
 use Rattle.af_axioms.proofs.fact.has_attacker.Goals as goal
