@@ -1,7 +1,7 @@
 -- Steps by their parts, side by side.
 use Rattle.std.proofs.Common.{◌≡◌, ℕ, zero, suc, ◌<◌, ◌-◌, List, [], ◌∷◌, ◌++◌, length, get_or, take, arith, ap, refl}
-use Rattle.std.proofs.Common.{◌∙◌}
-use Rattle.std.proofs.lemmas.List.{length-take-le}
+use Rattle.std.proofs.Common.{◌∙◌, map, sym, Option}
+use Rattle.std.proofs.lemmas.List.{length-take-le, take-map}
 use Rattle.std.proofs.Common.{false}
 use Rattle.std.specs.Prelude.{Result, Ok, Err, OnOk}
 use Rattle.std.specs.Result.{is_err}
@@ -9,6 +9,7 @@ use Rattle.std.proofs.lemmas.Bool.{false≢true}
 use Rattle.plain_lits.specs.declared.lit.Lit.{Lit}
 use Rattle.hinted_log.specs.declared.kind.Kind.{Kind}
 use Rattle.hinted_log.specs.declared.kind.Kind.TheVariants.{Axiom}
+use Rattle.hinted_log.specs.FirstLiterals.{AreFirsts, first_of}
 use Rattle.hinted_log.specs.Logs.{Step, no_step, clauses_of, steps_of, AreParts}
 
 abbrev pub step_of : List Lit → Kind → List ℕ → Step
@@ -97,6 +98,13 @@ pub popped_steps : (cs ncs : List (List Lit)) (ks nks : List Kind) (hs nhs : Lis
 popped_steps cs ncs ks nks hs nhs p e1 e2 e3 =
     let b : length hs ≡ length cs = p.hints_long in
     rw (e1, e2, e3, b, length-steps_of cs ks hs p) (steps_of-take (length cs - 1) cs ks hs p)
+
+-- the first literals after a pop
+pub popped_firsts : (cs ncs : List (List Lit)) (fs nfs : List (Option Lit)) → AreFirsts cs fs
+    → ncs ≡ take (length cs - 1) cs → nfs ≡ take (length cs - 1) fs → AreFirsts ncs nfs
+popped_firsts cs ncs fs nfs h e1 e2 = record {
+  same = e2 ∙ (ap (take (length cs - 1)) h.same ∙ (take-map first_of (length cs - 1) cs ∙ ap (map first_of) (sym e1)));
+}
 
 -- what a success promises, where there was no error
 pub given_ok : {T E : Type 0} (r : Result T E) (P : Type 0) → OnOk r P → false ≡ is_err r → P

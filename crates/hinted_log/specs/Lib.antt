@@ -1,3 +1,4 @@
 pub mod Logs
+pub mod FirstLiterals
 pub mod Follows
 pub mod Trimming

@@ -1,6 +1,7 @@
 //! A log of clauses: axioms, sides, and clauses that follow from earlier ones by a check of hints.
 #![tactic(auto)]
 
+mod clause_rows;
 pub mod fault;
 pub mod kind;
 pub mod laws;

@@ -1,7 +1,7 @@
 //! A log of clauses, of which each follows from earlier ones or is given.
 
 ghost use Rattle.std.specs.Prelude.{◌≡◌, ◌≢◌, ◌↔◌, ℕ, ◌+◌, ◌-◌, ◌<◌, ◌≤◌, ◌^◌, [], ◌∷◌, ◌++◌, length, map};
-ghost use Rattle.std.specs.Prelude.{take, Contains, IfOk, OnOk, OnErr, IsTrue};
+ghost use Rattle.std.specs.Prelude.{take, slice_get, Contains, IfOk, OnOk, OnErr, IsTrue};
 ghost use Rattle.plain_lists.specs.Members.{IsSetOf};
 ghost use Rattle.plain_lits.specs.Literals.{negation};
 ghost use Rattle.plain_lits.specs.HintCheck.{Checks};
@@ -182,6 +182,16 @@ impl Log {
         ensures form { IsLog self.now }
     {
         self.steps.clause(step.number() as usize - 1)
+    }
+
+    /// The first literal of the clause of a step, or none where that clause is empty. It comes from an array of its own,
+    /// so a look at all steps leaves most of their clauses out.
+    pub fn first(&self, step: StepId) -> Option<PackedLit>
+        requires { IsStepOf self.now.steps step }
+        ensures first { result ≡ slice_get (step_at self.now.steps step).clause 0 }
+        ensures form { IsLog self.now }
+    {
+        self.steps.first(step.number() as usize - 1)
     }
 
     /// Where a step comes from.

@@ -1,8 +1,9 @@
 //! Steps in flat storage.
 
-ghost use Rattle.std.specs.Prelude.{◌≡◌, ◌<◌, ◌-◌, [], ◌∷◌, ◌++◌, length, take, OnOk, OnErr, slice_index_or};
+ghost use Rattle.std.specs.Prelude.{◌≡◌, ◌<◌, ◌-◌, [], ◌∷◌, ◌++◌, length, take, OnOk, OnErr, slice_get, slice_index_or};
 ghost use Rattle.hinted_log.specs.Logs.{no_step, clauses_of};
 
+use crate::clause_rows::ClauseRows;
 use crate::kind::Kind;
 use plain_lists::Memory;
 use plain_lits::{PackedLit, Rows, StepId};
@@ -13,7 +14,7 @@ use std::marker::Model;
 /// all hints. Contracts see it as the list of the steps.
 #[derive(Debug)]
 pub(crate) struct Store {
-    clauses: Rows<PackedLit>,
+    clauses: ClauseRows,
     kinds: Vec<Kind>,
     hints: Rows<StepId>,
 }
@@ -46,7 +47,7 @@ impl Store {
         ensures { result ≡ [] }
     {
         Store {
-            clauses: Rows::new(alloc),
+            clauses: ClauseRows::new(alloc),
             kinds: Vec::new(alloc),
             hints: Rows::new(alloc),
         }
@@ -63,7 +64,7 @@ impl Store {
     pub(crate) fn clauses(&self) -> &Rows<PackedLit>
         ensures { result.now ≡ clauses_of self.now }
     {
-        &self.clauses
+        self.clauses.rows()
     }
 
     /// The clause of the step at an index.
@@ -72,6 +73,14 @@ impl Store {
         ensures { result.now ≡ (slice_index_or self.now index no_step).clause }
     {
         self.clauses.row(index)
+    }
+
+    /// The first literal of the clause of the step at an index, or none where that clause is empty.
+    pub(crate) fn first(&self, index: usize) -> Option<PackedLit>
+        requires { index < length self.now }
+        ensures { result ≡ slice_get (slice_index_or self.now index no_step).clause 0 }
+    {
+        self.clauses.first(index)
     }
 
     /// The kind of the step at an index.

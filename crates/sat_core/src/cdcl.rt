@@ -15,7 +15,7 @@ use crate::ledger::{Ledger, derive, record, serving, steps_of};
 use conflict_learn::{Core, Learned, Learner};
 use hinted_log::{Log, LogFault, MOST_STEPS};
 use plain_lists::{Items, Memory};
-use plain_lits::{Budget, Clause, Halt, Lit, StepId};
+use plain_lits::{Budget, Clause, Halt, Lit, StepId, Trail};
 use std::alloc::Global;
 use unit_propagate::Propagator;
 
@@ -96,6 +96,7 @@ impl Cdcl {
             ledger: Ledger {
                 log,
                 active: Vec::new(alloc),
+                denied: Trail::new(alloc),
             },
             learner: Learner::new(alloc),
             pending: None,
@@ -192,7 +193,12 @@ impl Cdcl {
     {
         let vars = self.descent.search.vars();
         let Core { clause, hints } = self.learner.final_core(&self.descent.search, conflict)?;
-        let served = serving(self.alloc, &self.ledger.log, clause.as_slice(), vars)?;
+        let served = serving(
+            &self.ledger.log,
+            &mut self.ledger.denied,
+            clause.as_slice(),
+            vars,
+        )?;
         match served {
             Some(step) => return Ok(step),
             None => {}

@@ -6,8 +6,8 @@ ghost use Rattle.std.specs.Bool.{OnTrue, OnFalse};
 ghost use Rattle.plain_lits.specs.declared.lit.Lit.{Lit};
 ghost use Rattle.plain_lits.specs.Literals.{negation};
 ghost use Rattle.plain_lits.specs.HintCheck.{IsTautology, Checks};
-ghost use Rattle.hinted_log.specs.Logs.{clauses_of};
-ghost use Rattle.sat_core.specs.Solving.{Records, IsRejected};
+ghost use Rattle.hinted_log.specs.Logs.{IsStepOf, clauses_of};
+ghost use Rattle.sat_core.specs.Solving.{Records, IsRejected, clause_of};
 ghost use Rattle.sat_core.specs.Mirrors.{step_of, AreIds, IsDerived, DeniesAll, IsServed, HoldsNone};
 
 use crate::answer::Added;
@@ -16,17 +16,23 @@ use plain_lists::{Items, Memory};
 use plain_lits::{Clause, Lit, PackedLit, StepId, Trail, Value};
 use std::alloc::Global;
 
-/// A log, and for each clause of the propagator, in the order of the ids, the number of its step.
+/// A log, and for each clause of the propagator, in the order of the ids, the number of its step. `denied` is room for the
+/// look at all steps.
 #[derive(Debug)]
 pub(crate) struct Ledger {
     pub(crate) log: Log,
     pub(crate) active: Vec<StepId>,
+    pub(crate) denied: Trail,
 }
 
 // By hand, so that a drop is one call (docs/PROVING.md).
 impl Drop for Ledger {
     fn drop(self) {
-        let Ledger { log: _, active: _ } = self;
+        let Ledger {
+            log: _,
+            active: _,
+            denied: _,
+        } = self;
     }
 }
 
@@ -105,6 +111,23 @@ fn is_denied(trail: &Trail, part: &[PackedLit]) -> bool
     true
 }
 
+/// Whether all literals of a step's clause are false. Where the first one isn't, the others are not looked at.
+fn is_denied_step(log: &Log, trail: &Trail, step: StepId) -> bool
+    requires { IsStepOf log.now.steps step }
+    ensures denied { OnTrue result ((l : Lit) → Contains (clause_of log.now.steps step) l
+        → Contains trail.now.lits (negation l)) }
+    ensures free { OnFalse result ((l : Lit) × Contains (clause_of log.now.steps step) l
+        × (Contains trail.now.lits (negation l) → ⊥)) }
+{
+    if let Some(first) = log.first(step) {
+        match trail.value(first.lit()) {
+            Value::False => {}
+            _ => return false,
+        }
+    }
+    is_denied(trail, log.clause(step))
+}
+
 /// The first step whose clause holds no literal beyond those that are denied.
 fn first_denied(log: &Log, trail: &Trail, clause: &[Lit]) -> Option<StepId>
     requires { DeniesAll clause.now trail.now.lits }
@@ -112,17 +135,17 @@ fn first_denied(log: &Log, trail: &Trail, clause: &[Lit]) -> Option<StepId>
 {
     for index in 0..log.len() {
         let step = StepId::new(index as u32 + 1);
-        if is_denied(trail, log.clause(step)) {
+        if is_denied_step(log, trail, step) {
             return Some(step);
         }
     }
     None
 }
 
-/// A step whose clause has no literal beyond those of a clause, where there is one.
+/// A step whose clause has no literal beyond those of a clause, where there is one. `denied` is left with anything.
 pub(crate) fn serving(
-    alloc: Global,
     log: &Log,
+    denied: &mut Trail,
     clause: &[Lit],
     vars: usize,
 ) -> Result<Option<StepId>, Memory>
@@ -131,8 +154,8 @@ pub(crate) fn serving(
     ensures { IfOk result (λ step. MatchOption step (HoldsNone log.now.steps clause.now)
         (IsServed log.now.steps clause.now)) }
 {
-    let mut trail = Trail::new(alloc);
-    trail.make_room(vars)?;
-    deny(&mut trail, clause);
-    Ok(first_denied(log, &trail, clause))
+    denied.clear();
+    denied.make_room(vars)?;
+    deny(denied, clause);
+    Ok(first_denied(log, denied, clause))
 }

@@ -1,0 +1,12 @@
+use Rattle.std.proofs.Common.{Contains, List, subst}
+use Rattle.std.specs.Bool.{OnFalse}
+use Rattle.plain_lits.specs.declared.lit.Lit.{Lit}
+use Rattle.plain_lits.specs.Literals.{negation}
+use Rattle.sat_core.proofs.ledger.is_denied_step.Goals as goal
+
+pub returns-clause-free : goal.returns-clause-free
+returns-clause-free c =
+    let lits = c.args.trail.now.lits in
+    subst
+    (λ (part : List Lit). OnFalse c.is_denied.result ((l : Lit) × Contains part l × (Contains lits (negation l) → ⊥)))
+    c.clause.ensures.clause c.is_denied.ensures.free
