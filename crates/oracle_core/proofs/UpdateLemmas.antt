@@ -1,7 +1,8 @@
 -- The parts of an engine behind an edit of its framework.
-use Rattle.std.proofs.Common.{◌≡◌, ◌∙◌, ℕ, true, List, [], ◌∷◌, length, refl, sym, ap, subst, arith, inl, inr, ⊎_elim, Option, Result, Ok, Err, Some}
+use Rattle.std.proofs.Common.{◌≡◌, ◌∙◌, ℕ, Bool, true, false, if◌then◌else◌, List, [], ◌∷◌, length, refl, sym, ap, subst, arith, inl, inr, ⊎_elim, Option, Result, Ok, Err, Some}
 use Rattle.std.specs.Prelude.{◌↔◌, ◌⊎◌, ◌≢◌, Contains, IfOk, IsErr, IsErrAnd}
 use Rattle.std.proofs.lemmas.Bool.{false≢true}
+use Rattle.plain_lists.proofs.Membership.{Contains-nil}
 use Rattle.plain_lists.specs.declared.memory.Memory.{Memory}
 use Rattle.plain_lits.specs.declared.halt.Halt.{Halt}
 use Rattle.plain_lits.specs.declared.halt.Halt.TheVariants.{Spent as OfSpent, LogFull as OfLogFull, Memory as OfMemory}
@@ -16,8 +17,10 @@ use Rattle.meaning_atoms.proofs.SameAtoms.{same_literal}
 use Rattle.certificate_claims.specs.Refutations.{axiom_clause}
 use Rattle.certificate_claims.specs.SetLiterals as set_literals
 use Rattle.edit_words.specs.declared.edit.Edit.{Edit}
+use Rattle.edit_words.specs.declared.edit.Edit.TheVariants.{ArgAdd, ArgDrop, AttackAdd, AttackDrop, AsmAdd, AsmDrop, ConSet, RuleAdd, RuleDrop}
+use Rattle.edit_words.specs.Refusals.{Refusal, done_unless}
 use Rattle.edit_words.specs.declared.effect.Effect.{Effect}
-use Rattle.edit_rules.specs.Edits.{edit_outcome}
+use Rattle.edit_rules.specs.Edits.{af_with_attack, af_without_attack, attack_added, attack_dropped, edit_outcome}
 use Rattle.edit_rules.specs.Kinds.{framework_of, kind_of}
 use Rattle.edit_rules.specs.Replay.{IsTaken, after_edit, left_by}
 use Rattle.edit_rules.specs.declared.framework.Framework.{Framework as Held}
@@ -31,6 +34,7 @@ use Rattle.atom_solver.specs.States.{AtomState}
 use Rattle.oracle_core.specs.declared.parts.Parts.{Parts}
 use Rattle.oracle_core.specs.declared.updating.UpdateStop.{UpdateStop}
 use Rattle.oracle_core.specs.declared.updating.UpdateStop.TheVariants.{LogFull}
+use Rattle.oracle_core.specs.Following.{ChangesAttack, IsBehind}
 use Rattle.oracle_core.specs.Engines.{AreInForce, AreUsedOrWait, HasAxiom, IsWhole}
 use Rattle.oracle_core.specs.Needing.{AreCalledFor, AreNeeded, AreNeededBy}
 use Rattle.oracle_core.specs.Stopping.{update_stop_of}
@@ -155,6 +159,70 @@ followed p held numbers names edit whole same members_are needed waits =
       taken_few = omega arith;
       named = whole.named;
       waits = λ begun. waits;
+    }
+
+-- an edit of an engine's framework led to the one behind it
+pub behind : (p : Parts) (g : Framework) (effect : Effect) → IsWhole p
+    → IsTaken (framework_of p.framework) effect.edit effect → g ≡ after_edit (framework_of p.framework) effect.edit
+    → IsBehind g effect
+behind p g effect whole is same = record {
+  before = framework_of p.framework;
+  numbered = whole.numbered;
+  of = effect_of (framework_of p.framework) g effect is same;
+}
+
+-- what a row of refusals comes to has the same live arguments, where its framework has them
+live_left : (f g : Af) (effect : Effect) (refusals : List Refusal) → g.live ≡ f.live
+    → set_literals.members (left_by (af f) (done_unless refusals (af g, effect))) ≡ f.live
+live_left f g effect [] same = same
+live_left f g effect (r ∷ more) same = live_if r.stands where
+  live_if : (stands : Bool)
+      → set_literals.members (left_by (af f) (if stands then Err r.fault else done_unless more (af g, effect)))
+      ≡ f.live
+  live_if true = refl
+  live_if false = live_left f g effect more same
+
+-- an attack that comes or goes leaves the members
+members_stay : (f : Framework) (edit : Edit) → ChangesAttack edit
+    → set_literals.members (after_edit f edit) ≡ set_literals.members f
+members_stay (af f) (AttackAdd b a) is = live_left f (af_with_attack f b a) _ (attack_added f b a).refusals refl
+members_stay (af f) (AttackDrop b a) is =
+    live_left f (af_without_attack f b a) _ (attack_dropped f b a).refusals refl
+members_stay (aba f) (AttackAdd b a) is = refl
+members_stay (aba f) (AttackDrop b a) is = refl
+members_stay f (ArgAdd n) is = absurd is
+members_stay f (ArgDrop n) is = absurd is
+members_stay f (AsmAdd a c) is = absurd is
+members_stay f (AsmDrop a) is = absurd is
+members_stay f (ConSet a c) is = absurd is
+members_stay f (RuleAdd h body) is = absurd is
+members_stay f (RuleDrop r) is = absurd is
+
+pub attack_members : (p : Parts) (held : Held) (edit : Edit) → IsWhole p
+    → framework_of held ≡ after_edit (framework_of p.framework) edit → ChangesAttack edit
+    → p.members ≡ set_literals.members (framework_of held)
+attack_members p held edit whole same is =
+    whole.members_are ∙ (sym (members_stay (framework_of p.framework) edit is) ∙ ap set_literals.members (sym same))
+
+-- the parts where all axioms of the framework behind the edit wait
+pub all_waiting : (p : Parts) (held : Held) (names : List AxiomName) (edit : Edit) → IsWhole p
+    → framework_of held ≡ after_edit (framework_of p.framework) edit
+    → p.members ≡ set_literals.members (framework_of held) → names ≡ []
+    → IsWhole (record p { framework = held; needed = names; taken = 0; begun = false })
+all_waiting p held names edit whole same members_are none =
+    let f = framework_of p.framework in
+    record {
+      numbered = subst IsNumbered (sym same) (edits_keep f (edit ∷ []) whole.numbered);
+      members_are = members_are;
+      guarded = record {
+        form = same_log f (framework_of held) p.solver.log (sym (ap kind_of same ∙ kind_stays f (edit ∷ [])))
+            whole.guarded.form;
+        guards = whole.guarded.guards;
+      };
+      axioms = λ name there. absurd (Contains-nil name (subst (λ xs. Contains xs name) none there));
+      taken_few = omega arith;
+      named = whole.named;
+      waits = λ begun. absurd (false≢true begun);
     }
 
 -- ---- an update

@@ -1,6 +1,7 @@
 pub mod Answering
 pub mod Answers
 pub mod Engines
+pub mod Following
 pub mod Needing
 pub mod Readings
 pub mod Sharing

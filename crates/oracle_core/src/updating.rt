@@ -1,16 +1,20 @@
 //! Edits of an engine's framework.
 
 ghost use Rattle.std.specs.Prelude.{◌≡◌, ◌≢◌, ◌⊎◌, true, length, Err, IfOk, IsTrue, OnErr, OnOk};
+ghost use Rattle.std.specs.Bool.{OnTrue};
+ghost use Rattle.semantics.specs.Frameworks.{Framework as AFramework, IsNumbered};
 ghost use Rattle.edit_rules.specs.Kinds.{framework_of};
 ghost use Rattle.edit_rules.specs.Replay.{IsTaken, after_edit};
 ghost use Rattle.af_encoding.specs.Changes.{IsEffectOf};
+ghost use Rattle.oracle_face.specs.Logs.{OracleLog};
 ghost use Rattle.oracle_core.specs.Engines.{AreInForce, AreUsedOrWait, IsWhole};
+ghost use Rattle.oracle_core.specs.Following.{ChangesAttack, IsBehind};
 ghost use Rattle.oracle_core.specs.Needing.{AreCalledFor, AreNeededBy};
 ghost use Rattle.oracle_core.specs.Updating.{GainsNeeded};
 
 use crate::engine::Engine;
 use crate::parts::{Parts, members_of, needed_of};
-use edit_rules::{Effect, Framework, apply};
+use edit_rules::{Edit, Effect, Framework, apply};
 use meaning_atoms::AxiomName;
 use plain_lists::{Items, Memory};
 use plain_lits::Halt;
@@ -68,18 +72,44 @@ fn edited(alloc: Global, framework: &Framework, effect: &Effect) -> Result<Frame
 /// The axioms that the framework behind an edit needs and the one before it did not.
 fn changed_of(
     alloc: Global,
-    before: &Framework,
     after: &Framework,
     effect: &Effect,
 ) -> Result<Items<AxiomName>, Memory>
-    requires { IsEffectOf (framework_of before.now) (framework_of after.now) effect.now }
-    ensures { IfOk result (AreCalledFor (framework_of before.now) (framework_of after.now)) }
+    requires { IsBehind (framework_of after.now) effect.now }
+    ensures { (before : AFramework) → IsNumbered before → IsEffectOf before (framework_of after.now) effect.now
+        → IfOk result (AreCalledFor before (framework_of after.now)) }
 {
-    let _form = before.kind();
     match after {
         Framework::Af(plain) => af_encoding::changed(alloc, plain, effect),
         Framework::Aba(plain) => aba_changed::changed(alloc, plain, effect),
     }
+}
+
+/// The axioms that a log may lack behind an edit. Where it had all that the framework needed before the edit, these are the
+/// ones that the edit calls for, found without a walk over the framework.
+fn lacking(
+    alloc: Global,
+    after: &Framework,
+    effect: &Effect,
+    had_all: bool,
+) -> Result<Items<AxiomName>, Memory>
+    requires { IsBehind (framework_of after.now) effect.now }
+    ensures needed { IfOk result (AreNeededBy (framework_of after.now)) }
+    ensures waits { (before : AFramework) (log : OracleLog) → IsNumbered before
+        → IsEffectOf before (framework_of after.now) effect.now → (IsTrue had_all → AreInForce before log)
+        → IfOk result (λ names. AreUsedOrWait (framework_of after.now) log names 0) }
+{
+    if had_all {
+        return changed_of(alloc, after, effect);
+    }
+    needed_of(alloc, after)
+}
+
+/// Whether an edit makes an attack come or go. The framework has the same members then.
+fn changes_attack(edit: &Edit) -> bool
+    ensures { OnTrue result (ChangesAttack edit.now) }
+{
+    matches!(edit, Edit::AttackAdd(_, _) | Edit::AttackDrop(_, _))
 }
 
 impl Parts {
@@ -91,28 +121,36 @@ impl Parts {
         self.begun && self.taken == self.needed.len()
     }
 
-    /// The axioms that the log may lack behind an edit. Where no axiom waits, these are the ones that the edit calls for,
-    /// found without a walk over the framework.
-    fn lacking(
-        &self,
-        alloc: Global,
-        after: &Framework,
-        effect: &Effect,
-    ) -> Result<Items<AxiomName>, Memory>
-        requires whole { IsWhole self.now }
-        requires effect { IsEffectOf (framework_of self.now.framework) (framework_of after.now) effect.now }
-        ensures needed { IfOk result (AreNeededBy (framework_of after.now)) }
-        ensures waits { IfOk result (λ names.
-            AreUsedOrWait (framework_of after.now) self.now.solver.log names 0) }
+    /// Changes the framework in place by an attack that comes or goes; the axioms that the log may lack wait then. Where
+    /// memory is refused, either nothing has changed, or all axioms of the edited framework wait.
+    fn follow_attack(&mut self, alloc: Global, effect: &Effect) -> Result<(), Memory>
+        requires whole { IsWhole self.old }
+        requires taken { IsTaken (framework_of self.old.framework) effect.now.edit effect.now }
+        requires attack { ChangesAttack effect.now.edit }
+        ensures whole { IsWhole self.new }
+        ensures begun { OnOk result (self.new.begun ≡ true) }
+        ensures framework { OnOk result (framework_of self.new.framework
+            ≡ after_edit (framework_of self.old.framework) effect.now.edit) }
+        ensures solver { self.new.solver ≡ self.old.solver }
+        ensures stays { (self.new ≡ self.old) ⊎ (framework_of self.new.framework
+            ≡ after_edit (framework_of self.old.framework) effect.now.edit) }
     {
-        if self.has_all() {
-            return changed_of(alloc, &self.framework, after, effect);
+        let had_all = self.has_all();
+        // No fault but want of memory is left, since the edit is taken.
+        match apply(alloc, &mut self.framework, &effect.edit) {
+            Ok(_) => {}
+            Err(_) => return Err(Memory),
         }
-        needed_of(alloc, after)
+        self.needed = Items::new(alloc);
+        self.taken = 0;
+        self.begun = false;
+        self.needed = lacking(alloc, &self.framework, effect, had_all)?;
+        self.begun = true;
+        Ok(())
     }
 
-    /// Changes the framework by an edit that it takes; the axioms that the log may lack wait then.
-    fn follow(&mut self, alloc: Global, effect: &Effect) -> Result<(), Memory>
+    /// Changes the framework by an edit that it takes, in a copy; the axioms that the log may lack wait then.
+    fn follow_in_copy(&mut self, alloc: Global, effect: &Effect) -> Result<(), Memory>
         requires whole { IsWhole self.old }
         requires taken { IsTaken (framework_of self.old.framework) effect.now.edit effect.now }
         ensures whole { IsWhole self.new }
@@ -122,15 +160,35 @@ impl Parts {
         ensures solver { self.new.solver ≡ self.old.solver }
         ensures err { OnErr result (self.new ≡ self.old) }
     {
+        let had_all = self.has_all();
         let framework = edited(alloc, &self.framework, effect)?;
         let members = members_of(alloc, &framework)?;
-        let needed = self.lacking(alloc, &framework, effect)?;
+        let needed = lacking(alloc, &framework, effect, had_all)?;
         self.framework = framework;
         self.members = members;
         self.needed = needed;
         self.taken = 0;
         self.begun = true;
         Ok(())
+    }
+
+    /// Changes the framework by an edit that it takes; the axioms that the log may lack wait then. Where memory is refused,
+    /// either nothing has changed, or all axioms of the edited framework wait.
+    fn follow(&mut self, alloc: Global, effect: &Effect) -> Result<(), Memory>
+        requires whole { IsWhole self.old }
+        requires taken { IsTaken (framework_of self.old.framework) effect.now.edit effect.now }
+        ensures whole { IsWhole self.new }
+        ensures begun { OnOk result (self.new.begun ≡ true) }
+        ensures framework { OnOk result (framework_of self.new.framework
+            ≡ after_edit (framework_of self.old.framework) effect.now.edit) }
+        ensures solver { self.new.solver ≡ self.old.solver }
+        ensures stays { (self.new ≡ self.old) ⊎ (framework_of self.new.framework
+            ≡ after_edit (framework_of self.old.framework) effect.now.edit) }
+    {
+        if changes_attack(&effect.edit) {
+            return self.follow_attack(alloc, effect);
+        }
+        self.follow_in_copy(alloc, effect)
     }
 
     /// Changes the framework by an edit that it takes, and puts the axioms that it needs then in force.
@@ -157,8 +215,9 @@ impl Parts {
 impl Engine {
     /// Follows an edit of the framework: `effect` is what the edit does to the engine's framework. Nothing is withdrawn
     /// from the log. It gains the axioms that the framework needs behind the edit and that no step is yet; so an engine
-    /// that had all of those before takes time for what the edit changed, beside the copies of the framework's flat
-    /// arrays. The first update of an engine that was asked nothing works out all axioms that the framework needs.
+    /// that had all of those before takes time for what the edit changed, beside the framework's flat arrays: an attack comes
+    /// or goes in place, where what stands behind it moves by one, and every other edit is made in a copy. The first update
+    /// of an engine that was asked nothing works out all axioms that the framework needs.
     ///
     /// `LogFull` comes only at a full log: the framework is the edited one then, and the next answer that takes steps
     /// adds the axioms that lack, or stops so. After `Memory` either nothing has changed, or the framework is the edited

@@ -8,27 +8,25 @@ use Rattle.oracle_core.proofs.updating.changed_of.Goals as goal
 
 pub changed-requires : goal.changed-requires
 changed-requires c =
-    let f = framework_of c.args.before.now in
-    af_edited f c.in-Af.plain c.args.effect.now c.kind-form.ensures.form
-    (subst (λ (h : Held). IsEffectOf f (framework_of h) c.args.effect.now) c.in-Af.is c.requires)
+    let f = c.requires.before in
+    af_edited f c.in-Af.plain c.args.effect.now c.requires.numbered
+    (subst (λ (h : Held). IsEffectOf f (framework_of h) c.args.effect.now) c.in-Af.is c.requires.of)
 
 pub changed-requires-in-Aba : goal.changed-requires-in-Aba
 changed-requires-in-Aba c =
-    let f = framework_of c.args.before.now in
-    aba_edited f c.in-Aba.plain c.args.effect.now c.kind-form.ensures.form
-    (subst (λ (h : Held). IsEffectOf f (framework_of h) c.args.effect.now) c.in-Aba.is c.requires)
+    let f = c.requires.before in
+    aba_edited f c.in-Aba.plain c.args.effect.now c.requires.numbered
+    (subst (λ (h : Held). IsEffectOf f (framework_of h) c.args.effect.now) c.in-Aba.is c.requires.of)
 
 pub returns-in-Af : goal.returns-in-Af
-returns-in-Af c =
-    let f = framework_of c.args.before.now in
-    subst (λ (h : Held). IfOk c.changed.result (AreCalledFor f (framework_of h))) (sym c.in-Af.is)
-    (af_called f c.in-Af.plain c.args.effect.now c.changed.result c.kind-form.ensures.form
-    (subst (λ (h : Held). IsEffectOf f (framework_of h) c.args.effect.now) c.in-Af.is c.requires) c.changed.ensures)
+returns-in-Af c = λ before numbered of.
+    subst (λ (h : Held). IfOk c.changed.result (AreCalledFor before (framework_of h))) (sym c.in-Af.is)
+    (af_called before c.in-Af.plain c.args.effect.now c.changed.result numbered
+    (subst (λ (h : Held). IsEffectOf before (framework_of h) c.args.effect.now) c.in-Af.is of) c.changed.ensures)
 
 pub returns-in-Aba : goal.returns-in-Aba
-returns-in-Aba c =
-    let f = framework_of c.args.before.now in
-    subst (λ (h : Held). IfOk c.changed-in-Aba.result (AreCalledFor f (framework_of h))) (sym c.in-Aba.is)
-    (aba_called f c.in-Aba.plain c.args.effect.now c.changed-in-Aba.result c.kind-form.ensures.form
-    (subst (λ (h : Held). IsEffectOf f (framework_of h) c.args.effect.now) c.in-Aba.is c.requires)
+returns-in-Aba c = λ before numbered of.
+    subst (λ (h : Held). IfOk c.changed-in-Aba.result (AreCalledFor before (framework_of h))) (sym c.in-Aba.is)
+    (aba_called before c.in-Aba.plain c.args.effect.now c.changed-in-Aba.result numbered
+    (subst (λ (h : Held). IsEffectOf before (framework_of h) c.args.effect.now) c.in-Aba.is of)
     c.changed-in-Aba.ensures)
