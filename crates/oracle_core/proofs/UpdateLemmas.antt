@@ -20,6 +20,7 @@ use Rattle.edit_words.specs.declared.edit.Edit.{Edit}
 use Rattle.edit_words.specs.declared.edit.Edit.TheVariants.{ArgAdd, ArgDrop, AttackAdd, AttackDrop, AsmAdd, AsmDrop, ConSet, RuleAdd, RuleDrop}
 use Rattle.edit_words.specs.Refusals.{Refusal, done_unless}
 use Rattle.edit_words.specs.declared.effect.Effect.{Effect}
+use Rattle.edit_words.specs.declared.effect.EditFault.{EditFault}
 use Rattle.edit_rules.specs.Edits.{af_with_attack, af_without_attack, attack_added, attack_dropped, edit_outcome}
 use Rattle.edit_rules.specs.Kinds.{framework_of, kind_of}
 use Rattle.edit_rules.specs.Replay.{IsTaken, after_edit, left_by}
@@ -171,16 +172,19 @@ behind p g effect whole is same = record {
   of = effect_of (framework_of p.framework) g effect is same;
 }
 
+-- one refusal more leaves the live arguments where the rest does
+live_if : (f : Af) (fault : EditFault) (rest : Result (Framework × Effect) EditFault) (stands : Bool)
+    → set_literals.members (left_by (af f) rest) ≡ f.live
+    → set_literals.members (left_by (af f) (if stands then Err fault else rest)) ≡ f.live
+live_if f fault rest true same = refl
+live_if f fault rest false same = same
+
 -- what a row of refusals comes to has the same live arguments, where its framework has them
 live_left : (f g : Af) (effect : Effect) (refusals : List Refusal) → g.live ≡ f.live
     → set_literals.members (left_by (af f) (done_unless refusals (af g, effect))) ≡ f.live
 live_left f g effect [] same = same
-live_left f g effect (r ∷ more) same = live_if r.stands where
-  live_if : (stands : Bool)
-      → set_literals.members (left_by (af f) (if stands then Err r.fault else done_unless more (af g, effect)))
-      ≡ f.live
-  live_if true = refl
-  live_if false = live_left f g effect more same
+live_left f g effect (r ∷ more) same =
+    live_if f r.fault (done_unless more (af g, effect)) r.stands (live_left f g effect more same)
 
 -- an attack that comes or goes leaves the members
 members_stay : (f : Framework) (edit : Edit) → ChangesAttack edit

@@ -144,7 +144,8 @@ impl Parts {
         self.needed = Items::new(alloc);
         self.taken = 0;
         self.begun = false;
-        self.needed = lacking(alloc, &self.framework, effect, had_all)?;
+        let needed = lacking(alloc, &self.framework, effect, had_all)?;
+        self.needed = needed;
         self.begun = true;
         Ok(())
     }

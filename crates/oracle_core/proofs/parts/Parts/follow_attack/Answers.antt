@@ -11,8 +11,8 @@ lacking-requires c =
     c.in-Ok.ensures.done in
     behind p (framework_of c.apply.new.framework) c.args.effect.now c.requires.whole c.requires.taken same
 
-pub returns-in_err-lacking-clause-whole : goal.returns-in_err-lacking-clause-whole
-returns-in_err-lacking-clause-whole c =
+pub returns-in_err-needed-clause-whole : goal.returns-in_err-needed-clause-whole
+returns-in_err-needed-clause-whole c =
     let p = c.args.self.now in
     let same = left_as (framework_of p.framework) (framework_of c.apply.new.framework) c.args.effect.now.edit _
     c.in-Ok.ensures.done in
@@ -20,8 +20,8 @@ returns-in_err-lacking-clause-whole c =
     (attack_members p c.apply.new.framework c.args.effect.now.edit c.requires.whole same c.requires.attack)
     c.new.ensures
 
-pub returns-in_err-lacking-clause-stays : goal.returns-in_err-lacking-clause-stays
-returns-in_err-lacking-clause-stays c =
+pub returns-in_err-needed-clause-stays : goal.returns-in_err-needed-clause-stays
+returns-in_err-needed-clause-stays c =
     let p = c.args.self.now in
     inr (left_as (framework_of p.framework) (framework_of c.apply.new.framework) c.args.effect.now.edit _
     c.in-Ok.ensures.done)
@@ -31,11 +31,11 @@ returns-clause-whole c =
     let p = c.args.self.now in
     let f = framework_of p.framework in
     let same = left_as f (framework_of c.apply.new.framework) c.args.effect.now.edit _ c.in-Ok.ensures.done in
-    followed p c.apply.new.framework p.members c.in_ok-lacking.field-0 c.args.effect.now.edit c.requires.whole same
+    followed p c.apply.new.framework p.members c.in_ok-needed.needed c.args.effect.now.edit c.requires.whole same
     (attack_members p c.apply.new.framework c.args.effect.now.edit c.requires.whole same c.requires.attack)
-    c.in_ok-lacking.ensures.needed
-    (c.in_ok-lacking.ensures.waits f p.solver.log c.requires.whole.numbered
-    (effect_of f (framework_of c.apply.new.framework) c.args.effect.now c.requires.taken same) c.has_all.ensures)
+    c.in_ok-needed.ensures.needed
+    (c.in_ok-needed.ensures.waits f p.solver.log c.requires.whole.numbered
+    (effect_of f (framework_of c.apply.new.framework) c.args.effect.now c.requires.taken same) c.has_all-had_all.ensures)
 
 pub returns-clause-framework : goal.returns-clause-framework
 returns-clause-framework c =

@@ -15,4 +15,4 @@ returns-clause-whole c =
     c.in_ok-needed.ensures.needed
     (c.in_ok-needed.ensures.waits (framework_of p.framework) p.solver.log c.requires.whole.numbered
     (effect_of (framework_of p.framework) (framework_of c.in_ok-framework.framework) c.args.effect.now c.requires.taken
-    c.in_ok-framework.ensures) c.has_all.ensures)
+    c.in_ok-framework.ensures) c.has_all-had_all.ensures)
