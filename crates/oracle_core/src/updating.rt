@@ -70,11 +70,7 @@ fn edited(alloc: Global, framework: &Framework, effect: &Effect) -> Result<Frame
 }
 
 /// The axioms that the framework behind an edit needs and the one before it did not.
-fn changed_of(
-    alloc: Global,
-    after: &Framework,
-    effect: &Effect,
-) -> Result<Items<AxiomName>, Memory>
+fn changed_of(alloc: Global, after: &Framework, effect: &Effect) -> Result<Items<AxiomName>, Memory>
     requires { IsBehind (framework_of after.now) effect.now }
     ensures { (before : AFramework) → IsNumbered before → IsEffectOf before (framework_of after.now) effect.now
         → IfOk result (AreCalledFor before (framework_of after.now)) }
