@@ -14,7 +14,7 @@ use Rattle.std.proofs.lemmas.List.Sorted.{searchable_from_sorted}
 use Rattle.plain_lists.proofs.Membership.{Contains-head, Contains-tail, Contains-cons_cases}
 use Rattle.semantics.specs.Framework.{IsPairBefore}
 use Rattle.attack_index.specs.PairOrder.{PairsRise}
-use Rattle.attack_index.specs.Offsets.{IsIndex, IsOffsetOf}
+use Rattle.attack_index.specs.Offsets.{HasOffsets, IsOffsetOf}
 use Rattle.attack_index.specs.Changes.{AreLoweredFrom, AreRaisedFrom, BelongsAt, GainsPair, LosesPair}
 use Rattle.attack_index.proofs.PairOrderLemmas.{IsSorted-from_rise, before_from_less, pair_cmp, pair_cmp_total, same_from_equal}
 use Rattle.attack_index.proofs.OffsetLemmas.{before_apart}
@@ -323,29 +323,35 @@ taken_offset_above pairs p i k m n within is lt next h =
           );
     }
 
--- ---- the index
+-- a pair of the block begins with one of the block's numbers
+pub first_in : (base : ℕ) (pairs : List (ℕ × ℕ)) (offsets : List ℕ) (p : ℕ × ℕ) (i : ℕ)
+    → HasOffsets base pairs offsets → i < length pairs → ((d : ℕ × ℕ) → get_or pairs i d ≡ p)
+    → (base ≤ p.0) × (p.0 < base + (length offsets - 1))
+first_in base pairs offsets p i h inside at = h.firsts p (i, inside, at p)
 
--- the index with a pair more
-pub put_index : (pairs new : List (ℕ × ℕ)) (offsets raised : List ℕ) (p : ℕ × ℕ) (i : ℕ) → IsIndex pairs offsets
-    → BelongsAt p pairs i → p.0 < length offsets - 1 → p.1 < length offsets - 1 → new ≡ insert pairs i p
-    → AreRaisedFrom (p.0 + 1) offsets raised → IsIndex new raised
-put_index pairs new offsets raised p i h at first second is up = rw is (record {
+-- ---- the block
+
+-- the block with a pair more
+pub put_table : (base : ℕ) (pairs new : List (ℕ × ℕ)) (offsets raised : List ℕ) (p : ℕ × ℕ) (i : ℕ)
+    → HasOffsets base pairs offsets → BelongsAt p pairs i → (base ≤ p.0) × (p.0 < base + (length offsets - 1))
+    → new ≡ insert pairs i p → AreRaisedFrom ((p.0 - base) + 1) offsets raised → HasOffsets base new raised
+put_table base pairs new offsets raised p i h at first is up = rw is (record {
   rise = put_rises pairs p i h.rise at;
   begins = λ k lt.
       let within : k < length offsets = omega (arith, lt, up.long) in
       ⊎_elim
-      (λ (low : k < p.0 + 1). rw (up.before k low) (put_offset pairs p i k _ at (omega (arith, low)) (h.begins k within)))
+      (λ (low : k < (p.0 - base) + 1). rw (up.before k low)
+      (put_offset pairs p i (base + k) _ at (omega (arith, low, first.0)) (h.begins k within)))
       (λ high. rw (up.after k high within)
-      (put_offset_above pairs p i k _ at (omega (arith, high)) (h.begins k within)))
-      (cases_lt k (p.0 + 1));
-  some = omega (arith, h.some, up.long);
+      (put_offset_above pairs p i (base + k) _ at (omega (arith, high, first.0)) (h.begins k within)))
+      (cases_lt k ((p.0 - base) + 1));
+  reach = omega (arith, h.reach, up.long);
   fits = omega (arith, h.fits, up.long);
-  below = λ q c. ⊎_elim
-      (λ old. let w = h.below q old in (omega (arith, w.0, up.long), omega (arith, w.1, up.long)))
-      (λ (e : q ≡ p). (
-        omega (arith, ap (λ (x : ℕ × ℕ). x.0) e, first, up.long),
-        omega (arith, ap (λ (x : ℕ × ℕ). x.1) e, second, up.long),
-      )) ((put_members pairs i p q).0 c);
+  firsts = λ q c. ⊎_elim
+      (λ old. let w = h.firsts q old in (w.0, omega (arith, w.1, up.long)))
+      (λ (e : q ≡ p).
+      let same = ap (λ (x : ℕ × ℕ). x.0) e in (omega (arith, same, first.0), omega (arith, same, first.1, up.long)))
+      ((put_members pairs i p q).0 c);
 })
 
 pub put_gains : (pairs new : List (ℕ × ℕ)) (p : ℕ × ℕ) (i : ℕ) → PairsRise pairs → BelongsAt p pairs i
@@ -367,26 +373,28 @@ pub found_at : (pairs : List (ℕ × ℕ)) (p : ℕ × ℕ) (i : ℕ) → IsSear
 found_at pairs p i in_range h =
     (in_range, λ d. get_or_default pairs i d p in_range ∙ same_from_equal _ _ (h p))
 
--- the index with a pair less
-pub taken_index : (pairs new : List (ℕ × ℕ)) (offsets lowered : List ℕ) (p : ℕ × ℕ) (i : ℕ) → IsIndex pairs offsets
-    → i < length pairs → ((d : ℕ × ℕ) → get_or pairs i d ≡ p) → new ≡ remove pairs i
-    → AreLoweredFrom (p.0 + 1) offsets lowered → IsIndex new lowered
-taken_index pairs new offsets lowered p i h inside at is down = rw is (record {
-  rise = record { order = all_pairs_remove IsPairBefore pairs i inside h.rise.order };
-  begins = λ k lt.
-      let within : k < length offsets = omega (arith, lt, down.long) in
-      ⊎_elim
-      (λ (low : k < p.0 + 1).
-      rw (down.before k low) (taken_offset pairs p i k _ inside at (omega (arith, low)) (h.begins k within)))
-      (λ high. taken_offset_above pairs p i k _ _ inside at (omega (arith, high)) (down.after k high within)
-      (h.begins k within))
-      (cases_lt k (p.0 + 1));
-  some = omega (arith, h.some, down.long);
-  fits = omega (arith, h.fits, down.long);
-  below = λ q c.
-      let w = h.below q ((taken_members pairs p i h.rise inside at q).0 c).0 in
-      (omega (arith, w.0, down.long), omega (arith, w.1, down.long));
-})
+-- the block with a pair less
+pub taken_table : (base : ℕ) (pairs new : List (ℕ × ℕ)) (offsets lowered : List ℕ) (p : ℕ × ℕ) (i : ℕ)
+    → HasOffsets base pairs offsets → i < length pairs → ((d : ℕ × ℕ) → get_or pairs i d ≡ p) → new ≡ remove pairs i
+    → AreLoweredFrom ((p.0 - base) + 1) offsets lowered → HasOffsets base new lowered
+taken_table base pairs new offsets lowered p i h inside at is down =
+    let first = first_in base pairs offsets p i h inside at in
+    rw is (record {
+      rise = record { order = all_pairs_remove IsPairBefore pairs i inside h.rise.order };
+      begins = λ k lt.
+          let within : k < length offsets = omega (arith, lt, down.long) in
+          ⊎_elim
+          (λ (low : k < (p.0 - base) + 1).
+          rw (down.before k low)
+          (taken_offset pairs p i (base + k) _ inside at (omega (arith, low, first.0)) (h.begins k within)))
+          (λ high. taken_offset_above pairs p i (base + k) _ _ inside at (omega (arith, high, first.0))
+          (down.after k high within) (h.begins k within))
+          (cases_lt k ((p.0 - base) + 1));
+      reach = omega (arith, h.reach, down.long);
+      fits = omega (arith, h.fits, down.long);
+      firsts = λ q c.
+          let w = h.firsts q ((taken_members pairs p i h.rise inside at q).0 c).0 in (w.0, omega (arith, w.1, down.long));
+    })
 
 pub taken_loses : (pairs new : List (ℕ × ℕ)) (p : ℕ × ℕ) (i : ℕ) → PairsRise pairs → i < length pairs
     → ((d : ℕ × ℕ) → get_or pairs i d ≡ p) → new ≡ remove pairs i → LosesPair p pairs new
@@ -403,12 +411,14 @@ none_loses pairs p up lacks = record {
 }
 
 -- offsets have room for one more, and those above a pair for one less
-pub offset_small : (pairs : List (ℕ × ℕ)) (offsets : List ℕ) (k : ℕ) → IsIndex pairs offsets → k < length offsets
-    → get_or offsets k 0 ≤ length pairs
-offset_small pairs offsets k h lt = (h.begins k lt).within
+pub offset_small : (base : ℕ) (pairs : List (ℕ × ℕ)) (offsets : List ℕ) (k : ℕ) → HasOffsets base pairs offsets
+    → k < length offsets → get_or offsets k 0 ≤ length pairs
+offset_small base pairs offsets k h lt = (h.begins k lt).within
 
-pub offset_some : (pairs : List (ℕ × ℕ)) (offsets : List ℕ) (p : ℕ × ℕ) (i k : ℕ) → IsIndex pairs offsets
-    → i < length pairs → ((d : ℕ × ℕ) → get_or pairs i d ≡ p) → p.0 + 1 ≤ k → k < length offsets
-    → 0 < get_or offsets k 0
-offset_some pairs offsets p i k h inside at le lt =
-    let high = behind_pair pairs p i k _ inside at (omega (arith, le)) (h.begins k lt) in omega (arith, high)
+pub offset_some : (base : ℕ) (pairs : List (ℕ × ℕ)) (offsets : List ℕ) (p : ℕ × ℕ) (i k : ℕ)
+    → HasOffsets base pairs offsets → i < length pairs → ((d : ℕ × ℕ) → get_or pairs i d ≡ p)
+    → (p.0 - base) + 1 ≤ k → k < length offsets → 0 < get_or offsets k 0
+offset_some base pairs offsets p i k h inside at le lt =
+    let first = first_in base pairs offsets p i h inside at in
+    let high = behind_pair pairs p i (base + k) _ inside at (omega (arith, le, first.0)) (h.begins k lt) in
+    omega (arith, high)

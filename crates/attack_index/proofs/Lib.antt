@@ -1,3 +1,4 @@
+pub mod BlockLemmas
 pub mod ChangeLemmas
 pub mod OffsetLemmas
 pub mod PairOrderLemmas

@@ -19,22 +19,44 @@ pub record IsEndOf (k : ℕ) (pairs : List (ℕ × ℕ)) (m n : ℕ) : Type 0 wh
   pub last : (i : ℕ) (d : ℕ × ℕ) → i + 1 ≡ n → (slice_index_or pairs i d).0 ≡ k
   pub after : (i : ℕ) (d : ℕ × ℕ) → n ≤ i → i < m → (slice_index_or pairs i d).0 ≢ k
 
--- the table has, for each number below its length, the offset at which the pairs that begin with it begin
-abbrev pub AreOffsets : List (ℕ × ℕ) → List ℕ → Type 0
-AreOffsets pairs offsets = (k : ℕ) → k < length offsets → IsOffsetOf k pairs (slice_index offsets k)
+-- the table has, for each number from the base on, the offset at which the pairs that begin with it begin
+abbrev pub AreOffsets : ℕ → List (ℕ × ℕ) → List ℕ → Type 0
+AreOffsets base pairs offsets = (k : ℕ) → k < length offsets → IsOffsetOf (base + k) pairs (slice_index offsets k)
 
 -- both numbers of each pair are below a bound
 abbrev pub AreBelow : ℕ → List (ℕ × ℕ) → Type 0
 AreBelow bound pairs = (p : ℕ × ℕ) → Contains pairs p → (p.0 < bound) × (p.1 < bound)
 
--- rising pairs of numbers below a bound and the table of their offsets, which reaches up to the bound
-pub record IsIndex (pairs : List (ℕ × ℕ)) (offsets : List ℕ) : Type 0 where
-  pub rise : PairsRise pairs
-  pub begins : AreOffsets pairs offsets
-  pub some : 0 < length offsets
-  pub fits : length offsets ≤ 2 ^ 32 + 1
-  pub below : AreBelow (length offsets - 1) pairs
+-- each pair begins with one of the numbers, as many as the width, that count from the base
+abbrev pub AreFrom : ℕ → ℕ → List (ℕ × ℕ) → Type 0
+AreFrom base width pairs = (p : ℕ × ℕ) → Contains pairs p → (base ≤ p.0) × (p.0 < base + width)
 
--- what an index of pairs with such a table means
-abbrev pub indexed : List (ℕ × ℕ) → List ℕ → IndexedPairs
-indexed pairs offsets = record { pairs = pairs; bound = length offsets - 1 }
+-- the pairs that begin with the numbers from a base on, as many as the width
+pub record BlockPairs : Type 0 where
+  pub base : ℕ
+  pub width : ℕ
+  pub pairs : List (ℕ × ℕ)
+
+-- such pairs in order
+pub record IsBlock (b : BlockPairs) : Type 0 where
+  pub rise : PairsRise b.pairs
+  pub firsts : AreFrom b.base b.width b.pairs
+
+-- rising pairs and the table of their offsets, which has one for each number from the base on and one more
+pub record HasOffsets (base : ℕ) (pairs : List (ℕ × ℕ)) (offsets : List ℕ) : Type 0 where
+  pub rise : PairsRise pairs
+  pub begins : AreOffsets base pairs offsets
+  pub reach : 0 < length offsets
+  pub fits : base + length offsets ≤ 2 ^ 32 + 1
+  pub firsts : AreFrom base (length offsets - 1) pairs
+
+-- what pairs with such a table mean
+abbrev pub block_of : ℕ → List (ℕ × ℕ) → List ℕ → BlockPairs
+block_of base pairs offsets = record { base = base; width = length offsets - 1; pairs = pairs }
+
+-- a block of all pairs, whose numbers are below its width
+pub record IsWhole (b : BlockPairs) : Type 0 where
+  pub base : b.base ≡ 0
+  pub fits : b.width ≤ 2 ^ 32
+  pub rise : PairsRise b.pairs
+  pub below : AreBelow b.width b.pairs

@@ -1,8 +1,8 @@
-//! An index with a pair more or less, in place: nothing is sorted, and no table is made anew.
+//! A block with a pair more or less, in place: nothing is sorted, and no table is made anew.
 
 ghost use Rattle.std.specs.Prelude.{◌≡◌, ℕ, ◌+◌, ◌-◌, ◌<◌, ◌≤◌, ◌^◌, length, slice_index, OnErr, OnOk};
 ghost use Rattle.attack_index.specs.Changes.{AreLoweredFrom, AreRaisedFrom, GainsPair, LosesPair};
-ghost use Rattle.attack_index.specs.Offsets.{IsIndex};
+ghost use Rattle.attack_index.specs.Offsets.{HasOffsets};
 
 use plain_lists::Memory;
 
@@ -28,16 +28,16 @@ fn lower_from(numbers: &mut [usize], from: usize)
     }
 }
 
-/// Puts a pair of numbers below the index's bound among its pairs, unless it is there.
+/// Puts a pair whose first number the table of offsets reaches among the pairs, unless it is there.
 pub(crate) fn put_in(
     pairs: &mut Vec<(u32, u32)>,
     offsets: &mut [usize],
+    base: usize,
     pair: (u32, u32),
 ) -> Result<(), Memory>
-    requires index { IsIndex pairs.old.items offsets.old }
-    requires first { pair.0 < length offsets.old - 1 }
-    requires second { pair.1 < length offsets.old - 1 }
-    ensures index { IsIndex pairs.new.items offsets.new }
+    requires table { HasOffsets base pairs.old.items offsets.old }
+    requires first { (base ≤ pair.0) × (pair.0 < base + (length offsets.old - 1)) }
+    ensures table { HasOffsets base pairs.new.items offsets.new }
     ensures long { length offsets.new ≡ length offsets.old }
     ensures gains { OnOk result (GainsPair pair pairs.old.items pairs.new.items) }
     ensures err { OnErr result (pairs.new.items ≡ pairs.old.items) }
@@ -47,14 +47,19 @@ pub(crate) fn put_in(
     };
     pairs.insert(index, pair)?;
     let _count = pairs.len();
-    raise_from(offsets, pair.0 as usize + 1);
+    raise_from(offsets, pair.0 as usize - base + 1);
     Ok(())
 }
 
-/// Takes a pair out of the pairs of an index, where it is there.
-pub(crate) fn take_out(pairs: &mut Vec<(u32, u32)>, offsets: &mut [usize], pair: (u32, u32))
-    requires { IsIndex pairs.old.items offsets.old }
-    ensures index { IsIndex pairs.new.items offsets.new }
+/// Takes a pair out of the pairs, where it is there.
+pub(crate) fn take_out(
+    pairs: &mut Vec<(u32, u32)>,
+    offsets: &mut [usize],
+    base: usize,
+    pair: (u32, u32),
+)
+    requires { HasOffsets base pairs.old.items offsets.old }
+    ensures table { HasOffsets base pairs.new.items offsets.new }
     ensures long { length offsets.new ≡ length offsets.old }
     ensures loses { LosesPair pair pairs.old.items pairs.new.items }
 {
@@ -62,5 +67,5 @@ pub(crate) fn take_out(pairs: &mut Vec<(u32, u32)>, offsets: &mut [usize], pair:
         return;
     };
     pairs.remove(index);
-    lower_from(offsets, pair.0 as usize + 1);
+    lower_from(offsets, pair.0 as usize - base + 1);
 }

@@ -1,6 +1,0 @@
-use Rattle.std.proofs.Common.{◌≡◌, ◌+◌, length}
-use Rattle.attack_index.proofs.OffsetLemmas.{AreEnds}
-use Rattle.attack_index.proofs.index.ends.Given as goal
-
-abbrev pub invariant-loop-index : goal.invariant-loop-index
-invariant-loop-index l = (length l.ends.items ≡ l.bound + 1) × AreEnds l.pairs l.index l.ends.items
