@@ -393,7 +393,8 @@ taken_table base pairs new offsets lowered p i h inside at is down =
       reach = omega (arith, h.reach, down.long);
       fits = omega (arith, h.fits, down.long);
       firsts = λ q c.
-          let w = h.firsts q ((taken_members pairs p i h.rise inside at q).0 c).0 in (w.0, omega (arith, w.1, down.long));
+          let w = h.firsts q ((taken_members pairs p i h.rise inside at q).0 c).0 in
+          (w.0, omega (arith, w.1, down.long));
     })
 
 pub taken_loses : (pairs new : List (ℕ × ℕ)) (p : ℕ × ℕ) (i : ℕ) → PairsRise pairs → i < length pairs

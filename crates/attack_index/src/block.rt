@@ -151,8 +151,8 @@ fn pairs_from<'a>(
     &pairs[begin..end]
 }
 
-/// For each of the `width` numbers from `base` on, at the index after its own, where the pairs that begin with it end, or
-/// 0 where none does.
+/// For each of the `width` numbers from `base` on, at the index after its own, where the pairs that begin with it end,
+/// or 0 where none does.
 fn ends(
     alloc: Global,
     pairs: &[(u32, u32)],

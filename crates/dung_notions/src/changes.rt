@@ -4,14 +4,14 @@ ghost use Rattle.std.specs.Prelude.{◌≡◌, ◌<◌, OnErr, OnOk};
 ghost use Rattle.attack_index.specs.Changes.{GainsPair, LosesPair};
 ghost use Rattle.dung_notions.specs.Storage.{AreTwoWays};
 
-use attack_index::AttackIndex;
+use attack_index::AttackBlocks;
 use plain_lists::Memory;
 
 /// Adds a pair to an index and, the other way round, to the other, unless it is there. Where the second has no room, the
 /// first gives it back.
 pub(crate) fn put_pair(
-    outgoing: &mut AttackIndex,
-    incoming: &mut AttackIndex,
+    outgoing: &mut AttackBlocks,
+    incoming: &mut AttackBlocks,
     attacker: u32,
     target: u32,
 ) -> Result<(), Memory>
@@ -39,8 +39,8 @@ pub(crate) fn put_pair(
 
 /// Takes a pair out of an index and, the other way round, out of the other.
 pub(crate) fn drop_pair(
-    outgoing: &mut AttackIndex,
-    incoming: &mut AttackIndex,
+    outgoing: &mut AttackBlocks,
+    incoming: &mut AttackBlocks,
     attacker: u32,
     target: u32,
 )
