@@ -33,7 +33,7 @@ pub fn needed(alloc: Global, plain: &AfPlain) -> Result<Items<AxiomName>, Memory
 /// How many axioms a framework needs.
 fn count(plain: &AfPlain) -> usize {
     let arguments = plain.live().len().saturating_mul(8);
-    let attacks = plain.attacks().len().saturating_mul(5);
+    let attacks = plain.attack_count().saturating_mul(5);
     arguments.saturating_add(attacks).saturating_add(3)
 }
 

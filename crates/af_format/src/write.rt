@@ -35,7 +35,8 @@ fn text_of(alloc: Global, framework: &AfPlain) -> Result<String, Memory>
 {
     let count = framework.live().len();
     let mut text = format!(in alloc; "p af {count}\n")?;
-    for (attacker, target) in framework.attacks() {
+    let attacks = framework.attacks(alloc)?;
+    for (attacker, target) in attacks.as_slice() {
         write!(text, "{attacker} {target}\n")?;
     }
     Ok(text)

@@ -49,7 +49,7 @@ pub(crate) fn sizes(framework: &Framework) -> (usize, usize)
     ensures attacks { (f : Af) → framework_of framework.now ≡ af f → result.1 ≡ length f.attacks }
 {
     match framework {
-        Framework::Af(plain) => (plain.live().len(), plain.attacks().len()),
+        Framework::Af(plain) => (plain.live().len(), plain.attack_count()),
         Framework::Aba(_) => (0, 0),
     }
 }

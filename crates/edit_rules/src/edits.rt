@@ -121,7 +121,8 @@ fn drop_argument(
 {
     check_range(number)?;
     check_live(plain, number)?;
-    let dropped = attacks_at(alloc, plain.attacks(), number)?;
+    let attacks = plain.attacks(alloc)?;
+    let dropped = attacks_at(alloc, &attacks, number)?;
     let after = without_argument(alloc, plain, number)?;
     Ok((
         after,
@@ -180,7 +181,7 @@ fn with_argument(alloc: Global, plain: &AfPlain, number: u32) -> Result<AfPlain,
 {
     let mut live = NumSet::from_rising(alloc, plain.live())?;
     live.insert(number)?;
-    let attacks = Vec::from_slice(alloc, plain.attacks())?;
+    let attacks = plain.attacks(alloc)?;
     AfPlain::new(alloc, live, attacks)
 }
 
@@ -192,8 +193,9 @@ fn without_argument(alloc: Global, plain: &AfPlain, number: u32) -> Result<AfPla
     }) }
 {
     let live = numbers_but(alloc, plain.live(), number)?;
-    let attacks = attacks_but(alloc, plain.attacks(), number)?;
-    AfPlain::new(alloc, live, attacks)
+    let attacks = plain.attacks(alloc)?;
+    let kept = attacks_but(alloc, &attacks, number)?;
+    AfPlain::new(alloc, live, kept)
 }
 
 /// The attacks of which the argument is no end.

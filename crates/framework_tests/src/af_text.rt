@@ -14,9 +14,11 @@ fn shown(alloc: Global, bytes: &[u8]) -> Result<String, AllocError> {
     match read_af(alloc, bytes) {
         Ok(framework) => {
             let mut out = format!(in alloc; "{}:", framework.live().len())?;
-            for (attacker, target) in framework.attacks() {
-                let piece = format!(in alloc; " {attacker}-{target}")?;
-                out.push_str(piece.as_str())?;
+            for argument in framework.live() {
+                for (attacker, target) in framework.targets_of(*argument) {
+                    let piece = format!(in alloc; " {attacker}-{target}")?;
+                    out.push_str(piece.as_str())?;
+                }
             }
             Ok(out)
         }
@@ -151,7 +153,7 @@ fn laws(rt: HostRuntime) {
         assert!(rt; false, "not read");
         return;
     };
-    if !framework.is_solid() || framework.attacks().len() > 2 {
+    if !framework.is_solid() || framework.attack_count() > 2 {
         assert!(rt; false, "not solid");
         return;
     }
@@ -160,5 +162,7 @@ fn laws(rt: HostRuntime) {
         return;
     };
     assert!(rt; same.live() == [1, 2, 3].as_slice());
-    assert!(rt; same.attacks() == [(1, 1), (2, 3)].as_slice());
+    assert!(rt; same.attack_count() == 2);
+    assert!(rt; same.targets_of(1) == [(1, 1)].as_slice());
+    assert!(rt; same.targets_of(2) == [(2, 3)].as_slice());
 }

@@ -1,6 +1,10 @@
-//! Pairs that are found from either end.
+//! Pairs that are found from either end, in flat storage and in blocks.
 
-use attack_index::AttackIndex;
+ghost use Rattle.std.specs.Prelude.{◌≡◌, IfOk};
+
+use attack_index::{AttackBlocks, AttackIndex};
+use plain_lists::Memory;
+use std::alloc::Global;
 use std::test::Fail;
 
 #[test]
@@ -14,9 +18,83 @@ fn pairs_by_their_first_number(rt: HostRuntime) -> Result<(), Fail> {
     assert!(rt; index.of(8).is_empty());
     assert!(rt; index.has(7, 1));
     assert!(rt; !index.has(1, 7));
+    let back = index.reversed(alloc, &mut spare)?;
+    assert!(rt; back.pairs() == [(1, 2), (1, 7), (7, 2)].as_slice());
+    Ok(())
+}
+
+#[test]
+fn pairs_in_blocks(rt: HostRuntime) -> Result<(), Fail> {
+    let alloc = rt.alloc();
+    let mut spare = Vec::new(alloc);
+    let given = [(7u32, 1u32), (2, 1), (2, 7), (7, 1)].to_vec(alloc)?;
+    let index = AttackBlocks::new(alloc, given, &mut spare, 8)?;
+    assert!(rt; index.to_vec(alloc)?.as_slice() == [(2, 1), (2, 7), (7, 1)].as_slice());
+    assert!(rt; index.len() == 3);
+    assert!(rt; index.of(2) == [(2, 1), (2, 7)].as_slice());
+    assert!(rt; index.of(8).is_empty());
+    assert!(rt; index.has(7, 1));
+    assert!(rt; !index.has(1, 7));
     let counts = index.counts(alloc)?;
     assert!(rt; counts.as_slice() == [0, 0, 2, 0, 0, 0, 0, 1].as_slice());
     let back = index.reversed(alloc, &mut spare)?;
-    assert!(rt; back.pairs() == [(1, 2), (1, 7), (7, 2)].as_slice());
+    assert!(rt; back.to_vec(alloc)?.as_slice() == [(1, 2), (1, 7), (7, 2)].as_slice());
+    Ok(())
+}
+
+/// An index of pairs that lie in the first block, at both ends of the second, and in the fourth; the third has none.
+fn apart(alloc: Global) -> Result<AttackBlocks, Memory>
+    ensures { IfOk result (λ i. i.bound ≡ 3101) }
+{
+    let given = [(3100u32, 5u32), (1024, 2047), (2047, 1), (5, 3100)].to_vec(alloc)?;
+    let mut spare = Vec::new(alloc);
+    AttackBlocks::new(alloc, given, &mut spare, 3101)
+}
+
+/// Whether the index has these pairs, and each by its first number.
+fn holds(alloc: Global, index: &AttackBlocks, pairs: &[(u32, u32)]) -> Result<bool, Memory> {
+    Ok(
+        index.to_vec(alloc)?.as_slice() == pairs
+            && index.len() == pairs.len()
+            && pairs.iter().all(|pair| index.has(pair.0, pair.1)),
+    )
+}
+
+/// Pairs come and go on both sides of the border between two blocks.
+#[test]
+fn pairs_at_a_border(rt: HostRuntime) -> Result<(), Fail> {
+    let alloc = rt.alloc();
+    let mut index = apart(alloc)?;
+    assert!(rt;
+        holds(
+            alloc,
+            &index,
+            &[(5, 3100), (1024, 2047), (2047, 1), (3100, 5)]
+        )?
+    );
+    index.insert(1023, 7)?;
+    index.insert(2048, 7)?;
+    index.insert(1024, 2047)?;
+    index.remove(2047, 1);
+    index.remove(2047, 2);
+    index.remove(9000, 1);
+    assert!(rt;
+        holds(
+            alloc,
+            &index,
+            &[(5, 3100), (1023, 7), (1024, 2047), (2048, 7), (3100, 5)]
+        )?
+    );
+    assert!(rt; index.of(1023) == [(1023, 7)].as_slice());
+    assert!(rt; index.of(2047).is_empty());
+    index.remove(1024, 2047);
+    index.insert(2047, 9)?;
+    assert!(rt;
+        holds(
+            alloc,
+            &index,
+            &[(5, 3100), (1023, 7), (2047, 9), (2048, 7), (3100, 5)]
+        )?
+    );
     Ok(())
 }

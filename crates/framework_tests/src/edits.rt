@@ -25,12 +25,17 @@ fn ends_so(alloc: Global, framework: &mut Framework, row: &Row<'_>) -> bool {
 }
 
 /// Whether these are the framework's attacks, and its arguments are 1, 2 and 3.
-fn has_attacks(framework: &Framework, attacks: &[(u32, u32)]) -> bool {
+fn has_attacks(
+    alloc: Global,
+    framework: &Framework,
+    attacks: &[(u32, u32)],
+) -> Result<bool, Memory> {
     match framework {
         Framework::Af(plain) => {
-            plain.live() == [1, 2, 3].as_slice() && plain.attacks() == attacks
+            let held = plain.attacks(alloc)?;
+            Ok(plain.live() == [1, 2, 3].as_slice() && held.as_slice() == attacks)
         }
-        Framework::Aba(_) => false,
+        Framework::Aba(_) => Ok(false),
     }
 }
 
@@ -60,7 +65,7 @@ fn refusals(rt: HostRuntime) -> Result<(), Fail> {
     for row in &rows {
         assert!(rt; ends_so(rt.alloc(), &mut framework, row), "at {:?}", row.0);
     }
-    assert!(rt; has_attacks(&framework, &[(1, 2), (2, 1), (2, 3)]));
+    assert!(rt; has_attacks(rt.alloc(), &framework, &[(1, 2), (2, 1), (2, 3)])?);
     Ok(())
 }
 
@@ -79,7 +84,7 @@ fn changes(rt: HostRuntime) -> Result<(), Fail> {
     for row in &rows {
         assert!(rt; ends_so(rt.alloc(), &mut framework, row), "at {:?}", row.0);
     }
-    assert!(rt; has_attacks(&framework, &[(1, 1)]));
+    assert!(rt; has_attacks(rt.alloc(), &framework, &[(1, 1)])?);
     Ok(())
 }
 

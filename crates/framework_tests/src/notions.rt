@@ -86,7 +86,7 @@ fn attacks_from_either_end(rt: HostRuntime) -> Result<(), Fail> {
         &[1, 2, 7, 0, 1_000_001],
         &[(7, 1), (2, 1), (2, 7), (3, 1), (7, 1)],
     )?;
-    assert!(rt; plain.attacks() == [(2, 1), (2, 7), (7, 1)].as_slice());
+    assert!(rt; plain.attacks(alloc)?.as_slice() == [(2, 1), (2, 7), (7, 1)].as_slice());
     assert!(rt; plain.targets_of(2) == [(2, 1), (2, 7)].as_slice());
     assert!(rt; plain.targets_of(8).is_empty());
     assert!(rt; plain.attackers_of(1) == [(1, 2), (1, 7)].as_slice());

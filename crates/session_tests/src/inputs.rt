@@ -12,10 +12,14 @@ use std::test::Fail;
 use std::thread::Threads;
 
 /// Whether an abstract framework has these attacks alone.
-fn has_attacks(framework: &Framework, attacks: &[(u32, u32)]) -> bool {
+fn has_attacks(
+    alloc: Global,
+    framework: &Framework,
+    attacks: &[(u32, u32)],
+) -> Result<bool, Memory> {
     match framework {
-        Framework::Af(plain) => plain.attacks() == attacks,
-        Framework::Aba(_) => false,
+        Framework::Af(plain) => Ok(plain.attacks(alloc)?.as_slice() == attacks),
+        Framework::Aba(_) => Ok(false),
     }
 }
 
@@ -23,7 +27,7 @@ fn has_attacks(framework: &Framework, attacks: &[(u32, u32)]) -> bool {
 #[test]
 fn one_argument(rt: HostRuntime) -> Result<(), Fail> {
     let (framework, script) = bench_input(rt.alloc(), 1, 1)?;
-    assert!(rt; has_attacks(&framework, &[(1, 1)]));
+    assert!(rt; has_attacks(rt.alloc(), &framework, &[(1, 1)])?);
     assert!(rt; script.lines.len() == 4);
     Ok(())
 }
@@ -32,7 +36,7 @@ fn one_argument(rt: HostRuntime) -> Result<(), Fail> {
 #[test]
 fn two_arguments(rt: HostRuntime) -> Result<(), Fail> {
     let (framework, script) = bench_input(rt.alloc(), 2, 1)?;
-    assert!(rt; has_attacks(&framework, &[(1, 1), (1, 2), (2, 1), (2, 2)]));
+    assert!(rt; has_attacks(rt.alloc(), &framework, &[(1, 1), (1, 2), (2, 1), (2, 2)])?);
     assert!(rt; script.lines.len() == 8);
     Ok(())
 }

@@ -18,7 +18,7 @@ new-requires-clause-between c =
     (with_argument_form c.args.plain.now c.args.number c.live.ensures.form c.requires)
     (joined_number c.args.plain.now.live _ _ c.args.number (c.in_ok-live.ensures ∙ c.live.ensures.value)
     c.live.ensures.form.form.live_rises c.in_ok-insert.ensures.ok)
-    (equal_members _ _ (c.in_ok-attacks.ensures.items ∙ c.attacks.ensures.value))
+    (equal_members _ _ (c.in_ok-attacks.ensures.value))
 
 pub returns : goal.returns
 returns c =
@@ -27,5 +27,5 @@ returns c =
     (with_argument_form c.args.plain.now c.args.number c.live.ensures.form c.requires)
     (joined_number c.args.plain.now.live _ _ c.args.number (c.in_ok-live.ensures ∙ c.live.ensures.value)
     c.live.ensures.form.form.live_rises c.in_ok-insert.ensures.ok)
-    (equal_members _ _ (c.in_ok-attacks.ensures.items ∙ c.attacks.ensures.value))
+    (equal_members _ _ (c.in_ok-attacks.ensures.value))
     c.new.ensures.live c.new.ensures.attacks c.new.ensures.form

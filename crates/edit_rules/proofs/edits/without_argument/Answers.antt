@@ -16,8 +16,8 @@ new-requires-clause-between c =
     are_between (af_without_argument c.args.plain.now c.args.number) _ _
     (without_argument_form c.args.plain.now c.args.number c.live.ensures.form)
     (c.in_ok-live.ensures ∙ ap (filter (λ a. not (a == c.args.number))) c.live.ensures.value)
-    (equal_members _ _ (c.in_ok-attacks.ensures
-    ∙ ap (filter (λ p. not (is_end c.args.number p))) c.attacks.ensures.value))
+    (equal_members _ _ (c.in_ok-kept.ensures
+    ∙ ap (filter (λ p. not (is_end c.args.number p))) (c.deref.ensures.value ∙ c.in_ok-attacks.ensures.value)))
 
 pub returns : goal.returns
 returns c =
@@ -25,6 +25,6 @@ returns c =
     c.new.result
     (without_argument_form c.args.plain.now c.args.number c.live.ensures.form)
     (c.in_ok-live.ensures ∙ ap (filter (λ a. not (a == c.args.number))) c.live.ensures.value)
-    (equal_members _ _ (c.in_ok-attacks.ensures
-    ∙ ap (filter (λ p. not (is_end c.args.number p))) c.attacks.ensures.value))
+    (equal_members _ _ (c.in_ok-kept.ensures
+    ∙ ap (filter (λ p. not (is_end c.args.number p))) (c.deref.ensures.value ∙ c.in_ok-attacks.ensures.value)))
     c.new.ensures.live c.new.ensures.attacks c.new.ensures.form
