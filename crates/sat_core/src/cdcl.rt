@@ -309,6 +309,15 @@ impl Cdcl {
         Ok(step)
     }
 
+    /// Takes the assumptions back, and all that came behind them.
+    fn take_back(&mut self)
+        requires kept { IsKept self.old }
+        ensures rest { IsAtRest self.new }
+        ensures state { state_of self.new ≡ state_of self.old }
+    {
+        self.descent.back_to(0);
+    }
+
     /// Ends a look by propagation that met a false clause: a step that refutes the assumptions, or None where the log is full.
     #[tactic(auto, using(crate::proofs::Keeping::derives_logs))]
     fn close_with_room(
@@ -366,7 +375,7 @@ impl Cdcl {
         self.pending = None;
         self.descent.search.assume_block(assumptions)?;
         let told = self.refute_begun(assumptions);
-        self.descent.back_to(0);
+        self.take_back();
         told
     }
 
@@ -387,7 +396,7 @@ impl Cdcl {
         self.descent.search.assume_block(assumptions)?;
         let end = self.run(assumptions, budget);
         let told = told_of(self.alloc, &self.descent.search, end);
-        self.descent.back_to(0);
+        self.take_back();
         told
     }
 }

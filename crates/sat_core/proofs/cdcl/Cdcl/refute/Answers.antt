@@ -1,4 +1,4 @@
-use Rattle.sat_core.proofs.Running.{based_of, begins, resting_stays, rests}
+use Rattle.sat_core.proofs.Running.{based_of, begins, resting_stays}
 use Rattle.sat_core.proofs.Searching.{mirror_same}
 use Rattle.sat_core.proofs.cdcl.Cdcl.refute.Goals as goal
 
@@ -20,9 +20,3 @@ refute_begun-told-requires-clause-kept c =
 
 pub refute_begun-told-requires-clause-run : goal.refute_begun-told-requires-clause-run
 refute_begun-told-requires-clause-run c = begins _ _ _ c.requires.rest.resting c.in_ok-assume_block.ensures.ok
-
-pub returns-clause-rest : goal.returns-clause-rest
-returns-clause-rest c = record {
-  mirror = mirror_same _ _ _ _ c.back_to.ensures.clauses c.refute_begun-told.ensures.kept.mirror;
-  resting = rests _ _ c.refute_begun-told.ensures.kept.based c.back_to.ensures;
-}
