@@ -1,3 +1,5 @@
+use Rattle.std.proofs.Common.{refl}
+use Rattle.sat_core.proofs.Keeping.{derives_logs, derives_trans}
 use Rattle.sat_core.proofs.Running.{based_of, begins, resting_stays}
 use Rattle.sat_core.proofs.Searching.{mirror_same}
 use Rattle.sat_core.proofs.cdcl.Cdcl.refute.Goals as goal
@@ -20,3 +22,7 @@ refute_begun-told-requires-clause-kept c =
 
 pub refute_begun-told-requires-clause-run : goal.refute_begun-told-requires-clause-run
 refute_begun-told-requires-clause-run c = begins _ _ _ c.requires.rest.resting c.in_ok-assume_block.ensures.ok
+
+pub returns-clause-derives : goal.returns-clause-derives
+returns-clause-derives c = rw c.take_back.ensures.state
+    (derives_trans _ _ _ (derives_logs _ _ refl refl) c.refute_begun-told.ensures.derives)

@@ -4,12 +4,13 @@ use Rattle.session_log.specs.Steps.{LearnsClauses}
 use Rattle.atom_solver.specs.Inner.{state_of}
 use Rattle.atom_solver.specs.States.{AtomState, IsGuardedLog}
 use Rattle.atom_solver.proofs.Assuming.{assumed_plain}
-use Rattle.atom_solver.proofs.parts.Parts.search.Goals as goal
+use Rattle.atom_solver.proofs.parts.Parts.search_all.Goals as goal
 
 pub search_assumed-requires-clause-plain : goal.search_assumed-requires-clause-plain
 search_assumed-requires-clause-plain g c =
     assumed_plain (g.E.Encoding.framework c.args.plain.now) c.assume.new.self.table c.args.goals.now
-    c.assume.new.self.assumed.items c.requires.unfixed c.requires.plain c.in_ok-assume.ensures.ok
+    c.assume.new.self.assumed.items c.requires.unfixed c.requires.plain
+    (record { only = c.in_ok-assume.ensures.ok.only })
 
 pub returns-clause-log : goal.returns-clause-log
 returns-clause-log g c = λ f guarded.
