@@ -1,5 +1,5 @@
 -- What a search leaves, whatever it answers.
-use Rattle.std.proofs.Common.{◌≡◌, ◌≢◌, ℕ, ◌+◌, ◌-◌, ◌≤◌, List, length, ap, sym, subst, ◌∙◌, refl, arith, absurd, inl, inr, ⊎_elim, Vec, Global}
+use Rattle.std.proofs.Common.{◌≡◌, ◌≢◌, ℕ, ◌+◌, ◌-◌, ◌≤◌, List, length, ap, sym, subst, ◌∙◌, refl, arith, inl, inr, ⊎_elim, Vec, Global}
 use Rattle.std.specs.Prelude.{Contains, filter, Option, None, Some, Result, Ok, Err}
 use Rattle.std.specs.Result.{IsErr, IsErrAnd}
 use Rattle.std.proofs.lemmas.Bool.{false≢true, lt-ltb, ltb-true}

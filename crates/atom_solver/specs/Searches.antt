@@ -11,7 +11,9 @@ use Rattle.meaning_atoms.specs.Literals.{negated}
 use Rattle.meaning_atoms.specs.Worlds.{IsFact}
 use Rattle.af_axioms.specs.Facts.{IsFactValue}
 use Rattle.oracle_face.specs.Logs.{OracleLog, working}
+use Rattle.oracle_face.specs.declared.face.Pending.{Pending}
 use Rattle.oracle_face.specs.Goals.{RefutesGoals}
+use Rattle.oracle_face.specs.Growing.{HasRun, NoSide}
 use Rattle.atom_solver.specs.declared.searched.Searched.{Searched}
 use Rattle.atom_solver.specs.declared.searched.Searched.TheVariants.{Model, Refuted}
 
