@@ -11,7 +11,11 @@ pub returns-then-is_empty-clause-learns : goal.returns-then-is_empty-clause-lear
 returns-then-is_empty-clause-learns g c = nothing _
 
 pub returns-in_err-assume_near-clause-run : goal.returns-in_err-assume_near-clause-run
-returns-in_err-assume_near-clause-run g c = ?
+returns-in_err-assume_near-clause-run g c = λ f units.
+    subst (λ (s : AtomState). HasLooked f (state_of c.args.self.now).log s.log c.assume_near.new.self.pending units
+    c.from_residual-in_err-assume_near.result) (sym c.assume_near.ensures.state)
+    (looked_refused f (state_of c.args.self.now).log c.assume_near.new.self.pending units
+    c.from_residual-in_err-assume_near.result c.from_residual-in_err-assume_near.ensures.0)
 
 pub refute_assumed-requires-clause-plain : goal.refute_assumed-requires-clause-plain
 refute_assumed-requires-clause-plain g c =
