@@ -34,6 +34,15 @@ impl Encoding for AbaEncoding {
         aba_facts::fact(plain, atom)
     }
 
+    /// None: nothing was found to be near so that it would refute goals often.
+    fn near(
+        alloc: Global,
+        _plain: &AbaPlain,
+        _goals: &[AtomLit],
+    ) -> Result<Items<Atom>, Memory> {
+        Ok(Items::new(alloc))
+    }
+
     fn missing(
         alloc: Global,
         plain: &AbaPlain,

@@ -8,7 +8,7 @@ ghost use Rattle.meaning_atoms.specs.declared.axiom.AxiomName.{AxiomName};
 ghost use Rattle.oracle_face.specs.Decoding.{IsDecoded, IsModelOf, IsNewLoop, ReadsBack};
 ghost use Rattle.oracle_face.specs.Needed.{IsNeeded};
 
-use crate::{decoding, facts, needed_axioms};
+use crate::{decoding, facts, needed_axioms, neighbourhood};
 use dung_notions::AfPlain;
 use meaning_atoms::{Atom, AtomLit, AxiomName};
 use oracle_face::Encoding;
@@ -40,6 +40,15 @@ impl Encoding for AfEncoding {
 
     fn fact(plain: &AfPlain, atom: &Atom) -> Option<bool> {
         facts::fact(plain, atom)
+    }
+
+    /// The facts on the arguments that goals speak of and on those near them.
+    fn near(
+        alloc: Global,
+        plain: &AfPlain,
+        goals: &[AtomLit],
+    ) -> Result<Items<Atom>, Memory> {
+        neighbourhood::near(alloc, plain, goals)
     }
 
     /// Always none: a model of the needed axioms lacks nothing.

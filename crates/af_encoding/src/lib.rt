@@ -9,6 +9,7 @@ mod encoding;
 mod facts;
 pub mod laws;
 mod needed_axioms;
+mod neighbourhood;
 
 pub use changing::changed;
 pub use decoding::decode;

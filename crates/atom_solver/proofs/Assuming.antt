@@ -2,7 +2,7 @@
 use Rattle.std.proofs.Common.{◌≡◌, ℕ, ◌+◌, ◌-◌, ◌<◌, List, [], ◌∷◌, ◌++◌, length, get_or, ap, sym, subst, ◌∙◌, refl, arith, inl, inr, ⊎_elim, Bool, true, false, not}
 use Rattle.std.specs.Prelude.{Contains, slice_get, Some}
 use Rattle.std.proofs.lemmas.Bool.{cases_lt, false≢true}
-use Rattle.std.proofs.lemmas.Option.{get_or_from_slice_get}
+use Rattle.std.proofs.lemmas.Option.{get_or_from_slice_get, slice_get_within}
 use Rattle.std.proofs.lemmas.List.{length-append, get_or_append_left, get_or-append_right}
 use Rattle.std.proofs.lemmas.List.Elements.{Contains-append_left, Contains-append_right, Contains-append_cases, Contains-push_cases, Contains-push, Contains-get_or}
 use Rattle.plain_lists.proofs.Membership.{Contains-nil}
@@ -18,7 +18,7 @@ use Rattle.meaning_atoms.specs.Literals.{negated}
 use Rattle.meaning_atoms.specs.Worlds.{IsFact}
 use Rattle.af_axioms.specs.Facts.{IsFactValue}
 use Rattle.atom_solver.specs.Searches.{AreUnfixed}
-use Rattle.atom_solver.specs.Assumed.{of_var, IsFactAssumed, AreFacts, AreAssumed}
+use Rattle.atom_solver.specs.Assumed.{of_var, IsFactAssumed, AreFacts, AreAssumed, AreNear, AreSomeFacts}
 use Rattle.atom_solver.specs.Lifted.{atom_at, lit_of}
 use Rattle.atom_solver.specs.Tables.{Extends, AddsLits}
 
@@ -117,7 +117,7 @@ not_both f atom true h k = false≢true ((k.reading [] []).1 ((h.reading [] []).
 not_both f atom false h k = false≢true ((h.reading [] []).1 ((k.reading [] []).0 refl))
 
 pub assumed_plain : (f : Framework) (atoms : List Atom) (goals : List AtomLit) (assumed : List Lit)
-    → AreUnfixed f goals → (IsTautology negated goals → ⊥) → AreAssumed f atoms goals assumed → (l : Lit)
+    → AreUnfixed f goals → (IsTautology negated goals → ⊥) → AreNear f atoms goals assumed → (l : Lit)
     → Contains assumed l → Contains assumed (negation l) → ⊥
 assumed_plain f atoms goals assumed unfixed plain are l c n =
     ⊎_elim
@@ -126,3 +126,39 @@ assumed_plain f atoms goals assumed unfixed plain are l c n =
     (λ goal. ⊎_elim (λ other. unfixed.each (lit_of atoms l) goal other.fact)
     (λ again. plain (lit_of atoms l, goal, again)) (are.only (negation l) n))
     (are.only l c)
+
+-- ---- what is near
+
+pub some_facts_none : (f : Framework) (atoms : List Atom) → AreSomeFacts f atoms []
+some_facts_none f atoms = record {
+  known = λ l c. absurd (Contains-nil l c);
+  only = λ l c. absurd (Contains-nil l c);
+}
+
+pub some_facts_more : (f : Framework) (atoms : List Atom) (atom : Atom) (var : ℕ) (value : Bool) (old new : List Lit)
+    → slice_get atoms var ≡ Some atom → IsFactValue f atom value → new ≡ old ++ of_var var value ∷ []
+    → AreSomeFacts f atoms old → AreSomeFacts f atoms new
+some_facts_more f atoms atom var value old new at so e h = subst (AreSomeFacts f atoms) (sym e) (record {
+  known = λ l c. ⊎_elim (h.known l)
+      (λ (same : of_var var value ≡ l). subst (λ (x : Lit). x.var < length atoms) same
+      (slice_get_within atoms var atom at))
+      (Contains-push_cases old (of_var var value) l c);
+  only = λ l c. ⊎_elim (h.only l)
+      (λ same. subst (λ (x : Lit). IsFactValue f (atom_at atoms x.var) x.positive) same
+      (subst (λ a. IsFactValue f a value) (atom_there atoms var atom at) so))
+      (Contains-push_cases old (of_var var value) l c);
+})
+
+-- goals behind some facts
+pub are_near : (f : Framework) (old new : List Atom) (goals : List AtomLit) (facts assumed : List Lit)
+    → AreSomeFacts f old facts → Extends goals old new → AddsLits new goals facts assumed → AreNear f new goals assumed
+are_near f old new goals facts assumed h grows adds = record {
+  only = λ l c. ⊎_elim
+      (λ fact.
+      let same : atom_at new l.var ≡ atom_at old l.var =
+      ap (λ atoms. atom_at atoms l.var) grows.is ∙ get_or_append_left old grows.more Cf l.var (h.known l fact) in
+      inl (subst (λ a. IsFactValue f a l.positive) (sym same) (h.only l fact)))
+      (λ goal. inr (subst (λ xs. Contains xs (lit_of new l)) adds.stand
+      (Contains-mapped (lit_of new) adds.more l goal)))
+      (Contains-append_cases facts adds.more l (subst (λ xs. Contains xs l) adds.is c));
+}

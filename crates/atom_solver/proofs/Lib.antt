@@ -6,6 +6,7 @@ pub mod Learning
 pub mod Lifting
 pub mod Listing
 pub mod Looping
+pub mod Nearby
 pub mod Obliging
 pub mod Reading
 pub mod Running

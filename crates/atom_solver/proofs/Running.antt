@@ -1,5 +1,5 @@
 -- What a search leaves, whatever it answers.
-use Rattle.std.proofs.Common.{◌≡◌, ◌≢◌, ℕ, ◌+◌, ◌-◌, ◌≤◌, List, length, ap, sym, subst, ◌∙◌, arith, inl, inr, ⊎_elim, Vec, Global}
+use Rattle.std.proofs.Common.{◌≡◌, ◌≢◌, ℕ, ◌+◌, ◌-◌, ◌≤◌, List, length, ap, sym, subst, ◌∙◌, refl, arith, inl, inr, ⊎_elim, Vec, Global}
 use Rattle.std.specs.Prelude.{Contains, filter, Option, None, Some, Result, Ok, Err}
 use Rattle.std.specs.Result.{IsErr, IsErrAnd}
 use Rattle.std.proofs.lemmas.Bool.{false≢true, lt-ltb, ltb-true}
@@ -16,7 +16,8 @@ use Rattle.semantics.specs.Frameworks.{Framework}
 use Rattle.hinted_log.specs.Logs.{LogState, Step, clauses_of}
 use Rattle.sat_core.specs.declared.answer.Solved.{Solved}
 use Rattle.sat_core.specs.declared.answer.Solved.TheVariants.{Model as Satisfied, Core}
-use Rattle.sat_core.specs.Solving.{SolverState, HasSearched, IsShown, Derives, Keeps, Learns, begun}
+use Rattle.sat_core.specs.Solving.{SolverState, EndsCore, HasSearched, IsShown, Derives, Keeps, Learns, begun}
+use Rattle.sat_core.specs.Solving.Learns.{nothing}
 use Rattle.atom_table.specs.Numbering.{AreDifferent}
 use Rattle.meaning_atoms.specs.declared.atom.Atom.{Atom}
 use Rattle.meaning_atoms.specs.declared.atom.AtomLit.{AtomLit}
@@ -25,7 +26,8 @@ use Rattle.oracle_face.specs.declared.face.Pending.TheVariants.{Learned}
 use Rattle.oracle_face.specs.Logs.{OracleLog, SideClause, closings_of}
 use Rattle.oracle_face.specs.Growing.{HasRun, NoSide, UnlessMemory, Works, IsStop, halt_of}
 use Rattle.atom_solver.specs.declared.origin.Origin.{Origin}
-use Rattle.atom_solver.specs.Assumed.{AreAssumed}
+use Rattle.atom_solver.specs.Assumed.{AreAssumed, AreNear}
+use Rattle.oracle_face.specs.Goals.{RefutesGoals}
 use Rattle.session_log.specs.Guards.{IsGuarded}
 use Rattle.atom_solver.specs.States.{IsNoLoop}
 use Rattle.atom_solver.specs.declared.searched.Searched.{Searched}
@@ -38,7 +40,7 @@ use Rattle.atom_solver.proofs.Deriving.{front_same, search_grows, hint_named, ro
 use Rattle.atom_solver.proofs.Learning.{AreNamed, has_learned}
 use Rattle.atom_solver.proofs.Listing.{length-listed}
 use Rattle.atom_solver.proofs.Lifting.{in_use_gives, in_use_yes, room_at, log_grow}
-use Rattle.atom_solver.proofs.Searching.{LeavesAs, gained_of, gained_works, gained_closings, closing_left, unit_further, AreValues, model_satisfies, core_refutes}
+use Rattle.atom_solver.proofs.Searching.{LeavesAs, gained_of, gained_free, gained_works, gained_closings, closing_left, unit_further, AreValues, model_satisfies, core_refutes}
 use Rattle.atom_solver.proofs.TableLemmas.{told_whole}
 
 memory_not_spent : (count : ℕ) → Memory ≡ Spent count → ⊥
@@ -146,8 +148,10 @@ module _ (atoms : List Atom) (old new : SolverState) (origins : List Origin) (si
         limit = limit;
         works = unless_all _ halt
             (subst (λ (g : OracleLog). Works f g (log_over atoms new origins sides) before after) front
-            (gained_works atoms new origins different room f goals assumed sides (length old.log.steps)
-            (length old.log.steps + count) before after are gained (omega arith)));
+            (gained_works atoms new origins different room f assumed sides (length old.log.steps)
+            (length old.log.steps + count) before after
+            (gained_free atoms new origins different room f goals assumed (length old.log.steps)
+            (length old.log.steps + count) are gained) gained (omega arith)));
         closing = unless_all _ halt (omega arith);
         stop = stop;
       }
@@ -197,7 +201,8 @@ module _ (atoms : List Atom) (old new : SolverState) (origins : List Origin) (si
       (told_values atoms new origins different room lits))
   found_answer (Core step) found tells h guards =
       subst (IsAnswer f (log_over atoms new origins sides) goals) (sym tells)
-      (core_refutes atoms new origins different room f goals assumed sides step are guards h.ends.core)
+      (core_refutes atoms new origins different room f goals assumed sides step (record { only = are.only }) guards
+      h.ends.core)
 
   pub halted_run : (halt : Halt) (pending : Option Pending)
       → (halted halt ≢ halted Memory → HasSearched old new assumed before after (Err halt))
@@ -230,6 +235,53 @@ module _ (atoms : List Atom) (old new : SolverState) (origins : List Origin) (si
       (length-listed (lifted_at atoms new origins) (length new.log.steps) ∙ h.ends.1)
   halted_run Memory pending searched kept =
       run_memory atoms old new origins sides f pending before after 0 keeps limit
+
+-- a look that found a core: as a search that learned nothing
+pub looked : (old new : SolverState) (assumed : List Lit) (step : ℕ) (units : Units) → EndsCore (begun old) new assumed step
+    → HasSearched old new assumed units units (answered (Core step))
+looked old new assumed step units ends = record {
+  learned = begun old;
+  count = 0;
+  learns = nothing (begun old);
+  spent = omega arith;
+  ends = ends;
+}
+
+module _ (atoms : List Atom) (old new : SolverState) (origins : List Origin) (sides : List SideClause) (f : Framework)
+    (goals : List AtomLit) (assumed : List Lit) (different : AreDifferent atoms)
+    (room : HaveRoomFor (length atoms) (clauses_of new.log.steps)) (marked : length origins ≤ length old.log.steps)
+    (named : AreNamed old) (keeps : Keeps old new) (step : ℕ) (ends : EndsCore (begun old) new assumed step) where
+  near_left : LeavesAs (begun old) new
+  near_left =
+      ⊎_elim (λ e. inl (ap (λ (x : SolverState). x.log) e, ap (λ (x : SolverState). x.active) e))
+      (λ closes. inr (step, closes)) ends.closed
+
+  pub near_run : (pending : Option Pending) (units : Units)
+      → HasRun NoSide 1 f (log_over atoms old origins sides) (log_over atoms new origins sides) pending units units None
+  near_run pending units =
+      let gained = gained_of atoms old (begun old) new origins different room assumed 0 (nothing (begun old)) named marked
+      near_left in
+      let front = front_same atoms old new origins sides keeps in
+      let few = closing_left (begun old) new near_left in
+      let closings : closings_of (log_over atoms new origins sides)
+      ≡ closings_of (log_over atoms old origins sides) + (length new.log.steps - (length old.log.steps + 0)) =
+      subst (λ (g : OracleLog). closings_of (log_over atoms new origins sides)
+      ≡ closings_of g + (length new.log.steps - (length old.log.steps + 0))) front
+      (gained_closings atoms new origins different room assumed sides (length old.log.steps)
+      (length old.log.steps + 0) gained) in
+      record {
+        grows = search_grows atoms old new origins sides keeps;
+        limit = refl;
+        works = subst (λ (g : OracleLog). Works f g (log_over atoms new origins sides) units units) front
+            (gained_works atoms new origins different room f assumed sides (length old.log.steps)
+            (length old.log.steps + 0) units units (λ k low high. absurd (omega arith)) gained (omega arith));
+        closing = omega arith;
+        stop = tt;
+      }
+
+  pub near_refutes : AreNear f atoms goals assumed → IsGuarded (log_over atoms new origins sides)
+      → RefutesGoals f (log_over atoms new origins sides) goals step
+  near_refutes are guards = core_refutes atoms new origins different room f goals assumed sides step are guards ends.core
 
 -- the clause in hand of a search whose budget was spent is one that it learned
 pub halted_no_loop : (atoms : List Atom) (old new : SolverState) (assumed : List Lit) (before after : Units)

@@ -29,7 +29,7 @@ use Rattle.session_log.specs.Guards.{IsGuarded}
 use Rattle.session_log.proofs.Closing.{closed_refutes_goals}
 use Rattle.atom_solver.specs.declared.origin.Origin.{Origin}
 use Rattle.atom_solver.specs.Searches.{Satisfies}
-use Rattle.atom_solver.specs.Assumed.{of_var, AreAssumed}
+use Rattle.atom_solver.specs.Assumed.{of_var, AreAssumed, AreNear}
 use Rattle.atom_solver.specs.Lifted.{atom_at, lit_of, atoms_of, in_use, lifted_at, listed, log_upto, log_over}
 use Rattle.atom_solver.proofs.Listing.{length-listed, get_or-listed, take-listed, Contains-listed, all_counted, none_counted}
 use Rattle.atom_solver.proofs.Lifting.{in_use_yes, in_use_gives, in_use_no, IsKnown, same_lits, lit_back, tautology_back, step_lifted, room_at}
@@ -131,11 +131,23 @@ module _ (atoms : List Atom) (s : SolverState) (origins : List Origin) (differen
     pub each : (k : ℕ) → first ≤ k → k < learned → IsLearnedAt assumed s k
     pub unused : (k : ℕ) → learned ≤ k → k < length s.log.steps → in_use s.active (k + 1) ≡ false
 
-  pub gained_works : (f : Framework) (goals : List AtomLit) (assumed : List Lit) (sides : List SideClause)
-      (first learned : ℕ) (before after : Units) → AreAssumed f atoms goals assumed → AreGained assumed first learned
+  -- each clause that was learned speaks of no fact but as false
+  abbrev pub AreFree : Framework → ℕ → ℕ → Type 0
+  AreFree f first learned = (k : ℕ) → first ≤ k → k < learned
+      → FactsAreFalse f (atoms_of atoms (get_or s.log.steps k no_step).clause)
+
+  pub gained_free : (f : Framework) (goals : List AtomLit) (assumed : List Lit) (first learned : ℕ)
+      → AreAssumed f atoms goals assumed → AreGained assumed first learned → AreFree f first learned
+  gained_free f goals assumed first learned are gained k low high =
+      let within = gained.within in
+      facts_false f atoms goals assumed (get_or s.log.steps k no_step).clause are
+      (room_at (length atoms) s.log.steps k room (omega arith)) (gained.each k low high).unassumed
+
+  pub gained_works : (f : Framework) (assumed : List Lit) (sides : List SideClause)
+      (first learned : ℕ) (before after : Units) → AreFree f first learned → AreGained assumed first learned
       → after.used + first ≡ before.used + learned
       → Works f (log_upto atoms s origins sides first) (log_over atoms s origins sides) before after
-  gained_works f goals assumed sides first learned before after are gained spent =
+  gained_works f assumed sides first learned before after free gained spent =
       let at = lifted_at atoms s origins in
       let n = length s.log.steps in
       let marked = gained.marked in
@@ -147,10 +159,9 @@ module _ (atoms : List Atom) (s : SolverState) (origins : List Origin) (differen
       (λ k low high. unit_used k (omega arith) ∙ ap (λ b. not (not b)) (used_at k low high)) in
       let no = none_counted is_unit at learned n within
       (λ k low high. unit_used k (omega arith) ∙ ap (λ b. not (not b)) (gained.unused k low high)) in
-      let is_learned : (k : ℕ) → first ≤ k → k < n → is_unit (get_or (lifted_to n) k face.no_step) ≡ true
-      → IsLearnedAt assumed s k =
+      let is_early : (k : ℕ) → first ≤ k → k < n → is_unit (get_or (lifted_to n) k face.no_step) ≡ true → k < learned =
       λ k low high unit.
-      ⊎_elim (λ lt. gained.each k low lt)
+      ⊎_elim (λ lt. lt)
       (λ ge. absurd (false≢true (sym (unit_used k (omega arith)
       ∙ ap (λ b. not (not b)) (gained.unused k ge high))
       ∙ (sym (ap is_unit (get_or-listed at n k face.no_step high)) ∙ unit))))
@@ -161,7 +172,7 @@ module _ (atoms : List Atom) (s : SolverState) (origins : List Origin) (differen
         fresh = λ k low high unit.
             let low_k : first ≤ k = omega arith in
             let high_k : k < n = omega arith in
-            let h = is_learned k low_k high_k unit in
+            let h = gained.each k low_k (is_early k low_k high_k unit) in
             subst (λ steps. IsNew (working steps) (get_or (lifted_to n) k face.no_step).clause)
             (sym (take-listed at n k (omega arith)))
             (subst (λ (x : LogStep). IsNew (working (lifted_to k)) x.clause)
@@ -171,11 +182,8 @@ module _ (atoms : List Atom) (s : SolverState) (origins : List Origin) (differen
         facts = λ k low high unit.
             let low_k : first ≤ k = omega arith in
             let high_k : k < n = omega arith in
-            let h = is_learned k low_k high_k unit in
             subst (λ (x : LogStep). FactsAreFalse f x.clause)
-            (sym (get_or-listed at n k face.no_step high_k))
-            (facts_false f atoms goals assumed (get_or s.log.steps k no_step).clause are
-            (room_at (length atoms) s.log.steps k room high_k) h.unassumed);
+            (sym (get_or-listed at n k face.no_step high_k)) (free k low_k (is_early k low_k high_k unit));
         counted = omega arith;
       }
 
@@ -257,7 +265,7 @@ module _ (atoms : List Atom) (s : SolverState) (origins : List Origin) (differen
       }
 
   pub core_refutes : (f : Framework) (goals : List AtomLit) (assumed : List Lit) (sides : List SideClause)
-      (number : ℕ) → AreAssumed f atoms goals assumed → IsGuarded (log_over atoms s origins sides)
+      (number : ℕ) → AreNear f atoms goals assumed → IsGuarded (log_over atoms s origins sides)
       → IsCore s.log.steps assumed number → RefutesGoals f (log_over atoms s origins sides) goals number
   core_refutes f goals assumed sides number are guards core =
       let n = length s.log.steps in

@@ -32,3 +32,13 @@ pub record AreAssumed (f : Framework) (atoms : List Atom) (goals : List AtomLit)
   pub only : (l : Lit) → Contains assumed l
       → IsFactValue f (atom_at atoms l.var) l.positive ⊎ Contains goals (lit_of atoms l)
   pub met : (goal : AtomLit) → Contains goals goal → (l : Lit) × Contains assumed l × (lit_of atoms l ≡ goal)
+
+-- each assumption is a fact, as the framework has it
+pub record AreSomeFacts (f : Framework) (atoms : List Atom) (assumed : List Lit) : Type 0 where
+  pub known : (l : Lit) → Contains assumed l → l.var < length atoms
+  pub only : (l : Lit) → Contains assumed l → IsFactValue f (atom_at atoms l.var) l.positive
+
+-- each assumption is a fact or a goal
+pub record AreNear (f : Framework) (atoms : List Atom) (goals : List AtomLit) (assumed : List Lit) : Type 0 where
+  pub only : (l : Lit) → Contains assumed l
+      → IsFactValue f (atom_at atoms l.var) l.positive ⊎ Contains goals (lit_of atoms l)

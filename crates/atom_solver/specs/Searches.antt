@@ -1,14 +1,19 @@
 -- What a search under goals tells.
-use Rattle.std.specs.Prelude.{◌⊎◌, ℕ, List, Contains, Result, Ok}
+use Rattle.std.specs.Prelude.{◌⊎◌, ℕ, List, Contains, Option, None, Some, Result, Ok, Err}
 use Rattle.plain_lits.specs.declared.halt.Halt.{Halt}
+use Rattle.plain_lits.specs.declared.halt.Halt.TheVariants.{Memory}
 use Rattle.plain_lits.specs.HintCheck.{IsTautology}
+use Rattle.plain_lits.specs.Units.{Units}
+use Rattle.plain_lists.specs.declared.memory.Memory.{Memory as OutOfMemory}
 use Rattle.semantics.specs.Frameworks.{Framework}
 use Rattle.meaning_atoms.specs.declared.atom.AtomLit.{AtomLit}
 use Rattle.meaning_atoms.specs.Literals.{negated}
 use Rattle.meaning_atoms.specs.Worlds.{IsFact}
 use Rattle.af_axioms.specs.Facts.{IsFactValue}
 use Rattle.oracle_face.specs.Logs.{OracleLog, working}
+use Rattle.oracle_face.specs.declared.face.Pending.{Pending}
 use Rattle.oracle_face.specs.Goals.{RefutesGoals}
+use Rattle.oracle_face.specs.Growing.{HasRun, NoSide}
 use Rattle.atom_solver.specs.declared.searched.Searched.{Searched}
 use Rattle.atom_solver.specs.declared.searched.Searched.TheVariants.{Model, Refuted}
 
@@ -36,3 +41,9 @@ ends_in _ = 0
 -- no goal is a fact
 pub record AreUnfixed (f : Framework) (goals : List AtomLit) : Type 0 where
   pub each : (l : AtomLit) → Contains goals l → IsFact f l.atom → ⊥
+
+-- a look for a step that refutes goals spends nothing, and logs one step at most
+abbrev pub HasLooked : Framework → OracleLog → OracleLog → Option Pending → Units → Result (Option ℕ) OutOfMemory
+    → Type 0
+HasLooked f old new pending units (Ok found) = HasRun NoSide 1 f old new pending units units None
+HasLooked f old new pending units (Err refused) = (most : ℕ) → HasRun NoSide most f old new pending units units (Some Memory)

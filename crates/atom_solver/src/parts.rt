@@ -17,10 +17,12 @@ ghost use Rattle.meaning_atoms.specs.AxiomNames.{IsAxiomName};
 ghost use Rattle.oracle_face.specs.declared.face.Pending.TheVariants.{Loop as OfLoop, Side as OfSide};
 ghost use Rattle.atom_solver.specs.Sides.{HasNoSide, IsOrdered, IsSideOf};
 ghost use Rattle.atom_solver.specs.declared.origin.Origin.TheVariants.{Hints};
-ghost use Rattle.atom_solver.specs.Assumed.{AreAssumed};
+ghost use Rattle.atom_solver.specs.Assumed.{AreAssumed, AreNear};
 ghost use Rattle.atom_solver.specs.Inner.{state_of, GainsGiven, IsFilled, IsKept, IsWhole};
 ghost use Rattle.atom_solver.specs.Inner.{KeepsInHand, KeepsSide, NeedsNoHints, StopsUnit, Tells};
-ghost use Rattle.atom_solver.specs.Searches.{IsAnswer, AreUnfixed, ends_in};
+ghost use Rattle.atom_solver.specs.Searches.{IsAnswer, AreUnfixed, HasLooked, ends_in};
+ghost use Rattle.oracle_face.specs.Goals.{RefutesGoals};
+ghost use Rattle.plain_lits.specs.Units.{Units};
 ghost use Rattle.atom_solver.specs.Lifted.{atoms_of, imported_of, is_given, source_of};
 ghost use Rattle.atom_solver.specs.States.{AddsAxiom, IsGuardedLog, IsNoLoop, StaysLog, TakesSideOf, empty_state};
 ghost use Rattle.session_log.specs.Steps.{LearnsClauses};
@@ -29,11 +31,11 @@ ghost use Rattle.atom_solver.specs.Tables.{StandsFor};
 use crate::kept_side::{KeptSide, find, guarded_literals, in_order, number_at};
 use crate::origin::Origin;
 use crate::searched::Searched;
-use crate::tables::{assume_facts, over_atoms, packed_over_atoms, prefer_attacks, push_lits_for};
+use crate::tables::{assume_facts, assume_some, over_atoms, packed_over_atoms, prefer_attacks, push_lits_for};
 use atom_table::AtomTable;
 use certificate_claims::clause_of_axiom;
 use hinted_log::{LogFault, MOST_STEPS};
-use meaning_atoms::{AtomLit, AxiomName};
+use meaning_atoms::{Atom, AtomLit, AxiomName};
 use oracle_face::{AskId, Encoding, Pending};
 use plain_lists::{Items, Memory};
 use plain_lits::{Budget, Clause, Halt, Lit, StepId};
@@ -404,8 +406,103 @@ impl Parts {
         }
     }
 
-    /// Searches under facts and goals.
+    /// Finds the facts among some atoms, and the goals.
+    fn assume_near<E: Encoding>(
+        &mut self,
+        plain: &E::Plain,
+        atoms: &[Atom],
+        goals: &[AtomLit],
+    ) -> Result<(), Memory>
+        requires whole { IsWhole self.old }
+        ensures whole { IsWhole self.new }
+        ensures state { state_of self.new ≡ state_of self.old }
+        ensures ok { OnOk result (AreNear (E.framework plain.now) self.new.table goals.now self.new.assumed.items) }
+    {
+        assume_some::<E>(&self.table, plain, atoms, &mut self.assumed)?;
+        push_lits_for(&mut self.table, &mut self.solver, goals, &mut self.assumed)?;
+        Ok(())
+    }
+
+    /// Looks whether propagation refutes what is assumed. None says nothing.
+    fn refute_assumed(&mut self) -> Result<Option<StepId>, Memory>
+        requires whole { IsWhole self.old }
+        requires plain { (l : ALit) → Contains self.old.assumed.items l
+            → Contains self.old.assumed.items (negation l) → ⊥ }
+        ensures whole { IsWhole self.new }
+        ensures none { result ≡ Ok None → state_of self.new ≡ state_of self.old }
+        ensures answer { (f : Framework) (goals : List AnAtomLit)
+            → AreNear f self.old.table goals self.old.assumed.items → IsGuardedLog f (state_of self.old).log
+            → IfOk result (λ found. IfSome found (RefutesGoals f (state_of self.new).log goals)) }
+        ensures run { (f : Framework) (units : Units) → HasLooked f (state_of self.old).log (state_of self.new).log
+            self.new.pending units result }
+        ensures learns { OnOk result (LearnsClauses (state_of self.old).log (state_of self.new).log) }
+        ensures log { StaysLog (state_of self.old).log (state_of self.new).log }
+    {
+        let _different = self.table.len();
+        let _before = self.solver.log().len();
+        let found = self.solver.refute(self.assumed.as_slice());
+        let _after = self.solver.log().len();
+        found
+    }
+
+    /// Looks whether the facts near goals refute them, by propagation alone. None says nothing.
+    fn refute_near<E: Encoding>(
+        &mut self,
+        alloc: Global,
+        plain: &E::Plain,
+        goals: &[AtomLit],
+    ) -> Result<Option<StepId>, Memory>
+        requires whole { IsWhole self.old }
+        requires plain { IsTautology negated goals.now → ⊥ }
+        requires unfixed { AreUnfixed (E.framework plain.now) goals.now }
+        ensures whole { IsWhole self.new }
+        ensures none { result ≡ Ok None → state_of self.new ≡ state_of self.old }
+        ensures answer { IsGuardedLog (E.framework plain.now) (state_of self.old).log
+            → IfOk result (λ found. IfSome found
+            (RefutesGoals (E.framework plain.now) (state_of self.new).log goals.now)) }
+        ensures run { (f : Framework) (units : Units) → HasLooked f (state_of self.old).log (state_of self.new).log
+            self.new.pending units result }
+        ensures learns { OnOk result (LearnsClauses (state_of self.old).log (state_of self.new).log) }
+        ensures log { StaysLog (state_of self.old).log (state_of self.new).log }
+    {
+        let atoms = E::near(alloc, plain, goals)?;
+        if atoms.as_slice().is_empty() {
+            return Ok(None);
+        }
+        self.assume_near::<E>(plain, atoms.as_slice(), goals)?;
+        self.refute_assumed()
+    }
+
+    /// Searches under facts and goals. What is near the goals is looked at first: most goals that have no set are
+    /// refuted by it, and then the time is that of the neighbourhood and not of all facts.
     pub(crate) fn search<E: Encoding>(
+        &mut self,
+        alloc: Global,
+        plain: &E::Plain,
+        goals: &[AtomLit],
+        budget: &mut Budget,
+    ) -> Result<Searched, Halt>
+        requires whole { IsWhole self.old }
+        requires plain { IsTautology negated goals.now → ⊥ }
+        requires unfixed { AreUnfixed (E.framework plain.now) goals.now }
+        ensures whole { IsWhole self.new }
+        ensures answer { IsGuardedLog (E.framework plain.now) (state_of self.old).log
+            → IfOk result (IsAnswer (E.framework plain.now) (state_of self.new).log goals.now) }
+        ensures run { HasRun NoSide (ends_in result) (E.framework plain.now) (state_of self.old).log
+            (state_of self.new).log self.new.pending budget.old budget.new (halt_of result) }
+        ensures learns { UnlessMemory (halt_of result) (LearnsClauses (state_of self.old).log (state_of self.new).log) }
+        ensures in_hand { (count : ℕ) → result ≡ Err (Halt.Spent count) → IsNoLoop self.new.pending }
+        ensures log { StaysLog (state_of self.old).log (state_of self.new).log }
+    {
+        match self.refute_near::<E>(alloc, plain, goals) {
+            Ok(Some(step)) => Ok(Searched::Refuted(step)),
+            Ok(None) => self.search_all::<E>(alloc, plain, goals, budget),
+            Err(_) => Err(Halt::Memory),
+        }
+    }
+
+    /// Searches under all facts and goals.
+    fn search_all<E: Encoding>(
         &mut self,
         alloc: Global,
         plain: &E::Plain,

@@ -2,7 +2,8 @@
 
 ghost use Rattle.std.specs.Prelude.{◌≡◌, ◌<◌, ◌∷◌, [], length, filter, IfOk, OnOk, Contains};
 ghost use Rattle.plain_lits.specs.declared.lit.Lit.{Lit as ALit};
-ghost use Rattle.atom_solver.specs.Assumed.{AreFacts};
+ghost use Rattle.semantics.specs.Frameworks.{Framework};
+ghost use Rattle.atom_solver.specs.Assumed.{AreFacts, AreSomeFacts};
 ghost use Rattle.atom_solver.specs.Lifted.{lit_of};
 ghost use Rattle.atom_solver.specs.Tables.{AddsLits, Extends, told};
 
@@ -142,6 +143,42 @@ pub(crate) fn assume_facts<E: Encoding>(
         if let Some(positive) = E::fact(plain, &atom) {
             assumed.push(Lit { var, positive })?;
         }
+    }
+    Ok(())
+}
+
+/// Adds the literal of an atom that has a variable and whose value the framework fixes.
+fn assume_fact<E: Encoding>(
+    table: &AtomTable,
+    plain: &E::Plain,
+    atom: &Atom,
+    assumed: &mut Vec<Lit>,
+) -> Result<(), Memory>
+    requires { AreSomeFacts (E.framework plain.now) table.now assumed.old.items }
+    ensures { OnOk result (AreSomeFacts (E.framework plain.now) table.now assumed.new.items) }
+{
+    let Some(var) = table.find(atom) else {
+        return Ok(());
+    };
+    let Some(positive) = E::fact(plain, atom) else {
+        return Ok(());
+    };
+    assumed.push(Lit { var, positive })?;
+    Ok(())
+}
+
+/// Finds the literals of those of some atoms whose values the framework fixes.
+pub(crate) fn assume_some<E: Encoding>(
+    table: &AtomTable,
+    plain: &E::Plain,
+    atoms: &[Atom],
+    assumed: &mut Vec<Lit>,
+) -> Result<(), Memory>
+    ensures { OnOk result (AreSomeFacts (E.framework plain.now) table.now assumed.new.items) }
+{
+    assumed.clear();
+    for atom in atoms {
+        assume_fact::<E>(table, plain, atom, assumed)?;
     }
     Ok(())
 }

@@ -1,12 +1,12 @@
 //! The search: it decides, propagates and learns from conflicts.
 
-ghost use Rattle.std.specs.Prelude.{◌≡◌, ◌≢◌, ◌↔◌, ℕ, ◌<◌, ◌≤◌, [], length, Contains, IfOk, OnOk, OnErr, IfErr, None};
+ghost use Rattle.std.specs.Prelude.{◌≡◌, ◌≢◌, ◌↔◌, ℕ, ◌<◌, ◌≤◌, [], length, Contains, IfOk, IfSome, OnOk, OnErr, IfErr, Ok, None};
 ghost use Rattle.plain_lits.specs.declared.lit.Lit.{Lit};
 ghost use Rattle.plain_lits.specs.Literals.{negation};
 ghost use Rattle.hinted_log.specs.declared.log.TheConstants.{MOST_STEPS};
 ghost use Rattle.unit_propagate.specs.Search.{IsConflict};
 ghost use Rattle.sat_core.specs.Runs.{IsRun};
-ghost use Rattle.sat_core.specs.Solving.{IsUnitOf, EndsCore, HasSearched, AddsTo, IsRejected, Keeps, Derives, with_unit};
+ghost use Rattle.sat_core.specs.Solving.{IsUnitOf, EndsCore, HasSearched, AddsTo, IsRejected, Keeps, Derives, begun, with_unit};
 ghost use Rattle.sat_core.specs.Turns.{state_of, IsKept, IsAtRest, IsAsserting, IsTurn, HasRun, StopsAt, Goes, Tells};
 
 use crate::answer::{Added, Pending, Solved};
@@ -309,6 +309,76 @@ impl Cdcl {
         Ok(step)
     }
 
+    /// Takes the assumptions back, and all that came behind them.
+    fn take_back(&mut self)
+        requires kept { IsKept self.old }
+        ensures rest { IsAtRest self.new }
+        ensures state { state_of self.new ≡ state_of self.old }
+    {
+        self.descent.back_to(0);
+    }
+
+    /// Ends a look by propagation that met a false clause: a step that refutes the assumptions, or None where the log is full.
+    #[tactic(auto, using(crate::proofs::Keeping::derives_logs))]
+    fn close_with_room(
+        &mut self,
+        assumptions: &[Lit],
+        conflict: u32,
+    ) -> Result<Option<StepId>, Memory>
+        requires kept { IsKept self.old }
+        requires run { IsRun assumptions.now self.old.descent.search }
+        requires shallow { length self.old.descent.search.starts ≤ 1 }
+        requires conflict { IsConflict self.old.descent.search.clauses self.old.descent.search.lits conflict }
+        ensures kept { IsKept self.new }
+        ensures derives { Derives (state_of self.old) (state_of self.new) }
+        ensures refuted { IfOk result (λ found. IfSome found
+            (EndsCore (state_of self.old) (state_of self.new) assumptions.now)) }
+        ensures none { result ≡ Ok None → state_of self.new ≡ state_of self.old }
+    {
+        match self.close(assumptions, conflict) {
+            Ok(step) => Ok(Some(step)),
+            Err(Halt::LogFull) => Ok(None),
+            Err(Halt::Memory) => Err(Memory),
+            Err(Halt::Spent(_)) => unreachable!(),
+        }
+    }
+
+    /// Propagates the assumptions of the first level: a step that refutes them, or None.
+    #[tactic(auto, using(crate::proofs::Keeping::derives_logs))]
+    fn refute_begun(&mut self, assumptions: &[Lit]) -> Result<Option<StepId>, Memory>
+        requires kept { IsKept self.old }
+        requires run { IsRun assumptions.now self.old.descent.search }
+        requires shallow { length self.old.descent.search.starts ≤ 1 }
+        ensures kept { IsKept self.new }
+        ensures derives { Derives (state_of self.old) (state_of self.new) }
+        ensures refuted { IfOk result (λ found. IfSome found
+            (EndsCore (state_of self.old) (state_of self.new) assumptions.now)) }
+        ensures none { result ≡ Ok None → state_of self.new ≡ state_of self.old }
+    {
+        match self.descent.spread() {
+            Some(conflict) => self.close_with_room(assumptions, conflict),
+            None => Ok(None),
+        }
+    }
+
+    /// Looks whether propagation refutes assumptions, which are taken back whatever comes of it.
+    #[tactic(auto, using(crate::proofs::Keeping::derives_logs))]
+    pub(crate) fn refute(&mut self, assumptions: &[Lit]) -> Result<Option<StepId>, Memory>
+        requires rest { IsAtRest self.old }
+        requires plain { (l : Lit) → Contains assumptions.now l → Contains assumptions.now (negation l) → ⊥ }
+        ensures rest { IsAtRest self.new }
+        ensures derives { Derives (state_of self.old) (state_of self.new) }
+        ensures refuted { IfOk result (λ found. IfSome found
+            (EndsCore (begun (state_of self.old)) (state_of self.new) assumptions.now)) }
+        ensures none { result ≡ Ok None → state_of self.new ≡ begun (state_of self.old) }
+    {
+        self.pending = None;
+        self.descent.search.assume_block(assumptions)?;
+        let told = self.refute_begun(assumptions);
+        self.take_back();
+        told
+    }
+
     /// Searches under assumptions, which are taken back whatever comes of it.
     #[tactic(auto, using(crate::proofs::Keeping::derives_logs))]
     pub(crate) fn solve(&mut self, assumptions: &[Lit], budget: &mut Budget) -> Result<Solved, Halt>
@@ -326,7 +396,7 @@ impl Cdcl {
         self.descent.search.assume_block(assumptions)?;
         let end = self.run(assumptions, budget);
         let told = told_of(self.alloc, &self.descent.search, end);
-        self.descent.back_to(0);
+        self.take_back();
         told
     }
 }

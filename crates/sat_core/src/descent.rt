@@ -139,8 +139,9 @@ impl Descent {
     }
 
     /// Propagates: a clause that is false, or none.
-    fn spread(&mut self) -> Option<u32>
+    pub(crate) fn spread(&mut self) -> Option<u32>
         ensures on { GoesOn self.old.search self.new.search }
+        ensures starts { self.new.search.starts ≡ self.old.search.starts }
         ensures found { IsSpread self.new.search result }
         ensures more { length self.old.search.lits ≤ length self.new.search.lits }
     {

@@ -1,10 +1,10 @@
 //! The solver, as callers see it.
 
-ghost use Rattle.std.specs.Prelude.{◌≡◌, ◌≢◌, ◌↔◌, ℕ, ◌≤◌, [], length, Contains, IfOk, OnErr, None};
+ghost use Rattle.std.specs.Prelude.{◌≡◌, ◌≢◌, ◌↔◌, ℕ, ◌≤◌, [], length, Contains, IfOk, IfSome, OnErr, Ok, None};
 ghost use Rattle.plain_lits.specs.declared.lit.Lit.{Lit};
 ghost use Rattle.plain_lits.specs.Literals.{negation};
 ghost use Rattle.hinted_log.specs.declared.log.TheConstants.{MOST_STEPS};
-ghost use Rattle.sat_core.specs.Solving.{IsSolver, AddsTo, IsRejected, HasSearched, Keeps, Derives, begun};
+ghost use Rattle.sat_core.specs.Solving.{IsSolver, AddsTo, EndsCore, IsRejected, HasSearched, Keeps, Derives, begun};
 
 use crate::answer::{Added, Pending, Solved};
 use crate::cdcl::Cdcl;
@@ -92,6 +92,17 @@ impl Solver {
         ensures limit { budget.new.limit ≡ budget.old.limit }
     {
         self.cdcl.solve(assumptions, budget)
+    }
+
+    /// Looks whether propagation alone, without a decision, refutes assumptions: a core, as `solve` tells it. None says
+    /// nothing; it also comes where the log has no room for a core. Nothing is learned, and no unit is spent.
+    pub fn refute(&mut self, assumptions: &[Lit]) -> Result<Option<StepId>, Memory>
+        requires { (l : Lit) → Contains assumptions.now l → Contains assumptions.now (negation l) → ⊥ }
+        ensures refuted { IfOk result (λ found. IfSome found (EndsCore (begun self.old) self.new assumptions.now)) }
+        ensures none { result ≡ Ok None → self.new ≡ begun self.old }
+        ensures derives { Derives self.old self.new }
+    {
+        self.cdcl.refute(assumptions)
     }
 
     /// The log.

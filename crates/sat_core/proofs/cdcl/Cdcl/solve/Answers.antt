@@ -1,5 +1,5 @@
 use Rattle.sat_core.specs.Turns.{state_of}
-use Rattle.sat_core.proofs.Running.{based_of, begins, rests, resting_stays}
+use Rattle.sat_core.proofs.Running.{based_of, begins, resting_stays}
 use Rattle.std.proofs.Common.{refl}
 use Rattle.sat_core.proofs.Keeping.{derives_logs, derives_trans}
 use Rattle.sat_core.proofs.Searching.{mirror_same, searched_of}
@@ -24,16 +24,11 @@ run-end-requires-clause-kept c =
 pub run-end-requires-clause-run : goal.run-end-requires-clause-run
 run-end-requires-clause-run c = begins _ _ _ c.requires.rest.resting c.in_ok-assume_block.ensures.ok
 
-pub returns-clause-rest : goal.returns-clause-rest
-returns-clause-rest c = record {
-  mirror = mirror_same _ _ _ _ c.back_to.ensures.clauses c.run-end.ensures.kept.mirror;
-  resting = rests _ _ c.run-end.ensures.kept.based c.back_to.ensures;
-}
-
 pub returns-clause-searched : goal.returns-clause-searched
-returns-clause-searched c = λ ne. searched_of (state_of c.args.self.now) c.run-end.new.self c.args.assumptions.now
-    _ _ _ _
-    c.run-end.ensures.run c.told_of-told.ensures ne
+returns-clause-searched c = λ ne. rw c.take_back.ensures.state
+    (searched_of (state_of c.args.self.now) c.run-end.new.self c.args.assumptions.now _ _ _ _
+    c.run-end.ensures.run c.told_of-told.ensures ne)
 
 pub returns-clause-derives : goal.returns-clause-derives
-returns-clause-derives c = derives_trans _ _ _ (derives_logs _ _ refl refl) c.run-end.ensures.derives
+returns-clause-derives c = rw c.take_back.ensures.state
+    (derives_trans _ _ _ (derives_logs _ _ refl refl) c.run-end.ensures.derives)
