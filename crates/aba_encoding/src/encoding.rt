@@ -35,11 +35,7 @@ impl Encoding for AbaEncoding {
     }
 
     /// None: nothing was found to be near so that it would refute goals often.
-    fn near(
-        alloc: Global,
-        _plain: &AbaPlain,
-        _goals: &[AtomLit],
-    ) -> Result<Items<Atom>, Memory> {
+    fn near(alloc: Global, _plain: &AbaPlain, _goals: &[AtomLit]) -> Result<Items<Atom>, Memory> {
         Ok(Items::new(alloc))
     }
 

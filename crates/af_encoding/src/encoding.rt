@@ -43,11 +43,7 @@ impl Encoding for AfEncoding {
     }
 
     /// The facts on the arguments that goals speak of and on those near them.
-    fn near(
-        alloc: Global,
-        plain: &AfPlain,
-        goals: &[AtomLit],
-    ) -> Result<Items<Atom>, Memory> {
+    fn near(alloc: Global, plain: &AfPlain, goals: &[AtomLit]) -> Result<Items<Atom>, Memory> {
         neighbourhood::near(alloc, plain, goals)
     }
 

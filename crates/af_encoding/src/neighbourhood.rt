@@ -110,11 +110,7 @@ fn push_attackers(plain: &AfPlain, argument: u32, atoms: &mut Items<Atom>) -> Re
 }
 
 /// The atoms that the framework fixes about arguments.
-fn atoms_about(
-    alloc: Global,
-    plain: &AfPlain,
-    arguments: &[u32],
-) -> Result<Items<Atom>, Memory> {
+fn atoms_about(alloc: Global, plain: &AfPlain, arguments: &[u32]) -> Result<Items<Atom>, Memory> {
     let mut atoms = Items::new(alloc);
     for argument in arguments {
         push_attackers(plain, *argument, &mut atoms)?;

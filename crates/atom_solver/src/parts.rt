@@ -31,7 +31,9 @@ ghost use Rattle.atom_solver.specs.Tables.{StandsFor};
 use crate::kept_side::{KeptSide, find, guarded_literals, in_order, number_at};
 use crate::origin::Origin;
 use crate::searched::Searched;
-use crate::tables::{assume_facts, assume_some, over_atoms, packed_over_atoms, prefer_attacks, push_lits_for};
+use crate::tables::{
+    assume_facts, assume_some, over_atoms, packed_over_atoms, prefer_attacks, push_lits_for,
+};
 use atom_table::AtomTable;
 use certificate_claims::clause_of_axiom;
 use hinted_log::{LogFault, MOST_STEPS};

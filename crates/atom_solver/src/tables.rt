@@ -160,10 +160,13 @@ fn assume_fact<E: Encoding>(
     let Some(var) = table.find(atom) else {
         return Ok(());
     };
-    let Some(positive) = E::fact(plain, atom) else {
+    let Some(value) = E::fact(plain, atom) else {
         return Ok(());
     };
-    assumed.push(Lit { var, positive })?;
+    assumed.push(Lit {
+        var,
+        positive: value,
+    })?;
     Ok(())
 }
 

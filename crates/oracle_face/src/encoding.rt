@@ -43,11 +43,7 @@ pub trait Encoding {
 
     /// Atoms that the framework may fix, near what goals speak of. A search looks first whether the facts among them refute
     /// the goals by themselves. It is advice: any list will do, and with an empty one there is no such look.
-    fn near(
-        alloc: Global,
-        plain: &Self::Plain,
-        goals: &[AtomLit],
-    ) -> Result<Items<Atom>, Memory>;
+    fn near(alloc: Global, plain: &Self::Plain, goals: &[AtomLit]) -> Result<Items<Atom>, Memory>;
 
     /// The axiom that a model of the needed axioms lacks to be read as a set, or None. An axiom that it lacks is false under
     /// a model that is free from conflict and says of each member whether it is in the set. Where there is none, what the

@@ -1,6 +1,7 @@
 //! What no clause says: that calls succeed where memory is there, and what small searches find.
 
 use hinted_log::{Log, LogFault};
+use plain_lists::Memory;
 use plain_lits::{Budget, Clause, Halt, Lit, StepId};
 use sat_core::{Added, Solved, Solver};
 use std::alloc::Global;
@@ -20,6 +21,14 @@ fn add(solver: &mut Solver, alloc: Global, lits: &[Lit]) -> Result<(), LogFault>
 /// Searches under one assumption.
 fn solve_with(solver: &mut Solver, assumed: Lit, budget: &mut Budget) -> Result<Solved, Halt> {
     solver.solve(&[assumed], budget)
+}
+
+/// The literal of the core that propagation alone finds under one assumption.
+fn looked(solver: &mut Solver, assumed: Lit) -> Result<Option<Lit>, Memory> {
+    match solver.refute(&[assumed])? {
+        Some(step) => Ok(only_lit(solver.log(), step)),
+        None => Ok(None),
+    }
 }
 
 /// Searches under none.
@@ -162,5 +171,20 @@ fn two_clauses(rt: HostRuntime) -> Result<(), Fail> {
     add(&mut solver, rt.alloc(), &[lit(1, true), lit(2, true)])?;
     add(&mut solver, rt.alloc(), &[lit(1, false), lit(2, true)])?;
     assert_eq!(rt; clauses_found(&mut solver)?, (true, Some(lit(2, true))));
+    Ok(())
+}
+
+/// 0 leads to 1, 1 to 2, and 2 excludes 0: propagation refutes 0, and says nothing of 1. A log of three steps has no room
+/// for the core.
+#[test]
+fn looks_by_propagation(rt: HostRuntime) -> Result<(), Fail> {
+    for (limit, core) in [(100, Some(lit(0, false))), (3, None)] {
+        let mut solver = Solver::open(rt.alloc(), limit)?;
+        add(&mut solver, rt.alloc(), &[lit(0, false), lit(1, true)])?;
+        add(&mut solver, rt.alloc(), &[lit(1, false), lit(2, true)])?;
+        add(&mut solver, rt.alloc(), &[lit(2, false), lit(0, false)])?;
+        assert!(rt; looked(&mut solver, lit(0, true))? == core);
+        assert!(rt; looked(&mut solver, lit(1, true))? == None);
+    }
     Ok(())
 }
