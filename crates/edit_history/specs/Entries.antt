@@ -40,6 +40,10 @@ effects_of f (edit ∷ more) = effect_told (edit_outcome f edit) ∷ effects_of 
 abbrev pub AreDone : Framework → List Change → Type 0
 AreDone f changes = effects_of f (map (λ c. c.effect.edit) changes) ≡ map (λ c. Ok c.effect) changes
 
+-- what the edit does to every framework that takes it
+abbrev pub IsOnlyEffect : Edit → Effect → Type 0
+IsOnlyEffect edit effect = (f : Framework) (done : Framework × Effect) → edit_outcome f edit ≡ Ok done → done.1 ≡ effect
+
 -- there was room, the framework after the entries takes the edit with this effect, and the history is longer by it
 pub record IsAdded (limit : ℕ) (f : Framework) (session : ℕ) (edit : Edit) (before after : List Entry)
     (effect : Effect) : Type 0 where

@@ -2,7 +2,7 @@
 
 use edit_rules::EditFault;
 use plain_lists::Memory;
-use std::alloc::AllocFailed;
+use std::alloc::{AllocError, AllocFailed};
 
 /// Why an edit is not in the history, which is as it was but for what other sessions added. Each front is its length.
 #[derive(Clone, Copy, Debug, PartialEq, Eq)]
@@ -33,6 +33,17 @@ impl<T: Drop> From<AllocFailed<T>> for CommitFault {
     ghost from_gives = { λ _ fault. fault ≡ Memory };
 
     fn from(_error: AllocFailed<T>) -> CommitFault {
+        CommitFault::Memory
+    }
+}
+
+impl From<AllocError> for CommitFault {
+    ghost use Rattle.std.specs.Prelude.{◌≡◌};
+    ghost use Rattle.edit_history.specs.declared.fault.CommitFault.TheVariants.{Memory};
+
+    ghost from_gives = { λ _ fault. fault ≡ Memory };
+
+    fn from(_error: AllocError) -> CommitFault {
         CommitFault::Memory
     }
 }

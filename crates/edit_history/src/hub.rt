@@ -76,8 +76,8 @@ impl Hub {
 
     /// Commits an edit at one turn. `HistoryFull` comes exactly where the history has as many entries as it may have,
     /// `Edit` only where the framework after the whole history refuses the edit so. After every answer the seat has
-    /// seen the history as the turn left it; after `Err` that is the history as the turn found it. The time is linear
-    /// in the framework.
+    /// seen the history as the turn left it; after `Err` that is the history as the turn found it. An attack
+    /// comes or goes in place; for every other edit the time is linear in the framework.
     pub fn commit<R: Wait>(
         &self,
         rt: &R,

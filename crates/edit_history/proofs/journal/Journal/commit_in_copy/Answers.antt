@@ -1,7 +1,7 @@
 use Rattle.std.proofs.Common.{rules, ◌<◌, length}
 use Rattle.edit_rules.specs.Kinds.{framework_of}
 use Rattle.edit_history.proofs.EntryLemmas.{committed, continues, out_of_memory}
-use Rattle.edit_history.proofs.journal.Journal.commit.Goals as goal
+use Rattle.edit_history.proofs.journal.Journal.commit_in_copy.Goals as goal
 
 -- src/commits.rt:59:9
 pub invariant_of-self-2 : goal.invariant_of-self-2
