@@ -26,9 +26,8 @@ fn pairs_by_their_first_number(rt: HostRuntime) -> Result<(), Fail> {
 #[test]
 fn pairs_in_blocks(rt: HostRuntime) -> Result<(), Fail> {
     let alloc = rt.alloc();
-    let mut spare = Vec::new(alloc);
     let given = [(7u32, 1u32), (2, 1), (2, 7), (7, 1)].to_vec(alloc)?;
-    let index = AttackBlocks::new(alloc, given, &mut spare, 8)?;
+    let (index, back) = AttackBlocks::both_ways(alloc, given, 8)?;
     assert!(rt; index.to_vec(alloc)?.as_slice() == [(2, 1), (2, 7), (7, 1)].as_slice());
     assert!(rt; index.len() == 3);
     assert!(rt; index.of(2) == [(2, 1), (2, 7)].as_slice());
@@ -37,7 +36,6 @@ fn pairs_in_blocks(rt: HostRuntime) -> Result<(), Fail> {
     assert!(rt; !index.has(1, 7));
     let counts = index.counts(alloc)?;
     assert!(rt; counts.as_slice() == [0, 0, 2, 0, 0, 0, 0, 1].as_slice());
-    let back = index.reversed(alloc, &mut spare)?;
     assert!(rt; back.to_vec(alloc)?.as_slice() == [(1, 2), (1, 7), (7, 2)].as_slice());
     Ok(())
 }
@@ -47,8 +45,8 @@ fn apart(alloc: Global) -> Result<AttackBlocks, Memory>
     ensures { IfOk result (λ i. i.bound ≡ 3101) }
 {
     let given = [(3100u32, 5u32), (1024, 2047), (2047, 1), (5, 3100)].to_vec(alloc)?;
-    let mut spare = Vec::new(alloc);
-    AttackBlocks::new(alloc, given, &mut spare, 3101)
+    let (index, _) = AttackBlocks::both_ways(alloc, given, 3101)?;
+    Ok(index)
 }
 
 /// Whether the index has these pairs, and each by its first number.
