@@ -422,7 +422,7 @@ fn main(rt: HostRuntime) -> io::Result<()> {
 # What the proof of the program needs beside what the check finds.
 LEMMAS = """\
 -- Attacks that come between live arguments are taken.
-use Rattle.std.proofs.Common.{◌≡◌, ◌∙◌, ℕ, ◌∷◌, [], false, true, not, Ok, ap, sym}
+use Rattle.std.proofs.Common.{◌≡◌, ◌∙◌, ℕ, ◌∷◌, [], false, not, Ok, ap, sym}
 use Rattle.std.specs.Prelude.{Contains}
 use Rattle.semantics.specs.Framework.{Af}
 use Rattle.semantics.specs.Frameworks.{Framework, af}
@@ -467,7 +467,7 @@ coming_taken f b a live new =
 """
 
 ANSWERS = """\
-use Rattle.std.proofs.Common.{◌≡◌, sym, subst}
+use Rattle.std.proofs.Common.{sym, subst}
 use Rattle.semantics.specs.Frameworks.{af}
 use Rattle.edit_words.specs.declared.effect.Effect.{Effect}
 use Rattle.edit_words.proofs.EditTests.{not_so}
