@@ -104,7 +104,7 @@ fn measure(rt: &(impl Clock + Print), alloc: Global, plain: &AfPlain, values: &[
     };
     let read = again.elapsed(rt)?.as_millis();
     let live = plain.live().len();
-    let attacks = plain.attacks().len();
+    let attacks = plain.attack_count();
     let axioms = names.len();
     let members = set.len();
     println!(rt; "{live} {attacks} {axioms} {members} {taken} {read}")
