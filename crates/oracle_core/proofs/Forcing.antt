@@ -98,6 +98,19 @@ whole_named p s names whole guarded grows named = record {
       waits_grown NoSide (framework_of p.framework) p.solver.log s.log p.needed p.taken grows (whole.waits begun);
 }
 
+-- the same where no axiom waits and the list is gone
+pub whole_forgotten : (p : Parts) → IsWhole p → AreInForce (framework_of p.framework) p.solver.log
+    → IsWhole (record p { needed = []; taken = 0 })
+whole_forgotten p whole all = record {
+  numbered = whole.numbered;
+  members_are = whole.members_are;
+  guarded = whole.guarded;
+  axioms = λ name c. absurd (Contains-nil name c);
+  taken_few = omega arith;
+  named = whole.named;
+  waits = λ begun name needed. inl (all name needed);
+}
+
 -- ---- one axiom more
 
 axiom_is : (a b : AxiomName) → by_axiom a ≡ by_axiom b → a ≡ b

@@ -1,6 +1,6 @@
 //! What an engine is made of.
 
-ghost use Rattle.std.specs.Prelude.{◌≡◌, ◌≢◌, ℕ, ◌≤◌, AllPairs, IfOk, OnOk, None, false, length, true};
+ghost use Rattle.std.specs.Prelude.{◌≡◌, ◌≢◌, ℕ, ◌≤◌, AllPairs, IfOk, OnOk, None, [], false, length, true};
 ghost use Rattle.plain_lits.specs.HintCheck.{IsTautology};
 ghost use Rattle.plain_lits.specs.Units.{Units};
 ghost use Rattle.meaning_atoms.specs.Literals.{negated};
@@ -207,8 +207,20 @@ impl Parts {
         self.take_listed(alloc)
     }
 
-    /// Puts the axioms that the framework needs in force, each of which comes once at most.
-    pub(crate) fn force(&mut self, alloc: Global) -> Result<(), Halt>
+    /// Lets the list of needed axioms go, of which none waits any more. On a large framework that takes as long as many
+    /// edits, so it is done where the list was worked through, and not at the next edit.
+    pub(crate) fn forget_taken(&mut self, alloc: Global)
+        requires whole { IsWhole self.old }
+        requires in_force { AreInForce (framework_of self.old.framework) self.old.solver.log }
+        ensures whole { IsWhole self.new }
+        ensures rest { self.new ≡ record self.old { needed = []; taken = 0 } }
+    {
+        self.needed = Items::new(alloc);
+        self.taken = 0;
+    }
+
+    /// Hands the axioms that the framework needs to the solver, each of which comes once at most.
+    fn take_needed(&mut self, alloc: Global) -> Result<(), Halt>
         requires whole { IsWhole self.old }
         ensures whole { IsWhole self.new }
         ensures in_force { OnOk result (AreInForce (framework_of self.new.framework) self.new.solver.log) }
@@ -222,6 +234,22 @@ impl Parts {
             return self.take_lacking(alloc);
         }
         self.begin(alloc)
+    }
+
+    /// Puts the axioms that the framework needs in force, each of which comes once at most.
+    pub(crate) fn force(&mut self, alloc: Global) -> Result<(), Halt>
+        requires whole { IsWhole self.old }
+        ensures whole { IsWhole self.new }
+        ensures in_force { OnOk result (AreInForce (framework_of self.new.framework) self.new.solver.log) }
+        ensures framework { self.new.framework ≡ self.old.framework }
+        ensures run { (units : Units) → HasRun NoSide 0 (framework_of self.old.framework) self.old.solver.log
+            self.new.solver.log self.new.solver.pending units units (halt_of result) }
+        ensures steps { (own : ℕ) → GoesOnBySteps (framework_of self.old.framework) own self.old.solver.log
+            self.new.solver.log }
+    {
+        self.take_needed(alloc)?;
+        self.forget_taken(alloc);
+        Ok(())
     }
 
     /// Takes an entry in, where it may come in.

@@ -205,6 +205,7 @@ impl Parts {
     {
         self.follow(alloc, effect)?;
         self.take_lacking(alloc)?;
+        self.forget_taken(alloc);
         Ok(())
     }
 }

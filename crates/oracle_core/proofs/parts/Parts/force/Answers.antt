@@ -1,15 +1,13 @@
-use Rattle.edit_rules.specs.Kinds.{framework_of}
-use Rattle.oracle_core.proofs.GoingOn.{gains_go_on}
+use Rattle.oracle_core.proofs.Joining.{halted_any}
 use Rattle.oracle_core.proofs.parts.Parts.force.Goals as goal
 
-pub returns-then-self-clause-steps : goal.returns-then-self-clause-steps
-returns-then-self-clause-steps c = λ own.
-    let p = c.args.self.now in
-    gains_go_on (framework_of p.framework) own p.solver.log c.take_lacking.new.self.solver.log
-    c.requires.whole.numbered c.take_lacking.ensures.gains
+pub returns-in_err-take_needed-clause-run : goal.returns-in_err-take_needed-clause-run
+returns-in_err-take_needed-clause-run c = λ units.
+    halted_any _ _ _ _ units units c.from_residual.result c.in_err-take_needed.field-0.0 c.from_residual.ensures
+    (c.in_err-take_needed.ensures.run units)
+
+pub returns-clause-run : goal.returns-clause-run
+returns-clause-run c = λ units. rw c.forget_taken.ensures.rest (c.in_ok-take_needed.ensures.run units)
 
 pub returns-clause-steps : goal.returns-clause-steps
-returns-clause-steps c = λ own.
-    let p = c.args.self.now in
-    gains_go_on (framework_of p.framework) own p.solver.log c.begin.new.self.solver.log c.requires.whole.numbered
-    c.begin.ensures.gains
+returns-clause-steps c = λ own. rw c.forget_taken.ensures.rest (c.in_ok-take_needed.ensures.steps own)

@@ -20,6 +20,6 @@ returns-in_err-take_lacking-clause-gains c =
     c.in_err-take_lacking.ensures.framework c.in_err-take_lacking.ensures.gains
 
 pub returns-clause-gains : goal.returns-clause-gains
-returns-clause-gains c =
-    gains_behind c.args.self.now c.follow.new.self c.take_lacking.new.self c.in_ok-follow.ensures.solver
-    c.in_ok-take_lacking.ensures.framework c.in_ok-take_lacking.ensures.gains
+returns-clause-gains c = rw c.forget_taken.ensures.rest
+    (gains_behind c.args.self.now c.follow.new.self c.take_lacking.new.self c.in_ok-follow.ensures.solver
+    c.in_ok-take_lacking.ensures.framework c.in_ok-take_lacking.ensures.gains)
