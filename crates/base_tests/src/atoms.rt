@@ -13,90 +13,81 @@ fn read_back(alloc: Global, text: &str) -> Result<Bytes, Memory> {
     }
 }
 
-#[test]
-fn literals_of_texts(rt: HostRuntime) -> Result<(), Fail> {
-    let table = [
-        ("Member:1", "Member:1"),
-        ("-Live:1000000", "-Live:1000000"),
-        ("Attack:2:1", "Attack:2:1"),
-        ("Gap:1:3:1000001", "Gap:1:3:1000001"),
-        ("-Gap:1:1000001:1000001", "-Gap:1:1000001:1000001"),
-        ("Gap:1:2:2", "Gap:1:2:2"),
-        ("Tail:1:1000001", "Tail:1:1000001"),
-        ("-Unmet:7:1", "-Unmet:7:1"),
-        ("Range:5", "Range:5"),
-        ("Cf", "Cf"),
-        ("-Ad", "-Ad"),
-        ("Co", "Co"),
-        ("-St", "-St"),
-        ("-Ask:4294967295", "-Ask:4294967295"),
-        ("Member:007", "Member:7"),
-        ("Attack:0000000000001:02", "Attack:1:2"),
-        ("", ""),
-        ("-", ""),
-        (":", ""),
-        ("--Cf", ""),
-        ("+Cf", ""),
-        (" Cf", ""),
-        ("cf", ""),
-        ("Cf:", ""),
-        ("Cf:1", ""),
-        ("Member", ""),
-        ("Member:", ""),
-        ("Member::1", ""),
-        ("Member:1:", ""),
-        ("Member:1:2", ""),
-        ("Member:0", ""),
-        ("Member:1000001", ""),
-        ("Member:-1", ""),
-        ("Member:1\0", ""),
-        ("Attack:1", ""),
-        ("Attack:1:0", ""),
-        ("Attack:1000001:1", ""),
-        ("Gap:1:2", ""),
-        ("Gap:1:3:2", ""),
-        ("Gap:1:0:2", ""),
-        ("Gap:1:1:1000002", ""),
-        ("Gap:1:1:END", ""),
-        ("Gap:1:1:1:1", ""),
-        ("Tail:1:0", ""),
-        ("Tail:1000001:1", ""),
-        ("Unmet:1:1000002", ""),
-        ("Range:1000001", ""),
-        ("Ask:0", ""),
-        ("Ask:4294967296", ""),
-    ];
-    for (text, expected) in table {
-        let found = read_back(rt.alloc(), text)?;
-        assert!(rt; found.as_slice() == expected.as_bytes(), "at {text:?}");
-    }
-    Ok(())
-}
+/// Texts, and the text of the literal that each is, empty where it is none.
+const LITERALS: &[(&str, &str)] = &[
+    ("Member:1", "Member:1"),
+    ("-Live:1000000", "-Live:1000000"),
+    ("Attack:2:1", "Attack:2:1"),
+    ("Gap:1:3:1000001", "Gap:1:3:1000001"),
+    ("-Gap:1:1000001:1000001", "-Gap:1:1000001:1000001"),
+    ("Gap:1:2:2", "Gap:1:2:2"),
+    ("Tail:1:1000001", "Tail:1:1000001"),
+    ("-Unmet:7:1", "-Unmet:7:1"),
+    ("Range:5", "Range:5"),
+    ("Cf", "Cf"),
+    ("-Ad", "-Ad"),
+    ("Co", "Co"),
+    ("-St", "-St"),
+    ("-Ask:4294967295", "-Ask:4294967295"),
+    ("Member:007", "Member:7"),
+    ("Attack:0000000000001:02", "Attack:1:2"),
+    ("", ""),
+    ("-", ""),
+    (":", ""),
+    ("--Cf", ""),
+    ("+Cf", ""),
+    (" Cf", ""),
+    ("cf", ""),
+    ("Cf:", ""),
+    ("Cf:1", ""),
+    ("Member", ""),
+    ("Member:", ""),
+    ("Member::1", ""),
+    ("Member:1:", ""),
+    ("Member:1:2", ""),
+    ("Member:0", ""),
+    ("Member:1000001", ""),
+    ("Member:-1", ""),
+    ("Member:1\0", ""),
+    ("Attack:1", ""),
+    ("Attack:1:0", ""),
+    ("Attack:1000001:1", ""),
+    ("Gap:1:2", ""),
+    ("Gap:1:3:2", ""),
+    ("Gap:1:0:2", ""),
+    ("Gap:1:1:1000002", ""),
+    ("Gap:1:1:END", ""),
+    ("Gap:1:1:1:1", ""),
+    ("Tail:1:0", ""),
+    ("Tail:1000001:1", ""),
+    ("Unmet:1:1000002", ""),
+    ("Range:1000001", ""),
+    ("Ask:0", ""),
+    ("Ask:4294967296", ""),
+    ("Asm:1", "Asm:1"),
+    ("-Con:1:0", "-Con:1:0"),
+    ("Head:1000000:2", "Head:1000000:2"),
+    ("HGap:1:2:1000001", "HGap:1:2:1000001"),
+    ("-Body:3:4", "-Body:3:4"),
+    ("BGap:5:6:6", "BGap:5:6:6"),
+    ("Der:1:0", "Der:1:0"),
+    ("-Der:2:1000000", "-Der:2:1000000"),
+    ("Miss:1:2:3", "Miss:1:2:3"),
+    ("Sup:2:0:1000001", "Sup:2:0:1000001"),
+    ("Der:0:1", ""),
+    ("Der:3:1", ""),
+    ("Der:1:1000001", ""),
+    ("Con:0:1", ""),
+    ("Body:1:0", ""),
+    ("HGap:1:3:2", ""),
+    ("Miss:1:0:1", ""),
+    ("Sup:1:1:0", ""),
+    ("Der:1", ""),
+];
 
 #[test]
-fn literals_about_rules(rt: HostRuntime) -> Result<(), Fail> {
-    let table = [
-        ("Asm:1", "Asm:1"),
-        ("-Con:1:0", "-Con:1:0"),
-        ("Head:1000000:2", "Head:1000000:2"),
-        ("HGap:1:2:1000001", "HGap:1:2:1000001"),
-        ("-Body:3:4", "-Body:3:4"),
-        ("BGap:5:6:6", "BGap:5:6:6"),
-        ("Der:1:0", "Der:1:0"),
-        ("-Der:2:1000000", "-Der:2:1000000"),
-        ("Miss:1:2:3", "Miss:1:2:3"),
-        ("Sup:2:0:1000001", "Sup:2:0:1000001"),
-        ("Der:0:1", ""),
-        ("Der:3:1", ""),
-        ("Der:1:1000001", ""),
-        ("Con:0:1", ""),
-        ("Body:1:0", ""),
-        ("HGap:1:3:2", ""),
-        ("Miss:1:0:1", ""),
-        ("Sup:1:1:0", ""),
-        ("Der:1", ""),
-    ];
-    for (text, expected) in table {
+fn literals_of_texts(rt: HostRuntime) -> Result<(), Fail> {
+    for &(text, expected) in LITERALS {
         let found = read_back(rt.alloc(), text)?;
         assert!(rt; found.as_slice() == expected.as_bytes(), "at {text:?}");
     }
@@ -114,35 +105,37 @@ fn text_of_a_gap(rt: HostRuntime) -> Result<(), Fail> {
     Ok(())
 }
 
+/// Values, and whether each names an axiom.
+const NAMES: &[(AfAxiom, bool)] = &[
+    (AfAxiom::A1(1), true),
+    (AfAxiom::A1(0), false),
+    (AfAxiom::A2(1000000, 1), true),
+    (AfAxiom::A2(1, 1000001), false),
+    (AfAxiom::A3(0, 1), false),
+    (AfAxiom::A4(3, 3), true),
+    (AfAxiom::A5(1, 4, 4), true),
+    (AfAxiom::A5(1, 5, 4), false),
+    (AfAxiom::A5(1, 1, END), false),
+    (AfAxiom::A6(1, END), true),
+    (AfAxiom::A6(1, 0), false),
+    (AfAxiom::A7(1000001), false),
+    (AfAxiom::A8(1, 0, 4), false),
+    (AfAxiom::A8(1, 1, 1000000), true),
+    (AfAxiom::A9(1, 1000002), false),
+    (AfAxiom::A10(9), true),
+    (AfAxiom::A11(1000000), true),
+    (AfAxiom::A12(0), false),
+    (AfAxiom::A13(1000001), false),
+    (AfAxiom::A14(0), false),
+    (AfAxiom::A14(1), true),
+    (AfAxiom::A14(3), true),
+    (AfAxiom::A14(4), false),
+];
+
 #[test]
 fn names_of_axioms(rt: HostRuntime) {
-    let table = [
-        (AfAxiom::A1(1), true),
-        (AfAxiom::A1(0), false),
-        (AfAxiom::A2(1000000, 1), true),
-        (AfAxiom::A2(1, 1000001), false),
-        (AfAxiom::A3(0, 1), false),
-        (AfAxiom::A4(3, 3), true),
-        (AfAxiom::A5(1, 4, 4), true),
-        (AfAxiom::A5(1, 5, 4), false),
-        (AfAxiom::A5(1, 1, END), false),
-        (AfAxiom::A6(1, END), true),
-        (AfAxiom::A6(1, 0), false),
-        (AfAxiom::A7(1000001), false),
-        (AfAxiom::A8(1, 0, 4), false),
-        (AfAxiom::A8(1, 1, 1000000), true),
-        (AfAxiom::A9(1, 1000002), false),
-        (AfAxiom::A10(9), true),
-        (AfAxiom::A11(1000000), true),
-        (AfAxiom::A12(0), false),
-        (AfAxiom::A13(1000001), false),
-        (AfAxiom::A14(0), false),
-        (AfAxiom::A14(1), true),
-        (AfAxiom::A14(3), true),
-        (AfAxiom::A14(4), false),
-    ];
-    for (name, expected) in table {
-        assert_eq!(rt; name.is_name(), expected, "at {name:?}");
+    for &(name, expected) in NAMES {
+        assert!(rt; name.is_name() == expected, "at {name:?}");
     }
 }
 
@@ -154,35 +147,37 @@ fn written_back(alloc: Global, name: &str, arguments: &[u32]) -> Result<Bytes, M
     }
 }
 
+/// Names with arguments, and the text of the axiom, empty where there is none.
+const AXIOMS: &[(&str, &[u32], &str)] = &[
+    ("A1", &[7], "A1 7"),
+    ("A5", &[1, 3, 1000000], "A5 1 3 1000000"),
+    ("A6", &[2, 1000001], "A6 2 1000001"),
+    ("A14", &[3], "A14 3"),
+    ("A14", &[4], ""),
+    ("A5", &[1, 4, 3], ""),
+    ("A1", &[1, 2], ""),
+    ("B4", &[2], "B4 2"),
+    ("B6", &[1, 7, 0], ""),
+    ("B9", &[2, 5], "B9 2 5"),
+    ("B9", &[3, 5, 0], "B9 3 5 0"),
+    ("B9", &[3, 5], ""),
+    (
+        "B17",
+        &[1, 3, 2, 3, 4, 1, 1, 4, 1, 2, 3],
+        "B17 1 3 2 3 4 1 1 4 1 2 3",
+    ),
+    ("B17", &[2, 3, 1, 3, 0], "B17 2 3 1 3 0"),
+    ("B17", &[1, 5, 2, 3, 4, 1, 1, 4, 1, 2, 3], ""),
+    ("B17", &[1, 3, 2, 4, 3, 1, 1, 4, 1, 2, 3], ""),
+    ("B17", &[1, 3, 1, 3, 1, 1, 4], ""),
+    ("B17", &[1, 3, 1, 3, 0, 0], ""),
+];
+
 #[test]
 fn texts_of_axioms(rt: HostRuntime) -> Result<(), Fail> {
-    let table: [(&str, &[u32], &str); 18] = [
-        ("A1", &[7], "A1 7"),
-        ("A5", &[1, 3, 1000000], "A5 1 3 1000000"),
-        ("A6", &[2, 1000001], "A6 2 1000001"),
-        ("A14", &[3], "A14 3"),
-        ("A14", &[4], ""),
-        ("A5", &[1, 4, 3], ""),
-        ("A1", &[1, 2], ""),
-        ("B4", &[2], "B4 2"),
-        ("B6", &[1, 7, 0], ""),
-        ("B9", &[2, 5], "B9 2 5"),
-        ("B9", &[3, 5, 0], "B9 3 5 0"),
-        ("B9", &[3, 5], ""),
-        (
-            "B17",
-            &[1, 3, 2, 3, 4, 1, 1, 4, 1, 2, 3],
-            "B17 1 3 2 3 4 1 1 4 1 2 3",
-        ),
-        ("B17", &[2, 3, 1, 3, 0], "B17 2 3 1 3 0"),
-        ("B17", &[1, 5, 2, 3, 4, 1, 1, 4, 1, 2, 3], ""),
-        ("B17", &[1, 3, 2, 4, 3, 1, 1, 4, 1, 2, 3], ""),
-        ("B17", &[1, 3, 1, 3, 1, 1, 4], ""),
-        ("B17", &[1, 3, 1, 3, 0, 0], ""),
-    ];
-    for (name, arguments, text) in &table {
+    for &(name, arguments, text) in AXIOMS {
         let found = written_back(rt.alloc(), name, arguments)?;
-        assert_eq!(rt; found.as_slice(), text.as_bytes(), "{name} {arguments:?}");
+        assert!(rt; found.as_slice() == text.as_bytes(), "at {name}: {text:?}");
     }
     Ok(())
 }

@@ -7,17 +7,15 @@ use semantics::Notion::{
 };
 use semantics::{AfLists, Notion, decide};
 use std::alloc::Global;
-use std::process::Abort;
 use std::test::Fail;
 
-/// A framework, a notion and all sets of live arguments that meet it.
-#[derive(Drop)]
-struct Row<'a> {
-    live: &'a [u32],
-    attacks: &'a [(u32, u32)],
-    notion: Notion,
-    sets: &'a [&'a [u32]],
-}
+/// Live arguments, attacks, a notion and all sets of live arguments that meet it.
+type Row = (
+    &'static [u32],
+    &'static [(u32, u32)],
+    Notion,
+    &'static [&'static [u32]],
+);
 
 /// The members of 1 to 4 whose bit is set, 1 being the lowest.
 fn set_of(alloc: Global, bits: u32) -> Result<Items<u32>, Memory> {
@@ -30,24 +28,18 @@ fn set_of(alloc: Global, bits: u32) -> Result<Items<u32>, Memory> {
     Ok(set)
 }
 
-fn check(rt: &impl Abort, alloc: Global, row: &Row) -> Result<(), Fail> {
-    let framework = AfLists {
-        live: row.live,
-        attacks: row.attacks,
-    };
+/// Whether exactly the sets of a row meet its notion.
+fn holds(alloc: Global, row: &Row) -> Result<bool, Memory> {
+    let &(live, attacks, notion, sets) = row;
+    let framework = AfLists { live, attacks };
     for bits in 0..16 {
         let set = set_of(alloc, bits)?;
         let set = set.as_slice();
-        let meets = decide(alloc, &framework, set, row.notion)?;
-        let expected = row.sets.iter().any(|listed| *listed == set);
-        assert_eq!(rt;
-            meets,
-            expected,
-            "{:?} of {:?} at {set:?}",
-            row.notion, row.attacks
-        );
+        if decide(alloc, &framework, set, notion)? != sets.iter().any(|listed| *listed == set) {
+            return Ok(false);
+        }
     }
-    Ok(())
+    Ok(true)
 }
 
 const TWO_RIVALS: &[(u32, u32)] = &[(1, 2), (2, 1), (2, 3)];
@@ -62,48 +54,45 @@ const SELF_RIVAL: &[(u32, u32)] = &[(1, 1), (1, 2), (2, 1)];
 
 const SELF_FIRST: &[(u32, u32)] = &[(1, 1), (1, 2), (2, 3)];
 
+const THREE: &[u32] = &[1, 2, 3];
+
+const FOUR: &[u32] = &[1, 2, 3, 4];
+
+const ROWS: &[Row] = &[
+    (
+        THREE,
+        TWO_RIVALS,
+        ConflictFree,
+        &[&[], &[1], &[2], &[3], &[1, 3]],
+    ),
+    (THREE, TWO_RIVALS, Admissible, &[&[], &[1], &[2], &[1, 3]]),
+    (THREE, TWO_RIVALS, Complete, &[&[], &[2], &[1, 3]]),
+    (THREE, TWO_RIVALS, Grounded, &[&[]]),
+    (THREE, TWO_RIVALS, Preferred, &[&[2], &[1, 3]]),
+    (THREE, TWO_RIVALS, Stable, &[&[2], &[1, 3]]),
+    (FOUR, FLOATING, Grounded, &[&[]]),
+    (FOUR, FLOATING, Preferred, &[&[1, 4], &[2, 4]]),
+    (FOUR, FLOATING, InAllPreferred, &[&[]]),
+    (THREE, RING, Complete, &[&[]]),
+    (THREE, RING, Preferred, &[&[]]),
+    (THREE, RING, Stable, &[]),
+    (THREE, RING, Ideal, &[&[]]),
+    (&[], &[], Stable, &[&[]]),
+    (FOUR, TWO_SELVES, Preferred, &[&[1], &[2]]),
+    (FOUR, TWO_SELVES, SemiStable, &[&[2]]),
+    (FOUR, TWO_SELVES, Stable, &[]),
+    (&[1, 2], SELF_RIVAL, Grounded, &[&[]]),
+    (&[1, 2], SELF_RIVAL, Preferred, &[&[2]]),
+    (&[1, 2], SELF_RIVAL, InAllPreferred, &[&[], &[2]]),
+    (&[1, 2], SELF_RIVAL, Ideal, &[&[2]]),
+    (THREE, SELF_FIRST, SemiStable, &[&[]]),
+    (THREE, SELF_FIRST, Ideal, &[&[]]),
+];
+
 #[test]
 fn worked_frameworks(rt: HostRuntime) -> Result<(), Fail> {
-    let row = |live, attacks, notion, sets| Row {
-        live,
-        attacks,
-        notion,
-        sets,
-    };
-    let three: &[u32] = &[1, 2, 3];
-    let four: &[u32] = &[1, 2, 3, 4];
-    let table = [
-        row(
-            three,
-            TWO_RIVALS,
-            ConflictFree,
-            &[&[], &[1], &[2], &[3], &[1, 3]],
-        ),
-        row(three, TWO_RIVALS, Admissible, &[&[], &[1], &[2], &[1, 3]]),
-        row(three, TWO_RIVALS, Complete, &[&[], &[2], &[1, 3]]),
-        row(three, TWO_RIVALS, Grounded, &[&[]]),
-        row(three, TWO_RIVALS, Preferred, &[&[2], &[1, 3]]),
-        row(three, TWO_RIVALS, Stable, &[&[2], &[1, 3]]),
-        row(four, FLOATING, Grounded, &[&[]]),
-        row(four, FLOATING, Preferred, &[&[1, 4], &[2, 4]]),
-        row(four, FLOATING, InAllPreferred, &[&[]]),
-        row(three, RING, Complete, &[&[]]),
-        row(three, RING, Preferred, &[&[]]),
-        row(three, RING, Stable, &[]),
-        row(three, RING, Ideal, &[&[]]),
-        row(&[], &[], Stable, &[&[]]),
-        row(four, TWO_SELVES, Preferred, &[&[1], &[2]]),
-        row(four, TWO_SELVES, SemiStable, &[&[2]]),
-        row(four, TWO_SELVES, Stable, &[]),
-        row(&[1, 2], SELF_RIVAL, Grounded, &[&[]]),
-        row(&[1, 2], SELF_RIVAL, Preferred, &[&[2]]),
-        row(&[1, 2], SELF_RIVAL, InAllPreferred, &[&[], &[2]]),
-        row(&[1, 2], SELF_RIVAL, Ideal, &[&[2]]),
-        row(three, SELF_FIRST, SemiStable, &[&[]]),
-        row(three, SELF_FIRST, Ideal, &[&[]]),
-    ];
-    for entry in &table {
-        check(&rt, rt.alloc(), entry)?;
+    for row in ROWS {
+        assert!(rt; holds(rt.alloc(), row)?, "{:?} of {:?}", row.2, row.1);
     }
     Ok(())
 }

@@ -1,75 +1,86 @@
 //! Cuts and numbers, compared with values that were worked out by hand.
 
-use num_text::{decimal, fields, is_skipped, lines, next_kept};
-use std::alloc::{AllocError, Global};
-use std::test::Fail;
+use num_text::{Line, decimal, fields, is_skipped, lines, next_kept};
 
-// Each line's number, its span and its fields with their spans, as `1@0-3[a@0-1 b@2-3]`.
-fn shown(alloc: Global, bytes: &[u8]) -> Result<String, AllocError> {
-    let mut out = String::new(alloc);
-    for line in lines(bytes) {
-        let (start, end) = (line.span.start, line.span.end);
-        let head = format!(in alloc; "{}@{start}-{end}", line.number)?;
-        out.push_str(head.as_str())?;
-        for field in fields(&line) {
-            let (from, to) = (field.span.start, field.span.end);
-            let text = field.text.len();
-            let piece = format!(in alloc; " {from}-{to}:{text}")?;
-            out.push_str(piece.as_str())?;
+/// A line's number, where it begins and ends, and of each field where it begins and ends in the line, and its text.
+type Cut = (usize, [usize; 2], &'static [(usize, usize, &'static str)]);
+
+/// Texts, and their lines.
+const CUTS: &[(&str, &[Cut])] = &[
+    ("", &[]),
+    ("\n", &[(1, [0, 0], &[])]),
+    ("\n\n", &[(1, [0, 0], &[]), (2, [1, 1], &[])]),
+    ("a", &[(1, [0, 1], &[(0, 1, "a")])]),
+    ("a\n", &[(1, [0, 1], &[(0, 1, "a")])]),
+    (
+        "a\nbc",
+        &[(1, [0, 1], &[(0, 1, "a")]), (2, [2, 4], &[(0, 2, "bc")])],
+    ),
+    (
+        "a\n\nb\n",
+        &[
+            (1, [0, 1], &[(0, 1, "a")]),
+            (2, [2, 2], &[]),
+            (3, [3, 4], &[(0, 1, "b")]),
+        ],
+    ),
+    (
+        "1 2\r\n3 4\r\n",
+        &[
+            (1, [0, 4], &[(0, 1, "1"), (2, 3, "2")]),
+            (2, [5, 9], &[(0, 1, "3"), (2, 3, "4")]),
+        ],
+    ),
+    (
+        "a\tbc  d",
+        &[(1, [0, 7], &[(0, 1, "a"), (2, 4, "bc"), (6, 7, "d")])],
+    ),
+    (
+        " \t\r\n x \n",
+        &[(1, [0, 3], &[]), (2, [4, 7], &[(1, 2, "x")])],
+    ),
+    (
+        "p af 12\n7 1\n",
+        &[
+            (1, [0, 7], &[(0, 1, "p"), (2, 4, "af"), (5, 7, "12")]),
+            (2, [8, 11], &[(0, 1, "7"), (2, 3, "1")]),
+        ],
+    ),
+];
+
+/// Whether a line of a text is cut so.
+fn is_cut(text: &str, line: &Line<'_>, cut: &Cut) -> bool {
+    let &(number, [start, end], parts) = cut;
+    let mut left = fields(line);
+    line.number == number
+        && line.span.start == start
+        && line.span.end == end
+        && text.as_bytes().get(start..end) == Some(line.text)
+        && parts.iter().all(|&(from, to, text)| {
+            left.next().is_some_and(|field| {
+                field.span.start == from && field.span.end == to && field.text == text.as_bytes()
+            })
+        })
+        && left.next().is_none()
+}
+
+/// Whether a text is cut into these lines.
+fn are_cut(text: &str, cuts: &[Cut]) -> bool {
+    let mut left = lines(text.as_bytes());
+    for cut in cuts {
+        match left.next() {
+            Some(line) if is_cut(text, &line, cut) => {}
+            _ => return false,
         }
-        out.push_str(";")?;
     }
-    Ok(out)
+    left.next().is_none()
 }
 
 #[test]
-fn cuts(rt: HostRuntime) -> Result<(), Fail> {
-    let table = [
-        ("", ""),
-        ("\n", "1@0-0;"),
-        ("\n\n", "1@0-0;2@1-1;"),
-        ("a", "1@0-1 0-1:1;"),
-        ("a\n", "1@0-1 0-1:1;"),
-        ("a\nbc", "1@0-1 0-1:1;2@2-4 0-2:2;"),
-        ("a\n\nb\n", "1@0-1 0-1:1;2@2-2;3@3-4 0-1:1;"),
-        ("1 2\r\n3 4\r\n", "1@0-4 0-1:1 2-3:1;2@5-9 0-1:1 2-3:1;"),
-        ("a\tbc  d", "1@0-7 0-1:1 2-4:2 6-7:1;"),
-        (" \t\r\n x \n", "1@0-3;2@4-7 1-2:1;"),
-    ];
-    for (text, expected) in table {
-        let found = shown(rt.alloc(), text.as_bytes())?;
-        assert_eq!(rt; found.as_str(), expected, "at {text:?}");
+fn cuts(rt: HostRuntime) {
+    for (text, cuts) in CUTS {
+        assert!(rt; are_cut(text, cuts), "at {text:?}");
     }
-    Ok(())
-}
-
-#[test]
-fn texts(rt: HostRuntime) {
-    let mut all = lines("p af 12\n7 1\n".as_bytes());
-    let Some(line) = all.next() else {
-        assert!(rt; false, "no line");
-        return;
-    };
-    assert!(rt; line.text == "p af 12".as_bytes());
-    let mut parts = fields(&line);
-    assert!(rt;
-        parts
-            .next()
-            .is_some_and(|field| field.text == "p".as_bytes())
-    );
-    assert!(rt;
-        parts
-            .next()
-            .is_some_and(|field| field.text == "af".as_bytes())
-    );
-    assert!(rt;
-        parts
-            .next()
-            .is_some_and(|field| field.text == "12".as_bytes())
-    );
-    assert!(rt; parts.next().is_none());
-    assert!(rt; all.next().is_some_and(|line| line.text == "7 1".as_bytes()));
-    assert!(rt; all.next().is_none());
 }
 
 #[test]
@@ -81,51 +92,55 @@ fn skips(rt: HostRuntime) {
     assert!(rt; next_kept(&mut left).is_none());
 }
 
+/// Texts, and the number that each is.
+const DECIMALS: &[(&str, Option<u32>)] = &[
+    ("0", Some(0)),
+    ("7", Some(7)),
+    ("42", Some(42)),
+    ("007", Some(7)),
+    ("00000000000000000001", Some(1)),
+    ("4294967295", Some(4_294_967_295)),
+    ("4294967296", None),
+    ("4294967300", None),
+    ("12345678901", None),
+    ("", None),
+    ("x", None),
+    ("1x", None),
+    ("x1", None),
+    ("-1", None),
+    ("+1", None),
+    (" 1", None),
+    ("1/", None),
+    ("1:", None),
+];
+
 #[test]
 fn decimals(rt: HostRuntime) {
-    let table = [
-        ("0", Some(0)),
-        ("7", Some(7)),
-        ("42", Some(42)),
-        ("007", Some(7)),
-        ("00000000000000000001", Some(1)),
-        ("4294967295", Some(4_294_967_295)),
-        ("4294967296", None),
-        ("4294967300", None),
-        ("12345678901", None),
-        ("", None),
-        ("x", None),
-        ("1x", None),
-        ("x1", None),
-        ("-1", None),
-        ("+1", None),
-        (" 1", None),
-        ("1/", None),
-        ("1:", None),
-    ];
-    for (text, expected) in table {
-        assert_eq!(rt; decimal(text.as_bytes()), expected, "at {text:?}");
+    for &(text, expected) in DECIMALS {
+        assert!(rt; decimal(text.as_bytes()) == expected, "at {text:?}");
     }
 }
+
+/// The fields of a line, and the number that each is.
+const NUMBERS: &[(&str, Option<u32>)] = &[
+    ("12", Some(12)),
+    ("007", Some(7)),
+    ("1234567890", Some(1_234_567_890)),
+    ("4294967296", None),
+    ("1x", None),
+    ("999999999", Some(999_999_999)),
+    ("000000000001", Some(1)),
+];
 
 #[test]
 fn fields_with_numbers(rt: HostRuntime) {
     let text = " 12\t007  1234567890 4294967296 1x 999999999\r000000000001\n";
-    let table = [
-        ("12", Some(12)),
-        ("007", Some(7)),
-        ("1234567890", Some(1_234_567_890)),
-        ("4294967296", None),
-        ("1x", None),
-        ("999999999", Some(999_999_999)),
-        ("000000000001", Some(1)),
-    ];
     let Some(line) = lines(text.as_bytes()).next() else {
         assert!(rt; false, "no line");
         return;
     };
     let mut parts = fields(&line);
-    for (expected, number) in table {
+    for &(expected, number) in NUMBERS {
         let found = parts.next_number();
         assert!(rt;
             found.is_some_and(|field| field.text == expected.as_bytes() && field.number == number),

@@ -2,6 +2,7 @@
 
 use plain_lists::Memory;
 use set_lists::NumSet;
+use std::alloc::Global;
 use std::cmp::Ordering;
 use std::test::Fail;
 
@@ -29,14 +30,23 @@ fn members_of_a_set(rt: HostRuntime) -> Result<(), Fail> {
     Ok(())
 }
 
+/// Whether two sets have this union, and this set is what the first has alone.
+fn combine(alloc: Global, sets: [&[u32]; 2], union: &[u32], minus: &[u32]) -> Result<bool, Memory> {
+    let left = NumSet::from_slice(alloc, sets[0])?;
+    let right = NumSet::from_slice(alloc, sets[1])?;
+    Ok(gives(left.union(alloc, &right), union)? && gives(left.minus(alloc, &right), minus)?)
+}
+
+/// Whether the first set is within the second, and how the two compare.
+fn compare(alloc: Global, left: &[u32], right: &[u32]) -> Result<(bool, Ordering), Memory> {
+    let left = NumSet::from_slice(alloc, left)?;
+    let right = NumSet::from_slice(alloc, right)?;
+    Ok((left.within(&right), left.cmp(&right)))
+}
+
 #[test]
 fn sets_combined(rt: HostRuntime) -> Result<(), Fail> {
-    let alloc = rt.alloc();
-    let odd = NumSet::from_slice(alloc, &[3, 1])?;
-    let first = NumSet::from_slice(alloc, &[1, 2])?;
-    assert!(rt; gives(odd.union(alloc, &first), &[1, 2, 3])?);
-    assert!(rt; gives(odd.minus(alloc, &first), &[3])?);
-    assert!(rt; !odd.within(&first));
+    assert!(rt; combine(rt.alloc(), [&[3, 1], &[1, 2]], &[1, 2, 3], &[3])?);
     Ok(())
 }
 
@@ -46,18 +56,26 @@ fn sets_that_grow(rt: HostRuntime) -> Result<(), Fail> {
     grown.insert(2)?;
     grown.insert(2)?;
     assert!(rt; grown.as_slice() == [1, 2, 3].as_slice());
-    let odd = NumSet::from_slice(rt.alloc(), &[3, 1])?;
-    assert!(rt; odd.within(&grown));
     Ok(())
 }
 
+/// Two sets, whether the first is within the second, and how they compare.
+const COMPARED: &[(&[u32], &[u32], bool, Ordering)] = &[
+    (&[1], &[1, 2], true, Ordering::Less),
+    (&[1, 2], &[2], false, Ordering::Less),
+    (&[2], &[1], false, Ordering::Greater),
+    (&[1, 3], &[3, 1], true, Ordering::Equal),
+    (&[3, 1], &[1, 2], false, Ordering::Greater),
+    (&[3, 1], &[1, 2, 3], true, Ordering::Greater),
+];
+
 #[test]
-fn sets_in_list_order(rt: HostRuntime) -> Result<(), Fail> {
-    let alloc = rt.alloc();
-    let one = NumSet::from_slice(alloc, &[1])?;
-    let both = NumSet::from_slice(alloc, &[1, 2])?;
-    let two = NumSet::from_slice(alloc, &[2])?;
-    assert!(rt; one.cmp(&both) == Ordering::Less && both.cmp(&two) == Ordering::Less);
-    assert!(rt; two.cmp(&one) == Ordering::Greater && two.cmp(&two) == Ordering::Equal);
+fn sets_compared(rt: HostRuntime) -> Result<(), Fail> {
+    for &(left, right, within, order) in COMPARED {
+        assert!(rt;
+            compare(rt.alloc(), left, right)? == (within, order),
+            "{left:?}, {right:?}"
+        );
+    }
     Ok(())
 }

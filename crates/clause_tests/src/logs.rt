@@ -14,7 +14,7 @@ const LARGEST: Lit = Lit {
 };
 
 /// A step to add: its kind, clause and hints, and the number that it gets.
-type Row<'a> = (Kind, &'a [Lit], &'a [u32], Result<u32, LogFault>);
+type Row = (Kind, &'static [Lit], &'static [u32], Result<u32, LogFault>);
 
 /// The steps of these numbers.
 fn steps_of(alloc: Global, numbers: &[u32]) -> Result<Vec<StepId>, LogFault> {
@@ -71,61 +71,65 @@ fn is_kept(alloc: Global, log: &Log, row: &Row, reached: &[u32]) -> Result<bool,
     Ok(same && has_literals(log, step, row.1) && reaches(alloc, log, step, reached)?)
 }
 
+/// Steps for a log with room for three.
+const SMALL_LOG: &[Row] = &[
+    (Kind::Axiom, &[P1, P2], &[], Ok(1)),
+    (Kind::Axiom, &[N1, P2], &[], Ok(2)),
+    (Kind::Derived, &[P1], &[1, 2], Err(LogFault::Rejected(2))),
+    (Kind::Derived, &[P2], &[1, 2], Ok(3)),
+    (Kind::Side, &[P1], &[], Err(LogFault::LogFull)),
+];
+
 #[test]
 fn small_log(rt: HostRuntime) -> Result<(), Fail> {
     let alloc = rt.alloc();
     let mut log = Log::open(alloc, 3)?;
-    let rows: [Row; 5] = [
-        (Kind::Axiom, &[P1, P2], &[], Ok(1)),
-        (Kind::Axiom, &[N1, P2], &[], Ok(2)),
-        (Kind::Derived, &[P1], &[1, 2], Err(LogFault::Rejected(2))),
-        (Kind::Derived, &[P2], &[1, 2], Ok(3)),
-        (Kind::Side, &[P1], &[], Err(LogFault::LogFull)),
-    ];
-    for row in &rows {
+    for row in SMALL_LOG {
         assert!(rt; added(alloc, &mut log, row) == row.3);
     }
     assert!(rt; log.is_full());
-    assert!(rt; matches!(is_kept(alloc, &log, &rows[3], &[1, 2, 3]), Ok(true)));
+    assert!(rt; matches!(is_kept(alloc, &log, &SMALL_LOG[3], &[1, 2, 3]), Ok(true)));
     Ok(())
 }
+
+/// Steps with hints of every kind.
+const HINTS: &[Row] = &[
+    (Kind::Axiom, &[P1, P2], &[], Ok(1)),
+    (Kind::Axiom, &[N1, P2], &[], Ok(2)),
+    (Kind::Axiom, &[N2, N2, P3], &[], Ok(3)),
+    (Kind::Derived, &[P1], &[], Err(LogFault::Rejected(1))),
+    (Kind::Derived, &[P2], &[4], Err(LogFault::Rejected(1))),
+    (Kind::Derived, &[P2], &[0], Err(LogFault::Rejected(1))),
+    (Kind::Derived, &[P2], &[1, 9], Err(LogFault::Rejected(2))),
+    (Kind::Derived, &[P2], &[1, 1, 2], Err(LogFault::Rejected(2))),
+    (Kind::Derived, &[P2], &[1], Err(LogFault::Rejected(2))),
+    (
+        Kind::Derived,
+        &[P1, P2, N1],
+        &[1],
+        Err(LogFault::Rejected(0)),
+    ),
+    (Kind::Derived, &[], &[1], Err(LogFault::Rejected(1))),
+    (Kind::Derived, &[P2, P2], &[1, 2], Ok(4)),
+    (Kind::Derived, &[P3], &[4, 3], Ok(5)),
+    (Kind::Side, &[N3], &[], Ok(6)),
+    (Kind::Derived, &[], &[5, 6], Ok(7)),
+    (Kind::Axiom, &[LARGEST], &[], Err(LogFault::Memory)),
+    (Kind::Derived, &[P2], &[1, 2, 99], Ok(8)),
+];
 
 #[test]
 fn hints_of_every_kind(rt: HostRuntime) -> Result<(), Fail> {
     let alloc = rt.alloc();
     let mut log = Log::open(alloc, 50)?;
-    let rows: [Row; 17] = [
-        (Kind::Axiom, &[P1, P2], &[], Ok(1)),
-        (Kind::Axiom, &[N1, P2], &[], Ok(2)),
-        (Kind::Axiom, &[N2, N2, P3], &[], Ok(3)),
-        (Kind::Derived, &[P1], &[], Err(LogFault::Rejected(1))),
-        (Kind::Derived, &[P2], &[4], Err(LogFault::Rejected(1))),
-        (Kind::Derived, &[P2], &[0], Err(LogFault::Rejected(1))),
-        (Kind::Derived, &[P2], &[1, 9], Err(LogFault::Rejected(2))),
-        (Kind::Derived, &[P2], &[1, 1, 2], Err(LogFault::Rejected(2))),
-        (Kind::Derived, &[P2], &[1], Err(LogFault::Rejected(2))),
-        (
-            Kind::Derived,
-            &[P1, P2, N1],
-            &[1],
-            Err(LogFault::Rejected(0)),
-        ),
-        (Kind::Derived, &[], &[1], Err(LogFault::Rejected(1))),
-        (Kind::Derived, &[P2, P2], &[1, 2], Ok(4)),
-        (Kind::Derived, &[P3], &[4, 3], Ok(5)),
-        (Kind::Side, &[N3], &[], Ok(6)),
-        (Kind::Derived, &[], &[5, 6], Ok(7)),
-        (Kind::Axiom, &[LARGEST], &[], Err(LogFault::Memory)),
-        (Kind::Derived, &[P2], &[1, 2, 99], Ok(8)),
-    ];
-    for row in &rows {
+    for row in HINTS {
         assert!(rt; added(alloc, &mut log, row) == row.3);
     }
     let last: Row = (Kind::Derived, &[P2], &[1, 2], Ok(8));
-    assert!(rt; matches!(is_kept(alloc, &log, &rows[13], &[6]), Ok(true)));
+    assert!(rt; matches!(is_kept(alloc, &log, &HINTS[13], &[6]), Ok(true)));
     assert!(rt;
         matches!(
-            is_kept(alloc, &log, &rows[14], &[1, 2, 3, 4, 5, 6, 7]),
+            is_kept(alloc, &log, &HINTS[14], &[1, 2, 3, 4, 5, 6, 7]),
             Ok(true)
         )
     );

@@ -8,17 +8,17 @@ use std::test::Fail;
 
 /// Live arguments, attacks and the grounded set.
 #[derive(Drop)]
-struct Row<'a> {
-    live: &'a [u32],
-    attacks: &'a [(u32, u32)],
-    grounded: &'a [u32],
+struct Row {
+    live: &'static [u32],
+    attacks: &'static [(u32, u32)],
+    grounded: &'static [u32],
 }
 
 /// Whether a framework has the row's arguments, and its grounded set was found.
 fn is_answered(
     plain: &AfPlain,
     found: Result<Grounded, Memory>,
-    row: &Row<'_>,
+    row: &Row,
 ) -> Result<bool, Memory> {
     let found = found?;
     Ok(
@@ -28,47 +28,48 @@ fn is_answered(
     )
 }
 
+const ROWS: &[Row] = &[
+    Row {
+        live: &[1, 2],
+        attacks: &[(1, 2)],
+        grounded: &[1],
+    },
+    Row {
+        live: &[1, 2, 3],
+        attacks: &[(2, 3), (1, 2)],
+        grounded: &[1, 3],
+    },
+    Row {
+        live: &[1, 2, 3],
+        attacks: &[(1, 2), (2, 3), (3, 1)],
+        grounded: &[],
+    },
+    Row {
+        live: &[1, 2, 3],
+        attacks: &[(1, 2), (2, 1), (2, 3)],
+        grounded: &[],
+    },
+    Row {
+        live: &[1, 2, 3, 4],
+        attacks: &[(1, 2), (2, 1), (1, 3), (2, 3), (3, 4)],
+        grounded: &[],
+    },
+    Row {
+        live: &[1, 2],
+        attacks: &[(1, 1), (1, 2), (2, 1)],
+        grounded: &[],
+    },
+    Row {
+        live: &[2, 5, 9],
+        attacks: &[(2, 5), (5, 9), (2, 5)],
+        grounded: &[2, 9],
+    },
+];
+
 #[test]
 fn grounded_sets(rt: HostRuntime) -> Result<(), Fail> {
     let alloc = rt.alloc();
-    let rows = [
-        Row {
-            live: &[1, 2],
-            attacks: &[(1, 2)],
-            grounded: &[1],
-        },
-        Row {
-            live: &[1, 2, 3],
-            attacks: &[(2, 3), (1, 2)],
-            grounded: &[1, 3],
-        },
-        Row {
-            live: &[1, 2, 3],
-            attacks: &[(1, 2), (2, 3), (3, 1)],
-            grounded: &[],
-        },
-        Row {
-            live: &[1, 2, 3],
-            attacks: &[(1, 2), (2, 1), (2, 3)],
-            grounded: &[],
-        },
-        Row {
-            live: &[1, 2, 3, 4],
-            attacks: &[(1, 2), (2, 1), (1, 3), (2, 3), (3, 4)],
-            grounded: &[],
-        },
-        Row {
-            live: &[1, 2],
-            attacks: &[(1, 1), (1, 2), (2, 1)],
-            grounded: &[],
-        },
-        Row {
-            live: &[2, 5, 9],
-            attacks: &[(2, 5), (5, 9), (2, 5)],
-            grounded: &[2, 9],
-        },
-    ];
-    for (number, row) in rows.iter().enumerate() {
+    for (number, row) in ROWS.iter().enumerate() {
         let plain = AfPlain::of_lists(alloc, row.live, row.attacks)?;
         assert!(rt;
             is_answered(&plain, plain.grounded(alloc), row)?,
@@ -104,18 +105,20 @@ fn has_range(alloc: Global, plain: &AfPlain, set: &[u32], range: &[u32]) -> Resu
     Ok(plain.range_of(alloc, &set)?.as_slice() == range)
 }
 
+/// Sets, and their ranges.
+const RANGES: &[(&[u32], &[u32])] = &[
+    (&[], &[]),
+    (&[2], &[1, 2, 3]),
+    (&[4, 1], &[1, 2, 4]),
+    (&[3], &[3]),
+    (&[5, 2], &[1, 2, 3, 5]),
+];
+
 #[test]
 fn ranges(rt: HostRuntime) -> Result<(), Fail> {
     let alloc = rt.alloc();
     let plain = AfPlain::of_lists(alloc, &[1, 2, 3, 4], &[(1, 2), (2, 1), (2, 3), (3, 3)])?;
-    let rows: [(&[u32], &[u32]); 5] = [
-        (&[], &[]),
-        (&[2], &[1, 2, 3]),
-        (&[4, 1], &[1, 2, 4]),
-        (&[3], &[3]),
-        (&[5, 2], &[1, 2, 3, 5]),
-    ];
-    for (set, range) in rows {
+    for &(set, range) in RANGES {
         assert!(rt; has_range(alloc, &plain, set, range)?, "of {set:?}");
     }
     Ok(())

@@ -54,7 +54,7 @@ impl Runner {
     }
 
     /// Does what a line says.
-    fn obey<R: Wait, P: Pace>(
+    fn execute<R: Wait, P: Pace>(
         &mut self,
         rt: &R,
         alloc: Global,
@@ -107,7 +107,7 @@ impl Runner {
         if line.session != self.session.number() {
             return Ok(());
         }
-        let reply = self.obey(rt, alloc, hub, pool, &line.command, budget, pace)?;
+        let reply = self.execute(rt, alloc, hub, pool, &line.command, budget, pace)?;
         self.replies.push(reply)?;
         Ok(())
     }

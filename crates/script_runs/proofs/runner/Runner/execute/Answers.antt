@@ -6,7 +6,7 @@ use Rattle.session_core.specs.Sessions.{seen_by}
 use Rattle.edit_history.specs.Hubs.{GainsOthers}
 use Rattle.script_runs.specs.Running.{IsTold}
 use Rattle.script_runs.proofs.ToldLemmas.{told_of_edit, told_of_query}
-use Rattle.script_runs.proofs.runner.Runner.obey.Goals as goal
+use Rattle.script_runs.proofs.runner.Runner.execute.Goals as goal
 
 pub returns-in_ok-reply-in-Edit-clause-told : goal.returns-in_ok-reply-in-Edit-clause-told
 returns-in_ok-reply-in-Edit-clause-told g c =
