@@ -10,16 +10,15 @@ use edit_rules::{Edit, EditFault, Effect, Framework, apply};
 use meaning_atoms::{AxiomName, push_axiom};
 use plain_lists::{Items, Memory};
 use std::alloc::Global;
-use std::process::Abort;
 use std::test::Fail;
 
 /// An edit, and the axioms that it calls for.
-type Row<'a> = (Change<'a>, &'a [&'a str]);
+type Row = (Change<'static>, &'static [&'static str]);
 
 /// Two assumptions, each of which derives the contrary of the other, and one of these contraries derives the other.
 const WORKED: &str = "p aba 5\na 1\na 2\nc 1 3\nc 2 4\nr 3 2\nr 4 1\nr 3 4\n";
 
-const ROWS: &[Row<'static>] = &[
+const ROWS: &[Row] = &[
     (
         Change::AsmAdd(5, 3),
         &[
@@ -107,24 +106,23 @@ fn are(alloc: Global, names: &[AxiomName], texts: &[&str]) -> Result<bool, Memor
     Ok(names.len() == texts.len())
 }
 
-fn check(rt: &impl Abort, alloc: Global, row: &Row<'_>) -> Result<(), Fail> {
-    let Some(plain) = framework_of(alloc, WORKED) else {
-        assert!(rt; false, "not read");
-        return Ok(());
-    };
-    let edit = edit_of(alloc, row.0)?;
-    let Ok(names) = called(alloc, plain, &edit) else {
-        assert!(rt; false, "refused: {:?}", row.0);
-        return Ok(());
-    };
-    assert!(rt; are(alloc, names.as_slice(), row.1)?, "at {:?}", row.0);
-    Ok(())
+/// The axioms that an edit of the worked framework calls for; none where it is refused.
+fn called_by(alloc: Global, edit: &Edit) -> Option<Items<AxiomName>> {
+    let plain = framework_of(alloc, WORKED)?;
+    called(alloc, plain, edit).ok()
+}
+
+/// Whether the row's edit calls for just these axioms.
+fn holds(alloc: Global, row: &Row) -> Option<bool> {
+    let edit = edit_of(alloc, row.0).ok()?;
+    let names = called_by(alloc, &edit)?;
+    are(alloc, names.as_slice(), row.1).ok()
 }
 
 #[test]
 fn called_for(rt: HostRuntime) -> Result<(), Fail> {
     for row in ROWS {
-        check(&rt, rt.alloc(), row)?;
+        assert!(rt; holds(rt.alloc(), row) == Some(true), "at {:?}", row.0);
     }
     Ok(())
 }

@@ -84,7 +84,7 @@ fn look(
     behind: &str,
 ) -> Result<(), Fail> {
     let found = framework_shown(alloc, framework)?;
-    assert_eq!(rt; found.as_str(), behind, "behind {change:?}");
+    assert!(rt; found.as_str() == behind, "behind {change:?}");
     Ok(())
 }
 

@@ -11,9 +11,8 @@ use meaning_atoms::Atom::{
 };
 use meaning_atoms::Closure::{Own, Rest};
 use meaning_atoms::{Atom, AtomLit, AxiomName, END, push_axiom};
-use plain_lists::Memory;
+use plain_lists::{Items, Memory};
 use std::alloc::Global;
-use std::process::Abort;
 use std::test::Fail;
 
 /// 1 and 2 are assumptions with the contraries 3 and 4; each derives the contrary of the other.
@@ -32,18 +31,22 @@ fn read(alloc: Global, text: &str) -> Result<AbaPlain, Memory> {
     }
 }
 
-fn is(atom: Atom) -> AtomLit {
-    AtomLit {
-        atom,
-        positive: true,
-    }
+macro_rules! is {
+    ($atom:expr) => {
+        AtomLit {
+            atom: $atom,
+            positive: true,
+        }
+    };
 }
 
-fn not(atom: Atom) -> AtomLit {
-    AtomLit {
-        atom,
-        positive: false,
-    }
+macro_rules! not {
+    ($atom:expr) => {
+        AtomLit {
+            atom: $atom,
+            positive: false,
+        }
+    };
 }
 
 /// Whether the text of one of the names is this one.
@@ -58,21 +61,20 @@ fn has(alloc: Global, names: &[AxiomName], text: &str) -> Result<bool, Memory> {
     Ok(false)
 }
 
-/// The framework of the text needs so many axioms, and these among them.
-fn check_needed(
-    rt: &impl Abort,
-    alloc: Global,
-    text: &str,
-    count: usize,
-    expected: &[&str],
-) -> Result<(), Fail> {
+fn needed_by(alloc: Global, text: &str) -> Result<Items<AxiomName>, Memory> {
     let framework = read(alloc, text)?;
-    let names = needed(alloc, &framework)?;
-    assert_eq!(rt; names.len(), count);
+    needed(alloc, &framework)
+}
+
+/// Whether the framework of the text needs so many axioms, and these among them.
+fn needs(alloc: Global, text: &str, count: usize, expected: &[&str]) -> Result<bool, Memory> {
+    let names = needed_by(alloc, text)?;
     for name in expected {
-        assert!(rt; has(alloc, names.as_slice(), name)?, "{name} of {text:?}");
+        if !has(alloc, names.as_slice(), name)? {
+            return Ok(false);
+        }
     }
-    Ok(())
+    Ok(names.len() == count)
 }
 
 /// All that the first framework needs.
@@ -154,15 +156,13 @@ const CIRCULAR_AXIOMS: &[&str] = &[
     "B11 1 4 3",
 ];
 
-/// Five axioms of all, seven of each assumption, five of each atom, six of each rule, and four of each atom of a body.
-#[test]
-fn needed_axioms(rt: HostRuntime) -> Result<(), Fail> {
-    check_needed(&rt, rt.alloc(), CROSSED, 59, CROSSED_AXIOMS)?;
-    check_needed(&rt, rt.alloc(), CIRCULAR, 59, CIRCULAR_AXIOMS)?;
-    check_needed(&rt, rt.alloc(), "p aba 0\n", 5, &["B4 1", "B4 2", "B16 3"])?;
-    check_needed(
-        &rt,
-        rt.alloc(),
+/// Texts, how many axioms their frameworks need, and some of these: five of all, seven of each assumption, five of each
+/// atom, six of each rule, and four of each atom of a body.
+const NEEDED: &[(&str, usize, &[&str])] = &[
+    (CROSSED, 59, CROSSED_AXIOMS),
+    (CIRCULAR, 59, CIRCULAR_AXIOMS),
+    ("p aba 0\n", 5, &["B4 1", "B4 2", "B16 3"]),
+    (
         "p aba 3\na 1\nr 3\nr 3 1 2\n",
         47,
         &[
@@ -175,7 +175,15 @@ fn needed_axioms(rt: HostRuntime) -> Result<(), Fail> {
             "B10 2 3 2 2",
             "B11 1 3 3",
         ],
-    )
+    ),
+];
+
+#[test]
+fn needed_axioms(rt: HostRuntime) -> Result<(), Fail> {
+    for &(text, count, expected) in NEEDED {
+        assert!(rt; needs(rt.alloc(), text, count, expected)?, "of {text:?}");
+    }
+    Ok(())
 }
 
 /// Whether the literals are read as the set of these numbers.
@@ -185,134 +193,145 @@ fn is_read_as(alloc: Global, values: &[AtomLit], set: &[u32]) -> Result<bool, Me
 }
 
 /// A member counts where it is said to be an assumption, whatever the order and the other literals.
+const VALUES: &[AtomLit] = &[
+    is!(Member(2)),
+    is!(Der(Own, 4)),
+    is!(Asm(1)),
+    is!(Member(3)),
+    not!(Asm(3)),
+    is!(Live(4)),
+    is!(Member(4)),
+    is!(Asm(2)),
+    not!(Member(1)),
+    is!(Member(2)),
+];
+
 #[test]
 fn sets(rt: HostRuntime) -> Result<(), Fail> {
-    let values = [
-        is(Member(2)),
-        is(Der(Own, 4)),
-        is(Asm(1)),
-        is(Member(3)),
-        not(Asm(3)),
-        is(Live(4)),
-        is(Member(4)),
-        is(Asm(2)),
-        not(Member(1)),
-        is(Member(2)),
-    ];
-    assert!(rt; is_read_as(rt.alloc(), &values, &[2])?);
+    assert!(rt; is_read_as(rt.alloc(), VALUES, &[2])?);
     assert!(rt; is_read_as(rt.alloc(), &[], &[])?);
     Ok(())
 }
 
+/// Atoms, and their values in the first framework.
+const FACTS: &[(Atom, Option<bool>)] = &[
+    (Asm(1), Some(true)),
+    (Asm(3), Some(false)),
+    (Con(1, 3), Some(true)),
+    (Con(1, 4), Some(false)),
+    (Con(3, 0), Some(false)),
+    (Head(1, 3), Some(true)),
+    (Head(2, 3), Some(false)),
+    (Head(3, 3), Some(false)),
+    (HGap(3, 1, 1), Some(true)),
+    (HGap(3, 1, 2), Some(false)),
+    (HGap(3, 2, END), Some(true)),
+    (HGap(4, 1, 2), Some(true)),
+    (HGap(4, 1, 3), Some(false)),
+    (HGap(1, 1, END), Some(true)),
+    (Body(1, 2), Some(true)),
+    (Body(1, 1), Some(false)),
+    (Body(3, 1), Some(false)),
+    (BGap(1, 1, 2), Some(true)),
+    (BGap(1, 1, 3), Some(false)),
+    (BGap(1, 3, END), Some(true)),
+    (BGap(3, 1, 1), Some(false)),
+    (Member(1), None),
+    (Der(Own, 3), None),
+    (Miss(Rest, 1, 1), None),
+    (Sup(Own, 3, 1), None),
+    (Cf, None),
+    (Ask(1), None),
+    (Live(1), None),
+    (Attack(1, 2), None),
+    (Gap(1, 1, 2), None),
+];
+
 #[test]
 fn facts(rt: HostRuntime) -> Result<(), Fail> {
     let framework = read(rt.alloc(), CROSSED)?;
-    let table = [
-        (Asm(1), Some(true)),
-        (Asm(3), Some(false)),
-        (Con(1, 3), Some(true)),
-        (Con(1, 4), Some(false)),
-        (Con(3, 0), Some(false)),
-        (Head(1, 3), Some(true)),
-        (Head(2, 3), Some(false)),
-        (Head(3, 3), Some(false)),
-        (HGap(3, 1, 1), Some(true)),
-        (HGap(3, 1, 2), Some(false)),
-        (HGap(3, 2, END), Some(true)),
-        (HGap(4, 1, 2), Some(true)),
-        (HGap(4, 1, 3), Some(false)),
-        (HGap(1, 1, END), Some(true)),
-        (Body(1, 2), Some(true)),
-        (Body(1, 1), Some(false)),
-        (Body(3, 1), Some(false)),
-        (BGap(1, 1, 2), Some(true)),
-        (BGap(1, 1, 3), Some(false)),
-        (BGap(1, 3, END), Some(true)),
-        (BGap(3, 1, 1), Some(false)),
-        (Member(1), None),
-        (Der(Own, 3), None),
-        (Miss(Rest, 1, 1), None),
-        (Sup(Own, 3, 1), None),
-        (Cf, None),
-        (Ask(1), None),
-        (Live(1), None),
-        (Attack(1, 2), None),
-        (Gap(1, 1, 2), None),
-    ];
-    for (atom, value) in &table {
-        assert_eq!(rt; fact(&framework, atom), *value, "at {atom:?}");
+    for (atom, value) in FACTS {
+        assert!(rt; fact(&framework, atom) == *value, "at {atom:?}");
     }
     Ok(())
 }
 
+/// The literals, and those that 1 is an assumption and 2 too.
+fn with_assumptions(alloc: Global, values: &[AtomLit]) -> Result<Vec<AtomLit>, Memory> {
+    let mut all = Vec::from_slice(alloc, values)?;
+    all.extend_from_slice(&[is!(Asm(1)), is!(Asm(2))])?;
+    Ok(all)
+}
+
+fn missing_of(alloc: Global, text: &str, values: &[AtomLit]) -> Result<Option<AxiomName>, Memory> {
+    let all = with_assumptions(alloc, values)?;
+    let framework = read(alloc, text)?;
+    missing(alloc, &framework, &all)
+}
+
 /// The text of what is missing, or an empty one.
 fn missing_shown(alloc: Global, text: &str, values: &[AtomLit]) -> Result<String, Memory> {
-    let framework = read(alloc, text)?;
     let mut shown = String::new(alloc);
-    if let Some(name) = missing(alloc, &framework, values)? {
+    if let Some(name) = missing_of(alloc, text, values)? {
         push_axiom(&mut shown, &name)?;
     }
     Ok(shown)
 }
 
 /// A framework, the literals beside those that 1 is an assumption and 2 too, and what is missing.
-type Row<'a> = (&'a str, &'a [AtomLit], &'a str);
+const MISSING: &[(&str, &[AtomLit], &str)] = &[
+    // The set of 1 derives 4, and doesn't attack 1 alone.
+    (
+        CROSSED,
+        &[
+            is!(Member(1)),
+            is!(Der(Own, 1)),
+            is!(Der(Own, 4)),
+            is!(Der(Rest, 4)),
+            is!(Der(Rest, 1)),
+        ],
+        "",
+    ),
+    // It doesn't derive 3, which a rule would only give by 2.
+    (
+        CROSSED,
+        &[is!(Member(1)), is!(Der(Own, 3)), is!(Der(Rest, 3))],
+        "B17 1 3 1 3 1 1 0",
+    ),
+    // Nor does what it doesn't attack.
+    (
+        CROSSED,
+        &[is!(Member(1)), is!(Der(Own, 4)), is!(Der(Rest, 3))],
+        "B17 2 3 1 3 1 1 0",
+    ),
+    // 3 and 4 rest on one another.
+    (
+        CIRCULAR,
+        &[is!(Member(1)), is!(Der(Own, 4)), is!(Der(Own, 3))],
+        "B17 1 3 2 3 4 1 1 4 1 2 3",
+    ),
+    (
+        CIRCULAR,
+        &[is!(Der(Rest, 4)), is!(Der(Rest, 3)), is!(Der(Rest, 2))],
+        "B17 2 3 2 3 4 1 1 4 1 2 3",
+    ),
+    (CIRCULAR, &[is!(Der(Own, 4))], "B17 1 4 1 4 1 2 0"),
+    // 1 is no member, and no rule heads it.
+    (
+        CIRCULAR,
+        &[is!(Der(Own, 1)), is!(Der(Rest, 3))],
+        "B17 1 1 1 1 0",
+    ),
+    // Numbers that aren't atoms of the framework are passed over.
+    (CIRCULAR, &[is!(Der(Own, 5)), is!(Der(Rest, 0))], ""),
+    (CIRCULAR, &[not!(Der(Own, 4))], ""),
+];
 
 #[test]
 fn loops(rt: HostRuntime) -> Result<(), Fail> {
-    let alloc = rt.alloc();
-    let table: [Row; 9] = [
-        // The set of 1 derives 4, and doesn't attack 1 alone.
-        (
-            CROSSED,
-            &[
-                is(Member(1)),
-                is(Der(Own, 1)),
-                is(Der(Own, 4)),
-                is(Der(Rest, 4)),
-                is(Der(Rest, 1)),
-            ],
-            "",
-        ),
-        // It doesn't derive 3, which a rule would only give by 2.
-        (
-            CROSSED,
-            &[is(Member(1)), is(Der(Own, 3)), is(Der(Rest, 3))],
-            "B17 1 3 1 3 1 1 0",
-        ),
-        // Nor does what it doesn't attack.
-        (
-            CROSSED,
-            &[is(Member(1)), is(Der(Own, 4)), is(Der(Rest, 3))],
-            "B17 2 3 1 3 1 1 0",
-        ),
-        // 3 and 4 rest on one another.
-        (
-            CIRCULAR,
-            &[is(Member(1)), is(Der(Own, 4)), is(Der(Own, 3))],
-            "B17 1 3 2 3 4 1 1 4 1 2 3",
-        ),
-        (
-            CIRCULAR,
-            &[is(Der(Rest, 4)), is(Der(Rest, 3)), is(Der(Rest, 2))],
-            "B17 2 3 2 3 4 1 1 4 1 2 3",
-        ),
-        (CIRCULAR, &[is(Der(Own, 4))], "B17 1 4 1 4 1 2 0"),
-        // 1 is no member, and no rule heads it.
-        (
-            CIRCULAR,
-            &[is(Der(Own, 1)), is(Der(Rest, 3))],
-            "B17 1 1 1 1 0",
-        ),
-        // Numbers that aren't atoms of the framework are passed over.
-        (CIRCULAR, &[is(Der(Own, 5)), is(Der(Rest, 0))], ""),
-        (CIRCULAR, &[not(Der(Own, 4))], ""),
-    ];
-    for (text, values, expected) in &table {
-        let mut all = Vec::from_slice(alloc, values)?;
-        all.extend_from_slice(&[is(Asm(1)), is(Asm(2))])?;
-        let found = missing_shown(alloc, text, &all)?;
-        assert_eq!(rt; found.as_str(), *expected, "at {values:?}");
+    for &(text, values, expected) in MISSING {
+        let found = missing_shown(rt.alloc(), text, values)?;
+        assert!(rt; found.as_str() == expected, "at {values:?}");
     }
     Ok(())
 }

@@ -94,11 +94,16 @@ const ROWS: &[(&str, &str, &[u32], &[u32], &str)] = &[
     ("unfounded", FREE, &[], &[2], "2: 1-0 2-2"),
 ];
 
+/// Adds a piece that was made for it.
+fn add(out: &mut String, piece: Result<String, AllocError>) -> Result<(), AllocError> {
+    out.push_str(piece?.as_str())
+}
+
 fn pushed(alloc: Global, out: &mut String, number: u32) -> Result<(), AllocError> {
     if !out.is_empty() {
         out.push_str(" ")?;
     }
-    out.push_str(format!(in alloc; "{number}")?.as_str())
+    add(out, format!(in alloc; "{number}"))
 }
 
 fn set_shown(alloc: Global, set: Result<NumSet, Memory>) -> Result<String, AllocError> {
@@ -125,12 +130,21 @@ fn name_if(out: &mut String, name: &str, meets: Result<bool, Memory>) -> Result<
     }
 }
 
+fn name_tests(
+    alloc: Global,
+    out: &mut String,
+    f: &AbaPlain,
+    set: &NumSet,
+) -> Result<(), AllocError> {
+    name_if(out, "conflict-free", f.is_conflict_free(alloc, set))?;
+    name_if(out, "admissible", f.is_admissible(alloc, set))?;
+    name_if(out, "complete", f.is_complete(alloc, set))?;
+    name_if(out, "stable", f.is_stable(alloc, set))
+}
+
 fn tests_shown(alloc: Global, f: &AbaPlain, set: &NumSet) -> Result<String, AllocError> {
     let mut out = String::new(alloc);
-    name_if(&mut out, "conflict-free", f.is_conflict_free(alloc, set))?;
-    name_if(&mut out, "admissible", f.is_admissible(alloc, set))?;
-    name_if(&mut out, "complete", f.is_complete(alloc, set))?;
-    name_if(&mut out, "stable", f.is_stable(alloc, set))?;
+    name_tests(alloc, &mut out, f, set)?;
     Ok(out)
 }
 
@@ -138,11 +152,19 @@ fn row_shown(alloc: Global, out: &mut String, row: &Row) -> Result<(), AllocErro
     if !out.is_empty() {
         out.push_str(", ")?;
     }
-    out.push_str(format!(in alloc; "{}:", row.atom)?.as_str())?;
+    add(out, format!(in alloc; "{}:", row.atom))?;
     for (rule, atom) in row.pairs.as_slice() {
-        out.push_str(format!(in alloc; " {rule}-{atom}")?.as_str())?;
+        add(out, format!(in alloc; " {rule}-{atom}"))?;
     }
     Ok(())
+}
+
+fn rows_shown(alloc: Global, rows: &[Row]) -> Result<String, AllocError> {
+    let mut out = String::new(alloc);
+    for row in rows {
+        row_shown(alloc, &mut out, row)?;
+    }
+    Ok(out)
 }
 
 fn unfounded_shown(
@@ -154,14 +176,10 @@ fn unfounded_shown(
     let Ok(found) = f.unfounded(alloc, base, claimed) else {
         return Err(AllocError);
     };
-    let Some(unfounded) = found else {
-        return String::from_str(alloc, "none");
-    };
-    let mut out = String::new(alloc);
-    for row in unfounded.rows.as_slice() {
-        row_shown(alloc, &mut out, row)?;
+    match found {
+        Some(unfounded) => rows_shown(alloc, unfounded.rows.as_slice()),
+        None => String::from_str(alloc, "none"),
     }
-    Ok(out)
 }
 
 fn asked(

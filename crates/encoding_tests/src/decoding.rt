@@ -9,18 +9,22 @@ use plain_lists::Memory;
 use std::alloc::Global;
 use std::test::Fail;
 
-fn is(atom: Atom) -> AtomLit {
-    AtomLit {
-        atom,
-        positive: true,
-    }
+macro_rules! is {
+    ($atom:expr) => {
+        AtomLit {
+            atom: $atom,
+            positive: true,
+        }
+    };
 }
 
-fn not(atom: Atom) -> AtomLit {
-    AtomLit {
-        atom,
-        positive: false,
-    }
+macro_rules! not {
+    ($atom:expr) => {
+        AtomLit {
+            atom: $atom,
+            positive: false,
+        }
+    };
 }
 
 /// Whether the literals are read as the set of these numbers.
@@ -32,75 +36,78 @@ fn is_read_as(alloc: Global, values: &[AtomLit], set: &[u32]) -> Result<bool, Me
 
 /// Literals, and the set that they are read as.
 #[derive(Drop)]
-struct Row<'a> {
-    values: &'a [AtomLit],
-    set: &'a [u32],
+struct Row {
+    values: &'static [AtomLit],
+    set: &'static [u32],
 }
 
 /// A member counts where it is said to be live, whatever the order and the other literals: 9 isn't live, 3 is none.
+const ROWS: &[Row] = &[
+    Row {
+        values: &[
+            is!(Ad),
+            is!(Member(2)),
+            is!(Member(9)),
+            not!(Live(9)),
+            is!(Live(2)),
+            is!(Live(1)),
+            not!(Member(3)),
+            is!(Live(3)),
+            is!(Range(3)),
+            is!(Tail(3, 1)),
+            is!(Member(1)),
+            is!(Member(2)),
+        ],
+        set: &[1, 2],
+    },
+    Row {
+        values: &[is!(Member(1)), not!(Live(1))],
+        set: &[],
+    },
+    Row {
+        values: &[is!(Live(1)), not!(Member(1))],
+        set: &[],
+    },
+    Row {
+        values: &[],
+        set: &[],
+    },
+    Row {
+        values: &[is!(Member(7)), is!(Live(7))],
+        set: &[7],
+    },
+];
+
 #[test]
 fn sets(rt: HostRuntime) -> Result<(), Fail> {
-    let rows = [
-        Row {
-            values: &[
-                is(Ad),
-                is(Member(2)),
-                is(Member(9)),
-                not(Live(9)),
-                is(Live(2)),
-                is(Live(1)),
-                not(Member(3)),
-                is(Live(3)),
-                is(Range(3)),
-                is(Tail(3, 1)),
-                is(Member(1)),
-                is(Member(2)),
-            ],
-            set: &[1, 2],
-        },
-        Row {
-            values: &[is(Member(1)), not(Live(1))],
-            set: &[],
-        },
-        Row {
-            values: &[is(Live(1)), not(Member(1))],
-            set: &[],
-        },
-        Row {
-            values: &[],
-            set: &[],
-        },
-        Row {
-            values: &[is(Member(7)), is(Live(7))],
-            set: &[7],
-        },
-    ];
-    for row in &rows {
+    for row in ROWS {
         assert!(rt; is_read_as(rt.alloc(), row.values, row.set)?);
     }
     Ok(())
 }
 
+/// Atoms, and their values.
+const FACTS: &[(Atom, Option<bool>)] = &[
+    (Live(3), Some(true)),
+    (Live(4), Some(false)),
+    (Attack(2, 3), Some(true)),
+    (Attack(3, 2), Some(false)),
+    (Gap(3, 1, 2), Some(true)),
+    (Gap(3, 2, 3), Some(false)),
+    (Gap(3, 3, END), Some(true)),
+    (Member(1), None),
+    (Tail(1, 1), None),
+    (Unmet(1, 1), None),
+    (Range(1), None),
+    (Cf, None),
+    (Ask(1), None),
+];
+
 /// 1 and 2 attack each other, and 2 attacks 3.
 #[test]
 fn facts(rt: HostRuntime) -> Result<(), Fail> {
     let plain = AfPlain::of_lists(rt.alloc(), &[1, 2, 3], &[(1, 2), (2, 1), (2, 3)])?;
-    let rows = [
-        (Live(3), Some(true)),
-        (Live(4), Some(false)),
-        (Attack(2, 3), Some(true)),
-        (Attack(3, 2), Some(false)),
-        (Gap(3, 1, 2), Some(true)),
-        (Gap(3, 2, 3), Some(false)),
-        (Gap(3, 3, END), Some(true)),
-        (Member(1), None),
-        (Tail(1, 1), None),
-        (Unmet(1, 1), None),
-        (Range(1), None),
-        (Cf, None),
-        (Ask(1), None),
-    ];
-    for (atom, value) in &rows {
+    for (atom, value) in FACTS {
         assert!(rt; fact(&plain, atom) == *value, "{atom:?}");
         assert!(rt; AfEncoding::fact(&plain, atom) == *value, "{atom:?}");
     }
@@ -110,7 +117,7 @@ fn facts(rt: HostRuntime) -> Result<(), Fail> {
 #[test]
 fn nothing_is_missing(rt: HostRuntime) -> Result<(), Fail> {
     let plain = AfPlain::of_lists(rt.alloc(), &[1], &[(1, 1)])?;
-    assert!(rt; AfEncoding::missing(rt.alloc(), &plain, &[is(Member(1))])?.is_none());
+    assert!(rt; AfEncoding::missing(rt.alloc(), &plain, &[is!(Member(1))])?.is_none());
     assert!(rt; AfEncoding::missing(rt.alloc(), &plain, &[])?.is_none());
     Ok(())
 }

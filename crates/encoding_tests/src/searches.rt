@@ -10,21 +10,24 @@ use meaning_atoms::{Atom, AtomLit, AxiomName};
 use plain_lits::{Budget, Clause, Lit};
 use sat_core::{Added, Solved, Solver};
 use std::alloc::Global;
-use std::process::Abort;
 use std::test::Fail;
 
-fn is(atom: Atom) -> AtomLit {
-    AtomLit {
-        atom,
-        positive: true,
-    }
+macro_rules! is {
+    ($atom:expr) => {
+        AtomLit {
+            atom: $atom,
+            positive: true,
+        }
+    };
 }
 
-fn not(atom: Atom) -> AtomLit {
-    AtomLit {
-        atom,
-        positive: false,
-    }
+macro_rules! not {
+    ($atom:expr) => {
+        AtomLit {
+            atom: $atom,
+            positive: false,
+        }
+    };
 }
 
 /// A solver, and the atoms that its variables stand for.
@@ -103,19 +106,25 @@ fn values_of(alloc: Global, atoms: &AtomTable, model: &[Lit]) -> Option<Vec<Atom
     Some(values)
 }
 
+/// Adds the needed axioms, goals and facts.
+fn add_all(alloc: Global, search: &mut Search, plain: &AfPlain, goals: &[AtomLit]) -> Option<()> {
+    add_needed(alloc, search, plain)?;
+    for goal in goals {
+        add(alloc, search, &[*goal])?;
+    }
+    for var in 0..search.atoms.len() {
+        add_fact(alloc, search, plain, var)?;
+    }
+    Some(())
+}
+
 /// A search with the needed axioms, goals and facts.
 fn begin(alloc: Global, plain: &AfPlain, goals: &[AtomLit]) -> Option<Search> {
     let mut search = Search {
         solver: Solver::open(alloc, 10_000).ok()?,
         atoms: AtomTable::new(alloc),
     };
-    add_needed(alloc, &mut search, plain)?;
-    for goal in goals {
-        add(alloc, &mut search, &[*goal])?;
-    }
-    for var in 0..search.atoms.len() {
-        add_fact(alloc, &mut search, plain, var)?;
-    }
+    add_all(alloc, &mut search, plain, goals)?;
     Some(search)
 }
 
@@ -125,119 +134,131 @@ fn solve_free(solver: &mut Solver) -> Option<Solved> {
     solver.solve(&[], &mut budget).ok()
 }
 
-/// Whether the goals have a model that is read as the set; without a set, whether they have none.
-fn finds(alloc: Global, plain: &AfPlain, goals: &[AtomLit], set: Option<&[u32]>) -> Option<bool> {
-    let mut search = begin(alloc, plain, goals)?;
+/// Whether a model is read as the set.
+fn is_read_as(
+    alloc: Global,
+    atoms: &AtomTable,
+    model: &[Lit],
+    set: Option<&[u32]>,
+) -> Option<bool> {
+    let values = values_of(alloc, atoms, model)?;
+    let found = decode(alloc, &values).ok()?;
+    Some(set == Some(found.as_slice()))
+}
+
+/// Whether a search finds a model that is read as the set; without a set, whether it finds none.
+fn ends_so(alloc: Global, search: &mut Search, set: Option<&[u32]>) -> Option<bool> {
     match solve_free(&mut search.solver)? {
         Solved::Core(_) => Some(set.is_none()),
-        Solved::Model(model) => {
-            let values = values_of(alloc, &search.atoms, model.as_slice())?;
-            let found = decode(alloc, &values).ok()?;
-            Some(set == Some(found.as_slice()))
-        }
+        Solved::Model(model) => is_read_as(alloc, &search.atoms, model.as_slice(), set),
     }
 }
 
-/// Goals, and the set that their model is read as; none where they have no model.
+/// Attacks between the arguments 1, 2 and 3, goals, and the set that their model is read as; none where they have no
+/// model.
 #[derive(Drop)]
-struct Row<'a> {
-    goals: &'a [AtomLit],
-    set: Option<&'a [u32]>,
-}
-
-fn check(rt: &impl Abort, alloc: Global, plain: &AfPlain, rows: &[Row]) -> Result<(), Fail> {
-    for (number, row) in rows.iter().enumerate() {
-        assert!(rt;
-            finds(alloc, plain, row.goals, row.set) == Some(true),
-            "row {number}"
-        );
-    }
-    Ok(())
+struct Row {
+    attacks: &'static [(u32, u32)],
+    goals: &'static [AtomLit],
+    set: Option<&'static [u32]>,
 }
 
 /// 1 and 2 attack each other, and 2 attacks 3: 3 is defended by 1 alone.
-#[test]
-fn modes(rt: HostRuntime) -> Result<(), Fail> {
-    let plain = AfPlain::of_lists(rt.alloc(), &[1, 2, 3], &[(1, 2), (2, 1), (2, 3)])?;
-    let rows = [
-        Row {
-            goals: &[is(Ad), is(Member(3))],
-            set: Some(&[1, 3]),
-        },
-        Row {
-            goals: &[is(St), is(Member(2))],
-            set: Some(&[2]),
-        },
-        Row {
-            goals: &[is(St), not(Member(2))],
-            set: Some(&[1, 3]),
-        },
-        Row {
-            goals: &[is(Co), not(Member(1)), not(Member(2))],
-            set: Some(&[]),
-        },
-        Row {
-            goals: &[is(Cf), is(Member(3)), not(Member(1))],
-            set: Some(&[3]),
-        },
-        Row {
-            goals: &[is(Ad), is(Member(3)), not(Member(1))],
-            set: None,
-        },
-        Row {
-            goals: &[is(Co), is(Member(1)), not(Member(3))],
-            set: None,
-        },
-    ];
-    check(&rt, rt.alloc(), &plain, &rows)
-}
-
-/// The same framework: who is in the range, and who is attacked.
-#[test]
-fn ranges(rt: HostRuntime) -> Result<(), Fail> {
-    let plain = AfPlain::of_lists(rt.alloc(), &[1, 2, 3], &[(1, 2), (2, 1), (2, 3)])?;
-    let rows = [
-        Row {
-            goals: &[is(Ad), is(Range(3)), not(Member(3))],
-            set: Some(&[2]),
-        },
-        Row {
-            goals: &[is(Ad), is(Tail(1, 1))],
-            set: Some(&[2]),
-        },
-        Row {
-            goals: &[is(Ad), not(Range(1))],
-            set: Some(&[]),
-        },
-        Row {
-            goals: &[is(Ad), is(Member(1)), not(Range(2))],
-            set: None,
-        },
-        Row {
-            goals: &[is(Cf), is(Member(2)), not(Tail(3, 1))],
-            set: None,
-        },
-    ];
-    check(&rt, rt.alloc(), &plain, &rows)
-}
+const MUTUAL: &[(u32, u32)] = &[(1, 2), (2, 1), (2, 3)];
 
 /// Three in a ring have no stable set, and the empty set alone is complete.
+const RING: &[(u32, u32)] = &[(1, 2), (2, 3), (3, 1)];
+
+const ROWS: &[Row] = &[
+    Row {
+        attacks: MUTUAL,
+        goals: &[is!(Ad), is!(Member(3))],
+        set: Some(&[1, 3]),
+    },
+    Row {
+        attacks: MUTUAL,
+        goals: &[is!(St), is!(Member(2))],
+        set: Some(&[2]),
+    },
+    Row {
+        attacks: MUTUAL,
+        goals: &[is!(St), not!(Member(2))],
+        set: Some(&[1, 3]),
+    },
+    Row {
+        attacks: MUTUAL,
+        goals: &[is!(Co), not!(Member(1)), not!(Member(2))],
+        set: Some(&[]),
+    },
+    Row {
+        attacks: MUTUAL,
+        goals: &[is!(Cf), is!(Member(3)), not!(Member(1))],
+        set: Some(&[3]),
+    },
+    Row {
+        attacks: MUTUAL,
+        goals: &[is!(Ad), is!(Member(3)), not!(Member(1))],
+        set: None,
+    },
+    Row {
+        attacks: MUTUAL,
+        goals: &[is!(Co), is!(Member(1)), not!(Member(3))],
+        set: None,
+    },
+    // Who is in the range, and who is attacked.
+    Row {
+        attacks: MUTUAL,
+        goals: &[is!(Ad), is!(Range(3)), not!(Member(3))],
+        set: Some(&[2]),
+    },
+    Row {
+        attacks: MUTUAL,
+        goals: &[is!(Ad), is!(Tail(1, 1))],
+        set: Some(&[2]),
+    },
+    Row {
+        attacks: MUTUAL,
+        goals: &[is!(Ad), not!(Range(1))],
+        set: Some(&[]),
+    },
+    Row {
+        attacks: MUTUAL,
+        goals: &[is!(Ad), is!(Member(1)), not!(Range(2))],
+        set: None,
+    },
+    Row {
+        attacks: MUTUAL,
+        goals: &[is!(Cf), is!(Member(2)), not!(Tail(3, 1))],
+        set: None,
+    },
+    Row {
+        attacks: RING,
+        goals: &[is!(St)],
+        set: None,
+    },
+    Row {
+        attacks: RING,
+        goals: &[is!(Co)],
+        set: Some(&[]),
+    },
+    Row {
+        attacks: RING,
+        goals: &[is!(Ad), is!(Member(1))],
+        set: None,
+    },
+];
+
+/// Whether the row's goals end so.
+fn holds(alloc: Global, row: &Row) -> Option<bool> {
+    let plain = AfPlain::of_lists(alloc, &[1, 2, 3], row.attacks).ok()?;
+    let mut search = begin(alloc, &plain, row.goals)?;
+    ends_so(alloc, &mut search, row.set)
+}
+
 #[test]
-fn a_ring(rt: HostRuntime) -> Result<(), Fail> {
-    let plain = AfPlain::of_lists(rt.alloc(), &[1, 2, 3], &[(1, 2), (2, 3), (3, 1)])?;
-    let rows = [
-        Row {
-            goals: &[is(St)],
-            set: None,
-        },
-        Row {
-            goals: &[is(Co)],
-            set: Some(&[]),
-        },
-        Row {
-            goals: &[is(Ad), is(Member(1))],
-            set: None,
-        },
-    ];
-    check(&rt, rt.alloc(), &plain, &rows)
+fn searches(rt: HostRuntime) -> Result<(), Fail> {
+    for (number, row) in ROWS.iter().enumerate() {
+        assert!(rt; holds(rt.alloc(), row) == Some(true), "row {number}");
+    }
+    Ok(())
 }

@@ -1,7 +1,7 @@
 //! Searches and loops beside the slow program that decides notions from their words.
 
 use crate::defined::{FRAMEWORKS, meets, some_meets};
-use crate::worked::{Worked, is, oracle_for, set_of};
+use crate::worked::{Worked, oracle_for, set_of};
 use cegar_preferred::maximal_from;
 use ideal_set::ideal;
 use meaning_atoms::{Atom, AtomLit};
@@ -9,12 +9,13 @@ use oracle_face::{Found, Oracle};
 use plain_lits::Budget;
 use semantics::Notion;
 use semi_stable::widest_from;
+use set_lists::NumSet;
 use small_oracle::SmallOracle;
 use std::alloc::Global;
 use std::test::Fail;
 
 /// The modes, each with its notion.
-const MODES: [(Atom, Notion); 4] = [
+const MODES: &[(Atom, Notion)] = &[
     (Atom::Cf, Notion::ConflictFree),
     (Atom::Ad, Notion::Admissible),
     (Atom::Co, Notion::Complete),
@@ -24,14 +25,17 @@ const MODES: [(Atom, Notion); 4] = [
 /// What a search for a set of the mode gives, with an argument or without it.
 fn find(
     alloc: Global,
-    framework: &Worked<'_>,
+    framework: &Worked,
     mode: Atom,
     argument: u32,
     wanted: bool,
 ) -> Option<Found> {
     let mut oracle = oracle_for(alloc, framework, 1_000)?;
     let goals = [
-        is(mode),
+        AtomLit {
+            atom: mode,
+            positive: true,
+        },
         AtomLit {
             atom: Atom::Member(argument),
             positive: wanted,
@@ -48,7 +52,7 @@ fn find(
 /// where there is none.
 fn search_agrees(
     alloc: Global,
-    framework: &Worked<'_>,
+    framework: &Worked,
     pair: (Atom, Notion),
     argument: u32,
     wanted: bool,
@@ -64,7 +68,7 @@ fn search_agrees(
 }
 
 /// Whether that is so of each argument, with it and without it.
-fn searches_agree(alloc: Global, framework: &Worked<'_>, pair: (Atom, Notion)) -> Option<bool> {
+fn searches_agree(alloc: Global, framework: &Worked, pair: (Atom, Notion)) -> Option<bool> {
     for argument in 1..4 {
         let with = search_agrees(alloc, framework, pair, argument, true)?;
         let without = search_agrees(alloc, framework, pair, argument, false)?;
@@ -77,8 +81,8 @@ fn searches_agree(alloc: Global, framework: &Worked<'_>, pair: (Atom, Notion)) -
 
 #[test]
 fn searches(rt: HostRuntime) -> Result<(), Fail> {
-    for framework in &FRAMEWORKS {
-        for pair in &MODES {
+    for framework in FRAMEWORKS {
+        for pair in MODES {
             assert!(rt;
                 searches_agree(rt.alloc(), framework, *pair) == Some(true),
                 "{:?} {:?}",
@@ -90,32 +94,54 @@ fn searches(rt: HostRuntime) -> Result<(), Fail> {
     Ok(())
 }
 
+/// Whether an admissible set grows to a preferred one.
+fn grows_to_preferred(
+    alloc: Global,
+    framework: &Worked,
+    oracle: &mut SmallOracle,
+    budget: &mut Budget,
+    from: &NumSet,
+) -> Option<bool> {
+    if !oracle.has_mode(Atom::Ad, from) {
+        return None;
+    }
+    let maximal = maximal_from(alloc, oracle, budget, from).ok()?;
+    meets(alloc, framework, maximal.set.as_slice(), Notion::Preferred)
+}
+
+/// Whether an admissible set grows to a semi-stable one.
+fn grows_to_semi_stable(
+    alloc: Global,
+    framework: &Worked,
+    oracle: &mut SmallOracle,
+    budget: &mut Budget,
+    from: &NumSet,
+) -> Option<bool> {
+    if !oracle.has_mode(Atom::Ad, from) {
+        return None;
+    }
+    let widest = widest_from(alloc, oracle, budget, Atom::Ad, from).ok()?;
+    meets(alloc, framework, widest.set.as_slice(), Notion::SemiStable)
+}
+
 /// Whether the empty set grows to a preferred and to a semi-stable set.
-fn growing_agrees(alloc: Global, framework: &Worked<'_>, oracle: &mut SmallOracle) -> Option<bool> {
+fn growing_agrees(alloc: Global, framework: &Worked, oracle: &mut SmallOracle) -> Option<bool> {
     let from = set_of(alloc, &[])?;
-    if !oracle.has_mode(Atom::Ad, &from) {
-        return None;
-    }
     let mut budget = Budget::new(100);
-    let maximal = maximal_from(alloc, oracle, &mut budget, &from).ok()?;
-    if !oracle.has_mode(Atom::Ad, &from) {
-        return None;
-    }
-    let widest = widest_from(alloc, oracle, &mut budget, Atom::Ad, &from).ok()?;
-    let preferred = meets(alloc, framework, maximal.set.as_slice(), Notion::Preferred)?;
-    let semi_stable = meets(alloc, framework, widest.set.as_slice(), Notion::SemiStable)?;
-    Some(preferred && semi_stable)
+    let preferred = grows_to_preferred(alloc, framework, oracle, &mut budget, &from) == Some(true);
+    let widest = grows_to_semi_stable(alloc, framework, oracle, &mut budget, &from) == Some(true);
+    Some(preferred && widest)
 }
 
 /// Whether the ideal set is found.
-fn ideal_agrees(alloc: Global, framework: &Worked<'_>, oracle: &mut SmallOracle) -> Option<bool> {
+fn ideal_agrees(alloc: Global, framework: &Worked, oracle: &mut SmallOracle) -> Option<bool> {
     let mut budget = Budget::new(100);
     let found = ideal(alloc, oracle, &mut budget).ok()?;
     meets(alloc, framework, found.set.as_slice(), Notion::Ideal)
 }
 
 /// Whether both is so of one oracle, whose log goes on.
-fn loops_agree(alloc: Global, framework: &Worked<'_>) -> Option<bool> {
+fn loops_agree(alloc: Global, framework: &Worked) -> Option<bool> {
     let mut oracle = oracle_for(alloc, framework, 1_000)?;
     let grown = growing_agrees(alloc, framework, &mut oracle) == Some(true);
     let ideal = ideal_agrees(alloc, framework, &mut oracle) == Some(true);
@@ -124,7 +150,7 @@ fn loops_agree(alloc: Global, framework: &Worked<'_>) -> Option<bool> {
 
 #[test]
 fn loops(rt: HostRuntime) -> Result<(), Fail> {
-    for framework in &FRAMEWORKS {
+    for framework in FRAMEWORKS {
         assert!(rt;
             loops_agree(rt.alloc(), framework) == Some(true),
             "{:?}",

@@ -6,7 +6,7 @@ use set_lists::NumSet;
 use std::alloc::Global;
 
 /// The two rivals, the ring, a chain, one that attacks itself before a chain, and those with four arguments.
-pub(crate) const FRAMEWORKS: [Worked; 6] = [
+pub(crate) const FRAMEWORKS: &[Worked] = &[
     RIVALS,
     RING,
     Worked {
@@ -38,7 +38,7 @@ fn subset(alloc: Global, bits: u32) -> Option<Vec<u32>> {
 /// Whether a set meets a notion.
 pub(crate) fn meets(
     alloc: Global,
-    framework: &Worked<'_>,
+    framework: &Worked,
     set: &[u32],
     notion: Notion,
 ) -> Option<bool> {
@@ -52,7 +52,7 @@ pub(crate) fn meets(
 /// Whether some set meets the notion, and has the argument or not.
 pub(crate) fn some_meets(
     alloc: Global,
-    framework: &Worked<'_>,
+    framework: &Worked,
     notion: Notion,
     argument: u32,
     wanted: bool,
@@ -71,7 +71,7 @@ pub(crate) fn some_meets(
 fn push_if_met(
     alloc: Global,
     sets: &mut Vec<NumSet>,
-    framework: &Worked<'_>,
+    framework: &Worked,
     notion: Notion,
     bits: u32,
 ) -> Option<()> {
@@ -84,11 +84,7 @@ fn push_if_met(
 }
 
 /// All sets that meet a notion, each once, in the order of their bits.
-pub(crate) fn sets_of(
-    alloc: Global,
-    framework: &Worked<'_>,
-    notion: Notion,
-) -> Option<Vec<NumSet>> {
+pub(crate) fn sets_of(alloc: Global, framework: &Worked, notion: Notion) -> Option<Vec<NumSet>> {
     let mut sets = Vec::new(alloc);
     for bits in 0..SUBSETS {
         push_if_met(alloc, &mut sets, framework, notion, bits)?;

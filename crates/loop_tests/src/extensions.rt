@@ -11,7 +11,7 @@ use std::cmp::Ordering;
 use std::test::Fail;
 
 /// What is listed, and the notion that the sets meet.
-const KINDS: [(Kind, Notion); 4] = [
+const KINDS: &[(Kind, Notion)] = &[
     (Kind::Complete, Notion::Complete),
     (Kind::Stable, Notion::Stable),
     (Kind::Preferred, Notion::Preferred),
@@ -41,7 +41,7 @@ fn are_all(found: &[NumSet], defined: &[NumSet]) -> bool {
 /// What the loop of a kind lists, or the loop that takes a task.
 fn listed(
     alloc: Global,
-    framework: &Worked<'_>,
+    framework: &Worked,
     kind: Kind,
     by_task: bool,
     limit: usize,
@@ -57,7 +57,7 @@ fn listed(
 /// Whether all sets are listed where the limit is their number, and not where it is lower.
 fn lists_defined(
     alloc: Global,
-    framework: &Worked<'_>,
+    framework: &Worked,
     kind: Kind,
     by_task: bool,
     defined: &[NumSet],
@@ -76,7 +76,7 @@ fn lists_defined(
 }
 
 /// Whether both loops list the sets of the definition.
-fn agrees(alloc: Global, framework: &Worked<'_>, pair: (Kind, Notion)) -> Option<bool> {
+fn agrees(alloc: Global, framework: &Worked, pair: (Kind, Notion)) -> Option<bool> {
     let (kind, notion) = pair;
     let defined = sets_of(alloc, framework, notion)?;
     let own = lists_defined(alloc, framework, kind, false, defined.as_slice()) == Some(true);
@@ -86,8 +86,8 @@ fn agrees(alloc: Global, framework: &Worked<'_>, pair: (Kind, Notion)) -> Option
 
 #[test]
 fn extensions(rt: HostRuntime) -> Result<(), Fail> {
-    for framework in &FRAMEWORKS {
-        for pair in &KINDS {
+    for framework in FRAMEWORKS {
+        for pair in KINDS {
             assert!(rt;
                 agrees(rt.alloc(), framework, *pair) == Some(true),
                 "{:?} {:?}",

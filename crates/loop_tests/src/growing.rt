@@ -11,14 +11,8 @@ use small_oracle::SmallOracle;
 use std::alloc::Global;
 use std::test::Fail;
 
-/// A framework, a set that is grown, and what it is grown to.
-#[derive(Drop)]
-struct Row<'a> {
-    framework: Worked<'a>,
-    way: Way,
-    from: &'a [u32],
-    to: &'a [u32],
-}
+/// A framework, how a set is grown, the set, and what it is grown to.
+type Row = (Worked, Way, &'static [u32], &'static [u32]);
 
 /// How a set is grown.
 #[derive(Clone, Copy, Debug)]
@@ -50,41 +44,37 @@ fn grown(alloc: Global, oracle: &mut SmallOracle, way: Way, from: &NumSet) -> Op
 
 /// Whether the row's set is grown so by an oracle.
 fn grows(alloc: Global, oracle: &mut SmallOracle, row: &Row) -> Option<bool> {
-    let from = set_of(alloc, row.from)?;
-    let to = grown(alloc, oracle, row.way, &from)?;
-    Some(to.as_slice() == row.to)
+    let &(_, way, from, to) = row;
+    let from = set_of(alloc, from)?;
+    let found = grown(alloc, oracle, way, &from)?;
+    Some(found.as_slice() == to)
 }
 
 fn holds(alloc: Global, row: &Row) -> Option<bool> {
-    let mut oracle = oracle_for(alloc, &row.framework, 1_000)?;
+    let mut oracle = oracle_for(alloc, &row.0, 1_000)?;
     grows(alloc, &mut oracle, row)
 }
 
+const ROWS: &[Row] = &[
+    (FLOATING, Way::Maximal, &[1], &[1, 4]),
+    (FLOATING, Way::Maximal, &[2], &[2, 4]),
+    (RIVALS, Way::Maximal, &[1], &[1, 3]),
+    (RIVALS, Way::Maximal, &[2], &[2]),
+    (RING, Way::Maximal, &[], &[]),
+    (SELVES, Way::Maximal, &[1], &[1]),
+    (SELVES, Way::Widest, &[2], &[2]),
+    (SELVES, Way::Widest, &[1], &[2]),
+    (SELVES, Way::Widest, &[], &[2]),
+    (RING, Way::Widest, &[], &[]),
+    (RING, Way::Ideal, &[], &[]),
+    (FLOATING, Way::Ideal, &[], &[]),
+    (SELVES, Way::Ideal, &[], &[]),
+    (SELF_RIVAL, Way::Ideal, &[], &[2]),
+];
+
 #[test]
 fn grown_sets(rt: HostRuntime) -> Result<(), Fail> {
-    let row = |framework, way, from, to| Row {
-        framework,
-        way,
-        from,
-        to,
-    };
-    let rows = [
-        row(FLOATING, Way::Maximal, &[1], &[1, 4]),
-        row(FLOATING, Way::Maximal, &[2], &[2, 4]),
-        row(RIVALS, Way::Maximal, &[1], &[1, 3]),
-        row(RIVALS, Way::Maximal, &[2], &[2]),
-        row(RING, Way::Maximal, &[], &[]),
-        row(SELVES, Way::Maximal, &[1], &[1]),
-        row(SELVES, Way::Widest, &[2], &[2]),
-        row(SELVES, Way::Widest, &[1], &[2]),
-        row(SELVES, Way::Widest, &[], &[2]),
-        row(RING, Way::Widest, &[], &[]),
-        row(RING, Way::Ideal, &[], &[]),
-        row(FLOATING, Way::Ideal, &[], &[]),
-        row(SELVES, Way::Ideal, &[], &[]),
-        row(SELF_RIVAL, Way::Ideal, &[], &[2]),
-    ];
-    for (number, row) in rows.iter().enumerate() {
+    for (number, row) in ROWS.iter().enumerate() {
         assert!(rt; holds(rt.alloc(), row) == Some(true), "row {number}");
     }
     Ok(())
@@ -102,7 +92,7 @@ fn cover(alloc: Global, oracle: &mut SmallOracle, goal: u32) -> Option<Option<us
     }
 }
 
-fn accepted(alloc: Global, framework: &Worked<'_>, goal: u32) -> Option<Option<usize>> {
+fn accepted(alloc: Global, framework: &Worked, goal: u32) -> Option<Option<usize>> {
     let mut oracle = oracle_for(alloc, framework, 1_000)?;
     cover(alloc, &mut oracle, goal)
 }

@@ -28,7 +28,7 @@ fn deciding(
 /// and a step more than sets.
 fn decides(
     alloc: Global,
-    framework: &Worked<'_>,
+    framework: &Worked,
     oracle: &mut SmallOracle,
     argument: u32,
     accepted: bool,
@@ -47,7 +47,7 @@ fn decides(
 }
 
 /// Whether that is so of each argument, with it and without it, of one oracle, whose log goes on.
-fn all_decide(alloc: Global, framework: &Worked<'_>, oracle: &mut SmallOracle) -> Option<bool> {
+fn all_decide(alloc: Global, framework: &Worked, oracle: &mut SmallOracle) -> Option<bool> {
     for argument in framework.arguments {
         let with = decides(alloc, framework, oracle, *argument, true)?;
         let without = decides(alloc, framework, oracle, *argument, false)?;
@@ -58,14 +58,14 @@ fn all_decide(alloc: Global, framework: &Worked<'_>, oracle: &mut SmallOracle) -
     Some(true)
 }
 
-fn agrees(alloc: Global, framework: &Worked<'_>) -> Option<bool> {
+fn agrees(alloc: Global, framework: &Worked) -> Option<bool> {
     let mut oracle = oracle_for(alloc, framework, 10_000)?;
     all_decide(alloc, framework, &mut oracle)
 }
 
 #[test]
 fn witnesses(rt: HostRuntime) -> Result<(), Fail> {
-    for framework in &FRAMEWORKS {
+    for framework in FRAMEWORKS {
         assert!(rt;
             agrees(rt.alloc(), framework) == Some(true),
             "{:?}",

@@ -1,16 +1,15 @@
 //! Frameworks of which sets were worked out by hand, and an oracle for each.
 
 use dung_notions::AfPlain;
-use meaning_atoms::{Atom, AtomLit};
 use set_lists::NumSet;
 use small_oracle::SmallOracle;
 use std::alloc::Global;
 
 /// A framework with the arguments from 1 up to a count.
 #[derive(Clone, Copy, Drop)]
-pub(crate) struct Worked<'a> {
-    pub(crate) arguments: &'a [u32],
-    pub(crate) attacks: &'a [(u32, u32)],
+pub(crate) struct Worked {
+    pub(crate) arguments: &'static [u32],
+    pub(crate) attacks: &'static [(u32, u32)],
 }
 
 /// 1 and 2 attack each other, and 2 attacks 3.
@@ -44,7 +43,7 @@ pub(crate) const SELF_RIVAL: Worked = Worked {
 };
 
 /// The oracle for a framework, whose log may have so many steps. None where it can't be made.
-pub(crate) fn oracle_for(alloc: Global, worked: &Worked<'_>, limit: usize) -> Option<SmallOracle> {
+pub(crate) fn oracle_for(alloc: Global, worked: &Worked, limit: usize) -> Option<SmallOracle> {
     let plain = AfPlain::of_lists(alloc, worked.arguments, worked.attacks).ok()?;
     SmallOracle::open(alloc, plain, limit).ok()
 }
@@ -52,20 +51,4 @@ pub(crate) fn oracle_for(alloc: Global, worked: &Worked<'_>, limit: usize) -> Op
 /// The set of the numbers.
 pub(crate) fn set_of(alloc: Global, numbers: &[u32]) -> Option<NumSet> {
     NumSet::from_slice(alloc, numbers).ok()
-}
-
-/// The literal that says an atom.
-pub(crate) fn is(atom: Atom) -> AtomLit {
-    AtomLit {
-        atom,
-        positive: true,
-    }
-}
-
-/// The literal that says that an atom is not so.
-pub(crate) fn not(atom: Atom) -> AtomLit {
-    AtomLit {
-        atom,
-        positive: false,
-    }
 }
