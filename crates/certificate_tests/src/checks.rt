@@ -6,7 +6,7 @@ use certificate_claims::Verdict::{self, Accepted, Rejected};
 use certificate_text::read_certificate;
 use edit_rules::Framework;
 use framework_text::read_framework;
-use iccma_tasks::{Query, Task, read_answer};
+use iccma_tasks::{Answer, Query, Task, read_answer};
 use plain_lists::Memory;
 use std::alloc::Global;
 use std::test::Fail;
@@ -29,8 +29,8 @@ const NO_PAIR: &str =
 
 const NOTHING: &str = "cert 1\nend\n";
 
-// A task, its number, an answer, a certificate and the verdict on it.
-const ROWS: [(&str, Option<u32>, &str, &str, Verdict); 10] = [
+/// A task, its number, an answer, a certificate and the verdict on it.
+const ROWS: &[(&str, Option<u32>, &str, &str, Verdict)] = &[
     ("DC-ST", Some(3), "NO\n", NOT_DERIVED, Accepted),
     ("DC-ST", Some(3), "NO\n", NO_PAIR, Rejected(BadStep, 1, 7)),
     // the last clause speaks of another mode than the claim
@@ -73,6 +73,24 @@ const ROWS: [(&str, Option<u32>, &str, &str, Verdict); 10] = [
 ];
 
 // What the check tells of a certificate for an answer to a query about the framework.
+fn verdict_on(
+    alloc: Global,
+    framework: &Framework,
+    query: &Query,
+    answer: &Answer,
+    certificate: &str,
+) -> Result<Verdict, Memory> {
+    let bytes = certificate.as_bytes();
+    if bytes.len() > 1000 {
+        return Err(Memory);
+    }
+    let Ok(certificate) = read_certificate(alloc, bytes) else {
+        return Err(Memory);
+    };
+    check(alloc, framework, query, answer, &certificate)
+}
+
+// The same of an answer's text, and of a query's task and number.
 fn verdict(
     alloc: Global,
     framework: &Framework,
@@ -81,10 +99,6 @@ fn verdict(
     answer: &str,
     certificate: &str,
 ) -> Result<Verdict, Memory> {
-    let bytes = certificate.as_bytes();
-    if bytes.len() > 1000 {
-        return Err(Memory);
-    }
     let Ok(task) = Task::read(task.as_bytes()) else {
         return Err(Memory);
     };
@@ -94,10 +108,7 @@ fn verdict(
     let Ok(answer) = read_answer(alloc, answer.as_bytes()) else {
         return Err(Memory);
     };
-    let Ok(certificate) = read_certificate(alloc, bytes) else {
-        return Err(Memory);
-    };
-    check(alloc, framework, &query, &answer, &certificate)
+    verdict_on(alloc, framework, &query, &answer, certificate)
 }
 
 fn loop_framework(alloc: Global) -> Result<Framework, Memory> {
@@ -115,7 +126,7 @@ fn loop_framework(alloc: Global) -> Result<Framework, Memory> {
 fn worked_certificates(rt: HostRuntime) -> Result<(), Fail> {
     let alloc = rt.alloc();
     let framework = loop_framework(alloc)?;
-    for (task, number, answer, certificate, expected) in ROWS {
+    for &(task, number, answer, certificate, expected) in ROWS {
         let found = verdict(alloc, &framework, task, number, answer, certificate)?;
         assert!(rt; found == expected, "{task} {answer:?}");
     }

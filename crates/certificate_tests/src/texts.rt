@@ -32,50 +32,51 @@ fn shown(alloc: Global, text: &str) -> Result<Bytes, Memory> {
     }
 }
 
+/// Texts, and what each is shown as.
+const TEXTS: &[(&str, &str)] = &[
+    (COVER, COVER),
+    (" cert\t1\r\n# c\n\nw 01\nend\n", "cert 1\nw 1\nend\n"),
+    ("cert 1\nr\nr\nend", "cert 1\nr\nr\nend\n"),
+    (
+        "cert 1\nr\nd Ask:4294967295 0 007\nend",
+        "cert 1\nr\nd Ask:4294967295 0 7\nend\n",
+    ),
+    (LOOP, LOOP),
+    ("cert 1\nr\nd 0\nd 0 0\nend", "4 BadNumber"),
+    ("", "1 NoHeader"),
+    ("# x\n\n", "3 NoHeader"),
+    ("cert 01\nend", "1 NoHeader"),
+    ("cert 1\ncert 1\nend", "2 BadLine"),
+    ("cert 1\na A1 1\nend", "2 BadLine"),
+    ("cert 1\nw 1\nr\nw 2\nend", "4 BadLine"),
+    ("cert 1\nr 1\nend", "2 BadLine"),
+    ("cert 1\nr\ns 1 2\nend", "3 BadLine"),
+    ("cert 1\nr\ns\nend", "3 BadLine"),
+    ("cert 1\nr\na\nend", "3 BadLine"),
+    ("cert 1\nr\nd -Cf 00 1\nend", "3 BadLine"),
+    ("cert 1\nw 1 1000001\nend", "2 BadNumber"),
+    ("cert 1\nw 2 x 1\nend", "2 BadNumber"),
+    ("cert 1\nr\ns 0\nend", "3 BadNumber"),
+    ("cert 1\nr\nd x 0 4294967296\nend", "3 BadNumber"),
+    ("cert 1\nw 2 2\nend", "2 NotRising"),
+    ("cert 1\nr\nd Member:1000001 0 1\nend", "3 BadAtom"),
+    ("cert 1\nr\nd -Ask:0 0\nend", "3 BadAtom"),
+    ("cert 1\nr\na A5 1 2 1000001\nend", "3 BadAxiom"),
+    ("cert 1\nr\na A1 x\nend", "3 BadAxiom"),
+    ("cert 1\nr\na B1 2\nend", "cert 1\nr\na B1 2\nend\n"),
+    ("cert 1\nr\na B0 2\nend", "3 BadAxiom"),
+    ("cert 1\nr\na B17 1 3 2 3 4 1 1 4\nend", "3 BadAxiom"),
+    ("cert 1\nr\na A14 0\nend", "3 BadAxiom"),
+    ("cert 1\nw 1\n#\n", "4 NoEnd"),
+    ("cert 1\nend\n#\n\nend\n", "5 AfterEnd"),
+];
+
 #[test]
 fn texts(rt: HostRuntime) -> Result<(), Fail> {
-    let alloc = rt.alloc();
     one_reading();
     reading_is_exact();
-    let table = [
-        (COVER, COVER),
-        (" cert\t1\r\n# c\n\nw 01\nend\n", "cert 1\nw 1\nend\n"),
-        ("cert 1\nr\nr\nend", "cert 1\nr\nr\nend\n"),
-        (
-            "cert 1\nr\nd Ask:4294967295 0 007\nend",
-            "cert 1\nr\nd Ask:4294967295 0 7\nend\n",
-        ),
-        (LOOP, LOOP),
-        ("cert 1\nr\nd 0\nd 0 0\nend", "4 BadNumber"),
-        ("", "1 NoHeader"),
-        ("# x\n\n", "3 NoHeader"),
-        ("cert 01\nend", "1 NoHeader"),
-        ("cert 1\ncert 1\nend", "2 BadLine"),
-        ("cert 1\na A1 1\nend", "2 BadLine"),
-        ("cert 1\nw 1\nr\nw 2\nend", "4 BadLine"),
-        ("cert 1\nr 1\nend", "2 BadLine"),
-        ("cert 1\nr\ns 1 2\nend", "3 BadLine"),
-        ("cert 1\nr\ns\nend", "3 BadLine"),
-        ("cert 1\nr\na\nend", "3 BadLine"),
-        ("cert 1\nr\nd -Cf 00 1\nend", "3 BadLine"),
-        ("cert 1\nw 1 1000001\nend", "2 BadNumber"),
-        ("cert 1\nw 2 x 1\nend", "2 BadNumber"),
-        ("cert 1\nr\ns 0\nend", "3 BadNumber"),
-        ("cert 1\nr\nd x 0 4294967296\nend", "3 BadNumber"),
-        ("cert 1\nw 2 2\nend", "2 NotRising"),
-        ("cert 1\nr\nd Member:1000001 0 1\nend", "3 BadAtom"),
-        ("cert 1\nr\nd -Ask:0 0\nend", "3 BadAtom"),
-        ("cert 1\nr\na A5 1 2 1000001\nend", "3 BadAxiom"),
-        ("cert 1\nr\na A1 x\nend", "3 BadAxiom"),
-        ("cert 1\nr\na B1 2\nend", "cert 1\nr\na B1 2\nend\n"),
-        ("cert 1\nr\na B0 2\nend", "3 BadAxiom"),
-        ("cert 1\nr\na B17 1 3 2 3 4 1 1 4\nend", "3 BadAxiom"),
-        ("cert 1\nr\na A14 0\nend", "3 BadAxiom"),
-        ("cert 1\nw 1\n#\n", "4 NoEnd"),
-        ("cert 1\nend\n#\n\nend\n", "5 AfterEnd"),
-    ];
-    for (text, expected) in table {
-        let found = shown(alloc, text)?;
+    for &(text, expected) in TEXTS {
+        let found = shown(rt.alloc(), text)?;
         assert!(rt; found.as_slice() == expected.as_bytes(), "at {text:?}");
     }
     Ok(())

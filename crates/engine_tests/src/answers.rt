@@ -12,52 +12,30 @@ use std::alloc::Global;
 use std::test::Fail;
 
 /// What a query comes to.
-#[derive(Drop)]
-pub(crate) enum End<'a> {
+#[derive(Clone, Copy)]
+pub(crate) enum End {
     Yes,
     No,
     /// With a set that accepts the query.
-    YesBy(&'a [u32]),
+    YesBy(&'static [u32]),
     /// With a set that doesn't.
-    NoBy(&'a [u32]),
-    Sets(&'a [&'a [u32]]),
+    NoBy(&'static [u32]),
+    Sets(&'static [&'static [u32]]),
     Stops(AnswerStop),
 }
 
-/// A query, the units and the extensions that it may have, and what it comes to.
-#[derive(Drop)]
-pub(crate) struct Asked<'a> {
-    task: &'a str,
-    number: Option<u32>,
-    budget: u64,
-    limit: u32,
-    end: End<'a>,
-}
-
-/// A query with what it comes to.
-pub(crate) fn ask<'a>(
-    task: &'a str,
-    number: Option<u32>,
-    budget: u64,
-    limit: u32,
-    end: End<'a>,
-) -> Asked<'a> {
-    Asked {
-        task,
-        number,
-        budget,
-        limit,
-        end,
-    }
-}
+/// A query's task and number, the units and the extensions that it may have, and what it comes to.
+pub(crate) type Asked = (&'static str, Option<u32>, u64, u32, End);
 
 /// A framework, how many steps the log may have, and the queries in turn.
 #[derive(Drop)]
-struct Row<'a> {
-    arguments: &'a [u32],
-    attacks: &'a [(u32, u32)],
+struct Row {
+    /// What is to be seen.
+    course: &'static str,
+    arguments: &'static [u32],
+    attacks: &'static [(u32, u32)],
     steps: u64,
-    asks: &'a [Asked<'a>],
+    asks: &'static [Asked],
 }
 
 /// Whether the sets are these.
@@ -70,7 +48,7 @@ fn are_sets(sets: &[NumSet], expected: &[&[u32]]) -> bool {
 }
 
 /// Whether a query ended so.
-fn is_end(end: &Result<Answered, AnswerStop>, expected: &End<'_>) -> bool {
+fn is_end(end: &Result<Answered, AnswerStop>, expected: &End) -> bool {
     match (end, expected) {
         (Err(stop), End::Stops(expected)) => stop == expected,
         (Ok(answered), End::Yes) => matches!(answered.answer, Answer::Yes(_)),
@@ -92,16 +70,17 @@ fn is_end(end: &Result<Answered, AnswerStop>, expected: &End<'_>) -> bool {
 }
 
 /// Whether the query ends so, and an answer takes no more units than it may.
-fn holds(alloc: Global, engine: &mut Engine, asked: &Asked<'_>) -> Option<bool> {
-    let task = Task::read(asked.task.as_bytes()).ok()?;
-    let query = Query::new(task, asked.number)?;
-    let mut budget = Budget::new(asked.budget);
-    let end = engine.answer(alloc, &query, &mut budget, asked.limit, &mut NoTrade);
-    Some(is_end(&end, &asked.end))
+fn holds(alloc: Global, engine: &mut Engine, asked: &Asked) -> Option<bool> {
+    let &(task, number, units, limit, expected) = asked;
+    let task = Task::read(task.as_bytes()).ok()?;
+    let query = Query::new(task, number)?;
+    let mut budget = Budget::new(units);
+    let end = engine.answer(alloc, &query, &mut budget, limit, &mut NoTrade);
+    Some(is_end(&end, &expected))
 }
 
 /// The engine for a row's framework.
-fn engine_for(alloc: Global, row: &Row<'_>) -> Option<Engine> {
+fn engine_for(alloc: Global, row: &Row) -> Option<Engine> {
     if row.steps > MOST_STEPS {
         return None;
     }
@@ -110,13 +89,13 @@ fn engine_for(alloc: Global, row: &Row<'_>) -> Option<Engine> {
 }
 
 /// Whether all queries of a row end so.
-fn all_hold(alloc: Global, row: &Row<'_>) -> Option<bool> {
+fn all_hold(alloc: Global, row: &Row) -> Option<bool> {
     let mut engine = engine_for(alloc, row)?;
     ask_all(alloc, &mut engine, row.asks)
 }
 
 /// Whether all queries of an engine end so.
-pub(crate) fn ask_all(alloc: Global, engine: &mut Engine, asks: &[Asked<'_>]) -> Option<bool> {
+pub(crate) fn ask_all(alloc: Global, engine: &mut Engine, asks: &[Asked]) -> Option<bool> {
     for asked in asks {
         let so = holds(alloc, engine, asked)?;
         if !so {
@@ -129,72 +108,64 @@ pub(crate) fn ask_all(alloc: Global, engine: &mut Engine, asks: &[Asked<'_>]) ->
 // 1 and 2 attack each other and both attack 3, which attacks 4.
 const FLOATING: &[(u32, u32)] = &[(1, 2), (2, 1), (1, 3), (2, 3), (3, 4)];
 
-/// The cover of 4 has two sets, with a side clause each.
-#[test]
-fn goes_on_after_a_spent_budget(rt: HostRuntime) -> Result<(), Fail> {
-    let spent = End::Stops(AnswerStop::Spent(1));
-    let unknown = End::Stops(AnswerStop::Query(QueryFault::UnknownArgument(9)));
-    let asks = [
-        ask("DS-PR", Some(4), 1, 10, spent),
-        ask("DS-PR", Some(4), 1_000_000, 10, End::Yes),
-        ask("DC-PR", Some(3), 1_000_000, 10, End::No),
-        ask("SE-GR", None, 0, 10, End::Sets(&[&[]])),
-        ask("DC-CO", Some(9), 1_000_000, 10, unknown),
-    ];
-    let row = Row {
-        arguments: &[1, 2, 3, 4],
+const UNKNOWN: End = End::Stops(AnswerStop::Query(QueryFault::UnknownArgument(9)));
+
+const FOUR: &[u32] = &[1, 2, 3, 4];
+
+const ROWS: &[Row] = &[
+    // The cover of 4 has two sets, with a side clause each.
+    Row {
+        course: "goes on after a spent budget",
+        arguments: FOUR,
         attacks: FLOATING,
         steps: 1_000_000,
-        asks: &asks,
-    };
-    assert!(rt; all_hold(rt.alloc(), &row) == Some(true));
-    Ok(())
-}
-
-/// No preferred set is shown without a side clause.
-#[test]
-fn has_no_units(rt: HostRuntime) -> Result<(), Fail> {
-    let spent = End::Stops(AnswerStop::Spent(0));
-    let asks = [ask("SE-PR", None, 0, 10, spent)];
-    let row = Row {
-        arguments: &[1, 2, 3, 4],
+        asks: &[
+            ("DS-PR", Some(4), 1, 10, End::Stops(AnswerStop::Spent(1))),
+            ("DS-PR", Some(4), 1_000_000, 10, End::Yes),
+            ("DC-PR", Some(3), 1_000_000, 10, End::No),
+            ("SE-GR", None, 0, 10, End::Sets(&[&[]])),
+            ("DC-CO", Some(9), 1_000_000, 10, UNKNOWN),
+        ],
+    },
+    // No preferred set is shown without a side clause.
+    Row {
+        course: "has no units",
+        arguments: FOUR,
         attacks: FLOATING,
         steps: 1_000_000,
-        asks: &asks,
-    };
-    assert!(rt; all_hold(rt.alloc(), &row) == Some(true));
-    Ok(())
-}
-
-/// Three in a ring have no stable set, which takes a step to show.
-#[test]
-fn has_a_full_log(rt: HostRuntime) -> Result<(), Fail> {
-    let full = End::Stops(AnswerStop::LogFull);
-    let asks = [ask("SE-ST", None, 1_000_000, 10, full)];
-    let row = Row {
+        asks: &[("SE-PR", None, 0, 10, End::Stops(AnswerStop::Spent(0)))],
+    },
+    // Three in a ring have no stable set, which takes a step to show.
+    Row {
+        course: "has a full log",
         arguments: &[1, 2, 3],
         attacks: &[(1, 2), (2, 3), (3, 1)],
         steps: 0,
-        asks: &asks,
-    };
-    assert!(rt; all_hold(rt.alloc(), &row) == Some(true));
-    Ok(())
-}
-
-/// 1 and 2 attack each other, 2 attacks 3, and 3 and 4 attack themselves: 1 and 2 alone are preferred.
-#[test]
-fn lists_no_more_than_the_limit(rt: HostRuntime) -> Result<(), Fail> {
-    let many = End::Stops(AnswerStop::TooMany);
-    let asks = [
-        ask("EE-PR", None, 1_000_000, 1, many),
-        ask("EE-PR", None, 1_000_000, 2, End::Sets(&[&[1], &[2]])),
-    ];
-    let row = Row {
-        arguments: &[1, 2, 3, 4],
+        asks: &[(
+            "SE-ST",
+            None,
+            1_000_000,
+            10,
+            End::Stops(AnswerStop::LogFull),
+        )],
+    },
+    // 1 and 2 attack each other, 2 attacks 3, and 3 and 4 attack themselves: 1 and 2 alone are preferred.
+    Row {
+        course: "lists no more than the limit",
+        arguments: FOUR,
         attacks: &[(1, 2), (2, 1), (2, 3), (3, 3), (4, 4)],
         steps: 1_000_000,
-        asks: &asks,
-    };
-    assert!(rt; all_hold(rt.alloc(), &row) == Some(true));
+        asks: &[
+            ("EE-PR", None, 1_000_000, 1, End::Stops(AnswerStop::TooMany)),
+            ("EE-PR", None, 1_000_000, 2, End::Sets(&[&[1], &[2]])),
+        ],
+    },
+];
+
+#[test]
+fn courses(rt: HostRuntime) -> Result<(), Fail> {
+    for row in ROWS {
+        assert!(rt; all_hold(rt.alloc(), row) == Some(true), "{}", row.course);
+    }
     Ok(())
 }

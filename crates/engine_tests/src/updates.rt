@@ -4,7 +4,7 @@ ghost use Rattle.std.specs.Prelude.{◌≡◌, ◌∷◌, [], IfOk};
 ghost use Rattle.edit_rules.specs.Kinds.{framework_of};
 ghost use Rattle.edit_rules.specs.Replay.{IsTaken};
 
-use crate::answers::{Asked, End, ask, ask_all};
+use crate::answers::{Asked, End, ask_all};
 use aba_format::read_aba;
 use dung_notions::AfPlain;
 use edit_rules::{Edit, EditFault, Effect, Framework, apply};
@@ -17,11 +17,11 @@ use std::test::Fail;
 #[derive(Drop)]
 struct Turn<'a> {
     edits: &'a [Edit],
-    asks: &'a [Asked<'a>],
+    asks: &'static [Asked],
 }
 
 /// Edits with what is asked behind them.
-fn turn_of<'a>(edits: &'a [Edit], asks: &'a [Asked<'a>]) -> Turn<'a> {
+fn turn_of<'a>(edits: &'a [Edit], asks: &'static [Asked]) -> Turn<'a> {
     Turn { edits, asks }
 }
 
@@ -97,46 +97,53 @@ fn aba_engine(alloc: Global, text: &str) -> Option<Engine> {
 // 1 and 2 attack each other, 2 attacks 3, and 3 and 4 attack themselves.
 const RIVALS: &[(u32, u32)] = &[(1, 2), (2, 1), (2, 3), (3, 3), (4, 4)];
 
+/// What is asked about the rivals.
+const OF_RIVALS: &[Asked] = &[("EE-PR", None, 1_000_000, 10, End::Sets(&[&[1], &[2]]))];
+
+/// What is asked where 2 is unattacked.
+const OF_UNATTACKED: &[Asked] = &[
+    ("SE-GR", None, 0, 10, End::Sets(&[&[2]])),
+    ("EE-PR", None, 1_000_000, 10, End::Sets(&[&[2]])),
+    ("DC-PR", Some(1), 1_000_000, 10, End::No),
+    ("DS-PR", Some(2), 1_000_000, 10, End::Yes),
+];
+
 /// Attacks go and come back, and with them what they kept out.
 #[test]
 fn follows_edits_of_attacks(rt: HostRuntime) -> Result<(), Fail> {
-    let rivals = [ask("EE-PR", None, 1_000_000, 10, End::Sets(&[&[1], &[2]]))];
-    // 2 is unattacked then.
     let drop = [Edit::AttackDrop(1, 2)];
-    let unattacked = [
-        ask("SE-GR", None, 0, 10, End::Sets(&[&[2]])),
-        ask("EE-PR", None, 1_000_000, 10, End::Sets(&[&[2]])),
-        ask("DC-PR", Some(1), 1_000_000, 10, End::No),
-        ask("DS-PR", Some(2), 1_000_000, 10, End::Yes),
-    ];
     let add = [Edit::AttackAdd(1, 2)];
     let turns = [
-        turn_of(&[], &rivals),
-        turn_of(&drop, &unattacked),
-        turn_of(&add, &rivals),
+        turn_of(&[], OF_RIVALS),
+        turn_of(&drop, OF_UNATTACKED),
+        turn_of(&add, OF_RIVALS),
     ];
     assert!(rt; af_holds(rt.alloc(), &[1, 2, 3, 4], RIVALS, &turns) == Some(true));
     Ok(())
 }
 
+/// What is asked where 5 defends 1 against 2.
+const OF_DEFENDED: &[Asked] = &[
+    ("EE-PR", None, 1_000_000, 10, End::Sets(&[&[1, 5]])),
+    ("DC-PR", Some(2), 1_000_000, 10, End::No),
+];
+
+/// What is asked where 3 alone is neither in the set nor attacked by it.
+const OF_OPEN: &[Asked] = &[("EE-ST", None, 1_000_000, 10, End::No)];
+
+/// What is asked where 3 is gone then.
+const OF_STABLE: &[Asked] = &[("EE-ST", None, 1_000_000, 10, End::Sets(&[&[1, 4, 5]]))];
+
 /// Arguments come and go.
 #[test]
 fn follows_edits_of_arguments(rt: HostRuntime) -> Result<(), Fail> {
-    // 5 defends 1 against 2.
     let add = [Edit::ArgAdd(5), Edit::AttackAdd(5, 2)];
-    let defended = [
-        ask("EE-PR", None, 1_000_000, 10, End::Sets(&[&[1, 5]])),
-        ask("DC-PR", Some(2), 1_000_000, 10, End::No),
-    ];
-    // 3 alone is neither in the set nor attacked by it, and goes then.
     let free = [Edit::AttackDrop(4, 4)];
-    let open_ended = [ask("EE-ST", None, 1_000_000, 10, End::No)];
     let drop = [Edit::ArgDrop(3)];
-    let stable = [ask("EE-ST", None, 1_000_000, 10, End::Sets(&[&[1, 4, 5]]))];
     let turns = [
-        turn_of(&add, &defended),
-        turn_of(&free, &open_ended),
-        turn_of(&drop, &stable),
+        turn_of(&add, OF_DEFENDED),
+        turn_of(&free, OF_OPEN),
+        turn_of(&drop, OF_STABLE),
     ];
     assert!(rt; af_holds(rt.alloc(), &[1, 2, 3, 4], RIVALS, &turns) == Some(true));
     Ok(())
@@ -178,26 +185,29 @@ fn body_of(alloc: Global, atom: u32) -> Result<Items<u32>, Memory>
     Ok(body)
 }
 
+/// What is asked about the two assumptions below.
+const OF_BOTH: &[Asked] = &[("EE-ST", None, 1_000_000, 10, End::Sets(&[&[1], &[2]]))];
+
+/// What is asked where nothing derives the contrary of 1.
+const OF_ONE: &[Asked] = &[
+    ("EE-ST", None, 1_000_000, 10, End::Sets(&[&[1]])),
+    ("DC-CO", Some(3), 1_000_000, 10, End::No),
+    ("DC-CO", Some(4), 1_000_000, 10, End::YesBy(&[1])),
+];
+
 /// Two assumptions, of which each derives the contrary of the other at first. Rules go and come.
 #[test]
 fn follows_edits_of_rules(rt: HostRuntime) -> Result<(), Fail> {
     let text = "p aba 4\na 1\na 2\nc 1 3\nc 2 4\nr 3 2\nr 4 1\n";
-    let alloc = rt.alloc();
-    let rivals = [ask("EE-ST", None, 1_000_000, 10, End::Sets(&[&[1], &[2]]))];
-    // Nothing derives the contrary of 1 then.
+    let body = body_of(rt.alloc(), 2)?;
     let drop = [Edit::RuleDrop(1)];
-    let unattacked = [
-        ask("EE-ST", None, 1_000_000, 10, End::Sets(&[&[1]])),
-        ask("DC-CO", Some(3), 1_000_000, 10, End::No),
-        ask("DC-CO", Some(4), 1_000_000, 10, End::YesBy(&[1])),
-    ];
     // The rule comes back, with another number.
-    let add = [Edit::RuleAdd(3, body_of(alloc, 2)?)];
+    let add = [Edit::RuleAdd(3, body)];
     let turns = [
-        turn_of(&[], &rivals),
-        turn_of(&drop, &unattacked),
-        turn_of(&add, &rivals),
+        turn_of(&[], OF_BOTH),
+        turn_of(&drop, OF_ONE),
+        turn_of(&add, OF_BOTH),
     ];
-    assert!(rt; aba_holds(alloc, text, &turns) == Some(true));
+    assert!(rt; aba_holds(rt.alloc(), text, &turns) == Some(true));
     Ok(())
 }

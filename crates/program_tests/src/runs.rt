@@ -54,9 +54,51 @@ fn only(alloc: Global, number: u64) -> Result<Items<u64>, Fail> {
     Ok(numbers)
 }
 
+/// Whether a run ends with this status and this output.
+fn ends_so<R: Threads + Wait + Sync>(
+    rt: &R,
+    alloc: Global,
+    line: &str,
+    files: &mut MemFiles,
+    out: &mut MemSink,
+    output: &[u8],
+    code: u8,
+) -> Result<bool, AllocError> {
+    let ended = code_of(rt, alloc, line, files, out)?;
+    Ok(ended == code && out.bytes() == output)
+}
+
+/// The same of the query, where the file is to be written before.
+fn query_ends_so<R: Threads + Wait + Sync>(
+    rt: &R,
+    alloc: Global,
+    files: &mut MemFiles,
+    out: &mut MemSink,
+    output: &[u8],
+    code: u8,
+) -> Result<bool, Fail> {
+    append_all(files, "a", b"p af 3\n1 2\n2 3\n")?;
+    Ok(ends_so(rt, alloc, QUERY, files, out, output, code)?)
+}
+
+/// The same beside the call of the files that fails and the call of the sink that fails, where each call moves so many
+/// bytes at most.
+fn fails_so<R: Threads + Wait + Sync>(
+    rt: &R,
+    alloc: Global,
+    calls: (u64, u64),
+    most: usize,
+    output: &[u8],
+    code: u8,
+) -> Result<bool, Fail> {
+    let fetches = only(alloc, calls.0)?;
+    let mut out = MemSink::failing(alloc, only(alloc, calls.1)?, most);
+    let mut files = MemFiles::failing(alloc, fetches, most);
+    query_ends_so(rt, alloc, &mut files, &mut out, output, code)
+}
+
 #[test]
 fn faults(rt: HostRuntime) -> Result<(), Fail> {
-    let alloc = rt.alloc();
     // The call of the files that fails, the call of the sink that fails, and the most bytes that each call moves. Calls
     // count from 1. The first three calls of the files write the file, so that the first fetch is the fourth.
     let rows = [
@@ -66,14 +108,42 @@ fn faults(rt: HostRuntime) -> Result<(), Fail> {
         (0, 2, 2, "w ", 4),
     ];
     for (fetch, put, most, output, code) in rows {
-        let mut files = MemFiles::failing(alloc, only(alloc, fetch)?, most);
-        let mut out = MemSink::failing(alloc, only(alloc, put)?, most);
-        append_all(&mut files, "a", b"p af 3\n1 2\n2 3\n")?;
-        let ended = code_of(&rt, alloc, QUERY, &mut files, &mut out)?;
-        assert!(rt; ended == code, "status at {output:?}");
-        assert!(rt; out.bytes() == output.as_bytes(), "output at {output:?}");
+        let so = fails_so(&rt, rt.alloc(), (fetch, put), most, output.as_bytes(), code)?;
+        assert!(rt; so, "at {output:?}");
     }
     Ok(())
+}
+
+/// Whether a run on three files ends with this status, this output and these certificates.
+fn certifies_so<R: Threads + Wait + Sync>(
+    rt: &R,
+    alloc: Global,
+    line: &str,
+    files: &mut MemFiles,
+    out: &mut MemSink,
+    ending: (&[u8], &[u8], u8),
+) -> Result<bool, Fail> {
+    append_all(files, "a", b"p af 3\n1 2\n2 3\n")?;
+    append_all(files, "s", b"1 ask SE-GR\n")?;
+    append_all(files, "c", b"old")?;
+    let (output, certificates, code) = ending;
+    let so = ends_so(rt, alloc, line, files, out, output, code)?;
+    let held = read_all(alloc, files, Role::Certificate, "c", 100)?;
+    Ok(so && held.as_slice() == certificates)
+}
+
+/// The same beside the call of the files that fails and the call of the sink that fails.
+fn certifies_beside<R: Threads + Wait + Sync>(
+    rt: &R,
+    alloc: Global,
+    line: &str,
+    calls: (u64, u64),
+    ending: (&[u8], &[u8], u8),
+) -> Result<bool, Fail> {
+    let fetches = only(alloc, calls.0)?;
+    let mut out = MemSink::failing(alloc, only(alloc, calls.1)?, 7);
+    let mut files = MemFiles::failing(alloc, fetches, 7);
+    certifies_so(rt, alloc, line, &mut files, &mut out, ending)
 }
 
 /// Runs that write certificates, each beside one call that fails, and what they end with. Six calls write the files
@@ -97,16 +167,8 @@ fn certificate_faults_of<R: Threads + Wait + Sync + Abort>(
         (0, 1, b"".as_slice(), shown, 4),
     ];
     for (file, put, output, certificates, code) in rows {
-        let mut files = MemFiles::failing(alloc, only(alloc, file)?, 7);
-        let mut out = MemSink::failing(alloc, only(alloc, put)?, 7);
-        append_all(&mut files, "a", b"p af 3\n1 2\n2 3\n")?;
-        append_all(&mut files, "s", b"1 ask SE-GR\n")?;
-        append_all(&mut files, "c", b"old")?;
-        let ended = code_of(rt, alloc, line, &mut files, &mut out)?;
-        let held = read_all(alloc, &mut files, Role::Certificate, "c", 100)?;
-        assert!(rt; ended == code, "status at {file} and {put}");
-        assert!(rt; out.bytes() == output, "output at {file} and {put}");
-        assert!(rt; held.as_slice() == certificates, "file at {file} and {put}");
+        let so = certifies_beside(rt, alloc, line, (file, put), (output, certificates, code))?;
+        assert!(rt; so, "at {file} and {put}");
     }
     Ok(())
 }
@@ -139,17 +201,45 @@ fn session_certificate_faults(rt: HostRuntime) -> Result<(), Fail> {
     )
 }
 
+/// Whether all of the numbers from 1 to 999,999 are told.
+fn tells_all<R: Threads + Wait + Sync>(
+    rt: &R,
+    alloc: Global,
+    files: &mut MemFiles,
+    out: &mut MemSink,
+) -> Result<bool, Fail> {
+    append_all(files, "a", b"p af 1000000\n1000000 1000000\n")?;
+    let ended = code_of(rt, alloc, QUERY, files, out)?;
+    // They have 5,888,889 digits.
+    Ok(ended == 0 && out.bytes().len() == 1 + 999_999 + 5_888_889 + 1)
+}
+
 #[test]
 fn greatest_framework(rt: HostRuntime) -> Result<(), Fail> {
     let mut files = MemFiles::new(rt.alloc());
     let mut out = MemSink::new(rt.alloc());
-    append_all(&mut files, "a", b"p af 1000000\n1000000 1000000\n")?;
-    let words = words_of(rt.alloc(), QUERY)?;
-    let ended = status_of(&rt, rt.alloc(), words.as_slice(), &mut files, &mut out);
-    assert!(rt; ended == 0);
-    // The numbers from 1 to 999,999 have 5,888,889 digits.
-    assert!(rt; out.bytes().len() == 1 + 999_999 + 5_888_889 + 1);
+    assert!(rt; tells_all(&rt, rt.alloc(), &mut files, &mut out)?);
     Ok(())
+}
+
+/// Writes a file that has too many bytes.
+fn append_long(alloc: Global, files: &mut MemFiles, name: &str) -> Result<(), Fail> {
+    let bytes = vec![in alloc; 0u8; 268_435_457]?;
+    Ok(append_all(files, name, bytes.as_slice())?)
+}
+
+/// Whether a run tells that a file has too many bytes.
+fn is_too_long<R: Threads + Wait + Sync>(
+    rt: &R,
+    alloc: Global,
+    line: &str,
+    long: &str,
+    files: &mut MemFiles,
+    out: &mut MemSink,
+) -> Result<bool, Fail> {
+    append_all(files, "b", b"p af 1\n")?;
+    append_long(alloc, files, long)?;
+    Ok(ends_so(rt, alloc, line, files, out, b"error: limit input\n", 7)?)
 }
 
 #[test]
@@ -158,18 +248,8 @@ fn too_long(rt: HostRuntime) -> Result<(), Fail> {
     for (line, long) in [(QUERY, "a"), ("live -f b -s s", "s")] {
         let mut files = MemFiles::new(rt.alloc());
         let mut out = MemSink::new(rt.alloc());
-        append_all(&mut files, "b", b"p af 1\n")?;
-        append_all(
-            &mut files,
-            long,
-            vec![in rt.alloc(); 0u8; 268_435_457]?.as_slice(),
-        )?;
-        let ended = code_of(&rt, rt.alloc(), line, &mut files, &mut out)?;
-        assert!(rt; ended == 7, "status at {line:?}");
-        assert!(rt;
-            out.bytes() == b"error: limit input\n".as_slice(),
-            "output at {line:?}"
-        );
+        let so = is_too_long(&rt, rt.alloc(), line, long, &mut files, &mut out)?;
+        assert!(rt; so, "at {line:?}");
     }
     Ok(())
 }

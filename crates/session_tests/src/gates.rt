@@ -5,8 +5,8 @@ use bench_runs::script_runs::run_script;
 use crossbeam_utils::Backoff;
 use dung_notions::AfPlain;
 use edit_rules::Framework;
-use plain_lists::Bytes;
-use script_text::read_script;
+use plain_lists::{Bytes, Memory};
+use script_text::{Script, read_script};
 use session_replies::transcript_text;
 use std::alloc::Global;
 use std::mem::forget;
@@ -63,15 +63,25 @@ impl Pace for Gate {
 fn transcript<R: Threads + Wait + Sync>(
     rt: &R,
     alloc: Global,
+    script: &Script,
+    gate: &Gate,
+) -> Result<Bytes, Memory> {
+    let opening = Framework::Af(AfPlain::of_lists(alloc, &[1, 2], &[])?);
+    let told = run_script(rt, alloc, opening, script, 1_000, gate)?;
+    let text = transcript_text(alloc, &told.replies, &told.history.entries);
+    forget(told);
+    text
+}
+
+/// The same of a script's text.
+fn transcript_of<R: Threads + Wait + Sync>(
+    rt: &R,
+    alloc: Global,
     text: &str,
     gate: &Gate,
 ) -> Result<Bytes, Fail> {
     let script = read_script(alloc, text.as_bytes())?;
-    let opening = Framework::Af(AfPlain::of_lists(alloc, &[1, 2], &[])?);
-    let told = run_script(rt, alloc, opening, &script, 1_000, gate)?;
-    let text = transcript_text(alloc, &told.replies, &told.history.entries);
-    forget(told);
-    Ok(text?)
+    Ok(transcript(rt, alloc, &script, gate)?)
 }
 
 /// Session 2 edits and is answered while session 1 stands inside its query, which is about the framework before the edit.
@@ -83,7 +93,7 @@ fn answered_meanwhile(rt: HostRuntime) -> Result<(), Fail> {
         gave_up: AtomicBool::new(false),
     };
     let script = "1 ask SE-PR\n2 att 1 2\n2 ask SE-PR\n";
-    let told = transcript(&rt, rt.alloc(), script, &gate)?;
+    let told = transcript_of(&rt, rt.alloc(), script, &gate)?;
     assert!(rt; !gate.gave_up.load(Ordering::SeqCst));
     let wanted = "session 1\nat 0\nw 1 2\nsession 2\nat 1\nOK\nat 1\nw 1\nhistory\n2 att 1 2\n";
     assert!(rt; told.as_slice() == wanted.as_bytes());

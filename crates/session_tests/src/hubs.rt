@@ -124,11 +124,8 @@ fn came_between(rt: HostRuntime) -> Result<(), Fail> {
     let (hub, mut seats) = Hub::open(&rt, alloc, worked(alloc)?, 9, 2)?;
     assert!(rt; cross_first(&rt, alloc, &hub, seats.as_mut_slice()));
     let history = hub.close(seats);
-    assert_eq!(rt; history.entries.len(), 2);
-    assert_eq!(rt;
-        history.entries[0].effect.dropped.as_slice(),
-        [(2, 3)].as_slice()
-    );
+    assert!(rt; history.entries.len() == 2);
+    assert!(rt; history.entries[0].effect.dropped.as_slice() == [(2, 3)].as_slice());
     Ok(())
 }
 
@@ -250,18 +247,18 @@ fn entries_made<R: Threads + Wait + Sync>(
 #[test]
 fn two_in_threads(rt: HostRuntime) -> Result<(), Fail> {
     let entries = entries_made(&rt, rt.alloc(), 2, 2_000, 0)?;
-    assert_eq!(rt; entries.len(), 4_000);
-    assert_eq!(rt; entries_of(&entries, 1), Some(2_000));
-    assert_eq!(rt; entries_of(&entries, 2), Some(2_000));
+    assert!(rt; entries.len() == 4_000);
+    assert!(rt; entries_of(&entries, 1) == Some(2_000));
+    assert!(rt; entries_of(&entries, 2) == Some(2_000));
     Ok(())
 }
 
 #[test]
 fn seven_and_a_reader(rt: HostRuntime) -> Result<(), Fail> {
     let entries = entries_made(&rt, rt.alloc(), 8, 200, 8)?;
-    assert_eq!(rt; entries.len(), 1_400);
+    assert!(rt; entries.len() == 1_400);
     for session in 1..8u32 {
-        assert_eq!(rt; entries_of(&entries, session), Some(200), "at {session}");
+        assert!(rt; entries_of(&entries, session) == Some(200), "at {session}");
     }
     Ok(())
 }

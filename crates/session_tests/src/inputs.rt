@@ -5,6 +5,7 @@ use bench_inputs::bench_input;
 use bench_runs::{BenchRun, run_bench};
 use edit_rules::Framework;
 use plain_lists::{Bytes, Memory};
+use script_text::Script;
 use std::alloc::Global;
 use std::mem::forget;
 use std::sync::Wait;
@@ -23,21 +24,35 @@ fn has_attacks(
     }
 }
 
+/// Whether an input that was made just now has these attacks alone, and so many lines.
+fn is_input(
+    alloc: Global,
+    input: Result<(Framework, Script), Memory>,
+    attacks: &[(u32, u32)],
+    lines: usize,
+) -> Result<bool, Memory> {
+    let (framework, script) = input?;
+    if script.lines.len() == lines {
+        has_attacks(alloc, &framework, attacks)
+    } else {
+        Ok(false)
+    }
+}
+
 /// One argument can but attack itself, whatever is drawn.
 #[test]
 fn one_argument(rt: HostRuntime) -> Result<(), Fail> {
-    let (framework, script) = bench_input(rt.alloc(), 1, 1)?;
-    assert!(rt; has_attacks(rt.alloc(), &framework, &[(1, 1)])?);
-    assert!(rt; script.lines.len() == 4);
+    let alloc = rt.alloc();
+    assert!(rt; is_input(alloc, bench_input(alloc, 1, 1), &[(1, 1)], 4)?);
     Ok(())
 }
 
 /// Of two arguments each attacks both, by what a seed of one draws.
 #[test]
 fn two_arguments(rt: HostRuntime) -> Result<(), Fail> {
-    let (framework, script) = bench_input(rt.alloc(), 2, 1)?;
-    assert!(rt; has_attacks(rt.alloc(), &framework, &[(1, 1), (1, 2), (2, 1), (2, 2)])?);
-    assert!(rt; script.lines.len() == 8);
+    let alloc = rt.alloc();
+    let attacks = [(1, 1), (1, 2), (2, 1), (2, 2)];
+    assert!(rt; is_input(alloc, bench_input(alloc, 2, 1), &attacks, 8)?);
     Ok(())
 }
 

@@ -120,15 +120,26 @@ fn told_first<R: Wait>(
     told_at(rt, alloc, hub, pool, seat, framework)
 }
 
-/// The same at the seat of a hub whose history may have one entry, on three arguments in a ring.
+/// The same at the seat of a hub whose history may have one entry.
+fn told_of<R: Wait>(
+    rt: &R,
+    alloc: Global,
+    pool: &Pool,
+    framework: &Framework,
+) -> Result<Bytes, Fail> {
+    let opening = framework.copy(alloc)?;
+    let (hub, seats) = Hub::open(rt, alloc, opening, 1, 1)?;
+    let told = told_first(rt, alloc, &hub, pool, seats, framework);
+    forget(hub);
+    told
+}
+
+/// The same on three arguments in a ring.
 fn in_a_ring<R: Wait>(rt: &R, alloc: Global) -> Result<Bytes, Fail> {
     let plain = AfPlain::of_lists(alloc, &[1, 2, 3], &[(1, 2), (2, 3), (3, 1)])?;
     let framework = Framework::Af(plain);
-    let opening = framework.copy(alloc)?;
     let pool = Pool::open(alloc)?;
-    let (hub, seats) = Hub::open(rt, alloc, opening, 1, 1)?;
-    let told = told_first(rt, alloc, &hub, &pool, seats, &framework);
-    forget(hub);
+    let told = told_of(rt, alloc, &pool, &framework);
     forget(pool);
     forget(framework);
     told

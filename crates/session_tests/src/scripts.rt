@@ -25,12 +25,8 @@ fn rule(alloc: Global, head: u32, body: &[u32]) -> Result<Edit, Memory> {
     Ok(Edit::RuleAdd(head, Items::from_vec(Vec::from_slice(alloc, body)?)))
 }
 
-/// Every command, among lines that are skipped, with leading zeros, tabs and line ends of two bytes.
-#[test]
-fn commands(rt: HostRuntime) -> Result<(), Fail> {
-    let text =
-        "# a case\n1 arg 4\n1 noarg 0004\r\n\n  2 att 1 2\n2 noatt\t1 2\n8 asm 3 0\n8 noasm 3\n\
-        8 con 3 1\n8 rule 2 7 5 7\n8 rule 2\n8 norule 1\n3 ask SE-ID\n3 ask DC-PR 2";
+/// What a line of the text below says, by its number.
+fn told_at(alloc: Global, number: usize) -> Result<Told, Memory> {
     let ideal = Task {
         problem: Problem::SomeExtension,
         semantics: Semantics::Ideal,
@@ -39,24 +35,38 @@ fn commands(rt: HostRuntime) -> Result<(), Fail> {
         problem: Problem::Credulous,
         semantics: Semantics::Preferred,
     };
-    let told: [Told; 12] = [
-        (1, Ok(Edit::ArgAdd(4))),
-        (1, Ok(Edit::ArgDrop(4))),
-        (2, Ok(Edit::AttackAdd(1, 2))),
-        (2, Ok(Edit::AttackDrop(1, 2))),
-        (8, Ok(Edit::AsmAdd(3, 0))),
-        (8, Ok(Edit::AsmDrop(3))),
-        (8, Ok(Edit::ConSet(3, 1))),
-        (8, Ok(rule(rt.alloc(), 2, &[7, 5, 7])?)),
-        (8, Ok(rule(rt.alloc(), 2, &[])?)),
-        (8, Ok(Edit::RuleDrop(1))),
-        (3, Err((ideal, None))),
-        (3, Err((preferred, Some(2)))),
-    ];
+    Ok(match number {
+        0 => (1, Ok(Edit::ArgAdd(4))),
+        1 => (1, Ok(Edit::ArgDrop(4))),
+        2 => (2, Ok(Edit::AttackAdd(1, 2))),
+        3 => (2, Ok(Edit::AttackDrop(1, 2))),
+        4 => (8, Ok(Edit::AsmAdd(3, 0))),
+        5 => (8, Ok(Edit::AsmDrop(3))),
+        6 => (8, Ok(Edit::ConSet(3, 1))),
+        7 => (8, Ok(rule(alloc, 2, &[7, 5, 7])?)),
+        8 => (8, Ok(rule(alloc, 2, &[])?)),
+        9 => (8, Ok(Edit::RuleDrop(1))),
+        10 => (3, Err((ideal, None))),
+        _ => (3, Err((preferred, Some(2)))),
+    })
+}
+
+/// Whether a line says what it has to.
+fn says_so(alloc: Global, line: &ScriptLine, number: usize) -> Result<bool, Memory> {
+    let told = told_at(alloc, number)?;
+    Ok(says(line, &told))
+}
+
+/// Every command, among lines that are skipped, with leading zeros, tabs and line ends of two bytes.
+#[test]
+fn commands(rt: HostRuntime) -> Result<(), Fail> {
+    let text =
+        "# a case\n1 arg 4\n1 noarg 0004\r\n\n  2 att 1 2\n2 noatt\t1 2\n8 asm 3 0\n8 noasm 3\n\
+        8 con 3 1\n8 rule 2 7 5 7\n8 rule 2\n8 norule 1\n3 ask SE-ID\n3 ask DC-PR 2";
     let script = read_script(rt.alloc(), text.as_bytes())?;
-    assert!(rt; script.lines.len() == told.len());
-    for (line, told) in script.lines.as_slice().iter().zip(&told) {
-        assert!(rt; says(line, told), "at {:?}", line);
+    assert!(rt; script.lines.len() == 12);
+    for (number, line) in script.lines.as_slice().iter().enumerate() {
+        assert!(rt; says_so(rt.alloc(), line, number)?, "at {:?}", line);
     }
     Ok(())
 }
@@ -88,21 +98,18 @@ const FAULTY: &[(&str, usize, ScriptCause)] = &[
     ("1 arg 1\n\n# x\n1 arg y\n0 arg", 4, ScriptCause::BadNumber),
 ];
 
+/// Whether a text is told this fault.
+fn is_told(alloc: Global, text: &str, line: usize, cause: ScriptCause) -> bool {
+    match read_script(alloc, text.as_bytes()) {
+        Ok(_script) => false,
+        Err(fault) => fault == ScriptFault::At { line, cause },
+    }
+}
+
 #[test]
 fn faults(rt: HostRuntime) -> Result<(), Fail> {
-    for row in FAULTY {
-        let told = match read_script(rt.alloc(), row.0.as_bytes()) {
-            Ok(_script) => None,
-            Err(fault) => Some(fault),
-        };
-        assert!(rt;
-            told == Some(ScriptFault::At {
-                line: row.1,
-                cause: row.2
-            }),
-            "at {}",
-            row.0
-        );
+    for &(text, line, cause) in FAULTY {
+        assert!(rt; is_told(rt.alloc(), text, line, cause), "at {text}");
     }
     assert!(rt; read_script(rt.alloc(), b"")?.lines.is_empty());
     Ok(())

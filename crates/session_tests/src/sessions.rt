@@ -34,40 +34,51 @@ fn transcript<R: Threads + Wait + Sync>(
     text
 }
 
-/// The same of a script's text.
+/// The same of a script's text, on arguments 1 to n and attacks.
 fn transcript_of<R: Threads + Wait + Sync>(
     rt: &R,
     alloc: Global,
-    framework: Framework,
+    n: u32,
+    attacks: &[(u32, u32)],
     script: &str,
 ) -> Result<Bytes, Fail> {
     let script = read_script(alloc, script.as_bytes())?;
-    Ok(transcript(rt, alloc, framework, &script)?)
+    let opening = framework(alloc, n, attacks)?;
+    Ok(transcript(rt, alloc, opening, &script)?)
+}
+
+/// Whether that transcript is one of two texts.
+fn is_either<R: Threads + Wait + Sync>(
+    rt: &R,
+    alloc: Global,
+    n: u32,
+    attacks: &[(u32, u32)],
+    script: &str,
+    texts: (&str, &str),
+) -> Result<bool, Fail> {
+    let told = transcript_of(rt, alloc, n, attacks, script)?;
+    Ok(told.as_slice() == texts.0.as_bytes() || told.as_slice() == texts.1.as_bytes())
 }
 
 /// One session edits and asks: a query is about the framework behind the edits before it.
 #[test]
 fn one_session(rt: HostRuntime) -> Result<(), Fail> {
-    let alloc = rt.alloc();
-    let opening = framework(alloc, 3, &[(1, 2), (2, 1), (2, 3)])?;
     let script = "1 noatt 2 1\n1 ask DC-CO 2\n1 att 2 1\n1 ask DC-CO 2\n";
-    let told = transcript_of(&rt, alloc, opening, script)?;
     let wanted =
         "session 1\nat 1\nOK\nat 1\nNO\nat 2\nOK\nat 2\nYES\nw 2\nhistory\n1 noatt 2 1\n1 att 2 1\n";
-    assert!(rt; told.as_slice() == wanted.as_bytes());
+    let attacks = [(1, 2), (2, 1), (2, 3)];
+    assert!(rt; is_either(&rt, rt.alloc(), 3, &attacks, script, (wanted, wanted))?);
     Ok(())
 }
 
 /// Two sessions add the same attack: one of them is told that it is there, behind the other's entry.
 #[test]
 fn two_of_one_edit(rt: HostRuntime) -> Result<(), Fail> {
-    let alloc = rt.alloc();
-    let opening = framework(alloc, 2, &[])?;
-    let told = transcript_of(&rt, alloc, opening, "1 att 1 2\n2 att 1 2\n")?;
+    let script = "1 att 1 2\n2 att 1 2\n";
     let first = "session 1\nat 1\nOK\nsession 2\nat 1\nREFUSED AttackIsThere\nhistory\n1 att 1 2\n";
     let second =
         "session 1\nat 1\nREFUSED AttackIsThere\nsession 2\nat 1\nOK\nhistory\n2 att 1 2\n";
-    assert!(rt; told.as_slice() == first.as_bytes() || told.as_slice() == second.as_bytes());
+    assert!(rt; is_either(&rt, rt.alloc(), 2, &[], script, (first, second))?);
     Ok(())
 }
 
@@ -101,10 +112,9 @@ fn winner(alloc: Global, told: &[u8]) -> Result<Option<u32>, AllocError> {
 #[test]
 fn eight_of_one_edit(rt: HostRuntime) -> Result<(), Fail> {
     let alloc = rt.alloc();
-    let opening = framework(alloc, 2, &[])?;
     let script =
         "1 att 1 2\n2 att 1 2\n3 att 1 2\n4 att 1 2\n5 att 1 2\n6 att 1 2\n7 att 1 2\n8 att 1 2\n";
-    let told = transcript_of(&rt, alloc, opening, script)?;
+    let told = transcript_of(&rt, alloc, 2, &[], script)?;
     assert!(rt; winner(alloc, told.as_slice())?.is_some());
     Ok(())
 }
@@ -112,20 +122,17 @@ fn eight_of_one_edit(rt: HostRuntime) -> Result<(), Fail> {
 /// One session edits while another asks: the answer is of the framework at its front.
 #[test]
 fn one_asks_meanwhile(rt: HostRuntime) -> Result<(), Fail> {
-    let alloc = rt.alloc();
-    let opening = framework(alloc, 2, &[])?;
-    let told = transcript_of(&rt, alloc, opening, "1 att 1 2\n1 ask SE-GR\n2 ask SE-GR\n")?;
+    let script = "1 att 1 2\n1 ask SE-GR\n2 ask SE-GR\n";
     let before = "session 1\nat 1\nOK\nat 1\nw 1\nsession 2\nat 0\nw 1 2\nhistory\n1 att 1 2\n";
     let behind = "session 1\nat 1\nOK\nat 1\nw 1\nsession 2\nat 1\nw 1\nhistory\n1 att 1 2\n";
-    assert!(rt; told.as_slice() == before.as_bytes() || told.as_slice() == behind.as_bytes());
+    assert!(rt; is_either(&rt, rt.alloc(), 2, &[], script, (before, behind))?);
     Ok(())
 }
 
 /// A script without lines has no session.
 #[test]
 fn no_session(rt: HostRuntime) -> Result<(), Fail> {
-    let alloc = rt.alloc();
-    let told = transcript_of(&rt, alloc, framework(alloc, 1, &[])?, "# nobody\n")?;
-    assert!(rt; told.as_slice() == "history\n".as_bytes());
+    let texts = ("history\n", "history\n");
+    assert!(rt; is_either(&rt, rt.alloc(), 1, &[], "# nobody\n", texts)?);
     Ok(())
 }

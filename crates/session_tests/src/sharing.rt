@@ -111,15 +111,26 @@ fn both<R: Wait>(
     Ok((first, second))
 }
 
-/// The same at the two seats of a hub, on three arguments in a ring.
+/// The same at the two seats of a hub.
+fn marks_on<R: Wait>(
+    rt: &R,
+    alloc: Global,
+    pool: &Pool,
+    framework: &Framework,
+) -> Result<(Marks, Marks), Fail> {
+    let opening = framework.copy(alloc)?;
+    let (hub, seats) = Hub::open(rt, alloc, opening, 9, 2)?;
+    let marks = both(rt, alloc, &hub, pool, seats, framework);
+    forget(hub);
+    marks
+}
+
+/// The same on three arguments in a ring.
 fn in_a_ring<R: Wait>(rt: &R, alloc: Global) -> Result<(Marks, Marks), Fail> {
     let plain = AfPlain::of_lists(alloc, &[1, 2, 3], &[(1, 2), (2, 3), (3, 1)])?;
     let framework = Framework::Af(plain);
-    let opening = framework.copy(alloc)?;
     let pool = Pool::open(alloc)?;
-    let (hub, seats) = Hub::open(rt, alloc, opening, 9, 2)?;
-    let marks = both(rt, alloc, &hub, &pool, seats, &framework);
-    forget(hub);
+    let marks = marks_on(rt, alloc, &pool, &framework);
     forget(pool);
     forget(framework);
     marks

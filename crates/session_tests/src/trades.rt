@@ -87,13 +87,12 @@ fn ask<T: ClauseTrade>(alloc: Global, trade: &mut T) -> Result<bool, Fail> {
 }
 
 /// Whether the axiom that session 1 shares between two searches of session 2 is given before the second.
-fn is_given_meanwhile<R: Wait>(rt: &R, alloc: Global) -> Result<bool, Fail> {
-    let pool = Pool::open(alloc)?;
+fn is_given_meanwhile<R: Wait>(rt: &R, alloc: Global, pool: &Pool) -> Result<bool, Fail> {
     let mut trade = Meanwhile {
         rt,
         alloc,
-        pool: &pool,
-        over: PoolTrade::new(rt, alloc, &pool, 0),
+        pool,
+        over: PoolTrade::new(rt, alloc, pool, 0),
         asked: 0,
         given: false,
     };
@@ -103,6 +102,7 @@ fn is_given_meanwhile<R: Wait>(rt: &R, alloc: Global) -> Result<bool, Fail> {
 
 #[test]
 fn shared_between_searches(rt: HostRuntime) -> Result<(), Fail> {
-    assert!(rt; is_given_meanwhile(&rt, rt.alloc())?);
+    let pool = Pool::open(rt.alloc())?;
+    assert!(rt; is_given_meanwhile(&rt, rt.alloc(), &pool)?);
     Ok(())
 }

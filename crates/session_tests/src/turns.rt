@@ -121,12 +121,12 @@ fn notes_made<R: Threads + Wait + Sync>(rt: &R, alloc: Global, n: u32) -> Result
 #[test]
 fn one_seat_or_two(rt: HostRuntime) -> Result<(), Fail> {
     let alone = notes_made(&rt, rt.alloc(), 1)?;
-    assert_eq!(rt; notes_of(&alone.notes, 1), 100);
+    assert!(rt; notes_of(&alone.notes, 1) == 100);
     let both = notes_made(&rt, rt.alloc(), 2)?;
-    assert_eq!(rt; both.title, 7);
-    assert_eq!(rt; both.notes.len(), 200);
-    assert_eq!(rt; notes_of(&both.notes, 1), 100);
-    assert_eq!(rt; notes_of(&both.notes, 2), 100);
+    assert!(rt; both.title == 7);
+    assert!(rt; both.notes.len() == 200);
+    assert!(rt; notes_of(&both.notes, 1) == 100);
+    assert!(rt; notes_of(&both.notes, 2) == 100);
     Ok(())
 }
 
