@@ -1,4 +1,5 @@
 pub mod BlockLemmas
+pub mod BucketLemmas
 pub mod ChangeLemmas
 pub mod OffsetLemmas
 pub mod PairOrderLemmas

@@ -1,4 +1,5 @@
 pub mod Blocks
+pub mod Buckets
 pub mod Changes
 pub mod Offsets
 pub mod PairOrder

@@ -4,6 +4,7 @@
 
 mod block;
 mod blocks;
+mod buckets;
 mod changes;
 mod index;
 mod sorting;
