@@ -18,10 +18,10 @@ use Rattle.meaning_atoms.specs.declared.atom.Atom.{Atom}
 use Rattle.meaning_atoms.specs.declared.atom.AtomLit.{AtomLit}
 use Rattle.meaning_atoms.specs.Literals.{negated}
 use Rattle.oracle_face.specs.Logs as face
-use Rattle.oracle_face.specs.Logs.{LogStep, SideClause, OracleLog, no_side}
+use Rattle.oracle_face.specs.Logs.{LogStep, SideClause, OracleLog}
 use Rattle.oracle_face.specs.Growing.{Grows, NoSide}
 use Rattle.session_log.specs.Steps as session
-use Rattle.session_log.specs.Steps.{FollowsByHints, StandsInHint, GainsStep, derived_step}
+use Rattle.session_log.specs.Steps.{FollowsByHints, StandsInHint, derived_step}
 use Rattle.session_log.proofs.Staying.{derived_stays}
 use Rattle.atom_solver.specs.declared.origin.Origin.{Origin}
 use Rattle.atom_solver.specs.declared.origin.Origin.TheVariants.{Hints}

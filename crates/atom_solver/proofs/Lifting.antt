@@ -21,7 +21,7 @@ use Rattle.meaning_atoms.specs.declared.atom.Atom.TheVariants.{Cf}
 use Rattle.meaning_atoms.specs.declared.atom.AtomLit.{AtomLit}
 use Rattle.meaning_atoms.specs.Literals.{negated}
 use Rattle.oracle_face.specs.Logs as face
-use Rattle.oracle_face.specs.Logs.{LogStep, SideClause, OracleLog}
+use Rattle.oracle_face.specs.Logs.{LogStep, SideClause}
 use Rattle.atom_solver.specs.declared.origin.Origin.{Origin}
 use Rattle.atom_solver.specs.Lifted.{atom_at, lit_of, atoms_of, in_use, lifted_at, listed, log_upto}
 use Rattle.atom_solver.proofs.Listing.{length-listed, get_or-listed, listed_same}

@@ -1,5 +1,5 @@
 -- What it leaves that a loop clause comes.
-use Rattle.std.proofs.Common.{◌≡◌, ℕ, ◌+◌, true, ap, sym, subst, ◌∙◌, refl, arith}
+use Rattle.std.proofs.Common.{◌≡◌, ℕ, ◌+◌, true, ap, sym, subst, arith}
 use Rattle.std.specs.Prelude.{Option, Some, Result, Ok, Err, IfErr, OnOk, OnErr}
 use Rattle.plain_lits.specs.Units.{Units}
 use Rattle.plain_lits.specs.declared.halt.Halt.{Halt}

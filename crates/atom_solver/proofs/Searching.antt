@@ -21,7 +21,7 @@ use Rattle.meaning_atoms.specs.Literals.{negated}
 use Rattle.meaning_atoms.specs.Worlds.{IsFact}
 use Rattle.af_axioms.specs.Facts.{IsFactValue}
 use Rattle.oracle_face.specs.Logs as face
-use Rattle.oracle_face.specs.Logs.{LogStep, SideClause, OracleLog, IsNew, FactsAreFalse, IsNumberOf, working, is_unit, units_of, closings_of}
+use Rattle.oracle_face.specs.Logs.{LogStep, SideClause, IsNew, FactsAreFalse, working, is_unit, closings_of}
 use Rattle.oracle_face.specs.Goals.{RefutesGoals}
 use Rattle.oracle_face.specs.Growing.{Works, IsFurther, NoSide}
 use Rattle.oracle_face.specs.declared.face.Pending.TheVariants.{Learned as InHand}

@@ -1,5 +1,5 @@
 -- What of an engine depends on the kind of its framework, by cases on it.
-use Rattle.std.proofs.Common.{◌≡◌, ap, arith, ◌∙◌, ℕ, Bool, true, false, List, refl, inl, inr, ⊎_elim}
+use Rattle.std.proofs.Common.{◌≡◌, ap, arith, ℕ, Bool, true, false, List, refl, inl, inr, ⊎_elim}
 use Rattle.std.specs.Prelude.{◌&&◌, ◌⊎◌, ◌≤◌, Contains, IfOk, Result, Ok, Err}
 use Rattle.plain_lists.specs.Members.{IsSetOf}
 use Rattle.plain_lists.specs.declared.memory.Memory.{Memory}

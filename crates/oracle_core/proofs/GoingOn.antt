@@ -1,5 +1,5 @@
 -- What a call of the solver adds is steps of the session.
-use Rattle.std.proofs.Common.{◌≡◌, ◌∙◌, ⊎_elim, ℕ, ◌+◌, Bool, true, false, true≢false, refl, List, [], ◌∷◌, ◌++◌, length, ap, arith, sym, subst, inl, inr}
+use Rattle.std.proofs.Common.{◌≡◌, ◌∙◌, ⊎_elim, ℕ, ◌+◌, Bool, true, true≢false, refl, List, [], ◌∷◌, ◌++◌, length, ap, arith, sym, subst, inl}
 use Rattle.std.specs.Prelude.{◌⊎◌, ◌&&◌, cond, count_by, None, Option, Result, Some, Ok, Err, IsErr, IsErrAnd}
 use Rattle.std.proofs.lemmas.Bool.{false≢true}
 use Rattle.plain_lists.proofs.Counts.{count_by-cons}
@@ -15,7 +15,7 @@ use Rattle.oracle_face.specs.Growing.{HasRun, NoSide, UnlessMemory, halt_of}
 use Rattle.oracle_face.specs.Logs.{OracleLog, LogStep, IsNew, IsNumberOf, by_axiom, by_hints, by_side, is_loop, is_unit, step_at, units_of, working}
 use Rattle.oracle_face.proofs.GrowingLemmas.{unless_then}
 use Rattle.session_log.specs.Ends.{IsTakenByNone, LoopInHand}
-use Rattle.session_log.specs.Steps.{LearnsClauses, nothing as none_learned, one_more as one_learned, derived_step, own_step}
+use Rattle.session_log.specs.Steps.{LearnsClauses, nothing as none_learned, one_more as one_learned, own_step}
 use Rattle.session_log.proofs.AxiomLemmas.{needed_no_loop}
 use Rattle.clause_imports.specs.OwnSteps.{IsCalledOn, IsWanted, OwnStep, keeps_side, learns_axiom, learns_clause, nothing, one_more}
 use Rattle.clause_imports.specs.OwnSteps.{takes_entry}

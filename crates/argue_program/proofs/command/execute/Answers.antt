@@ -2,7 +2,8 @@ use Rattle.std.proofs.Common.{map}
 use Rattle.std.specs.String.{string_bytes}
 use Rattle.argue_words.specs.Words.{requested}
 use Rattle.argue_program.proofs.RowsLemmas.{decides_no_fault}
-use Rattle.argue_program.proofs.RunsLemmas.{IsRunOf-written, accepted, checked, complete, faulty, no_query, filled, no_write, other_counts, other_files, problems_told, right_session, solved_written, spent, too_long, unasked, untouched, usage, write_fault}
+use Rattle.argue_program.proofs.KeptLemmas.{IsRunOf-written}
+use Rattle.argue_program.proofs.RunsLemmas.{accepted, checked, complete, faulty, no_query, filled, no_write, other_counts, other_files, problems_told, right_session, solved_written, spent, too_long, unasked, untouched, usage, write_fault}
 use Rattle.argue_program.proofs.command.execute.Goals as goal
 
 pub write_ending-requires : goal.write_ending-requires

@@ -2,7 +2,8 @@ use Rattle.std.proofs.Common.{map}
 use Rattle.std.specs.String.{string_bytes}
 use Rattle.argue_words.specs.Words.{requested}
 use Rattle.argue_program.proofs.RowsLemmas.{decides_no_fault}
-use Rattle.argue_program.proofs.RunsLemmas.{IsRunOf-written, accepted, checked, complete, complete_bench, complete_script, faulty, faulty_script, filled, long_script, no_budget, no_large, no_query, no_write, other_counts, other_files, problems_told, right_session, right_transcript, script_written, solved_written, spent, summary_written, too_long, unasked, untouched, usage, write_fault}
+use Rattle.argue_program.proofs.KeptLemmas.{IsRunOf-written}
+use Rattle.argue_program.proofs.RunsLemmas.{accepted, checked, complete, complete_bench, complete_script, faulty, faulty_script, filled, long_script, no_budget, no_large, no_query, no_write, other_counts, other_files, problems_told, right_session, right_transcript, script_written, solved_written, spent, summary_written, too_long, unasked, untouched, usage, write_fault}
 use Rattle.argue_program.proofs.command.run.Goals as goal
 
 pub write_ending-requires : goal.write_ending-requires

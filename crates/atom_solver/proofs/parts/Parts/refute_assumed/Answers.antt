@@ -1,4 +1,4 @@
-use Rattle.std.proofs.Common.{◌≡◌, ap}
+use Rattle.std.proofs.Common.{ap}
 use Rattle.sat_core.specs.Solving.{SolverState}
 use Rattle.atom_solver.specs.Lifted.{state_over}
 use Rattle.atom_solver.proofs.Deriving.{room_stays, search_stays}

@@ -1,4 +1,4 @@
-use Rattle.std.proofs.Common.{◌≡◌, sym, subst}
+use Rattle.std.proofs.Common.{sym, subst}
 use Rattle.plain_lits.specs.Units.{Units}
 use Rattle.oracle_face.specs.Growing.{HasRun, NoSide, halt_of}
 use Rattle.oracle_core.specs.Engines.{EngineState}

@@ -4,7 +4,7 @@ use Rattle.oracle_face.specs.Growing.{closes, halt_of}
 use Rattle.atom_solver.proofs.Running.{unless_all}
 use Rattle.oracle_core.specs.Stepping.{EndsInHand, GoesOnBySteps}
 use Rattle.oracle_core.proofs.GoingOn.{handed_on, none_in_hand}
-use Rattle.oracle_core.proofs.Joining.{IsCourse, forced_goals, halted, searched_found, searched_run, searched_steps}
+use Rattle.oracle_core.proofs.Joining.{forced_goals, halted, searched_found, searched_run, searched_steps}
 use Rattle.oracle_core.proofs.parts.Parts.find.Goals as goal
 
 pub returns-in_err-force-clause-run : goal.returns-in_err-force-clause-run

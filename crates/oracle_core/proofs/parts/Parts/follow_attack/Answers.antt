@@ -1,6 +1,5 @@
-use Rattle.std.proofs.Common.{◌≡◌, inr}
+use Rattle.std.proofs.Common.{inr}
 use Rattle.edit_rules.specs.Kinds.{framework_of}
-use Rattle.edit_rules.specs.Replay.{after_edit}
 use Rattle.oracle_core.proofs.UpdateLemmas.{all_waiting, attack_members, behind, effect_of, followed, left_as}
 use Rattle.oracle_core.proofs.parts.Parts.follow_attack.Goals as goal
 

@@ -1,5 +1,5 @@
 use Rattle.std.proofs.Common.{inl, refl}
-use Rattle.oracle_face.specs.Growing.{NoSide, closes, halt_of}
+use Rattle.oracle_face.specs.Growing.{closes, halt_of}
 use Rattle.oracle_core.specs.TradingLaws.{trades_joined}
 use Rattle.oracle_core.proofs.Joining.{forced_then, goals_still, halted}
 use Rattle.oracle_core.proofs.trading.TradingOracle.find.Goals as goal

@@ -1,0 +1,300 @@
+-- What a run writes and keeps: files of other names, a session, a transcript.
+use Rattle.std.proofs.Common.{◌≡◌, ◌≢◌, ◌∙◌, ◌⊎◌, ℕ, List, [], ◌∷◌, refl, sym, ap, subst, inl, inr, Option, None, Some, Result, Ok, Err}
+use Rattle.argue_outside.specs.Outside.{KnownFile}
+use Rattle.argue_outside.specs.declared.Role.{Role}
+use Rattle.argue_words.specs.Words.{BenchTexts, CheckTexts, IsBenchQuery, IsLiveQuery, IsSolveQuery, LiveTexts, Request, version, problems, solving, checking, living, benching, unknown, SolveTexts, requested}
+use Rattle.argue_words.proofs.RequestLaws.{input_requested, query_requested, script_requested}
+use Rattle.argue_program.specs.Inputs.{Reading}
+use Rattle.argue_program.specs.Rows.{EndsCommand, FileText, IsEndingOf, Row, bench_row, check_row, certificate_files, certificates_files, files_beside, live_row, nothing_kept, reply_files, row_of, script_files, script_kept, session_files, solve_row}
+use Rattle.iccma_tasks.specs.Tasks.{Asked}
+use Rattle.argue_program.specs.Queries.{asked_by, budget_of, large_by, solving_by}
+use Rattle.argue_program.specs.Scripts.{RunsScript}
+use Rattle.semantics.specs.Frameworks.{af}
+use Rattle.bench_inputs.specs.Generator.{bench_framework}
+use Rattle.bench_inputs.specs.Scripts.{bench_script}
+use Rattle.bench_runs.specs.declared.run.TheConstants.{BENCH_BUDGET}
+use Rattle.bench_runs.specs.script_runs.specs.Transcripts.{IsTranscriptOf}
+use Rattle.bench_runs.specs.script_runs.specs.declared.transcript.ScriptTranscript.{ScriptTranscript}
+use Rattle.argue_program.specs.Solves.{IsSessionOn}
+use Rattle.argue_program.specs.declared.query.LargeInput.{LargeInput}
+use Rattle.argue_program.specs.declared.query.Solving.{Solving}
+use Rattle.bench_runs.specs.oracle_core.specs.declared.reply.AnswerStop.{AnswerStop}
+use Rattle.bench_runs.specs.oracle_core.specs.declared.reply.Answered.{Answered}
+use Rattle.certificate_claims.specs.declared.certificate.Certificate.{Certificate}
+use Rattle.argue_program.specs.Runs.{AsksLarge, AsksScript, AsksSession, AsksTranscript, IsRunOf, NamesCertificate}
+use Rattle.argue_program.specs.Writing.{BreaksFiles, BreaksOff, BreaksReplacing, IsWritten, Output, WritesFiles}
+use Rattle.argue_program.specs.declared.decision.Ending.{Ending}
+use Rattle.argue_program.specs.declared.ended.Ended.{Ended}
+use Rattle.argue_program.specs.declared.ended.KeptSession.{KeptSession}
+use Rattle.argue_program.specs.declared.ended.Limit.TheVariants as limit
+use Rattle.argue_program.specs.declared.ended.Status.{Status}
+use Rattle.argue_program.specs.declared.ended.Status.TheVariants.{Done, Usage, InputRefused, ReadFault, WriteFault, WantOfMemory, Unknown, Limit, Rejected}
+use Rattle.argue_program.specs.declared.ended.Transcript.{Transcript}
+
+-- ---- files of other names
+
+some_is : {X : Type 0} {x y : X} → Some x ≡ Some y → x ≡ y
+some_is e = cc
+
+-- each of the files has another name
+abbrev pub HaveOtherNames : List ℕ → List FileText → Type 0
+HaveOtherNames name [] = Unit {0}
+HaveOtherNames name (file ∷ more) = (name ≡ file.name → ⊥) × HaveOtherNames name more
+
+pub beside_other : (name : List ℕ) (text : Option (List ℕ)) (files : List FileText) → HaveOtherNames name files
+    → HaveOtherNames name (files_beside text files)
+beside_other name None files other = other
+beside_other name (Some text) files other = tt
+
+certificate_other : (name : List ℕ) (named : Option (List ℕ)) (certificate : Certificate) → (named ≡ Some name → ⊥)
+    → HaveOtherNames name (certificate_files named certificate)
+certificate_other name None certificate other = tt
+certificate_other name (Some file) certificate other = (λ e. other (ap Some (sym e)), tt)
+
+reply_other : (name : List ℕ) (named : Option (List ℕ)) (reply : Result Answered AnswerStop)
+    → (named ≡ Some name → ⊥) → HaveOtherNames name (reply_files named reply)
+reply_other name named (Ok reply) other = certificate_other name named reply.certificate other
+reply_other name named (Err why) other = tt
+
+session_other : (name : List ℕ) (named : Option (List ℕ)) (session : Option KeptSession)
+    → (named ≡ Some name → ⊥) → HaveOtherNames name (session_files named session)
+session_other name named None other = tt
+session_other name named (Some session) other = reply_other name named session.reply other
+
+solve_other : (holds : List ℕ → KnownFile) (query : Option Solving) (texts : SolveTexts) (kept : Transcript)
+    (end : Status) (name : List ℕ) → (texts.certificate ≡ Some name → ⊥)
+    → HaveOtherNames name ((solve_row holds query texts).files kept end)
+solve_other holds None texts kept end name other = tt
+solve_other holds (Some query) texts kept end name other = session_other name texts.certificate kept.session other
+
+check_other : (holds : List ℕ → KnownFile) (asked : Option Asked) (texts : CheckTexts) (kept : Transcript)
+    (end : Status) (name : List ℕ) → HaveOtherNames name ((check_row holds asked texts).files kept end)
+check_other holds None texts kept end name = tt
+check_other holds (Some asked) texts kept end name = tt
+
+certificates_other : (name : List ℕ) (named : Option (List ℕ)) (transcript : ScriptTranscript)
+    → (named ≡ Some name → ⊥) → HaveOtherNames name (certificates_files named transcript)
+certificates_other name None transcript other = tt
+certificates_other name (Some file) transcript other = (λ e. other (ap Some (sym e)), tt)
+
+script_other : (name : List ℕ) (named : Option (List ℕ)) (transcript : Option ScriptTranscript)
+    → (named ≡ Some name → ⊥) → HaveOtherNames name (script_files named transcript)
+script_other name named None other = tt
+script_other name named (Some transcript) other = certificates_other name named transcript other
+
+live_other : (holds : List ℕ → KnownFile) (budget : Option ℕ) (texts : LiveTexts) (kept : Transcript) (end : Status)
+    (name : List ℕ) → (texts.certificate ≡ Some name → ⊥)
+    → HaveOtherNames name ((live_row holds budget texts).files kept end)
+live_other holds None texts kept end name other = tt
+live_other holds (Some budget) texts kept end name other = script_other name texts.certificate kept.script other
+
+bench_other : (large : Option LargeInput) (kept : Transcript) (end : Status) (name : List ℕ)
+    → HaveOtherNames name ((bench_row large).files kept end)
+bench_other None kept end name = tt
+bench_other (Some large) kept end name = tt
+
+-- a row writes no file but that for certificates
+pub row_other : (holds : List ℕ → KnownFile) (words : List (List ℕ)) (request : Request) (kept : Transcript) (end : Status)
+    (name : List ℕ) → requested words ≡ request → ¬ NamesCertificate words name
+    → HaveOtherNames name ((row_of holds request).files kept end)
+row_other holds words version kept end name is other = tt
+row_other holds words problems kept end name is other = tt
+row_other holds words (solving texts) kept end name is other =
+    solve_other holds (solving_by texts) texts kept end name
+    (λ e. other (inl (record { texts = texts; asks = query_requested words texts is; named = e })))
+row_other holds words (checking texts) kept end name is other =
+    check_other holds (asked_by texts.task texts.number) texts kept end name
+row_other holds words (living texts) kept end name is other =
+    live_other holds (budget_of texts.budget) texts kept end name
+    (λ e. other (inr (record { texts = texts; asks = script_requested words texts is; named = e })))
+row_other holds words (benching texts) kept end name is other = bench_other (large_by texts) kept end name
+row_other holds words unknown kept end name is other = tt
+
+-- files of other names stay
+pub written_other : (name : List ℕ) (files : List FileText) (old new : List ℕ → KnownFile) → HaveOtherNames name files
+    → WritesFiles files old new → new name ≡ old name
+written_other name [] old new other written = ap (λ (holds : List ℕ → KnownFile). holds name) written
+written_other name (file ∷ more) old new other (mid, replaced, rest) =
+    written_other name more mid new other.1 rest
+    ∙ replaced.added_alone name other.0 ∙ replaced.cleared_alone name other.0
+
+breaking_other : (name : List ℕ) (file : FileText) (old new : List ℕ → KnownFile) → (name ≡ file.name → ⊥)
+    → BreaksReplacing file old new → new name ≡ old name
+breaking_other name file old new other (inl same) = ap (λ (holds : List ℕ → KnownFile). holds name) same
+breaking_other name file old new other (inr part) = part.added_alone name other ∙ part.cleared_alone name other
+
+pub broken_other : (name : List ℕ) (files : List FileText) (old new : List ℕ → KnownFile) → HaveOtherNames name files
+    → BreaksFiles files old new → new name ≡ old name
+broken_other name [] old new other broken = absurd broken
+broken_other name (file ∷ more) old new other (inl breaking) = breaking_other name file old new other.0 breaking
+broken_other name (file ∷ more) old new other (inr (mid, replaced, rest)) =
+    broken_other name more mid new other.1 rest
+    ∙ replaced.added_alone name other.0 ∙ replaced.cleared_alone name other.0
+
+pub write_fault_or : (end : Status) → (end ≡ WriteFault) ⊎ (end ≢ WriteFault)
+write_fault_or WriteFault = inl refl
+write_fault_or Done = inr (λ e. cc)
+write_fault_or Usage = inr (λ e. cc)
+write_fault_or (InputRefused refusal) = inr (λ e. cc)
+write_fault_or (ReadFault r) = inr (λ e. cc)
+write_fault_or WantOfMemory = inr (λ e. cc)
+write_fault_or Unknown = inr (λ e. cc)
+write_fault_or (Limit l) = inr (λ e. cc)
+write_fault_or (Rejected failure r s) = inr (λ e. cc)
+
+-- what is decided and then written is a run
+pub IsRunOf-written : (found : Reading) (holds : List ℕ → KnownFile) (count : Role
+    → ℕ) (row : Row) (ended : Ended) (writes : ℕ)
+    (old new : Output) (ending : Ending) → IsEndingOf (record found {
+      new_count =
+          count;
+    }) row ending → found.new_count ≡ count
+    → ended.kept ≡ ending.kept
+    → (ended.status ≢ WriteFault
+    → (ended.status ≡ ending.status) × IsWritten ending (record old { holds = holds; write_count = writes }) new)
+    → (ended.status ≡ WriteFault → BreaksOff ending (record old { holds = holds; write_count = writes }) new)
+    → holds ≡ old.holds → writes ≡ old.write_count → IsRunOf found row ended old new
+IsRunOf-written found holds count row ended writes old new ending decided reads kept whole broken same none =
+    let before : Output = record old { holds = holds; write_count = writes } in
+    let is : before ≡ old = λ i. record old { holds = same i; write_count = none i } in
+    let P : (Role → ℕ) → Type 0 = λ c. IsEndingOf (record found { new_count = c }) row ending in
+    record {
+      ending = ending;
+      decided = subst P (sym reads) decided;
+      kept = kept;
+      whole = λ w. let both = whole w in (both.0, subst (λ (o : Output). IsWritten ending o new) is both.1);
+      broken = λ b. subst (λ (o : Output). BreaksOff ending o new) is (broken b);
+    }
+
+-- nothing is kept, and so no session
+none_kept : (found : Reading) (words : List (List ℕ)) (kept : Transcript) (session : KeptSession) → kept ≡ nothing_kept
+    → kept.session ≡ Some session → AsksSession words found.holds session
+none_kept found words kept session nothing is =
+    absurd (let e : None ≡ Some session = sym (ap (λ (k : Transcript). k.session) nothing) ∙ is in cc)
+
+-- what keeps a transcript keeps no session
+no_session : (words : List (List ℕ)) (holds : List ℕ → KnownFile) (kept : Transcript) (transcript : ScriptTranscript)
+    (session : KeptSession) → kept ≡ script_kept transcript → kept.session ≡ Some session → AsksSession words holds session
+no_session words holds kept transcript session keeps is =
+    absurd (let e : None ≡ Some session = sym (ap (λ (k : Transcript). k.session) keeps) ∙ is in cc)
+
+live_session : (found : Reading) (words : List (List ℕ)) (texts : LiveTexts) (by : Option ℕ) (kept : Transcript)
+    (end : Status) (session : KeptSession) → (live_row found.holds by texts).Ends kept end → kept.session ≡ Some session
+    → AsksSession words found.holds session
+live_session found words texts None kept end session unasked is = none_kept found words kept session unasked.0 is
+live_session found words texts (Some budget) kept end session lives is =
+    no_session words found.holds kept lives.transcript session lives.keeps is
+
+bench_session : (found : Reading) (words : List (List ℕ)) (by : Option LargeInput) (kept : Transcript) (end : Status)
+    (session : KeptSession) → (bench_row by).Ends kept end → kept.session ≡ Some session
+    → AsksSession words found.holds session
+bench_session found words None kept end session unasked is = none_kept found words kept session unasked.0 is
+bench_session found words (Some large) kept end session ends is =
+    no_session words found.holds kept ends.run.transcript session ends.keeps is
+
+-- a check keeps nothing
+check_keeps : (holds : List ℕ → KnownFile) (asked : Option Asked) (texts : CheckTexts) (kept : Transcript) (end : Status)
+    → (check_row holds asked texts).Ends kept end → kept ≡ nothing_kept
+check_keeps holds None texts kept end unasked = unasked.0
+check_keeps holds (Some asked) texts kept end checks = checks.0
+
+kept_by : (found : Reading) (words : List (List ℕ)) (texts : SolveTexts) (by : Option Solving) (kept : Transcript)
+    (end : Status) (session : KeptSession) → IsSolveQuery words texts → solving_by texts ≡ by
+    → (solve_row found.holds by texts).Ends kept end → kept.session ≡ Some session
+    → AsksSession words found.holds session
+kept_by found words texts None kept end session asks query_is unasked is =
+    none_kept found words kept session unasked.0 is
+kept_by found words texts (Some query) kept end session asks query_is solved is = record {
+  texts = texts;
+  asks = asks;
+  query = query;
+  query_is = query_is;
+  on = let e : solved.session ≡ session = some_is (sym (ap (λ (k : Transcript). k.session) solved.keeps) ∙ is) in
+      subst (IsSessionOn (found.holds texts.file) query) e solved.on;
+}
+
+pub kept_at : (found : Reading) (words : List (List ℕ)) (request : Request) (kept : Transcript) (end : Status)
+    (session : KeptSession) → requested words ≡ request → EndsCommand found (row_of found.holds request) kept end
+    → kept.session ≡ Some session → AsksSession words found.holds session
+kept_at found words request kept end session asked (inl (nothing, why)) is =
+    none_kept found words kept session nothing is
+kept_at found words version kept end session asked (inr done) is = none_kept found words kept session done.0 is
+kept_at found words problems kept end session asked (inr done) is = none_kept found words kept session done.0 is
+kept_at found words (checking texts) kept end session asked (inr checks) is =
+    none_kept found words kept session
+    (check_keeps found.holds (asked_by texts.task texts.number) texts kept end checks) is
+kept_at found words unknown kept end session asked (inr unasked) is = none_kept found words kept session unasked.0 is
+kept_at found words (living texts) kept end session asked (inr ends) is =
+    live_session found words texts (budget_of texts.budget) kept end session ends is
+kept_at found words (benching texts) kept end session asked (inr ends) is =
+    bench_session found words (large_by texts) kept end session ends is
+kept_at found words (solving texts) kept end session asked (inr ends) is =
+    kept_by found words texts (solving_by texts) kept end session (query_requested words texts asked) refl ends is
+
+-- ---- a transcript that is kept
+
+nothing_no_script : (kept : Transcript) (transcript : ScriptTranscript) → kept ≡ nothing_kept
+    → kept.script ≡ Some transcript → ⊥
+nothing_no_script kept transcript nothing is =
+    let e : None ≡ Some transcript = sym (ap (λ (k : Transcript). k.script) nothing) ∙ is in cc
+
+solve_no_script : (holds : List ℕ → KnownFile) (by : Option Solving) (texts : SolveTexts) (kept : Transcript) (end : Status)
+    (transcript : ScriptTranscript) → (solve_row holds by texts).Ends kept end → kept.script ≡ Some transcript → ⊥
+solve_no_script holds None texts kept end transcript unasked is = nothing_no_script kept transcript unasked.0 is
+solve_no_script holds (Some query) texts kept end transcript solved is =
+    let e : None ≡ Some transcript = sym (ap (λ (k : Transcript). k.script) solved.keeps) ∙ is in cc
+
+script_by : (found : Reading) (words : List (List ℕ)) (texts : LiveTexts) (by : Option ℕ) (kept : Transcript)
+    (end : Status) (transcript : ScriptTranscript) → IsLiveQuery words texts → budget_of texts.budget ≡ by
+    → (live_row found.holds by texts).Ends kept end → kept.script ≡ Some transcript
+    → AsksScript words found.holds transcript
+script_by found words texts None kept end transcript asks budget_is unasked is =
+    absurd (nothing_no_script kept transcript unasked.0 is)
+script_by found words texts (Some budget) kept end transcript asks budget_is lives is = record {
+  texts = texts;
+  asks = asks;
+  budget = budget;
+  budget_is = budget_is;
+  runs = let e : lives.transcript ≡ transcript
+      = some_is (sym (ap (λ (k : Transcript). k.script) lives.keeps) ∙ is) in
+      subst (RunsScript found.holds budget texts) e lives.runs;
+}
+
+large_from : (words : List (List ℕ)) (texts : BenchTexts) (by : Option LargeInput) (kept : Transcript) (end : Status)
+    (transcript : ScriptTranscript) → IsBenchQuery words texts → large_by texts ≡ by → (bench_row by).Ends kept end
+    → kept.script ≡ Some transcript → AsksLarge words transcript
+large_from words texts None kept end transcript asks large_is unasked is =
+    absurd (nothing_no_script kept transcript unasked.0 is)
+large_from words texts (Some large) kept end transcript asks large_is ends is = record {
+  texts = texts;
+  asks = asks;
+  large = large;
+  large_is = large_is;
+  is = let e : ends.run.transcript ≡ transcript
+      = some_is (sym (ap (λ (k : Transcript). k.script) ends.keeps) ∙ is) in
+      subst (IsTranscriptOf (af (bench_framework large.arguments large.seed)) (bench_script large.arguments large.seed)
+      BENCH_BUDGET) e ends.is.transcript;
+}
+
+pub script_at : (found : Reading) (words : List (List ℕ)) (request : Request) (kept : Transcript) (end : Status)
+    (transcript : ScriptTranscript) → requested words ≡ request
+    → EndsCommand found (row_of found.holds request) kept end → kept.script ≡ Some transcript
+    → AsksTranscript words found.holds transcript
+script_at found words request kept end transcript asked (inl (nothing, why)) is =
+    absurd (nothing_no_script kept transcript nothing is)
+script_at found words version kept end transcript asked (inr done) is =
+    absurd (nothing_no_script kept transcript done.0 is)
+script_at found words problems kept end transcript asked (inr done) is =
+    absurd (nothing_no_script kept transcript done.0 is)
+script_at found words (solving texts) kept end transcript asked (inr ends) is =
+    absurd (solve_no_script found.holds (solving_by texts) texts kept end transcript ends is)
+script_at found words (checking texts) kept end transcript asked (inr checks) is =
+    absurd (nothing_no_script kept transcript
+    (check_keeps found.holds (asked_by texts.task texts.number) texts kept end checks) is)
+script_at found words (living texts) kept end transcript asked (inr ends) is =
+    inl (script_by found words texts (budget_of texts.budget) kept end transcript (script_requested words texts asked)
+    refl ends is)
+script_at found words (benching texts) kept end transcript asked (inr ends) is =
+    inr (large_from words texts (large_by texts) kept end transcript (input_requested words texts asked) refl ends is)
+script_at found words unknown kept end transcript asked (inr unasked) is =
+    absurd (nothing_no_script kept transcript unasked.0 is)
