@@ -21,7 +21,7 @@ TOP = Path(__file__).resolve().parent.parent
 SEMANTICS = ["CO", "GR", "PR", "ST", "SST", "ID"]
 TASKS = [f"{problem}-{one}" for problem in ("DC", "DS", "SE") for one in SEMANTICS]
 TASKS += [f"EE-{one}" for one in ("CO", "PR", "ST", "SST")]
-SETTINGS = {"GLIBC_TUNABLES": "glibc.malloc.hugetlb=1", "LD_BIND_NOW": "1", **os.environ}  # as ./argue sets them
+SETTINGS = {"GLIBC_TUNABLES": "glibc.malloc.hugetlb=1:glibc.malloc.top_pad=67108864", "LD_BIND_NOW": "1", **os.environ}  # as ./argue sets them
 
 
 def scattered(choose, count, degree):

@@ -19,7 +19,7 @@ import tempfile
 from pathlib import Path
 
 TOP = Path(__file__).resolve().parent.parent
-SETTINGS = {"GLIBC_TUNABLES": "glibc.malloc.hugetlb=1", "LD_BIND_NOW": "1", **os.environ}  # as ./argue sets them
+SETTINGS = {"GLIBC_TUNABLES": "glibc.malloc.hugetlb=1:glibc.malloc.top_pad=67108864", "LD_BIND_NOW": "1", **os.environ}  # as ./argue sets them
 LAST_NUMBER = 1_000_000
 FEW = 14  # arguments or assumptions of which all subsets are looked at
 
