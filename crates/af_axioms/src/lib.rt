@@ -5,8 +5,6 @@
 mod clause;
 mod fact;
 pub mod laws;
-#[cfg(test)]
-mod tests;
 
 pub use clause::clause_of;
 pub use fact::fact_value;

@@ -18,6 +18,3 @@ pub use fault::{LineCause, LineFault, ReadFault};
 pub use laws::{one_reading, read_back, readable_or_faulty};
 pub use read::read_af;
 pub use write::write_af;
-
-#[cfg(test)]
-mod tests;

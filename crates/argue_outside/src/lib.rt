@@ -13,8 +13,6 @@ pub mod mem_files;
 pub mod mem_sink;
 pub mod real_files;
 pub mod real_out;
-#[cfg(test)]
-mod tests;
 pub mod whole;
 
 pub use mem_files::MemFiles;

@@ -19,6 +19,3 @@ pub use ended::{Cause, Ended, Limit, Refusal, Status, Transcript};
 pub use process::run_process;
 pub use texts::Text;
 pub use writing::{Written, write_ending};
-
-#[cfg(test)]
-mod tests;

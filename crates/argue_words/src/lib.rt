@@ -3,8 +3,6 @@
 #![tactic(auto)]
 
 mod options;
-#[cfg(test)]
-mod tests;
 pub mod words;
 
 pub use words::{Command, read_words};

@@ -4,7 +4,5 @@
 
 mod index;
 mod stable_sort;
-#[cfg(test)]
-mod tests;
 
 pub use index::AttackIndex;

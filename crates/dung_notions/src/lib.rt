@@ -5,8 +5,6 @@
 mod af_plain;
 mod grounded;
 mod notions;
-#[cfg(test)]
-mod tests;
 mod written_out;
 
 pub use af_plain::AfPlain;

@@ -15,9 +15,6 @@ ghost use Rattle.dung_notions.specs.Neighbours.{AreArguments};
 ghost use Rattle.dung_notions.specs.Notions.{AttacksInto};
 ghost use Rattle.dung_notions.specs.Solid.{IsSolid};
 
-#[cfg(test)]
-mod tests;
-
 use crate::af_plain::AfPlain;
 use set_lists::NumSet;
 

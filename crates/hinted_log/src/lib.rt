@@ -6,8 +6,6 @@ pub mod kind;
 pub mod laws;
 pub mod log;
 mod store;
-#[cfg(test)]
-mod tests;
 mod trim;
 
 pub use fault::LogFault;

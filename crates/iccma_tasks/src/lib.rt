@@ -14,6 +14,3 @@ pub use query::Query;
 pub use read::read_answer;
 pub use task::{Problem, Semantics, Task, TaskFault, problems};
 pub use write::{answer_text, push_set};
-
-#[cfg(test)]
-mod tests;

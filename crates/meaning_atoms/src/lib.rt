@@ -6,8 +6,6 @@ pub mod atom;
 pub mod axiom;
 pub mod axiom_text;
 pub mod laws;
-#[cfg(test)]
-mod tests;
 pub mod text;
 
 pub use atom::{Atom, AtomLit, END, is_position};

@@ -21,6 +21,3 @@ pub use line::{Line, Lines};
 pub use number::decimal;
 pub use skips::{is_skipped, next_kept};
 pub use span::Span;
-
-#[cfg(test)]
-mod tests;

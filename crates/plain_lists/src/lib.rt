@@ -5,8 +5,6 @@
 pub mod bytes;
 pub mod items;
 pub mod memory;
-#[cfg(test)]
-mod tests;
 
 pub use bytes::Bytes;
 pub use items::Items;

@@ -11,8 +11,6 @@ pub mod lit;
 pub mod packed_lit;
 pub mod rows;
 pub mod step_id;
-#[cfg(test)]
-mod tests;
 pub mod trail;
 pub mod value;
 

@@ -7,8 +7,6 @@ pub mod argument;
 pub mod deciding;
 pub mod laws;
 mod sets;
-#[cfg(test)]
-mod tests;
 
 pub use af_lists::AfLists;
 pub use argument::{LAST_ARGUMENT, is_argument};

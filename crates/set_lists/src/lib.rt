@@ -3,7 +3,5 @@
 
 mod merge;
 pub mod num_set;
-#[cfg(test)]
-mod tests;
 
 pub use num_set::NumSet;

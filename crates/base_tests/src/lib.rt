@@ -1,0 +1,15 @@
+//! Tests of what no clause says in the crates that the others stand on.
+#![tactic(auto)]
+
+#[cfg(test)]
+mod atoms;
+#[cfg(test)]
+mod comparisons;
+#[cfg(test)]
+mod definitions;
+#[cfg(test)]
+mod fields;
+#[cfg(test)]
+mod lists;
+#[cfg(test)]
+mod sets;

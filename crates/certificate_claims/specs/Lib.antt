@@ -1,4 +1,0 @@
-pub mod Acceptance
-pub mod Claims
-pub mod Refutations
-pub mod Rights

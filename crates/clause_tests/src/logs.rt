@@ -1,0 +1,162 @@
+//! What no clause says: that calls succeed, and worked rows of the check.
+
+ghost use Rattle.hinted_log.specs.Logs.{IsStepOf};
+
+use crate::named::{N1, N2, N3, P1, P2, P3};
+use hinted_log::{Kind, Log, LogFault};
+use plain_lits::{Clause, Lit, StepId};
+use std::alloc::Global;
+use std::test::Fail;
+
+const LARGEST: Lit = Lit {
+    var: usize::MAX,
+    positive: true,
+};
+
+/// A step to add: its kind, clause and hints, and the number that it gets.
+type Row = (Kind, &'static [Lit], &'static [u32], Result<u32, LogFault>);
+
+/// The steps of these numbers.
+fn steps_of(alloc: Global, numbers: &[u32]) -> Result<Vec<StepId>, LogFault> {
+    match numbers
+        .iter()
+        .map(|number| StepId::new(*number))
+        .collect(alloc)
+    {
+        Ok(steps) => Ok(steps),
+        Err(_) => Err(LogFault::Memory),
+    }
+}
+
+/// Adds a step to a log: its number, or why it wasn't added.
+fn added(alloc: Global, log: &mut Log, row: &Row) -> Result<u32, LogFault> {
+    let clause = Clause::from_slice(alloc, row.1)?;
+    let step = match row.0 {
+        Kind::Axiom => log.axiom(clause)?,
+        Kind::Side => log.side(clause)?,
+        Kind::Derived => log.derive(clause, steps_of(alloc, row.2)?.as_slice())?,
+    };
+    Ok(step.number())
+}
+
+/// Whether a log's step has these literals.
+fn has_literals(log: &Log, step: StepId, literals: &[Lit]) -> bool
+    requires { IsStepOf log.now.steps step }
+{
+    let clause = log.clause(step);
+    clause.len() == literals.len()
+        && clause
+            .iter()
+            .zip(literals)
+            .all(|(packed, lit)| packed.lit() == *lit)
+}
+
+/// Whether a log's step reaches just these steps.
+fn reaches(alloc: Global, log: &Log, step: StepId, reached: &[u32]) -> Result<bool, LogFault>
+    requires { IsStepOf log.now.steps step }
+{
+    let steps = steps_of(alloc, reached)?;
+    Ok(log.trim(alloc, step)?.as_slice() == steps.as_slice())
+}
+
+/// Whether a log has a row's step, and it reaches just these steps.
+fn is_kept(alloc: Global, log: &Log, row: &Row, reached: &[u32]) -> Result<bool, LogFault> {
+    let number = row.3?;
+    if number == 0 || number as usize > log.len() {
+        return Ok(false);
+    }
+    let step = StepId::new(number);
+    let hints = steps_of(alloc, row.2)?;
+    let same = log.kind(step) == row.0 && log.hints(step) == hints.as_slice();
+    Ok(same && has_literals(log, step, row.1) && reaches(alloc, log, step, reached)?)
+}
+
+/// Steps for a log with room for three.
+const SMALL_LOG: &[Row] = &[
+    (Kind::Axiom, &[P1, P2], &[], Ok(1)),
+    (Kind::Axiom, &[N1, P2], &[], Ok(2)),
+    (Kind::Derived, &[P1], &[1, 2], Err(LogFault::Rejected(2))),
+    (Kind::Derived, &[P2], &[1, 2], Ok(3)),
+    (Kind::Side, &[P1], &[], Err(LogFault::LogFull)),
+];
+
+#[test]
+fn small_log(rt: HostRuntime) -> Result<(), Fail> {
+    let alloc = rt.alloc();
+    let mut log = Log::open(alloc, 3)?;
+    for row in SMALL_LOG {
+        assert!(rt; added(alloc, &mut log, row) == row.3);
+    }
+    assert!(rt; log.is_full());
+    assert!(rt; matches!(is_kept(alloc, &log, &SMALL_LOG[3], &[1, 2, 3]), Ok(true)));
+    Ok(())
+}
+
+/// Steps with hints of every kind.
+const HINTS: &[Row] = &[
+    (Kind::Axiom, &[P1, P2], &[], Ok(1)),
+    (Kind::Axiom, &[N1, P2], &[], Ok(2)),
+    (Kind::Axiom, &[N2, N2, P3], &[], Ok(3)),
+    (Kind::Derived, &[P1], &[], Err(LogFault::Rejected(1))),
+    (Kind::Derived, &[P2], &[4], Err(LogFault::Rejected(1))),
+    (Kind::Derived, &[P2], &[0], Err(LogFault::Rejected(1))),
+    (Kind::Derived, &[P2], &[1, 9], Err(LogFault::Rejected(2))),
+    (Kind::Derived, &[P2], &[1, 1, 2], Err(LogFault::Rejected(2))),
+    (Kind::Derived, &[P2], &[1], Err(LogFault::Rejected(2))),
+    (
+        Kind::Derived,
+        &[P1, P2, N1],
+        &[1],
+        Err(LogFault::Rejected(0)),
+    ),
+    (Kind::Derived, &[], &[1], Err(LogFault::Rejected(1))),
+    (Kind::Derived, &[P2, P2], &[1, 2], Ok(4)),
+    (Kind::Derived, &[P3], &[4, 3], Ok(5)),
+    (Kind::Side, &[N3], &[], Ok(6)),
+    (Kind::Derived, &[], &[5, 6], Ok(7)),
+    (Kind::Axiom, &[LARGEST], &[], Err(LogFault::Memory)),
+    (Kind::Derived, &[P2], &[1, 2, 99], Ok(8)),
+];
+
+#[test]
+fn hints_of_every_kind(rt: HostRuntime) -> Result<(), Fail> {
+    let alloc = rt.alloc();
+    let mut log = Log::open(alloc, 50)?;
+    for row in HINTS {
+        assert!(rt; added(alloc, &mut log, row) == row.3);
+    }
+    let last: Row = (Kind::Derived, &[P2], &[1, 2], Ok(8));
+    assert!(rt; matches!(is_kept(alloc, &log, &HINTS[13], &[6]), Ok(true)));
+    assert!(rt;
+        matches!(
+            is_kept(alloc, &log, &HINTS[14], &[1, 2, 3, 4, 5, 6, 7]),
+            Ok(true)
+        )
+    );
+    assert!(rt; matches!(is_kept(alloc, &log, &last, &[1, 2, 8]), Ok(true)));
+    Ok(())
+}
+
+/// A chain of this many derived steps, each from the one before it and an axiom.
+fn chain(alloc: Global, count: u32) -> Result<Log, LogFault> {
+    let mut log = Log::open(alloc, 50_000_000)?;
+    let mut last = log.axiom(Clause::from_slice(alloc, &[P1])?)?;
+    for var in 1..count {
+        let old = Lit {
+            var: var as usize,
+            positive: false,
+        };
+        let new = Lit {
+            var: var as usize + 1,
+            positive: true,
+        };
+        let link = log.axiom(Clause::from_slice(alloc, &[old, new])?)?;
+        last = log.derive(Clause::from_slice(alloc, &[new])?, &[last, link])?;
+    }
+    Ok(log)
+}
+
+#[test]
+fn long_chain(rt: HostRuntime) {
+    assert!(rt; matches!(&chain(rt.alloc(), 50_000), Ok(log) if log.len() == 99_999));
+}

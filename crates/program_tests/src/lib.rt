@@ -1,0 +1,5 @@
+//! Tests of what no clause says in the program.
+#![tactic(auto)]
+
+#[cfg(test)]
+mod runs;
