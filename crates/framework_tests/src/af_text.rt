@@ -44,8 +44,7 @@ fn is_read(alloc: Global, text: &str, arguments: usize, attacks: &[(u32, u32)]) 
 
 /// Whether a framework has so many arguments and these attacks.
 fn has(framework: &AfPlain, arguments: usize, attacks: &[(u32, u32)]) -> bool {
-    framework.live().len() == arguments
-        && framework.attacks() == attacks
+    framework.live().len() == arguments && framework.attacks() == attacks
 }
 
 /// Whether a text is short enough, and this fault is told of it.

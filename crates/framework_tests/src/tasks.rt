@@ -113,6 +113,11 @@ fn names(rt: HostRuntime) {
     };
     assert!(rt; Task::read(b"DS-ST") == Ok(task));
     assert!(rt; task.name() == b"DS-ST".as_slice());
+    let other = Task {
+        problem: Problem::SomeExtension,
+        semantics: Semantics::Grounded,
+    };
+    assert!(rt; Task::read(b"SE-GR") == Ok(other));
     assert!(rt; Task::read(b"DC-XX") == Err(TaskFault::UnknownTask));
     assert!(rt; TaskFault::UnknownTask.name() == "UnknownTask");
     assert!(rt; problems() == PROBLEMS);
@@ -121,17 +126,13 @@ fn names(rt: HostRuntime) {
 #[test]
 fn queries_of_tasks(rt: HostRuntime) {
     let rows = [
-        (Problem::Sceptical, Some(4), true),
-        (Problem::Sceptical, None, false),
-        (Problem::SomeExtension, None, true),
-        (Problem::SomeExtension, Some(1), false),
-        (Problem::AllExtensions, Some(1), false),
+        (Problem::Sceptical, Semantics::Stable, Some(4), true),
+        (Problem::Sceptical, Semantics::Stable, None, false),
+        (Problem::SomeExtension, Semantics::Grounded, None, true),
+        (Problem::SomeExtension, Semantics::Grounded, Some(1), false),
     ];
-    for (problem, number, fits) in rows {
-        let task = Task {
-            problem,
-            semantics: Semantics::SemiStable,
-        };
+    for (problem, semantics, number, fits) in rows {
+        let task = Task { problem, semantics };
         match Query::new(task, number) {
             Some(query) => {
                 assert!(rt; fits && query.task() == task && query.number() == number);

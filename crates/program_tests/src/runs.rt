@@ -78,12 +78,7 @@ const ROWS: &[Row] = &[
 ];
 
 /// Whether a run ends as its row says.
-fn is_row(
-    alloc: Global,
-    row: &Row,
-    files: &mut MemFiles,
-    out: &mut MemSink,
-) -> Result<bool, Fail> {
+fn is_row(alloc: Global, row: &Row, files: &mut MemFiles, out: &mut MemSink) -> Result<bool, Fail> {
     let &(line, text, output, code) = row;
     files.clear("a")?;
     append_all(files, "a", text.as_bytes())?;
