@@ -121,10 +121,10 @@ fn filled(alloc: Global) -> Result<Trail, Memory> {
 #[test]
 fn trail_of_two_levels(rt: HostRuntime) -> Result<(), Fail> {
     let mut trail = filled(rt.alloc())?;
+    assert!(rt; !set(&mut trail, lit(3, false), false));
     assert!(rt; trail.lits() == [lit(2, false), lit(0, true), lit(3, true)].as_slice());
     assert!(rt; trail.level() == 2 && trail.len() == 3);
     assert!(rt; trail.starts() == [1, 1].as_slice());
-    assert!(rt; !set(&mut trail, lit(3, false), false));
     Ok(())
 }
 
