@@ -77,6 +77,19 @@ fn grounded_sets(rt: HostRuntime) -> Result<(), Fail> {
     Ok(())
 }
 
+/// Whether the ends of a framework's attacks are found: 2 attacks 1 and 7, and 7 attacks 1.
+fn has_both_ends(plain: &AfPlain) -> bool {
+    plain.targets_of(2) == [(2, 1), (2, 7)].as_slice()
+        && plain.targets_of(8).is_empty()
+        && plain.attackers_of(1) == [(1, 2), (1, 7)].as_slice()
+        && plain.attackers_of(2).is_empty()
+}
+
+/// Whether single attacks and arguments of that framework are found.
+fn has_single_ones(plain: &AfPlain) -> bool {
+    plain.has_attack(7, 1) && !plain.has_attack(1, 7) && plain.is_live(7) && !plain.is_live(3)
+}
+
 #[test]
 fn attacks_from_either_end(rt: HostRuntime) -> Result<(), Fail> {
     let alloc = rt.alloc();
@@ -86,13 +99,7 @@ fn attacks_from_either_end(rt: HostRuntime) -> Result<(), Fail> {
         &[(7, 1), (2, 1), (2, 7), (3, 1), (7, 1)],
     )?;
     assert!(rt; plain.attacks() == [(2, 1), (2, 7), (7, 1)].as_slice());
-    assert!(rt; plain.targets_of(2) == [(2, 1), (2, 7)].as_slice());
-    assert!(rt; plain.targets_of(8).is_empty());
-    assert!(rt; plain.attackers_of(1) == [(1, 2), (1, 7)].as_slice());
-    assert!(rt; plain.attackers_of(2).is_empty());
-    assert!(rt; plain.has_attack(7, 1));
-    assert!(rt; !plain.has_attack(1, 7));
-    assert!(rt; plain.is_live(7));
-    assert!(rt; !plain.is_live(3));
+    assert!(rt; has_both_ends(&plain));
+    assert!(rt; has_single_ones(&plain));
     Ok(())
 }

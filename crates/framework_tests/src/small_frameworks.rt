@@ -60,21 +60,50 @@ fn compare_set(
     Ok(())
 }
 
-/// Asserts the same of each set, and that the grounded set is one.
+/// Asserts the same of the set of these bits.
+fn compare_bits(
+    rt: &impl Abort,
+    alloc: Global,
+    plain: &AfPlain,
+    lists: &AfLists<'_>,
+    bits: u32,
+) -> Result<(), Fail> {
+    let set = set_of(alloc, bits)?;
+    compare_set(rt, alloc, plain, lists, &set)
+}
+
+/// Whether the grounded set that is found is one.
+fn finds_grounded(alloc: Global, plain: &AfPlain, lists: &AfLists<'_>) -> Result<bool, Memory> {
+    let grounded = plain.grounded(alloc)?;
+    decide(alloc, lists, grounded.set.as_slice(), Notion::Grounded)
+}
+
+/// Asserts both of each set of a framework.
+fn compare_all(
+    rt: &impl Abort,
+    alloc: Global,
+    plain: &AfPlain,
+    lists: &AfLists<'_>,
+) -> Result<(), Fail> {
+    assert!(rt;
+        finds_grounded(alloc, plain, lists)?,
+        "under {:?}",
+        lists.attacks
+    );
+    for bits in 0..16 {
+        compare_bits(rt, alloc, plain, lists, bits)?;
+    }
+    Ok(())
+}
+
+/// Asserts it of the framework of these attacks.
 fn compare(rt: &impl Abort, alloc: Global, attacks: &[(u32, u32)]) -> Result<(), Fail> {
     let plain = AfPlain::of_lists(alloc, LIVE, attacks)?;
     let lists = AfLists {
         live: LIVE,
         attacks,
     };
-    let grounded = plain.grounded(alloc)?;
-    let meets = decide(alloc, &lists, grounded.set.as_slice(), Notion::Grounded)?;
-    assert!(rt; meets, "grounded under {attacks:?}");
-    for bits in 0..16 {
-        let set = set_of(alloc, bits)?;
-        compare_set(rt, alloc, &plain, &lists, &set)?;
-    }
-    Ok(())
+    compare_all(rt, alloc, &plain, &lists)
 }
 
 #[test]
@@ -86,16 +115,25 @@ fn every_framework_of_three_arguments(rt: HostRuntime) -> Result<(), Fail> {
     Ok(())
 }
 
+/// Arguments, and whether they are those from 1 to their number.
+const SOLID: &[(&[u32], bool)] = &[
+    (&[], true),
+    (&[1], true),
+    (&[3, 1, 2], true),
+    (&[2], false),
+    (&[1, 3], false),
+    (&[2, 3, 4], false),
+];
+
+/// Whether a framework of these arguments is solid.
+fn is_solid(alloc: Global, live: &[u32]) -> Result<bool, Memory> {
+    Ok(AfPlain::of_lists(alloc, live, &[])?.is_solid())
+}
+
 #[test]
 fn solid_frameworks(rt: HostRuntime) -> Result<(), Fail> {
-    let alloc = rt.alloc();
-    let solid: [&[u32]; 3] = [&[], &[1], &[3, 1, 2]];
-    let not_solid: [&[u32]; 3] = [&[2], &[1, 3], &[2, 3, 4]];
-    for live in solid {
-        assert!(rt; AfPlain::of_lists(alloc, live, &[])?.is_solid());
-    }
-    for live in not_solid {
-        assert!(rt; !AfPlain::of_lists(alloc, live, &[])?.is_solid());
+    for &(live, solid) in SOLID {
+        assert!(rt; is_solid(rt.alloc(), live)? == solid, "{live:?}");
     }
     Ok(())
 }
