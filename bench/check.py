@@ -25,7 +25,8 @@ PAIRS = 1_000
 # of its own: a child's peak begins with that of the process that started it, which here has to be a small one.
 MEASURE = """
 import os, sys, time
-settings = {"GLIBC_TUNABLES": "glibc.malloc.hugetlb=1:glibc.malloc.top_pad=67108864", "LD_BIND_NOW": "1", **os.environ}  # as ./argue sets them
+# As ./argue sets them.
+settings = {"GLIBC_TUNABLES": "glibc.malloc.hugetlb=1:glibc.malloc.top_pad=67108864", "LD_BIND_NOW": "1", **os.environ}
 begin = time.perf_counter()
 child = os.posix_spawn(sys.argv[2], sys.argv[2:], settings, file_actions=[
     (os.POSIX_SPAWN_OPEN, 1, sys.argv[1], os.O_WRONLY | os.O_CREAT | os.O_TRUNC, 0o600)])

@@ -18,7 +18,8 @@ import time
 from pathlib import Path
 
 TOP = Path(__file__).resolve().parent.parent
-SETTINGS = {"GLIBC_TUNABLES": "glibc.malloc.hugetlb=1:glibc.malloc.top_pad=67108864", "LD_BIND_NOW": "1", **os.environ}  # as ./argue sets them
+# As ./argue sets them.
+SETTINGS = {"GLIBC_TUNABLES": "glibc.malloc.hugetlb=1:glibc.malloc.top_pad=67108864", "LD_BIND_NOW": "1", **os.environ}
 
 
 def groups(sizes):

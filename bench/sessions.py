@@ -27,7 +27,8 @@ import time
 from pathlib import Path
 
 TOP = Path(__file__).resolve().parent.parent
-SETTINGS = {"GLIBC_TUNABLES": "glibc.malloc.hugetlb=1:glibc.malloc.top_pad=67108864", "LD_BIND_NOW": "1", **os.environ}  # as ./argue sets them
+# As ./argue sets them.
+SETTINGS = {"GLIBC_TUNABLES": "glibc.malloc.hugetlb=1:glibc.malloc.top_pad=67108864", "LD_BIND_NOW": "1", **os.environ}
 SESSIONS = (1, 2, 4)
 MULTIPLIER, INCREMENT, MASK = 6_364_136_223_846_793_005, 1_442_695_040_888_963_407, 2**64 - 1
 

@@ -21,7 +21,8 @@ TOP = Path(__file__).resolve().parent.parent
 SEMANTICS = ["CO", "GR", "PR", "ST", "SST", "ID"]
 TASKS = [f"{problem}-{one}" for problem in ("DC", "DS", "SE") for one in SEMANTICS]
 TASKS += [f"EE-{one}" for one in ("CO", "PR", "ST", "SST")]
-SETTINGS = {"GLIBC_TUNABLES": "glibc.malloc.hugetlb=1:glibc.malloc.top_pad=67108864", "LD_BIND_NOW": "1", **os.environ}  # as ./argue sets them
+# As ./argue sets them.
+SETTINGS = {"GLIBC_TUNABLES": "glibc.malloc.hugetlb=1:glibc.malloc.top_pad=67108864", "LD_BIND_NOW": "1", **os.environ}
 
 
 def scattered(choose, count, degree):
