@@ -1,11 +1,11 @@
 -- What a run writes and keeps: files of other names, a session, a transcript.
-use Rattle.std.proofs.Common.{◌≡◌, ◌≢◌, ◌∙◌, ◌⊎◌, ℕ, List, [], ◌∷◌, refl, sym, ap, subst, inl, inr, Option, None, Some, Result, Ok, Err}
-use Rattle.argue_outside.specs.Outside.{KnownFile}
+use Rattle.std.proofs.Common.{◌≡◌, ◌≢◌, ◌∙◌, ◌⊎◌, ℕ, List, [], ◌∷◌, map, refl, sym, ap, subst, inl, inr, ⊎_elim, Option, None, Some, Result, Ok, Err}
+use Rattle.argue_outside.specs.Outside.{FaultCounted, KnownFile}
 use Rattle.argue_outside.specs.declared.Role.{Role}
 use Rattle.argue_words.specs.Words.{BenchTexts, CheckTexts, IsBenchQuery, IsLiveQuery, IsSolveQuery, LiveTexts, Request, version, problems, solving, checking, living, benching, unknown, SolveTexts, requested}
 use Rattle.argue_words.proofs.RequestLaws.{input_requested, query_requested, script_requested}
 use Rattle.argue_program.specs.Inputs.{Reading}
-use Rattle.argue_program.specs.Rows.{EndsCommand, FileText, IsEndingOf, Row, bench_row, check_row, certificate_files, certificates_files, files_beside, live_row, nothing_kept, reply_files, row_of, script_files, script_kept, session_files, solve_row}
+use Rattle.argue_program.specs.Rows.{EndsCommand, FileText, IsEndingOf, Row, bench_row, check_row, certificate_files, certificates_files, file_text, files_beside, live_row, nothing_kept, reply_files, row_of, script_files, script_kept, session_files, solve_row}
 use Rattle.iccma_tasks.specs.Tasks.{Asked}
 use Rattle.argue_program.specs.Queries.{asked_by, budget_of, large_by, solving_by}
 use Rattle.argue_program.specs.Scripts.{RunsScript}
@@ -22,7 +22,7 @@ use Rattle.bench_runs.specs.oracle_core.specs.declared.reply.AnswerStop.{AnswerS
 use Rattle.bench_runs.specs.oracle_core.specs.declared.reply.Answered.{Answered}
 use Rattle.certificate_claims.specs.declared.certificate.Certificate.{Certificate}
 use Rattle.argue_program.specs.Runs.{AsksLarge, AsksScript, AsksSession, AsksTranscript, IsRunOf, NamesCertificate}
-use Rattle.argue_program.specs.Writing.{BreaksFiles, BreaksOff, BreaksReplacing, IsWritten, Output, WritesFiles}
+use Rattle.argue_program.specs.Writing.{BreaksFiles, BreaksOff, BreaksReplacing, IsWritten, Output, RefusesFile, WritesFiles}
 use Rattle.argue_program.specs.declared.decision.Ending.{Ending}
 use Rattle.argue_program.specs.declared.ended.Ended.{Ended}
 use Rattle.argue_program.specs.declared.ended.KeptSession.{KeptSession}
@@ -30,6 +30,7 @@ use Rattle.argue_program.specs.declared.ended.Limit.TheVariants as limit
 use Rattle.argue_program.specs.declared.ended.Status.{Status}
 use Rattle.argue_program.specs.declared.ended.Status.TheVariants.{Done, Usage, InputRefused, ReadFault, WriteFault, WantOfMemory, Unknown, Limit, Rejected}
 use Rattle.argue_program.specs.declared.ended.Transcript.{Transcript}
+use Rattle.argue_program.specs.Texts.{common_text}
 
 -- ---- files of other names
 
@@ -41,7 +42,7 @@ abbrev pub HaveOtherNames : List ℕ → List FileText → Type 0
 HaveOtherNames name [] = Unit {0}
 HaveOtherNames name (file ∷ more) = (name ≡ file.name → ⊥) × HaveOtherNames name more
 
-pub beside_other : (name : List ℕ) (text : Option (List ℕ)) (files : List FileText) → HaveOtherNames name files
+beside_other : (name : List ℕ) (text : Option (List ℕ)) (files : List FileText) → HaveOtherNames name files
     → HaveOtherNames name (files_beside text files)
 beside_other name None files other = other
 beside_other name (Some text) files other = tt
@@ -94,7 +95,7 @@ bench_other None kept end name = tt
 bench_other (Some large) kept end name = tt
 
 -- a row writes no file but that for certificates
-pub row_other : (holds : List ℕ → KnownFile) (words : List (List ℕ)) (request : Request) (kept : Transcript) (end : Status)
+row_other : (holds : List ℕ → KnownFile) (words : List (List ℕ)) (request : Request) (kept : Transcript) (end : Status)
     (name : List ℕ) → requested words ≡ request → ¬ NamesCertificate words name
     → HaveOtherNames name ((row_of holds request).files kept end)
 row_other holds words version kept end name is other = tt
@@ -109,6 +110,34 @@ row_other holds words (living texts) kept end name is other =
     (λ e. other (inr (record { texts = texts; asks = script_requested words texts is; named = e })))
 row_other holds words (benching texts) kept end name is other = bench_other (large_by texts) kept end name
 row_other holds words unknown kept end name is other = tt
+
+-- the files of an ending have other names than one that names no certificate
+pub ending_other : (found : Reading) (words : List (List ℕ)) (ending : Ending) (name : List ℕ)
+    → IsEndingOf found (row_of found.holds (requested words)) ending → ¬ NamesCertificate words name
+    → HaveOtherNames name (map file_text ending.files)
+ending_other found words ending name decided other =
+    subst (HaveOtherNames name) (sym decided.files)
+    (beside_other name (common_text ending.status)
+    ((row_of found.holds (requested words)).files ending.kept ending.status)
+    (row_other found.holds words (requested words) ending.kept ending.status name refl other))
+
+-- where each name of a kind is accepted, and files have other names than those that aren't of it, none is refused
+none_refused : (accepts Named : List ℕ → Type 0) (files : List FileText) → ((name : List ℕ) → Named name → accepts name)
+    → ((name : List ℕ) → ¬ Named name → HaveOtherNames name files) → RefusesFile accepts files → ⊥
+none_refused accepts Named [] all other refused = refused
+none_refused accepts Named (file ∷ more) all other (inl refused) =
+    (other file.name (λ named. refused (all file.name named))).0 refl
+none_refused accepts Named (file ∷ more) all other (inr refused) =
+    none_refused accepts Named more all (λ name unnamed. (other name unnamed).1) refused
+
+-- where each name for certificates is accepted, a write fault is one of the output
+pub output_fault : (found : Reading) (words : List (List ℕ)) (accepts : List ℕ → Type 0) (ending : Ending) (old new : ℕ)
+    → IsEndingOf found (row_of found.holds (requested words)) ending
+    → ((name : List ℕ) → NamesCertificate words name → accepts name)
+    → FaultCounted old new ⊎ RefusesFile accepts (map file_text ending.files) → FaultCounted old new
+output_fault found words accepts ending old new decided all = ⊎_elim (λ counted. counted)
+    (λ refused. absurd (none_refused accepts (NamesCertificate words) (map file_text ending.files) all
+    (λ name other. ending_other found words ending name decided other) refused))
 
 -- files of other names stay
 pub written_other : (name : List ℕ) (files : List FileText) (old new : List ℕ → KnownFile) → HaveOtherNames name files

@@ -38,7 +38,7 @@ use Rattle.argue_program.specs.declared.ended.Status.TheVariants.{Done, Usage, I
 use Rattle.argue_program.specs.declared.ended.Transcript.{Transcript}
 use Rattle.num_text.specs.declared.limit.TheConstants.{INPUT_LIMIT}
 use Rattle.argue_program.proofs.EndsLemmas.{EndsLiving, EndsQuery, at_query, done_no_memory, done_right, ends_check, ends_live, ends_large, ends_living, ends_query, ends_solve, ends_unknown, large_done, problems_done, refuses_bytes, refuses_length, refuses_long_script, refuses_script, refuses_words, version_done}
-use Rattle.argue_program.proofs.KeptLemmas.{HaveOtherNames, beside_other, row_other, written_other, broken_other, write_fault_or, kept_at, script_at}
+use Rattle.argue_program.proofs.KeptLemmas.{HaveOtherNames, ending_other, written_other, broken_other, write_fault_or, kept_at, script_at}
 
 -- ---- a run that ends by its session alone
 
@@ -293,11 +293,7 @@ module _ (found : Reading) (words : List (List ℕ)) (ended : Ended) (old new : 
   -- the files that the ending has to write have other names than one that names no certificate
   named_otherwise : (name : List ℕ) → ¬ NamesCertificate words name
       → HaveOtherNames name (map file_text run.ending.files)
-  named_otherwise name other =
-      subst (HaveOtherNames name) (sym run.decided.files)
-      (beside_other name (common_text run.ending.status)
-      ((row_of found.holds (requested words)).files run.ending.kept run.ending.status)
-      (row_other found.holds words (requested words) run.ending.kept run.ending.status name refl other))
+  named_otherwise name other = ending_other found words run.ending name run.decided other
 
   pub other_files : (name : List ℕ) → ¬ NamesCertificate words name → new.holds name ≡ old.holds name
   other_files name other =

@@ -5,7 +5,7 @@ use Rattle.argue_outside.specs.Outside.{KnownFile}
 use Rattle.argue_outside.specs.declared.Role.{Role}
 use Rattle.argue_program.specs.Rows.{FileText, file_text}
 use Rattle.argue_program.specs.declared.writing.Written.{Written}
-use Rattle.argue_program.specs.Writing.{BreaksFiles, BreaksReplacing, Replaces, WritesFiles}
+use Rattle.argue_program.specs.Writing.{BreaksFiles, BreaksReplacing, RefusesFile, Replaces, WritesFiles}
 
 -- the files before an index were written, and no fault was counted
 pub record WritesUpTo (list : List Written) (index : ℕ) (old new : List ℕ → KnownFile) (old_count new_count : ℕ)
@@ -44,6 +44,15 @@ broken_next (first ∷ list) zero file old mid new lt is written broken =
     inl (subst Q is (subst P written broken))
 broken_next (first ∷ list) (suc i) file old mid new lt is written broken =
     inr (written.0, written.1, broken_next list i file written.0 mid new (omega arith) is written.2 broken)
+
+-- the next file of the list has a name that isn't accepted
+pub refused_next : (accepts : List ℕ → Type 0) (list : List Written) (i : ℕ) (file : Written) → i < length list
+    → file ≡ get_or list i file → ¬ accepts (file_text file).name → RefusesFile accepts (map file_text list)
+refused_next accepts [] i file lt is refused = absurd (omega arith)
+refused_next accepts (first ∷ list) zero file lt is refused =
+    let P : Written → Type 0 = λ f. ¬ accepts (file_text f).name in inl (subst P is refused)
+refused_next accepts (first ∷ list) (suc i) file lt is refused =
+    inr (refused_next accepts list i file (omega arith) is refused)
 
 -- all files of the list are written
 pub written_all : (list : List Written) (i : ℕ) (old new : List ℕ → KnownFile) → length list ≤ i

@@ -48,6 +48,11 @@ BreaksFiles [] old new = ⊥
 BreaksFiles (file ∷ more) old new =
     BreaksReplacing file old new ⊎ ((mid : List ℕ → KnownFile) × Replaces file old mid × BreaksFiles more mid new)
 
+-- some of the files has a name that isn't accepted
+abbrev pub RefusesFile : (List ℕ → Type 0) → List FileText → Type 0
+RefusesFile accepts [] = ⊥
+RefusesFile accepts (file ∷ more) = ¬ accepts file.name ⊎ RefusesFile accepts more
+
 -- the ending was written whole: first its files, then its text
 pub record IsWritten (ending : Ending) (old new : Output) : Type 0 where
   pub files : WritesFiles (map file_text ending.files) old.holds new.holds

@@ -101,11 +101,15 @@ pub fn execute<F: Files, O: Sink>(
     ensures unasked { (texts : CheckTexts) → IsCheckQuery (map string_bytes words.now) texts
         → asked_by texts.task texts.number ≡ None → RefusesWords result.status }
 
-    // A write fault was counted. No file changes but that for certificates, and that one only where the run is done or
-    // its writing fails; and no other count of faults does.
+    // A write fault was counted, and by the output where each name for certificates is accepted. No file changes but
+    // that for certificates, and that one only where the run is done or its writing fails; and no other count of faults
+    // does.
     ensures write_fault { result.status ≡ Status.WriteFault
         → FaultCounted (O.fault_count out.old) (O.fault_count out.new)
         ⊎ FaultCounted (F.write_count files.old) (F.write_count files.new) }
+    ensures output_fault { ((name : List ℕ) → NamesCertificate (map string_bytes words.now) name
+        → F.accepts files.new name) → result.status ≡ Status.WriteFault
+        → FaultCounted (O.fault_count out.old) (O.fault_count out.new) }
     ensures other_files { (name : List ℕ) → ¬ NamesCertificate (map string_bytes words.now) name
         → F.holds files.new name ≡ F.holds files.old name }
     ensures untouched { result.status ≢ Status.Done → result.status ≢ Status.WriteFault
@@ -221,11 +225,15 @@ pub fn run<F: Files, O: Sink, P: Pace + Sync, R: Threads + Wait + Sync>(
     ensures unasked { (texts : CheckTexts) → IsCheckQuery (map string_bytes words.now) texts
         → asked_by texts.task texts.number ≡ None → RefusesWords result.status }
 
-    // A write fault was counted. No file changes but that for certificates, and that one only where the run is done or
-    // its writing fails; and no other count of faults does.
+    // A write fault was counted, and by the output where each name for certificates is accepted. No file changes but
+    // that for certificates, and that one only where the run is done or its writing fails; and no other count of faults
+    // does.
     ensures write_fault { result.status ≡ Status.WriteFault
         → FaultCounted (O.fault_count out.old) (O.fault_count out.new)
         ⊎ FaultCounted (F.write_count files.old) (F.write_count files.new) }
+    ensures output_fault { ((name : List ℕ) → NamesCertificate (map string_bytes words.now) name
+        → F.accepts files.new name) → result.status ≡ Status.WriteFault
+        → FaultCounted (O.fault_count out.old) (O.fault_count out.new) }
     ensures other_files { (name : List ℕ) → ¬ NamesCertificate (map string_bytes words.now) name
         → F.holds files.new name ≡ F.holds files.old name }
     ensures untouched { result.status ≢ Status.Done → result.status ≢ Status.WriteFault

@@ -2,7 +2,7 @@ use Rattle.std.proofs.Common.{map}
 use Rattle.std.specs.String.{string_bytes}
 use Rattle.argue_words.specs.Words.{requested}
 use Rattle.argue_program.proofs.RowsLemmas.{decides_no_fault}
-use Rattle.argue_program.proofs.KeptLemmas.{IsRunOf-written}
+use Rattle.argue_program.proofs.KeptLemmas.{IsRunOf-written, output_fault}
 use Rattle.argue_program.proofs.RunsLemmas.{accepted, checked, complete, faulty, no_query, filled, no_write, other_counts, other_files, problems_told, right_session, solved_written, spent, too_long, unasked, untouched, usage, write_fault}
 use Rattle.argue_program.proofs.command.execute.Goals as goal
 
@@ -62,6 +62,11 @@ returns-clause-no_query g c = no_query _ (map string_bytes c.args.words.now) _ _
 
 pub returns-clause-write_fault : goal.returns-clause-write_fault
 returns-clause-write_fault g c = write_fault _ (map string_bytes c.args.words.now) _ _ _ (returns-clause-run g c)
+
+pub returns-clause-output_fault : goal.returns-clause-output_fault
+returns-clause-output_fault g c all fault =
+    output_fault _ (map string_bytes c.args.words.now) _ c.decide-ending.result _ _ c.decide-ending.ensures.ending all
+    (c.write_ending.ensures.refused fault)
 
 pub returns-clause-other_files : goal.returns-clause-other_files
 returns-clause-other_files g c = other_files _ (map string_bytes c.args.words.now) _ _ _ (returns-clause-run g c)
