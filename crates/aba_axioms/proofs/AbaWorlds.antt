@@ -2,9 +2,9 @@
 use Rattle.std.proofs.Common.{◌≡◌, ◌+◌, ◌<◌, ◌≤◌, ℕ, List, [], ◌∷◌, refl, sym, ap, subst, ◌∙◌, ⊎_elim, arith}
 use Rattle.std.specs.Prelude.{Contains}
 use Rattle.std.proofs.lemmas.Bool.{cases_eq, cases_lt}
-use Rattle.af_axioms.specs.aba_semantics.specs.AbaFrameworks.{Aba, AttacksAssumption, collective_of}
-use Rattle.af_axioms.specs.aba_semantics.specs.Collectives.{IsUnattacked}
-use Rattle.af_axioms.specs.aba_semantics.specs.Rules.{Rule, Derives, given as from_given, by_rule}
+use Rattle.af_axioms.specs.semantics.specs.AbaFrameworks.{Aba, AttacksAssumption, collective_of}
+use Rattle.af_axioms.specs.semantics.specs.Collectives.{IsUnattacked}
+use Rattle.af_axioms.specs.semantics.specs.Rules.{Rule, Derives, given as from_given, by_rule}
 use Rattle.af_axioms.specs.aba_laws.proofs.AbaLemmas.{aba_lawful, decide_attacks}
 use Rattle.af_axioms.specs.aba_laws.proofs.CollectiveSets.{defends_by_rest, rest_of}
 use Rattle.af_axioms.specs.aba_laws.proofs.DerivationLemmas.{derives_more}

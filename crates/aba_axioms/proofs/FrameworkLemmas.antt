@@ -6,9 +6,9 @@ use Rattle.std.proofs.lemmas.Bool.{cases_lt}
 use Rattle.std.proofs.lemmas.List.{get_or_default, get_or-map, length-map}
 use Rattle.std.proofs.lemmas.List.Elements.{Contains-get_or}
 use Rattle.std.proofs.lemmas.List.Kept.{AllPairs-from_increasing}
-use Rattle.af_axioms.specs.aba_semantics.specs.AbaFrameworks.{Aba, AttacksAssumption, IsAba, IsRuleOf, IsNumberedAba, collective_of}
-use Rattle.af_axioms.specs.aba_semantics.specs.Collectives.{IsUnattacked}
-use Rattle.af_axioms.specs.aba_semantics.specs.Rules.{Rule, Derives, given, by_rule}
+use Rattle.af_axioms.specs.semantics.specs.AbaFrameworks.{Aba, AttacksAssumption, IsAba, IsRuleOf, IsNumberedAba, collective_of}
+use Rattle.af_axioms.specs.semantics.specs.Collectives.{IsUnattacked}
+use Rattle.af_axioms.specs.semantics.specs.Rules.{Rule, Derives, given, by_rule}
 use Rattle.af_axioms.specs.aba_laws.proofs.AbaLemmas.{aba_lawful, decide_attacks}
 use Rattle.af_axioms.specs.aba_laws.proofs.CollectiveSets.{rest_of}
 use Rattle.af_axioms.specs.aba_laws.proofs.DerivationLemmas.{derives_more}

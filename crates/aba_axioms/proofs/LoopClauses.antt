@@ -4,10 +4,10 @@ use Rattle.std.specs.Prelude.{Contains, if◌then◌else◌}
 use Rattle.std.specs.List.{flat_map}
 use Rattle.std.proofs.lemmas.Bool.{cases_eq, cases_lt, ne_eqb}
 use Rattle.std.proofs.lemmas.List.Elements.{Contains-append_left, Contains-append_right}
-use Rattle.plain_lists.proofs.Membership.{Contains-head, Contains-tail, Contains-cons_cases, Contains-nil}
+use Rattle.lists.proofs.Membership.{Contains-head, Contains-tail, Contains-cons_cases, Contains-nil}
 use Rattle.plain_lits.proofs.HintCheckLemmas.{Contains-mapped}
-use Rattle.af_axioms.specs.aba_semantics.specs.AbaFrameworks.{Aba}
-use Rattle.af_axioms.specs.aba_semantics.specs.Rules.{Rule, Derives, given as from_given, by_rule}
+use Rattle.af_axioms.specs.semantics.specs.AbaFrameworks.{Aba}
+use Rattle.af_axioms.specs.semantics.specs.Rules.{Rule, Derives, given as from_given, by_rule}
 use Rattle.af_axioms.specs.semantics.specs.Framework.{Af}
 use Rattle.af_axioms.specs.semantics.specs.Frameworks.{af, aba}
 use Rattle.af_axioms.specs.meaning_atoms.specs.declared.atom.Atom.{Atom}

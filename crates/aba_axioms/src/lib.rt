@@ -6,6 +6,4 @@ mod clause;
 pub mod laws;
 mod loop_clause;
 
-pub use af_axioms;
-pub use af_axioms::{aba_laws, dung_notions, meaning_atoms};
 pub use clause::clause_of;

@@ -1,7 +1,7 @@
 -- The numbers of which literals affirm an atom.
 use Rattle.std.proofs.Common.{◌≡◌, ℕ, Bool, true, List, ap, refl, subst, ⊎_elim}
 use Rattle.std.specs.Prelude.{Contains, ◌↔◌, Some, filter_map}
-use Rattle.plain_lists.specs.Members.{IsSetOf}
+use Rattle.lists.specs.Members.{IsSetOf}
 use Rattle.semantics.proofs.Decided.{decide_member}
 use Rattle.meaning_atoms.specs.declared.atom.Atom.{Atom}
 use Rattle.meaning_atoms.specs.declared.atom.Atom.TheVariants.{Member, Asm, Der}

@@ -2,3 +2,17 @@ pub mod Affirmed
 pub mod ModelReadings
 pub mod LoopLemmas
 pub mod WorldModels
+pub mod ListingLemmas
+pub mod RuleLemmas
+pub mod WalkLemmas
+pub mod NeededLemmas
+pub mod OrderLemmas
+pub mod Enumerated
+pub mod PlaceLemmas
+pub mod HeadLemmas
+pub mod LastRules
+pub mod WalkChanges
+pub mod BroughtLemmas
+pub mod EditsBring
+pub mod OutcomeLemmas
+pub mod GainedLemmas

@@ -6,11 +6,11 @@ use Rattle.std.specs.List.{flat_map}
 use Rattle.std.proofs.lemmas.Bool.{cond_both, eqb-false, eqb-true}
 use Rattle.std.proofs.lemmas.List.{get_or-map, length-map, take_all, take_more}
 use Rattle.std.proofs.lemmas.List.Elements.{Contains-append_cases, Contains-append_left, Contains-push_cases, Contains-get_or}
-use Rattle.plain_lists.specs.Members.{IsSetOf}
-use Rattle.plain_lists.proofs.Membership.{Contains-nil, Contains-cons_cases, Contains-pushed}
-use Rattle.aba_semantics.specs.AbaFrameworks.{Aba, IsAtom, IsNumberedAba, collective_of}
-use Rattle.aba_semantics.specs.Collectives.{IsUnattacked}
-use Rattle.aba_semantics.specs.Rules.{Rule, Derives, given as from_given}
+use Rattle.lists.specs.Members.{IsSetOf}
+use Rattle.lists.proofs.Membership.{Contains-nil, Contains-cons_cases, Contains-pushed}
+use Rattle.semantics.specs.AbaFrameworks.{Aba, IsAtom, IsNumberedAba, collective_of}
+use Rattle.semantics.specs.Collectives.{IsUnattacked}
+use Rattle.semantics.specs.Rules.{Rule, Derives, given as from_given}
 use Rattle.aba_laws.proofs.AbaLemmas.{decide_attacks}
 use Rattle.aba_laws.proofs.DerivationLemmas.{derives_more}
 use Rattle.aba_laws.proofs.Images.{image_there, image_from}
@@ -37,10 +37,10 @@ use Rattle.semantics.specs.Frameworks.{aba}
 use Rattle.oracle_face.specs.Decoding.{IsDecoded, IsModelOf, IsNewLoop, TellsMembers}
 use Rattle.af_encoding.specs.Decoded.{Affirms}
 use Rattle.oracle_face.specs.AbaNeeded.{Heads}
-use Rattle.aba_needed.specs.Listing.{walk_along}
+use Rattle.aba_encoding.specs.Listing.{walk_along}
 use Rattle.oracle_face.specs.Walks.{IsWalkEnd, IsWalkStep}
-use Rattle.aba_needed.proofs.NeededLemmas.{flat_from, heads_low, heads_under}
-use Rattle.aba_needed.proofs.WalkLemmas.{AreAhead, all_ahead, along_from}
+use Rattle.aba_encoding.proofs.NeededLemmas.{flat_from, heads_low, heads_under}
+use Rattle.aba_encoding.proofs.WalkLemmas.{AreAhead, all_ahead, along_from}
 use Rattle.aba_encoding.specs.AbaModels.{AddsAtom, IsFalseUnder, IsFounded, IsLoopBeside, IsLoopName}
 use Rattle.aba_encoding.proofs.ModelReadings.{affirmed_here, consistent, fact_here, fact_so, fact_told, first_or_later, last_one, none_left, own_told, satisfied}
 

@@ -4,11 +4,11 @@ use Rattle.std.proofs.Common.{◌≡◌, ◌+◌, ◌⊎◌, ℕ, Bool, true, fa
 use Rattle.std.proofs.Common.{inl, inr, ⊎_elim}
 use Rattle.std.specs.Prelude.{Contains, ◌↔◌}
 use Rattle.std.proofs.lemmas.Bool.{cases_eq, false≢true}
-use Rattle.plain_lists.specs.Members.{IsSetOf}
-use Rattle.plain_lists.proofs.Membership.{Contains-nil, Contains-cons_cases}
-use Rattle.aba_semantics.specs.AbaFrameworks.{Aba, AttacksAssumption, IsAtom, IsNumberedAba, collective_of}
-use Rattle.aba_semantics.specs.Collectives.{Defends, IsAdmissible, IsComplete, IsConflictFree, IsStable, IsUnattacked}
-use Rattle.aba_semantics.specs.Rules.{Rule, Derives, given as from_given, by_rule}
+use Rattle.lists.specs.Members.{IsSetOf}
+use Rattle.lists.proofs.Membership.{Contains-nil, Contains-cons_cases}
+use Rattle.semantics.specs.AbaFrameworks.{Aba, AttacksAssumption, IsAtom, IsNumberedAba, collective_of}
+use Rattle.semantics.specs.Collectives.{Defends, IsAdmissible, IsComplete, IsConflictFree, IsStable, IsUnattacked}
+use Rattle.semantics.specs.Rules.{Rule, Derives, given as from_given, by_rule}
 use Rattle.aba_laws.proofs.AbaLemmas.{aba_lawful}
 use Rattle.aba_laws.proofs.CollectiveSets.{defends_by_rest, rest_of}
 use Rattle.aba_laws.proofs.DerivationLemmas.{derives_more}
@@ -33,8 +33,8 @@ use Rattle.oracle_face.specs.Goals.{IsMode}
 use Rattle.af_encoding.specs.Decoded.{Affirms}
 use Rattle.oracle_face.specs.AbaNeeded.{IsNeededOfAba}
 use Rattle.oracle_face.specs.Walks.{IsWalkEnd, IsWalkStep}
-use Rattle.aba_needed.proofs.NeededLemmas.{body_ahead, body_low, body_under}
-use Rattle.aba_needed.proofs.WalkLemmas.{walk_on}
+use Rattle.aba_encoding.proofs.NeededLemmas.{body_ahead, body_low, body_under}
+use Rattle.aba_encoding.proofs.WalkLemmas.{walk_on}
 use Rattle.aba_encoding.specs.AbaModels.{DescribesInAba, IsFounded}
 
 abbrev literal : Atom → Bool → AtomLit

@@ -3,8 +3,8 @@
 use Rattle.std.proofs.Common.{◌≡◌, ◌⊎◌, ℕ, Bool, true, false, not, List, [], map, arith, refl, sym, ◌∙◌, subst, inl, inr}
 use Rattle.std.specs.Prelude.{Contains, ◌↔◌}
 use Rattle.std.specs.List.{flat_map}
-use Rattle.plain_lists.specs.Members.{IsWithin}
-use Rattle.aba_semantics.specs.AbaFrameworks.{Aba, IsNumberedAba}
+use Rattle.lists.specs.Members.{IsWithin}
+use Rattle.semantics.specs.AbaFrameworks.{Aba, IsNumberedAba}
 use Rattle.aba_laws.proofs.Images.{image_there, image_from}
 use Rattle.semantics.specs.Frameworks.{aba}
 use Rattle.meaning_atoms.specs.declared.aba_axiom.AbaAxiom.{AbaAxiom}
@@ -26,8 +26,8 @@ use Rattle.oracle_face.specs.Goals.{IsMode}
 use Rattle.oracle_face.specs.Needed.{IsNeeded}
 use Rattle.af_encoding.specs.Decoded.{Affirms}
 use Rattle.oracle_face.specs.AbaNeeded.{IsNeededOfAba}
-use Rattle.aba_needed.specs.Listing.{listed_axioms}
-use Rattle.aba_needed.proofs.NeededLemmas.{flat_there, listed_to, needed_fits}
+use Rattle.aba_encoding.specs.Listing.{listed_axioms}
+use Rattle.aba_encoding.proofs.NeededLemmas.{flat_there, listed_to, needed_fits}
 use Rattle.aba_encoding.specs.AbaModels.{IsModelOfSetInAba}
 
 abbrev literal : Atom → Bool → AtomLit

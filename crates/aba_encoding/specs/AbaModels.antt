@@ -1,7 +1,7 @@
 -- What a model of the needed axioms tells of the set that it is read as, where the framework is assumption-based.
 use Rattle.std.specs.Prelude.{◌≡◌, ◌↔◌, ◌⊎◌, ℕ, List, Contains, map, slice_index}
-use Rattle.plain_lists.specs.Members.{IsSetOf}
-use Rattle.aba_semantics.specs.AbaFrameworks.{Aba, IsAtom}
+use Rattle.lists.specs.Members.{IsSetOf}
+use Rattle.semantics.specs.AbaFrameworks.{Aba, IsAtom}
 use Rattle.meaning_atoms.specs.declared.aba_axiom.AbaAxiom.TheVariants.{B17}
 use Rattle.meaning_atoms.specs.declared.atom.Atom.{Atom}
 use Rattle.meaning_atoms.specs.declared.atom.Atom.TheVariants.{Member, Asm, Der}

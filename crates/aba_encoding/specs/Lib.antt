@@ -1,2 +1,5 @@
 pub mod NumberAtoms
 pub mod AbaModels
+pub mod Listing
+pub mod Places
+pub mod Brought

@@ -1,13 +1,13 @@
 //! The numbers of which literals affirm an atom.
 
 ghost use Rattle.std.specs.Prelude.{◌≡◌, IfOk};
-ghost use Rattle.plain_lists.specs.Members.{IsSetOf};
+ghost use Rattle.lists.specs.Members.{IsSetOf};
 ghost use Rattle.af_encoding.specs.Decoded.{Affirms};
 ghost use Rattle.aba_encoding.specs.NumberAtoms.{atom_of, number_in};
 
 use meaning_atoms::Atom::{Asm, Der, Member};
 use meaning_atoms::{AtomLit, Closure};
-use plain_lists::Memory;
+use lists::Memory;
 use set_lists::NumSet;
 use std::alloc::Global;
 

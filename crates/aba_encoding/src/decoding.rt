@@ -1,14 +1,14 @@
 //! The set of assumptions that a model means.
 
 ghost use Rattle.std.specs.Prelude.{IfOk};
-ghost use Rattle.plain_lists.specs.Members.{IsSetOf};
-ghost use Rattle.aba_semantics.specs.AbaFrameworks.{Aba, IsNumberedAba};
+ghost use Rattle.lists.specs.Members.{IsSetOf};
+ghost use Rattle.semantics.specs.AbaFrameworks.{Aba, IsNumberedAba};
 ghost use Rattle.meaning_atoms.specs.declared.atom.Atom.TheVariants.{Asm};
 ghost use Rattle.oracle_face.specs.Decoding.{IsDecoded};
 
 use crate::affirming::{NumberAtom, affirmed_numbers};
 use meaning_atoms::AtomLit;
-use plain_lists::Memory;
+use lists::Memory;
 use set_lists::NumSet;
 use std::alloc::Global;
 

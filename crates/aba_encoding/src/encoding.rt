@@ -4,7 +4,7 @@ use crate::{decoding, loops};
 use aba_notions::AbaPlain;
 use meaning_atoms::{Atom, AtomLit, AxiomName};
 use oracle_face::Encoding;
-use plain_lists::{Items, Memory};
+use lists::{Items, Memory};
 use set_lists::NumSet;
 use std::alloc::Global;
 
@@ -23,7 +23,7 @@ impl Encoding for AbaEncoding {
     ghost vouches = { λ a. Asm a };
 
     fn needed(alloc: Global, plain: &AbaPlain) -> Result<Items<AxiomName>, Memory> {
-        aba_needed::needed(alloc, plain)
+        crate::needed(alloc, plain)
     }
 
     fn decode(alloc: Global, values: &[AtomLit]) -> Result<NumSet, Memory> {

@@ -2,8 +2,8 @@
 //! is the law.
 
 ghost use Rattle.std.specs.Prelude.{ℕ, List};
-ghost use Rattle.plain_lists.specs.Members.{IsSetOf, IsWithin};
-ghost use Rattle.aba_semantics.specs.AbaFrameworks.{Aba, IsNumberedAba};
+ghost use Rattle.lists.specs.Members.{IsSetOf, IsWithin};
+ghost use Rattle.semantics.specs.AbaFrameworks.{Aba, IsNumberedAba};
 ghost use Rattle.meaning_atoms.specs.AxiomNames.{IsAxiomName};
 ghost use Rattle.meaning_atoms.specs.declared.atom.Atom.TheVariants.{Asm};
 ghost use Rattle.meaning_atoms.specs.declared.atom.AtomLit.{AtomLit};

@@ -3,11 +3,16 @@
 #![tactic(auto)]
 
 mod affirming;
+mod changing;
 mod decoding;
 mod encoding;
 pub mod laws;
 mod loops;
+pub mod needed_axioms;
+mod places;
 
+pub use changing::changed;
 pub use decoding::decode;
 pub use encoding::AbaEncoding;
 pub use loops::missing;
+pub use needed_axioms::{needed, push_all, push_rule};

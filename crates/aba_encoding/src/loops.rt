@@ -1,9 +1,9 @@
 //! The loop clause that a model lacks.
 
 ghost use Rattle.std.specs.Prelude.{◌≡◌, ℕ, ◌≤◌, ◌<◌, List, Contains, IfNone, IfOk, IfSome, None, OnOk, length, slice_index};
-ghost use Rattle.plain_lists.specs.Members.{IsSetOf};
-ghost use Rattle.aba_semantics.specs.AbaFrameworks.{IsAtom, IsNumberedAba};
-ghost use Rattle.aba_semantics.specs.Rules.{Derives};
+ghost use Rattle.lists.specs.Members.{IsSetOf};
+ghost use Rattle.semantics.specs.AbaFrameworks.{IsAtom, IsNumberedAba};
+ghost use Rattle.semantics.specs.Rules.{Derives};
 ghost use Rattle.meaning_atoms.specs.AbaAxioms.{IsLoop};
 ghost use Rattle.meaning_atoms.specs.declared.aba_axiom.AbaAxiom.TheVariants.{B17};
 ghost use Rattle.meaning_atoms.specs.declared.atom.Atom.TheVariants.{Asm, Der as DerAtom};
@@ -21,7 +21,7 @@ use crate::decoding::decode;
 use aba_notions::{AbaPlain, Unfounded};
 use loop_clauses::loop_axiom;
 use meaning_atoms::{AtomLit, AxiomName, Closure};
-use plain_lists::Memory;
+use lists::Memory;
 use set_lists::NumSet;
 use std::alloc::Global;
 

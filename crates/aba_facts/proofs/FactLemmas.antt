@@ -7,8 +7,8 @@ use Rattle.std.proofs.lemmas.Bool.{cases_lt, eqb-true, false≢true}
 use Rattle.std.proofs.lemmas.List.{get_or_default, get_or-map, length-map}
 use Rattle.std.proofs.lemmas.List.Elements.{Contains-get_or}
 use Rattle.attack_index.specs.PairOrder.{PairsRise}
-use Rattle.aba_semantics.specs.AbaFrameworks.{Aba, IsNumberedAba}
-use Rattle.aba_semantics.specs.Rules.{Rule}
+use Rattle.semantics.specs.AbaFrameworks.{Aba, IsNumberedAba}
+use Rattle.semantics.specs.Rules.{Rule}
 use Rattle.aba_laws.proofs.Images.{image_there, image_from}
 use Rattle.aba_notions.specs.Storage.{no_rule, rule_at}
 use Rattle.aba_notions.proofs.TableLemmas.{rising_few}

@@ -1,6 +1,6 @@
 -- Where rising numbers reach a bound.
 use Rattle.std.specs.Prelude.{◌≡◌, ℕ, ◌<◌, ◌≤◌, List, Contains, length, slice_index}
-use Rattle.aba_semantics.specs.AbaFrameworks.{Aba}
+use Rattle.semantics.specs.AbaFrameworks.{Aba}
 use Rattle.aba_notions.specs.Storage.{rule_at}
 
 -- the first n of the numbers are below a bound, and the others are not

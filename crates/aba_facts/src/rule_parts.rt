@@ -1,8 +1,8 @@
 //! What a rule of some number has.
 
 ghost use Rattle.std.specs.Prelude.{◌≡◌, ◌↔◌, Contains, IfNone, IfSome, IsTrue};
-ghost use Rattle.aba_semantics.specs.AbaFrameworks.{IsNumberedAba};
-ghost use Rattle.aba_semantics.specs.Rules.{Rule as ARule};
+ghost use Rattle.semantics.specs.AbaFrameworks.{IsNumberedAba};
+ghost use Rattle.semantics.specs.Rules.{Rule as ARule};
 ghost use Rattle.meaning_atoms.specs.AbaReadings.{HasBodyAtom, HasBodyGap, HasHead};
 ghost use Rattle.aba_facts.specs.Cuts.{IsRuleAt};
 

@@ -16,7 +16,7 @@ use Rattle.af_format.specs.Faults.{IfLine}
 use Rattle.af_format.specs.Headers.{af_word, aba_word, IsHeaderOf, StandsOnHeader, IsHeaderFault, IsBadFirstLine, IsBadHeader, BeginWith}
 use Rattle.af_format.proofs.LineCauses.{IsHeaderOf-same, no_header_cause, words_differ}
 use Rattle.af_format.proofs.FirstFaults.{lowest, index_cases, shifted}
-use Rattle.aba_semantics.specs.AbaFrameworks.{Aba}
+use Rattle.semantics.specs.AbaFrameworks.{Aba}
 use Rattle.aba_format.specs.AbaText.{Said, says_assumption, says_contrary, SaysLine, AreLines, AreOfAssumptions, ReadsAs}
 use Rattle.aba_format.specs.Faults.{StandsOnLine, SaySome, IsLineFault, StandsAtLine, IsStray, StandsIn, IsFirstFault, IsFaultless}
 use Rattle.aba_format.specs.Reading.{IsFirstBadLine, IsFirstStray, IsBadText}

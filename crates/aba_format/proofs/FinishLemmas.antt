@@ -8,16 +8,16 @@ use Rattle.std.specs.List.{AllZip}
 use Rattle.std.proofs.lemmas.List.{take_all, length-map, get_or-map}
 use Rattle.std.proofs.lemmas.List.Elements.{Contains-get_or}
 use Rattle.std.proofs.lemmas.List.FromFn.{length-range_with_len, get_or-range_with_len}
-use Rattle.plain_lists.proofs.Membership.{Contains-tail}
+use Rattle.lists.proofs.Membership.{Contains-tail}
 use Rattle.num_text.specs.Cuts.{LineText}
 use Rattle.num_text.specs.Lines.{kept}
 use Rattle.af_format.specs.Headers.{aba_word, BeginWith}
 use Rattle.af_format.proofs.Reading.{arguments_rise}
 use Rattle.aba_laws.proofs.Images.{image_there, image_from}
-use Rattle.aba_semantics.specs.declared.numbers.TheConstants.{LAST_ATOM}
-use Rattle.aba_semantics.specs.AbaFrameworks.{Aba, IsAtom, IsNumberedAba}
+use Rattle.semantics.specs.declared.numbers.TheConstants.{LAST_ATOM}
+use Rattle.semantics.specs.AbaFrameworks.{Aba, IsAtom, IsNumberedAba}
 use Rattle.aba_notions.specs.declared.rule_table.RuleLists.{RuleLists}
-use Rattle.aba_semantics.specs.Rules.{Rule}
+use Rattle.semantics.specs.Rules.{Rule}
 use Rattle.aba_notions.specs.Storage.{AreParts, AreRulesOf, no_rule}
 use Rattle.aba_format.specs.AbaText.{Said, says_assumption, says_contrary, says_rule, atoms_of, rules_said, IsRuleSaid, IsFrameworkOf, ReadsAs}
 use Rattle.aba_format.specs.Reading.{AreRulesIn, AreWhole}

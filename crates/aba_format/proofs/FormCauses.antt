@@ -12,7 +12,7 @@ use Rattle.af_format.specs.Causes.{rank, IsFirstCause}
 use Rattle.af_format.specs.Headers.{BeginWithP}
 use Rattle.af_format.specs.Faults.{HaveNoNumber, HaveOutsider}
 use Rattle.af_format.proofs.LineCauses.{IsNumber-same, none_read}
-use Rattle.aba_semantics.specs.AbaFrameworks.{IsAtom}
+use Rattle.semantics.specs.AbaFrameworks.{IsAtom}
 use Rattle.aba_format.specs.AbaText.{SpellsAtom}
 use Rattle.aba_format.specs.declared.stop.LineStop.{LineStop}
 use Rattle.aba_format.specs.declared.stop.LineStop.TheVariants.{Cause, Memory}

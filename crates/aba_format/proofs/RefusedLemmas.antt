@@ -6,7 +6,7 @@ use Rattle.std.proofs.lemmas.List.{length-append, length-map, take-append-drop, 
 use Rattle.std.proofs.lemmas.List.Sums.{count_by_more_yes, sum_by-append}
 use Rattle.std.proofs.lemmas.List.Elements.{Contains-append_left, Contains-push_cases}
 use Rattle.std.proofs.lemmas.Slice.Zip.{all_zipped_more}
-use Rattle.plain_lists.proofs.Membership.{Contains-pushed}
+use Rattle.lists.proofs.Membership.{Contains-pushed}
 use Rattle.num_text.specs.Cuts.{LineText, field_texts}
 use Rattle.num_text.specs.Number.{IsNumber}
 use Rattle.af_format.specs.declared.fault.LineCause.{LineCause}
@@ -15,7 +15,7 @@ use Rattle.af_format.specs.Causes.{rank, IsFirstCause}
 use Rattle.af_format.specs.Faults.{HaveNoNumber, HaveOutsider}
 use Rattle.af_format.proofs.LineCauses.{IsNumber-same}
 use Rattle.af_format.proofs.Zips.{AllZip-at}
-use Rattle.aba_semantics.specs.AbaFrameworks.{IsAtom}
+use Rattle.semantics.specs.AbaFrameworks.{IsAtom}
 use Rattle.aba_format.specs.AbaText.{Said, says_assumption, says_contrary, says_rule, keyword, atoms_of, SpellsAtom, SaysLine, rules_said, AreConsistent, AreLines}
 use Rattle.aba_format.specs.Faults.{HaveForm, behind_first, StandsOnFields, is_rule_line, SaySome, AreNotFlat, IsSecondContrary, StandsOnLine}
 use Rattle.aba_format.specs.Reading.{is_marked, IsSaidIn, Refuses, IsRefusedLine, IsStopped}

@@ -5,14 +5,14 @@ use Rattle.std.specs.List.{AllZip, range_with_len}
 use Rattle.std.specs.List.Sorted.{IsStrictlyIncreasing}
 use Rattle.std.proofs.lemmas.List.{length-map}
 use Rattle.std.proofs.lemmas.Slice.Zip.{AllZip-long}
-use Rattle.plain_lists.proofs.Membership.{Contains-head, Contains-tail}
+use Rattle.lists.proofs.Membership.{Contains-head, Contains-tail}
 use Rattle.num_text.specs.Cuts.{LineText}
 use Rattle.num_text.specs.Lines.{kept}
 use Rattle.af_format.specs.Headers.{aba_word, IsHeaderOf, BeginWith}
 use Rattle.af_format.proofs.LineCauses.{IsHeaderOf-same}
 use Rattle.af_format.proofs.Zips.{AllZip-same}
-use Rattle.aba_semantics.specs.Rules.{Rule}
-use Rattle.aba_semantics.specs.AbaFrameworks.{Aba, IsNumberedAba}
+use Rattle.semantics.specs.Rules.{Rule}
+use Rattle.semantics.specs.AbaFrameworks.{Aba, IsNumberedAba}
 use Rattle.aba_notions.proofs.FormLemmas.{same_rising}
 use Rattle.aba_format.specs.AbaText.{Said, says_assumption, says_contrary, SaysLine, rules_said, AreConsistent, IsAbaText, IsContrarySaid, IsRuleSaid, IsFrameworkOf, ReadsAs}
 use Rattle.aba_format.proofs.SaysLemmas.{SaysLine-same}

@@ -5,9 +5,9 @@ use Rattle.std.proofs.lemmas.Bool.{cases_eq, cases_Bool}
 use Rattle.std.proofs.lemmas.List.{length-append, length-map, map-append, append-nil, get_or_append_left, length-set}
 use Rattle.std.proofs.lemmas.List.Elements.{Contains-push_cases, Contains-append_left, Contains-append_right, Contains-append_cases}
 use Rattle.std.proofs.Math.Seq.{get_or-append_seam}
-use Rattle.plain_lists.proofs.Membership.{Contains-pushed}
+use Rattle.lists.proofs.Membership.{Contains-pushed}
 use Rattle.aba_laws.proofs.Images.{image_there, image_from}
-use Rattle.aba_semantics.specs.AbaFrameworks.{IsAtom}
+use Rattle.semantics.specs.AbaFrameworks.{IsAtom}
 use Rattle.aba_format.specs.AbaText.{Said, says_assumption, says_contrary, says_rule, atoms_of, SaysLine, rules_said, AreConsistent}
 use Rattle.aba_format.specs.Reading.{
   is_marked,

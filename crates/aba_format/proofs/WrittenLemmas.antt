@@ -16,12 +16,12 @@ use Rattle.num_text.proofs.Decimals.{decimal_number}
 use Rattle.num_text.proofs.DigitFields.{no_blanks, not_empty}
 use Rattle.num_text.proofs.CutLemmas.{lines_from-nil}
 use Rattle.num_text.proofs.KeptLines.{kept-nil, kept-keeps}
-use Rattle.plain_lists.proofs.Membership.{Contains-head, Contains-tail, Contains-cons_cases}
+use Rattle.lists.proofs.Membership.{Contains-head, Contains-tail, Contains-cons_cases}
 use Rattle.set_lists.proofs.Rising.{below_across, rises_right}
 use Rattle.af_format.proofs.RoundTrip.{no_ends, line_at, first_line_is}
 use Rattle.aba_laws.proofs.Images.{image_there, image_from}
-use Rattle.aba_semantics.specs.Rules.{Rule}
-use Rattle.aba_semantics.specs.AbaFrameworks.{Aba, IsAtom, IsNumberedAba}
+use Rattle.semantics.specs.Rules.{Rule}
+use Rattle.semantics.specs.AbaFrameworks.{Aba, IsAtom, IsNumberedAba}
 use Rattle.aba_notions.specs.Solid.{IsSolid}
 use Rattle.aba_format.specs.AbaText.{Said, says_assumption, says_contrary, says_rule, keyword, atoms_of, SpellsAtom, SaysLine, rules_said, AreConsistent, AreLines, IsRuleSaid, IsContrarySaid, IsFrameworkOf, ReadsAs}
 use Rattle.aba_format.specs.Written.{header_line, spaced, said_line, assumption_line, contrary_line, rule_line, aba_text}

@@ -4,8 +4,8 @@ use Rattle.std.specs.List.{AllZip}
 use Rattle.num_text.specs.Cuts.{LineText, field_texts}
 use Rattle.num_text.specs.Lines.{kept_lines}
 use Rattle.num_text.specs.Number.{IsNumber}
-use Rattle.aba_semantics.specs.Rules.{Rule}
-use Rattle.aba_semantics.specs.AbaFrameworks.{Aba, IsAtom, IsNumberedAba}
+use Rattle.semantics.specs.Rules.{Rule}
+use Rattle.semantics.specs.AbaFrameworks.{Aba, IsAtom, IsNumberedAba}
 use Rattle.aba_notions.specs.Solid.{IsSolid}
 use Rattle.af_format.specs.Headers.{aba_word, IsHeaderOf}
 use Rattle.aba_format.specs.declared.said.TheConstants.{MOST_RULE_LINES}

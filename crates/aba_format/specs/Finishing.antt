@@ -1,7 +1,7 @@
 -- From what the lines of a text say to the framework.
 use Rattle.std.specs.Prelude.{◌≡◌, ◌↔◌, ℕ, ◌+◌, ◌<◌, ◌≤◌, List, Contains, length, slice_index}
-use Rattle.aba_semantics.specs.declared.numbers.TheConstants.{LAST_ATOM, LAST_RULE}
-use Rattle.aba_semantics.specs.AbaFrameworks.{Aba, IsAtom, IsNumberedAba}
+use Rattle.semantics.specs.declared.numbers.TheConstants.{LAST_ATOM, LAST_RULE}
+use Rattle.semantics.specs.AbaFrameworks.{Aba, IsAtom, IsNumberedAba}
 use Rattle.aba_notions.specs.Solid.{IsSolid}
 use Rattle.aba_notions.specs.Storage.{AreRulesOf}
 use Rattle.std.specs.List.{range_with_len}

@@ -3,7 +3,7 @@ use Rattle.std.specs.Prelude.{◌≡◌, ◌≢◌, ◌⊎◌, ℕ, ◌+◌, ◌
 use Rattle.std.specs.List.{AllZip, AllPairs}
 use Rattle.num_text.specs.Cuts.{LineText, FieldText, field_texts}
 use Rattle.num_text.specs.Number.{IsNumber}
-use Rattle.aba_semantics.specs.AbaFrameworks.{IsAtom}
+use Rattle.semantics.specs.AbaFrameworks.{IsAtom}
 use Rattle.af_format.specs.declared.fault.LineCause.{LineCause}
 use Rattle.af_format.specs.declared.fault.LineCause.TheVariants.{BadNumber, TooManyLines, NotFlat, SecondContrary, ContraryOfNonAssumption}
 use Rattle.af_format.specs.Causes.{IsFirstCause}

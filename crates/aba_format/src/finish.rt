@@ -2,12 +2,12 @@
 
 ghost use Rattle.std.specs.Prelude.{◌≡◌, ◌↔◌, ℕ, ◌+◌, ◌<◌, ◌≤◌, Contains, IfOk, length, slice_index};
 ghost use Rattle.std.specs.List.{range_with_len};
-ghost use Rattle.aba_semantics.specs.declared.numbers.TheConstants.{LAST_RULE};
+ghost use Rattle.semantics.specs.declared.numbers.TheConstants.{LAST_RULE};
 ghost use Rattle.aba_format.specs.Finishing.{AreFrameworkParts, IsFrameworkBy, IsPairedBy};
 
 use crate::said::Parts;
 use aba_notions::{AbaPlain, RuleLists};
-use plain_lists::Memory;
+use lists::Memory;
 use set_lists::NumSet;
 use std::alloc::Global;
 

@@ -2,7 +2,7 @@
 //! as itself.
 
 ghost use Rattle.std.specs.Prelude.{◌≡◌, ℕ, ◌≤◌, List, length, IfOk, IfErr};
-ghost use Rattle.aba_semantics.specs.AbaFrameworks.{Aba};
+ghost use Rattle.semantics.specs.AbaFrameworks.{Aba};
 ghost use Rattle.aba_notions.specs.Solid.{IsSolid};
 ghost use Rattle.aba_format.specs.AbaText.{ReadsAs};
 ghost use Rattle.aba_format.specs.Faults.{IsFaultless};

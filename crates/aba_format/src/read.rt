@@ -4,8 +4,8 @@ ghost use Rattle.std.specs.Prelude.{◌≡◌, ℕ, ◌≤◌, ◌<◌, ◌⊎�
 ghost use Rattle.num_text.specs.Cuts.{field_texts};
 ghost use Rattle.num_text.specs.Lines.{kept};
 ghost use Rattle.num_text.specs.declared.limit.TheConstants.{INPUT_LIMIT};
-ghost use Rattle.aba_semantics.specs.declared.numbers.TheConstants.{LAST_ATOM};
-ghost use Rattle.aba_semantics.specs.AbaFrameworks.{Aba};
+ghost use Rattle.semantics.specs.declared.numbers.TheConstants.{LAST_ATOM};
+ghost use Rattle.semantics.specs.AbaFrameworks.{Aba};
 ghost use Rattle.aba_notions.specs.Solid.{IsSolid};
 ghost use Rattle.af_format.specs.Faults.{IfLine};
 ghost use Rattle.aba_format.specs.AbaText.{ReadsAs};

@@ -1,14 +1,14 @@
 //! What the lines of a text say, taken together.
 
 ghost use Rattle.std.specs.Prelude.{◌≡◌, ℕ, ◌+◌, ◌<◌, ◌≤◌, All, IfErr, IfOk, OnOk, length};
-ghost use Rattle.aba_semantics.specs.declared.numbers.TheConstants.{LAST_ATOM};
-ghost use Rattle.aba_semantics.specs.AbaFrameworks.{IsAtom};
+ghost use Rattle.semantics.specs.declared.numbers.TheConstants.{LAST_ATOM};
+ghost use Rattle.semantics.specs.AbaFrameworks.{IsAtom};
 ghost use Rattle.aba_format.specs.Reading.{IfCause, AddsAssumption, AddsContrary, AddsRule, AddsBody, AreEmpty, AreWide};
 ghost use Rattle.aba_format.specs.Reading.{RefusesAssumption, RefusesContrary, RefusesRule};
 
 use crate::stop::LineStop;
 use af_format::LineCause;
-use plain_lists::Memory;
+use lists::Memory;
 use std::alloc::Global;
 
 /// The most rule lines that a framework's text may have.

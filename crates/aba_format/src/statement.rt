@@ -5,7 +5,7 @@ ghost use Rattle.std.specs.List.{AllZip};
 ghost use Rattle.num_text.specs.Cuts.{FieldText, field_texts};
 ghost use Rattle.num_text.specs.Number.{IsNumber};
 ghost use Rattle.num_text.specs.Numerals.{IsReadNumber};
-ghost use Rattle.aba_semantics.specs.AbaFrameworks.{IsAtom};
+ghost use Rattle.semantics.specs.AbaFrameworks.{IsAtom};
 ghost use Rattle.af_format.specs.Causes.{IsFirstCause};
 ghost use Rattle.aba_format.specs.AbaText.{SaysLine, SpellsAtom};
 ghost use Rattle.aba_format.specs.Faults.{StandsOnFields};

@@ -3,7 +3,7 @@
 ghost use Rattle.std.specs.Prelude.{◌≡◌};
 
 use af_format::LineCause;
-use plain_lists::Memory;
+use lists::Memory;
 use std::alloc::AllocFailed;
 
 /// Why reading stops at a line.

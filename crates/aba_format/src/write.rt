@@ -3,13 +3,13 @@
 ghost use Rattle.std.specs.Prelude.{◌≡◌, ◌++◌, ◌<◌, ◌≤◌, ◌∷◌, [], IfOk, OnOk, length, map};
 ghost use Rattle.std.specs.List.{flat_map};
 ghost use Rattle.std.specs.String.{string_bytes};
-ghost use Rattle.aba_semantics.specs.AbaFrameworks.{IsNumberedAba};
+ghost use Rattle.semantics.specs.AbaFrameworks.{IsNumberedAba};
 ghost use Rattle.aba_notions.specs.Solid.{IsSolid};
 ghost use Rattle.aba_format.specs.AbaText.{ReadsAs, says_rule};
 ghost use Rattle.aba_format.specs.Written.{aba_text, assumption_line, contrary_line, rule_line, said_line};
 
 use aba_notions::AbaPlain;
-use plain_lists::{Bytes, Memory};
+use lists::{Bytes, Memory};
 use std::alloc::Global;
 use std::fmt::Write;
 

@@ -2,12 +2,12 @@
 use Rattle.std.proofs.Common.{◌≡◌, inl, inr, ⊎_elim, ℕ, List, refl, subst}
 use Rattle.std.specs.Prelude.{Contains}
 use Rattle.std.proofs.lemmas.Bool.{cases_eq}
-use Rattle.plain_lists.specs.Members.{IsWithin}
+use Rattle.lists.specs.Members.{IsWithin}
 use Rattle.semantics.proofs.Decided.{Decided, decide_both, decide_some}
-use Rattle.semantics.specs.aba_semantics.specs.AbaFrameworks.{Aba, AttacksAssumption, collective_of}
+use Rattle.semantics.specs.AbaFrameworks.{Aba, AttacksAssumption, collective_of}
 use Rattle.aba_laws.proofs.CollectiveSets.{IsLawful}
 use Rattle.aba_laws.proofs.DerivationLemmas.{derives_more, decide_derives}
-use Rattle.semantics.specs.aba_semantics.specs.Rules.{Derives}
+use Rattle.semantics.specs.Rules.{Derives}
 
 pub attacks_more : (f : Aba) (s t : List ℕ) (a : ℕ) → IsWithin s t → AttacksAssumption f s a → AttacksAssumption f t a
 attacks_more f s t a sub h = record {

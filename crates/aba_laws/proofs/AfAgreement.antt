@@ -1,12 +1,12 @@
 -- Each notion of abstract frameworks is that of collective attacks.
 use Rattle.std.proofs.Common.{◌≡◌, ℕ, List, [], ◌∷◌, refl, subst, sym, ⊎_elim}
 use Rattle.std.specs.Prelude.{◌↔◌, Contains}
-use Rattle.plain_lists.proofs.Membership.{Contains-nil, Contains-head, Contains-cons_cases}
+use Rattle.lists.proofs.Membership.{Contains-nil, Contains-head, Contains-cons_cases}
 use Rattle.semantics.specs.Framework as single
 use Rattle.semantics.specs.Framework.{Af, IsAf, Attacks, IsAttackedBy}
 use Rattle.semantics.proofs.AdmissibleSets.{attacked_more}
 use Rattle.semantics.proofs.Decided.{decide_attacked}
-use Rattle.semantics.specs.aba_semantics.specs.Collectives as joint
+use Rattle.semantics.specs.Collectives as joint
 use Rattle.aba_laws.specs.AfNotions.{collective_af, NotionsAgree}
 use Rattle.aba_laws.proofs.CollectiveSets.{IsLawful}
 

@@ -3,9 +3,9 @@ use Rattle.std.proofs.Common.{◌==◌, ◌≢◌, ⊎_elim, ℕ, not, List, [],
 use Rattle.std.specs.Prelude.{◌↔◌, Contains, filter}
 use Rattle.std.proofs.lemmas.Bool.{cases_eq, ne_eqb, not-true, eqb-false}
 use Rattle.std.proofs.lemmas.List.Elements.{Contains-append_left, Contains-append_right}
-use Rattle.plain_lists.specs.Members.{IsWithin}
-use Rattle.plain_lists.proofs.Membership.{Contains-nil, Contains-head, Contains-tail, Contains-cons_cases}
-use Rattle.plain_lists.proofs.Filters.{Contains-filter}
+use Rattle.lists.specs.Members.{IsWithin}
+use Rattle.lists.proofs.Membership.{Contains-nil, Contains-head, Contains-tail, Contains-cons_cases}
+use Rattle.lists.proofs.Filters.{Contains-filter}
 use Rattle.semantics.specs.Sets.{HasAllSets}
 use Rattle.semantics.proofs.Decided.{Decided, decide_each, decide_member}
 

@@ -2,12 +2,12 @@
 use Rattle.std.proofs.Common.{inl, inr, ⊎_elim, ℕ, List, [], ◌∷◌, ◌++◌, refl, subst}
 use Rattle.std.specs.Prelude.{Contains}
 use Rattle.std.proofs.lemmas.List.Elements.{Contains-append_left, Contains-append_right, Contains-append_cases}
-use Rattle.plain_lists.specs.Members.{IsWithin}
-use Rattle.plain_lists.proofs.Membership.{Contains-nil, Contains-head, Contains-cons_cases, IsWithin-refl, IsWithin-trans}
+use Rattle.lists.specs.Members.{IsWithin}
+use Rattle.lists.proofs.Membership.{Contains-nil, Contains-head, Contains-cons_cases, IsWithin-refl, IsWithin-trans}
 use Rattle.semantics.specs.Laws.{HasSameMembers}
 use Rattle.semantics.specs.Sets.{HasAllSets}
 use Rattle.semantics.proofs.Decided.{Decided, decide_both, decide_each, decide_implied, decide_member}
-use Rattle.semantics.specs.aba_semantics.specs.Collectives.{Collective, AttacksMember, IsAdmissible, IsPreferred, IsStable, IsInAllPreferred}
+use Rattle.semantics.specs.Collectives.{Collective, AttacksMember, IsAdmissible, IsPreferred, IsStable, IsInAllPreferred}
 use Rattle.aba_laws.specs.Laws.{StableIsPreferred, PreferredIsComplete, AdmissibleIsInPreferred, InAllIsUnattacked, IdealIsUnique}
 use Rattle.aba_laws.proofs.Choosing.{all_sets, decide_within}
 use Rattle.aba_laws.proofs.CollectiveSets.{IsLawful, member_more, decide_attacks_member, defended_admissible, union_admissible, empty_admissible, admissible_same, decide_admissible}

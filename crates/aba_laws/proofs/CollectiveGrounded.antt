@@ -2,10 +2,10 @@
 use Rattle.std.proofs.Common.{◌≤◌, ◌⊎◌, inl, inr, ⊎_elim, ℕ, zero, suc, List, [], ◌∷◌, ◌++◌, length, length-append, arith, ap, subst}
 use Rattle.std.specs.Prelude.{Contains}
 use Rattle.std.proofs.lemmas.List.Elements.{Contains-append_left, Contains-append_right, Contains-append_cases, Contains-push_cases}
-use Rattle.plain_lists.specs.Members.{IsWithin}
-use Rattle.plain_lists.proofs.Membership.{Contains-nil, Contains-cons_cases, Contains-pushed}
+use Rattle.lists.specs.Members.{IsWithin}
+use Rattle.lists.proofs.Membership.{Contains-nil, Contains-cons_cases, Contains-pushed}
 use Rattle.semantics.proofs.Decided.{Decided, Found, search_list, decide_both, decide_member}
-use Rattle.semantics.specs.aba_semantics.specs.Collectives.{Collective, AttacksMember, Defends, IsAdmissible, IsComplete, IsGrounded}
+use Rattle.semantics.specs.Collectives.{Collective, AttacksMember, Defends, IsAdmissible, IsComplete, IsGrounded}
 use Rattle.aba_laws.specs.Laws.{GroundedIsUnique}
 use Rattle.aba_laws.proofs.CollectiveSets.{IsLawful, defends_more, defended_admissible, empty_admissible, decide_defends}
 

@@ -2,11 +2,11 @@
 use Rattle.std.proofs.Common.{inl, inr, ⊎_elim, ℕ, List, [], ◌++◌}
 use Rattle.std.specs.Prelude.{◌↔◌, Contains}
 use Rattle.std.proofs.lemmas.List.Elements.{Contains-append_left, Contains-append_right, Contains-append_cases}
-use Rattle.plain_lists.specs.Members.{IsWithin}
-use Rattle.plain_lists.proofs.Membership.{Contains-nil}
+use Rattle.lists.specs.Members.{IsWithin}
+use Rattle.lists.proofs.Membership.{Contains-nil}
 use Rattle.semantics.specs.Laws.{HasSameMembers}
 use Rattle.semantics.proofs.Decided.{Decided, decide_both, decide_not, decide_each, decide_some, decide_implied, decide_member}
-use Rattle.semantics.specs.aba_semantics.specs.Collectives.{Collective, AttacksMember, Defends, IsUnattacked, IsConflictFree, IsAdmissible, IsComplete, IsStable}
+use Rattle.semantics.specs.Collectives.{Collective, AttacksMember, Defends, IsUnattacked, IsConflictFree, IsAdmissible, IsComplete, IsStable}
 use Rattle.aba_laws.specs.Laws.{DefendsByRest, UnionIsAdmissible, DefendedIsAdmissible, AdmissibleBySets}
 use Rattle.aba_laws.proofs.Choosing.{chosen, decide_within}
 

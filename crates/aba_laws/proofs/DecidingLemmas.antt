@@ -5,13 +5,13 @@ use Rattle.std.specs.List.{HoldsAt, AllWithin}
 use Rattle.std.proofs.lemmas.Bool.{cases_eq}
 use Rattle.std.proofs.lemmas.List.{get_or_default}
 use Rattle.std.proofs.lemmas.List.Elements.{Contains-get_or, Contains-append_left, Contains-push_cases}
-use Rattle.plain_lists.specs.Members.{IsWithin}
-use Rattle.plain_lists.proofs.Membership.{Contains-nil, Contains-pushed}
+use Rattle.lists.specs.Members.{IsWithin}
+use Rattle.lists.proofs.Membership.{Contains-nil, Contains-pushed}
 use Rattle.semantics.specs.Laws.{HasSameMembers}
 use Rattle.semantics.specs.Sets.{HasAllSets}
-use Rattle.semantics.specs.aba_semantics.specs.Rules.{IsClosureOf}
-use Rattle.semantics.specs.aba_semantics.specs.AbaFrameworks.{Aba, AttacksAssumption, collective_of}
-use Rattle.semantics.specs.aba_semantics.specs.Collectives.{AttacksMember, Defends, IsConflictFree, IsStable, IsAdmissible, IsComplete, IsPreferred, IsInAllPreferred}
+use Rattle.semantics.specs.Rules.{IsClosureOf}
+use Rattle.semantics.specs.AbaFrameworks.{Aba, AttacksAssumption, collective_of}
+use Rattle.semantics.specs.Collectives.{AttacksMember, Defends, IsConflictFree, IsStable, IsAdmissible, IsComplete, IsPreferred, IsInAllPreferred}
 use Rattle.aba_laws.specs.declared.theories.Theory.{Theory}
 use Rattle.aba_laws.specs.Deciding.{IsTheory, HasAllTheories, IsHitBy, HasContrary, HitsMember, Answers, IsInComplete, HasNoLarger, IsInPreferred, HoldsInAll}
 use Rattle.aba_laws.proofs.AbaLemmas.{aba_lawful, attacks_more}

@@ -2,8 +2,8 @@
 use Rattle.std.proofs.Common.{◌⊎◌, inl, inr, ⊎_elim, ℕ, List, [], ◌∷◌, ◌++◌, refl, subst}
 use Rattle.std.specs.Prelude.{Contains}
 use Rattle.std.proofs.lemmas.List.Elements.{Contains-append_left, Contains-append_right}
-use Rattle.plain_lists.proofs.Membership.{Contains-nil, Contains-head, Contains-tail, Contains-cons_cases}
-use Rattle.semantics.specs.aba_semantics.specs.Rules.{Rule, Derives, given, by_rule, IsHeadOf, IsDeduction, IsDeduced}
+use Rattle.lists.proofs.Membership.{Contains-nil, Contains-head, Contains-tail, Contains-cons_cases}
+use Rattle.semantics.specs.Rules.{Rule, Derives, given, by_rule, IsHeadOf, IsDeduction, IsDeduced}
 use Rattle.aba_laws.specs.Laws.{DerivedIsDeduced}
 
 -- an atom of the set or one that a deduction reaches

@@ -2,10 +2,10 @@
 use Rattle.std.proofs.Common.{◌≤◌, ◌⊎◌, inl, inr, ⊎_elim, ℕ, zero, suc, List, [], ◌∷◌, ◌++◌, length, length-append, arith, ap, refl, subst, sym}
 use Rattle.std.specs.Prelude.{Contains}
 use Rattle.std.proofs.lemmas.List.Elements.{Contains-append_left, Contains-append_right, Contains-append_cases, Contains-push_cases}
-use Rattle.plain_lists.specs.Members.{IsWithin}
-use Rattle.plain_lists.proofs.Membership.{Contains-cons_cases, Contains-pushed}
+use Rattle.lists.specs.Members.{IsWithin}
+use Rattle.lists.proofs.Membership.{Contains-cons_cases, Contains-pushed}
 use Rattle.semantics.proofs.Decided.{Decided, Found, search_list, found_in, decide_member}
-use Rattle.semantics.specs.aba_semantics.specs.Rules.{Rule, Derives, given, by_rule, IsClosureOf, IsClosedUnder}
+use Rattle.semantics.specs.Rules.{Rule, Derives, given, by_rule, IsClosureOf, IsClosedUnder}
 use Rattle.aba_laws.specs.Laws.{ClosureExists, ClosureIsLeast}
 use Rattle.aba_laws.proofs.Choosing.{decide_within}
 

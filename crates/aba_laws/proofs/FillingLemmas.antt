@@ -2,9 +2,9 @@
 use Rattle.std.proofs.Common.{◌≡◌, ◌<◌, ◌+◌, ℕ, List, [], ◌∷◌, ◌++◌, length, map, get_or, take, drop, arith, sym, subst, ap, ◌∙◌}
 use Rattle.std.specs.Prelude.{Contains}
 use Rattle.std.proofs.lemmas.List.{drop_more, take-append-drop, map-append, length-append, length-take, length-drop}
-use Rattle.plain_lists.specs.Members.{IsWithin}
+use Rattle.lists.specs.Members.{IsWithin}
 use Rattle.semantics.proofs.Decided.{Found}
-use Rattle.semantics.specs.aba_semantics.specs.Rules.{Rule, IsClosureOf}
+use Rattle.semantics.specs.Rules.{Rule, IsClosureOf}
 use Rattle.aba_laws.specs.declared.aba_lists.PlainRule.{PlainRule}
 use Rattle.aba_laws.specs.Deciding.{rule_of, IsReady}
 use Rattle.aba_laws.proofs.DerivationLemmas.{IsFilling, filling_more, filling_closed}

@@ -2,8 +2,8 @@
 use Rattle.std.specs.Prelude.{◌↔◌, List, ℕ}
 use Rattle.semantics.specs.Framework as single
 use Rattle.semantics.specs.Framework.{Af, IsAttackedBy}
-use Rattle.semantics.specs.aba_semantics.specs.Collectives as joint
-use Rattle.semantics.specs.aba_semantics.specs.Collectives.{Collective}
+use Rattle.semantics.specs.Collectives as joint
+use Rattle.semantics.specs.Collectives.{Collective}
 
 abbrev pub collective_af : Af → Collective
 collective_af f = record { live = f.live; attacks = IsAttackedBy f }

@@ -1,10 +1,10 @@
 -- What the slow program decides, and how a set stands to one other set there.
 use Rattle.std.specs.Prelude.{◌≡◌, ℕ, List, Contains, map, slice_index_or}
-use Rattle.plain_lists.specs.Members.{IsWithin}
+use Rattle.lists.specs.Members.{IsWithin}
 use Rattle.semantics.specs.Laws.{HasSameMembers}
-use Rattle.semantics.specs.aba_semantics.specs.Collectives.{Collective, IsConflictFree, IsAdmissible, IsComplete, IsGrounded, IsPreferred, IsStable, IsInAllPreferred, IsIdeal}
-use Rattle.semantics.specs.aba_semantics.specs.Rules.{Rule, IsClosureOf}
-use Rattle.semantics.specs.aba_semantics.specs.AbaFrameworks.{Aba, collective_of}
+use Rattle.semantics.specs.Collectives.{Collective, IsConflictFree, IsAdmissible, IsComplete, IsGrounded, IsPreferred, IsStable, IsInAllPreferred, IsIdeal}
+use Rattle.semantics.specs.Rules.{Rule, IsClosureOf}
+use Rattle.semantics.specs.AbaFrameworks.{Aba, collective_of}
 use Rattle.aba_laws.specs.declared.aba_lists.AbaLists.{AbaLists}
 use Rattle.aba_laws.specs.declared.aba_lists.PlainRule.{PlainRule}
 use Rattle.aba_laws.specs.declared.deciding.Notion.{Notion}

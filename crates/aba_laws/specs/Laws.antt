@@ -1,10 +1,10 @@
 -- Laws that show the notions of frameworks with collective attacks, and of assumption-based ones, to be the
 -- literature's.
 use Rattle.std.specs.Prelude.{◌↔◌, ◌⊎◌, List, ℕ, Contains, ◌++◌}
-use Rattle.plain_lists.specs.Members.{IsWithin}
+use Rattle.lists.specs.Members.{IsWithin}
 use Rattle.semantics.specs.Laws.{HasSameMembers}
-use Rattle.semantics.specs.aba_semantics.specs.Collectives.{Collective, AttacksMember, Defends, IsUnattacked, IsAdmissible, IsComplete, IsGrounded, IsPreferred, IsStable, IsInAllPreferred, IsIdeal}
-use Rattle.semantics.specs.aba_semantics.specs.Rules.{Rule, Derives, IsClosureOf, IsLeastClosed, IsDeduced}
+use Rattle.semantics.specs.Collectives.{Collective, AttacksMember, Defends, IsUnattacked, IsAdmissible, IsComplete, IsGrounded, IsPreferred, IsStable, IsInAllPreferred, IsIdeal}
+use Rattle.semantics.specs.Rules.{Rule, Derives, IsClosureOf, IsLeastClosed, IsDeduced}
 
 -- there is a grounded set, there is one alone, it is admissible, and it lies in every complete set
 pub record GroundedIsUnique (d : Collective) : Type 0 where

@@ -1,7 +1,7 @@
 //! A framework by plain lists.
 
 ghost use Rattle.std.specs.Prelude.{◌↔◌, Contains, IsTrue};
-ghost use Rattle.plain_lists.specs.Members.{IsWithin};
+ghost use Rattle.lists.specs.Members.{IsWithin};
 
 /// A rule under its number.
 #[derive(Clone, Copy, Debug, Drop)]

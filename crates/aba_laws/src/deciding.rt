@@ -2,15 +2,15 @@
 //! are measured by it. With n assumptions it takes memory for 2 to the power n sets.
 
 ghost use Rattle.std.specs.Prelude.{◌≡◌, ◌↔◌, ℕ, List, Contains, IfOk, IsTrue};
-ghost use Rattle.plain_lists.specs.Members.{IsWithin};
-ghost use Rattle.semantics.specs.aba_semantics.specs.AbaFrameworks.{collective_of};
-ghost use Rattle.semantics.specs.aba_semantics.specs.Collectives.{Defends, IsAdmissible, IsComplete, IsConflictFree, IsGrounded, IsIdeal, IsInAllPreferred, IsPreferred, IsStable};
+ghost use Rattle.lists.specs.Members.{IsWithin};
+ghost use Rattle.semantics.specs.AbaFrameworks.{collective_of};
+ghost use Rattle.semantics.specs.Collectives.{Defends, IsAdmissible, IsComplete, IsConflictFree, IsGrounded, IsIdeal, IsInAllPreferred, IsPreferred, IsStable};
 ghost use Rattle.aba_laws.specs.declared.theories.Theory.{Theory};
 ghost use Rattle.aba_laws.specs.Deciding.{AbaOf, Answers, HasAllTheories, HasContrary, HasNoLarger, HitsMember, HoldsInAll, IsHitBy, IsInComplete, IsInPreferred, IsOfNotion, IsTheory};
 
 use crate::aba_lists::{AbaLists, contains, is_within};
 use crate::theories::{Theory, theories, theory_of};
-use plain_lists::Memory;
+use lists::Memory;
 use std::alloc::Global;
 
 /// A notion of the argumentation semantics, which a set of assumptions meets or not.

@@ -2,8 +2,8 @@
 //! does nothing; its contract is the law.
 
 ghost use Rattle.std.specs.Prelude.{List};
-ghost use Rattle.semantics.specs.aba_semantics.specs.AbaFrameworks.{Aba, collective_of};
-ghost use Rattle.semantics.specs.aba_semantics.specs.Rules.{Rule};
+ghost use Rattle.semantics.specs.AbaFrameworks.{Aba, collective_of};
+ghost use Rattle.semantics.specs.Rules.{Rule};
 ghost use Rattle.semantics.specs.Framework.{Af, IsAf};
 ghost use Rattle.aba_laws.specs.AfNotions.{NotionsAgree};
 ghost use Rattle.aba_laws.specs.Laws.{AdmissibleBySets, AdmissibleIsInPreferred, ClosureExists, ClosureIsLeast, DefendedIsAdmissible, DefendsByRest};

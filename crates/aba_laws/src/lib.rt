@@ -10,5 +10,3 @@ mod theories;
 
 pub use aba_lists::{AbaLists, PlainRule};
 pub use deciding::{Notion, decide};
-pub use semantics;
-pub use semantics::aba_semantics;

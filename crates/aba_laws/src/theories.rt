@@ -1,15 +1,15 @@
 //! What sets derive, rule by rule.
 
 ghost use Rattle.std.specs.Prelude.{◌≡◌, ◌↔◌, ℕ, List, ◌<◌, Contains, IfNone, IfOk, IfSome, IsTrue, OnOk, length, map};
-ghost use Rattle.plain_lists.specs.Members.{IsWithin};
+ghost use Rattle.lists.specs.Members.{IsWithin};
 ghost use Rattle.semantics.specs.Sets.{HasAllSets};
-ghost use Rattle.semantics.specs.aba_semantics.specs.Rules.{IsClosureOf};
+ghost use Rattle.semantics.specs.Rules.{IsClosureOf};
 ghost use Rattle.aba_laws.specs.declared.aba_lists.PlainRule.{PlainRule};
 ghost use Rattle.aba_laws.specs.Deciding.{AbaOf, HasAllTheories, IsReady, rule_of};
 
 use crate::aba_lists::{AbaLists, PlainRule, is_within};
 use crate::sets::sets_of;
-use plain_lists::{Items, Memory};
+use lists::{Items, Memory};
 use std::alloc::Global;
 
 /// A set with all that it derives.

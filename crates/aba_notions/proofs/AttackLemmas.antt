@@ -4,11 +4,11 @@ use Rattle.std.specs.Prelude.{◌↔◌, ◌⊎◌, Contains, IsTrue}
 use Rattle.std.proofs.lemmas.Bool.{cases_eq}
 use Rattle.std.proofs.lemmas.List.{get_or_default}
 use Rattle.std.proofs.lemmas.List.Elements.{Contains-get_or}
-use Rattle.plain_lists.specs.Members.{IsSetOf, IsWithin}
+use Rattle.lists.specs.Members.{IsSetOf, IsWithin}
 use Rattle.aba_laws.specs.semantics.proofs.Decided.{decide_member}
-use Rattle.aba_semantics.specs.Rules.{Derives, given, by_rule}
-use Rattle.aba_semantics.specs.Collectives.{Collective, IsUnattacked, IsDefended, IsConflictFree, IsAdmissible, IsComplete, IsStable}
-use Rattle.aba_semantics.specs.AbaFrameworks.{Aba, AttacksAssumption, IsNumberedAba, collective_of}
+use Rattle.semantics.specs.Rules.{Derives, given, by_rule}
+use Rattle.semantics.specs.Collectives.{Collective, IsUnattacked, IsDefended, IsConflictFree, IsAdmissible, IsComplete, IsStable}
+use Rattle.semantics.specs.AbaFrameworks.{Aba, AttacksAssumption, IsNumberedAba, collective_of}
 use Rattle.aba_laws.proofs.CollectiveSets.{IsLawful, defends_by_rest}
 use Rattle.aba_notions.specs.Attacks.{HasPairWith, AddsFirst}
 

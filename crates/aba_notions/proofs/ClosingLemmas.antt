@@ -5,17 +5,17 @@ use Rattle.std.proofs.lemmas.Bool.{cases_Bool, cases_eq, cases_lt, both_ways}
 use Rattle.std.proofs.lemmas.List.{length-set, length-replicate, get_or-set_same, get_or-set_other, get_or-replicate, get_or_past, get_or_default, set-get_or, set_past}
 use Rattle.std.proofs.lemmas.List.Elements.{Contains-append_cases, Contains-append_left, Contains-push_cases, Contains-get_or}
 use Rattle.std.proofs.lemmas.List.Sums.{sum_by-set}
-use Rattle.plain_lists.specs.Members.{IsSetOf}
+use Rattle.lists.specs.Members.{IsSetOf}
 use Rattle.set_lists.proofs.Rising.{rises_append}
-use Rattle.plain_lists.proofs.Filters.{Contains-filter}
-use Rattle.plain_lists.proofs.Membership.{Contains-pushed}
+use Rattle.lists.proofs.Filters.{Contains-filter}
+use Rattle.lists.proofs.Membership.{Contains-pushed}
 use Rattle.dung_notions.specs.attack_index.specs.PairOrder.{PairsRise, reversed}
 use Rattle.dung_notions.specs.attack_index.proofs.OffsetLemmas.{count_reversed}
 use Rattle.aba_laws.specs.semantics.specs.Framework.{Af}
 use Rattle.dung_notions.specs.Search.{reaching}
 use Rattle.dung_notions.proofs.SearchLemmas.{all_out, none_open}
 use Rattle.dung_notions.proofs.UndefeatedLemmas.{open_at_first, open_when_marked, reaching_here, reaching_else, reaching_both}
-use Rattle.aba_semantics.specs.Rules.{Rule, Derives, given, by_rule}
+use Rattle.semantics.specs.Rules.{Rule, Derives, given, by_rule}
 use Rattle.aba_laws.proofs.DerivationLemmas.{derives_from}
 use Rattle.aba_notions.specs.Storage.{no_rule, rule_at, AreTabled}
 use Rattle.aba_notions.specs.Closing.{is_derived, count_open, IsMarked, IsClosing, Enters, Fires, GoesOn, IsClosed, ListsDerived}

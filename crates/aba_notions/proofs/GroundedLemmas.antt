@@ -11,11 +11,11 @@ use Rattle.std.proofs.lemmas.List.{get_or_default, get_or_push, get_or_append_le
 use Rattle.std.proofs.lemmas.List.Elements.{Contains-append_right, Contains-append_cases, Contains-push_cases}
 use Rattle.std.proofs.lemmas.List.Kept.{AllPairs-from_increasing}
 use Rattle.std.proofs.lemmas.Map.Made.{length-le_from_is_member, IsDistinct-from_AllPairs}
-use Rattle.plain_lists.specs.Members.{IsSetOf, IsWithin}
-use Rattle.plain_lists.proofs.ListTests.{any_gives, any_from}
-use Rattle.plain_lists.proofs.Membership.{Contains-nil}
+use Rattle.lists.specs.Members.{IsSetOf, IsWithin}
+use Rattle.lists.proofs.ListTests.{any_gives, any_from}
+use Rattle.lists.proofs.Membership.{Contains-nil}
 use Rattle.aba_laws.specs.semantics.proofs.Decided.{search_list, found_in, decide_not, decide_member}
-use Rattle.aba_semantics.specs.Collectives.{Collective, IsDefended, IsAdmissible, IsComplete, IsGrounded}
+use Rattle.semantics.specs.Collectives.{Collective, IsDefended, IsAdmissible, IsComplete, IsGrounded}
 use Rattle.aba_laws.proofs.CollectiveSets.{IsLawful, defends_more, defended_admissible, empty_admissible, admissible_same}
 
 -- ---- sizes of rising lists

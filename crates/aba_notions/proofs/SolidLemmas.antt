@@ -6,8 +6,8 @@ use Rattle.std.proofs.lemmas.Bool.{cases_eq}
 use Rattle.std.proofs.lemmas.List.{length-map, nil_from_length}
 use Rattle.std.proofs.lemmas.List.Elements.{Contains-get_or}
 use Rattle.dung_notions.proofs.Numbering.{numbered_from}
-use Rattle.aba_semantics.specs.Rules.{Rule}
-use Rattle.aba_semantics.specs.AbaFrameworks.{Aba, IsNumberedAba}
+use Rattle.semantics.specs.Rules.{Rule}
+use Rattle.semantics.specs.AbaFrameworks.{Aba, IsNumberedAba}
 use Rattle.aba_notions.specs.Solid.{IsSolid}
 use Rattle.aba_laws.proofs.Images.{image_from}
 use Rattle.aba_notions.proofs.TableLemmas.{above_index}

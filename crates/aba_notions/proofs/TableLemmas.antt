@@ -7,12 +7,12 @@ use Rattle.std.proofs.lemmas.List.{ext_get_or, get_or_default, get_or-map, lengt
 use Rattle.std.proofs.lemmas.List.FromFn.{length-map-range_with_len, get_or-map-range_with_len}
 use Rattle.std.proofs.lemmas.List.Elements.{Contains-get_or, Contains-push_cases, Contains-append_left}
 use Rattle.std.proofs.lemmas.List.Kept.{AllPairs-from_increasing}
-use Rattle.plain_lists.proofs.Filters.{Contains-filter}
-use Rattle.plain_lists.proofs.Membership.{Contains-pushed}
+use Rattle.lists.proofs.Filters.{Contains-filter}
+use Rattle.lists.proofs.Membership.{Contains-pushed}
 use Rattle.dung_notions.specs.attack_index.specs.PairOrder.{PairsRise, reversed}
 use Rattle.dung_notions.specs.attack_index.specs.Offsets.{AreBelow, IndexedPairs}
 use Rattle.dung_notions.specs.attack_index.proofs.PairOrderLemmas.{pair_same}
-use Rattle.aba_semantics.specs.Rules.{Rule}
+use Rattle.semantics.specs.Rules.{Rule}
 use Rattle.aba_laws.proofs.Images.{image_there, image_from}
 use Rattle.aba_notions.specs.Storage.{no_rule, rule_at, rule_of, rules_of, AreTabled, IsTable, AreRuleLists, AreRulesOf}
 

@@ -5,12 +5,12 @@ use Rattle.std.proofs.lemmas.Bool.{cases_eq}
 use Rattle.std.proofs.lemmas.List.{get_or_default, get_or-map, get_or_append_left, get_or_push, length-map, length_push, map_push, take_more, nil_from_length}
 use Rattle.std.proofs.lemmas.List.Elements.{Contains-get_or, Contains-push_cases}
 use Rattle.std.proofs.lemmas.List.Kept.{AllPairs-from_increasing}
-use Rattle.plain_lists.specs.Members.{IsSetOf}
-use Rattle.plain_lists.proofs.Membership.{Contains-nil}
+use Rattle.lists.specs.Members.{IsSetOf}
+use Rattle.lists.proofs.Membership.{Contains-nil}
 use Rattle.aba_laws.specs.semantics.proofs.Decided.{search_list, found_in, decide_not, decide_member}
 use Rattle.dung_notions.specs.attack_index.specs.PairOrder.{PairsRise}
-use Rattle.aba_semantics.specs.Rules.{Rule, Derives}
-use Rattle.aba_semantics.specs.AbaFrameworks.{Aba, IsNumberedAba}
+use Rattle.semantics.specs.Rules.{Rule, Derives}
+use Rattle.semantics.specs.AbaFrameworks.{Aba, IsNumberedAba}
 use Rattle.aba_laws.proofs.DerivationLemmas.{decide_derives, head_derived}
 use Rattle.aba_notions.specs.declared.unfounded.Row.{Row}
 use Rattle.aba_notions.specs.declared.unfounded.Unfounded.{Unfounded}

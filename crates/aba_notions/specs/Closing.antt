@@ -4,7 +4,7 @@
 use Rattle.std.specs.Prelude.{◌≡◌, ◌≢◌, ◌↔◌, ℕ, ◌+◌, ◌<◌, ◌≤◌, Bool, true, ◌==◌, if◌then◌else◌, List, ◌++◌, Contains, filter, length, slice_index, slice_set}
 use Rattle.std.specs.List.Sorted.{IsStrictlyIncreasing}
 use Rattle.dung_notions.specs.Search.{is_out, count_undefeated, reaching}
-use Rattle.aba_semantics.specs.Rules.{Rule, Derives}
+use Rattle.semantics.specs.Rules.{Rule, Derives}
 use Rattle.aba_notions.specs.declared.closing.Search.{Search}
 use Rattle.aba_notions.specs.declared.rule_table.RuleTable.{RuleTable}
 use Rattle.aba_notions.specs.Storage.{AreTabled, rules_in}

@@ -2,9 +2,9 @@
 use Rattle.std.specs.Prelude.{◌≡◌, ◌↔◌, ℕ, ◌+◌, ◌<◌, ◌≤◌, ◌==◌, List, [], Contains, filter, length, map, slice_index, slice_index_or}
 use Rattle.std.specs.List.{range_with_len}
 use Rattle.std.specs.List.Sorted.{IsStrictlyIncreasing}
-use Rattle.aba_semantics.specs.declared.numbers.TheConstants.{LAST_ATOM, LAST_RULE}
-use Rattle.aba_semantics.specs.Rules.{Rule}
-use Rattle.aba_semantics.specs.AbaFrameworks.{Aba, IsAtom, IsNumberedAba}
+use Rattle.semantics.specs.declared.numbers.TheConstants.{LAST_ATOM, LAST_RULE}
+use Rattle.semantics.specs.Rules.{Rule}
+use Rattle.semantics.specs.AbaFrameworks.{Aba, IsAtom, IsNumberedAba}
 use Rattle.dung_notions.specs.attack_index.specs.PairOrder.{PairsRise, reversed}
 use Rattle.dung_notions.specs.attack_index.specs.Offsets.{IndexedPairs}
 use Rattle.aba_notions.specs.declared.rule_table.RuleLists.{RuleLists}

@@ -1,8 +1,8 @@
 -- Atoms that are claimed to follow and do not, with a reason for each rule that would give one.
 use Rattle.std.specs.Prelude.{◌≡◌, ◌⊎◌, ℕ, ◌<◌, List, Contains, length, map, slice_index_or}
-use Rattle.plain_lists.specs.Members.{IsSetOf}
-use Rattle.aba_semantics.specs.Rules.{Rule, Derives}
-use Rattle.aba_semantics.specs.AbaFrameworks.{Aba}
+use Rattle.lists.specs.Members.{IsSetOf}
+use Rattle.semantics.specs.Rules.{Rule, Derives}
+use Rattle.semantics.specs.AbaFrameworks.{Aba}
 use Rattle.aba_notions.specs.declared.unfounded.Row.{Row}
 use Rattle.aba_notions.specs.declared.unfounded.Unfounded.{Unfounded}
 

@@ -2,15 +2,15 @@
 
 ghost use Rattle.std.specs.Prelude.{◌≡◌, ◌↔◌, ℕ, ◌<◌};
 ghost use Rattle.std.specs.Prelude.{Contains, IfOk, IsTrue, length, map};
-ghost use Rattle.plain_lists.specs.Members.{IsSetOf};
-ghost use Rattle.aba_semantics.specs.AbaFrameworks.{IsNumberedAba};
-ghost use Rattle.aba_semantics.specs.Rules.{Derives};
+ghost use Rattle.lists.specs.Members.{IsSetOf};
+ghost use Rattle.semantics.specs.AbaFrameworks.{IsNumberedAba};
+ghost use Rattle.semantics.specs.Rules.{Derives};
 ghost use Rattle.dung_notions.specs.attack_index.specs.PairOrder.{PairsRise};
 ghost use Rattle.aba_notions.specs.Storage.{AreParts, AreRulesOf, rule_at};
 
 use crate::rule_table::{RuleLists, RuleTable};
-use dung_notions::attack_index::AttackIndex;
-use plain_lists::Memory;
+use attack_index::AttackIndex;
+use lists::Memory;
 use set_lists::NumSet;
 use std::alloc::Global;
 use std::marker::Model;
@@ -41,7 +41,7 @@ impl Drop for AbaPlain {
 }
 
 impl Model for AbaPlain {
-    ghost use Rattle.aba_semantics.specs.AbaFrameworks.{Aba};
+    ghost use Rattle.semantics.specs.AbaFrameworks.{Aba};
 
     ghost Value = { Aba };
 

@@ -3,14 +3,14 @@
 //! 1, 1984).
 
 ghost use Rattle.std.specs.Prelude.{◌≡◌, ℕ, ◌+◌, ◌<◌, ◌≤◌, [], Bool, true, Contains, IfOk, OnOk, length, slice_index};
-ghost use Rattle.plain_lists.specs.Members.{IsSetOf};
-ghost use Rattle.aba_semantics.specs.declared.numbers.TheConstants.{LAST_ATOM};
-ghost use Rattle.aba_semantics.specs.Rules.{Derives};
+ghost use Rattle.lists.specs.Members.{IsSetOf};
+ghost use Rattle.semantics.specs.declared.numbers.TheConstants.{LAST_ATOM};
+ghost use Rattle.semantics.specs.Rules.{Derives};
 ghost use Rattle.aba_notions.specs.Storage.{IsTableOf, rules_in};
 ghost use Rattle.aba_notions.specs.Closing.{EntersSearch, FiresInSearch, GoesOn, IsClosed, IsMarked, IsSearchOf, ListsDerived, is_derived};
 
 use crate::rule_table::RuleTable;
-use plain_lists::Memory;
+use lists::Memory;
 use set_lists::NumSet;
 use std::alloc::Global;
 

@@ -1,11 +1,11 @@
 //! The grounded set.
 
 ghost use Rattle.std.specs.Prelude.{IfOk};
-ghost use Rattle.aba_semantics.specs.AbaFrameworks.{collective_of};
-ghost use Rattle.aba_semantics.specs.Collectives.{IsGrounded};
+ghost use Rattle.semantics.specs.AbaFrameworks.{collective_of};
+ghost use Rattle.semantics.specs.Collectives.{IsGrounded};
 
 use crate::aba_plain::AbaPlain;
-use plain_lists::Memory;
+use lists::Memory;
 use set_lists::NumSet;
 use std::alloc::Global;
 

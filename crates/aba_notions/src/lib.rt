@@ -9,9 +9,6 @@ mod notions;
 mod rule_table;
 mod unfounded;
 
-pub use aba_laws;
 pub use aba_plain::AbaPlain;
-pub use dung_notions;
-pub use dung_notions::attack_index;
 pub use rule_table::RuleLists;
 pub use unfounded::{Row, Unfounded};

@@ -3,14 +3,14 @@
 //! takes a few searches for what a set derives, and no walk over sets.
 
 ghost use Rattle.std.specs.Prelude.{◌↔◌, ℕ, Contains, IfOk, IsTrue, OnOk};
-ghost use Rattle.plain_lists.specs.Members.{IsSetOf};
-ghost use Rattle.aba_semantics.specs.AbaFrameworks.{AttacksAssumption, collective_of};
-ghost use Rattle.aba_semantics.specs.Collectives.{IsAdmissible, IsComplete, IsConflictFree, IsDefended, IsStable, IsUnattacked};
+ghost use Rattle.lists.specs.Members.{IsSetOf};
+ghost use Rattle.semantics.specs.AbaFrameworks.{AttacksAssumption, collective_of};
+ghost use Rattle.semantics.specs.Collectives.{IsAdmissible, IsComplete, IsConflictFree, IsDefended, IsStable, IsUnattacked};
 ghost use Rattle.aba_notions.specs.Attacks.{AddsFirst, HasPairWith};
 ghost use Rattle.aba_notions.specs.Solid.{IsSolid};
 
 use crate::aba_plain::AbaPlain;
-use plain_lists::Memory;
+use lists::Memory;
 use set_lists::NumSet;
 use std::alloc::Global;
 

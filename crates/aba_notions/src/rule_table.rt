@@ -1,11 +1,11 @@
 //! Rules in flat storage, which are found by their index, by their head and by the atoms of their bodies.
 
 ghost use Rattle.std.specs.Prelude.{◌≡◌, ◌↔◌, ℕ, ◌<◌, ◌≤◌, Contains, IfOk, length, slice_index};
-ghost use Rattle.aba_semantics.specs.declared.numbers.TheConstants.{LAST_ATOM, LAST_RULE};
+ghost use Rattle.semantics.specs.declared.numbers.TheConstants.{LAST_ATOM, LAST_RULE};
 ghost use Rattle.aba_notions.specs.Storage.{AreRuleLists, AreRulesOf, IsTableOf, rules_in};
 
-use dung_notions::attack_index::AttackIndex;
-use plain_lists::Memory;
+use attack_index::AttackIndex;
+use lists::Memory;
 use std::alloc::Global;
 
 /// Rules by their index: the number and the head of each, and the bodies as pairs of an index and an atom, which may

@@ -1,14 +1,14 @@
 //! Atoms that are claimed to follow from a set and do not, with the reason.
 
 ghost use Rattle.std.specs.Prelude.{◌≡◌, ℕ, ◌<◌, Contains, IfNone, IfOk, IfSome, length, map};
-ghost use Rattle.aba_semantics.specs.Rules.{Derives};
-ghost use Rattle.aba_semantics.specs.AbaFrameworks.{IsNumberedAba};
+ghost use Rattle.semantics.specs.Rules.{Derives};
+ghost use Rattle.semantics.specs.AbaFrameworks.{IsNumberedAba};
 ghost use Rattle.aba_notions.specs.Storage.{rule_at};
 ghost use Rattle.aba_notions.specs.declared.unfounded.Row.{Row};
 ghost use Rattle.aba_notions.specs.Unfounded.{IsRowBy, IsShared, IsUnfoundedOf};
 
 use crate::aba_plain::AbaPlain;
-use plain_lists::{Items, Memory};
+use lists::{Items, Memory};
 use set_lists::NumSet;
 use std::alloc::Global;
 

@@ -1,14 +1,14 @@
 //! The axioms that edits call for, as they were worked out by hand.
 
 ghost use Rattle.edit_rules.specs.Kinds.{framework_of};
-ghost use Rattle.aba_changed.specs.Brought.{IsEdited};
+ghost use Rattle.aba_encoding.specs.Brought.{IsEdited};
 
 use crate::edits::{Change, edit_of, framework_of};
-use aba_changed::changed;
+use aba_encoding::changed;
 use aba_notions::AbaPlain;
 use edit_rules::{Edit, EditFault, Effect, Framework, apply};
 use meaning_atoms::{AxiomName, push_axiom};
-use plain_lists::{Items, Memory};
+use lists::{Items, Memory};
 use std::alloc::Global;
 use std::test::Fail;
 

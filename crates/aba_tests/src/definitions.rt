@@ -4,7 +4,7 @@ use aba_laws::Notion::{
     Admissible, Complete, ConflictFree, Grounded, Ideal, InAllPreferred, Preferred, Stable,
 };
 use aba_laws::{AbaLists, Notion, PlainRule, decide};
-use plain_lists::{Items, Memory};
+use lists::{Items, Memory};
 use std::alloc::Global;
 use std::test::Fail;
 

@@ -1,11 +1,11 @@
 //! Edits: what each one does, that it can be undone, and the order of its refusals.
 
 use crate::aba_text::framework_shown;
-use aba_edits::{aba_edits_keep_form, aba_effects_determine, apply_aba, numbers_are_given_once};
+use edit_rules::{aba_edits_keep_form, aba_effects_determine, apply_aba, numbers_are_given_once};
 use aba_format::read_aba;
 use aba_notions::{AbaPlain, RuleLists};
 use edit_rules::{Edit, EditFault};
-use plain_lists::{Items, Memory};
+use lists::{Items, Memory};
 use set_lists::NumSet;
 use std::alloc::Global;
 use std::process::Abort;

@@ -3,7 +3,7 @@
 use aba_encoding::{decode, missing};
 use aba_facts::fact;
 use aba_format::read_aba;
-use aba_needed::needed;
+use aba_encoding::needed;
 use aba_notions::AbaPlain;
 use af_format::ReadFault;
 use meaning_atoms::Atom::{
@@ -11,7 +11,7 @@ use meaning_atoms::Atom::{
 };
 use meaning_atoms::Closure::{Own, Rest};
 use meaning_atoms::{Atom, AtomLit, AxiomName, END, push_axiom};
-use plain_lists::{Items, Memory};
+use lists::{Items, Memory};
 use std::alloc::Global;
 use std::test::Fail;
 

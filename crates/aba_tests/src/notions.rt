@@ -2,7 +2,7 @@
 
 use aba_format::read_aba;
 use aba_notions::{AbaPlain, Row};
-use plain_lists::Memory;
+use lists::Memory;
 use set_lists::NumSet;
 use std::alloc::{AllocError, Global};
 use std::process::Abort;

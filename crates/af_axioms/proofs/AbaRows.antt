@@ -3,7 +3,7 @@
 use Rattle.std.proofs.Common.{◌+◌, ◌==◌, ℕ, List, [], ◌∷◌, arith, refl}
 use Rattle.std.specs.Prelude.{Contains}
 use Rattle.std.proofs.lemmas.Bool.{cond_both}
-use Rattle.meaning_atoms.specs.aba_semantics.specs.AbaFrameworks.{Aba, collective_of}
+use Rattle.meaning_atoms.specs.semantics.specs.AbaFrameworks.{Aba, collective_of}
 use Rattle.meaning_atoms.specs.aba_laws.proofs.AbaLemmas.{aba_lawful}
 use Rattle.meaning_atoms.specs.aba_laws.proofs.CollectiveExtensions.{preferred_complete, stable_preferred}
 use Rattle.meaning_atoms.specs.semantics.specs.Frameworks.{aba}

@@ -7,7 +7,5 @@ mod fact;
 pub mod laws;
 
 pub use clause::{clause_of, list, no, yes};
-pub use dung_notions;
 pub use fact::fact_value;
-pub use meaning_atoms;
 pub use meaning_atoms::{aba_laws, aba_semantics, semantics};

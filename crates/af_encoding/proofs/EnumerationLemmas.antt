@@ -5,7 +5,7 @@ use Rattle.std.specs.Prelude.{Contains, ◌↔◌, All, AllPairs}
 use Rattle.std.proofs.lemmas.List.Elements.{All-append, All-cons, Contains-get_or}
 use Rattle.std.proofs.lemmas.List.Elements.{Contains-append_left, Contains-append_right, Contains-append_cases}
 use Rattle.std.proofs.lemmas.List.Kept.{AllPairs-cons}
-use Rattle.plain_lists.proofs.Membership.{Contains-head, Contains-tail}
+use Rattle.lists.proofs.Membership.{Contains-head, Contains-tail}
 use Rattle.af_encoding.specs.Enumerations.{Enumerates, GainsEach}
 
 module _ {X : Type 0} where

@@ -4,8 +4,8 @@ use Rattle.std.specs.Prelude.{Contains, Result, Ok, Err, OnOk}
 use Rattle.std.proofs.lemmas.Bool.{cases_lt, cases_eq}
 use Rattle.std.proofs.lemmas.List.{take_more}
 use Rattle.std.proofs.lemmas.List.Elements.{Contains-append_cases, Contains-append_left, Contains-append_right}
-use Rattle.plain_lists.specs.declared.memory.Memory.{Memory}
-use Rattle.plain_lists.proofs.Membership.{Contains-cons_cases, Contains-head, Contains-nil}
+use Rattle.lists.specs.declared.memory.Memory.{Memory}
+use Rattle.lists.proofs.Membership.{Contains-cons_cases, Contains-head, Contains-nil}
 use Rattle.semantics.specs.Framework.{Af}
 use Rattle.semantics.specs.Frameworks.{af, IsNumberedAf}
 use Rattle.meaning_atoms.specs.declared.axiom.AfAxiom.{AfAxiom}
@@ -13,7 +13,7 @@ use Rattle.meaning_atoms.specs.declared.axiom.AfAxiom.TheVariants.{A1, A2, A3, A
 use Rattle.meaning_atoms.specs.declared.axiom.AfAxiom.TheVariants.{A10, A11, A12, A13}
 use Rattle.meaning_atoms.specs.declared.axiom.AxiomName.{AxiomName}
 use Rattle.meaning_atoms.specs.declared.axiom.AxiomName.TheVariants.{Af as OfAf, Aba as OfAba}
-use Rattle.edit_words.specs.declared.effect.Effect.{Effect}
+use Rattle.edit_rules.specs.declared.effect.Effect.{Effect}
 use Rattle.af_encoding.specs.Changes.{Gains, GainsCalled, IsCalledFor, IsEffectOf, HasNoneAfter, IsAlone, IsCalledByLoss, IsCalledByPair}
 use Rattle.af_encoding.specs.Changes.{IsCalledByPairs, IsNextAfter, IsPast, IsPlaceBefore, IsToAttack}
 use Rattle.af_encoding.proofs.NeededLemmas.{listed, same_one, same_three, same_two}

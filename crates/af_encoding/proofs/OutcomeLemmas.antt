@@ -2,21 +2,21 @@
 use Rattle.std.proofs.Common.{◌≡◌, ◌↔◌, ℕ, Bool, true, false, not, refl, sym, ap, subst, ◌∙◌, inl, inr, ⊎_elim, eq-eqb, eqb-true}
 use Rattle.std.specs.Prelude.{Contains, ◌==◌, ◌&&◌, filter, Ok, is_ok}
 use Rattle.std.proofs.lemmas.Bool.{false≢true, not-false, cases_eq}
-use Rattle.plain_lists.proofs.Filters.{Contains-filter}
+use Rattle.lists.proofs.Filters.{Contains-filter}
 use Rattle.semantics.specs.Arguments.{IsArgument}
 use Rattle.semantics.specs.Framework.{Af, Attacks}
 use Rattle.semantics.specs.Frameworks.{Framework, af, IsNumberedAf}
 use Rattle.meaning_atoms.specs.declared.axiom.AxiomName.{AxiomName}
-use Rattle.edit_words.specs.declared.edit.Edit.{Edit}
-use Rattle.edit_words.specs.declared.edit.Edit.TheVariants.{ArgAdd, ArgDrop, AttackAdd, AttackDrop, AsmAdd, AsmDrop, ConSet, RuleAdd, RuleDrop}
-use Rattle.edit_words.specs.declared.effect.Effect.{Effect}
-use Rattle.edit_words.specs.Numbers.{has_number}
+use Rattle.edit_rules.specs.declared.edit.Edit.{Edit}
+use Rattle.edit_rules.specs.declared.edit.Edit.TheVariants.{ArgAdd, ArgDrop, AttackAdd, AttackDrop, AsmAdd, AsmDrop, ConSet, RuleAdd, RuleDrop}
+use Rattle.edit_rules.specs.declared.effect.Effect.{Effect}
+use Rattle.edit_rules.specs.Numbers.{has_number}
 use Rattle.edit_rules.specs.Edits.{af_with_argument, af_with_attack, argument_added, argument_dropped, attack_added, attack_dropped, edit_outcome, has_pair, is_end}
-use Rattle.edit_words.proofs.EditTests.{both_from, both_gives, either_gives, either_left, is_false, number_there, there_number}
+use Rattle.edit_rules.proofs.EditWordTests.{both_from, both_gives, either_gives, either_left, is_false, number_there, there_number}
 use Rattle.edit_rules.proofs.EditTests.{pair_there, there_pair, within_bounds}
-use Rattle.edit_words.proofs.RefusalLemmas.{done_passes}
+use Rattle.edit_rules.proofs.RefusalLemmas.{done_passes}
 use Rattle.edit_rules.proofs.ReplayLemmas.{af_of}
-use Rattle.edit_words.proofs.NumberLists.{with_number_members}
+use Rattle.edit_rules.proofs.NumberLists.{with_number_members}
 use Rattle.edit_rules.proofs.RowForms.{with_pair_members}
 use Rattle.af_encoding.specs.Changes.{IsAlone, IsCalledByAttack, IsCalledByLoss, IsCalledByPairs, IsCalledFor, IsEffectOf}
 use Rattle.af_encoding.proofs.ChangeLemmas.{GainsArgument, IsGainedRow, IsLostRow, IsSameRow, LosesArgument, by_argument, by_attack, by_loss, by_new_argument}

@@ -3,8 +3,8 @@ use Rattle.std.proofs.Common.{◌+◌, ◌⊎◌, ℕ, Bool, true, false, List, 
 use Rattle.std.proofs.Common.{inl, inr, ⊎_elim}
 use Rattle.std.specs.Prelude.{Contains, ◌↔◌}
 use Rattle.std.proofs.lemmas.Bool.{false≢true}
-use Rattle.plain_lists.specs.Members.{IsSetOf}
-use Rattle.plain_lists.proofs.Membership.{Contains-nil, Contains-cons_cases}
+use Rattle.lists.specs.Members.{IsSetOf}
+use Rattle.lists.proofs.Membership.{Contains-nil, Contains-cons_cases}
 use Rattle.semantics.specs.Framework.{Af, Attacks, IsAttackedBy, Defends, IsInRange}
 use Rattle.semantics.specs.Framework.{IsConflictFree, IsAdmissible, IsComplete, IsStable}
 use Rattle.semantics.specs.Frameworks.{af, IsNumberedAf}

@@ -1,7 +1,7 @@
 //! The set of arguments that a model means.
 
 ghost use Rattle.std.specs.Prelude.{◌≡◌, IfOk};
-ghost use Rattle.plain_lists.specs.Members.{IsSetOf};
+ghost use Rattle.lists.specs.Members.{IsSetOf};
 ghost use Rattle.semantics.specs.Framework.{Af};
 ghost use Rattle.semantics.specs.Frameworks.{af, IsNumberedAf};
 ghost use Rattle.meaning_atoms.specs.declared.atom.Atom.TheVariants.{Live, Member};
@@ -9,7 +9,7 @@ ghost use Rattle.oracle_face.specs.Decoding.{IsDecoded, IsModelOf};
 ghost use Rattle.af_encoding.specs.Decoded.{Affirms, Describes, live_in, member_in};
 
 use meaning_atoms::{Atom, AtomLit};
-use plain_lists::Memory;
+use lists::Memory;
 use set_lists::NumSet;
 use std::alloc::Global;
 

@@ -1,7 +1,7 @@
 //! Abstract frameworks as one kind of framework in clauses.
 
 ghost use Rattle.std.specs.Prelude.{◌≡◌, ◌↔◌, ℕ, List, Contains, IfOk, IfSome, IfNone, None};
-ghost use Rattle.plain_lists.specs.Members.{IsSetOf};
+ghost use Rattle.lists.specs.Members.{IsSetOf};
 ghost use Rattle.semantics.specs.Frameworks.{af};
 ghost use Rattle.meaning_atoms.specs.declared.atom.Atom.TheVariants.{Live};
 ghost use Rattle.meaning_atoms.specs.declared.axiom.AxiomName.{AxiomName};
@@ -12,7 +12,7 @@ use crate::{decoding, facts, needed_axioms, neighbourhood};
 use dung_notions::AfPlain;
 use meaning_atoms::{Atom, AtomLit, AxiomName};
 use oracle_face::Encoding;
-use plain_lists::{Items, Memory};
+use lists::{Items, Memory};
 use set_lists::NumSet;
 use std::alloc::Global;
 

@@ -1,7 +1,7 @@
 //! The laws that show the needed axioms to be the right ones. Each function does nothing; its contract is the law.
 
 ghost use Rattle.std.specs.Prelude.{ℕ, List};
-ghost use Rattle.plain_lists.specs.Members.{IsSetOf, IsWithin};
+ghost use Rattle.lists.specs.Members.{IsSetOf, IsWithin};
 ghost use Rattle.semantics.specs.Framework.{Af};
 ghost use Rattle.semantics.specs.Frameworks.{af, IsNumberedAf};
 ghost use Rattle.meaning_atoms.specs.declared.atom.Atom.TheVariants.{Live};

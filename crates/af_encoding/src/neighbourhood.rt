@@ -2,7 +2,7 @@
 
 use dung_notions::AfPlain;
 use meaning_atoms::{Atom, AtomLit, END};
-use plain_lists::{Items, Memory};
+use lists::{Items, Memory};
 use std::alloc::Global;
 
 /// Goals on more arguments than these have no near facts: they grow a set that was found, and what refutes them lies

@@ -16,7 +16,7 @@ use crate::header::read_header;
 use crate::next_attack::next_attack;
 use dung_notions::AfPlain;
 use num_text::{Lines, lines};
-use plain_lists::{Items, Memory};
+use lists::{Items, Memory};
 use semantics::LAST_ARGUMENT;
 use set_lists::NumSet;
 use std::alloc::Global;

@@ -10,7 +10,7 @@ ghost use Rattle.num_text.specs.declared.limit.TheConstants.{INPUT_LIMIT};
 
 use crate::af_line::MOST_ATTACK_LINES;
 use dung_notions::AfPlain;
-use plain_lists::{Bytes, Memory};
+use lists::{Bytes, Memory};
 use std::alloc::Global;
 use std::fmt::Write;
 

@@ -4,10 +4,10 @@ use Rattle.std.specs.Prelude.{◌↔◌, Contains}
 use Rattle.std.proofs.lemmas.Bool.{false≢true}
 use Rattle.std.proofs.lemmas.List.{take_more, take_all}
 use Rattle.std.proofs.lemmas.List.Elements.{Contains-push_cases, Contains-append_left, Contains-push}
-use Rattle.plain_lists.proofs.ListTests.{any_gives, any_from}
-use Rattle.plain_lists.proofs.Membership.{Contains-nil}
+use Rattle.lists.proofs.ListTests.{any_gives, any_from}
+use Rattle.lists.proofs.Membership.{Contains-nil}
 use Rattle.semantics.specs.Framework.{Af, IsAttackedBy}
-use Rattle.aba_semantics.specs.AbaFrameworks.{Aba}
+use Rattle.semantics.specs.AbaFrameworks.{Aba}
 use Rattle.semantics.specs.Frameworks.{af, aba}
 use Rattle.dung_notions.specs.Ranges.{GainsTargets}
 use Rattle.certificate_claims.specs.SetLiterals.{hits}

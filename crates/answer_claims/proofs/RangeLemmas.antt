@@ -2,10 +2,10 @@
 use Rattle.std.proofs.Common.{◌≡◌, ℕ, Bool, true, false, ◌||◌, not, List, map, filter, ap, refl, sym, subst}
 use Rattle.std.specs.Prelude.{Contains}
 use Rattle.std.specs.Cmp.{both_ways}
-use Rattle.plain_lists.specs.Members.{IsSetOf}
+use Rattle.lists.specs.Members.{IsSetOf}
 use Rattle.semantics.specs.Framework.{Af, IsInRange}
 use Rattle.std.proofs.lemmas.Bool.{or_left}
-use Rattle.aba_semantics.specs.AbaFrameworks.{Aba}
+use Rattle.semantics.specs.AbaFrameworks.{Aba}
 use Rattle.semantics.specs.Frameworks.{Framework, af, aba}
 use Rattle.certificate_claims.specs.SetLiterals.{has, is_ranged, members, wider}
 use Rattle.certificate_claims.proofs.RangeLists.{kept_alike}

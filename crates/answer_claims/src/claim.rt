@@ -10,7 +10,7 @@ use crate::sides::SideKind;
 use edit_rules::Framework;
 use meaning_atoms::laws::literals_are_equal;
 use meaning_atoms::{Atom, AtomLit};
-use plain_lists::Items;
+use lists::Items;
 use set_lists::NumSet;
 
 /// A claim. Its goals are a few literals, that some numbers are members, that others are not, and that what a set has

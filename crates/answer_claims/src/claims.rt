@@ -21,7 +21,7 @@ use crate::sides::SideKind;
 use certificate_claims::{FirstRanged, Row, with_range};
 use edit_rules::Framework;
 use meaning_atoms::{Atom, AtomLit};
-use plain_lists::{Items, Memory};
+use lists::{Items, Memory};
 use set_lists::NumSet;
 use std::alloc::Global;
 

@@ -1,7 +1,7 @@
 //! What sets attack.
 
 ghost use Rattle.std.specs.Prelude.{ℕ, Contains, IfOk, List, OnOk};
-ghost use Rattle.aba_semantics.specs.AbaFrameworks.{Aba};
+ghost use Rattle.semantics.specs.AbaFrameworks.{Aba};
 ghost use Rattle.semantics.specs.Frameworks.{aba, af};
 ghost use Rattle.dung_notions.specs.Ranges.{GainsTargets};
 ghost use Rattle.edit_rules.specs.Kinds.{framework_of};
@@ -9,7 +9,7 @@ ghost use Rattle.answer_claims.specs.SetFacts.{GainsHits, IsHitBy};
 
 use dung_notions::AfPlain;
 use edit_rules::Framework;
-use plain_lists::Memory;
+use lists::Memory;
 use set_lists::NumSet;
 use std::alloc::Global;
 

@@ -1,7 +1,7 @@
 //! What sets are made of and their ranges, by the framework's kind.
 
 ghost use Rattle.std.specs.Prelude.{◌≡◌, ◌↔◌, map, Contains, IfOk, IsTrue};
-ghost use Rattle.aba_semantics.specs.AbaFrameworks.{Aba};
+ghost use Rattle.semantics.specs.AbaFrameworks.{Aba};
 ghost use Rattle.semantics.specs.Frameworks.{aba, af};
 ghost use Rattle.certificate_claims.specs.Ranges.{IsFirstRanged};
 ghost use Rattle.certificate_claims.specs.SetLiterals.{members, range_of};
@@ -11,7 +11,7 @@ ghost use Rattle.answer_claims.specs.SetFacts.{AreSetsOf, IsRangeOf};
 use certificate_claims::{FirstRanged, first_ranged, ranges_of};
 use dung_notions::AfPlain;
 use edit_rules::Framework;
-use plain_lists::{Items, Memory};
+use lists::{Items, Memory};
 use set_lists::NumSet;
 use std::alloc::Global;
 

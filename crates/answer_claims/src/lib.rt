@@ -11,7 +11,6 @@ pub mod sides;
 
 pub use claim::{Claim, is_goal};
 pub use claims::claims_of;
-pub use edit_rules;
 pub use kinds::range_of;
 pub use rows::{opposite, row, shown_sets};
 pub use sides::{SideKind, side_clause};

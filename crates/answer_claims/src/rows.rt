@@ -14,7 +14,7 @@ use certificate_claims::Row;
 use edit_rules::Framework;
 use iccma_tasks::{Answer, Problem, Query, Semantics};
 use meaning_atoms::{Atom, AtomLit, Closure};
-use plain_lists::{Items, Memory};
+use lists::{Items, Memory};
 use set_lists::NumSet;
 use std::alloc::Global;
 

@@ -10,7 +10,7 @@ ghost use Rattle.answer_claims.specs.SideClauses.{literal_of, side_of};
 use crate::kinds::{members_of, range_of};
 use edit_rules::Framework;
 use meaning_atoms::{Atom, AtomLit};
-use plain_lists::Memory;
+use lists::Memory;
 use set_lists::NumSet;
 use std::alloc::Global;
 

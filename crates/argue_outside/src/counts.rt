@@ -6,7 +6,7 @@ ghost use Rattle.argue_outside.specs.Outside.{IsRole, FaultCounted, OtherCountsK
 ghost use Rattle.argue_outside.specs.Counted.{index_of, count_at};
 
 use crate::Role;
-use plain_lists::Items;
+use lists::Items;
 
 /// The counters of 16 frameworks and six other roles. That of a framework without number stays unused.
 const COUNTERS: usize = 23;

@@ -17,7 +17,7 @@ pub mod whole;
 
 pub use mem_files::MemFiles;
 pub use mem_sink::MemSink;
-use plain_lists::Memory;
+use lists::Memory;
 pub use real_files::RealFiles;
 pub use real_out::RealOut;
 use std::alloc::AllocError;

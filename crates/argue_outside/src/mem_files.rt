@@ -8,7 +8,7 @@ ghost use Rattle.argue_outside.specs.MemHeld.{held_by};
 
 use crate::counts::{Counts, Plan, raised};
 use crate::{Failed, Files, Planned, Role};
-use plain_lists::{Bytes, Items, Memory};
+use lists::{Bytes, Items, Memory};
 use std::alloc::Global;
 use std::collections::BTreeMap;
 

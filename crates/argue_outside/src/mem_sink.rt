@@ -6,7 +6,7 @@ ghost use Rattle.argue_outside.specs.Outside.{FaultCounted, next_call};
 
 use crate::counts::{Plan, raised};
 use crate::{Failed, Planned, Sink};
-use plain_lists::{Bytes, Items};
+use lists::{Bytes, Items};
 use std::alloc::Global;
 
 /// A sink over memory. A put fails whose number is in the list of those that are to fail, counted

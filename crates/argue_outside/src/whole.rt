@@ -5,7 +5,7 @@ ghost use Rattle.std.specs.Io.KnownBytes.{Appends};
 ghost use Rattle.argue_outside.specs.Outside.{IsRole, FaultCounted, OtherCountsKept, OtherFilesKept, HoldsStill, HoldsWhole, IsLonger, Adds, AddsPart, AppendsPart};
 
 use crate::{Failed, Files, ReadStop, Role, Sink};
-use plain_lists::Bytes;
+use lists::Bytes;
 use std::alloc::Global;
 
 /// How many bytes a read asks for at a time.

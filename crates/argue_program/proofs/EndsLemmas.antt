@@ -27,7 +27,7 @@ use Rattle.certificate_text.proofs.OneOutcome.{one_reading}
 use Rattle.argue_program.specs.Runs.{AnswersRight, ChecksContents, EndsAsReplied, HasText, IsCheckEnd, IsDoneOrMemory, IsSolveEnd, QueriesBytes, IsFaultyScript, IsLiveEnd, KeepsTranscript, LivesContents, RefusesBytes, RefusesLength, RefusesWords, ScriptsBytes, SolvesContents}
 use Rattle.argue_program.specs.Scripts.{live_inputs}
 use Rattle.argue_program.proofs.ScriptLemmas.{script_sound}
-use Rattle.bench_runs.specs.script_runs.specs.Transcripts.{IsTranscriptOf}
+use Rattle.bench_runs.specs.Transcripts.{IsTranscriptOf}
 use Rattle.script_text.proofs.FirstFaults.{script_is_faultless}
 use Rattle.script_text.proofs.OneScript.{script_same}
 use Rattle.script_text.specs.ScriptText.{IsScript}

@@ -10,11 +10,11 @@ use Rattle.iccma_tasks.specs.Tasks.{Asked}
 use Rattle.argue_program.specs.Queries.{asked_by, budget_of, large_by, solving_by}
 use Rattle.argue_program.specs.Scripts.{RunsScript}
 use Rattle.semantics.specs.Frameworks.{af}
-use Rattle.bench_inputs.specs.Generator.{bench_framework}
-use Rattle.bench_inputs.specs.Scripts.{bench_script}
+use Rattle.bench_runs.specs.Generator.{bench_framework}
+use Rattle.bench_runs.specs.Scripts.{bench_script}
 use Rattle.bench_runs.specs.declared.run.TheConstants.{BENCH_BUDGET}
-use Rattle.bench_runs.specs.script_runs.specs.Transcripts.{IsTranscriptOf}
-use Rattle.bench_runs.specs.script_runs.specs.declared.transcript.ScriptTranscript.{ScriptTranscript}
+use Rattle.bench_runs.specs.Transcripts.{IsTranscriptOf}
+use Rattle.bench_runs.specs.declared.transcript.ScriptTranscript.{ScriptTranscript}
 use Rattle.argue_program.specs.Solves.{IsSessionOn}
 use Rattle.argue_program.specs.declared.query.LargeInput.{LargeInput}
 use Rattle.argue_program.specs.declared.query.Solving.{Solving}

@@ -7,7 +7,7 @@ use Rattle.std.proofs.lemmas.Bool.{and_parts, cases_Bool, cond-true, cond-false}
 use Rattle.std.proofs.lemmas.Bool.Decides.{nat_tests}
 use Rattle.std.proofs.lemmas.List.{get_or_default}
 use Rattle.std.proofs.lemmas.Slice.Eq.{bytes_eq-Decides}
-use Rattle.plain_lists.proofs.ListTests.{all_from, all_gives}
+use Rattle.lists.proofs.ListTests.{all_from, all_gives}
 use Rattle.num_text.specs.Number.{IsDigit, IsNumber, digits_value}
 use Rattle.iccma_tasks.specs.declared.task.Kind.TheVariants.{Af}
 use Rattle.iccma_tasks.specs.declared.task.Problem.{Problem}

@@ -14,7 +14,7 @@ use Rattle.iccma_tasks.specs.Tasks.{Asked}
 use Rattle.argue_program.specs.Queries.{asked_by, budget_of, large_by, solving_by}
 use Rattle.argue_program.specs.Scripts.{live_inputs, transcript_bytes}
 use Rattle.bench_runs.specs.Summaries.{summary}
-use Rattle.bench_runs.specs.script_runs.specs.declared.transcript.ScriptTranscript.{ScriptTranscript}
+use Rattle.bench_runs.specs.declared.transcript.ScriptTranscript.{ScriptTranscript}
 use Rattle.script_text.specs.declared.script.Script.{Script}
 use Rattle.argue_program.specs.Solves.{status_of}
 use Rattle.argue_program.specs.declared.query.LargeInput.{LargeInput}

@@ -17,9 +17,9 @@ use Rattle.script_text.specs.declared.fault.ScriptFault.{ScriptFault}
 use Rattle.script_text.specs.declared.fault.ScriptFault.TheVariants as script_fault
 use Rattle.script_text.specs.declared.script.Script.{Script}
 use Rattle.script_text.proofs.FirstFaults.{script_is_faultless}
-use Rattle.plain_lists.specs.declared.memory.Memory.{Memory}
-use Rattle.bench_runs.specs.script_runs.specs.Transcripts.{IsTranscriptOf}
-use Rattle.bench_runs.specs.script_runs.specs.declared.transcript.ScriptTranscript.{ScriptTranscript}
+use Rattle.lists.specs.declared.memory.Memory.{Memory}
+use Rattle.bench_runs.specs.Transcripts.{IsTranscriptOf}
+use Rattle.bench_runs.specs.declared.transcript.ScriptTranscript.{ScriptTranscript}
 use Rattle.argue_program.specs.Inputs.{Input, IsRead, IsSoundIn, Reading, StopsReading, input, status_of_fault}
 use Rattle.argue_program.specs.Rows.{EndsCommand, EndsScript, EndsServed, IsEndingOf, CountsReads, files_beside, live_row, nothing_kept, script_files, script_text, unknown_row}
 use Rattle.argue_program.specs.Scripts.{HasLiveBytes, IsLiveFault, IsOpened, OpensFiles, live_inputs, script_status}

@@ -8,7 +8,7 @@ use Rattle.iccma_tasks.specs.declared.task.Problem.TheVariants.{Credulous, Scept
 use Rattle.iccma_tasks.specs.declared.task.Task.{Task}
 use Rattle.iccma_tasks.specs.Tasks.{Asked, all_tasks, task_name}
 use Rattle.argue_words.specs.Words.{BenchTexts, SolveTexts}
-use Rattle.bench_inputs.specs.declared.input.TheConstants.{MOST_ARGUMENTS}
+use Rattle.bench_runs.specs.declared.input.TheConstants.{MOST_ARGUMENTS}
 use Rattle.argue_program.specs.declared.query.LargeInput.{LargeInput}
 use Rattle.argue_program.specs.declared.query.Solving.{Solving}
 use Rattle.argue_program.specs.declared.query.TheConstants.{DEFAULT_BUDGET}

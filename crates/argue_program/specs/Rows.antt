@@ -30,8 +30,8 @@ use Rattle.argue_program.specs.declared.writing.Written.{Written}
 use Rattle.bench_runs.specs.Runs.{IsBenchRun}
 use Rattle.bench_runs.specs.Summaries.{summary}
 use Rattle.bench_runs.specs.declared.run.BenchRun.{BenchRun}
-use Rattle.bench_runs.specs.script_runs.specs.declared.transcript.ScriptTranscript.{ScriptTranscript}
-use Rattle.bench_runs.specs.script_runs.specs.Transcripts.{IsTranscriptOf}
+use Rattle.bench_runs.specs.declared.transcript.ScriptTranscript.{ScriptTranscript}
+use Rattle.bench_runs.specs.Transcripts.{IsTranscriptOf}
 use Rattle.script_text.specs.declared.script.Script.{Script}
 use Rattle.semantics.specs.Frameworks.{Framework as AnyFramework}
 use Rattle.session_replies.specs.Replies.{certificates_of}

@@ -21,14 +21,14 @@ use Rattle.argue_program.specs.Scripts.{RunsScript, transcript_bytes}
 use Rattle.argue_program.specs.Solves.{IsReplyTo, IsSessionOf, IsSessionOn, status_of}
 use Rattle.argue_program.specs.declared.query.LargeInput.{LargeInput}
 use Rattle.argue_program.specs.declared.query.Solving.{Solving}
-use Rattle.bench_inputs.specs.Generator.{bench_framework}
-use Rattle.bench_inputs.specs.Scripts.{bench_script}
+use Rattle.bench_runs.specs.Generator.{bench_framework}
+use Rattle.bench_runs.specs.Scripts.{bench_script}
 use Rattle.bench_runs.specs.Runs.{IsBenchRun}
 use Rattle.bench_runs.specs.Summaries.{summary}
 use Rattle.bench_runs.specs.declared.run.BenchRun.{BenchRun}
 use Rattle.bench_runs.specs.declared.run.TheConstants.{BENCH_BUDGET}
-use Rattle.bench_runs.specs.script_runs.specs.Transcripts.{IsTranscriptOf}
-use Rattle.bench_runs.specs.script_runs.specs.declared.transcript.ScriptTranscript.{ScriptTranscript}
+use Rattle.bench_runs.specs.Transcripts.{IsTranscriptOf}
+use Rattle.bench_runs.specs.declared.transcript.ScriptTranscript.{ScriptTranscript}
 use Rattle.script_text.specs.ScriptFaults.{StandsAt}
 use Rattle.script_text.specs.ScriptText.{IsScript}
 use Rattle.script_text.specs.declared.fault.ScriptCause.{ScriptCause}

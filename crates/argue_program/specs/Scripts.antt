@@ -5,8 +5,8 @@ use Rattle.argue_outside.specs.declared.Role.TheVariants as role
 use Rattle.argue_words.specs.Words.{LiveTexts}
 use Rattle.edit_rules.specs.Kinds.{framework_of}
 use Rattle.framework_text.specs.FrameworkText.{ReadsAs}
-use Rattle.bench_runs.specs.script_runs.specs.Transcripts.{IsTranscriptOf}
-use Rattle.bench_runs.specs.script_runs.specs.declared.transcript.ScriptTranscript.{ScriptTranscript}
+use Rattle.bench_runs.specs.Transcripts.{IsTranscriptOf}
+use Rattle.bench_runs.specs.declared.transcript.ScriptTranscript.{ScriptTranscript}
 use Rattle.script_text.specs.ScriptText.{IsScript}
 use Rattle.script_text.specs.declared.fault.ScriptFault.{ScriptFault}
 use Rattle.script_text.specs.declared.fault.ScriptFault.TheVariants as script_fault

@@ -19,7 +19,7 @@ use certificate_text::{CertFault, read_certificate};
 use edit_rules::{Framework, query_fits};
 use framework_text::read_framework;
 use iccma_tasks::{Answer, AnswerFault, Query, read_answer};
-use plain_lists::{Bytes, Memory};
+use lists::{Bytes, Memory};
 use std::alloc::Global;
 use std::mem::forget;
 

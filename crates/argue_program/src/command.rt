@@ -20,7 +20,7 @@ ghost use Rattle.framework_text.specs.FrameworkText.{IsFaulty};
 ghost use Rattle.argue_program.specs.Runs.{IsFaultyScript, IsLiveEnd, IsSolveEnd, LivesContents, NamesCertificate, QueriesBytes, RefusesBytes, RefusesLength, RefusesWords, ScriptsBytes, SolvesContents, SpendsBudget};
 ghost use Rattle.argue_program.specs.Runs.{WritesAnswer, WritesSummary, WritesTranscript};
 ghost use Rattle.argue_program.specs.Writing.{output};
-ghost use Rattle.bench_runs.specs.script_runs.specs.declared.transcript.ScriptTranscript.{ScriptTranscript};
+ghost use Rattle.bench_runs.specs.declared.transcript.ScriptTranscript.{ScriptTranscript};
 ghost use Rattle.script_text.specs.declared.script.Script.{Script};
 ghost use Rattle.num_text.specs.declared.limit.TheConstants.{INPUT_LIMIT};
 

@@ -6,8 +6,8 @@ ghost use Rattle.argue_program.specs.Statuses.{code_of};
 
 use af_format::LineCause;
 use argue_outside::Role;
-use bench_runs::oracle_core::{AnswerStop, Answered, Engine};
-use bench_runs::script_runs::ScriptTranscript;
+use oracle_core::{AnswerStop, Answered, Engine};
+use bench_runs::ScriptTranscript;
 use certificate_claims::Cause as Failure;
 use certificate_text::CertCause;
 use edit_rules::QueryFault;

@@ -11,7 +11,7 @@ use argue_outside::{Files, ReadStop, Role, read_all};
 use edit_rules::Framework;
 use framework_text::read_framework as read_text;
 use num_text::INPUT_LIMIT;
-use plain_lists::{Bytes, Memory};
+use lists::{Bytes, Memory};
 use std::alloc::Global;
 
 impl From<Memory> for Status {

@@ -11,7 +11,7 @@ use crate::texts::Text;
 use argue_outside::{Files, Pace};
 use argue_words::BenchWords;
 use bench_runs::{BenchRun, run_bench};
-use plain_lists::{Items, Memory};
+use lists::{Items, Memory};
 use std::alloc::Global;
 use std::sync::Wait;
 use std::thread::Threads;

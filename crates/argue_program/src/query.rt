@@ -3,12 +3,12 @@
 ghost use Rattle.std.specs.Prelude.{◌≡◌, ◌≤◌, IfSome};
 ghost use Rattle.std.specs.Option.{option_map};
 ghost use Rattle.argue_words.specs.Words.{bench_texts, solve_texts};
-ghost use Rattle.bench_inputs.specs.declared.input.TheConstants.{MOST_ARGUMENTS};
+ghost use Rattle.bench_runs.specs.declared.input.TheConstants.{MOST_ARGUMENTS};
 ghost use Rattle.iccma_tasks.specs.Tasks.{all_tasks};
 ghost use Rattle.argue_program.specs.Queries.{arguments_of, asked_by, asked_with, budget_of, first_named, large_by, number_of, solving_by};
 
 use argue_words::{BenchWords, SolveWords};
-use bench_inputs::MOST_ARGUMENTS;
+use bench_runs::MOST_ARGUMENTS;
 use iccma_tasks::{Query, Task};
 use num_text::decimal;
 

@@ -9,7 +9,7 @@ use crate::ended::{Cause, Limit, Refusal, Status};
 use argue_outside::Role;
 use certificate_claims::Cause as Failure;
 use edit_rules::QueryFault;
-use plain_lists::{Bytes, Memory};
+use lists::{Bytes, Memory};
 use std::alloc::{AllocError, Global};
 
 /// A text to be written. A fixed one takes no memory.

@@ -8,7 +8,7 @@ ghost use Rattle.argue_program.specs.Writing.{BreaksFiles, BreaksOff, BreaksRepl
 use crate::decision::Ending;
 use crate::ended::{Ended, Status};
 use argue_outside::{Failed, Files, Sink, append_all, put_all};
-use plain_lists::Bytes;
+use lists::Bytes;
 
 /// A file that a run writes: its name, and the bytes that it is to have.
 #[derive(Debug, Drop)]

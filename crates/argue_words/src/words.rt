@@ -8,7 +8,7 @@ ghost use Rattle.argue_words.specs.Words.{AreUnknown, RefusesOthers, bench_app, 
 use crate::options::{bench_command, check_command, live_command, solve_command};
 use clap::ArgMatches;
 use clap::error::ErrorKind;
-use plain_lists::Memory;
+use lists::Memory;
 use std::alloc::Global;
 
 /// What the words ask for.

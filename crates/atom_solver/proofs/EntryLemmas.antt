@@ -3,7 +3,7 @@ use Rattle.std.proofs.Common.{◌≡◌, ℕ, ◌+◌, ◌-◌, ◌<◌, Bool, t
 use Rattle.std.specs.Prelude.{◌↔◌, IsTrue, Contains, Option, Result, Ok, Err, IfOk}
 use Rattle.std.proofs.lemmas.List.{take_all, length-take-le, get_or_default}
 use Rattle.std.proofs.lemmas.Bool.{false≢true}
-use Rattle.plain_lists.specs.declared.memory.Memory.{Memory}
+use Rattle.lists.specs.declared.memory.Memory.{Memory}
 use Rattle.plain_lits.specs.declared.lit.Lit.{Lit}
 use Rattle.plain_lits.specs.Literals.{negation}
 use Rattle.plain_lits.specs.HintCheck.{Checks, IsTautology}

@@ -9,7 +9,7 @@ use Rattle.plain_lits.specs.Literals.{IsClauseOf}
 use Rattle.plain_lits.specs.Checking.{HasRoomFor}
 use Rattle.plain_lits.proofs.HintCheckLemmas.{Contains-mapped, Contains-from_mapped}
 use Rattle.hinted_log.specs.Logs.{Step, LogState, clauses_of, no_step, given_step}
-use Rattle.plain_lists.specs.declared.memory.Memory.{Memory}
+use Rattle.lists.specs.declared.memory.Memory.{Memory}
 use Rattle.plain_lits.specs.declared.halt.Halt.{Halt}
 use Rattle.hinted_log.specs.declared.fault.LogFault.{LogFault}
 use Rattle.hinted_log.specs.declared.fault.LogFault.TheVariants.{LogFull}

@@ -1,7 +1,7 @@
 -- What a look near goals leaves, whatever it answers.
 use Rattle.std.proofs.Common.{◌≡◌, ℕ, ◌≤◌, List, [], length, sym, subst, refl}
 use Rattle.std.specs.Prelude.{IfOk, IfSome, OnOk, Option, None, Some, Result, Ok, Err}
-use Rattle.plain_lists.specs.declared.memory.Memory.{Memory as OutOfMemory}
+use Rattle.lists.specs.declared.memory.Memory.{Memory as OutOfMemory}
 use Rattle.plain_lits.specs.declared.lit.Lit.{Lit}
 use Rattle.plain_lits.specs.Units.{Units}
 use Rattle.plain_lits.specs.Checking.{HaveRoomFor}

@@ -2,7 +2,7 @@
 use Rattle.std.proofs.Common.{◌≡◌, ℕ, ◌-◌, List, [], length, get_or, ap, sym, ◌∙◌, refl, arith}
 use Rattle.std.specs.Prelude.{Result, Ok, Err, IfOk, true, false}
 use Rattle.std.proofs.lemmas.Bool.{false≢true}
-use Rattle.plain_lists.specs.declared.memory.Memory.{Memory}
+use Rattle.lists.specs.declared.memory.Memory.{Memory}
 use Rattle.plain_lits.specs.declared.lit.Lit.{Lit}
 use Rattle.plain_lits.specs.Checking.{HaveRoomFor}
 use Rattle.hinted_log.specs.Logs as hinted

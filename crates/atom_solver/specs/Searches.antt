@@ -4,7 +4,7 @@ use Rattle.plain_lits.specs.declared.halt.Halt.{Halt}
 use Rattle.plain_lits.specs.declared.halt.Halt.TheVariants.{Memory}
 use Rattle.plain_lits.specs.HintCheck.{IsTautology}
 use Rattle.plain_lits.specs.Units.{Units}
-use Rattle.plain_lists.specs.declared.memory.Memory.{Memory as OutOfMemory}
+use Rattle.lists.specs.declared.memory.Memory.{Memory as OutOfMemory}
 use Rattle.semantics.specs.Frameworks.{Framework}
 use Rattle.meaning_atoms.specs.declared.atom.AtomLit.{AtomLit}
 use Rattle.meaning_atoms.specs.Literals.{negated}

@@ -17,7 +17,7 @@ use atom_table::AtomTable;
 use hinted_log::LogFault;
 use meaning_atoms::{Atom, AtomLit};
 use oracle_face::EntryName;
-use plain_lists::{Items, Memory};
+use lists::{Items, Memory};
 use plain_lits::{Clause, Lit, PackedLit, StepId};
 use sat_core::Added;
 use std::alloc::Global;

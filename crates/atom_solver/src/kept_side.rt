@@ -7,7 +7,7 @@ ghost use Rattle.atom_solver.specs.Sides.{IsOrderOf, IsOrdered, IsSideAt, IsNowh
 
 use meaning_atoms::{Atom, AtomLit};
 use oracle_face::AskId;
-use plain_lists::{Items, Memory};
+use lists::{Items, Memory};
 use set_lists::NumSet;
 use std::alloc::Global;
 use std::marker::Model;

@@ -5,7 +5,7 @@ ghost use Rattle.atom_solver.specs.Lifted.{is_given};
 
 use meaning_atoms::AxiomName;
 use oracle_face::{AskId, EntryName};
-use plain_lists::Memory;
+use lists::Memory;
 use std::alloc::Global;
 
 /// Where a step comes from: it is an axiom, it is the step of a side clause, it was taken from an entry and follows

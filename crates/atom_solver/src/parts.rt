@@ -39,7 +39,7 @@ use certificate_claims::clause_of_axiom;
 use hinted_log::{LogFault, MOST_STEPS};
 use meaning_atoms::{Atom, AtomLit, AxiomName};
 use oracle_face::{AskId, Encoding, Pending};
-use plain_lists::{Items, Memory};
+use lists::{Items, Memory};
 use plain_lits::{Budget, Clause, Halt, Lit, StepId};
 use sat_core::{Added, Solved, Solver};
 use set_lists::NumSet;

@@ -1,7 +1,7 @@
 //! What a search finds.
 
 use meaning_atoms::AtomLit;
-use plain_lists::Items;
+use lists::Items;
 use plain_lits::StepId;
 
 /// What a search found: literals under which each clause in use and each goal is true, or a step that refutes the goals.

@@ -26,7 +26,7 @@ use crate::searched::Searched;
 use hinted_log::MOST_STEPS;
 use meaning_atoms::{AtomLit, AxiomName};
 use oracle_face::{AskId, Encoding, EntryName, Pending};
-use plain_lists::{Items, Memory};
+use lists::{Items, Memory};
 use plain_lits::{Budget, Halt, StepId};
 use set_lists::NumSet;
 use std::alloc::Global;

@@ -10,7 +10,7 @@ ghost use Rattle.atom_solver.specs.Tables.{AddsLits, Extends, told};
 use atom_table::AtomTable;
 use meaning_atoms::{Atom, AtomLit};
 use oracle_face::Encoding;
-use plain_lists::{Items, Memory};
+use lists::{Items, Memory};
 use plain_lits::{Lit, PackedLit};
 use sat_core::Solver;
 use std::alloc::Global;

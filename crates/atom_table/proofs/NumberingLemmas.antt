@@ -3,7 +3,7 @@ use Rattle.std.proofs.Common.{◌≡◌, inl, inr, ℕ, List, [], ◌∷◌, ◌
 use Rattle.std.specs.Prelude.{◌⊎◌, if◌then◌else◌, Contains}
 use Rattle.std.specs.List.{list_any}
 use Rattle.std.proofs.lemmas.Bool.{true≢false}
-use Rattle.plain_lists.proofs.ListTests.{any_from}
+use Rattle.lists.proofs.ListTests.{any_from}
 use Rattle.atom_table.specs.Numbering.{Numbers}
 use Rattle.std.specs.Prelude.{Option, None, Some, slice_get, position, IfSome}
 use Rattle.std.proofs.lemmas.List.Quantifiers.{position-Some}

@@ -6,7 +6,7 @@ ghost use Rattle.atom_table.specs.Numbering.{AreDifferent, Numbers};
 use indexmap::IndexSet;
 use meaning_atoms::Atom;
 use meaning_atoms::laws::atoms_are_equal;
-use plain_lists::Memory;
+use lists::Memory;
 use std::alloc::Global;
 use std::marker::Model;
 

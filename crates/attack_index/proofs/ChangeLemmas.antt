@@ -11,7 +11,7 @@ use Rattle.std.proofs.lemmas.List.Edits.{length-insert, get_or-insert_below, get
 use Rattle.std.proofs.lemmas.List.Elements.{Contains-append_cases, Contains-append_left, Contains-append_right}
 use Rattle.std.proofs.lemmas.List.Quantifiers.{all_pairs_remove}
 use Rattle.std.proofs.lemmas.List.Sorted.{searchable_from_sorted}
-use Rattle.plain_lists.proofs.Membership.{Contains-head, Contains-tail, Contains-cons_cases}
+use Rattle.lists.proofs.Membership.{Contains-head, Contains-tail, Contains-cons_cases}
 use Rattle.semantics.specs.Framework.{IsPairBefore}
 use Rattle.attack_index.specs.PairOrder.{PairsRise}
 use Rattle.attack_index.specs.Offsets.{HasOffsets, IsOffsetOf}

@@ -7,7 +7,7 @@ ghost use Rattle.attack_index.specs.PairOrder.{PairsRise};
 ghost use Rattle.attack_index.specs.Offsets.{AreFrom, AreOffsets, HasOffsets, IsBlock, IsEndOf};
 
 use crate::changes::{put_in, take_out};
-use plain_lists::Memory;
+use lists::Memory;
 use std::alloc::Global;
 use std::marker::Model;
 

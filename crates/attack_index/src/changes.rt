@@ -4,7 +4,7 @@ ghost use Rattle.std.specs.Prelude.{◌≡◌, ℕ, ◌+◌, ◌-◌, ◌<◌, �
 ghost use Rattle.attack_index.specs.Changes.{AreLoweredFrom, AreRaisedFrom, GainsPair, LosesPair};
 ghost use Rattle.attack_index.specs.Offsets.{HasOffsets};
 
-use plain_lists::Memory;
+use lists::Memory;
 
 /// Adds one to each number from an index on.
 fn raise_from(numbers: &mut [usize], from: usize)

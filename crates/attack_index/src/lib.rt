@@ -12,4 +12,3 @@ mod stable_sort;
 
 pub use blocks::AttackBlocks;
 pub use index::AttackIndex;
-pub use semantics;

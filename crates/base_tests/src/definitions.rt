@@ -1,6 +1,6 @@
 //! What no clause says: the definitions against extensions worked out by hand.
 
-use plain_lists::{Items, Memory};
+use lists::{Items, Memory};
 use semantics::Notion::{
     Admissible, Complete, ConflictFree, Grounded, Ideal, InAllPreferred, Preferred, SemiStable,
     Stable,

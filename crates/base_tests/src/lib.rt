@@ -10,6 +10,6 @@ mod definitions;
 #[cfg(test)]
 mod fields;
 #[cfg(test)]
-mod lists;
+mod list_tests;
 #[cfg(test)]
 mod sets;

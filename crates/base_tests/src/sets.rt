@@ -1,6 +1,6 @@
 //! Sets and what is made of them. A made set goes into `gives` at once: values that live on make each later call dearer.
 
-use plain_lists::Memory;
+use lists::Memory;
 use set_lists::NumSet;
 use std::alloc::Global;
 use std::cmp::Ordering;

@@ -5,13 +5,13 @@ use Rattle.std.specs.List.{sum_by}
 use Rattle.std.proofs.lemmas.List.Sums.{sum_by_more, sum_by_more_le}
 use Rattle.script_text.specs.declared.script.ScriptLine.{ScriptLine}
 use Rattle.session_replies.specs.declared.reply.Reply.{Reply}
-use Rattle.script_runs.specs.Served.{FrontsRise, lines_of}
+use Rattle.bench_runs.specs.Served.{FrontsRise, lines_of}
 use Rattle.bench_runs.specs.Checking.{IsCheckedTo, MayCheck}
 use Rattle.bench_runs.specs.Summaries.{AreRejected, AreRejections, IsRejection, is_told_query, queries_told}
 use Rattle.std.proofs.lemmas.List.{drop_all, drop_more, get_or-map, length-map, map-append, take_more}
 use Rattle.std.proofs.lemmas.Bool.{eq-eqb}
 use Rattle.semantics.specs.Frameworks.{Framework}
-use Rattle.edit_words.specs.declared.edit.Edit.{Edit}
+use Rattle.edit_rules.specs.declared.edit.Edit.{Edit}
 use Rattle.edit_rules.specs.Replay.{after_edit, replay}
 use Rattle.edit_history.specs.declared.entry.Change.{Change}
 use Rattle.edit_history.specs.declared.entry.Entry.{Entry}

@@ -6,13 +6,13 @@ use Rattle.std.proofs.lemmas.Bool.{cases_eq, cases_lt, eq-eqb, lt-ltb, ne_eqb}
 use Rattle.std.proofs.lemmas.List.{append_assoc, get_or_default, map-append}
 use Rattle.std.proofs.lemmas.List.Elements.{Contains-append_left, Contains-append_right, Contains-get_or, filter-append}
 use Rattle.std.proofs.lemmas.List.Sums.{count_by-le-length, length-filter}
-use Rattle.plain_lists.proofs.Counts.{none_counted}
-use Rattle.plain_lists.proofs.Filters.{Contains-filter}
-use Rattle.plain_lists.proofs.Membership.{Contains-head}
+use Rattle.lists.proofs.Counts.{none_counted}
+use Rattle.lists.proofs.Filters.{Contains-filter}
+use Rattle.lists.proofs.Membership.{Contains-head}
 use Rattle.semantics.specs.Framework.{Af}
 use Rattle.semantics.specs.Frameworks.{Framework, af, aba, IsNumbered, IsNumberedAf}
-use Rattle.edit_words.specs.declared.edit.Edit.{Edit}
-use Rattle.edit_words.specs.declared.edit.Edit.TheVariants.{AttackAdd, AttackDrop}
+use Rattle.edit_rules.specs.declared.edit.Edit.{Edit}
+use Rattle.edit_rules.specs.declared.edit.Edit.TheVariants.{AttackAdd, AttackDrop}
 use Rattle.edit_rules.specs.Replay.{IsTaken, after_edit, replay}
 use Rattle.edit_rules.proofs.SameFrameworks.{same_framework}
 use Rattle.turn_lock.specs.Turns.{entries_of}
@@ -22,13 +22,13 @@ use Rattle.script_text.specs.declared.script.Command.TheVariants.{Edit as change
 use Rattle.script_text.specs.declared.script.ScriptLine.{ScriptLine}
 use Rattle.session_replies.specs.declared.reply.Reply.{Reply}
 use Rattle.oracle_face.specs.Logs.{OracleLog}
-use Rattle.script_runs.specs.session_core.specs.declared.kept.KeptAnswer.{KeptAnswer}
-use Rattle.script_runs.specs.Served.{entries_made, entry_by, lines_of}
-use Rattle.bench_inputs.specs.Generator.{bench_framework, first}
-use Rattle.bench_inputs.specs.Scripts.{asked_about, bench_script, line_for, session_for}
-use Rattle.bench_inputs.proofs.FrameworkForm.{bench_form, first_there}
-use Rattle.bench_inputs.proofs.Moves.{attacks_in, come, live_in, live_stays, stays, was_there}
-use Rattle.bench_inputs.proofs.ScriptLines.{IsBenchEdit, added_in, edit_lines, edit_place, is_edit, sessions_few}
+use Rattle.bench_runs.specs.session_core.specs.declared.kept.KeptAnswer.{KeptAnswer}
+use Rattle.bench_runs.specs.Served.{entries_made, entry_by, lines_of}
+use Rattle.bench_runs.specs.Generator.{bench_framework, first}
+use Rattle.bench_runs.specs.Scripts.{asked_about, bench_script, line_for, session_for}
+use Rattle.bench_runs.proofs.FrameworkForm.{bench_form, first_there}
+use Rattle.bench_runs.proofs.Moves.{attacks_in, come, live_in, live_stays, stays, was_there}
+use Rattle.bench_runs.proofs.ScriptLines.{IsBenchEdit, added_in, edit_lines, edit_place, is_edit, sessions_few}
 use Rattle.bench_runs.proofs.ListLemmas.{behind, count_all, count_swap, total_within}
 use Rattle.bench_runs.proofs.MadeLemmas.{IsEntryBefore, entries_rise, made_each}
 use Rattle.bench_runs.proofs.TakenLemmas.{IsHistoryOf, add_done, all_taken, bench_edit, bench_entry, edit_ends, edits_of, history_few, in_form, line_in, mapped, moves, no_line, no_reply, plain_after, replay_on, rise, session_at, takes_of, target}

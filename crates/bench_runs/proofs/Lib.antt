@@ -5,3 +5,16 @@ pub mod EndLemmas
 pub mod SummaryLemmas
 pub mod CheckLemmas
 pub mod RunLemmas
+pub mod Numbers
+pub mod DrawLemmas
+pub mod FrameworkForm
+pub mod Moves
+pub mod ScriptLines
+pub mod SessionLines
+pub mod ServedLemmas
+pub mod ToldLemmas
+pub mod FinishLemmas
+pub mod OpenLemmas
+pub mod SessionLemmas
+pub mod LentLemmas
+pub mod LeaveLemmas

@@ -7,8 +7,8 @@ use Rattle.std.proofs.lemmas.Bool.Decides.{nat_tests}
 use Rattle.std.proofs.lemmas.List.{get_or-append-add, length-append, take-append-drop, take-append-le, take_all}
 use Rattle.std.proofs.lemmas.List.Sums.{length-filter}
 use mathlib.Core.List.{IsPrefix}
-use Rattle.plain_lists.proofs.Counts.{count_by-cons, count_no, count_yes, none_counted}
-use Rattle.plain_lists.proofs.Filters.{filter_whole}
+use Rattle.lists.proofs.Counts.{count_by-cons, count_no, count_yes, none_counted}
+use Rattle.lists.proofs.Filters.{filter_whole}
 
 pub zip_long : {A B : Type 0} (R : A → B → Type 0) (xs : List A) (ys : List B) → AllZip R xs ys → length xs ≡ length ys
 zip_long R [] [] all = refl

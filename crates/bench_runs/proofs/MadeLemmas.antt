@@ -5,9 +5,9 @@ use Rattle.std.specs.List.{AllPairs, AllZip}
 use Rattle.std.proofs.lemmas.List.{length-append}
 use Rattle.std.proofs.lemmas.List.Elements.{Contains-append_cases, Contains-get_or}
 use Rattle.std.proofs.lemmas.List.Kept.{AllPairs-cons}
-use Rattle.plain_lists.proofs.Counts.{count_by-cons}
-use Rattle.plain_lists.proofs.Membership.{Contains-cons_cases, Contains-nil}
-use Rattle.edit_words.specs.declared.edit.Edit.{Edit}
+use Rattle.lists.proofs.Counts.{count_by-cons}
+use Rattle.lists.proofs.Membership.{Contains-cons_cases, Contains-nil}
+use Rattle.edit_rules.specs.declared.edit.Edit.{Edit}
 use Rattle.edit_history.specs.declared.entry.Entry.{Entry}
 use Rattle.script_text.specs.declared.script.Command.{Command}
 use Rattle.script_text.specs.declared.script.Command.TheVariants.{Edit as change_by, Ask}
@@ -15,9 +15,9 @@ use Rattle.script_text.specs.declared.script.ScriptLine.{ScriptLine}
 use Rattle.session_replies.specs.declared.reply.Body.{Body}
 use Rattle.session_replies.specs.declared.reply.Body.TheVariants.{Done, EditRefused, Full, Answered, QueryRefused, Unknown, TooMany, LogFull}
 use Rattle.session_replies.specs.declared.reply.Reply.{Reply}
-use Rattle.script_runs.specs.Served.{entries_made, entry_by, made_by}
+use Rattle.bench_runs.specs.Served.{entries_made, entry_by, made_by}
 use Rattle.bench_runs.specs.Taken.{IsDone, IsTakenOn}
-use Rattle.bench_inputs.proofs.ScriptLines.{IsPlacedBefore, edit_place, is_edit, place_of}
+use Rattle.bench_runs.proofs.ScriptLines.{IsPlacedBefore, edit_place, is_edit, place_of}
 
 -- the entry is the edit of a line, and the reply to it tells that it was taken
 pub record IsOfLine (command : Command) (body : Body) (x : Entry) : Type 0 where

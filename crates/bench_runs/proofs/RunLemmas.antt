@@ -16,17 +16,17 @@ use Rattle.script_text.specs.declared.script.Command.TheVariants.{Edit as change
 use Rattle.script_text.specs.declared.script.Script.{Script}
 use Rattle.script_text.specs.declared.script.ScriptLine.{ScriptLine}
 use Rattle.script_text.specs.declared.script.TheConstants.{MOST_SESSIONS}
-use Rattle.edit_words.specs.declared.edit.Edit.TheVariants.{AttackDrop}
-use Rattle.script_runs.specs.session_core.specs.declared.kept.Kept.{Kept}
+use Rattle.edit_rules.specs.declared.edit.Edit.TheVariants.{AttackDrop}
+use Rattle.bench_runs.specs.session_core.specs.declared.kept.Kept.{Kept}
 use Rattle.session_replies.specs.declared.reply.Reply.{Reply}
-use Rattle.script_runs.specs.Served.{FrontsRise, LineEnds, lines_of}
-use Rattle.script_runs.specs.Transcripts.{AreSessions, IsTranscriptOf}
-use Rattle.script_runs.specs.declared.run.TheConstants.{HISTORY_LIMIT}
-use Rattle.script_runs.specs.declared.transcript.ScriptTranscript.{ScriptTranscript}
-use Rattle.bench_inputs.specs.Generator.{bench_framework, first}
-use Rattle.bench_inputs.specs.Scripts.{asked_about, bench_script, line_for}
-use Rattle.bench_inputs.specs.declared.input.TheConstants.{MOST_ARGUMENTS}
-use Rattle.bench_inputs.proofs.ScriptLines.{dropped_in, script_long, sessions_few}
+use Rattle.bench_runs.specs.Served.{FrontsRise, LineEnds, lines_of}
+use Rattle.bench_runs.specs.Transcripts.{AreSessions, IsTranscriptOf}
+use Rattle.bench_runs.specs.declared.script_run.TheConstants.{HISTORY_LIMIT}
+use Rattle.bench_runs.specs.declared.transcript.ScriptTranscript.{ScriptTranscript}
+use Rattle.bench_runs.specs.Generator.{bench_framework, first}
+use Rattle.bench_runs.specs.Scripts.{asked_about, bench_script, line_for}
+use Rattle.bench_runs.specs.declared.input.TheConstants.{MOST_ARGUMENTS}
+use Rattle.bench_runs.proofs.ScriptLines.{dropped_in, script_long, sessions_few}
 use Rattle.bench_runs.specs.declared.counts.Counts.{Counts}
 use Rattle.bench_runs.specs.declared.run.BenchRun.{BenchRun}
 use Rattle.bench_runs.specs.declared.run.TheConstants.{BENCH_BUDGET}

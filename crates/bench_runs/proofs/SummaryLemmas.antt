@@ -8,9 +8,9 @@ use Rattle.std.proofs.lemmas.List.{take-append-le, take_all}
 use Rattle.std.proofs.lemmas.List.Elements.{Contains-get_or}
 use Rattle.std.proofs.lemmas.List.Sums.{length-filter, sum_by_push}
 use mathlib.Core.List.{IsPrefix}
-use Rattle.plain_lists.proofs.Counts.{count_by-cons, none_counted}
-use Rattle.plain_lists.proofs.Filters.{Contains-filter}
-use Rattle.plain_lists.proofs.Membership.{Contains-head, Contains-nil}
+use Rattle.lists.proofs.Counts.{count_by-cons, none_counted}
+use Rattle.lists.proofs.Filters.{Contains-filter}
+use Rattle.lists.proofs.Membership.{Contains-head, Contains-nil}
 use Rattle.semantics.specs.declared.argument.TheConstants.{LAST_ARGUMENT}
 use Rattle.semantics.specs.Framework.{Af, IsComplete, IsGrounded}
 use Rattle.semantics.specs.Frameworks.{Framework, af, aba}
@@ -27,13 +27,13 @@ use Rattle.session_replies.specs.declared.reply.Body.{Body}
 use Rattle.session_replies.specs.declared.reply.Body.TheVariants.{Done, EditRefused, Full, Answered, QueryRefused, Unknown, TooMany, LogFull}
 use Rattle.session_replies.specs.declared.reply.Reply.{Reply}
 use Rattle.oracle_face.specs.Logs.{OracleLog}
-use Rattle.script_runs.specs.session_core.specs.declared.kept.KeptAnswer.{KeptAnswer}
-use Rattle.script_runs.specs.Served.{AnswersQuery, CommandEnds, LineEnds, lines_of}
-use Rattle.bench_inputs.specs.Generator.{bench_framework, first}
-use Rattle.bench_inputs.specs.Scripts.{asked_about, bench_script}
-use Rattle.bench_inputs.proofs.FrameworkForm.{first_there}
-use Rattle.bench_inputs.proofs.Numbers.{number_in}
-use Rattle.bench_inputs.proofs.ScriptLines.{ask_lines, is_ask, sessions_few}
+use Rattle.bench_runs.specs.session_core.specs.declared.kept.KeptAnswer.{KeptAnswer}
+use Rattle.bench_runs.specs.Served.{AnswersQuery, CommandEnds, LineEnds, lines_of}
+use Rattle.bench_runs.specs.Generator.{bench_framework, first}
+use Rattle.bench_runs.specs.Scripts.{asked_about, bench_script}
+use Rattle.bench_runs.proofs.FrameworkForm.{first_there}
+use Rattle.bench_runs.proofs.Numbers.{number_in}
+use Rattle.bench_runs.proofs.ScriptLines.{ask_lines, is_ask, sessions_few}
 use Rattle.bench_runs.specs.Summaries.{AreRejected, AreRejections, IsRejection, is_told_query, queries_told, rejections}
 use Rattle.bench_runs.proofs.ListLemmas.{count_all, count_next, count_swap}
 use Rattle.bench_runs.proofs.TakenLemmas.{IsHistoryOf}

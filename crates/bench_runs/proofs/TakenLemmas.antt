@@ -8,18 +8,18 @@ use Rattle.std.proofs.lemmas.List.Elements.{All-contains, Contains-append_left, 
 use Rattle.std.proofs.lemmas.List.Kept.{AllPairs-filter}
 use Rattle.std.proofs.lemmas.List.Sums.{count_by-le-length, length-filter}
 use mathlib.Core.List.{IsPrefix}
-use Rattle.plain_lists.proofs.Counts.{none_counted}
-use Rattle.plain_lists.proofs.Filters.{Contains-filter}
-use Rattle.plain_lists.proofs.Membership.{Contains-cons_cases, Contains-head, Contains-nil, Contains-tail}
+use Rattle.lists.proofs.Counts.{none_counted}
+use Rattle.lists.proofs.Filters.{Contains-filter}
+use Rattle.lists.proofs.Membership.{Contains-cons_cases, Contains-head, Contains-nil, Contains-tail}
 use Rattle.semantics.specs.declared.argument.TheConstants.{LAST_ARGUMENT}
 use Rattle.semantics.specs.Framework.{Af}
 use Rattle.semantics.specs.Frameworks.{Framework, af, aba, IsNumbered, IsNumberedAf}
 use Rattle.iccma_tasks.specs.declared.task.Kind.{Kind}
 use Rattle.iccma_tasks.specs.declared.task.Kind.TheVariants.{Af as OfAf, Aba as OfAba}
-use Rattle.edit_words.specs.declared.edit.Edit.{Edit}
-use Rattle.edit_words.specs.declared.edit.Edit.TheVariants.{ArgAdd, ArgDrop, AttackAdd, AttackDrop, AsmAdd, AsmDrop, ConSet, RuleAdd, RuleDrop}
-use Rattle.edit_words.specs.declared.effect.Effect.{Effect}
-use Rattle.edit_words.specs.declared.effect.EditFault.{EditFault}
+use Rattle.edit_rules.specs.declared.edit.Edit.{Edit}
+use Rattle.edit_rules.specs.declared.edit.Edit.TheVariants.{ArgAdd, ArgDrop, AttackAdd, AttackDrop, AsmAdd, AsmDrop, ConSet, RuleAdd, RuleDrop}
+use Rattle.edit_rules.specs.declared.effect.Effect.{Effect}
+use Rattle.edit_rules.specs.declared.effect.EditFault.{EditFault}
 use Rattle.edit_rules.specs.Edits.{edit_outcome}
 use Rattle.edit_rules.specs.Kinds.{kind_of}
 use Rattle.edit_rules.specs.Replay.{IsTaken, after_edit, replay}
@@ -34,14 +34,14 @@ use Rattle.session_replies.specs.declared.reply.Body.{Body}
 use Rattle.session_replies.specs.declared.reply.Body.TheVariants.{Done, EditRefused, Full, Answered, QueryRefused, Unknown, TooMany, LogFull}
 use Rattle.session_replies.specs.declared.reply.Reply.{Reply}
 use Rattle.oracle_face.specs.Logs.{OracleLog}
-use Rattle.script_runs.specs.session_core.specs.declared.kept.KeptAnswer.{KeptAnswer}
-use Rattle.script_runs.specs.Served.{CommandEnds, EditEnds, FrontsRise, IsFront, IsFull, IsServed, LineEnds, RefusesEdit, TakesEdit, entries_made, entry_by, lines_of}
-use Rattle.bench_inputs.specs.Generator.{bench_framework, first}
-use Rattle.bench_inputs.specs.Scripts.{asked_about, bench_script, line_for, session_for}
-use Rattle.bench_inputs.proofs.FrameworkForm.{bench_form, first_there}
-use Rattle.bench_inputs.proofs.Moves.{AreMoves, IsMove, add_passes, attacks_in, drop_passes, gone, live_in, live_stays, stays, was_there}
-use Rattle.bench_inputs.proofs.Numbers.{number_from}
-use Rattle.bench_inputs.proofs.ScriptLines.{IsBenchEdit, IsPlacedBefore, dropped_in, edit_lines, edit_of_line, is_edit, lines_rise, place_of}
+use Rattle.bench_runs.specs.session_core.specs.declared.kept.KeptAnswer.{KeptAnswer}
+use Rattle.bench_runs.specs.Served.{CommandEnds, EditEnds, FrontsRise, IsFront, IsFull, IsServed, LineEnds, RefusesEdit, TakesEdit, entries_made, entry_by, lines_of}
+use Rattle.bench_runs.specs.Generator.{bench_framework, first}
+use Rattle.bench_runs.specs.Scripts.{asked_about, bench_script, line_for, session_for}
+use Rattle.bench_runs.proofs.FrameworkForm.{bench_form, first_there}
+use Rattle.bench_runs.proofs.Moves.{AreMoves, IsMove, add_passes, attacks_in, drop_passes, gone, live_in, live_stays, stays, was_there}
+use Rattle.bench_runs.proofs.Numbers.{number_from}
+use Rattle.bench_runs.proofs.ScriptLines.{IsBenchEdit, IsPlacedBefore, dropped_in, edit_lines, edit_of_line, is_edit, lines_rise, place_of}
 use Rattle.bench_runs.proofs.ListLemmas.{count_all, count_swap, prefix_within, total_within, zip_at, zip_from, zip_long}
 use Rattle.bench_runs.proofs.MadeLemmas.{MadeAt, made_at, made_each, made_few}
 use Rattle.bench_runs.specs.Taken.{IsDone, IsTakenOn}

@@ -5,7 +5,7 @@ use Rattle.edit_history.specs.declared.entry.Change.{Change}
 use Rattle.edit_history.specs.Entries.{entries_in, framework_after}
 use Rattle.script_text.specs.declared.script.ScriptLine.{ScriptLine}
 use Rattle.session_replies.specs.declared.reply.Reply.{Reply}
-use Rattle.script_runs.specs.Served.{FrontsRise}
+use Rattle.bench_runs.specs.Served.{FrontsRise}
 use Rattle.bench_runs.specs.Summaries.{AreRejections}
 
 -- the fronts of the replies that are left don't fall, and no more certificates are rejected than replies are checked

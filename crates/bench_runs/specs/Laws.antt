@@ -5,12 +5,12 @@ use Rattle.semantics.specs.Framework.{IsGrounded}
 use Rattle.semantics.specs.Frameworks.{af}
 use Rattle.edit_history.specs.Entries.{entries_in, framework_after}
 use Rattle.session_replies.specs.declared.reply.Reply.{Reply}
-use Rattle.script_runs.specs.Served.{lines_of}
-use Rattle.script_runs.specs.Transcripts.{IsTranscriptOf}
-use Rattle.script_runs.specs.declared.transcript.ScriptTranscript.{ScriptTranscript}
-use Rattle.bench_inputs.specs.Generator.{bench_framework}
-use Rattle.bench_inputs.specs.Scripts.{asked_about, bench_script}
-use Rattle.bench_inputs.specs.declared.input.TheConstants.{MOST_ARGUMENTS}
+use Rattle.bench_runs.specs.Served.{lines_of}
+use Rattle.bench_runs.specs.Transcripts.{IsTranscriptOf}
+use Rattle.bench_runs.specs.declared.transcript.ScriptTranscript.{ScriptTranscript}
+use Rattle.bench_runs.specs.Generator.{bench_framework}
+use Rattle.bench_runs.specs.Scripts.{asked_about, bench_script}
+use Rattle.bench_runs.specs.declared.input.TheConstants.{MOST_ARGUMENTS}
 use Rattle.bench_runs.specs.Taken.{IsTakenOn}
 
 -- each edit of each session is taken, these are all entries of the history, and they leave the framework that there was

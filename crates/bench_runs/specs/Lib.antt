@@ -3,6 +3,12 @@ pub mod Taken
 pub mod Checking
 pub mod Runs
 pub mod Laws
-pub use Rattle.script_runs as script_runs
-pub use Rattle.script_runs.specs.oracle_core as oracle_core
-pub use Rattle.script_runs.specs.session_core as session_core
+pub mod Generator
+pub mod Scripts
+pub mod InputLaws
+pub mod Served
+pub mod Running
+pub mod Transcripts
+pub mod Finishing
+pub use Rattle.session_core as session_core
+pub use Rattle.session_core.specs.oracle_core as oracle_core

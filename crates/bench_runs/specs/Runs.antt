@@ -4,10 +4,10 @@ use Rattle.semantics.specs.Framework.{Af}
 use Rattle.semantics.specs.Frameworks.{af}
 use Rattle.edit_history.specs.Entries.{entries_in, framework_after}
 use Rattle.script_text.specs.declared.script.Script.{Script}
-use Rattle.script_runs.specs.Transcripts.{IsTranscriptOf}
-use Rattle.script_runs.specs.declared.transcript.ScriptTranscript.{ScriptTranscript}
-use Rattle.bench_inputs.specs.Generator.{bench_framework}
-use Rattle.bench_inputs.specs.Scripts.{bench_script}
+use Rattle.bench_runs.specs.Transcripts.{IsTranscriptOf}
+use Rattle.bench_runs.specs.declared.transcript.ScriptTranscript.{ScriptTranscript}
+use Rattle.bench_runs.specs.Generator.{bench_framework}
+use Rattle.bench_runs.specs.Scripts.{bench_script}
 use Rattle.bench_runs.specs.declared.counts.Counts.{Counts}
 use Rattle.bench_runs.specs.declared.run.BenchRun.{BenchRun}
 use Rattle.bench_runs.specs.declared.run.TheConstants.{BENCH_BUDGET}

@@ -17,10 +17,10 @@ use Rattle.script_text.specs.declared.script.ScriptLine.{ScriptLine}
 use Rattle.session_replies.specs.declared.reply.Body.{Body}
 use Rattle.session_replies.specs.declared.reply.Body.TheVariants.{Done, EditRefused, Full, Answered}
 use Rattle.session_replies.specs.declared.reply.Reply.{Reply}
-use Rattle.script_runs.specs.Served.{lines_of}
-use Rattle.bench_inputs.specs.Generator.{bench_framework}
-use Rattle.bench_inputs.specs.Scripts.{asked_about}
-use Rattle.bench_inputs.specs.declared.script.TheConstants.{BENCH_SESSIONS}
+use Rattle.bench_runs.specs.Served.{lines_of}
+use Rattle.bench_runs.specs.Generator.{bench_framework}
+use Rattle.bench_runs.specs.Scripts.{asked_about}
+use Rattle.bench_runs.specs.declared.script.TheConstants.{BENCH_SESSIONS}
 use Rattle.bench_runs.specs.declared.counts.Counts.{Counts}
 
 -- ---- the text

@@ -3,8 +3,8 @@
 ghost use Rattle.std.specs.Prelude.{◌≡◌, IfOk};
 ghost use Rattle.bench_runs.specs.Summaries.{counts_text};
 
-use bench_inputs::BENCH_SESSIONS;
-use plain_lists::{Bytes, Memory};
+use crate::BENCH_SESSIONS;
+use lists::{Bytes, Memory};
 use std::alloc::Global;
 
 /// What is counted of the run of a large input.

@@ -2,13 +2,25 @@
 #![tactic(auto)]
 
 mod counts;
+mod draws;
+mod framework;
+mod input;
+pub mod input_laws;
 pub mod laws;
 mod rejected;
 mod replay;
 mod run;
+mod runner;
+mod script;
+mod script_run;
 mod tally;
+mod transcript;
 
 pub use counts::Counts;
+pub use draws::{INCREMENT, MULTIPLIER};
+pub use input::{MOST_ARGUMENTS, bench_input};
 pub use run::{BENCH_BUDGET, BenchRun, run_bench};
-pub use script_runs;
-pub use script_runs::{oracle_core, session_core};
+pub use runner::LOG_LIMIT;
+pub use script::{BENCH_SESSIONS, MOST_ASKED};
+pub use script_run::{HISTORY_LIMIT, run_script};
+pub use transcript::ScriptTranscript;

@@ -6,7 +6,7 @@ ghost use Rattle.semantics.specs.Frameworks.{Framework as AnyFramework};
 ghost use Rattle.edit_rules.specs.Kinds.{framework_of};
 ghost use Rattle.edit_history.specs.Entries.{entries_in};
 ghost use Rattle.script_text.specs.declared.script.ScriptLine.{ScriptLine as ALine};
-ghost use Rattle.script_runs.specs.Served.{FrontsRise, lines_of};
+ghost use Rattle.bench_runs.specs.Served.{FrontsRise, lines_of};
 ghost use Rattle.bench_runs.specs.Summaries.{AreRejected, AreRejections, IsRejection, rejections};
 ghost use Rattle.bench_runs.specs.Checking.{IsCheckedTo, MayCheck};
 
@@ -15,7 +15,7 @@ use certificate_check::check;
 use certificate_claims::Verdict;
 use edit_history::Change;
 use edit_rules::Framework;
-use plain_lists::{Items, Memory};
+use lists::{Items, Memory};
 use script_text::{Command, MOST_SESSIONS, ScriptLine};
 use session_replies::{Body, Reply};
 use std::alloc::Global;

@@ -8,7 +8,7 @@ ghost use Rattle.edit_history.specs.Entries.{entries_in, framework_after};
 
 use edit_history::Change;
 use edit_rules::{Edit, Framework, apply};
-use plain_lists::Memory;
+use lists::Memory;
 use std::alloc::Global;
 
 /// Changes a framework by an edit that was taken there before. So only memory can be refused.

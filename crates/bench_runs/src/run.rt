@@ -2,10 +2,10 @@
 
 ghost use Rattle.std.specs.Prelude.{◌≡◌, ◌≤◌, IfOk};
 ghost use Rattle.semantics.specs.Frameworks.{af};
-ghost use Rattle.script_runs.specs.Transcripts.{IsTranscriptOf};
-ghost use Rattle.bench_inputs.specs.Generator.{bench_framework};
-ghost use Rattle.bench_inputs.specs.Scripts.{bench_script};
-ghost use Rattle.bench_inputs.specs.declared.input.TheConstants.{MOST_ARGUMENTS};
+ghost use Rattle.bench_runs.specs.Transcripts.{IsTranscriptOf};
+ghost use Rattle.bench_runs.specs.Generator.{bench_framework};
+ghost use Rattle.bench_runs.specs.Scripts.{bench_script};
+ghost use Rattle.bench_runs.specs.declared.input.TheConstants.{MOST_ARGUMENTS};
 ghost use Rattle.bench_runs.specs.Runs.{AreCounts, IsBenchRun};
 ghost use Rattle.bench_runs.specs.Summaries.{bench_counts, counts_text, summary as summary_of};
 
@@ -13,9 +13,9 @@ use crate::counts::{Counts, summary_text};
 use crate::rejected::rejected_in;
 use crate::tally::{last_grounded, queries_of, sizes};
 use argue_outside::Pace;
-use bench_inputs::bench_input;
-use plain_lists::{Bytes, Memory};
-use script_runs::{ScriptTranscript, run_script};
+use crate::bench_input;
+use lists::{Bytes, Memory};
+use crate::{ScriptTranscript, run_script};
 use script_text::Script;
 use std::alloc::Global;
 use std::sync::Wait;

@@ -10,7 +10,7 @@ ghost use Rattle.bench_runs.specs.Summaries.{IsGroundedSize, is_told_query as is
 use crate::replay::lead;
 use edit_history::Change;
 use edit_rules::Framework;
-use plain_lists::{Items, Memory};
+use lists::{Items, Memory};
 use session_replies::{Body, Reply};
 use std::alloc::Global;
 

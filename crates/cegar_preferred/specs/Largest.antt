@@ -1,6 +1,6 @@
 -- Sets that lie in no larger admissible one.
 use Rattle.std.specs.Prelude.{ℕ, List, [], ◌∷◌}
-use Rattle.plain_lists.specs.Members.{IsWithin}
+use Rattle.lists.specs.Members.{IsWithin}
 use Rattle.semantics.specs.Frameworks.{Framework}
 use Rattle.meaning_atoms.specs.declared.atom.Atom.TheVariants.{Ad}
 use Rattle.meaning_atoms.specs.Literals.{affirmed}

@@ -14,7 +14,7 @@ use crate::maximal::{Maximal, maximal_from};
 use goal_lists::{outside, search_query};
 use meaning_atoms::Atom;
 use oracle_face::{AskId, Budget, Found, Halt, Oracle, StepId};
-use plain_lists::Items;
+use lists::Items;
 use set_lists::NumSet;
 use std::alloc::Global;
 

@@ -4,10 +4,10 @@ use Rattle.std.specs.Prelude.{◌↔◌, IsTrue, Option, Some, None}
 use Rattle.std.proofs.lemmas.Bool.{false≢true}
 use Rattle.std.proofs.lemmas.List.{get_or_default}
 use mathlib.Core.Bool.{beq}
-use Rattle.plain_lists.specs.Members.{IsWithin}
+use Rattle.lists.specs.Members.{IsWithin}
 use Rattle.semantics.specs.Framework.{Af, IsAdmissible}
 use Rattle.semantics.specs.Frameworks.{Framework, af, aba}
-use Rattle.aba_semantics.specs.AbaFrameworks.{Aba}
+use Rattle.semantics.specs.AbaFrameworks.{Aba}
 use Rattle.iccma_tasks.specs.declared.answer.Answer.{Answer}
 use Rattle.iccma_tasks.specs.declared.answer.Answer.TheVariants.{Yes, No, Sets}
 use Rattle.iccma_tasks.specs.declared.task.Problem.{Problem}
@@ -23,7 +23,7 @@ use Rattle.certificate_claims.specs.Ranges.{AreLive}
 use Rattle.certificate_claims.specs.Rights.{Accepts, IsExtension}
 use Rattle.certificate_laws.proofs.KindFacts.{accepts_more, grounded_is}
 use Rattle.answer_claims.specs.SetFacts.{HasSetsOf}
-use Rattle.refutation_check.specs.Standing.{IsFirstWithout}
+use Rattle.certificate_check.specs.Standing.{IsFirstWithout}
 use Rattle.certificate_check.specs.Witnesses.{HasRanges, IsRowOf, IsTestedRow, ShowsSets}
 
 -- what is known of a row, and of the sets that the answer shows

@@ -21,13 +21,13 @@ use Rattle.certificate_claims.specs.Refutations.{Claim as TableClaim, IsClosed, 
 use Rattle.certificate_claims.proofs.Found.{AllPass, pass_append, pass_map_from, pass_cons, pass_nil, pass_parts, found_numbered, then_numbered, found_in_part, accepted_found}
 use Rattle.certificate_claims.specs.Verdicts.{Look, PassesLook, EndsClosed, told, indices, refutation_looks, steps_at, claim_at, at_step, at_last, at_set, at_witness, looks, IsVerdict}
 use Rattle.answer_claims.specs.declared.claim.Claim.{Claim}
-use Rattle.refutation_check.specs.declared.refuting.Flaw.{Flaw}
-use Rattle.refutation_check.specs.declared.refuting.Flaw.TheVariants.{None as NoFlaw, BadStep, OpenLiteral}
+use Rattle.certificate_check.specs.declared.refuting.Flaw.{Flaw}
+use Rattle.certificate_check.specs.declared.refuting.Flaw.TheVariants.{None as NoFlaw, BadStep, OpenLiteral}
 use Rattle.answer_claims.specs.ClaimParts.{IsClaimOf, AreClaims}
-use Rattle.refutation_check.specs.Flaws.{HasFlaw, EndsClosedBy, flaw_told, no_claim, FlawAt, FirstFlaw, FindsFlaws}
+use Rattle.certificate_check.specs.Flaws.{HasFlaw, EndsClosedBy, flaw_told, no_claim, FlawAt, FirstFlaw, FindsFlaws}
 use Rattle.certificate_check.specs.Sections.{FindsFrom, refutation_section, after_sets, after_set_count, after_witnesses, after_shape}
 use Rattle.answer_claims.specs.SideClauses.{side_of, sides_of}
-use Rattle.refutation_check.specs.Standing.{IsClosedBy, StandsAt, IsFirstWithout}
+use Rattle.certificate_check.specs.Standing.{IsClosedBy, StandsAt, IsFirstWithout}
 use Rattle.answer_claims.proofs.ClaimLemmas.{same_length, claim_at_index}
 
 -- ---- refutations

@@ -7,8 +7,8 @@ use Rattle.semantics.specs.Framework.{Af, IsGrounded}
 use Rattle.semantics.specs.Frameworks.{Framework}
 use Rattle.semantics.specs.Laws.{HasSameMembers}
 use Rattle.semantics.proofs.SameMembers.{turned, complete_same}
-use Rattle.aba_semantics.specs.AbaFrameworks.{Aba, collective_of}
-use Rattle.aba_semantics.specs.Collectives.{IsGrounded as IsCollectiveGrounded}
+use Rattle.semantics.specs.AbaFrameworks.{Aba, collective_of}
+use Rattle.semantics.specs.Collectives.{IsGrounded as IsCollectiveGrounded}
 use Rattle.aba_laws.proofs.AbaLemmas.{aba_lawful}
 use Rattle.aba_laws.proofs.CollectiveSets.{complete_same as aba_complete_same}
 use Rattle.meaning_atoms.specs.declared.atom.Atom.TheVariants.{Ad}
@@ -16,7 +16,7 @@ use Rattle.meaning_atoms.specs.Worlds.{HoldsOf}
 use Rattle.iccma_tasks.specs.Tasks.{Asked}
 use Rattle.certificate_claims.specs.declared.row.Row.TheVariants.{Ideal}
 use Rattle.certificate_claims.specs.Acceptance.{PassesSet}
-use Rattle.refutation_check.specs.Standing.{IsFirstWithout}
+use Rattle.certificate_check.specs.Standing.{IsFirstWithout}
 
 pub tests_grounded : (f : Af) (s g : List ℕ) (r : Bool) → IsGrounded f g → (IsTrue r ↔ HasSameMembers s g)
     → IsTrue r ↔ IsGrounded f s

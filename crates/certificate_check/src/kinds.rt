@@ -1,8 +1,8 @@
 //! What a framework says of sets, by its kind.
 
 ghost use Rattle.std.specs.Prelude.{◌≡◌, ◌↔◌, Some, IfOk, IsTrue};
-ghost use Rattle.aba_semantics.specs.AbaFrameworks.{IsInTheory, collective_of};
-ghost use Rattle.aba_semantics.specs.Collectives.{IsGrounded as IsCollectiveGrounded};
+ghost use Rattle.semantics.specs.AbaFrameworks.{IsInTheory, collective_of};
+ghost use Rattle.semantics.specs.Collectives.{IsGrounded as IsCollectiveGrounded};
 ghost use Rattle.semantics.specs.Framework.{IsGrounded};
 ghost use Rattle.semantics.specs.Frameworks.{aba, af};
 ghost use Rattle.semantics.specs.Laws.{HasSameMembers};
@@ -17,7 +17,7 @@ use aba_notions::AbaPlain;
 use dung_notions::AfPlain;
 use edit_rules::Framework;
 use iccma_tasks::Semantics;
-use plain_lists::Memory;
+use lists::Memory;
 use set_lists::NumSet;
 use std::alloc::Global;
 

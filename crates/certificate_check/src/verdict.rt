@@ -19,8 +19,8 @@ use certificate_claims::{
 use dung_notions::AfPlain;
 use edit_rules::Framework;
 use iccma_tasks::{Answer, Query};
-use plain_lists::Memory;
-use refutation_check::check_refutations;
+use lists::Memory;
+use crate::check_refutations;
 use set_lists::NumSet;
 use std::alloc::Global;
 

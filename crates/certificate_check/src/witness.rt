@@ -8,13 +8,13 @@ ghost use Rattle.certificate_claims.specs.Acceptance.{AcceptsAsSaid, IsShaped, I
 ghost use Rattle.certificate_claims.specs.Rights.{Accepts, IsExtension};
 ghost use Rattle.edit_rules.specs.Kinds.{framework_of};
 ghost use Rattle.certificate_check.specs.Witnesses.{IsTested, IsTestedRow};
-ghost use Rattle.refutation_check.specs.Standing.{IsFirstWithout};
+ghost use Rattle.certificate_check.specs.Standing.{IsFirstWithout};
 
 use crate::kinds::{accepts, is_admissible, is_extension};
 use certificate_claims::Row;
 use edit_rules::Framework;
 use iccma_tasks::{Problem, Query};
-use plain_lists::Memory;
+use lists::Memory;
 use set_lists::NumSet;
 use std::alloc::Global;
 

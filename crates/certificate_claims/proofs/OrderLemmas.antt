@@ -7,7 +7,7 @@ use Rattle.std.specs.Cmp.Lexicographic.{slice_cmp}
 use Rattle.std.proofs.lemmas.Bool.{cases_eq}
 use Rattle.std.proofs.lemmas.Cmp.{nat_list_cmp_total}
 use Rattle.std.proofs.lemmas.List.{get_or_default}
-use Rattle.plain_lists.specs.Members.{IsWithin}
+use Rattle.lists.specs.Members.{IsWithin}
 use Rattle.iccma_tasks.specs.semantics.proofs.Decided.{decide_each, decide_member}
 use Rattle.aba_axioms.specs.dung_notions.proofs.NotionLemmas.{WalkedAny, any_members}
 use Rattle.certificate_claims.specs.Acceptance.{NoneWithin}

@@ -7,10 +7,10 @@ use Rattle.std.proofs.lemmas.Bool.{cases_Bool, not_from_false}
 use Rattle.std.proofs.lemmas.List.{append-nil, get_or-map, map-append, take_more, take_all}
 use Rattle.std.proofs.lemmas.List.Elements.{Contains-get_or, filter-append}
 use Rattle.std.proofs.lemmas.List.Kept.{IsStrictlyIncreasing-filter}
-use Rattle.plain_lists.specs.Members.{IsSetOf, IsWithin}
-use Rattle.plain_lists.proofs.Filters.{Contains-filter}
-use Rattle.plain_lists.proofs.ListTests.{any_gives, any_from}
-use Rattle.plain_lists.proofs.Membership.{Contains-nil, Contains-head, Contains-tail, Contains-cons_cases}
+use Rattle.lists.specs.Members.{IsSetOf, IsWithin}
+use Rattle.lists.proofs.Filters.{Contains-filter}
+use Rattle.lists.proofs.ListTests.{any_gives, any_from}
+use Rattle.lists.proofs.Membership.{Contains-nil, Contains-head, Contains-tail, Contains-cons_cases}
 use Rattle.plain_lits.proofs.HintCheckLemmas.{Contains-mapped, Contains-from_mapped}
 use Rattle.set_lists.proofs.Rising.{below_across, rises_right}
 use Rattle.iccma_tasks.specs.semantics.specs.Framework.{Af, IsAf, IsInRange, IsRangeWithin}

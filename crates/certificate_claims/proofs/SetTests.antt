@@ -5,10 +5,10 @@ use Rattle.std.specs.List.{list_any}
 use Rattle.std.proofs.lemmas.Bool.{cases_Bool, eqb-true, and_parts, and_from, or_left, or_right, or_from, not_from_false, not_from_true, both_ways, eq-eqb, false_from_ne_true}
 use Rattle.std.proofs.lemmas.List.{append-nil}
 use Rattle.std.proofs.lemmas.List.Elements.{filter-append}
-use Rattle.plain_lists.specs.Members.{IsWithin}
-use Rattle.plain_lists.proofs.Filters.{Contains-filter}
-use Rattle.plain_lists.proofs.ListTests.{any_gives, any_from, all_gives, all_from}
-use Rattle.plain_lists.proofs.Membership.{Contains-head, Contains-tail, Contains-cons_cases}
+use Rattle.lists.specs.Members.{IsWithin}
+use Rattle.lists.proofs.Filters.{Contains-filter}
+use Rattle.lists.proofs.ListTests.{any_gives, any_from, all_gives, all_from}
+use Rattle.lists.proofs.Membership.{Contains-head, Contains-tail, Contains-cons_cases}
 use Rattle.iccma_tasks.specs.semantics.specs.Framework.{Af, IsAf, IsAttackedBy, IsInRange, IsRangeWithin}
 use Rattle.iccma_tasks.specs.semantics.specs.Frameworks.{Framework, af}
 use Rattle.certificate_claims.specs.Claims.{first_ranged, has_ranged}

@@ -1,6 +1,6 @@
 -- When a certificate is accepted for an answer.
 use Rattle.std.specs.Prelude.{◌≡◌, ℕ, zero, suc, ◌<◌, Bool, true, false, List, [], length, Contains, slice_index_or, Option, Some, None}
-use Rattle.plain_lists.specs.Members.{IsWithin}
+use Rattle.lists.specs.Members.{IsWithin}
 use Rattle.iccma_tasks.specs.semantics.specs.Framework.{IsRangeWithin}
 use Rattle.iccma_tasks.specs.semantics.specs.Frameworks.{Framework, af, aba}
 use Rattle.aba_axioms.specs.meaning_atoms.specs.declared.atom.Atom.TheVariants.{Ad}

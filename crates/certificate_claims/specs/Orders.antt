@@ -1,6 +1,6 @@
 -- How one set stands to others.
 use Rattle.std.specs.Prelude.{ℕ, List, Contains}
-use Rattle.plain_lists.specs.Members.{IsWithin}
+use Rattle.lists.specs.Members.{IsWithin}
 
 -- the set lies in the other, which has more
 pub record IsPart (s t : List ℕ) : Type 0 where

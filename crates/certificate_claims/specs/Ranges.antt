@@ -1,6 +1,6 @@
 -- The ranges of listed sets.
 use Rattle.std.specs.Prelude.{◌≡◌, ℕ, ◌∷◌, ◌++◌, if◌then◌else◌, List, [], Contains, filter, map}
-use Rattle.plain_lists.specs.Members.{IsWithin}
+use Rattle.lists.specs.Members.{IsWithin}
 use Rattle.iccma_tasks.specs.semantics.specs.Framework.{Af}
 use Rattle.iccma_tasks.specs.semantics.specs.Frameworks.{Framework}
 use Rattle.certificate_claims.specs.declared.ranges.FirstRanged.{FirstRanged}

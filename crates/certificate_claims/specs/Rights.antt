@@ -5,8 +5,8 @@ use Rattle.std.specs.Ordering.{nat_cmp}
 use Rattle.std.specs.Cmp.Lexicographic.{slice_cmp}
 use Rattle.iccma_tasks.specs.semantics.specs.Framework.{Af, IsComplete, IsGrounded, IsPreferred, IsStable, IsSemiStable, IsIdeal}
 use Rattle.iccma_tasks.specs.semantics.specs.Frameworks.{Framework, af, aba}
-use Rattle.iccma_tasks.specs.aba_semantics.specs.AbaFrameworks.{Aba, IsInTheory, collective_of}
-use Rattle.iccma_tasks.specs.aba_semantics.specs.Collectives as collective
+use Rattle.iccma_tasks.specs.semantics.specs.AbaFrameworks.{Aba, IsInTheory, collective_of}
+use Rattle.iccma_tasks.specs.semantics.specs.Collectives as collective
 use Rattle.iccma_tasks.specs.semantics.specs.Sets.{IsListed}
 use Rattle.iccma_tasks.specs.declared.answer.Answer.{Answer}
 use Rattle.iccma_tasks.specs.declared.answer.Answer.TheVariants.{Yes, No, Sets}

@@ -1,7 +1,7 @@
 //! Certificates: sets, and refutations with the steps that they are made of.
 
-use aba_axioms::meaning_atoms::{AtomLit, AxiomName};
-use plain_lists::Items;
+use meaning_atoms::{AtomLit, AxiomName};
+use lists::Items;
 use set_lists::NumSet;
 
 /// One step of a refutation. Steps are numbered from 1.

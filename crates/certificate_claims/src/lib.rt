@@ -8,12 +8,8 @@ mod ranges;
 pub mod row;
 pub mod verdict;
 
-pub use aba_axioms;
-pub use aba_axioms::{aba_laws, af_axioms, meaning_atoms};
 pub use axiom::clause_of_axiom;
 pub use certificate::{Certificate, Refutation, Step};
-pub use iccma_tasks;
-pub use iccma_tasks::semantics;
 pub use order::{none_within, sets_rise};
 pub use ranges::{FirstRanged, first_ranged, no_range_within, ranges_of, with_range};
 pub use row::Row;

@@ -1,15 +1,15 @@
 //! The ranges of listed sets.
 
 ghost use Rattle.std.specs.Prelude.{◌≡◌, ◌↔◌, length, map, Contains, IfOk, IsTrue, OnOk};
-ghost use Rattle.plain_lists.specs.Members.{IsWithin};
+ghost use Rattle.lists.specs.Members.{IsWithin};
 ghost use Rattle.iccma_tasks.specs.semantics.specs.Frameworks.{af};
 ghost use Rattle.certificate_claims.specs.Acceptance.{NoRangeWithin};
 ghost use Rattle.certificate_claims.specs.Ranges.{AddsIfFirst, AddsIfRanged, AreLive, AreWithRange, IsFirstRanged};
 ghost use Rattle.certificate_claims.specs.SetLiterals.{range_of};
 
 use crate::order::none_within;
-use aba_axioms::dung_notions::AfPlain;
-use plain_lists::{Items, Memory};
+use dung_notions::AfPlain;
+use lists::{Items, Memory};
 use set_lists::NumSet;
 use std::alloc::Global;
 

@@ -1,7 +1,7 @@
 //! The rows of the table of certificates: what an answer of one shape to one task has to show.
 
-use aba_axioms::meaning_atoms::{Atom, AtomLit};
-use plain_lists::Items;
+use meaning_atoms::{Atom, AtomLit};
+use lists::Items;
 use set_lists::NumSet;
 
 /// What has to be shown for an answer.

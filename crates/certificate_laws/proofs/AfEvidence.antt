@@ -2,7 +2,7 @@
 -- asked for: by cases on the kind.
 use Rattle.std.proofs.Common.{◌≡◌, ◌<◌, ℕ, List, [], ◌∷◌, ◌++◌, length, map, filter, arith, refl}
 use Rattle.std.specs.Prelude.{Contains, slice_index_or}
-use Rattle.plain_lists.proofs.Membership.{Contains-nil, Contains-tail}
+use Rattle.lists.proofs.Membership.{Contains-nil, Contains-tail}
 use Rattle.plain_lits.proofs.HintCheckLemmas.{Contains-mapped}
 use Rattle.semantics.specs.Frameworks.{Framework, af, aba, IsNumbered}
 use Rattle.certificate_claims.specs.meaning_atoms.specs.declared.atom.Atom.TheVariants.{Ad}

@@ -1,7 +1,7 @@
 -- What each row of the table shows, where its tests pass and no set meets its claims.
 use Rattle.std.proofs.Common.{◌<◌, ℕ, zero, suc, Bool, List, [], ◌∷◌, length, map, Option, None, arith}
 use Rattle.std.specs.Prelude.{slice_index_or}
-use Rattle.plain_lists.proofs.Membership.{Contains-nil}
+use Rattle.lists.proofs.Membership.{Contains-nil}
 use Rattle.semantics.specs.Frameworks.{Framework, IsNumbered}
 use Rattle.certificate_claims.specs.meaning_atoms.specs.declared.atom.Atom.{Atom}
 use Rattle.certificate_claims.specs.meaning_atoms.specs.declared.atom.Atom.TheVariants.{Ad, Co, St}

@@ -1,6 +1,6 @@
 -- What extensions are in worlds, and what they accept, for frameworks of both kinds.
 use Rattle.std.proofs.Common.{ℕ, List}
-use Rattle.plain_lists.specs.Members.{IsWithin}
+use Rattle.lists.specs.Members.{IsWithin}
 use Rattle.semantics.specs.Frameworks.{Framework, IsNumbered}
 use Rattle.certificate_claims.specs.meaning_atoms.specs.declared.atom.Atom.TheVariants.{Ad}
 use Rattle.certificate_claims.specs.meaning_atoms.specs.Worlds.{IsWorldOf, HoldsOf}

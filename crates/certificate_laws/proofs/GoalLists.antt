@@ -3,7 +3,7 @@ use Rattle.std.proofs.Common.{⊎_elim, ℕ, ◌<◌, List, [], ◌∷◌, ◌++
 use Rattle.std.specs.Prelude.{◌≡◌, Contains, slice_index_or}
 use Rattle.std.proofs.lemmas.List.{get_or_default}
 use Rattle.std.proofs.lemmas.List.Elements.{Contains-append_cases}
-use Rattle.plain_lists.proofs.Membership.{Contains-nil, Contains-cons_cases}
+use Rattle.lists.proofs.Membership.{Contains-nil, Contains-cons_cases}
 use Rattle.plain_lits.proofs.HintCheckLemmas.{Contains-from_mapped}
 use Rattle.semantics.specs.Frameworks.{Framework}
 use Rattle.semantics.proofs.Decided.{search_list, found_in, decide_not}

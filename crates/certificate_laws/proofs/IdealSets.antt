@@ -3,9 +3,9 @@ use Rattle.std.proofs.Common.{⊎_elim, ℕ, List, [], ◌∷◌, ◌++◌, sym,
 use Rattle.std.specs.Prelude.{Contains}
 use Rattle.std.specs.List.{list_any}
 use Rattle.std.proofs.lemmas.List.Elements.{Contains-append_left, Contains-append_right, Contains-append_cases}
-use Rattle.plain_lists.specs.Members.{IsWithin}
-use Rattle.plain_lists.proofs.Filters.{Contains-filter}
-use Rattle.plain_lists.proofs.ListTests.{any_gives}
+use Rattle.lists.specs.Members.{IsWithin}
+use Rattle.lists.proofs.Filters.{Contains-filter}
+use Rattle.lists.proofs.ListTests.{any_gives}
 use Rattle.plain_lits.proofs.HintCheckLemmas.{Contains-mapped}
 use Rattle.semantics.specs.Framework.{Af, IsAdmissible, IsInAllPreferred, IsIdeal}
 use Rattle.semantics.specs.Frameworks.{af, IsNumberedAf}

@@ -2,10 +2,10 @@
 -- kinds follows from them.
 use Rattle.std.proofs.Common.{ℕ, List, [], arith}
 use Rattle.std.specs.Prelude.{◌↔◌, Contains}
-use Rattle.plain_lists.specs.Members.{IsWithin}
+use Rattle.lists.specs.Members.{IsWithin}
 use Rattle.semantics.specs.Arguments.{IsArgument}
 use Rattle.semantics.specs.Frameworks.{Framework, af, aba, IsNumbered}
-use Rattle.aba_semantics.specs.AbaFrameworks.{collective_of}
+use Rattle.semantics.specs.AbaFrameworks.{collective_of}
 use Rattle.semantics.proofs.Decided.{Decided, decide_member}
 use Rattle.semantics.proofs.Existence.{empty_admissible, preferred_round}
 use Rattle.semantics.proofs.Extensions.{preferred_complete, stable_largest}

@@ -1,8 +1,8 @@
 -- Sets that lie in no larger admissible one, and lists of all sets.
 use Rattle.std.proofs.Common.{⊎_elim, ℕ, List, [], ◌∷◌, map, sym, subst}
 use Rattle.std.specs.Prelude.{Contains}
-use Rattle.plain_lists.specs.Members.{IsWithin}
-use Rattle.plain_lists.proofs.Membership.{IsWithin-trans}
+use Rattle.lists.specs.Members.{IsWithin}
+use Rattle.lists.proofs.Membership.{IsWithin-trans}
 use Rattle.semantics.specs.Frameworks.{Framework, IsNumbered}
 use Rattle.semantics.specs.Sets.{IsListed}
 use Rattle.certificate_claims.specs.meaning_atoms.specs.declared.atom.Atom.{Atom}

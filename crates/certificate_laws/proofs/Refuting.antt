@@ -4,7 +4,7 @@ use Rattle.std.specs.Prelude.{Contains, slice_index_or, Ok}
 use Rattle.std.proofs.lemmas.Bool.{cases_lt}
 use Rattle.std.proofs.lemmas.List.{get_or-map, get_or-take, length-map, length-take-le}
 use Rattle.std.proofs.lemmas.List.Elements.{Contains-get_or}
-use Rattle.plain_lists.proofs.Membership.{Contains-tail}
+use Rattle.lists.proofs.Membership.{Contains-tail}
 use Rattle.plain_lits.specs.HintCheck.{Checks, IsTrueClause, IsValuation, clause_at}
 use Rattle.plain_lits.proofs.HintCheckLemmas.{taken_sound}
 use Rattle.semantics.specs.Frameworks.{Framework}

@@ -2,9 +2,9 @@
 use Rattle.std.proofs.Common.{⊎_elim, ℕ, not, List, [], ◌∷◌, filter, sym, subst}
 use Rattle.std.specs.Prelude.{Contains}
 use Rattle.std.proofs.lemmas.Bool.{cases_Bool, not_from_false}
-use Rattle.plain_lists.specs.Members.{IsWithin}
-use Rattle.plain_lists.proofs.Filters.{Contains-filter}
-use Rattle.plain_lists.proofs.Membership.{Contains-nil}
+use Rattle.lists.specs.Members.{IsWithin}
+use Rattle.lists.proofs.Filters.{Contains-filter}
+use Rattle.lists.proofs.Membership.{Contains-nil}
 use Rattle.plain_lits.proofs.HintCheckLemmas.{Contains-mapped}
 use Rattle.semantics.specs.Framework.{Af, IsAf, IsAdmissible, IsSemiStable, IsRangeWithin}
 use Rattle.semantics.specs.Frameworks.{af, IsNumberedAf}

@@ -1,1 +1,10 @@
 pub mod MakingLemmas
+pub mod Existing
+pub mod Numbering
+pub mod PlainClaims
+pub mod TrimmedLemmas
+pub mod ClaimSideLemmas
+pub mod MovingLemmas
+pub mod RefuteLemmas
+pub mod WalkLemmas
+pub mod WritingLemmas

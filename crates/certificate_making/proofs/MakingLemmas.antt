@@ -1,12 +1,12 @@
 -- The refutations of an answer's claims make up an accepted certificate.
 use Rattle.std.proofs.Common.{◌≡◌, ◌∙◌, ◌⊎◌, inl, inr, ⊎_elim, ℕ, ◌+◌, ◌-◌, ◌<◌, ◌≤◌, ◌^◌, zero, suc, Bool, true, false, List, [], ◌∷◌, ◌++◌, length, map, refl, sym, ap, subst, arith, Option, None, Some}
 use Rattle.std.specs.Prelude.{All, Contains, IfOk, Result, Ok, Err, slice_index_or}
-use Rattle.plain_lists.specs.declared.memory.Memory.{Memory}
+use Rattle.lists.specs.declared.memory.Memory.{Memory}
 use Rattle.std.proofs.lemmas.Bool.{cases_lt}
 use Rattle.std.proofs.lemmas.List.{get_or_append_left, get_or-append-add, get_or-map, get_or_default, length-append, length-map}
 use Rattle.std.proofs.lemmas.List.Elements.{Contains-get_or, Contains-push_cases}
-use Rattle.plain_lists.proofs.Membership.{Contains-nil}
-use Rattle.plain_lists.specs.Members.{IsWithin}
+use Rattle.lists.proofs.Membership.{Contains-nil}
+use Rattle.lists.specs.Members.{IsWithin}
 use Rattle.semantics.specs.Arguments.{IsArgument}
 use Rattle.semantics.specs.Framework.{Af, IsAdmissible}
 use Rattle.semantics.specs.Frameworks.{Framework, af, aba, IsNumbered}
@@ -33,17 +33,17 @@ use Rattle.certificate_text.specs.Written.{IsWritable, IsWritableStep}
 use Rattle.oracle_face.specs.Goals.{Refutes}
 use Rattle.oracle_face.specs.Logs.{OracleLog, SideClause, IsLog, IsNumberOf}
 use Rattle.session_log.specs.Guards.{IsGuarded}
-use Rattle.log_certificates.specs.log_refutations.specs.Refuted.{AreRefuting, IsRefutingStep}
-use Rattle.log_certificates.specs.log_refutations.specs.Trimmed.{ArePositions}
-use Rattle.log_certificates.specs.log_refutations.proofs.PlainClaims.{claims_plain}
-use Rattle.log_certificates.specs.ClaimSides.{AreAsksOf, ArePositionsIn, AreWithin, IsAskOf}
-use Rattle.log_certificates.specs.Cuts.{AreCut, IsCut, IsCutAt}
+use Rattle.certificate_making.specs.Refuted.{AreRefuting, IsRefutingStep}
+use Rattle.certificate_making.specs.Trimmed.{ArePositions}
+use Rattle.certificate_making.proofs.PlainClaims.{claims_plain}
+use Rattle.certificate_making.specs.ClaimSides.{AreAsksOf, ArePositionsIn, AreWithin, IsAskOf}
+use Rattle.certificate_making.specs.Cuts.{AreCut, IsCut, IsCutAt}
 use Rattle.answer_claims.specs.declared.claim.Claim.{Claim}
 use Rattle.answer_claims.specs.declared.sides.SideKind.{SideKind}
 use Rattle.answer_claims.specs.ClaimParts.{AreClaims, IsClaimOf}
 use Rattle.answer_claims.specs.SetFacts.{AreSetsOf, HasSetsOf}
 use Rattle.answer_claims.specs.SideClauses.{side_of, sides_of}
-use Rattle.enumerate_ranges.specs.Ranges.{AreRefuted}
+use Rattle.enumerate_block.specs.Ranges.{AreRefuted}
 use Rattle.certificate_making.specs.Making.{AreAsks, AreMade, IsMade}
 
 -- ---- one item more

@@ -1,2 +1,9 @@
 pub mod Making
-pub use Rattle.log_certificates as log_certificates
+pub mod Accepted
+pub mod Refuted
+pub mod Trimmed
+pub mod ClaimSides
+pub mod Cuts
+pub mod Marks
+pub mod Moving
+pub mod Origins

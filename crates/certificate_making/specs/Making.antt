@@ -8,8 +8,8 @@ use Rattle.certificate_claims.specs.declared.certificate.Refutation.{Refutation}
 use Rattle.certificate_text.specs.Written.{IsWritableStep}
 use Rattle.oracle_face.specs.Goals.{Refutes}
 use Rattle.oracle_face.specs.Logs.{OracleLog, SideClause}
-use Rattle.log_certificates.specs.log_refutations.specs.Refuted.{AreRefuting}
-use Rattle.log_certificates.specs.ClaimSides.{IsAskOf}
+use Rattle.certificate_making.specs.Refuted.{AreRefuting}
+use Rattle.certificate_making.specs.ClaimSides.{IsAskOf}
 use Rattle.answer_claims.specs.declared.claim.Claim.{Claim}
 use Rattle.answer_claims.specs.ClaimParts.{IsClaimOf}
 

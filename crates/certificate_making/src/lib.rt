@@ -1,7 +1,15 @@
 //! Certificates made from a log: the refutations of an answer's claims by steps of the log.
 #![tactic(auto)]
 
+pub mod laws;
 mod making;
+mod moved;
+pub mod positions;
+mod reached;
+pub mod read_log;
+pub mod refute;
 
-pub use log_certificates;
 pub use making::certificate_for;
+pub use positions::positions_of;
+pub use read_log::{ReadLog, StepOrigin};
+pub use refute::refutation;

@@ -7,7 +7,7 @@ use certificate_text::read_certificate;
 use edit_rules::Framework;
 use framework_text::read_framework;
 use iccma_tasks::{Answer, Query, Task, read_answer};
-use plain_lists::Memory;
+use lists::Memory;
 use std::alloc::Global;
 use std::test::Fail;
 

@@ -1,7 +1,7 @@
 //! Lists of sets in order and out of it, and with one set in another.
 
 use certificate_claims::{Cause, none_within, sets_rise};
-use plain_lists::Memory;
+use lists::Memory;
 use set_lists::NumSet;
 use std::alloc::Global;
 use std::test::Fail;

@@ -2,7 +2,7 @@
 
 use atom_table::AtomTable;
 use meaning_atoms::Atom;
-use plain_lists::Memory;
+use lists::Memory;
 use std::test::Fail;
 
 /// Whether atoms get their variables in turn in an empty table, and an atom the same once more.

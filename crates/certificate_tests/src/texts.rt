@@ -3,7 +3,7 @@
 use certificate_text::{
     CertFault, one_reading, read_certificate, reading_is_exact, write_certificate,
 };
-use plain_lists::{Bytes, Memory};
+use lists::{Bytes, Memory};
 use std::alloc::Global;
 use std::test::Fail;
 

@@ -1,7 +1,7 @@
 //! What has been read of a certificate.
 
 use certificate_claims::{Certificate, Refutation, Step};
-use plain_lists::Items;
+use lists::Items;
 use set_lists::NumSet;
 
 /// What the lines so far say.

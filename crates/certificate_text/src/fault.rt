@@ -3,7 +3,7 @@
 ghost use Rattle.std.specs.Prelude.{◌≡◌};
 ghost use Rattle.certificate_text.specs.Names.{cause_name};
 
-use plain_lists::Memory;
+use lists::Memory;
 use std::alloc::{AllocError, AllocFailed};
 use thiserror::Error;
 

@@ -16,7 +16,7 @@ use crate::word::{Word, word_of};
 use certificate_claims::{Certificate, Refutation, Step};
 use iccma_tasks::{AnswerCause, AnswerFault, set_of};
 use num_text::{Fields, Line, fields, line_count, lines, next_kept};
-use plain_lists::Items;
+use lists::Items;
 use set_lists::NumSet;
 use std::alloc::Global;
 

@@ -17,7 +17,7 @@ use crate::word::Word;
 use certificate_claims::Step;
 use meaning_atoms::{Atom, AtomLit, AxiomName, axiom_of, read_lit};
 use num_text::{Fields, decimal};
-use plain_lists::{Items, Memory};
+use lists::{Items, Memory};
 use std::alloc::Global;
 use std::mem::replace;
 

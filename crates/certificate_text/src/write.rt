@@ -11,7 +11,7 @@ ghost use Rattle.certificate_text.specs.Written.{IsWritable, certificate_text, r
 use certificate_claims::{Certificate, Refutation, Step};
 use iccma_tasks::push_sets;
 use meaning_atoms::{AtomLit, push_axiom, push_lit};
-use plain_lists::{Bytes, Memory};
+use lists::{Bytes, Memory};
 use std::alloc::Global;
 use std::fmt::Write;
 

@@ -8,7 +8,7 @@ use crate::pooled::{Import, Pooled, ShareableEntries, Token};
 use boxcar::Vec as SharedVec;
 use boxcar::tag::Tag;
 use oracle_face::Entry;
-use plain_lists::{Items, Memory};
+use lists::{Items, Memory};
 use std::alloc::Global;
 use std::sync::Wait;
 

@@ -5,7 +5,7 @@ ghost use Rattle.oracle_face.specs.Entries.{IsShareable};
 
 use crate::pool::Pool;
 use oracle_face::{ClauseTrade, Entry};
-use plain_lists::Memory;
+use lists::Memory;
 use std::alloc::Global;
 use std::sync::Wait;
 

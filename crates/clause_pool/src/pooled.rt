@@ -2,7 +2,7 @@
 
 use boxcar::{Keeps, Pushed};
 use oracle_face::Entry;
-use plain_lists::Items;
+use lists::Items;
 use std::alloc::Global;
 
 /// The rule of the pool: each entry may be shared, whatever its index.

@@ -1,4 +1,4 @@
-use plain_lists::Memory;
+use lists::Memory;
 use plain_lits::laws::taken_clauses_follow;
 use plain_lits::{Budget, Clause, Halt, Lit, PackedLit, Rows, StepId, Trail, Value};
 use std::alloc::Global;

@@ -9,7 +9,7 @@ ghost use Rattle.clause_watches.specs.Picks.{FindsWatch};
 
 use crate::finding::{Found, find_around};
 use crate::pair::Pair;
-use plain_lists::Memory;
+use lists::Memory;
 use plain_lits::{Lit, PackedLit, Rows, Trail};
 use std::alloc::Global;
 use std::marker::Model;

@@ -7,7 +7,7 @@ ghost use Rattle.clause_watches.specs.Picks.{WatchesLast};
 ghost use Rattle.std.specs.Bool.{OnTrue, OnFalse};
 
 use crate::pair::Pair;
-use plain_lists::Memory;
+use lists::Memory;
 use plain_lits::{Lit, PackedLit, Trail, Value};
 
 /// The greater of two numbers.

@@ -8,7 +8,7 @@ ghost use Rattle.clause_watches.specs.Picks.{ClaimsAll};
 ghost use Rattle.clause_watches.specs.WatchLists.{no_list, list_at, ids_at, with_id, without};
 ghost use Rattle.clause_watches.specs.WatchLists.{ClaimsOne, HasMoreRoom};
 
-use plain_lists::Memory;
+use lists::Memory;
 use plain_lits::Lit;
 use smallvec::SmallVec;
 use std::alloc::Global;

@@ -5,7 +5,7 @@ use Rattle.std.proofs.Common.{map, reverse, arith, ap, sym, subst, ◌∙◌, �
 use Rattle.std.specs.Prelude.{◌⊎◌, Contains}
 use Rattle.std.proofs.lemmas.Bool.{cases_Bool, ltb-true, eqb-true}
 use Rattle.std.proofs.lemmas.List.Elements.{Contains-append_left}
-use Rattle.plain_lists.proofs.Membership.{Contains-pushed}
+use Rattle.lists.proofs.Membership.{Contains-pushed}
 use Rattle.plain_lits.specs.declared.lit.Lit.{Lit}
 use Rattle.plain_lits.specs.Literals.{negation, IsClauseOf}
 use Rattle.plain_lits.specs.HintCheck.{clause_at, Propagates, Checks}

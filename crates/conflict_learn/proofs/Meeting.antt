@@ -8,7 +8,7 @@ use Rattle.std.proofs.Math.ListN.{set, length-set}
 use Rattle.std.proofs.lemmas.Bool.{cases_eq, cases_Bool, false≢true}
 use Rattle.std.proofs.lemmas.List.{get_or-set_same, get_or-set_other, get_or_default}
 use Rattle.std.proofs.lemmas.List.Elements.{Contains-append_left}
-use Rattle.plain_lists.proofs.Membership.{Contains-pushed, Contains-nil}
+use Rattle.lists.proofs.Membership.{Contains-pushed, Contains-nil}
 use Rattle.plain_lits.specs.declared.lit.Lit.{Lit}
 use Rattle.plain_lits.specs.Literals.{negation}
 use Rattle.plain_lits.proofs.LitOrder.{lit_eq_itself, same_from_eq}

@@ -7,8 +7,8 @@ use Rattle.std.proofs.Math.ListN.{set, length-set}
 use Rattle.std.proofs.lemmas.Bool.{cases_eq, false≢true}
 use Rattle.std.proofs.lemmas.List.{reverse-append}
 use Rattle.std.proofs.lemmas.List.Elements.{Contains-append_left}
-use Rattle.plain_lists.proofs.Membership.{Contains-pushed, Contains-nil, Contains-head, Contains-tail}
-use Rattle.plain_lists.proofs.Membership.{Contains-cons_cases}
+use Rattle.lists.proofs.Membership.{Contains-pushed, Contains-nil, Contains-head, Contains-tail}
+use Rattle.lists.proofs.Membership.{Contains-cons_cases}
 use Rattle.plain_lits.specs.declared.lit.Lit.{Lit}
 use Rattle.plain_lits.specs.Literals.{negation}
 use Rattle.plain_lits.specs.HintCheck.{clause_at, IsNamed, Propagates}

@@ -15,7 +15,7 @@ ghost use Rattle.conflict_learn.specs.Learning.{last_start};
 use crate::learner::{Core, Learned};
 use crate::walk::unmark;
 use crate::workspace::{Border, Workspace};
-use plain_lists::{Items, Memory};
+use lists::{Items, Memory};
 use plain_lits::{Clause, Lit};
 use unit_propagate::Propagator;
 

@@ -7,7 +7,7 @@ ghost use Rattle.conflict_learn.specs.Learning.{IsDecided, IsSettled, IsLearned,
 ghost use Rattle.conflict_learn.specs.Learning.{IsOpenBelow, IsAssumed};
 
 use crate::workspace::Workspace;
-use plain_lists::{Items, Memory};
+use lists::{Items, Memory};
 use plain_lits::{Clause, Lit};
 use std::alloc::Global;
 use std::marker::Model;

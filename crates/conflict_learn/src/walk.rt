@@ -12,7 +12,7 @@ ghost use Rattle.conflict_learn.specs.Analyses.{IsReach, AreLeft};
 ghost use Rattle.conflict_learn.specs.Learning.{IsDecided, last_start};
 
 use crate::workspace::{Border, Workspace, keeps};
-use plain_lists::Memory;
+use lists::Memory;
 use plain_lits::Lit;
 use unit_propagate::Propagator;
 

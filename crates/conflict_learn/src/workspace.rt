@@ -8,7 +8,7 @@ ghost use Rattle.conflict_learn.specs.Analyses.{analysis_of, is_kept, is_marked,
 ghost use Rattle.conflict_learn.specs.Analyses.{OthersOf};
 ghost use Rattle.conflict_learn.specs.Learning.{StandsAt};
 
-use plain_lists::Memory;
+use lists::Memory;
 use plain_lits::Lit;
 use std::alloc::Global;
 use unit_propagate::Propagator;

@@ -20,7 +20,7 @@ use Rattle.edit_rules.specs.declared.query_fault.QueryFault.TheVariants.{TaskNot
 use Rattle.edit_rules.specs.Fitting.{AsksUnknown, Fits, IsFaultOf}
 use Rattle.session_log.specs.Ends.{IsEnd, IsTakenByNone, MadeFor, WorksFor}
 use Rattle.core_machine.specs.Steps.{is_side_step}
-use Rattle.refutation_check.proofs.AxiomKinds.{axiom_fits}
+use Rattle.certificate_check.proofs.AxiomKinds.{axiom_fits}
 use Rattle.core_answers.specs.declared.counts.Count.{Count}
 use Rattle.core_answers.specs.declared.outcome.Outcome.{Outcome}
 use Rattle.core_answers.specs.declared.outcome.Outcome.TheVariants.{Definite, LogFull, Refused, TooMany, Unknown}

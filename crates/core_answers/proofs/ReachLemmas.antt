@@ -4,7 +4,7 @@ use Rattle.std.specs.Prelude.{◌↔◌, Contains, IsTrue, count_by}
 use Rattle.std.proofs.lemmas.Bool.{cases_eq, cases_lt, false≢true}
 use Rattle.std.proofs.lemmas.List.{get_or_append_left, get_or_past, get_or_push, get_or-set_other, get_or-set_same, length-set}
 use Rattle.std.proofs.lemmas.List.Sums.{sum_by-set}
-use Rattle.plain_lists.proofs.Membership.{Contains-nil}
+use Rattle.lists.proofs.Membership.{Contains-nil}
 use Rattle.oracle_face.specs.Logs.{LogStep, Reaches, by_hint, by_hints, by_side, hints_of, itself, no_step, step_at}
 use Rattle.core_answers.specs.Parts.{HandOn, HandsOn, HasMarks, IsFault, IsMarked, IsOwn, ReachOwn, ReachesOwn}
 

@@ -4,7 +4,7 @@ use Rattle.std.specs.Prelude.{◌⊎◌, Contains, IsTrue, Ok, Err, Result}
 use Rattle.std.proofs.lemmas.Bool.{cases_eq, false≢true}
 use Rattle.std.proofs.lemmas.List.{get_or-map, get_or-set_other, get_or-set_same, length-append, length-map, length-set}
 use Rattle.std.proofs.lemmas.List.Elements.{Contains-append_left, Contains-push, Contains-push_cases}
-use Rattle.plain_lists.proofs.Membership.{Contains-head, Contains-nil, Contains-tail}
+use Rattle.lists.proofs.Membership.{Contains-head, Contains-nil, Contains-tail}
 use Rattle.plain_lits.specs.HintCheck.{IsFalseHint, IsFalsified, IsNamed, IsTautology, IsUnit, IsUnitHint, Propagates, clause_at}
 use Rattle.plain_lits.proofs.HintCheckLemmas.{Contains-from_mapped}
 use Rattle.plain_lits.proofs.OneOutcome.{cases_member}

@@ -18,7 +18,7 @@ use core_logs::CoreLog;
 use edit_rules::{Framework, QueryFault, query_fits};
 use iccma_tasks::{Problem, Query, Semantics, Task};
 use oracle_face::Pending;
-use plain_lists::Memory;
+use lists::Memory;
 use std::alloc::Global;
 
 /// Whether a query's first fault is this one.

@@ -2,7 +2,7 @@
 
 use edit_rules::QueryFault;
 use iccma_tasks::Answer;
-use plain_lists::Items;
+use lists::Items;
 use set_lists::NumSet;
 
 /// How an answer of the core ends.

@@ -19,7 +19,7 @@ use edit_rules::Framework;
 use iccma_tasks::Query;
 use meaning_atoms::{AtomLit, AxiomName};
 use oracle_face::Pending;
-use plain_lists::Memory;
+use lists::Memory;
 use plain_lits::StepId;
 use set_lists::NumSet;
 use std::alloc::Global;

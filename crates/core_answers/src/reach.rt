@@ -6,7 +6,7 @@ ghost use Rattle.core_answers.specs.Parts.{HandOn, HandsOn, IsFault, IsMarked, R
 
 use crate::marks::own_marks;
 use core_logs::{CoreStep, StepSource};
-use plain_lists::Memory;
+use lists::Memory;
 use plain_lits::StepId;
 use set_lists::NumSet;
 use std::alloc::Global;

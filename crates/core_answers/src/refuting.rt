@@ -18,7 +18,7 @@ use core_logs::literals::{is_same_clause, opposite};
 use core_logs::{CoreLog, CoreSide, CoreStep};
 use edit_rules::Framework;
 use meaning_atoms::{Atom, AtomLit};
-use plain_lists::Memory;
+use lists::Memory;
 use set_lists::NumSet;
 use std::alloc::Global;
 

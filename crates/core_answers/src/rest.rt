@@ -9,7 +9,7 @@ use core_logs::CoreStep;
 use core_logs::checking::{Status, clause_status, negations};
 use core_logs::literals::is_tautology;
 use meaning_atoms::AtomLit;
-use plain_lists::Memory;
+use lists::Memory;
 use std::alloc::Global;
 
 /// What propagation may do next.

@@ -26,7 +26,7 @@ use edit_rules::Framework;
 use iccma_tasks::{Problem, Query, Semantics};
 use meaning_atoms::{AtomLit, AxiomName};
 use oracle_face::Pending;
-use plain_lists::Memory;
+use lists::Memory;
 use set_lists::NumSet;
 use std::alloc::Global;
 

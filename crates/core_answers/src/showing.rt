@@ -20,7 +20,7 @@ use certificate_claims::{Cause, Certificate, Verdict};
 use core_logs::CoreLog;
 use edit_rules::Framework;
 use iccma_tasks::{Answer, Problem, Query, Semantics, Task};
-use plain_lists::{Items, Memory};
+use lists::{Items, Memory};
 use set_lists::NumSet;
 use std::alloc::Global;
 

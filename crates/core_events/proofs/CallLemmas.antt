@@ -11,7 +11,7 @@ use Rattle.edit_history.specs.Entries.{framework_after}
 use Rattle.oracle_face.specs.declared.entry.Entry.{Entry as PoolEntry}
 use Rattle.oracle_face.specs.Logs.{IsNew, LogStep, OracleLog, by_axiom, is_loop, working}
 use Rattle.oracle_face.specs.Needed.{IsNeeded}
-use Rattle.clause_imports.specs.OwnSteps.{IsWanted}
+use Rattle.session_log.specs.OwnSteps.{IsWanted}
 use Rattle.core_machine.specs.Core.{Core, with_log}
 use Rattle.core_machine.specs.Steps.{IsCalledFor, IsNamedInPool, IsNeededFor, IsStep, learn, take_in}
 use Rattle.core_events.specs.declared.machine.Machine.{Machine}

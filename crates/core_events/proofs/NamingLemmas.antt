@@ -5,7 +5,7 @@ use Rattle.std.proofs.lemmas.Bool.{cases_lt, false≢true}
 use Rattle.std.proofs.lemmas.List.{get_or_append_left, get_or_default, get_or_push, length-append}
 use Rattle.std.proofs.lemmas.Grind.{same_number_lists}
 use Rattle.std.proofs.lemmas.List.Elements.{Contains-get_or}
-use Rattle.plain_lists.proofs.Membership.{Contains-head}
+use Rattle.lists.proofs.Membership.{Contains-head}
 use Rattle.plain_lits.specs.HintCheck.{Checks}
 use Rattle.semantics.specs.Frameworks.{Framework}
 use Rattle.meaning_atoms.specs.declared.axiom.AxiomName.{AxiomName}
@@ -20,10 +20,10 @@ use Rattle.oracle_face.specs.declared.entry.HintName.{HintName}
 use Rattle.oracle_face.specs.declared.entry.HintName.TheVariants.{Entry as OfEntry}
 use Rattle.oracle_face.specs.Logs.{LogStep, OracleLog, IsNumberOf, by_axiom, clauses_of, is_loop, step_at}
 use Rattle.session_log.specs.Steps.{GainsStep, axiom_step, derived_step}
-use Rattle.clause_imports.specs.Imports.{FollowsByNames, IsHintOf, IsShownHere, MayImport, StandsFor, StandForSteps}
-use Rattle.clause_imports.specs.Imports.{TakesEntry}
-use Rattle.clause_imports.proofs.Naming.{names_single}
-use Rattle.refutation_check.proofs.AxiomKinds.{axiom_fits}
+use Rattle.session_log.specs.Imports.{FollowsByNames, IsHintOf, IsShownHere, MayImport, StandsFor, StandForSteps}
+use Rattle.session_log.specs.Imports.{TakesEntry}
+use Rattle.session_log.proofs.Naming.{names_single}
+use Rattle.certificate_check.proofs.AxiomKinds.{axiom_fits}
 use Rattle.core_logs.specs.Tests.{HasAxiom, IsClauseOf}
 use Rattle.core_machine.specs.Steps.{TakesAxiomEntry, TakesByOrigin}
 use Rattle.core_events.specs.Naming.{Imports, IsCalledAt, IsFirstCalled, MayCome}

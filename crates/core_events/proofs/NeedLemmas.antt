@@ -3,7 +3,7 @@ use Rattle.std.proofs.Common.{◌≡◌, ⊎_elim, ℕ, ◌+◌, ◌<◌, ◌≤
 use Rattle.std.specs.Prelude.{◌↔◌, IsTrue, Some}
 use Rattle.std.proofs.lemmas.Bool.{cases_Bool, cases_lt, eqb-true, false≢true}
 use Rattle.std.proofs.lemmas.List.{take_all, take_more}
-use Rattle.plain_lists.proofs.Membership.{Contains-head, Contains-tail}
+use Rattle.lists.proofs.Membership.{Contains-head, Contains-tail}
 use Rattle.semantics.specs.Frameworks.{Framework}
 use Rattle.meaning_atoms.specs.declared.axiom.AxiomName.{AxiomName}
 use Rattle.edit_rules.specs.Replay.{after_edit}

@@ -7,9 +7,9 @@ use Rattle.std.specs.Vec.{with_item}
 use Rattle.std.proofs.lemmas.Bool.{false≢true}
 use Rattle.std.proofs.lemmas.List.{append-nil}
 use Rattle.semantics.specs.Frameworks.{Framework}
-use Rattle.edit_words.specs.declared.edit.Edit.{Edit}
-use Rattle.edit_words.specs.declared.effect.Effect.{Effect}
-use Rattle.edit_words.specs.declared.effect.EditFault.{EditFault}
+use Rattle.edit_rules.specs.declared.edit.Edit.{Edit}
+use Rattle.edit_rules.specs.declared.effect.Effect.{Effect}
+use Rattle.edit_rules.specs.declared.effect.EditFault.{EditFault}
 use Rattle.edit_rules.specs.Edits.{edit_outcome}
 use Rattle.edit_history.specs.declared.entry.Entry.{Entry}
 use Rattle.edit_history.specs.Entries.{framework_after}

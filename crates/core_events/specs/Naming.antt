@@ -6,7 +6,7 @@ use Rattle.certificate_claims.specs.Refutations.{IsAxiomOf}
 use Rattle.oracle_face.specs.declared.entry.Entry.{Entry}
 use Rattle.oracle_face.specs.declared.entry.HintName.{HintName}
 use Rattle.oracle_face.specs.Logs.{LogStep, OracleLog, IsNumberOf, by_axiom, is_loop, step_at}
-use Rattle.clause_imports.specs.Imports.{IsCalled, MayImport, StandsFor, StandForSteps}
+use Rattle.session_log.specs.Imports.{IsCalled, MayImport, StandsFor, StandForSteps}
 use Rattle.core_machine.specs.Steps.{TakesByOrigin}
 
 -- the name calls the step of the number

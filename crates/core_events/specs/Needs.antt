@@ -6,7 +6,7 @@ use Rattle.edit_history.specs.declared.entry.Entry.{Entry}
 use Rattle.edit_history.specs.Entries.{framework_after}
 use Rattle.oracle_face.specs.declared.entry.Entry.{Entry as PoolEntry}
 use Rattle.oracle_face.specs.Needed.{IsNeeded}
-use Rattle.clause_imports.specs.OwnSteps.{NamesAxiom}
+use Rattle.session_log.specs.OwnSteps.{NamesAxiom}
 use Rattle.core_events.specs.declared.places.Place.{Place}
 use Rattle.core_events.specs.Places.{pool_of}
 

@@ -14,7 +14,7 @@ use crate::stop::StepStop;
 use core_answers::{Outcome, may_end};
 use iccma_tasks::Query;
 use oracle_face::Pending;
-use plain_lists::Memory;
+use lists::Memory;
 use std::alloc::Global;
 
 /// How many extensions an answer may list.

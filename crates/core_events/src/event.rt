@@ -13,7 +13,7 @@ use edit_rules::Edit;
 use iccma_tasks::Query;
 use meaning_atoms::{AtomLit, AxiomName};
 use oracle_face::Pending;
-use plain_lists::Items;
+use lists::Items;
 use plain_lits::StepId;
 use set_lists::NumSet;
 use std::alloc::Global;

@@ -11,7 +11,7 @@ use crate::needs::replay;
 use crate::stop::StepStop;
 use edit_history::Entry;
 use edit_rules::{Edit, EditFault, apply};
-use plain_lists::Memory;
+use lists::Memory;
 use std::alloc::Global;
 
 /// Adds an entry behind the others. After `Memory` the entries are as before.

@@ -11,7 +11,7 @@ ghost use Rattle.core_answers.specs.Serving.{AreNamed};
 use core_logs::{CoreLog, CoreSide, CoreStep};
 use meaning_atoms::{AtomLit, AxiomName};
 use oracle_face::EntryName;
-use plain_lists::Memory;
+use lists::Memory;
 use plain_lits::StepId;
 use set_lists::NumSet;
 use std::alloc::Global;

@@ -4,7 +4,7 @@ ghost use Rattle.std.specs.Prelude.{◌≡◌, ◌↔◌, IfOk, IsTrue};
 ghost use Rattle.semantics.specs.Frameworks.{Framework as AnyFramework};
 ghost use Rattle.edit_rules.specs.Kinds.{framework_of};
 ghost use Rattle.oracle_face.specs.declared.entry.EntryOrigin.TheVariants.{Axiom as OfAxiom, Hints};
-ghost use Rattle.clause_imports.specs.Imports.{IsCalled, IsOfEntry};
+ghost use Rattle.session_log.specs.Imports.{IsCalled, IsOfEntry};
 ghost use Rattle.core_events.specs.Naming.{CallsFirst, Imports, IsCalledAt, MayCome, StandForSome, StandsForSome};
 ghost use Rattle.core_events.specs.Stops.{Comes};
 
@@ -21,7 +21,7 @@ use core_logs::steps::{clause_at, find_step, is_closing_at, is_number};
 use edit_rules::Framework;
 use meaning_atoms::AxiomName;
 use oracle_face::{Entry, EntryName, EntryOrigin, HintName};
-use plain_lists::{Items, Memory};
+use lists::{Items, Memory};
 use plain_lits::StepId;
 use std::alloc::Global;
 

@@ -8,18 +8,18 @@ ghost use Rattle.certificate_claims.specs.Refutations.{IsAxiomOf};
 ghost use Rattle.edit_rules.specs.Kinds.{framework_of};
 ghost use Rattle.edit_rules.specs.Replay.{after_edit};
 ghost use Rattle.edit_history.specs.Entries.{framework_after};
-ghost use Rattle.clause_imports.specs.OwnSteps.{NamesAxiom};
+ghost use Rattle.session_log.specs.OwnSteps.{NamesAxiom};
 ghost use Rattle.core_events.specs.Needs.{IsNamedAmong, IsNamedUnder, IsNeededAmong};
 
 use crate::places::{Place, find_entry};
-use aba_needed::needed as needed_of_aba;
+use aba_encoding::needed as needed_of_aba;
 use af_encoding::needed as needed_of_af;
 use core_logs::equality::axioms_are_equal;
 use edit_history::Entry;
 use edit_rules::{Edit, EditFault, Framework, apply};
 use meaning_atoms::AxiomName;
 use oracle_face::{EntryOrigin, HintName};
-use plain_lists::{Items, Memory};
+use lists::{Items, Memory};
 use std::alloc::Global;
 
 /// The first so many entries, or all of them.

@@ -4,7 +4,7 @@ ghost use Rattle.std.specs.Prelude.{◌≡◌, ◌+◌, ◌<◌, length, OnErr, 
 ghost use Rattle.core_events.specs.Seats.{HasNoSeat, IsSeatAt, fresh, session_of, sessions_of};
 
 use crate::named_log::NamedLog;
-use plain_lists::Memory;
+use lists::Memory;
 use plain_lits::StepId;
 use std::alloc::Global;
 

@@ -1,6 +1,6 @@
 //! Why an event wasn't taken.
 
-use plain_lists::Memory as OutOfMemory;
+use lists::Memory as OutOfMemory;
 
 /// Why an event wasn't taken: the core has no such step, or memory was refused.
 #[derive(Clone, Copy, Debug, PartialEq, Eq)]

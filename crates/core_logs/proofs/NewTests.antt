@@ -2,8 +2,8 @@
 use Rattle.std.proofs.Common.{◌≡◌, ℕ, Bool, true, false, not, List, filter, length, refl, ap, sym, subst, ◌∙◌}
 use Rattle.std.specs.Prelude.{◌↔◌, IsTrue, IfOk, Contains, Result, Ok, Err}
 use Rattle.std.proofs.lemmas.Bool.{false≢true}
-use Rattle.plain_lists.specs.declared.memory.Memory.{Memory}
-use Rattle.plain_lists.proofs.Filters.{Contains-filter}
+use Rattle.lists.specs.declared.memory.Memory.{Memory}
+use Rattle.lists.proofs.Filters.{Contains-filter}
 use Rattle.plain_lits.specs.HintCheck.{Checks}
 use Rattle.plain_lits.proofs.HintCheckLemmas.{Contains-from_mapped, Contains-mapped}
 use Rattle.meaning_atoms.specs.declared.atom.AtomLit.{AtomLit}

@@ -12,7 +12,7 @@ use crate::literals::{has, has_opposite, is_part, is_tautology, opposite};
 use crate::steps::{CoreStep, clause_at, is_closing_at, is_number};
 use meaning_atoms::AtomLit;
 use meaning_atoms::laws::literals_are_equal;
-use plain_lists::Memory;
+use lists::Memory;
 use plain_lits::StepId;
 use std::alloc::Global;
 

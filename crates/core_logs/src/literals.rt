@@ -12,7 +12,7 @@ ghost use Rattle.core_logs.specs.Tests.{AsksNone, IsAffirmed, IsOfMember, TellAl
 
 use meaning_atoms::laws::literals_are_equal;
 use meaning_atoms::{Atom, AtomLit};
-use plain_lists::{Items, Memory};
+use lists::{Items, Memory};
 use semantics::is_argument;
 use std::alloc::Global;
 

@@ -3,7 +3,7 @@
 ghost use Rattle.std.specs.Prelude.{◌≡◌, ◌↔◌, ◌<◌, [], ◌∷◌, ◌++◌, IsTrue, OnErr, OnOk, length};
 
 use crate::steps::{CoreSide, CoreStep};
-use plain_lists::Memory;
+use lists::Memory;
 use std::alloc::Global;
 use std::marker::Model;
 

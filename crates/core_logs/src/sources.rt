@@ -10,7 +10,7 @@ use crate::steps::{CoreStep, StepSource};
 use certificate_claims::clause_of_axiom;
 use meaning_atoms::{AbaAxiom, AtomLit, AxiomName};
 use oracle_face::EntryName;
-use plain_lists::Memory;
+use lists::Memory;
 use std::alloc::Global;
 
 /// Whether a step is the axiom's.

@@ -6,7 +6,7 @@ ghost use Rattle.core_logs.specs.Sources.{source_of};
 
 use meaning_atoms::{AtomLit, AxiomName};
 use oracle_face::EntryName;
-use plain_lists::Items;
+use lists::Items;
 use plain_lits::StepId;
 use set_lists::NumSet;
 use std::marker::Model;

@@ -11,7 +11,7 @@ use crate::log::CoreLog;
 use crate::steps::{CoreSide, CoreStep, StepSource};
 use meaning_atoms::{AtomLit, AxiomName};
 use oracle_face::{AskId, EntryName};
-use plain_lists::{Items, Memory};
+use lists::{Items, Memory};
 use plain_lits::StepId;
 use set_lists::NumSet;
 use std::alloc::Global;

@@ -14,9 +14,9 @@ use Rattle.iccma_tasks.specs.Tasks.{Asked}
 use Rattle.iccma_tasks.specs.declared.answer.Answer.{Answer}
 use Rattle.certificate_claims.specs.Refutations.{IsAxiomOf}
 use Rattle.certificate_claims.specs.Rights.{IsRight}
-use Rattle.edit_words.specs.declared.edit.Edit.{Edit}
-use Rattle.edit_words.specs.declared.effect.Effect.{Effect}
-use Rattle.edit_words.specs.declared.effect.EditFault.{EditFault}
+use Rattle.edit_rules.specs.declared.edit.Edit.{Edit}
+use Rattle.edit_rules.specs.declared.effect.Effect.{Effect}
+use Rattle.edit_rules.specs.declared.effect.EditFault.{EditFault}
 use Rattle.edit_rules.specs.Edits.{edit_outcome}
 use Rattle.edit_rules.specs.Kinds.{kind_of}
 use Rattle.edit_rules.specs.Replay.{AreTaken, after_edit, left_by, replay}
@@ -38,10 +38,10 @@ use Rattle.session_log.proofs.Showing.{shown_answer_right}
 use Rattle.session_log.proofs.Spending.{axiom_entry_spends}
 use Rattle.session_log.proofs.Staying.{axiom_stays, axiom_step_stays, derived_stays, opened_guarded, side_stays}
 use Rattle.session_log.proofs.StepWorlds.{step_shared, step_true}
-use Rattle.clause_imports.specs.Imports.{IsShownHere}
-use Rattle.clause_imports.proofs.Taking.{entry_spends, entry_stays}
-use Rattle.log_refutations.specs.Accepted.{HasAccepted}
-use Rattle.log_refutations.proofs.Existing.{shown_is_accepted}
+use Rattle.session_log.specs.Imports.{IsShownHere}
+use Rattle.session_log.proofs.Taking.{entry_spends, entry_stays}
+use Rattle.certificate_making.specs.Accepted.{HasAccepted}
+use Rattle.certificate_making.proofs.Existing.{shown_is_accepted}
 use Rattle.core_machine.specs.Core.{Core, CoreSession, IsOpened, put_at, seen_framework, with_log, with_session}
 use Rattle.core_machine.specs.Laws.{IsRun}
 use Rattle.core_machine.specs.Steps.{Event, IsStep, LearnsTo, Runs, Shares, TakesByOrigin, TakesFromPool, after_turn}

@@ -13,7 +13,7 @@ use Rattle.oracle_face.specs.Logs.{IsNumberOf}
 use Rattle.session_log.specs.Ends.{definite}
 use Rattle.session_log.specs.Steps.{Spends}
 use Rattle.session_log.specs.Truth.{IsTrueOfWorlds}
-use Rattle.log_refutations.specs.Accepted.{HasAccepted}
+use Rattle.certificate_making.specs.Accepted.{HasAccepted}
 use Rattle.core_machine.specs.Core.{Core, IsOpened, seen_framework}
 use Rattle.core_machine.specs.Steps.{Event, IsStep, Runs, answer, take_in}
 

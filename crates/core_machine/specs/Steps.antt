@@ -7,9 +7,9 @@ use Rattle.meaning_atoms.specs.declared.atom.AtomLit.{AtomLit}
 use Rattle.meaning_atoms.specs.declared.axiom.AxiomName.{AxiomName}
 use Rattle.meaning_atoms.specs.Literals.{AsksNothing}
 use Rattle.iccma_tasks.specs.Tasks.{Asked}
-use Rattle.edit_words.specs.declared.edit.Edit.{Edit}
-use Rattle.edit_words.specs.declared.effect.Effect.{Effect}
-use Rattle.edit_words.specs.declared.effect.EditFault.{EditFault}
+use Rattle.edit_rules.specs.declared.edit.Edit.{Edit}
+use Rattle.edit_rules.specs.declared.effect.Effect.{Effect}
+use Rattle.edit_rules.specs.declared.effect.EditFault.{EditFault}
 use Rattle.edit_rules.specs.Edits.{edit_outcome}
 use Rattle.edit_history.specs.declared.entry.Entry.{Entry}
 use Rattle.edit_history.specs.Entries.{framework_after}
@@ -24,8 +24,8 @@ use Rattle.oracle_face.specs.Logs.{OracleLog, LogStep, Source, by_axiom, by_side
 use Rattle.oracle_face.specs.Needed.{IsNeeded}
 use Rattle.session_log.specs.Ends.{Ending, IsEnd}
 use Rattle.session_log.specs.Steps.{GainsStep, LearnsClause, TakesSide, axiom_step}
-use Rattle.clause_imports.specs.Imports.{MayImport, TakesEntry}
-use Rattle.clause_imports.specs.OwnSteps.{LearnsAxiom, NamesAxiom}
+use Rattle.session_log.specs.Imports.{MayImport, TakesEntry}
+use Rattle.session_log.specs.OwnSteps.{LearnsAxiom, NamesAxiom}
 use Rattle.core_machine.specs.Core.{Core, put_at, seen_framework, with_log, with_session}
 
 -- what a session does

@@ -3,7 +3,7 @@
 ghost use Rattle.std.specs.Prelude.{◌≡◌, ◌<◌, ◌≤◌, IfSome, OnOk, length};
 
 use crate::heap::{sift_down, sift_up};
-use plain_lists::Memory;
+use lists::Memory;
 use plain_lits::Lit;
 use std::alloc::Global;
 use std::marker::Model;

@@ -1,7 +1,7 @@
 -- A framework's attacks from either end, with an attack more or less.
 use Rattle.std.proofs.Common.{◌≡◌, ℕ, List, ap, sym, subst, inl, inr, ⊎_elim, Result, Ok, Err}
 use Rattle.std.specs.Prelude.{Contains, OnErr, OnOk}
-use Rattle.plain_lists.specs.declared.memory.Memory.{Memory}
+use Rattle.lists.specs.declared.memory.Memory.{Memory}
 use Rattle.attack_index.specs.semantics.specs.Framework.{Af}
 use Rattle.attack_index.specs.semantics.specs.Frameworks.{IsNumberedAf}
 use Rattle.attack_index.specs.Changes.{GainsPair, LosesPair}

@@ -2,7 +2,7 @@
 use Rattle.std.proofs.Common.{◌≡◌, ℕ, List, eqb}
 use Rattle.std.specs.Prelude.{Contains, ◌↔◌, filter, true}
 use Rattle.std.proofs.lemmas.Bool.{eq-eqb, eqb-true}
-use Rattle.plain_lists.proofs.Filters.{Contains-filter}
+use Rattle.lists.proofs.Filters.{Contains-filter}
 use Rattle.attack_index.specs.Offsets.{IndexedPairs}
 use Rattle.attack_index.proofs.OffsetLemmas.{PairsRise-filter}
 use Rattle.attack_index.specs.semantics.specs.Framework.{Af}

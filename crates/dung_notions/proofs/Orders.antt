@@ -2,7 +2,7 @@
 use Rattle.std.proofs.Common.{◌≡◌, ℕ, ◌+◌, ◌<◌, List, length, get_or, take, arith, sym, ◌∙◌, zero, suc}
 use Rattle.std.specs.Prelude.{Contains}
 use Rattle.std.proofs.lemmas.List.{length-take, get_or-take, get_or_default}
-use Rattle.plain_lists.specs.Members.{IsWithin}
+use Rattle.lists.specs.Members.{IsWithin}
 use Rattle.attack_index.specs.semantics.specs.Framework.{Af, Attacks, Defends, IsComplete, IsGrounded}
 use Rattle.dung_notions.specs.Grounding.{EntersAfterDefenders}
 

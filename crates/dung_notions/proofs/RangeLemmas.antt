@@ -3,9 +3,9 @@ use Rattle.std.proofs.Common.{◌≡◌, ◌+◌, ◌<◌, ◌≤◌, ℕ, List,
 use Rattle.std.specs.Prelude.{◌↔◌, ◌⊎◌, Contains}
 use Rattle.std.proofs.lemmas.List.{take_more, take_all}
 use Rattle.std.proofs.lemmas.List.Elements.{Contains-push_cases, Contains-append_left, Contains-push}
-use Rattle.plain_lists.proofs.Membership.{Contains-nil}
+use Rattle.lists.proofs.Membership.{Contains-nil}
 use Rattle.attack_index.specs.semantics.specs.Framework.{Af, IsAttackedBy, IsInRange}
-use Rattle.plain_lists.specs.Members.{IsSetOf}
+use Rattle.lists.specs.Members.{IsSetOf}
 use Rattle.dung_notions.specs.Neighbours.{ListsTargets}
 use Rattle.dung_notions.specs.Ranges.{GainsTargets}
 

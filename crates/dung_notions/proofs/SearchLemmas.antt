@@ -7,8 +7,8 @@ use Rattle.std.proofs.lemmas.List.{length-set, length-replicate, length-append, 
 use Rattle.std.proofs.lemmas.List.Elements.{Contains-append_cases, Contains-append_left, Contains-push, Contains-push_cases, Contains-get_or}
 use Rattle.std.proofs.lemmas.List.Kept.{AllPairs-from_increasing, IsStrictlyIncreasing-filter}
 use Rattle.std.proofs.lemmas.List.Sums.{sum_by-set}
-use Rattle.plain_lists.specs.Members.{IsWithin}
-use Rattle.plain_lists.proofs.Membership.{Contains-head, Contains-tail}
+use Rattle.lists.specs.Members.{IsWithin}
+use Rattle.lists.proofs.Membership.{Contains-head, Contains-tail}
 use Rattle.attack_index.specs.semantics.specs.Framework.{Af, IsAf, Attacks, IsAttackedBy, Defends}
 use Rattle.dung_notions.specs.Grounding.{EntersAfterDefenders, GroundsInOrder}
 use Rattle.dung_notions.specs.Search.{
@@ -23,9 +23,9 @@ use Rattle.dung_notions.specs.Search.{
   PutsOut,
   IsFinished,
 }
-use Rattle.plain_lists.proofs.Filters.{Contains-filter}
+use Rattle.lists.proofs.Filters.{Contains-filter}
 use Rattle.dung_notions.proofs.Orders.{member_at, at_member, IsGrounded-order, IsGrounded-same}
-use Rattle.plain_lists.proofs.Counts.{none_passes, none_counted}
+use Rattle.lists.proofs.Counts.{none_passes, none_counted}
 use Rattle.dung_notions.proofs.UndefeatedLemmas.{
   open_at_first,
   open_when_marked,

@@ -4,7 +4,7 @@ use Rattle.std.specs.Prelude.{filter, All}
 use Rattle.std.proofs.lemmas.Bool.{eq-eqb, ne_eqb, cases_eq}
 use Rattle.std.proofs.lemmas.List.{get_or-set_same, get_or-set_other, get_or-replicate}
 use Rattle.std.proofs.lemmas.List.Sums.{sum_by-append}
-use Rattle.plain_lists.proofs.Counts.{count_by-cons, count_yes, count_no, count_agree}
+use Rattle.lists.proofs.Counts.{count_by-cons, count_yes, count_no, count_agree}
 use Rattle.dung_notions.specs.Search.{is_out, count_undefeated, reaching}
 
 and_true : (b : Bool) → (b && true) ≡ b

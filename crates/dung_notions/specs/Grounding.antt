@@ -1,6 +1,6 @@
 -- The grounded set, and an order in which its arguments enter.
 use Rattle.std.specs.Prelude.{◌≢◌, ℕ, ◌<◌, List, Contains, length, slice_index, take}
-use Rattle.plain_lists.specs.Members.{IsSetOf}
+use Rattle.lists.specs.Members.{IsSetOf}
 use Rattle.attack_index.specs.semantics.specs.Framework.{Af, Defends, IsGrounded}
 
 -- each argument of the order is live, and defended by those before it

@@ -5,7 +5,7 @@ ghost use Rattle.attack_index.specs.Changes.{GainsPair, LosesPair};
 ghost use Rattle.dung_notions.specs.Storage.{AreTwoWays};
 
 use attack_index::AttackBlocks;
-use plain_lists::Memory;
+use lists::Memory;
 
 /// Adds a pair to an index and, the other way round, to the other, unless it is there. Where the second has no room, the
 /// first gives it back.

@@ -8,7 +8,7 @@ ghost use Rattle.dung_notions.specs.Grounding.{GroundsInOrder};
 ghost use Rattle.dung_notions.specs.Search.{Defeats, IsAttackedFrom, IsFinished, IsSearchOf, ReleasesTarget, ReleasesTargets};
 
 use crate::af_plain::AfPlain;
-use plain_lists::{Items, Memory};
+use lists::{Items, Memory};
 use set_lists::NumSet;
 use std::alloc::Global;
 

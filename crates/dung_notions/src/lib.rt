@@ -10,5 +10,4 @@ mod range;
 mod written_out;
 
 pub use af_plain::AfPlain;
-pub use attack_index;
 pub use grounded::Grounded;

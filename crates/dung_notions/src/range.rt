@@ -1,12 +1,12 @@
 //! The range of a set of arguments.
 
 ghost use Rattle.std.specs.Prelude.{IfOk, OnOk};
-ghost use Rattle.plain_lists.specs.Members.{IsSetOf};
+ghost use Rattle.lists.specs.Members.{IsSetOf};
 ghost use Rattle.attack_index.specs.semantics.specs.Framework.{IsInRange};
 ghost use Rattle.dung_notions.specs.Ranges.{GainsTargets};
 
 use crate::af_plain::AfPlain;
-use plain_lists::Memory;
+use lists::Memory;
 use set_lists::NumSet;
 use std::alloc::Global;
 

@@ -1,13 +1,13 @@
 //! Frameworks from lists that are written out.
 
 ghost use Rattle.std.specs.Prelude.{◌↔◌, ℕ, Contains, IfOk, IsTrue, OnOk};
-ghost use Rattle.plain_lists.specs.Members.{IsSetOf};
+ghost use Rattle.lists.specs.Members.{IsSetOf};
 ghost use Rattle.attack_index.specs.semantics.specs.Arguments.{IsArgument};
 ghost use Rattle.dung_notions.specs.WrittenOut.{HasAdded, IsBetween};
 
 use crate::af_plain::AfPlain;
-use attack_index::semantics::is_argument;
-use plain_lists::Memory;
+use semantics::is_argument;
+use lists::Memory;
 use set_lists::NumSet;
 use std::alloc::Global;
 

@@ -8,12 +8,12 @@ use Rattle.std.proofs.lemmas.List.{length-append, length-map, map-append}
 use Rattle.std.proofs.lemmas.List.Elements.{All-from_recursion}
 use Rattle.turn_lock.specs.Turns.{Continues}
 use Rattle.semantics.specs.Frameworks.{Framework, af, aba}
-use Rattle.edit_words.specs.declared.edit.Edit.{Edit}
-use Rattle.edit_words.specs.declared.edit.Edit.TheVariants.{ArgAdd, ArgDrop, AttackAdd, AttackDrop}
-use Rattle.edit_words.specs.declared.edit.Edit.TheVariants.{AsmAdd, AsmDrop, ConSet, RuleAdd, RuleDrop}
-use Rattle.edit_words.specs.declared.effect.Effect.{Effect}
-use Rattle.edit_words.proofs.RefusalLemmas.{done_row}
-use Rattle.aba_edits.specs.AbaEdits.{AbaRow, assumption_added, assumption_dropped, contrary_set, rule_added, rule_dropped}
+use Rattle.edit_rules.specs.declared.edit.Edit.{Edit}
+use Rattle.edit_rules.specs.declared.edit.Edit.TheVariants.{ArgAdd, ArgDrop, AttackAdd, AttackDrop}
+use Rattle.edit_rules.specs.declared.edit.Edit.TheVariants.{AsmAdd, AsmDrop, ConSet, RuleAdd, RuleDrop}
+use Rattle.edit_rules.specs.declared.effect.Effect.{Effect}
+use Rattle.edit_rules.proofs.RefusalLemmas.{done_row}
+use Rattle.edit_rules.specs.AbaEdits.{AbaRow, assumption_added, assumption_dropped, contrary_set, rule_added, rule_dropped}
 use Rattle.edit_rules.specs.Edits.{Row, any_row, edit_outcome, outcome_in, row_outcome}
 use Rattle.edit_rules.specs.Edits.{argument_added, argument_dropped, attack_added, attack_dropped}
 use Rattle.edit_rules.specs.Replay.{after_edit, left_by, replay}

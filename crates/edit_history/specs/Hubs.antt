@@ -2,8 +2,8 @@
 use Rattle.std.specs.Prelude.{◌≡◌, ℕ, ◌<◌, ◌≤◌, List, All, Contains, length, take, drop}
 use mathlib.Core.List.{IsPrefix}
 use Rattle.semantics.specs.Frameworks.{Framework}
-use Rattle.edit_words.specs.declared.edit.Edit.{Edit}
-use Rattle.edit_words.specs.declared.effect.Effect.{Effect}
+use Rattle.edit_rules.specs.declared.edit.Edit.{Edit}
+use Rattle.edit_rules.specs.declared.effect.Effect.{Effect}
 use Rattle.edit_rules.specs.declared.framework.Framework.{Framework as Held}
 use Rattle.edit_rules.specs.Kinds.{framework_of}
 use Rattle.turn_lock.specs.declared.board.Turned.{Ghosts}

@@ -10,7 +10,7 @@ use crate::entry::{Change, copy_effect};
 use crate::fault::CommitFault;
 use crate::journal::Journal;
 use edit_rules::{Edit, EditFault, Effect, Framework, apply};
-use plain_lists::{Items, Memory};
+use lists::{Items, Memory};
 use std::alloc::Global;
 
 /// What an edit does that makes an attack come or go. It takes no memory.

@@ -1,7 +1,7 @@
 //! Why a commit adds nothing to the history.
 
 use edit_rules::EditFault;
-use plain_lists::Memory;
+use lists::Memory;
 use std::alloc::{AllocError, AllocFailed};
 
 /// Why an edit is not in the history, which is as it was but for what other sessions added. Each front is its length.

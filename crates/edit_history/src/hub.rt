@@ -11,7 +11,7 @@ use crate::entry::Change;
 use crate::fault::CommitFault;
 use crate::journal::Journal;
 use edit_rules::{Edit, Effect, Framework};
-use plain_lists::{Items, Memory};
+use lists::{Items, Memory};
 use std::alloc::Global;
 use std::sync::Wait;
 use turn_lock::TurnLock;

@@ -1,14 +1,14 @@
 -- The outcome of an edit of an assumption-based framework, as one of any framework.
 use Rattle.std.proofs.Common.{Result, Ok, Err, ◌≡◌, Bool, true, false, List, [], ◌∷◌, Option, Some, None, IfOk, refl, ap, ◌∙◌, ⊎_elim, inl, inr}
 use Rattle.std.specs.Prelude.{◌⊎◌, if◌then◌else◌, IfErr}
-use Rattle.aba_semantics.specs.AbaFrameworks.{Aba}
+use Rattle.semantics.specs.AbaFrameworks.{Aba}
 use Rattle.semantics.specs.Frameworks.{Framework, aba}
-use Rattle.aba_edits.specs.edit_words.specs.declared.edit.Edit.{Edit}
-use Rattle.aba_edits.specs.edit_words.specs.declared.effect.Effect.{Effect}
-use Rattle.aba_edits.specs.edit_words.specs.declared.effect.EditFault.{EditFault}
-use Rattle.aba_edits.specs.edit_words.specs.declared.effect.EditFault.TheVariants.{Memory}
-use Rattle.aba_edits.specs.edit_words.specs.Refusals.{Refusal, done_unless}
-use Rattle.aba_edits.specs.AbaEdits.{AbaRow, aba_row, aba_outcome, aba_outcome_in}
+use Rattle.edit_rules.specs.declared.edit.Edit.{Edit}
+use Rattle.edit_rules.specs.declared.effect.Effect.{Effect}
+use Rattle.edit_rules.specs.declared.effect.EditFault.{EditFault}
+use Rattle.edit_rules.specs.declared.effect.EditFault.TheVariants.{Memory}
+use Rattle.edit_rules.specs.Refusals.{Refusal, done_unless}
+use Rattle.edit_rules.specs.AbaEdits.{AbaRow, aba_row, aba_outcome, aba_outcome_in}
 use Rattle.edit_rules.specs.declared.framework.Framework.{Framework as Held}
 use Rattle.edit_rules.specs.declared.framework.Framework.TheVariants.{Aba as HeldAba}
 use Rattle.edit_rules.specs.Kinds.{framework_of}

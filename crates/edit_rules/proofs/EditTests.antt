@@ -3,11 +3,11 @@ use Rattle.std.proofs.Common.{◌≡◌, ◌<◌, ◌≤◌, ℕ, true, false, n
 use Rattle.std.specs.Prelude.{◌⊎◌, ◌&&◌, ◌==◌, Contains, nat_lt, nat_le}
 use Rattle.std.proofs.lemmas.Bool.{false≢true, eqb-true, eq-eqb, ltb-true, lt-ltb, not-false, not_from_false, not_from_true, cases_lt}
 use Rattle.std.proofs.lemmas.Bool.Decides.{leb_tells}
-use Rattle.plain_lists.proofs.ListTests.{any_gives, any_from}
+use Rattle.lists.proofs.ListTests.{any_gives, any_from}
 use Rattle.semantics.specs.Arguments.{IsArgument}
 use Rattle.semantics.specs.declared.argument.TheConstants.{LAST_ARGUMENT}
 use Rattle.semantics.specs.Framework.{IsPairBefore}
-use Rattle.aba_edits.specs.edit_words.proofs.EditTests.{both_from, both_gives, either_gives, either_left, either_right, is_false, same_pair}
+use Rattle.edit_rules.proofs.EditWordTests.{both_from, both_gives, either_gives, either_left, either_right, is_false, same_pair}
 use Rattle.edit_rules.specs.Edits.{has_pair, is_before}
 
 pub pair_there : (ps : List (ℕ × ℕ)) (p : ℕ × ℕ) → has_pair ps p ≡ true → Contains ps p

@@ -4,3 +4,15 @@ pub mod RowForms
 pub mod RowOutcomes
 pub mod AbaOutcomes
 pub mod ReplayLemmas
+pub mod RisingLists
+pub mod EditWordTests
+pub mod NumberLists
+pub mod RefusalLemmas
+pub mod ContraryLists
+pub mod AbaRowForms
+pub mod MadeFrameworks
+pub mod RuleLists
+pub mod TestLemmas
+pub mod BehindLemmas
+pub mod LawLemmas
+pub mod DetermineLemmas

@@ -3,30 +3,30 @@ use Rattle.std.proofs.Common.{Result, Ok, Err, ◌≡◌, true, false, Bool, Lis
 use Rattle.std.specs.Prelude.{Contains, ◌==◌, ◌&&◌, ◌<◌, is_ok}
 use Rattle.std.proofs.lemmas.Bool.{false≢true, cond_both, not-false, eqb-true}
 use Rattle.std.proofs.lemmas.List.Kept.{AllPairs-from_increasing}
-use Rattle.plain_lists.proofs.Filters.{Contains-filter}
+use Rattle.lists.proofs.Filters.{Contains-filter}
 use Rattle.semantics.specs.Framework.{Af}
-use Rattle.aba_semantics.specs.AbaFrameworks.{Aba, IsNumberedAba}
+use Rattle.semantics.specs.AbaFrameworks.{Aba, IsNumberedAba}
 use Rattle.semantics.specs.Frameworks.{Framework, af, aba, IsNumbered, IsNumberedAf}
-use Rattle.aba_edits.specs.edit_words.specs.declared.edit.Edit.{Edit}
-use Rattle.aba_edits.specs.edit_words.specs.declared.edit.Edit.TheVariants.{ArgAdd, ArgDrop, AttackAdd, AttackDrop, AsmAdd, AsmDrop, ConSet, RuleAdd, RuleDrop}
-use Rattle.aba_edits.specs.edit_words.specs.declared.effect.Effect.{Effect}
-use Rattle.aba_edits.specs.edit_words.specs.declared.effect.EditFault.{EditFault}
-use Rattle.aba_edits.specs.edit_words.specs.Numbers.{has_number}
-use Rattle.aba_edits.specs.edit_words.specs.Refusals.{Refusal, done_unless}
+use Rattle.edit_rules.specs.declared.edit.Edit.{Edit}
+use Rattle.edit_rules.specs.declared.edit.Edit.TheVariants.{ArgAdd, ArgDrop, AttackAdd, AttackDrop, AsmAdd, AsmDrop, ConSet, RuleAdd, RuleDrop}
+use Rattle.edit_rules.specs.declared.effect.Effect.{Effect}
+use Rattle.edit_rules.specs.declared.effect.EditFault.{EditFault}
+use Rattle.edit_rules.specs.Numbers.{has_number}
+use Rattle.edit_rules.specs.Refusals.{Refusal, done_unless}
 use Rattle.edit_rules.specs.Edits.{edit_outcome, has_pair, is_end, with_pair, argument_added, argument_dropped, attack_added, attack_dropped}
 use Rattle.edit_rules.specs.Kinds.{kind_of}
 use Rattle.edit_rules.specs.Replay.{after_edit, left_by, replay}
-use Rattle.aba_edits.specs.edit_words.proofs.EditTests.{absent, both_gives, same_pair, number_there}
+use Rattle.edit_rules.proofs.EditWordTests.{absent, both_gives, same_pair, number_there}
 use Rattle.edit_rules.proofs.EditTests.{pair_there, there_pair, within_bounds}
-use Rattle.aba_edits.specs.edit_words.proofs.RisingLists.{numbers_asymmetric, same_lists}
-use Rattle.aba_edits.specs.edit_words.proofs.NumberLists.{equal_members, from_parts, without_number}
-use Rattle.aba_edits.specs.edit_words.proofs.RefusalLemmas.{EachPasses, done_passes}
+use Rattle.edit_rules.proofs.RisingLists.{numbers_asymmetric, same_lists}
+use Rattle.edit_rules.proofs.NumberLists.{equal_members, from_parts, without_number}
+use Rattle.edit_rules.proofs.RefusalLemmas.{EachPasses, done_passes}
 use Rattle.edit_rules.proofs.RowForms.{with_argument_form, without_argument_form, with_attack_form, without_attack_form, with_pair_members}
 use Rattle.edit_rules.proofs.SameFrameworks.{same_framework}
 use Rattle.edit_rules.proofs.AbaOutcomes.{any_outcome, aba_edit_outcome}
-use Rattle.aba_edits.specs.AbaEdits.{aba_outcome}
-use Rattle.aba_edits.proofs.LawLemmas.{keeps_form}
-use Rattle.aba_edits.proofs.DetermineLemmas.{determined as aba_determined}
+use Rattle.edit_rules.specs.AbaEdits.{aba_outcome}
+use Rattle.edit_rules.proofs.LawLemmas.{keeps_form}
+use Rattle.edit_rules.proofs.DetermineLemmas.{determined as aba_determined}
 
 -- what holds of a framework, and of the one behind a row of which none stands, holds of what the row leaves
 after_row : (P : Framework → Type 0) (f : Framework) (rs : List Refusal) (done : Framework × Effect) → P f

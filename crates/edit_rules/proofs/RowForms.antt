@@ -5,15 +5,15 @@ use Rattle.std.specs.List.{AllPairs}
 use Rattle.std.proofs.lemmas.Bool.{true≢false, not-true, not_from_false}
 use Rattle.std.proofs.lemmas.List.Elements.{Contains-append_cases, Contains-append_left, Contains-append_right}
 use Rattle.std.proofs.lemmas.List.Kept.{AllPairs-filter, IsStrictlyIncreasing-filter}
-use Rattle.plain_lists.proofs.Filters.{Contains-filter}
-use Rattle.plain_lists.proofs.Membership.{Contains-head, Contains-tail, Contains-cons_cases}
+use Rattle.lists.proofs.Filters.{Contains-filter}
+use Rattle.lists.proofs.Membership.{Contains-head, Contains-tail, Contains-cons_cases}
 use Rattle.semantics.specs.Arguments.{IsArgument}
 use Rattle.semantics.specs.Framework.{Af, IsPairBefore}
 use Rattle.semantics.specs.Frameworks.{IsNumberedAf}
 use Rattle.edit_rules.specs.Edits.{af_with_argument, af_with_attack, is_before, is_end, with_pair}
-use Rattle.aba_edits.specs.edit_words.proofs.RisingLists.{middle_rises, pairs_through}
-use Rattle.aba_edits.specs.edit_words.proofs.NumberLists.{with_number_members, with_number_rises}
-use Rattle.aba_edits.specs.edit_words.proofs.EditTests.{either_left, either_right, is_false}
+use Rattle.edit_rules.proofs.RisingLists.{middle_rises, pairs_through}
+use Rattle.edit_rules.proofs.NumberLists.{with_number_members, with_number_rises}
+use Rattle.edit_rules.proofs.EditWordTests.{either_left, either_right, is_false}
 use Rattle.edit_rules.proofs.EditTests.{before_true, true_before, pair_cases}
 
 pub with_pair_rises : (p : ℕ × ℕ) (ps : List (ℕ × ℕ)) → AllPairs IsPairBefore ps

@@ -2,9 +2,9 @@
 use Rattle.std.proofs.Common.{Result, Ok, Err, ◌≡◌, true, false, List, [], ◌∷◌, ◌++◌, refl, ap, ◌∙◌}
 use Rattle.std.proofs.lemmas.List.{append_assoc}
 use Rattle.semantics.specs.Frameworks.{Framework}
-use Rattle.aba_edits.specs.edit_words.specs.declared.effect.Effect.{Effect}
-use Rattle.aba_edits.specs.edit_words.specs.declared.effect.EditFault.{EditFault}
-use Rattle.aba_edits.specs.edit_words.specs.Refusals.{Refusal, done_unless}
+use Rattle.edit_rules.specs.declared.effect.Effect.{Effect}
+use Rattle.edit_rules.specs.declared.effect.EditFault.{EditFault}
+use Rattle.edit_rules.specs.Refusals.{Refusal, done_unless}
 use Rattle.edit_rules.specs.Applying.{AreTold}
 
 -- a refusal that stands is told

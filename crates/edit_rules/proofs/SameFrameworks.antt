@@ -2,13 +2,13 @@
 use Rattle.std.proofs.Common.{Result, Ok, Err, IfOk, ◌≡◌, ℕ, List, Contains, ap, sym, subst, ◌∙◌, not, true}
 use Rattle.std.specs.Prelude.{◌↔◌, ◌≢◌, ◌&&◌, ◌==◌}
 use Rattle.std.proofs.lemmas.Bool.{eqb-true, eq-eqb, not-true, not_from_false, true≢false}
-use Rattle.plain_lists.proofs.Filters.{Contains-filter}
+use Rattle.lists.proofs.Filters.{Contains-filter}
 use Rattle.semantics.specs.Framework.{Af, IsAf, IsPairBefore}
 use Rattle.semantics.specs.Frameworks.{IsNumberedAf}
-use Rattle.aba_edits.specs.dung_notions.specs.Neighbours.{AreArguments, AreBetween}
-use Rattle.aba_edits.specs.attack_index.specs.Changes.{GainsPair, LosesPair}
-use Rattle.aba_edits.specs.edit_words.proofs.EditTests.{both_from, both_gives, is_false, same_pair}
-use Rattle.aba_edits.specs.edit_words.proofs.RisingLists.{pairs_asymmetric, same_lists}
+use Rattle.edit_rules.specs.dung_notions.specs.Neighbours.{AreArguments, AreBetween}
+use Rattle.edit_rules.specs.attack_index.specs.Changes.{GainsPair, LosesPair}
+use Rattle.edit_rules.proofs.EditWordTests.{both_from, both_gives, is_false, same_pair}
+use Rattle.edit_rules.proofs.RisingLists.{pairs_asymmetric, same_lists}
 use Rattle.edit_rules.specs.Edits.{af_with_attack, af_without_attack}
 use Rattle.edit_rules.proofs.RowForms.{with_attack_form, with_pair_members, without_attack_form}
 

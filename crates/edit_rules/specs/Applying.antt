@@ -2,10 +2,10 @@
 use Rattle.std.specs.Prelude.{◌≡◌, ◌⊎◌, List, ◌++◌, Result, Ok, Err}
 use Rattle.semantics.specs.Framework.{Af}
 use Rattle.semantics.specs.Frameworks.{Framework, af}
-use Rattle.aba_edits.specs.edit_words.specs.declared.effect.Effect.{Effect}
-use Rattle.aba_edits.specs.edit_words.specs.declared.effect.EditFault.{EditFault}
-use Rattle.aba_edits.specs.edit_words.specs.declared.effect.EditFault.TheVariants.{Memory}
-use Rattle.aba_edits.specs.edit_words.specs.Refusals.{Refusal, done_unless}
+use Rattle.edit_rules.specs.declared.effect.Effect.{Effect}
+use Rattle.edit_rules.specs.declared.effect.EditFault.{EditFault}
+use Rattle.edit_rules.specs.declared.effect.EditFault.TheVariants.{Memory}
+use Rattle.edit_rules.specs.Refusals.{Refusal, done_unless}
 
 -- the first of the refusals that stands is told, and none of them stands where the answer is Ok
 abbrev pub AreTold : {X : Type 0} → List Refusal → Result X EditFault → Type 0

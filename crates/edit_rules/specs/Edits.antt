@@ -8,15 +8,15 @@ use Rattle.std.specs.List.{list_any}
 use Rattle.semantics.specs.Framework.{Af}
 use Rattle.semantics.specs.Frameworks.{Framework, af, aba}
 use Rattle.semantics.specs.declared.argument.TheConstants.{LAST_ARGUMENT}
-use Rattle.aba_edits.specs.edit_words.specs.declared.edit.Edit.{Edit}
-use Rattle.aba_edits.specs.edit_words.specs.declared.edit.Edit.TheVariants.{ArgAdd, ArgDrop, AttackAdd, AttackDrop, AsmAdd, AsmDrop, ConSet, RuleAdd, RuleDrop}
-use Rattle.aba_edits.specs.edit_words.specs.declared.effect.Effect.{Effect}
-use Rattle.aba_edits.specs.edit_words.specs.declared.effect.EditFault.{EditFault}
-use Rattle.aba_edits.specs.edit_words.specs.declared.effect.EditFault.TheVariants.{WrongKind, OutOfRange, ArgumentIsThere, UnknownArgument, AttackIsThere, NoSuchAttack}
-use Rattle.aba_edits.specs.edit_words.specs.Refusals.{Refusal, refused_if, done_unless}
-use Rattle.aba_edits.specs.edit_words.specs.Numbers.{has_number, with_number}
-use Rattle.aba_edits.specs.edit_words.specs.Effects.{plain_effect}
-use Rattle.aba_edits.specs.AbaEdits.{AbaRow, aba_row}
+use Rattle.edit_rules.specs.declared.edit.Edit.{Edit}
+use Rattle.edit_rules.specs.declared.edit.Edit.TheVariants.{ArgAdd, ArgDrop, AttackAdd, AttackDrop, AsmAdd, AsmDrop, ConSet, RuleAdd, RuleDrop}
+use Rattle.edit_rules.specs.declared.effect.Effect.{Effect}
+use Rattle.edit_rules.specs.declared.effect.EditFault.{EditFault}
+use Rattle.edit_rules.specs.declared.effect.EditFault.TheVariants.{WrongKind, OutOfRange, ArgumentIsThere, UnknownArgument, AttackIsThere, NoSuchAttack}
+use Rattle.edit_rules.specs.Refusals.{Refusal, refused_if, done_unless}
+use Rattle.edit_rules.specs.Numbers.{has_number, with_number}
+use Rattle.edit_rules.specs.Effects.{plain_effect}
+use Rattle.edit_rules.specs.AbaEdits.{AbaRow, aba_row}
 
 -- the row of an edit: its refusals in their order, and what it does where none stands
 pub record Row : Type 0 where

@@ -1,7 +1,7 @@
 -- Which queries fit a framework, and why one doesn't.
 use Rattle.std.specs.Prelude.{◌≡◌, ℕ, List, codes, Contains, Option, Some, None}
 use Rattle.semantics.specs.Frameworks.{Framework, af, aba}
-use Rattle.aba_semantics.specs.AbaFrameworks.{IsAtom}
+use Rattle.semantics.specs.AbaFrameworks.{IsAtom}
 use Rattle.iccma_tasks.specs.Tasks.{Asked, IsTaskOf}
 use Rattle.edit_rules.specs.Kinds.{kind_of}
 use Rattle.edit_rules.specs.declared.query_fault.QueryFault.{QueryFault}

@@ -1,8 +1,8 @@
 -- What edits keep, and what an effect tells.
 use Rattle.std.specs.Prelude.{◌≡◌, List, Ok}
 use Rattle.semantics.specs.Frameworks.{Framework, IsNumbered}
-use Rattle.aba_edits.specs.edit_words.specs.declared.edit.Edit.{Edit}
-use Rattle.aba_edits.specs.edit_words.specs.declared.effect.Effect.{Effect}
+use Rattle.edit_rules.specs.declared.edit.Edit.{Edit}
+use Rattle.edit_rules.specs.declared.effect.Effect.{Effect}
 use Rattle.edit_rules.specs.Edits.{edit_outcome}
 use Rattle.edit_rules.specs.Kinds.{kind_of}
 use Rattle.edit_rules.specs.Replay.{replay}

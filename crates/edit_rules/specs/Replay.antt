@@ -1,9 +1,9 @@
 -- A framework after a list of edits.
 use Rattle.std.specs.Prelude.{◌≡◌, List, [], ◌∷◌, Result, Ok, Err}
 use Rattle.semantics.specs.Frameworks.{Framework}
-use Rattle.aba_edits.specs.edit_words.specs.declared.edit.Edit.{Edit}
-use Rattle.aba_edits.specs.edit_words.specs.declared.effect.Effect.{Effect}
-use Rattle.aba_edits.specs.edit_words.specs.declared.effect.EditFault.{EditFault}
+use Rattle.edit_rules.specs.declared.edit.Edit.{Edit}
+use Rattle.edit_rules.specs.declared.effect.Effect.{Effect}
+use Rattle.edit_rules.specs.declared.effect.EditFault.{EditFault}
 use Rattle.edit_rules.specs.Edits.{edit_outcome}
 
 -- the framework that an outcome leaves: an edit that is refused leaves it as it was

@@ -5,11 +5,11 @@ ghost use Rattle.semantics.specs.Frameworks.{IsNumbered};
 ghost use Rattle.edit_rules.specs.Kinds.{framework_of, kind_of};
 ghost use Rattle.edit_rules.specs.Fitting.{IsKnown};
 
-use aba_edits::aba_notions::AbaPlain;
-use aba_edits::copy_aba;
-use aba_edits::dung_notions::AfPlain;
+use crate::aba_notions::AbaPlain;
+use crate::copy_aba;
+use crate::dung_notions::AfPlain;
 use iccma_tasks::Kind;
-use plain_lists::Memory;
+use lists::Memory;
 use std::alloc::Global;
 
 /// A framework of either kind.

@@ -8,7 +8,7 @@ use dung_notions::AfPlain;
 use edit_rules::{Edit, EditFault, Effect, Framework, apply};
 use meaning_atoms::AfAxiom::{A1, A2, A3, A4, A5, A6, A7, A8, A9, A10, A11, A12, A13};
 use meaning_atoms::{AfAxiom, AxiomName};
-use plain_lists::{Items, Memory};
+use lists::{Items, Memory};
 use std::alloc::Global;
 use std::process::Abort;
 use std::test::Fail;

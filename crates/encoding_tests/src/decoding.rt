@@ -5,7 +5,7 @@ use dung_notions::AfPlain;
 use meaning_atoms::Atom::{Ad, Ask, Attack, Cf, Gap, Live, Member, Range, Tail, Unmet};
 use meaning_atoms::{Atom, AtomLit, END};
 use oracle_face::Encoding;
-use plain_lists::Memory;
+use lists::Memory;
 use std::alloc::Global;
 use std::test::Fail;
 

@@ -5,7 +5,7 @@ use dung_notions::AfPlain;
 use meaning_atoms::AfAxiom::{A1, A2, A3, A4, A5, A6, A7, A8, A9, A10, A11, A12, A13, A14};
 use meaning_atoms::{AfAxiom, AxiomName};
 use oracle_face::Encoding;
-use plain_lists::Memory;
+use lists::Memory;
 use std::alloc::Global;
 use std::test::Fail;
 

@@ -3,11 +3,11 @@
 use dung_notions::AfPlain;
 use edit_rules::Framework;
 use iccma_tasks::{Query, Task};
-use log_certificates::ReadLog;
+use certificate_making::ReadLog;
 use meaning_atoms::{AfAxiom, AxiomName};
 use oracle_core::Engine;
 use oracle_face::{ClauseTrade, Entry, EntryName, NoTrade};
-use plain_lists::Memory;
+use lists::Memory;
 use plain_lits::{Budget, StepId};
 use std::alloc::Global;
 use std::test::Fail;

@@ -9,7 +9,7 @@ use aba_format::read_aba;
 use dung_notions::AfPlain;
 use edit_rules::{Edit, EditFault, Effect, Framework, apply};
 use oracle_core::Engine;
-use plain_lists::{Items, Memory};
+use lists::{Items, Memory};
 use std::alloc::Global;
 use std::test::Fail;
 

@@ -5,8 +5,8 @@ use Rattle.std.proofs.lemmas.List.{get_or_append_left, get_or_push, get_or-take,
 use Rattle.oracle_face.specs.declared.entry.HintName.{HintName}
 use Rattle.oracle_face.specs.declared.entry.HintName.TheVariants.{Entry}
 use Rattle.oracle_face.specs.Logs.{LogStep, step_at}
-use Rattle.clause_imports.specs.Imports.{StandsFor, StandForSteps}
-use Rattle.clause_imports.proofs.Naming.{names_single}
+use Rattle.session_log.specs.Imports.{StandsFor, StandForSteps}
+use Rattle.session_log.proofs.Naming.{names_single}
 use Rattle.atom_solver.specs.Imported.{IsPlain}
 use Rattle.entry_taking.specs.Taking.{IsFirst}
 

@@ -1,13 +1,13 @@
 -- What a log gains by an entry, and why it gains nothing.
 use Rattle.std.proofs.Common.{◌≡◌, ℕ, ◌<◌, List, length, take, ap, sym, subst, ◌∙◌, refl, arith, inl, inr, ⊎_elim, false, not, filter}
 use Rattle.std.specs.Prelude.{Contains, Bool, true, Option, Some, None, Result, Ok, Err, OnOk, OnErr, slice_index_or, IsSome}
-use Rattle.plain_lists.specs.declared.memory.Memory.{Memory}
+use Rattle.lists.specs.declared.memory.Memory.{Memory}
 use Rattle.plain_lits.specs.declared.halt.Halt.{Halt}
 use Rattle.plain_lits.specs.declared.halt.Halt.TheVariants.{Spent, LogFull, Memory as OfMemory}
 use Rattle.std.proofs.lemmas.Bool.{false≢true}
 use Rattle.std.proofs.lemmas.List.{get_or_default}
 use Rattle.std.proofs.lemmas.List.Elements.{Contains-get_or, Contains-push}
-use Rattle.plain_lists.proofs.Filters.{Contains-filter}
+use Rattle.lists.proofs.Filters.{Contains-filter}
 use Rattle.plain_lits.specs.HintCheck.{Checks}
 use Rattle.plain_lits.proofs.HintCheckLemmas.{Contains-mapped}
 use Rattle.clause_watches.proofs.Fronts.{from_front}
@@ -31,8 +31,8 @@ use Rattle.session_log.specs.Steps.{GainsStep, Spends, StaysGuarded, derived_ste
 use Rattle.session_log.proofs.Spending.{axiom_spends}
 use Rattle.session_log.proofs.Staying.{axiom_stays}
 use Rattle.session_log.proofs.StepLemmas.{same_sides_grow}
-use Rattle.clause_imports.specs.Imports.{IsHintOf, IsShownHere, MayImport, StandsFor, StandForSteps, TakesEntry}
-use Rattle.clause_imports.proofs.Taking.{entry_spends, entry_stays, entry_used}
+use Rattle.session_log.specs.Imports.{IsHintOf, IsShownHere, MayImport, StandsFor, StandForSteps, TakesEntry}
+use Rattle.session_log.proofs.Taking.{entry_spends, entry_stays, entry_used}
 use Rattle.atom_solver.specs.Imported.{Imports, IsImported, IsRefused}
 use Rattle.atom_solver.specs.States.{AddsAxiom, AtomState, IsGuardedLog}
 use Rattle.entry_taking.specs.declared.names.StepName.TheVariants.{Axiom as OfAxiom, Entry as EntryOf}

@@ -13,8 +13,8 @@ use Rattle.oracle_face.specs.declared.entry.HintName.{HintName}
 use Rattle.oracle_face.specs.Entries.{IsShareable}
 use Rattle.oracle_face.specs.Kinds.{is_assumption_based}
 use Rattle.oracle_face.specs.Logs.{LogStep, IsNumberOf, by_axiom, clauses_of, step_at}
-use Rattle.clause_imports.specs.Imports.{IsHintOf, StandForSteps, StandsFor}
-use Rattle.clause_imports.specs.OwnSteps.{IsCalledOn, IsNamedByEntry, IsWanted, OwnStep, learns_axiom, takes_entry}
+use Rattle.session_log.specs.Imports.{IsHintOf, StandForSteps, StandsFor}
+use Rattle.session_log.specs.OwnSteps.{IsCalledOn, IsNamedByEntry, IsWanted, OwnStep, learns_axiom, takes_entry}
 use Rattle.atom_solver.specs.Imported.{Imports, IsImported}
 use Rattle.atom_solver.specs.States.{AddsAxiom, AtomState}
 use Rattle.atom_solver.proofs.EntryLemmas.{checks_same}

@@ -14,7 +14,7 @@ use Rattle.plain_lits.specs.Units.{Units}
 use Rattle.oracle_face.specs.Growing.{Grows, HasRun, NoSide}
 use Rattle.oracle_face.specs.Kinds.{is_assumption_based}
 use Rattle.oracle_face.specs.Logs.{OracleLog, IsSameClause, LogStep, HasPart, IsNumberOf, is_loop, step_at, working}
-use Rattle.clause_imports.specs.Imports.{IsCalled, IsShownHere, MayImport, StandForSteps, StandsFor}
+use Rattle.session_log.specs.Imports.{IsCalled, IsShownHere, MayImport, StandForSteps, StandsFor}
 use Rattle.entry_taking.specs.declared.names.StepNames.{StepNames}
 use Rattle.atom_solver.specs.States.{AtomState, IsGuardedLog}
 use Rattle.entry_taking.specs.declared.names.StepName.TheVariants.{Entry}

@@ -9,7 +9,7 @@ use crate::name_digest::digest_of;
 use atom_solver::{AtomSolver, Origin};
 use indexmap::IndexMap;
 use meaning_atoms::AxiomName;
-use plain_lists::Memory;
+use lists::Memory;
 use plain_lits::StepId;
 use std::alloc::Global;
 use std::hash::{Hash, Hasher};

@@ -9,7 +9,7 @@ ghost use Rattle.oracle_face.specs.Logs.{IsSameClause, is_loop};
 ghost use Rattle.oracle_face.specs.declared.entry.EntryOrigin.TheVariants.{Axiom, Hints};
 ghost use Rattle.oracle_face.specs.declared.entry.HintName.TheVariants.{Entry as OfEntry};
 ghost use Rattle.atom_solver.specs.Lifted.{imported_of};
-ghost use Rattle.clause_imports.specs.OwnSteps.{IsNamedByEntry, OwnStep};
+ghost use Rattle.session_log.specs.OwnSteps.{IsNamedByEntry, OwnStep};
 ghost use Rattle.entry_taking.specs.Names.{AreNamed};
 ghost use Rattle.entry_taking.specs.Taking.{AreFound, ComesIn, ComesInOrMayNot, GoesOn, IsCalledFirst, IsFound, IsKnown};
 ghost use Rattle.entry_taking.specs.Taking.{IsLooked, IsOfAxiom, IsOwn, MayCome, is_of_aba};
@@ -20,7 +20,7 @@ use certificate_claims::clause_of_axiom;
 use meaning_atoms::laws::literals_are_equal;
 use meaning_atoms::{AbaAxiom, AtomLit, AxiomName};
 use oracle_face::{Entry, EntryName, EntryOrigin, HintName};
-use plain_lists::{Items, Memory};
+use lists::{Items, Memory};
 use plain_lits::{Halt, StepId};
 use std::alloc::Global;
 

@@ -3,7 +3,7 @@ use Rattle.std.proofs.Common.{◌≡◌, ℕ, ◌+◌, ◌*◌, ◌<◌, false, 
 use Rattle.std.specs.Prelude.{Contains, slice_index_or, Option}
 use Rattle.std.proofs.lemmas.Bool.{false≢true}
 use Rattle.std.proofs.lemmas.List.{get_or_default}
-use Rattle.plain_lists.proofs.Membership.{Contains-nil}
+use Rattle.lists.proofs.Membership.{Contains-nil}
 use Rattle.plain_lits.specs.declared.halt.Halt.{Halt}
 use Rattle.plain_lits.specs.Units.{Units}
 use Rattle.semantics.specs.Frameworks.{Framework, af, aba}
@@ -38,19 +38,19 @@ use Rattle.oracle_face.proofs.GrowingLemmas.{Makes, run_as}
 use Rattle.oracle_face.proofs.Refuting.{claim_excluded}
 use Rattle.edit_rules.specs.Kinds.{kind_of}
 use Rattle.goal_lists.proofs.GoalKinds.{semi_stable_abstract}
-use Rattle.enumerate_preferred.specs.cegar_preferred.specs.Largest.{MadeOutside}
-use Rattle.enumerate_ranges.specs.enumerate_modes.specs.declared.with_mode.Listed.{Listed}
-use Rattle.enumerate_ranges.specs.enumerate_modes.specs.declared.with_mode.Listed.TheVariants.{Whole, TooMany as MoreThanListed}
-use Rattle.enumerate_ranges.specs.enumerate_modes.specs.Modes.{IsAllOf, IsAllOrMore as IsModeList, IsAmong, IsListMode, MadeDiffers}
-use Rattle.enumerate_ranges.specs.enumerate_modes.specs.Ordered.{HasMore}
-use Rattle.enumerate_ranges.specs.enumerate_modes.proofs.OrderedLemmas.{they_differ}
-use Rattle.enumerate_preferred.specs.Preferred.{IsAllPreferred, IsAllOrMore as IsPreferredList, IsShownLargest}
-use Rattle.enumerate_preferred.proofs.PreferredLemmas.{none_within}
-use Rattle.enumerate_ranges.specs.declared.ranges.Ranged.{Ranged}
-use Rattle.enumerate_ranges.specs.declared.ranges.Ranged.TheVariants.{Whole as WholeRanged, TooMany as MoreThanRanged}
-use Rattle.enumerate_ranges.specs.Ranges.{IsAllSemiStable, IsAllOrMore as IsRangedList, IsShownWidest, MadeForRanges}
-use Rattle.enumerate_ranges.proofs.RangeLemmas.{no_range_within}
-use Rattle.enumerate_ranges.proofs.StepLemmas.{refuted_first, refuted_none}
+use Rattle.enumerate_block.specs.cegar_preferred.specs.Largest.{MadeOutside}
+use Rattle.enumerate_block.specs.declared.with_mode.Listed.{Listed}
+use Rattle.enumerate_block.specs.declared.with_mode.Listed.TheVariants.{Whole, TooMany as MoreThanListed}
+use Rattle.enumerate_block.specs.Modes.{IsAllOf, IsAllOrMore as IsModeList, IsAmong, IsListMode, MadeDiffers}
+use Rattle.enumerate_block.specs.Ordered.{HasMore}
+use Rattle.enumerate_block.proofs.OrderedLemmas.{they_differ}
+use Rattle.enumerate_block.specs.Preferred.{IsAllPreferred, IsAllOrMore as IsPreferredList, IsShownLargest}
+use Rattle.enumerate_block.proofs.PreferredLemmas.{none_within}
+use Rattle.enumerate_block.specs.declared.ranges.Ranged.{Ranged}
+use Rattle.enumerate_block.specs.declared.ranges.Ranged.TheVariants.{Whole as WholeRanged, TooMany as MoreThanRanged}
+use Rattle.enumerate_block.specs.Ranges.{IsAllSemiStable, IsAllOrMore as IsRangedList, IsShownWidest, MadeForRanges}
+use Rattle.enumerate_block.proofs.RangeLemmas.{no_range_within}
+use Rattle.enumerate_block.proofs.StepLemmas.{refuted_first, refuted_none}
 use Rattle.enumerate_block.specs.Extensions.{AreExtensions, IsListOf, IsListTask, IsModeOf, IsShownOne, MadeForAll, asked_all, with_step, with_steps}
 use Rattle.enumerate_block.proofs.OneSet.{largest_shown, mode_shown, widest_shown}
 

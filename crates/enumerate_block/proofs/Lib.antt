@@ -1,2 +1,11 @@
 pub mod OneSet
 pub mod ExtensionLemmas
+pub mod ModeLemmas
+pub mod OrderedLemmas
+pub mod PreferredLemmas
+mod KnownRanges
+pub mod MarkLemmas
+pub mod WidthLemmas
+pub mod RangeLemmas
+pub mod StepLemmas
+pub mod WitnessLemmas

@@ -18,11 +18,11 @@ use Rattle.oracle_face.specs.Goals.{Refutes}
 use Rattle.oracle_face.specs.Kinds.{is_assumption_based}
 use Rattle.oracle_face.specs.Logs.{OracleLog}
 use Rattle.session_log.specs.Ends.{HasRefuting, some_asked}
-use Rattle.enumerate_preferred.specs.cegar_preferred.specs.Largest.{largest_claim}
-use Rattle.enumerate_preferred.specs.Preferred.{IsShownLargest}
-use Rattle.enumerate_ranges.specs.enumerate_modes.specs.Modes.{IsAmong}
-use Rattle.enumerate_ranges.specs.semi_stable.specs.Widest.{wider_claim}
-use Rattle.enumerate_ranges.specs.Ranges.{IsShownWidest}
+use Rattle.enumerate_block.specs.cegar_preferred.specs.Largest.{largest_claim}
+use Rattle.enumerate_block.specs.Preferred.{IsShownLargest}
+use Rattle.enumerate_block.specs.Modes.{IsAmong}
+use Rattle.enumerate_block.specs.semi_stable.specs.Widest.{wider_claim}
+use Rattle.enumerate_block.specs.Ranges.{IsShownWidest}
 use Rattle.enumerate_block.specs.Extensions.{IsModeOf, IsShownOne}
 
 only_set : (P : List ℕ → Type 0) (set : List ℕ) → P set → (k : ℕ) → k < length (set ∷ [])

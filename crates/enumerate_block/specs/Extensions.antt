@@ -20,12 +20,12 @@ use Rattle.oracle_face.specs.Growing.{Making}
 use Rattle.oracle_face.specs.Logs.{IsSameClause, OracleLog}
 use Rattle.edit_rules.specs.Kinds.{kind_of}
 use Rattle.session_log.specs.Ends.{IsShownBy, some_asked}
-use Rattle.enumerate_ranges.specs.enumerate_modes.specs.declared.with_mode.Listed.{Listed}
-use Rattle.enumerate_ranges.specs.enumerate_modes.specs.declared.with_mode.Listed.TheVariants.{Whole, TooMany as MoreThanListed}
-use Rattle.enumerate_ranges.specs.enumerate_modes.specs.Ordered.{HasMore, TheyDiffer}
-use Rattle.enumerate_ranges.specs.declared.ranges.Ranged.{Ranged}
-use Rattle.enumerate_ranges.specs.declared.ranges.Ranged.TheVariants.{Whole as WholeRanged, TooMany as MoreThanRanged}
-use Rattle.enumerate_ranges.specs.Ranges.{AreRefuted}
+use Rattle.enumerate_block.specs.declared.with_mode.Listed.{Listed}
+use Rattle.enumerate_block.specs.declared.with_mode.Listed.TheVariants.{Whole, TooMany as MoreThanListed}
+use Rattle.enumerate_block.specs.Ordered.{HasMore, TheyDiffer}
+use Rattle.enumerate_block.specs.declared.ranges.Ranged.{Ranged}
+use Rattle.enumerate_block.specs.declared.ranges.Ranged.TheVariants.{Whole as WholeRanged, TooMany as MoreThanRanged}
+use Rattle.enumerate_block.specs.Ranges.{AreRefuted}
 use Rattle.enumerate_block.specs.declared.extensions.Extensions.{Extensions}
 use Rattle.enumerate_block.specs.declared.extensions.Extensions.TheVariants.{All, TooMany}
 

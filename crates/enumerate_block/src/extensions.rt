@@ -7,13 +7,13 @@ ghost use Rattle.oracle_face.specs.Logs.{IsKept};
 ghost use Rattle.oracle_face.specs.Growing.{HasRun, halt_of};
 ghost use Rattle.enumerate_block.specs.Extensions.{IsListOf, IsListTask, IsModeOf, MadeForAll, with_step, with_steps};
 
-use enumerate_preferred::all_preferred;
-use enumerate_ranges::enumerate_modes::{Listed, all_with_mode};
-use enumerate_ranges::{Ranged, all_semi_stable};
+use crate::all_preferred;
+use crate::{Listed, all_with_mode};
+use crate::{Ranged, all_semi_stable};
 use iccma_tasks::{Semantics, Task};
 use meaning_atoms::Atom;
 use oracle_face::{Budget, Halt, Oracle, StepId};
-use plain_lists::{Items, Memory};
+use lists::{Items, Memory};
 use set_lists::NumSet;
 use std::alloc::Global;
 

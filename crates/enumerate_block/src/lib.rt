@@ -2,7 +2,17 @@
 //! certificate.
 #![tactic(auto)]
 
+mod deciding;
 mod extensions;
+mod marks;
+mod ordered;
+mod preferred;
+mod ranges;
+mod with_mode;
 
-pub use enumerate_preferred::cegar_preferred;
+pub use deciding::{Deciding, decide};
 pub use extensions::{Extensions, all};
+pub use ordered::insert_in_order;
+pub use preferred::all_preferred;
+pub use ranges::{Ranged, all_semi_stable};
+pub use with_mode::{Listed, all_with_mode, all_with_range};

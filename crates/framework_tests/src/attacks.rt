@@ -3,7 +3,7 @@
 ghost use Rattle.std.specs.Prelude.{◌≡◌, IfOk};
 
 use attack_index::{AttackBlocks, AttackIndex};
-use plain_lists::Memory;
+use lists::Memory;
 use std::alloc::Global;
 use std::test::Fail;
 

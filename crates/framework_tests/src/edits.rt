@@ -2,7 +2,7 @@
 
 use dung_notions::AfPlain;
 use edit_rules::{Edit, EditFault, Framework, apply};
-use plain_lists::{Items, Memory};
+use lists::{Items, Memory};
 use std::alloc::Global;
 use std::test::Fail;
 

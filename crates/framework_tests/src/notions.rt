@@ -1,7 +1,7 @@
 //! Grounded sets and ranges in small frameworks, and attacks from either end.
 
 use dung_notions::{AfPlain, Grounded};
-use plain_lists::Memory;
+use lists::Memory;
 use set_lists::NumSet;
 use std::alloc::Global;
 use std::test::Fail;

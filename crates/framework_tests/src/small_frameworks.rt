@@ -2,7 +2,7 @@
 //! on every framework of three arguments; and whether a framework is solid.
 
 use dung_notions::AfPlain;
-use plain_lists::Memory;
+use lists::Memory;
 use semantics::{AfLists, Notion, decide};
 use set_lists::NumSet;
 use std::alloc::Global;

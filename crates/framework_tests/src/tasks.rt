@@ -4,7 +4,7 @@ use iccma_tasks::{
     Answer, AnswerCause, AnswerFault, Kind, Problem, Query, Semantics, Task, TaskFault,
     answer_text, kind_of, problems, read_answer,
 };
-use plain_lists::{Items, Memory};
+use lists::{Items, Memory};
 use set_lists::NumSet;
 use std::alloc::Global;
 use std::test::Fail;

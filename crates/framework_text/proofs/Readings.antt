@@ -4,7 +4,7 @@ use Rattle.std.specs.Prelude.{Contains}
 use Rattle.semantics.specs.Arguments.{IsArgument}
 use Rattle.semantics.specs.Framework.{Af}
 use Rattle.semantics.specs.Frameworks.{Framework, af, aba, IsNumbered}
-use Rattle.aba_semantics.specs.AbaFrameworks.{Aba}
+use Rattle.semantics.specs.AbaFrameworks.{Aba}
 use Rattle.iccma_tasks.specs.KindText.{IsAbaHeader, IsAbaText}
 use Rattle.af_format.specs.AfText.{ReadsAs as ReadsAsAf}
 use Rattle.af_format.proofs.LineCauses.{words_differ}

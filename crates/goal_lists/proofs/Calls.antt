@@ -7,9 +7,9 @@ use Rattle.std.proofs.lemmas.List.Elements.{Contains-append_cases}
 use Rattle.std.proofs.lemmas.List.{get_or_append_left, get_or_default, get_or_push, length-append}
 use Rattle.std.proofs.lemmas.Map.Keys.{IsDistinct-from_apart}
 use Rattle.std.proofs.lemmas.Map.Steps.{length-le_from_distinct_below}
-use Rattle.plain_lists.specs.Members.{IsWithin}
-use Rattle.plain_lists.proofs.ListTests.{any_gives}
-use Rattle.plain_lists.proofs.Membership.{Contains-nil, Contains-cons_cases}
+use Rattle.lists.specs.Members.{IsWithin}
+use Rattle.lists.proofs.ListTests.{any_gives}
+use Rattle.lists.proofs.Membership.{Contains-nil, Contains-cons_cases}
 use Rattle.plain_lits.specs.declared.halt.Halt.{Halt}
 use Rattle.plain_lits.specs.declared.halt.Halt.TheVariants.{Memory}
 use Rattle.plain_lits.specs.Units.{Units}

@@ -3,7 +3,7 @@ use Rattle.std.proofs.Common.{◌≡◌, ℕ, Bool, true, false, not, List, refl
 use Rattle.std.specs.Prelude.{Contains}
 use Rattle.std.specs.Cmp.{both_ways}
 use Rattle.std.proofs.lemmas.Bool.{false≢true}
-use Rattle.plain_lists.specs.Members.{IsSetOf}
+use Rattle.lists.specs.Members.{IsSetOf}
 use Rattle.semantics.specs.Frameworks.{Framework, af, aba}
 use Rattle.meaning_atoms.specs.Literals.{affirmed}
 use Rattle.iccma_tasks.specs.declared.task.Kind.TheVariants.{Aba as OfAba}

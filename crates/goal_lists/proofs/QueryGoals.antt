@@ -1,7 +1,7 @@
 -- Goals about a query: a set of a mode that accepts it, or that doesn't.
 use Rattle.std.proofs.Common.{◌≡◌, inl, inr, ⊎_elim, ℕ, Bool, true, false, not, List, [], ◌∷◌, map, refl, ap, sym, subst, ◌∙◌}
 use Rattle.std.specs.Prelude.{Contains, ◌⊎◌, Some}
-use Rattle.plain_lists.proofs.Membership.{Contains-head, Contains-tail, Contains-cons_cases}
+use Rattle.lists.proofs.Membership.{Contains-head, Contains-tail, Contains-cons_cases}
 use Rattle.plain_lits.specs.HintCheck.{IsTautology}
 use Rattle.plain_lits.proofs.HintCheckLemmas.{Contains-mapped}
 use Rattle.semantics.specs.Frameworks.{Framework}

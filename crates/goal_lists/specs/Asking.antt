@@ -1,7 +1,7 @@
 -- The goals of the loops: a mode, members and what are none, what is in the range, and side clauses; or a mode, that a
 -- query is accepted or isn't, and side clauses.
 use Rattle.std.specs.Prelude.{◌≡◌, ℕ, ◌<◌, Bool, true, false, List, ◌∷◌, ◌++◌, length, map, Contains, slice_index_or}
-use Rattle.plain_lists.specs.Members.{IsWithin}
+use Rattle.lists.specs.Members.{IsWithin}
 use Rattle.semantics.specs.Frameworks.{Framework}
 use Rattle.meaning_atoms.specs.declared.atom.Atom.{Atom}
 use Rattle.meaning_atoms.specs.declared.atom.Atom.TheVariants.{Member, Range, Cf, Ad, Co, St, Der, Ask}

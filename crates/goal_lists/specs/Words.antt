@@ -3,8 +3,8 @@ use Rattle.std.specs.Prelude.{ℕ}
 use Rattle.meaning_atoms.specs.declared.atom.Atom.TheVariants.{Member, Range, Tail}
 use Rattle.meaning_atoms.specs.declared.atom.AtomLit.{AtomLit}
 use Rattle.meaning_atoms.specs.Literals.{affirmed, denied}
-use Rattle.goal_lists.specs.declared.lists.Word.{Word}
-use Rattle.goal_lists.specs.declared.lists.Word.TheVariants.{In, Out, Ranged, Struck}
+use Rattle.goal_lists.specs.declared.literal_lists.Word.{Word}
+use Rattle.goal_lists.specs.declared.literal_lists.Word.TheVariants.{In, Out, Ranged, Struck}
 
 abbrev pub literal_of : Word → ℕ → AtomLit
 literal_of In a = affirmed (Member a)

@@ -6,10 +6,10 @@ ghost use Rattle.oracle_face.specs.Kinds.{is_assumption_based};
 ghost use Rattle.goal_lists.specs.Asking.{are_asked, goals_of};
 ghost use Rattle.goal_lists.specs.Asking as asking;
 
-use crate::lists::{affirmed, push_in, push_out, push_ranged};
+use crate::literal_lists::{affirmed, push_in, push_out, push_ranged};
 use meaning_atoms::{Atom, AtomLit, Closure};
 use oracle_face::AskId;
-use plain_lists::Memory;
+use lists::Memory;
 use std::alloc::Global;
 
 /// What a set has to be like: its members and what are none, what is in its range, and which side clauses it makes

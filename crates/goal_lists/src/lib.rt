@@ -2,9 +2,9 @@
 #![tactic(auto)]
 
 mod goals;
-mod lists;
+mod literal_lists;
 mod search;
 
 pub use goals::{Wanted, goals_for};
-pub use lists::{affirmed, attacked, differs, outside, push_in, push_out, push_ranged, wider};
+pub use literal_lists::{affirmed, attacked, differs, outside, push_in, push_out, push_ranged, wider};
 pub use search::{search_beside, search_for, search_query};

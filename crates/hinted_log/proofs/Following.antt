@@ -5,7 +5,7 @@ use Rattle.std.proofs.Common.{false, not}
 use Rattle.std.specs.Prelude.{Contains, ◌⊎◌}
 use Rattle.std.proofs.lemmas.List.{get_or-take, take_all, take-append-drop}
 use Rattle.std.proofs.lemmas.List.Elements.{Contains-append_left}
-use Rattle.plain_lists.proofs.Membership.{Contains-nil}
+use Rattle.lists.proofs.Membership.{Contains-nil}
 use Rattle.plain_lits.specs.declared.lit.Lit.{Lit}
 use Rattle.plain_lits.specs.Literals.{negation}
 use Rattle.plain_lits.specs.HintCheck.{Checks, clause_at, IsValuation}

@@ -8,8 +8,8 @@ use Rattle.std.proofs.lemmas.Bool.{cases_eq, cases_lt, false≢true}
 use Rattle.std.proofs.lemmas.List.{get_or-set_same, get_or-set_other, take_more}
 use Rattle.std.proofs.lemmas.List.{get_or_append_left, get_or-append_right}
 use Rattle.std.proofs.lemmas.List.Elements.{Contains-append_left, Contains-push_cases, Contains-get_or}
-use Rattle.plain_lists.specs.Members.{IsSetOf}
-use Rattle.plain_lists.proofs.Membership.{Contains-nil, Contains-pushed}
+use Rattle.lists.specs.Members.{IsSetOf}
+use Rattle.lists.proofs.Membership.{Contains-nil, Contains-pushed}
 use Rattle.hinted_log.specs.Logs.{Step, step_at, IsStepOf, IsProof, Reaches, itself, by_hint}
 use Rattle.hinted_log.specs.Trimming.{IsMarked, MarksHints, IsWalk}
 use Rattle.hinted_log.proofs.Following.{all_follow, hint_before}

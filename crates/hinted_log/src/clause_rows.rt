@@ -2,7 +2,7 @@
 
 ghost use Rattle.std.specs.Prelude.{◌≡◌, ◌<◌, ◌-◌, [], ◌∷◌, ◌++◌, length, take, OnOk, OnErr, slice_get, slice_index_or};
 
-use plain_lists::Memory;
+use lists::Memory;
 use plain_lits::{PackedLit, Rows};
 use std::alloc::Global;
 use std::marker::Model;

@@ -1,6 +1,6 @@
 //! Why a log takes no further step.
 
-use plain_lists::Memory as OutOfMemory;
+use lists::Memory as OutOfMemory;
 
 /// Why a step wasn't added: the log is full, the check of the hints failed at a place, or memory was refused.
 /// The log is as before then.

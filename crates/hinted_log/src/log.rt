@@ -2,7 +2,7 @@
 
 ghost use Rattle.std.specs.Prelude.{◌≡◌, ◌≢◌, ◌↔◌, ℕ, ◌+◌, ◌-◌, ◌<◌, ◌≤◌, ◌^◌, [], ◌∷◌, ◌++◌, length, map};
 ghost use Rattle.std.specs.Prelude.{take, slice_get, Contains, IfOk, OnOk, OnErr, IsTrue};
-ghost use Rattle.plain_lists.specs.Members.{IsSetOf};
+ghost use Rattle.lists.specs.Members.{IsSetOf};
 ghost use Rattle.plain_lits.specs.Literals.{negation};
 ghost use Rattle.plain_lits.specs.HintCheck.{Checks};
 ghost use Rattle.hinted_log.specs.Logs.{IsLog, IsGiven, IsStepOf, AddsStep, Reaches, AddsDerived, clauses_of};
@@ -15,7 +15,7 @@ use crate::fault::LogFault;
 use crate::kind::Kind;
 use crate::store::Store;
 use crate::trim::trimmed;
-use plain_lists::{Items, Memory};
+use lists::{Items, Memory};
 use plain_lits::check::check;
 use plain_lits::{Clause, Lit, PackedLit, StepId, Trail};
 use std::alloc::Global;

@@ -5,7 +5,7 @@ ghost use Rattle.hinted_log.specs.Logs.{no_step, clauses_of};
 
 use crate::clause_rows::ClauseRows;
 use crate::kind::Kind;
-use plain_lists::Memory;
+use lists::Memory;
 use plain_lits::{PackedLit, Rows, StepId};
 use std::alloc::Global;
 use std::marker::Model;

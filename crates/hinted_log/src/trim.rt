@@ -1,12 +1,12 @@
 //! The steps that a step reaches.
 
 ghost use Rattle.std.specs.Prelude.{◌≡◌, ◌↔◌, ℕ, ◌+◌, ◌<◌, ◌≤◌, ◌^◌, [], ◌∷◌, length, Contains, IfOk, OnOk};
-ghost use Rattle.plain_lists.specs.Members.{IsSetOf};
+ghost use Rattle.lists.specs.Members.{IsSetOf};
 ghost use Rattle.hinted_log.specs.Logs.{IsStepOf, Reaches, IsProof};
 ghost use Rattle.hinted_log.specs.Trimming.{IsMarked, MarksHints};
 
 use crate::store::Store;
-use plain_lists::Memory;
+use lists::Memory;
 use plain_lits::StepId;
 use std::alloc::Global;
 

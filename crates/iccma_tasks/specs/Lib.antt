@@ -5,4 +5,3 @@ pub mod Names
 pub mod Tasks
 pub mod WrittenText
 pub use Rattle.semantics as semantics
-pub use Rattle.semantics.specs.aba_semantics as aba_semantics

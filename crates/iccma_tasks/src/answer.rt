@@ -1,6 +1,6 @@
 //! Answers.
 
-use plain_lists::Items;
+use lists::Items;
 use set_lists::NumSet;
 
 /// The answer to a query.

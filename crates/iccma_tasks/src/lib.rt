@@ -15,7 +15,5 @@ pub use fault::{AnswerCause, AnswerFault};
 pub use kind_text::kind_of;
 pub use query::Query;
 pub use read::{read_answer, set_of};
-pub use semantics;
-pub use semantics::aba_semantics;
 pub use task::{Kind, Problem, Semantics, Task, TaskFault, problems};
 pub use write::{answer_text, push_set, push_sets};

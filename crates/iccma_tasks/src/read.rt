@@ -14,7 +14,7 @@ ghost use Rattle.iccma_tasks.specs.AnswerSteps.{is_open_behind, takes_set};
 use crate::answer::Answer;
 use crate::fault::{AnswerCause, AnswerFault};
 use num_text::{Fields, Line, decimal, fields, is_skipped, lines};
-use plain_lists::Items;
+use lists::Items;
 use semantics::is_argument;
 use set_lists::NumSet;
 use std::alloc::Global;

@@ -8,7 +8,7 @@ ghost use Rattle.iccma_tasks.specs.WrittenText.{set_line, word_text, text_of, Ha
 ghost use Rattle.iccma_tasks.specs.AnswerText.{ReadsAs, filled_fields};
 
 use crate::answer::Answer;
-use plain_lists::{Bytes, Memory};
+use lists::{Bytes, Memory};
 use set_lists::NumSet;
 use std::alloc::Global;
 use std::fmt::Write;

@@ -1,13 +1,13 @@
 -- What is left of a set without what admissible sets attack.
 use Rattle.std.proofs.Common.{◌≢◌, ℕ, List, sym, subst}
 use Rattle.std.specs.Prelude.{Contains, Result, Ok, Err, IfOk}
-use Rattle.plain_lists.specs.Members.{IsWithin}
-use Rattle.plain_lists.specs.declared.memory.Memory.{Memory}
+use Rattle.lists.specs.Members.{IsWithin}
+use Rattle.lists.specs.declared.memory.Memory.{Memory}
 use Rattle.semantics.specs.Framework.{Af, IsAdmissible, IsConflictFree}
 use Rattle.semantics.specs.Frameworks.{Framework, af, aba}
 use Rattle.meaning_atoms.specs.declared.atom.Atom.TheVariants.{Ad}
 use Rattle.meaning_atoms.specs.Worlds.{HoldsOf}
-use Rattle.admissible_part.specs.Parts.{IsAdmissiblePart, IsLargestPart}
+use Rattle.ideal_set.specs.Parts.{IsAdmissiblePart, IsLargestPart}
 use Rattle.ideal_set.specs.declared.attackers.Attackers.{Attackers}
 use Rattle.ideal_set.specs.Ideals.{IsCut, IsCutBeside, IsFree, IsPicture, IsPictureOf, Keeps}
 

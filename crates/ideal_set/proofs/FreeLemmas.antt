@@ -2,8 +2,8 @@
 use Rattle.std.proofs.Common.{◌≡◌, inl, ℕ, List, [], ◌∷◌, ◌++◌, refl, ap, sym, subst, ◌∙◌}
 use Rattle.std.specs.Prelude.{Result, IfOk}
 use Rattle.std.proofs.lemmas.List.Elements.{Contains-append_left, Contains-append_right}
-use Rattle.plain_lists.specs.Members.{IsWithin}
-use Rattle.plain_lists.proofs.Membership.{Contains-nil, Contains-head, Contains-tail}
+use Rattle.lists.specs.Members.{IsWithin}
+use Rattle.lists.proofs.Membership.{Contains-nil, Contains-head, Contains-tail}
 use Rattle.plain_lits.specs.declared.halt.Halt.{Halt}
 use Rattle.plain_lits.proofs.HintCheckLemmas.{Contains-mapped}
 use Rattle.semantics.specs.Frameworks.{Framework, IsNumbered}

@@ -8,8 +8,8 @@ use Rattle.std.proofs.lemmas.Bool.{false≢true}
 use Rattle.std.proofs.lemmas.List.{length-append}
 use Rattle.std.proofs.lemmas.List.Kept.{IsStrictlyIncreasing-filter}
 use Rattle.std.proofs.lemmas.List.Elements.{Contains-append_left, Contains-append_cases}
-use Rattle.plain_lists.specs.Members.{IsWithin, IsSetOf}
-use Rattle.plain_lists.proofs.Membership.{Contains-nil, Contains-head, Contains-pushed}
+use Rattle.lists.specs.Members.{IsWithin, IsSetOf}
+use Rattle.lists.proofs.Membership.{Contains-nil, Contains-head, Contains-pushed}
 use Rattle.plain_lits.specs.declared.halt.Halt.{Halt}
 use Rattle.plain_lits.specs.Units.{Units}
 use Rattle.plain_lits.proofs.HintCheckLemmas.{Contains-mapped, Contains-from_mapped}

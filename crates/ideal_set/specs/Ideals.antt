@@ -3,10 +3,10 @@
 -- Source: P. M. Dung, P. Mancarella, F. Toni, "Computing ideal sceptical argumentation", Artificial Intelligence 171
 -- (2007): an admissible set that no admissible set attacks lies in every preferred set.
 use Rattle.std.specs.Prelude.{◌≡◌, ◌≢◌, ◌↔◌, ◌⊎◌, ◌≤◌, ◌*◌, ℕ, List, [], ◌∷◌, ◌++◌, length, Contains}
-use Rattle.plain_lists.specs.Members.{IsSetOf, IsWithin}
+use Rattle.lists.specs.Members.{IsSetOf, IsWithin}
 use Rattle.semantics.specs.Framework.{Af, Attacks as AttacksIn, IsAttackedBy}
 use Rattle.semantics.specs.Frameworks.{Framework, af, aba}
-use Rattle.aba_semantics.specs.AbaFrameworks.{AttacksAssumption}
+use Rattle.semantics.specs.AbaFrameworks.{AttacksAssumption}
 use Rattle.meaning_atoms.specs.declared.atom.Atom.TheVariants.{Ad, Tail}
 use Rattle.meaning_atoms.specs.Literals.{affirmed}
 use Rattle.meaning_atoms.specs.Worlds.{HoldsOf}

@@ -1,1 +1,3 @@
 pub mod Ideals
+pub mod Parts
+pub mod Rounds

@@ -1,7 +1,7 @@
 //! Admissible sets that attack a set, and what is left of the set without what they attack.
 
 ghost use Rattle.std.specs.Prelude.{◌≡◌, ◌⊎◌, false, Contains, IfOk, OnOk};
-ghost use Rattle.plain_lists.specs.Members.{IsSetOf};
+ghost use Rattle.lists.specs.Members.{IsSetOf};
 ghost use Rattle.meaning_atoms.specs.declared.atom.Atom.TheVariants.{Ad};
 ghost use Rattle.meaning_atoms.specs.Worlds.{HoldsOf};
 ghost use Rattle.oracle_face.specs.Growing.{HasRun, closes, halt_of};
@@ -10,12 +10,12 @@ ghost use Rattle.oracle_face.specs.Logs.{IsKept};
 ghost use Rattle.ideal_set.specs.Ideals.{AreAttackers, Attacks, Hits, IsAsked, IsCut, IsCutBeside, IsFree, IsPicture};
 ghost use Rattle.ideal_set.specs.Ideals.{IsPruned, Keeps, MadeForIdeal};
 
-use admissible_part::largest_part;
+use crate::largest_part;
 use dung_notions::AfPlain;
 use goal_lists::{Wanted, attacked, search_beside};
 use meaning_atoms::Atom;
 use oracle_face::{Budget, Found, Halt, Oracle};
-use plain_lists::{Items, Memory};
+use lists::{Items, Memory};
 use set_lists::NumSet;
 use std::alloc::Global;
 

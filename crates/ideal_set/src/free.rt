@@ -1,7 +1,7 @@
 //! Admissible sets that hold none of given numbers.
 
 ghost use Rattle.std.specs.Prelude.{◌≡◌, ℕ, Contains, IfOk};
-ghost use Rattle.plain_lists.specs.Members.{IsWithin};
+ghost use Rattle.lists.specs.Members.{IsWithin};
 ghost use Rattle.meaning_atoms.specs.declared.atom.Atom.TheVariants.{Ad};
 ghost use Rattle.meaning_atoms.specs.Worlds.{HoldsOf};
 ghost use Rattle.certificate_claims.specs.SetLiterals.{members};

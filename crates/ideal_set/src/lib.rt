@@ -3,7 +3,9 @@
 
 mod attackers;
 mod free;
+mod part;
 mod picture;
 mod searching;
 
+pub use part::largest_part;
 pub use searching::{IdealSet, ideal};

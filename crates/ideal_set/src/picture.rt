@@ -6,7 +6,7 @@ ghost use Rattle.ideal_set.specs.Ideals.{GainsTargets, IsPicture};
 
 use dung_notions::AfPlain;
 use oracle_face::Oracle;
-use plain_lists::Memory;
+use lists::Memory;
 use set_lists::NumSet;
 use std::alloc::Global;
 

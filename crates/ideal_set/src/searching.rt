@@ -10,7 +10,7 @@ use crate::attackers::{Attackers, attacker, cut_grown, prune};
 use crate::free::largest_free;
 use crate::picture::picture;
 use oracle_face::{Budget, Found, Halt, Oracle, StepId};
-use plain_lists::Items;
+use lists::Items;
 use set_lists::NumSet;
 use std::alloc::Global;
 

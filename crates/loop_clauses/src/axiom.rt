@@ -9,7 +9,7 @@ ghost use Rattle.loop_clauses.specs.LoopNames.{closure_numbered, loop_row, loop_
 
 use aba_notions::{Row, Unfounded};
 use meaning_atoms::{AbaAxiom, Closure, LoopRow};
-use plain_lists::{Items, Memory};
+use lists::{Items, Memory};
 use std::alloc::Global;
 
 /// The name of the loop clause which says of an unfounded atom that it is not in the closure: that of the set for `k` 1,

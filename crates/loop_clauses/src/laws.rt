@@ -1,7 +1,7 @@
 //! The law of what is unfounded. Its function does nothing; its contract is the law.
 
 ghost use Rattle.std.specs.Prelude.{ℕ, List, Contains};
-ghost use Rattle.aba_semantics.specs.AbaFrameworks.{Aba, IsAtom, IsNumberedAba};
+ghost use Rattle.semantics.specs.AbaFrameworks.{Aba, IsAtom, IsNumberedAba};
 ghost use Rattle.aba_notions.specs.Unfounded.{IsUnfoundedOf};
 ghost use Rattle.aba_notions.specs.declared.unfounded.Unfounded.{Unfounded as AnUnfounded};
 ghost use Rattle.meaning_atoms.specs.AbaAxioms.{IsLoop};

@@ -3,9 +3,9 @@
 ghost use Rattle.std.specs.Prelude.{◌≡◌};
 
 use enumerate_block::{Extensions, all};
-use enumerate_modes::{Listed, all_with_mode};
-use enumerate_preferred::all_preferred;
-use enumerate_ranges::{Ranged, all_semi_stable};
+use enumerate_block::{Listed, all_with_mode};
+use enumerate_block::all_preferred;
+use enumerate_block::{Ranged, all_semi_stable};
 use iccma_tasks::{Problem, Semantics, Task};
 use meaning_atoms::Atom;
 use plain_lits::{Budget, Halt};

@@ -5,7 +5,7 @@ use crate::defined::{FRAMEWORKS, meets, some_meets};
 use crate::worked::{Worked, oracle_for};
 use plain_lits::Budget;
 use semantics::Notion;
-use semi_stable_query::{Deciding, decide};
+use enumerate_block::{Deciding, decide};
 use small_oracle::SmallOracle;
 use std::alloc::Global;
 use std::test::Fail;

@@ -13,9 +13,9 @@ use Rattle.aba_laws.specs.semantics.proofs.Decided.{
   decide_not,
   decide_some,
 }
-use Rattle.aba_laws.specs.aba_semantics.specs.AbaFrameworks.{Aba, collective_of}
-use Rattle.aba_laws.specs.aba_semantics.specs.Collectives.{IsUnattacked, IsConflictFree, IsAdmissible, IsComplete, IsStable, Defends}
-use Rattle.aba_laws.specs.aba_semantics.specs.Rules.{Rule, Derives}
+use Rattle.aba_laws.specs.semantics.specs.AbaFrameworks.{Aba, collective_of}
+use Rattle.aba_laws.specs.semantics.specs.Collectives.{IsUnattacked, IsConflictFree, IsAdmissible, IsComplete, IsStable, Defends}
+use Rattle.aba_laws.specs.semantics.specs.Rules.{Rule, Derives}
 use Rattle.aba_laws.proofs.AbaLemmas.{aba_lawful, decide_attacks}
 use Rattle.aba_laws.proofs.Choosing.{decide_within}
 use Rattle.aba_laws.proofs.CollectiveSets.{decide_defends, rest_of}

@@ -2,8 +2,8 @@
 use Rattle.std.proofs.Common.{◌≡◌, Bool, true, false, not, List, ◌∷◌, refl, ⊎_elim}
 use Rattle.std.specs.Prelude.{◌↔◌, if◌then◌else◌, Contains}
 use Rattle.std.specs.List.{list_all}
-use Rattle.plain_lists.proofs.ListTests.{all_gives}
-use Rattle.plain_lists.proofs.Membership.{Contains-head, Contains-tail}
+use Rattle.lists.proofs.ListTests.{all_gives}
+use Rattle.lists.proofs.Membership.{Contains-head, Contains-tail}
 use Rattle.meaning_atoms.specs.declared.atom.Atom.{Atom}
 use Rattle.meaning_atoms.specs.declared.atom.Atom.TheVariants.{Member, Live, Attack, Gap, Tail, Unmet, Range, Cf, Ad, Co, St, Ask}
 use Rattle.meaning_atoms.specs.declared.atom.AtomLit.{AtomLit}

@@ -8,7 +8,7 @@ use Rattle.std.proofs.Math.Seq.{take-append_seam, drop-append_seam}
 use Rattle.std.proofs.lemmas.Bool.{ne_eqb}
 use Rattle.std.proofs.lemmas.List.{append-nil, get_or-map, length-map, map-append, take_all, take_more}
 use Rattle.std.proofs.lemmas.List.Elements.{Contains-get_or}
-use Rattle.plain_lists.proofs.Membership.{Contains-head, Contains-tail}
+use Rattle.lists.proofs.Membership.{Contains-head, Contains-tail}
 use Rattle.aba_laws.specs.semantics.specs.Arguments.{IsArgument}
 use Rattle.meaning_atoms.specs.declared.loop_rows.LoopRow.{LoopRow}
 use Rattle.meaning_atoms.specs.AbaAxioms.{AtomsRise, IsLoop, IsLoopAtom, IsLoopPair, IsLoopRow, RulesRise}

@@ -8,7 +8,7 @@ use Rattle.meaning_atoms.specs.declared.atom.Atom.TheVariants.{Asm, Con, Head, H
 use Rattle.meaning_atoms.specs.declared.atom.AtomLit.{AtomLit}
 use Rattle.aba_laws.specs.semantics.specs.Frameworks.{Framework, af, aba}
 use Rattle.aba_laws.specs.semantics.specs.Framework.{Af, Attacks, IsAttackedBy}
-use Rattle.aba_laws.specs.aba_semantics.specs.AbaFrameworks.{Aba}
+use Rattle.aba_laws.specs.semantics.specs.AbaFrameworks.{Aba}
 use Rattle.meaning_atoms.specs.Worlds.{World, HasGap, HasTail, HasUnmet, HoldsOfAf, HoldsOfAba, HoldsOf, HoldsAlone, Says, IsTrueAlone, IsSideTrue, Holds, HoldsLit, IsTrueBeside}
 use Rattle.meaning_atoms.specs.Valuations.{HasValuation}
 use Rattle.aba_laws.specs.semantics.proofs.Decided.{Decided, decide_both, decide_either, decide_not, decide_some, decide_at_most, decide_below}

@@ -1,8 +1,8 @@
 -- What the atoms of assumption-based frameworks say.
 use Rattle.std.specs.Prelude.{◌≡◌, ℕ, ◌≤◌, ◌<◌, List, Contains}
-use Rattle.aba_laws.specs.aba_semantics.specs.AbaFrameworks.{Aba, IsInTheory, collective_of}
-use Rattle.aba_laws.specs.aba_semantics.specs.Collectives.{IsUnattacked}
-use Rattle.aba_laws.specs.aba_semantics.specs.Rules.{Rule, Derives}
+use Rattle.aba_laws.specs.semantics.specs.AbaFrameworks.{Aba, IsInTheory, collective_of}
+use Rattle.aba_laws.specs.semantics.specs.Collectives.{IsUnattacked}
+use Rattle.aba_laws.specs.semantics.specs.Rules.{Rule, Derives}
 use Rattle.meaning_atoms.specs.declared.atom.Closure.{Closure}
 use Rattle.meaning_atoms.specs.declared.atom.Closure.TheVariants.{Own, Rest}
 

@@ -11,5 +11,4 @@ pub mod Pieces
 pub mod Valuations
 pub mod Worlds
 pub use Rattle.aba_laws as aba_laws
-pub use Rattle.aba_laws.specs.aba_semantics as aba_semantics
 pub use Rattle.aba_laws.specs.semantics as semantics

@@ -10,9 +10,9 @@ use Rattle.meaning_atoms.specs.declared.atom.AtomLit.{AtomLit}
 use Rattle.aba_laws.specs.semantics.specs.Arguments.{IsArgument}
 use Rattle.aba_laws.specs.semantics.specs.Frameworks.{Framework, af, aba, IsNumberedAf}
 use Rattle.aba_laws.specs.semantics.specs.Framework.{Af, Attacks, IsAttackedBy, IsConflictFree, IsAdmissible, IsComplete, IsStable, IsInRange}
-use Rattle.aba_laws.specs.aba_semantics.specs.AbaFrameworks.{Aba, IsNumberedAba, collective_of}
-use Rattle.aba_laws.specs.aba_semantics.specs.Collectives.{IsConflictFree as IsCollectiveFree, IsAdmissible as IsCollectiveAdmissible}
-use Rattle.aba_laws.specs.aba_semantics.specs.Collectives.{IsComplete as IsCollectiveComplete, IsStable as IsCollectiveStable}
+use Rattle.aba_laws.specs.semantics.specs.AbaFrameworks.{Aba, IsNumberedAba, collective_of}
+use Rattle.aba_laws.specs.semantics.specs.Collectives.{IsConflictFree as IsCollectiveFree, IsAdmissible as IsCollectiveAdmissible}
+use Rattle.aba_laws.specs.semantics.specs.Collectives.{IsComplete as IsCollectiveComplete, IsStable as IsCollectiveStable}
 use Rattle.meaning_atoms.specs.AbaReadings.{HasContrary, HasHead, HasNoHead, HasBodyAtom, HasBodyGap, IsInClosure, HasMiss, HasSupport}
 
 -- a framework of either kind and a set of numbers, of which only the members count

@@ -7,8 +7,8 @@ ghost use Rattle.meaning_atoms.specs.AxiomText.{aba_name};
 use crate::atom::{Closure, is_atom_or_none, is_position};
 use crate::axiom::is_stretch;
 use crate::loop_rows::{LoopRow, copy_rows, is_loop};
-use aba_laws::semantics::is_argument;
-use plain_lists::{Items, Memory};
+use semantics::is_argument;
+use lists::{Items, Memory};
 use std::alloc::Global;
 
 /// The name of an axiom of assumption-based frameworks with its arguments, in the order of the table of axioms. A value

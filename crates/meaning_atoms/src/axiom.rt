@@ -7,8 +7,8 @@ ghost use Rattle.meaning_atoms.specs.AxiomText.{af_name, axiom_name};
 
 use crate::aba_axiom::AbaAxiom;
 use crate::atom::{END, is_position};
-use aba_laws::semantics::is_argument;
-use plain_lists::Memory;
+use semantics::is_argument;
+use lists::Memory;
 use std::alloc::Global;
 
 /// The name of an axiom of abstract frameworks with its arguments, in the order of the table of axioms. A value whose arguments are

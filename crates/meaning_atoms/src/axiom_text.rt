@@ -16,7 +16,7 @@ use crate::aba_axiom::AbaAxiom;
 use crate::atom::Closure;
 use crate::axiom::{AfAxiom, AxiomName};
 use crate::loop_text::{loop_of, push_loop};
-use plain_lists::{Bytes, Memory};
+use lists::{Bytes, Memory};
 use std::alloc::Global;
 use std::fmt::Write;
 

@@ -3,8 +3,8 @@
 ghost use Rattle.std.specs.Prelude.{◌≡◌, ◌↔◌, IfOk, IsTrue};
 ghost use Rattle.meaning_atoms.specs.AbaAxioms.{AtomsRise, IsLoop, IsLoopAtom, IsLoopPair, IsLoopRow, RulesRise};
 
-use aba_laws::semantics::is_argument;
-use plain_lists::{Items, Memory};
+use semantics::is_argument;
+use lists::{Items, Memory};
 use std::alloc::Global;
 
 /// An atom of a loop, and a pair for each rule that heads it: the rule's number, and an atom of its body that is in the

@@ -14,7 +14,7 @@ ghost use Rattle.meaning_atoms.specs.LoopRows.{AreRowsOf, BeginsWithPairs, Begin
 use crate::aba_axiom::AbaAxiom;
 use crate::atom::Closure;
 use crate::loop_rows::LoopRow;
-use plain_lists::{Items, Memory};
+use lists::{Items, Memory};
 use std::alloc::Global;
 use std::fmt::Write;
 

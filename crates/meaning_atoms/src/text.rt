@@ -14,7 +14,7 @@ ghost use Rattle.meaning_atoms.specs.Pieces.{HasFound, IsAtomOf, IsFirstNumber, 
 
 use crate::atom::{Atom, AtomLit, Closure};
 use num_text::decimal;
-use plain_lists::{Bytes, Memory};
+use lists::{Bytes, Memory};
 use std::alloc::Global;
 use std::fmt::Write;
 

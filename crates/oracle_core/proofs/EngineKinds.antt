@@ -1,9 +1,9 @@
 -- What of an engine depends on the kind of its framework, by cases on it.
 use Rattle.std.proofs.Common.{◌≡◌, ap, arith, ℕ, Bool, true, false, List, refl, inl, inr, ⊎_elim}
 use Rattle.std.specs.Prelude.{◌&&◌, ◌⊎◌, ◌≤◌, Contains, IfOk, Result, Ok, Err}
-use Rattle.plain_lists.specs.Members.{IsSetOf}
-use Rattle.plain_lists.specs.declared.memory.Memory.{Memory}
-use Rattle.aba_semantics.specs.AbaFrameworks.{Aba, AttacksAssumption}
+use Rattle.lists.specs.Members.{IsSetOf}
+use Rattle.lists.specs.declared.memory.Memory.{Memory}
+use Rattle.semantics.specs.AbaFrameworks.{Aba, AttacksAssumption}
 use Rattle.semantics.specs.Frameworks.{Framework, af, aba, IsNumbered}
 use Rattle.meaning_atoms.specs.declared.aba_axiom.AbaAxiom.TheVariants.{B2, B16}
 use Rattle.meaning_atoms.specs.declared.atom.Atom.{Atom}
@@ -24,7 +24,7 @@ use Rattle.oracle_face.specs.Logs.{LogStep, OracleLog, SideClause, Source, by_ax
 use Rattle.oracle_face.specs.Logs.{IsGiven, IsLog}
 use Rattle.oracle_face.specs.Needed.{IsNeeded}
 use Rattle.af_encoding.proofs.NeededLemmas.{needed_is_name}
-use Rattle.aba_changed.specs.aba_needed.proofs.NeededLemmas.{needed_fits}
+use Rattle.aba_encoding.proofs.NeededLemmas.{needed_fits}
 use Rattle.oracle_core.specs.Engines.{HasRange}
 use Rattle.session_log.specs.Steps.{own_step}
 use Rattle.session_log.proofs.AxiomLemmas.{needed_no_loop}

@@ -3,8 +3,8 @@ use Rattle.std.proofs.Common.{◌≡◌, ◌∙◌, ⊎_elim, ℕ, ◌-◌, ◌<
 use Rattle.std.specs.Prelude.{Contains, filter}
 use Rattle.std.proofs.lemmas.List.{get_or-map, length-map, take_all}
 use Rattle.std.proofs.lemmas.List.Elements.{Contains-get_or}
-use Rattle.plain_lists.proofs.Membership.{Contains-nil, Contains-cons_cases}
-use Rattle.plain_lists.proofs.Filters.{Contains-filter}
+use Rattle.lists.proofs.Membership.{Contains-nil, Contains-cons_cases}
+use Rattle.lists.proofs.Filters.{Contains-filter}
 use Rattle.plain_lits.specs.HintCheck.{IsNamed, IsTautology, IsTrueClause, IsValuation, clause_at}
 use Rattle.plain_lits.proofs.HintCheckLemmas.{Contains-mapped, taken_sound}
 use Rattle.semantics.proofs.Decided.{Decided, decide_contains}

@@ -2,7 +2,7 @@
 use Rattle.std.proofs.Common.{◌≡◌, ◌∙◌, ⊎_elim, ℕ, ◌+◌, Bool, true, true≢false, refl, List, [], ◌∷◌, ◌++◌, length, ap, arith, sym, subst, inl}
 use Rattle.std.specs.Prelude.{◌⊎◌, ◌&&◌, cond, count_by, None, Option, Result, Some, Ok, Err, IsErr, IsErrAnd}
 use Rattle.std.proofs.lemmas.Bool.{false≢true}
-use Rattle.plain_lists.proofs.Counts.{count_by-cons}
+use Rattle.lists.proofs.Counts.{count_by-cons}
 use Rattle.plain_lits.specs.declared.halt.Halt.{Halt}
 use Rattle.plain_lits.specs.declared.halt.Halt.TheVariants.{Spent, LogFull, Memory}
 use Rattle.plain_lits.specs.Units.{Units}
@@ -17,8 +17,8 @@ use Rattle.oracle_face.proofs.GrowingLemmas.{unless_then}
 use Rattle.session_log.specs.Ends.{IsTakenByNone, LoopInHand}
 use Rattle.session_log.specs.Steps.{LearnsClauses, nothing as none_learned, one_more as one_learned, own_step}
 use Rattle.session_log.proofs.AxiomLemmas.{needed_no_loop}
-use Rattle.clause_imports.specs.OwnSteps.{IsCalledOn, IsWanted, OwnStep, keeps_side, learns_axiom, learns_clause, nothing, one_more}
-use Rattle.clause_imports.specs.OwnSteps.{takes_entry}
+use Rattle.session_log.specs.OwnSteps.{IsCalledOn, IsWanted, OwnStep, keeps_side, learns_axiom, learns_clause, nothing, one_more}
+use Rattle.session_log.specs.OwnSteps.{takes_entry}
 use Rattle.atom_solver.specs.States.{AddsAxiom, AtomState, IsNoLoop, TakesSideOf}
 use Rattle.oracle_core.specs.Stepping.{EndsInHand, GoesOnBySteps}
 use Rattle.oracle_core.specs.SteppingLaws.{gains_one, goes_on_joined, goes_on_none, loops_one}

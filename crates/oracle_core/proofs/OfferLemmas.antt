@@ -13,7 +13,7 @@ use Rattle.oracle_face.specs.Entries.{IsShareable}
 use Rattle.oracle_face.specs.Logs.{OracleLog, LogStep, IsNumberOf, step_at}
 use Rattle.session_log.proofs.StepWorlds.{step_shared}
 use Rattle.atom_solver.specs.States.{IsGuardedLog}
-use Rattle.clause_imports.specs.Imports.{IsCalled}
+use Rattle.session_log.specs.Imports.{IsCalled}
 use Rattle.oracle_core.specs.Sharing.{AreNamesOf, IsEntryOf}
 
 -- the entry of a step may be shared

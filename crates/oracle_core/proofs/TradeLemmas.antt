@@ -1,7 +1,7 @@
 -- What calls of an engine leave of a trade and of the log, one after the other.
 use Rattle.std.proofs.Common.{◌≡◌, ℕ, ◌+◌, ◌*◌, Bool, true, false, List, [], ◌∷◌, ◌++◌, length, ap, sym, subst, ◌∙◌, arith, inl, inr, ⊎_elim}
 use Rattle.std.specs.Prelude.{◌≢◌, Option, Some, None, Result, Ok, Err, OnOk, IsErr, IsErrAnd, is_err}
-use Rattle.plain_lists.specs.declared.memory.Memory.{Memory as OfMemory}
+use Rattle.lists.specs.declared.memory.Memory.{Memory as OfMemory}
 use Rattle.std.proofs.lemmas.Bool.{false≢true}
 use Rattle.std.proofs.lemmas.List.{length-append}
 use Rattle.plain_lits.specs.declared.halt.Halt.{Halt}

@@ -2,25 +2,25 @@
 use Rattle.std.proofs.Common.{◌≡◌, ◌∙◌, ℕ, Bool, true, false, if◌then◌else◌, List, [], ◌∷◌, length, refl, sym, ap, subst, arith, inl, inr, ⊎_elim, Option, Result, Ok, Err, Some}
 use Rattle.std.specs.Prelude.{◌↔◌, ◌⊎◌, ◌≢◌, Contains, IfOk, IsErr, IsErrAnd}
 use Rattle.std.proofs.lemmas.Bool.{false≢true}
-use Rattle.plain_lists.proofs.Membership.{Contains-nil}
-use Rattle.plain_lists.specs.declared.memory.Memory.{Memory}
+use Rattle.lists.proofs.Membership.{Contains-nil}
+use Rattle.lists.specs.declared.memory.Memory.{Memory}
 use Rattle.plain_lits.specs.declared.halt.Halt.{Halt}
 use Rattle.plain_lits.specs.declared.halt.Halt.TheVariants.{Spent as OfSpent, LogFull as OfLogFull, Memory as OfMemory}
 use Rattle.plain_lits.specs.Units.{Units}
 use Rattle.semantics.specs.Framework.{Af}
 use Rattle.semantics.specs.Frameworks.{Framework, af, aba, IsNumbered, IsNumberedAf}
 use Rattle.semantics.proofs.Decided.{Decided, decide_both, decide_contains, decide_each, decide_some}
-use Rattle.aba_semantics.specs.AbaFrameworks.{Aba, IsNumberedAba}
+use Rattle.semantics.specs.AbaFrameworks.{Aba, IsNumberedAba}
 use Rattle.meaning_atoms.specs.declared.atom.AtomLit.{AtomLit}
 use Rattle.meaning_atoms.specs.declared.axiom.AxiomName.{AxiomName}
 use Rattle.meaning_atoms.proofs.SameAtoms.{same_literal}
 use Rattle.certificate_claims.specs.Refutations.{axiom_clause}
 use Rattle.certificate_claims.specs.SetLiterals as set_literals
-use Rattle.edit_words.specs.declared.edit.Edit.{Edit}
-use Rattle.edit_words.specs.declared.edit.Edit.TheVariants.{ArgAdd, ArgDrop, AttackAdd, AttackDrop, AsmAdd, AsmDrop, ConSet, RuleAdd, RuleDrop}
-use Rattle.edit_words.specs.Refusals.{Refusal, done_unless}
-use Rattle.edit_words.specs.declared.effect.Effect.{Effect}
-use Rattle.edit_words.specs.declared.effect.EditFault.{EditFault}
+use Rattle.edit_rules.specs.declared.edit.Edit.{Edit}
+use Rattle.edit_rules.specs.declared.edit.Edit.TheVariants.{ArgAdd, ArgDrop, AttackAdd, AttackDrop, AsmAdd, AsmDrop, ConSet, RuleAdd, RuleDrop}
+use Rattle.edit_rules.specs.Refusals.{Refusal, done_unless}
+use Rattle.edit_rules.specs.declared.effect.Effect.{Effect}
+use Rattle.edit_rules.specs.declared.effect.EditFault.{EditFault}
 use Rattle.edit_rules.specs.Edits.{af_with_attack, af_without_attack, attack_added, attack_dropped, edit_outcome}
 use Rattle.edit_rules.specs.Kinds.{framework_of, kind_of}
 use Rattle.edit_rules.specs.Replay.{IsTaken, after_edit, left_by}
@@ -30,7 +30,7 @@ use Rattle.oracle_face.specs.declared.face.Pending.{Pending}
 use Rattle.oracle_face.specs.Growing.{HasRun, NoSide}
 use Rattle.oracle_face.specs.Logs.{OracleLog, IsSameClause, working}
 use Rattle.af_encoding.specs.Changes.{IsCalledFor, IsEdited, IsEffectOf}
-use Rattle.aba_changed.specs.Brought.{IsEdited as IsEditedAba}
+use Rattle.aba_encoding.specs.Brought.{IsEdited as IsEditedAba}
 use Rattle.atom_solver.specs.States.{AtomState}
 use Rattle.oracle_core.specs.declared.parts.Parts.{Parts}
 use Rattle.oracle_core.specs.declared.updating.UpdateStop.{UpdateStop}

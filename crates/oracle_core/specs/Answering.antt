@@ -8,8 +8,8 @@ use Rattle.edit_rules.specs.Fitting.{Fits, IsFaultOf}
 use Rattle.oracle_face.specs.Logs.{OracleLog}
 use Rattle.atom_solver.specs.declared.origin.Origin.{Origin}
 use Rattle.atom_solver.specs.declared.origin.Origin.TheVariants.{Axiom, Side, Entry, Hints}
-use Rattle.certificate_making.specs.log_certificates.specs.declared.read_log.StepOrigin.{StepOrigin}
-use Rattle.certificate_making.specs.log_certificates.specs.declared.read_log.StepOrigin.TheVariants.{Axiom as OfAxiom, Side as OfSide, Derived}
+use Rattle.certificate_making.specs.declared.read_log.StepOrigin.{StepOrigin}
+use Rattle.certificate_making.specs.declared.read_log.StepOrigin.TheVariants.{Axiom as OfAxiom, Side as OfSide, Derived}
 use Rattle.query_answers.specs.Answers.{AreTooMany, is_by_grounded}
 use Rattle.oracle_core.specs.declared.reply.Answered.{Answered}
 use Rattle.oracle_core.specs.declared.reply.AnswerStop.{AnswerStop}

@@ -1,9 +1,9 @@
 -- A framework behind an edit of it, as an engine follows it.
 use Rattle.std.specs.Prelude.{ℕ}
 use Rattle.semantics.specs.Frameworks.{Framework, IsNumbered}
-use Rattle.edit_words.specs.declared.edit.Edit.{Edit}
-use Rattle.edit_words.specs.declared.edit.Edit.TheVariants.{AttackAdd, AttackDrop}
-use Rattle.edit_words.specs.declared.effect.Effect.{Effect}
+use Rattle.edit_rules.specs.declared.edit.Edit.{Edit}
+use Rattle.edit_rules.specs.declared.edit.Edit.TheVariants.{AttackAdd, AttackDrop}
+use Rattle.edit_rules.specs.declared.effect.Effect.{Effect}
 use Rattle.af_encoding.specs.Changes.{IsEffectOf}
 
 -- an edit of some framework in its form led to this one, with this effect

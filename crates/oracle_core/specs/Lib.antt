@@ -11,5 +11,5 @@ pub mod Stopping
 pub mod Trading
 pub mod TradingLaws
 pub mod Updating
-pub use Rattle.certificate_making.specs.log_certificates as log_certificates
+pub use Rattle.certificate_making as certificate_making
 pub use Rattle.query_answers as query_answers

@@ -7,7 +7,7 @@ use Rattle.oracle_face.specs.Logs.{LogStep, hints_of, step_at}
 use Rattle.atom_solver.specs.declared.origin.Origin.{Origin}
 use Rattle.atom_solver.specs.Imported.{IsPlain}
 use Rattle.atom_solver.specs.Lifted.{imported_of, source_of}
-use Rattle.clause_imports.specs.Imports.{IsCalled}
+use Rattle.session_log.specs.Imports.{IsCalled}
 
 -- the step may go to others: it wasn't taken from an entry, didn't only end a search, and asks for no side clause
 pub record MayGo (step : LogStep) : Type 0 where

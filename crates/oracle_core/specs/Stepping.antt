@@ -7,7 +7,7 @@ use Rattle.meaning_atoms.specs.declared.axiom.AxiomName.{AxiomName}
 use Rattle.oracle_face.specs.declared.face.Pending.{Pending}
 use Rattle.oracle_face.specs.Logs.{OracleLog, LogStep, IsNumberOf, by_axiom, step_at}
 use Rattle.session_log.specs.Ends.{LoopInHand, LoopsServe}
-use Rattle.clause_imports.specs.OwnSteps.{OwnSteps}
+use Rattle.session_log.specs.OwnSteps.{OwnSteps}
 use Rattle.oracle_core.specs.Engines.{EngineState}
 
 -- the log went on by steps of the session of the number `own` on this framework, and each loop clause among them was

@@ -10,8 +10,8 @@ use Rattle.certificate_claims.specs.Refutations.{axiom_clause}
 use Rattle.oracle_face.specs.Logs.{OracleLog, LogStep, by_axiom, by_side, is_loop, no_step}
 use Rattle.session_log.specs.Ends.{IsTakenByNone, LoopInHand, LoopsServe}
 use Rattle.session_log.specs.Steps.{derived_step, own_step}
-use Rattle.clause_imports.specs.OwnSteps.{OwnStep, OwnSteps, keeps_side, learns_axiom, learns_clause, nothing, one_more}
-use Rattle.clause_imports.specs.OwnSteps.{takes_entry}
+use Rattle.session_log.specs.OwnSteps.{OwnStep, OwnSteps, keeps_side, learns_axiom, learns_clause, nothing, one_more}
+use Rattle.session_log.specs.OwnSteps.{takes_entry}
 use Rattle.oracle_core.specs.Engines.{EngineState}
 use Rattle.oracle_core.specs.Stepping.{GoesOnBySteps, ServesInHand}
 

@@ -2,7 +2,7 @@
 
 ghost use Rattle.std.specs.Prelude.{◌≡◌, ◌≢◌, ◌+◌, ◌*◌, ◌≤◌, true, false, length, IfErr, IfOk, OnOk, List, Some, Err, ℕ};
 ghost use Rattle.edit_rules.specs.Fitting.{Fits};
-ghost use Rattle.certificate_making.specs.log_certificates.specs.Cuts.{AreCut};
+ghost use Rattle.certificate_making.specs.Cuts.{AreCut};
 ghost use Rattle.oracle_face.specs.Growing.{HasRun, halt_of};
 ghost use Rattle.oracle_face.specs.declared.entry.Entry.{Entry as AnEntry};
 ghost use Rattle.session_log.specs.Ends.{IsShownBy as IsShownByLog, LoopInHand, MadeFor};
@@ -20,7 +20,7 @@ use certificate_making::certificate_for;
 use edit_rules::query_fits;
 use iccma_tasks::Query;
 use oracle_face::ClauseTrade;
-use plain_lists::Memory;
+use lists::Memory;
 use plain_lits::{Budget, Halt};
 use query_answers::{Evidence, Outcome, answer};
 use std::alloc::Global;

@@ -14,7 +14,7 @@ use crate::reply::Answered;
 use certificate_claims::Certificate;
 use edit_rules::Framework;
 use iccma_tasks::{Answer, Problem, Query, Semantics, Task};
-use plain_lists::{Items, Memory};
+use lists::{Items, Memory};
 use set_lists::NumSet;
 use std::alloc::Global;
 

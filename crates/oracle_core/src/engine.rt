@@ -1,7 +1,7 @@
 //! The engine: an oracle over a kept solver.
 
 ghost use Rattle.std.specs.Prelude.{◌≡◌, ◌↔◌, ◌≤◌, IfOk, IsTrue, None, length};
-ghost use Rattle.aba_semantics.specs.AbaFrameworks.{IsInTheory};
+ghost use Rattle.semantics.specs.AbaFrameworks.{IsInTheory};
 ghost use Rattle.certificate_claims.specs.Rights.{Accepts};
 ghost use Rattle.edit_rules.specs.Kinds.{framework_of};
 ghost use Rattle.hinted_log.specs.declared.log.TheConstants.{MOST_STEPS};
@@ -11,12 +11,12 @@ ghost use Rattle.oracle_core.specs.Answering.{told_origin};
 use crate::parts::{Parts, is_aba, range_of};
 use aba_notions::AbaPlain;
 use atom_solver::Origin;
-use certificate_making::log_certificates::{ReadLog, StepOrigin};
+use certificate_making::{ReadLog, StepOrigin};
 use edit_rules::Framework;
 use hinted_log::MOST_STEPS;
 use meaning_atoms::AtomLit;
 use oracle_face::{AskId, Found, Oracle, Pending};
-use plain_lists::{Items, Memory};
+use lists::{Items, Memory};
 use plain_lits::{Budget, Halt, StepId};
 use set_lists::NumSet;
 use std::alloc::Global;

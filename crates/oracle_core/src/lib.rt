@@ -12,8 +12,6 @@ pub(crate) mod trading;
 pub mod updating;
 
 pub use by_grounded::{answer_by_grounded, is_by_grounded};
-pub use certificate_making::log_certificates;
 pub use engine::Engine;
-pub use query_answers;
 pub use reply::{AnswerStop, Answered};
 pub use updating::UpdateStop;

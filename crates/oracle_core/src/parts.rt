@@ -32,7 +32,7 @@ use entry_taking::{StepNames, take_in, take_once};
 use hinted_log::MOST_STEPS;
 use meaning_atoms::{AtomLit, AxiomName};
 use oracle_face::{AskId, Entry, Found};
-use plain_lists::{Items, Memory};
+use lists::{Items, Memory};
 use plain_lits::{Budget, Halt};
 use set_lists::NumSet;
 use std::alloc::Global;
@@ -80,7 +80,7 @@ pub(crate) fn needed_of(alloc: Global, framework: &Framework) -> Result<Items<Ax
 {
     match framework {
         Framework::Af(plain) => af_encoding::needed(alloc, plain),
-        Framework::Aba(plain) => aba_changed::aba_needed::needed(alloc, plain),
+        Framework::Aba(plain) => aba_encoding::needed(alloc, plain),
     }
 }
 

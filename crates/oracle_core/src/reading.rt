@@ -9,7 +9,7 @@ use af_encoding::AfEncoding;
 use edit_rules::Framework;
 use meaning_atoms::{AtomLit, AxiomName};
 use oracle_face::Encoding;
-use plain_lists::Memory;
+use lists::Memory;
 use set_lists::NumSet;
 use std::alloc::Global;
 

@@ -3,7 +3,7 @@
 use certificate_claims::Certificate;
 use edit_rules::QueryFault;
 use iccma_tasks::Answer;
-use plain_lists::Memory as OutOfMemory;
+use lists::Memory as OutOfMemory;
 use plain_lits::Halt;
 
 /// An answer, the certificate that shows it, and how many units of the budget it took.

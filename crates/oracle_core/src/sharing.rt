@@ -3,7 +3,7 @@
 ghost use Rattle.std.specs.Prelude.{◌≡◌, ℕ, IfOk, IfSome, IsTrue, None};
 ghost use Rattle.atom_solver.specs.Lifted.{imported_of};
 ghost use Rattle.atom_solver.specs.declared.origin.Origin.TheVariants.{Entry as OfEntry};
-ghost use Rattle.clause_imports.specs.Imports.{IsCalled};
+ghost use Rattle.session_log.specs.Imports.{IsCalled};
 ghost use Rattle.oracle_face.specs.Logs.{IsNumberOf, step_at};
 ghost use Rattle.oracle_core.specs.Engines.{IsWhole};
 ghost use Rattle.oracle_core.specs.Sharing.{AreNamesOf, CallsAny, IsEntryOf, MayGo};
@@ -12,7 +12,7 @@ use crate::engine::Engine;
 use crate::parts::Parts;
 use atom_solver::{AtomSolver, Origin};
 use oracle_face::{ClauseTrade, Entry, EntryName, EntryOrigin, HintName};
-use plain_lists::{Items, Memory};
+use lists::{Items, Memory};
 use plain_lits::StepId;
 use std::alloc::Global;
 

@@ -17,7 +17,7 @@ use crate::engine::Engine;
 use crate::parts::Parts;
 use meaning_atoms::AtomLit;
 use oracle_face::{AskId, ClauseTrade, Found, Oracle};
-use plain_lists::Memory;
+use lists::Memory;
 use plain_lits::{Budget, Halt};
 use set_lists::NumSet;
 use std::alloc::Global;

@@ -16,7 +16,7 @@ use crate::engine::Engine;
 use crate::parts::{Parts, members_of, needed_of};
 use edit_rules::{Edit, Effect, Framework, apply};
 use meaning_atoms::AxiomName;
-use plain_lists::{Items, Memory};
+use lists::{Items, Memory};
 use plain_lits::Halt;
 use std::alloc::Global;
 
@@ -77,7 +77,7 @@ fn changed_of(alloc: Global, after: &Framework, effect: &Effect) -> Result<Items
 {
     match after {
         Framework::Af(plain) => af_encoding::changed(alloc, plain, effect),
-        Framework::Aba(plain) => aba_changed::changed(alloc, plain, effect),
+        Framework::Aba(plain) => aba_encoding::changed(alloc, plain, effect),
     }
 }
 

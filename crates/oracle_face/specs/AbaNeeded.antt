@@ -1,8 +1,8 @@
 -- The axioms that a search needs for an assumption-based framework: from these, and from loop clauses where a model
 -- lacks them, its models read back as sets.
 use Rattle.std.specs.Prelude.{ℕ, ◌≤◌, Contains}
-use Rattle.aba_semantics.specs.AbaFrameworks.{Aba, IsAtom}
-use Rattle.aba_semantics.specs.Rules.{Rule}
+use Rattle.semantics.specs.AbaFrameworks.{Aba, IsAtom}
+use Rattle.semantics.specs.Rules.{Rule}
 use Rattle.certificate_claims.specs.meaning_atoms.specs.declared.aba_axiom.AbaAxiom.{AbaAxiom}
 use Rattle.certificate_claims.specs.meaning_atoms.specs.declared.aba_axiom.AbaAxiom.TheVariants.{B1, B2, B3, B4, B5, B6, B7, B8, B9, B9Con, B10, B11, B12, B13, B14, B15, B16, B17}
 use Rattle.certificate_claims.specs.meaning_atoms.specs.AbaReadings.{HasBodyAtom, HasContrary, HasHead, HasRule}

@@ -3,7 +3,7 @@ use Rattle.std.specs.Prelude.{◌≡◌, ◌⊎◌, ℕ, Bool, true, List, Conta
 use Rattle.plain_lits.specs.HintCheck.{IsTautology}
 use Rattle.certificate_claims.specs.semantics.specs.Framework.{Af}
 use Rattle.certificate_claims.specs.semantics.specs.Frameworks.{Framework, af, aba}
-use Rattle.aba_semantics.specs.AbaFrameworks.{Aba, IsAtom}
+use Rattle.semantics.specs.AbaFrameworks.{Aba, IsAtom}
 use Rattle.certificate_claims.specs.meaning_atoms.specs.declared.atom.Atom.{Atom}
 use Rattle.certificate_claims.specs.meaning_atoms.specs.declared.atom.Atom.TheVariants.{Member, Tail, Range, Cf, Ad, Co, St, Der}
 use Rattle.certificate_claims.specs.meaning_atoms.specs.declared.atom.AtomLit.{AtomLit}

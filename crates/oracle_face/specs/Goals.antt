@@ -3,7 +3,7 @@ use Rattle.std.specs.Prelude.{◌≡◌, ◌⊎◌, ℕ, Bool, true, false, not,
 use Rattle.plain_lits.specs.HintCheck.{IsTautology}
 use Rattle.certificate_claims.specs.semantics.specs.Arguments.{IsArgument}
 use Rattle.certificate_claims.specs.semantics.specs.Frameworks.{Framework, aba}
-use Rattle.aba_semantics.specs.AbaFrameworks.{IsAtom}
+use Rattle.semantics.specs.AbaFrameworks.{IsAtom}
 use Rattle.certificate_claims.specs.meaning_atoms.specs.declared.atom.Atom.{Atom}
 use Rattle.certificate_claims.specs.meaning_atoms.specs.declared.atom.Atom.TheVariants.{Member, Tail, Range, Cf, Ad, Co, St, Der, Ask}
 use Rattle.certificate_claims.specs.meaning_atoms.specs.declared.atom.AtomLit.{AtomLit}

@@ -2,8 +2,8 @@
 use Rattle.std.specs.Prelude.{ℕ, Bool, true, false, List}
 use Rattle.certificate_claims.specs.semantics.specs.Framework.{IsInRange}
 use Rattle.certificate_claims.specs.semantics.specs.Frameworks.{Framework, af, aba}
-use Rattle.aba_semantics.specs.AbaFrameworks.{collective_of}
-use Rattle.aba_semantics.specs.Collectives.{IsInRange as IsInCollectiveRange}
+use Rattle.semantics.specs.AbaFrameworks.{collective_of}
+use Rattle.semantics.specs.Collectives.{IsInRange as IsInCollectiveRange}
 
 abbrev pub is_assumption_based : Framework → Bool
 is_assumption_based (af f) = false

@@ -1,6 +1,6 @@
 -- What a trade gives.
 use Rattle.std.specs.Prelude.{◌≡◌, List, [], ◌∷◌, Option, Some, None, Result, Ok, Err}
-use Rattle.plain_lists.specs.declared.memory.Memory.{Memory}
+use Rattle.lists.specs.declared.memory.Memory.{Memory}
 use Rattle.oracle_face.specs.declared.entry.Entry.{Entry}
 
 -- of a list that is told, the first is given and the rest is left; None says that there was none, and an error leaves it

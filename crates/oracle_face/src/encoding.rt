@@ -1,14 +1,14 @@
 //! How a framework is put into clauses, and models are read as sets.
 
 ghost use Rattle.std.specs.Prelude.{◌≡◌, ◌↔◌, Contains, IfOk, IfSome, IfNone, None};
-ghost use Rattle.plain_lists.specs.Members.{IsSetOf};
+ghost use Rattle.lists.specs.Members.{IsSetOf};
 ghost use Rattle.certificate_claims.specs.meaning_atoms.specs.Worlds.{IsFact};
 ghost use Rattle.certificate_claims.specs.af_axioms.specs.Facts.{IsFactValue};
 ghost use Rattle.oracle_face.specs.Decoding.{IsDecoded, IsModelOf, IsNewLoop, ReadsBack, TellsMembers};
 ghost use Rattle.oracle_face.specs.Needed.{IsNeeded};
 
-use certificate_claims::meaning_atoms::{Atom, AtomLit, AxiomName};
-use plain_lists::{Items, Memory};
+use meaning_atoms::{Atom, AtomLit, AxiomName};
+use lists::{Items, Memory};
 use set_lists::NumSet;
 use std::alloc::Global;
 

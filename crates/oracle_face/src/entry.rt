@@ -5,8 +5,8 @@ ghost use Rattle.certificate_claims.specs.meaning_atoms.specs.AxiomNames.{IsAxio
 ghost use Rattle.oracle_face.specs.Entries.{IsShareable, axiom_entry};
 
 use certificate_claims::clause_of_axiom;
-use certificate_claims::meaning_atoms::{AtomLit, AxiomName};
-use plain_lists::{Items, Memory};
+use meaning_atoms::{AtomLit, AxiomName};
+use lists::{Items, Memory};
 use plain_lits::StepId;
 use std::alloc::Global;
 

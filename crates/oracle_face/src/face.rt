@@ -4,8 +4,8 @@ ghost use Rattle.std.specs.Prelude.{◌≡◌};
 ghost use Rattle.certificate_claims.specs.meaning_atoms.specs.declared.atom.Atom.TheVariants.{Ask};
 ghost use Rattle.certificate_claims.specs.meaning_atoms.specs.Literals.{affirmed};
 
-use certificate_claims::meaning_atoms::{Atom, AtomLit, AxiomName};
-use plain_lists::Items;
+use meaning_atoms::{Atom, AtomLit, AxiomName};
+use lists::Items;
 use plain_lits::StepId;
 use set_lists::NumSet;
 use std::marker::Model;

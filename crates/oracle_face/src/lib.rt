@@ -9,8 +9,6 @@ pub mod laws;
 pub mod oracle;
 pub mod trade;
 
-pub use certificate_claims;
-pub use certificate_claims::{aba_axioms, af_axioms};
 pub use encoding::Encoding;
 pub use entry::{Entry, EntryName, EntryOrigin, HintName};
 pub use face::{AskId, Found, Pending};

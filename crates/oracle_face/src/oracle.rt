@@ -1,7 +1,7 @@
 //! What a loop asks of an oracle: sets that make goals true, and why there is none.
 
 ghost use Rattle.std.specs.Prelude.{◌≡◌, ◌↔◌, IfOk, IsTrue};
-ghost use Rattle.plain_lists.specs.Members.{IsSetOf};
+ghost use Rattle.lists.specs.Members.{IsSetOf};
 ghost use Rattle.certificate_claims.specs.Rights.{Accepts};
 ghost use Rattle.certificate_claims.specs.SetLiterals.{members};
 ghost use Rattle.oracle_face.specs.Logs.{IsKept};
@@ -10,8 +10,8 @@ ghost use Rattle.oracle_face.specs.Growing.{HasRun, IsFound, NoSide, Obliges, On
 ghost use Rattle.oracle_face.specs.Kinds.{IsRanged, is_assumption_based};
 
 use crate::face::{AskId, Found};
-use certificate_claims::meaning_atoms::AtomLit;
-use plain_lists::Memory;
+use meaning_atoms::AtomLit;
+use lists::Memory;
 use plain_lits::{Budget, Halt};
 use set_lists::NumSet;
 use std::alloc::Global;

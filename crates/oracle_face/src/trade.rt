@@ -5,7 +5,7 @@ ghost use Rattle.oracle_face.specs.Entries.{IsShareable};
 ghost use Rattle.oracle_face.specs.Trades.{GivesFirst};
 
 use crate::entry::Entry;
-use plain_lists::Memory;
+use lists::Memory;
 
 /// What a query hands clauses to, and takes them from. A trade means the list that it has left to give, where it tells
 /// it: a trade with other threads doesn't.

@@ -6,7 +6,7 @@ use argue_outside::{
     Files, MemFiles, MemSink, NoPace, Pace, Planned, Point, ReadStop, RealFiles, Role, Sink,
     append_all, put_all, read_all,
 };
-use plain_lists::Items;
+use lists::Items;
 use std::alloc::{AllocError, Global};
 use std::process::Abort;
 

@@ -5,7 +5,7 @@ use Rattle.std.proofs.Common.{take, drop, drop-cons, add-one, subst}
 use Rattle.std.specs.Prelude.{Contains, ◌⊎◌, Option, Some, None}
 use Rattle.std.proofs.lemmas.List.{take-append-drop, take_more, get_or_default}
 use Rattle.std.proofs.lemmas.List.Elements.{Contains-append_left, Contains-push_cases}
-use Rattle.plain_lists.proofs.Membership.{Contains-nil, Contains-pushed}
+use Rattle.lists.proofs.Membership.{Contains-nil, Contains-pushed}
 use Rattle.plain_lits.specs.declared.lit.Lit.{Lit}
 use Rattle.plain_lits.specs.declared.value.Value.TheVariants.{True, False, Unset}
 use Rattle.plain_lits.specs.Literals.{negation}

@@ -7,9 +7,9 @@ use Rattle.std.proofs.lemmas.List.{get_or_default, get_or-take}
 use Rattle.std.specs.List.{list_any}
 use Rattle.std.proofs.lemmas.Bool.{cases_Bool, false≢true}
 use Rattle.std.proofs.lemmas.List.Elements.{Contains-append_left, Contains-push_cases}
-use Rattle.plain_lists.proofs.Membership.{Contains-nil, Contains-head, Contains-tail, Contains-cons_cases}
-use Rattle.plain_lists.proofs.Membership.{Contains-pushed}
-use Rattle.plain_lists.proofs.ListTests.{any_gives, any_from}
+use Rattle.lists.proofs.Membership.{Contains-nil, Contains-head, Contains-tail, Contains-cons_cases}
+use Rattle.lists.proofs.Membership.{Contains-pushed}
+use Rattle.lists.proofs.ListTests.{any_gives, any_from}
 use Rattle.plain_lits.specs.HintCheck.{clause_at, IsNamed, IsUnit, IsFalseHint, IsUnitHint, IsOtherHint}
 use Rattle.plain_lits.specs.HintCheck.{Propagates, Checks, IsValuation, IsTrueClause, Follows}
 use Rattle.plain_lits.specs.CheckLaws.{IsSound}

@@ -3,7 +3,7 @@ use Rattle.std.proofs.Common.{ℕ, ◌+◌, List, [], ◌∷◌, ◌++◌, ap, s
 use Rattle.std.proofs.Common.{subst}
 use Rattle.std.specs.Prelude.{Contains}
 use Rattle.std.proofs.lemmas.List.Elements.{Contains-append_left, Contains-push_cases}
-use Rattle.plain_lists.proofs.Membership.{Contains-pushed, Contains-head, Contains-tail}
+use Rattle.lists.proofs.Membership.{Contains-pushed, Contains-head, Contains-tail}
 use Rattle.plain_lits.specs.HintCheck.{clause_at, IsFalsified, IsUnit}
 use Rattle.plain_lits.specs.HintCheck.{Propagates, IsTautology, Checks}
 use Rattle.plain_lits.specs.CheckLaws.{Renames, IsImage, IsMovedHint, IsMovedCheck}

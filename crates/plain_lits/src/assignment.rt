@@ -7,7 +7,7 @@ ghost use Rattle.plain_lits.specs.Trails.{IsAssignmentState};
 
 use crate::lit::Lit;
 use crate::value::Value;
-use plain_lists::Memory;
+use lists::Memory;
 use std::alloc::Global;
 use std::marker::Model;
 

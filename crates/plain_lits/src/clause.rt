@@ -4,7 +4,7 @@ ghost use Rattle.std.specs.Prelude.{◌≡◌, ◌↔◌, ◌<◌, [], ◌∷◌
 ghost use Rattle.plain_lits.specs.Literals.{LitsRise, IsClauseOf};
 
 use crate::lit::Lit;
-use plain_lists::Memory;
+use lists::Memory;
 use smallvec::SmallVec;
 use std::alloc::Global;
 use std::marker::Model;

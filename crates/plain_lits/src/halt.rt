@@ -1,6 +1,6 @@
 //! Why a search stopped without an answer.
 
-use plain_lists::Memory as OutOfMemory;
+use lists::Memory as OutOfMemory;
 
 /// Why a search stopped: the budget was spent at a number of units, the log was full, or memory was refused.
 #[derive(Clone, Copy, Debug, PartialEq, Eq)]

@@ -4,7 +4,7 @@ ghost use Rattle.std.specs.Prelude.{◌≡◌, ◌<◌, ◌≤◌, ◌-◌, [], 
 ghost use Rattle.std.specs.Prelude.{slice_index, slice_index_or, slice_range, slice_set};
 ghost use Rattle.plain_lits.specs.RowCuts.{rows_from, AreEnds};
 
-use plain_lists::Memory;
+use lists::Memory;
 use std::alloc::Global;
 use std::marker::Model;
 

@@ -8,7 +8,7 @@ ghost use Rattle.plain_lits.specs.Trails.{IsTrailState, level_start};
 use crate::assignment::Assignment;
 use crate::lit::Lit;
 use crate::value::Value;
-use plain_lists::Memory;
+use lists::Memory;
 use std::alloc::Global;
 use std::marker::Model;
 

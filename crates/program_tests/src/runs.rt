@@ -2,7 +2,7 @@
 
 use argue_outside::{Files, MemFiles, MemSink, NoPace, Role, append_all, read_all};
 use argue_program::run;
-use plain_lists::Items;
+use lists::Items;
 use std::alloc::{AllocError, Global};
 use std::mem::forget;
 use std::process::Abort;

@@ -1,7 +1,7 @@
 -- What the calls leave of which an answer is made, by what a query may make.
 use Rattle.std.proofs.Common.{◌≡◌, ⊎_elim, ℕ, ◌+◌, ◌*◌, ◌≤◌, List, [], ◌∷◌, length, refl, sym, subst, arith}
 use Rattle.std.specs.Prelude.{Contains, Option, None, Some, Result, Ok, Err}
-use Rattle.plain_lists.proofs.Membership.{Contains-head, Contains-tail}
+use Rattle.lists.proofs.Membership.{Contains-head, Contains-tail}
 use Rattle.plain_lits.specs.declared.halt.Halt.{Halt}
 use Rattle.plain_lits.specs.declared.halt.Halt.TheVariants.{Memory}
 use Rattle.plain_lits.specs.Units.{Units}
@@ -24,7 +24,7 @@ use Rattle.oracle_face.proofs.GrowingLemmas.{Makes, run_as, run_joined, run_refu
 use Rattle.session_log.specs.Ends.{MadeFor, sides_for}
 use Rattle.goal_lists.proofs.Calls.{makes_none, makes_same}
 use Rattle.enumerate_block.specs.cegar_preferred.specs.Largest.{MadeOutside}
-use Rattle.semi_stable_query.specs.semi_stable.specs.Widest.{MadeWider}
+use Rattle.enumerate_block.specs.semi_stable.specs.Widest.{MadeWider}
 use Rattle.ideal_set.specs.Ideals.{MadeForIdeal}
 use Rattle.enumerate_block.specs.Extensions.{MadeForAll}
 

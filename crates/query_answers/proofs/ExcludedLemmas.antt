@@ -2,8 +2,8 @@
 use Rattle.std.proofs.Common.{◌≡◌, ⊎_elim, ℕ, Bool, true, false, List, [], ◌∷◌, ◌++◌, refl, ap, sym, subst, ◌∙◌}
 use Rattle.std.specs.Prelude.{Contains, IfOk, Option, Some, None, Result, Ok, Err}
 use Rattle.std.proofs.lemmas.List.Elements.{Contains-append_cases}
-use Rattle.plain_lists.specs.Members.{IsWithin}
-use Rattle.plain_lists.proofs.Membership.{Contains-cons_cases, Contains-nil}
+use Rattle.lists.specs.Members.{IsWithin}
+use Rattle.lists.proofs.Membership.{Contains-cons_cases, Contains-nil}
 use Rattle.plain_lits.specs.declared.halt.Halt.{Halt}
 use Rattle.semantics.specs.Frameworks.{Framework}
 use Rattle.meaning_atoms.specs.declared.atom.Atom.{Atom}
@@ -35,7 +35,7 @@ use Rattle.goal_lists.specs.Asking.{IsAskable, IsAskableAbout, goals_of, query_g
 use Rattle.goal_lists.proofs.AskedGoals.{in_form}
 use Rattle.goal_lists.proofs.Calls.{admissible_members, found_in, found_mode}
 use Rattle.goal_lists.proofs.QueryGoals.{query_mode, query_plain, query_said}
-use Rattle.semi_stable_query.specs.enumerate_ranges.proofs.StepLemmas.{refuted_none}
+use Rattle.enumerate_block.proofs.StepLemmas.{refuted_none}
 use Rattle.enumerate_block.proofs.OneSet.{tests_one}
 use Rattle.query_answers.specs.Answers.{AsksAbout, AsksSome, IsAdmissibleIn, IsCompleted, IsEvidence, problem_of}
 use Rattle.query_answers.specs.Forms.{evidence_of}

@@ -18,8 +18,8 @@ use Rattle.goal_lists.proofs.GoalKinds.{ideal_abstract}
 use Rattle.ideal_set.specs.declared.searching.IdealSet.{IdealSet}
 use Rattle.ideal_set.specs.Ideals.{IsIdealFound, attacked_claim, free_claim}
 use Rattle.certificate_claims.specs.SetLiterals.{hit_by_any}
-use Rattle.semi_stable_query.specs.enumerate_ranges.specs.Ranges.{AreRefuted}
-use Rattle.semi_stable_query.specs.enumerate_ranges.proofs.StepLemmas.{refuted_first}
+use Rattle.enumerate_block.specs.Ranges.{AreRefuted}
+use Rattle.enumerate_block.proofs.StepLemmas.{refuted_first}
 use Rattle.query_answers.specs.Answers.{AsksBy, IsEvidence, IsOne, IsSaid}
 use Rattle.query_answers.specs.Forms.{ideal_evidence}
 use Rattle.query_answers.proofs.TestLemmas.{asked_of, index_there, refuted_one}

@@ -15,8 +15,8 @@ use Rattle.certificate_claims.specs.Refutations.{Claim}
 use Rattle.oracle_face.specs.Goals.{Refutes, RefutesGoals}
 use Rattle.oracle_face.specs.Logs.{OracleLog}
 use Rattle.oracle_face.proofs.Refuting.{refutes_claim}
-use Rattle.semi_stable_query.specs.enumerate_ranges.specs.Ranges.{AreRefuted}
-use Rattle.semi_stable_query.specs.enumerate_ranges.proofs.StepLemmas.{refuted_first, refuted_none}
+use Rattle.enumerate_block.specs.Ranges.{AreRefuted}
+use Rattle.enumerate_block.proofs.StepLemmas.{refuted_first, refuted_none}
 
 abbrev pub asked_of : Problem → Semantics → Option ℕ → Asked
 asked_of problem semantics number = record { task = task_of problem semantics; number = number }

@@ -14,11 +14,11 @@ use Rattle.oracle_face.specs.Kinds.{is_assumption_based}
 use Rattle.oracle_face.specs.Logs.{OracleLog}
 use Rattle.edit_rules.specs.Kinds.{kind_of}
 use Rattle.goal_lists.proofs.GoalKinds.{known_member, semi_stable_abstract}
-use Rattle.semi_stable_query.specs.semi_stable.specs.declared.widest.Widest.{Widest}
-use Rattle.semi_stable_query.specs.semi_stable.specs.Widest.{IsWidestFrom, wider_claim}
-use Rattle.semi_stable_query.specs.declared.deciding.Deciding.{Deciding}
-use Rattle.semi_stable_query.specs.declared.deciding.Deciding.TheVariants.{Witness, NoWitness}
-use Rattle.semi_stable_query.specs.Witnesses.{IsDecided}
+use Rattle.enumerate_block.specs.semi_stable.specs.declared.widest.Widest.{Widest}
+use Rattle.enumerate_block.specs.semi_stable.specs.Widest.{IsWidestFrom, wider_claim}
+use Rattle.enumerate_block.specs.declared.deciding.Deciding.{Deciding}
+use Rattle.enumerate_block.specs.declared.deciding.Deciding.TheVariants.{Witness, NoWitness}
+use Rattle.enumerate_block.specs.Witnesses.{IsDecided}
 use Rattle.enumerate_block.proofs.OneSet.{tests_one}
 use Rattle.query_answers.specs.Answers.{AsksAbout, AsksSome, IsEvidence, problem_of}
 use Rattle.query_answers.specs.Forms.{decided_evidence, evidence_with}

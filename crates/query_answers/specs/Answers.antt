@@ -1,6 +1,6 @@
 -- What answers a query, and what shows that it does.
 use Rattle.std.specs.Prelude.{◌≡◌, ◌↔◌, ℕ, Bool, true, false, List, Option, Some, None, IsTrue}
-use Rattle.plain_lists.specs.Members.{IsWithin}
+use Rattle.lists.specs.Members.{IsWithin}
 use Rattle.semantics.specs.Frameworks.{Framework}
 use Rattle.meaning_atoms.specs.declared.atom.Atom.TheVariants.{Ad}
 use Rattle.meaning_atoms.specs.Worlds.{HoldsOf}
@@ -17,7 +17,7 @@ use Rattle.oracle_face.specs.declared.face.Found.TheVariants.{Set, Refuted}
 use Rattle.oracle_face.specs.Logs.{OracleLog}
 use Rattle.session_log.specs.Ends.{AreTooMany as ShownAreTooMany}
 use Rattle.edit_rules.specs.Fitting.{Fits}
-use Rattle.semi_stable_query.specs.enumerate_ranges.specs.Ranges.{AreRefuted}
+use Rattle.enumerate_block.specs.Ranges.{AreRefuted}
 use Rattle.query_answers.specs.declared.evidence.Evidence.{Evidence}
 use Rattle.query_answers.specs.declared.evidence.Outcome.{Outcome}
 use Rattle.query_answers.specs.declared.evidence.Outcome.TheVariants.{Shown, TooMany}

@@ -12,8 +12,8 @@ use Rattle.ideal_set.specs.declared.searching.IdealSet.{IdealSet}
 use Rattle.enumerate_block.specs.declared.extensions.Extensions.{Extensions}
 use Rattle.enumerate_block.specs.declared.extensions.Extensions.TheVariants.{All, TooMany as MoreThanListed}
 use Rattle.enumerate_block.specs.Extensions.{answer_of}
-use Rattle.semi_stable_query.specs.declared.deciding.Deciding.{Deciding}
-use Rattle.semi_stable_query.specs.declared.deciding.Deciding.TheVariants.{Witness, NoWitness}
+use Rattle.enumerate_block.specs.declared.deciding.Deciding.{Deciding}
+use Rattle.enumerate_block.specs.declared.deciding.Deciding.TheVariants.{Witness, NoWitness}
 use Rattle.query_answers.specs.declared.evidence.Evidence.{Evidence}
 use Rattle.query_answers.specs.declared.evidence.Outcome.{Outcome}
 use Rattle.query_answers.specs.declared.evidence.Outcome.TheVariants.{Shown, TooMany}

@@ -12,7 +12,7 @@ use crate::evidence::{Evidence, Outcome};
 use enumerate_block::{Extensions, all};
 use iccma_tasks::{Answer, Query};
 use oracle_face::{Budget, Halt, Oracle};
-use plain_lists::Items;
+use lists::Items;
 use set_lists::NumSet;
 use std::alloc::Global;
 

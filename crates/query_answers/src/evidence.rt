@@ -5,12 +5,12 @@ ghost use Rattle.iccma_tasks.specs.declared.task.Problem.TheVariants.{Sceptical}
 ghost use Rattle.query_answers.specs.Forms.{decided_evidence, evidence_of, evidence_with, ideal_answer};
 ghost use Rattle.query_answers.specs.Forms.{ideal_evidence, sceptical_evidence, shown_with, shown_without};
 
-use enumerate_block::cegar_preferred::Accepting;
+use cegar_preferred::Accepting;
 use iccma_tasks::{Answer, Problem};
 use ideal_set::IdealSet;
 use oracle_face::{Found, StepId};
-use plain_lists::{Items, Memory};
-use semi_stable_query::Deciding;
+use lists::{Items, Memory};
+use enumerate_block::Deciding;
 use set_lists::NumSet;
 use std::alloc::Global;
 

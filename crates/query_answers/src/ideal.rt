@@ -11,7 +11,7 @@ use crate::evidence::{Evidence, of_ideal};
 use iccma_tasks::Query;
 use ideal_set::ideal as ideal_set_of;
 use oracle_face::{Budget, Halt, Oracle};
-use plain_lists::Memory;
+use lists::Memory;
 use set_lists::NumSet;
 use std::alloc::Global;
 

@@ -9,7 +9,7 @@ ghost use Rattle.session_log.specs.Ends.{MadeFor};
 ghost use Rattle.query_answers.specs.Answers.{AsksAbout, AsksBy, BeginsLargest, IsEvidence};
 
 use crate::evidence::{Evidence, of_accepting, of_found, of_set};
-use enumerate_block::cegar_preferred::{accept_all, maximal_from};
+use cegar_preferred::{accept_all, maximal_from};
 use goal_lists::search_query;
 use iccma_tasks::{Problem, Query};
 use meaning_atoms::Atom;

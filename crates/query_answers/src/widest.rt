@@ -11,8 +11,8 @@ use crate::evidence::{Evidence, of_deciding, of_set};
 use iccma_tasks::{Problem, Query};
 use meaning_atoms::Atom;
 use oracle_face::{Budget, Halt, Oracle};
-use semi_stable_query::decide;
-use semi_stable_query::semi_stable::widest_from;
+use enumerate_block::decide;
+use semi_stable::widest_from;
 use set_lists::NumSet;
 use std::alloc::Global;
 

@@ -3,7 +3,7 @@ use Rattle.std.proofs.Common.{◌≡◌, ◌≢◌, ℕ, ◌+◌, List, [], ◌�
 use Rattle.std.proofs.Common.{Bool, true, false, not, arith, ap, sym, subst}
 use Rattle.std.proofs.Common.{◌∙◌, refl, ⊎_elim, Ok, Err, Result}
 use Rattle.std.specs.Prelude.{Contains}
-use Rattle.plain_lists.proofs.Membership.{Contains-nil, Contains-cons_cases}
+use Rattle.lists.proofs.Membership.{Contains-nil, Contains-cons_cases}
 use Rattle.plain_lits.specs.declared.lit.Lit.{Lit}
 use Rattle.plain_lits.specs.Literals.{negation}
 use Rattle.plain_lits.specs.declared.halt.Halt.{Halt}

@@ -5,7 +5,7 @@ use Rattle.std.specs.Prelude.{Contains}
 use Rattle.std.proofs.lemmas.List.{get_or_default, take_more, map-append}
 use Rattle.std.proofs.lemmas.List.Elements.{Contains-push_cases, Contains-append_left}
 use Rattle.std.proofs.lemmas.Bool.{cases_lt}
-use Rattle.plain_lists.proofs.Membership.{Contains-nil, Contains-pushed}
+use Rattle.lists.proofs.Membership.{Contains-nil, Contains-pushed}
 use Rattle.plain_lits.specs.declared.lit.Lit.{Lit}
 use Rattle.plain_lits.specs.declared.value.Value.{Value}
 use Rattle.plain_lits.specs.declared.value.Value.TheVariants.{True, False, Unset}

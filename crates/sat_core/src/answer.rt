@@ -1,6 +1,6 @@
 //! What a search tells, and how a clause comes.
 
-use plain_lists::Items;
+use lists::Items;
 use plain_lits::{Clause, Lit, StepId};
 
 /// Where a clause comes from: it is an axiom or a side, or the check takes it by its hints.

@@ -14,7 +14,7 @@ use crate::descent::{Descent, bump_all};
 use crate::ledger::{Ledger, derive, record, serving, steps_of};
 use conflict_learn::{Core, Learned, Learner};
 use hinted_log::{Log, LogFault, MOST_STEPS};
-use plain_lists::{Items, Memory};
+use lists::{Items, Memory};
 use plain_lits::{Budget, Clause, Halt, Lit, StepId, Trail};
 use std::alloc::Global;
 use unit_propagate::Propagator;

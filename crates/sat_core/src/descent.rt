@@ -6,7 +6,7 @@ ghost use Rattle.unit_propagate.specs.Search.{GoesBack};
 ghost use Rattle.sat_core.specs.Runs.{GoesOn, IsSpread, IsDescent, HaveValues, HaveValuesFrom, IsUnsetIn, IsUnsetVar};
 
 use decision_order::{DecisionOrder, Luby};
-use plain_lists::Memory;
+use lists::Memory;
 use plain_lits::{Lit, PackedLit, Value};
 use std::alloc::Global;
 use unit_propagate::{Propagated, Propagator};

@@ -12,7 +12,7 @@ ghost use Rattle.sat_core.specs.Mirrors.{step_of, AreIds, IsDerived, DeniesAll, 
 
 use crate::answer::Added;
 use hinted_log::{Log, LogFault};
-use plain_lists::{Items, Memory};
+use lists::{Items, Memory};
 use plain_lits::{Clause, Lit, PackedLit, StepId, Trail, Value};
 use std::alloc::Global;
 

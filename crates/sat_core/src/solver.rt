@@ -9,7 +9,7 @@ ghost use Rattle.sat_core.specs.Solving.{IsSolver, AddsTo, EndsCore, IsRejected,
 use crate::answer::{Added, Pending, Solved};
 use crate::cdcl::Cdcl;
 use hinted_log::{Log, LogFault, MOST_STEPS};
-use plain_lists::Memory;
+use lists::Memory;
 use plain_lits::{Budget, Clause, Halt, Lit, StepId};
 use std::alloc::Global;
 use std::marker::Model;

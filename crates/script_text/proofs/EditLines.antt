@@ -5,7 +5,7 @@ use Rattle.std.specs.List.{AllZip}
 use Rattle.std.proofs.lemmas.Slice.Zip.{AllZip-long}
 use Rattle.num_text.specs.Number.{IsNumber}
 use Rattle.num_text.specs.Numerals.{IsReadNumber}
-use Rattle.edit_words.specs.declared.edit.Edit.{Edit}
+use Rattle.edit_rules.specs.declared.edit.Edit.{Edit}
 use Rattle.script_text.specs.declared.change.Change.{Change}
 use Rattle.script_text.specs.Changes.{Takes, change_name, change_of, edit_numbers}
 use Rattle.script_text.specs.ScriptText.{AreEditFields}

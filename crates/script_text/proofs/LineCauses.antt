@@ -7,8 +7,8 @@ use Rattle.num_text.specs.Cuts.{field_texts}
 use Rattle.num_text.specs.Number.{IsNumber}
 use Rattle.iccma_tasks.specs.AnswerText.{behind_first}
 use Rattle.iccma_tasks.specs.Tasks.{Asked, task_name}
-use Rattle.edit_words.specs.declared.edit.Edit.{Edit}
-use Rattle.edit_words.specs.declared.edit.Edit.TheVariants.{
+use Rattle.edit_rules.specs.declared.edit.Edit.{Edit}
+use Rattle.edit_rules.specs.declared.edit.Edit.TheVariants.{
   ArgAdd,
   ArgDrop,
   AttackAdd,

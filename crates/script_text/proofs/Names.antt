@@ -7,8 +7,8 @@ use Rattle.iccma_tasks.specs.declared.task.Semantics.{Semantics}
 use Rattle.iccma_tasks.specs.declared.task.Semantics.TheVariants.{Complete, Grounded, Preferred, Stable, SemiStable, Ideal}
 use Rattle.iccma_tasks.specs.declared.task.Task.{Task}
 use Rattle.iccma_tasks.specs.Tasks.{task_name, task_of}
-use Rattle.edit_words.specs.declared.edit.Edit.{Edit}
-use Rattle.edit_words.specs.declared.edit.Edit.TheVariants.{
+use Rattle.edit_rules.specs.declared.edit.Edit.{Edit}
+use Rattle.edit_rules.specs.declared.edit.Edit.TheVariants.{
   ArgAdd,
   ArgDrop,
   AttackAdd,

@@ -5,7 +5,7 @@ use Rattle.num_text.specs.Cuts.{LineText, field_texts}
 use Rattle.num_text.specs.Lines.{kept_lines}
 use Rattle.num_text.specs.Number.{IsNumber}
 use Rattle.iccma_tasks.specs.Tasks.{Asked, FitsTask, IsTask, task_name}
-use Rattle.edit_words.specs.declared.edit.Edit.{Edit}
+use Rattle.edit_rules.specs.declared.edit.Edit.{Edit}
 use Rattle.script_text.specs.declared.script.TheConstants.{MOST_SESSIONS}
 use Rattle.script_text.specs.declared.script.Command.{Command}
 use Rattle.script_text.specs.declared.script.Command.TheVariants.{Edit as change_by, Ask}

@@ -5,7 +5,7 @@ ghost use Rattle.std.specs.List.{AllZip};
 ghost use Rattle.num_text.specs.Numerals.{IsReadNumber};
 
 use num_text::Fields;
-use plain_lists::{Items, Memory};
+use lists::{Items, Memory};
 use std::alloc::Global;
 
 /// The text of the next field, where one is left.

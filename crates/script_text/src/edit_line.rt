@@ -11,7 +11,7 @@ use crate::change::Change;
 use crate::fault::{LineStop, ScriptCause};
 use edit_rules::Edit;
 use num_text::Fields;
-use plain_lists::{Items, Memory};
+use lists::{Items, Memory};
 use std::alloc::Global;
 
 /// The edit that a command of this name makes, with these fields behind the name.

@@ -3,7 +3,7 @@
 ghost use Rattle.std.specs.Prelude.{◌≡◌};
 ghost use Rattle.script_text.specs.ScriptFaults.{cause_name};
 
-use plain_lists::Memory;
+use lists::Memory;
 use thiserror::Error;
 
 /// What is wrong with a line. Where several causes stand on one line, the first of this list is told.

@@ -12,7 +12,7 @@ use crate::fault::{LineStop, ScriptFault};
 use crate::script::{Script, ScriptLine};
 use crate::script_line::line_of;
 use num_text::{Lines, lines, next_kept};
-use plain_lists::Items;
+use lists::Items;
 use std::alloc::Global;
 
 /// The script that the bytes spell.

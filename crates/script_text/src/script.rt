@@ -2,7 +2,7 @@
 
 use edit_rules::Edit;
 use iccma_tasks::Query;
-use plain_lists::Items;
+use lists::Items;
 
 /// The most sessions that a script may have: they are numbered from 1 to this.
 pub const MOST_SESSIONS: u32 = 8;

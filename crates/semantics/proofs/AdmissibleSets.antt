@@ -2,7 +2,7 @@
 use Rattle.std.proofs.Common.{⊎_elim, ℕ, List, [], ◌∷◌, ◌++◌, sym, subst}
 use Rattle.std.specs.Prelude.{Contains}
 use Rattle.std.proofs.lemmas.List.Elements.{Contains-append_left, Contains-append_right, Contains-append_cases, Contains-push_cases}
-use Rattle.plain_lists.specs.Members.{IsWithin}
+use Rattle.lists.specs.Members.{IsWithin}
 use Rattle.semantics.specs.Framework.{Af, Attacks, IsAttackedBy, Defends, IsConflictFree, IsAdmissible}
 use Rattle.semantics.specs.Laws.{AttacksMember}
 

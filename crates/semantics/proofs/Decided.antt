@@ -3,7 +3,7 @@ use Rattle.std.proofs.Common.{◌≡◌, ◌≤◌, ◌<◌, ◌⊎◌, arith, i
 use Rattle.std.specs.Prelude.{Contains}
 use Rattle.std.proofs.lemmas.Bool.{cases_eq, cases_lt}
 use Rattle.std.proofs.lemmas.List.Elements.{Contains-append_right}
-use Rattle.plain_lists.proofs.Membership.{Contains-nil, Contains-head, Contains-cons_cases}
+use Rattle.lists.proofs.Membership.{Contains-nil, Contains-head, Contains-cons_cases}
 use Rattle.semantics.specs.Framework.{Af, Attacks, IsAttackedBy, Defends}
 
 -- it holds, or it does not

@@ -3,8 +3,8 @@ use Rattle.std.proofs.Common.{◌⊎◌, inl, inr, ⊎_elim, ℕ, List, [], ◌�
 use Rattle.std.specs.Prelude.{Contains}
 use Rattle.std.proofs.lemmas.List.{append_assoc}
 use Rattle.std.proofs.lemmas.List.Elements.{Contains-append_cases}
-use Rattle.plain_lists.specs.Members.{IsWithin}
-use Rattle.plain_lists.proofs.Membership.{Contains-nil, Contains-head, Contains-tail, Contains-cons_cases, IsWithin-refl, IsWithin-trans}
+use Rattle.lists.specs.Members.{IsWithin}
+use Rattle.lists.proofs.Membership.{Contains-nil, Contains-head, Contains-tail, Contains-cons_cases, IsWithin-refl, IsWithin-trans}
 use Rattle.semantics.specs.Framework.{Af, IsAdmissible, IsPreferred, IsInAllPreferred, IsIdeal}
 use Rattle.semantics.specs.Laws.{AttacksMember, AdmissibleIsInPreferred}
 use Rattle.semantics.specs.Compared.{HasNoLarger, HoldsInAll}

@@ -1,7 +1,7 @@
 -- The laws of specs/Laws.
 use Rattle.std.proofs.Common.{inl, inr, ⊎_elim, ℕ, List, [], ◌∷◌, ◌++◌, refl}
 use Rattle.std.specs.Prelude.{Contains}
-use Rattle.plain_lists.proofs.Membership.{Contains-pushed}
+use Rattle.lists.proofs.Membership.{Contains-pushed}
 use Rattle.semantics.specs.Framework.{Af, IsAf, IsInRange, IsAdmissible, IsPreferred, IsStable, IsSemiStable}
 use Rattle.semantics.specs.Laws.{GroundedIsUnique, StableIsLargest, PreferredIsComplete, SemiStableIsPreferred, UnattackedIsInAll, AttacksMember, IdealIsUnique}
 use Rattle.semantics.proofs.Decided.{decide_member}

@@ -2,8 +2,8 @@
 use Rattle.std.proofs.Common.{◌≤◌, ◌⊎◌, inl, inr, ⊎_elim, ℕ, zero, suc, List, [], ◌∷◌, ◌++◌, length, length-append, arith, ap, subst}
 use Rattle.std.specs.Prelude.{Contains}
 use Rattle.std.proofs.lemmas.List.Elements.{Contains-append_left, Contains-append_right, Contains-append_cases, Contains-push_cases}
-use Rattle.plain_lists.specs.Members.{IsWithin}
-use Rattle.plain_lists.proofs.Membership.{Contains-nil, Contains-cons_cases, Contains-pushed}
+use Rattle.lists.specs.Members.{IsWithin}
+use Rattle.lists.proofs.Membership.{Contains-nil, Contains-cons_cases, Contains-pushed}
 use Rattle.semantics.specs.Framework.{Af, Defends, IsAdmissible, IsComplete, IsGrounded}
 use Rattle.semantics.proofs.Decided.{Decided, Found, search_list, decide_member, decide_defends}
 use Rattle.semantics.proofs.AdmissibleSets.{defends_more, added_admissible}

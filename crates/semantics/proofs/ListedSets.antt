@@ -1,7 +1,7 @@
 -- What holds of each listed set holds of every set, where all sets are listed.
 use Rattle.std.proofs.Common.{◌≡◌, inl, inr, ⊎_elim, ℕ, Bool, List, [], ◌∷◌, ◌++◌, map, refl, sym, subst}
 use Rattle.std.specs.Prelude.{◌↔◌, Contains, IsTrue}
-use Rattle.plain_lists.specs.Members.{IsWithin}
+use Rattle.lists.specs.Members.{IsWithin}
 use Rattle.semantics.specs.Framework.{Af, IsAttackedBy, Attacks, Defends, IsInRange, IsAdmissible, IsComplete, IsPreferred, IsRangeWithin, IsInAllPreferred}
 use Rattle.semantics.specs.Compared.{HasNoLarger, HasNoWider, HoldsInAll, IsInComplete, IsInPreferred}
 use Rattle.semantics.specs.Sets.{IsListed, HasAllSets}

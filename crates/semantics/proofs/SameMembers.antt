@@ -1,7 +1,7 @@
 -- Two lists with the same members meet the same notions.
 use Rattle.std.proofs.Common.{inl, inr, ⊎_elim, ℕ, List}
 use Rattle.std.specs.Prelude.{Contains}
-use Rattle.plain_lists.specs.Members.{IsWithin}
+use Rattle.lists.specs.Members.{IsWithin}
 use Rattle.semantics.specs.Framework.{Af, IsConflictFree, IsAdmissible, IsComplete, IsPreferred, IsRangeWithin, IsInAllPreferred}
 use Rattle.semantics.specs.Laws.{HasSameMembers}
 use Rattle.semantics.proofs.AdmissibleSets.{attacked_more, defends_more}

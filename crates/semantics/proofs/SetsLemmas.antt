@@ -4,9 +4,9 @@ use Rattle.std.specs.Prelude.{Contains, filter}
 use Rattle.std.proofs.lemmas.Bool.{cases_eq, ne_eqb, not-true, eqb-false}
 use Rattle.std.proofs.lemmas.List.{take_more}
 use Rattle.std.proofs.lemmas.List.Elements.{Contains-append_left, Contains-push_cases}
-use Rattle.plain_lists.specs.Members.{IsWithin}
-use Rattle.plain_lists.proofs.Membership.{Contains-nil, Contains-pushed}
-use Rattle.plain_lists.proofs.Filters.{Contains-filter}
+use Rattle.lists.specs.Members.{IsWithin}
+use Rattle.lists.proofs.Membership.{Contains-nil, Contains-pushed}
+use Rattle.lists.proofs.Filters.{Contains-filter}
 use Rattle.semantics.specs.Laws.{HasSameMembers}
 use Rattle.semantics.specs.Sets.{IsListed, HasAllSets, HasLarger}
 use Rattle.semantics.proofs.Decided.{decide_member}

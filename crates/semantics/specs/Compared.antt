@@ -1,6 +1,6 @@
 -- How a set stands to one other set, where its notion speaks of all others.
 use Rattle.std.specs.Prelude.{ℕ, List}
-use Rattle.plain_lists.specs.Members.{IsWithin}
+use Rattle.lists.specs.Members.{IsWithin}
 use Rattle.semantics.specs.Framework.{Af, IsAdmissible, IsComplete, IsPreferred, IsRangeWithin, IsInAllPreferred}
 
 -- if the other set is complete, this one lies in it

@@ -9,7 +9,7 @@
 -- all such lists, and so over all finite sets of numbers.
 use Rattle.std.specs.Prelude.{◌≡◌, ℕ, ◌<◌, List, Contains, length, slice_index_or, ◌⊎◌}
 use Rattle.std.specs.List.Sorted.{IsStrictlyIncreasing}
-use Rattle.plain_lists.specs.Members.{IsWithin}
+use Rattle.lists.specs.Members.{IsWithin}
 
 -- an abstract framework: the live arguments, and the attacks between them (Dung 1995, definition 2)
 pub record Af : Type 0 where

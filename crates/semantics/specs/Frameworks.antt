@@ -2,7 +2,7 @@
 use Rattle.std.specs.Prelude.{ℕ, Contains}
 use Rattle.semantics.specs.Arguments.{IsArgument}
 use Rattle.semantics.specs.Framework.{Af, IsAf}
-use Rattle.aba_semantics.specs.AbaFrameworks.{Aba, IsNumberedAba}
+use Rattle.semantics.specs.AbaFrameworks.{Aba, IsNumberedAba}
 
 -- a framework of one of the kinds: an abstract one, or a flat assumption-based one
 pub data Framework : Type 0 where

@@ -1,6 +1,6 @@
 -- Laws that show the notions of Framework to be the literature's.
 use Rattle.std.specs.Prelude.{List, ℕ, Contains, ◌++◌}
-use Rattle.plain_lists.specs.Members.{IsWithin}
+use Rattle.lists.specs.Members.{IsWithin}
 use Rattle.semantics.specs.Framework.{Af, IsAttackedBy, IsAdmissible, IsComplete, IsGrounded, IsPreferred, IsStable, IsSemiStable, IsInAllPreferred, IsIdeal}
 
 -- the two lists have the same members

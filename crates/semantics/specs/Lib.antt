@@ -5,4 +5,6 @@ pub mod Frameworks
 pub mod Laws
 pub mod Notions
 pub mod Sets
-pub use Rattle.aba_semantics as aba_semantics
+pub mod AbaFrameworks
+pub mod Collectives
+pub mod Rules

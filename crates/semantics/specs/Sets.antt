@@ -1,6 +1,6 @@
 -- Lists of sets.
 use Rattle.std.specs.Prelude.{ℕ, List, [], ◌∷◌, ◌++◌, Contains}
-use Rattle.plain_lists.specs.Members.{IsWithin}
+use Rattle.lists.specs.Members.{IsWithin}
 use Rattle.semantics.specs.Laws.{HasSameMembers}
 
 -- a set of the list has these members

@@ -1,7 +1,7 @@
 //! A framework as two plain lists, and the tests of a set that look at no other set.
 
 ghost use Rattle.std.specs.Prelude.{◌≡◌, ◌↔◌, ℕ, Contains, IsTrue};
-ghost use Rattle.plain_lists.specs.Members.{IsWithin};
+ghost use Rattle.lists.specs.Members.{IsWithin};
 ghost use Rattle.semantics.specs.Framework.{Attacks, IsAttackedBy, Defends, IsConflictFree, IsAdmissible, IsComplete, IsStable, IsInRange, IsRangeWithin};
 ghost use Rattle.semantics.specs.Notions.{AfOf};
 

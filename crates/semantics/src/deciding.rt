@@ -10,7 +10,7 @@ ghost use Rattle.semantics.specs.Sets.{HasAllSets};
 
 use crate::af_lists::{AfLists, is_within};
 use crate::sets::sets_of;
-use plain_lists::{Items, Memory};
+use lists::{Items, Memory};
 use std::alloc::Global;
 
 /// A notion of the argumentation semantics, which a set of arguments meets or not.

@@ -6,9 +6,10 @@ pub mod af_lists;
 pub mod argument;
 pub mod deciding;
 pub mod laws;
+pub mod numbers;
 mod sets;
 
-pub use aba_semantics;
 pub use af_lists::AfLists;
 pub use argument::{LAST_ARGUMENT, is_argument};
 pub use deciding::{Notion, decide};
+pub use numbers::{LAST_ATOM, LAST_RULE};

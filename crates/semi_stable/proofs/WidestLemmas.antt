@@ -2,9 +2,9 @@
 use Rattle.std.proofs.Common.{◌≡◌, ⊎_elim, ℕ, ◌<◌, true, false, not, List, [], ◌∷◌, length, filter, refl, ap, sym, subst, ◌∙◌}
 use Rattle.std.specs.Prelude.{Contains, Result, IfOk}
 use Rattle.std.proofs.lemmas.Bool.{false≢true, not_from_false, false_from_ne_true}
-use Rattle.plain_lists.specs.Members.{IsSetOf, IsWithin}
-use Rattle.plain_lists.proofs.Filters.{Contains-filter}
-use Rattle.plain_lists.proofs.Membership.{Contains-nil, Contains-head, Contains-tail, Contains-cons_cases}
+use Rattle.lists.specs.Members.{IsSetOf, IsWithin}
+use Rattle.lists.proofs.Filters.{Contains-filter}
+use Rattle.lists.proofs.Membership.{Contains-nil, Contains-head, Contains-tail, Contains-cons_cases}
 use Rattle.plain_lits.specs.declared.halt.Halt.{Halt}
 use Rattle.plain_lits.proofs.HintCheckLemmas.{Contains-mapped}
 use Rattle.semantics.specs.Frameworks.{Framework, af, aba, IsNumbered}

@@ -3,7 +3,7 @@
 -- Sources: M. Caminada, "Semi-stable semantics", COMMA 2006, for admissible sets; B. Verheij, "Two approaches to
 -- dialectical argumentation: admissible sets and argumentation stages", NAIC 1996, for conflict-free ones.
 use Rattle.std.specs.Prelude.{ℕ, List, [], ◌∷◌, Contains}
-use Rattle.plain_lists.specs.Members.{IsSetOf}
+use Rattle.lists.specs.Members.{IsSetOf}
 use Rattle.semantics.specs.Frameworks.{Framework}
 use Rattle.meaning_atoms.specs.declared.atom.Atom.{Atom}
 use Rattle.meaning_atoms.specs.Literals.{affirmed}

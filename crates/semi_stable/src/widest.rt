@@ -1,7 +1,7 @@
 //! The growing of a set by its range.
 
 ghost use Rattle.std.specs.Prelude.{◌≡◌, false, IfOk};
-ghost use Rattle.plain_lists.specs.Members.{IsSetOf};
+ghost use Rattle.lists.specs.Members.{IsSetOf};
 ghost use Rattle.meaning_atoms.specs.Worlds.{HoldsOf};
 ghost use Rattle.oracle_face.specs.Goals.{IsMode};
 ghost use Rattle.oracle_face.specs.Growing.{HasRun, closes, halt_of};

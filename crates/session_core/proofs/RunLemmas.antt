@@ -5,8 +5,8 @@ use Rattle.std.proofs.lemmas.Bool.{cases_lt, cond_both, eq-eqb, false≢true}
 use Rattle.std.proofs.lemmas.List.{append_assoc, append-nil, get_or-append-add, get_or_append_left, length-append, length-drop, length-take-le, map-append, take-append-drop, take-append-le, take_all}
 use Rattle.std.proofs.lemmas.List.Elements.{Contains-append_left, Contains-append_right}
 use Rattle.std.proofs.Math.Seq.{take-add}
-use Rattle.plain_lists.proofs.Counts.{count_by-cons}
-use Rattle.plain_lists.proofs.Membership.{Contains-head}
+use Rattle.lists.proofs.Counts.{count_by-cons}
+use Rattle.lists.proofs.Membership.{Contains-head}
 use Rattle.plain_lits.specs.HintCheck.{Checks}
 use Rattle.plain_lits.specs.Units.{Units}
 use Rattle.semantics.specs.Frameworks.{Framework, af, aba, IsNumbered}
@@ -15,7 +15,7 @@ use Rattle.meaning_atoms.specs.declared.axiom.AxiomName.{AxiomName}
 use Rattle.meaning_atoms.specs.declared.axiom.AxiomName.TheVariants.{Af as OfAf, Aba as OfAba}
 use Rattle.meaning_atoms.specs.Literals.{negated}
 use Rattle.certificate_claims.specs.Refutations.{IsAxiomOf}
-use Rattle.edit_words.specs.declared.edit.Edit.{Edit}
+use Rattle.edit_rules.specs.declared.edit.Edit.{Edit}
 use Rattle.edit_rules.specs.Kinds.{kind_of}
 use Rattle.edit_rules.specs.Replay.{replay}
 use Rattle.edit_rules.proofs.ReplayLemmas.{edits_keep, kind_stays}
@@ -31,9 +31,9 @@ use Rattle.session_log.specs.Ends.{LoopsServe}
 use Rattle.oracle_face.specs.Needed.{IsNeeded}
 use Rattle.session_log.specs.Steps.{GainsStep, LearnsClause, TakesAxiom, TakesSide, derived_step, own_step, side_made}
 use Rattle.session_log.proofs.AxiomLemmas.{needed_no_loop}
-use Rattle.clause_imports.specs.Imports.{IsHintOf, IsShownHere, MayImport, TakesEntry}
-use Rattle.clause_imports.specs.OwnSteps.{IsCalledOn, IsWanted, LearnsAxiom, OwnStep, OwnSteps, keeps_side, learns_axiom, learns_clause, nothing, one_more}
-use Rattle.clause_imports.specs.OwnSteps.{takes_entry}
+use Rattle.session_log.specs.Imports.{IsHintOf, IsShownHere, MayImport, TakesEntry}
+use Rattle.session_log.specs.OwnSteps.{IsCalledOn, IsWanted, LearnsAxiom, OwnStep, OwnSteps, keeps_side, learns_axiom, learns_clause, nothing, one_more}
+use Rattle.session_log.specs.OwnSteps.{takes_entry}
 use Rattle.core_machine.specs.Core.{Core, CoreSession, put_at, seen_framework, with_log, with_session}
 use Rattle.core_machine.specs.Steps.{Event, IsCalledFor, IsNamedInPool, IsNeededFor, IsStep, Runs, TakesByOrigin, after_turn, cut, goes, is_by_side, is_side_step, learn, refresh, rests, side, take_in, taken_by}
 use Rattle.oracle_core.proofs.EngineKinds.{needed_axiom}

@@ -11,8 +11,8 @@ use Rattle.oracle_face.specs.declared.entry.Entry.{Entry as PoolEntry}
 use Rattle.oracle_face.specs.declared.face.Pending.{Pending}
 use Rattle.oracle_face.specs.Logs.{OracleLog, LogStep, by_axiom, is_loop, no_step}
 use Rattle.session_log.specs.Ends.{Ending, definite, log_full, refused, too_many, unknown}
-use Rattle.clause_imports.specs.OwnSteps.{IsCalledOn, IsWanted, OwnStep, OwnSteps, keeps_side, learns_axiom, learns_clause, nothing, one_more}
-use Rattle.clause_imports.specs.OwnSteps.{takes_entry}
+use Rattle.session_log.specs.OwnSteps.{IsCalledOn, IsWanted, OwnStep, OwnSteps, keeps_side, learns_axiom, learns_clause, nothing, one_more}
+use Rattle.session_log.specs.OwnSteps.{takes_entry}
 use Rattle.core_machine.specs.Core.{Core}
 use Rattle.core_machine.specs.Steps.{Event, Runs, answer, is_side_step, learn, refresh, side, take_in}
 use Rattle.session_replies.specs.declared.reply.Body.{Body}

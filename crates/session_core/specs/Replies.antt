@@ -5,7 +5,7 @@ use Rattle.plain_lits.specs.declared.halt.Halt.TheVariants.{Spent, LogFull as Of
 use Rattle.plain_lits.specs.Units.{Units}
 use Rattle.semantics.specs.Frameworks.{Framework}
 use Rattle.iccma_tasks.specs.Tasks.{Asked}
-use Rattle.edit_words.specs.declared.edit.Edit.{Edit}
+use Rattle.edit_rules.specs.declared.edit.Edit.{Edit}
 use Rattle.edit_rules.specs.Edits.{edit_outcome}
 use Rattle.edit_rules.specs.Fitting.{Fits, IsFaultOf}
 use Rattle.edit_history.specs.declared.entry.Entry.{Entry}
@@ -15,7 +15,7 @@ use Rattle.oracle_face.specs.declared.face.Pending.{Pending}
 use Rattle.oracle_face.specs.Growing.{Grows, HasRun}
 use Rattle.oracle_face.specs.Logs.{OracleLog}
 use Rattle.session_log.specs.Ends.{IsShownBy as IsShownByLog, LoopInHand, MadeFor}
-use Rattle.oracle_core.specs.log_certificates.specs.Cuts.{AreCut}
+use Rattle.oracle_core.specs.certificate_making.specs.Cuts.{AreCut}
 use Rattle.oracle_core.specs.query_answers.specs.Answers.{AreTooMany, is_by_grounded}
 use Rattle.oracle_core.specs.Answering.{NeedsSearch}
 use Rattle.oracle_core.specs.Answers.{IsShownBy}

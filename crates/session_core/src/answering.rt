@@ -9,7 +9,7 @@ use crate::kept::KeptAnswer;
 use iccma_tasks::Query;
 use oracle_core::{AnswerStop, Answered, Engine};
 use oracle_face::{ClauseTrade, Pending};
-use plain_lists::Memory;
+use lists::Memory;
 use plain_lits::Budget;
 use session_replies::Body;
 use std::alloc::Global;

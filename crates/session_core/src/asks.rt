@@ -18,7 +18,7 @@ use clause_pool::{Pool, PoolTrade};
 use edit_history::{Fresh, Hub};
 use iccma_tasks::Query;
 use oracle_face::Oracle;
-use plain_lists::Memory;
+use lists::Memory;
 use session_replies::{Body, Reply};
 use std::alloc::Global;
 use std::sync::Wait;

@@ -10,7 +10,7 @@ ghost use Rattle.session_core.specs.Sessions.{Follows, seen_by};
 use crate::session::Session;
 use edit_history::{CommitFault, Hub};
 use edit_rules::Edit;
-use plain_lists::Memory;
+use lists::Memory;
 use session_replies::{Body, Reply};
 use std::alloc::Global;
 use std::sync::Wait;

@@ -9,7 +9,7 @@ ghost use Rattle.session_core.specs.Following.{CatchesUp};
 use edit_history::Change;
 use edit_rules::Effect;
 use oracle_core::{Engine, UpdateStop};
-use plain_lists::Memory;
+use lists::Memory;
 use std::alloc::Global;
 
 /// Brings an engine to the framework after a change. A full log keeps none of it back but axioms.

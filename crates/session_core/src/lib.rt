@@ -12,5 +12,4 @@ pub mod session;
 
 pub use answering::EXTENSION_LIMIT;
 pub use kept::{Kept, KeptAnswer};
-pub use oracle_core;
 pub use session::Session;

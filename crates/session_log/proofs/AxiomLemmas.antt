@@ -15,7 +15,7 @@ use Rattle.oracle_face.specs.AbaNeeded.{IsNeededOfAba}
 use Rattle.oracle_face.specs.Goals.{IsSide, Tells}
 use Rattle.oracle_face.specs.Logs.{is_loop}
 use Rattle.oracle_face.specs.Needed.{IsNeeded}
-use Rattle.aba_semantics.specs.AbaFrameworks.{Aba}
+use Rattle.semantics.specs.AbaFrameworks.{Aba}
 use Rattle.meaning_atoms.specs.declared.aba_axiom.AbaAxiom.{AbaAxiom}
 use Rattle.meaning_atoms.specs.declared.aba_axiom.AbaAxiom.TheVariants.{B1, B2, B3, B4, B5, B6, B7, B8, B9, B9Con, B10, B11, B12, B13, B14, B15, B16, B17}
 use Rattle.meaning_atoms.specs.declared.atom.AtomLit.{AtomLit}

@@ -6,3 +6,6 @@ pub mod Spending
 pub mod Staying
 pub mod StepLemmas
 pub mod StepWorlds
+pub mod Taking
+pub mod Naming
+pub mod WorldTruth

@@ -4,8 +4,8 @@ use Rattle.std.proofs.Common.{refl, ap, sym, subst, ◌∙◌, arith}
 use Rattle.std.specs.Prelude.{◌&&◌, count_by, slice_index_or, Option, Some, None}
 use Rattle.std.proofs.lemmas.Bool.{false≢true}
 use Rattle.std.proofs.lemmas.List.{get_or_push, length_push, take_all, take-append-le}
-use Rattle.plain_lists.proofs.Counts.{count_by-cons}
-use Rattle.plain_lists.proofs.Membership.{Contains-cons_cases}
+use Rattle.lists.proofs.Counts.{count_by-cons}
+use Rattle.lists.proofs.Membership.{Contains-cons_cases}
 use Rattle.plain_lits.specs.Units.{Units}
 use Rattle.semantics.specs.Arguments.{IsArgument}
 use Rattle.semantics.specs.Frameworks.{Framework, af, aba}

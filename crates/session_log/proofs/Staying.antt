@@ -5,7 +5,7 @@ use Rattle.std.specs.Prelude.{◌⊎◌, Contains, slice_index_or, Option, None}
 use Rattle.std.proofs.lemmas.Bool.{cases_lt, false≢true}
 use Rattle.std.proofs.lemmas.List.{length_push, get_or_push}
 use Rattle.std.proofs.lemmas.List.Elements.{Contains-push_cases}
-use Rattle.plain_lists.proofs.Membership.{Contains-nil, Contains-head, Contains-cons_cases}
+use Rattle.lists.proofs.Membership.{Contains-nil, Contains-head, Contains-cons_cases}
 use Rattle.semantics.specs.Frameworks.{Framework}
 use Rattle.meaning_atoms.specs.declared.atom.Atom.TheVariants.{Ask}
 use Rattle.meaning_atoms.specs.declared.atom.AtomLit.{AtomLit}

@@ -3,3 +3,7 @@ pub mod Guards
 pub mod Laws
 pub mod Steps
 pub mod Truth
+pub mod Imports
+pub mod ImportLaws
+pub mod OwnSteps
+pub mod WorldLogs

@@ -3,10 +3,10 @@ use Rattle.std.proofs.Common.{◌≡◌, ℕ, ◌+◌, ◌<◌, List, [], ◌∷
 use Rattle.std.proofs.Common.{length, get_or, take, sym, ap, ◌∙◌, append_assoc, arith}
 use Rattle.std.specs.Prelude.{Contains}
 use Rattle.std.proofs.lemmas.List.{take_more, append-nil, length-take-le}
-use Rattle.plain_lists.specs.Members.{IsSetOf}
+use Rattle.lists.specs.Members.{IsSetOf}
 use Rattle.aba_notions.proofs.FormLemmas.{same_rising}
-use Rattle.aba_edits.specs.AbaEdits.{in_order}
-use Rattle.aba_edits.proofs.RowForms.{in_order_rises, in_order_members}
+use Rattle.edit_rules.specs.AbaEdits.{in_order}
+use Rattle.edit_rules.proofs.AbaRowForms.{in_order_rises, in_order_members}
 use Rattle.session_replies.specs.Replies.{numbered}
 
 -- the set of a body's atoms is the body in order

@@ -5,10 +5,10 @@ use Rattle.std.specs.Fmt.{decimal}
 use Rattle.iccma_tasks.specs.WrittenText.{text_of}
 use Rattle.certificate_claims.specs.declared.certificate.Certificate.{Certificate}
 use Rattle.certificate_text.specs.Written.{certificate_text}
-use Rattle.edit_words.specs.declared.edit.Edit.{Edit}
-use Rattle.edit_words.specs.declared.edit.Edit.TheVariants.{RuleAdd}
-use Rattle.edit_words.specs.declared.effect.EditFault.{EditFault}
-use Rattle.edit_words.specs.declared.effect.EditFault.TheVariants.{
+use Rattle.edit_rules.specs.declared.edit.Edit.{Edit}
+use Rattle.edit_rules.specs.declared.edit.Edit.TheVariants.{RuleAdd}
+use Rattle.edit_rules.specs.declared.effect.EditFault.{EditFault}
+use Rattle.edit_rules.specs.declared.effect.EditFault.TheVariants.{
   WrongKind,
   OutOfRange,
   ArgumentIsThere,
@@ -22,7 +22,7 @@ use Rattle.edit_words.specs.declared.effect.EditFault.TheVariants.{
   Memory,
 }
 use Rattle.edit_rules.specs.Fitting.{fault_name, fault_number}
-use Rattle.aba_edits.specs.AbaEdits.{in_order}
+use Rattle.edit_rules.specs.AbaEdits.{in_order}
 use Rattle.script_text.specs.Changes.{change_name, change_of, edit_numbers}
 use Rattle.edit_history.specs.declared.entry.Change.{Change}
 use Rattle.session_replies.specs.declared.reply.Body.{Body}

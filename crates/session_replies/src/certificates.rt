@@ -6,7 +6,7 @@ ghost use Rattle.session_replies.specs.Replies.{certificate_part, certificates_i
 use crate::reply::{Body, Reply};
 use certificate_claims::Certificate;
 use certificate_text::write_certificate;
-use plain_lists::{Bytes, Items, Memory};
+use lists::{Bytes, Items, Memory};
 use std::alloc::Global;
 
 /// The certificates of all answers, session by session in the order of the replies. Before each one stands a line

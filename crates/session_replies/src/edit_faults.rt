@@ -3,7 +3,7 @@
 ghost use Rattle.std.specs.Prelude.{◌≡◌};
 ghost use Rattle.session_replies.specs.Replies.{edit_fault_name as fault_name, edit_fault_number as fault_number};
 
-use edit_words::EditFault;
+use edit_rules::EditFault;
 
 /// The name of a fault, as it is printed.
 pub fn edit_fault_name(fault: EditFault) -> &'static str

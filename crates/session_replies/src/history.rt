@@ -2,12 +2,12 @@
 
 ghost use Rattle.std.specs.Prelude.{◌≡◌, ◌++◌, IfOk, OnOk};
 ghost use Rattle.std.specs.String.{string_bytes};
-ghost use Rattle.aba_edits.specs.AbaEdits.{in_order};
+ghost use Rattle.edit_rules.specs.AbaEdits.{in_order};
 ghost use Rattle.session_replies.specs.Replies.{edit_text, history_line, history_of, rule_text, spaced};
 
 use edit_history::Change;
-use edit_words::Edit;
-use plain_lists::{Bytes, Memory};
+use edit_rules::Edit;
+use lists::{Bytes, Memory};
 use set_lists::NumSet;
 use std::alloc::Global;
 use std::fmt::Write;

@@ -8,9 +8,9 @@ ghost use Rattle.session_replies.specs.Replies.{body_text, front_line, refusal_l
 use crate::edit_faults::{edit_fault_name, edit_fault_number};
 use certificate_claims::Certificate;
 use edit_rules::QueryFault;
-use edit_words::{Edit, EditFault, Effect};
+use edit_rules::{Edit, EditFault, Effect};
 use iccma_tasks::{Answer, answer_text};
-use plain_lists::{Bytes, Memory};
+use lists::{Bytes, Memory};
 use std::alloc::Global;
 
 /// What a session is told of one line of its script.

@@ -7,7 +7,7 @@ ghost use Rattle.session_replies.specs.Replies.{numbered, reply_text, session_of
 use crate::history::history_text;
 use crate::reply::{Reply, push_reply};
 use edit_history::Change;
-use plain_lists::{Bytes, Items, Memory};
+use lists::{Bytes, Items, Memory};
 use std::alloc::Global;
 
 /// The text of a session: the line `session S`, and its replies in order. A reply is the line `at FRONT`, and the

@@ -1,11 +1,11 @@
 //! Sessions run at the same time: one is answered while another stands inside its query.
 
 use argue_outside::{Pace, Point};
-use bench_runs::script_runs::run_script;
+use bench_runs::run_script;
 use crossbeam_utils::Backoff;
 use dung_notions::AfPlain;
 use edit_rules::Framework;
-use plain_lists::{Bytes, Memory};
+use lists::{Bytes, Memory};
 use script_text::{Script, read_script};
 use session_replies::transcript_text;
 use std::alloc::Global;

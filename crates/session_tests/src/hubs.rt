@@ -8,7 +8,7 @@ ghost use Rattle.edit_history.specs.Hubs.{IsSeatAt};
 use dung_notions::AfPlain;
 use edit_history::{Change, CommitFault, Committed, Fresh, Hub, Seat};
 use edit_rules::{Edit, EditFault, Framework};
-use plain_lists::Memory;
+use lists::Memory;
 use std::alloc::Global;
 use std::sync::Wait;
 use std::test::Fail;

@@ -1,10 +1,10 @@
 //! The smallest large inputs, and the summary of the first.
 
 use argue_outside::NoPace;
-use bench_inputs::bench_input;
+use bench_runs::bench_input;
 use bench_runs::{BenchRun, run_bench};
 use edit_rules::Framework;
-use plain_lists::{Bytes, Memory};
+use lists::{Bytes, Memory};
 use script_text::Script;
 use std::alloc::Global;
 use std::mem::forget;

@@ -3,7 +3,7 @@
 use clause_pool::{Pool, PoolTrade};
 use meaning_atoms::{AfAxiom, AxiomName};
 use oracle_face::{ClauseTrade, Entry, EntryName, NoTrade};
-use plain_lists::Memory;
+use lists::Memory;
 use plain_lits::StepId;
 use std::alloc::Global;
 use std::sync::Wait;

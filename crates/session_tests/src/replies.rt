@@ -4,7 +4,7 @@ use certificate_claims::{Certificate, Refutation, Step};
 use edit_history::Change;
 use edit_rules::{Edit, EditFault, Effect, QueryFault};
 use iccma_tasks::Answer;
-use plain_lists::{Items, Memory};
+use lists::{Items, Memory};
 use session_replies::{
     Body, Reply, certificates_text, history_text, session_text, transcript_text,
 };

@@ -2,7 +2,7 @@
 
 use edit_rules::Edit;
 use iccma_tasks::{Problem, Semantics, Task};
-use plain_lists::{Items, Memory};
+use lists::{Items, Memory};
 use script_text::{Command, ScriptCause, ScriptFault, ScriptLine, read_script};
 use std::alloc::Global;
 use std::test::Fail;

@@ -1,10 +1,10 @@
 //! Sessions of a script: what they are told, whichever of them takes its turn first.
 
 use argue_outside::NoPace;
-use bench_runs::script_runs::run_script;
+use bench_runs::run_script;
 use dung_notions::AfPlain;
 use edit_rules::Framework;
-use plain_lists::{Bytes, Memory};
+use lists::{Bytes, Memory};
 use script_text::{Script, read_script};
 use session_replies::transcript_text;
 use std::alloc::{AllocError, Global};

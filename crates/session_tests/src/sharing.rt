@@ -7,14 +7,14 @@ ghost use Rattle.bench_runs.specs.session_core.specs.Sessions.{Follows};
 ghost use Rattle.session_tests.specs.Seats.{IsNewSeat};
 
 use argue_outside::NoPace;
-use bench_runs::oracle_core::Engine;
-use bench_runs::session_core::Session;
+use oracle_core::Engine;
+use session_core::Session;
 use clause_pool::Pool;
 use dung_notions::AfPlain;
 use edit_history::{Hub, Seat};
 use edit_rules::Framework;
 use iccma_tasks::{Query, Task};
-use plain_lists::Memory;
+use lists::Memory;
 use plain_lits::StepId;
 use std::alloc::Global;
 use std::mem::forget;

@@ -4,7 +4,7 @@ ghost use Rattle.std.specs.Prelude.{◌≡◌, ◌<◌, ◌∷◌, ◌++◌, [],
 ghost use Rattle.std.specs.Thread.{IsSync};
 ghost use Rattle.turn_lock.specs.Seats.{MayEnter, number_of};
 
-use plain_lists::Memory;
+use lists::Memory;
 use std::alloc::Global;
 use std::sync::Wait;
 use std::test::Fail;

@@ -4,8 +4,8 @@ use Rattle.std.specs.Prelude.{Contains, insert}
 use Rattle.std.specs.List.Sorted.{IsStrictlyIncreasing}
 use Rattle.std.proofs.lemmas.List.{get_or_default, get_or-take, get_or-drop, length-take, take-append-drop}
 use Rattle.std.proofs.lemmas.List.Elements.{Contains-append_left, Contains-append_right, Contains-append_cases}
-use Rattle.plain_lists.specs.Members.{IsSetOf}
-use Rattle.plain_lists.proofs.Membership.{Contains-nil, Contains-head, Contains-tail, Contains-cons_cases}
+use Rattle.lists.specs.Members.{IsSetOf}
+use Rattle.lists.proofs.Membership.{Contains-nil, Contains-head, Contains-tail, Contains-cons_cases}
 use Rattle.set_lists.proofs.Rising.{IsPlaceOf, rises_left, rises_right, below_across, rises_append}
 
 -- what lies before the index is below the number

@@ -4,10 +4,10 @@ ghost use Rattle.std.specs.Prelude.{◌≡◌, ◌↔◌, ◌⊎◌, ℕ, [], Co
 ghost use Rattle.std.specs.List.Sorted.{IsStrictlyIncreasing};
 ghost use Rattle.std.specs.Ordering.{nat_cmp};
 ghost use Rattle.std.specs.Cmp.Lexicographic.{slice_cmp};
-ghost use Rattle.plain_lists.specs.Members.{IsSetOf, IsWithin};
+ghost use Rattle.lists.specs.Members.{IsSetOf, IsWithin};
 
 use crate::merge::{merge, subtract};
-use plain_lists::Memory;
+use lists::Memory;
 use std::alloc::Global;
 use std::cmp::Ordering;
 use std::marker::Model;

@@ -5,7 +5,7 @@ use Rattle.std.specs.Prelude.{◌⊎◌, Contains, count_by, slice_index_or, Opt
 use Rattle.std.proofs.lemmas.Bool.{cases_Bool, cases_lt, false≢true}
 use Rattle.std.proofs.lemmas.List.{get_or_append_left, get_or_push, length-append, append-nil, take-append-le, take_all}
 use Rattle.std.proofs.lemmas.List.Elements.{Contains-push_cases}
-use Rattle.plain_lists.proofs.Counts.{count_by-cons, count_yes, count_no}
+use Rattle.lists.proofs.Counts.{count_by-cons, count_yes, count_no}
 use Rattle.plain_lits.specs.declared.halt.Halt.{Halt}
 use Rattle.plain_lits.specs.declared.halt.Halt.TheVariants.{Spent, Memory}
 use Rattle.plain_lits.specs.Units.{Units}

@@ -5,7 +5,7 @@ use Rattle.std.specs.Prelude.{◌↔◌, ◌⊎◌, IsTrue, Contains, slice_inde
 use Rattle.std.proofs.Math.Seq.{drop-cons}
 use Rattle.std.proofs.lemmas.Bool.{eqb-true, false≢true}
 use Rattle.std.proofs.lemmas.List.{get_or-map, length-map}
-use Rattle.plain_lists.proofs.Filters.{Contains-filter}
+use Rattle.lists.proofs.Filters.{Contains-filter}
 use Rattle.plain_lits.specs.HintCheck.{Checks, IsFalseHint, IsFalsified, IsNamed, IsUnit, IsUnitHint, Propagates, clause_at}
 use Rattle.plain_lits.proofs.HintCheckLemmas.{Contains-from_mapped}
 use Rattle.semantics.specs.Frameworks.{Framework}

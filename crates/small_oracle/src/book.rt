@@ -17,7 +17,7 @@ use af_encoding::needed;
 use dung_notions::AfPlain;
 use meaning_atoms::{AtomLit, AxiomName};
 use oracle_face::Pending;
-use plain_lists::{Items, Memory};
+use lists::{Items, Memory};
 use plain_lits::{Budget, Halt, StepId};
 use std::alloc::Global;
 

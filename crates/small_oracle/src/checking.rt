@@ -13,7 +13,7 @@ use crate::steps::{Step, item_of};
 use dung_notions::AfPlain;
 use meaning_atoms::AtomLit;
 use meaning_atoms::laws::literals_are_equal;
-use plain_lists::Memory;
+use lists::Memory;
 use plain_lits::StepId;
 use std::alloc::Global;
 

@@ -7,7 +7,7 @@ use crate::steps::{Step, item_of};
 use af_encoding::fact;
 use dung_notions::AfPlain;
 use meaning_atoms::{Atom, AtomLit};
-use plain_lists::{Items, Memory};
+use lists::{Items, Memory};
 use plain_lits::StepId;
 use set_lists::NumSet;
 use std::alloc::Global;

@@ -20,7 +20,7 @@ use crate::subsets::first_set;
 use dung_notions::AfPlain;
 use meaning_atoms::AtomLit;
 use oracle_face::Found;
-use plain_lists::{Items, Memory as OutOfMemory};
+use lists::{Items, Memory as OutOfMemory};
 use plain_lits::{Budget, Halt, StepId};
 use set_lists::NumSet;
 use std::alloc::Global;

@@ -12,7 +12,7 @@ use af_encoding::fact;
 use dung_notions::AfPlain;
 use meaning_atoms::AtomLit;
 use meaning_atoms::laws::literals_are_equal;
-use plain_lists::{Items, Memory};
+use lists::{Items, Memory};
 use std::alloc::Global;
 
 /// The literal that says the opposite.

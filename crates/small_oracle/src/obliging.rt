@@ -16,7 +16,7 @@ use crate::steps::{Origin, Side, Step, item_of, number_of};
 use dung_notions::AfPlain;
 use meaning_atoms::AtomLit;
 use oracle_face::{AskId, Pending};
-use plain_lists::{Items, Memory};
+use lists::{Items, Memory};
 use plain_lits::{Budget, Halt};
 use set_lists::NumSet;
 use std::alloc::Global;

@@ -13,7 +13,7 @@ use crate::obliging::keep_side;
 use dung_notions::AfPlain;
 use meaning_atoms::{Atom, AtomLit};
 use oracle_face::{AskId, Found, Oracle, Pending};
-use plain_lists::Memory;
+use lists::Memory;
 use plain_lits::{Budget, Halt};
 use set_lists::NumSet;
 use std::alloc::Global;

@@ -11,7 +11,7 @@ use crate::literals::has;
 use crate::steps::{Step, item_of};
 use meaning_atoms::AtomLit;
 use oracle_face::AskId;
-use plain_lists::Memory;
+use lists::Memory;
 use plain_lits::StepId;
 use set_lists::NumSet;
 use std::alloc::Global;

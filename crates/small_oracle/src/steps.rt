@@ -6,7 +6,7 @@ ghost use Rattle.small_oracle.specs.Sources.{source_of};
 ghost use Rattle.small_oracle.specs.Tests.{IsItemOf, SideOf};
 
 use meaning_atoms::{AtomLit, AxiomName};
-use plain_lists::{Items, Memory};
+use lists::{Items, Memory};
 use plain_lits::StepId;
 use set_lists::NumSet;
 use std::marker::Model;

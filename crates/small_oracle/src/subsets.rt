@@ -11,7 +11,7 @@ ghost use Rattle.small_oracle.specs.Tests.{IsMet};
 use crate::steps::{Side, item_of};
 use dung_notions::AfPlain;
 use meaning_atoms::{Atom, AtomLit};
-use plain_lists::Memory;
+use lists::Memory;
 use set_lists::NumSet;
 use std::alloc::Global;
 

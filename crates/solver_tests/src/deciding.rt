@@ -1,7 +1,7 @@
 //! Which variable is decided next, and when a search begins anew: contracts say nothing of this advice.
 
 use decision_order::{DecisionOrder, Luby};
-use plain_lists::Memory;
+use lists::Memory;
 use plain_lits::Lit;
 use std::alloc::Global;
 use std::test::Fail;

@@ -5,7 +5,7 @@ ghost use Rattle.unit_propagate.specs.Search.{IsConflict};
 ghost use Rattle.conflict_learn.specs.Learning.{IsDecided};
 
 use conflict_learn::Learner;
-use plain_lists::Memory;
+use lists::Memory;
 use plain_lits::{Lit, Value};
 use std::alloc::Global;
 use std::test::Fail;

@@ -1,7 +1,7 @@
 //! What no clause says: that calls succeed where memory is there, and what small searches find.
 
 use hinted_log::{Log, LogFault};
-use plain_lists::Memory;
+use lists::Memory;
 use plain_lits::{Budget, Clause, Halt, Lit, StepId};
 use sat_core::{Added, Solved, Solver};
 use std::alloc::Global;

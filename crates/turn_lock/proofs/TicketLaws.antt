@@ -5,7 +5,7 @@ use Rattle.std.proofs.lemmas.List.{take-append-drop}
 use Rattle.std.proofs.lemmas.List.Elements.{All-weaker}
 use Rattle.std.proofs.lemmas.Map.Keys.{IsDistinct-from_apart}
 use Rattle.std.proofs.lemmas.Map.Steps.{length-le_from_distinct_below}
-use Rattle.plain_lists.proofs.ListTests.{any_gives}
+use Rattle.lists.proofs.ListTests.{any_gives}
 use Rattle.atomic_table.proofs.Lists.{at_set, set_else, set_again, at_longer, at_last, one_turn}
 use Rattle.atomic_table.specs.Table.{State, Me, Act, Allows, Valid, stepped, carried_after, keeps, takes}
 use mathlib.Core.Logic.{dite}

@@ -12,7 +12,7 @@ use crate::seat::Seat;
 use crate::steps::{split, try_number};
 use atomic_table::Table;
 use crossbeam_utils::Backoff;
-use plain_lists::Memory;
+use lists::Memory;
 use std::alloc::Global;
 use std::snapshot::Snapshot;
 use std::sync::Wait;

@@ -6,7 +6,7 @@ use Rattle.std.proofs.lemmas.List.{get_or_default, get_or-set_same, get_or-set_o
 use Rattle.std.proofs.lemmas.List.Elements.{Contains-append_left, Contains-append_cases}
 use Rattle.std.proofs.Math.ListN.{set}
 use Rattle.std.proofs.lemmas.Bool.{cases_lt}
-use Rattle.plain_lists.proofs.Membership.{Contains-nil, Contains-cons_cases, Contains-pushed}
+use Rattle.lists.proofs.Membership.{Contains-nil, Contains-cons_cases, Contains-pushed}
 use Rattle.plain_lits.specs.declared.lit.Lit.{Lit}
 use Rattle.plain_lits.specs.declared.value.Value.{Value}
 use Rattle.plain_lits.specs.declared.value.Value.TheVariants.{True, False, Unset}

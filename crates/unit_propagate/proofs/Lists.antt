@@ -9,7 +9,7 @@ use Rattle.std.proofs.Math.ListN.{get_or-eq_default}
 use Rattle.std.proofs.lemmas.List.Sums.{sum_by_push, sum_by-swap_remove, sum_by-cons}
 use Rattle.std.proofs.lemmas.Bool.{cases_lt, cases_eq}
 use Rattle.std.proofs.lemmas.Bool.Decides.{nat_tests}
-use Rattle.plain_lists.proofs.ListTests.{any_from}
+use Rattle.lists.proofs.ListTests.{any_from}
 use Rattle.plain_lits.specs.declared.lit.Lit.{Lit}
 use Rattle.plain_lits.specs.Packed.{packed}
 use Rattle.plain_lits.specs.HintCheck.{clause_at, IsNamed}

@@ -3,7 +3,7 @@ use Rattle.std.proofs.Common.{◌≡◌, ℕ, zero, suc, ◌<◌, ◌≤◌, Lis
 use Rattle.std.proofs.Common.{get_or, arith, ap, sym, subst, ◌∙◌, refl, inl, inr, ⊎_elim}
 use Rattle.std.specs.Prelude.{◌↔◌, Contains, sum_by}
 use Rattle.std.proofs.lemmas.List.{get_or_default}
-use Rattle.plain_lists.proofs.Membership.{Contains-nil, Contains-head, Contains-cons_cases}
+use Rattle.lists.proofs.Membership.{Contains-nil, Contains-head, Contains-cons_cases}
 use Rattle.plain_lits.specs.declared.lit.Lit.{Lit}
 use Rattle.plain_lits.specs.Packed.{packed}
 use Rattle.plain_lits.specs.Trails.{TrailState, IsTrailState}

@@ -18,7 +18,7 @@ ghost use Rattle.clause_watches.specs.WatchLists.{HasPairRoom, Joins};
 
 use crate::engine::{Engine, Mark, mark_in};
 use clause_watches::{Pair, claim_all, grow_lists, pick, pick_second, push_id, rank_of, vars_of};
-use plain_lists::Memory;
+use lists::Memory;
 use plain_lits::{Lit, Value};
 use std::alloc::Global;
 

@@ -15,7 +15,7 @@ ghost use Rattle.unit_propagate.specs.Steps.{Grows, IsVisit, HasVisited, IsFound
 ghost use Rattle.clause_watches.specs.WatchLists.{list_at, ids_at, with_id, without};
 
 use clause_watches::{Arena, Found, Pair, WatchList, code_of, ids_in, push_id, remove_id};
-use plain_lists::Memory;
+use lists::Memory;
 use plain_lits::{Lit, PackedLit, Trail, Value};
 use std::alloc::Global;
 

@@ -10,7 +10,7 @@ ghost use Rattle.unit_propagate.specs.Search.{IsSearch, IsAnswer, IsGuarded, Has
 ghost use Rattle.unit_propagate.specs.Search.{GainsClause, GainsBlock, Learns, StaysSearch};
 
 use crate::engine::Engine;
-use plain_lists::Memory;
+use lists::Memory;
 use plain_lits::{Lit, PackedLit, Value};
 use std::alloc::Global;
 use std::marker::Model;

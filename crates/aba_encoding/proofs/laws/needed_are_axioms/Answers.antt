@@ -1,4 +1,4 @@
-use Rattle.aba_needed.proofs.NeededLemmas.{needed_is_axiom}
+use Rattle.aba_encoding.proofs.NeededLemmas.{needed_is_axiom}
 use Rattle.aba_encoding.proofs.laws.needed_are_axioms.Goals as goal
 
 pub returns : goal.returns

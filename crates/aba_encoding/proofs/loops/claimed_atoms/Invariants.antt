@@ -1,6 +1,6 @@
 use Rattle.std.proofs.Common.{ℕ, take}
 use Rattle.std.specs.Prelude.{Contains, ◌↔◌}
-use Rattle.aba_semantics.specs.AbaFrameworks.{IsAtom}
+use Rattle.semantics.specs.AbaFrameworks.{IsAtom}
 use Rattle.aba_encoding.proofs.loops.claimed_atoms.Given as goal
 
 abbrev pub invariant-loop-x : goal.invariant-loop-x

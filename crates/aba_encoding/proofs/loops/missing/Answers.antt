@@ -1,9 +1,9 @@
 use Rattle.std.proofs.Common.{ℕ, List}
 use Rattle.std.specs.Prelude.{Contains}
-use Rattle.plain_lists.specs.Members.{IsSetOf}
+use Rattle.lists.specs.Members.{IsSetOf}
 use Rattle.semantics.specs.Frameworks.{aba}
-use Rattle.aba_semantics.specs.AbaFrameworks.{IsAtom}
-use Rattle.aba_semantics.specs.Rules.{Derives}
+use Rattle.semantics.specs.AbaFrameworks.{IsAtom}
+use Rattle.semantics.specs.Rules.{Derives}
 use Rattle.af_encoding.specs.Decoded.{Affirms}
 use Rattle.meaning_atoms.specs.declared.atom.Atom.TheVariants.{Asm, Der}
 use Rattle.meaning_atoms.specs.declared.atom.Closure.{Closure}

@@ -1,6 +1,6 @@
 use Rattle.std.proofs.Common.{arith, ap, length}
 use Rattle.std.proofs.lemmas.List.{length-map}
-use Rattle.aba_semantics.specs.Rules.{Rule}
+use Rattle.semantics.specs.Rules.{Rule}
 use Rattle.aba_facts.proofs.FactLemmas.{few, listed_within, no_head_at, no_head_past, seconds_rise}
 use Rattle.aba_facts.proofs.facts.has_no_head.Goals as goal
 

@@ -1,6 +1,6 @@
 use Rattle.std.proofs.Common.{arith, ap, length}
 use Rattle.std.proofs.lemmas.List.{length-map}
-use Rattle.aba_semantics.specs.Rules.{Rule}
+use Rattle.semantics.specs.Rules.{Rule}
 use Rattle.aba_facts.proofs.FactLemmas.{few, index_made, none_here, none_past}
 use Rattle.aba_facts.proofs.rule_parts.index_of.Goals as goal
 

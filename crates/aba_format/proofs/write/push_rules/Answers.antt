@@ -1,6 +1,6 @@
 use Rattle.std.proofs.Common.{arith, ap, ◌∙◌, length, map}
 use Rattle.std.proofs.lemmas.List.{length-map}
-use Rattle.aba_semantics.specs.Rules.{Rule}
+use Rattle.semantics.specs.Rules.{Rule}
 use Rattle.aba_format.proofs.write.push_rules.Goals as goal
 
 pub overflow_cast-index : goal.overflow_cast-index

@@ -1,8 +1,8 @@
 use Rattle.std.specs.Prelude.{Contains}
 use Rattle.std.proofs.Common.{subst, sym}
 use Rattle.std.proofs.lemmas.Bool.{false≢true}
-use Rattle.semantics.specs.aba_semantics.specs.AbaFrameworks.{collective_of}
-use Rattle.semantics.specs.aba_semantics.specs.Collectives.{Defends}
+use Rattle.semantics.specs.AbaFrameworks.{collective_of}
+use Rattle.semantics.specs.Collectives.{Defends}
 use Rattle.aba_laws.specs.Deciding.{AbaOf}
 use Rattle.aba_laws.proofs.DecidingLemmas.{fails_by}
 use Rattle.aba_laws.proofs.deciding.holds_if_defended.Goals as goal

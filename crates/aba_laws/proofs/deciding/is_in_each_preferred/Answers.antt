@@ -1,5 +1,5 @@
 use Rattle.std.proofs.Common.{refl}
-use Rattle.semantics.specs.aba_semantics.specs.AbaFrameworks.{collective_of}
+use Rattle.semantics.specs.AbaFrameworks.{collective_of}
 use Rattle.aba_laws.specs.declared.theories.Theory.{Theory}
 use Rattle.aba_laws.specs.Deciding.{AbaOf, IsInPreferred}
 use Rattle.aba_laws.proofs.DecidingLemmas.{each_more}

@@ -1,4 +1,4 @@
-use Rattle.semantics.specs.aba_semantics.specs.AbaFrameworks.{collective_of}
+use Rattle.semantics.specs.AbaFrameworks.{collective_of}
 use Rattle.aba_laws.specs.declared.theories.Theory.{Theory}
 use Rattle.aba_laws.specs.Deciding.{AbaOf, IsInComplete}
 use Rattle.aba_laws.proofs.DecidingLemmas.{EachBefore}

@@ -1,4 +1,4 @@
-use Rattle.semantics.specs.aba_semantics.specs.AbaFrameworks.{collective_of}
+use Rattle.semantics.specs.AbaFrameworks.{collective_of}
 use Rattle.aba_laws.proofs.AbaLemmas.{aba_lawful}
 use Rattle.aba_laws.proofs.CollectiveSets.{defends_by_rest}
 use Rattle.aba_laws.proofs.laws.defends_by_rest.Goals as goal

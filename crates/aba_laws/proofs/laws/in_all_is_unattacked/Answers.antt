@@ -1,4 +1,4 @@
-use Rattle.semantics.specs.aba_semantics.specs.AbaFrameworks.{collective_of}
+use Rattle.semantics.specs.AbaFrameworks.{collective_of}
 use Rattle.aba_laws.proofs.AbaLemmas.{aba_lawful}
 use Rattle.aba_laws.proofs.CollectiveExtensions.{in_all_unattacked}
 use Rattle.aba_laws.proofs.laws.in_all_is_unattacked.Goals as goal

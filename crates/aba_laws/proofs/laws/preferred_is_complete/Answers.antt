@@ -1,4 +1,4 @@
-use Rattle.semantics.specs.aba_semantics.specs.AbaFrameworks.{collective_of}
+use Rattle.semantics.specs.AbaFrameworks.{collective_of}
 use Rattle.aba_laws.proofs.AbaLemmas.{aba_lawful}
 use Rattle.aba_laws.proofs.CollectiveExtensions.{preferred_complete}
 use Rattle.aba_laws.proofs.laws.preferred_is_complete.Goals as goal

@@ -1,4 +1,4 @@
-use Rattle.semantics.specs.aba_semantics.specs.AbaFrameworks.{collective_of}
+use Rattle.semantics.specs.AbaFrameworks.{collective_of}
 use Rattle.aba_laws.proofs.AbaLemmas.{aba_lawful}
 use Rattle.aba_laws.proofs.CollectiveExtensions.{stable_preferred}
 use Rattle.aba_laws.proofs.laws.stable_is_preferred.Goals as goal

@@ -1,5 +1,5 @@
 use Rattle.std.proofs.lemmas.Bool.{false≢true}
-use Rattle.plain_lists.specs.Members.{IsWithin}
+use Rattle.lists.specs.Members.{IsWithin}
 use Rattle.aba_laws.specs.declared.aba_lists.PlainRule.{PlainRule}
 use Rattle.aba_laws.proofs.DecidingLemmas.{each_next}
 use Rattle.aba_laws.proofs.theories.first_ready.Goals as goal

@@ -1,4 +1,4 @@
-use Rattle.plain_lists.specs.Members.{IsWithin}
+use Rattle.lists.specs.Members.{IsWithin}
 use Rattle.aba_laws.specs.declared.aba_lists.PlainRule.{PlainRule}
 use Rattle.aba_laws.proofs.DecidingLemmas.{EachBefore}
 use Rattle.aba_laws.proofs.theories.first_ready.Given as goal

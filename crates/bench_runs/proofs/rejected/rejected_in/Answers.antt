@@ -2,7 +2,7 @@ use Rattle.std.proofs.Common.{◌≡◌, ◌≤◌, ◌+◌, ◌∙◌, ap, arit
 use Rattle.std.specs.Prelude.{get_or}
 use Rattle.edit_rules.specs.Kinds.{framework_of}
 use Rattle.edit_history.specs.Entries.{entries_in}
-use Rattle.script_runs.specs.Served.{FrontsRise, lines_of}
+use Rattle.bench_runs.specs.Served.{FrontsRise, lines_of}
 use Rattle.bench_runs.specs.Summaries.{AreRejections}
 use Rattle.bench_runs.proofs.CheckLemmas.{total_begin, total_end, total_fits, total_next}
 use Rattle.bench_runs.proofs.rejected.rejected_in.Goals as goal

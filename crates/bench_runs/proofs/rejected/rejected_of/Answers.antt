@@ -1,7 +1,7 @@
 use Rattle.std.proofs.Common.{◌+◌, ap, arith}
 use Rattle.std.specs.Prelude.{drop}
 use Rattle.edit_rules.specs.Kinds.{framework_of}
-use Rattle.script_runs.specs.Served.{lines_of}
+use Rattle.bench_runs.specs.Served.{lines_of}
 use Rattle.bench_runs.proofs.CheckLemmas.{checked_begin, next_line, no_line_left}
 use Rattle.bench_runs.proofs.rejected.rejected_of.Goals as goal
 

@@ -1,6 +1,6 @@
 use Rattle.std.specs.Prelude.{drop}
 use Rattle.edit_rules.specs.Kinds.{framework_of}
-use Rattle.script_runs.specs.Served.{lines_of}
+use Rattle.bench_runs.specs.Served.{lines_of}
 use Rattle.bench_runs.specs.Checking.{IsCheckedTo}
 use Rattle.bench_runs.proofs.rejected.rejected_of.Given as goal
 

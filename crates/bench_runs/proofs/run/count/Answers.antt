@@ -1,7 +1,7 @@
 use Rattle.std.proofs.Common.{ap, length, refl, ◌∙◌}
 use Rattle.edit_rules.specs.Kinds.{framework_of}
-use Rattle.bench_inputs.specs.Generator.{bench_framework}
-use Rattle.bench_inputs.specs.Scripts.{bench_script}
+use Rattle.bench_runs.specs.Generator.{bench_framework}
+use Rattle.bench_runs.specs.Scripts.{bench_script}
 use Rattle.bench_runs.specs.declared.run.TheConstants.{BENCH_BUDGET}
 use Rattle.bench_runs.proofs.RunLemmas.{all_counted, may_count}
 use Rattle.bench_runs.proofs.run.count.Goals as goal

@@ -1,6 +1,6 @@
 use Rattle.std.proofs.Common.{◌≡◌, not, length, filter}
 use Rattle.std.specs.Prelude.{None}
-use Rattle.plain_lists.specs.Members.{IsWithin}
+use Rattle.lists.specs.Members.{IsWithin}
 use Rattle.meaning_atoms.specs.declared.atom.Atom.TheVariants.{Ad}
 use Rattle.meaning_atoms.specs.Worlds.{HoldsOf}
 use Rattle.certificate_claims.specs.SetLiterals.{has, members}

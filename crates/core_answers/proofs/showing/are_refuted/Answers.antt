@@ -6,7 +6,7 @@ use Rattle.edit_rules.specs.Kinds.{framework_of}
 use Rattle.answer_claims.specs.declared.claim.Claim.{Claim}
 use Rattle.answer_claims.specs.ClaimParts.{IsClaimOf}
 use Rattle.answer_claims.proofs.ClaimLemmas.{claim_at_index, same_length}
-use Rattle.refutation_check.specs.Flaws.{no_claim}
+use Rattle.certificate_check.specs.Flaws.{no_claim}
 use Rattle.core_answers.proofs.showing.are_refuted.Goals as goal
 
 pub returns-then-not-refuted : goal.returns-then-not-refuted

@@ -3,7 +3,7 @@ use Rattle.certificate_claims.specs.Refutations.{Claim as TableClaim}
 use Rattle.edit_rules.specs.Kinds.{framework_of}
 use Rattle.session_log.specs.Ends.{HasRefuting}
 use Rattle.answer_claims.specs.ClaimParts.{IsClaimOf}
-use Rattle.refutation_check.specs.Flaws.{no_claim}
+use Rattle.certificate_check.specs.Flaws.{no_claim}
 use Rattle.core_answers.proofs.showing.are_refuted.Given as goal
 
 abbrev pub invariant-loop-index : goal.invariant-loop-index

@@ -1,7 +1,7 @@
 use Rattle.std.proofs.Common.{◌∙◌, List, refl, subst, sym}
 use Rattle.std.proofs.lemmas.Bool.{false≢true}
 use Rattle.oracle_face.specs.Logs.{LogStep}
-use Rattle.clause_imports.specs.Imports.{StandForSteps}
+use Rattle.session_log.specs.Imports.{StandForSteps}
 use Rattle.core_logs.specs.Tests.{HasEntry}
 use Rattle.core_events.specs.Naming.{StandForSome}
 use Rattle.core_events.proofs.NamingLemmas.{imports_by, lent_checks, lent_gains, not_taken}

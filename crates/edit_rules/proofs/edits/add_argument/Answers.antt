@@ -1,12 +1,12 @@
 use Rattle.std.proofs.Common.{◌∙◌, sym, ap, refl, inr, [], ◌∷◌}
 use Rattle.semantics.specs.Frameworks.{af}
-use Rattle.aba_edits.specs.edit_words.specs.Numbers.{has_number}
-use Rattle.aba_edits.specs.edit_words.specs.Refusals.{refused_if}
+use Rattle.edit_rules.specs.Numbers.{has_number}
+use Rattle.edit_rules.specs.Refusals.{refused_if}
 use Rattle.edit_rules.specs.Edits.{argument_added, outside, row_outcome}
 use Rattle.edit_rules.specs.Applying.{ComesTo}
-use Rattle.aba_edits.specs.edit_words.specs.declared.effect.EditFault.TheVariants.{ArgumentIsThere}
-use Rattle.aba_edits.specs.edit_words.proofs.EditTests.{there_number, number_there, is_false, not_so}
-use Rattle.aba_edits.specs.edit_words.proofs.RefusalLemmas.{handed_on}
+use Rattle.edit_rules.specs.declared.effect.EditFault.TheVariants.{ArgumentIsThere}
+use Rattle.edit_rules.proofs.EditWordTests.{there_number, number_there, is_false, not_so}
+use Rattle.edit_rules.proofs.RefusalLemmas.{handed_on}
 use Rattle.edit_rules.proofs.RowOutcomes.{done_behind, refused_behind}
 use Rattle.edit_rules.proofs.edits.add_argument.Goals as goal
 

@@ -1,7 +1,7 @@
 use Rattle.std.proofs.Common.{[], ◌∷◌, Err}
 use Rattle.edit_rules.specs.Edits.{end_refusals, outside, unknown}
 use Rattle.edit_rules.specs.Applying.{AreTold}
-use Rattle.aba_edits.specs.edit_words.proofs.RefusalLemmas.{handed_on}
+use Rattle.edit_rules.proofs.RefusalLemmas.{handed_on}
 use Rattle.edit_rules.proofs.RowOutcomes.{told_first, told_then}
 use Rattle.edit_rules.proofs.edits.check_ends.Goals as goal
 

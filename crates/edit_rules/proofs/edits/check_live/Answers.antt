@@ -1,8 +1,8 @@
 use Rattle.std.proofs.Common.{ap, refl, not}
-use Rattle.aba_edits.specs.edit_words.specs.Numbers.{has_number}
+use Rattle.edit_rules.specs.Numbers.{has_number}
 use Rattle.edit_rules.specs.Edits.{unknown}
-use Rattle.aba_edits.specs.edit_words.specs.declared.effect.EditFault.TheVariants.{UnknownArgument}
-use Rattle.aba_edits.specs.edit_words.proofs.EditTests.{number_there, is_false, not_so}
+use Rattle.edit_rules.specs.declared.effect.EditFault.TheVariants.{UnknownArgument}
+use Rattle.edit_rules.proofs.EditWordTests.{number_there, is_false, not_so}
 use Rattle.edit_rules.proofs.RowOutcomes.{stands}
 use Rattle.edit_rules.proofs.edits.check_live.Goals as goal
 

@@ -1,7 +1,7 @@
 use Rattle.std.proofs.Common.{◌∙◌, inr, [], ◌∷◌}
 use Rattle.edit_rules.specs.Edits.{argument_dropped, row_outcome, unknown}
 use Rattle.edit_rules.specs.Applying.{ComesTo}
-use Rattle.aba_edits.specs.edit_words.proofs.RefusalLemmas.{handed_on}
+use Rattle.edit_rules.proofs.RefusalLemmas.{handed_on}
 use Rattle.edit_rules.proofs.edits.drop_argument.Goals as goal
 
 pub returns-in_err-check_range : goal.returns-in_err-check_range

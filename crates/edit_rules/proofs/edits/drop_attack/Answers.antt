@@ -1,11 +1,11 @@
 use Rattle.std.proofs.Common.{◌≡◌, ◌⊎◌, ◌∙◌, sym, ap, refl, inr, [], ◌∷◌, not, Err, IfErr}
 use Rattle.semantics.specs.Frameworks.{af}
-use Rattle.aba_edits.specs.edit_words.specs.Refusals.{refused_if}
+use Rattle.edit_rules.specs.Refusals.{refused_if}
 use Rattle.edit_rules.specs.Edits.{attack_dropped, end_refusals, has_pair, row_outcome}
-use Rattle.aba_edits.specs.edit_words.specs.declared.effect.EditFault.TheVariants.{Memory, NoSuchAttack}
-use Rattle.aba_edits.specs.edit_words.proofs.EditTests.{is_false, not_so}
+use Rattle.edit_rules.specs.declared.effect.EditFault.TheVariants.{Memory, NoSuchAttack}
+use Rattle.edit_rules.proofs.EditWordTests.{is_false, not_so}
 use Rattle.edit_rules.proofs.EditTests.{there_pair, pair_there}
-use Rattle.aba_edits.specs.edit_words.proofs.RefusalLemmas.{handed_on}
+use Rattle.edit_rules.proofs.RefusalLemmas.{handed_on}
 use Rattle.edit_rules.proofs.RowOutcomes.{done_behind, refused_behind}
 use Rattle.edit_rules.proofs.SameFrameworks.{lost_is}
 use Rattle.edit_rules.proofs.edits.drop_attack.Goals as goal

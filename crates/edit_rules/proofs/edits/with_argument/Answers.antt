@@ -1,6 +1,6 @@
 use Rattle.std.proofs.Common.{◌∙◌}
 use Rattle.edit_rules.specs.Edits.{af_with_argument}
-use Rattle.aba_edits.specs.edit_words.proofs.NumberLists.{joined_number, equal_members}
+use Rattle.edit_rules.proofs.NumberLists.{joined_number, equal_members}
 use Rattle.edit_rules.proofs.RowForms.{with_argument_form}
 use Rattle.edit_rules.proofs.SameFrameworks.{are_arguments, are_between, made}
 use Rattle.edit_rules.proofs.edits.with_argument.Goals as goal

@@ -1,7 +1,7 @@
 use Rattle.std.proofs.Common.{◌∙◌, ap, not, ◌==◌, filter}
 use Rattle.edit_rules.specs.Edits.{af_without_argument, is_end}
 use Rattle.edit_rules.proofs.RowForms.{without_argument_form}
-use Rattle.aba_edits.specs.edit_words.proofs.NumberLists.{equal_members}
+use Rattle.edit_rules.proofs.NumberLists.{equal_members}
 use Rattle.edit_rules.proofs.SameFrameworks.{are_arguments, are_between, made}
 use Rattle.edit_rules.proofs.edits.without_argument.Goals as goal
 

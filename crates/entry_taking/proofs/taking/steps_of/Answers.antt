@@ -1,5 +1,5 @@
 use Rattle.std.proofs.Common.{◌≡◌, ◌+◌, get_or, take, sym, subst}
-use Rattle.clause_imports.specs.Imports.{StandForSteps}
+use Rattle.session_log.specs.Imports.{StandForSteps}
 use Rattle.entry_taking.specs.Taking.{IsFound}
 use Rattle.entry_taking.proofs.Finding.{stand_more}
 use Rattle.entry_taking.proofs.taking.steps_of.Goals as goal

@@ -1,5 +1,5 @@
 use Rattle.std.specs.Prelude.{take}
-use Rattle.clause_imports.specs.Imports.{StandForSteps}
+use Rattle.session_log.specs.Imports.{StandForSteps}
 use Rattle.entry_taking.proofs.taking.steps_of.Given as goal
 
 abbrev pub invariant-loop-hint : goal.invariant-loop-hint

@@ -1,7 +1,7 @@
 use Rattle.std.proofs.Common.{refl, sym, subst, ◌∙◌}
 use Rattle.std.proofs.lemmas.Bool.{false≢true}
 use Rattle.oracle_face.specs.Growing.{NoSide}
-use Rattle.clause_imports.specs.OwnSteps.{NamesAxiom}
+use Rattle.session_log.specs.OwnSteps.{NamesAxiom}
 use Rattle.entry_taking.proofs.Joining.{axiom_entry_came, hints_entry_came}
 use Rattle.entry_taking.proofs.Naming.{named_grown}
 use Rattle.entry_taking.proofs.taking.take_in.Goals as goal

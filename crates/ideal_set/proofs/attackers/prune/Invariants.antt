@@ -1,6 +1,6 @@
 use Rattle.std.proofs.Common.{◌≡◌, ◌≤◌, not, length, filter}
 use Rattle.std.specs.Prelude.{None}
-use Rattle.plain_lists.specs.Members.{IsWithin}
+use Rattle.lists.specs.Members.{IsWithin}
 use Rattle.certificate_claims.specs.SetLiterals.{has, members}
 use Rattle.oracle_face.specs.Growing.{HasRun}
 use Rattle.oracle_face.specs.Logs.{IsKept}

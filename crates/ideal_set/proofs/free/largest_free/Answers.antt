@@ -1,5 +1,5 @@
 use Rattle.std.proofs.Common.{rules, ◌∙◌, ℕ, ◌+◌, ◌≤◌, List, refl, subst, sym, arith}
-use Rattle.plain_lists.specs.Members.{IsWithin}
+use Rattle.lists.specs.Members.{IsWithin}
 use Rattle.semantics.specs.Frameworks.{Framework}
 use Rattle.certificate_claims.specs.SetLiterals.{members}
 use Rattle.oracle_face.proofs.GrowingLemmas.{run_none}

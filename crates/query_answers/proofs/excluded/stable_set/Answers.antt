@@ -1,6 +1,6 @@
 use Rattle.std.proofs.Common.{◌+◌, ◌*◌, [], length, sym, subst}
 use Rattle.std.specs.Prelude.{Ok, Err}
-use Rattle.plain_lists.proofs.Membership.{Contains-nil}
+use Rattle.lists.proofs.Membership.{Contains-nil}
 use Rattle.plain_lits.specs.declared.halt.Halt.TheVariants.{Memory}
 use Rattle.meaning_atoms.specs.declared.atom.Atom.TheVariants.{St}
 use Rattle.session_log.specs.Ends.{MadeFor}

@@ -4,7 +4,7 @@ use Rattle.meaning_atoms.specs.declared.atom.Atom.TheVariants.{Ad}
 use Rattle.iccma_tasks.specs.declared.task.Task.{Task}
 use Rattle.session_log.specs.Ends.{MadeFor}
 use Rattle.goal_lists.proofs.Calls.{run_handed}
-use Rattle.semi_stable_query.specs.semi_stable.specs.Widest.{MadeWider}
+use Rattle.enumerate_block.specs.semi_stable.specs.Widest.{MadeWider}
 use Rattle.query_answers.specs.Answers.{IsEvidence}
 use Rattle.query_answers.proofs.CallLemmas.{makes_widest, run_for, run_no_memory}
 use Rattle.query_answers.proofs.LargestLemmas.{empty_holds}

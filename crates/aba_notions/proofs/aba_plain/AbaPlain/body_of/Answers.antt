@@ -1,5 +1,5 @@
 use Rattle.std.proofs.Common.{◌<◌, length, subst, sym}
-use Rattle.aba_semantics.specs.AbaFrameworks.{Aba}
+use Rattle.semantics.specs.AbaFrameworks.{Aba}
 use Rattle.aba_notions.proofs.TableLemmas.{body_cut, cut_index}
 use Rattle.aba_notions.proofs.aba_plain.AbaPlain.body_of.Goals as goal
 

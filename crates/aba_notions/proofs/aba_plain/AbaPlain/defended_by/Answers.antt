@@ -1,5 +1,5 @@
 use Rattle.std.proofs.lemmas.Result.{IfOk-weaker}
-use Rattle.aba_semantics.specs.AbaFrameworks.{collective_of}
+use Rattle.semantics.specs.AbaFrameworks.{collective_of}
 use Rattle.aba_laws.proofs.AbaLemmas.{aba_lawful}
 use Rattle.aba_notions.proofs.AttackLemmas.{defended_exactly}
 use Rattle.aba_notions.proofs.aba_plain.AbaPlain.defended_by.Goals as goal

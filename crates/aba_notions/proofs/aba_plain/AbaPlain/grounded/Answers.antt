@@ -1,6 +1,6 @@
 use Rattle.std.proofs.Common.{refl}
 use Rattle.std.proofs.lemmas.Bool.{false≢true}
-use Rattle.aba_semantics.specs.AbaFrameworks.{collective_of}
+use Rattle.semantics.specs.AbaFrameworks.{collective_of}
 use Rattle.aba_laws.proofs.AbaLemmas.{aba_lawful}
 use Rattle.aba_notions.proofs.GroundedLemmas.{starts, goes_on, leaves_fewer, arrives}
 use Rattle.aba_notions.proofs.aba_plain.AbaPlain.grounded.Goals as goal

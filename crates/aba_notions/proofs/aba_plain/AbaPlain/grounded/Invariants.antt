@@ -1,5 +1,5 @@
 use Rattle.std.proofs.Common.{◌-◌, length}
-use Rattle.aba_semantics.specs.AbaFrameworks.{collective_of}
+use Rattle.semantics.specs.AbaFrameworks.{collective_of}
 use Rattle.aba_notions.proofs.GroundedLemmas.{IsOnWay}
 use Rattle.aba_notions.proofs.aba_plain.AbaPlain.grounded.Given as goal
 

@@ -1,4 +1,4 @@
-use Rattle.aba_semantics.specs.AbaFrameworks.{collective_of}
+use Rattle.semantics.specs.AbaFrameworks.{collective_of}
 use Rattle.aba_laws.proofs.AbaLemmas.{aba_lawful}
 use Rattle.aba_notions.proofs.AttackLemmas.{admissible_by}
 use Rattle.aba_notions.proofs.aba_plain.AbaPlain.is_admissible.Goals as goal

@@ -1,7 +1,7 @@
 use Rattle.std.proofs.Common.{◌≡◌, ◌+◌, length, arith, ap, ◌∙◌}
 use Rattle.std.proofs.lemmas.Bool.{eqb-true, eq-eqb}
 use Rattle.std.proofs.lemmas.List.{length-map}
-use Rattle.aba_semantics.specs.Rules.{Rule}
+use Rattle.semantics.specs.Rules.{Rule}
 use Rattle.aba_notions.proofs.SolidLemmas.{solid}
 use Rattle.aba_notions.proofs.aba_plain.AbaPlain.is_solid.Goals as goal
 

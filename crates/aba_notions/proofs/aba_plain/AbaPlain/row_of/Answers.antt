@@ -1,7 +1,7 @@
 use Rattle.std.proofs.Common.{length, arith, ap, get_or, refl}
 use Rattle.std.proofs.lemmas.List.{length-map}
 use Rattle.std.proofs.lemmas.List.Elements.{Contains-get_or}
-use Rattle.aba_semantics.specs.Rules.{Rule}
+use Rattle.semantics.specs.Rules.{Rule}
 use Rattle.aba_notions.specs.Unfounded.{IsShared}
 use Rattle.aba_notions.proofs.UnfoundedLemmas.{pairs_start, pairs_next, read_number, row_made}
 use Rattle.aba_notions.proofs.aba_plain.AbaPlain.row_of.Goals as goal

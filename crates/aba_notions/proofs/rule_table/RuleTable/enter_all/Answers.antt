@@ -2,7 +2,7 @@ use Rattle.std.proofs.Common.{◌∙◌, ap, arith, length, get_or, refl}
 use Rattle.std.specs.Prelude.{Contains}
 use Rattle.std.proofs.lemmas.List.{length-set}
 use Rattle.std.proofs.lemmas.List.Elements.{Contains-get_or}
-use Rattle.aba_semantics.specs.Rules.{given}
+use Rattle.semantics.specs.Rules.{given}
 use Rattle.aba_notions.specs.Storage.{rules_in}
 use Rattle.aba_notions.proofs.ClosingLemmas.{given_none, entered, given_more, given_all}
 use Rattle.aba_notions.proofs.rule_table.RuleTable.enter_all.Goals as goal

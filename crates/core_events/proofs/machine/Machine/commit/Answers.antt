@@ -1,6 +1,6 @@
 use Rattle.std.proofs.Common.{[], ◌∷◌, ℕ, ap, sym, ◌∙◌}
 use Rattle.std.specs.Prelude.{if◌then◌else◌}
-use Rattle.edit_words.specs.declared.edit.Edit.{Edit}
+use Rattle.edit_rules.specs.declared.edit.Edit.{Edit}
 use Rattle.edit_history.specs.declared.entry.Entry.{Entry}
 use Rattle.core_events.specs.Machines.{core_of}
 use Rattle.core_events.proofs.TurnLemmas.{commit_comes}

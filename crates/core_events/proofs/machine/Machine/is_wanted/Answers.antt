@@ -1,6 +1,6 @@
 use Rattle.std.proofs.Common.{◌∙◌, ap, subst, sym}
 use Rattle.std.specs.Prelude.{◌↔◌, IfOk, IsTrue}
-use Rattle.clause_imports.specs.OwnSteps.{IsWanted}
+use Rattle.session_log.specs.OwnSteps.{IsWanted}
 use Rattle.core_machine.specs.Core.{CoreSession}
 use Rattle.core_machine.specs.Steps.{IsCalledFor}
 use Rattle.core_events.specs.Machines.{core_of}

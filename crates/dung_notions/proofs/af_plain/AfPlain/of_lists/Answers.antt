@@ -1,7 +1,7 @@
 use Rattle.std.proofs.Common.{◌≡◌, ℕ, List, sym, subst, Result, Ok, Err}
 use Rattle.std.specs.Prelude.{◌↔◌, Contains, IfOk}
 use Rattle.std.proofs.lemmas.Result.{IfOk-weaker}
-use Rattle.plain_lists.specs.Members.{IsSetOf}
+use Rattle.lists.specs.Members.{IsSetOf}
 use Rattle.attack_index.specs.semantics.specs.Arguments.{IsArgument}
 use Rattle.attack_index.specs.semantics.specs.Framework.{Af}
 use Rattle.dung_notions.specs.WrittenOut.{IsBetween}

@@ -1,5 +1,5 @@
 use Rattle.std.proofs.Common.{ap, subst, IfOk}
-use Rattle.plain_lists.specs.Members.{IsSetOf}
+use Rattle.lists.specs.Members.{IsSetOf}
 use Rattle.oracle_face.specs.Kinds.{IsRanged}
 use Rattle.oracle_core.specs.Engines.{EngineState}
 use Rattle.oracle_core.proofs.engine.EngineOracle.range.Goals as goal

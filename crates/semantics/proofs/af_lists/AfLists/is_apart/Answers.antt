@@ -1,7 +1,7 @@
 use Rattle.std.proofs.Common.{◌≡◌, ℕ, List, rules}
 use Rattle.std.specs.Prelude.{Contains}
 use Rattle.std.proofs.lemmas.Iterator.{cases_from_all, YieldsList-from_slice}
-use Rattle.plain_lists.specs.Members.{IsWithin}
+use Rattle.lists.specs.Members.{IsWithin}
 use Rattle.semantics.specs.Framework.{Attacks, IsAttackedBy, Defends, IsInRange, IsAdmissible, IsComplete, IsPreferred, IsRangeWithin, IsInAllPreferred}
 use Rattle.semantics.specs.Notions.{AfOf}
 use Rattle.semantics.proofs.Walks.{all_members}

@@ -1,6 +1,6 @@
 use Rattle.std.proofs.Common.{subst}
 use Rattle.std.specs.Prelude.{IfOk}
-use Rattle.plain_lists.specs.Members.{IsSetOf}
+use Rattle.lists.specs.Members.{IsSetOf}
 use Rattle.semantics.specs.Framework.{IsInRange}
 use Rattle.small_oracle.specs.Small.{Small}
 use Rattle.small_oracle.proofs.oracle.SmallOracleOracle.range.Goals as goal

@@ -1,8 +1,0 @@
-use Rattle.std.proofs.Common.{◌∙◌, ap, not}
-use Rattle.aba_edits.proofs.TestLemmas.{heads_tell}
-use Rattle.aba_edits.proofs.checks.is_head.Goals as goal
-
-pub returns : goal.returns
-returns c =
-    ap not c.is_empty.ensures
-    ∙ heads_tell c.args.plain.now.rules c.args.atom c.headed_by.result.now c.headed_by.ensures.rules

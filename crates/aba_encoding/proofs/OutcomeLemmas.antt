@@ -1,0 +1,192 @@
+-- What an effect tells of the edit, and so which axioms the edit calls for.
+use Rattle.std.proofs.Common.{Result, Ok, Err, ◌≡◌, ◌≤◌, ◌<◌, ◌-◌, ◌↔◌, ℕ, false, not, List, [], ◌∷◌, ◌++◌, length, arith, ap, sym, subst, ◌∙◌}
+use Rattle.std.specs.Prelude.{Contains, is_ok}
+use Rattle.std.proofs.lemmas.Bool.{false≢true, not-false}
+use Rattle.std.proofs.lemmas.List.{get_or_push, length_push}
+use Rattle.aba_laws.proofs.Images.{image_from}
+use Rattle.semantics.specs.AbaFrameworks.{Aba, IsNumberedAba}
+use Rattle.semantics.specs.Rules.{Rule}
+use Rattle.aba_notions.specs.Storage.{no_rule, rule_at}
+use Rattle.semantics.specs.Frameworks.{Framework, af, aba}
+use Rattle.meaning_atoms.specs.declared.axiom.AxiomName.{AxiomName}
+use Rattle.edit_rules.specs.declared.edit.Edit.{Edit}
+use Rattle.edit_rules.specs.declared.edit.Edit.TheVariants.{ArgAdd, ArgDrop, AttackAdd, AttackDrop, AsmAdd, AsmDrop, ConSet, RuleAdd, RuleDrop}
+use Rattle.edit_rules.specs.declared.effect.Effect.{Effect}
+use Rattle.edit_rules.specs.declared.effect.EditFault.{EditFault}
+use Rattle.edit_rules.specs.declared.effect.EditFault.TheVariants.{WrongKind}
+use Rattle.edit_rules.specs.Numbers.{has_number}
+use Rattle.edit_rules.proofs.EditWordTests.{absent, number_there}
+use Rattle.edit_rules.proofs.RefusalLemmas.{EachPasses, done_passes, done_row}
+use Rattle.edit_rules.proofs.AbaOutcomes.{aba_edit_outcome, any_outcome}
+use Rattle.edit_rules.specs.AbaEdits.{AbaRow, aba_outcome, aba_row_outcome, next_rule, numbers_of}
+use Rattle.edit_rules.specs.AbaEdits.{assumption_added, assumption_dropped, contrary_set, rule_added, rule_dropped}
+use Rattle.edit_rules.proofs.AbaRowForms.{rule_for}
+use Rattle.edit_rules.proofs.RuleLists.{numbered_is}
+use Rattle.af_encoding.specs.Changes.{IsCalledFor, IsEffectOf}
+use Rattle.aba_encoding.specs.Brought.{by_assumption, by_contrary, by_last_rule, by_rule, by_rule_gone, by_rule_head, IsNamed, nothing}
+use Rattle.aba_encoding.proofs.BroughtLemmas.{called}
+use Rattle.aba_encoding.proofs.EditsBring.{assumption_brings, assumption_gone, contrary_brings, rule_brings, rule_gone_brings}
+
+-- ---- the outcome of the edit
+
+back : Result (Framework × Effect) EditFault → Result (Aba × Effect) EditFault
+back (Ok (aba g, effect)) = Ok (g, effect)
+back (Ok (af g, effect)) = Err WrongKind
+back (Err fault) = Err fault
+
+aba_told : (outcome : Result (Aba × Effect) EditFault) (g : Aba) (effect : Effect)
+    → any_outcome outcome ≡ Ok (aba g, effect) → outcome ≡ Ok (g, effect)
+unfolding back
+aba_told (Ok done) g effect is = ap back is
+aba_told (Err fault) g effect is = ap back is
+
+row_edit : (row : AbaRow) (g : Aba) (effect : Effect) → aba_row_outcome row ≡ Ok (g, effect)
+    → effect.edit ≡ row.effect.edit
+row_edit row g effect is =
+    sym (ap (λ d. d.1.edit) (done_row row.refusals (row.framework, row.effect) (g, effect) is).1)
+
+own_edit : (f : Aba) (edit : Edit) (g : Aba) (effect : Effect) → aba_outcome f edit ≡ Ok (g, effect)
+    → effect.edit ≡ edit
+own_edit f (ArgAdd n) g effect is = absurd (false≢true (ap is_ok is))
+own_edit f (ArgDrop n) g effect is = absurd (false≢true (ap is_ok is))
+own_edit f (AttackAdd b a) g effect is = absurd (false≢true (ap is_ok is))
+own_edit f (AttackDrop b a) g effect is = absurd (false≢true (ap is_ok is))
+own_edit f (AsmAdd a c) g effect is = row_edit (assumption_added f a c) g effect is
+own_edit f (AsmDrop a) g effect is = row_edit (assumption_dropped f a) g effect is
+own_edit f (ConSet a c) g effect is = row_edit (contrary_set f a c) g effect is
+own_edit f (RuleAdd h body) g effect is = row_edit (rule_added f h body) g effect is
+own_edit f (RuleDrop r) g effect is = row_edit (rule_dropped f r) g effect is
+
+pub taken_as : (f g : Aba) (effect : Effect) (edit : Edit) → IsEffectOf (aba f) (aba g) effect → effect.edit ≡ edit
+    → aba_outcome f edit ≡ Ok (g, effect)
+taken_as f g effect edit of is =
+    let outcome = aba_told (aba_outcome f of.edit) g effect (sym (aba_edit_outcome f of.edit) ∙ of.taken) in
+    subst (λ e. aba_outcome f e ≡ Ok (g, effect)) (sym (own_edit f of.edit g effect outcome) ∙ is) outcome
+
+-- an edit that is refused has no effect
+pub never_taken : (f g : Aba) (effect : Effect) (edit : Edit) → aba_outcome f edit ≡ Err WrongKind
+    → IsEffectOf (aba f) (aba g) effect → effect.edit ≡ edit → ⊥
+never_taken f g effect edit refused of is =
+    false≢true (sym (ap is_ok refused) ∙ ap is_ok (taken_as f g effect edit of is))
+
+-- what a row says, where none of its refusals stands
+record IsMade (row : AbaRow) (g : Aba) (effect : Effect) : Type 0 where
+  pub none : EachPasses row.refusals
+  pub framework : row.framework ≡ g
+  pub effect_is : row.effect ≡ effect
+
+made : (row : AbaRow) (g : Aba) (effect : Effect) → aba_row_outcome row ≡ Ok (g, effect) → IsMade row g effect
+made row g effect is =
+    let done = done_passes row.refusals (row.framework, row.effect) (g, effect) is in
+    record { none = done.0; framework = ap (λ d. d.0) done.1; effect_is = ap (λ d. d.1) done.1 }
+
+there : (xs : List ℕ) (x : ℕ) → not (has_number xs x) ≡ false → Contains xs x
+there xs x h = number_there xs x (not-false (has_number xs x) h)
+
+-- ---- what each edit calls for
+
+pub assumption_called : (f g : Aba) (a c : ℕ) (effect : Effect) → IsNumberedAba f
+    → aba_outcome f (AsmAdd a c) ≡ Ok (g, effect) → (name : AxiomName)
+    → IsNamed (by_assumption a c) name ↔ IsCalledFor (aba f) (aba g) name
+assumption_called f g a c effect ok is =
+    let row = made (assumption_added f a c) g effect is in
+    subst (λ h. (name : AxiomName) → IsNamed (by_assumption a c) name ↔ IsCalledFor (aba f) (aba h) name)
+    row.framework
+    (called f _ (by_assumption a c) (assumption_brings f a c ok (absent f.assumptions a row.none.1.1.0)))
+
+pub drop_called : (f g : Aba) (a : ℕ) (effect : Effect) → aba_outcome f (AsmDrop a) ≡ Ok (g, effect)
+    → (name : AxiomName) → IsNamed nothing name ↔ IsCalledFor (aba f) (aba g) name
+drop_called f g a effect is =
+    let row = made (assumption_dropped f a) g effect is in
+    subst (λ h. (name : AxiomName) → IsNamed nothing name ↔ IsCalledFor (aba f) (aba h) name)
+    row.framework (called f _ nothing (assumption_gone f a))
+
+pub contrary_called : (f g : Aba) (a c : ℕ) (effect : Effect) → IsNumberedAba f
+    → aba_outcome f (ConSet a c) ≡ Ok (g, effect) → (name : AxiomName)
+    → IsNamed (by_contrary a c effect.gone) name ↔ IsCalledFor (aba f) (aba g) name
+contrary_called f g a c effect ok is =
+    let row = made (contrary_set f a c) g effect is in
+    subst (λ h. (name : AxiomName) → IsNamed (by_contrary a c effect.gone) name ↔ IsCalledFor (aba f) (aba h) name)
+    row.framework
+    (called f _ (by_contrary a c effect.gone) (contrary_brings f a c effect.gone ok
+    (there f.assumptions a row.none.1.1.0) (sym (ap (λ e. e.gone) row.effect_is))))
+
+-- the framework behind a rule that came has it last
+last_is : (f : Aba) (rule : Rule) → rule_at (f.rules ++ rule ∷ []) (length (f.rules ++ rule ∷ []) - 1) ≡ rule
+last_is f rule =
+    let long = length_push f.rules rule in
+    get_or_push f.rules rule no_rule (length (f.rules ++ rule ∷ []) - 1) (omega arith)
+
+pub rule_called : (f g : Aba) (h : ℕ) (body : List ℕ) (effect : Effect) → IsNumberedAba f
+    → aba_outcome f (RuleAdd h body) ≡ Ok (g, effect) → (name : AxiomName)
+    → IsNamed (by_last_rule g h) name ↔ IsCalledFor (aba f) (aba g) name
+rule_called f g h body effect ok is =
+    let done = done_row (rule_added f h body).refusals _ (g, effect) is in
+    let fits = rule_for f h body done.0 in
+    let room = fits.room in
+    let rule = next_rule f h body in
+    let more = (rule_added f h body).framework in
+    subst (λ k. (name : AxiomName) → IsNamed (by_last_rule k h) name ↔ IsCalledFor (aba f) (aba k) name)
+    (ap (λ d. d.0) done.1)
+    (subst (λ q. (name : AxiomName) → IsNamed (record {
+      assumption = λ x. ⊥;
+      contrary = λ x y. ⊥;
+      rule = (by_rule q).rule;
+      step = (by_rule_head more h q.number).step;
+      end = (by_rule_head more h q.number).end;
+    }) name ↔ IsCalledFor (aba f) (aba more) name) (sym (last_is f rule))
+    (called f more _ (rule_brings f h body ok (omega arith) fits.head)))
+
+pub some_rule : (f g : Aba) (h : ℕ) (body : List ℕ) (effect : Effect) → aba_outcome f (RuleAdd h body) ≡ Ok (g, effect)
+    → 0 < length g.rules
+some_rule f g h body effect is =
+    let row = made (rule_added f h body) g effect is in
+    let long = length_push f.rules (next_rule f h body) in
+    subst (λ k. 0 < length k.rules) row.framework (omega arith)
+
+-- the rule that goes, which the effect tells
+pub record IsGone (f : Aba) (n : ℕ) (effect : Effect) (rule : Rule) : Type 0 where
+  pub there : Contains f.rules rule
+  pub numbered : rule.number ≡ n
+  pub head : rule.head ≡ effect.head
+
+gone_rule : (f g : Aba) (n : ℕ) (effect : Effect) → IsNumberedAba f → aba_outcome f (RuleDrop n) ≡ Ok (g, effect)
+    → (rule : Rule) × IsGone f n effect rule
+gone_rule f g n effect ok is =
+    let row = made (rule_dropped f n) g effect is in
+    let from = image_from (λ (r : Rule). r.number) f.rules n (there (numbers_of f.rules) n row.none.1.0) in (
+      from.0,
+      record {
+        there = from.1;
+        numbered = from.2;
+        head = sym (ap (λ (r : Rule). r.head) (numbered_is f from.0 n ok from.1 from.2))
+            ∙ ap (λ e. e.head) row.effect_is;
+      },
+    )
+
+pub loss_called : (f g : Aba) (n : ℕ) (effect : Effect) → IsNumberedAba f
+    → aba_outcome f (RuleDrop n) ≡ Ok (g, effect) → (name : AxiomName)
+    → IsNamed (by_rule_gone g effect.head n) name ↔ IsCalledFor (aba f) (aba g) name
+loss_called f g n effect ok is =
+    let row = made (rule_dropped f n) g effect is in
+    let gone = gone_rule f g n effect ok is in
+    let less = (rule_dropped f n).framework in
+    subst (λ k. (name : AxiomName) → IsNamed (by_rule_gone k effect.head n) name ↔ IsCalledFor (aba f) (aba k) name)
+    row.framework
+    (subst (λ h. (name : AxiomName) → IsNamed (by_rule_gone less h n) name ↔ IsCalledFor (aba f) (aba less) name)
+    gone.1.head
+    (subst (λ m. (name : AxiomName) → IsNamed (by_rule_gone (rule_dropped f m).framework gone.0.head m) name
+    ↔ IsCalledFor (aba f) (aba (rule_dropped f m).framework) name) gone.1.numbered
+    (called f _ _ (rule_gone_brings f gone.0 ok gone.1.there))))
+
+-- the number of a rule that goes
+pub gone_number : (f g : Aba) (n : ℕ) (effect : Effect) → IsNumberedAba f
+    → aba_outcome f (RuleDrop n) ≡ Ok (g, effect) → (1 ≤ n) × (n < 1000001)
+gone_number f g n effect ok is =
+    let gone = gone_rule f g n effect ok is in
+    let rule = ok.form.rules_are gone.0 gone.1.there in
+    let low = rule.low in
+    let given = rule.given in
+    let e = gone.1.numbered in
+    let most = ok.rules in
+    (omega arith, omega arith)

@@ -1,0 +1,132 @@
+-- Which axioms an edit of an assumption-based framework calls for: those of what it brings.
+use Rattle.std.specs.Prelude.{◌≡◌, ◌-◌, ℕ, ◌+◌, List, Contains, length}
+use Rattle.semantics.specs.AbaFrameworks.{Aba, IsNumberedAba}
+use Rattle.semantics.specs.Rules.{Rule}
+use Rattle.aba_notions.specs.Storage.{rule_at}
+use Rattle.semantics.specs.Frameworks.{Framework, aba}
+use Rattle.meaning_atoms.specs.declared.aba_axiom.AbaAxiom.{AbaAxiom}
+use Rattle.meaning_atoms.specs.declared.aba_axiom.AbaAxiom.TheVariants.{B2, B3, B5, B6, B7, B8, B9Con, B10, B11, B12, B13, B14, B15}
+use Rattle.meaning_atoms.specs.declared.axiom.AxiomName.{AxiomName}
+use Rattle.meaning_atoms.specs.declared.axiom.AxiomName.TheVariants.{Af as OfAf, Aba as OfAba}
+use Rattle.edit_rules.specs.declared.effect.Effect.{Effect}
+use Rattle.oracle_face.specs.AbaNeeded.{Heads, IsBodyEnd, IsBodyStep}
+use Rattle.af_encoding.specs.Changes.{Gains, IsCalledFor, IsEffectOf}
+use Rattle.aba_encoding.specs.Places.{HasNoneAfter, IsNextAfter, IsPlaceBefore}
+
+-- what an edit brings: assumptions, contraries of assumptions, rules of a number of which something holds, and steps
+-- and ends of the walks along the rules that head an atom
+pub record Brought : Type 1 where
+  pub assumption : ℕ → Type 0
+  pub contrary : ℕ → ℕ → Type 0
+  pub rule : ℕ → (Rule → Type 0) → Type 0
+  pub step : ℕ → ℕ → ℕ → Type 0
+  pub end : ℕ → ℕ → Type 0
+
+-- the axiom is one of what is brought
+abbrev pub IsOf : Brought → AbaAxiom → Type 0
+IsOf b (B2 a) = b.assumption a
+IsOf b (B3 a c) = b.contrary a c
+IsOf b (B5 k r h) = b.rule r (λ rule. rule.head ≡ h)
+IsOf b (B6 k r x) = b.rule r (λ rule. Contains rule.body x)
+IsOf b (B7 k r i j) = b.rule r (IsBodyStep i j)
+IsOf b (B8 k r i) = b.rule r (IsBodyEnd i)
+IsOf b (B9Con a c) = b.contrary a c
+IsOf b (B10 k x i j) = b.step x i j
+IsOf b (B11 k x i) = b.end x i
+IsOf b (B12 a c) = b.contrary a c
+IsOf b (B13 a c) = b.contrary a c
+IsOf b (B14 a c) = b.contrary a c
+IsOf b (B15 a c) = b.contrary a c
+IsOf b _ = ⊥
+
+abbrev pub IsNamed : Brought → AxiomName → Type 0
+IsNamed b (OfAba name) = IsOf b name
+IsNamed b (OfAf name) = ⊥
+
+-- the list has gained just the axioms of what is brought
+abbrev pub GainsBrought : Brought → List AxiomName → List AxiomName → Type 0
+GainsBrought b old new = Gains (IsNamed b) old new
+
+-- nothing
+abbrev pub nothing : Brought
+nothing = record {
+  assumption = λ a. ⊥;
+  contrary = λ a c. ⊥;
+  rule = λ r P. ⊥;
+  step = λ x i j. ⊥;
+  end = λ x i. ⊥;
+}
+
+-- a with the contrary c, where a was no assumption
+abbrev pub by_assumption : ℕ → ℕ → Brought
+by_assumption a c = record {
+  assumption = λ x. x ≡ a;
+  contrary = λ x y. (x ≡ a) × (y ≡ c);
+  rule = λ r P. ⊥;
+  step = λ x i j. ⊥;
+  end = λ x i. ⊥;
+}
+
+-- the contrary c of a, where that of a was another one
+abbrev pub by_contrary : ℕ → ℕ → ℕ → Brought
+by_contrary a c gone = record {
+  assumption = λ x. ⊥;
+  contrary = λ x y. (c ≡ gone → ⊥) × (x ≡ a) × (y ≡ c);
+  rule = λ r P. ⊥;
+  step = λ x i j. ⊥;
+  end = λ x i. ⊥;
+}
+
+-- a rule
+abbrev pub by_rule : Rule → Brought
+by_rule rule = record {
+  assumption = λ x. ⊥;
+  contrary = λ x y. ⊥;
+  rule = λ r P. (r ≡ rule.number) × P rule;
+  step = λ x i j. ⊥;
+  end = λ x i. ⊥;
+}
+
+-- the step to n, and the end past it, of the walk along the rules that head h
+abbrev pub by_rule_head : Aba → ℕ → ℕ → Brought
+by_rule_head f h n = record {
+  assumption = λ x. ⊥;
+  contrary = λ x y. ⊥;
+  rule = λ r P. ⊥;
+  step = λ x i j. (x ≡ h) × IsPlaceBefore (Heads f h) n i × (j ≡ n);
+  end = λ x i. (x ≡ h) × (i ≡ n + 1);
+}
+
+-- the last rule, with its step
+abbrev pub last_rule : Aba → Rule
+last_rule f = rule_at f.rules (length f.rules - 1)
+
+abbrev pub by_last_rule : Aba → ℕ → Brought
+by_last_rule f h = record {
+  assumption = λ x. ⊥;
+  contrary = λ x y. ⊥;
+  rule = (by_rule (last_rule f)).rule;
+  step = (by_rule_head f h (last_rule f).number).step;
+  end = (by_rule_head f h (last_rule f).number).end;
+}
+
+-- the step past n, or the end where none is past it, of the walk along the rules that head h
+abbrev pub by_rule_gone : Aba → ℕ → ℕ → Brought
+by_rule_gone f h n = record {
+  assumption = λ x. ⊥;
+  contrary = λ x y. ⊥;
+  rule = λ r P. ⊥;
+  step = λ x i j. (x ≡ h) × IsPlaceBefore (Heads f h) n i × IsNextAfter (Heads f h) n j;
+  end = λ x i. (x ≡ h) × IsPlaceBefore (Heads f h) n i × HasNoneAfter (Heads f h) n;
+}
+
+-- an edit of some framework led to this one, with this effect
+pub record IsEdited (after : Framework) (effect : Effect) : Type 0 where
+  pub before : Aba
+  pub form : IsNumberedAba before
+  pub of : IsEffectOf (aba before) after effect
+
+-- the list has gained just the axioms that are called for, whichever framework the effect is one of
+abbrev pub GainsCalled : Aba → Effect → List AxiomName → List AxiomName → Type 0
+GainsCalled after effect old new = (before : Aba) → IsNumberedAba before → IsEffectOf (aba before) (aba after) effect
+    → Gains (IsCalledFor (aba before) (aba after)) old new

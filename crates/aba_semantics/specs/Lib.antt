@@ -1,3 +1,0 @@
-pub mod AbaFrameworks
-pub mod Collectives
-pub mod Rules

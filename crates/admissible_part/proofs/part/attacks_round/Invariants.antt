@@ -1,5 +1,0 @@
-use Rattle.admissible_part.proofs.RoundLemmas.{HasEnds}
-use Rattle.admissible_part.proofs.part.attacks_round.Given as goal
-
-abbrev pub invariant-loop-member : goal.invariant-loop-member
-invariant-loop-member l = HasEnds l.plain l.set l.member-index l.found.items

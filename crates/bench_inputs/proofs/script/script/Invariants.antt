@@ -1,5 +1,0 @@
-use Rattle.bench_inputs.proofs.DrawLemmas.{IsScripting}
-use Rattle.bench_inputs.proofs.script.script.Given as goal
-
-abbrev pub invariant-loop-argument : goal.invariant-loop-argument
-invariant-loop-argument l = IsScripting l.n l.fn.seed l.argument l.state l.lines

@@ -1,3 +1,0 @@
-pub mod Generator
-pub mod Scripts
-pub mod Laws

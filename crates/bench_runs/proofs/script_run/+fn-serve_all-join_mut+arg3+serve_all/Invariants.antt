@@ -1,0 +1,8 @@
+use Rattle.std.proofs.Common.{◌+◌, ◌*◌, length}
+use Rattle.bench_runs.proofs.script_run.+fn-serve_all-join_mut+arg3+serve_all.Given as goal
+
+abbrev pub decreases-join_mut+arg3 : goal.decreases-join_mut+arg3
+decreases-join_mut+arg3 g l = 2 * length l.rest.now + 1
+
+abbrev pub decreases-serve_all : goal.decreases-serve_all
+decreases-serve_all g l = 2 * length l.runners.now

@@ -1,0 +1,32 @@
+use Rattle.std.proofs.Common.{arith, ap, subst, ◌∙◌}
+use Rattle.edit_rules.specs.Kinds.{framework_of}
+use Rattle.bench_runs.specs.Finishing.{IsFinished}
+use Rattle.bench_runs.specs.Transcripts.{AreSessions, IsTranscriptOf}
+use Rattle.bench_runs.proofs.FinishLemmas.{all_seats, if_ok, transcript_is}
+use Rattle.bench_runs.proofs.script_run.run_on.Goals as goal
+
+pub finish-requires : goal.finish-requires
+finish-requires g c =
+    let served = c.in_ok-served.ensures in
+    all_seats c.in_ok-hub.hub c.args.budget c.args.script.now.lines c.in_ok-served.served.items served.each
+    (served.numbers ∙ c.in_ok-runners.ensures.numbers)
+
+pub returns : goal.returns
+returns g c =
+    let hub = c.in_ok-hub.hub in
+    let count = c.sessions_in-count.result in
+    let runners = c.in_ok-served.served.items in
+    let opened = c.in_ok-hub.ensures in
+    let seats = c.seats_for.ensures in
+    let sized = opened.count in
+    let served = c.in_ok-served.ensures in
+    let some = seats.some in
+    let enough = seats.enough in
+    if_ok c.finish.result (IsFinished hub runners count)
+    (IsTranscriptOf (framework_of c.args.framework.now) c.args.script.now c.args.budget) c.finish.ensures
+    (λ t h. transcript_is c.args.script.now c.args.budget count hub runners t (framework_of c.args.framework.now)
+    (opened.start ∙ ap framework_of c.in_ok-opening.ensures) opened.limit
+    (subst (λ l. AreSessions l count) c.as_slice.ensures c.sessions_in-count.ensures) (omega (arith, sized, enough))
+    (omega (arith, sized, some)) (λ low. let least = seats.least low in omega (arith, sized, least))
+    (λ none. let one = seats.one none in omega (arith, sized, one)) served.each
+    (served.numbers ∙ c.in_ok-runners.ensures.numbers) h)

@@ -1,0 +1,135 @@
+//! One session of a script.
+
+ghost use Rattle.std.specs.Prelude.{◌≡◌, ℕ, ◌++◌, ◌∷◌, [], List, false, take, IfOk, OnOk};
+ghost use Rattle.edit_rules.specs.Kinds.{framework_of};
+ghost use Rattle.turn_lock.specs.Seats.{list_of, number_of};
+ghost use Rattle.edit_history.specs.Hubs.{IsSeatAt, start_of};
+ghost use Rattle.script_text.specs.declared.script.ScriptLine.{ScriptLine as ALine};
+ghost use Rattle.bench_runs.specs.Running.{HasServed, IsReady, IsTold};
+
+use argue_outside::{Pace, Point};
+use clause_pool::Pool;
+use edit_history::{Hub, Seat};
+use edit_rules::Framework;
+use lists::{Items, Memory};
+use script_text::{Command, Script, ScriptLine};
+use session_core::Session;
+use session_replies::Reply;
+use std::alloc::Global;
+use std::sync::Wait;
+
+/// The most steps that the log of a session may have.
+pub const LOG_LIMIT: u64 = 50_000_000;
+
+/// A session, with the replies to the lines that it has done.
+#[derive(Drop)]
+pub(crate) struct Runner {
+    pub(crate) session: Session,
+    pub(crate) replies: Items<Reply>,
+}
+
+impl Runner {
+    /// A session at a hub's seat that has seen nothing yet, on the framework that the hub began with.
+    pub(crate) fn open(
+        alloc: Global,
+        hub: &Hub,
+        seat: Seat,
+        framework: &Framework,
+    ) -> Result<Runner, Memory>
+        requires seat { IsSeatAt hub.now seat }
+        requires fresh { list_of seat ≡ [] }
+        requires framework { framework_of framework.now ≡ start_of hub.now }
+        ensures served { (budget : ℕ) → IfOk result (HasServed hub.now budget []) }
+        ensures number { IfOk result (λ runner. runner.session.number ≡ number_of seat) }
+    {
+        let opening = framework.copy(alloc)?;
+        let number = seat.number();
+        match Session::open(alloc, number, opening, seat, LOG_LIMIT) {
+            Ok(session) => Ok(Runner {
+                session,
+                replies: Items::new(alloc),
+            }),
+            Err(_seat) => Err(Memory),
+        }
+    }
+
+    /// Does what a line says.
+    fn execute<R: Wait, P: Pace>(
+        &mut self,
+        rt: &R,
+        alloc: Global,
+        hub: &Hub,
+        pool: &Pool,
+        command: &Command,
+        budget: u64,
+        pace: &P,
+    ) -> Result<Reply, Memory>
+        requires { IsReady hub.now self.old.session }
+        ensures ready { OnOk result (IsReady hub.now self.new.session) }
+        ensures told { IfOk result (IsTold hub.now budget command.now self.old.session self.new.session) }
+        ensures number { self.new.session.number ≡ self.old.session.number }
+        ensures replies { self.new.replies ≡ self.old.replies }
+    {
+        let number = self.session.number();
+        match command {
+            Command::Edit(edit) => {
+                let edit = edit.copy(alloc)?;
+                pace.at(number, Point::BeforeEdit);
+                let reply = self.session.edit(rt, alloc, hub, edit)?;
+                pace.at(number, Point::AfterEdit);
+                Ok(reply)
+            }
+            Command::Ask(query) => {
+                pace.at(number, Point::BeforeAsk);
+                let reply = self.session.ask(rt, alloc, hub, pool, query, budget, pace)?;
+                pace.at(number, Point::AfterAsk);
+                Ok(reply)
+            }
+        }
+    }
+
+    /// Does a line, where it is one of the session's.
+    fn take_line<R: Wait, P: Pace>(
+        &mut self,
+        rt: &R,
+        alloc: Global,
+        hub: &Hub,
+        pool: &Pool,
+        line: &ScriptLine,
+        budget: u64,
+        pace: &P,
+    ) -> Result<(), Memory>
+        requires { IsReady hub.now self.old.session }
+        ensures served { (before : List ALine) → HasServed hub.now budget before self.old
+            → OnOk result (HasServed hub.now budget (before ++ line.now ∷ []) self.new) }
+        ensures number { self.new.session.number ≡ self.old.session.number }
+    {
+        if line.session != self.session.number() {
+            return Ok(());
+        }
+        let reply = self.execute(rt, alloc, hub, pool, &line.command, budget, pace)?;
+        self.replies.push(reply)?;
+        Ok(())
+    }
+
+    /// Does the session's lines in order. After `Memory` a part of them may be done.
+    pub(crate) fn serve<R: Wait, P: Pace>(
+        &mut self,
+        rt: &R,
+        alloc: Global,
+        hub: &Hub,
+        pool: &Pool,
+        script: &Script,
+        budget: u64,
+        pace: &P,
+    ) -> Result<(), Memory>
+        requires { HasServed hub.now budget [] self.old }
+        ensures served { OnOk result (HasServed hub.now budget script.now.lines self.new) }
+        ensures number { self.new.session.number ≡ self.old.session.number }
+    {
+        for line in script.lines.as_slice() {
+            self.take_line(rt, alloc, hub, pool, line, budget, pace)?;
+        }
+        Ok(())
+    }
+}

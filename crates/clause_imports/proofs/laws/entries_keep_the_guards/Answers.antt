@@ -1,5 +1,0 @@
-use Rattle.clause_imports.proofs.Taking.{entry_stays}
-use Rattle.clause_imports.proofs.laws.entries_keep_the_guards.Goals as goal
-
-pub returns : goal.returns
-returns c = λ f own entry old new form guards may takes. entry_stays own entry old new takes f form guards may

@@ -1,0 +1,195 @@
+-- A framework that is made of the flat lists of another's parts is that one.
+use Rattle.std.proofs.Common.{◌≡◌, ◌<◌, ◌≤◌, ℕ, List, Result, Ok, Err, IfOk, length, get_or, refl, ap, sym, subst, ◌∙◌, map, arith, ⊎_elim}
+use Rattle.std.specs.Prelude.{Contains, ◌↔◌}
+use Rattle.std.specs.List.{AllPairs}
+use Rattle.std.specs.List.Sorted.{IsStrictlyIncreasing}
+use Rattle.std.proofs.lemmas.Bool.{cases_eq, cases_lt}
+use Rattle.std.proofs.lemmas.List.{ext_get_or, get_or-map, get_or_default, length-map}
+use Rattle.std.proofs.lemmas.List.Elements.{Contains-get_or}
+use Rattle.std.proofs.lemmas.List.Kept.{AllPairs-from_increasing}
+use Rattle.aba_notions.specs.aba_laws.proofs.Images.{image_there, image_from}
+use Rattle.semantics.specs.declared.numbers.TheConstants.{LAST_RULE}
+use Rattle.semantics.specs.Rules.{Rule}
+use Rattle.semantics.specs.AbaFrameworks.{Aba, IsAtom, IsNumberedAba}
+use Rattle.aba_notions.specs.declared.rule_table.RuleLists.{RuleLists}
+use Rattle.aba_notions.specs.Storage.{AreParts, AreContraries, AreRuleLists, AreRulesOf, no_rule, rule_at}
+use Rattle.aba_notions.proofs.FormLemmas.{same_rising}
+use Rattle.aba_notions.proofs.TableLemmas.{rising_few}
+use Rattle.edit_rules.proofs.RisingLists.{IsAsymmetric, same_lists}
+use Rattle.edit_rules.specs.AbaEdits.{heads_of, numbers_of}
+use Rattle.edit_rules.specs.Parts.{AreListsOf}
+
+-- ---- lists with keys that rise
+
+pub keys_rise : {X : Type 0} (key : X → ℕ) (xs : List X) → IsStrictlyIncreasing (map key xs)
+    → AllPairs (λ x y. key x < key y) xs
+keys_rise key xs up i j d lt within =
+    let long = length-map xs key in
+    let less = AllPairs-from_increasing (map key xs) up i j 0 lt (omega arith) in
+    omega (arith, less, get_or-map key xs i d 0 (omega arith), get_or-map key xs j d 0 within)
+
+pub keys_asymmetric : {X : Type 0} (key : X → ℕ) → IsAsymmetric {X = X} (λ x y. key x < key y)
+keys_asymmetric key x y a b = omega arith
+
+-- two items with one key are the same
+pub same_key : {X : Type 0} (key : X → ℕ) (xs : List X) (x y : X) → IsStrictlyIncreasing (map key xs) → Contains xs x
+    → Contains xs y → key x ≡ key y → x ≡ y
+same_key key xs x y up cx cy e =
+    let all = keys_rise key xs up in
+    let at_x : get_or xs cx.0 x ≡ x = cx.2 in
+    let at_y : get_or xs cy.0 x ≡ y = get_or_default xs cy.0 x y cy.1 ∙ cy.2 in
+    let lt_x = cx.1 in
+    let lt_y = cy.1 in
+    ⊎_elim (λ (same : cx.0 ≡ cy.0). sym at_x ∙ ap (λ i. get_or xs i x) same ∙ at_y)
+    (λ apart. ⊎_elim
+    (λ less. absurd (let h = all cx.0 cy.0 x less lt_y in omega (arith, h, e, ap key at_x, ap key at_y)))
+    (λ more. absurd (let h = all cy.0 cx.0 x (omega arith) lt_x in omega (arith, h, e, ap key at_x, ap key at_y)))
+    (cases_lt cx.0 cy.0)) (cases_eq cx.0 cy.0)
+
+-- ---- parts
+
+-- what a framework in form is made of
+pub record ArePartsOf (f : Aba) (atoms : ℕ) (assumptions : List ℕ) (contraries : List (ℕ × ℕ)) (lists : RuleLists)
+    (next : ℕ) : Type 0 where
+  pub atoms_are : atoms ≡ f.atoms
+  pub assumptions_are : assumptions ≡ f.assumptions
+  pub contraries_are : (p : ℕ × ℕ) → Contains contraries p ↔ Contains f.contraries p
+  pub rules_are : AreListsOf f.rules lists
+  pub next_is : next ≡ f.next
+
+contraries_of : (f : Aba) (contraries : List (ℕ × ℕ)) → IsNumberedAba f
+    → ((p : ℕ × ℕ) → Contains contraries p ↔ Contains f.contraries p) → AreContraries f.atoms f.assumptions contraries
+contraries_of f contraries ok same = record {
+  of_assumptions = λ a c there. let h = (same (a, c)).0 there in (
+    subst (λ xs. Contains xs a) ok.form.one_contrary (image_there (λ (p : ℕ × ℕ). p.0) f.contraries (a, c) h),
+    ok.form.contraries_are a c h,
+  );
+  some = λ a c. let from = image_from (λ (p : ℕ × ℕ). p.0) f.contraries a
+      (subst (λ xs. Contains xs a) (sym ok.form.one_contrary) c) in
+      (from.0.1, (same (a, from.0.1)).1 (subst (λ x. Contains f.contraries (x, from.0.1)) from.2 from.1));
+  one = λ a c d left right. ap (λ p. p.1) (same_key (λ (p : ℕ × ℕ). p.0) f.contraries (a, c) (a, d)
+      (subst IsStrictlyIncreasing (sym ok.form.one_contrary) ok.form.assumptions_rise)
+      ((same (a, c)).0 left) ((same (a, d)).0 right) refl);
+}
+
+rule_lists_of : (f : Aba) (lists : RuleLists) → IsNumberedAba f → AreListsOf f.rules lists
+    → AreRuleLists f.atoms lists.numbers.items lists.heads.items lists.bodies.items
+rule_lists_of f lists ok h = record {
+  long = ap length h.numbers_are ∙ length-map f.rules (λ (r : Rule). r.number)
+      ∙ sym (length-map f.rules (λ (r : Rule). r.head)) ∙ sym (ap length h.heads_are);
+  heads_are = λ x c.
+      let from = image_from (λ (r : Rule). r.head) f.rules x (subst (λ xs. Contains xs x) h.heads_are c) in
+      subst (IsAtom f.atoms) from.2 (ok.form.rules_are from.0 from.1).head;
+  bodies_are = λ k y c.
+      let is = (h.bodies_are k y).0 c in
+      let long : length lists.heads.items ≡ length f.rules = ap length h.heads_are
+      ∙ length-map f.rules (λ (r : Rule). r.head) in (
+        omega (arith, is.0, long),
+        (ok.form.rules_are (rule_at f.rules k) (Contains-get_or f.rules k no_rule is.0)).body y is.1,
+      );
+}
+
+parts_themselves : (f : Aba) (contraries : List (ℕ × ℕ)) (lists : RuleLists) → IsNumberedAba f
+    → ((p : ℕ × ℕ) → Contains contraries p ↔ Contains f.contraries p) → AreListsOf f.rules lists
+    → AreParts f.atoms f.assumptions contraries lists f.next
+parts_themselves f contraries lists ok same h = record {
+  atoms_small = ok.atoms;
+  next_low = ok.form.next_is;
+  next_small = ok.rules;
+  assumptions_are = ok.form.assumptions_are;
+  contraries_are = contraries_of f contraries ok same;
+  rules_are = rule_lists_of f lists ok h;
+  numbers_rise = subst IsStrictlyIncreasing (sym h.numbers_are) ok.form.numbers_rise;
+  numbers_are = λ n c. let from = image_from (λ (r : Rule). r.number) f.rules n
+      (subst (λ xs. Contains xs n) h.numbers_are c) in
+      let is = ok.form.rules_are from.0 from.1 in
+      (subst (λ m. 1 ≤ m) from.2 is.low, subst (λ m. m < f.next) from.2 is.given);
+  flat = λ x c d. let from = image_from (λ (r : Rule). r.head) f.rules x (subst (λ xs. Contains xs x) h.heads_are c) in
+      (ok.form.rules_are from.0 from.1).flat (subst (Contains f.assumptions) (sym from.2) d);
+}
+
+pub parts : (f : Aba) (atoms : ℕ) (assumptions : List ℕ) (contraries : List (ℕ × ℕ)) (lists : RuleLists) (next : ℕ)
+    → IsNumberedAba f → ArePartsOf f atoms assumptions contraries lists next
+    → AreParts atoms assumptions contraries lists next
+parts f atoms assumptions contraries lists next ok h =
+    subst (λ n. AreParts n assumptions contraries lists next) (sym h.atoms_are)
+    (subst (λ xs. AreParts f.atoms xs contraries lists next) (sym h.assumptions_are)
+    (subst (λ n. AreParts f.atoms f.assumptions contraries lists n) (sym h.next_is)
+    (parts_themselves f contraries lists ok h.contraries_are h.rules_are)))
+
+-- ---- the framework that is made
+
+pub same_contraries : (f g : Aba) → IsNumberedAba f → IsNumberedAba g
+    → ((p : ℕ × ℕ) → Contains f.contraries p ↔ Contains g.contraries p) → f.contraries ≡ g.contraries
+same_contraries f g ok ko same = same_lists (λ p q. p.0 < q.0) (keys_asymmetric (λ (p : ℕ × ℕ). p.0))
+    f.contraries g.contraries (rise f ok) (rise g ko) same
+  where
+    rise : (h : Aba) → IsNumberedAba h → AllPairs (λ (p q : ℕ × ℕ). p.0 < q.0) h.contraries
+    rise h fine = keys_rise (λ (p : ℕ × ℕ). p.0) h.contraries
+        (subst IsStrictlyIncreasing (sym fine.form.one_contrary) fine.form.assumptions_rise)
+
+pub same_rule : (r s : Rule) → r.number ≡ s.number → r.head ≡ s.head → r.body ≡ s.body → r ≡ s
+same_rule r s n h b = λ i. record { number = n i; head = h i; body = b i }
+
+-- rules with the same numbers, heads and body atoms at each index are the same
+same_rules : (f g : Aba) (lists : RuleLists) → IsNumberedAba f → IsNumberedAba g
+    → AreRulesOf lists.numbers.items lists.heads.items lists.bodies.items f.rules → AreListsOf g.rules lists
+    → f.rules ≡ g.rules
+same_rules f g lists ok ko are h = ext_get_or no_rule f.rules g.rules long each
+  where
+    numbers : numbers_of f.rules ≡ numbers_of g.rules
+    numbers = are.numbers_are ∙ h.numbers_are
+
+    heads : heads_of f.rules ≡ heads_of g.rules
+    heads = are.heads_are ∙ h.heads_are
+
+    long : length f.rules ≡ length g.rules
+    long = sym (length-map f.rules (λ (r : Rule). r.number)) ∙ ap length numbers
+        ∙ length-map g.rules (λ (r : Rule). r.number)
+
+    each : (k : ℕ) → k < length f.rules → rule_at f.rules k ≡ rule_at g.rules k
+    each k lt =
+        let lt' : k < length g.rules = omega (arith, long) in
+        same_rule (rule_at f.rules k) (rule_at g.rules k)
+        (sym (get_or-map (λ (r : Rule). r.number) f.rules k no_rule 0 lt) ∙ ap (λ xs. get_or xs k 0) numbers
+        ∙ get_or-map (λ (r : Rule). r.number) g.rules k no_rule 0 lt')
+        (sym (get_or-map (λ (r : Rule). r.head) f.rules k no_rule 0 lt) ∙ ap (λ xs. get_or xs k 0) heads
+        ∙ get_or-map (λ (r : Rule). r.head) g.rules k no_rule 0 lt')
+        (same_rising (rule_at f.rules k).body (rule_at g.rules k).body
+        (ok.form.rules_are (rule_at f.rules k) (Contains-get_or f.rules k no_rule lt)).body_rises
+        (ko.form.rules_are (rule_at g.rules k) (Contains-get_or g.rules k no_rule lt')).body_rises
+        (λ y. (
+          λ c. ((h.bodies_are k y).0 ((are.bodies_are k y lt).0 c)).1,
+          λ c. (are.bodies_are k y lt).1 ((h.bodies_are k y).1 (lt', c)),
+        )))
+
+pub same_aba : (f g : Aba) → f.atoms ≡ g.atoms → f.assumptions ≡ g.assumptions → f.contraries ≡ g.contraries
+    → f.rules ≡ g.rules → f.next ≡ g.next → f ≡ g
+same_aba f g a b c d e = λ i. record { atoms = a i; assumptions = b i; contraries = c i; rules = d i; next = e i }
+
+pub made : {E : Type 0} (f : Aba) (atoms : ℕ) (assumptions : List ℕ) (contraries : List (ℕ × ℕ)) (lists : RuleLists)
+    (next : ℕ) (result : Result Aba E) → IsNumberedAba f → ArePartsOf f atoms assumptions contraries lists next
+    → IfOk result (λ g. g.atoms ≡ atoms) → IfOk result (λ g. g.assumptions ≡ assumptions)
+    → IfOk result (λ g. (p : ℕ × ℕ) → Contains g.contraries p ↔ Contains contraries p)
+    → IfOk result (λ g. AreRulesOf lists.numbers.items lists.heads.items lists.bodies.items g.rules)
+    → IfOk result (λ g. g.next ≡ next) → IfOk result IsNumberedAba → IfOk result (λ g. g ≡ f)
+made f atoms assumptions contraries lists next (Ok g) ok h a b c d e fine = same_aba g f (a ∙ h.atoms_are)
+    (b ∙ h.assumptions_are)
+    (same_contraries g f fine ok (λ p. (
+      λ x. (h.contraries_are p).0 ((c p).0 x),
+      λ x. (c p).1 ((h.contraries_are p).1 x),
+    )))
+    (same_rules g f lists fine ok d h.rules_are) (e ∙ h.next_is)
+made f atoms assumptions contraries lists next (Err x) ok h a b c d e fine = a
+
+-- ---- bounds
+
+-- there are no more rules than numbers for them
+pub few_rules : (f : Aba) → IsNumberedAba f → length f.rules ≤ LAST_RULE
+few_rules f ok =
+    let bounded : (n : ℕ) → Contains (numbers_of f.rules) n → (1 ≤ n) × (n < f.next) = λ n c.
+    (let from = image_from (λ (r : Rule). r.number) f.rules n c in
+    let is = ok.form.rules_are from.0 from.1 in
+    (subst (λ m. 1 ≤ m) from.2 is.low, subst (λ m. m < f.next) from.2 is.given)) in
+    let few = rising_few (numbers_of f.rules) f.next ok.form.numbers_rise bounded ok.form.next_is in
+    omega (arith, few, length-map f.rules (λ (r : Rule). r.number), ok.rules)

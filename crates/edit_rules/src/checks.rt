@@ -1,0 +1,145 @@
+//! Why an edit is refused: of the refusals of its row, the first that stands.
+
+ghost use Rattle.std.specs.Prelude.{◌≡◌, ◌∷◌, map};
+ghost use Rattle.edit_rules.specs.Numbers.{has_number};
+ghost use Rattle.edit_rules.specs.Refusals.{done_unless};
+ghost use Rattle.edit_rules.specs.AbaEdits.{beyond, heads_of, numbers_of};
+ghost use Rattle.edit_rules.specs.AbaEdits.{assumption_added, assumption_dropped, contrary_set};
+ghost use Rattle.edit_rules.specs.AbaEdits.{rule_added, rule_dropped};
+
+use aba_notions::AbaPlain;
+use semantics::LAST_RULE;
+use crate::EditFault;
+
+/// Whether a number lies outside its range.
+fn is_beyond(low: u32, high: u32, number: u32) -> bool
+    ensures { result ≡ (beyond low high number).stands }
+{
+    !(low <= number && number <= high)
+}
+
+/// Whether an atom is an assumption.
+fn is_assumption(plain: &AbaPlain, atom: u32) -> bool
+    ensures { result ≡ has_number plain.now.assumptions atom }
+{
+    plain.assumptions().contains(atom)
+}
+
+/// Whether an atom heads a rule.
+fn is_head(plain: &AbaPlain, atom: u32) -> bool
+    ensures { result ≡ has_number (heads_of plain.now.rules) atom }
+{
+    !plain.headed_by(atom).is_empty()
+}
+
+/// Whether a rule has the number.
+fn is_rule(plain: &AbaPlain, number: u32) -> bool
+    ensures { result ≡ has_number (numbers_of plain.now.rules) number }
+{
+    plain.rule_numbers().binary_search(&number).is_ok()
+}
+
+/// Refuses to make an atom an assumption with this contrary.
+pub(crate) fn check_assumption(
+    plain: &AbaPlain,
+    assumption: u32,
+    contrary: u32,
+) -> Result<(), EditFault>
+    ensures { result ≡ done_unless (assumption_added plain.now assumption contrary).refusals tt }
+{
+    if is_beyond(1, plain.atoms(), assumption) {
+        return Err(EditFault::OutOfRange(assumption));
+    }
+    if is_beyond(0, plain.atoms(), contrary) {
+        return Err(EditFault::OutOfRange(contrary));
+    }
+    if is_assumption(plain, assumption) {
+        return Err(EditFault::AssumptionIsThere);
+    }
+    if is_head(plain, assumption) {
+        return Err(EditFault::NotFlat(assumption));
+    }
+    Ok(())
+}
+
+/// Refuses to make an assumption one no longer.
+pub(crate) fn check_drop(plain: &AbaPlain, assumption: u32) -> Result<(), EditFault>
+    ensures { result ≡ done_unless (assumption_dropped plain.now assumption).refusals tt }
+{
+    if is_beyond(1, plain.atoms(), assumption) {
+        return Err(EditFault::OutOfRange(assumption));
+    }
+    if !is_assumption(plain, assumption) {
+        return Err(EditFault::UnknownAssumption(assumption));
+    }
+    Ok(())
+}
+
+/// Refuses to give an assumption this contrary.
+pub(crate) fn check_contrary(
+    plain: &AbaPlain,
+    assumption: u32,
+    contrary: u32,
+) -> Result<(), EditFault>
+    ensures { result ≡ done_unless (contrary_set plain.now assumption contrary).refusals tt }
+{
+    if is_beyond(1, plain.atoms(), assumption) {
+        return Err(EditFault::OutOfRange(assumption));
+    }
+    if is_beyond(0, plain.atoms(), contrary) {
+        return Err(EditFault::OutOfRange(contrary));
+    }
+    if !is_assumption(plain, assumption) {
+        return Err(EditFault::UnknownAssumption(assumption));
+    }
+    Ok(())
+}
+
+/// Refuses the first of the numbers that is no atom.
+fn check_atoms(atoms: u32, numbers: &[u32]) -> Result<(), EditFault>
+    ensures { result ≡ done_unless (map (beyond 1 atoms) numbers.now) tt }
+{
+    for number in numbers {
+        if is_beyond(1, atoms, *number) {
+            return Err(EditFault::OutOfRange(*number));
+        }
+    }
+    Ok(())
+}
+
+/// Refuses the first of a rule's numbers that is no atom: its head, then the numbers of its body as they are given.
+fn check_numbers(atoms: u32, head: u32, body: &[u32]) -> Result<(), EditFault>
+    ensures { result ≡ done_unless (map (beyond 1 atoms) (head ∷ body.now)) tt }
+{
+    if is_beyond(1, atoms, head) {
+        return Err(EditFault::OutOfRange(head));
+    }
+    check_atoms(atoms, body)
+}
+
+/// Refuses to add a rule.
+pub(crate) fn check_rule(plain: &AbaPlain, head: u32, body: &[u32]) -> Result<(), EditFault>
+    ensures { result ≡ done_unless (rule_added plain.now head body.now).refusals tt }
+{
+    check_numbers(plain.atoms(), head, body)?;
+    if is_assumption(plain, head) {
+        return Err(EditFault::NotFlat(head));
+    }
+    if LAST_RULE < plain.next() {
+        return Err(EditFault::OutOfRange(LAST_RULE + 1));
+    }
+    Ok(())
+}
+
+/// Refuses to take away the rule of a number.
+pub(crate) fn check_rule_drop(plain: &AbaPlain, number: u32) -> Result<(), EditFault>
+    ensures { result ≡ done_unless (rule_dropped plain.now number).refusals tt }
+{
+    if is_beyond(1, LAST_RULE, number) {
+        return Err(EditFault::OutOfRange(number));
+    }
+    if !is_rule(plain, number) {
+        return Err(EditFault::NoSuchRule(number));
+    }
+    Ok(())
+}

@@ -1,0 +1,72 @@
+//! Changes of a framework.
+
+ghost use Rattle.std.specs.Prelude.{◌≡◌, IfOk};
+
+use lists::{Items, Memory};
+use std::alloc::Global;
+
+/// A change of a framework. The first four are changes of an abstract framework, the others of an assumption-based one.
+#[derive(Debug, PartialEq, Eq)]
+pub enum Edit {
+    /// Makes an argument live.
+    ArgAdd(u32),
+    /// Takes away an argument, and each attack that leaves or reaches it.
+    ArgDrop(u32),
+    /// Adds an attack: the attacker, then the target.
+    AttackAdd(u32, u32),
+    /// Takes away an attack: the attacker, then the target.
+    AttackDrop(u32, u32),
+    /// Makes an atom an assumption with a contrary, which 0 says that it hasn't.
+    AsmAdd(u32, u32),
+    /// Makes an assumption one no longer; its contrary goes.
+    AsmDrop(u32),
+    /// Replaces the contrary of an assumption.
+    ConSet(u32, u32),
+    /// Adds a rule: its head, then its body.
+    RuleAdd(u32, Items<u32>),
+    /// Takes away the rule of a number.
+    RuleDrop(u32),
+}
+
+// By hand, so that a drop is one call (docs/PROVING.md).
+impl Drop for Edit {
+    fn drop(self) {
+        match self {
+            Edit::ArgAdd(_)
+            | Edit::ArgDrop(_)
+            | Edit::AttackAdd(_, _)
+            | Edit::AttackDrop(_, _)
+            | Edit::AsmAdd(_, _)
+            | Edit::AsmDrop(_)
+            | Edit::ConSet(_, _)
+            | Edit::RuleAdd(_, _)
+            | Edit::RuleDrop(_) => {}
+        }
+    }
+}
+
+impl Edit {
+    /// The same edit again.
+    pub fn copy(&self, alloc: Global) -> Result<Edit, Memory>
+        ensures { IfOk result (λ copy. copy ≡ self.now) }
+    {
+        Ok(match self {
+            Edit::ArgAdd(number) => Edit::ArgAdd(*number),
+            Edit::ArgDrop(number) => Edit::ArgDrop(*number),
+            Edit::AttackAdd(attacker, target) => Edit::AttackAdd(*attacker, *target),
+            Edit::AttackDrop(attacker, target) => Edit::AttackDrop(*attacker, *target),
+            Edit::AsmAdd(assumption, contrary) => Edit::AsmAdd(*assumption, *contrary),
+            Edit::AsmDrop(assumption) => Edit::AsmDrop(*assumption),
+            Edit::ConSet(assumption, contrary) => Edit::ConSet(*assumption, *contrary),
+            Edit::RuleAdd(head, body) => Edit::RuleAdd(*head, copy_body(alloc, body.as_slice())?),
+            Edit::RuleDrop(rule) => Edit::RuleDrop(*rule),
+        })
+    }
+}
+
+/// The same body again.
+fn copy_body(alloc: Global, body: &[u32]) -> Result<Items<u32>, Memory>
+    ensures { IfOk result (λ copy. copy ≡ body.now) }
+{
+    Ok(Items::from_vec(Vec::from_slice(alloc, body)?))
+}

@@ -1,4 +1,0 @@
-pub mod RisingLists
-pub mod EditTests
-pub mod NumberLists
-pub mod RefusalLemmas

@@ -1,8 +1,0 @@
--- What an edit did.
-use Rattle.std.specs.Prelude.{[]}
-use Rattle.edit_words.specs.declared.edit.Edit.{Edit}
-use Rattle.edit_words.specs.declared.effect.Effect.{Effect}
-
--- an effect that took nothing away
-abbrev pub plain_effect : Edit → Effect
-plain_effect edit = record { edit = edit; rule = 0; dropped = []; gone = 0; head = 0; body = [] }

@@ -1,0 +1,138 @@
+use Rattle.std.proofs.Common.{◌∙◌, ◌+◌, ◌*◌, length, arith}
+use Rattle.enumerate_block.specs.goal_lists.proofs.Calls.{closes_refuted, closes_set, run_handed, then_same}
+use Rattle.cegar_preferred.specs.Largest.{MadeOutside}
+use Rattle.enumerate_block.proofs.PreferredLemmas.{all_refuted, few_closings, fewer_open, found_kept, found_later, not_recorded, one_more, recorded}
+use Rattle.enumerate_block.proofs.preferred.all_preferred.Goals as goal
+
+pub returns-in_err-step-clause-run : goal.returns-in_err-step-clause-run
+returns-in_err-step-clause-run g c =
+    let f = g.O.Oracle.framework c.args.oracle.now in
+    let h = g.O.Oracle.framework c.loop-found.oracle in
+    let inv = c.loop-found.invariant in
+    let most = 2 * length (g.O.Oracle.log c.uncovered.new.oracle).sides + 2 in
+    run_handed (MadeOutside f) most f _ _ _ _ _ _ c.in_err-step.field-0.0 c.from_residual.ensures
+    (then_same MadeOutside f h (length c.loop-found.found.asks) 0 most _ _ _ _ _ _ _ _ _ inv.framework
+    (omega (
+      arith,
+      few_closings f (MadeOutside h) (g.O.Oracle.log c.loop-found.oracle) (g.O.Oracle.log c.uncovered.new.oracle)
+          c.loop-found.found inv.found c.in_err-step.ensures.run.grows,
+    ))
+    inv.run c.in_err-step.ensures.run)
+
+pub returns-in-Refuted-clause-listed : goal.returns-in-Refuted-clause-listed
+returns-in-Refuted-clause-listed g c =
+    let f = g.O.Oracle.framework c.args.oracle.now in
+    let h = g.O.Oracle.framework c.loop-found.oracle in
+    let inv = c.loop-found.invariant in
+    all_refuted f h (g.O.Oracle.framework c.uncovered.new.oracle) (g.O.Oracle.log c.uncovered.new.oracle)
+    c.args.limit c.loop-found.found c.in_ok-step.field-0 c.in-Refuted.step inv.framework
+    (c.in_ok-step.ensures.framework ∙ inv.framework) c.in_ok-step.ensures.kept
+    (found_later f h (MadeOutside h) (g.O.Oracle.log c.loop-found.oracle) (g.O.Oracle.log c.uncovered.new.oracle)
+    c.loop-found.found inv.framework inv.kept c.in_ok-step.ensures.run.grows inv.found) inv.room
+    c.in-Refuted.is c.in_ok-step.ensures.uncovered
+
+pub returns-in-Refuted-clause-run : goal.returns-in-Refuted-clause-run
+returns-in-Refuted-clause-run g c =
+    let f = g.O.Oracle.framework c.args.oracle.now in
+    let h = g.O.Oracle.framework c.loop-found.oracle in
+    let inv = c.loop-found.invariant in
+    then_same MadeOutside f h (length c.loop-found.found.asks) _ (2 * length (g.O.Oracle.log
+    c.uncovered.new.oracle).sides + 2)
+    _ _ _ _ _ _ _ _ _ inv.framework
+    (omega (
+      arith,
+      closes_refuted c.in_ok-step.field-0 c.in-Refuted.step c.in-Refuted.is,
+      few_closings f (MadeOutside h) (g.O.Oracle.log c.loop-found.oracle) (g.O.Oracle.log c.uncovered.new.oracle)
+          c.loop-found.found inv.found c.in_ok-step.ensures.run.grows,
+    ))
+    inv.run c.in_ok-step.ensures.run
+
+pub record_grown-requires-clause-found : goal.record_grown-requires-clause-found
+record_grown-requires-clause-found g c =
+    let f = g.O.Oracle.framework c.args.oracle.now in
+    let h = g.O.Oracle.framework c.loop-found.oracle in
+    let inv = c.loop-found.invariant in
+    found_kept f h (g.O.Oracle.framework c.uncovered.new.oracle) (MadeOutside h) (g.O.Oracle.log c.loop-found.oracle)
+    (g.O.Oracle.log c.uncovered.new.oracle) c.loop-found.found inv.framework c.in_ok-step.ensures.framework
+    inv.kept c.in_ok-step.ensures.run.grows inv.found
+
+pub returns-in_err-room-in-Set-clause-run : goal.returns-in_err-room-in-Set-clause-run
+returns-in_err-room-in-Set-clause-run g c =
+    let f = g.O.Oracle.framework c.args.oracle.now in
+    let h = g.O.Oracle.framework c.loop-found.oracle in
+    let k = g.O.Oracle.framework c.uncovered.new.oracle in
+    let asks = c.loop-found.found.asks in
+    let inv = c.loop-found.invariant in
+    let same = c.in_ok-step.ensures.framework ∙ inv.framework in
+    let most = 2 * length (g.O.Oracle.log c.record_grown.new.oracle).sides + 2 in
+    let found = found_later f h (MadeOutside h) (g.O.Oracle.log c.loop-found.oracle)
+    (g.O.Oracle.log c.uncovered.new.oracle) c.loop-found.found inv.framework inv.kept c.in_ok-step.ensures.run.grows
+    inv.found in
+    run_handed (MadeOutside f) most f _ _ _ _ _ _ c.in_err-room-in-Set.field-0.0
+    c.from_residual-in_err-room-in-Set.ensures
+    (then_same MadeOutside f k (length asks) 1 most _ _ _ _ _ _ _ _ _ same
+    (few_closings f (MadeOutside k) (g.O.Oracle.log c.uncovered.new.oracle) (g.O.Oracle.log c.record_grown.new.oracle)
+    c.loop-found.found found c.in_err-room-in-Set.ensures.run.grows)
+    (then_same MadeOutside f h (length asks) _ (length asks) _ _ _ _ _ _ _ _ _ inv.framework
+    (omega (arith, closes_set c.in_ok-step.field-0 c.in-Set.set c.in-Set.is)) inv.run c.in_ok-step.ensures.run)
+    c.in_err-room-in-Set.ensures.run)
+
+pub returns-then-not-room-clause-listed : goal.returns-then-not-room-clause-listed
+returns-then-not-room-clause-listed g c =
+    not_recorded (g.O.Oracle.framework c.args.oracle.now) (g.O.Oracle.framework c.uncovered.new.oracle)
+    (g.O.Oracle.log c.record_grown.new.oracle) c.args.limit c.loop-found.found c.record_grown.new.found
+    c.in_ok-room-in-Set.room (c.in_ok-step.ensures.framework ∙ c.loop-found.invariant.framework)
+    c.if-not-room.true c.in_ok-room-in-Set.ensures.records
+
+pub returns-then-not-room-clause-run : goal.returns-then-not-room-clause-run
+returns-then-not-room-clause-run g c =
+    let f = g.O.Oracle.framework c.args.oracle.now in
+    let h = g.O.Oracle.framework c.loop-found.oracle in
+    let k = g.O.Oracle.framework c.uncovered.new.oracle in
+    let asks = c.loop-found.found.asks in
+    let inv = c.loop-found.invariant in
+    let same = c.in_ok-step.ensures.framework ∙ inv.framework in
+    let found = found_later f h (MadeOutside h) (g.O.Oracle.log c.loop-found.oracle)
+    (g.O.Oracle.log c.uncovered.new.oracle) c.loop-found.found inv.framework inv.kept c.in_ok-step.ensures.run.grows
+    inv.found in
+    then_same MadeOutside f k (length asks) 1 (2 * length (g.O.Oracle.log c.record_grown.new.oracle).sides + 2)
+    _ _ _ _ _ _ _ _ _ same
+    (few_closings f (MadeOutside k) (g.O.Oracle.log c.uncovered.new.oracle) (g.O.Oracle.log c.record_grown.new.oracle)
+    c.loop-found.found found c.in_ok-room-in-Set.ensures.run.grows)
+    (then_same MadeOutside f h (length asks) _ (length asks) _ _ _ _ _ _ _ _ _ inv.framework
+    (omega (arith, closes_set c.in_ok-step.field-0 c.in-Set.set c.in-Set.is)) inv.run c.in_ok-step.ensures.run)
+    c.in_ok-room-in-Set.ensures.run
+
+pub loop-found-smaller : goal.loop-found-smaller
+loop-found-smaller g c =
+    let f = g.O.Oracle.framework c.args.oracle.now in
+    let log = g.O.Oracle.log c.record_grown.new.oracle in
+    let more = recorded f (g.O.Oracle.framework c.uncovered.new.oracle) log c.args.limit c.loop-found.found
+    c.record_grown.new.found c.in_ok-room-in-Set.room
+    (c.in_ok-step.ensures.framework ∙ c.loop-found.invariant.framework) c.if-not-room.false
+    c.in_ok-room-in-Set.ensures.records in
+    fewer_open f log c.args.limit c.loop-found.found c.record_grown.new.found more
+
+pub loop-found-preserved : goal.loop-found-preserved
+loop-found-preserved g c =
+    let f = g.O.Oracle.framework c.args.oracle.now in
+    let h = g.O.Oracle.framework c.loop-found.oracle in
+    let k = g.O.Oracle.framework c.uncovered.new.oracle in
+    let asks = c.loop-found.found.asks in
+    let inv = c.loop-found.invariant in
+    let same = c.in_ok-step.ensures.framework ∙ inv.framework in
+    let more = recorded f k (g.O.Oracle.log c.record_grown.new.oracle) c.args.limit c.loop-found.found
+    c.record_grown.new.found c.in_ok-room-in-Set.room same c.if-not-room.false c.in_ok-room-in-Set.ensures.records in
+    record {
+      found = more.found;
+      room = more.room;
+      run = then_same MadeOutside f k (length asks) 1 (length c.record_grown.new.found.asks) _ _ _ _ _ _ _ _ _ same
+          (one_more asks c.record_grown.new.found.asks more.number more.asks)
+          (then_same MadeOutside f h (length asks) _ (length asks) _ _ _ _ _ _ _ _ _ inv.framework
+          (omega (arith, closes_set c.in_ok-step.field-0 c.in-Set.set c.in-Set.is)) inv.run c.in_ok-step.ensures.run)
+          c.in_ok-room-in-Set.ensures.run;
+      framework = c.in_ok-room-in-Set.ensures.framework ∙ same;
+      kept = c.in_ok-room-in-Set.ensures.kept;
+      follows = g.met.O.Oracle.joins _ _ _ (g.met.O.Oracle.joins _ _ _ inv.follows c.in_ok-step.ensures.follows)
+          c.in_ok-room-in-Set.ensures.follows;
+    }

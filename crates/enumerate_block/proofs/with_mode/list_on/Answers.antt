@@ -1,0 +1,125 @@
+use Rattle.std.proofs.Common.{◌∙◌, ◌+◌, ◌≤◌, subst, sym, arith}
+use Rattle.lists.specs.Members.{IsWithin}
+use Rattle.certificate_claims.specs.SetLiterals.{members}
+use Rattle.goal_lists.proofs.Calls.{closes_refuted, closes_set, run_handed, then_same}
+use Rattle.enumerate_block.specs.Modes.{MadeDiffers}
+use Rattle.enumerate_block.proofs.ModeLemmas.{fewer_unlisted, further_refuted, further_set, listing_grown, listing_kept, mode_members, not_recorded, recorded}
+use Rattle.enumerate_block.proofs.with_mode.list_on.Goals as goal
+
+pub further-requires-clause-range : goal.further-requires-clause-range
+further-requires-clause-range g c =
+    subst (λ f. IsWithin c.args.range.now (members f)) (sym c.loop-listing.invariant.framework) c.requires.range
+
+pub returns-in_err-step-clause-run : goal.returns-in_err-step-clause-run
+returns-in_err-step-clause-run g c =
+    let f = g.O.Oracle.framework c.args.oracle.now in
+    let inv = c.loop-listing.invariant in
+    let few : 0 + 0 ≤ 1 = omega arith in
+    run_handed (MadeDiffers f) 1 f _ _ _ _ _ _ c.in_err-step.field-0.0 c.from_residual.ensures
+    (then_same MadeDiffers f (g.O.Oracle.framework c.loop-listing.oracle) 0 0 1 _ _ _ _ _ _ _ _ _ inv.framework few
+    inv.run
+    c.in_err-step.ensures.run)
+
+pub returns-in-Refuted-clause-listed : goal.returns-in-Refuted-clause-listed
+returns-in-Refuted-clause-listed g c =
+    let f = g.O.Oracle.framework c.args.oracle.now in
+    let h = g.O.Oracle.framework c.loop-listing.oracle in
+    let inv = c.loop-listing.invariant in
+    further_refuted f h (g.O.Oracle.framework c.further.new.oracle) (g.O.Oracle.log c.further.new.oracle) c.args.mode
+    c.args.range.now c.args.limit c.loop-listing.listing c.in_ok-step.field-0 c.in-Refuted.step inv.framework
+    (c.in_ok-step.ensures.framework ∙ inv.framework) c.in_ok-step.ensures.kept c.requires.mode
+    (listing_grown f (MadeDiffers h) (g.O.Oracle.log c.loop-listing.oracle) (g.O.Oracle.log c.further.new.oracle)
+    c.args.mode c.args.range.now c.loop-listing.listing c.in_ok-step.ensures.run.grows inv.listing)
+    c.in-Refuted.is c.in_ok-step.ensures.further inv.room
+
+pub returns-in-Refuted-clause-run : goal.returns-in-Refuted-clause-run
+returns-in-Refuted-clause-run g c =
+    let f = g.O.Oracle.framework c.args.oracle.now in
+    let inv = c.loop-listing.invariant in
+    then_same MadeDiffers f (g.O.Oracle.framework c.loop-listing.oracle) 0 _ 1 _ _ _ _ _ _ _ _ _ inv.framework
+    (omega (arith, closes_refuted c.in_ok-step.field-0 c.in-Refuted.step c.in-Refuted.is)) inv.run
+    c.in_ok-step.ensures.run
+
+pub record_set-requires-clause-listing : goal.record_set-requires-clause-listing
+record_set-requires-clause-listing g c =
+    let f = g.O.Oracle.framework c.args.oracle.now in
+    let h = g.O.Oracle.framework c.loop-listing.oracle in
+    let inv = c.loop-listing.invariant in
+    listing_kept f h (g.O.Oracle.framework c.further.new.oracle) (MadeDiffers h) (g.O.Oracle.log c.loop-listing.oracle)
+    (g.O.Oracle.log c.further.new.oracle) c.args.mode c.args.range.now c.loop-listing.listing inv.framework
+    c.in_ok-step.ensures.framework c.in_ok-step.ensures.run.grows inv.listing
+
+pub returns-in_err-room-in-Set-clause-run : goal.returns-in_err-room-in-Set-clause-run
+returns-in_err-room-in-Set-clause-run g c =
+    let f = g.O.Oracle.framework c.args.oracle.now in
+    let h = g.O.Oracle.framework c.loop-listing.oracle in
+    let k = g.O.Oracle.framework c.further.new.oracle in
+    let inv = c.loop-listing.invariant in
+    let same = c.in_ok-step.ensures.framework ∙ inv.framework in
+    let few : 0 + 0 ≤ 1 = omega arith in
+    run_handed (MadeDiffers f) 1 f _ _ _ _ _ _ c.in_err-room-in-Set.field-0.0 c.from_residual-in_err-room-in-Set.ensures
+    (then_same MadeDiffers f k 0 0 1 _ _ _ _ _ _ _ _ _ same few
+    (then_same MadeDiffers f h 0 _ 0 _ _ _ _ _ _ _ _ _ inv.framework
+    (omega (arith, closes_set c.in_ok-step.field-0 c.in-Set.set c.in-Set.is)) inv.run c.in_ok-step.ensures.run)
+    c.in_err-room-in-Set.ensures.run)
+
+pub returns-then-not-room-clause-listed : goal.returns-then-not-room-clause-listed
+returns-then-not-room-clause-listed g c =
+    let f = g.O.Oracle.framework c.args.oracle.now in
+    let k = g.O.Oracle.framework c.further.new.oracle in
+    not_recorded f k (g.O.Oracle.log c.record_set.new.oracle) c.args.mode c.args.range.now c.args.limit c.in-Set.set
+    c.loop-listing.listing c.record_set.new.listing c.in_ok-room-in-Set.room
+    (c.in_ok-step.ensures.framework ∙ c.loop-listing.invariant.framework) c.if-not-room.true
+    c.in_ok-room-in-Set.ensures.records
+
+pub returns-then-not-room-clause-run : goal.returns-then-not-room-clause-run
+returns-then-not-room-clause-run g c =
+    let f = g.O.Oracle.framework c.args.oracle.now in
+    let h = g.O.Oracle.framework c.loop-listing.oracle in
+    let k = g.O.Oracle.framework c.further.new.oracle in
+    let inv = c.loop-listing.invariant in
+    let same = c.in_ok-step.ensures.framework ∙ inv.framework in
+    let few : 0 + 0 ≤ 1 = omega arith in
+    then_same MadeDiffers f k 0 0 1 _ _ _ _ _ _ _ _ _ same few
+    (then_same MadeDiffers f h 0 _ 0 _ _ _ _ _ _ _ _ _ inv.framework
+    (omega (arith, closes_set c.in_ok-step.field-0 c.in-Set.set c.in-Set.is)) inv.run c.in_ok-step.ensures.run)
+    c.in_ok-room-in-Set.ensures.run
+
+pub loop-listing-smaller : goal.loop-listing-smaller
+loop-listing-smaller g c =
+    let f = g.O.Oracle.framework c.args.oracle.now in
+    let h = g.O.Oracle.framework c.loop-listing.oracle in
+    let k = g.O.Oracle.framework c.further.new.oracle in
+    let inv = c.loop-listing.invariant in
+    let found = further_set f h (g.O.Oracle.log c.further.new.oracle) c.args.mode c.args.range.now
+    c.loop-listing.listing c.in_ok-step.field-0 c.in-Set.set inv.framework c.in-Set.is c.in_ok-step.ensures.further in
+    let more = recorded f k (g.O.Oracle.log c.record_set.new.oracle) c.args.mode c.args.range.now c.args.limit
+    c.in-Set.set c.loop-listing.listing c.record_set.new.listing c.in_ok-room-in-Set.room
+    (c.in_ok-step.ensures.framework ∙ inv.framework) c.if-not-room.false c.in_ok-room-in-Set.ensures.records in
+    fewer_unlisted f c.in-Set.set c.loop-listing.listing.sets.items c.record_set.new.listing.sets.items
+    (mode_members f c.in-Set.set c.args.mode c.members-members.ensures.kept.numbered c.requires.mode found.0.has_mode)
+    found.1 more.1
+
+pub loop-listing-preserved : goal.loop-listing-preserved
+loop-listing-preserved g c =
+    let f = g.O.Oracle.framework c.args.oracle.now in
+    let h = g.O.Oracle.framework c.loop-listing.oracle in
+    let k = g.O.Oracle.framework c.further.new.oracle in
+    let inv = c.loop-listing.invariant in
+    let same = c.in_ok-step.ensures.framework ∙ inv.framework in
+    let few : 0 + 0 ≤ 0 = omega arith in
+    let more = recorded f k (g.O.Oracle.log c.record_set.new.oracle) c.args.mode c.args.range.now c.args.limit
+    c.in-Set.set c.loop-listing.listing c.record_set.new.listing c.in_ok-room-in-Set.room same c.if-not-room.false
+    c.in_ok-room-in-Set.ensures.records in
+    record {
+      listing = more.0;
+      room = more.2;
+      run = then_same MadeDiffers f k 0 0 0 _ _ _ _ _ _ _ _ _ same few
+          (then_same MadeDiffers f h 0 _ 0 _ _ _ _ _ _ _ _ _ inv.framework
+          (omega (arith, closes_set c.in_ok-step.field-0 c.in-Set.set c.in-Set.is)) inv.run c.in_ok-step.ensures.run)
+          c.in_ok-room-in-Set.ensures.run;
+      framework = c.in_ok-room-in-Set.ensures.framework ∙ same;
+      kept = c.in_ok-room-in-Set.ensures.kept;
+      follows = g.met.O.Oracle.joins _ _ _ (g.met.O.Oracle.joins _ _ _ inv.follows c.in_ok-step.ensures.follows)
+          c.in_ok-room-in-Set.ensures.follows;
+    }

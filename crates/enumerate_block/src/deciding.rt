@@ -1,0 +1,235 @@
+//! Whether some semi-stable set makes a literal about membership true.
+
+ghost use Rattle.std.specs.Prelude.{◌≡◌, ◌∷◌, ◌+◌, ◌*◌, false, length, Contains, IfOk, OnOk};
+ghost use Rattle.meaning_atoms.specs.declared.atom.Atom.TheVariants.{Ad};
+ghost use Rattle.certificate_claims.specs.SetLiterals.{members};
+ghost use Rattle.oracle_face.specs.Kinds.{is_assumption_based};
+ghost use Rattle.oracle_face.specs.Logs.{IsKept};
+ghost use Rattle.oracle_face.specs.Growing.{HasRun, closes, halt_of};
+ghost use Rattle.enumerate_block.specs.semi_stable.specs.Widest.{MadeWider};
+ghost use Rattle.enumerate_block.specs.Witnesses.{Extends, HasRange, IsCover, IsDecided, IsMadeWithin};
+ghost use Rattle.enumerate_block.specs.Witnesses.{IsUncovered, Takes, ins_of, outs_of};
+
+use crate::semi_stable::{Widest, widest_from};
+use goal_lists::{Wanted, search_for, wider};
+use meaning_atoms::Atom;
+use oracle_face::{AskId, Budget, Found, Halt, Oracle, StepId};
+use lists::{Items, Memory};
+use set_lists::NumSet;
+use std::alloc::Global;
+
+/// What came of asking whether a semi-stable set makes a literal about membership true.
+#[derive(Debug, Drop)]
+pub enum Deciding {
+    /// A semi-stable set that does, its range, and the log step that refutes that another admissible set has all of
+    /// that range and more.
+    Witness(Widest),
+    /// Admissible sets, in one of whose ranges lies the range of each admissible set that makes the literal true. The
+    /// first step shows that; then there is one for each set in order, which shows that no admissible set that makes
+    /// the literal true has all of its range.
+    NoWitness(Items<NumSet>, Items<StepId>),
+}
+
+/// Sets with widest ranges, for each the step that shows that no set that makes the literal true has all of its range,
+/// and the side clauses that something is in the range that isn't in one of theirs.
+#[derive(Debug, Drop)]
+struct Cover {
+    sets: Items<NumSet>,
+    steps: Items<StepId>,
+    asks: Items<AskId>,
+}
+
+/// Whether a semi-stable set of an abstract framework accepts an argument, or where `accepted` is false, whether one
+/// doesn't. Where r ranges of
+/// semi-stable sets are found, it asks r + 1 times at most for a set whose range lies in none of them, and r times for
+/// a set that has one of them, besides what it asks to grow each range.
+pub fn decide<O: Oracle>(
+    alloc: Global,
+    oracle: &mut O,
+    budget: &mut Budget,
+    goal: u32,
+    accepted: bool,
+) -> Result<Deciding, Halt>
+    requires kind { is_assumption_based (O.framework oracle.old) ≡ false }
+    requires goal { Contains (members (O.framework oracle.old)) goal }
+    ensures decided { IfOk result (IsDecided (O.framework oracle.old) (O.log oracle.new) goal accepted) }
+    ensures run { HasRun (MadeWider (O.framework oracle.old) Ad) (2 * length (O.log oracle.new).sides + 2)
+        (O.framework oracle.old) (O.log oracle.old) (O.log oracle.new) (O.pending oracle.new) budget.old budget.new
+        (halt_of result) }
+    ensures framework { O.framework oracle.new ≡ O.framework oracle.old }
+    ensures kept { IsKept (O.framework oracle.new) (O.log oracle.new) }
+    ensures follows { O.follows oracle.old oracle.new }
+{
+    let _members = oracle.members();
+    let mut cover = Cover {
+        sets: Items::new(alloc),
+        steps: Items::new(alloc),
+        asks: Items::new(alloc),
+    };
+    loop {
+        match uncovered(alloc, oracle, budget, goal, accepted, &cover)? {
+            Found::Refuted(step) => {
+                let steps = with_first(step, cover.steps)?;
+                return Ok(Deciding::NoWitness(cover.sets, steps));
+            }
+            Found::Set(set) => {
+                match extend(alloc, oracle, budget, goal, accepted, &mut cover, &set)? {
+                    Some(witness) => return Ok(Deciding::Witness(witness)),
+                    None => {}
+                }
+            }
+        }
+    }
+}
+
+/// A step, and then others.
+fn with_first(step: StepId, steps: Items<StepId>) -> Result<Items<StepId>, Memory>
+    ensures { IfOk result (λ all. all ≡ step ∷ steps) }
+{
+    let mut all = steps.into_vec();
+    all.insert(0, step)?;
+    Ok(Items::from_vec(all))
+}
+
+/// What is wanted of a set that has the one argument of `goal` or hasn't it, has these in its range and makes the side
+/// clauses true.
+fn wanted_for<'a>(
+    goal: &'a [u32],
+    accepted: bool,
+    ranged: &'a [u32],
+    asks: &'a [AskId],
+) -> Wanted<'a>
+    ensures ins { result.ins.now ≡ ins_of accepted goal.now }
+    ensures outs { result.outs.now ≡ outs_of accepted goal.now }
+    ensures ranged { result.ranged.now ≡ ranged.now }
+    ensures asks { result.asks.now ≡ asks.now }
+{
+    if accepted {
+        return Wanted {
+            ins: goal,
+            outs: &[],
+            ranged,
+            asks,
+        };
+    }
+    Wanted {
+        ins: &[],
+        outs: goal,
+        ranged,
+        asks,
+    }
+}
+
+/// An admissible set that makes the literal true and whose range lies in none of those of the cover, or the step that
+/// shows that there is none.
+fn uncovered<O: Oracle>(
+    alloc: Global,
+    oracle: &mut O,
+    budget: &mut Budget,
+    goal: u32,
+    accepted: bool,
+    cover: &Cover,
+) -> Result<Found, Halt>
+    requires goal { Contains (members (O.framework oracle.old)) goal }
+    requires cover { IsCover (O.framework oracle.old) (O.log oracle.old) goal accepted cover.now }
+    ensures uncovered { IfOk result (IsUncovered (O.framework oracle.old) (O.log oracle.new) goal accepted cover.now) }
+    ensures run { HasRun (MadeWider (O.framework oracle.old) Ad) (closes result) (O.framework oracle.old)
+        (O.log oracle.old) (O.log oracle.new) (O.pending oracle.new) budget.old budget.new (halt_of result) }
+    ensures framework { O.framework oracle.new ≡ O.framework oracle.old }
+    ensures kept { IsKept (O.framework oracle.new) (O.log oracle.new) }
+    ensures follows { O.follows oracle.old oracle.new }
+{
+    let _members = oracle.members();
+    let goals = [goal];
+    let wanted = wanted_for(&goals, accepted, &[], cover.asks.as_slice());
+    search_for(alloc, oracle, budget, Atom::Ad, &wanted)
+}
+
+/// An admissible set that makes the literal true and has all of a set's range, or the step that shows that there is
+/// none.
+fn within_range<O: Oracle>(
+    alloc: Global,
+    oracle: &mut O,
+    budget: &mut Budget,
+    goal: u32,
+    accepted: bool,
+    widest: &Widest,
+) -> Result<Found, Halt>
+    requires goal { Contains (members (O.framework oracle.old)) goal }
+    requires range { HasRange (O.framework oracle.old) widest.now }
+    ensures within { IfOk result (IsMadeWithin (O.framework oracle.old) (O.log oracle.new) goal accepted
+        widest.now.set) }
+    ensures run { HasRun (MadeWider (O.framework oracle.old) Ad) (closes result) (O.framework oracle.old)
+        (O.log oracle.old) (O.log oracle.new) (O.pending oracle.new) budget.old budget.new (halt_of result) }
+    ensures framework { O.framework oracle.new ≡ O.framework oracle.old }
+    ensures kept { IsKept (O.framework oracle.new) (O.log oracle.new) }
+    ensures follows { O.follows oracle.old oracle.new }
+{
+    let _members = oracle.members();
+    let goals = [goal];
+    let wanted = wanted_for(&goals, accepted, widest.range.as_slice(), &[]);
+    search_for(alloc, oracle, budget, Atom::Ad, &wanted)
+}
+
+/// Grows the range of the set that was found. Gives a semi-stable set with the grown range that makes the literal true,
+/// or takes the range into the cover.
+fn extend<O: Oracle>(
+    alloc: Global,
+    oracle: &mut O,
+    budget: &mut Budget,
+    goal: u32,
+    accepted: bool,
+    cover: &mut Cover,
+    set: &NumSet,
+) -> Result<Option<Widest>, Halt>
+    requires kind { is_assumption_based (O.framework oracle.old) ≡ false }
+    requires goal { Contains (members (O.framework oracle.old)) goal }
+    requires set { IsUncovered (O.framework oracle.old) (O.log oracle.old) goal accepted cover.old (Found.Set set.now) }
+    ensures extends { IfOk result (Extends (O.framework oracle.old) (O.log oracle.new) goal accepted cover.old
+        cover.new) }
+    ensures run { HasRun (MadeWider (O.framework oracle.old) Ad) 2 (O.framework oracle.old) (O.log oracle.old)
+        (O.log oracle.new) (O.pending oracle.new) budget.old budget.new (halt_of result) }
+    ensures framework { O.framework oracle.new ≡ O.framework oracle.old }
+    ensures kept { IsKept (O.framework oracle.new) (O.log oracle.new) }
+    ensures follows { O.follows oracle.old oracle.new }
+{
+    let _members = oracle.members();
+    let widest = widest_from(alloc, oracle, budget, Atom::Ad, set)?;
+    match within_range(alloc, oracle, budget, goal, accepted, &widest)? {
+        Found::Set(set) => Ok(Some(Widest {
+            set,
+            range: widest.range,
+            refutation: widest.refutation,
+        })),
+        Found::Refuted(step) => {
+            take_range(alloc, oracle, budget, cover, widest, step)?;
+            Ok(None)
+        }
+    }
+}
+
+/// Takes a set with its range into the cover, with the step that shows that no set that makes the literal true has all
+/// of that range, and with the side clause that something is not in it.
+fn take_range<O: Oracle>(
+    alloc: Global,
+    oracle: &mut O,
+    budget: &mut Budget,
+    cover: &mut Cover,
+    widest: Widest,
+    step: StepId,
+) -> Result<(), Halt>
+    requires { HasRange (O.framework oracle.old) widest }
+    ensures takes { OnOk result (Takes (O.framework oracle.old) (O.log oracle.new) widest step cover.old cover.new) }
+    ensures run { HasRun (MadeWider (O.framework oracle.old) Ad) 0 (O.framework oracle.old) (O.log oracle.old)
+        (O.log oracle.new) (O.pending oracle.new) budget.old budget.new (halt_of result) }
+    ensures framework { O.framework oracle.new ≡ O.framework oracle.old }
+    ensures kept { IsKept (O.framework oracle.new) (O.log oracle.new) }
+    ensures follows { O.follows oracle.old oracle.new }
+{
+    let side = wider(alloc, oracle.members(), &widest.range)?;
+    let ask = oracle.oblige(alloc, &side, &widest.set, budget)?;
+    cover.asks.push(ask)?;
+    cover.steps.push(step)?;
+    cover.sets.push(widest.set)?;
+    Ok(())
+}

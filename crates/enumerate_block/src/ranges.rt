@@ -1,0 +1,172 @@
+//! All semi-stable sets.
+
+ghost use Rattle.std.specs.Prelude.{◌≡◌, ◌≤◌, ◌+◌, ◌*◌, false, length, IfOk};
+ghost use Rattle.oracle_face.specs.Kinds.{is_assumption_based};
+ghost use Rattle.oracle_face.specs.Logs.{IsKept};
+ghost use Rattle.oracle_face.specs.Growing.{HasRun, closes, halt_of};
+ghost use Rattle.enumerate_block.specs.Ranges.{AreFound, GrowsRange, IsAllOrMore, IsUncovered, MadeForRanges, Records};
+
+use crate::marks::{insert_all, steps_of};
+use crate::goal_lists::{Wanted, search_for, wider};
+use crate::{Listed, all_with_range};
+use meaning_atoms::Atom;
+use oracle_face::{AskId, Budget, Found, Halt, Oracle, StepId};
+use lists::Items;
+use semi_stable::{Widest, widest_from};
+use set_lists::NumSet;
+use std::alloc::Global;
+
+/// What came of listing semi-stable sets.
+#[derive(Debug, Drop)]
+pub enum Ranged {
+    /// All of them, in the order of their lists; then the log step that shows that each admissible set's range lies in
+    /// one of theirs, and for each set that is the first with its range the one that shows that no other has that
+    /// range.
+    Whole(Vec<NumSet>, Items<StepId>),
+    /// More than the limit were found.
+    TooMany,
+}
+
+/// Semi-stable sets found, in the order of their lists, all with each range that is there. Each that is the first with
+/// its range is marked with the log step that shows that no other has the range. The side clauses are those that
+/// something is in the range that isn't in one of these ranges.
+#[derive(Debug, Drop)]
+struct Ranges {
+    sets: Vec<NumSet>,
+    marks: Vec<Option<StepId>>,
+    asks: Items<AskId>,
+}
+
+/// All semi-stable sets of an abstract framework, at most so many. Where they have k ranges, it asks k + 1 times for a
+/// range that lies in none of those found, and within each range as often as there are sets with it, besides what it
+/// asks to grow each range.
+pub fn all_semi_stable<O: Oracle>(
+    alloc: Global,
+    oracle: &mut O,
+    budget: &mut Budget,
+    limit: usize,
+) -> Result<Ranged, Halt>
+    requires { is_assumption_based (O.framework oracle.old) ≡ false }
+    ensures ranged { IfOk result (IsAllOrMore (O.framework oracle.old) (O.log oracle.new) limit) }
+    ensures run { HasRun (MadeForRanges (O.framework oracle.old)) (2 * length (O.log oracle.new).sides + 2)
+        (O.framework oracle.old) (O.log oracle.old) (O.log oracle.new) (O.pending oracle.new) budget.old budget.new
+        (halt_of result) }
+    ensures framework { O.framework oracle.new ≡ O.framework oracle.old }
+    ensures kept { IsKept (O.framework oracle.new) (O.log oracle.new) }
+    ensures follows { O.follows oracle.old oracle.new }
+{
+    let _members = oracle.members();
+    let mut found = Ranges {
+        sets: Vec::new(alloc),
+        marks: Vec::new(alloc),
+        asks: Items::new(alloc),
+    };
+    loop {
+        match uncovered(alloc, oracle, budget, &found)? {
+            Found::Refuted(step) => {
+                let steps = steps_of(alloc, step, found.marks.as_slice())?;
+                return Ok(Ranged::Whole(found.sets, steps));
+            }
+            Found::Set(set) => {
+                let room = record_range(alloc, oracle, budget, limit, &mut found, &set)?;
+                if !room {
+                    return Ok(Ranged::TooMany);
+                }
+            }
+        }
+    }
+}
+
+/// An admissible set whose range lies in none of those found, or the step that shows that there is none.
+fn uncovered<O: Oracle>(
+    alloc: Global,
+    oracle: &mut O,
+    budget: &mut Budget,
+    found: &Ranges,
+) -> Result<Found, Halt>
+    requires { AreFound (O.framework oracle.old) (O.log oracle.old) found.now }
+    ensures uncovered { IfOk result (IsUncovered (O.framework oracle.old) (O.log oracle.new) found.now) }
+    ensures run { HasRun (MadeForRanges (O.framework oracle.old)) (closes result) (O.framework oracle.old)
+        (O.log oracle.old) (O.log oracle.new) (O.pending oracle.new) budget.old budget.new (halt_of result) }
+    ensures framework { O.framework oracle.new ≡ O.framework oracle.old }
+    ensures kept { IsKept (O.framework oracle.new) (O.log oracle.new) }
+    ensures follows { O.follows oracle.old oracle.new }
+{
+    let _members = oracle.members();
+    let wanted = Wanted {
+        ins: &[],
+        outs: &[],
+        ranged: &[],
+        asks: found.asks.as_slice(),
+    };
+    search_for(alloc, oracle, budget, Atom::Ad, &wanted)
+}
+
+/// A set with a widest range that holds the set's, with one more side clause, that something is not in that range.
+fn grow_range<O: Oracle>(
+    alloc: Global,
+    oracle: &mut O,
+    budget: &mut Budget,
+    found: &mut Ranges,
+    set: &NumSet,
+) -> Result<Widest, Halt>
+    requires kind { is_assumption_based (O.framework oracle.old) ≡ false }
+    requires set { IsUncovered (O.framework oracle.old) (O.log oracle.old) found.old (Found.Set set.now) }
+    ensures grows { IfOk result (GrowsRange (O.framework oracle.old) (O.log oracle.new) set.now found.old found.new) }
+    ensures run { HasRun (MadeForRanges (O.framework oracle.old)) 1 (O.framework oracle.old) (O.log oracle.old)
+        (O.log oracle.new) (O.pending oracle.new) budget.old budget.new (halt_of result) }
+    ensures framework { O.framework oracle.new ≡ O.framework oracle.old }
+    ensures kept { IsKept (O.framework oracle.new) (O.log oracle.new) }
+    ensures follows { O.follows oracle.old oracle.new }
+{
+    let widest = widest_from(alloc, oracle, budget, Atom::Ad, set)?;
+    let side = wider(alloc, oracle.members(), &widest.range)?;
+    let ask = oracle.oblige(alloc, &side, &widest.set, budget)?;
+    found.asks.push(ask)?;
+    Ok(widest)
+}
+
+/// Lists all sets with a widest range that holds that of the one that was found. False says that the list is longer
+/// than the limit then.
+fn record_range<O: Oracle>(
+    alloc: Global,
+    oracle: &mut O,
+    budget: &mut Budget,
+    limit: usize,
+    found: &mut Ranges,
+    set: &NumSet,
+) -> Result<bool, Halt>
+    requires found { AreFound (O.framework oracle.old) (O.log oracle.old) found.old }
+    requires room { length found.old.sets.items ≤ limit }
+    requires set { IsUncovered (O.framework oracle.old) (O.log oracle.old) found.old (Found.Set set.now) }
+    ensures records { IfOk result (Records (O.framework oracle.old) (O.log oracle.new) limit found.old found.new) }
+    ensures run { HasRun (MadeForRanges (O.framework oracle.old)) 2 (O.framework oracle.old) (O.log oracle.old)
+        (O.log oracle.new) (O.pending oracle.new) budget.old budget.new (halt_of result) }
+    ensures framework { O.framework oracle.new ≡ O.framework oracle.old }
+    ensures kept { IsKept (O.framework oracle.new) (O.log oracle.new) }
+    ensures follows { O.follows oracle.old oracle.new }
+{
+    let _members = oracle.members();
+    let widest = grow_range(alloc, oracle, budget, found, set)?;
+    let room = limit - found.sets.len();
+    match all_with_range(
+        alloc,
+        oracle,
+        budget,
+        widest.range.as_slice(),
+        room,
+        &widest.set,
+    )? {
+        Listed::TooMany => Ok(false),
+        Listed::Whole(sets, step) => {
+            insert_all(
+                alloc,
+                &mut found.sets,
+                &mut found.marks,
+                sets.as_slice(),
+                step,
+            )?;
+            Ok(true)
+        }
+    }
+}

@@ -1,0 +1,204 @@
+//! All sets of a mode.
+
+ghost use Rattle.std.specs.Prelude.{◌≡◌, ◌≤◌, [], length, IfOk};
+ghost use Rattle.lists.specs.Members.{IsWithin};
+ghost use Rattle.meaning_atoms.specs.declared.atom.Atom.TheVariants.{Ad};
+ghost use Rattle.certificate_claims.specs.SetLiterals.{members};
+ghost use Rattle.oracle_face.specs.Logs.{IsKept};
+ghost use Rattle.oracle_face.specs.Growing.{HasRun, closes, halt_of};
+ghost use Rattle.enumerate_block.specs.Modes.{IsAllOrMore, IsAmong, IsFurtherOf, IsListing, IsListMode, MadeDiffers, Records};
+
+use crate::ordered::insert_in_order;
+use goal_lists::{Wanted, differs, search_for};
+use meaning_atoms::Atom;
+use oracle_face::{AskId, Budget, Found, Halt, Oracle, StepId};
+use lists::Items;
+use set_lists::NumSet;
+use std::alloc::Global;
+
+/// What came of listing sets.
+#[derive(Debug, Drop)]
+pub enum Listed {
+    /// All of them, in the order of their lists, and the log step that shows that there is no other.
+    Whole(Vec<NumSet>, StepId),
+    /// More than the limit were found.
+    TooMany,
+}
+
+/// Sets found, in the order of their lists, and the side clauses that a set differs from each.
+#[derive(Debug, Drop)]
+struct Listing {
+    sets: Vec<NumSet>,
+    asks: Items<AskId>,
+}
+
+/// All admissible, complete or stable sets, as the mode says, at most so many. Where there are k, it asks k + 1 times.
+pub fn all_with_mode<O: Oracle>(
+    alloc: Global,
+    oracle: &mut O,
+    budget: &mut Budget,
+    mode: Atom,
+    limit: usize,
+) -> Result<Listed, Halt>
+    requires { IsListMode mode }
+    ensures listed { IfOk result (IsAllOrMore (O.framework oracle.old) (O.log oracle.new) mode [] limit) }
+    ensures run { HasRun (MadeDiffers (O.framework oracle.old)) 1 (O.framework oracle.old) (O.log oracle.old)
+        (O.log oracle.new) (O.pending oracle.new) budget.old budget.new (halt_of result) }
+    ensures framework { O.framework oracle.new ≡ O.framework oracle.old }
+    ensures kept { IsKept (O.framework oracle.new) (O.log oracle.new) }
+    ensures follows { O.follows oracle.old oracle.new }
+{
+    let _members = oracle.members();
+    let listing = Listing {
+        sets: Vec::new(alloc),
+        asks: Items::new(alloc),
+    };
+    list_on(alloc, oracle, budget, mode, &[], limit, listing)
+}
+
+/// All admissible sets with these members of the framework in their range, of which one is known, at most so many.
+/// Where there are k, it asks k times.
+pub fn all_with_range<O: Oracle>(
+    alloc: Global,
+    oracle: &mut O,
+    budget: &mut Budget,
+    range: &[u32],
+    limit: usize,
+    known: &NumSet,
+) -> Result<Listed, Halt>
+    requires range { IsWithin range.now (members (O.framework oracle.old)) }
+    requires known { IsAmong (O.framework oracle.old) Ad range.now known.now }
+    ensures listed { IfOk result (IsAllOrMore (O.framework oracle.old) (O.log oracle.new) Ad range.now limit) }
+    ensures run { HasRun (MadeDiffers (O.framework oracle.old)) 1 (O.framework oracle.old) (O.log oracle.old)
+        (O.log oracle.new) (O.pending oracle.new) budget.old budget.new (halt_of result) }
+    ensures framework { O.framework oracle.new ≡ O.framework oracle.old }
+    ensures kept { IsKept (O.framework oracle.new) (O.log oracle.new) }
+    ensures follows { O.follows oracle.old oracle.new }
+{
+    let _members = oracle.members();
+    let mut listing = Listing {
+        sets: Vec::new(alloc),
+        asks: Items::new(alloc),
+    };
+    let room = record_set(
+        alloc,
+        oracle,
+        budget,
+        Atom::Ad,
+        range,
+        limit,
+        &mut listing,
+        known,
+    )?;
+    if !room {
+        return Ok(Listed::TooMany);
+    }
+    list_on(alloc, oracle, budget, Atom::Ad, range, limit, listing)
+}
+
+/// All sets of the mode with these in their range, of which some are listed, at most so many.
+fn list_on<O: Oracle>(
+    alloc: Global,
+    oracle: &mut O,
+    budget: &mut Budget,
+    mode: Atom,
+    range: &[u32],
+    limit: usize,
+    start: Listing,
+) -> Result<Listed, Halt>
+    requires mode { IsListMode mode }
+    requires range { IsWithin range.now (members (O.framework oracle.old)) }
+    requires start { IsListing (O.framework oracle.old) (O.log oracle.old) mode range.now start }
+    requires room { length start.sets.items ≤ limit }
+    ensures listed { IfOk result (IsAllOrMore (O.framework oracle.old) (O.log oracle.new) mode range.now limit) }
+    ensures run { HasRun (MadeDiffers (O.framework oracle.old)) 1 (O.framework oracle.old) (O.log oracle.old)
+        (O.log oracle.new) (O.pending oracle.new) budget.old budget.new (halt_of result) }
+    ensures framework { O.framework oracle.new ≡ O.framework oracle.old }
+    ensures kept { IsKept (O.framework oracle.new) (O.log oracle.new) }
+    ensures follows { O.follows oracle.old oracle.new }
+{
+    let _members = oracle.members();
+    let mut listing = start;
+    loop {
+        match further(alloc, oracle, budget, mode, range, &listing)? {
+            Found::Refuted(step) => return Ok(Listed::Whole(listing.sets, step)),
+            Found::Set(set) => {
+                let room = record_set(
+                    alloc,
+                    oracle,
+                    budget,
+                    mode,
+                    range,
+                    limit,
+                    &mut listing,
+                    &set,
+                )?;
+                if !room {
+                    return Ok(Listed::TooMany);
+                }
+            }
+        }
+    }
+}
+
+/// A set of the mode with these in its range that isn't listed, or the step that shows that there is none.
+fn further<O: Oracle>(
+    alloc: Global,
+    oracle: &mut O,
+    budget: &mut Budget,
+    mode: Atom,
+    range: &[u32],
+    listing: &Listing,
+) -> Result<Found, Halt>
+    requires mode { IsListMode mode }
+    requires range { IsWithin range.now (members (O.framework oracle.old)) }
+    requires listing { IsListing (O.framework oracle.old) (O.log oracle.old) mode range.now listing.now }
+    ensures further { IfOk result (IsFurtherOf (O.framework oracle.old) (O.log oracle.new) mode range.now listing.now) }
+    ensures run { HasRun (MadeDiffers (O.framework oracle.old)) (closes result) (O.framework oracle.old)
+        (O.log oracle.old) (O.log oracle.new) (O.pending oracle.new) budget.old budget.new (halt_of result) }
+    ensures framework { O.framework oracle.new ≡ O.framework oracle.old }
+    ensures kept { IsKept (O.framework oracle.new) (O.log oracle.new) }
+    ensures follows { O.follows oracle.old oracle.new }
+{
+    let _members = oracle.members();
+    let wanted = Wanted {
+        ins: &[],
+        outs: &[],
+        ranged: range,
+        asks: listing.asks.as_slice(),
+    };
+    search_for(alloc, oracle, budget, mode, &wanted)
+}
+
+/// Lists a set that was found. False says that the list is longer than the limit then.
+fn record_set<O: Oracle>(
+    alloc: Global,
+    oracle: &mut O,
+    budget: &mut Budget,
+    mode: Atom,
+    range: &[u32],
+    limit: usize,
+    listing: &mut Listing,
+    set: &NumSet,
+) -> Result<bool, Halt>
+    requires mode { IsListMode mode }
+    requires listing { IsListing (O.framework oracle.old) (O.log oracle.old) mode range.now listing.old }
+    requires set { IsFurtherOf (O.framework oracle.old) (O.log oracle.old) mode range.now listing.old
+        (Found.Set set.now) }
+    ensures records { IfOk result (Records (O.framework oracle.old) (O.log oracle.new) mode range.now limit set.now
+        listing.old listing.new) }
+    ensures run { HasRun (MadeDiffers (O.framework oracle.old)) 0 (O.framework oracle.old) (O.log oracle.old)
+        (O.log oracle.new) (O.pending oracle.new) budget.old budget.new (halt_of result) }
+    ensures framework { O.framework oracle.new ≡ O.framework oracle.old }
+    ensures kept { IsKept (O.framework oracle.new) (O.log oracle.new) }
+    ensures follows { O.follows oracle.old oracle.new }
+{
+    let side = differs(alloc, oracle.members(), set)?;
+    insert_in_order(&mut listing.sets, set.copy(alloc)?)?;
+    if listing.sets.len() > limit {
+        return Ok(false);
+    }
+    let ask = oracle.oblige(alloc, &side, set, budget)?;
+    listing.asks.push(ask)?;
+    Ok(true)
+}

@@ -1,3 +1,0 @@
-pub mod Modes
-pub mod Ordered
-pub use Rattle.goal_lists as goal_lists

@@ -1,2 +1,0 @@
-pub mod Preferred
-pub use Rattle.cegar_preferred as cegar_preferred

@@ -1,5 +1,0 @@
-mod KnownRanges
-pub mod MarkLemmas
-pub mod WidthLemmas
-pub mod RangeLemmas
-pub mod StepLemmas

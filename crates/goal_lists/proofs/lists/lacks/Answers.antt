@@ -1,5 +1,0 @@
-use Rattle.answer_claims.proofs.SideLemmas.{tests_member}
-use Rattle.goal_lists.proofs.lists.lacks.Goals as goal
-
-pub returns : goal.returns
-returns c = tests_member c.args.set.now c.args.number c.contains.result c.contains.ensures

@@ -1,0 +1,5 @@
+use Rattle.answer_claims.proofs.SideLemmas.{tests_member}
+use Rattle.goal_lists.proofs.literal_lists.lacks.Goals as goal
+
+pub returns : goal.returns
+returns c = tests_member c.args.set.now c.args.number c.contains.result c.contains.ensures

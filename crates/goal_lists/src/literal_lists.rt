@@ -1,0 +1,160 @@
+//! Lists of literals about sets.
+
+ghost use Rattle.std.specs.Prelude.{ℕ, List, ◌≡◌, ◌++◌, ◌∷◌, [], false, not, map, filter, IfOk, OnOk};
+ghost use Rattle.semantics.specs.Framework.{Af};
+ghost use Rattle.semantics.specs.Frameworks.{Framework, af};
+ghost use Rattle.meaning_atoms.specs.Literals as literals;
+ghost use Rattle.oracle_face.specs.certificate_claims.specs.SetLiterals.{are_in, are_out, are_ranged, has, members};
+ghost use Rattle.oracle_face.specs.certificate_claims.specs.SetLiterals as set_literals;
+ghost use Rattle.oracle_face.specs.Kinds.{IsRanged, is_assumption_based};
+ghost use Rattle.lists.specs.Members.{IsSetOf};
+ghost use Rattle.goal_lists.specs.Words.{literal_of};
+
+use meaning_atoms::{Atom, AtomLit};
+use lists::Memory;
+use set_lists::NumSet;
+use std::alloc::Global;
+
+/// What a literal says of a number.
+#[derive(Clone, Copy, Debug, PartialEq, Eq)]
+pub(crate) enum Word {
+    /// It is a member.
+    In,
+    /// It is not a member.
+    Out,
+    /// It is in the range.
+    Ranged,
+    /// A member attacks it.
+    Struck,
+}
+
+/// The literal that says an atom.
+pub fn affirmed(atom: Atom) -> AtomLit
+    ensures { result ≡ literals.affirmed atom }
+{
+    AtomLit {
+        atom,
+        positive: true,
+    }
+}
+
+/// The literal that says so of a number.
+fn literal(word: Word, number: u32) -> AtomLit
+    ensures { result ≡ literal_of word number }
+{
+    match word {
+        Word::In => affirmed(Atom::Member(number)),
+        Word::Out => AtomLit {
+            atom: Atom::Member(number),
+            positive: false,
+        },
+        Word::Ranged => affirmed(Atom::Range(number)),
+        Word::Struck => affirmed(Atom::Tail(number, 1)),
+    }
+}
+
+/// Adds the literals that say so of each number.
+fn push_all(clause: &mut Vec<AtomLit>, word: Word, numbers: &[u32]) -> Result<(), Memory>
+    ensures { OnOk result (clause.new.items ≡ clause.old.items ++ map (literal_of word) numbers.now) }
+{
+    for number in numbers {
+        clause.push(literal(word, *number))?;
+    }
+    Ok(())
+}
+
+/// Adds for each number that it is a member.
+pub fn push_in(clause: &mut Vec<AtomLit>, numbers: &[u32]) -> Result<(), Memory>
+    ensures { OnOk result (clause.new.items ≡ clause.old.items ++ are_in numbers.now) }
+{
+    push_all(clause, Word::In, numbers)
+}
+
+/// Adds for each number that it is no member.
+pub fn push_out(clause: &mut Vec<AtomLit>, numbers: &[u32]) -> Result<(), Memory>
+    ensures { OnOk result (clause.new.items ≡ clause.old.items ++ are_out numbers.now) }
+{
+    push_all(clause, Word::Out, numbers)
+}
+
+/// Adds for each number that it is in the range.
+pub fn push_ranged(clause: &mut Vec<AtomLit>, numbers: &[u32]) -> Result<(), Memory>
+    ensures { OnOk result (clause.new.items ≡ clause.old.items ++ are_ranged numbers.now) }
+{
+    push_all(clause, Word::Ranged, numbers)
+}
+
+/// Whether a number is no member.
+fn lacks(set: &NumSet, number: u32) -> bool
+    ensures { result ≡ not (has set.now number) }
+{
+    !set.contains(number)
+}
+
+/// Adds the literal that says so of a number, if it is no member.
+fn push_if_lacking(
+    clause: &mut Vec<AtomLit>,
+    word: Word,
+    set: &NumSet,
+    number: u32,
+) -> Result<(), Memory>
+    ensures { OnOk result (clause.new.items
+        ≡ clause.old.items ++ map (literal_of word) (filter (λ x. not (has set.now x)) (number ∷ []))) }
+{
+    let lacking = lacks(set, number);
+    if lacking {
+        clause.push(literal(word, number))?;
+        return Ok(());
+    }
+    Ok(())
+}
+
+/// The literals that say so of those of the numbers that are no members.
+fn lacking(alloc: Global, word: Word, numbers: &[u32], set: &NumSet) -> Result<Vec<AtomLit>, Memory>
+    ensures { IfOk result (λ clause. clause.items
+        ≡ map (literal_of word) (filter (λ x. not (has set.now x)) numbers.now)) }
+{
+    let mut clause = Vec::new(alloc);
+    for number in numbers {
+        push_if_lacking(&mut clause, word, set, *number)?;
+    }
+    Ok(clause)
+}
+
+/// The side clause that some member lies outside a set; `members` are the numbers that sets are made of.
+pub fn outside(alloc: Global, members: &NumSet, set: &NumSet) -> Result<Vec<AtomLit>, Memory>
+    ensures { IfOk result (λ clause. (f : Framework) → members.now ≡ set_literals.members f
+        → clause.items ≡ set_literals.outside f set.now) }
+{
+    let clause = lacking(alloc, Word::In, members.as_slice(), set)?;
+    Ok(clause)
+}
+
+/// The side clause that some member lies outside a set, or some member of it is none.
+pub fn differs(alloc: Global, members: &NumSet, set: &NumSet) -> Result<Vec<AtomLit>, Memory>
+    ensures { IfOk result (λ clause. (f : Framework) → members.now ≡ set_literals.members f
+        → clause.items ≡ set_literals.differs f set.now) }
+{
+    let mut clause = lacking(alloc, Word::In, members.as_slice(), set)?;
+    push_out(&mut clause, set.as_slice())?;
+    Ok(clause)
+}
+
+/// The side clause that something is in the range that isn't in a set's range, in an abstract framework.
+pub fn wider(alloc: Global, members: &NumSet, range: &NumSet) -> Result<Vec<AtomLit>, Memory>
+    ensures { IfOk result (λ clause. (f : Framework) (set : List ℕ) → is_assumption_based f ≡ false
+        → members.now ≡ set_literals.members f → IsSetOf (IsRanged f set) range.now
+        → clause.items ≡ set_literals.wider f set) }
+{
+    let clause = lacking(alloc, Word::Ranged, members.as_slice(), range)?;
+    Ok(clause)
+}
+
+/// The side clause that something attacks a member of a set of arguments.
+pub fn attacked(alloc: Global, set: &NumSet) -> Result<Vec<AtomLit>, Memory>
+    ensures { IfOk result (λ clause. (f : Af) → clause.items ≡ set_literals.attacked (af f) set.now) }
+{
+    let mut clause = Vec::new(alloc);
+    push_all(&mut clause, Word::Struck, set.as_slice())?;
+    Ok(clause)
+}

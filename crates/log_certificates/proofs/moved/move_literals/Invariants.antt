@@ -1,5 +1,0 @@
-use Rattle.log_certificates.specs.Moving.{AreMovedTo}
-use Rattle.log_certificates.proofs.moved.move_literals.Given as goal
-
-abbrev pub invariant-loop-index : goal.invariant-loop-index
-invariant-loop-index l = AreMovedTo l.positions l.initial.literals.items l.index l.literals.items

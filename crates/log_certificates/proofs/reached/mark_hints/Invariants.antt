@@ -1,6 +1,0 @@
-use Rattle.std.proofs.Common.{take}
-use Rattle.log_certificates.specs.Marks.{MarksHints}
-use Rattle.log_certificates.proofs.reached.mark_hints.Given as goal
-
-abbrev pub invariant-loop-hint : goal.invariant-loop-hint
-invariant-loop-hint l = MarksHints (take l.hint-index l.hints) l.initial.marks.items l.marks.items

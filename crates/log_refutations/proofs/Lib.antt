@@ -1,4 +1,0 @@
-pub mod Existing
-pub mod Numbering
-pub mod PlainClaims
-pub mod TrimmedLemmas

@@ -1,7 +1,0 @@
-pub mod AxiomKinds
-mod BenchLemmas
-mod GoalLemmas
-mod HintLemmas
-mod RowsLemmas
-mod StepLemmas
-mod FlawLemmas

@@ -1,6 +1,0 @@
-use Rattle.std.proofs.Common.{refl}
-use Rattle.refutation_check.proofs.RowsLemmas.{clause_noted}
-use Rattle.refutation_check.proofs.taken.Taken.push.Goals as goal
-
-pub returns : goal.returns
-returns c = clause_noted _ _ _ c.args.clause.now _ _ c.in_ok-push.ensures refl refl refl c.in_ok-row.ensures

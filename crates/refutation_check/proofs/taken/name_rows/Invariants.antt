@@ -1,6 +1,0 @@
-use Rattle.std.proofs.Common.{◌≡◌, map, take}
-use Rattle.refutation_check.specs.StepRows.{row_named}
-use Rattle.refutation_check.proofs.taken.name_rows.Given as goal
-
-abbrev pub invariant-loop-hint : goal.invariant-loop-hint
-invariant-loop-hint l = l.named.items ≡ map (row_named l.rows) (take l.hint-index l.hints)

@@ -1,4 +1,0 @@
-pub mod Benches
-pub mod Standing
-pub mod StepRows
-pub mod Flaws

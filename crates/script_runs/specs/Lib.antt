@@ -1,6 +1,0 @@
-pub mod Served
-pub mod Running
-pub mod Transcripts
-pub mod Finishing
-pub use Rattle.session_core as session_core
-pub use Rattle.session_core.specs.oracle_core as oracle_core
