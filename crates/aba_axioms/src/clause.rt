@@ -10,13 +10,13 @@ ghost use Rattle.af_axioms.specs.meaning_atoms.specs.Worlds.{IsAsk, IsValid};
 ghost use Rattle.aba_axioms.specs.AbaTable.{aba_clause, given_atom as given_in};
 
 use crate::loop_clause::loop_clause;
+use af_axioms::{list, no, yes};
+use lists::{Items, Memory};
 use meaning_atoms::Atom::{
     Ad, Asm, BGap, Body, Cf, Co, Con, Der, HGap, Head, Member, Miss, St, Sup,
 };
 use meaning_atoms::Closure::{Own, Rest};
 use meaning_atoms::{AbaAxiom, Atom, AtomLit, Closure, END};
-use af_axioms::{list, no, yes};
-use lists::{Items, Memory};
 use std::alloc::Global;
 
 /// The clause of an axiom, with its literals in the order of the table. A clause says that one of its literals is true.

@@ -9,10 +9,10 @@ ghost use Rattle.aba_axioms.specs.AbaTable.{filled_gap, given_atom as given_in, 
 ghost use Rattle.aba_axioms.specs.AbaTable.{other_heads, pair_literal, row_literals};
 
 use crate::clause::given_atom;
-use meaning_atoms::Atom::{Body, Der, HGap, Miss};
-use meaning_atoms::{AtomLit, Closure, END, LoopRow};
 use af_axioms::{no, yes};
 use lists::{Items, Memory};
+use meaning_atoms::Atom::{Body, Der, HGap, Miss};
+use meaning_atoms::{AtomLit, Closure, END, LoopRow};
 use std::alloc::Global;
 
 /// B17: the atom is not in the closure; or some atom of the rows is given; or some atom of the rows is headed by a rule

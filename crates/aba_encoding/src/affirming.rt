@@ -5,9 +5,9 @@ ghost use Rattle.lists.specs.Members.{IsSetOf};
 ghost use Rattle.af_encoding.specs.Decoded.{Affirms};
 ghost use Rattle.aba_encoding.specs.NumberAtoms.{atom_of, number_in};
 
+use lists::Memory;
 use meaning_atoms::Atom::{Asm, Der, Member};
 use meaning_atoms::{AtomLit, Closure};
-use lists::Memory;
 use set_lists::NumSet;
 use std::alloc::Global;
 

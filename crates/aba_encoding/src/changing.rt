@@ -13,10 +13,10 @@ use crate::places::{next_after, place_before};
 use crate::{push_all, push_rule};
 use aba_notions::AbaPlain;
 use edit_rules::{Edit, Effect};
+use lists::{Items, Memory};
 use meaning_atoms::AbaAxiom::{B2, B3, B9Con, B10, B11, B12, B13, B14, B15};
 use meaning_atoms::AxiomName;
 use meaning_atoms::Closure::{Own, Rest};
-use lists::{Items, Memory};
 use std::alloc::Global;
 
 /// The axioms that a search needs of a framework behind an edit and did not need before it. `plain` is the framework

@@ -7,8 +7,8 @@ ghost use Rattle.meaning_atoms.specs.declared.atom.Atom.TheVariants.{Asm};
 ghost use Rattle.oracle_face.specs.Decoding.{IsDecoded};
 
 use crate::affirming::{NumberAtom, affirmed_numbers};
-use meaning_atoms::AtomLit;
 use lists::Memory;
+use meaning_atoms::AtomLit;
 use set_lists::NumSet;
 use std::alloc::Global;
 

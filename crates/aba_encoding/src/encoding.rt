@@ -2,14 +2,14 @@
 
 use crate::{decoding, loops};
 use aba_notions::AbaPlain;
+use lists::{Items, Memory};
 use meaning_atoms::{Atom, AtomLit, AxiomName};
 use oracle_face::Encoding;
-use lists::{Items, Memory};
 use set_lists::NumSet;
 use std::alloc::Global;
 
 /// Flat assumption-based frameworks in clauses over atoms.
-#[derive(Clone, Copy, Debug)]
+#[derive(Clone, Copy)]
 pub struct AbaEncoding;
 
 impl Encoding for AbaEncoding {

@@ -19,9 +19,9 @@ ghost use Rattle.aba_encoding.specs.NumberAtoms.{atom_of};
 use crate::affirming::{NumberAtom, affirmed_numbers};
 use crate::decoding::decode;
 use aba_notions::{AbaPlain, Unfounded};
+use lists::Memory;
 use loop_clauses::loop_axiom;
 use meaning_atoms::{AtomLit, AxiomName, Closure};
-use lists::Memory;
 use set_lists::NumSet;
 use std::alloc::Global;
 

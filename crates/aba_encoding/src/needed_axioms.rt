@@ -11,12 +11,12 @@ ghost use Rattle.oracle_face.specs.Needed.{IsNeeded};
 ghost use Rattle.aba_encoding.specs.Listing.{Gains, atom_axioms, contrary_axioms, rule_axioms};
 
 use aba_notions::AbaPlain;
+use lists::{Items, Memory};
 use meaning_atoms::AbaAxiom::{
     B1, B2, B3, B4, B5, B6, B7, B8, B9, B9Con, B10, B11, B12, B13, B14, B15, B16,
 };
 use meaning_atoms::Closure::{Own, Rest};
 use meaning_atoms::{AbaAxiom, AxiomName};
-use lists::{Items, Memory};
 use std::alloc::Global;
 
 /// The axioms that a search needs of a framework, each once: a model of these axioms that derives nothing unfounded,

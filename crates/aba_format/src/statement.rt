@@ -16,7 +16,7 @@ use af_format::LineCause;
 use num_text::{Fields, Line, NumberField, fields};
 
 /// What a line says; the body of a rule stands apart.
-#[derive(Clone, Copy, Debug, PartialEq, Eq)]
+#[derive(Clone, Copy, PartialEq, Eq)]
 pub(crate) enum Statement {
     /// An assumption.
     Assumption(u32),

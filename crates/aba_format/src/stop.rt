@@ -7,7 +7,7 @@ use lists::Memory;
 use std::alloc::AllocFailed;
 
 /// Why reading stops at a line.
-#[derive(Clone, Copy, Debug, PartialEq, Eq)]
+#[derive(Clone, Copy, PartialEq, Eq)]
 pub(crate) enum LineStop {
     /// The line has a fault.
     Cause(LineCause),

@@ -4,7 +4,7 @@ ghost use Rattle.std.specs.Prelude.{◌↔◌, Contains, IsTrue};
 ghost use Rattle.lists.specs.Members.{IsWithin};
 
 /// A rule under its number.
-#[derive(Clone, Copy, Debug, Drop)]
+#[derive(Clone, Copy, Drop)]
 pub struct PlainRule<'a> {
     pub number: u32,
     pub head: u32,
@@ -13,7 +13,7 @@ pub struct PlainRule<'a> {
 
 /// An assumption-based framework by its parts, whose lists may be in any order: the atoms are the numbers from 1 to
 /// `atoms`, the contraries are pairs (assumption, contrary), and `next` is the number that the next rule gets.
-#[derive(Clone, Copy, Debug, Drop)]
+#[derive(Clone, Copy, Drop)]
 pub struct AbaLists<'a> {
     pub atoms: u32,
     pub assumptions: &'a [u32],

@@ -13,7 +13,7 @@ use lists::{Items, Memory};
 use std::alloc::Global;
 
 /// A set with all that it derives.
-#[derive(Debug, Drop)]
+#[derive(Drop)]
 pub(crate) struct Theory {
     pub(crate) set: Items<u32>,
     pub(crate) derived: Items<u32>,

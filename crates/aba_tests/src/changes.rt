@@ -7,8 +7,8 @@ use crate::edits::{Change, edit_of, framework_of};
 use aba_encoding::changed;
 use aba_notions::AbaPlain;
 use edit_rules::{Edit, EditFault, Effect, Framework, apply};
-use meaning_atoms::{AxiomName, push_axiom};
 use lists::{Items, Memory};
+use meaning_atoms::{AxiomName, push_axiom};
 use std::alloc::Global;
 use std::test::Fail;
 

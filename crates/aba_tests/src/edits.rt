@@ -1,10 +1,11 @@
 //! Edits: what each one does, that it can be undone, and the order of its refusals.
 
 use crate::aba_text::framework_shown;
-use edit_rules::{aba_edits_keep_form, aba_effects_determine, apply_aba, numbers_are_given_once};
 use aba_format::read_aba;
 use aba_notions::{AbaPlain, RuleLists};
-use edit_rules::{Edit, EditFault};
+use edit_rules::{
+    Edit, EditFault, aba_edits_keep_form, aba_effects_determine, apply_aba, numbers_are_given_once,
+};
 use lists::{Items, Memory};
 use set_lists::NumSet;
 use std::alloc::Global;
@@ -12,7 +13,7 @@ use std::process::Abort;
 use std::test::Fail;
 
 /// An edit that borrows its body.
-#[derive(Clone, Copy, Debug)]
+#[derive(Clone, Copy)]
 pub(crate) enum Change<'a> {
     ArgAdd(u32),
     ArgDrop(u32),

@@ -1,17 +1,16 @@
 //! Frameworks in clauses, compared with what was worked out by hand from the table of axioms.
 
-use aba_encoding::{decode, missing};
+use aba_encoding::{decode, missing, needed};
 use aba_facts::fact;
 use aba_format::read_aba;
-use aba_encoding::needed;
 use aba_notions::AbaPlain;
 use af_format::ReadFault;
+use lists::{Items, Memory};
 use meaning_atoms::Atom::{
     Ask, Asm, Attack, BGap, Body, Cf, Con, Der, Gap, HGap, Head, Live, Member, Miss, Sup,
 };
 use meaning_atoms::Closure::{Own, Rest};
 use meaning_atoms::{Atom, AtomLit, AxiomName, END, push_axiom};
-use lists::{Items, Memory};
 use std::alloc::Global;
 use std::test::Fail;
 

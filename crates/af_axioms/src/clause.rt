@@ -8,9 +8,9 @@ ghost use Rattle.meaning_atoms.specs.Literals.{affirmed, denied};
 ghost use Rattle.meaning_atoms.specs.Worlds.{IsAsk, IsValid};
 ghost use Rattle.af_axioms.specs.Table.{table_clause};
 
+use lists::{Items, Memory};
 use meaning_atoms::Atom::{Ad, Attack, Cf, Co, Gap, Live, Member, Range, St, Tail, Unmet};
 use meaning_atoms::{AfAxiom, Atom, AtomLit, END};
-use lists::{Items, Memory};
 use std::alloc::Global;
 
 /// The clause of an axiom, with its literals in the order of the table. A clause says that one of its literals

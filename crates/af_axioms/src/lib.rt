@@ -8,4 +8,3 @@ pub mod laws;
 
 pub use clause::{clause_of, list, no, yes};
 pub use fact::fact_value;
-pub use meaning_atoms::{aba_laws, aba_semantics, semantics};

@@ -12,9 +12,9 @@ ghost use Rattle.af_encoding.specs.Changes.{GainsCalled, IsPlaceBefore};
 use crate::needed_axioms::push_all;
 use dung_notions::AfPlain;
 use edit_rules::{Edit, Effect};
+use lists::{Items, Memory};
 use meaning_atoms::AfAxiom::{A1, A2, A3, A4, A5, A6, A7, A8, A9, A10, A11, A12, A13};
 use meaning_atoms::AxiomName;
-use lists::{Items, Memory};
 use std::alloc::Global;
 
 /// The axioms that a search needs of a framework behind an edit and did not need before it. `plain` is the framework

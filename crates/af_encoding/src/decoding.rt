@@ -8,8 +8,8 @@ ghost use Rattle.meaning_atoms.specs.declared.atom.Atom.TheVariants.{Live, Membe
 ghost use Rattle.oracle_face.specs.Decoding.{IsDecoded, IsModelOf};
 ghost use Rattle.af_encoding.specs.Decoded.{Affirms, Describes, live_in, member_in};
 
-use meaning_atoms::{Atom, AtomLit};
 use lists::Memory;
+use meaning_atoms::{Atom, AtomLit};
 use set_lists::NumSet;
 use std::alloc::Global;
 

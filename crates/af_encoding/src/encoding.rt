@@ -10,14 +10,14 @@ ghost use Rattle.oracle_face.specs.Needed.{IsNeeded};
 
 use crate::{decoding, facts, needed_axioms, neighbourhood};
 use dung_notions::AfPlain;
+use lists::{Items, Memory};
 use meaning_atoms::{Atom, AtomLit, AxiomName};
 use oracle_face::Encoding;
-use lists::{Items, Memory};
 use set_lists::NumSet;
 use std::alloc::Global;
 
 /// Abstract frameworks in clauses over atoms.
-#[derive(Clone, Copy, Debug)]
+#[derive(Clone, Copy)]
 pub struct AfEncoding;
 
 impl Encoding for AfEncoding {

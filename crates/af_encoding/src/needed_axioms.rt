@@ -9,9 +9,9 @@ ghost use Rattle.af_encoding.specs.Enumerations.{Enumerates, GainsEach};
 ghost use Rattle.af_encoding.specs.Told.{IsNeededAt};
 
 use dung_notions::AfPlain;
+use lists::{Items, Memory};
 use meaning_atoms::AfAxiom::{A1, A2, A3, A4, A5, A6, A7, A8, A9, A10, A11, A12, A13, A14};
 use meaning_atoms::{AfAxiom, AxiomName};
-use lists::{Items, Memory};
 use std::alloc::Global;
 
 /// The axioms that a search needs of a framework, each once: a model of these axioms in which the framework's facts

@@ -1,8 +1,8 @@
 //! The facts near what goals speak of.
 
 use dung_notions::AfPlain;
-use meaning_atoms::{Atom, AtomLit, END};
 use lists::{Items, Memory};
+use meaning_atoms::{Atom, AtomLit, END};
 use std::alloc::Global;
 
 /// Goals on more arguments than these have no near facts: they grow a set that was found, and what refutes them lies

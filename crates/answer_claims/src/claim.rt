@@ -8,14 +8,14 @@ ghost use Rattle.answer_claims.specs.SetFacts.{IsRangeOf};
 use crate::kinds::is_member;
 use crate::sides::SideKind;
 use edit_rules::Framework;
+use lists::Items;
 use meaning_atoms::laws::literals_are_equal;
 use meaning_atoms::{Atom, AtomLit};
-use lists::Items;
 use set_lists::NumSet;
 
 /// A claim. Its goals are a few literals, that some numbers are members, that others are not, and that what a set has
 /// in its range is in the range.
-#[derive(Debug)]
+
 pub struct Claim {
     /// A few literals that are goals as they stand.
     pub fixed: Items<AtomLit>,

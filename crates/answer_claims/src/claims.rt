@@ -20,8 +20,8 @@ use crate::rows::{copies, goal_literal, one, opposite, two, yes};
 use crate::sides::SideKind;
 use certificate_claims::{FirstRanged, Row, with_range};
 use edit_rules::Framework;
-use meaning_atoms::{Atom, AtomLit};
 use lists::{Items, Memory};
+use meaning_atoms::{Atom, AtomLit};
 use set_lists::NumSet;
 use std::alloc::Global;
 

@@ -13,8 +13,8 @@ ghost use Rattle.edit_rules.specs.Kinds.{framework_of};
 use certificate_claims::Row;
 use edit_rules::Framework;
 use iccma_tasks::{Answer, Problem, Query, Semantics};
-use meaning_atoms::{Atom, AtomLit, Closure};
 use lists::{Items, Memory};
+use meaning_atoms::{Atom, AtomLit, Closure};
 use set_lists::NumSet;
 use std::alloc::Global;
 

@@ -9,13 +9,13 @@ ghost use Rattle.answer_claims.specs.SideClauses.{literal_of, side_of};
 
 use crate::kinds::{members_of, range_of};
 use edit_rules::Framework;
-use meaning_atoms::{Atom, AtomLit};
 use lists::Memory;
+use meaning_atoms::{Atom, AtomLit};
 use set_lists::NumSet;
 use std::alloc::Global;
 
 /// What a literal says of an argument.
-#[derive(Clone, Copy, Debug, PartialEq, Eq)]
+#[derive(Clone, Copy, PartialEq, Eq)]
 pub(crate) enum Word {
     /// It is a member.
     In,
@@ -28,7 +28,7 @@ pub(crate) enum Word {
 }
 
 /// What a side clause says of a set.
-#[derive(Clone, Copy, Debug, PartialEq, Eq)]
+#[derive(Clone, Copy, PartialEq, Eq)]
 pub enum SideKind {
     /// Some member lies outside the set.
     Outside,

@@ -12,7 +12,7 @@ use lists::Items;
 const COUNTERS: usize = 23;
 
 /// The faults of reading, for each role apart.
-#[derive(Debug, Drop)]
+#[derive(Drop)]
 pub(crate) struct Counts {
     pub(crate) counts: [u64; COUNTERS],
 }
@@ -76,7 +76,7 @@ pub(crate) fn raised(count: u64) -> u64
 }
 
 /// The numbers of the calls that are to fail, and how many calls there were.
-#[derive(Debug, Drop)]
+#[derive(Drop)]
 pub(crate) struct Plan {
     pub(crate) failing: Items<u64>,
     pub(crate) calls: u64,

@@ -15,9 +15,9 @@ pub mod real_files;
 pub mod real_out;
 pub mod whole;
 
+use lists::Memory;
 pub use mem_files::MemFiles;
 pub use mem_sink::MemSink;
-use lists::Memory;
 pub use real_files::RealFiles;
 pub use real_out::RealOut;
 use std::alloc::AllocError;
@@ -28,7 +28,7 @@ pub use whole::{append_all, put_all, read_all};
 pub struct Failed;
 
 /// What a file is read for. Faults of reading are counted for each role apart.
-#[derive(Clone, Copy, Debug, PartialEq, Eq)]
+#[derive(Clone, Copy, PartialEq, Eq)]
 pub enum Role {
     /// The framework with this number, from 1 to 16.
     Framework(u32),
@@ -91,7 +91,7 @@ impl From<AllocError> for ReadStop {
 }
 
 /// A place in a session's life.
-#[derive(Clone, Copy, Debug, PartialEq, Eq)]
+#[derive(Clone, Copy, PartialEq, Eq)]
 pub enum Point {
     BeforeEdit,
     AfterEdit,
@@ -232,7 +232,7 @@ pub trait Pace {
 }
 
 /// A gate that holds nobody.
-#[derive(Clone, Copy, Debug)]
+#[derive(Clone, Copy)]
 pub struct NoPace;
 
 impl Pace for NoPace {

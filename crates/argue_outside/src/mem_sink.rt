@@ -11,7 +11,7 @@ use std::alloc::Global;
 
 /// A sink over memory. A put fails whose number is in the list of those that are to fail, counted
 /// from 1, and otherwise only for want of memory.
-#[derive(Debug)]
+
 pub struct MemSink {
     bytes: Bytes,
     faults: u64,

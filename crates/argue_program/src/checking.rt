@@ -24,7 +24,7 @@ use std::alloc::Global;
 use std::mem::forget;
 
 /// The bytes of the files of a check.
-#[derive(Debug)]
+
 pub(crate) struct CheckBytes {
     pub framework: Bytes,
     pub answer: Bytes,

@@ -18,9 +18,9 @@ use crate::texts::{Text, status_text};
 use crate::writing::Written;
 use argue_outside::Files;
 use argue_words::{CheckWords, Command, SolveWords, read_words};
-use oracle_core::{AnswerStop, Answered, Engine};
 use iccma_tasks::answer_text;
 use lists::{Items, Memory};
+use oracle_core::{AnswerStop, Answered, Engine};
 use std::alloc::Global;
 
 /// The line of `--problems`.

@@ -6,16 +6,16 @@ ghost use Rattle.argue_program.specs.Statuses.{code_of};
 
 use af_format::LineCause;
 use argue_outside::Role;
-use oracle_core::{AnswerStop, Answered, Engine};
 use bench_runs::ScriptTranscript;
 use certificate_claims::Cause as Failure;
 use certificate_text::CertCause;
 use edit_rules::QueryFault;
 use iccma_tasks::AnswerCause;
+use oracle_core::{AnswerStop, Answered, Engine};
 use script_text::ScriptCause;
 
 /// What is wrong with a line of an input: a variant for each kind of text.
-#[derive(Clone, Copy, Debug, PartialEq, Eq)]
+#[derive(Clone, Copy, PartialEq, Eq)]
 pub enum Cause {
     /// A line of a framework.
     Framework(LineCause),
@@ -28,7 +28,7 @@ pub enum Cause {
 }
 
 /// Why an input is refused.
-#[derive(Clone, Copy, Debug, PartialEq, Eq)]
+#[derive(Clone, Copy, PartialEq, Eq)]
 pub enum Refusal {
     /// The text read in this role has its first fault at this line, counted from 1.
     Line(Role, usize, Cause),
@@ -37,7 +37,7 @@ pub enum Refusal {
 }
 
 /// Which bound was met.
-#[derive(Clone, Copy, Debug, PartialEq, Eq)]
+#[derive(Clone, Copy, PartialEq, Eq)]
 pub enum Limit {
     /// An input has more than `INPUT_LIMIT` bytes.
     Input,
@@ -48,7 +48,7 @@ pub enum Limit {
 }
 
 /// How a run ended, as its exit status says it.
-#[derive(Clone, Copy, Debug, PartialEq, Eq)]
+#[derive(Clone, Copy, PartialEq, Eq)]
 pub enum Status {
     /// The query got its answer, or each line of a script its reply, and all output was taken.
     Done,

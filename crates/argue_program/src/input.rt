@@ -10,8 +10,8 @@ use af_format::ReadFault;
 use argue_outside::{Files, ReadStop, Role, read_all};
 use edit_rules::Framework;
 use framework_text::read_framework as read_text;
-use num_text::INPUT_LIMIT;
 use lists::{Bytes, Memory};
+use num_text::INPUT_LIMIT;
 use std::alloc::Global;
 
 impl From<Memory> for Status {

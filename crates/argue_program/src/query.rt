@@ -22,7 +22,7 @@ pub const EXTENSION_LIMIT: u32 = 10_000;
 pub const LOG_LIMIT: u64 = 50_000_000;
 
 /// A query to be solved, and the budget of units for its answer.
-#[derive(Debug, Drop)]
+#[derive(Drop)]
 pub struct Solving {
     pub query: Query,
     pub budget: u32,

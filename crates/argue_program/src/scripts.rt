@@ -32,7 +32,7 @@ use std::sync::Wait;
 use std::thread::Threads;
 
 /// The bytes of the files of a script's run.
-#[derive(Debug, Drop)]
+#[derive(Drop)]
 pub(crate) struct LiveBytes {
     pub framework: Bytes,
     pub script: Bytes,

@@ -15,12 +15,12 @@ use crate::query::{EXTENSION_LIMIT, LOG_LIMIT, Solving};
 use crate::writing::Written;
 use argue_outside::{Files, Role};
 use argue_words::SolveWords;
-use oracle_core::{AnswerStop, Engine};
 use certificate_claims::Certificate;
 use certificate_text::write_certificate;
 use edit_rules::Framework;
-use oracle_face::NoTrade;
 use lists::{Items, Memory};
+use oracle_core::{AnswerStop, Engine};
+use oracle_face::NoTrade;
 use plain_lits::Budget;
 use std::alloc::Global;
 

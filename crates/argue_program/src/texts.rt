@@ -13,7 +13,7 @@ use lists::{Bytes, Memory};
 use std::alloc::{AllocError, Global};
 
 /// A text to be written. A fixed one takes no memory.
-#[derive(Debug, Drop)]
+#[derive(Drop)]
 pub enum Text {
     Fixed(&'static str),
     Made(String),

@@ -11,7 +11,7 @@ use argue_outside::{Failed, Files, Sink, append_all, put_all};
 use lists::Bytes;
 
 /// A file that a run writes: its name, and the bytes that it is to have.
-#[derive(Debug, Drop)]
+#[derive(Drop)]
 pub struct Written {
     pub name: String,
     pub bytes: Bytes,

@@ -12,7 +12,7 @@ use lists::Memory;
 use std::alloc::Global;
 
 /// What the words ask for.
-#[derive(Clone, Copy, Debug, PartialEq, Eq)]
+#[derive(Clone, Copy, PartialEq, Eq)]
 pub enum Command<'a> {
     /// No words: the program's name and version.
     Version,
@@ -33,7 +33,7 @@ pub enum Command<'a> {
 /// The words of a query: the task's name, the name of the framework's file, the number that is asked about and the budget
 /// where they are given, and the name of a file for the certificate where one is wanted. Whether there is such a task,
 /// whether it wants the number, and whether the budget is one, is for the caller to see.
-#[derive(Clone, Copy, Debug, PartialEq, Eq)]
+#[derive(Clone, Copy, PartialEq, Eq)]
 pub struct SolveWords<'a> {
     pub task: &'a str,
     pub file: &'a str,
@@ -45,7 +45,7 @@ pub struct SolveWords<'a> {
 /// The words of a check: the task's name, the number that is asked about where one is given, and the names of the files
 /// of the framework, the answer and the certificate. Whether there is such a task, and whether it wants the number, is
 /// for the caller to see.
-#[derive(Clone, Copy, Debug, PartialEq, Eq)]
+#[derive(Clone, Copy, PartialEq, Eq)]
 pub struct CheckWords<'a> {
     pub task: &'a str,
     pub number: Option<&'a str>,
@@ -56,7 +56,7 @@ pub struct CheckWords<'a> {
 
 /// The words of a script's run: the names of the files of the framework and of the script, the budget where one is given,
 /// and the name of a file for the certificates where one is wanted. Whether the budget is one is for the caller to see.
-#[derive(Clone, Copy, Debug, PartialEq, Eq)]
+#[derive(Clone, Copy, PartialEq, Eq)]
 pub struct LiveWords<'a> {
     pub file: &'a str,
     pub script: &'a str,
@@ -66,7 +66,7 @@ pub struct LiveWords<'a> {
 
 /// The words of a large input's run: how many arguments it has, and a seed. Whether they are numbers, and whether an input
 /// may have so many arguments, is for the caller to see.
-#[derive(Clone, Copy, Debug, PartialEq, Eq)]
+#[derive(Clone, Copy, PartialEq, Eq)]
 pub struct BenchWords<'a> {
     pub arguments: &'a str,
     pub seed: &'a str,

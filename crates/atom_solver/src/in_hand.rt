@@ -2,9 +2,9 @@
 
 ghost use Rattle.std.specs.Prelude.{◌≡◌, IfOk};
 
+use lists::{Items, Memory};
 use meaning_atoms::AtomLit;
 use oracle_face::Pending;
-use lists::{Items, Memory};
 use plain_lits::StepId;
 use std::alloc::Global;
 

@@ -5,15 +5,15 @@ ghost use Rattle.meaning_atoms.specs.declared.atom.Atom.TheVariants.{Ask};
 ghost use Rattle.oracle_face.specs.Logs.{guarded};
 ghost use Rattle.atom_solver.specs.Sides.{IsOrderOf, IsOrdered, IsSideAt, IsNowhere};
 
+use lists::{Items, Memory};
 use meaning_atoms::{Atom, AtomLit};
 use oracle_face::AskId;
-use lists::{Items, Memory};
 use set_lists::NumSet;
 use std::alloc::Global;
 use std::marker::Model;
 
 /// The literals of a side clause, in rising order and each once, and the set that it is made from.
-#[derive(Debug, Drop)]
+#[derive(Drop)]
 pub struct KeptSide {
     pub(crate) literals: Items<AtomLit>,
     pub(crate) set: NumSet,

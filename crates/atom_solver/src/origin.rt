@@ -3,14 +3,14 @@
 ghost use Rattle.std.specs.Prelude.{◌≡◌, IfOk};
 ghost use Rattle.atom_solver.specs.Lifted.{is_given};
 
+use lists::Memory;
 use meaning_atoms::AxiomName;
 use oracle_face::{AskId, EntryName};
-use lists::Memory;
 use std::alloc::Global;
 
 /// Where a step comes from: it is an axiom, it is the step of a side clause, it was taken from an entry and follows
 /// from its hints, or it follows from them and is one's own.
-#[derive(Debug, Drop)]
+#[derive(Drop)]
 pub enum Origin {
     Axiom(AxiomName),
     Side(AskId),

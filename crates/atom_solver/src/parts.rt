@@ -37,9 +37,9 @@ use crate::tables::{
 use atom_table::AtomTable;
 use certificate_claims::clause_of_axiom;
 use hinted_log::{LogFault, MOST_STEPS};
+use lists::{Items, Memory};
 use meaning_atoms::{Atom, AtomLit, AxiomName};
 use oracle_face::{AskId, Encoding, Pending};
-use lists::{Items, Memory};
 use plain_lits::{Budget, Clause, Halt, Lit, StepId};
 use sat_core::{Added, Solved, Solver};
 use set_lists::NumSet;

@@ -1,11 +1,11 @@
 //! What a search finds.
 
-use meaning_atoms::AtomLit;
 use lists::Items;
+use meaning_atoms::AtomLit;
 use plain_lits::StepId;
 
 /// What a search found: literals under which each clause in use and each goal is true, or a step that refutes the goals.
-#[derive(Debug, Drop)]
+#[derive(Drop)]
 pub enum Searched {
     Model(Items<AtomLit>),
     Refuted(StepId),

@@ -8,9 +8,9 @@ ghost use Rattle.atom_solver.specs.Lifted.{lit_of};
 ghost use Rattle.atom_solver.specs.Tables.{AddsLits, Extends, told};
 
 use atom_table::AtomTable;
+use lists::{Items, Memory};
 use meaning_atoms::{Atom, AtomLit};
 use oracle_face::Encoding;
-use lists::{Items, Memory};
 use plain_lits::{Lit, PackedLit};
 use sat_core::Solver;
 use std::alloc::Global;

@@ -4,9 +4,9 @@ ghost use Rattle.std.specs.Prelude.{◌≡◌, ◌<◌, [], length, slice_get, C
 ghost use Rattle.atom_table.specs.Numbering.{AreDifferent, Numbers};
 
 use indexmap::IndexSet;
+use lists::Memory;
 use meaning_atoms::Atom;
 use meaning_atoms::laws::atoms_are_equal;
-use lists::Memory;
 use std::alloc::Global;
 use std::marker::Model;
 

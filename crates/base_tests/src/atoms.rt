@@ -1,7 +1,7 @@
 //! Literals and their texts, and which values name an axiom.
 
-use meaning_atoms::{AfAxiom, Atom, AtomLit, END, atom_text, axiom_of, read_lit, write_axiom};
 use lists::{Bytes, Memory};
+use meaning_atoms::{AfAxiom, Atom, AtomLit, END, atom_text, axiom_of, read_lit, write_axiom};
 use std::alloc::Global;
 use std::test::Fail;
 

@@ -12,10 +12,9 @@ ghost use Rattle.bench_runs.specs.Summaries.{bench_counts, counts_text, summary 
 use crate::counts::{Counts, summary_text};
 use crate::rejected::rejected_in;
 use crate::tally::{last_grounded, queries_of, sizes};
+use crate::{ScriptTranscript, bench_input, run_script};
 use argue_outside::Pace;
-use crate::bench_input;
 use lists::{Bytes, Memory};
-use crate::{ScriptTranscript, run_script};
 use script_text::Script;
 use std::alloc::Global;
 use std::sync::Wait;

@@ -12,14 +12,14 @@ ghost use Rattle.cegar_preferred.specs.Largest.{MadeOutside};
 
 use crate::maximal::{Maximal, maximal_from};
 use goal_lists::{outside, search_query};
+use lists::Items;
 use meaning_atoms::Atom;
 use oracle_face::{AskId, Budget, Found, Halt, Oracle, StepId};
-use lists::Items;
 use set_lists::NumSet;
 use std::alloc::Global;
 
 /// What came of asking whether all preferred sets accept a query.
-#[derive(Debug, Drop)]
+#[derive(Drop)]
 pub enum Accepting {
     /// A preferred set that doesn't.
     Counter(Maximal),
@@ -29,7 +29,7 @@ pub enum Accepting {
 }
 
 /// Sets of a cover, and the side clauses that something lies outside each.
-#[derive(Debug, Drop)]
+#[derive(Drop)]
 struct Cover {
     sets: Items<NumSet>,
     asks: Items<AskId>,

@@ -14,7 +14,7 @@ use set_lists::NumSet;
 use std::alloc::Global;
 
 /// A set that lies in no larger admissible one, and the log step that shows it.
-#[derive(Debug, Drop)]
+#[derive(Drop)]
 pub struct Maximal {
     pub set: NumSet,
     pub refutation: StepId,

@@ -9,8 +9,8 @@ ghost use Rattle.atom_table.specs.Numbering.{AreDifferent};
 ghost use Rattle.certificate_check.specs.Benches.{IsBench, Spells, HasGrown, Takes};
 
 use atom_table::AtomTable;
-use meaning_atoms::AtomLit;
 use lists::Memory;
+use meaning_atoms::AtomLit;
 use plain_lits::check::check;
 use plain_lits::{Lit, PackedLit, Rows, StepId, Trail};
 use std::alloc::Global;

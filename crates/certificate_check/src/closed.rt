@@ -15,8 +15,8 @@ use af_axioms::fact_value;
 use answer_claims::{Claim, is_goal, opposite, side_clause};
 use certificate_claims::{Step, clause_of_axiom};
 use edit_rules::Framework;
-use meaning_atoms::{Atom, AtomLit, AxiomName};
 use lists::Memory;
+use meaning_atoms::{Atom, AtomLit, AxiomName};
 use set_lists::NumSet;
 use std::alloc::Global;
 

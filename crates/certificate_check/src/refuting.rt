@@ -15,7 +15,7 @@ use lists::Memory;
 use std::alloc::Global;
 
 /// What is wrong with a refutation.
-#[derive(Clone, Copy, Debug, PartialEq, Eq)]
+#[derive(Clone, Copy, PartialEq, Eq)]
 pub enum Flaw {
     /// Nothing.
     None,

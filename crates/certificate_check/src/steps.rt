@@ -12,8 +12,8 @@ use crate::taken::Taken;
 use answer_claims::{SideKind, side_clause};
 use certificate_claims::{Step, clause_of_axiom};
 use edit_rules::Framework;
-use meaning_atoms::AxiomName;
 use lists::Memory;
+use meaning_atoms::AxiomName;
 use set_lists::NumSet;
 use std::alloc::Global;
 

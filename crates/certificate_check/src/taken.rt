@@ -4,8 +4,8 @@ ghost use Rattle.std.specs.Prelude.{◌≡◌, ◌≤◌, [], length, map, slice
 ghost use Rattle.certificate_check.specs.StepRows.{AddsAgain, AddsClause, AddsDerived, AddsSide, IsUntouched, NotesRow, row_named};
 
 use crate::bench::Bench;
-use meaning_atoms::AtomLit;
 use lists::Memory;
+use meaning_atoms::AtomLit;
 use plain_lits::StepId;
 use std::alloc::Global;
 

@@ -10,6 +10,7 @@ ghost use Rattle.answer_claims.specs.SetFacts.{AreSetsOf, HasSetsOf};
 ghost use Rattle.certificate_check.specs.Sections.{FindsFrom, after_order, after_set_count, after_sets, after_shape, after_witnesses};
 ghost use Rattle.certificate_check.specs.Witnesses.{IsRowOf, IsTestedRow, ShowsSets, TellsApart};
 
+use crate::check_refutations;
 use crate::kinds::grounded_accepts;
 use crate::witness::{first_bad_set, first_bad_witness, is_shaped, takes_sets};
 use answer_claims::{claims_of, row, shown_sets};
@@ -20,7 +21,6 @@ use dung_notions::AfPlain;
 use edit_rules::Framework;
 use iccma_tasks::{Answer, Query};
 use lists::Memory;
-use crate::check_refutations;
 use set_lists::NumSet;
 use std::alloc::Global;
 

@@ -6,10 +6,10 @@ ghost use Rattle.aba_axioms.specs.meaning_atoms.specs.AxiomNames.{IsAxiomName};
 ghost use Rattle.aba_axioms.specs.meaning_atoms.specs.Worlds.{IsAsk, IsValid};
 ghost use Rattle.certificate_claims.specs.Refutations.{axiom_clause};
 
-use af_axioms::clause_of as af_clause_of;
 use aba_axioms::clause_of as aba_clause_of;
-use meaning_atoms::{AtomLit, AxiomName};
+use af_axioms::clause_of as af_clause_of;
 use lists::{Items, Memory};
+use meaning_atoms::{AtomLit, AxiomName};
 use std::alloc::Global;
 
 /// The clause of an axiom, with its literals in the order of its kind's table. A clause says that one of its literals

@@ -1,11 +1,11 @@
 //! Certificates: sets, and refutations with the steps that they are made of.
 
-use meaning_atoms::{AtomLit, AxiomName};
 use lists::Items;
+use meaning_atoms::{AtomLit, AxiomName};
 use set_lists::NumSet;
 
 /// One step of a refutation. Steps are numbered from 1.
-#[derive(Debug)]
+
 pub enum Step {
     /// An axiom.
     Axiom(AxiomName),
@@ -26,13 +26,13 @@ impl Drop for Step {
 }
 
 /// Steps of which the last one's literals are all false where the claim's goals and side clauses are true.
-#[derive(Debug, Drop)]
+#[derive(Drop)]
 pub struct Refutation {
     pub steps: Items<Step>,
 }
 
 /// Sets and refutations that show an answer right.
-#[derive(Debug)]
+
 pub struct Certificate {
     pub sets: Items<NumSet>,
     pub refutations: Items<Refutation>,

@@ -14,7 +14,7 @@ use set_lists::NumSet;
 use std::alloc::Global;
 
 /// Those of listed sets that are first with their ranges, in order, and these ranges.
-#[derive(Debug, Drop)]
+#[derive(Drop)]
 pub struct FirstRanged {
     pub sets: Items<NumSet>,
     pub ranges: Items<NumSet>,

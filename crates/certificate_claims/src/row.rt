@@ -1,11 +1,11 @@
 //! The rows of the table of certificates: what an answer of one shape to one task has to show.
 
-use meaning_atoms::{Atom, AtomLit};
 use lists::Items;
+use meaning_atoms::{Atom, AtomLit};
 use set_lists::NumSet;
 
 /// What has to be shown for an answer.
-#[derive(Debug, Drop)]
+#[derive(Drop)]
 pub enum Row {
     /// The answer has no shape that its task gives.
     Misshapen,

@@ -4,7 +4,7 @@ ghost use Rattle.std.specs.Prelude.{◌≡◌};
 ghost use Rattle.certificate_claims.specs.Verdicts.{cause_name};
 
 /// Why a certificate isn't accepted for an answer, in the order in which it is looked at.
-#[derive(Clone, Copy, Debug, PartialEq, Eq)]
+#[derive(Clone, Copy, PartialEq, Eq)]
 pub enum Cause {
     /// The answer has no shape that its task gives.
     AnswerShape,
@@ -23,7 +23,7 @@ pub enum Cause {
 }
 
 /// Whether a certificate is accepted for an answer.
-#[derive(Clone, Copy, Debug, PartialEq, Eq)]
+#[derive(Clone, Copy, PartialEq, Eq)]
 pub enum Verdict {
     /// It is.
     Accepted,

@@ -15,13 +15,13 @@ ghost use Rattle.certificate_making.specs.ClaimSides.{IsAskOf};
 ghost use Rattle.certificate_making.specs.Cuts.{AreCut, IsCutAt};
 ghost use Rattle.certificate_making.specs.Making.{AreAsks, IsMade, AreMade};
 
+use crate::{ReadLog, positions_of, refutation};
 use answer_claims::{Claim, SideKind, claims_of, row, side_clause};
 use certificate_claims::{Certificate, Refutation};
 use edit_rules::Framework;
 use iccma_tasks::{Answer, Query};
-use crate::{ReadLog, positions_of, refutation};
-use oracle_face::AskId;
 use lists::{Items, Memory};
+use oracle_face::AskId;
 use plain_lits::StepId;
 use set_lists::NumSet;
 use std::alloc::Global;

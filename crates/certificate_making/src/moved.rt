@@ -6,8 +6,8 @@ ghost use Rattle.certificate_making.specs.Trimmed.{IsMovedDerived, IsMovedStep, 
 
 use crate::read_log::{ReadLog, StepOrigin};
 use certificate_claims::Step;
-use meaning_atoms::{Atom, AtomLit};
 use lists::{Items, Memory};
+use meaning_atoms::{Atom, AtomLit};
 use plain_lits::StepId;
 use std::alloc::Global;
 

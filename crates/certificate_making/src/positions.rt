@@ -3,8 +3,8 @@
 ghost use Rattle.std.specs.Prelude.{◌≡◌, ◌<◌, ◌≤◌, ◌^◌, length, IfOk, IfSome};
 ghost use Rattle.certificate_making.specs.ClaimSides.{ArePositionsIn, AreWithin, GivesTo, HavePositions};
 
-use oracle_face::AskId;
 use lists::Memory;
+use oracle_face::AskId;
 use std::alloc::Global;
 
 /// Gives the side clause of a number its position, if there is one.

@@ -6,14 +6,14 @@ ghost use Rattle.session_log.specs.Guards.{IsGuarded};
 ghost use Rattle.certificate_making.specs.ClaimSides.{IsAskOf};
 ghost use Rattle.certificate_making.specs.Origins.{IsOrigin};
 
+use lists::{Items, Memory};
 use meaning_atoms::{AtomLit, AxiomName};
 use oracle_face::AskId;
-use lists::{Items, Memory};
 use plain_lits::StepId;
 use std::alloc::Global;
 
 /// Where a step comes from: it is an axiom's or a side clause's, or it follows from other steps.
-#[derive(Debug, Drop, PartialEq, Eq)]
+#[derive(Drop, PartialEq, Eq)]
 pub enum StepOrigin {
     Axiom(AxiomName),
     Side(AskId),

@@ -1,8 +1,8 @@
 //! A table that is filled and asked.
 
 use atom_table::AtomTable;
-use meaning_atoms::Atom;
 use lists::Memory;
+use meaning_atoms::Atom;
 use std::test::Fail;
 
 /// Whether atoms get their variables in turn in an empty table, and an atom the same once more.

@@ -5,7 +5,7 @@ use lists::Items;
 use set_lists::NumSet;
 
 /// What the lines so far say.
-#[derive(Debug, Drop)]
+#[derive(Drop)]
 pub(crate) enum Draft {
     /// Nothing: there was no line.
     Nothing,

@@ -15,8 +15,8 @@ use crate::step::{Room, fault, is_done, step_of};
 use crate::word::{Word, word_of};
 use certificate_claims::{Certificate, Refutation, Step};
 use iccma_tasks::{AnswerCause, AnswerFault, set_of};
-use num_text::{Fields, Line, fields, line_count, lines, next_kept};
 use lists::Items;
+use num_text::{Fields, Line, fields, line_count, lines, next_kept};
 use set_lists::NumSet;
 use std::alloc::Global;
 

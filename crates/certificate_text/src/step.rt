@@ -15,16 +15,16 @@ ghost use Rattle.certificate_text.specs.StepFields.{HasBadNumber, HasBadOrdinal,
 use crate::fault::{CertCause, CertFault};
 use crate::word::Word;
 use certificate_claims::Step;
+use lists::{Items, Memory};
 use meaning_atoms::{Atom, AtomLit, AxiomName, axiom_of, read_lit};
 use num_text::{Fields, decimal};
-use lists::{Items, Memory};
 use std::alloc::Global;
 use std::mem::replace;
 
 /// Lists that are filled anew for each step, so that a step's own lists take one allocation each, and no more than
 /// their items need. With the numbers read in one pass and [`member`], a certificate of 1,000,000 steps is read and
 /// checked in 1.44 s of a processor, and took 2.23 s where each step's lists grew by themselves (medians of 7 in turn).
-#[derive(Debug, Drop)]
+#[derive(Drop)]
 pub(crate) struct Room {
     literals: Items<AtomLit>,
     numbers: Items<u32>,

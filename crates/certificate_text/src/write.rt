@@ -10,8 +10,8 @@ ghost use Rattle.certificate_text.specs.Written.{IsWritable, certificate_text, r
 
 use certificate_claims::{Certificate, Refutation, Step};
 use iccma_tasks::push_sets;
-use meaning_atoms::{AtomLit, push_axiom, push_lit};
 use lists::{Bytes, Memory};
+use meaning_atoms::{AtomLit, push_axiom, push_lit};
 use std::alloc::Global;
 use std::fmt::Write;
 

@@ -7,8 +7,8 @@ ghost use Rattle.clause_pool.specs.Pools.{AreFrom, IsTokenOf, entry_of};
 use crate::pooled::{Import, Pooled, ShareableEntries, Token};
 use boxcar::Vec as SharedVec;
 use boxcar::tag::Tag;
-use oracle_face::Entry;
 use lists::{Items, Memory};
+use oracle_face::Entry;
 use std::alloc::Global;
 use std::sync::Wait;
 

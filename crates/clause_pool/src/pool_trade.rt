@@ -4,8 +4,8 @@ ghost use Rattle.std.specs.Prelude.{◌≡◌, ◌+◌, true, None, IfOk, IfErr,
 ghost use Rattle.oracle_face.specs.Entries.{IsShareable};
 
 use crate::pool::Pool;
-use oracle_face::{ClauseTrade, Entry};
 use lists::Memory;
+use oracle_face::{ClauseTrade, Entry};
 use std::alloc::Global;
 use std::sync::Wait;
 

@@ -1,8 +1,8 @@
 //! What stands in a pool, and how it is found again.
 
 use boxcar::{Keeps, Pushed};
-use oracle_face::Entry;
 use lists::Items;
+use oracle_face::Entry;
 use std::alloc::Global;
 
 /// The rule of the pool: each entry may be shared, whatever its index.
@@ -21,14 +21,14 @@ pub struct Token {
 }
 
 /// An entry with its index in the pool.
-#[derive(Debug, Drop)]
+#[derive(Drop)]
 pub struct Pooled {
     pub index: u64,
     pub entry: Entry,
 }
 
 /// What a look into the pool found: entries by rising index, and the index at which the next look begins.
-#[derive(Debug, Drop)]
+#[derive(Drop)]
 pub struct Import {
     pub entries: Items<Pooled>,
     pub next: u64,

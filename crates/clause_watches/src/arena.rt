@@ -15,7 +15,7 @@ use std::alloc::Global;
 use std::marker::Model;
 
 /// A clause's watched pair, and the index at which a look for another literal to watch begins.
-#[derive(Clone, Copy, Debug)]
+#[derive(Clone, Copy)]
 struct Watched {
     pair: Pair,
     begin: u32,
@@ -23,7 +23,7 @@ struct Watched {
 
 /// The clauses by their ids, which count from 1, and what is watched of each. That lies by itself, close together: most
 /// visits of a clause need no more.
-#[derive(Debug)]
+
 pub struct Arena {
     rows: Rows<PackedLit>,
     watched: Vec<Watched>,

@@ -7,7 +7,7 @@ use plain_lits::{PackedLit, Trail, Value};
 
 /// A literal of a clause, and about where it was found: a later look may begin there. What is told of the index is
 /// advice.
-#[derive(Clone, Copy, Debug)]
+#[derive(Clone, Copy)]
 pub struct Found {
     pub lit: PackedLit,
     pub at: usize,

@@ -16,7 +16,7 @@ use std::marker::Model;
 
 /// Ids of clauses, with room for `uses` of them: for each clause that holds the literal. So an id can come without
 /// memory. Up to six lie in the list itself: a search mostly waits for memory, and looks into one place less so.
-#[derive(Debug, Drop)]
+#[derive(Drop)]
 pub struct WatchList {
     ids: SmallVec<u32, 6>,
     uses: usize,

@@ -16,7 +16,7 @@ use unit_propagate::Propagator;
 /// A clause that is learned from a conflict, and the ids of the clauses that show it, in the order in which they
 /// become unit once its literals are false; the last is the conflict's. `level` is the least one from which on the
 /// clause is unit, and `asserting` is the literal that it then makes true.
-#[derive(Debug, Drop)]
+#[derive(Drop)]
 pub struct Learned {
     pub clause: Clause,
     pub hints: Items<u32>,
@@ -25,7 +25,7 @@ pub struct Learned {
 }
 
 /// A clause of negated assumptions that a conflict shows, with its hints in the same order.
-#[derive(Debug, Drop)]
+#[derive(Drop)]
 pub struct Core {
     pub clause: Clause,
     pub hints: Items<u32>,
@@ -33,7 +33,7 @@ pub struct Core {
 
 /// Room to analyze conflicts in, which is kept from one to the next, so that an analysis costs no more than what it
 /// walks over. Contracts see for how many true literals there is room.
-#[derive(Debug)]
+
 pub struct Learner {
     workspace: Workspace,
 }

@@ -14,7 +14,7 @@ use std::alloc::Global;
 use unit_propagate::Propagator;
 
 /// Which true literals have their negations in the clause: those before an index, or those that no clause made true.
-#[derive(Clone, Copy, Debug)]
+#[derive(Clone, Copy)]
 pub(crate) enum Border {
     Below(usize),
     Assumed,
@@ -23,7 +23,7 @@ pub(crate) enum Border {
 /// The arrays. `marks` says of a true literal, by its index, whether it was met. The negation of one that was met goes
 /// into the clause, or it is open: the walk will replace it by its reason. `open_count` counts the open ones. The
 /// conflict is the first of `hints`. Between analyses nothing is marked.
-#[derive(Debug)]
+
 pub(crate) struct Workspace {
     pub(crate) alloc: Global,
     pub(crate) marks: Vec<bool>,

@@ -9,7 +9,7 @@ use core_logs::{CoreStep, StepSource};
 use meaning_atoms::{AbaAxiom, AxiomName};
 
 /// Which steps are counted.
-#[derive(Clone, Copy, Debug)]
+#[derive(Clone, Copy)]
 pub enum Count {
     /// Those of side clauses.
     Sides,

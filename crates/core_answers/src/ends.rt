@@ -17,8 +17,8 @@ use crate::showing::{are_too_many, is_shown};
 use core_logs::CoreLog;
 use edit_rules::{Framework, QueryFault, query_fits};
 use iccma_tasks::{Problem, Query, Semantics, Task};
-use oracle_face::Pending;
 use lists::Memory;
+use oracle_face::Pending;
 use std::alloc::Global;
 
 /// Whether a query's first fault is this one.

@@ -6,7 +6,7 @@ use lists::Items;
 use set_lists::NumSet;
 
 /// How an answer of the core ends.
-#[derive(Debug, Drop)]
+#[derive(Drop)]
 pub enum Outcome {
     /// The query doesn't fit the framework.
     Refused(QueryFault),

@@ -17,8 +17,8 @@ use answer_claims::{Claim, SideKind, is_goal, range_of, side_clause};
 use core_logs::literals::{is_same_clause, opposite};
 use core_logs::{CoreLog, CoreSide, CoreStep};
 use edit_rules::Framework;
-use meaning_atoms::{Atom, AtomLit};
 use lists::Memory;
+use meaning_atoms::{Atom, AtomLit};
 use set_lists::NumSet;
 use std::alloc::Global;
 

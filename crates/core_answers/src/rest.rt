@@ -8,12 +8,12 @@ use crate::marks::working_marks;
 use core_logs::CoreStep;
 use core_logs::checking::{Status, clause_status, negations};
 use core_logs::literals::is_tautology;
-use meaning_atoms::AtomLit;
 use lists::Memory;
+use meaning_atoms::AtomLit;
 use std::alloc::Global;
 
 /// What propagation may do next.
-#[derive(Clone, Copy, Debug)]
+#[derive(Clone, Copy)]
 pub enum Move {
     /// The clause of the step at this index is false.
     Conflict(usize),

@@ -24,9 +24,9 @@ use core_logs::literals::is_same_clause;
 use core_logs::{CoreSide, CoreStep, StepSource};
 use edit_rules::Framework;
 use iccma_tasks::{Problem, Query, Semantics};
+use lists::Memory;
 use meaning_atoms::{AtomLit, AxiomName};
 use oracle_face::Pending;
-use lists::Memory;
 use set_lists::NumSet;
 use std::alloc::Global;
 

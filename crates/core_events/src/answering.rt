@@ -13,8 +13,8 @@ use crate::needs::{front, replay};
 use crate::stop::StepStop;
 use core_answers::{Outcome, may_end};
 use iccma_tasks::Query;
-use oracle_face::Pending;
 use lists::Memory;
+use oracle_face::Pending;
 use std::alloc::Global;
 
 /// How many extensions an answer may list.

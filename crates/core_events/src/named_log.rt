@@ -9,9 +9,9 @@ ghost use Rattle.core_logs.specs.Tests.{HasSideLike};
 ghost use Rattle.core_answers.specs.Serving.{AreNamed};
 
 use core_logs::{CoreLog, CoreSide, CoreStep};
+use lists::Memory;
 use meaning_atoms::{AtomLit, AxiomName};
 use oracle_face::EntryName;
-use lists::Memory;
 use plain_lits::StepId;
 use set_lists::NumSet;
 use std::alloc::Global;

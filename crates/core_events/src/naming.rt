@@ -19,9 +19,9 @@ use core_logs::sources::{
 };
 use core_logs::steps::{clause_at, find_step, is_closing_at, is_number};
 use edit_rules::Framework;
+use lists::{Items, Memory};
 use meaning_atoms::AxiomName;
 use oracle_face::{Entry, EntryName, EntryOrigin, HintName};
-use lists::{Items, Memory};
 use plain_lits::StepId;
 use std::alloc::Global;
 

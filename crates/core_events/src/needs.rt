@@ -17,9 +17,9 @@ use af_encoding::needed as needed_of_af;
 use core_logs::equality::axioms_are_equal;
 use edit_history::Entry;
 use edit_rules::{Edit, EditFault, Framework, apply};
+use lists::{Items, Memory};
 use meaning_atoms::AxiomName;
 use oracle_face::{EntryOrigin, HintName};
-use lists::{Items, Memory};
 use std::alloc::Global;
 
 /// The first so many entries, or all of them.

@@ -17,8 +17,8 @@ use core_logs::equality::entries_are_equal;
 use core_logs::literals::{asks_nothing, copy_clause};
 use core_logs::steps::{find_step, is_number};
 use core_logs::{CoreStep, StepSource};
-use oracle_face::{Entry, EntryName, EntryOrigin, HintName};
 use lists::{Items, Memory};
+use oracle_face::{Entry, EntryName, EntryOrigin, HintName};
 use plain_lits::StepId;
 use std::alloc::Global;
 

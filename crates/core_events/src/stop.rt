@@ -3,7 +3,7 @@
 use lists::Memory as OutOfMemory;
 
 /// Why an event wasn't taken: the core has no such step, or memory was refused.
-#[derive(Clone, Copy, Debug, PartialEq, Eq)]
+#[derive(Clone, Copy, PartialEq, Eq)]
 pub enum StepStop {
     NotAStep,
     Memory,

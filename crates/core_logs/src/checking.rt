@@ -10,14 +10,14 @@ ghost use Rattle.core_logs.specs.Tests.{HintMeans, IsFalseOr, IsKeptHint, IsMet,
 
 use crate::literals::{has, has_opposite, is_part, is_tautology, opposite};
 use crate::steps::{CoreStep, clause_at, is_closing_at, is_number};
+use lists::Memory;
 use meaning_atoms::AtomLit;
 use meaning_atoms::laws::literals_are_equal;
-use lists::Memory;
 use plain_lits::StepId;
 use std::alloc::Global;
 
 /// What a clause is under the literals that are true.
-#[derive(Clone, Copy, Debug)]
+#[derive(Clone, Copy)]
 pub enum Status {
     /// All literals are false.
     Falsified,

@@ -10,9 +10,9 @@ ghost use Rattle.oracle_face.specs.Goals.{IsMemberAtom, IsOneSided, IsSide, Tell
 ghost use Rattle.oracle_face.specs.Logs.{IsSameClause};
 ghost use Rattle.core_logs.specs.Tests.{AsksNone, IsAffirmed, IsOfMember, TellAll};
 
+use lists::{Items, Memory};
 use meaning_atoms::laws::literals_are_equal;
 use meaning_atoms::{Atom, AtomLit};
-use lists::{Items, Memory};
 use semantics::is_argument;
 use std::alloc::Global;
 

@@ -8,7 +8,7 @@ use std::alloc::Global;
 use std::marker::Model;
 
 /// How many steps there may be, the steps, and the side clauses. Both are numbered from 1.
-#[derive(Debug, Drop)]
+#[derive(Drop)]
 pub struct CoreLog {
     limit: u64,
     steps: Vec<CoreStep>,

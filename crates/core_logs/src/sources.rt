@@ -8,9 +8,9 @@ use crate::equality::{axioms_are_equal, names_are_equal};
 use crate::literals::is_same_clause;
 use crate::steps::{CoreStep, StepSource};
 use certificate_claims::clause_of_axiom;
+use lists::Memory;
 use meaning_atoms::{AbaAxiom, AtomLit, AxiomName};
 use oracle_face::EntryName;
-use lists::Memory;
 use std::alloc::Global;
 
 /// Whether a step is the axiom's.

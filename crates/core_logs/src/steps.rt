@@ -4,15 +4,15 @@ ghost use Rattle.std.specs.Prelude.{◌≡◌, ◌↔◌, ◌-◌, IfNone, IfSom
 ghost use Rattle.oracle_face.specs.Logs.{IsNumberOf, no_step, step_at};
 ghost use Rattle.core_logs.specs.Sources.{source_of};
 
+use lists::Items;
 use meaning_atoms::{AtomLit, AxiomName};
 use oracle_face::EntryName;
-use lists::Items;
 use plain_lits::StepId;
 use set_lists::NumSet;
 use std::marker::Model;
 
 /// What a step comes from: an axiom, a side clause by its number, or the steps that it follows from.
-#[derive(Debug, Drop)]
+#[derive(Drop)]
 pub enum StepSource {
     Axiom(AxiomName),
     Side(u32),
@@ -20,7 +20,7 @@ pub enum StepSource {
 }
 
 /// A step, which contracts see as that of an oracle's log.
-#[derive(Debug, Drop)]
+#[derive(Drop)]
 pub struct CoreStep {
     clause: Items<AtomLit>,
     source: StepSource,
@@ -43,7 +43,7 @@ impl Model for CoreStep {
 }
 
 /// A side clause with the set that it is made from.
-#[derive(Debug, Drop)]
+#[derive(Drop)]
 pub struct CoreSide {
     literals: Items<AtomLit>,
     set: NumSet,

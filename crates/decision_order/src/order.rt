@@ -21,7 +21,7 @@ const LAST_STEP: u64 = 1 << 56;
 /// rule of Moskewicz and others, Chaff, 2001, with the heap and the growing step of MiniSat, 2003). Each has a phase,
 /// the value that it is decided with: its first one, or the one that it had last. All of it is advice, so contracts
 /// see no more than the number below which each variable lies.
-#[derive(Debug)]
+
 pub struct DecisionOrder {
     heap: Vec<usize>,
     indices: Vec<usize>,

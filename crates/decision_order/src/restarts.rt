@@ -2,7 +2,7 @@
 
 /// The sequence 1, 1, 2, 1, 1, 2, 4, 1, 1, 2, 1, 1, 2, 4, 8, .. of Luby, Sinclair and Zuckerman (Optimal speedup of Las
 /// Vegas algorithms, 1993), made by Knuth's reluctant doubling (The Art of Computer Programming, 7.2.2.2).
-#[derive(Clone, Copy, Debug)]
+#[derive(Clone, Copy)]
 pub struct Luby {
     count: u64,
     number: u64,

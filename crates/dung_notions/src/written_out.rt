@@ -6,8 +6,8 @@ ghost use Rattle.attack_index.specs.semantics.specs.Arguments.{IsArgument};
 ghost use Rattle.dung_notions.specs.WrittenOut.{HasAdded, IsBetween};
 
 use crate::af_plain::AfPlain;
-use semantics::is_argument;
 use lists::Memory;
+use semantics::is_argument;
 use set_lists::NumSet;
 use std::alloc::Global;
 

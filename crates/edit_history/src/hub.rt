@@ -27,7 +27,7 @@ pub struct Hub {
 }
 
 /// A commit that was taken.
-#[derive(Debug, Drop, PartialEq, Eq)]
+#[derive(Drop, PartialEq, Eq)]
 pub struct Committed {
     /// The number of entries up to the edit's own.
     pub front: u64,
@@ -36,7 +36,7 @@ pub struct Committed {
 }
 
 /// What a refresh tells.
-#[derive(Debug, Drop)]
+#[derive(Drop)]
 pub struct Fresh {
     /// The entries that were asked for, each with its effect.
     pub entries: Items<Change>,

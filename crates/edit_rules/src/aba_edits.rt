@@ -16,8 +16,8 @@ use crate::makes::{
     body_at, rule_index, with_assumption, with_contrary, with_rule, without_assumption,
     without_rule,
 };
-use aba_notions::AbaPlain;
 use crate::{Edit, EditFault, Effect};
+use aba_notions::AbaPlain;
 use lists::{Items, Memory as OutOfMemory};
 use std::alloc::Global;
 

@@ -7,9 +7,9 @@ ghost use Rattle.edit_rules.specs.AbaEdits.{beyond, heads_of, numbers_of};
 ghost use Rattle.edit_rules.specs.AbaEdits.{assumption_added, assumption_dropped, contrary_set};
 ghost use Rattle.edit_rules.specs.AbaEdits.{rule_added, rule_dropped};
 
+use crate::EditFault;
 use aba_notions::AbaPlain;
 use semantics::LAST_RULE;
-use crate::EditFault;
 
 /// Whether a number lies outside its range.
 fn is_beyond(low: u32, high: u32, number: u32) -> bool

@@ -6,7 +6,7 @@ use lists::{Items, Memory};
 use std::alloc::Global;
 
 /// A change of a framework. The first four are changes of an abstract framework, the others of an assumption-based one.
-#[derive(Debug, PartialEq, Eq)]
+#[derive(PartialEq, Eq)]
 pub enum Edit {
     /// Makes an argument live.
     ArgAdd(u32),

@@ -15,9 +15,8 @@ ghost use Rattle.edit_rules.specs.Applying.{AreTold, ComesTo};
 ghost use Rattle.edit_rules.specs.declared.effect.EditFault.TheVariants.{Memory};
 
 use crate::framework::Framework;
-use crate::apply_aba;
-use crate::dung_notions::AfPlain;
-use crate::{Edit, EditFault, Effect, numbers_but};
+use crate::{Edit, EditFault, Effect, apply_aba, numbers_but};
+use dung_notions::AfPlain;
 use lists::{Items, Memory as OutOfMemory};
 use semantics::LAST_ARGUMENT;
 use set_lists::NumSet;

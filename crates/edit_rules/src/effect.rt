@@ -8,7 +8,7 @@ use lists::{Items, Memory};
 use std::alloc::Global;
 
 /// What an edit did: with the framework behind it, it determines the framework before.
-#[derive(Debug, PartialEq, Eq)]
+#[derive(PartialEq, Eq)]
 pub struct Effect {
     /// The edit.
     pub edit: Edit,
@@ -40,7 +40,7 @@ impl Drop for Effect {
 
 /// Why an edit is refused. Of several causes the first of the edit's row is told: the kind, then the numbers outside
 /// their ranges, then the others in the order of this list. The framework is as before then.
-#[derive(Clone, Copy, Debug, PartialEq, Eq)]
+#[derive(Clone, Copy, PartialEq, Eq)]
 pub enum EditFault {
     /// Frameworks of that kind don't have the edit.
     WrongKind,

@@ -5,9 +5,9 @@ ghost use Rattle.semantics.specs.Frameworks.{IsNumbered};
 ghost use Rattle.edit_rules.specs.Kinds.{framework_of, kind_of};
 ghost use Rattle.edit_rules.specs.Fitting.{IsKnown};
 
-use crate::aba_notions::AbaPlain;
 use crate::copy_aba;
-use crate::dung_notions::AfPlain;
+use aba_notions::AbaPlain;
+use dung_notions::AfPlain;
 use iccma_tasks::Kind;
 use lists::Memory;
 use std::alloc::Global;

@@ -12,8 +12,8 @@ ghost use Rattle.edit_rules.specs.AbaEdits.{aba_with_rule, aba_without_rule};
 ghost use Rattle.edit_rules.specs.AbaEdits.{assumption_added, contrary_set, rule_added};
 ghost use Rattle.edit_rules.specs.Parts.{AreListsOf};
 
-use aba_notions::{AbaPlain, RuleLists};
 use crate::numbers_but;
+use aba_notions::{AbaPlain, RuleLists};
 use lists::Memory;
 use std::alloc::Global;
 

@@ -8,7 +8,7 @@ use crate::framework::Framework;
 use iccma_tasks::Query;
 
 /// Why a query doesn't fit a framework. Of both causes the first in this order is told.
-#[derive(Clone, Copy, Debug, PartialEq, Eq)]
+#[derive(Clone, Copy, PartialEq, Eq)]
 pub enum QueryFault {
     /// Frameworks of that kind don't have the task.
     TaskNotForKind,

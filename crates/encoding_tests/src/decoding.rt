@@ -2,10 +2,10 @@
 
 use af_encoding::{AfEncoding, decode, fact};
 use dung_notions::AfPlain;
+use lists::Memory;
 use meaning_atoms::Atom::{Ad, Ask, Attack, Cf, Gap, Live, Member, Range, Tail, Unmet};
 use meaning_atoms::{Atom, AtomLit, END};
 use oracle_face::Encoding;
-use lists::Memory;
 use std::alloc::Global;
 use std::test::Fail;
 

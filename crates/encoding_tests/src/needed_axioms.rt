@@ -2,10 +2,10 @@
 
 use af_encoding::{AfEncoding, needed};
 use dung_notions::AfPlain;
+use lists::Memory;
 use meaning_atoms::AfAxiom::{A1, A2, A3, A4, A5, A6, A7, A8, A9, A10, A11, A12, A13, A14};
 use meaning_atoms::{AfAxiom, AxiomName};
 use oracle_face::Encoding;
-use lists::Memory;
 use std::alloc::Global;
 use std::test::Fail;
 

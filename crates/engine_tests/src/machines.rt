@@ -3,8 +3,8 @@
 use core_events::{Event, Machine, Origin, StepStop};
 use dung_notions::AfPlain;
 use edit_rules::{Edit, Framework};
-use meaning_atoms::{Atom, AtomLit};
 use lists::{Items, Memory};
+use meaning_atoms::{Atom, AtomLit};
 use plain_lits::StepId;
 use std::alloc::Global;
 use std::test::Fail;

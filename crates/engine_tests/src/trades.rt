@@ -1,13 +1,13 @@
 //! What an engine takes from a trade during a query.
 
+use certificate_making::ReadLog;
 use dung_notions::AfPlain;
 use edit_rules::Framework;
 use iccma_tasks::{Query, Task};
-use certificate_making::ReadLog;
+use lists::Memory;
 use meaning_atoms::{AfAxiom, AxiomName};
 use oracle_core::Engine;
 use oracle_face::{ClauseTrade, Entry, EntryName, NoTrade};
-use lists::Memory;
 use plain_lits::{Budget, StepId};
 use std::alloc::Global;
 use std::test::Fail;

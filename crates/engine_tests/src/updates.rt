@@ -8,8 +8,8 @@ use crate::answers::{Asked, End, ask_all};
 use aba_format::read_aba;
 use dung_notions::AfPlain;
 use edit_rules::{Edit, EditFault, Effect, Framework, apply};
-use oracle_core::Engine;
 use lists::{Items, Memory};
+use oracle_core::Engine;
 use std::alloc::Global;
 use std::test::Fail;
 

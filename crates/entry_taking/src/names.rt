@@ -8,14 +8,14 @@ ghost use Rattle.entry_taking.specs.declared.names.StepName.TheVariants.{Axiom};
 use crate::name_digest::digest_of;
 use atom_solver::{AtomSolver, Origin};
 use indexmap::IndexMap;
-use meaning_atoms::AxiomName;
 use lists::Memory;
+use meaning_atoms::AxiomName;
 use plain_lits::StepId;
 use std::alloc::Global;
 use std::hash::{Hash, Hasher};
 
 /// What a step is called by: it is an axiom, or it was taken from the entry of a session and a step of its log.
-#[derive(Debug, Drop, PartialEq, Eq)]
+#[derive(Drop, PartialEq, Eq)]
 pub enum StepName {
     Axiom(AxiomName),
     Entry(u32, StepId),

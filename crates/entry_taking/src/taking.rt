@@ -17,10 +17,10 @@ ghost use Rattle.entry_taking.specs.Taking.{IsLooked, IsOfAxiom, IsOwn, MayCome,
 use crate::names::{StepName, StepNames};
 use atom_solver::{AtomSolver, Origin};
 use certificate_claims::clause_of_axiom;
+use lists::{Items, Memory};
 use meaning_atoms::laws::literals_are_equal;
 use meaning_atoms::{AbaAxiom, AtomLit, AxiomName};
 use oracle_face::{Entry, EntryName, EntryOrigin, HintName};
-use lists::{Items, Memory};
 use plain_lits::{Halt, StepId};
 use std::alloc::Global;
 

@@ -10,16 +10,16 @@ ghost use Rattle.enumerate_block.specs.semi_stable.specs.Widest.{MadeWider};
 ghost use Rattle.enumerate_block.specs.Witnesses.{Extends, HasRange, IsCover, IsDecided, IsMadeWithin};
 ghost use Rattle.enumerate_block.specs.Witnesses.{IsUncovered, Takes, ins_of, outs_of};
 
-use crate::semi_stable::{Widest, widest_from};
 use goal_lists::{Wanted, search_for, wider};
+use lists::{Items, Memory};
 use meaning_atoms::Atom;
 use oracle_face::{AskId, Budget, Found, Halt, Oracle, StepId};
-use lists::{Items, Memory};
+use semi_stable::{Widest, widest_from};
 use set_lists::NumSet;
 use std::alloc::Global;
 
 /// What came of asking whether a semi-stable set makes a literal about membership true.
-#[derive(Debug, Drop)]
+#[derive(Drop)]
 pub enum Deciding {
     /// A semi-stable set that does, its range, and the log step that refutes that another admissible set has all of
     /// that range and more.
@@ -32,7 +32,7 @@ pub enum Deciding {
 
 /// Sets with widest ranges, for each the step that shows that no set that makes the literal true has all of its range,
 /// and the side clauses that something is in the range that isn't in one of theirs.
-#[derive(Debug, Drop)]
+#[derive(Drop)]
 struct Cover {
     sets: Items<NumSet>,
     steps: Items<StepId>,

@@ -7,18 +7,16 @@ ghost use Rattle.oracle_face.specs.Logs.{IsKept};
 ghost use Rattle.oracle_face.specs.Growing.{HasRun, halt_of};
 ghost use Rattle.enumerate_block.specs.Extensions.{IsListOf, IsListTask, IsModeOf, MadeForAll, with_step, with_steps};
 
-use crate::all_preferred;
-use crate::{Listed, all_with_mode};
-use crate::{Ranged, all_semi_stable};
+use crate::{Listed, Ranged, all_preferred, all_semi_stable, all_with_mode};
 use iccma_tasks::{Semantics, Task};
+use lists::{Items, Memory};
 use meaning_atoms::Atom;
 use oracle_face::{Budget, Halt, Oracle, StepId};
-use lists::{Items, Memory};
 use set_lists::NumSet;
 use std::alloc::Global;
 
 /// What came of listing all extensions.
-#[derive(Debug, Drop)]
+#[derive(Drop)]
 pub enum Extensions {
     /// All of them, in the order of their lists, and the log steps that refute the claims of their certificate, in
     /// order.

@@ -6,17 +6,17 @@ ghost use Rattle.oracle_face.specs.Growing.{HasRun, closes, halt_of};
 ghost use Rattle.cegar_preferred.specs.Largest.{MadeOutside};
 ghost use Rattle.enumerate_block.specs.Preferred.{AreFound, IsAllOrMore, IsUncovered, Records};
 
-use cegar_preferred::maximal_from;
-use crate::goal_lists::{Wanted, outside, search_for};
 use crate::{Listed, insert_in_order};
+use cegar_preferred::maximal_from;
+use goal_lists::{Wanted, outside, search_for};
+use lists::Items;
 use meaning_atoms::Atom;
 use oracle_face::{AskId, Budget, Found, Halt, Oracle};
-use lists::Items;
 use set_lists::NumSet;
 use std::alloc::Global;
 
 /// Preferred sets found, in the order of their lists, and the side clauses that something lies outside each.
-#[derive(Debug, Drop)]
+#[derive(Drop)]
 struct Preferred {
     sets: Vec<NumSet>,
     asks: Items<AskId>,

@@ -7,17 +7,17 @@ ghost use Rattle.oracle_face.specs.Growing.{HasRun, closes, halt_of};
 ghost use Rattle.enumerate_block.specs.Ranges.{AreFound, GrowsRange, IsAllOrMore, IsUncovered, MadeForRanges, Records};
 
 use crate::marks::{insert_all, steps_of};
-use crate::goal_lists::{Wanted, search_for, wider};
 use crate::{Listed, all_with_range};
+use goal_lists::{Wanted, search_for, wider};
+use lists::Items;
 use meaning_atoms::Atom;
 use oracle_face::{AskId, Budget, Found, Halt, Oracle, StepId};
-use lists::Items;
 use semi_stable::{Widest, widest_from};
 use set_lists::NumSet;
 use std::alloc::Global;
 
 /// What came of listing semi-stable sets.
-#[derive(Debug, Drop)]
+#[derive(Drop)]
 pub enum Ranged {
     /// All of them, in the order of their lists; then the log step that shows that each admissible set's range lies in
     /// one of theirs, and for each set that is the first with its range the one that shows that no other has that
@@ -30,7 +30,7 @@ pub enum Ranged {
 /// Semi-stable sets found, in the order of their lists, all with each range that is there. Each that is the first with
 /// its range is marked with the log step that shows that no other has the range. The side clauses are those that
 /// something is in the range that isn't in one of these ranges.
-#[derive(Debug, Drop)]
+#[derive(Drop)]
 struct Ranges {
     sets: Vec<NumSet>,
     marks: Vec<Option<StepId>>,

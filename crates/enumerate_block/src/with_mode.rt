@@ -10,14 +10,14 @@ ghost use Rattle.enumerate_block.specs.Modes.{IsAllOrMore, IsAmong, IsFurtherOf,
 
 use crate::ordered::insert_in_order;
 use goal_lists::{Wanted, differs, search_for};
+use lists::Items;
 use meaning_atoms::Atom;
 use oracle_face::{AskId, Budget, Found, Halt, Oracle, StepId};
-use lists::Items;
 use set_lists::NumSet;
 use std::alloc::Global;
 
 /// What came of listing sets.
-#[derive(Debug, Drop)]
+#[derive(Drop)]
 pub enum Listed {
     /// All of them, in the order of their lists, and the log step that shows that there is no other.
     Whole(Vec<NumSet>, StepId),
@@ -26,7 +26,7 @@ pub enum Listed {
 }
 
 /// Sets found, in the order of their lists, and the side clauses that a set differs from each.
-#[derive(Debug, Drop)]
+#[derive(Drop)]
 struct Listing {
     sets: Vec<NumSet>,
     asks: Items<AskId>,

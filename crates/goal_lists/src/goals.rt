@@ -7,14 +7,14 @@ ghost use Rattle.goal_lists.specs.Asking.{are_asked, goals_of};
 ghost use Rattle.goal_lists.specs.Asking as asking;
 
 use crate::literal_lists::{affirmed, push_in, push_out, push_ranged};
+use lists::Memory;
 use meaning_atoms::{Atom, AtomLit, Closure};
 use oracle_face::AskId;
-use lists::Memory;
 use std::alloc::Global;
 
 /// What a set has to be like: its members and what are none, what is in its range, and which side clauses it makes
 /// true.
-#[derive(Clone, Copy, Debug)]
+#[derive(Clone, Copy)]
 pub struct Wanted<'a> {
     pub ins: &'a [u32],
     pub outs: &'a [u32],

@@ -10,13 +10,13 @@ ghost use Rattle.oracle_face.specs.Kinds.{IsRanged, is_assumption_based};
 ghost use Rattle.lists.specs.Members.{IsSetOf};
 ghost use Rattle.goal_lists.specs.Words.{literal_of};
 
-use meaning_atoms::{Atom, AtomLit};
 use lists::Memory;
+use meaning_atoms::{Atom, AtomLit};
 use set_lists::NumSet;
 use std::alloc::Global;
 
 /// What a literal says of a number.
-#[derive(Clone, Copy, Debug, PartialEq, Eq)]
+#[derive(Clone, Copy, PartialEq, Eq)]
 pub(crate) enum Word {
     /// It is a member.
     In,

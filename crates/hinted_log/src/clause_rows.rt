@@ -10,7 +10,7 @@ use std::marker::Model;
 /// Clauses, one after another in one array. The first literal of each stands also in an array of its own: whoever looks
 /// at all clauses leaves out most of them by it, and doesn't wait for the memory of the others. Contracts see it as the
 /// list of the clauses.
-#[derive(Debug)]
+
 pub(crate) struct ClauseRows {
     rows: Rows<PackedLit>,
     firsts: Vec<Option<PackedLit>>,

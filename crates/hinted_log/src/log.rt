@@ -27,7 +27,7 @@ pub const MOST_STEPS: u64 = 50_000_000;
 /// Clauses as steps that are numbered from 1: axioms and sides, which are given, and clauses that the check of
 /// their hints takes. What the check assumes is taken back after each call, so that a step costs the
 /// literals of its own clause and of those that its hints name. A refused call leaves the log as it was.
-#[derive(Debug)]
+
 pub struct Log {
     limit: u64,
     steps: Store,

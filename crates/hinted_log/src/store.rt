@@ -12,7 +12,7 @@ use std::marker::Model;
 
 /// Steps, each with its clause, its kind and its hints. The literals of all clauses lie in one array, and so do
 /// all hints. Contracts see it as the list of the steps.
-#[derive(Debug)]
+
 pub(crate) struct Store {
     clauses: ClauseRows,
     kinds: Vec<Kind>,

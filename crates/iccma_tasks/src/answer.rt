@@ -4,7 +4,7 @@ use lists::Items;
 use set_lists::NumSet;
 
 /// The answer to a query.
-#[derive(Debug, Drop)]
+#[derive(Drop)]
 pub enum Answer {
     /// `YES`, and a set that shows it where there is one.
     Yes(Option<NumSet>),

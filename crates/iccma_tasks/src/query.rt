@@ -7,7 +7,7 @@ use crate::task::{Problem, Task};
 use std::marker::Model;
 
 /// A task, with a number exactly where the task asks about one.
-#[derive(Debug, Drop)]
+#[derive(Drop)]
 pub struct Query {
     task: Task,
     number: Option<u32>,

@@ -13,8 +13,8 @@ ghost use Rattle.iccma_tasks.specs.AnswerSteps.{is_open_behind, takes_set};
 
 use crate::answer::Answer;
 use crate::fault::{AnswerCause, AnswerFault};
-use num_text::{Fields, Line, decimal, fields, is_skipped, lines};
 use lists::Items;
+use num_text::{Fields, Line, decimal, fields, is_skipped, lines};
 use semantics::is_argument;
 use set_lists::NumSet;
 use std::alloc::Global;

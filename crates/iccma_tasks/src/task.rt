@@ -6,7 +6,7 @@ ghost use Rattle.iccma_tasks.specs.Tasks.{IsTask, IsTaskOf, task_name, tasks_lin
 use thiserror::Error;
 
 /// What is asked.
-#[derive(Clone, Copy, Debug, PartialEq, Eq)]
+#[derive(Clone, Copy, PartialEq, Eq)]
 pub enum Problem {
     /// `DC`: does some extension accept the query?
     Credulous,
@@ -19,7 +19,7 @@ pub enum Problem {
 }
 
 /// Which sets are the extensions.
-#[derive(Clone, Copy, Debug, PartialEq, Eq)]
+#[derive(Clone, Copy, PartialEq, Eq)]
 pub enum Semantics {
     /// `CO`: the complete sets.
     Complete,
@@ -36,7 +36,7 @@ pub enum Semantics {
 }
 
 /// The kinds of framework.
-#[derive(Clone, Copy, Debug, PartialEq, Eq)]
+#[derive(Clone, Copy, PartialEq, Eq)]
 pub enum Kind {
     /// Abstract: arguments and attacks.
     Af,
@@ -45,7 +45,7 @@ pub enum Kind {
 }
 
 /// A problem under a semantics.
-#[derive(Clone, Copy, Debug, PartialEq, Eq)]
+#[derive(Clone, Copy, PartialEq, Eq)]
 pub struct Task {
     /// What is asked.
     pub problem: Problem,

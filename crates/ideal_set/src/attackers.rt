@@ -13,14 +13,14 @@ ghost use Rattle.ideal_set.specs.Ideals.{IsPruned, Keeps, MadeForIdeal};
 use crate::largest_part;
 use dung_notions::AfPlain;
 use goal_lists::{Wanted, attacked, search_beside};
+use lists::{Items, Memory};
 use meaning_atoms::Atom;
 use oracle_face::{Budget, Found, Halt, Oracle};
-use lists::{Items, Memory};
 use set_lists::NumSet;
 use std::alloc::Global;
 
 /// Admissible sets, of which each attacks what was left of a grown one or is a grown one, and what they attack.
-#[derive(Debug, Drop)]
+#[derive(Drop)]
 pub(crate) struct Attackers {
     pub(crate) sets: Items<NumSet>,
     pub(crate) hit: NumSet,

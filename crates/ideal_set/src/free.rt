@@ -16,7 +16,7 @@ use set_lists::NumSet;
 use std::alloc::Global;
 
 /// An admissible set that holds none of the numbers in hand, and the log step that refutes that there is a larger one.
-#[derive(Debug, Drop)]
+#[derive(Drop)]
 pub(crate) struct Free {
     pub(crate) set: NumSet,
     pub(crate) refutation: StepId,

@@ -5,8 +5,8 @@ ghost use Rattle.oracle_face.specs.Kinds.{is_assumption_based};
 ghost use Rattle.ideal_set.specs.Ideals.{GainsTargets, IsPicture};
 
 use dung_notions::AfPlain;
-use oracle_face::Oracle;
 use lists::Memory;
+use oracle_face::Oracle;
 use set_lists::NumSet;
 use std::alloc::Global;
 

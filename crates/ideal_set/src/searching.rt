@@ -9,14 +9,14 @@ ghost use Rattle.ideal_set.specs.Ideals.{IsIdealFound, MadeForIdeal};
 use crate::attackers::{Attackers, attacker, cut_grown, prune};
 use crate::free::largest_free;
 use crate::picture::picture;
-use oracle_face::{Budget, Found, Halt, Oracle, StepId};
 use lists::Items;
+use oracle_face::{Budget, Found, Halt, Oracle, StepId};
 use set_lists::NumSet;
 use std::alloc::Global;
 
 /// The ideal set with what shows it: admissible sets, the log step that refutes that an admissible set attacks the
 /// ideal set, and the one that refutes that a larger admissible set holds nothing that those sets attack.
-#[derive(Debug, Drop)]
+#[derive(Drop)]
 pub struct IdealSet {
     pub set: NumSet,
     pub others: Items<NumSet>,

@@ -8,8 +8,8 @@ ghost use Rattle.aba_axioms.specs.AbaTable.{aba_clause};
 ghost use Rattle.loop_clauses.specs.LoopNames.{closure_numbered, loop_row, loop_rows};
 
 use aba_notions::{Row, Unfounded};
-use meaning_atoms::{AbaAxiom, Closure, LoopRow};
 use lists::{Items, Memory};
+use meaning_atoms::{AbaAxiom, Closure, LoopRow};
 use std::alloc::Global;
 
 /// The name of the loop clause which says of an unfounded atom that it is not in the closure: that of the set for `k` 1,

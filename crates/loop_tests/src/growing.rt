@@ -15,7 +15,7 @@ use std::test::Fail;
 type Row = (Worked, Way, &'static [u32], &'static [u32]);
 
 /// How a set is grown.
-#[derive(Clone, Copy, Debug)]
+#[derive(Clone, Copy)]
 enum Way {
     /// To one that lies in no larger admissible set.
     Maximal,

@@ -2,10 +2,9 @@
 
 ghost use Rattle.std.specs.Prelude.{◌≡◌};
 
-use enumerate_block::{Extensions, all};
-use enumerate_block::{Listed, all_with_mode};
-use enumerate_block::all_preferred;
-use enumerate_block::{Ranged, all_semi_stable};
+use enumerate_block::{
+    Extensions, Listed, Ranged, all, all_preferred, all_semi_stable, all_with_mode,
+};
 use iccma_tasks::{Problem, Semantics, Task};
 use meaning_atoms::Atom;
 use plain_lits::{Budget, Halt};
@@ -14,7 +13,7 @@ use small_oracle::SmallOracle;
 use std::alloc::Global;
 
 /// What is listed.
-#[derive(Clone, Copy, Debug, PartialEq)]
+#[derive(Clone, Copy, PartialEq)]
 pub(crate) enum Kind {
     Complete,
     Stable,

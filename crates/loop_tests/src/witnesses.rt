@@ -3,9 +3,9 @@
 
 use crate::defined::{FRAMEWORKS, meets, some_meets};
 use crate::worked::{Worked, oracle_for};
+use enumerate_block::{Deciding, decide};
 use plain_lits::Budget;
 use semantics::Notion;
-use enumerate_block::{Deciding, decide};
 use small_oracle::SmallOracle;
 use std::alloc::Global;
 use std::test::Fail;

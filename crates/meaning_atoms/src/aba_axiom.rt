@@ -7,13 +7,13 @@ ghost use Rattle.meaning_atoms.specs.AxiomText.{aba_name};
 use crate::atom::{Closure, is_atom_or_none, is_position};
 use crate::axiom::is_stretch;
 use crate::loop_rows::{LoopRow, copy_rows, is_loop};
-use semantics::is_argument;
 use lists::{Items, Memory};
+use semantics::is_argument;
 use std::alloc::Global;
 
 /// The name of an axiom of assumption-based frameworks with its arguments, in the order of the table of axioms. A value
 /// whose arguments are out of the bounds of its row is no axiom name.
-#[derive(Debug, PartialEq, Eq)]
+#[derive(PartialEq, Eq)]
 pub enum AbaAxiom {
     B1(u32),
     B2(u32),

@@ -11,7 +11,7 @@ use semantics::{LAST_ARGUMENT, is_argument};
 pub const END: u32 = LAST_ARGUMENT + 1;
 
 /// Which closure under the rules of an assumption-based framework.
-#[derive(Clone, Copy, Debug, Drop, PartialEq, Eq, PartialOrd, Ord, Hash)]
+#[derive(Clone, Copy, Drop, PartialEq, Eq, PartialOrd, Ord, Hash)]
 pub enum Closure {
     /// Of the set: what it derives.
     Own,
@@ -22,7 +22,7 @@ pub enum Closure {
 /// A statement about a framework and a set of its arguments or assumptions. Numbers of arguments, of assumptions and of
 /// rules are 1 to 1,000,000, a position to begin at is 1 to `END`. The atoms that only frameworks of one kind have read
 /// in those of another by a fixed choice. What each atom says in a world is the definition `Holds` of the specs.
-#[derive(Clone, Copy, Debug, Drop, PartialEq, Eq, PartialOrd, Ord, Hash)]
+#[derive(Clone, Copy, Drop, PartialEq, Eq, PartialOrd, Ord, Hash)]
 pub enum Atom {
     /// The argument is in the set.
     Member(u32),
@@ -69,7 +69,7 @@ pub enum Atom {
 }
 
 /// An atom, or its negation.
-#[derive(Clone, Copy, Debug, Drop, Hash, PartialEq, Eq, PartialOrd, Ord)]
+#[derive(Clone, Copy, Drop, Hash, PartialEq, Eq, PartialOrd, Ord)]
 pub struct AtomLit {
     pub atom: Atom,
     /// Whether the literal is the atom itself, not its negation.

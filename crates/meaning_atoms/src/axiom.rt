@@ -7,13 +7,13 @@ ghost use Rattle.meaning_atoms.specs.AxiomText.{af_name, axiom_name};
 
 use crate::aba_axiom::AbaAxiom;
 use crate::atom::{END, is_position};
-use semantics::is_argument;
 use lists::Memory;
+use semantics::is_argument;
 use std::alloc::Global;
 
 /// The name of an axiom of abstract frameworks with its arguments, in the order of the table of axioms. A value whose arguments are
 /// out of the bounds of its row is no axiom name.
-#[derive(Clone, Copy, Debug, Drop, PartialEq, Eq, PartialOrd, Ord, Hash)]
+#[derive(Clone, Copy, Drop, PartialEq, Eq, PartialOrd, Ord, Hash)]
 pub enum AfAxiom {
     A1(u32),
     A2(u32, u32),
@@ -32,7 +32,7 @@ pub enum AfAxiom {
 }
 
 /// The name of an axiom with its arguments, of the kind of framework that it holds of.
-#[derive(Debug, Drop, PartialEq, Eq)]
+#[derive(Drop, PartialEq, Eq)]
 pub enum AxiomName {
     /// Of abstract frameworks.
     Af(AfAxiom),

@@ -12,7 +12,6 @@ mod loop_text;
 pub mod text;
 
 pub use aba_axiom::AbaAxiom;
-pub use aba_laws::{aba_semantics, semantics};
 pub use atom::{Atom, AtomLit, Closure, END, is_atom_or_none, is_position};
 pub use axiom::{AfAxiom, AxiomName};
 pub use axiom_text::{axiom_of, push_axiom, write_axiom};

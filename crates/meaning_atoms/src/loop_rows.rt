@@ -3,13 +3,13 @@
 ghost use Rattle.std.specs.Prelude.{◌≡◌, ◌↔◌, IfOk, IsTrue};
 ghost use Rattle.meaning_atoms.specs.AbaAxioms.{AtomsRise, IsLoop, IsLoopAtom, IsLoopPair, IsLoopRow, RulesRise};
 
-use semantics::is_argument;
 use lists::{Items, Memory};
+use semantics::is_argument;
 use std::alloc::Global;
 
 /// An atom of a loop, and a pair for each rule that heads it: the rule's number, and an atom of its body that is in the
 /// loop, or 0 where the clause says that some atom of the body is missing in the closure.
-#[derive(Debug, Drop, PartialEq, Eq)]
+#[derive(Drop, PartialEq, Eq)]
 pub struct LoopRow {
     pub atom: u32,
     pub pairs: Items<(u32, u32)>,

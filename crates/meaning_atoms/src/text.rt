@@ -13,8 +13,8 @@ ghost use Rattle.meaning_atoms.specs.AtomText.{IsLitText, is_colon, lit_text, na
 ghost use Rattle.meaning_atoms.specs.Pieces.{HasFound, IsAtomOf, IsFirstNumber, pieces_left, values_of};
 
 use crate::atom::{Atom, AtomLit, Closure};
-use num_text::decimal;
 use lists::{Bytes, Memory};
+use num_text::decimal;
 use std::alloc::Global;
 use std::fmt::Write;
 

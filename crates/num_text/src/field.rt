@@ -10,7 +10,7 @@ use crate::span::Span;
 use std::marker::Model;
 
 /// A field of a line.
-#[derive(Clone, Copy, Debug)]
+#[derive(Clone, Copy)]
 pub struct Field<'a> {
     /// Where the field stands in its line's text.
     pub span: Span,
@@ -19,7 +19,7 @@ pub struct Field<'a> {
 }
 
 /// A field's bytes, and the number that they spell.
-#[derive(Clone, Copy, Debug)]
+#[derive(Clone, Copy)]
 pub struct NumberField<'a> {
     /// The field's bytes.
     pub text: &'a [u8],
@@ -28,7 +28,7 @@ pub struct NumberField<'a> {
 }
 
 /// The fields that are left to come, in order.
-#[derive(Debug, Drop)]
+#[derive(Drop)]
 pub struct Fields<'a> {
     text: &'a [u8],
     start: usize,

@@ -9,7 +9,7 @@ use memchr::memchr;
 use std::marker::Model;
 
 /// A line of a text.
-#[derive(Clone, Copy, Debug)]
+#[derive(Clone, Copy)]
 pub struct Line<'a> {
     /// The line's number. The first line has number 1.
     pub number: usize,
@@ -20,7 +20,7 @@ pub struct Line<'a> {
 }
 
 /// The lines that are left to come, in order.
-#[derive(Debug, Drop)]
+#[derive(Drop)]
 pub struct Lines<'a> {
     bytes: &'a [u8],
     start: usize,

@@ -32,7 +32,7 @@ pub fn decimal(bytes: &[u8]) -> Option<u32>
 const FEW_DIGITS: usize = 9;
 
 /// A number that bytes begin with.
-#[derive(Clone, Copy, Debug)]
+#[derive(Clone, Copy)]
 pub(crate) struct Numeral {
     pub value: u32,
     /// How many digits spell it.

@@ -7,9 +7,9 @@ ghost use Rattle.oracle_core.specs.Readings.{IsReading};
 use aba_encoding::AbaEncoding;
 use af_encoding::AfEncoding;
 use edit_rules::Framework;
+use lists::Memory;
 use meaning_atoms::{AtomLit, AxiomName};
 use oracle_face::Encoding;
-use lists::Memory;
 use set_lists::NumSet;
 use std::alloc::Global;
 

@@ -7,7 +7,7 @@ use lists::Memory as OutOfMemory;
 use plain_lits::Halt;
 
 /// An answer, the certificate that shows it, and how many units of the budget it took.
-#[derive(Debug, Drop)]
+#[derive(Drop)]
 pub struct Answered {
     pub answer: Answer,
     pub certificate: Certificate,
@@ -15,7 +15,7 @@ pub struct Answered {
 }
 
 /// Why a query has no answer.
-#[derive(Clone, Copy, Debug, PartialEq, Eq)]
+#[derive(Clone, Copy, PartialEq, Eq)]
 pub enum AnswerStop {
     /// The query doesn't fit the framework.
     Query(QueryFault),

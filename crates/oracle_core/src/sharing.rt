@@ -11,8 +11,8 @@ ghost use Rattle.oracle_core.specs.Sharing.{AreNamesOf, CallsAny, IsEntryOf, May
 use crate::engine::Engine;
 use crate::parts::Parts;
 use atom_solver::{AtomSolver, Origin};
-use oracle_face::{ClauseTrade, Entry, EntryName, EntryOrigin, HintName};
 use lists::{Items, Memory};
+use oracle_face::{ClauseTrade, Entry, EntryName, EntryOrigin, HintName};
 use plain_lits::StepId;
 use std::alloc::Global;
 

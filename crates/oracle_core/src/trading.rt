@@ -15,9 +15,9 @@ ghost use Rattle.oracle_core.specs.Trading.{IsEmptied, TakesAll, Trades};
 
 use crate::engine::Engine;
 use crate::parts::Parts;
+use lists::Memory;
 use meaning_atoms::AtomLit;
 use oracle_face::{AskId, ClauseTrade, Found, Oracle};
-use lists::Memory;
 use plain_lits::{Budget, Halt};
 use set_lists::NumSet;
 use std::alloc::Global;

@@ -15,13 +15,13 @@ ghost use Rattle.oracle_core.specs.Updating.{GainsNeeded};
 use crate::engine::Engine;
 use crate::parts::{Parts, members_of, needed_of};
 use edit_rules::{Edit, Effect, Framework, apply};
-use meaning_atoms::AxiomName;
 use lists::{Items, Memory};
+use meaning_atoms::AxiomName;
 use plain_lits::Halt;
 use std::alloc::Global;
 
 /// Why an update stopped.
-#[derive(Clone, Copy, Debug, PartialEq, Eq)]
+#[derive(Clone, Copy, PartialEq, Eq)]
 pub enum UpdateStop {
     /// The log had no room for an axiom.
     LogFull,

@@ -7,8 +7,8 @@ ghost use Rattle.certificate_claims.specs.af_axioms.specs.Facts.{IsFactValue};
 ghost use Rattle.oracle_face.specs.Decoding.{IsDecoded, IsModelOf, IsNewLoop, ReadsBack, TellsMembers};
 ghost use Rattle.oracle_face.specs.Needed.{IsNeeded};
 
-use meaning_atoms::{Atom, AtomLit, AxiomName};
 use lists::{Items, Memory};
+use meaning_atoms::{Atom, AtomLit, AxiomName};
 use set_lists::NumSet;
 use std::alloc::Global;
 

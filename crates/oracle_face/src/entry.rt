@@ -5,34 +5,34 @@ ghost use Rattle.certificate_claims.specs.meaning_atoms.specs.AxiomNames.{IsAxio
 ghost use Rattle.oracle_face.specs.Entries.{IsShareable, axiom_entry};
 
 use certificate_claims::clause_of_axiom;
-use meaning_atoms::{AtomLit, AxiomName};
 use lists::{Items, Memory};
+use meaning_atoms::{AtomLit, AxiomName};
 use plain_lits::StepId;
 use std::alloc::Global;
 
 /// Where an entry comes from: a session by its number, and the step of its log.
-#[derive(Clone, Copy, Debug, PartialEq, Eq)]
+#[derive(Clone, Copy, PartialEq, Eq)]
 pub struct EntryName {
     pub session: u32,
     pub step: StepId,
 }
 
 /// A clause that another clause follows from: an axiom, or an entry.
-#[derive(Debug, Drop, PartialEq, Eq)]
+#[derive(Drop, PartialEq, Eq)]
 pub enum HintName {
     Axiom(AxiomName),
     Entry(EntryName),
 }
 
 /// Why an entry's clause is true: it is an axiom's, or it follows from others by unit propagation, in this order.
-#[derive(Debug, Drop, PartialEq, Eq)]
+#[derive(Drop, PartialEq, Eq)]
 pub enum EntryOrigin {
     Axiom(AxiomName),
     Hints(Items<HintName>),
 }
 
 /// A clause with its name and its origin.
-#[derive(Debug, PartialEq, Eq)]
+#[derive(PartialEq, Eq)]
 pub struct Entry {
     pub clause: Items<AtomLit>,
     pub name: EntryName,

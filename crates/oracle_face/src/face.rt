@@ -4,21 +4,21 @@ ghost use Rattle.std.specs.Prelude.{◌≡◌};
 ghost use Rattle.certificate_claims.specs.meaning_atoms.specs.declared.atom.Atom.TheVariants.{Ask};
 ghost use Rattle.certificate_claims.specs.meaning_atoms.specs.Literals.{affirmed};
 
-use meaning_atoms::{Atom, AtomLit, AxiomName};
 use lists::Items;
+use meaning_atoms::{Atom, AtomLit, AxiomName};
 use plain_lits::StepId;
 use set_lists::NumSet;
 use std::marker::Model;
 
 /// What a search found: a set that makes each goal true, or the log step that shows that there is none.
-#[derive(Debug, Drop)]
+#[derive(Drop)]
 pub enum Found {
     Set(NumSet),
     Refuted(StepId),
 }
 
 /// A clause that would have been a unit more, where the budget was spent.
-#[derive(Debug)]
+
 pub enum Pending {
     /// A side clause, and the set that it is made from.
     Side(Items<AtomLit>, NumSet),
@@ -38,7 +38,7 @@ impl Drop for Pending {
 }
 
 /// The number of a side clause in an oracle's log, which contracts see as that number. Side clauses are counted from 1.
-#[derive(Clone, Copy, Debug, PartialEq, Eq)]
+#[derive(Clone, Copy, PartialEq, Eq)]
 pub struct AskId {
     number: u32,
 }

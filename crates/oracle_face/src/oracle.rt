@@ -10,8 +10,8 @@ ghost use Rattle.oracle_face.specs.Growing.{HasRun, IsFound, NoSide, Obliges, On
 ghost use Rattle.oracle_face.specs.Kinds.{IsRanged, is_assumption_based};
 
 use crate::face::{AskId, Found};
-use meaning_atoms::AtomLit;
 use lists::Memory;
+use meaning_atoms::AtomLit;
 use plain_lits::{Budget, Halt};
 use set_lists::NumSet;
 use std::alloc::Global;

@@ -36,7 +36,7 @@ pub trait ClauseTrade {
 }
 
 /// The trade that keeps nothing and gives nothing.
-#[derive(Clone, Copy, Debug)]
+#[derive(Clone, Copy)]
 pub struct NoTrade;
 
 impl ClauseTrade for NoTrade {

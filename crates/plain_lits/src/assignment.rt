@@ -13,7 +13,7 @@ use std::marker::Model;
 
 /// The true literals in the order in which they came. `values` has the value of each variable, `positions` where
 /// its literal stands; there is room in `trail` for a literal of each variable.
-#[derive(Debug)]
+
 pub(crate) struct Assignment {
     trail: Vec<Lit>,
     values: Vec<Value>,

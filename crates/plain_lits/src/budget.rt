@@ -6,7 +6,7 @@ ghost use Rattle.std.specs.Bool.{OnTrue, OnFalse};
 use std::marker::Model;
 
 /// A limit and a count of units that never passes it.
-#[derive(Debug, Drop)]
+#[derive(Drop)]
 pub struct Budget {
     limit: u64,
     used: u64,

@@ -15,7 +15,7 @@ use crate::trail::Trail;
 use crate::value::Value;
 
 /// What the clause of a hint is under an assignment.
-#[derive(Clone, Copy, Debug)]
+#[derive(Clone, Copy)]
 pub enum ClauseStatus {
     Falsified,
     Unit(Lit),

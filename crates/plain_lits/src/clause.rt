@@ -11,7 +11,7 @@ use std::marker::Model;
 
 /// The literals of a clause in rising order, each once, so that clauses with the same literals are equal. Four of
 /// them take no allocation. It keeps the allocator that it was made with.
-#[derive(Debug, Drop)]
+#[derive(Drop)]
 pub struct Clause {
     lits: SmallVec<Lit, 4>,
 }

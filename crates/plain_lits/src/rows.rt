@@ -10,7 +10,7 @@ use std::marker::Model;
 
 /// A list of rows, each a list of items, which lie one after another in one array. Contracts see it as the list
 /// of the rows.
-#[derive(Debug, Drop)]
+#[derive(Drop)]
 pub struct Rows<T> {
     items: Vec<T>,
     ends: Vec<usize>,

@@ -6,7 +6,7 @@ use std::marker::Model;
 
 /// The number of a log step, which contracts see as that number. Steps are counted from 1; a number that
 /// no step has is still a value, so that a list of hints can name it.
-#[derive(Clone, Copy, Debug, PartialEq, Eq, PartialOrd, Ord, Hash)]
+#[derive(Clone, Copy, PartialEq, Eq, PartialOrd, Ord, Hash)]
 pub struct StepId {
     number: u32,
 }

@@ -16,7 +16,7 @@ use std::marker::Model;
 /// literal's value and its position take constant time, and so does each literal that is taken back. Room is
 /// made for variables beforehand; then `push` and `decide` take no memory. What goes along with the literals,
 /// as the reason for each, can be kept in a list beside it, by their positions.
-#[derive(Debug, Drop)]
+#[derive(Drop)]
 pub struct Trail {
     assignment: Assignment,
     starts: Vec<usize>,

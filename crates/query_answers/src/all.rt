@@ -11,8 +11,8 @@ ghost use Rattle.query_answers.specs.Forms.{all_outcome};
 use crate::evidence::{Evidence, Outcome};
 use enumerate_block::{Extensions, all};
 use iccma_tasks::{Answer, Query};
-use oracle_face::{Budget, Halt, Oracle};
 use lists::Items;
+use oracle_face::{Budget, Halt, Oracle};
 use set_lists::NumSet;
 use std::alloc::Global;
 

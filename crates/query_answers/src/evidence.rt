@@ -6,17 +6,17 @@ ghost use Rattle.query_answers.specs.Forms.{decided_evidence, evidence_of, evide
 ghost use Rattle.query_answers.specs.Forms.{ideal_evidence, sceptical_evidence, shown_with, shown_without};
 
 use cegar_preferred::Accepting;
+use enumerate_block::Deciding;
 use iccma_tasks::{Answer, Problem};
 use ideal_set::IdealSet;
-use oracle_face::{Found, StepId};
 use lists::{Items, Memory};
-use enumerate_block::Deciding;
+use oracle_face::{Found, StepId};
 use set_lists::NumSet;
 use std::alloc::Global;
 
 /// An answer, the sets of its certificate, and for each claim of its row in the table of certificates, in order, the
 /// log step that refutes it.
-#[derive(Debug, Drop)]
+#[derive(Drop)]
 pub struct Evidence {
     pub answer: Answer,
     pub sets: Items<NumSet>,
@@ -24,7 +24,7 @@ pub struct Evidence {
 }
 
 /// What came of a query.
-#[derive(Debug, Drop)]
+#[derive(Drop)]
 pub enum Outcome {
     /// The answer, with what shows it.
     Shown(Evidence),

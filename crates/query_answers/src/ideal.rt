@@ -10,8 +10,8 @@ ghost use Rattle.query_answers.specs.Answers.{AsksBy, IsEvidence, IsSaid};
 use crate::evidence::{Evidence, of_ideal};
 use iccma_tasks::Query;
 use ideal_set::ideal as ideal_set_of;
-use oracle_face::{Budget, Halt, Oracle};
 use lists::Memory;
+use oracle_face::{Budget, Halt, Oracle};
 use set_lists::NumSet;
 use std::alloc::Global;
 

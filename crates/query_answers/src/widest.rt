@@ -8,10 +8,10 @@ ghost use Rattle.session_log.specs.Ends.{MadeFor};
 ghost use Rattle.query_answers.specs.Answers.{AsksAbout, AsksBy, AsksSome, IsEvidence, problem_of};
 
 use crate::evidence::{Evidence, of_deciding, of_set};
+use enumerate_block::decide;
 use iccma_tasks::{Problem, Query};
 use meaning_atoms::Atom;
 use oracle_face::{Budget, Halt, Oracle};
-use enumerate_block::decide;
 use semi_stable::widest_from;
 use set_lists::NumSet;
 use std::alloc::Global;

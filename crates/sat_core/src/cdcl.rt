@@ -20,7 +20,7 @@ use std::alloc::Global;
 use unit_propagate::Propagator;
 
 /// How a search ends: all is true, or a step refutes the assumptions, or it stops.
-#[derive(Debug, Drop)]
+#[derive(Drop)]
 pub(crate) enum End {
     Satisfied,
     Refuted(StepId),
@@ -29,7 +29,7 @@ pub(crate) enum End {
 
 /// Conflict-driven clause learning (Marques-Silva and Sakallah, GRASP, 1996) under assumptions (Eén and Sörensson, An
 /// extensible SAT-solver, 2003), with a log of what is learned. The first level has the assumptions and what follows.
-#[derive(Debug)]
+
 pub(crate) struct Cdcl {
     pub(crate) alloc: Global,
     pub(crate) descent: Descent,

@@ -16,7 +16,7 @@ const CONFLICTS_A_STEP: u64 = 100;
 
 /// A propagator, the order of decisions, and when it begins anew: after so many `conflicts`. No variable below `next`
 /// has lost its value since all below it had one; `released` counts the literals that have lost theirs.
-#[derive(Debug)]
+
 pub(crate) struct Descent {
     pub(crate) search: Propagator,
     pub(crate) order: DecisionOrder,

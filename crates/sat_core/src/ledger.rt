@@ -18,7 +18,7 @@ use std::alloc::Global;
 
 /// A log, and for each clause of the propagator, in the order of the ids, the number of its step. `denied` is room for the
 /// look at all steps.
-#[derive(Debug)]
+
 pub(crate) struct Ledger {
     pub(crate) log: Log,
     pub(crate) active: Vec<StepId>,

@@ -16,7 +16,7 @@ use std::marker::Model;
 
 /// Clauses with a log of where each comes from, in which a search under assumptions finds a model or a core. It is
 /// kept from one search to the next, with what it has learned.
-#[derive(Debug, Drop)]
+#[derive(Drop)]
 pub struct Solver {
     cdcl: Cdcl,
 }

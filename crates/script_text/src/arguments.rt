@@ -4,8 +4,8 @@ ghost use Rattle.std.specs.Prelude.{◌≡◌, [], ◌∷◌, map, Contains, IfO
 ghost use Rattle.std.specs.List.{AllZip};
 ghost use Rattle.num_text.specs.Numerals.{IsReadNumber};
 
-use num_text::Fields;
 use lists::{Items, Memory};
+use num_text::Fields;
 use std::alloc::Global;
 
 /// The text of the next field, where one is left.

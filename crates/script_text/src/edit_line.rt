@@ -10,8 +10,8 @@ use crate::arguments::{numbers_of, readings_of};
 use crate::change::Change;
 use crate::fault::{LineStop, ScriptCause};
 use edit_rules::Edit;
-use num_text::Fields;
 use lists::{Items, Memory};
+use num_text::Fields;
 use std::alloc::Global;
 
 /// The edit that a command of this name makes, with these fields behind the name.

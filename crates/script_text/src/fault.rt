@@ -63,7 +63,7 @@ impl From<Memory> for ScriptFault {
 }
 
 /// Why a line gave no command.
-#[derive(Clone, Copy, Debug, PartialEq, Eq)]
+#[derive(Clone, Copy, PartialEq, Eq)]
 pub(crate) enum LineStop {
     /// The line is wrong.
     Wrong(ScriptCause),

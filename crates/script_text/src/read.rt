@@ -11,8 +11,8 @@ ghost use Rattle.script_text.specs.Steps.{BreaksAt, StopsAt, TellsNext};
 use crate::fault::{LineStop, ScriptFault};
 use crate::script::{Script, ScriptLine};
 use crate::script_line::line_of;
-use num_text::{Lines, lines, next_kept};
 use lists::Items;
+use num_text::{Lines, lines, next_kept};
 use std::alloc::Global;
 
 /// The script that the bytes spell.

@@ -8,7 +8,7 @@ use lists::Items;
 pub const MOST_SESSIONS: u32 = 8;
 
 /// What a line of a script has its session do.
-#[derive(Debug, Drop)]
+#[derive(Drop)]
 pub enum Command {
     /// Change the framework.
     Edit(Edit),
@@ -17,7 +17,7 @@ pub enum Command {
 }
 
 /// A line of a script.
-#[derive(Debug, Drop)]
+#[derive(Drop)]
 pub struct ScriptLine {
     /// The session whose line it is, from 1 to [`MOST_SESSIONS`].
     pub session: u32,
@@ -26,7 +26,7 @@ pub struct ScriptLine {
 }
 
 /// The lines of a script in order, without those that are skipped. Each session does its own in this order.
-#[derive(Debug, Drop)]
+#[derive(Drop)]
 pub struct Script {
     /// The lines.
     pub lines: Items<ScriptLine>,

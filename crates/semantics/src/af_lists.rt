@@ -7,7 +7,7 @@ ghost use Rattle.semantics.specs.Notions.{AfOf};
 
 /// An abstract framework by its two lists, in any order: the live arguments, and the attacks as pairs
 /// (attacker, target).
-#[derive(Clone, Copy, Debug, Drop)]
+#[derive(Clone, Copy, Drop)]
 pub struct AfLists<'a> {
     pub live: &'a [u32],
     pub attacks: &'a [(u32, u32)],

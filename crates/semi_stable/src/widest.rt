@@ -17,7 +17,7 @@ use std::alloc::Global;
 
 /// A set with a widest range, its range, and the log step that refutes that another of its mode has all of that range
 /// and more.
-#[derive(Debug, Drop)]
+#[derive(Drop)]
 pub struct Widest {
     pub set: NumSet,
     pub range: NumSet,

@@ -7,9 +7,9 @@ ghost use Rattle.session_core.specs.Telling.{IsBodyOf, IsTold, clause_kept};
 
 use crate::kept::KeptAnswer;
 use iccma_tasks::Query;
+use lists::Memory;
 use oracle_core::{AnswerStop, Answered, Engine};
 use oracle_face::{ClauseTrade, Pending};
-use lists::Memory;
 use plain_lits::Budget;
 use session_replies::Body;
 use std::alloc::Global;

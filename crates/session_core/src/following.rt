@@ -8,8 +8,8 @@ ghost use Rattle.session_core.specs.Following.{CatchesUp};
 
 use edit_history::Change;
 use edit_rules::Effect;
-use oracle_core::{Engine, UpdateStop};
 use lists::Memory;
+use oracle_core::{Engine, UpdateStop};
 use std::alloc::Global;
 
 /// Brings an engine to the framework after a change. A full log keeps none of it back but axioms.

@@ -4,7 +4,7 @@ use oracle_core::Engine;
 use oracle_face::Pending;
 
 /// What is kept of a query that got a reply: what the log gained for it stands between two lengths.
-#[derive(Debug, Drop)]
+#[derive(Drop)]
 pub struct KeptAnswer {
     /// How many steps the log had before the query, with the axioms that the framework needs by then.
     pub before: u64,

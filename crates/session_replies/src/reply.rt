@@ -7,14 +7,13 @@ ghost use Rattle.session_replies.specs.Replies.{body_text, front_line, refusal_l
 
 use crate::edit_faults::{edit_fault_name, edit_fault_number};
 use certificate_claims::Certificate;
-use edit_rules::QueryFault;
-use edit_rules::{Edit, EditFault, Effect};
+use edit_rules::{Edit, EditFault, Effect, QueryFault};
 use iccma_tasks::{Answer, answer_text};
 use lists::{Bytes, Memory};
 use std::alloc::Global;
 
 /// What a session is told of one line of its script.
-#[derive(Debug, Drop)]
+#[derive(Drop)]
 pub struct Reply {
     /// The number of entries of the history that the reply is made from. An edit that is taken counts itself.
     pub front: u64,
@@ -23,7 +22,7 @@ pub struct Reply {
 }
 
 /// What a reply says of an edit or a query.
-#[derive(Debug)]
+
 pub enum Body {
     /// The edit is taken, and did this.
     Done(Effect),

@@ -1,8 +1,7 @@
 //! The smallest large inputs, and the summary of the first.
 
 use argue_outside::NoPace;
-use bench_runs::bench_input;
-use bench_runs::{BenchRun, run_bench};
+use bench_runs::{BenchRun, bench_input, run_bench};
 use edit_rules::Framework;
 use lists::{Bytes, Memory};
 use script_text::Script;

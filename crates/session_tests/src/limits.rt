@@ -8,13 +8,13 @@ ghost use Rattle.bench_runs.specs.session_core.specs.Sessions.{Follows};
 ghost use Rattle.session_tests.specs.Seats.{IsNewSeat};
 
 use argue_outside::NoPace;
-use session_core::Session;
 use clause_pool::Pool;
 use dung_notions::AfPlain;
 use edit_history::{Hub, Seat};
 use edit_rules::{Edit, Framework};
 use iccma_tasks::{Query, Task};
 use lists::Bytes;
+use session_core::Session;
 use session_replies::{Reply, session_text};
 use std::alloc::Global;
 use std::mem::forget;

@@ -1,9 +1,9 @@
 //! Entries come and go through a pool and through the trades.
 
 use clause_pool::{Pool, PoolTrade};
+use lists::Memory;
 use meaning_atoms::{AfAxiom, AxiomName};
 use oracle_face::{ClauseTrade, Entry, EntryName, NoTrade};
-use lists::Memory;
 use plain_lits::StepId;
 use std::alloc::Global;
 use std::sync::Wait;

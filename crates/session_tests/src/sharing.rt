@@ -7,15 +7,15 @@ ghost use Rattle.bench_runs.specs.session_core.specs.Sessions.{Follows};
 ghost use Rattle.session_tests.specs.Seats.{IsNewSeat};
 
 use argue_outside::NoPace;
-use oracle_core::Engine;
-use session_core::Session;
 use clause_pool::Pool;
 use dung_notions::AfPlain;
 use edit_history::{Hub, Seat};
 use edit_rules::Framework;
 use iccma_tasks::{Query, Task};
 use lists::Memory;
+use oracle_core::Engine;
 use plain_lits::StepId;
+use session_core::Session;
 use std::alloc::Global;
 use std::mem::forget;
 use std::sync::Wait;

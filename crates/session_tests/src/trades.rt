@@ -1,13 +1,13 @@
 //! What is shared while a query stands is taken before the query's next search.
 
-use oracle_core::Engine;
 use clause_pool::{Pool, PoolTrade};
 use dung_notions::AfPlain;
 use edit_rules::Framework;
 use iccma_tasks::{Query, Task};
-use meaning_atoms::{AfAxiom, AxiomName};
-use oracle_face::{ClauseTrade, Entry, EntryName};
 use lists::Memory;
+use meaning_atoms::{AfAxiom, AxiomName};
+use oracle_core::Engine;
+use oracle_face::{ClauseTrade, Entry, EntryName};
 use plain_lits::{Budget, StepId};
 use std::alloc::Global;
 use std::mem::forget;

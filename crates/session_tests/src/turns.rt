@@ -12,7 +12,7 @@ use std::thread::{Threads, join_mut};
 use turn_lock::{Seat, TurnLock, Turned};
 
 /// What a seat wrote.
-#[derive(Debug, Drop, PartialEq, Eq)]
+#[derive(Drop, PartialEq, Eq)]
 struct Note {
     seat: u32,
     word: u32,

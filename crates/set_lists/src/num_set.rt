@@ -13,7 +13,7 @@ use std::cmp::Ordering;
 use std::marker::Model;
 
 /// Numbers without order or repeats. It keeps the allocator that it was made with.
-#[derive(Debug, Drop)]
+#[derive(Drop)]
 pub struct NumSet {
     numbers: Vec<u32>,
 }

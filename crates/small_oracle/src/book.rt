@@ -15,9 +15,9 @@ use crate::steps::{Origin, Side, Step, next_number};
 use af_axioms::clause_of;
 use af_encoding::needed;
 use dung_notions::AfPlain;
+use lists::{Items, Memory};
 use meaning_atoms::{AtomLit, AxiomName};
 use oracle_face::Pending;
-use lists::{Items, Memory};
 use plain_lits::{Budget, Halt, StepId};
 use std::alloc::Global;
 

@@ -11,14 +11,14 @@ ghost use Rattle.small_oracle.specs.Tests.{IsDerived, IsFalseOr, IsFresh, IsNoPa
 use crate::literals::{facts_are_false, has, is_part, is_plain, negations, opposite};
 use crate::steps::{Step, item_of};
 use dung_notions::AfPlain;
+use lists::Memory;
 use meaning_atoms::AtomLit;
 use meaning_atoms::laws::literals_are_equal;
-use lists::Memory;
 use plain_lits::StepId;
 use std::alloc::Global;
 
 /// What a clause is under the literals that are true.
-#[derive(Clone, Copy, Debug)]
+#[derive(Clone, Copy)]
 pub enum Status {
     Falsified,
     Unit(AtomLit),

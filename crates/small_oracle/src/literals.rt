@@ -10,9 +10,9 @@ ghost use Rattle.small_oracle.specs.Tests.{IsFalseFact, IsPart, IsPlainClause, I
 
 use af_encoding::fact;
 use dung_notions::AfPlain;
+use lists::{Items, Memory};
 use meaning_atoms::AtomLit;
 use meaning_atoms::laws::literals_are_equal;
-use lists::{Items, Memory};
 use std::alloc::Global;
 
 /// The literal that says the opposite.

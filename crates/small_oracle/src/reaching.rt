@@ -9,9 +9,9 @@ ghost use Rattle.small_oracle.specs.Tests.{HandsOn, ReachesGoals};
 
 use crate::literals::has;
 use crate::steps::{Step, item_of};
+use lists::Memory;
 use meaning_atoms::AtomLit;
 use oracle_face::AskId;
-use lists::Memory;
 use plain_lits::StepId;
 use set_lists::NumSet;
 use std::alloc::Global;

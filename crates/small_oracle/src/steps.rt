@@ -5,14 +5,14 @@ ghost use Rattle.oracle_face.specs.Logs.{IsNumberOf, by_side, hints_of};
 ghost use Rattle.small_oracle.specs.Sources.{source_of};
 ghost use Rattle.small_oracle.specs.Tests.{IsItemOf, SideOf};
 
-use meaning_atoms::{AtomLit, AxiomName};
 use lists::{Items, Memory};
+use meaning_atoms::{AtomLit, AxiomName};
 use plain_lits::StepId;
 use set_lists::NumSet;
 use std::marker::Model;
 
 /// What a step comes from: an axiom, a side clause by its number, or the steps that it follows from.
-#[derive(Debug, Drop)]
+#[derive(Drop)]
 pub enum Origin {
     Axiom(AxiomName),
     Side(u32),
@@ -20,7 +20,7 @@ pub enum Origin {
 }
 
 /// A step of one's own.
-#[derive(Debug, Drop)]
+#[derive(Drop)]
 pub(crate) struct Step {
     clause: Items<AtomLit>,
     origin: Origin,
@@ -43,7 +43,7 @@ impl Model for Step {
 }
 
 /// A side clause with the set that it is made from.
-#[derive(Debug, Drop)]
+#[derive(Drop)]
 pub(crate) struct Side {
     literals: Items<AtomLit>,
     set: NumSet,

@@ -10,8 +10,8 @@ ghost use Rattle.small_oracle.specs.Tests.{IsMet};
 
 use crate::steps::{Side, item_of};
 use dung_notions::AfPlain;
-use meaning_atoms::{Atom, AtomLit};
 use lists::Memory;
+use meaning_atoms::{Atom, AtomLit};
 use set_lists::NumSet;
 use std::alloc::Global;
 

@@ -20,14 +20,14 @@ use plain_lits::{Lit, PackedLit, Trail, Value};
 use std::alloc::Global;
 
 /// How far propagation had come: how many true literals, and how many clauses that watch nothing, were looked at.
-#[derive(Clone, Copy, Debug)]
+#[derive(Clone, Copy)]
 pub(crate) struct Mark {
     pub(crate) head: usize,
     pub(crate) done: usize,
 }
 
 /// What a visit of one clause gave: its id stays in the list, or another list has it now, or the clause is false.
-#[derive(Clone, Copy, Debug)]
+#[derive(Clone, Copy)]
 pub(crate) enum Visit {
     Kept,
     Moved,
@@ -35,7 +35,7 @@ pub(crate) enum Visit {
 }
 
 /// A clause in a list, and the watched literal that isn't the list's.
-#[derive(Clone, Copy, Debug)]
+#[derive(Clone, Copy)]
 pub(crate) struct Here {
     pub(crate) id: u32,
     pub(crate) other: PackedLit,
@@ -44,7 +44,7 @@ pub(crate) struct Here {
 /// The arrays. `lists` has a list for the code of each literal, `short` the clauses that watch nothing, `reasons` the
 /// clause that made the true literal of an index true, or 0. When a level begins at so many true literals, the mark of
 /// that index keeps `head` and `done`, so that a return to the level before it needs no search.
-#[derive(Debug, Drop)]
+#[derive(Drop)]
 pub(crate) struct Engine {
     pub(crate) alloc: Global,
     pub(crate) arena: Arena,

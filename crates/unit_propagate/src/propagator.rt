@@ -16,7 +16,7 @@ use std::alloc::Global;
 use std::marker::Model;
 
 /// What propagation tells: the id of a clause that is false, or that nothing is left to do.
-#[derive(Clone, Copy, Debug, PartialEq, Eq)]
+#[derive(Clone, Copy, PartialEq, Eq)]
 pub enum Propagated {
     Conflict(u32),
     Quiet,
@@ -25,7 +25,7 @@ pub enum Propagated {
 /// Clauses, each with an id from 1 on, and an assignment by levels, to which unit clauses add literals. A clause may
 /// come while its literals are false, may be empty, and may repeat a literal or hold it beside its negation. `decide`,
 /// `propagate` and `back_to` take no memory: `add` and `assume_block` make the room.
-#[derive(Debug)]
+
 pub struct Propagator {
     engine: Engine,
 }
