@@ -76,6 +76,8 @@ def is_name(word):
 def lacking(span, words, files):
     """The names of a span that nothing bears."""
     bare = span.removeprefix("./")
+    if re.fullmatch(r"[0-9a-f]{8}", bare):  # a commit
+        return []
     if re.fullmatch(r"[\w./-]+\.(rt|antt|md|py|txt|svg|af|aba|script)|[\w.-]+(/[\w.-]+)*/", bare):
         if re.search(r"\b[A-Z]{3,}\b", bare.split(".")[0]) and not is_there(bare):
             return []
