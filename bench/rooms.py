@@ -25,7 +25,7 @@ DOCUMENTS = ["README.md", "CONTRIBUTING.md", "examples/README.md", "bench/RESULT
 ALLOWED = set("""
 rt argue clap perf gdb strace callgrind taskset nice setsid minisat lrat_check rattle sha256sum cp timeout kill gcc
 memchr smallvec indexmap boxcar crossbeam_utils atomic_table atomic_blocks thiserror
-grind omega cc search rw absurd refl split ap
+grind omega cc search rw absurd refl split ap Yields ok_part Lts start_lib grep
 GLIBC_TUNABLES LD_BIND_NOW
 """.split())
 
