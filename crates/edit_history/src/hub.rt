@@ -27,7 +27,7 @@ pub struct Hub {
 }
 
 /// A commit that was taken.
-#[derive(Drop, PartialEq, Eq)]
+#[derive(Drop)]
 pub struct Committed {
     /// The number of entries up to the edit's own.
     pub front: u64,
