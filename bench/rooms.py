@@ -6,7 +6,8 @@
 2. No use goes up: each crate of crates.txt uses only crates that come before it.
 3. Each name in backticks in a document exists: a crate, a file, a word of the crates' code, a command, or a word of
    ALLOWED below. A name is a single word, or a word with an underscore, a `::` or a capital inside.
-4. No line of a document is longer than 120 columns.
+4. Each link within the repository leads to a file and, after `#`, to a heading of it.
+5. No line of a document is longer than 120 columns.
 
 It prints what doesn't fit, a line each, and ends with status 1 where something doesn't.
 
@@ -132,6 +133,24 @@ def check_rooms(crates):
         before.add(name)
 
 
+def anchors(path):
+    """The anchors of a document's headings, as the usual viewers make them."""
+    heads = re.findall(r"(?m)^#+ (.*)$", path.read_text())
+    return {re.sub(r"[^\w\- ]", "", it.lower()).replace(" ", "-") for it in heads}
+
+
+def check_links(document, text):
+    for target in re.findall(r"\]\(([^)\s]+)\)", text):
+        name, _, anchor = target.partition("#")
+        if "://" in target:
+            continue
+        path = (TOP / document).parent / name if name else TOP / document
+        if not path.exists():
+            yield f"{document}: no file {target}"
+        elif anchor and anchor not in anchors(path):
+            yield f"{document}: no heading {target}"
+
+
 def check_documents():
     words, files = known_words()
     for document in DOCUMENTS:
@@ -139,6 +158,7 @@ def check_documents():
         if not path.exists():
             continue
         text = path.read_text()
+        yield from check_links(document, text)
         for number, span in spans(text):
             yield from (f"{document}:{number}: nothing bears the name {it}" for it in lacking(span, words, files))
         for number, line in enumerate(text.splitlines(), 1):
