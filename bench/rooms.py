@@ -11,8 +11,12 @@
 
 It prints what doesn't fit, a line each, and ends with status 1 where something doesn't.
 
-usage: bench/rooms.py [--crates FILE]
+With --sort it first writes the lines of crates.txt in the order of the map, each room under its heading; a crate that
+the map lacks comes last.
+
+usage: bench/rooms.py [--sort] [--crates FILE]
 """
+import argparse
 import re
 import sys
 from pathlib import Path
@@ -110,6 +114,15 @@ def rooms_of_map():
     return [it for it in rooms if it[1]]
 
 
+def sort_crates(path):
+    lines = path.read_text().splitlines()
+    left = {it.partition(":")[0]: it for it in lines if it and it[0] != "#"}
+    sorted_lines = [lines[0]] if lines[0].startswith("#") else []
+    for room, names in rooms_of_map():
+        sorted_lines += [f"# {room}.", *(left.pop(it) for it in names if it in left)]
+    path.write_text("\n".join([*sorted_lines, *left.values()]) + "\n")
+
+
 def check_rooms(crates):
     ours, theirs = rooms_of_crates(crates), rooms_of_map()
     if [it[0] for it in ours] != [it[0] for it in theirs]:
@@ -167,8 +180,13 @@ def check_documents():
 
 
 def main():
-    crates = sys.argv[2] if sys.argv[1:2] == ["--crates"] else TOP / "crates.txt"
-    found = [*check_rooms(crates), *check_documents()]
+    words = argparse.ArgumentParser(description="Checks that the documents fit the crates.")
+    words.add_argument("--sort", action="store_true")
+    words.add_argument("--crates", type=Path, default=TOP / "crates.txt")
+    asked = words.parse_args()
+    if asked.sort:
+        sort_crates(asked.crates)
+    found = [*check_rooms(asked.crates), *check_documents()]
     print("\n".join(found) if found else "rooms: all fits")
     sys.exit(1 if found else 0)
 
