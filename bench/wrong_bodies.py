@@ -150,6 +150,8 @@ def main(names):
     if unknown:
         raise SystemExit(f"wrong_bodies: wrong-bodies/ has no folder {unknown[0]}")
     rt = kit()
+    # (its first call sets a signal's handler, which only the main thread may)
+    rt.rtlib.guarded()
     judge_single_functions(rt)
     refused, passed, lanes = 0, [], int(os.environ.get("LANES", "2"))
     with tempfile.TemporaryDirectory(prefix="wrong-bodies-") as room:
