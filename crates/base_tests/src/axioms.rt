@@ -2,8 +2,10 @@
 
 use af_axioms::{clause_of, fact_value};
 use dung_notions::AfPlain;
+use lists::Memory;
 use meaning_atoms::Atom::{Ad, Ask, Attack, Cf, Co, Gap, Live, Member, Range, St, Tail, Unmet};
 use meaning_atoms::{AfAxiom, Atom, AtomLit, END};
+use std::alloc::Global;
 use std::test::Fail;
 
 macro_rules! is {
@@ -145,12 +147,18 @@ const ROWS: &[Row] = &[
     },
 ];
 
+/// Whether the row's axiom has its clause.
+fn has_clause(alloc: Global, row: &Row) -> Result<bool, Memory> {
+    if !row.name.is_name() {
+        return Ok(false);
+    }
+    Ok(clause_of(alloc, &row.name)?.as_slice() == row.clause)
+}
+
 #[test]
 fn rows_of_axioms(rt: HostRuntime) -> Result<(), Fail> {
-    for row in ROWS {
-        assert!(rt; row.name.is_name(), "{:?}", row.name);
-        let clause = clause_of(rt.alloc(), &row.name)?;
-        assert!(rt; clause.as_slice() == row.clause, "{:?}", row.name);
+    for (number, row) in ROWS.iter().enumerate() {
+        assert!(rt; has_clause(rt.alloc(), row)?, "row {number}");
     }
     Ok(())
 }
@@ -169,6 +177,9 @@ const FACTS: &[(Atom, Option<bool>)] = &[
     (Gap(1, END, END), Some(true)),
     (Gap(3, 1, END), Some(false)),
     (Gap(1_000_000, 1, END), Some(true)),
+    (Gap(3, 1, 2), Some(true)),
+    (Gap(3, 2, 3), Some(false)),
+    (Gap(3, 3, END), Some(true)),
     (Member(1), None),
     (Tail(1, 1), None),
     (Unmet(1, 1), None),
@@ -181,8 +192,8 @@ const FACTS: &[(Atom, Option<bool>)] = &[
 fn values_of_facts(rt: HostRuntime) -> Result<(), Fail> {
     // 1 and 2 attack each other, and 2 attacks 3.
     let plain = AfPlain::of_lists(rt.alloc(), &[1, 2, 3], &[(1, 2), (2, 1), (2, 3)])?;
-    for (atom, value) in FACTS {
-        assert!(rt; fact_value(&plain, atom) == *value, "{atom:?}");
+    for (number, (atom, value)) in FACTS.iter().enumerate() {
+        assert!(rt; fact_value(&plain, atom) == *value, "row {number}");
     }
     Ok(())
 }

@@ -1,83 +1,10 @@
-//! Grounded sets and ranges in small frameworks, and attacks from either end.
+//! Attacks from either end, and ranges.
 
-use dung_notions::{AfPlain, Grounded};
+use dung_notions::AfPlain;
 use lists::Memory;
 use set_lists::NumSet;
 use std::alloc::Global;
 use std::test::Fail;
-
-/// Live arguments, attacks and the grounded set.
-#[derive(Drop)]
-struct Row {
-    live: &'static [u32],
-    attacks: &'static [(u32, u32)],
-    grounded: &'static [u32],
-}
-
-/// Whether a framework has the row's arguments, and its grounded set was found.
-fn is_answered(
-    plain: &AfPlain,
-    found: Result<Grounded, Memory>,
-    row: &Row,
-) -> Result<bool, Memory> {
-    let found = found?;
-    Ok(
-        plain.live() == row.live
-            && found.set.as_slice() == row.grounded
-            && found.order.len() == found.set.len(),
-    )
-}
-
-const ROWS: &[Row] = &[
-    Row {
-        live: &[1, 2],
-        attacks: &[(1, 2)],
-        grounded: &[1],
-    },
-    Row {
-        live: &[1, 2, 3],
-        attacks: &[(2, 3), (1, 2)],
-        grounded: &[1, 3],
-    },
-    Row {
-        live: &[1, 2, 3],
-        attacks: &[(1, 2), (2, 3), (3, 1)],
-        grounded: &[],
-    },
-    Row {
-        live: &[1, 2, 3],
-        attacks: &[(1, 2), (2, 1), (2, 3)],
-        grounded: &[],
-    },
-    Row {
-        live: &[1, 2, 3, 4],
-        attacks: &[(1, 2), (2, 1), (1, 3), (2, 3), (3, 4)],
-        grounded: &[],
-    },
-    Row {
-        live: &[1, 2],
-        attacks: &[(1, 1), (1, 2), (2, 1)],
-        grounded: &[],
-    },
-    Row {
-        live: &[2, 5, 9],
-        attacks: &[(2, 5), (5, 9), (2, 5)],
-        grounded: &[2, 9],
-    },
-];
-
-#[test]
-fn grounded_sets(rt: HostRuntime) -> Result<(), Fail> {
-    let alloc = rt.alloc();
-    for (number, row) in ROWS.iter().enumerate() {
-        let plain = AfPlain::of_lists(alloc, row.live, row.attacks)?;
-        assert!(rt;
-            is_answered(&plain, plain.grounded(alloc), row)?,
-            "at {number}"
-        );
-    }
-    Ok(())
-}
 
 /// Whether the ends of a framework's attacks are found: 2 attacks 1 and 7, and 7 attacks 1.
 fn has_both_ends(plain: &AfPlain) -> bool {
@@ -94,15 +21,11 @@ fn has_single_ones(plain: &AfPlain) -> bool {
 
 #[test]
 fn attacks_from_either_end(rt: HostRuntime) -> Result<(), Fail> {
-    let alloc = rt.alloc();
-    let plain = AfPlain::of_lists(
-        alloc,
-        &[1, 2, 7, 0, 1_000_001],
-        &[(7, 1), (2, 1), (2, 7), (3, 1), (7, 1)],
-    )?;
-    assert!(rt; plain.attacks(alloc)?.as_slice() == [(2, 1), (2, 7), (7, 1)].as_slice());
-    assert!(rt; has_both_ends(&plain));
-    assert!(rt; has_single_ones(&plain));
+    let live = [1, 2, 7, 0, 1_000_001];
+    let attacks = [(7, 1), (2, 1), (2, 7), (3, 1), (7, 1)];
+    let plain = AfPlain::of_lists(rt.alloc(), &live, &attacks)?;
+    assert!(rt; plain.attacks(rt.alloc())?.as_slice() == [(2, 1), (2, 7), (7, 1)].as_slice());
+    assert!(rt; has_both_ends(&plain) && has_single_ones(&plain));
     Ok(())
 }
 
@@ -126,7 +49,7 @@ fn ranges(rt: HostRuntime) -> Result<(), Fail> {
     let alloc = rt.alloc();
     let plain = AfPlain::of_lists(alloc, &[1, 2, 3, 4], &[(1, 2), (2, 1), (2, 3), (3, 3)])?;
     for &(set, range) in RANGES {
-        assert!(rt; has_range(alloc, &plain, set, range)?, "of {set:?}");
+        assert!(rt; has_range(alloc, &plain, set, range)?);
     }
     Ok(())
 }

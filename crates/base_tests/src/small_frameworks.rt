@@ -6,7 +6,6 @@ use lists::Memory;
 use semantics::{AfLists, Notion, decide};
 use set_lists::NumSet;
 use std::alloc::Global;
-use std::process::Abort;
 use std::test::Fail;
 
 /// The arguments of each framework.
@@ -34,14 +33,13 @@ fn attacks_of(alloc: Global, bits: u32) -> Result<Vec<(u32, u32)>, Memory> {
     Ok(attacks)
 }
 
-/// Asserts that the four tests say of a set what the slow program says.
-fn compare_set(
-    rt: &impl Abort,
+/// Whether the four tests say of a set what the slow program says.
+fn agree(
     alloc: Global,
     plain: &AfPlain,
     lists: &AfLists<'_>,
     set: &NumSet,
-) -> Result<(), Fail> {
+) -> Result<bool, Memory> {
     let found = [
         (Notion::ConflictFree, plain.is_conflict_free(set)),
         (Notion::Admissible, plain.is_admissible(set)),
@@ -49,68 +47,47 @@ fn compare_set(
         (Notion::Stable, plain.is_stable(set)),
     ];
     for (notion, meets) in found {
-        let wanted = decide(alloc, lists, set.as_slice(), notion)?;
-        assert_eq!(rt;
-            meets,
-            wanted,
-            "{notion:?} of {set:?} under {:?}",
-            lists.attacks
-        );
+        if decide(alloc, lists, set.as_slice(), notion)? != meets {
+            return Ok(false);
+        }
     }
-    Ok(())
+    Ok(true)
 }
 
-/// Asserts the same of the set of these bits.
-fn compare_bits(
-    rt: &impl Abort,
-    alloc: Global,
-    plain: &AfPlain,
-    lists: &AfLists<'_>,
-    bits: u32,
-) -> Result<(), Fail> {
-    let set = set_of(alloc, bits)?;
-    compare_set(rt, alloc, plain, lists, &set)
+/// Whether they say the same of each set.
+fn agree_on_sets(alloc: Global, plain: &AfPlain, lists: &AfLists<'_>) -> Result<bool, Memory> {
+    for bits in 0..16 {
+        if !agree(alloc, plain, lists, &set_of(alloc, bits)?)? {
+            return Ok(false);
+        }
+    }
+    Ok(true)
 }
 
-/// Whether the grounded set that is found is one.
+/// Whether the grounded set that is found is one, with an order of all its members.
 fn finds_grounded(alloc: Global, plain: &AfPlain, lists: &AfLists<'_>) -> Result<bool, Memory> {
     let grounded = plain.grounded(alloc)?;
-    decide(alloc, lists, grounded.set.as_slice(), Notion::Grounded)
+    Ok(
+        grounded.order.len() == grounded.set.len()
+            && decide(alloc, lists, grounded.set.as_slice(), Notion::Grounded)?,
+    )
 }
 
-/// Asserts both of each set of a framework.
-fn compare_all(
-    rt: &impl Abort,
-    alloc: Global,
-    plain: &AfPlain,
-    lists: &AfLists<'_>,
-) -> Result<(), Fail> {
-    assert!(rt;
-        finds_grounded(alloc, plain, lists)?,
-        "under {:?}",
-        lists.attacks
-    );
-    for bits in 0..16 {
-        compare_bits(rt, alloc, plain, lists, bits)?;
-    }
-    Ok(())
-}
-
-/// Asserts it of the framework of these attacks.
-fn compare(rt: &impl Abort, alloc: Global, attacks: &[(u32, u32)]) -> Result<(), Fail> {
+/// Whether both is so of the framework of these attacks.
+fn holds(alloc: Global, attacks: &[(u32, u32)]) -> Result<bool, Memory> {
     let plain = AfPlain::of_lists(alloc, LIVE, attacks)?;
     let lists = AfLists {
         live: LIVE,
         attacks,
     };
-    compare_all(rt, alloc, &plain, &lists)
+    Ok(finds_grounded(alloc, &plain, &lists)? && agree_on_sets(alloc, &plain, &lists)?)
 }
 
 #[test]
 fn every_framework_of_three_arguments(rt: HostRuntime) -> Result<(), Fail> {
     for bits in 0..512 {
         let attacks = attacks_of(rt.alloc(), bits)?;
-        compare(&rt, rt.alloc(), &attacks)?;
+        assert!(rt; holds(rt.alloc(), &attacks)?, "of {bits}");
     }
     Ok(())
 }
@@ -125,15 +102,10 @@ const SOLID: &[(&[u32], bool)] = &[
     (&[2, 3, 4], false),
 ];
 
-/// Whether a framework of these arguments is solid.
-fn is_solid(alloc: Global, live: &[u32]) -> Result<bool, Memory> {
-    Ok(AfPlain::of_lists(alloc, live, &[])?.is_solid())
-}
-
 #[test]
 fn solid_frameworks(rt: HostRuntime) -> Result<(), Fail> {
     for &(live, solid) in SOLID {
-        assert!(rt; is_solid(rt.alloc(), live)? == solid, "{live:?}");
+        assert!(rt; AfPlain::of_lists(rt.alloc(), live, &[])?.is_solid() == solid);
     }
     Ok(())
 }

@@ -1,31 +1,18 @@
 //! Which variable is decided next, and when a search begins anew: contracts say nothing of this advice.
 
+use crate::named::lit;
 use decision_order::{DecisionOrder, Luby};
 use lists::Memory;
-use plain_lits::Lit;
 use std::alloc::Global;
 use std::test::Fail;
-
-fn lit(var: usize, positive: bool) -> Lit {
-    Lit { var, positive }
-}
 
 /// Of four variables the last isn't worth deciding; 1 is first true.
 fn three_named(alloc: Global) -> Result<DecisionOrder, Memory> {
     let mut order = DecisionOrder::new(alloc);
     order.make_room(4)?;
-    order.name(Lit {
-        var: 0,
-        positive: false,
-    });
-    order.name(Lit {
-        var: 1,
-        positive: true,
-    });
-    order.name(Lit {
-        var: 2,
-        positive: false,
-    });
+    order.name(lit(0, false));
+    order.name(lit(1, true));
+    order.name(lit(2, false));
     Ok(order)
 }
 

@@ -1,5 +1,8 @@
 //! What no clause says: that calls succeed where memory is there, and what small searches find.
 
+ghost use Rattle.std.specs.Prelude.{◌≤◌};
+
+use crate::named::{N0, N1, N2, P0, P1, P2, lit};
 use hinted_log::{Log, LogFault};
 use lists::Memory;
 use plain_lits::{Budget, Clause, Halt, Lit, StepId};
@@ -7,14 +10,18 @@ use sat_core::{Added, Solved, Solver};
 use std::alloc::Global;
 use std::test::Fail;
 
-fn lit(var: usize, positive: bool) -> Lit {
-    Lit { var, positive }
-}
-
 /// Adds an axiom.
 fn add(solver: &mut Solver, alloc: Global, lits: &[Lit]) -> Result<(), LogFault> {
     let clause = Clause::from_slice(alloc, lits)?;
     let _ = solver.add(clause, Added::Axiom)?;
+    Ok(())
+}
+
+/// Adds axioms, one after the other.
+fn add_all(solver: &mut Solver, alloc: Global, clauses: &[&[Lit]]) -> Result<(), LogFault> {
+    for lits in clauses {
+        add(solver, alloc, lits)?;
+    }
     Ok(())
 }
 
@@ -122,8 +129,7 @@ fn pigeons_found(solver: &mut Solver) -> Result<(Option<Lit>, bool), Halt> {
 fn four_pigeons_and_three_holes(rt: HostRuntime) -> Result<(), Fail> {
     let mut solver = Solver::open(rt.alloc(), 1000)?;
     add_pigeons(&mut solver, rt.alloc())?;
-    let found = pigeons_found(&mut solver)?;
-    assert_eq!(rt; found, (Some(lit(12, false)), true));
+    assert!(rt; pigeons_found(&mut solver)? == (Some(lit(12, false)), true));
     Ok(())
 }
 
@@ -140,8 +146,8 @@ fn spent(solver: &mut Solver, limit: u64) -> Option<u64> {
 fn spent_budget(rt: HostRuntime) -> Result<(), Fail> {
     let mut solver = Solver::open(rt.alloc(), 1000)?;
     add_pigeons(&mut solver, rt.alloc())?;
-    assert_eq!(rt; spent(&mut solver, 1), Some(1));
-    assert_eq!(rt; (solver.log().len(), solver.active().len()), (23, 23));
+    assert!(rt; spent(&mut solver, 1) == Some(1));
+    assert!(rt; solver.log().len() == 23 && solver.active().len() == 23);
     assert!(rt; solver.take_pending().is_some());
     Ok(())
 }
@@ -168,23 +174,27 @@ fn clauses_found(solver: &mut Solver) -> Result<(bool, Option<Lit>), Halt> {
 #[test]
 fn two_clauses(rt: HostRuntime) -> Result<(), Fail> {
     let mut solver = Solver::open(rt.alloc(), 100)?;
-    add(&mut solver, rt.alloc(), &[lit(1, true), lit(2, true)])?;
-    add(&mut solver, rt.alloc(), &[lit(1, false), lit(2, true)])?;
-    assert_eq!(rt; clauses_found(&mut solver)?, (true, Some(lit(2, true))));
+    add_all(&mut solver, rt.alloc(), &[&[P1, P2], &[N1, P2]])?;
+    assert!(rt; clauses_found(&mut solver)? == (true, Some(lit(2, true))));
     Ok(())
 }
 
-/// 0 leads to 1, 1 to 2, and 2 excludes 0: propagation refutes 0, and says nothing of 1. A log of three steps has no room
-/// for the core.
+/// 0 leads to 1, 1 to 2, and 2 excludes 0.
+const CHAIN: &[&[Lit]] = &[&[N0, P1], &[N1, P2], &[N2, N0]];
+
+/// What propagation refutes in a log with room for so many steps: by 0, and whether nothing by 1.
+fn looked_in(alloc: Global, limit: u64) -> Result<(Option<Lit>, bool), LogFault>
+    requires { limit ≤ 100 }
+{
+    let mut solver = Solver::open(alloc, limit)?;
+    add_all(&mut solver, alloc, CHAIN)?;
+    Ok((looked(&mut solver, P0)?, looked(&mut solver, P1)?.is_none()))
+}
+
+/// Propagation refutes 0, and says nothing of 1. A log of three steps has no room for the core.
 #[test]
 fn looks_by_propagation(rt: HostRuntime) -> Result<(), Fail> {
-    for (limit, core) in [(100, Some(lit(0, false))), (3, None)] {
-        let mut solver = Solver::open(rt.alloc(), limit)?;
-        add(&mut solver, rt.alloc(), &[lit(0, false), lit(1, true)])?;
-        add(&mut solver, rt.alloc(), &[lit(1, false), lit(2, true)])?;
-        add(&mut solver, rt.alloc(), &[lit(2, false), lit(0, false)])?;
-        assert!(rt; looked(&mut solver, lit(0, true))? == core);
-        assert!(rt; looked(&mut solver, lit(1, true))? == None);
-    }
+    assert!(rt; looked_in(rt.alloc(), 100)? == (Some(N0), true));
+    assert!(rt; looked_in(rt.alloc(), 3)? == (None, true));
     Ok(())
 }
