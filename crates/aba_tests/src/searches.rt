@@ -2,11 +2,11 @@
 //! worked out by hand.
 
 use af_axioms::clause_of;
-use af_encoding::{decode, fact, needed};
+use af_encoding::{fact, needed};
 use atom_table::AtomTable;
 use dung_notions::AfPlain;
 use meaning_atoms::Atom::{Ad, Cf, Co, Member, Range, St, Tail};
-use meaning_atoms::{Atom, AtomLit, AxiomName};
+use meaning_atoms::{AtomLit, AxiomName};
 use plain_lits::{Budget, Clause, Lit};
 use sat_core::{Added, Solved, Solver};
 use std::alloc::Global;
@@ -45,8 +45,13 @@ fn add(alloc: Global, search: &mut Search, clause: &[AtomLit]) -> Option<()> {
         let positive = literal.positive;
         lits.push(Lit { var, positive }).ok()?;
     }
-    let clause = Clause::from_slice(alloc, &lits).ok()?;
-    search.solver.add(clause, Added::Axiom).ok()?;
+    add_lits(alloc, &mut search.solver, &lits)
+}
+
+/// Adds a clause of the solver's literals.
+fn add_lits(alloc: Global, solver: &mut Solver, lits: &[Lit]) -> Option<()> {
+    let clause = Clause::from_slice(alloc, lits).ok()?;
+    solver.add(clause, Added::Axiom).ok()?;
     Some(())
 }
 
@@ -64,51 +69,28 @@ fn add_axiom(alloc: Global, search: &mut Search, name: &AxiomName) -> Option<()>
     }
 }
 
-/// Adds the axioms that a framework needs.
-fn add_needed(alloc: Global, search: &mut Search, plain: &AfPlain) -> Option<()> {
-    let names = needed(alloc, plain).ok()?;
-    for name in names.as_slice() {
-        add_axiom(alloc, search, name)?;
-    }
-    Some(())
-}
-
 /// Adds the value of a variable's atom, if it is a fact.
 fn add_fact(alloc: Global, search: &mut Search, plain: &AfPlain, var: usize) -> Option<()> {
     if var >= search.atoms.len() {
         return None;
     }
-    let Some(positive) = fact(plain, &search.atoms.atom_at(var)) else {
-        return Some(());
-    };
-    let clause = Clause::from_slice(alloc, &[Lit { var, positive }]).ok()?;
-    search.solver.add(clause, Added::Axiom).ok()?;
-    Some(())
-}
-
-/// The literal that a variable's literal stands for.
-fn literal_of(atoms: &AtomTable, lit: Lit) -> Option<AtomLit> {
-    if lit.var >= atoms.len() {
-        return None;
+    match fact(plain, &search.atoms.atom_at(var)) {
+        Some(positive) => add_lits(alloc, &mut search.solver, &[Lit { var, positive }]),
+        None => Some(()),
     }
-    Some(AtomLit {
-        atom: atoms.atom_at(lit.var),
-        positive: lit.positive,
-    })
 }
 
-/// What the literals of a model stand for.
-fn values_of(alloc: Global, atoms: &AtomTable, model: &[Lit]) -> Option<Vec<AtomLit>> {
-    let mut values = Vec::new(alloc);
-    for lit in model {
-        values.push(literal_of(atoms, *lit)?).ok()?;
+/// Adds axioms, goals and facts.
+fn add_all(
+    alloc: Global,
+    search: &mut Search,
+    plain: &AfPlain,
+    names: &[AxiomName],
+    goals: &[AtomLit],
+) -> Option<()> {
+    for name in names {
+        add_axiom(alloc, search, name)?;
     }
-    Some(values)
-}
-
-/// Adds the needed axioms, goals and facts.
-fn add_all(alloc: Global, search: &mut Search, plain: &AfPlain, goals: &[AtomLit]) -> Option<()> {
-    add_needed(alloc, search, plain)?;
     for goal in goals {
         add(alloc, search, &[*goal])?;
     }
@@ -118,43 +100,35 @@ fn add_all(alloc: Global, search: &mut Search, plain: &AfPlain, goals: &[AtomLit
     Some(())
 }
 
-/// A search with the needed axioms, goals and facts.
-fn begin(alloc: Global, plain: &AfPlain, goals: &[AtomLit]) -> Option<Search> {
-    let mut search = Search {
-        solver: Solver::open(alloc, 10_000).ok()?,
-        atoms: AtomTable::new(alloc),
-    };
-    add_all(alloc, &mut search, plain, goals)?;
-    Some(search)
-}
-
 /// Searches under no assumption.
 fn solve_free(solver: &mut Solver) -> Option<Solved> {
     let mut budget = Budget::new(1_000);
     solver.solve(&[], &mut budget).ok()
 }
 
-/// Whether a model is read as the set.
-fn is_read_as(
-    alloc: Global,
-    atoms: &AtomTable,
-    model: &[Lit],
-    set: Option<&[u32]>,
-) -> Option<bool> {
-    let values = values_of(alloc, atoms, model)?;
-    let found = decode(alloc, &values).ok()?;
-    Some(set == Some(found.as_slice()))
-}
-
-/// Whether a search finds a model that is read as the set; without a set, whether it finds none.
-fn ends_so(alloc: Global, search: &mut Search, set: Option<&[u32]>) -> Option<bool> {
-    match solve_free(&mut search.solver)? {
-        Solved::Core(_) => Some(set.is_none()),
-        Solved::Model(model) => is_read_as(alloc, &search.atoms, model.as_slice(), set),
+/// Whether an argument is a member by a model.
+fn is_member(atoms: &AtomTable, model: &[Lit], number: u32) -> bool {
+    match atoms.find(&Member(number)) {
+        Some(var) => model.contains(&Lit {
+            var,
+            positive: true,
+        }),
+        None => false,
     }
 }
 
-/// Attacks between the arguments 1, 2 and 3, goals, and the set that their model is read as; none where they have no
+/// Whether a search finds a model whose members are the set; without a set, whether it finds none.
+fn ends_so(search: &mut Search, set: Option<&[u32]>) -> Option<bool> {
+    match (solve_free(&mut search.solver)?, set) {
+        (Solved::Core(_), None) => Some(true),
+        (Solved::Model(model), Some(set)) => Some((1..4u32).all(|number| {
+            is_member(&search.atoms, model.as_slice(), number) == set.contains(&number)
+        })),
+        _ => Some(false),
+    }
+}
+
+/// Attacks between the arguments 1, 2 and 3, goals, and the set of the members in their model; none where they have no
 /// model.
 #[derive(Drop)]
 struct Row {
@@ -248,11 +222,21 @@ const ROWS: &[Row] = &[
     },
 ];
 
+/// Whether a framework's needed axioms and facts, with goals, end so.
+fn ends(alloc: Global, plain: &AfPlain, row: &Row) -> Option<bool> {
+    let names = needed(alloc, plain).ok()?;
+    let mut search = Search {
+        solver: Solver::open(alloc, 10_000).ok()?,
+        atoms: AtomTable::new(alloc),
+    };
+    add_all(alloc, &mut search, plain, names.as_slice(), row.goals)?;
+    ends_so(&mut search, row.set)
+}
+
 /// Whether the row's goals end so.
 fn holds(alloc: Global, row: &Row) -> Option<bool> {
     let plain = AfPlain::of_lists(alloc, &[1, 2, 3], row.attacks).ok()?;
-    let mut search = begin(alloc, &plain, row.goals)?;
-    ends_so(alloc, &mut search, row.set)
+    ends(alloc, &plain, row)
 }
 
 #[test]

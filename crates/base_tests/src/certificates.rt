@@ -4,7 +4,7 @@ use atom_table::AtomTable;
 use certificate_check::check;
 use certificate_claims::Cause::{self, AnswerShape};
 use certificate_claims::Verdict::{self, Accepted, Rejected};
-use certificate_claims::{none_within, sets_rise};
+use certificate_claims::{Certificate, none_within, sets_rise};
 use certificate_text::{one_reading, read_certificate, reading_is_exact, write_certificate};
 use edit_rules::Framework;
 use framework_text::read_framework;
@@ -37,12 +37,18 @@ const TEXTS: &[(&str, &str)] = &[
     ("cert 1\nr\na B1 2\nend", "cert 1\nr\na B1 2\nend\n"),
 ];
 
-/// What the text reads as, written again.
-fn written_again(alloc: Global, text: &str) -> Option<Bytes> {
-    if text.len() > 1000 {
+/// The certificate of a short text.
+fn certificate_of(alloc: Global, text: &str) -> Option<Certificate> {
+    let bytes = text.as_bytes();
+    if bytes.len() > 1000 {
         return None;
     }
-    let certificate = read_certificate(alloc, text.as_bytes()).ok()?;
+    read_certificate(alloc, bytes).ok()
+}
+
+/// What the text reads as, written again.
+fn written_again(alloc: Global, text: &str) -> Option<Bytes> {
+    let certificate = certificate_of(alloc, text)?;
     write_certificate(alloc, &certificate).ok()
 }
 
@@ -71,16 +77,23 @@ fn verdict(alloc: Global, framework: &Framework, semantics: Semantics) -> Option
     };
     let query = Query::new(task, None)?;
     let answer = answer_of(alloc).ok()?;
-    let certificate = read_certificate(alloc, b"cert 1\nend\n").ok()?;
+    let certificate = certificate_of(alloc, "cert 1\nend\n")?;
     check(alloc, framework, &query, &answer, &certificate).ok()
 }
 
-/// The contraries of the assumptions 1 and 2 follow from each other alone. Such frameworks have no task by ranges, which
-/// the program tells before it checks.
+/// The contraries of the assumptions 1 and 2 follow from each other alone.
+fn loop_framework(alloc: Global) -> Option<Framework> {
+    let bytes = "p aba 4\na 1\na 2\nc 1 3\nc 2 4\nr 3 4\nr 4 3\n".as_bytes();
+    if bytes.len() > 1000 {
+        return None;
+    }
+    read_framework(alloc, bytes).ok()
+}
+
+/// Frameworks with rules have no task by ranges, which the program tells before it checks.
 #[test]
 fn verdicts(rt: HostRuntime) {
-    let text = b"p aba 4\na 1\na 2\nc 1 3\nc 2 4\nr 3 4\nr 4 3\n";
-    let Ok(framework) = read_framework(rt.alloc(), text) else {
+    let Some(framework) = loop_framework(rt.alloc()) else {
         assert!(rt; false, "not read");
         return;
     };

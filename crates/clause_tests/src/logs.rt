@@ -86,12 +86,13 @@ fn is_step(
 
 /// Whether a log has a row's step, and it reaches just these steps.
 fn is_kept(alloc: Global, log: &Log, row: &Row, reached: &[u32]) -> Result<bool, Memory> {
-    match row.3 {
-        Ok(number) if number != 0 && number as usize <= log.len() => {
-            is_step(alloc, log, StepId::new(number), row, reached)
-        }
-        _ => Ok(false),
+    let Ok(number) = row.3 else {
+        return Ok(false);
+    };
+    if number == 0 || number as usize > log.len() {
+        return Ok(false);
     }
+    is_step(alloc, log, StepId::new(number), row, reached)
 }
 
 /// Steps for a log with room for three.
