@@ -79,7 +79,10 @@ const ROWS: &[Row] = &[
 #[test]
 fn sets(rt: HostRuntime) -> Result<(), Fail> {
     for (number, row) in ROWS.iter().enumerate() {
-        assert!(rt; is_read_as(rt.alloc(), row.values, row.set)?, "row {number}");
+        assert!(rt;
+            is_read_as(rt.alloc(), row.values, row.set)?,
+            "row {number}"
+        );
     }
     Ok(())
 }

@@ -137,8 +137,16 @@ const CHANGES: &[Row] = &[
         Ok((0, 0, 4, &[1, 2, 3])),
         (4, &[(1, 3), (2, 4)], &[(2, 4, &[1])], 5),
     ),
-    (Change::RuleDrop(2), Ok((0, 0, 4, &[1])), (4, &[(1, 3), (2, 4)], &[], 5)),
-    (Change::AsmDrop(2), Ok((0, 4, 0, &[])), (4, &[(1, 3)], &[], 5)),
+    (
+        Change::RuleDrop(2),
+        Ok((0, 0, 4, &[1])),
+        (4, &[(1, 3), (2, 4)], &[], 5),
+    ),
+    (
+        Change::AsmDrop(2),
+        Ok((0, 4, 0, &[])),
+        (4, &[(1, 3)], &[], 5),
+    ),
     (
         Change::RuleAdd(2, &[]),
         Ok((5, 0, 0, &[])),
@@ -149,9 +157,21 @@ const CHANGES: &[Row] = &[
         Err(EditFault::NotFlat(2)),
         (4, &[(1, 3)], &[(5, 2, &[])], 6),
     ),
-    (Change::RuleDrop(5), Ok((0, 0, 2, &[])), (4, &[(1, 3)], &[], 6)),
-    (Change::AsmAdd(4, 1), NOTHING, (4, &[(1, 3), (4, 1)], &[], 6)),
-    (Change::AsmAdd(2, 2), NOTHING, (4, &[(1, 3), (2, 2), (4, 1)], &[], 6)),
+    (
+        Change::RuleDrop(5),
+        Ok((0, 0, 2, &[])),
+        (4, &[(1, 3)], &[], 6),
+    ),
+    (
+        Change::AsmAdd(4, 1),
+        NOTHING,
+        (4, &[(1, 3), (4, 1)], &[], 6),
+    ),
+    (
+        Change::AsmAdd(2, 2),
+        NOTHING,
+        (4, &[(1, 3), (2, 2), (4, 1)], &[], 6),
+    ),
 ];
 
 /// One assumption and no rule; the next rule gets the last number.
@@ -165,13 +185,41 @@ const NONE_LEFT: Shown<'static> = (2, &[(1, 2)], &[], 1_000_001);
 /// Edits of a framework whose next rule gets the last number. After it none is left, whatever goes.
 const LAST_NUMBERS: &[Row] = &[
     (Change::AsmAdd(1, 2), NOTHING, ONE_LEFT),
-    (Change::RuleAdd(2, &[2, 1, 2]), Ok((1_000_000, 0, 0, &[])), LAST_RULE),
-    (Change::RuleAdd(2, &[3]), Err(EditFault::OutOfRange(3)), LAST_RULE),
-    (Change::RuleAdd(1, &[]), Err(EditFault::NotFlat(1)), LAST_RULE),
-    (Change::RuleAdd(2, &[]), Err(EditFault::OutOfRange(1_000_001)), LAST_RULE),
-    (Change::RuleDrop(1_000_000), Ok((0, 0, 2, &[1, 2])), NONE_LEFT),
-    (Change::RuleAdd(2, &[]), Err(EditFault::OutOfRange(1_000_001)), NONE_LEFT),
-    (Change::RuleDrop(1_000_000), Err(EditFault::NoSuchRule(1_000_000)), NONE_LEFT),
+    (
+        Change::RuleAdd(2, &[2, 1, 2]),
+        Ok((1_000_000, 0, 0, &[])),
+        LAST_RULE,
+    ),
+    (
+        Change::RuleAdd(2, &[3]),
+        Err(EditFault::OutOfRange(3)),
+        LAST_RULE,
+    ),
+    (
+        Change::RuleAdd(1, &[]),
+        Err(EditFault::NotFlat(1)),
+        LAST_RULE,
+    ),
+    (
+        Change::RuleAdd(2, &[]),
+        Err(EditFault::OutOfRange(1_000_001)),
+        LAST_RULE,
+    ),
+    (
+        Change::RuleDrop(1_000_000),
+        Ok((0, 0, 2, &[1, 2])),
+        NONE_LEFT,
+    ),
+    (
+        Change::RuleAdd(2, &[]),
+        Err(EditFault::OutOfRange(1_000_001)),
+        NONE_LEFT,
+    ),
+    (
+        Change::RuleDrop(1_000_000),
+        Err(EditFault::NoSuchRule(1_000_000)),
+        NONE_LEFT,
+    ),
 ];
 
 #[test]

@@ -153,10 +153,8 @@ const UNFOUNDED: &[Claim] = &[
 /// Whether rows are these.
 fn are_rows(found: &[Row], rows: &[(u32, &[(u32, u32)])]) -> bool {
     found.len() == rows.len()
-        && found
-            .iter()
-            .zip(rows)
-            .all(|(row, told)| row.atom == told.0 && row.pairs.as_slice() == told.1)
+        && found.iter().zip(rows).all(|(row, told)| row.atom == told.0
+            && row.pairs.as_slice() == told.1)
 }
 
 /// Whether a claim's unfounded atoms are found.

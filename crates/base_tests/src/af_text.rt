@@ -39,10 +39,7 @@ const OTHER_KIND: &[(&str, usize)] = &[
 #[test]
 fn other_kind(rt: HostRuntime) {
     for &(text, line) in OTHER_KIND {
-        assert!(rt;
-            is_refused(rt.alloc(), text, line, WrongKind),
-            "at {text}"
-        );
+        assert!(rt; is_refused(rt.alloc(), text, line, WrongKind), "at {text}");
     }
 }
 
@@ -55,7 +52,9 @@ fn written_again(alloc: Global, text: &str) -> Option<Bytes> {
 #[test]
 fn written(rt: HostRuntime) {
     let found = written_again(rt.alloc(), "p af 3\n2 3\n# x\n2 1\n1 2\n2 1");
-    assert!(rt; matches!(found, Some(text) if text.as_slice() == b"p af 3\n1 2\n2 1\n2 3\n".as_slice()));
+    assert!(rt;
+        matches!(found, Some(text) if text.as_slice() == b"p af 3\n1 2\n2 1\n2 3\n".as_slice())
+    );
 }
 
 /// Whether one argument that attacks itself is read.

@@ -72,11 +72,7 @@ fn has_both_in_its_core(
 }
 
 /// Whether what is learned of a conflict, and its core, are as above.
-fn explains(
-    learner: &mut Learner,
-    search: &Propagator,
-    conflict: u32,
-) -> Result<bool, Memory>
+fn explains(learner: &mut Learner, search: &Propagator, conflict: u32) -> Result<bool, Memory>
     requires conflict { IsConflict search.now.clauses search.now.lits conflict }
     requires decided { IsDecided search.now }
 {
