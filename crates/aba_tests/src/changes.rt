@@ -3,7 +3,8 @@
 ghost use Rattle.edit_rules.specs.Kinds.{framework_of};
 ghost use Rattle.aba_encoding.specs.Brought.{IsEdited};
 
-use crate::edits::{Change, edit_of, framework_of};
+use crate::aba_text::framework_of;
+use crate::edits::{Change, edit_of};
 use aba_encoding::changed;
 use aba_notions::AbaPlain;
 use edit_rules::{Edit, EditFault, Effect, Framework, apply};
@@ -121,8 +122,8 @@ fn holds(alloc: Global, row: &Row) -> Option<bool> {
 
 #[test]
 fn called_for(rt: HostRuntime) -> Result<(), Fail> {
-    for row in ROWS {
-        assert!(rt; holds(rt.alloc(), row) == Some(true), "at {:?}", row.0);
+    for (number, row) in ROWS.iter().enumerate() {
+        assert!(rt; holds(rt.alloc(), row) == Some(true), "row {number}");
     }
     Ok(())
 }

@@ -11,7 +11,6 @@ use std::test::Fail;
 /// A framework.
 #[derive(Clone, Copy, Drop)]
 struct Framework {
-    name: &'static str,
     assumptions: &'static [u32],
     contraries: &'static [(u32, u32)],
     rules: &'static [PlainRule<'static>],
@@ -51,15 +50,15 @@ fn holds(alloc: Global, row: &Row) -> Result<bool, Memory> {
     Ok(true)
 }
 
+/// No assumption.
 const NONE: Framework = Framework {
-    name: "no assumption",
     assumptions: &[],
     contraries: &[],
     rules: &[],
 };
 
+/// Each derives the other's contrary.
 const RIVALS: Framework = Framework {
-    name: "each derives the other's contrary",
     assumptions: &[1, 2],
     contraries: &[(1, 3), (2, 4)],
     rules: &[
@@ -76,8 +75,8 @@ const RIVALS: Framework = Framework {
     ],
 };
 
+/// Contraries that only derive each other.
 const LOOPS: Framework = Framework {
-    name: "contraries that only derive each other",
     assumptions: &[1, 2],
     contraries: &[(1, 3), (2, 4)],
     rules: &[
@@ -94,15 +93,15 @@ const LOOPS: Framework = Framework {
     ],
 };
 
+/// A contrary of its own.
 const ITSELF: Framework = Framework {
-    name: "a contrary of its own",
     assumptions: &[1],
     contraries: &[(1, 1)],
     rules: &[],
 };
 
+/// An assumption that supports its contrary.
 const SUPPORT: Framework = Framework {
-    name: "an assumption that supports its contrary",
     assumptions: &[1, 2],
     contraries: &[(1, 3), (2, 0)],
     rules: &[
@@ -119,8 +118,8 @@ const SUPPORT: Framework = Framework {
     ],
 };
 
+/// A contrary without premises.
 const FACT: Framework = Framework {
-    name: "a contrary without premises",
     assumptions: &[1],
     contraries: &[(1, 2)],
     rules: &[
@@ -137,8 +136,8 @@ const FACT: Framework = Framework {
     ],
 };
 
+/// Two that attack a third together.
 const JOINT: Framework = Framework {
-    name: "two that attack a third together",
     assumptions: &[1, 2, 3],
     contraries: &[(1, 0), (2, 0), (3, 4)],
     rules: &[PlainRule {
@@ -148,8 +147,8 @@ const JOINT: Framework = Framework {
     }],
 };
 
+/// One that attacks itself and its rival.
 const BLOCKED: Framework = Framework {
-    name: "one that attacks itself and its rival",
     assumptions: &[1, 2],
     contraries: &[(1, 3), (2, 4)],
     rules: &[
@@ -211,8 +210,8 @@ const ROWS: &[Row] = &[
 
 #[test]
 fn worked_frameworks(rt: HostRuntime) -> Result<(), Fail> {
-    for row in ROWS {
-        assert!(rt; holds(rt.alloc(), row)?, "{:?} of {}", row.1, row.0.name);
+    for (number, row) in ROWS.iter().enumerate() {
+        assert!(rt; holds(rt.alloc(), row)?, "row {number}");
     }
     Ok(())
 }

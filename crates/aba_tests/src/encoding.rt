@@ -1,10 +1,8 @@
 //! Frameworks in clauses, compared with what was worked out by hand from the table of axioms.
 
+use crate::aba_text::framework_of;
 use aba_encoding::{decode, missing, needed};
 use aba_facts::fact;
-use aba_format::read_aba;
-use aba_notions::AbaPlain;
-use af_format::ReadFault;
 use lists::{Items, Memory};
 use meaning_atoms::Atom::{
     Ask, Asm, Attack, BGap, Body, Cf, Con, Der, Gap, HGap, Head, Live, Member, Miss, Sup,
@@ -19,16 +17,6 @@ const CROSSED: &str = "p aba 4\na 1\na 2\nc 1 3\nc 2 4\nr 3 2\nr 4 1\n";
 
 /// The same, but the contraries derive one another.
 const CIRCULAR: &str = "p aba 4\na 1\na 2\nc 1 3\nc 2 4\nr 3 4\nr 4 3\n";
-
-fn read(alloc: Global, text: &str) -> Result<AbaPlain, Memory> {
-    if text.len() > 1000 {
-        return Err(Memory);
-    }
-    match read_aba(alloc, text.as_bytes()) {
-        Ok(framework) => Ok(framework),
-        Err(ReadFault::Line(_) | ReadFault::Memory) => Err(Memory),
-    }
-}
 
 macro_rules! is {
     ($atom:expr) => {
@@ -48,32 +36,24 @@ macro_rules! not {
     };
 }
 
-/// Whether the text of one of the names is this one.
-fn has(alloc: Global, names: &[AxiomName], text: &str) -> Result<bool, Memory> {
-    for name in names {
-        let mut shown = String::new(alloc);
-        push_axiom(&mut shown, name)?;
-        if shown.as_str() == text {
-            return Ok(true);
-        }
-    }
-    Ok(false)
+/// Whether this is the text of a name.
+fn is_text(alloc: Global, name: &AxiomName, text: &str) -> bool {
+    let mut shown = String::new(alloc);
+    push_axiom(&mut shown, name).is_ok() && shown.as_str() == text
 }
 
-fn needed_by(alloc: Global, text: &str) -> Result<Items<AxiomName>, Memory> {
-    let framework = read(alloc, text)?;
-    needed(alloc, &framework)
+/// Whether the names are so many, and these among them.
+fn have(alloc: Global, names: &[AxiomName], count: usize, expected: &[&str]) -> bool {
+    names.len() == count
+        && expected
+            .iter()
+            .all(|text| names.iter().any(|name| is_text(alloc, name, text)))
 }
 
-/// Whether the framework of the text needs so many axioms, and these among them.
-fn needs(alloc: Global, text: &str, count: usize, expected: &[&str]) -> Result<bool, Memory> {
-    let names = needed_by(alloc, text)?;
-    for name in expected {
-        if !has(alloc, names.as_slice(), name)? {
-            return Ok(false);
-        }
-    }
-    Ok(names.len() == count)
+/// The axioms that the framework of the text needs.
+fn needed_by(alloc: Global, text: &str) -> Option<Items<AxiomName>> {
+    let framework = framework_of(alloc, text)?;
+    needed(alloc, &framework).ok()
 }
 
 /// All that the first framework needs.
@@ -178,11 +158,14 @@ const NEEDED: &[(&str, usize, &[&str])] = &[
 ];
 
 #[test]
-fn needed_axioms(rt: HostRuntime) -> Result<(), Fail> {
+fn needed_axioms(rt: HostRuntime) {
     for &(text, count, expected) in NEEDED {
-        assert!(rt; needs(rt.alloc(), text, count, expected)?, "of {text:?}");
+        let found = needed_by(rt.alloc(), text);
+        assert!(rt;
+            matches!(found, Some(names) if have(rt.alloc(), names.as_slice(), count, expected)),
+            "of {text}"
+        );
     }
-    Ok(())
 }
 
 /// Whether the literals are read as the set of these numbers.
@@ -247,12 +230,14 @@ const FACTS: &[(Atom, Option<bool>)] = &[
 ];
 
 #[test]
-fn facts(rt: HostRuntime) -> Result<(), Fail> {
-    let framework = read(rt.alloc(), CROSSED)?;
-    for (atom, value) in FACTS {
-        assert!(rt; fact(&framework, atom) == *value, "at {atom:?}");
+fn facts(rt: HostRuntime) {
+    let Some(framework) = framework_of(rt.alloc(), CROSSED) else {
+        assert!(rt; false, "not read");
+        return;
+    };
+    for (number, (atom, value)) in FACTS.iter().enumerate() {
+        assert!(rt; fact(&framework, atom) == *value, "row {number}");
     }
-    Ok(())
 }
 
 /// The literals, and those that 1 is an assumption and 2 too.
@@ -262,19 +247,10 @@ fn with_assumptions(alloc: Global, values: &[AtomLit]) -> Result<Vec<AtomLit>, M
     Ok(all)
 }
 
-fn missing_of(alloc: Global, text: &str, values: &[AtomLit]) -> Result<Option<AxiomName>, Memory> {
-    let all = with_assumptions(alloc, values)?;
-    let framework = read(alloc, text)?;
-    missing(alloc, &framework, &all)
-}
-
-/// The text of what is missing, or an empty one.
-fn missing_shown(alloc: Global, text: &str, values: &[AtomLit]) -> Result<String, Memory> {
-    let mut shown = String::new(alloc);
-    if let Some(name) = missing_of(alloc, text, values)? {
-        push_axiom(&mut shown, &name)?;
-    }
-    Ok(shown)
+/// What is missing under these literals, where a framework is read.
+fn missing_of(alloc: Global, text: &str, values: &[AtomLit]) -> Option<Option<AxiomName>> {
+    let framework = framework_of(alloc, text)?;
+    missing(alloc, &framework, values).ok()
 }
 
 /// A framework, the literals beside those that 1 is an assumption and 2 too, and what is missing.
@@ -328,9 +304,14 @@ const MISSING: &[(&str, &[AtomLit], &str)] = &[
 
 #[test]
 fn loops(rt: HostRuntime) -> Result<(), Fail> {
-    for &(text, values, expected) in MISSING {
-        let found = missing_shown(rt.alloc(), text, values)?;
-        assert!(rt; found.as_str() == expected, "at {values:?}");
+    for (number, &(text, values, expected)) in MISSING.iter().enumerate() {
+        let all = with_assumptions(rt.alloc(), values)?;
+        let right = match missing_of(rt.alloc(), text, &all) {
+            Some(Some(name)) => is_text(rt.alloc(), &name, expected),
+            Some(None) => expected.is_empty(),
+            None => false,
+        };
+        assert!(rt; right, "row {number}");
     }
     Ok(())
 }

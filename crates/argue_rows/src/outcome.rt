@@ -10,9 +10,11 @@ use std::thread::Threads;
 /// More bytes than any file of a row has.
 const MOST_BYTES: u64 = 1_000_000;
 
-/// The text with ends of lines in place of `;`.
+/// The text with ends of lines in place of `;`, and with the bytes that `\r` and `\0` stand for.
 pub fn with_ends(alloc: Global, text: &str) -> Result<String, AllocError> {
-    text.replace(alloc, ";", "\n")
+    let lines = text.replace(alloc, ";", "\n")?;
+    let returns = lines.as_str().replace(alloc, "\\r", "\r")?;
+    returns.as_str().replace(alloc, "\\0", "\0")
 }
 
 /// The words of a check of this query: a task, and its argument where it has one.

@@ -91,8 +91,8 @@ const ROWS: &[Row] = &[
 
 #[test]
 fn worked_frameworks(rt: HostRuntime) -> Result<(), Fail> {
-    for row in ROWS {
-        assert!(rt; holds(rt.alloc(), row)?, "{:?} of {:?}", row.2, row.1);
+    for (number, row) in ROWS.iter().enumerate() {
+        assert!(rt; holds(rt.alloc(), row)?, "row {number}");
     }
     Ok(())
 }

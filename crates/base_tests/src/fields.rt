@@ -79,7 +79,7 @@ fn are_cut(text: &str, cuts: &[Cut]) -> bool {
 #[test]
 fn cuts(rt: HostRuntime) {
     for (text, cuts) in CUTS {
-        assert!(rt; are_cut(text, cuts), "at {text:?}");
+        assert!(rt; are_cut(text, cuts), "at {text}");
     }
 }
 
@@ -117,7 +117,7 @@ const DECIMALS: &[(&str, Option<u32>)] = &[
 #[test]
 fn decimals(rt: HostRuntime) {
     for &(text, expected) in DECIMALS {
-        assert!(rt; decimal(text.as_bytes()) == expected, "at {text:?}");
+        assert!(rt; decimal(text.as_bytes()) == expected, "at {text}");
     }
 }
 
@@ -144,7 +144,7 @@ fn fields_with_numbers(rt: HostRuntime) {
         let found = parts.next_number();
         assert!(rt;
             found.is_some_and(|field| field.text == expected.as_bytes() && field.number == number),
-            "at {expected:?}"
+            "at {expected}"
         );
     }
     assert!(rt; parts.next_number().is_none());

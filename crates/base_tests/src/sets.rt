@@ -72,10 +72,7 @@ const COMPARED: &[(&[u32], &[u32], bool, Ordering)] = &[
 #[test]
 fn sets_compared(rt: HostRuntime) -> Result<(), Fail> {
     for &(left, right, within, order) in COMPARED {
-        assert!(rt;
-            compare(rt.alloc(), left, right)? == (within, order),
-            "{left:?}, {right:?}"
-        );
+        assert!(rt; compare(rt.alloc(), left, right)? == (within, order));
     }
     Ok(())
 }

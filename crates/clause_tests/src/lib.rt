@@ -1,6 +1,10 @@
-//! Tests of what no clause says in the crates of clauses.
+//! Tests of what no clause says in the crates of clauses and of the search for a model.
 #![tactic(auto)]
 
+#[cfg(test)]
+mod deciding;
+#[cfg(test)]
+mod learning;
 #[cfg(test)]
 mod literals;
 #[cfg(test)]
@@ -9,3 +13,5 @@ mod logs;
 mod named;
 #[cfg(test)]
 mod propagation;
+#[cfg(test)]
+mod solving;

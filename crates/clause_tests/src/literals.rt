@@ -1,3 +1,6 @@
+//! Literals, clauses, trails and rows.
+
+use crate::named::{N0, N2, P1, P2, P5, lit};
 use lists::Memory;
 use plain_lits::laws::taken_clauses_follow;
 use plain_lits::{Budget, Clause, Halt, Lit, PackedLit, Rows, StepId, Trail, Value};
@@ -7,49 +10,20 @@ use std::collections::HashSet;
 use std::hash::Hash;
 use std::test::Fail;
 
-fn lit(var: usize, positive: bool) -> Lit {
-    Lit { var, positive }
-}
-
 /// The literals of the clause below, in order and each once.
-const SORTED: &[Lit] = &[
-    Lit {
-        var: 0,
-        positive: false,
-    },
-    Lit {
-        var: 1,
-        positive: true,
-    },
-    Lit {
-        var: 2,
-        positive: false,
-    },
-    Lit {
-        var: 2,
-        positive: true,
-    },
-    Lit {
-        var: 5,
-        positive: true,
-    },
-];
+const SORTED: &[Lit] = &[N0, P1, N2, P2, P5];
+
+/// Whether this clause has those literals, and its copy too.
+fn is_sorted(alloc: Global, given: &[Lit]) -> Result<bool, Memory> {
+    let clause = Clause::from_slice(alloc, given)?;
+    let whole = clause.as_slice() == SORTED && clause.len() == 5 && !clause.is_empty();
+    Ok(whole && clause.copy(alloc)?.as_slice() == SORTED)
+}
 
 #[test]
 fn clauses(rt: HostRuntime) -> Result<(), Fail> {
-    let alloc = rt.alloc();
-    let given = [
-        lit(2, true),
-        lit(1, true),
-        lit(2, false),
-        lit(1, true),
-        lit(0, false),
-        lit(5, true),
-    ];
-    let clause = Clause::from_slice(alloc, &given)?;
-    assert!(rt; clause.as_slice() == SORTED && clause.len() == 5);
-    assert!(rt; clause.copy(alloc)?.as_slice() == SORTED);
-    assert!(rt; Clause::new(alloc).is_empty() && !clause.is_empty());
+    assert!(rt; is_sorted(rt.alloc(), &[P2, P1, N2, P1, N0, P5])?);
+    assert!(rt; Clause::new(rt.alloc()).is_empty());
     Ok(())
 }
 
@@ -82,11 +56,9 @@ fn budget_and_numbers(rt: HostRuntime) {
     assert!(rt; budget.spend());
     assert!(rt; budget.spend());
     assert!(rt; !budget.spend());
-    assert_eq!(rt; budget.used(), 2);
-    assert_eq!(rt; budget.limit(), 2);
-    assert_eq!(rt; StepId::new(7).number(), 7);
-    assert!(rt; StepId::new(7) < StepId::new(8));
-    assert_eq!(rt; Halt::from(Memory), Halt::Memory);
+    assert!(rt; budget.used() == 2 && budget.limit() == 2);
+    assert!(rt; StepId::new(7).number() == 7 && StepId::new(7) < StepId::new(8));
+    assert!(rt; Halt::from(Memory) == Halt::Memory);
 }
 
 /// Makes a literal true where it has room and no value, at a new level or at the present one.
@@ -133,9 +105,9 @@ fn trail_after_a_step_back(rt: HostRuntime) -> Result<(), Fail> {
     let mut trail = filled(rt.alloc())?;
     trail.back_to(1);
     assert!(rt; trail.lits() == [lit(2, false)].as_slice());
-    assert!(rt; trail.value(lit(2, true)) == Value::False);
-    assert!(rt; trail.value(lit(0, true)) == Value::Unset);
-    assert!(rt; trail.value(lit(9, true)) == Value::Unset);
+    assert!(rt; matches!(trail.value(lit(2, true)), Value::False));
+    assert!(rt; matches!(trail.value(lit(0, true)), Value::Unset));
+    assert!(rt; matches!(trail.value(lit(9, true)), Value::Unset));
     Ok(())
 }
 

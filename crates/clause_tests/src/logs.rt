@@ -4,6 +4,7 @@ ghost use Rattle.hinted_log.specs.Logs.{IsStepOf};
 
 use crate::named::{N1, N2, N3, P1, P2, P3};
 use hinted_log::{Kind, Log, LogFault};
+use lists::Memory;
 use plain_lits::{Clause, Lit, StepId};
 use std::alloc::Global;
 use std::test::Fail;
@@ -51,24 +52,47 @@ fn has_literals(log: &Log, step: StepId, literals: &[Lit]) -> bool
             .all(|(packed, lit)| packed.lit() == *lit)
 }
 
-/// Whether a log's step reaches just these steps.
-fn reaches(alloc: Global, log: &Log, step: StepId, reached: &[u32]) -> Result<bool, LogFault>
+/// Whether steps have these numbers.
+fn have_numbers(steps: &[StepId], numbers: &[u32]) -> bool {
+    steps.len() == numbers.len()
+        && steps
+            .iter()
+            .zip(numbers)
+            .all(|(step, number)| step.number() == *number)
+}
+
+/// Whether two kinds are the same.
+fn are_one(kind: Kind, other: Kind) -> bool {
+    matches!(
+        (kind, other),
+        (Kind::Axiom, Kind::Axiom) | (Kind::Side, Kind::Side) | (Kind::Derived, Kind::Derived)
+    )
+}
+
+/// Whether a log's step is the row's, and reaches just these steps.
+fn is_step(
+    alloc: Global,
+    log: &Log,
+    step: StepId,
+    row: &Row,
+    reached: &[u32],
+) -> Result<bool, Memory>
     requires { IsStepOf log.now.steps step }
 {
-    let steps = steps_of(alloc, reached)?;
-    Ok(log.trim(alloc, step)?.as_slice() == steps.as_slice())
+    let same = are_one(log.kind(step), row.0) && have_numbers(log.hints(step), row.2);
+    let reach = have_numbers(log.trim(alloc, step)?.as_slice(), reached);
+    Ok(same && reach && has_literals(log, step, row.1))
 }
 
 /// Whether a log has a row's step, and it reaches just these steps.
-fn is_kept(alloc: Global, log: &Log, row: &Row, reached: &[u32]) -> Result<bool, LogFault> {
-    let number = row.3?;
+fn is_kept(alloc: Global, log: &Log, row: &Row, reached: &[u32]) -> Result<bool, Memory> {
+    let Ok(number) = row.3 else {
+        return Ok(false);
+    };
     if number == 0 || number as usize > log.len() {
         return Ok(false);
     }
-    let step = StepId::new(number);
-    let hints = steps_of(alloc, row.2)?;
-    let same = log.kind(step) == row.0 && log.hints(step) == hints.as_slice();
-    Ok(same && has_literals(log, step, row.1) && reaches(alloc, log, step, reached)?)
+    is_step(alloc, log, StepId::new(number), row, reached)
 }
 
 /// Steps for a log with room for three.
@@ -88,7 +112,7 @@ fn small_log(rt: HostRuntime) -> Result<(), Fail> {
         assert!(rt; added(alloc, &mut log, row) == row.3);
     }
     assert!(rt; log.is_full());
-    assert!(rt; matches!(is_kept(alloc, &log, &SMALL_LOG[3], &[1, 2, 3]), Ok(true)));
+    assert!(rt; is_kept(alloc, &log, &SMALL_LOG[3], &[1, 2, 3])?);
     Ok(())
 }
 
@@ -126,14 +150,9 @@ fn hints_of_every_kind(rt: HostRuntime) -> Result<(), Fail> {
         assert!(rt; added(alloc, &mut log, row) == row.3);
     }
     let last: Row = (Kind::Derived, &[P2], &[1, 2], Ok(8));
-    assert!(rt; matches!(is_kept(alloc, &log, &HINTS[13], &[6]), Ok(true)));
-    assert!(rt;
-        matches!(
-            is_kept(alloc, &log, &HINTS[14], &[1, 2, 3, 4, 5, 6, 7]),
-            Ok(true)
-        )
-    );
-    assert!(rt; matches!(is_kept(alloc, &log, &last, &[1, 2, 8]), Ok(true)));
+    assert!(rt; is_kept(alloc, &log, &HINTS[13], &[6])?);
+    assert!(rt; is_kept(alloc, &log, &HINTS[14], &[1, 2, 3, 4, 5, 6, 7])?);
+    assert!(rt; is_kept(alloc, &log, &last, &[1, 2, 8])?);
     Ok(())
 }
 

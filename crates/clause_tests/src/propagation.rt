@@ -27,7 +27,7 @@ enum Act<'a> {
     /// So many literals are true.
     HasCount(usize),
     HasStarts(&'a [usize]),
-    HasValue(Lit, Value),
+    IsFalse(Lit),
     IsSet(Lit),
     IsWatchedBy(Lit, &'a [u32]),
     /// The reasons of the first two true literals.
@@ -40,11 +40,16 @@ enum Act<'a> {
 
 /// Decides a literal where its variable is known and has no value.
 fn decide(search: &mut Propagator, lit: Lit) -> bool {
-    if lit.var >= search.vars() || search.value(lit) != Value::Unset {
+    if lit.var >= search.vars() {
         return false;
     }
-    search.decide(lit);
-    true
+    match search.value(lit) {
+        Value::Unset => {
+            search.decide(lit);
+            true
+        }
+        _ => false,
+    }
 }
 
 /// Goes back where there are so many levels.
@@ -106,8 +111,8 @@ fn holds(search: &mut Propagator, act: Act<'_>) -> Result<bool, Memory> {
         Act::HasLits(lits) => Ok(search.lits() == lits),
         Act::HasCount(count) => Ok(search.lits().len() == count),
         Act::HasStarts(starts) => Ok(search.starts() == starts),
-        Act::HasValue(lit, value) => Ok(search.value(lit) == value),
-        Act::IsSet(lit) => Ok(search.value(lit) != Value::Unset),
+        Act::IsFalse(lit) => Ok(matches!(search.value(lit), Value::False)),
+        Act::IsSet(lit) => Ok(!matches!(search.value(lit), Value::Unset)),
         Act::IsWatchedBy(lit, clauses) => Ok(search.watchers(lit) == clauses),
         Act::HasReasons(first, second) => Ok(has_reasons(search, first, second)),
         Act::HasPosition(lit, index) => Ok(has_position(search, lit, index)),
@@ -130,7 +135,7 @@ const TWO_CLAUSES: &[Act<'static>] = &[
     Act::Rests,
     Act::Decides(N2),
     Act::Meets(&[1, 2]),
-    Act::HasValue(P2, Value::False),
+    Act::IsFalse(P2),
     Act::IsSet(P1),
     Act::HasCount(2),
     Act::HasStarts(&[0]),
