@@ -34,7 +34,7 @@ pub fn prefixes<R: Threads + Wait + Sync>(
             rt,
             alloc,
             QUERY,
-            given.framework,
+            given,
             given.answer,
             prefix.as_slice(),
         )?;
@@ -82,7 +82,7 @@ pub fn bytes<R: Threads + Wait + Sync>(
                 rt,
                 alloc,
                 QUERY,
-                given.framework,
+                given,
                 given.answer,
                 changed.as_slice(),
             )?;

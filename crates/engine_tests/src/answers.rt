@@ -1,8 +1,7 @@
 //! Queries that one engine gets in turn, with what each comes to, worked out by hand from the definitions.
 
-use dung_notions::AfPlain;
-use edit_rules::{Framework, QueryFault};
-use hinted_log::MOST_STEPS;
+use crate::engines::af_engine;
+use edit_rules::QueryFault;
 use iccma_tasks::{Answer, Query, Task};
 use oracle_core::{AnswerStop, Answered, Engine};
 use oracle_face::NoTrade;
@@ -39,7 +38,7 @@ struct Row {
 }
 
 /// Whether the sets are these.
-fn are_sets(sets: &[NumSet], expected: &[&[u32]]) -> bool {
+pub(crate) fn are_sets(sets: &[NumSet], expected: &[&[u32]]) -> bool {
     sets.len() == expected.len()
         && sets
             .iter()
@@ -79,18 +78,9 @@ fn holds(alloc: Global, engine: &mut Engine, asked: &Asked) -> Option<bool> {
     Some(is_end(&end, &expected))
 }
 
-/// The engine for a row's framework.
-fn engine_for(alloc: Global, row: &Row) -> Option<Engine> {
-    if row.steps > MOST_STEPS {
-        return None;
-    }
-    let plain = AfPlain::of_lists(alloc, row.arguments, row.attacks).ok()?;
-    Engine::new(alloc, 1, Framework::Af(plain), row.steps).ok()
-}
-
 /// Whether all queries of a row end so.
 fn all_hold(alloc: Global, row: &Row) -> Option<bool> {
-    let mut engine = engine_for(alloc, row)?;
+    let mut engine = af_engine(alloc, row.arguments, row.attacks, row.steps)?;
     ask_all(alloc, &mut engine, row.asks)
 }
 
@@ -106,11 +96,11 @@ pub(crate) fn ask_all(alloc: Global, engine: &mut Engine, asks: &[Asked]) -> Opt
 }
 
 // 1 and 2 attack each other and both attack 3, which attacks 4.
-const FLOATING: &[(u32, u32)] = &[(1, 2), (2, 1), (1, 3), (2, 3), (3, 4)];
+pub(crate) const FLOATING: &[(u32, u32)] = &[(1, 2), (2, 1), (1, 3), (2, 3), (3, 4)];
 
 const UNKNOWN: End = End::Stops(AnswerStop::Query(QueryFault::UnknownArgument(9)));
 
-const FOUR: &[u32] = &[1, 2, 3, 4];
+pub(crate) const FOUR: &[u32] = &[1, 2, 3, 4];
 
 const ROWS: &[Row] = &[
     // The cover of 4 has two sets, with a side clause each.

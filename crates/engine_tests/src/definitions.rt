@@ -1,0 +1,353 @@
+//! Each task on every framework of three arguments, beside the slow program that decides notions from their words.
+
+use crate::engines::af_engine;
+use iccma_tasks::{Answer, Problem, Query, Semantics, Task};
+use lists::Memory;
+use oracle_core::{AnswerStop, Answered, Engine};
+use oracle_face::{NoTrade, Pending};
+use plain_lits::Budget;
+use semantics::{AfLists, Notion, decide};
+use set_lists::NumSet;
+use std::alloc::Global;
+use std::test::Fail;
+
+/// The arguments of each framework.
+const LIVE: &[u32] = &[1, 2, 3];
+
+/// Their sets, in the order of their lists.
+const SETS: &[&[u32]] = &[
+    &[],
+    &[1],
+    &[1, 2],
+    &[1, 2, 3],
+    &[1, 3],
+    &[2],
+    &[2, 3],
+    &[3],
+];
+
+/// The tasks, each with the arguments that it is asked about, from the first to behind the last; 0 for none.
+const TASKS: &[(&str, u32, u32)] = &[
+    ("SE-CO", 0, 1),
+    ("SE-GR", 0, 1),
+    ("SE-PR", 0, 1),
+    ("SE-ST", 0, 1),
+    ("SE-SST", 0, 1),
+    ("SE-ID", 0, 1),
+    ("EE-CO", 0, 1),
+    ("EE-PR", 0, 1),
+    ("EE-ST", 0, 1),
+    ("EE-SST", 0, 1),
+    ("DC-CO", 1, 4),
+    ("DC-GR", 1, 4),
+    ("DC-PR", 1, 4),
+    ("DC-ST", 1, 4),
+    ("DC-SST", 1, 4),
+    ("DC-ID", 1, 4),
+    ("DS-CO", 1, 4),
+    ("DS-GR", 1, 4),
+    ("DS-PR", 1, 4),
+    ("DS-ST", 1, 4),
+    ("DS-SST", 1, 4),
+    ("DS-ID", 1, 4),
+];
+
+/// A task with its argument.
+type Asked = (&'static str, u32);
+
+/// The attacks between three arguments whose bit is set.
+fn attacks_of(alloc: Global, bits: u32) -> Result<Vec<(u32, u32)>, Memory> {
+    let mut attacks = Vec::new(alloc);
+    for index in 0..9u32 {
+        if bits >> index & 1 == 1 {
+            attacks.push((index / 3 + 1, index % 3 + 1))?;
+        }
+    }
+    Ok(attacks)
+}
+
+/// The notion that the extensions of a semantics meet.
+fn notion_of(semantics: Semantics) -> Notion {
+    match semantics {
+        Semantics::Complete => Notion::Complete,
+        Semantics::Grounded => Notion::Grounded,
+        Semantics::Preferred => Notion::Preferred,
+        Semantics::Stable => Notion::Stable,
+        Semantics::SemiStable => Notion::SemiStable,
+        Semantics::Ideal => Notion::Ideal,
+    }
+}
+
+/// Whether a set meets a notion under these attacks.
+fn meets(
+    alloc: Global,
+    attacks: &[(u32, u32)],
+    notion: Notion,
+    set: &[u32],
+) -> Result<bool, Memory> {
+    let lists = AfLists {
+        live: LIVE,
+        attacks,
+    };
+    decide(alloc, &lists, set, notion)
+}
+
+/// Whether a set meets it and has the argument or not.
+fn shows(
+    alloc: Global,
+    attacks: &[(u32, u32)],
+    notion: Notion,
+    set: &[u32],
+    argument: u32,
+    wanted: bool,
+) -> Result<bool, Memory> {
+    let met = meets(alloc, attacks, notion, set)?;
+    Ok(met && set.contains(&argument) == wanted)
+}
+
+/// How many sets meet it and have the argument or not.
+fn count(
+    alloc: Global,
+    attacks: &[(u32, u32)],
+    notion: Notion,
+    argument: u32,
+    wanted: bool,
+) -> Result<u32, Memory> {
+    let mut count = 0u32;
+    for set in SETS {
+        if shows(alloc, attacks, notion, set, argument, wanted)? {
+            count = count.saturating_add(1);
+        }
+    }
+    Ok(count)
+}
+
+/// Whether these are all sets that meet it, in the order of their lists.
+fn are_all(
+    alloc: Global,
+    attacks: &[(u32, u32)],
+    notion: Notion,
+    sets: &[NumSet],
+) -> Result<bool, Memory> {
+    let mut left = sets.iter();
+    for set in SETS {
+        if meets(alloc, attacks, notion, set)? {
+            match left.next() {
+                Some(found) if found.as_slice() == *set => {}
+                _ => return Ok(false),
+            }
+        }
+    }
+    Ok(left.next().is_none())
+}
+
+/// Whether an answer is right: its set is one, or there is none that would show the opposite.
+fn is_right(
+    alloc: Global,
+    attacks: &[(u32, u32)],
+    task: Task,
+    argument: u32,
+    answer: &Answer,
+) -> Result<bool, Memory> {
+    let notion = notion_of(task.semantics);
+    match (task.problem, answer) {
+        (Problem::Credulous, Answer::Yes(Some(set))) => {
+            shows(alloc, attacks, notion, set.as_slice(), argument, true)
+        }
+        (Problem::Credulous, Answer::No(None)) => {
+            Ok(count(alloc, attacks, notion, argument, true)? == 0)
+        }
+        (Problem::Sceptical, Answer::Yes(None)) => {
+            Ok(count(alloc, attacks, notion, argument, false)? == 0)
+        }
+        (Problem::Sceptical, Answer::No(Some(set))) => {
+            shows(alloc, attacks, notion, set.as_slice(), argument, false)
+        }
+        (Problem::SomeExtension | Problem::AllExtensions, Answer::No(None)) => {
+            are_all(alloc, attacks, notion, &[])
+        }
+        (Problem::SomeExtension, Answer::Sets(sets)) => match sets.as_slice() {
+            [set] => meets(alloc, attacks, notion, set.as_slice()),
+            _ => Ok(false),
+        },
+        (Problem::AllExtensions, Answer::Sets(sets)) => {
+            are_all(alloc, attacks, notion, sets.as_slice())
+        }
+        _ => Ok(false),
+    }
+}
+
+/// How an engine ends, with so many units and so many extensions at most.
+fn ask(
+    alloc: Global,
+    engine: &mut Engine,
+    asked: Asked,
+    units: u64,
+    most: u32,
+) -> Option<Result<Answered, AnswerStop>> {
+    let task = Task::read(asked.0.as_bytes()).ok()?;
+    let number = if asked.1 == 0 { None } else { Some(asked.1) };
+    let query = Query::new(task, number)?;
+    let mut budget = Budget::new(units);
+    Some(engine.answer(alloc, &query, &mut budget, most, &mut NoTrade))
+}
+
+/// Why there is no answer, or whether it is right.
+fn judged(
+    alloc: Global,
+    attacks: &[(u32, u32)],
+    asked: Asked,
+    end: Result<Answered, AnswerStop>,
+) -> Option<Result<bool, AnswerStop>> {
+    let task = Task::read(asked.0.as_bytes()).ok()?;
+    match end {
+        Ok(answered) => Some(Ok(is_right(alloc, attacks, task, asked.1, &answered.answer).ok()?)),
+        Err(stop) => Some(Err(stop)),
+    }
+}
+
+/// The same of a query with a million units, which has right answers alone.
+fn ends(
+    alloc: Global,
+    engine: &mut Engine,
+    attacks: &[(u32, u32)],
+    asked: Asked,
+    most: u32,
+) -> Option<Result<bool, AnswerStop>> {
+    let end = ask(alloc, engine, asked, 1_000_000, most)?;
+    judged(alloc, attacks, asked, end)
+}
+
+/// How many extensions there are.
+fn extensions(alloc: Global, attacks: &[(u32, u32)], asked: Asked) -> Option<u32> {
+    let task = Task::read(asked.0.as_bytes()).ok()?;
+    count(alloc, attacks, notion_of(task.semantics), 0, false).ok()
+}
+
+/// Whether the answer is right where the limit is the number of extensions, and all of them are too many for a lower one.
+fn agrees(
+    alloc: Global,
+    engine: &mut Engine,
+    attacks: &[(u32, u32)],
+    asked: Asked,
+) -> Option<bool> {
+    let most = extensions(alloc, attacks, asked)?;
+    let right = ends(alloc, engine, attacks, asked, most)? == Ok(true);
+    if most == 0 || !asked.0.starts_with("EE") {
+        return Some(right);
+    }
+    let lower = ends(alloc, engine, attacks, asked, most - 1)?;
+    Some(right && lower == Err(AnswerStop::TooMany))
+}
+
+/// Whether that is so of each task, of one engine, whose log goes on.
+fn all_agree(alloc: Global, engine: &mut Engine, attacks: &[(u32, u32)]) -> Option<bool> {
+    for &(task, from, behind) in TASKS {
+        for argument in from..behind {
+            if !agrees(alloc, engine, attacks, (task, argument))? {
+                return Some(false);
+            }
+        }
+    }
+    Some(true)
+}
+
+/// The same of a new engine.
+fn framework_agrees(alloc: Global, attacks: &[(u32, u32)]) -> Option<bool> {
+    let mut engine = af_engine(alloc, LIVE, attacks, 1_000_000)?;
+    all_agree(alloc, &mut engine, attacks)
+}
+
+#[test]
+fn every_framework_of_three_arguments(rt: HostRuntime) -> Result<(), Fail> {
+    for bits in 0..512 {
+        let attacks = attacks_of(rt.alloc(), bits)?;
+        assert!(rt; framework_agrees(rt.alloc(), &attacks) == Some(true), "at {bits}");
+    }
+    Ok(())
+}
+
+/// 1 and 2 attack each other, and 2 attacks 3.
+const RIVALS: &[(u32, u32)] = &[(1, 2), (2, 1), (2, 3)];
+
+/// Three in a ring.
+const RING: &[(u32, u32)] = &[(1, 2), (2, 3), (3, 1)];
+
+/// How a new engine ends, with so many units and a log of so many steps.
+fn ends_by(
+    alloc: Global,
+    attacks: &[(u32, u32)],
+    asked: Asked,
+    units: u64,
+    steps: u64,
+) -> Option<Result<bool, AnswerStop>> {
+    let mut engine = af_engine(alloc, LIVE, attacks, steps)?;
+    let end = ask(alloc, &mut engine, asked, units, 10)?;
+    judged(alloc, attacks, asked, end)
+}
+
+/// Whether each number of units that is too low stops a task with just that cause, and the next one gives a right answer.
+fn spends(alloc: Global, attacks: &[(u32, u32)], asked: Asked) -> Option<bool> {
+    for units in 0..100u64 {
+        match ends_by(alloc, attacks, asked, units, 1_000_000)? {
+            Ok(right) => return Some(right),
+            Err(stop) => {
+                if stop != AnswerStop::Spent(units) {
+                    return Some(false);
+                }
+            }
+        }
+    }
+    Some(false)
+}
+
+/// The same of the steps of the log.
+fn fills(alloc: Global, attacks: &[(u32, u32)], asked: Asked) -> Option<bool> {
+    for steps in 0..100u64 {
+        match ends_by(alloc, attacks, asked, 1_000_000, steps)? {
+            Ok(right) => return Some(right),
+            Err(stop) => {
+                if stop != AnswerStop::LogFull {
+                    return Some(false);
+                }
+            }
+        }
+    }
+    Some(false)
+}
+
+/// Each task stops wherever its loop wants a unit or a step that isn't there.
+#[test]
+fn stops_in_turn(rt: HostRuntime) -> Result<(), Fail> {
+    for attacks in [RIVALS, RING] {
+        for &(task, from, _) in TASKS {
+            assert!(rt; spends(rt.alloc(), attacks, (task, from)) == Some(true), "{task}");
+            assert!(rt; fills(rt.alloc(), attacks, (task, from)) == Some(true), "{task}");
+        }
+    }
+    Ok(())
+}
+
+/// Whether the clause in hand is a side clause.
+fn is_side(pending: Option<Pending>) -> Option<bool> {
+    match &pending {
+        Some(Pending::Side(..)) => Some(true),
+        Some(Pending::Learned(..)) => Some(false),
+        Some(Pending::Loop(_)) | None => None,
+    }
+}
+
+/// Whether a new engine that has no unit then has a side clause in hand.
+fn side_in_hand(alloc: Global, attacks: &[(u32, u32)], asked: Asked) -> Option<bool> {
+    let mut engine = af_engine(alloc, LIVE, attacks, 1_000_000)?;
+    let _stopped = ask(alloc, &mut engine, asked, 0, 10);
+    is_side(engine.pending(alloc).ok()?)
+}
+
+/// A side clause that is to be kept, and a clause that was learned.
+#[test]
+fn clauses_in_hand(rt: HostRuntime) -> Result<(), Fail> {
+    assert!(rt; side_in_hand(rt.alloc(), RIVALS, ("SE-PR", 0)) == Some(true));
+    assert!(rt; side_in_hand(rt.alloc(), RING, ("SE-ST", 0)) == Some(false));
+    Ok(())
+}
