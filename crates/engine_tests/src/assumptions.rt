@@ -44,10 +44,7 @@ const ROWS: &[(&str, &[Asked])] = &[
 #[test]
 fn courses(rt: HostRuntime) -> Result<(), Fail> {
     for &(text, asks) in ROWS {
-        assert!(rt;
-            all_end_so(rt.alloc(), text, asks) == Some(true),
-            "at {text:?}"
-        );
+        assert!(rt; all_end_so(rt.alloc(), text, asks) == Some(true));
     }
     Ok(())
 }

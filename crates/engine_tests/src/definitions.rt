@@ -52,8 +52,8 @@ const TASKS: &[(&str, u32, u32)] = &[
     ("DS-ID", 1, 4),
 ];
 
-/// A task with its argument.
-type Asked = (&'static str, u32);
+/// A task with its argument, 0 for none.
+type Asked = (Task, u32);
 
 /// The attacks between three arguments whose bit is set.
 fn attacks_of(alloc: Global, bits: u32) -> Result<Vec<(u32, u32)>, Memory> {
@@ -141,6 +141,21 @@ fn are_all(
     Ok(left.next().is_none())
 }
 
+/// Whether these are what a task wants: one extension, or all of them.
+fn are_told(
+    alloc: Global,
+    attacks: &[(u32, u32)],
+    task: Task,
+    sets: &[NumSet],
+) -> Result<bool, Memory> {
+    let notion = notion_of(task.semantics);
+    match (task.problem, sets) {
+        (Problem::SomeExtension, [set]) => meets(alloc, attacks, notion, set.as_slice()),
+        (Problem::AllExtensions, [_, ..]) => are_all(alloc, attacks, notion, sets),
+        _ => Ok(false),
+    }
+}
+
 /// Whether an answer is right: its set is one, or there is none that would show the opposite.
 fn is_right(
     alloc: Global,
@@ -150,34 +165,30 @@ fn is_right(
     answer: &Answer,
 ) -> Result<bool, Memory> {
     let notion = notion_of(task.semantics);
-    match (task.problem, answer) {
-        (Problem::Credulous, Answer::Yes(Some(set))) => {
-            shows(alloc, attacks, notion, set.as_slice(), argument, true)
+    let credulous = task.problem == Problem::Credulous;
+    let sceptical = task.problem == Problem::Sceptical;
+    match answer {
+        Answer::Yes(Some(set)) => {
+            let shown = shows(alloc, attacks, notion, set.as_slice(), argument, true)?;
+            Ok(credulous && shown)
         }
-        (Problem::Credulous, Answer::No(None)) => {
-            Ok(count(alloc, attacks, notion, argument, true)? == 0)
+        Answer::Yes(None) => {
+            let others = count(alloc, attacks, notion, argument, false)?;
+            Ok(sceptical && others == 0)
         }
-        (Problem::Sceptical, Answer::Yes(None)) => {
-            Ok(count(alloc, attacks, notion, argument, false)? == 0)
+        Answer::No(Some(set)) => {
+            let shown = shows(alloc, attacks, notion, set.as_slice(), argument, false)?;
+            Ok(sceptical && shown)
         }
-        (Problem::Sceptical, Answer::No(Some(set))) => {
-            shows(alloc, attacks, notion, set.as_slice(), argument, false)
+        Answer::No(None) => {
+            let some = count(alloc, attacks, notion, argument, credulous)?;
+            Ok(!sceptical && some == 0)
         }
-        (Problem::SomeExtension | Problem::AllExtensions, Answer::No(None)) => {
-            are_all(alloc, attacks, notion, &[])
-        }
-        (Problem::SomeExtension, Answer::Sets(sets)) => match sets.as_slice() {
-            [set] => meets(alloc, attacks, notion, set.as_slice()),
-            _ => Ok(false),
-        },
-        (Problem::AllExtensions, Answer::Sets(sets)) => {
-            are_all(alloc, attacks, notion, sets.as_slice())
-        }
-        _ => Ok(false),
+        Answer::Sets(sets) => are_told(alloc, attacks, task, sets.as_slice()),
     }
 }
 
-/// How an engine ends, with so many units and so many extensions at most.
+/// What an engine answers, with so many units and so many extensions at most.
 fn ask(
     alloc: Global,
     engine: &mut Engine,
@@ -185,43 +196,34 @@ fn ask(
     units: u64,
     most: u32,
 ) -> Option<Result<Answered, AnswerStop>> {
-    let task = Task::read(asked.0.as_bytes()).ok()?;
     let number = if asked.1 == 0 { None } else { Some(asked.1) };
-    let query = Query::new(task, number)?;
+    let query = Query::new(asked.0, number)?;
     let mut budget = Budget::new(units);
     Some(engine.answer(alloc, &query, &mut budget, most, &mut NoTrade))
 }
 
-/// Why there is no answer, or whether it is right.
+/// Whether an answer is right, or why there is none.
 fn judged(
     alloc: Global,
     attacks: &[(u32, u32)],
     asked: Asked,
     end: Result<Answered, AnswerStop>,
-) -> Option<Result<bool, AnswerStop>> {
-    let task = Task::read(asked.0.as_bytes()).ok()?;
-    match end {
-        Ok(answered) => Some(Ok(is_right(alloc, attacks, task, asked.1, &answered.answer).ok()?)),
-        Err(stop) => Some(Err(stop)),
-    }
+) -> Result<bool, AnswerStop> {
+    let answered = end?;
+    Ok(is_right(alloc, attacks, asked.0, asked.1, &answered.answer)?)
 }
 
-/// The same of a query with a million units, which has right answers alone.
+/// The same of what an engine answers.
 fn ends(
     alloc: Global,
     engine: &mut Engine,
     attacks: &[(u32, u32)],
     asked: Asked,
+    units: u64,
     most: u32,
 ) -> Option<Result<bool, AnswerStop>> {
-    let end = ask(alloc, engine, asked, 1_000_000, most)?;
-    judged(alloc, attacks, asked, end)
-}
-
-/// How many extensions there are.
-fn extensions(alloc: Global, attacks: &[(u32, u32)], asked: Asked) -> Option<u32> {
-    let task = Task::read(asked.0.as_bytes()).ok()?;
-    count(alloc, attacks, notion_of(task.semantics), 0, false).ok()
+    let end = ask(alloc, engine, asked, units, most)?;
+    Some(judged(alloc, attacks, asked, end))
 }
 
 /// Whether the answer is right where the limit is the number of extensions, and all of them are too many for a lower one.
@@ -231,18 +233,20 @@ fn agrees(
     attacks: &[(u32, u32)],
     asked: Asked,
 ) -> Option<bool> {
-    let most = extensions(alloc, attacks, asked)?;
-    let right = ends(alloc, engine, attacks, asked, most)? == Ok(true);
-    if most == 0 || !asked.0.starts_with("EE") {
+    let notion = notion_of(asked.0.semantics);
+    let most = count(alloc, attacks, notion, 0, false).ok()?;
+    let right = ends(alloc, engine, attacks, asked, 1_000_000, most)? == Ok(true);
+    if most == 0 || asked.0.problem != Problem::AllExtensions {
         return Some(right);
     }
-    let lower = ends(alloc, engine, attacks, asked, most - 1)?;
+    let lower = ends(alloc, engine, attacks, asked, 1_000_000, most.saturating_sub(1))?;
     Some(right && lower == Err(AnswerStop::TooMany))
 }
 
 /// Whether that is so of each task, of one engine, whose log goes on.
 fn all_agree(alloc: Global, engine: &mut Engine, attacks: &[(u32, u32)]) -> Option<bool> {
-    for &(task, from, behind) in TASKS {
+    for &(name, from, behind) in TASKS {
+        let task = Task::read(name.as_bytes()).ok()?;
         for argument in from..behind {
             if !agrees(alloc, engine, attacks, (task, argument))? {
                 return Some(false);
@@ -260,9 +264,9 @@ fn framework_agrees(alloc: Global, attacks: &[(u32, u32)]) -> Option<bool> {
 
 #[test]
 fn every_framework_of_three_arguments(rt: HostRuntime) -> Result<(), Fail> {
-    for bits in 0..512 {
+    for bits in 0..512u32 {
         let attacks = attacks_of(rt.alloc(), bits)?;
-        assert!(rt; framework_agrees(rt.alloc(), &attacks) == Some(true), "at {bits}");
+        assert!(rt; framework_agrees(rt.alloc(), &attacks) == Some(true));
     }
     Ok(())
 }
@@ -282,20 +286,16 @@ fn ends_by(
     steps: u64,
 ) -> Option<Result<bool, AnswerStop>> {
     let mut engine = af_engine(alloc, LIVE, attacks, steps)?;
-    let end = ask(alloc, &mut engine, asked, units, 10)?;
-    judged(alloc, attacks, asked, end)
+    ends(alloc, &mut engine, attacks, asked, units, 10)
 }
 
-/// Whether each number of units that is too low stops a task with just that cause, and the next one gives a right answer.
+/// Whether each number of units that is too low stops a task with that cause alone, and the next one gives a right answer.
 fn spends(alloc: Global, attacks: &[(u32, u32)], asked: Asked) -> Option<bool> {
     for units in 0..100u64 {
         match ends_by(alloc, attacks, asked, units, 1_000_000)? {
             Ok(right) => return Some(right),
-            Err(stop) => {
-                if stop != AnswerStop::Spent(units) {
-                    return Some(false);
-                }
-            }
+            Err(AnswerStop::Spent(spent)) if spent == units => {}
+            Err(_) => return Some(false),
         }
     }
     Some(false)
@@ -306,26 +306,29 @@ fn fills(alloc: Global, attacks: &[(u32, u32)], asked: Asked) -> Option<bool> {
     for steps in 0..100u64 {
         match ends_by(alloc, attacks, asked, 1_000_000, steps)? {
             Ok(right) => return Some(right),
-            Err(stop) => {
-                if stop != AnswerStop::LogFull {
-                    return Some(false);
-                }
-            }
+            Err(AnswerStop::LogFull) => {}
+            Err(_) => return Some(false),
         }
     }
     Some(false)
 }
 
-/// Each task stops wherever its loop wants a unit or a step that isn't there.
-#[test]
-fn stops_in_turn(rt: HostRuntime) -> Result<(), Fail> {
-    for attacks in [RIVALS, RING] {
-        for &(task, from, _) in TASKS {
-            assert!(rt; spends(rt.alloc(), attacks, (task, from)) == Some(true), "{task}");
-            assert!(rt; fills(rt.alloc(), attacks, (task, from)) == Some(true), "{task}");
+/// Whether that is so of each task.
+fn all_stop(alloc: Global, attacks: &[(u32, u32)]) -> Option<bool> {
+    for &(name, from, _) in TASKS {
+        let asked = (Task::read(name.as_bytes()).ok()?, from);
+        if !spends(alloc, attacks, asked)? || !fills(alloc, attacks, asked)? {
+            return Some(false);
         }
     }
-    Ok(())
+    Some(true)
+}
+
+/// Each task stops wherever its loop wants a unit or a step that isn't there.
+#[test]
+fn stops_in_turn(rt: HostRuntime) {
+    assert!(rt; all_stop(rt.alloc(), RIVALS) == Some(true));
+    assert!(rt; all_stop(rt.alloc(), RING) == Some(true));
 }
 
 /// Whether the clause in hand is a side clause.
@@ -337,17 +340,29 @@ fn is_side(pending: Option<Pending>) -> Option<bool> {
     }
 }
 
-/// Whether a new engine that has no unit then has a side clause in hand.
-fn side_in_hand(alloc: Global, attacks: &[(u32, u32)], asked: Asked) -> Option<bool> {
-    let mut engine = af_engine(alloc, LIVE, attacks, 1_000_000)?;
-    let _stopped = ask(alloc, &mut engine, asked, 0, 10);
+/// Whether it is where an engine has no unit for a task.
+fn side_after(
+    alloc: Global,
+    engine: &mut Engine,
+    attacks: &[(u32, u32)],
+    name: &str,
+) -> Option<bool> {
+    let task = Task::read(name.as_bytes()).ok()?;
+    if ends(alloc, engine, attacks, (task, 0), 0, 10)? != Err(AnswerStop::Spent(0)) {
+        return None;
+    }
     is_side(engine.pending(alloc).ok()?)
+}
+
+/// The same of a new engine.
+fn side_in_hand(alloc: Global, attacks: &[(u32, u32)], name: &str) -> Option<bool> {
+    let mut engine = af_engine(alloc, LIVE, attacks, 1_000_000)?;
+    side_after(alloc, &mut engine, attacks, name)
 }
 
 /// A side clause that is to be kept, and a clause that was learned.
 #[test]
-fn clauses_in_hand(rt: HostRuntime) -> Result<(), Fail> {
-    assert!(rt; side_in_hand(rt.alloc(), RIVALS, ("SE-PR", 0)) == Some(true));
-    assert!(rt; side_in_hand(rt.alloc(), RING, ("SE-ST", 0)) == Some(false));
-    Ok(())
+fn clauses_in_hand(rt: HostRuntime) {
+    assert!(rt; side_in_hand(rt.alloc(), RIVALS, "SE-PR") == Some(true));
+    assert!(rt; side_in_hand(rt.alloc(), RING, "SE-ST") == Some(false));
 }

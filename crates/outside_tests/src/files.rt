@@ -12,9 +12,6 @@ use std::alloc::{AllocError, Global};
 /// The name that acts are done with.
 const NAME: &str = "argue_outside_test.tmp";
 
-/// The role in which they read.
-const ROLE: Role = Role::Framework(1);
-
 /// What is done with a file.
 #[derive(Clone, Copy)]
 enum Act {
@@ -48,8 +45,13 @@ fn fails(read: Result<Bytes, ReadStop>) -> bool {
 /// Whether these three bytes are fetched from there on.
 fn fetches<F: Files>(files: &mut F, at: u64, bytes: &[u8]) -> bool {
     let mut piece = [0u8; 3];
-    let count = files.fetch(ROLE, NAME, at, &mut piece);
+    let count = files.fetch(Role::Framework(1), NAME, at, &mut piece);
     matches!(count, Ok(3)) && piece.as_slice() == bytes
+}
+
+/// Reads the file, at most so many bytes.
+fn read<F: Files>(alloc: Global, files: &mut F, most: u64) -> Result<Bytes, ReadStop> {
+    read_all(alloc, files, Role::Framework(1), NAME, most)
 }
 
 /// Whether an act ends as it says.
@@ -57,9 +59,9 @@ fn ends_so<F: Files>(alloc: Global, files: &mut F, act: Act) -> bool {
     match act {
         Act::Clear => files.clear(NAME).is_ok(),
         Act::Append(bytes) => append_all(files, NAME, bytes).is_ok(),
-        Act::Read(most, bytes) => gives(read_all(alloc, files, ROLE, NAME, most), bytes),
-        Act::ReadLess(most) => is_longer(read_all(alloc, files, ROLE, NAME, most)),
-        Act::ReadNone => fails(read_all(alloc, files, ROLE, NAME, 9)),
+        Act::Read(most, bytes) => gives(read(alloc, files, most), bytes),
+        Act::ReadLess(most) => is_longer(read(alloc, files, most)),
+        Act::ReadNone => fails(read(alloc, files, 9)),
         Act::Fetch(at, bytes) => fetches(files, at, bytes),
     }
 }
@@ -100,7 +102,7 @@ fn limits_the_length(rt: HostRuntime) {
     assert!(rt; reads_what_is_there(alloc, &mut files, NAME));
     let acts = [Act::Append(b"12345"), Act::ReadLess(4), Act::Read(5, b"12345")];
     assert!(rt; all_end_so(alloc, &mut files, &acts));
-    assert!(rt; files.read_faults(ROLE) == 0);
+    assert!(rt; files.read_faults(Role::Framework(1)) == 0);
 }
 
 /// The second call fails, and then a read of a name that isn't there.
@@ -110,7 +112,7 @@ fn counts_faults_of_reading(rt: HostRuntime) -> Result<(), AllocError> {
     let mut files = MemFiles::failing(alloc, only(alloc, 2)?, usize::MAX);
     let acts = [Act::Clear, Act::ReadNone, Act::Read(9, b"")];
     assert!(rt; all_end_so(alloc, &mut files, &acts));
-    assert!(rt; files.read_faults(ROLE) == 1 && files.write_faults() == 0);
+    assert!(rt; files.read_faults(Role::Framework(1)) == 1 && files.write_faults() == 0);
     assert!(rt; fails(read_all(alloc, &mut files, Role::Answer, "answer", 9)));
     assert!(rt; files.read_faults(Role::Answer) == 1);
     assert!(rt; files.bytes_of("answer").is_none());

@@ -258,7 +258,7 @@ fn seven_and_a_reader(rt: HostRuntime) -> Result<(), Fail> {
     let entries = entries_made(&rt, rt.alloc(), 8, 200, 8)?;
     assert!(rt; entries.len() == 1_400);
     for session in 1..8u32 {
-        assert!(rt; entries_of(&entries, session) == Some(200), "at {session}");
+        assert!(rt; entries_of(&entries, session) == Some(200));
     }
     Ok(())
 }
