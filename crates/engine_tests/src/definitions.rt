@@ -78,21 +78,7 @@ fn notion_of(semantics: Semantics) -> Notion {
     }
 }
 
-/// Whether a set meets a notion under these attacks.
-fn meets(
-    alloc: Global,
-    attacks: &[(u32, u32)],
-    notion: Notion,
-    set: &[u32],
-) -> Result<bool, Memory> {
-    let lists = AfLists {
-        live: LIVE,
-        attacks,
-    };
-    decide(alloc, &lists, set, notion)
-}
-
-/// Whether a set meets it and has the argument or not.
+/// Whether a set meets a notion under these attacks, and has the argument or not. No set has 0.
 fn shows(
     alloc: Global,
     attacks: &[(u32, u32)],
@@ -101,11 +87,15 @@ fn shows(
     argument: u32,
     wanted: bool,
 ) -> Result<bool, Memory> {
-    let met = meets(alloc, attacks, notion, set)?;
+    let lists = AfLists {
+        live: LIVE,
+        attacks,
+    };
+    let met = decide(alloc, &lists, set, notion)?;
     Ok(met && set.contains(&argument) == wanted)
 }
 
-/// How many sets meet it and have the argument or not.
+/// How many sets meet a notion, and have the argument or not.
 fn count(
     alloc: Global,
     attacks: &[(u32, u32)],
@@ -122,7 +112,7 @@ fn count(
     Ok(count)
 }
 
-/// Whether these are all sets that meet it, in the order of their lists.
+/// Whether these are all sets that meet a notion, in the order of their lists.
 fn are_all(
     alloc: Global,
     attacks: &[(u32, u32)],
@@ -131,7 +121,7 @@ fn are_all(
 ) -> Result<bool, Memory> {
     let mut left = sets.iter();
     for set in SETS {
-        if meets(alloc, attacks, notion, set)? {
+        if shows(alloc, attacks, notion, set, 0, false)? {
             match left.next() {
                 Some(found) if found.as_slice() == *set => {}
                 _ => return Ok(false),
@@ -149,9 +139,12 @@ fn are_told(
     sets: &[NumSet],
 ) -> Result<bool, Memory> {
     let notion = notion_of(task.semantics);
-    match (task.problem, sets) {
-        (Problem::SomeExtension, [set]) => meets(alloc, attacks, notion, set.as_slice()),
-        (Problem::AllExtensions, [_, ..]) => are_all(alloc, attacks, notion, sets),
+    if task.problem == Problem::AllExtensions {
+        let all = are_all(alloc, attacks, notion, sets)?;
+        return Ok(all && !sets.is_empty());
+    }
+    match sets {
+        [set] => shows(alloc, attacks, notion, set.as_slice(), 0, false),
         _ => Ok(false),
     }
 }
@@ -184,7 +177,10 @@ fn is_right(
             let some = count(alloc, attacks, notion, argument, credulous)?;
             Ok(!sceptical && some == 0)
         }
-        Answer::Sets(sets) => are_told(alloc, attacks, task, sets.as_slice()),
+        Answer::Sets(sets) => {
+            let told = are_told(alloc, attacks, task, sets.as_slice())?;
+            Ok(told && !credulous && !sceptical)
+        }
     }
 }
 
@@ -202,18 +198,7 @@ fn ask(
     Some(engine.answer(alloc, &query, &mut budget, most, &mut NoTrade))
 }
 
-/// Whether an answer is right, or why there is none.
-fn judged(
-    alloc: Global,
-    attacks: &[(u32, u32)],
-    asked: Asked,
-    end: Result<Answered, AnswerStop>,
-) -> Result<bool, AnswerStop> {
-    let answered = end?;
-    Ok(is_right(alloc, attacks, asked.0, asked.1, &answered.answer)?)
-}
-
-/// The same of what an engine answers.
+/// Whether an engine's answer is right, or why there is none.
 fn ends(
     alloc: Global,
     engine: &mut Engine,
@@ -222,8 +207,13 @@ fn ends(
     units: u64,
     most: u32,
 ) -> Option<Result<bool, AnswerStop>> {
-    let end = ask(alloc, engine, asked, units, most)?;
-    Some(judged(alloc, attacks, asked, end))
+    match ask(alloc, engine, asked, units, most)? {
+        Ok(answered) => {
+            let right = is_right(alloc, attacks, asked.0, asked.1, &answered.answer);
+            Some(Ok(right.ok()?))
+        }
+        Err(stop) => Some(Err(stop)),
+    }
 }
 
 /// Whether the answer is right where the limit is the number of extensions, and all of them are too many for a lower one.
@@ -291,7 +281,7 @@ fn ends_by(
 
 /// Whether each number of units that is too low stops a task with that cause alone, and the next one gives a right answer.
 fn spends(alloc: Global, attacks: &[(u32, u32)], asked: Asked) -> Option<bool> {
-    for units in 0..100u64 {
+    for units in 0..1_000u64 {
         match ends_by(alloc, attacks, asked, units, 1_000_000)? {
             Ok(right) => return Some(right),
             Err(AnswerStop::Spent(spent)) if spent == units => {}
@@ -303,7 +293,7 @@ fn spends(alloc: Global, attacks: &[(u32, u32)], asked: Asked) -> Option<bool> {
 
 /// The same of the steps of the log.
 fn fills(alloc: Global, attacks: &[(u32, u32)], asked: Asked) -> Option<bool> {
-    for steps in 0..100u64 {
+    for steps in 0..1_000u64 {
         match ends_by(alloc, attacks, asked, 1_000_000, steps)? {
             Ok(right) => return Some(right),
             Err(AnswerStop::LogFull) => {}
@@ -317,7 +307,9 @@ fn fills(alloc: Global, attacks: &[(u32, u32)], asked: Asked) -> Option<bool> {
 fn all_stop(alloc: Global, attacks: &[(u32, u32)]) -> Option<bool> {
     for &(name, from, _) in TASKS {
         let asked = (Task::read(name.as_bytes()).ok()?, from);
-        if !spends(alloc, attacks, asked)? || !fills(alloc, attacks, asked)? {
+        let spent = spends(alloc, attacks, asked)?;
+        let full = fills(alloc, attacks, asked)?;
+        if !spent || !full {
             return Some(false);
         }
     }
@@ -331,38 +323,19 @@ fn stops_in_turn(rt: HostRuntime) {
     assert!(rt; all_stop(rt.alloc(), RING) == Some(true));
 }
 
-/// Whether the clause in hand is a side clause.
-fn is_side(pending: Option<Pending>) -> Option<bool> {
-    match &pending {
-        Some(Pending::Side(..)) => Some(true),
-        Some(Pending::Learned(..)) => Some(false),
-        Some(Pending::Loop(_)) | None => None,
-    }
-}
-
-/// Whether it is where an engine has no unit for a task.
-fn side_after(
-    alloc: Global,
-    engine: &mut Engine,
-    attacks: &[(u32, u32)],
-    name: &str,
-) -> Option<bool> {
+/// Whether a side clause is in hand of a new engine that has no unit for a task.
+fn has_side(alloc: Global, attacks: &[(u32, u32)], name: &str) -> Option<bool> {
     let task = Task::read(name.as_bytes()).ok()?;
-    if ends(alloc, engine, attacks, (task, 0), 0, 10)? != Err(AnswerStop::Spent(0)) {
+    let mut engine = af_engine(alloc, LIVE, attacks, 1_000_000)?;
+    if ends(alloc, &mut engine, attacks, (task, 0), 0, 10) != Some(Err(AnswerStop::Spent(0))) {
         return None;
     }
-    is_side(engine.pending(alloc).ok()?)
+    Some(matches!(&engine.pending(alloc), Ok(Some(Pending::Side(..)))))
 }
 
-/// The same of a new engine.
-fn side_in_hand(alloc: Global, attacks: &[(u32, u32)], name: &str) -> Option<bool> {
-    let mut engine = af_engine(alloc, LIVE, attacks, 1_000_000)?;
-    side_after(alloc, &mut engine, attacks, name)
-}
-
-/// A side clause that is to be kept, and a clause that was learned.
+/// A side clause that is to be kept, or a clause that was learned.
 #[test]
 fn clauses_in_hand(rt: HostRuntime) {
-    assert!(rt; side_in_hand(rt.alloc(), RIVALS, "SE-PR") == Some(true));
-    assert!(rt; side_in_hand(rt.alloc(), RING, "SE-ST") == Some(false));
+    assert!(rt; has_side(rt.alloc(), RIVALS, "SE-PR") == Some(true));
+    assert!(rt; has_side(rt.alloc(), RING, "SE-ST") == Some(false));
 }
