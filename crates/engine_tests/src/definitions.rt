@@ -216,8 +216,8 @@ fn ends(
     }
 }
 
-/// Whether the answer is right where the limit is the number of extensions, and all of them are too many for a lower one.
-fn agrees(
+/// Whether all extensions are listed where the limit is their number, and are too many for a lower one.
+fn lists(
     alloc: Global,
     engine: &mut Engine,
     attacks: &[(u32, u32)],
@@ -225,15 +225,28 @@ fn agrees(
 ) -> Option<bool> {
     let notion = notion_of(asked.0.semantics);
     let most = count(alloc, attacks, notion, 0, false).ok()?;
-    let right = ends(alloc, engine, attacks, asked, 1_000_000, most)? == Ok(true);
-    if most == 0 || asked.0.problem != Problem::AllExtensions {
-        return Some(right);
+    let whole = ends(alloc, engine, attacks, asked, 1_000_000, most)? == Ok(true);
+    if most == 0 {
+        return Some(whole);
     }
-    let lower = ends(alloc, engine, attacks, asked, 1_000_000, most.saturating_sub(1))?;
-    Some(right && lower == Err(AnswerStop::TooMany))
+    let lower = ends(alloc, engine, attacks, asked, 1_000_000, most - 1)?;
+    Some(whole && lower == Err(AnswerStop::TooMany))
 }
 
-/// Whether that is so of each task, of one engine, whose log goes on.
+/// Whether an engine's answer is the one that the definitions give.
+fn agrees(
+    alloc: Global,
+    engine: &mut Engine,
+    attacks: &[(u32, u32)],
+    asked: Asked,
+) -> Option<bool> {
+    if asked.0.problem == Problem::AllExtensions {
+        return lists(alloc, engine, attacks, asked);
+    }
+    Some(ends(alloc, engine, attacks, asked, 1_000_000, 0)? == Ok(true))
+}
+
+/// Whether it does for each task, of one engine, whose log goes on.
 fn all_agree(alloc: Global, engine: &mut Engine, attacks: &[(u32, u32)]) -> Option<bool> {
     for &(name, from, behind) in TASKS {
         let task = Task::read(name.as_bytes()).ok()?;
