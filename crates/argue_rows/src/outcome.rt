@@ -74,7 +74,11 @@ pub fn run<R: Threads + Wait + Sync>(
 ) -> Result<String, AllocError> {
     let most = given.faults.most as usize;
     let mut files = MemFiles::failing(alloc, only(alloc, given.faults.files)?, most);
-    hold(&mut files, "a", with_ends(alloc, given.framework)?.as_bytes())?;
+    hold(
+        &mut files,
+        "a",
+        with_ends(alloc, given.framework)?.as_bytes(),
+    )?;
     hold(&mut files, "b", with_ends(alloc, answer)?.as_bytes())?;
     hold(&mut files, "c", certificate)?;
     let mut words = Vec::new(alloc);

@@ -15,16 +15,7 @@ use std::test::Fail;
 const LIVE: &[u32] = &[1, 2, 3];
 
 /// Their sets, in the order of their lists.
-const SETS: &[&[u32]] = &[
-    &[],
-    &[1],
-    &[1, 2],
-    &[1, 2, 3],
-    &[1, 3],
-    &[2],
-    &[2, 3],
-    &[3],
-];
+const SETS: &[&[u32]] = &[&[], &[1], &[1, 2], &[1, 2, 3], &[1, 3], &[2], &[2, 3], &[3]];
 
 /// The tasks, each with the arguments that it is asked about, from the first to behind the last; 0 for none.
 const TASKS: &[(&str, u32, u32)] = &[
@@ -217,12 +208,7 @@ fn ends(
 }
 
 /// Whether all extensions are listed where the limit is their number, and are too many for a lower one.
-fn lists(
-    alloc: Global,
-    engine: &mut Engine,
-    attacks: &[(u32, u32)],
-    asked: Asked,
-) -> Option<bool> {
+fn lists(alloc: Global, engine: &mut Engine, attacks: &[(u32, u32)], asked: Asked) -> Option<bool> {
     let notion = notion_of(asked.0.semantics);
     let most = count(alloc, attacks, notion, 0, false).ok()?;
     let whole = ends(alloc, engine, attacks, asked, 1_000_000, most)? == Ok(true);

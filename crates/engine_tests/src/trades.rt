@@ -1,7 +1,7 @@
 //! What an engine takes from a trade during a query.
 
-use certificate_making::ReadLog;
 use crate::engines::af_engine;
+use certificate_making::ReadLog;
 use iccma_tasks::{Query, Task};
 use lists::Memory;
 use meaning_atoms::{AfAxiom, AxiomName};

@@ -100,7 +100,11 @@ fn limits_the_length(rt: HostRuntime) {
     let alloc = rt.alloc();
     let mut files = MemFiles::failing(alloc, Items::new(alloc), 2);
     assert!(rt; reads_what_is_there(alloc, &mut files, NAME));
-    let acts = [Act::Append(b"12345"), Act::ReadLess(4), Act::Read(5, b"12345")];
+    let acts = [
+        Act::Append(b"12345"),
+        Act::ReadLess(4),
+        Act::Read(5, b"12345"),
+    ];
     assert!(rt; all_end_so(alloc, &mut files, &acts));
     assert!(rt; files.read_faults(Role::Framework(1)) == 0);
 }
