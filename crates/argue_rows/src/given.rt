@@ -3,6 +3,40 @@
 use crate::outcome::with_ends;
 use std::alloc::{AllocError, Global};
 
+/// The number of the call of the files that fails, that of the call of the output, and the most bytes that each call
+/// moves.
+#[derive(Clone, Copy)]
+pub struct Faults {
+    pub files: u32,
+    pub output: u32,
+    pub most: u32,
+}
+
+/// No call has the number 0.
+pub const NO_FAULTS: Faults = Faults {
+    files: 0,
+    output: 0,
+    most: 1_000_000,
+};
+
+/// The number that a word is, or 0.
+fn number_of(word: Option<&str>) -> u32 {
+    match word {
+        Some(word) => word.parse::<u32>().unwrap_or(0),
+        None => 0,
+    }
+}
+
+/// The faults that three numbers name.
+fn faults_of(words: &str) -> Faults {
+    let mut words = words.split_whitespace();
+    Faults {
+        files: number_of(words.next()),
+        output: number_of(words.next()),
+        most: number_of(words.next()),
+    }
+}
+
 /// The texts of the files, in which `;` is the end of a line, and what the next row changes.
 #[derive(Drop)]
 pub struct Given<'a> {
@@ -11,6 +45,8 @@ pub struct Given<'a> {
     pub certificate: &'a str,
     /// What stands in the next row's certificate in place of what.
     pub swap: Option<(&'a str, &'a str)>,
+    /// Which calls of the next row fail.
+    pub faults: Faults,
 }
 
 impl<'a> Given<'a> {
@@ -20,6 +56,7 @@ impl<'a> Given<'a> {
             answer: "",
             certificate: "",
             swap: None,
+            faults: NO_FAULTS,
         }
     }
 
@@ -32,10 +69,17 @@ impl<'a> Given<'a> {
             "certificate" => self.certificate = rest,
             "swap" => self.swap = rest.split_once(" -> "),
             "drop" => self.swap = Some((rest, "")),
+            "fail" => self.faults = faults_of(rest),
             "#" => {}
             _ => return line.is_empty(),
         }
         true
+    }
+
+    /// Ends what holds of one row alone.
+    pub fn end_row(&mut self) {
+        self.swap = None;
+        self.faults = NO_FAULTS;
     }
 
     /// The next row's certificate.

@@ -35,7 +35,7 @@ fn ended<R: Threads + Wait + Sync>(
                 rt,
                 alloc,
                 words.as_str(),
-                given.framework,
+                given,
                 answer.as_str(),
                 certificate.as_bytes(),
             )
@@ -44,7 +44,7 @@ fn ended<R: Threads + Wait + Sync>(
             rt,
             alloc,
             asked,
-            given.framework,
+            given,
             given.answer,
             certificate.as_bytes(),
         ),
@@ -65,7 +65,7 @@ fn main(rt: HostRuntime) -> io::Result<()> {
         if found.as_str() != expected {
             println!(rt; "{line}: {found}")?;
         }
-        given.swap = None;
+        given.end_row();
         rows = rows.saturating_add(1);
     }
     println!(rt; "{rows} rows")

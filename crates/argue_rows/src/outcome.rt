@@ -1,7 +1,9 @@
 //! One run over files in memory, told as a line.
 
+use crate::given::Given;
 use argue_outside::{Files, MemFiles, MemSink, NoPace, Role, append_all, read_all};
 use argue_program::run as run_program;
+use lists::Items;
 use std::alloc::{AllocError, Global};
 use std::mem::forget;
 use std::sync::Wait;
@@ -23,6 +25,11 @@ pub fn words_of(alloc: Global, query: &str) -> Result<String, AllocError> {
         Some((task, number)) => { format!(in alloc; "check -p {task} -a {number} -f a -r b -c c") }
         None => format!(in alloc; "check -p {query} -f a -r b -c c"),
     }
+}
+
+/// The list of one number.
+fn only(alloc: Global, number: u32) -> Result<Items<u64>, AllocError> {
+    Ok(Items::from_vec(vec![in alloc; number as u64]?))
 }
 
 /// Makes the file hold these bytes.
@@ -63,19 +70,24 @@ pub fn run<R: Threads + Wait + Sync>(
     rt: &R,
     alloc: Global,
     line: &str,
-    framework: &str,
+    given: &Given<'_>,
     answer: &str,
     certificate: &[u8],
 ) -> Result<String, AllocError> {
-    let mut files = MemFiles::new(alloc);
-    hold(&mut files, "a", with_ends(alloc, framework)?.as_bytes())?;
+    let most = given.faults.most as usize;
+    let mut files = MemFiles::failing(alloc, only(alloc, given.faults.files)?, most);
+    hold(
+        &mut files,
+        "a",
+        with_ends(alloc, given.framework)?.as_bytes(),
+    )?;
     hold(&mut files, "b", with_ends(alloc, answer)?.as_bytes())?;
     hold(&mut files, "c", certificate)?;
     let mut words = Vec::new(alloc);
     for word in line.split_whitespace() {
         words.push(String::from_str(alloc, word)?)?;
     }
-    let mut out = MemSink::new(alloc);
+    let mut out = MemSink::failing(alloc, only(alloc, given.faults.output)?, most);
     let code = status_of(rt, alloc, words.as_slice(), &mut files, &mut out);
     let text = with_semicolons(alloc, out.bytes())?;
     let held = match read_all(alloc, &mut files, Role::Certificate, "c", MOST_BYTES) {

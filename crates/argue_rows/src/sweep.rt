@@ -30,14 +30,7 @@ pub fn prefixes<R: Threads + Wait + Sync>(
     let mut lines = 1u64;
     let proper = certificate.strip_suffix(&[b'\n']).unwrap_or(certificate);
     for byte in proper {
-        let found = run(
-            rt,
-            alloc,
-            QUERY,
-            given.framework,
-            given.answer,
-            prefix.as_slice(),
-        )?;
+        let found = run(rt, alloc, QUERY, given, given.answer, prefix.as_slice())?;
         if !is_refused(alloc, lines, prefix.as_slice(), found.as_str())? {
             return format!(in alloc; "{found} {}", prefix.len());
         }
@@ -78,14 +71,7 @@ pub fn bytes<R: Threads + Wait + Sync>(
         let middles: [&[u8]; 3] = [&[], &[*byte, *byte], &[*byte ^ 1]];
         for middle in middles {
             let changed = with_middle(alloc, certificate, index, middle)?;
-            let found = run(
-                rt,
-                alloc,
-                QUERY,
-                given.framework,
-                given.answer,
-                changed.as_slice(),
-            )?;
+            let found = run(rt, alloc, QUERY, given, given.answer, changed.as_slice())?;
             if !matches!(found.as_bytes().first(), Some(b'0' | b'2' | b'8')) {
                 return format!(in alloc; "{found} {index}");
             }

@@ -1,8 +1,7 @@
 //! Queries that one engine gets in turn, with what each comes to, worked out by hand from the definitions.
 
-use dung_notions::AfPlain;
-use edit_rules::{Framework, QueryFault};
-use hinted_log::MOST_STEPS;
+use crate::engines::af_engine;
+use edit_rules::QueryFault;
 use iccma_tasks::{Answer, Query, Task};
 use oracle_core::{AnswerStop, Answered, Engine};
 use oracle_face::NoTrade;
@@ -30,8 +29,6 @@ pub(crate) type Asked = (&'static str, Option<u32>, u64, u32, End);
 /// A framework, how many steps the log may have, and the queries in turn.
 #[derive(Drop)]
 struct Row {
-    /// What is to be seen.
-    course: &'static str,
     arguments: &'static [u32],
     attacks: &'static [(u32, u32)],
     steps: u64,
@@ -39,7 +36,7 @@ struct Row {
 }
 
 /// Whether the sets are these.
-fn are_sets(sets: &[NumSet], expected: &[&[u32]]) -> bool {
+pub(crate) fn are_sets(sets: &[NumSet], expected: &[&[u32]]) -> bool {
     sets.len() == expected.len()
         && sets
             .iter()
@@ -79,18 +76,9 @@ fn holds(alloc: Global, engine: &mut Engine, asked: &Asked) -> Option<bool> {
     Some(is_end(&end, &expected))
 }
 
-/// The engine for a row's framework.
-fn engine_for(alloc: Global, row: &Row) -> Option<Engine> {
-    if row.steps > MOST_STEPS {
-        return None;
-    }
-    let plain = AfPlain::of_lists(alloc, row.arguments, row.attacks).ok()?;
-    Engine::new(alloc, 1, Framework::Af(plain), row.steps).ok()
-}
-
 /// Whether all queries of a row end so.
 fn all_hold(alloc: Global, row: &Row) -> Option<bool> {
-    let mut engine = engine_for(alloc, row)?;
+    let mut engine = af_engine(alloc, row.arguments, row.attacks, row.steps)?;
     ask_all(alloc, &mut engine, row.asks)
 }
 
@@ -106,16 +94,15 @@ pub(crate) fn ask_all(alloc: Global, engine: &mut Engine, asks: &[Asked]) -> Opt
 }
 
 // 1 and 2 attack each other and both attack 3, which attacks 4.
-const FLOATING: &[(u32, u32)] = &[(1, 2), (2, 1), (1, 3), (2, 3), (3, 4)];
+pub(crate) const FLOATING: &[(u32, u32)] = &[(1, 2), (2, 1), (1, 3), (2, 3), (3, 4)];
 
 const UNKNOWN: End = End::Stops(AnswerStop::Query(QueryFault::UnknownArgument(9)));
 
-const FOUR: &[u32] = &[1, 2, 3, 4];
+pub(crate) const FOUR: &[u32] = &[1, 2, 3, 4];
 
 const ROWS: &[Row] = &[
-    // The cover of 4 has two sets, with a side clause each.
+    // Goes on after a spent budget. The cover of 4 has two sets, with a side clause each.
     Row {
-        course: "goes on after a spent budget",
         arguments: FOUR,
         attacks: FLOATING,
         steps: 1_000_000,
@@ -127,17 +114,15 @@ const ROWS: &[Row] = &[
             ("DC-CO", Some(9), 1_000_000, 10, UNKNOWN),
         ],
     },
-    // No preferred set is shown without a side clause.
+    // Has no units: no preferred set is shown without a side clause.
     Row {
-        course: "has no units",
         arguments: FOUR,
         attacks: FLOATING,
         steps: 1_000_000,
         asks: &[("SE-PR", None, 0, 10, End::Stops(AnswerStop::Spent(0)))],
     },
-    // Three in a ring have no stable set, which takes a step to show.
+    // Has a full log: three in a ring have no stable set, which takes a step to show.
     Row {
-        course: "has a full log",
         arguments: &[1, 2, 3],
         attacks: &[(1, 2), (2, 3), (3, 1)],
         steps: 0,
@@ -149,9 +134,9 @@ const ROWS: &[Row] = &[
             End::Stops(AnswerStop::LogFull),
         )],
     },
-    // 1 and 2 attack each other, 2 attacks 3, and 3 and 4 attack themselves: 1 and 2 alone are preferred.
+    // Lists no more than the limit. 1 and 2 attack each other, 2 attacks 3, and 3 and 4 attack themselves: 1 and 2 alone
+    // are preferred.
     Row {
-        course: "lists no more than the limit",
         arguments: FOUR,
         attacks: &[(1, 2), (2, 1), (2, 3), (3, 3), (4, 4)],
         steps: 1_000_000,
@@ -165,7 +150,7 @@ const ROWS: &[Row] = &[
 #[test]
 fn courses(rt: HostRuntime) -> Result<(), Fail> {
     for row in ROWS {
-        assert!(rt; all_hold(rt.alloc(), row) == Some(true), "{}", row.course);
+        assert!(rt; all_hold(rt.alloc(), row) == Some(true));
     }
     Ok(())
 }

@@ -1,24 +1,15 @@
 //! Queries on frameworks with rules, with what each comes to, worked out by hand from the definitions.
 
 use crate::answers::{Asked, End, ask_all};
-use aba_format::read_aba;
-use edit_rules::{Framework, QueryFault};
-use oracle_core::{AnswerStop, Engine};
+use crate::engines::aba_engine;
+use edit_rules::QueryFault;
+use oracle_core::AnswerStop;
 use std::alloc::Global;
 use std::test::Fail;
 
-/// The engine for the framework of a text.
-fn engine_of(alloc: Global, text: &str) -> Option<Engine> {
-    if text.len() > 268_435_456 {
-        return None;
-    }
-    let plain = read_aba(alloc, text.as_bytes()).ok()?;
-    Engine::new(alloc, 1, Framework::Aba(plain), 1_000_000).ok()
-}
-
 /// Whether all queries on the framework of a text end so.
 fn all_end_so(alloc: Global, text: &str, asks: &[Asked]) -> Option<bool> {
-    let mut engine = engine_of(alloc, text)?;
+    let mut engine = aba_engine(alloc, text)?;
     ask_all(alloc, &mut engine, asks)
 }
 
@@ -53,10 +44,7 @@ const ROWS: &[(&str, &[Asked])] = &[
 #[test]
 fn courses(rt: HostRuntime) -> Result<(), Fail> {
     for &(text, asks) in ROWS {
-        assert!(rt;
-            all_end_so(rt.alloc(), text, asks) == Some(true),
-            "at {text:?}"
-        );
+        assert!(rt; all_end_so(rt.alloc(), text, asks) == Some(true));
     }
     Ok(())
 }

@@ -6,7 +6,13 @@ mod answers;
 #[cfg(test)]
 mod assumptions;
 #[cfg(test)]
+mod definitions;
+#[cfg(test)]
+mod engines;
+#[cfg(test)]
 mod machines;
+#[cfg(test)]
+mod oracles;
 #[cfg(test)]
 mod trades;
 #[cfg(test)]

@@ -1,8 +1,7 @@
 //! What an engine takes from a trade during a query.
 
+use crate::engines::af_engine;
 use certificate_making::ReadLog;
-use dung_notions::AfPlain;
-use edit_rules::Framework;
 use iccma_tasks::{Query, Task};
 use lists::Memory;
 use meaning_atoms::{AfAxiom, AxiomName};
@@ -46,12 +45,6 @@ impl ClauseTrade for OneAxiom {
     }
 }
 
-/// The engine for three arguments in a ring.
-fn ring(alloc: Global) -> Option<Engine> {
-    let plain = AfPlain::of_lists(alloc, &[1, 2, 3], &[(1, 2), (2, 3), (3, 1)]).ok()?;
-    Engine::new(alloc, 1, Framework::Af(plain), 1_000_000).ok()
-}
-
 /// Whether a query for a stable set is answered with this trade.
 fn answers<T: ClauseTrade>(alloc: Global, engine: &mut Engine, trade: &mut T) -> Option<bool> {
     let query = Query::new(Task::read(b"SE-ST").ok()?, None)?;
@@ -62,7 +55,7 @@ fn answers<T: ClauseTrade>(alloc: Global, engine: &mut Engine, trade: &mut T) ->
 
 /// How many steps of the log there are after that query.
 fn steps_after<T: ClauseTrade>(alloc: Global, trade: &mut T) -> Option<usize> {
-    let mut engine = ring(alloc)?;
+    let mut engine = af_engine(alloc, &[1, 2, 3], &[(1, 2), (2, 3), (3, 1)], 1_000_000)?;
     let answered = answers(alloc, &mut engine, trade);
     if answered == Some(true) {
         return Some(engine.len());

@@ -5,8 +5,7 @@ ghost use Rattle.edit_rules.specs.Kinds.{framework_of};
 ghost use Rattle.edit_rules.specs.Replay.{IsTaken};
 
 use crate::answers::{Asked, End, ask_all};
-use aba_format::read_aba;
-use dung_notions::AfPlain;
+use crate::engines::{aba_engine, af_engine};
 use edit_rules::{Edit, EditFault, Effect, Framework, apply};
 use lists::{Items, Memory};
 use oracle_core::Engine;
@@ -69,7 +68,7 @@ fn af_holds(
     attacks: &[(u32, u32)],
     turns: &[Turn<'_>],
 ) -> Option<bool> {
-    let mut engine = af_engine(alloc, arguments, attacks)?;
+    let mut engine = af_engine(alloc, arguments, attacks, 1_000_000)?;
     all_hold(alloc, &mut engine, turns)
 }
 
@@ -77,21 +76,6 @@ fn af_holds(
 fn aba_holds(alloc: Global, text: &str, turns: &[Turn<'_>]) -> Option<bool> {
     let mut engine = aba_engine(alloc, text)?;
     all_hold(alloc, &mut engine, turns)
-}
-
-/// The engine for an abstract framework.
-fn af_engine(alloc: Global, arguments: &[u32], attacks: &[(u32, u32)]) -> Option<Engine> {
-    let plain = AfPlain::of_lists(alloc, arguments, attacks).ok()?;
-    Engine::new(alloc, 1, Framework::Af(plain), 1_000_000).ok()
-}
-
-/// The engine for the framework of a text.
-fn aba_engine(alloc: Global, text: &str) -> Option<Engine> {
-    if text.len() > 268_435_456 {
-        return None;
-    }
-    let plain = read_aba(alloc, text.as_bytes()).ok()?;
-    Engine::new(alloc, 1, Framework::Aba(plain), 1_000_000).ok()
 }
 
 // 1 and 2 attack each other, 2 attacks 3, and 3 and 4 attack themselves.
@@ -164,7 +148,7 @@ fn come_once(alloc: Global, engine: &mut Engine, edits: &[Edit]) -> Option<bool>
 
 /// The same of the rivals.
 fn rivals_come_once(alloc: Global, edits: &[Edit]) -> Option<bool> {
-    let mut engine = af_engine(alloc, &[1, 2, 3, 4], RIVALS)?;
+    let mut engine = af_engine(alloc, &[1, 2, 3, 4], RIVALS, 1_000_000)?;
     come_once(alloc, &mut engine, edits)
 }
 

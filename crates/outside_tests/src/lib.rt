@@ -1,7 +1,7 @@
-//! Tests of what no clause says of files, sinks and words.
+//! Tests of what no clause says of files and sinks, and of whole runs over files that no row can hold.
 #![tactic(auto)]
 
 #[cfg(test)]
 mod files;
 #[cfg(test)]
-mod words;
+mod runs;

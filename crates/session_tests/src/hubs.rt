@@ -260,7 +260,7 @@ fn seven_and_a_reader(rt: HostRuntime) -> Result<(), Fail> {
     let entries = &history.entries;
     assert!(rt; entries.len() == 1_400);
     for session in 1..8u32 {
-        assert!(rt; entries_of(entries, session) == Some(200), "at {session}");
+        assert!(rt; entries_of(entries, session) == Some(200));
     }
     Ok(())
 }

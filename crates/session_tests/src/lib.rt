@@ -6,15 +6,11 @@ mod gates;
 #[cfg(test)]
 mod hubs;
 #[cfg(test)]
-mod inputs;
-#[cfg(test)]
 mod limits;
 #[cfg(test)]
 mod pools;
 #[cfg(test)]
 mod replies;
-#[cfg(test)]
-mod scripts;
 #[cfg(test)]
 mod sessions;
 #[cfg(test)]

@@ -13,11 +13,9 @@ use std::sync::Wait;
 use std::test::Fail;
 use std::thread::Threads;
 
-/// Arguments 1 to n, and attacks.
-fn framework(alloc: Global, n: u32, attacks: &[(u32, u32)]) -> Result<Framework, Memory> {
-    let live = [1, 2, 3];
-    let some = live.get(..n as usize).unwrap_or(&live);
-    let plain = AfPlain::of_lists(alloc, some, attacks)?;
+/// 1 and 2, of which neither attacks.
+fn framework(alloc: Global) -> Result<Framework, Memory> {
+    let plain = AfPlain::of_lists(alloc, &[1, 2], &[])?;
     Ok(Framework::Af(plain))
 }
 
@@ -25,50 +23,34 @@ fn framework(alloc: Global, n: u32, attacks: &[(u32, u32)]) -> Result<Framework,
 fn transcript<R: Threads + Wait + Sync>(
     rt: &R,
     alloc: Global,
-    framework: Framework,
     script: &Script,
 ) -> Result<Bytes, Memory> {
-    let told = run_script(rt, alloc, framework, script, 1_000, &NoPace)?;
+    let opening = framework(alloc)?;
+    let told = run_script(rt, alloc, opening, script, 1_000, &NoPace)?;
     let text = transcript_text(alloc, &told.replies, &told.history.entries);
     forget(told);
     text
 }
 
-/// The same of a script's text, on arguments 1 to n and attacks.
+/// The same of a script's text.
 fn transcript_of<R: Threads + Wait + Sync>(
     rt: &R,
     alloc: Global,
-    n: u32,
-    attacks: &[(u32, u32)],
     script: &str,
 ) -> Result<Bytes, Fail> {
     let script = read_script(alloc, script.as_bytes())?;
-    let opening = framework(alloc, n, attacks)?;
-    Ok(transcript(rt, alloc, opening, &script)?)
+    Ok(transcript(rt, alloc, &script)?)
 }
 
 /// Whether that transcript is one of two texts.
 fn is_either<R: Threads + Wait + Sync>(
     rt: &R,
     alloc: Global,
-    n: u32,
-    attacks: &[(u32, u32)],
     script: &str,
     texts: (&str, &str),
 ) -> Result<bool, Fail> {
-    let told = transcript_of(rt, alloc, n, attacks, script)?;
+    let told = transcript_of(rt, alloc, script)?;
     Ok(told.as_slice() == texts.0.as_bytes() || told.as_slice() == texts.1.as_bytes())
-}
-
-/// One session edits and asks: a query is about the framework behind the edits before it.
-#[test]
-fn one_session(rt: HostRuntime) -> Result<(), Fail> {
-    let script = "1 noatt 2 1\n1 ask DC-CO 2\n1 att 2 1\n1 ask DC-CO 2\n";
-    let wanted =
-        "session 1\nat 1\nOK\nat 1\nNO\nat 2\nOK\nat 2\nYES\nw 2\nhistory\n1 noatt 2 1\n1 att 2 1\n";
-    let attacks = [(1, 2), (2, 1), (2, 3)];
-    assert!(rt; is_either(&rt, rt.alloc(), 3, &attacks, script, (wanted, wanted))?);
-    Ok(())
 }
 
 /// Two sessions add the same attack: one of them is told that it is there, behind the other's entry.
@@ -78,7 +60,7 @@ fn two_of_one_edit(rt: HostRuntime) -> Result<(), Fail> {
     let first = "session 1\nat 1\nOK\nsession 2\nat 1\nREFUSED AttackIsThere\nhistory\n1 att 1 2\n";
     let second =
         "session 1\nat 1\nREFUSED AttackIsThere\nsession 2\nat 1\nOK\nhistory\n2 att 1 2\n";
-    assert!(rt; is_either(&rt, rt.alloc(), 2, &[], script, (first, second))?);
+    assert!(rt; is_either(&rt, rt.alloc(), script, (first, second))?);
     Ok(())
 }
 
@@ -114,7 +96,7 @@ fn eight_of_one_edit(rt: HostRuntime) -> Result<(), Fail> {
     let alloc = rt.alloc();
     let script =
         "1 att 1 2\n2 att 1 2\n3 att 1 2\n4 att 1 2\n5 att 1 2\n6 att 1 2\n7 att 1 2\n8 att 1 2\n";
-    let told = transcript_of(&rt, alloc, 2, &[], script)?;
+    let told = transcript_of(&rt, alloc, script)?;
     assert!(rt; winner(alloc, told.as_slice())?.is_some());
     Ok(())
 }
@@ -125,14 +107,6 @@ fn one_asks_meanwhile(rt: HostRuntime) -> Result<(), Fail> {
     let script = "1 att 1 2\n1 ask SE-GR\n2 ask SE-GR\n";
     let before = "session 1\nat 1\nOK\nat 1\nw 1\nsession 2\nat 0\nw 1 2\nhistory\n1 att 1 2\n";
     let behind = "session 1\nat 1\nOK\nat 1\nw 1\nsession 2\nat 1\nw 1\nhistory\n1 att 1 2\n";
-    assert!(rt; is_either(&rt, rt.alloc(), 2, &[], script, (before, behind))?);
-    Ok(())
-}
-
-/// A script without lines has no session.
-#[test]
-fn no_session(rt: HostRuntime) -> Result<(), Fail> {
-    let texts = ("history\n", "history\n");
-    assert!(rt; is_either(&rt, rt.alloc(), 1, &[], "# nobody\n", texts)?);
+    assert!(rt; is_either(&rt, rt.alloc(), script, (before, behind))?);
     Ok(())
 }
