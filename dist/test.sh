@@ -99,6 +99,8 @@ run ./argue -p SE-GR -f examples/three.af
 is "no program and no kit" "$status" 70
 run ./argue --help
 is "help needs no program" "$status $out" "1 error: usage"
+run make
+has "make with nothing shipped" "$err" "dist/ ships no program yet"
 
 # dist/make refuses what isn't proved as it stands.
 PATH=$with_kit
@@ -442,8 +444,7 @@ made=$((($(date +%s%N) - began) / 1000000))
 is "make" "$status" 0
 for flags in LDFLAGS=-static CC=clang CFLAGS=-O0 LDFLAGS=-no-pie; do
     [ $flags != CC=clang ] || command -v clang >/dev/null 2>&1 || continue
-    rm -rf out
-    run make -s $flags
+    run make -sB $flags
     is "make $flags" "$status $(out/argue -p SE-GR -f examples/three.af)" "0 w 1 3"
 done
 head -c 1000 dist/argue.o.xz >"$room/cut" && mv "$room/cut" dist/argue.o.xz
