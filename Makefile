@@ -32,7 +32,7 @@ install: out/argue
 	install -m 755 out/argue '$(LIBEXEC)/argue'
 	install -m 644 out/argue.from dist/made '$(LIBEXEC)/'
 	install -m 644 docs/argue.1 '$(MAN)/argue.1'
-	install -m 644 LICENSE dist/NOTICE README.md '$(DOC)/'
+	install -m 644 LICENSE dist/NOTICE README.md docs/USAGE.md '$(DOC)/'
 	install -m 644 completions/argue.bash '$(BASH)/argue'
 	install -m 644 completions/_argue '$(ZSH)/_argue'
 
