@@ -14,7 +14,7 @@ use lists::Memory;
 use std::alloc::Global;
 
 /// A notion of the argumentation semantics, which a set of assumptions meets or not.
-#[derive(Clone, Copy, Drop, PartialEq, Eq)]
+#[derive(Clone, Copy, Drop)]
 pub enum Notion {
     /// Assumptions, of which the set attacks none.
     ConflictFree,

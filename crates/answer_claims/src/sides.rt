@@ -28,7 +28,7 @@ pub(crate) enum Word {
 }
 
 /// What a side clause says of a set.
-#[derive(Clone, Copy, PartialEq, Eq)]
+#[derive(Clone, Copy)]
 pub enum SideKind {
     /// Some member lies outside the set.
     Outside,

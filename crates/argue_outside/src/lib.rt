@@ -28,7 +28,7 @@ pub use whole::{append_all, put_all, read_all};
 pub struct Failed;
 
 /// What a file is read for. Faults of reading are counted for each role apart.
-#[derive(Clone, Copy, PartialEq, Eq)]
+#[derive(Clone, Copy)]
 pub enum Role {
     /// The framework with this number, from 1 to 16.
     Framework(u32),
@@ -47,7 +47,7 @@ pub enum Role {
 }
 
 /// Why a whole file could not be read.
-#[derive(Clone, Copy, Debug, PartialEq, Eq)]
+#[derive(Clone, Copy, Debug)]
 pub enum ReadStop {
     /// A read failed, and the fault was counted in its role.
     Failed,
@@ -91,7 +91,7 @@ impl From<AllocError> for ReadStop {
 }
 
 /// A place in a session's life.
-#[derive(Clone, Copy, PartialEq, Eq)]
+#[derive(Clone, Copy)]
 pub enum Point {
     BeforeEdit,
     AfterEdit,

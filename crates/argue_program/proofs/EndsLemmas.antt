@@ -1,20 +1,21 @@
 -- How a command may end, by its row of the table.
 use Rattle.std.proofs.Common.{◌≡◌, ◌≢◌, ◌⊎◌, ◌<◌, ◌≤◌, ℕ, List, length, refl, sym, ap, subst, inl, inr, ⊎_elim, true, false, arith, Option, None, Some, Ok}
-use Rattle.argue_outside.specs.Outside.{HoldsWhole, IsLonger, KnownFile}
+use Rattle.argue_outside.specs.Outside.{KnownFile}
 use Rattle.argue_outside.specs.declared.Role.TheVariants.{Framework, Script as OfScript}
 use Rattle.argue_words.specs.Words.{CheckTexts, IsSolveQuery, LiveTexts, Request, SolveTexts, requested}
 use Rattle.argue_words.proofs.RequestLaws.{requested_query}
-use Rattle.framework_text.specs.FrameworkText.{IsFaulty, IsReadable, ReadsAs}
-use Rattle.framework_text.proofs.Readings.{ReadsAs-faultless, ReadsAs-numbered, ReadsAs-same}
-use Rattle.argue_program.specs.Inputs.{HasBytes, HasFirstFault, HasReadFault, Input, IsFirstFaultIn, IsFrameworkOf, IsScriptOf, IsSoundIn, Reading, StopsAt, StopsAtFirst, input}
+use Rattle.framework_text.specs.FrameworkText.{IsFaulty, ReadsAs}
+use Rattle.framework_text.proofs.Readings.{ReadsAs-numbered, ReadsAs-same}
+use Rattle.argue_commands.specs.Inputs.{HasReadFault, Input, IsFirstFaultIn, IsFrameworkOf, IsScriptOf, IsSoundIn, Reading, StopsAt, StopsAtFirst, input}
 use Rattle.argue_program.specs.Rows.{EndsCommand, EndsLarge, EndsLive, EndsSolved, bench_row, check_row, live_row, problems_row, row_of, solve_row, unknown_row, version_row}
 use Rattle.iccma_tasks.specs.Tasks.{Asked}
-use Rattle.argue_program.specs.Queries.{asked_by, solving_by}
-use Rattle.argue_program.specs.Solves.{IsSessionOf}
-use Rattle.argue_program.specs.declared.query.LargeInput.{LargeInput}
-use Rattle.argue_program.specs.declared.query.Solving.{Solving}
-use Rattle.argue_program.specs.Checks.{CheckEnds, ChecksFiles, IsAnswerOf, IsCertificateOf, check_inputs}
-use Rattle.argue_program.proofs.CheckLemmas.{answer_sound, certificate_sound, framework_sound, stops_told}
+use Rattle.argue_commands.specs.Queries.{asked_by, solving_by}
+use Rattle.argue_commands.specs.Solves.{IsSessionOf}
+use Rattle.argue_program.specs.declared.large.LargeInput.{LargeInput}
+use Rattle.argue_commands.specs.declared.query.Solving.{Solving}
+use Rattle.argue_commands.specs.Checks.{CheckEnds, ChecksFiles, IsAnswerOf, IsCertificateOf, check_inputs}
+use Rattle.argue_commands.proofs.CheckLemmas.{answer_sound, certificate_sound, framework_sound, stops_told}
+use Rattle.argue_commands.proofs.KnownLemmas.{bytes_at, within_at, longer_at, readable_or_faulty, first_at, framework_reads}
 use Rattle.semantics.specs.Frameworks.{Framework as AnyFramework}
 use Rattle.iccma_tasks.specs.AnswerText.{filled_fields, ReadsAs as AnswerReadsAs}
 use Rattle.iccma_tasks.specs.declared.answer.Answer.{Answer}
@@ -25,19 +26,17 @@ use Rattle.certificate_laws.proofs.Verdicts.{accepted_is_verdict}
 use Rattle.certificate_text.specs.Reading.{ReadsAs as CertReadsAs}
 use Rattle.certificate_text.proofs.OneOutcome.{one_reading}
 use Rattle.argue_program.specs.Runs.{AnswersRight, ChecksContents, EndsAsReplied, HasText, IsCheckEnd, IsDoneOrMemory, IsSolveEnd, QueriesBytes, IsFaultyScript, IsLiveEnd, KeepsTranscript, LivesContents, RefusesBytes, RefusesLength, RefusesWords, ScriptsBytes, SolvesContents}
-use Rattle.argue_program.specs.Scripts.{live_inputs}
-use Rattle.argue_program.proofs.ScriptLemmas.{script_sound}
+use Rattle.argue_commands.specs.Opening.{live_inputs}
+use Rattle.argue_commands.proofs.OpeningLemmas.{script_sound}
 use Rattle.bench_runs.specs.Transcripts.{IsTranscriptOf}
 use Rattle.script_text.proofs.FirstFaults.{script_is_faultless}
 use Rattle.script_text.proofs.OneScript.{script_same}
 use Rattle.script_text.specs.ScriptText.{IsScript}
 use Rattle.script_text.specs.declared.script.Script.{Script}
-use Rattle.argue_program.specs.declared.ended.Cause.{Cause}
-use Rattle.argue_program.specs.declared.ended.Cause.TheVariants as cause
-use Rattle.argue_program.specs.declared.ended.Limit.TheVariants as limit
-use Rattle.argue_program.specs.declared.ended.Refusal.TheVariants.{Line, Query}
-use Rattle.argue_program.specs.declared.ended.Status.{Status}
-use Rattle.argue_program.specs.declared.ended.Status.TheVariants.{Done, Usage, InputRefused, ReadFault, WriteFault, WantOfMemory, Unknown, Limit, Rejected}
+use Rattle.argue_commands.specs.declared.ended.Limit.TheVariants as limit
+use Rattle.argue_commands.specs.declared.ended.Refusal.TheVariants.{Line, Query}
+use Rattle.argue_commands.specs.declared.ended.Status.{Status}
+use Rattle.argue_commands.specs.declared.ended.Status.TheVariants.{Done, Usage, InputRefused, ReadFault, WriteFault, WantOfMemory, Unknown, Limit, Rejected}
 use Rattle.argue_program.specs.declared.ended.Transcript.{Transcript}
 use Rattle.num_text.specs.declared.limit.TheConstants.{INPUT_LIMIT}
 
@@ -58,48 +57,6 @@ ends_query found texts query kept end (inr answered) = inr (inr answered)
 
 pub done_no_memory : Done ≢ WantOfMemory
 done_no_memory e = cc
-
--- ---- bytes that are known
-
--- the bytes that a known file has are its own
-bytes_at : (known : KnownFile) (bytes other : List ℕ) → known ≡ Some (Some bytes) → HasBytes known other → other ≡ bytes
-bytes_at known bytes other is has =
-    let P : KnownFile → Type 0 = λ k. HoldsWhole k other in
-    let held : HoldsWhole (Some (Some bytes)) other = subst P is has.held in held
-
-within_at : (known : KnownFile) (bytes other : List ℕ) → known ≡ Some (Some bytes) → HasBytes known other
-    → length bytes ≤ INPUT_LIMIT
-within_at known bytes other is has =
-    subst (λ bs. length bs ≤ INPUT_LIMIT) (bytes_at known bytes other is has) has.within
-
-longer_at : (known : KnownFile) (bytes : List ℕ) → known ≡ Some (Some bytes) → IsLonger known INPUT_LIMIT
-    → INPUT_LIMIT < length bytes
-longer_at known bytes is long =
-    let P : KnownFile → Type 0 = λ k. IsLonger k INPUT_LIMIT in
-    let longer : INPUT_LIMIT < length bytes = subst P is long in longer
-
--- bytes that read as a framework have no first fault
-readable_sound : (bytes : List ℕ) (line : ℕ) (c : Cause) → IsReadable bytes
-    → ¬ IsFirstFaultIn (Framework 1) bytes line c
-readable_sound bytes line (cause.Framework c) reads first =
-    ReadsAs-faultless bytes reads.0 reads.1 line c first.stands
-readable_sound bytes line (cause.Script c) reads first = first
-readable_sound bytes line (cause.Answer c) reads first = first
-readable_sound bytes line (cause.Certificate c) reads first = first
-
--- and no fault
-readable_or_faulty : (bytes : List ℕ) → IsReadable bytes → ¬ IsFaulty bytes
-readable_or_faulty bytes reads faulty = ReadsAs-faultless bytes reads.0 reads.1 faulty.0 faulty.1 faulty.2
-
-first_at : (found : Reading) (one : Input) (bytes : List ℕ) (line : ℕ) (c : Cause)
-    → found.holds one.file ≡ Some (Some bytes) → HasFirstFault found one line c → IsFirstFaultIn one.role bytes line c
-first_at found one bytes line c is h =
-    subst (λ bs. IsFirstFaultIn one.role bs line c) (bytes_at (found.holds one.file) bytes h.bytes is h.has) h.first
-
-framework_reads : (known : KnownFile) (bytes : List ℕ) (f : AnyFramework) → known ≡ Some (Some bytes) → IsFrameworkOf known f
-    → IsReadable bytes
-framework_reads known bytes f is of_framework =
-    (f, subst (λ bs. ReadsAs bs f) (bytes_at known bytes of_framework.bytes is of_framework.has) of_framework.reads)
 
 no_read_fault : (found : Reading) (words : List (List ℕ)) (texts : SolveTexts) (query : Solving) (bytes : List ℕ)
     → QueriesBytes found words texts query bytes → ¬ HasReadFault found (input (Framework 1) texts.file)

@@ -4,10 +4,13 @@ use Rattle.argue_outside.specs.Outside.{FaultCounted, KnownFile}
 use Rattle.argue_outside.specs.declared.Role.{Role}
 use Rattle.argue_words.specs.Words.{BenchTexts, CheckTexts, IsBenchQuery, IsLiveQuery, IsSolveQuery, LiveTexts, Request, version, problems, solving, checking, living, benching, unknown, SolveTexts, requested}
 use Rattle.argue_words.proofs.RequestLaws.{input_requested, query_requested, script_requested}
-use Rattle.argue_program.specs.Inputs.{Reading}
-use Rattle.argue_program.specs.Rows.{EndsCommand, FileText, IsEndingOf, Row, bench_row, check_row, certificate_files, certificates_files, file_text, files_beside, live_row, nothing_kept, reply_files, row_of, script_files, script_kept, session_files, solve_row}
+use Rattle.argue_commands.specs.Inputs.{Reading}
+use Rattle.argue_commands.specs.Replacing.{FileText, certificate_files, file_text, RefusesFile}
+use Rattle.argue_commands.proofs.ReplacingLemmas.{HaveOtherNames}
+use Rattle.argue_program.specs.Rows.{EndsCommand, IsEndingOf, Row, bench_row, check_row, certificates_files, files_beside, live_row, nothing_kept, reply_files, row_of, script_files, script_kept, session_files, solve_row}
 use Rattle.iccma_tasks.specs.Tasks.{Asked}
-use Rattle.argue_program.specs.Queries.{asked_by, budget_of, large_by, solving_by}
+use Rattle.argue_program.specs.LargeInputs.{large_by}
+use Rattle.argue_commands.specs.Queries.{asked_by, budget_of, solving_by}
 use Rattle.argue_program.specs.Scripts.{RunsScript}
 use Rattle.semantics.specs.Frameworks.{af}
 use Rattle.bench_runs.specs.Generator.{bench_framework}
@@ -15,32 +18,26 @@ use Rattle.bench_runs.specs.Scripts.{bench_script}
 use Rattle.bench_runs.specs.declared.run.TheConstants.{BENCH_BUDGET}
 use Rattle.bench_runs.specs.Transcripts.{IsTranscriptOf}
 use Rattle.bench_runs.specs.declared.transcript.ScriptTranscript.{ScriptTranscript}
-use Rattle.argue_program.specs.Solves.{IsSessionOn}
-use Rattle.argue_program.specs.declared.query.LargeInput.{LargeInput}
-use Rattle.argue_program.specs.declared.query.Solving.{Solving}
+use Rattle.argue_commands.specs.Solves.{IsSessionOn}
+use Rattle.argue_program.specs.declared.large.LargeInput.{LargeInput}
+use Rattle.argue_commands.specs.declared.query.Solving.{Solving}
 use Rattle.bench_runs.specs.oracle_core.specs.declared.reply.AnswerStop.{AnswerStop}
 use Rattle.bench_runs.specs.oracle_core.specs.declared.reply.Answered.{Answered}
 use Rattle.certificate_claims.specs.declared.certificate.Certificate.{Certificate}
 use Rattle.argue_program.specs.Runs.{AsksLarge, AsksScript, AsksSession, AsksTranscript, IsRunOf, NamesCertificate}
-use Rattle.argue_program.specs.Writing.{BreaksFiles, BreaksOff, BreaksReplacing, IsWritten, Output, RefusesFile, WritesFiles}
+use Rattle.argue_program.specs.Writing.{BreaksOff, IsWritten, Output}
 use Rattle.argue_program.specs.declared.decision.Ending.{Ending}
 use Rattle.argue_program.specs.declared.ended.Ended.{Ended}
-use Rattle.argue_program.specs.declared.ended.KeptSession.{KeptSession}
-use Rattle.argue_program.specs.declared.ended.Limit.TheVariants as limit
-use Rattle.argue_program.specs.declared.ended.Status.{Status}
-use Rattle.argue_program.specs.declared.ended.Status.TheVariants.{Done, Usage, InputRefused, ReadFault, WriteFault, WantOfMemory, Unknown, Limit, Rejected}
+use Rattle.argue_commands.specs.declared.ended.KeptSession.{KeptSession}
+use Rattle.argue_commands.specs.declared.ended.Status.{Status}
+use Rattle.argue_commands.specs.declared.ended.Status.TheVariants.{Done, Usage, InputRefused, ReadFault, WriteFault, WantOfMemory, Unknown, Limit, Rejected}
 use Rattle.argue_program.specs.declared.ended.Transcript.{Transcript}
-use Rattle.argue_program.specs.Texts.{common_text}
+use Rattle.argue_commands.specs.Texts.{common_text}
 
 -- ---- files of other names
 
 some_is : {X : Type 0} {x y : X} → Some x ≡ Some y → x ≡ y
 some_is e = cc
-
--- each of the files has another name
-abbrev pub HaveOtherNames : List ℕ → List FileText → Type 0
-HaveOtherNames name [] = Unit {0}
-HaveOtherNames name (file ∷ more) = (name ≡ file.name → ⊥) × HaveOtherNames name more
 
 beside_other : (name : List ℕ) (text : Option (List ℕ)) (files : List FileText) → HaveOtherNames name files
     → HaveOtherNames name (files_beside text files)
@@ -138,27 +135,6 @@ pub output_fault : (found : Reading) (words : List (List ℕ)) (accepts : List �
 output_fault found words accepts ending old new decided all = ⊎_elim (λ counted. counted)
     (λ refused. absurd (none_refused accepts (NamesCertificate words) (map file_text ending.files) all
     (λ name other. ending_other found words ending name decided other) refused))
-
--- files of other names stay
-pub written_other : (name : List ℕ) (files : List FileText) (old new : List ℕ → KnownFile) → HaveOtherNames name files
-    → WritesFiles files old new → new name ≡ old name
-written_other name [] old new other written = ap (λ (holds : List ℕ → KnownFile). holds name) written
-written_other name (file ∷ more) old new other (mid, replaced, rest) =
-    written_other name more mid new other.1 rest
-    ∙ replaced.added_alone name other.0 ∙ replaced.cleared_alone name other.0
-
-breaking_other : (name : List ℕ) (file : FileText) (old new : List ℕ → KnownFile) → (name ≡ file.name → ⊥)
-    → BreaksReplacing file old new → new name ≡ old name
-breaking_other name file old new other (inl same) = ap (λ (holds : List ℕ → KnownFile). holds name) same
-breaking_other name file old new other (inr part) = part.added_alone name other ∙ part.cleared_alone name other
-
-pub broken_other : (name : List ℕ) (files : List FileText) (old new : List ℕ → KnownFile) → HaveOtherNames name files
-    → BreaksFiles files old new → new name ≡ old name
-broken_other name [] old new other broken = absurd broken
-broken_other name (file ∷ more) old new other (inl breaking) = breaking_other name file old new other.0 breaking
-broken_other name (file ∷ more) old new other (inr (mid, replaced, rest)) =
-    broken_other name more mid new other.1 rest
-    ∙ replaced.added_alone name other.0 ∙ replaced.cleared_alone name other.0
 
 pub write_fault_or : (end : Status) → (end ≡ WriteFault) ⊎ (end ≢ WriteFault)
 write_fault_or WriteFault = inl refl

@@ -4,11 +4,12 @@ use Rattle.std.specs.Option.{unwrap_or}
 use Rattle.bench_runs.specs.Runs.{IsBenchRun}
 use Rattle.bench_runs.specs.Summaries.{summary}
 use Rattle.bench_runs.specs.declared.run.BenchRun.{BenchRun}
-use Rattle.argue_program.specs.Inputs.{Reading}
-use Rattle.argue_program.specs.Rows.{EndsSummed, IsEndingOf, bench_row, file_text, files_beside}
-use Rattle.argue_program.specs.Texts.{common_text}
+use Rattle.argue_commands.specs.Inputs.{Reading}
+use Rattle.argue_commands.specs.Replacing.{file_text}
+use Rattle.argue_program.specs.Rows.{EndsSummed, IsEndingOf, bench_row, files_beside}
+use Rattle.argue_commands.specs.Texts.{common_text}
 use Rattle.argue_program.specs.declared.decision.Ending.{Ending}
-use Rattle.argue_program.specs.declared.query.LargeInput.{LargeInput}
+use Rattle.argue_program.specs.declared.large.LargeInput.{LargeInput}
 use Rattle.argue_program.proofs.RowsLemmas.{CountsReads-none}
 
 -- one whose sessions have run ends as its row says

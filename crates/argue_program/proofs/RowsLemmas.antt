@@ -1,6 +1,6 @@
 -- Endings that a row of the table has.
-use Rattle.std.proofs.Common.{◌≡◌, ◌≢◌, ◌<◌, ◌∙◌, ◌⊎◌, ℕ, List, [], ◌∷◌, refl, sym, ap, subst, inl, inr, arith, false, Option, None, Some, Result, Ok, Err, codes}
-use Rattle.std.specs.Prelude.{Contains, IfOk, IsSome, IsTrue}
+use Rattle.std.proofs.Common.{◌≡◌, ◌≢◌, ◌∙◌, ◌⊎◌, ℕ, List, [], ◌∷◌, refl, sym, ap, subst, inl, inr, arith, false, Option, None, Some, Result, Ok, Err, codes}
+use Rattle.std.specs.Prelude.{IfOk, IsTrue}
 use Rattle.std.specs.Option.{unwrap_or}
 use Rattle.lists.specs.declared.memory.Memory.{Memory}
 use Rattle.argue_outside.specs.Outside.{KnownFile, OtherCountsKept}
@@ -12,72 +12,29 @@ use Rattle.argue_words.specs.declared.words.Command.{Command}
 use Rattle.argue_words.specs.declared.words.Command.TheVariants.{Bench, Live}
 use Rattle.argue_words.specs.declared.words.BenchWords.{BenchWords}
 use Rattle.argue_words.specs.declared.words.LiveWords.{LiveWords}
-use Rattle.argue_program.specs.Inputs.{EndsReading, Follow, Input, Reading, StopsAtFirst, input}
+use Rattle.argue_commands.specs.Inputs.{EndsReading, Input, Reading, StopsAtFirst, input}
+use Rattle.argue_commands.proofs.InputLemmas.{follow_none, one_in, no_read_fault}
 use Rattle.argue_program.specs.Rows.{CountsReads, EndsCommand, EndsSession, IsEndingOf, Row, bench_row, check_row, files_beside, live_row, nothing_kept, row_of, session_files, session_text, solve_row, unknown_row}
 use Rattle.iccma_tasks.specs.Tasks.{Asked}
-use Rattle.argue_program.specs.Checks.{ChecksFiles, EndsChecking}
-use Rattle.argue_program.specs.Queries.{asked_by, budget_of, large_by, solving_by}
-use Rattle.argue_program.specs.Solves.{IsSessionOn, status_of}
-use Rattle.argue_program.specs.declared.query.LargeInput.{LargeInput}
-use Rattle.argue_program.specs.declared.query.Solving.{Solving}
-use Rattle.argue_program.specs.declared.ended.KeptSession.{KeptSession}
-use Rattle.argue_program.specs.declared.ended.Limit.TheVariants as bound
-use Rattle.argue_program.specs.declared.ended.Refusal.TheVariants.{Query}
+use Rattle.argue_commands.specs.Checks.{ChecksFiles, EndsChecking}
+use Rattle.argue_program.specs.LargeInputs.{large_by}
+use Rattle.argue_commands.specs.Queries.{asked_by, budget_of, solving_by}
+use Rattle.argue_commands.specs.Solves.{IsSessionOn, status_of}
+use Rattle.argue_program.specs.declared.large.LargeInput.{LargeInput}
+use Rattle.argue_commands.specs.declared.query.Solving.{Solving}
+use Rattle.argue_commands.specs.declared.ended.KeptSession.{KeptSession}
+use Rattle.argue_commands.specs.declared.ended.Limit.TheVariants as bound
+use Rattle.argue_commands.specs.declared.ended.Refusal.TheVariants.{Query}
 use Rattle.bench_runs.specs.oracle_core.specs.declared.reply.AnswerStop.{AnswerStop}
 use Rattle.bench_runs.specs.oracle_core.specs.declared.reply.AnswerStop.TheVariants as stop
 use Rattle.bench_runs.specs.oracle_core.specs.declared.reply.Answered.{Answered}
-use Rattle.argue_program.specs.Texts.{IsRefusal, common_text, text_bytes}
+use Rattle.argue_commands.specs.Texts.{IsRefusal, common_text, text_bytes}
 use Rattle.argue_program.specs.declared.decision.Ending.{Ending}
-use Rattle.argue_program.specs.declared.ended.Status.{Status}
-use Rattle.argue_program.specs.declared.ended.Status.TheVariants.{Done, Usage, InputRefused, ReadFault, WriteFault, WantOfMemory, Unknown, Limit, Rejected}
+use Rattle.argue_commands.specs.declared.ended.Status.{Status}
+use Rattle.argue_commands.specs.declared.ended.Status.TheVariants.{Done, Usage, InputRefused, ReadFault, WriteFault, WantOfMemory, Unknown, Limit}
 use Rattle.argue_program.specs.declared.ended.Transcript.{Transcript}
 
--- ---- a run with one input
-
-none_in : (x : Input) → Contains [] x → ⊥
-none_in x c = let lt : c.0 < 0 = c.1 in absurd (omega arith)
-
-follow_none : (found : Reading) (end : Status) → Follow found end []
-follow_none found (InputRefused refusal) = λ other c. absurd (none_in other c)
-follow_none found Done = tt
-follow_none found Usage = tt
-follow_none found (ReadFault role) = tt
-follow_none found WriteFault = tt
-follow_none found WantOfMemory = tt
-follow_none found Unknown = tt
-follow_none found (Limit limit) = tt
-follow_none found (Rejected failure refutation step) = tt
-
-one_in : (x : Input) → Contains (x ∷ []) x
-one_in x = (0, omega arith, refl)
-
--- an input ends a run with a status that has a text of its own
-pub common_text-reading : (found : Reading) (one : Input) (end : Status) → EndsReading found one end
-    → IsSome (common_text end)
-common_text-reading found one Usage h = refl
-common_text-reading found one (InputRefused refusal) h = refl
-common_text-reading found one (ReadFault role) h = refl
-common_text-reading found one WantOfMemory h = refl
-common_text-reading found one Unknown h = refl
-common_text-reading found one (Limit limit) h = refl
-common_text-reading found one Done (inl stops) = absurd stops
-common_text-reading found one Done (inr memory) = cc
-common_text-reading found one WriteFault h = refl
-common_text-reading found one (Rejected failure refutation step) h = refl
-
 -- ---- a run that stopped
-
--- a status beside that of a refusal is no read fault
-no_read_fault : (end : Status) → IsRefusal end → (role : Role) → end ≢ ReadFault role
-no_read_fault (InputRefused refusal) h role = λ e. cc
-no_read_fault (Rejected failure refutation step) h role = λ e. cc
-no_read_fault Done h role = absurd h
-no_read_fault Usage h role = absurd h
-no_read_fault (ReadFault other) h role = absurd h
-no_read_fault WriteFault h role = absurd h
-no_read_fault WantOfMemory h role = absurd h
-no_read_fault Unknown h role = absurd h
-no_read_fault (Limit limit) h role = absurd h
 
 module _ (found : Reading) (row : Row) (ending : Ending) (end : Status) where
   stopped_cause : EndsCommand found row nothing_kept end → IsTrue row.takes_memory

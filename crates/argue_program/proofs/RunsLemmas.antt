@@ -8,37 +8,41 @@ use Rattle.argue_outside.specs.declared.Role.TheVariants.{Framework, Script as O
 use Rattle.argue_words.specs.Words.{AreWords, BenchTexts, CheckTexts, IsBenchQuery, IsCheckQuery, IsLiveQuery, IsSolveQuery, LiveTexts, Request, version, problems, solving, checking, living, benching, unknown, SolveTexts, requested, words_are_problems}
 use Rattle.argue_words.proofs.RequestLaws.{query_requested, requested_input, requested_list, requested_script, requested_texts, requested_none, requested_query, requested_unknown}
 use Rattle.framework_text.specs.FrameworkText.{IsFaulty}
-use Rattle.argue_program.specs.Inputs.{Input, Reading, StopsAt, StopsAtFirst}
-use Rattle.argue_program.specs.Rows.{EndsCommand, EndsLarge, EndsLive, EndsSolved, FileText, HasNoInput, Row, bench_row, check_row, certificate_files, certificates_files, file_text, files_beside, live_row, reply_files, reply_text, row_of, script_files, script_kept, script_text, session_files, session_text, solve_row, text_of}
+use Rattle.argue_commands.specs.Inputs.{Input, Reading, StopsAt, StopsAtFirst}
+use Rattle.argue_commands.specs.Replacing.{FileText, certificate_files, file_text, WritesFiles}
+use Rattle.argue_program.specs.Rows.{EndsCommand, EndsLarge, EndsLive, EndsSolved, HasNoInput, Row, bench_row, check_row, certificates_files, files_beside, live_row, reply_files, reply_text, row_of, script_files, script_kept, script_text, session_files, session_text, solve_row, text_of}
 use Rattle.iccma_tasks.specs.Tasks.{Asked}
-use Rattle.argue_program.specs.Queries.{asked_by, budget_of, large_by, solving_by}
-use Rattle.argue_program.specs.Scripts.{live_inputs, transcript_bytes}
+use Rattle.argue_program.specs.LargeInputs.{large_by}
+use Rattle.argue_commands.specs.Queries.{asked_by, budget_of, solving_by}
+use Rattle.argue_commands.specs.Opening.{live_inputs}
+use Rattle.argue_program.specs.Scripts.{transcript_bytes}
 use Rattle.bench_runs.specs.Summaries.{summary}
 use Rattle.bench_runs.specs.declared.transcript.ScriptTranscript.{ScriptTranscript}
 use Rattle.script_text.specs.declared.script.Script.{Script}
-use Rattle.argue_program.specs.Solves.{status_of}
-use Rattle.argue_program.specs.declared.query.LargeInput.{LargeInput}
-use Rattle.argue_program.specs.declared.query.Solving.{Solving}
+use Rattle.argue_commands.specs.Solves.{status_of}
+use Rattle.argue_program.specs.declared.large.LargeInput.{LargeInput}
+use Rattle.argue_commands.specs.declared.query.Solving.{Solving}
 use Rattle.bench_runs.specs.oracle_core.specs.declared.reply.Answered.{Answered}
-use Rattle.argue_program.proofs.SolveLemmas.{done_reply, fills, spends_all}
-use Rattle.argue_program.specs.Checks.{CheckEnds}
-use Rattle.argue_program.proofs.CheckLemmas.{stops_told}
+use Rattle.argue_commands.proofs.SolveLemmas.{done_reply, fills, spends_all}
+use Rattle.argue_commands.specs.Checks.{CheckEnds}
+use Rattle.argue_commands.proofs.CheckLemmas.{stops_told}
 use Rattle.semantics.specs.Frameworks.{Framework as AnyFramework}
 use Rattle.iccma_tasks.specs.WrittenText.{text_of as answer_text}
 use Rattle.iccma_tasks.specs.declared.answer.Answer.{Answer}
 use Rattle.certificate_claims.specs.declared.certificate.Certificate.{Certificate}
 use Rattle.argue_program.specs.Runs.{AnswersRight, AsksSession, AsksTranscript, ChecksContents, FillsLog, IsCheckEnd, IsDoneOrMemory, IsFaultyScript, IsLiveEnd, IsRunOf, IsSolveEnd, LivesContents, NamesCertificate, QueriesBytes, RefusesBytes, RefusesLength, RefusesWords, ScriptsBytes, SolvesContents, SpendsBudget, WritesAnswer, WritesSummary, WritesTranscript}
-use Rattle.argue_program.specs.Texts.{common_text, text_bytes}
-use Rattle.argue_program.specs.Writing.{Output, WritesFiles}
+use Rattle.argue_commands.specs.Texts.{common_text, text_bytes}
+use Rattle.argue_program.specs.Writing.{Output}
 use Rattle.argue_program.specs.declared.ended.Ended.{Ended}
-use Rattle.argue_program.specs.declared.ended.KeptSession.{KeptSession}
-use Rattle.argue_program.specs.declared.ended.Limit.TheVariants as limit
-use Rattle.argue_program.specs.declared.ended.Status.{Status}
-use Rattle.argue_program.specs.declared.ended.Status.TheVariants.{Done, Usage, InputRefused, ReadFault, WriteFault, WantOfMemory, Unknown, Limit, Rejected}
+use Rattle.argue_commands.specs.declared.ended.KeptSession.{KeptSession}
+use Rattle.argue_commands.specs.declared.ended.Limit.TheVariants as limit
+use Rattle.argue_commands.specs.declared.ended.Status.{Status}
+use Rattle.argue_commands.specs.declared.ended.Status.TheVariants.{Done, Usage, InputRefused, ReadFault, WriteFault, WantOfMemory, Unknown, Limit, Rejected}
 use Rattle.argue_program.specs.declared.ended.Transcript.{Transcript}
 use Rattle.num_text.specs.declared.limit.TheConstants.{INPUT_LIMIT}
 use Rattle.argue_program.proofs.EndsLemmas.{EndsLiving, EndsQuery, at_query, done_no_memory, done_right, ends_check, ends_live, ends_large, ends_living, ends_query, ends_solve, ends_unknown, large_done, problems_done, refuses_bytes, refuses_length, refuses_long_script, refuses_script, refuses_words, version_done}
-use Rattle.argue_program.proofs.KeptLemmas.{HaveOtherNames, ending_other, written_other, broken_other, write_fault_or, kept_at, script_at}
+use Rattle.argue_commands.proofs.ReplacingLemmas.{HaveOtherNames, written_other, broken_other}
+use Rattle.argue_program.proofs.KeptLemmas.{ending_other, write_fault_or, kept_at, script_at}
 
 -- ---- a run that ends by its session alone
 

@@ -1,10 +1,6 @@
-pub mod Checks
-pub mod Inputs
-pub mod Queries
+pub mod LargeInputs
 pub mod Rows
 pub mod Runs
 pub mod Scripts
-pub mod Solves
-pub mod Statuses
-pub mod Texts
 pub mod Writing
+pub use Rattle.argue_commands as argue_commands

@@ -1,32 +1,30 @@
 -- The table of commands: what each reads, how it may end, and what it then writes.
-use Rattle.std.specs.Prelude.{◌≡◌, ◌≢◌, Contains, ℕ, ◌⊎◌, Bool, true, false, List, [], ◌∷◌, Option, None, Some, Result, Ok, Err}
-use Rattle.std.specs.Prelude.{IsTrue, codes, map}
+use Rattle.std.specs.Prelude.{◌≡◌, ◌≢◌, Contains, ℕ, ◌⊎◌, Bool, true, false, List, [], ◌∷◌, Option, None, Some, Result, Ok, Err, IsTrue, codes, map}
 use Rattle.std.specs.Option.{unwrap_or}
-use Rattle.std.specs.String.{string_bytes}
 use Rattle.argue_outside.specs.Outside.{KnownFile}
 use Rattle.iccma_tasks.specs.WrittenText.{text_of as answer_text}
-use Rattle.certificate_claims.specs.declared.certificate.Certificate.{Certificate}
-use Rattle.certificate_text.specs.Written.{certificate_text}
 use Rattle.bench_runs.specs.oracle_core.specs.declared.reply.AnswerStop.{AnswerStop}
 use Rattle.bench_runs.specs.oracle_core.specs.declared.reply.Answered.{Answered}
 use Rattle.argue_outside.specs.declared.Role.{Role}
 use Rattle.argue_outside.specs.declared.Role.TheVariants.{Framework}
 use Rattle.argue_words.specs.Words.{CheckTexts, LiveTexts, Request, version, problems, solving, checking, living, benching, unknown, SolveTexts}
 use Rattle.iccma_tasks.specs.Tasks.{Asked, tasks_line}
-use Rattle.argue_program.specs.Checks.{ChecksFiles, check_inputs}
-use Rattle.argue_program.specs.Queries.{asked_by, budget_of, large_by, solving_by}
-use Rattle.argue_program.specs.Scripts.{RunsScript, live_inputs, transcript_bytes}
-use Rattle.argue_program.specs.Solves.{IsSessionOn, status_of}
-use Rattle.argue_program.specs.declared.query.LargeInput.{LargeInput}
-use Rattle.argue_program.specs.declared.query.Solving.{Solving}
-use Rattle.argue_program.specs.Inputs.{Input, Reading, StopsAtFirst, input}
-use Rattle.argue_program.specs.Texts.{common_text, text_bytes}
+use Rattle.argue_commands.specs.Checks.{ChecksFiles, check_inputs}
+use Rattle.argue_program.specs.LargeInputs.{large_by}
+use Rattle.argue_commands.specs.Queries.{asked_by, budget_of, solving_by}
+use Rattle.argue_commands.specs.Opening.{live_inputs}
+use Rattle.argue_program.specs.Scripts.{RunsScript, transcript_bytes}
+use Rattle.argue_commands.specs.Solves.{IsSessionOn, status_of}
+use Rattle.argue_program.specs.declared.large.LargeInput.{LargeInput}
+use Rattle.argue_commands.specs.declared.query.Solving.{Solving}
+use Rattle.argue_commands.specs.Inputs.{Input, Reading, StopsAtFirst, input}
+use Rattle.argue_commands.specs.Replacing.{FileText, certificate_files, file_text}
+use Rattle.argue_commands.specs.Texts.{common_text, text_bytes}
 use Rattle.argue_program.specs.declared.decision.Ending.{Ending}
-use Rattle.argue_program.specs.declared.ended.KeptSession.{KeptSession}
-use Rattle.argue_program.specs.declared.ended.Status.{Status}
-use Rattle.argue_program.specs.declared.ended.Status.TheVariants.{Done, Usage, ReadFault, WantOfMemory}
+use Rattle.argue_commands.specs.declared.ended.KeptSession.{KeptSession}
+use Rattle.argue_commands.specs.declared.ended.Status.{Status}
+use Rattle.argue_commands.specs.declared.ended.Status.TheVariants.{Done, Usage, ReadFault, WantOfMemory}
 use Rattle.argue_program.specs.declared.ended.Transcript.{Transcript}
-use Rattle.argue_program.specs.declared.writing.Written.{Written}
 use Rattle.bench_runs.specs.Runs.{IsBenchRun}
 use Rattle.bench_runs.specs.Summaries.{summary}
 use Rattle.bench_runs.specs.declared.run.BenchRun.{BenchRun}
@@ -35,11 +33,6 @@ use Rattle.bench_runs.specs.Transcripts.{IsTranscriptOf}
 use Rattle.script_text.specs.declared.script.Script.{Script}
 use Rattle.semantics.specs.Frameworks.{Framework as AnyFramework}
 use Rattle.session_replies.specs.Replies.{certificates_of}
-
--- a name and the bytes that it is to have
-pub record FileText : Type 0 where
-  pub name : List ℕ
-  pub bytes : List ℕ
 
 -- one row of the table of commands
 pub record Row : Type 1 where
@@ -87,11 +80,6 @@ reply_text (Err why) = []
 abbrev pub session_text : Option KeptSession → List ℕ
 session_text None = []
 session_text (Some session) = reply_text session.reply
-
--- the file of the certificate, where one is named
-abbrev pub certificate_files : Option (List ℕ) → Certificate → List FileText
-certificate_files None certificate = []
-certificate_files (Some name) certificate = record { name = name; bytes = certificate_text certificate } ∷ []
 
 -- the file of the certificate of an answer
 abbrev pub reply_files : Option (List ℕ) → Result Answered AnswerStop → List FileText
@@ -236,10 +224,6 @@ text_of row kept end = unwrap_or (common_text end) (row.text kept end)
 abbrev pub files_beside : Option (List ℕ) → List FileText → List FileText
 files_beside None files = files
 files_beside (Some text) files = []
-
--- a file's name and bytes
-abbrev pub file_text : Written → FileText
-file_text file = record { name = string_bytes file.name; bytes = file.bytes }
 
 -- a role in which the row reads no input
 abbrev pub HasNoInput : Row → Role → Type 0

@@ -15,12 +15,13 @@ use Rattle.certificate_claims.specs.Rights.{IsRight}
 use Rattle.certificate_claims.specs.declared.certificate.Certificate.{Certificate}
 use Rattle.certificate_text.specs.Reading.{ReadsAs as CertReadsAs}
 use Rattle.framework_text.specs.FrameworkText.{ReadsAs}
-use Rattle.argue_program.specs.Checks.{CheckEnds, IsAnswerOf}
-use Rattle.argue_program.specs.Queries.{asked_by, budget_of, large_by, solving_by}
+use Rattle.argue_commands.specs.Checks.{CheckEnds, IsAnswerOf}
+use Rattle.argue_program.specs.LargeInputs.{large_by}
+use Rattle.argue_commands.specs.Queries.{asked_by, budget_of, solving_by}
 use Rattle.argue_program.specs.Scripts.{RunsScript, transcript_bytes}
-use Rattle.argue_program.specs.Solves.{IsReplyTo, IsSessionOf, IsSessionOn, status_of}
-use Rattle.argue_program.specs.declared.query.LargeInput.{LargeInput}
-use Rattle.argue_program.specs.declared.query.Solving.{Solving}
+use Rattle.argue_commands.specs.Solves.{IsReplyTo, IsSessionOf, IsSessionOn, status_of}
+use Rattle.argue_program.specs.declared.large.LargeInput.{LargeInput}
+use Rattle.argue_commands.specs.declared.query.Solving.{Solving}
 use Rattle.bench_runs.specs.Generator.{bench_framework}
 use Rattle.bench_runs.specs.Scripts.{bench_script}
 use Rattle.bench_runs.specs.Runs.{IsBenchRun}
@@ -39,18 +40,19 @@ use Rattle.oracle_face.specs.Growing.{IsFurther}
 use Rattle.oracle_face.specs.Logs.{IsNew, is_unit, no_step, units_of, working}
 use Rattle.session_log.specs.Ends.{MadeFor}
 use Rattle.bench_runs.specs.oracle_core.specs.declared.reply.Answered.{Answered}
-use Rattle.argue_program.specs.Inputs.{Input, IsFirstFaultIn, IsFrameworkOf, Reading, input}
-use Rattle.argue_program.specs.Rows.{IsEndingOf, Row, certificate_files, certificates_files}
-use Rattle.argue_program.specs.Writing.{BreaksOff, IsWritten, Output, WritesFiles}
+use Rattle.argue_commands.specs.Inputs.{Input, IsFirstFaultIn, IsFrameworkOf, Reading, input}
+use Rattle.argue_commands.specs.Replacing.{certificate_files, WritesFiles}
+use Rattle.argue_program.specs.Rows.{IsEndingOf, Row, certificates_files}
+use Rattle.argue_program.specs.Writing.{BreaksOff, IsWritten, Output}
 use Rattle.argue_program.specs.declared.decision.Ending.{Ending}
 use Rattle.argue_program.specs.declared.ended.Ended.{Ended}
-use Rattle.argue_program.specs.declared.ended.KeptSession.{KeptSession}
-use Rattle.argue_program.specs.declared.ended.Limit.TheVariants as limit
-use Rattle.argue_program.specs.declared.ended.Refusal.TheVariants.{Line}
-use Rattle.argue_program.specs.declared.ended.Status.{Status}
-use Rattle.argue_program.specs.declared.ended.Status.TheVariants.{Done, Usage, InputRefused, WriteFault, WantOfMemory, Limit}
+use Rattle.argue_commands.specs.declared.ended.KeptSession.{KeptSession}
+use Rattle.argue_commands.specs.declared.ended.Limit.TheVariants as limit
+use Rattle.argue_commands.specs.declared.ended.Refusal.TheVariants.{Line}
+use Rattle.argue_commands.specs.declared.ended.Status.{Status}
+use Rattle.argue_commands.specs.declared.ended.Status.TheVariants.{Done, Usage, InputRefused, WriteFault, WantOfMemory, Limit}
 use Rattle.argue_program.specs.declared.ended.Transcript.{Transcript}
-use Rattle.argue_program.specs.declared.query.TheConstants.{LOG_LIMIT}
+use Rattle.argue_commands.specs.declared.query.TheConstants.{LOG_LIMIT}
 
 -- the run comes to an ending that its row has, and writes it whole, or ends with a write fault in the midst of it
 pub record IsRunOf (found : Reading) (row : Row) (ended : Ended) (old new : Output) : Type 0 where

@@ -1,103 +1,10 @@
-//! How a run ends.
+//! How a run ends, and what it keeps.
 
 ghost use Rattle.std.specs.Prelude.{◌≡◌};
 ghost use Rattle.argue_program.specs.Rows.{nothing_kept};
-ghost use Rattle.argue_program.specs.Statuses.{code_of};
 
-use af_format::LineCause;
-use argue_outside::Role;
+use argue_commands::{KeptSession, Status};
 use bench_runs::ScriptTranscript;
-use certificate_claims::Cause as Failure;
-use certificate_text::CertCause;
-use edit_rules::QueryFault;
-use iccma_tasks::AnswerCause;
-use oracle_core::{AnswerStop, Answered, Engine};
-use script_text::ScriptCause;
-
-/// What is wrong with a line of an input: a variant for each kind of text.
-#[derive(Clone, Copy, PartialEq, Eq)]
-pub enum Cause {
-    /// A line of a framework.
-    Framework(LineCause),
-    /// A line of a script.
-    Script(ScriptCause),
-    /// A line of an answer.
-    Answer(AnswerCause),
-    /// A line of a certificate.
-    Certificate(CertCause),
-}
-
-/// Why an input is refused.
-#[derive(Clone, Copy, PartialEq, Eq)]
-pub enum Refusal {
-    /// The text read in this role has its first fault at this line, counted from 1.
-    Line(Role, usize, Cause),
-    /// The query doesn't fit the framework.
-    Query(QueryFault),
-}
-
-/// Which bound was met.
-#[derive(Clone, Copy, PartialEq, Eq)]
-pub enum Limit {
-    /// An input has more than `INPUT_LIMIT` bytes.
-    Input,
-    /// There are more than `EXTENSION_LIMIT` extensions.
-    Extensions,
-    /// The log of the search has `LOG_LIMIT` steps.
-    Log,
-}
-
-/// How a run ended, as its exit status says it.
-#[derive(Clone, Copy, PartialEq, Eq)]
-pub enum Status {
-    /// The query got its answer, or each line of a script its reply, and all output was taken.
-    Done,
-    /// The words aren't well-formed.
-    Usage,
-    /// An input is refused.
-    InputRefused(Refusal),
-    /// The file that is read in this role couldn't be read.
-    ReadFault(Role),
-    /// The output wasn't taken whole.
-    WriteFault,
-    /// Memory was refused.
-    WantOfMemory,
-    /// The budget of new clauses was spent.
-    Unknown,
-    /// A bound was met.
-    Limit(Limit),
-    /// The certificate isn't accepted for the answer: why, and the numbers of the refutation and of the step or the
-    /// set.
-    Rejected(Failure, usize, usize),
-}
-
-impl Status {
-    /// The exit status of the process.
-    pub fn code(self) -> u8
-        ensures { result ≡ code_of self }
-    {
-        match self {
-            Status::Done => 0,
-            Status::Usage => 1,
-            Status::InputRefused(_) => 2,
-            Status::ReadFault(_) => 3,
-            Status::WriteFault => 4,
-            Status::WantOfMemory => 5,
-            Status::Unknown => 6,
-            Status::Limit(_) => 7,
-            Status::Rejected(_, _, _) => 8,
-        }
-    }
-}
-
-/// What a session keeps: the answer to its query with the certificate, or why there is none; and its engine, which
-/// means the log of what was added for the query, the side clauses with their sets, and the clause that was in hand
-/// when the budget was spent.
-#[derive(Drop)]
-pub struct KeptSession {
-    pub reply: Result<Answered, AnswerStop>,
-    pub engine: Engine,
-}
 
 /// What a run keeps: the session of its query, or what the sessions of its script or large input came to, where it had
 /// any.

@@ -1,20 +1,56 @@
 //! The run of a large input.
 
+ghost use Rattle.std.specs.Prelude.{◌≡◌, ◌≤◌, IfSome};
 ghost use Rattle.argue_words.specs.Words.{bench_texts, benching};
-ghost use Rattle.argue_program.specs.Inputs.{reading};
+ghost use Rattle.bench_runs.specs.declared.input.TheConstants.{MOST_ARGUMENTS};
+ghost use Rattle.argue_commands.specs.Inputs.{reading};
+ghost use Rattle.argue_program.specs.LargeInputs.{arguments_of, large_by};
 ghost use Rattle.argue_program.specs.Rows.{EndsSummed, IsEndingOf, row_of};
 
 use crate::decision::{Ending, stopped};
-use crate::ended::{Status, Transcript};
-use crate::query::large_of;
-use crate::texts::Text;
+use crate::ended::Transcript;
+use argue_commands::query::number_in;
+use argue_commands::{Status, Text};
 use argue_outside::{Files, Pace};
 use argue_words::BenchWords;
-use bench_runs::{BenchRun, run_bench};
+use bench_runs::{BenchRun, MOST_ARGUMENTS, run_bench};
 use lists::{Items, Memory};
 use std::alloc::Global;
 use std::sync::Wait;
 use std::thread::Threads;
+
+/// A large input that is asked for: how many arguments it has, and the seed of its draws.
+#[derive(Clone, Copy)]
+pub struct LargeInput {
+    pub arguments: u32,
+    pub seed: u32,
+}
+
+// How many arguments a text asks for.
+fn arguments_in(text: &str) -> Option<u32>
+    ensures is { result ≡ arguments_of text.now }
+    ensures some { IfSome result (λ n. 1 ≤ n) }
+    ensures few { IfSome result (λ n. n ≤ MOST_ARGUMENTS) }
+{
+    let number = number_in(text)?;
+    if 1 <= number && number <= MOST_ARGUMENTS {
+        Some(number)
+    } else {
+        None
+    }
+}
+
+/// The large input that words ask for. `None` where a text is no number, or a large input doesn't have so many arguments.
+#[tactic(auto, unfolding(crate::specs::LargeInputs::large_by))]
+fn large_of(words: &BenchWords<'_>) -> Option<LargeInput>
+    ensures is { result ≡ large_by (bench_texts words.now) }
+    ensures some { IfSome result (λ large. 1 ≤ large.arguments) }
+    ensures few { IfSome result (λ large. large.arguments ≤ MOST_ARGUMENTS) }
+{
+    let arguments = arguments_in(words.arguments)?;
+    let seed = number_in(words.seed)?;
+    Some(LargeInput { arguments, seed })
+}
 
 /// The ending of a large input's run, which keeps what its sessions came to.
 fn summed(alloc: Global, run: BenchRun) -> Ending

@@ -5,23 +5,18 @@
 //! and `write_ending` writes it. `decide` and `execute` are the same of words that want no threads.
 #![tactic(auto)]
 
-mod checking;
 pub mod command;
 pub mod decision;
 pub mod ended;
-pub mod input;
 mod large;
 pub mod process;
-pub mod query;
 pub mod scripts;
-mod solving;
-pub mod texts;
 pub mod writing;
 
+pub use argue_commands::{Cause, KeptSession, Limit, Refusal, Status, Text, Written};
 pub use command::{execute, run};
 pub use decision::{Ending, decide};
-pub use ended::{Cause, Ended, KeptSession, Limit, Refusal, Status, Transcript};
+pub use ended::{Ended, Transcript};
 pub use process::run_process;
 pub use scripts::decide_with;
-pub use texts::Text;
-pub use writing::{Written, write_ending};
+pub use writing::write_ending;

@@ -5,12 +5,13 @@ ghost use Rattle.std.specs.Option.{unwrap_or};
 ghost use Rattle.std.specs.Io.KnownBytes.{Appends};
 ghost use Rattle.argue_outside.specs.Outside.{AppendsPart, FaultCounted};
 ghost use Rattle.argue_program.specs.Rows.{nothing_kept};
-ghost use Rattle.argue_program.specs.Texts.{common_text};
+ghost use Rattle.argue_commands.specs.Texts.{common_text};
 
 use crate::command::run;
 use crate::decision::stopped;
-use crate::ended::{Ended, Status};
+use crate::ended::Ended;
 use crate::writing::write_ending;
+use argue_commands::Status;
 use argue_outside::{Files, NoPace, RealFiles, RealOut, Sink};
 use std::alloc::{AllocError, Global};
 use std::env;

@@ -1,6 +1,6 @@
 //! Comparisons and hashes, each through its bound.
 
-use meaning_atoms::{AfAxiom, Atom, AtomLit};
+use meaning_atoms::{Atom, AtomLit};
 use std::collections::hash_map::DefaultHasher;
 use std::hash::{Hash, Hasher};
 use std::process::Abort;
@@ -44,17 +44,8 @@ fn literals() -> [AtomLit; 3] {
     ]
 }
 
-fn names() -> [AfAxiom; 3] {
-    [
-        AfAxiom::A5(1, 2, 3),
-        AfAxiom::A5(1, 3, 3),
-        AfAxiom::A6(1, 2),
-    ]
-}
-
 #[test]
 fn values_in_order(rt: HostRuntime) {
     check(&rt, &atoms(), &atoms());
     check(&rt, &literals(), &literals());
-    check(&rt, &names(), &names());
 }

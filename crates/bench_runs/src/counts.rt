@@ -8,7 +8,7 @@ use lists::{Bytes, Memory};
 use std::alloc::Global;
 
 /// What is counted of the run of a large input.
-#[derive(Clone, Copy, PartialEq, Eq)]
+#[derive(Clone, Copy)]
 pub struct Counts {
     /// The arguments of the framework.
     pub arguments: usize,

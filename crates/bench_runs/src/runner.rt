@@ -22,10 +22,18 @@ use std::sync::Wait;
 pub const LOG_LIMIT: u64 = 50_000_000;
 
 /// A session, with the replies to the lines that it has done.
-#[derive(Drop)]
 pub(crate) struct Runner {
     pub(crate) session: Session,
     pub(crate) replies: Items<Reply>,
+}
+
+impl Drop for Runner {
+    fn drop(self) {
+        let Runner {
+            session: _,
+            replies: _,
+        } = self;
+    }
 }
 
 impl Runner {
@@ -51,6 +59,15 @@ impl Runner {
             }),
             Err(_seat) => Err(Memory),
         }
+    }
+
+    /// The session and the replies. It takes no memory.
+    pub(crate) fn into_parts(self) -> (Session, Items<Reply>)
+        ensures session { result.0 ≡ self.session }
+        ensures replies { result.1 ≡ self.replies }
+    {
+        let Runner { session, replies } = self;
+        (session, replies)
     }
 
     /// Does what a line says.

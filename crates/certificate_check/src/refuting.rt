@@ -15,7 +15,7 @@ use lists::Memory;
 use std::alloc::Global;
 
 /// What is wrong with a refutation.
-#[derive(Clone, Copy, PartialEq, Eq)]
+#[derive(Clone, Copy)]
 pub enum Flaw {
     /// Nothing.
     None,

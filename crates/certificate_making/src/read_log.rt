@@ -13,7 +13,7 @@ use plain_lits::StepId;
 use std::alloc::Global;
 
 /// Where a step comes from: it is an axiom's or a side clause's, or it follows from other steps.
-#[derive(Drop, PartialEq, Eq)]
+#[derive(Drop)]
 pub enum StepOrigin {
     Axiom(AxiomName),
     Side(AskId),

@@ -6,7 +6,6 @@ use lists::Items;
 use set_lists::NumSet;
 
 /// How an answer of the core ends.
-#[derive(Drop)]
 pub enum Outcome {
     /// The query doesn't fit the framework.
     Refused(QueryFault),
@@ -18,4 +17,16 @@ pub enum Outcome {
     TooMany(Items<NumSet>),
     /// The log was full.
     LogFull,
+}
+
+impl Drop for Outcome {
+    fn drop(self) {
+        match self {
+            Outcome::Refused(_)
+            | Outcome::Definite(_, _)
+            | Outcome::Unknown(_)
+            | Outcome::TooMany(_)
+            | Outcome::LogFull => {}
+        }
+    }
 }

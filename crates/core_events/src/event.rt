@@ -26,7 +26,6 @@ pub enum Origin {
 }
 
 /// What a session does. Sessions are numbered from 1.
-#[derive(Drop)]
 pub enum Event {
     /// A session commits an edit.
     Commit(u32, Edit),
@@ -64,6 +63,42 @@ pub enum Event {
         pending: Option<Pending>,
         result: Outcome,
     },
+}
+
+impl Drop for Event {
+    fn drop(self) {
+        match self {
+            Event::Commit(_, _)
+            | Event::Refresh(_)
+            | Event::Learn {
+                session: _,
+                clause: _,
+                origin: _,
+                closing: _,
+            }
+            | Event::Side {
+                session: _,
+                from: _,
+                literals: _,
+            }
+            | Event::Share {
+                session: _,
+                step: _,
+                index: _,
+            }
+            | Event::Import {
+                session: _,
+                index: _,
+            }
+            | Event::Answer {
+                session: _,
+                query: _,
+                limit: _,
+                pending: _,
+                result: _,
+            } => {}
+        }
+    }
 }
 
 impl Machine {

@@ -29,7 +29,6 @@ use std::alloc::Global;
 
 /// One framework that sessions edit, how many edits there may be, how long a session's log may be, the edits that were
 /// taken, the number of turns, the pool, and the sessions.
-#[derive(Drop)]
 pub struct Machine {
     pub(crate) opening: Framework,
     pub(crate) limit: u64,
@@ -38,6 +37,20 @@ pub struct Machine {
     pub(crate) turns: u64,
     pub(crate) pool: Vec<Place>,
     pub(crate) seats: Vec<Seat>,
+}
+
+impl Drop for Machine {
+    fn drop(self) {
+        let Machine {
+            opening: _,
+            limit: _,
+            log_limit: _,
+            history: _,
+            turns: _,
+            pool: _,
+            seats: _,
+        } = self;
+    }
 }
 
 impl Machine {

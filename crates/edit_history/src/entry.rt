@@ -16,7 +16,7 @@ pub struct Entry {
 }
 
 /// One entry of a history with what it did. The effect has the entry's edit.
-#[derive(Drop, PartialEq, Eq)]
+#[derive(Drop)]
 pub struct Change {
     /// The number of the session that committed the edit.
     pub session: u32,

@@ -5,7 +5,7 @@ use lists::Memory;
 use std::alloc::{AllocError, AllocFailed};
 
 /// Why an edit is not in the history, which is as it was but for what other sessions added. Each front is its length.
-#[derive(Clone, Copy, PartialEq, Eq)]
+#[derive(Clone, Copy)]
 pub enum CommitFault {
     /// The history has as many entries as it may have. This is tested before the edit.
     HistoryFull(u64),

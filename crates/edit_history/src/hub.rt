@@ -27,7 +27,7 @@ pub struct Hub {
 }
 
 /// A commit that was taken.
-#[derive(Drop, PartialEq, Eq)]
+#[derive(Drop)]
 pub struct Committed {
     /// The number of entries up to the edit's own.
     pub front: u64,
@@ -45,12 +45,20 @@ pub struct Fresh {
 }
 
 /// The history of a hub that was closed.
-#[derive(Drop)]
 pub struct History {
     /// The framework at the beginning.
     pub opening: Framework,
     /// The entries, each with its effect.
     pub entries: Vec<Change>,
+}
+
+impl Drop for History {
+    fn drop(self) {
+        let History {
+            opening: _,
+            entries: _,
+        } = self;
+    }
 }
 
 impl Hub {
@@ -138,15 +146,7 @@ impl Hub {
         ensures { EndsWith self seats.items result }
     {
         let Hub { lock } = self;
-        let Journal {
-            opening,
-            limit: _,
-            framework: _,
-            changes,
-        } = lock.close(seats);
-        History {
-            opening,
-            entries: changes,
-        }
+        let (opening, entries) = lock.close(seats).into_parts();
+        History { opening, entries }
     }
 }

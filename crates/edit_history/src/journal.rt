@@ -9,7 +9,6 @@ use edit_rules::Framework;
 use turn_lock::Turned;
 
 /// A history of edits over an opening framework, of at most `limit` entries, with the framework after all of them.
-#[derive(Drop)]
 pub struct Journal {
     pub(crate) opening: Framework,
     pub(crate) limit: u64,
@@ -18,6 +17,33 @@ pub struct Journal {
     ghost within: { length changes.items ≤ limit },
     ghost done: { AreDone (framework_of opening) changes.items },
     ghost replayed: { framework_of framework ≡ framework_after (framework_of opening) (entries_in changes.items) },
+}
+
+impl Drop for Journal {
+    fn drop(self) {
+        let Journal {
+            opening: _,
+            limit: _,
+            framework: _,
+            changes: _,
+        } = self;
+    }
+}
+
+impl Journal {
+    /// The framework at the beginning and the changes. It takes no memory.
+    pub(crate) fn into_parts(self) -> (Framework, Vec<Change>)
+        ensures opening { result.0 ≡ self.opening }
+        ensures changes { result.1 ≡ self.changes }
+    {
+        let Journal {
+            opening,
+            limit: _,
+            framework: _,
+            changes,
+        } = self;
+        (opening, changes)
+    }
 }
 
 impl Turned for Journal {

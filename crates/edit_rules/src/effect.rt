@@ -8,7 +8,7 @@ use lists::{Items, Memory};
 use std::alloc::Global;
 
 /// What an edit did: with the framework behind it, it determines the framework before.
-#[derive(PartialEq, Eq)]
+
 pub struct Effect {
     /// The edit.
     pub edit: Edit,

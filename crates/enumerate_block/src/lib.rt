@@ -1,5 +1,5 @@
-//! All extensions by an oracle, in the order of their lists, with the steps that refute the claims of their
-//! certificate.
+//! All sets of a mode, all preferred and all semi-stable sets by an oracle, in the order of their lists, with the steps
+//! that refute the claims of their certificate; and whether some semi-stable set, or each of them, accepts an argument.
 #![tactic(auto)]
 
 mod deciding;

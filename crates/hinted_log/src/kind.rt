@@ -1,7 +1,7 @@
 //! Where a step of a log comes from.
 
 /// An axiom and a side are given from outside; a derived step follows from earlier ones.
-#[derive(Clone, Copy, PartialEq, Eq)]
+#[derive(Clone, Copy)]
 pub enum Kind {
     Axiom,
     Side,

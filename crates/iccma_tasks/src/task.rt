@@ -1,7 +1,8 @@
 //! The tasks and their names.
 
-ghost use Rattle.std.specs.Prelude.{◌≡◌, ◌↔◌, IfOk, IsTrue, OnErr};
-ghost use Rattle.iccma_tasks.specs.Tasks.{IsTask, IsTaskOf, task_name, tasks_line, fault_name};
+ghost use Rattle.std.specs.Prelude.{◌≡◌, ◌↔◌, IfOk, IfSome, IsTrue, OnErr};
+ghost use Rattle.iccma_tasks.specs.Tasks.{IsTask, IsTaskOf, problem_name, semantics_name, task_name};
+ghost use Rattle.iccma_tasks.specs.Tasks.{tasks_line, fault_name};
 
 use thiserror::Error;
 
@@ -61,6 +62,40 @@ pub enum TaskFault {
     UnknownTask,
 }
 
+impl Problem {
+    /// The problem of that name, where there is one.
+    fn read(bytes: &[u8]) -> Option<Problem>
+        ensures named { IfSome result (λ problem. problem_name problem ≡ bytes.now) }
+        ensures read { (problem : Problem) → problem_name problem ≡ bytes.now → result ≡ Some problem }
+    {
+        match bytes {
+            b"DC" => Some(Problem::Credulous),
+            b"DS" => Some(Problem::Sceptical),
+            b"SE" => Some(Problem::SomeExtension),
+            b"EE" => Some(Problem::AllExtensions),
+            _ => None,
+        }
+    }
+}
+
+impl Semantics {
+    /// The semantics of that name, where there are such.
+    fn read(bytes: &[u8]) -> Option<Semantics>
+        ensures named { IfSome result (λ semantics. semantics_name semantics ≡ bytes.now) }
+        ensures read { (semantics : Semantics) → semantics_name semantics ≡ bytes.now → result ≡ Some semantics }
+    {
+        match bytes {
+            b"CO" => Some(Semantics::Complete),
+            b"GR" => Some(Semantics::Grounded),
+            b"PR" => Some(Semantics::Preferred),
+            b"ST" => Some(Semantics::Stable),
+            b"SST" => Some(Semantics::SemiStable),
+            b"ID" => Some(Semantics::Ideal),
+            _ => None,
+        }
+    }
+}
+
 impl Task {
     /// The task of that problem and semantics.
     fn of(problem: Problem, semantics: Semantics) -> Task
@@ -75,31 +110,23 @@ impl Task {
         ensures read { (task : Task) → IsTask task → task_name task ≡ bytes.now → result ≡ Ok task }
         ensures unknown { OnErr result ((task : Task) → IsTask task → ¬ (task_name task ≡ bytes.now)) }
     {
-        match bytes {
-            b"DC-CO" => Ok(Task::of(Problem::Credulous, Semantics::Complete)),
-            b"DC-GR" => Ok(Task::of(Problem::Credulous, Semantics::Grounded)),
-            b"DC-PR" => Ok(Task::of(Problem::Credulous, Semantics::Preferred)),
-            b"DC-ST" => Ok(Task::of(Problem::Credulous, Semantics::Stable)),
-            b"DC-SST" => Ok(Task::of(Problem::Credulous, Semantics::SemiStable)),
-            b"DC-ID" => Ok(Task::of(Problem::Credulous, Semantics::Ideal)),
-            b"DS-CO" => Ok(Task::of(Problem::Sceptical, Semantics::Complete)),
-            b"DS-GR" => Ok(Task::of(Problem::Sceptical, Semantics::Grounded)),
-            b"DS-PR" => Ok(Task::of(Problem::Sceptical, Semantics::Preferred)),
-            b"DS-ST" => Ok(Task::of(Problem::Sceptical, Semantics::Stable)),
-            b"DS-SST" => Ok(Task::of(Problem::Sceptical, Semantics::SemiStable)),
-            b"DS-ID" => Ok(Task::of(Problem::Sceptical, Semantics::Ideal)),
-            b"SE-CO" => Ok(Task::of(Problem::SomeExtension, Semantics::Complete)),
-            b"SE-GR" => Ok(Task::of(Problem::SomeExtension, Semantics::Grounded)),
-            b"SE-PR" => Ok(Task::of(Problem::SomeExtension, Semantics::Preferred)),
-            b"SE-ST" => Ok(Task::of(Problem::SomeExtension, Semantics::Stable)),
-            b"SE-SST" => Ok(Task::of(Problem::SomeExtension, Semantics::SemiStable)),
-            b"SE-ID" => Ok(Task::of(Problem::SomeExtension, Semantics::Ideal)),
-            b"EE-CO" => Ok(Task::of(Problem::AllExtensions, Semantics::Complete)),
-            b"EE-PR" => Ok(Task::of(Problem::AllExtensions, Semantics::Preferred)),
-            b"EE-ST" => Ok(Task::of(Problem::AllExtensions, Semantics::Stable)),
-            b"EE-SST" => Ok(Task::of(Problem::AllExtensions, Semantics::SemiStable)),
-            _ => Err(TaskFault::UnknownTask),
+        if bytes.len() < 3 {
+            return Err(TaskFault::UnknownTask);
         }
+        if bytes[2] != b'-' {
+            return Err(TaskFault::UnknownTask);
+        }
+        let Some(problem) = Problem::read(&bytes[..2]) else {
+            return Err(TaskFault::UnknownTask);
+        };
+        let Some(semantics) = Semantics::read(&bytes[3..]) else {
+            return Err(TaskFault::UnknownTask);
+        };
+        let task = Task::of(problem, semantics);
+        if !task.is_for(Kind::Af) {
+            return Err(TaskFault::UnknownTask);
+        }
+        Ok(task)
     }
 
     /// The name of the problem and of the semantics with a dash between, as `DC-CO`. That of a task is read again.

@@ -13,7 +13,7 @@ use std::alloc::Global;
 
 /// The name of an axiom of abstract frameworks with its arguments, in the order of the table of axioms. A value whose arguments are
 /// out of the bounds of its row is no axiom name.
-#[derive(Clone, Copy, Drop, PartialEq, Eq, PartialOrd, Ord, Hash)]
+#[derive(Clone, Copy, Drop, PartialEq, Eq)]
 pub enum AfAxiom {
     A1(u32),
     A2(u32, u32),

@@ -48,10 +48,3 @@ pub fn axioms_are_equal(name: &AfAxiom, other: &AfAxiom) -> bool
 {
     *name == *other
 }
-
-/// Neither of two names of axioms is before the other exactly where they are one value.
-pub fn axioms_in_order(name: &AfAxiom, other: &AfAxiom) -> Ordering
-    ensures { (result ≡ Equal) ↔ (name.now ≡ other.now) }
-{
-    name.cmp(other)
-}

@@ -1,7 +1,7 @@
 //! Where a piece of text stands in its source.
 
 /// The positions from `start` up to, but not including, `end`.
-#[derive(Clone, Copy, PartialEq, Eq)]
+#[derive(Clone, Copy)]
 pub struct Span {
     /// The index of the first byte.
     pub start: usize,

@@ -42,11 +42,7 @@ impl Engine {
         ensures cut { IfOk result (λ a. AreCut self.now.log a.certificate.refutations) }
     {
         let _form = self.parts.framework.kind();
-        let Evidence {
-            answer,
-            sets,
-            steps,
-        } = evidence;
+        let (answer, sets, steps) = evidence.into_parts();
         let certificate = certificate_for(
             alloc,
             self,

@@ -21,7 +21,7 @@ use plain_lits::Halt;
 use std::alloc::Global;
 
 /// Why an update stopped.
-#[derive(Clone, Copy, PartialEq, Eq)]
+#[derive(Clone, Copy)]
 pub enum UpdateStop {
     /// The log had no room for an axiom.
     LogFull,

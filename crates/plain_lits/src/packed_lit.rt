@@ -8,7 +8,7 @@ use std::marker::Model;
 
 /// A literal in four bytes, which contracts see as the literal: twice its variable, and one more where it is
 /// positive.
-#[derive(Clone, Copy, PartialEq, Eq)]
+#[derive(Clone, Copy)]
 pub struct PackedLit {
     code: u32,
 }

@@ -16,11 +16,36 @@ use std::alloc::Global;
 
 /// An answer, the sets of its certificate, and for each claim of its row in the table of certificates, in order, the
 /// log step that refutes it.
-#[derive(Drop)]
 pub struct Evidence {
     pub answer: Answer,
     pub sets: Items<NumSet>,
     pub steps: Items<StepId>,
+}
+
+impl Drop for Evidence {
+    fn drop(self) {
+        let Evidence {
+            answer: _,
+            sets: _,
+            steps: _,
+        } = self;
+    }
+}
+
+impl Evidence {
+    /// The answer, the sets and the steps. It takes no memory.
+    pub fn into_parts(self) -> (Answer, Items<NumSet>, Items<StepId>)
+        ensures answer { result.0 ≡ self.answer }
+        ensures sets { result.1 ≡ self.sets }
+        ensures steps { result.2 ≡ self.steps }
+    {
+        let Evidence {
+            answer,
+            sets,
+            steps,
+        } = self;
+        (answer, sets, steps)
+    }
 }
 
 /// What came of a query.

@@ -14,7 +14,7 @@ use lists::{Items, Memory};
 use std::alloc::Global;
 
 /// A notion of the argumentation semantics, which a set of arguments meets or not.
-#[derive(Clone, Copy, Drop, PartialEq, Eq)]
+#[derive(Clone, Copy, Drop)]
 pub enum Notion {
     /// Live arguments, of which none attacks another or itself.
     ConflictFree,

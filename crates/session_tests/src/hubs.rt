@@ -6,7 +6,7 @@ ghost use Rattle.turn_lock.specs.Seats.{number_of};
 ghost use Rattle.edit_history.specs.Hubs.{IsSeatAt};
 
 use dung_notions::AfPlain;
-use edit_history::{Change, CommitFault, Committed, Fresh, Hub, Seat};
+use edit_history::{Change, CommitFault, Committed, Fresh, History, Hub, Seat};
 use edit_rules::{Edit, EditFault, Framework};
 use lists::Memory;
 use std::alloc::Global;
@@ -225,40 +225,42 @@ fn entries_of(entries: &[Change], session: u32) -> Option<u32> {
     Some(count)
 }
 
-/// The entries that the sessions 1 to n make in threads.
-fn entries_made<R: Threads + Wait + Sync>(
+/// The history that the sessions 1 to n make in threads.
+fn history_made<R: Threads + Wait + Sync>(
     rt: &R,
     alloc: Global,
     n: u32,
     times: u32,
     reader: u32,
-) -> Result<Vec<Change>, Fail>
+) -> Result<History, Fail>
     requires { 0 < n }
 {
     let (hub, mut seats) = Hub::open(rt, alloc, worked(alloc)?, 1_000_000, n)?;
     let done = work_all(rt, alloc, &hub, seats.as_mut_slice(), times, reader);
     let history = hub.close(seats);
     if done {
-        return Ok(history.entries);
+        return Ok(history);
     }
     Err("not all was taken")?
 }
 
 #[test]
 fn two_in_threads(rt: HostRuntime) -> Result<(), Fail> {
-    let entries = entries_made(&rt, rt.alloc(), 2, 2_000, 0)?;
+    let history = history_made(&rt, rt.alloc(), 2, 2_000, 0)?;
+    let entries = &history.entries;
     assert!(rt; entries.len() == 4_000);
-    assert!(rt; entries_of(&entries, 1) == Some(2_000));
-    assert!(rt; entries_of(&entries, 2) == Some(2_000));
+    assert!(rt; entries_of(entries, 1) == Some(2_000));
+    assert!(rt; entries_of(entries, 2) == Some(2_000));
     Ok(())
 }
 
 #[test]
 fn seven_and_a_reader(rt: HostRuntime) -> Result<(), Fail> {
-    let entries = entries_made(&rt, rt.alloc(), 8, 200, 8)?;
+    let history = history_made(&rt, rt.alloc(), 8, 200, 8)?;
+    let entries = &history.entries;
     assert!(rt; entries.len() == 1_400);
     for session in 1..8u32 {
-        assert!(rt; entries_of(&entries, session) == Some(200), "at {session}");
+        assert!(rt; entries_of(entries, session) == Some(200), "at {session}");
     }
     Ok(())
 }

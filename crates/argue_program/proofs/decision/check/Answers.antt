@@ -1,5 +1,5 @@
 use Rattle.std.proofs.Common.{◌≡◌, ◌∙◌, sym, Err}
-use Rattle.argue_program.specs.declared.ended.Status.TheVariants.{ReadFault}
+use Rattle.argue_commands.specs.declared.ended.Status.TheVariants.{ReadFault}
 use Rattle.argue_program.proofs.RowsLemmas.{check_stopped}
 use Rattle.argue_program.proofs.decision.check.Goals as goal
 

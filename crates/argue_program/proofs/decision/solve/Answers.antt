@@ -1,6 +1,6 @@
 use Rattle.std.proofs.Common.{◌≡◌, ◌∙◌, sym, Ok, Err}
 use Rattle.argue_outside.specs.declared.Role.TheVariants.{Framework}
-use Rattle.argue_program.specs.declared.ended.Status.TheVariants.{ReadFault}
+use Rattle.argue_commands.specs.declared.ended.Status.TheVariants.{ReadFault}
 use Rattle.argue_program.proofs.RowsLemmas.{solve_session, solve_stopped}
 use Rattle.argue_program.proofs.decision.solve.Goals as goal
 

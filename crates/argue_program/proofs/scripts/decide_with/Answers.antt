@@ -1,7 +1,7 @@
 use Rattle.std.proofs.Common.{refl, map}
 use Rattle.std.specs.String.{string_bytes}
 use Rattle.argue_words.specs.Words.{requested}
-use Rattle.argue_program.specs.Inputs.{reading}
+use Rattle.argue_commands.specs.Inputs.{reading}
 use Rattle.argue_program.specs.Rows.{row_of}
 use Rattle.argue_program.proofs.RowsLemmas.{CountsReads-none, EndsCommand-memory, IsEndingOf-stopped, takes_memory}
 use Rattle.argue_program.proofs.scripts.decide_with.Goals as goal

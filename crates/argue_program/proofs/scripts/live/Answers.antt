@@ -1,5 +1,5 @@
 use Rattle.std.proofs.Common.{◌≡◌, ◌∙◌, sym, Ok, Err}
-use Rattle.argue_program.specs.declared.ended.Status.TheVariants.{ReadFault}
+use Rattle.argue_commands.specs.declared.ended.Status.TheVariants.{ReadFault}
 use Rattle.argue_program.proofs.ScriptLemmas.{live_served, live_stopped}
 use Rattle.argue_program.proofs.scripts.live.Goals as goal
 

@@ -1,0 +1,136 @@
+-- The inputs of a run, and how one of them ends it.
+use Rattle.std.specs.Prelude.{◌≡◌, ℕ, ◌≤◌, ◌⊎◌, List, [], ◌∷◌, length, Contains, Err}
+use Rattle.argue_outside.specs.Outside.{FaultCounted, HoldsWhole, IsLonger, KnownFile}
+use Rattle.argue_outside.specs.declared.Role.{Role}
+use Rattle.argue_outside.specs.declared.Role.TheVariants.{Framework, Script as OfScript, Answer as OfAnswer, Certificate as OfCertificate}
+use Rattle.iccma_tasks.specs.AnswerText.{IsFaultOf}
+use Rattle.certificate_text.specs.Reading.{ReadsAs as CertReadsAs}
+use Rattle.certificate_text.specs.declared.fault.CertFault.TheVariants.{At}
+use Rattle.script_text.specs.ScriptFaults.{IsFirstFault as IsFirstScriptFault}
+use Rattle.script_text.specs.ScriptText.{IsScript}
+use Rattle.script_text.specs.declared.script.Script.{Script}
+use Rattle.semantics.specs.Frameworks.{Framework as AnyFramework}
+use Rattle.framework_text.specs.FrameworkText.{IsFirstFault, ReadsAs}
+use Rattle.af_format.specs.declared.fault.ReadFault.{ReadFault as FrameworkFault}
+use Rattle.af_format.specs.declared.fault.ReadFault.TheVariants as fault
+use Rattle.argue_commands.specs.declared.ended.Cause.{Cause}
+use Rattle.argue_commands.specs.declared.ended.Cause.TheVariants as cause
+use Rattle.argue_commands.specs.declared.ended.Limit.TheVariants as limit
+use Rattle.argue_commands.specs.declared.ended.Refusal.TheVariants.{Line}
+use Rattle.argue_commands.specs.declared.ended.Status.{Status}
+use Rattle.argue_commands.specs.declared.ended.Status.TheVariants.{InputRefused, ReadFault, WantOfMemory, Limit}
+use Rattle.num_text.specs.declared.limit.TheConstants.{INPUT_LIMIT}
+
+-- what is known of the files before a run, and the faults of reading before and after it
+pub record Reading : Type 1 where
+  pub holds : List ℕ → KnownFile
+  pub Serves : List ℕ → Type 0
+  pub old_count : Role → ℕ
+  pub new_count : Role → ℕ
+
+abbrev pub reading : (List ℕ → KnownFile) → (List ℕ → Type 0) → (Role → ℕ) → (Role → ℕ) → Reading
+reading holds Serves old_count new_count =
+    record { holds = holds; Serves = Serves; old_count = old_count; new_count = new_count }
+
+-- a file that a command reads, and what for
+pub record Input : Type 0 where
+  pub role : Role
+  pub file : List ℕ
+
+abbrev pub input : Role → List ℕ → Input
+input role file = record { role = role; file = file }
+
+-- these are the file's bytes, as far as they are known, and no more than the limit
+pub record HasBytes (known : KnownFile) (bytes : List ℕ) : Type 0 where
+  pub held : HoldsWhole known bytes
+  pub within : length bytes ≤ INPUT_LIMIT
+
+-- the first fault of bytes that are read in a role: a row for each kind of text
+abbrev pub IsFirstFaultIn : Role → List ℕ → ℕ → Cause → Type 0
+IsFirstFaultIn (Framework k) bytes line (cause.Framework cause) = IsFirstFault bytes line cause
+IsFirstFaultIn OfScript bytes line (cause.Script cause) = IsFirstScriptFault bytes line cause
+IsFirstFaultIn OfAnswer bytes line (cause.Answer cause) = IsFaultOf bytes line cause
+IsFirstFaultIn OfCertificate bytes line (cause.Certificate cause) = CertReadsAs bytes (Err (At line cause))
+IsFirstFaultIn _ bytes line cause = ⊥
+
+-- the text has no fault
+abbrev pub IsSoundIn : Role → List ℕ → Type 0
+IsSoundIn of bytes = (line : ℕ) (cause : Cause) → ¬ IsFirstFaultIn of bytes line cause
+
+-- the input has been read whole
+abbrev pub IsRead : Reading → Input → Type 0
+IsRead found input = (bytes : List ℕ) × HasBytes (found.holds input.file) bytes
+
+-- the input has been read whole, and its text has no fault
+pub record IsSound (found : Reading) (input : Input) : Type 0 where
+  pub bytes : List ℕ
+  pub has : HasBytes (found.holds input.file) bytes
+  pub faultless : IsSoundIn input.role bytes
+
+-- the input's text has this first fault
+pub record HasFirstFault (found : Reading) (input : Input) (line : ℕ) (cause : Cause) : Type 0 where
+  pub bytes : List ℕ
+  pub has : HasBytes (found.holds input.file) bytes
+  pub first : IsFirstFaultIn input.role bytes line cause
+
+-- a read of the input failed: the fault was counted, and the file isn't served
+pub record HasReadFault (found : Reading) (input : Input) : Type 0 where
+  pub counted : FaultCounted (found.old_count input.role) (found.new_count input.role)
+  pub unserved : ¬ found.Serves input.file
+
+-- how one input ends a run
+abbrev pub StopsAt : Reading → Status → Input → Type 0
+StopsAt found (InputRefused (Line role line cause)) input = (role ≡ input.role) × HasFirstFault found input line cause
+StopsAt found (ReadFault role) input = (role ≡ input.role) × HasReadFault found input
+StopsAt found (Limit limit.Input) input = IsLonger (found.holds input.file) INPUT_LIMIT
+StopsAt found _ input = ⊥
+
+-- the inputs before one that ends the run so: a text has its fault told where those before it have none
+abbrev pub Passes : Reading → Status → Input → Type 0
+Passes found (InputRefused refusal) input = IsSound found input
+Passes found _ input = IsRead found input
+
+-- the inputs behind one that ends the run so: all are read before a fault of a text is told
+abbrev pub Follow : Reading → Status → List Input → Type 0
+Follow found (InputRefused refusal) more = (input : Input) → Contains more input → IsRead found input
+Follow found _ more = Unit {0}
+
+-- the run ends at the first of the inputs that doesn't pass
+abbrev pub StopsAtFirst : Reading → Status → List Input → Type 0
+StopsAtFirst found end [] = ⊥
+StopsAtFirst found end (input ∷ more) =
+    (StopsAt found end input × Follow found end more) ⊎ (Passes found end input × StopsAtFirst found end more)
+
+-- ---- reading one input
+
+-- how a call that reads one input may end the run
+abbrev pub EndsReading : Reading → Input → Status → Type 0
+EndsReading found input end = StopsAt found end input ⊎ (end ≡ WantOfMemory)
+
+-- the framework that the file's bytes read as
+pub record IsFrameworkOf (known : KnownFile) (framework : AnyFramework) : Type 0 where
+  pub bytes : List ℕ
+  pub has : HasBytes known bytes
+  pub reads : ReadsAs bytes framework
+
+-- the script that the file's bytes read as
+pub record IsScriptOf (known : KnownFile) (script : Script) : Type 0 where
+  pub bytes : List ℕ
+  pub has : HasBytes known bytes
+  pub reads : IsScript bytes script
+
+-- the status of a run whose framework, read in this role, has the fault
+abbrev pub status_of_fault : Role → FrameworkFault → Status
+status_of_fault role (fault.Line told) = InputRefused (Line role told.line (cause.Framework told.cause))
+status_of_fault role fault.Memory = WantOfMemory
+
+-- ---- reading several inputs
+
+-- how reading the inputs whole may end the run
+abbrev pub StopsReading : Reading → List Input → Status → Type 0
+StopsReading found inputs end = StopsAtFirst found end inputs ⊎ (end ≡ WantOfMemory)
+
+-- no text is refused
+abbrev pub IsUnrefused : Status → Type 0
+IsUnrefused (InputRefused refusal) = ⊥
+IsUnrefused _ = Unit {0}

@@ -1,5 +1,0 @@
-use Rattle.argue_program.proofs.QueryLemmas.{query_found}
-use Rattle.argue_program.proofs.query.asked_with.Goals as goal
-
-pub returns : goal.returns
-returns c = query_found _ _ c.new.result c.new.ensures.value c.new.ensures.none
