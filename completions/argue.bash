@@ -1,0 +1,27 @@
+# Completion of argue for bash: to be read by a shell (source), or put where bash-completion looks.
+_argue() {
+    local word=${COMP_WORDS[COMP_CWORD]} before=${COMP_WORDS[COMP_CWORD - 1]} options
+    local tasks="DC-CO DC-GR DC-PR DC-ST DC-SST DC-ID DS-CO DS-GR DS-PR DS-ST DS-SST DS-ID
+        SE-CO SE-GR SE-PR SE-ST SE-SST SE-ID EE-CO EE-PR EE-ST EE-SST"
+    COMPREPLY=()
+    case ${COMP_WORDS[1]} in
+        check) options="-p -a -f -r -c" ;;
+        live) options="-f -s -b -c" ;;
+        bench) options="-n -x" ;;
+        *) options="-p -a -f -b -c" ;;
+    esac
+    case $before in
+        -p) COMPREPLY=($(compgen -W "$tasks" -- "$word")) ;;
+        -f | -r | -s | -c)
+            local IFS=$'\n'
+            compopt -o filenames 2>/dev/null
+            COMPREPLY=($(compgen -f -- "$word"))
+            ;;
+        -a | -b | -n | -x) ;;
+        *)
+            [ "$COMP_CWORD" -ne 1 ] || options="$options check live bench --problems --help --version"
+            COMPREPLY=($(compgen -W "$options" -- "$word"))
+            ;;
+    esac
+}
+complete -F _argue argue ./argue
