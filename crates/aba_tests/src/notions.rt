@@ -56,7 +56,7 @@ const SETS: &[(Asked, &str, &[u32], &[u32])] = &[
 ];
 
 /// The set that is asked for.
-fn asked(alloc: Global, what: Asked, f: &AbaPlain, set: &NumSet) -> Result<NumSet, Memory> {
+fn answer_of(alloc: Global, what: Asked, f: &AbaPlain, set: &NumSet) -> Result<NumSet, Memory> {
     match what {
         Asked::Closure => f.closure_of(alloc, set),
         Asked::Attacked => f.attacked_by(alloc, set),
@@ -75,7 +75,7 @@ fn gives(
     answer: &[u32],
 ) -> Result<bool, Memory> {
     let set = NumSet::from_slice(alloc, set)?;
-    Ok(asked(alloc, what, f, &set)?.as_slice() == answer)
+    Ok(answer_of(alloc, what, f, &set)?.as_slice() == answer)
 }
 
 #[test]
