@@ -18,11 +18,12 @@ use crate::reply::{AnswerStop, Answered};
 use crate::trading::Trading;
 use certificate_making::certificate_for;
 use edit_rules::query_fits;
-use iccma_tasks::Query;
-use lists::Memory;
+use iccma_tasks::{Answer, Query};
+use lists::{Items, Memory};
 use oracle_face::ClauseTrade;
-use plain_lits::{Budget, Halt};
+use plain_lits::{Budget, Halt, StepId};
 use query_answers::{Evidence, Outcome, answer};
+use set_lists::NumSet;
 use std::alloc::Global;
 
 impl Engine {
@@ -41,8 +42,29 @@ impl Engine {
         ensures units { IfOk result (λ a. a.units ≡ units) }
         ensures cut { IfOk result (λ a. AreCut self.now.log a.certificate.refutations) }
     {
-        let _form = self.parts.framework.kind();
         let (answer, sets, steps) = evidence.into_parts();
+        self.certified_by(alloc, query, answer, sets, steps, units)
+    }
+
+    /// The answer with the certificate that these sets and steps make.
+    fn certified_by(
+        &self,
+        alloc: Global,
+        query: &Query,
+        answer: Answer,
+        sets: Items<NumSet>,
+        steps: Items<StepId>,
+        units: u64,
+    ) -> Result<Answered, Memory>
+        requires { IsEvidence self.now.framework query.now self.now.log
+            (record { answer = answer; sets = sets; steps = steps }) }
+        ensures shown { IfOk result (λ a. IsShownBy self.now.framework query.now a.answer a.certificate) }
+        ensures by_log { IfOk result (λ a.
+            IsShownByLog self.now.framework query.now a.answer a.certificate.sets self.now.log) }
+        ensures units { IfOk result (λ a. a.units ≡ units) }
+        ensures cut { IfOk result (λ a. AreCut self.now.log a.certificate.refutations) }
+    {
+        let _form = self.parts.framework.kind();
         let certificate = certificate_for(
             alloc,
             self,
