@@ -28,7 +28,7 @@ DOCUMENTS = ["README.md", "CONTRIBUTING.md", "examples/README.md", "bench/RESULT
 # Words that aren't in the crates' code: commands and their options, words of other programs, of the kit and of its
 # prover's answers, and parts of texts.
 ALLOWED = set("""
-rt argue clap perf gdb strace callgrind taskset nice setsid minisat lrat_check rattle sha256sum cp timeout kill gcc
+rt assert_eq argue clap perf gdb strace callgrind taskset nice setsid minisat lrat_check rattle sha256sum cp timeout kill gcc
 memchr smallvec indexmap boxcar crossbeam_utils atomic_table atomic_blocks thiserror
 grind omega cc search rw absurd refl split ap Yields ok_part Lts start_lib grep
 GLIBC_TUNABLES LD_BIND_NOW
@@ -52,9 +52,9 @@ def known_words():
             files.add(path.stem)
         if path.suffix in (".rt", ".antt"):
             words.update(re.findall(r"[A-Za-z_][A-Za-z0-9_]*", code_of(path)))
-    for folder in ("bench", "docs", "examples", "wrong-bodies", "."):
+    for folder in ("bench", "client", "completions", "dist", "docs", "examples", "wrong-bodies", "."):
         if (TOP / folder).is_dir():
-            files.update(it.name for it in (TOP / folder).iterdir())
+            files.update(name for it in (TOP / folder).iterdir() for name in (it.name, it.stem))
     words.update(re.findall(r"[A-Za-z_]+", (TOP / "argue").read_text()))
     return words, files
 
