@@ -57,8 +57,11 @@ fn texts(rt: HostRuntime) {
     one_reading();
     reading_is_exact();
     for &(text, expected) in TEXTS {
-        let found = written_again(rt.alloc(), text);
-        assert!(rt; matches!(found, Some(bytes) if bytes.as_slice() == expected.as_bytes()));
+        let holds = match written_again(rt.alloc(), text) {
+            Some(bytes) => bytes.as_slice() == expected.as_bytes(),
+            None => false,
+        };
+        assert!(rt; holds);
     }
 }
 
