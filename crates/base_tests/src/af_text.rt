@@ -60,10 +60,10 @@ fn written(rt: HostRuntime) {
 
 /// Whether one argument that attacks itself is read.
 fn is_loop(alloc: Global, text: &str) -> bool {
-    matches!(
-        framework_of(alloc, text),
-        Some(framework) if framework.live().len() == 1 && framework.attack_count() == 1
-    )
+    match framework_of(alloc, text) {
+        Some(framework) => framework.live().len() == 1 && framework.attack_count() == 1,
+        None => false,
+    }
 }
 
 #[test]
