@@ -46,6 +46,9 @@ fn other_kind(rt: HostRuntime) {
 /// The text that is written of what is read of another.
 fn written_again(alloc: Global, text: &str) -> Option<Bytes> {
     let framework = framework_of(alloc, text)?;
+    if !framework.is_solid() {
+        return None;
+    }
     write_af(alloc, &framework).ok()
 }
 
