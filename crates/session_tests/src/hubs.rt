@@ -23,11 +23,21 @@ fn worked(alloc: Global) -> Result<Framework, Memory> {
 /// How a commit has to end: at which front, or why not.
 type Ending = Result<u64, CommitFault>;
 
+/// Whether a refusal is the one that is wanted.
+fn is_refused_so(fault: CommitFault, wanted: Ending) -> bool {
+    match (fault, wanted) {
+        (CommitFault::HistoryFull(front), Err(CommitFault::HistoryFull(other))) => front == other,
+        (CommitFault::Edit(fault, front), Err(CommitFault::Edit(other, at))) => fault == other
+            && front == at,
+        _ => false,
+    }
+}
+
 /// Whether a commit ended so.
 fn ends_so(told: Result<Committed, CommitFault>, wanted: Ending) -> bool {
     match told {
-        Ok(done) => wanted == Ok(done.front),
-        Err(fault) => wanted == Err(fault),
+        Ok(done) => matches!(wanted, Ok(front) if front == done.front),
+        Err(fault) => is_refused_so(fault, wanted),
     }
 }
 
