@@ -23,8 +23,8 @@ The stable interface, on which other modules may rely:
 
 `solve(framework, task, query=None, budget=None)` returns `Yes`, `No`, `Sets` or `Unknown`. The first three have a
 `certificate`, a text; `Yes` and `No` a `witness`, a tuple of rising numbers or None; `Sets` has `sets`, a tuple of such
-tuples in the program's order. `check(framework, task, answer, query=None)` returns `Accepted` or `Rejected`. `Script`
-runs edits and questions on a framework that changes.
+tuples in the program's order. `check(framework, task, answer, query=None)` returns `Accepted` or `Rejected`. A `Script`
+has edits and questions on a framework that changes; `Script.run` returns its `Transcript`.
 
 Every other ending of the program is an exception, a subclass of `ArgueError`, named as in the README's table of statuses.
 Nothing is printed. Where the program is found: the argument `program`, else the environment variable BURGAOUEZ_ARGUE,
@@ -280,7 +280,9 @@ class Framework:
         (Rule(number=1, head=2, body=(1,)),)
         """
         assumed = tuple(sorted(set(assumptions)))
-        numbered = tuple(Rule(number, head, tuple(body)) for number, (head, body) in enumerate(rules, start=1))
+        numbered = tuple(
+            Rule(number, head, tuple(dict.fromkeys(body))) for number, (head, body) in enumerate(rules, start=1)
+        )
         if size is None:
             used = [*assumed, *contraries.values(), *(n for rule in numbered for n in (rule.head, *rule.body))]
             size = max(used, default=0)
@@ -674,11 +676,14 @@ def _run(program: str, words: Sequence[str], seconds: Optional[float]) -> _Endin
 
 
 def _end(child: subprocess.Popen) -> None:
+    """Ends the child and its group, and waits for nobody who holds its output open."""
     try:
         os.killpg(child.pid, signal.SIGKILL)
     except ProcessLookupError:
         pass
-    child.communicate()
+    child.stdout.close()
+    child.stderr.close()
+    child.wait()
 
 
 LINE_FAULTS = {kind.source: kind for kind in (FrameworkFault, AnswerFault, CertificateFault, ScriptFault)}
@@ -813,3 +818,335 @@ def _verdict_of(ending: _Ending) -> Verdict:
         case 0, _:
             raise UnexpectedEnding(0, ending.output)
     raise _error_of(ending)
+
+
+# Scripts: edits and questions on a framework that changes
+
+
+class AddArgument(NamedTuple):
+    """`arg N`"""
+
+    number: int
+
+
+class DropArgument(NamedTuple):
+    """`noarg N`: the argument goes, with its attacks."""
+
+    number: int
+
+
+class AddAttack(NamedTuple):
+    """`att B A`"""
+
+    attacker: int
+    target: int
+
+
+class DropAttack(NamedTuple):
+    """`noatt B A`"""
+
+    attacker: int
+    target: int
+
+
+class AddAssumption(NamedTuple):
+    """`asm A C`: with the contrary 0 nothing speaks against the assumption."""
+
+    assumption: int
+    contrary: int = 0
+
+
+class DropAssumption(NamedTuple):
+    """`noasm A`"""
+
+    assumption: int
+
+
+class SetContrary(NamedTuple):
+    """`con A C`: with the contrary 0 nothing speaks against the assumption any more."""
+
+    assumption: int
+    contrary: int
+
+
+class AddRule(NamedTuple):
+    """`rule H B1 .. Bk`"""
+
+    head: int
+    body: Numbers = ()
+
+
+class DropRule(NamedTuple):
+    """`norule R`"""
+
+    rule: int
+
+
+class Ask(NamedTuple):
+    """`ask TASK` or `ask TASK N`"""
+
+    task: str
+    query: Optional[int] = None
+
+
+Edit = Union[
+    AddArgument,
+    DropArgument,
+    AddAttack,
+    DropAttack,
+    AddAssumption,
+    DropAssumption,
+    SetContrary,
+    AddRule,
+    DropRule,
+]
+Command = Union[Edit, Ask]
+
+EDITS: dict[str, type] = {
+    "arg": AddArgument,
+    "noarg": DropArgument,
+    "att": AddAttack,
+    "noatt": DropAttack,
+    "asm": AddAssumption,
+    "noasm": DropAssumption,
+    "con": SetContrary,
+    "rule": AddRule,
+    "norule": DropRule,
+}
+COMMAND_WORDS = {kind: word for word, kind in EDITS.items()} | {Ask: "ask"}
+LAST_SESSION = 8
+
+
+@dataclass(frozen=True)
+class ScriptLine:
+    """What a session, 1 to 8, does."""
+
+    session: int
+    command: Command
+
+
+@dataclass(frozen=True)
+class Taken:
+    """`OK`: the edit is taken; `rule` is the number of the rule that it adds, if it adds one."""
+
+    rule: Optional[int] = None
+
+
+@dataclass(frozen=True)
+class Refused:
+    """`REFUSED NAME`: the framework refuses the edit, or the query doesn't fit it; with the number that it tells."""
+
+    name: str
+    number: Optional[int] = None
+
+
+@dataclass(frozen=True)
+class Limited:
+    """`LIMIT NAME`: a limit of the history, of the sets of an answer or of the session's log is reached."""
+
+    name: str
+
+
+Outcome = Union[Taken, Refused, Limited, Answer]
+
+
+@dataclass(frozen=True)
+class Reply:
+    """What a session got for its `place`-th line, counted from 1: from the framework after the first `at` edits."""
+
+    session: int
+    place: int
+    command: Command
+    at: int
+    outcome: Outcome
+
+
+@dataclass(frozen=True)
+class Entry:
+    """An edit that was taken, and the session that made it."""
+
+    session: int
+    edit: Edit
+
+
+@dataclass(frozen=True)
+class Transcript:
+    """The replies, session by session and line by line, and the edits that were taken, in order."""
+
+    replies: tuple[Reply, ...]
+    history: tuple[Entry, ...]
+
+    def of_session(self, session: int) -> tuple[Reply, ...]:
+        """The replies to the lines of one session, in order."""
+        return tuple(reply for reply in self.replies if reply.session == session)
+
+
+def command_text(command: Command) -> str:
+    """A command as a script's line has it, without the session.
+
+    >>> command_text(AddRule(4, (1, 2))), command_text(Ask("SE-GR"))
+    ('rule 4 1 2', 'ask SE-GR')
+    """
+    word = COMMAND_WORDS[type(command)]
+    match command:
+        case AddRule(head, body):
+            return " ".join([word, str(head), *map(str, body)])
+        case Ask(task, query):
+            return f"{word} {task}" if query is None else f"{word} {task} {query}"
+    return " ".join([word, *map(str, command)])
+
+
+@dataclass(frozen=True)
+class Script:
+    """The lines of all sessions. Each session does its own in order, all at the same time.
+
+    >>> three = Framework.of_attacks([(1, 2), (2, 3)])
+    >>> script = Script.from_text("1 ask DC-PR 3\\n1 noatt 1 2\\n1 ask SE-GR\\n")
+    >>> for reply in script.run(three).replies:
+    ...     print(reply.at, reply.outcome)
+    0 Yes(witness=(1, 3))
+    1 Taken(rule=None)
+    1 Sets(sets=((1, 2),))
+    """
+
+    lines: tuple[ScriptLine, ...]
+
+    @classmethod
+    def of_commands(cls, commands: Iterable[Command], session: int = 1) -> Script:
+        """The script in which one session does all the commands."""
+        return cls(tuple(ScriptLine(session, command) for command in commands))
+
+    @classmethod
+    def from_text(cls, text: str) -> Script:
+        """Raises ScriptFault for the first line with a fault, named as the program names it."""
+        return cls(tuple(_script_line(line) for line in _kept(_lines(text))))
+
+    def text(self) -> str:
+        """The script as a file has it."""
+        return "".join(f"{line.session} {command_text(line.command)}\n" for line in self.lines)
+
+    def run(
+        self,
+        framework: Framework,
+        budget: Optional[int] = None,
+        *,
+        certify: bool = True,
+        seconds: Optional[float] = None,
+        program: Union[str, os.PathLike, None] = None,
+    ) -> Transcript:
+        """Runs the script. `budget` is what each query may learn; the rest is as of `solve`.
+
+        Each answer has its certificate. A query that is refused or spends its budget is a reply, and no exception.
+        Raises ScriptFault for lines that are none, and the exceptions of `solve`.
+        """
+        with tempfile.TemporaryDirectory() as folder:
+            words = ["live", "-f", _write(folder, "framework", framework.text())]
+            words += ["-s", _write(folder, "script", self.text())]
+            certificates = os.path.join(folder, "certificates")
+            words += [] if budget is None else ["-b", str(budget)]
+            words += ["-c", certificates] if certify else []
+            ending = _run(find_program(program), words, seconds)
+            if ending.status != 0:
+                raise _error_of(ending)
+            shown = _certificates_of(_read_if_there(certificates) or "")
+        try:
+            return _transcript_of(self, ending.output, shown)
+        except (ValueError, LookupError, TypeError):
+            raise UnexpectedEnding(0, ending.output) from None
+
+
+def _script_line(line: _Line) -> ScriptLine:
+    session = _number(line.fields[0])
+    if session is None or not 1 <= session <= LAST_SESSION:
+        raise ScriptFault(line.number, "BadSession")
+    word, fields = (line.fields[1], line.fields[2:]) if len(line.fields) > 1 else ("", [])
+    if not _has_command(word, len(fields)):
+        raise ScriptFault(line.number, "BadCommand")
+    if word == "ask":
+        return ScriptLine(session, _ask(line.number, fields))
+    numbers = [_number(part) for part in fields]
+    if None in numbers:
+        raise ScriptFault(line.number, "BadNumber")
+    return ScriptLine(session, _edit(word, numbers))
+
+
+def _has_command(word: str, count: int) -> bool:
+    if word == "ask":
+        return count in (1, 2)
+    if word == "rule":
+        return count >= 1
+    return word in EDITS and count == len(EDITS[word]._fields)
+
+
+def _edit(word: str, numbers: Sequence[int]) -> Edit:
+    return AddRule(numbers[0], tuple(numbers[1:])) if word == "rule" else EDITS[word](*numbers)
+
+
+def _ask(line: int, fields: Sequence[str]) -> Ask:
+    task = fields[0]
+    if task not in TASKS:
+        raise ScriptFault(line, "BadTask")
+    query = _number(fields[1]) if len(fields) == 2 else None
+    if len(fields) == 2 and query is None:
+        raise ScriptFault(line, "BadNumber")
+    if (query is None) == task.startswith("D"):
+        raise ScriptFault(line, "BadQuery")
+    return Ask(task, query)
+
+
+class _Place(NamedTuple):
+    session: int
+    place: int
+
+
+CERTIFICATE_HEAD = re.compile("# session ([0-9]+) reply ([0-9]+) front [0-9]+")
+
+
+def _certificates_of(text: str) -> dict[_Place, str]:
+    """The certificate of each answer, by the session and the place of its line."""
+    shown: dict[_Place, list[str]] = {}
+    lines: list[str] = []
+    for line in text.splitlines():
+        head = CERTIFICATE_HEAD.fullmatch(line)
+        if head is None:
+            lines.append(line)
+        else:
+            lines = shown.setdefault(_Place(int(head[1]), int(head[2])), [])
+    return {place: "\n".join(lines) + "\n" for place, lines in shown.items()}
+
+
+def _transcript_of(script: Script, output: str, shown: Mapping[_Place, str]) -> Transcript:
+    """The records in a transcript's text. Raises ValueError, LookupError or TypeError where it is none of this script."""
+    told, _, edits = output.partition("history\n")
+    replies: list[Reply] = []
+    for part in re.split("^session ", told, flags=re.MULTILINE)[1:]:
+        session = int(part.split("\n")[0])
+        commands = [line.command for line in script.lines if line.session == session]
+        pieces = re.split("^at ", part, flags=re.MULTILINE)[1:]
+        for place, (command, piece) in enumerate(zip(commands, pieces, strict=True), start=1):
+            front, *lines = piece.splitlines()
+            outcome = _outcome_of(lines, shown.get(_Place(session, place)))
+            replies.append(Reply(session, place, command, int(front), outcome))
+    return Transcript(tuple(replies), tuple(_entry_of(line) for line in edits.splitlines()))
+
+
+def _entry_of(line: str) -> Entry:
+    session, word, *numbers = line.split(" ")
+    return Entry(int(session), _edit(word, [int(number) for number in numbers]))
+
+
+def _outcome_of(lines: Sequence[str], certificate: Optional[str]) -> Outcome:
+    match lines[0].split(" "):
+        case ["OK"]:
+            return Taken()
+        case ["OK", "rule", number]:
+            return Taken(int(number))
+        case ["REFUSED", name]:
+            return Refused(name)
+        case ["REFUSED", name, number]:
+            return Refused(name, int(number))
+        case ["LIMIT", name]:
+            return Limited(name)
+        case ["UNKNOWN"]:
+            return Unknown()
+    return _answer_of(lines, certificate)
