@@ -39,7 +39,7 @@ import signal
 import subprocess
 import tempfile
 from collections.abc import Iterable, Iterator, Mapping, Sequence
-from dataclasses import dataclass, field
+from dataclasses import dataclass, field, replace
 from enum import Enum
 from pathlib import Path
 from typing import NamedTuple, Optional, Union
@@ -367,6 +367,18 @@ class Framework:
                     waiting.append(rule.head)
         return tuple(sorted(derived))
 
+    def edited(self, edit: Edit, rule: Optional[int] = None) -> Framework:
+        """The framework behind an edit that it takes. Rules keep their numbers; `rule` is that of the rule which is
+        added, the one behind the last where it isn't given.
+
+        Raises InvalidFramework where no framework has just the numbers 1 to N then: an argument is dropped, or one is
+        added that isn't the next.
+
+        >>> Framework.of_attacks([(1, 2)]).edited(DropAttack(1, 2)).attacks
+        ()
+        """
+        return _edited(self, edit, rule or max((one.number for one in self.rules), default=0) + 1)
+
     def text(self) -> str:
         """The framework in the README's format, with its sentences and names as comments. Rules are numbered anew by
         whoever reads it: from 1, in this order.
@@ -398,6 +410,33 @@ class Framework:
 def _comment(number: int, name: Optional[str], text: Optional[str]) -> str:
     words = f"# {number}" if name is None else f"# {number} {name}"
     return f"{words}: {' '.join((text or '').splitlines())}".rstrip()
+
+
+def _edited(framework: Framework, edit: Edit, rule: int) -> Framework:
+    assumed, contraries, rules = framework.assumptions, dict(framework.contraries), framework.rules
+    match edit:
+        case AddArgument(number) if number == framework.size + 1:
+            return replace(framework, size=number)
+        case AddArgument(number) | DropArgument(number):
+            raise InvalidFramework("Gap", number)
+        case AddAttack(attacker, target):
+            return replace(framework, attacks=(*framework.attacks, Attack(attacker, target)))
+        case DropAttack(attacker, target):
+            gone = Attack(attacker, target)
+            return replace(framework, attacks=tuple(attack for attack in framework.attacks if attack != gone))
+        case AddRule(head, body):
+            return replace(framework, rules=(*rules, Rule(rule, head, body)))
+        case DropRule(number):
+            return replace(framework, rules=tuple(one for one in rules if one.number != number))
+        case AddAssumption(assumption, contrary):
+            assumed = tuple(sorted({*assumed, assumption}))
+        case DropAssumption(assumption):
+            assumed, contrary = tuple(number for number in assumed if number != assumption), 0
+        case SetContrary(assumption, contrary):
+            pass
+    contraries = {number: other for number, other in contraries.items() if number != assumption}
+    contraries |= {assumption: contrary} if contrary else {}
+    return replace(framework, assumptions=assumed, contraries=contraries)
 
 
 # The reader of a framework's text
@@ -537,12 +576,15 @@ def _said(lines: list[str], size: int) -> tuple[dict[int, str], dict[int, str]]:
     """The sentences and the names that comments give to the numbers 1 to `size`."""
     texts: dict[int, str] = {}
     names: dict[int, str] = {}
+    seen: set[int] = set()
     for line in lines:
         comment = COMMENT.fullmatch(line)
-        if comment is None or len(comment[1]) > 7 or int(comment[1]) > size or int(comment[1]) in texts:
+        number = int(comment[1]) if comment and len(comment[1]) <= len(str(LARGEST_NUMBER)) else size + 1
+        if number > size or number in seen:
             continue
-        number = int(comment[1])
-        texts[number] = comment[3].strip()
+        seen.add(number)
+        if comment[3].strip():
+            texts[number] = comment[3].strip()
         if comment[2] is not None and comment[2] not in names.values():
             names[number] = comment[2]
     return texts, names
@@ -979,6 +1021,14 @@ class Transcript:
     def of_session(self, session: int) -> tuple[Reply, ...]:
         """The replies to the lines of one session, in order."""
         return tuple(reply for reply in self.replies if reply.session == session)
+
+    def framework_at(self, first: Framework, at: int) -> Framework:
+        """The framework after the first `at` edits; `first` is that before all edits. Raises as `Framework.edited`."""
+        now, rule = first, len(first.rules)
+        for entry in self.history[:at]:
+            rule += isinstance(entry.edit, AddRule)
+            now = now.edited(entry.edit, rule)
+        return now
 
 
 def command_text(command: Command) -> str:
