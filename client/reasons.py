@@ -1,0 +1,490 @@
+"""Tells the reasons of an answer in plain words.
+
+    python3 client/reasons.py -p DS-PR -a 4 -f examples/inheritance.af
+    python3 client/reasons.py -p EE-PR -f examples/hearing.af --page hearing.html
+
+The reasons are those of the answer's certificate, or of a shorter one: nothing is told that `argue check` hasn't accepted.
+
+    >>> from burgaouez import Framework
+    >>> print(reasons(Framework.of_attacks([(1, 2), (2, 3)]), "DC-PR", 2).answer_text)
+    No: no position that defends itself holds 2.
+"""
+from __future__ import annotations
+
+import argparse
+import os
+import sys
+import textwrap
+from dataclasses import dataclass, field, replace
+from typing import Iterator, Optional, Sequence, Union
+
+from burgaouez import (
+    Accepted, Answer, ArgueError, Framework, No, Numbers, Sets, Unknown, Yes, check, solve,
+)
+from certificate import MODES, Axiom, Certificate, Claim, Step, View, claims_of, read_certificate
+from narration import Narrator, Sentence, name, names_of, plain, sentence, set_name
+from records import Refutation, read_refutation, walk
+from search import SearchStopped, shorter_steps
+from standing import MOST_MEMBERS, Standing, common_part, derivation, in_order, standings, told
+
+# Longer reasons are told by a summary.
+MOST_SENTENCES = 40
+# Larger frameworks have no shorter proof searched.
+MOST_SEARCHED = 150
+
+SEMANTICS = {
+    "CO": ("complete", "A complete set is a position without conflict that holds just what it defends."),
+    "GR": ("grounded", "The grounded set holds what stands without any choice, and nothing else."),
+    "PR": ("preferred", "A preferred set is a position without conflict that defends itself and can't be made larger."),
+    "ST": ("stable", "A stable set is a position without conflict that attacks everything outside of it. There may be none."),
+    "SST": ("semi-stable", "A semi-stable set is a position that defends itself and leaves as little as can be without a verdict."),
+    "ID": ("ideal", "The ideal set is the largest position that defends itself and lies within every preferred set."),
+}
+CHECKED = (
+    "Checked by `argue check`: the answer follows from the framework as it is written. That says nothing of whether "
+    "what is written is true, or whether something was left out."
+)
+
+
+class NotAccepted(ArgueError):
+    """`argue check` doesn't take the certificate for this answer, so there are no reasons to tell."""
+
+
+class NoAnswer(ArgueError):
+    """The program spent its budget without an answer."""
+
+
+@dataclass
+class Section:
+    """A heading with its sentences. Folded ones stand back behind a stronger reason or a summary."""
+
+    heading: str
+    intro: str = ""
+    sentences: list[Sentence] = field(default_factory=list)
+    folded: bool = False
+    summary: str = ""
+    rests_on: list[int] = field(default_factory=list)
+
+    def all(self) -> Iterator[Sentence]:
+        """All sentences, those of cases too."""
+        for one in self.sentences:
+            yield from one.all()
+
+
+@dataclass
+class Reasons:
+    """The reasons of one answer: texts with marks for names, and the records that they were made of.
+
+    `certificate` is the one that was told, which `argue check` has accepted; `sets` are those that the text numbers from 1.
+    """
+
+    framework: Framework
+    task: str
+    query: Optional[int]
+    answer: Union[Yes, No, Sets]
+    certificate: Certificate
+    question: str
+    gloss: str
+    said: str
+    sets: list[Numbers]
+    sections: list[Section]
+    refutations: list[Refutation]
+
+    def fill(self, text: str) -> str:
+        """A text with names in the place of its marks."""
+        return plain(text, lambda n: self.framework.names.get(n, str(n)), self.set_label)
+
+    def set_label(self, number: int) -> str:
+        """A set's name in the text."""
+        return f"set {number}" if len(self.sets) > 1 else "the set"
+
+    @property
+    def answer_text(self) -> str:
+        """The answer in one sentence."""
+        return self.fill(self.said)
+
+    def text(self, full: bool = False, width: int = 100) -> str:
+        """The reasons as plain text; `full` tells what a summary or a stronger reason stands for."""
+        return "\n".join(_text_lines(self, full, width)) + "\n"
+
+
+# Finding what is to be told
+
+
+def reasons(
+    framework: Framework,
+    task: str,
+    query: Optional[int] = None,
+    answer: Optional[Answer] = None,
+    certificate: Optional[str] = None,
+    *,
+    program: Union[str, os.PathLike, None] = None,
+    seconds: Optional[float] = None,
+) -> Reasons:
+    """The reasons of an answer, which is asked for where it isn't given.
+
+    Raises NotAccepted where `argue check` rejects the answer with its certificate, CertificateFault where it can't be read,
+    NoAnswer where the budget was spent, and what `burgaouez.solve` raises.
+    """
+    run = {"program": program, "seconds": seconds}
+    if answer is None:
+        answer = solve(framework, task, query, **run)
+    if isinstance(answer, Unknown):
+        raise NoAnswer("the budget was spent")
+    shown = certificate if certificate is not None else answer.certificate
+    verdict = check(framework, task, answer, query, shown, **run)
+    if not isinstance(verdict, Accepted):
+        raise NotAccepted(f"argue check rejects the certificate: {verdict.cause} {verdict.refutation} {verdict.step}")
+    view = View(framework)
+    read = read_certificate(shown)
+    claims = claims_of(view, task, query, answer, read.sets)
+    short = shorter(view, claims, read)
+    if short != read and not isinstance(check(framework, task, answer, query, short.text(), **run), Accepted):
+        short = read
+    return _Telling(view, task, query, answer, short, claims, run).whole()
+
+
+def shorter(view: View, claims: Sequence[Claim], read: Certificate) -> Certificate:
+    """The certificate with each refutation exchanged for a shorter one, where a search finds one."""
+    if len(view.members) > MOST_SEARCHED or view.framework.size > 3 * MOST_SEARCHED:
+        return read
+    return Certificate(read.sets, [_shorter(view, claim, steps) for claim, steps in zip(claims, read.refutations)])
+
+
+def _shorter(view: View, claim: Claim, steps: list[Step]) -> list[Step]:
+    try:
+        found = shorter_steps(view, claim, steps)
+    except SearchStopped:
+        return steps
+    return min(found, steps, key=lambda one: _length(view, claim, one))
+
+
+def _length(view: View, claim: Claim, steps: list[Step]) -> int:
+    """How many sentences a refutation takes."""
+    read = read_refutation(view, claim, steps)
+    return sum(1 for _ in walk([*read.items, *(item for lemma in read.lemmas for item in lemma.items)]))
+
+
+class _Telling:
+    """The making of one answer's reasons."""
+
+    def __init__(self, view: View, task: str, query, answer, certificate: Certificate, claims: list[Claim], run: dict):
+        self.view, self.task, self.query, self.answer = view, task, query, answer
+        self.problem, self.semantics = task.split("-")
+        self.certificate, self.claims, self.run = certificate, claims, run
+        self.narrator = Narrator(view)
+        self.sections: list[Section] = []
+        self.holds = "assumes" if view.is_rules else "holds"
+
+    def whole(self) -> Reasons:
+        """The reasons, in the order: what is stronger, the sets, what is beyond doubt, why there is no other."""
+        framework = self.view.framework
+        grounded = self._stronger()
+        sets = [grounded] if grounded is not None and self._is_by_grounded() else self._sets()
+        self._tell_sets(sets)
+        refutations = [
+            read_refutation(self.view, claim, steps) for claim, steps in zip(self.claims, self.certificate.refutations)
+        ]
+        self._tell_refutations(refutations, folded=grounded is not None)
+        adjective, gloss = SEMANTICS[self.semantics]
+        return Reasons(framework, self.task, self.query, self.answer, self.certificate, self._question(adjective), gloss,
+                       self._answer(adjective), sets, self.sections, refutations)
+
+    # Question and answer
+
+    def _accepted(self) -> str:
+        if not self.view.is_rules:
+            return "held"
+        return "assumed" if self.query in self.view.assumed else "derived"
+
+    def _question(self, adjective: str) -> str:
+        if self.problem == "SE":
+            return f"What does {'the' if self.semantics in ('GR', 'ID') else 'a'} {adjective} set hold?"
+        if self.problem == "EE":
+            return f"Which are the {adjective} sets?"
+        if self.semantics in ("GR", "ID"):
+            return f"Is {name(self.query)} {self._accepted()} by the {adjective} set?"
+        return f"Is {name(self.query)} {self._accepted()} by {'some' if self.problem == 'DC' else 'every'} {adjective} set?"
+
+    def _answer(self, adjective: str) -> str:
+        verb = {"held": "holds", "assumed": "assumes", "derived": "derives"}[self._accepted()]
+        match self.problem, self.answer:
+            case "SE", Sets():
+                return f"It holds {names_of(self.answer.sets[0]) or 'nothing'}."
+            case "EE", Sets():
+                count = len(self.answer.sets)
+                return f"There {'is one' if count == 1 else f'are {count}'}."
+            case "SE" | "EE", _:
+                return "There is none: no position without conflict has a verdict on everything."
+            case _ if self.semantics in ("GR", "ID"):
+                said = f"it {verb} {name(self.query)}" if isinstance(self.answer, Yes) else f"it doesn't {verb[:-1]} {name(self.query)}"
+                return f"{'Yes' if isinstance(self.answer, Yes) else 'No'}: {said}."
+            case "DC", Yes():
+                return f"Yes: here is one that {verb} {name(self.query)}."
+            case "DC", No():
+                position = "stable set" if self.semantics == "ST" else "semi-stable set" if self.semantics == "SST" \
+                    else "position that defends itself"
+                return f"No: no {position} {verb} {name(self.query)}."
+            case "DS", Yes():
+                return f"Yes: every {adjective} set {verb} {name(self.query)}."
+        return f"No: here is one that doesn't {verb[:-1]} {name(self.query)}."
+
+    # Sets
+
+    def _is_by_grounded(self) -> bool:
+        return self.problem in ("DC", "DS") and not self._sets()
+
+    def _sets(self) -> list[Numbers]:
+        """The sets that the text numbers, in the order that the side clauses number them in."""
+        if self.certificate.sets:
+            return list(self.certificate.sets)
+        if isinstance(self.answer, Sets):
+            return list(self.answer.sets)
+        return [] if self.answer.witness is None else [self.answer.witness]
+
+    def _grounded(self) -> Numbers:
+        """The grounded set, as the program answers and its check accepts."""
+        found = solve(self.view.framework, "SE-GR", **self.run)
+        if not isinstance(check(self.view.framework, "SE-GR", found, **self.run), Accepted):
+            raise NotAccepted("argue check rejects the grounded set")
+        return found.sets[0]
+
+    def _stronger(self) -> Optional[Numbers]:
+        """Tells how the grounded set decides the query, where it does; gives that set then, or where the task is about it."""
+        about_it = self.semantics == "GR" or self.task == "DS-CO"
+        if self.query is None or (isinstance(self.answer, Yes) == (self.problem == "DC") and not about_it):
+            return None
+        if self.problem == "DC" and not self.view.is_rules and self.query in self.view.attackers[self.query]:
+            fact = Standing("itself", (self.query,), (self.query,), (_attack(self.query, self.query),), ())
+            self._tell("A short reason", "Nothing that attacks itself is ever held.", [fact])
+            return ()
+        grounded = self._grounded()
+        positive = self.query in (self.view.framework.closure(grounded) if self.view.is_rules else grounded)
+        fallen = self.query in self.view.attacked(grounded)
+        if positive or fallen:
+            intro = "What follows here stands without any choice, and so in every complete set, and all that can be made larger."
+            self._tell("Beyond doubt already", intro, self._chain_to(grounded, positive))
+            return grounded
+        return grounded if about_it else None
+
+    def _chain_to(self, grounded: Numbers, positive: bool) -> list[Standing]:
+        """What of the grounded set the query needs."""
+        found = standings(self.view, grounded)
+        goal = {self.query}
+        kept = []
+        for one in reversed(found):
+            if one.kind in ("falls", "attacked"):
+                wanted = not positive and self.query in one.about
+                if wanted and one.kind == "falls":
+                    one = replace(one, about=(self.query,), facts=(_attack(one.by[0], self.query),))
+            else:
+                wanted = goal.intersection(one.about)
+            if wanted:
+                goal.update(one.by)
+                kept.insert(0, one)
+        return kept
+
+    def _tell(self, heading: str, intro: str, found: Sequence[Standing], folded: bool = False) -> None:
+        if found:
+            sentences = told(self.view, found, self.narrator.number)
+            self.narrator.number += len(sentences)
+            self.sections.append(Section(heading, intro, sentences, folded))
+
+    def _tell_sets(self, sets: list[Numbers]) -> None:
+        opens = self.semantics in ("CO", "GR") or self.task == "DS-CO"
+        common: Numbers = ()
+        if len(sets) > 1 and not self.view.is_rules:
+            common = common_part(self.view, sets)
+            if len(common) <= MOST_MEMBERS:
+                self._tell("In every set", f"Each set holds {names_of(common)}.", standings(self.view, common))
+        for number, members in enumerate(sets, 1):
+            heading = f"Set {number}{self._label(sets, number)}" if len(sets) > 1 else "The set"
+            intro = f"It {self.holds} {names_of(members) or 'nothing'}."
+            small = len(members) <= MOST_MEMBERS and len(self.view.members) <= 2 * MOST_MEMBERS
+            found = standings(self.view, members, common, opens) if small else []
+            sentences = told(self.view, found, self.narrator.number)
+            self.narrator.number += len(sentences)
+            self.sections.append(Section(heading, intro, sentences))
+
+    def _label(self, sets: list[Numbers], number: int) -> str:
+        """What sets a set apart: a member that no other has, or two."""
+        others = [set(one) for n, one in enumerate(sets, 1) if n != number]
+        members = sets[number - 1]
+        for one in members:
+            if not any(one in other for other in others):
+                return f", with {name(one)}"
+        for one in members:
+            for two in members:
+                if one < two and not any(one in other and two in other for other in others):
+                    return f", with {name(one)} and {name(two)}"
+        return ""
+
+    # Refutations
+
+    def _tell_refutations(self, refutations: list[Refutation], folded: bool) -> None:
+        ground = self.narrator.common_ground(refutations)
+        if ground:
+            mode = next(literal.atom[0] for literal in self.claims[0].goals if literal.atom[0] in MODES)
+            from words import POSITIONS
+            self.sections.append(Section("Beyond doubt", f"This is so of every {POSITIONS[mode][2:]}.", ground, folded))
+        for refutation in refutations:
+            intro = self.narrator.supposition(refutation.claim, refutation.supposed, refutation.sides) + "."
+            section = Section(self._heading(refutation.claim), intro, self.narrator.refutation(refutation), folded)
+            self._summarize(section, refutation)
+            self.sections.append(section)
+
+    def _heading(self, claim: Claim) -> str:
+        match claim.about:
+            case "largest":
+                return "Why nothing can be added"
+            case "widest":
+                return "Why no position has more verdicts"
+            case "unattacked":
+                return "Why no position attacks the ideal set"
+            case "ideal":
+                return "Why the ideal set can't be larger"
+            case "wider":
+                return "Why no other position has more verdicts"
+            case "same":
+                return "Why no other position has the same verdicts"
+        if self.problem == "EE" and isinstance(self.answer, Sets):
+            return "Why there is no other"
+        return "Why"
+
+    def _summarize(self, section: Section, refutation: Refutation) -> None:
+        count = sum(1 for _ in section.all())
+        if count <= MOST_SENTENCES:
+            return
+        section.rests_on = sorted({n for one in section.all() for n in one.arguments})
+        cases = sum(1 for one in section.all() if one.case is not None)
+        section.folded = True
+        section.summary = (
+            f"These reasons take {count} sentences, with {cases} {'case' if cases == 1 else 'cases'}. "
+            f"They rest on {len(section.rests_on)} of {self.view.framework.size}: {names_of(section.rests_on)}."
+        )
+
+
+def _attack(b: int, a: int):
+    from records import Fact
+    return Fact("attacks", (b, a))
+
+
+# Text
+
+
+def _text_lines(told: Reasons, full: bool, width: int) -> Iterator[str]:
+    yield from textwrap.wrap(f"Question: {told.fill(sentence(told.question))} ({' '.join(_words(told))})", width)
+    yield from textwrap.wrap(f"Answer: {told.answer_text}", width)
+    yield from textwrap.wrap(told.gloss, width)
+    yield from textwrap.wrap(CHECKED, width)
+    for section in told.sections:
+        yield ""
+        yield told.fill(section.heading).upper()
+        if section.summary and not full:
+            yield from textwrap.wrap(told.fill(section.summary) + " `--full` tells them.", width)
+            continue
+        if section.folded and not full:
+            count = sum(1 for _ in section.all())
+            yield f"Left out, for the reason above: {count} sentences, which `--full` tells."
+            continue
+        yield from textwrap.wrap(told.fill(section.intro), width)
+        for one in section.sentences:
+            yield from _sentence_lines(told, one, 0, width)
+
+
+def _words(told: Reasons) -> list[str]:
+    return [told.task] if told.query is None else [told.task, str(told.query)]
+
+
+def cited(numbers: Sequence[int]) -> str:
+    """Paragraphs in brackets, three and more in a row as a span.
+
+    >>> cited([1, 2, 3, 5])
+    ' [1 to 3, 5]'
+    """
+    parts: list[list[int]] = []
+    for number in numbers:
+        if parts and number == parts[-1][-1] + 1:
+            parts[-1].append(number)
+        else:
+            parts.append([number])
+    said = [f"{one[0]} to {one[-1]}" if len(one) > 2 else ", ".join(map(str, one)) for one in parts]
+    return f" [{', '.join(said)}]" if said else ""
+
+
+def _sentence_lines(told: Reasons, one: Sentence, depth: int, width: int) -> Iterator[str]:
+    indent = "   " * depth
+    label = f"{indent}{one.number}. "
+    words = told.fill(one.text) + cited(one.cites)
+    yield from textwrap.wrap(words, width, initial_indent=label, subsequent_indent=" " * len(label)) or [label]
+    for item in one.items:
+        yield from _sentence_lines(told, item, depth + 1, width)
+
+
+# Words
+
+
+def _parser() -> argparse.ArgumentParser:
+    parser = argparse.ArgumentParser(prog="reasons.py", description="Tells the reasons of an answer in plain words.")
+    parser.add_argument("-p", dest="task", required=True, help="the task, such as DS-PR")
+    parser.add_argument("-f", dest="file", required=True, help="the file of the framework")
+    parser.add_argument("-a", dest="query", type=int, help="the number that DC and DS ask about")
+    parser.add_argument("-r", dest="answer", help="a file with the answer, where it isn't to be asked for")
+    parser.add_argument("-c", dest="certificate", help="the file of that answer's certificate")
+    parser.add_argument("--page", help="writes a page to this file, in place of the text")
+    parser.add_argument("--picture", help="writes the picture alone, an SVG, to this file")
+    parser.add_argument("--full", action="store_true", help="tells what a summary or a stronger reason stands for")
+    return parser
+
+
+def _given(words: argparse.Namespace):
+    """The answer and certificate in files, if any are named."""
+    from burgaouez import _answer_of
+    if (words.answer is None) != (words.certificate is None):
+        raise ValueError("-r and -c belong together")
+    if words.answer is None:
+        return None, None
+    with open(words.answer, encoding="utf-8") as file:
+        answer = _answer_of([line for line in file.read().splitlines() if line.strip() and not line.startswith("#")], None)
+    with open(words.certificate, encoding="utf-8") as file:
+        return answer, file.read()
+
+
+def main(arguments: Optional[Sequence[str]] = None) -> int:
+    """Runs the words; the status is 0, 1 where there are no reasons to tell, 2 for words that don't fit."""
+    words = _parser().parse_args(arguments)
+    try:
+        framework = Framework.from_file(words.file)
+        answer, certificate = _given(words)
+        found = reasons(framework, words.task, words.query, answer, certificate)
+        _write(found, words)
+    except (ArgueError, OSError, ValueError) as error:
+        print(f"reasons.py: {_told_error(error)}", file=sys.stderr)
+        return 1
+    return 0
+
+
+def _told_error(error: Exception) -> str:
+    if isinstance(error, OSError):
+        return f"{error.filename}: {error.strerror}"
+    return f"{type(error).__name__}: {error}"
+
+
+def _write(found: Reasons, words: argparse.Namespace) -> None:
+    if words.page is None and words.picture is None:
+        sys.stdout.write(found.text(words.full))
+        return
+    import page
+    if words.page is not None:
+        _put(words.page, page.page(found))
+    if words.picture is not None:
+        _put(words.picture, page.picture_file(found))
+
+
+def _put(path: str, text: str) -> None:
+    with open(path, "w", encoding="utf-8", errors="replace") as file:
+        file.write(text)
+
+
+if __name__ == "__main__":
+    sys.exit(main())
