@@ -26,9 +26,11 @@ The stable interface, on which other modules may rely:
 tuples in the program's order. `check(framework, task, answer, query=None)` returns `Accepted` or `Rejected`. A `Script`
 has edits and questions on a framework that changes; `Script.run` returns its `Transcript`.
 
-Every other ending of the program is an exception, a subclass of `ArgueError`, named as in the README's table of statuses.
-Nothing is printed. Where the program is found: the argument `program`, else the environment variable BURGAOUEZ_ARGUE,
-else `argue` at the top of the repository that this file lies in, else `argue` on the PATH.
+Every other ending of the program is an exception, a subclass of `ArgueError`, named as in the README's table of
+statuses. Nothing is printed. Where the program is found: the argument `program`, else the environment variable
+BURGAOUEZ_ARGUE, else `argue` at the top of the repository that this file lies in, else `argue` on the PATH. That of the
+repository proves and builds the program at its first call, which takes minutes and all processors: give `seconds`, which
+ends that too, or build it by hand first.
 """
 from __future__ import annotations
 
@@ -1166,7 +1168,7 @@ def _certificates_of(text: str) -> dict[_Place, str]:
 
 
 def _transcript_of(script: Script, output: str, shown: Mapping[_Place, str]) -> Transcript:
-    """The records in a transcript's text. Raises ValueError, LookupError or TypeError where it is none of this script."""
+    """The records in a transcript's text. Raises ValueError, LookupError or TypeError where it is none of the script."""
     told, _, edits = output.partition("history\n")
     replies: list[Reply] = []
     for part in re.split("^session ", told, flags=re.MULTILINE)[1:]:
