@@ -29,8 +29,8 @@ has edits and questions on a framework that changes; `Script.run` returns its `T
 Every other ending of the program is an exception, a subclass of `ArgueError`, named as in the README's table of
 statuses. Nothing is printed. Where the program is found: the argument `program`, else the environment variable
 BURGAOUEZ_ARGUE, else `argue` at the top of the repository that this file lies in, else `argue` on the PATH. That of the
-repository proves and builds the program at its first call, which takes minutes and all processors: give `seconds`, which
-ends that too, or build it by hand first.
+repository proves and builds the program at its first call, which takes minutes and all processors: build it by hand
+first, or give `seconds`, which end that too.
 """
 from __future__ import annotations
 
@@ -411,7 +411,8 @@ class Framework:
 
 def _comment(number: int, name: Optional[str], text: Optional[str]) -> str:
     words = f"# {number}" if name is None else f"# {number} {name}"
-    return f"{words}: {' '.join((text or '').splitlines())}".rstrip()
+    said = (text or "").replace("\n", " ").strip()
+    return f"{words}: {said}".rstrip()
 
 
 def _edited(framework: Framework, edit: Edit, rule: int) -> Framework:
@@ -1168,7 +1169,7 @@ def _certificates_of(text: str) -> dict[_Place, str]:
 
 
 def _transcript_of(script: Script, output: str, shown: Mapping[_Place, str]) -> Transcript:
-    """The records in a transcript's text. Raises ValueError, LookupError or TypeError where it is none of the script."""
+    """The records in a transcript's text. Raises ValueError, LookupError or TypeError where it isn't of the script."""
     told, _, edits = output.partition("history\n")
     replies: list[Reply] = []
     for part in re.split("^session ", told, flags=re.MULTILINE)[1:]:

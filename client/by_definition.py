@@ -5,6 +5,7 @@ assumptions. With rules, a set attacks an assumption where the assumption's cont
 from __future__ import annotations
 
 from itertools import chain, combinations
+from random import Random
 from typing import Callable, Optional
 
 from burgaouez import Framework, Kind
@@ -106,3 +107,23 @@ class Definitions:
         problem, semantics = task.split("-")
         verdicts = [self.accepts(one, query) for one in self.extensions(semantics)]
         return any(verdicts) if problem == "DC" else all(verdicts)
+
+
+def drawn_attacks(choose: Random, most: int = 6) -> Framework:
+    """A framework of attacks on up to `most` arguments, some of them attacking themselves."""
+    size = choose.randint(0, most)
+    pairs = [(choose.randint(1, size), choose.randint(1, size)) for _ in range(choose.randint(0, 2 * size))]
+    return Framework.of_attacks(pairs, size)
+
+
+def drawn_rules(choose: Random, most: int = 4) -> Framework:
+    """A framework of up to `most` assumptions and as many other statements and three more, with some rules. A contrary
+    may be an assumption too."""
+    assumed, others = choose.randint(0, most), choose.randint(1, most + 3)
+    size = assumed + others
+    contraries = {number: choose.randint(1, size) for number in range(1, assumed + 1) if choose.random() < 0.9}
+    rules = [
+        (choose.randint(assumed + 1, size), [choose.randint(1, size) for _ in range(choose.choice((0, 1, 1, 2, 3)))])
+        for _ in range(choose.randint(0, 2 * others))
+    ]
+    return Framework.of_rules(range(1, assumed + 1), contraries, rules, size)

@@ -15,7 +15,8 @@ from collections.abc import Iterator
 from dataclasses import dataclass
 from typing import TYPE_CHECKING, Optional
 
-from burgaouez import Framework, Kind
+from burgaouez import Framework, Kind, Rule
+from case_text import Attacks, Concludes, names_in
 
 if TYPE_CHECKING:
     from case import Case
@@ -23,8 +24,8 @@ if TYPE_CHECKING:
 
 @dataclass(frozen=True)
 class LintWarning:
-    """What may be a slip: its name, the name of the case that it is about, and the line where that is first mentioned, if
-    the case was read from lines."""
+    """What may be a slip: its name, the name of the case that it is about, and the line where that is first mentioned,
+    if the case was read from lines."""
 
     name: str
     about: str
@@ -65,8 +66,6 @@ def warnings_of(case: Case) -> tuple[LintWarning, ...]:
 
 
 def _first_lines(case: Case) -> dict[str, int]:
-    from case import names_in
-
     lines: dict[str, int] = {}
     for statement in case.statements:
         for name in names_in(statement):
@@ -104,8 +103,6 @@ def _self_attacks(case: Case) -> Iterator[LintWarning]:
 
 
 def _attacks_twice(case: Case) -> Iterator[LintWarning]:
-    from case import Attacks
-
     seen: set[tuple[str, str]] = set()
     for statement in case.statements:
         for target in statement.targets if isinstance(statement, Attacks) else ():
@@ -144,10 +141,10 @@ def _unused(case: Case, uses: _Uses) -> Iterator[LintWarning]:
         elif number not in uses.assumed:
             yield LintWarning("ConcludedUnused", name, f"{name} is concluded, and then nothing rests on it")
         elif number not in case.framework.contraries:
-            yield LintWarning("AssumedUnused", name, f"{name} is assumed, nothing is against it, and nothing rests on it")
+            yield LintWarning("AssumedUnused", name, f"nothing is against {name}, and nothing rests on it")
 
 
-def _rule(case: Case, rule) -> str:
+def _rule(case: Case, rule: Rule) -> str:
     head = case.name(rule.head)
     return f"{head} if {case.listed(rule.body)}" if rule.body else f"known {head}"
 
@@ -156,11 +153,12 @@ def _dead_rules(case: Case, uses: _Uses) -> Iterator[LintWarning]:
     for rule in case.framework.rules:
         name = case.name(rule.head)
         lacking = [number for number in rule.body if number not in uses.derivable]
+        said, line = _rule(case, rule), _line(case, rule)
         if rule.head in rule.body:
-            yield LintWarning("OwnPremise", name, f"`{_rule(case, rule)}` rests on what it concludes", _line(case, rule))
+            yield LintWarning("OwnPremise", name, f"`{said}` rests on what it concludes", line)
         elif lacking:
-            says = f"`{_rule(case, rule)}` can never be used: nothing leads to {case.listed(lacking)}"
-            yield LintWarning("DeadRule", name, says, _line(case, rule))
+            says = f"`{said}` can never be used: nothing leads to {case.listed(lacking)}"
+            yield LintWarning("DeadRule", name, says, line)
 
 
 def _rules_twice(case: Case) -> Iterator[LintWarning]:
@@ -168,14 +166,13 @@ def _rules_twice(case: Case) -> Iterator[LintWarning]:
     for rule in case.framework.rules:
         key = rule.head, frozenset(rule.body)
         if key in seen:
-            yield LintWarning("RuleTwice", case.name(rule.head), f"`{_rule(case, rule)}` is there twice", _line(case, rule))
+            says = f"`{_rule(case, rule)}` is there twice"
+            yield LintWarning("RuleTwice", case.name(rule.head), says, _line(case, rule))
         seen.add(key)
 
 
-def _line(case: Case, rule) -> Optional[int]:
+def _line(case: Case, rule: Rule) -> Optional[int]:
     """The line of a rule, where the case was read from lines."""
-    from case import Concludes
-
     lines = [statement.line for statement in case.statements if isinstance(statement, Concludes)]
     return lines[rule.number - 1] if lines else None
 
