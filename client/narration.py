@@ -299,7 +299,8 @@ class Wording:
         fields = {"set": listed([set_name(n) for n in side.sets], "or")}
         if record.conclusion is None:
             return f"side {side.kind} clash" + ("" if side.literals else " all"), fields
-        fields["x"] = name(record.conclusion.atom[1])
+        fields.update(x=name(record.conclusion.atom[1]), holds="assumes" if self.view.is_rules else "holds")
+        fields["hold"] = fields["holds"][:-1]
         if side.kind == "is" and not record.conclusion.positive:
             return "side is not", fields
         alone = " only" if side.kind == "within" and len(side.literals) == 1 else ""
@@ -326,19 +327,34 @@ def _target(record: Record) -> int:
     return record.facts[0].values[1]
 
 
+# These stand just before what first uses them.
+DELAYED = (("A3", "Tail"), ("A5", "-Tail"), ("A7", "Unmet"), ("B5", "Der"))
+
+
 def gathered(items: Sequence[Item]) -> list[Item]:
     """The items with each demand for an answer just before what answers it."""
     out: list[Item] = []
     waiting: dict[Literal, Record] = {}
-    for item in items:
+
+    def put_before(item: Item) -> None:
         for premise in _needs(item):
             if premise in waiting:
-                out.append(waiting.pop(premise))
-        if _is(item, "A3", "Tail") or _is(item, "A5", "-Tail") or _is(item, "A7", "Unmet"):
+                needed = waiting.pop(premise)
+                put_before(needed)
+                out.append(needed)
+
+    for item in items:
+        if any(_is(item, *kind) for kind in DELAYED) and not _is_known(item):
             waiting[item.conclusion] = item
         else:
+            put_before(item)
             out.append(item)
-    return out
+    return out + list(waiting.values())
+
+
+def _is_known(item: Item) -> bool:
+    """Whether a statement follows from a rule that needs nothing."""
+    return _is(item, "B5", "Der") and not item.facts[0].values[2]
 
 
 def _needs(item: Item) -> list[Literal]:
@@ -358,26 +374,39 @@ def merged(items: Sequence[Item]) -> list[list[Item]]:
     return groups
 
 
+RUNS = (("A2", "-Member"), ("A11", "-Range"), ("B5", "Der"))
+
+
 def _run(items: Sequence[Item]) -> int:
-    """How many of the first items exclude one argument each, or are left without a verdict."""
-    for group, given in (("A2", "-Member"), ("A11", "-Range")):
-        count = 0
-        while count < len(items) and _is(items[count], group, given) and not _uses(items[count], items[:count]):
-            count += 1
-        if count > 1:
-            return count
+    """How many of the first items exclude one argument each, are left without a verdict, or are known."""
     first = items[0]
-    if not _is(first, "A5", "-Tail"):
+    if isinstance(first, Record) and (first.group, first.given) in RUNS:
+        return _independent(items, lambda item: _is(item, first.group, first.given) and _is_plain(item))
+    if not _is(first, "A5", "-Tail") or not _is_plain(first):
         return 1
-    count = 1
-    while count < len(items) and _is(items[count], "A3", "-Member") and items[count].facts[0].values[0] == first.conclusion.atom[1] \
-            and first.conclusion in items[count].premises and not _uses(items[count], items[1:count]):
+    attacker = first.conclusion.atom[1]
+
+    def is_out(item):
+        return item is first or (_is(item, "A3", "-Member") and item.facts[0].values[0] == attacker != _target(item)
+                                 and first.conclusion in item.premises)
+
+    return _independent(items, is_out, {first.conclusion})
+
+
+def _is_plain(item: Record) -> bool:
+    """Whether nothing but its own kind's words is needed, and of a rule, that it needs nothing."""
+    if any(fact.name.startswith("some ") for fact in item.facts):
+        return False
+    return item.group != "B5" or (not item.facts[0].values[2] and item.conclusion.atom[1] == OWN)
+
+
+def _independent(items: Sequence[Item], fits: Callable[[Item], bool], allowed: Iterable[Literal] = ()) -> int:
+    """How many of the first items fit and don't rest on one another, but on what is allowed."""
+    count, concluded = 0, set()
+    while count < len(items) and fits(items[count]) and not concluded.intersection(items[count].premises):
+        concluded |= {items[count].conclusion} - set(allowed)
         count += 1
     return count
-
-
-def _uses(item: Record, earlier: Sequence[Item]) -> bool:
-    return any(isinstance(one, Record) and one.conclusion in item.premises for one in earlier)
 
 
 def _pair(items: Sequence[Item]) -> int:
@@ -411,6 +440,8 @@ class Merging:
             return MERGED["excluded"].format(reasons=listed([self._excluded(record) for record in records], "or"))
         if first.group == "A11":
             return MERGED["no verdict"].format(list=names_of((r.conclusion.atom[1] for r in records), "or"))
+        if first.group == second.group == "B5":
+            return MERGED["known"].format(list=names_of(r.conclusion.atom[2] for r in records))
         if first.group == "A5":
             return self._unanswered(records)
         if first.group == "B5":
@@ -471,7 +502,7 @@ class Narrator:
             if literal in used:
                 used.update(record.premises)
                 kept.insert(0, record)
-        sentences = self.told(kept, {})
+        sentences = self.told(sorted(kept, key=lambda record: not _is_known(record)), {})
         for one in sentences:
             self.ground.update((record.conclusion, one.number) for record in one.records)
         return sentences
@@ -529,7 +560,9 @@ class Narrator:
         return text + " That can't be." if group[-1].conclusion is None else text
 
     def _case(self, case: Case, known: dict[Literal, int]) -> Sentence:
-        told = Sentence(sentence(literal_words(self.view, case.claim)) + " Suppose it were otherwise:", [], self.number)
+        words = literal_words(self.view, case.claim)
+        otherwise = "it did" if words.startswith("it doesn't") else "it didn't" if words.startswith("it ") else "otherwise"
+        told = Sentence(f"{sentence(words)} Suppose {otherwise}:", [], self.number)
         told.case = case
         told.items = self.told(case.items, {**known, case.supposed: told.number})
         known[case.claim] = told.number
@@ -551,9 +584,18 @@ class Narrator:
         mode = next((literal.atom[0] for literal in claim.goals if literal.atom[0] in MODES), "Ad")
         parts = self._goal_words(claim, supposed)
         if sides:
-            shown = claim.sides[sides[0] - 1]
-            parts.append(UNLESS[shown.kind][1].format(set=listed([set_name(n) for n in shown.sets])))
+            parts.append(self._except_words(claim, sides))
         return f"Suppose there is {POSITIONS[mode]}" + (f" and {listed(parts)}" if parts else "")
+
+    def _except_words(self, claim: Claim, sides: Sequence[int]) -> str:
+        """What a supposed position isn't, by its side clauses."""
+        kind = claim.sides[sides[0] - 1].kind
+        numbers = sorted({number for side in sides for number in claim.sides[side - 1].sets})
+        one, several = UNLESS[kind]
+        if len(numbers) == 1:
+            return one.format(set=set_name(numbers[0]))
+        whole = len(sides) == len(claim.sides)
+        return several.format(sets="the sets shown" if whole else listed([set_name(number) for number in numbers]))
 
     def _goal_words(self, claim: Claim, supposed: Sequence[Literal]) -> list[str]:
         """What a supposed position does beyond its mode, without "it"."""
@@ -569,9 +611,9 @@ class Narrator:
         if claim.about == "ideal" and lacking:
             parts.append("holds nothing that one of the sets shown attacks")
         elif lacking:
-            parts.append(f"{'doesn' + chr(39) + 't ' + verb[:-1] if len(lacking) == 1 else verb + ' none of'} {names_of(lacking, 'or')}")
+            parts.append(f"doesn't {verb[:-1]} {names_of(lacking, 'or')}")
         if seen:
-            parts.append("has each verdict of the set" if claim.about != "bad" else "")
+            parts.append("has each verdict that the set has" if claim.about == "widest" else f"has a verdict on {names_of(seen)}")
         rest = [literal for literal in supposed if literal.atom[0] not in ("Member", "Range", *MODES)]
         return parts + [literal_words(self.view, literal).removeprefix("it ") for literal in rest]
 

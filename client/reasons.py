@@ -19,12 +19,13 @@ from dataclasses import dataclass, field, replace
 from typing import Iterator, Optional, Sequence, Union
 
 from burgaouez import (
-    Accepted, Answer, ArgueError, Framework, No, Numbers, Sets, Unknown, Yes, check, solve,
+    Accepted, Answer, ArgueError, Framework, No, Numbers, Sets, Unknown, Yes, _answer_of, check, solve,
 )
 from certificate import MODES, Axiom, Certificate, Claim, Step, View, claims_of, read_certificate
 from narration import Narrator, Sentence, name, names_of, plain, sentence, set_name
-from records import Refutation, read_refutation, walk
+from records import Fact, Refutation, read_refutation, walk
 from search import SearchStopped, shorter_steps
+from words import POSITIONS
 from standing import MOST_MEMBERS, Standing, common_part, derivation, in_order, standings, told
 
 # Longer reasons are told by a summary.
@@ -156,7 +157,7 @@ def _shorter(view: View, claim: Claim, steps: list[Step]) -> list[Step]:
         found = shorter_steps(view, claim, steps)
     except SearchStopped:
         return steps
-    return min(found, steps, key=lambda one: _length(view, claim, one))
+    return found if _length(view, claim, found) <= 2 + _length(view, claim, steps) * 1.2 else steps
 
 
 def _length(view: View, claim: Claim, steps: list[Step]) -> int:
@@ -180,12 +181,13 @@ class _Telling:
         """The reasons, in the order: what is stronger, the sets, what is beyond doubt, why there is no other."""
         framework = self.view.framework
         grounded = self._stronger()
-        sets = [grounded] if grounded is not None and self._is_by_grounded() else self._sets()
-        self._tell_sets(sets)
+        decided = bool(self.sections)
+        sets = self._sets() or ([grounded] if grounded is not None and not decided else [])
+        self._tell_sets(sets, decided)
         refutations = [
             read_refutation(self.view, claim, steps) for claim, steps in zip(self.claims, self.certificate.refutations)
         ]
-        self._tell_refutations(refutations, folded=grounded is not None)
+        self._tell_refutations(refutations, decided)
         adjective, gloss = SEMANTICS[self.semantics]
         return Reasons(framework, self.task, self.query, self.answer, self.certificate, self._question(adjective), gloss,
                        self._answer(adjective), sets, self.sections, refutations)
@@ -230,9 +232,6 @@ class _Telling:
         return f"No: here is one that doesn't {verb[:-1]} {name(self.query)}."
 
     # Sets
-
-    def _is_by_grounded(self) -> bool:
-        return self.problem in ("DC", "DS") and not self._sets()
 
     def _sets(self) -> list[Numbers]:
         """The sets that the text numbers, in the order that the side clauses number them in."""
@@ -290,21 +289,25 @@ class _Telling:
             self.narrator.number += len(sentences)
             self.sections.append(Section(heading, intro, sentences, folded))
 
-    def _tell_sets(self, sets: list[Numbers]) -> None:
+    def _tell_sets(self, sets: list[Numbers], folded: bool) -> None:
         opens = self.semantics in ("CO", "GR") or self.task == "DS-CO"
         common: Numbers = ()
         if len(sets) > 1 and not self.view.is_rules:
             common = common_part(self.view, sets)
             if len(common) <= MOST_MEMBERS:
-                self._tell("In every set", f"Each set holds {names_of(common)}.", standings(self.view, common))
+                self._tell("In every set", f"Each set holds {names_of(common)}.", standings(self.view, common), folded)
         for number, members in enumerate(sets, 1):
-            heading = f"Set {number}{self._label(sets, number)}" if len(sets) > 1 else "The set"
+            heading = f"Set {number}{self._label(sets, number)}" if len(sets) > 1 else self._heading_of_one()
             intro = f"It {self.holds} {names_of(members) or 'nothing'}."
             small = len(members) <= MOST_MEMBERS and len(self.view.members) <= 2 * MOST_MEMBERS
             found = standings(self.view, members, common, opens) if small else []
             sentences = told(self.view, found, self.narrator.number)
             self.narrator.number += len(sentences)
-            self.sections.append(Section(heading, intro, sentences))
+            self.sections.append(Section(heading, intro, sentences, folded))
+
+    def _heading_of_one(self) -> str:
+        about_it = self.semantics == "GR" or (self.task == "DS-CO" and isinstance(self.answer, Yes))
+        return "The grounded set" if about_it else "The set"
 
     def _label(self, sets: list[Numbers], number: int) -> str:
         """What sets a set apart: a member that no other has, or two."""
@@ -325,7 +328,6 @@ class _Telling:
         ground = self.narrator.common_ground(refutations)
         if ground:
             mode = next(literal.atom[0] for literal in self.claims[0].goals if literal.atom[0] in MODES)
-            from words import POSITIONS
             self.sections.append(Section("Beyond doubt", f"This is so of every {POSITIONS[mode][2:]}.", ground, folded))
         for refutation in refutations:
             intro = self.narrator.supposition(refutation.claim, refutation.supposed, refutation.sides) + "."
@@ -364,8 +366,7 @@ class _Telling:
         )
 
 
-def _attack(b: int, a: int):
-    from records import Fact
+def _attack(b: int, a: int) -> Fact:
     return Fact("attacks", (b, a))
 
 
@@ -385,7 +386,7 @@ def _text_lines(told: Reasons, full: bool, width: int) -> Iterator[str]:
             continue
         if section.folded and not full:
             count = sum(1 for _ in section.all())
-            yield f"Left out, for the reason above: {count} sentences, which `--full` tells."
+            yield f"Not needed after the reason above: {count} {'sentence' if count == 1 else 'sentences'}, which `--full` tells."
             continue
         yield from textwrap.wrap(told.fill(section.intro), width)
         for one in section.sentences:
@@ -439,7 +440,6 @@ def _parser() -> argparse.ArgumentParser:
 
 def _given(words: argparse.Namespace):
     """The answer and certificate in files, if any are named."""
-    from burgaouez import _answer_of
     if (words.answer is None) != (words.certificate is None):
         raise ValueError("-r and -c belong together")
     if words.answer is None:

@@ -18,7 +18,7 @@ STANDINGS = {
     "answered": "{a} stands: {answers}",
     "falls": "{list} {falls} to {c}",
     "itself": "{a} attacks itself",
-    "open": "{a} stays open: {b} attacks it, and isn't attacked by the set",
+    "open": "open {stays} {pairs}: nothing in the set answers that",
     "known": "known are {list}",
     "derived": "{x} follows from {body}",
     "unopposed": "{a} stands: nothing speaks against it",
@@ -99,17 +99,14 @@ def _stands(view: View, a: int, order: Sequence[int], members: Numbers) -> Stand
 
 
 def _left_open(view: View, members: Numbers) -> list[Standing]:
-    held, attacked, out = set(members), view.attacked(members), []
-    for a in view.members:
-        if a in held or a in attacked:
-            continue
-        b = next((b for b in view.attackers[a] if b not in attacked), None)
-        if b == a:
-            out.append(Standing("itself", (a,), (a,), (Fact("attacks", (a, a)),), members))
-        elif b is not None:
-            facts = (Fact("attacks", (b, a)), Fact("attackers", (b, tuple(view.attackers[b]))))
-            out.append(Standing("open", (a,), (b,), facts, members))
-    return out
+    """What has an attacker that the set doesn't attack, and isn't attacked by the set."""
+    attacked = view.attacked(members)
+    left = [a for a in view.members if a not in attacked and a not in set(members)]
+    pairs = [(next(b for b in view.attackers[a] if b not in attacked), a) for a in left]
+    if not pairs:
+        return []
+    facts = tuple(Fact("attacks", pair) for pair in pairs)
+    return [Standing("open", tuple(left), tuple(b for b, _ in pairs), facts, members)]
 
 
 # Assumptions and rules
@@ -256,6 +253,10 @@ def _fields(view: View, one: Standing, shut: Optional[_Shut]) -> dict[str, str]:
     fields["falls"] = "falls" if len(one.about) == 1 else "fall"
     if one.by:
         fields.update(c=name(one.by[0]), b=name(one.by[0]))
+    if one.kind == "open":
+        fields["stays"] = "stays" if len(one.about) == 1 else "stay"
+        fields["pairs"] = listed([f"{name(a)} ({'it attacks itself' if a == b else name(b) + ' attacks it'})"
+                                  for a, b in zip(one.about, one.by)])
     if one.kind == "answered":
         fields["answers"] = _answers(one)
     if one.kind == "derived":
@@ -278,7 +279,7 @@ def _answers(one: Standing) -> str:
             answered.setdefault(fact.values[0], []).append(fact.values[1])
     parts = []
     for c, those in answered.items():
-        by = "itself" if c == one.about[0] else name(c)
-        parts.append(f"{names_of(those)} {'attacks' if len(those) == 1 else 'attack'} it, and {by} answers "
-                     f"{'that' if len(those) == 1 else 'both' if len(those) == 2 else 'them'}")
+        what = "that" if len(those) == 1 else "both" if len(those) == 2 else "them"
+        by = f"it answers {what} itself" if c == one.about[0] else f"{name(c)} answers {what}"
+        parts.append(f"{names_of(those)} {'attacks' if len(those) == 1 else 'attack'} it, and {by}")
     return "; ".join(parts)

@@ -38,12 +38,12 @@ POSITIONS = {
     "St": "a position with a verdict on everything",
 }
 
-# What a side clause excepts, of one set, and what it is to be so of none.
+# What is supposed by a side clause: of one set, and of several.
 UNLESS = {
-    "within": ("it lies within {set}", "lies within none of the sets shown"),
-    "is": ("it is {set}", "is none of the sets shown"),
-    "wider": ("its verdicts lie within those of {set}", "has verdicts beyond those of each set shown"),
-    "unattacked": ("it doesn't attack {set}", "attacks {set}"),
+    "within": ("doesn't lie within {set}", "lies within none of {sets}"),
+    "is": ("isn't {set}", "is none of {sets}"),
+    "wider": ("has a verdict that {set} hasn't", "has, for each of {sets}, a verdict that it hasn't"),
+    "unattacked": ("attacks {set}", "attacks each of {sets}"),
 }
 
 # For each group of axioms and what it gives, where need be with a variant, the sentence.
@@ -151,10 +151,10 @@ SENTENCES = {
     "B17 Member": "{list} could only come from each other, in a circle{ways}; so it assumes {y}",
     "B17 Der": "{list} could only come from each other, in a circle, but for the way from {body}{ways}; so it needs {y}",
     "B17 clash": "but {list} could only come from each other, in a circle{ways}",
-    "side within": "unless it lies within {set}, it holds {x}",
-    "side within only": "unless it lies within {set}, it holds {x}, all that is left outside of it",
-    "side is": "unless it is {set}, it holds {x}",
-    "side is not": "unless it is {set}, it doesn't hold {x}",
+    "side within": "unless it lies within {set}, it {holds} {x}",
+    "side within only": "unless it lies within {set}, it {holds} {x}, all that is left outside of it",
+    "side is": "unless it is {set}, it {holds} {x}",
+    "side is not": "unless it is {set}, it doesn't {hold} {x}",
     "side wider": "unless its verdicts lie within those of {set}, it has a verdict on {x}",
     "side unattacked": "if it attacks {set} at all, it attacks {x}",
     "side within clash": "so it holds nothing outside of {set}, and lies within it",
@@ -197,6 +197,7 @@ MERGED = {
     "against known": "{c} is known, and speaks against {a}; so it can't assume {a}",
     "against clash": "it {has_c}, which follows from {body} and speaks against {a}: it would attack itself",
     "against clash known": "{c} is known, and speaks against {a}: it would attack itself",
+    "known": "known are {list}",
     "excluded": "it can't hold {reasons}",
     "no verdict": "it neither holds nor attacks {list}, and so has no verdict on them",
 }

@@ -1,0 +1,551 @@
+"""Tests of the reasons: their logic from the records alone, their words, and bad input.
+
+    python3 client/test_reasons.py
+
+Needs a built `argue` (BURGAOUEZ_ARGUE names another). BURGAOUEZ_FRAMEWORKS is the number of random frameworks (30), and
+BURGAOUEZ_SEED the first seed. The definitions here are the tests' own: they share no code with the narrator.
+"""
+from __future__ import annotations
+
+import copy
+import os
+import random
+import re
+import sys
+import tempfile
+import unittest
+from itertools import combinations
+from pathlib import Path
+
+sys.path.insert(0, str(Path(__file__).resolve().parent))
+
+import certificate
+import records
+import words
+from burgaouez import Accepted, ArgueError, Framework, No, Sets, Yes, check, solve
+from certificate import AXIOMS, Literal, View, claims_of, literal_of, read_certificate
+from narration import MARKED, Narrator, plain
+from reasons import NotAccepted, cited, main, reasons
+from records import Case, Fact, Record, read_refutation, walk
+
+COUNT = int(os.environ.get("BURGAOUEZ_FRAMEWORKS", "30"))
+SEED = int(os.environ.get("BURGAOUEZ_SEED", "1"))
+SECONDS = 60
+EXAMPLES = Path(__file__).resolve().parent.parent / "examples"
+MODES = ("Cf", "Ad", "Co", "St")
+
+
+# A second reader, and the definitions
+
+
+class Plain:
+    """A framework as its text says."""
+
+    def __init__(self, text):
+        rows = [line.split() for line in text.splitlines() if line.strip() and not line.startswith("#")]
+        self.is_rules, self.size = rows[0][1] == "aba", int(rows[0][2])
+        numbers = [tuple(map(int, row)) for row in rows[1:]] if not self.is_rules else []
+        self.attacks = set(numbers)
+        self.assumed = {int(row[1]) for row in rows[1:] if row[0] == "a"}
+        self.against = {int(row[1]): int(row[2]) for row in rows[1:] if row[0] == "c"}
+        self.rules = [(int(row[1]), frozenset(map(int, row[2:]))) for row in rows[1:] if row[0] == "r"]
+        self.members = sorted(self.assumed) if self.is_rules else list(range(1, self.size + 1))
+
+    def attackers(self, a):
+        return {b for b, target in self.attacks if target == a}
+
+    def closure(self, given):
+        closed = set(given)
+        while True:
+            more = {head for head, body in self.rules if body <= closed} - closed
+            if not more:
+                return closed
+            closed |= more
+
+    def attacked(self, chosen):
+        if self.is_rules:
+            derived = self.closure(chosen)
+            return {a for a in self.assumed if self.against.get(a) in derived}
+        return {a for b, a in self.attacks if b in chosen}
+
+    def spread(self, chosen):
+        return set(chosen) | self.attacked(chosen)
+
+
+class World:
+    """A set of a framework's members, with what each atom says of it."""
+
+    def __init__(self, plain, chosen):
+        self.plain, self.chosen = plain, frozenset(chosen)
+        self.attacked = plain.attacked(self.chosen)
+        if plain.is_rules:
+            self.derived = {1: plain.closure(self.chosen), 2: plain.closure(plain.assumed - self.attacked)}
+        clear = not self.chosen & self.attacked
+        self.modes = {"Cf": clear, "Ad": clear and all(self.defends(a) for a in self.chosen)}
+        self.modes["Co"] = self.modes["Ad"] and all(a in self.chosen for a in plain.members if self.defends(a))
+        self.modes["St"] = clear and all(a in self.chosen or a in self.attacked for a in plain.members)
+
+    def defends(self, a):
+        if self.plain.is_rules:
+            return self.plain.against.get(a) not in self.derived[2]
+        return self.plain.attackers(a) <= self.attacked
+
+    def holds(self, atom):
+        name, *n = atom
+        if name in MODES:
+            return self.modes[name]
+        if name == "Member":
+            return n[0] in self.chosen
+        if name == "Range":
+            return n[0] in self.chosen or n[0] in self.attacked
+        if name == "Tail":
+            return any(b >= n[1] and b in self.chosen for b in self.plain.attackers(n[0]))
+        if name == "Unmet":
+            return any(b >= n[1] and b not in self.attacked for b in self.plain.attackers(n[0]))
+        if name == "Der":
+            return n[1] in self.derived[n[0]]
+        rules = list(enumerate(self.plain.rules, 1))
+        if name == "Miss":
+            return any(r == n[1] and any(x >= n[2] and x not in self.derived[n[0]] for x in body) for r, (_, body) in rules)
+        assert name == "Sup"
+        return any(r >= n[2] and head == n[1] and body <= self.derived[n[0]] for r, (head, body) in rules)
+
+
+class Worlds:
+    """All sets of members; a literal is the mask of those in which it is true."""
+
+    def __init__(self, plain):
+        sets = [one for size in range(len(plain.members) + 1) for one in combinations(plain.members, size)]
+        self.plain = plain
+        self.worlds = [World(plain, one) for one in sets]
+        self.all = (1 << len(sets)) - 1
+        self.masks = {}
+
+    def mask(self, literal):
+        if literal.atom not in self.masks:
+            self.masks[literal.atom] = self.where(lambda world: world.holds(literal.atom))
+        return self.masks[literal.atom] if literal.positive else self.all ^ self.masks[literal.atom]
+
+    def where(self, is_so):
+        return sum(1 << index for index, world in enumerate(self.worlds) if is_so(world))
+
+    def excepted(self, kind, sets):
+        """Where a position is what a side clause excepts, by the words of its sentence."""
+        def is_excepted(world, one):
+            match kind:
+                case "within":
+                    return world.chosen <= set(one)
+                case "is":
+                    return world.chosen == set(one)
+                case "wider":
+                    return self.plain.spread(world.chosen) <= self.plain.spread(one)
+            return not world.attacked & set(one)
+
+        return self.where(lambda world: any(is_excepted(world, one) for one in sets))
+
+
+# What is wrong with a record
+
+
+def fact_is_so(plain, fact):
+    match fact:
+        case Fact("attacks", (b, a)):
+            return (b, a) in plain.attacks
+        case Fact("attackers", (a, those)):
+            return set(those) == plain.attackers(a)
+        case Fact("some attackers", (a, spans, those)):
+            return set(those) == {b for b in plain.attackers(a) if any(i <= b < j for i, j in spans)}
+        case Fact("contrary", (a, c)):
+            return a in plain.assumed and plain.against.get(a, 0) == c
+        case Fact("rule", (r, head, body)):
+            return r <= len(plain.rules) and plain.rules[r - 1] == (head, frozenset(body))
+        case Fact("rules", (x, rules)):
+            return list(rules) == [r for r, (head, _) in enumerate(plain.rules, 1) if head == x]
+        case Fact("some rules", (x, spans, rules)):
+            mine = [r for r, (head, _) in enumerate(plain.rules, 1) if head == x and any(i <= r < j for i, j in spans)]
+            return list(rules) == mine
+    return False
+
+
+def only(record, *names):
+    return [fact.values for fact in record.facts if fact.name in names]
+
+
+def literals(*texts):
+    return {literal_of(text) for text in texts}
+
+
+def allowed_clashes(plain, record, side):
+    """The sets of literals that can't hold together by the record's facts alone: one of them has to be its premises with
+    the negation of its conclusion. Assuming and deriving an assumption are one."""
+    group = record.group
+    if group == "side":
+        return [side]
+    if group in ("A2", "A3", "A4"):
+        (b, a), = only(record, "attacks")
+        second = {"A2": f"Member:{a}", "A3": f"-Tail:{b}:1", "A4": f"-Tail:{a}:1"}[group]
+        first = f"Member:{a}" if group == "A3" else f"Member:{b}"
+        return [literals(first, second)]
+    if group in ("A5", "A8"):
+        (a, those), = only(record, "attackers")
+        if group == "A5":
+            return [literals(f"Tail:{a}:1", *(f"-Member:{b}" for b in those))]
+        return [literals(f"Unmet:{a}:1", *(f"Tail:{b}:1" for b in those))]
+    if group in ("A7", "A10", "A11", "A12", "A13"):
+        told = [*record.premises] + ([] if record.conclusion is None else [record.conclusion])
+        a = next(literal.atom[1] for literal in told if literal.atom[0] not in MODES)
+        parts = {"A7": "-Member:{0} -Unmet:{0}:1", "A10": "-Member:{0} -Tail:{0}:1", "A12": "Member:{0} -Range:{0}",
+                 "A11": "Range:{0} -Member:{0} -Tail:{0}:1", "A13": "Tail:{0}:1 -Range:{0}"}[group]
+        return [literals(*parts.format(a).split())]
+    return allowed_by_rules(plain, record)
+
+
+def allowed_by_rules(plain, record):
+    group = record.group
+    if only(record, "contrary") and group not in ("B5", "B9", "B17"):
+        (a, c), = only(record, "contrary")
+        parts = {"B3": "-Der:1:{1} -Der:2:{0}", "B9 3": "Der:2:{0} Der:1:{1}", "B12": "Member:{0} Der:1:{1}",
+                 "B13": "Member:{0} Der:2:{1}", "B14": "-Der:2:{1} -Member:{0}", "B15": "-Member:{0} -Der:1:{1}"}[group]
+        return [literals(*(text for text in parts.format(a, c).split() if not text.endswith(":0")))]
+    rules = only(record, "rule")
+    if group == "B5":
+        (_, head, body), = rules
+        return [literals(f"-Der:{k}:{head}", *(f"Der:{k}:{x}" for x in body)) for k in (1, 2)]
+    if group not in ("B9", "B17"):
+        return []
+    mine = [x for x, _ in only(record, "rules")]
+    found = []
+    for k in (1, 2):
+        for x in mine:
+            ways = [[y for y in body if group == "B9" or not set(mine) & set(body)] for _, head, body in rules if head in mine]
+            bodies = [body for (_, head, body) in rules if head in mine]
+            outer = [way for way, body in zip(ways, bodies) if group == "B9" or not set(mine) & set(body)]
+            chosen = [set()]
+            for way in outer:
+                chosen = [one | {y} for one in chosen for y in way]
+            for one in chosen:
+                members = [f"-Member:{w}" for w in mine if w in plain.assumed] if k == 1 else []
+                found.append(literals(f"Der:{k}:{x}", *members, *(f"-Der:{k}:{y}" for y in one)))
+    return found
+
+
+def same(plain, literals_):
+    """Literals with modes left out, and with deriving an assumption said as assuming it."""
+    def one(literal):
+        if literal.atom[0] == "Der" and literal.atom[1] == 1 and literal.atom[2] in plain.assumed:
+            return Literal(literal.positive, ("Member", literal.atom[2]))
+        return literal
+
+    return {one(literal) for literal in literals_ if literal.atom[0] not in MODES}
+
+
+def faults(worlds, refutation, sets, record):
+    """What is wrong with a record by itself; nothing where it is right."""
+    plain, wrong = worlds.plain, []
+    wrong += [f"not so: {fact}" for fact in record.facts if not fact_is_so(plain, fact)]
+    mask, side = worlds.all, set()
+    for premise in record.premises:
+        mask &= worlds.mask(premise)
+    numbers = [] if record.side is None else [record.side]
+    if record.lemma is not None:
+        numbers = next(lemma.sides for lemma in refutation.lemmas if lemma.step == record.lemma)
+    for number in numbers:
+        clause = refutation.claim.sides[number - 1]
+        named = [sets[n - 1] for n in clause.sets]
+        mask &= ~worlds.excepted(clause.kind, named)
+        side = side_literals(plain, clause.kind, named[0])
+    if record.conclusion is not None:
+        mask &= ~worlds.mask(record.conclusion)
+    if mask:
+        wrong.append("doesn't follow")
+    if record.group not in ("lemma", "mode") and not any(fact.name.startswith("some ") for fact in record.facts):
+        told = set(record.premises) | ({-record.conclusion} if record.conclusion is not None else set())
+        if not any(same(plain, told) == same(plain, one) for one in allowed_clashes(plain, record, side)):
+            wrong.append("isn't what its words say")
+    return wrong
+
+
+def side_literals(plain, kind, one):
+    """What a position lacks that a side clause excepts."""
+    beyond = [m for m in plain.members if m not in one]
+    match kind:
+        case "within":
+            return literals(*(f"-Member:{m}" for m in beyond))
+        case "is":
+            return literals(*(f"-Member:{m}" for m in beyond), *(f"Member:{e}" for e in one))
+        case "wider":
+            return literals(*(f"-Range:{m}" for m in plain.members if m not in plain.spread(one)))
+    return literals(*(f"-Tail:{e}:1" for e in one))
+
+
+def scope_faults(refutation, ground):
+    """Premises out of scope, cases that don't close, ends that are no clash."""
+    wrong = []
+
+    def visit(items, known):
+        known = set(known)
+        for item in items:
+            if isinstance(item, Case):
+                visit(item.items, known | {-item.claim})
+                known.add(item.claim)
+                continue
+            wrong.extend(f"out of scope: {premise}" for premise in item.premises if premise not in known)
+            known.add(item.conclusion)
+        last = items[-1] if items else None
+        if not isinstance(last, Record) or last.conclusion is not None:
+            wrong.append("no clash at the end")
+        if any(isinstance(item, Record) and item.conclusion is None for item in items[:-1]):
+            wrong.append("goes on behind a clash")
+
+    modes = {Literal(True, (mode,)) for mode in MODES}
+    base = set(ground) | modes
+    for lemma in refutation.lemmas:
+        visit(lemma.items, base | set(lemma.supposed))
+    visit(refutation.items, base | set(refutation.supposed))
+    return wrong
+
+
+# Frameworks
+
+
+def random_framework(rng):
+    if rng.random() < 0.5:
+        n = rng.randint(1, 8)
+        return Framework.of_attacks(
+            [(b, a) for b in range(1, n + 1) for a in range(1, n + 1) if rng.random() < 1.6 / n], size=n)
+    n = rng.randint(3, 9)
+    m = rng.randint(1, min(5, n - 1))
+    rules = [(rng.randint(m + 1, n), [rng.randint(1, n) for _ in range(rng.randint(0, 2))]) for _ in range(rng.randint(1, 7))]
+    return Framework.of_rules(range(1, m + 1), {a: rng.randint(1, n) for a in range(1, m + 1) if rng.random() < 0.9}, rules, size=n)
+
+
+class Told:
+    """The reasons of one answer with what the tests compare them with."""
+
+    def __init__(self, framework, task, query, seconds=SECONDS):
+        self.found = reasons(framework, task, query, seconds=seconds)
+        self.plain = Plain(framework.text())
+        self.sets = self.found.sets
+        self.ground = [one for s in self.found.sections if s.heading == "Beyond doubt" for one in s.sentences]
+        self.grounds = [record for one in self.ground for record in one.records]
+        sections = [s for s in self.found.sections if s.heading.startswith("Why")]
+        self.parts = list(zip(self.found.refutations, sections))
+
+
+def told_of(framework, rng):
+    """The reasons of each task for one number."""
+    for task in framework.tasks:
+        if task.startswith("D"):
+            yield Told(framework, task, rng.randint(1, framework.size))
+        else:
+            yield Told(framework, task, None)
+
+
+class RandomReasons(unittest.TestCase):
+    """The logic of random frameworks' reasons."""
+
+    @classmethod
+    def setUpClass(cls):
+        cls.told = []
+        for seed in range(SEED, SEED + COUNT):
+            rng = random.Random(seed)
+            framework = random_framework(rng)
+            worlds = Worlds(Plain(framework.text()))
+            cls.told += [(seed, worlds, told) for told in told_of(framework, rng)]
+
+    def each(self):
+        for seed, worlds, told in self.told:
+            with self.subTest(seed=seed, task=told.found.task, query=told.found.query):
+                yield worlds, told
+
+    def test_each_record_is_right(self):
+        count = 0
+        for worlds, told in self.each():
+            for record in told.grounds:
+                count += 1
+                self.assertEqual(faults(worlds, told.found.refutations[0], told.sets, record), [], record)
+            for refutation, _ in told.parts:
+                items = [*refutation.items, *(item for lemma in refutation.lemmas for item in lemma.items)]
+                for record in walk(items):
+                    count += 1
+                    self.assertEqual(faults(worlds, refutation, told.sets, record), [], record)
+        print(f"{count} inferences of {len(self.told)} answers of {COUNT} frameworks", file=sys.stderr)
+
+    def test_scopes(self):
+        for _, told in self.each():
+            known = set()
+            for record in told.grounds:
+                self.assertTrue(all(p in known or p.atom[0] in MODES for p in record.premises), record)
+                known.add(record.conclusion)
+            for refutation, _ in told.parts:
+                self.assertEqual(scope_faults(refutation, known), [])
+
+    def test_suppositions_refute_the_other_answers(self):
+        """Each position that would make the answer wrong is one of those that are supposed."""
+        for worlds, told in self.each():
+            for refutation, _ in told.parts:
+                self.assertLessEqual(set(refutation.supposed), set(refutation.claim.goals))
+                self.assertTrue(all(1 <= n <= len(refutation.claim.sides) for n in refutation.sides))
+                mask = worlds.all
+                for literal in refutation.supposed:
+                    mask &= worlds.mask(literal)
+                for number in refutation.sides:
+                    clause = refutation.claim.sides[number - 1]
+                    mask &= ~worlds.excepted(clause.kind, [told.sets[n - 1] for n in clause.sets])
+                self.assertEqual(mask, 0)
+
+    def test_claims(self):
+        """What is refuted is what the answer needs, by the definitions over all sets."""
+        for worlds, told in self.each():
+            for claim in (refutation.claim for refutation, _ in told.parts):
+                for side in claim.sides:
+                    lacking = side_literals(told.plain, side.kind, told.sets[side.sets[0] - 1])
+                    self.assertEqual({-literal for literal in side.literals}, lacking)
+            self.assertEqual(claimed(told), [set(refutation.claim.goals) for refutation, _ in told.parts])
+
+    def test_words(self):
+        for _, told in self.each():
+            for section in told.found.sections:
+                for one in section.all():
+                    self.check_words(told, one)
+
+    def check_words(self, told, one):
+        text = told.found.fill(re.sub("[\ue001]([0-9]+)[\ue003]", "SET", one.text))
+        said = {int(number) for number in re.findall(r"[0-9]+", re.sub(r"^Lemma [0-9]+|by lemma [0-9]+|rule [0-9]+", "", text))}
+        if not one.records or not isinstance(one.records[0], Record):
+            return
+        mine, must = set(), set()
+        for record in one.records:
+            mine |= {n for fact in record.facts for n in flat(fact.values)}
+            mine |= {n for literal in record.premises for n in literal.atom[1:]}
+            if record.conclusion is not None:
+                mine |= set(record.conclusion.atom[1:])
+                must.add(record.conclusion.atom[2 if record.conclusion.atom[0] == "Der" else 1])
+            must |= {n for fact in record.facts if fact.name == "attacks" for n in fact.values}
+        self.assertLessEqual(said - {1_000_000}, mine | {told.plain.size}, text)
+        self.assertLessEqual(must, said, text)
+
+    def test_citations(self):
+        for _, told in self.each():
+            homes = {}
+            for one in told.ground:
+                homes.update((record.conclusion, one.number) for record in one.records)
+            for refutation, section in told.parts:
+                self.check_citations(section.sentences, homes, bool(refutation.lemmas))
+
+    def check_citations(self, sentences, homes, has_lemmas):
+        homes = dict(homes)
+        for one in sentences:
+            if one.items:
+                inner = {**homes, -one.case.claim: one.number} if one.case is not None else homes
+                self.check_citations(one.items, inner, has_lemmas)
+                if one.case is not None:
+                    homes[one.case.claim] = one.number
+                continue
+            own = {record.conclusion for record in one.records}
+            premises = {p for record in one.records for p in record.premises} - own
+            rests = {homes[p] for p in premises if p in homes}
+            self.assertLessEqual(rests - {one.number - 1}, set(one.cites))
+            if not has_lemmas:
+                self.assertLessEqual(set(one.cites), rests)
+            homes.update((record.conclusion, one.number) for record in one.records)
+
+    def test_the_told_certificate_is_accepted(self):
+        for _, told in self.each():
+            found = told.found
+            verdict = check(found.framework, found.task, found.answer, found.query, found.certificate.text(), seconds=SECONDS)
+            self.assertEqual(verdict, Accepted())
+
+    def test_planted_faults_are_caught(self):
+        missed, planted = [], 0
+        for worlds, told in self.each():
+            for refutation, _ in told.parts:
+                for record in walk(refutation.items):
+                    for what, wrong in planted_in(record, len(refutation.claim.sides), told.plain):
+                        planted += 1
+                        if not faults(worlds, refutation, told.sets, wrong):
+                            missed.append((what, record))
+        self.assertEqual(missed, [])
+        print(f"{planted} planted faults", file=sys.stderr)
+
+    def test_cases_closed_too_late_are_caught(self):
+        for _, told in self.each():
+            ground = {record.conclusion for record in told.grounds}
+            for refutation, _ in told.parts:
+                for index, item in enumerate(refutation.items):
+                    if isinstance(item, Case):
+                        late = copy.deepcopy(refutation)
+                        late.items[index].items.append(late.items.pop(index + 1))
+                        self.assertNotEqual(scope_faults(late, ground), [])
+                        opened = copy.deepcopy(refutation)
+                        opened.items[index : index + 1] = opened.items[index].items
+                        self.assertNotEqual(scope_faults(opened, ground), [])
+
+
+def flat(values):
+    for value in values:
+        if isinstance(value, tuple):
+            yield from flat(value)
+        else:
+            yield value
+
+
+def claimed(told):
+    """The goals of each refutation that an answer needs."""
+    found, plain = told.found, told.plain
+    problem, semantics = found.task.split("-")
+    mode = literals({"ST": "St", "CO": "Co"}.get(semantics, "Ad"))
+    if semantics == "ID":
+        ideal, others = found.sets[0], found.sets[1:]
+        shunned = {a for one in others for a in plain.attacked(one)}
+        return [mode, mode | literals(*(f"Member:{e}" for e in ideal), *(f"-Member:{u}" for u in shunned))]
+    shows = isinstance(found.answer, {"SE": Sets, "DC": Yes, "DS": No, "EE": ()}[problem])
+    if semantics == "GR" or (semantics in ("CO", "ST") and shows) or (found.task == "DS-CO"):
+        return []
+    held = lambda one: literals(*(f"Range:{r}" for r in plain.spread(one)))
+    if shows:
+        one = found.sets[0]
+        return [mode | (held(one) if semantics == "SST" else literals(*(f"Member:{e}" for e in one)))]
+    bad = set()
+    if problem in ("DC", "DS"):
+        mode = literals("Ad") if semantics == "CO" else mode
+        goal = literal_of(f"Der:1:{found.query}" if plain.is_rules else f"Member:{found.query}")
+        bad = {goal if problem == "DC" else -goal}
+    spreads = [plain.spread(one) for one in found.sets] if semantics == "SST" else []
+    distinct = [one for n, one in enumerate(spreads) if problem != "EE" or one not in spreads[:n]]
+    return [mode | bad] + [mode | bad | literals(*(f"Range:{r}" for r in one)) for one in distinct]
+
+
+def planted_in(record, sides, plain):
+    """Records that are wrong in one thing."""
+    if record.group in ("lemma", "mode") or any(fact.name.startswith("some ") for fact in record.facts):
+        return
+    for index, fact in enumerate(record.facts):
+        def exchanged(values, name=fact.name, index=index):
+            return altered(record, facts=record.facts[:index] + (Fact(name, values),) + record.facts[index + 1 :])
+
+        if fact.name == "attacks" and fact.values[0] != fact.values[1]:
+            yield "turned round", exchanged(fact.values[::-1]) if fact.values[::-1] not in plain.attacks else altered(
+                record, facts=(Fact("attacks", (99, 98)),))
+        if fact.name in ("attackers", "rules") and fact.values[1]:
+            yield "left out", exchanged((fact.values[0], fact.values[1][:-1]))
+        if fact.name == "contrary":
+            yield "another contrary", exchanged((fact.values[0], fact.values[1] + 1))
+        if fact.name == "rule" and fact.values[2]:
+            yield "a shorter rule", exchanged((*fact.values[:2], fact.values[2][:-1]))
+    for premise in record.premises:
+        if premise.atom[0] not in MODES:
+            yield "a premise dropped", altered(record, premises=tuple(p for p in record.premises if p != premise))
+    if record.conclusion is not None:
+        yield "turned conclusion", altered(record, conclusion=-record.conclusion)
+
+
+def altered(record, **changes):
+    wrong = copy.copy(record)
+    for name, value in changes.items():
+        setattr(wrong, name, value)
+    return wrong
+
+
+if __name__ == "__main__":
+    unittest.main()
