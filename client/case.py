@@ -157,7 +157,8 @@ class Case:
         return ", ".join(map(self.name, numbers))
 
     def text(self) -> str:
-        """The case in the notation, which reads as this case again, with the same numbers."""
+        """The case in the notation, which reads as this case again, with the same numbers. Raises ValueError for a
+        framework of rules that has none, and no assumptions: its text would read as one of attacks."""
         return _text(self)
 
     def sentences(self) -> tuple[str, ...]:
@@ -293,6 +294,8 @@ def _framework(lines: CaseLines) -> Framework:
 
 def _text(case: Case) -> str:
     framework = case.framework
+    if framework.kind is Kind.RULES and not framework.assumptions and not framework.rules:
+        raise ValueError("the notation has no case of rules without rules and assumptions")
     assumed = set(framework.assumptions)
     first = [
         f"{'assume ' if number in assumed else ''}{case.name(number)}: {framework.texts.get(number, '')}".rstrip()

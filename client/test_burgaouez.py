@@ -1,8 +1,8 @@
 #!/usr/bin/env python3
 """Tests of burgaouez.py: `python3 -m unittest discover client`, with a built `argue`.
 
-Expected values are worked out by hand, or come from by_definition.py, and never from the program. Statuses that can't be
-brought about with the program itself come from stand-ins, which are scripts of a line or two."""
+Expected values are worked out by hand, or come from by_definition.py, and never from the program. Statuses that aren't
+easily brought about with the program itself come from stand-ins, which are scripts of a line or two."""
 from __future__ import annotations
 
 import doctest
@@ -52,7 +52,8 @@ DRUG = Framework.of_rules([1, 2], {1: 3, 2: 4}, [(3, [2]), (4, [1])])
 
 class ReadingTest(unittest.TestCase):
     def test_attacks(self):
-        read = Framework.from_text("# a case\np af 3\n# 1 alibi: She was abroad.\n#2: He saw it.\n1 2\n\n1  2\n3\t3\r\n")
+        comments = "# 1 alibi: She was abroad.\n#2: He saw it.\n"
+        read = Framework.from_text(f"# a case\np af 3\n{comments}1 2\n\n1  2\n3\t3\r\n")
         self.assertEqual((read.kind, read.size), (Kind.ATTACKS, 3))
         self.assertEqual(read.attacks, (Attack(1, 2), Attack(3, 3)))
         self.assertEqual(read.texts, {1: "She was abroad.", 2: "He saw it."})
@@ -112,10 +113,11 @@ class ReadingTest(unittest.TestCase):
         parts = ["1", "2", "3"] * 5 + ["0", "4", "x", "a", "c", "r", "p", "af", "#", "007", "4294967296"]
         with tempfile.TemporaryDirectory() as folder:
             for _ in range(300):
-                text = f"p {choose.choice(('af', 'aba'))} 3\n" + "".join(
-                    " ".join([choose.choice(("", "a", "c", "r")), *choose.choices(parts, k=choose.randint(0, 3))]) + "\n"
-                    for _ in range(choose.randint(0, 4))
-                )
+                lines = [f"p {choose.choice(('af', 'aba'))} 3"]
+                for _ in range(choose.randint(0, 4)):
+                    fields = choose.choices(parts, k=choose.randint(0, 3))
+                    lines.append(" ".join([choose.choice(("", "a", "c", "r")), *fields]))
+                text = "\n".join(lines) + "\n"
                 self.assertEqual(self.said(text), self.told(text, Path(folder, "f")), text)
 
     def said(self, text: str) -> str:
