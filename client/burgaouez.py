@@ -23,8 +23,9 @@ The stable interface, on which other modules may rely:
 
 `solve(framework, task, query=None, budget=None)` returns `Yes`, `No`, `Sets` or `Unknown`. The first three have a
 `certificate`, a text; `Yes` and `No` a `witness`, a tuple of rising numbers or None; `Sets` has `sets`, a tuple of such
-tuples in the program's order. `check(framework, task, answer, query=None)` returns `Accepted` or `Rejected`. A `Script`
-has edits and questions on a framework that changes; `Script.run` returns its `Transcript`.
+tuples in the program's order. `check(framework, task, answer, query=None)` returns `Accepted` or `Rejected`.
+`answer_text` and `read_answer` write and read an answer as the program prints it. A `Script` has edits and questions on
+a framework that changes; `Script.run` returns its `Transcript`.
 
 Every other ending of the program is an exception, a subclass of `ArgueError`, named as in the README's table of
 statuses. Nothing is printed. Where the program is found: the argument `program`, else the environment variable
@@ -664,15 +665,46 @@ def answer_text(answer: Union[Yes, No, Sets]) -> str:
     return "".join(line + "\n" for line in lines + [" ".join(["w", *map(str, one)]) for one in sets])
 
 
+def read_answer(text: str, certificate: Optional[str] = None) -> Union[Yes, No, Sets]:
+    """The answer in a text as the program prints it; comments are skipped. Raises AnswerFault for the first line with a
+    fault, named as the program names it.
+
+    >>> read_answer("# by hand\\nNO\\nw 2\\n")
+    No(witness=(2,))
+    """
+    lines = _lines(text)
+    kept = list(_kept(lines))
+    if not kept:
+        raise AnswerFault(len(lines) + 1, "Empty")
+    verdict = {"YES": Yes, "NO": No}.get(" ".join(kept[0].fields))
+    sets = []
+    for index, line in enumerate(kept):
+        if verdict is not None and index == 0:
+            continue
+        if line.fields[0] != "w" or (verdict is not None and index > 1):
+            raise AnswerFault(line.number, "BadLine")
+        sets.append(_members(line))
+    if verdict is None:
+        return Sets(tuple(sets), certificate)
+    return verdict(sets[0] if sets else None, certificate)
+
+
+def _members(line: _Line) -> Numbers:
+    """The numbers behind `w`. Raises AnswerFault."""
+    numbers = tuple(_number(part) or 0 for part in line.fields[1:])
+    if not all(1 <= number <= LARGEST_NUMBER for number in numbers):
+        raise AnswerFault(line.number, "BadNumber")
+    if not all(one < next_one for one, next_one in zip(numbers, numbers[1:])):
+        raise AnswerFault(line.number, "NotRising")
+    return numbers
+
+
 def _answer_of(lines: Sequence[str], certificate: Optional[str]) -> Union[Yes, No, Sets]:
     """The answer in the program's lines. Raises ValueError where they are none."""
-    sets = tuple(tuple(map(int, line.split()[1:])) for line in lines if line.startswith("w"))
-    if lines and len(sets) == len(lines):
-        return Sets(sets, certificate)
-    kinds = {"YES": Yes, "NO": No}
-    if not lines or lines[0] not in kinds or len(sets) != len(lines) - 1 or len(sets) > 1:
-        raise ValueError("no answer")
-    return kinds[lines[0]](sets[0] if sets else None, certificate)
+    try:
+        return read_answer("\n".join(lines) + "\n", certificate)
+    except AnswerFault:
+        raise ValueError("the program's lines are no answer") from None
 
 
 # Running the program

@@ -329,6 +329,30 @@ class CheckTest(unittest.TestCase):
         self.assertEqual((caught.exception.line, caught.exception.name), (1, "NotRising"))
 
 
+class AnswerTextTest(unittest.TestCase):
+    def test_round_trips(self):
+        for answer in (Yes(), Yes(()), Yes((1, 4)), No(), No((2,)), Sets(((),)), Sets(((1,), (1, 2), (3,)))):
+            self.assertEqual(burgaouez.read_answer(burgaouez.answer_text(answer)), answer)
+
+    def test_faults(self):
+        for text, line, name in (
+            ("", 1, "Empty"),
+            ("# x\n\n", 3, "Empty"),
+            ("maybe", 1, "BadLine"),
+            ("YES x", 1, "BadLine"),
+            ("YES\nYES", 2, "BadLine"),
+            ("w 1 2\nYES", 2, "BadLine"),
+            ("YES\nw 1\nw 2", 3, "BadLine"),
+            ("NO\n# c\nw 0", 3, "BadNumber"),
+            ("w 1 x", 1, "BadNumber"),
+            ("w 1000001", 1, "BadNumber"),
+            ("w 1 1", 1, "NotRising"),
+        ):
+            with self.subTest(text), self.assertRaises(burgaouez.AnswerFault) as caught:
+                burgaouez.read_answer(text)
+            self.assertEqual((caught.exception.line, caught.exception.name), (line, name))
+
+
 class RunningTest(unittest.TestCase):
     def test_a_child_that_hangs_is_ended_with_all_it_started(self):
         with tempfile.TemporaryDirectory() as folder:
