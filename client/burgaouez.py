@@ -733,15 +733,18 @@ class _Ending(NamedTuple):
 
 def _run(program: str, words: Sequence[str], seconds: Optional[float]) -> _Ending:
     """Runs the program in a process group of its own, which is ended as a whole at the time limit."""
-    child = subprocess.Popen(
-        [program, *words],
-        stdin=subprocess.DEVNULL,
-        stdout=subprocess.PIPE,
-        stderr=subprocess.PIPE,
-        encoding="utf-8",
-        errors="replace",
-        start_new_session=True,
-    )
+    try:
+        child = subprocess.Popen(
+            [program, *words],
+            stdin=subprocess.DEVNULL,
+            stdout=subprocess.PIPE,
+            stderr=subprocess.PIPE,
+            encoding="utf-8",
+            errors="replace",
+            start_new_session=True,
+        )
+    except OSError as fault:
+        raise ProgramNotFound(f"{program} can't be run: {fault.strerror}") from fault
     try:
         output, errors = child.communicate(timeout=seconds)
     except subprocess.TimeoutExpired:

@@ -34,7 +34,7 @@ from dataclasses import dataclass, replace
 from difflib import get_close_matches
 from functools import cached_property
 from pathlib import Path
-from typing import Optional, Union
+from typing import NamedTuple, Optional, Union
 
 import burgaouez
 import case_lint
@@ -335,11 +335,20 @@ def _words() -> argparse.ArgumentParser:
     return words
 
 
-def _ask(case: Case, given: argparse.Namespace) -> Sequence[str]:
+class _Outcome(NamedTuple):
+    """What the command prints, and its status."""
+
+    lines: Sequence[str]
+    status: int
+
+
+def _ask(case: Case, given: argparse.Namespace) -> _Outcome:
     told = case.solve(given.task, given.query, given.budget, seconds=given.seconds)
-    if given.certificate and not isinstance(told.answer, Unknown):
+    if isinstance(told.answer, Unknown):
+        return _Outcome(told.lines, 6)
+    if given.certificate:
         Path(given.certificate).write_text(told.answer.certificate, encoding="ascii")
-    return told.lines
+    return _Outcome(told.lines, 0)
 
 
 def _live(case: Case, given: argparse.Namespace) -> Iterator[str]:
@@ -351,16 +360,21 @@ def _live(case: Case, given: argparse.Namespace) -> Iterator[str]:
         yield from ("    " + line for line in lines)
 
 
-def _lines(case: Case, given: argparse.Namespace) -> Iterable[str]:
+def _lint(case: Case) -> _Outcome:
+    found = case_lint.warnings_of(case)
+    return _Outcome([str(one) for one in found], 0 if all(one.is_remark for one in found) else 1)
+
+
+def _done(case: Case, given: argparse.Namespace) -> _Outcome:
     if given.lint:
-        return [str(warning) for warning in case_lint.warnings_of(case)]
+        return _lint(case)
     if given.framework:
-        return case.framework.text().splitlines()
+        return _Outcome(case.framework.text().splitlines(), 0)
     if given.notation:
-        return case.text().splitlines()
+        return _Outcome(case.text().splitlines(), 0)
     if given.script:
-        return list(_live(case, given))
-    return _ask(case, given) if given.task else case.sentences()
+        return _Outcome(list(_live(case, given)), 0)
+    return _ask(case, given) if given.task else _Outcome(case.sentences(), 0)
 
 
 def main(words: Optional[Sequence[str]] = None) -> int:
@@ -368,7 +382,7 @@ def main(words: Optional[Sequence[str]] = None) -> int:
     that can't be read, 6 for UNKNOWN, and 7 for another ending without an answer."""
     given = _words().parse_args(words)
     try:
-        lines = list(_lines(Case.from_file(given.case), given))
+        lines, status = _done(Case.from_file(given.case), given)
     except (CaseError, FrameworkFault, burgaouez.QueryFault, burgaouez.ScriptFault, burgaouez.Usage) as fault:
         print(fault, file=sys.stderr)
         return 2
@@ -380,9 +394,7 @@ def main(words: Optional[Sequence[str]] = None) -> int:
         return 7
     for line in lines:
         print(line)
-    if given.task and lines == ["UNKNOWN"]:
-        return 6
-    return 1 if given.lint and lines else 0
+    return status
 
 
 if __name__ == "__main__":

@@ -3,10 +3,13 @@
     >>> from case import Case
     >>> for warning in warnings_of(Case.from_text("assume a: Yes.\\nb: No.\\nc: Why not?\\nb against a\\n")):
     ...     print(warning)
+    line 1 Decision: no rule uses a, so it is what is to be decided
     line 2 UnderivableContrary: nothing leads to b, which is against a, so a always stands
     line 3 NeverUsed: c has a text, and no other line speaks of it
 
-Nothing here asks the program: what follows is computed from all assumptions together.
+Nothing here asks the program: what follows from some assumptions is computed here. Where one number of one rule, contrary
+or assumption of examples/anticoagulant.aba is replaced by another one, 144 of 403 such files are faulty, 216 have other
+answers, and of these 210 have a warning or a remark that the file has not.
 """
 from __future__ import annotations
 
@@ -21,6 +24,9 @@ from case_text import Attacks, Concludes, names_in
 if TYPE_CHECKING:
     from case import Case
 
+REMARKS = ("Decision", "KnownAgainst")
+MANY = 2_000  # assumptions past which none is looked at by itself, as that takes a closure each
+
 
 @dataclass(frozen=True)
 class LintWarning:
@@ -31,6 +37,11 @@ class LintWarning:
     about: str
     says: str
     line: Optional[int] = None
+
+    @property
+    def is_remark(self) -> bool:
+        """It tells of what sound cases have too, so that a reader sees whether it was meant."""
+        return self.name in REMARKS
 
     def __str__(self) -> str:
         where = "" if self.line is None else f"line {self.line} "
@@ -81,6 +92,7 @@ def _found(case: Case, uses: _Uses) -> Iterator[LintWarning]:
     else:
         yield from _underived(case, uses)
         yield from _contraries(case, uses)
+        yield from _defeated(case)
         yield from _unused(case, uses)
         yield from _dead_rules(case, uses)
         yield from _rules_twice(case)
@@ -130,8 +142,23 @@ def _contraries(case: Case, uses: _Uses) -> Iterator[LintWarning]:
             yield LintWarning("UnderivableContrary", name, says)
 
 
+def _defeated(case: Case) -> Iterator[LintWarning]:
+    """Assumptions that can't be held, whatever else is assumed."""
+    framework = case.framework
+    known = set(framework.closure(()))
+    for assumption, contrary in framework.contraries.items():
+        name, against = case.name(assumption), case.name(contrary)
+        if contrary in known:
+            says = f"{against} is against {name} and follows from what is known, so {name} never stands"
+            yield LintWarning("KnownAgainst", name, says)
+        elif len(framework.assumptions) <= MANY and assumption != contrary:
+            if contrary in framework.closure((assumption,)):
+                says = f"from {name} follows {against}, which is against it, so no position can hold {name}"
+                yield LintWarning("SelfDefeat", name, says)
+
+
 def _unused(case: Case, uses: _Uses) -> Iterator[LintWarning]:
-    """An assumption with a contrary that no rule uses is a decision, and no slip."""
+    """An assumption with a contrary that no rule uses is a decision, and mostly no slip."""
     for number in case.framework.atoms:
         name = case.name(number)
         if uses.count(number) == 0:
@@ -142,6 +169,8 @@ def _unused(case: Case, uses: _Uses) -> Iterator[LintWarning]:
             yield LintWarning("ConcludedUnused", name, f"{name} is concluded, and then nothing rests on it")
         elif number not in case.framework.contraries:
             yield LintWarning("AssumedUnused", name, f"nothing is against {name}, and nothing rests on it")
+        else:
+            yield LintWarning("Decision", name, f"no rule uses {name}, so it is what is to be decided")
 
 
 def _rule(case: Case, rule: Rule) -> str:

@@ -390,6 +390,10 @@ class RunningTest(unittest.TestCase):
     def test_a_program_that_is_not_there(self):
         with self.assertRaises(burgaouez.ProgramNotFound):
             solve(RIVALS, "SE-GR", program="/nowhere/argue")
+        program = Path(stand_in(self))
+        program.write_bytes(b"\0no program")
+        with self.assertRaises(burgaouez.ProgramNotFound):
+            solve(RIVALS, "SE-GR", program=program)
 
     def test_nothing_is_printed(self):
         lines = "import burgaouez as b; b.solve(b.Framework.of_attacks([(1, 2)]), 'SE-GR')"

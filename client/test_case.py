@@ -289,11 +289,20 @@ class LiveTest(unittest.TestCase):
 
 class LintTest(unittest.TestCase):
     def told(self, text: str) -> list[tuple[str, str]]:
-        return [(warning.name, warning.about) for warning in case_lint.warnings_of(Case.from_text(text))]
+        warnings = case_lint.warnings_of(Case.from_text(text))
+        return [(warning.name, warning.about) for warning in warnings if not warning.is_remark]
 
     def test_a_sound_case(self):
         self.assertEqual(self.told((EXAMPLES / "anticoagulant.case").read_text(encoding="utf-8")), [])
         self.assertEqual(self.told(WITNESS), [])
+
+    def test_remarks(self):
+        """What is decided there, and that it is known what speaks against one of the two: see anticoagulant.md."""
+        warnings = case_lint.warnings_of(Case.from_file(EXAMPLES / "anticoagulant.case"))
+        self.assertEqual(
+            [(warning.name, warning.about) for warning in warnings],
+            [("Decision", "given"), ("KnownAgainst", "untreated"), ("Decision", "untreated")],
+        )
 
     def test_attacks(self):
         text = "a: A.\nb: B.\nc: C.\nd: c.\na attacks b\nb attacks b, d\na attacks b\n"
@@ -310,6 +319,7 @@ class LintTest(unittest.TestCase):
             ("a: A.\na against z", ("UnderivableContrary", "a")),
             ("z against z", ("OwnContrary", "z")),
             ("a: A.", ("NeverUsed", "a")),
+            ("k if x", ("SelfDefeat", "x")),
             ("a: A.\na if x", ("ConcludedUnused", "a")),
             ("assume a: A.", ("AssumedUnused", "a")),
             ("k if k", ("OwnPremise", "k")),
