@@ -7,9 +7,9 @@
     line 2 UnderivableContrary: nothing leads to b, which is against a, so a always stands
     line 3 NeverUsed: c has a text, and no other line speaks of it
 
-Nothing here asks the program: what follows from some assumptions is computed here. Where one number of one rule, contrary
+Nothing here asks the program: what follows from some assumptions is computed here. Where one number of a rule, contrary
 or assumption of examples/anticoagulant.aba is replaced by another one, 144 of 403 such files are faulty, 216 have other
-answers, and of these 210 have a warning or a remark that the file has not.
+answers, and of these 210 have a warning or a remark that the file hasn't.
 """
 from __future__ import annotations
 

@@ -331,7 +331,7 @@ class LintTest(unittest.TestCase):
 
     def test_lines(self):
         warnings = case_lint.warnings_of(Case.from_text("assume a: A.\nb: B.\n\nb against a\nb if a\nb if a\n"))
-        self.assertEqual([(warning.line, warning.name) for warning in warnings], [(6, "RuleTwice")])
+        self.assertEqual([(one.line, one.name) for one in warnings], [(1, "SelfDefeat"), (6, "RuleTwice")])
 
     def test_without_lines(self):
         warnings = case_lint.warnings_of(Case.of_framework(Framework.of_attacks([(1, 1)], 2)))
