@@ -313,6 +313,9 @@ class Wording:
         return "lemma", {**fields, "words": literal_words(self.view, record.conclusion)}
 
     def _mode(self, record):
+        told = [premise.atom[-1] for premise in record.premises if premise.atom[0] in ("Member", "Der")]
+        if record.given == "clash" and len(told) == 2 and told[0] == told[1]:
+            return "mode clash both", {"a": name(told[0])}
         return f"mode {record.given}", {}
 
 

@@ -23,10 +23,10 @@ from burgaouez import (
 )
 from certificate import MODES, Axiom, Certificate, Claim, Step, View, claims_of, read_certificate
 from narration import Narrator, Sentence, name, names_of, plain, sentence, set_name
-from records import Fact, Refutation, read_refutation, walk
+from records import Fact, Refutation, is_inner, read_refutation, walk
 from search import SearchStopped, shorter_steps
 from words import POSITIONS
-from standing import MOST_MEMBERS, Standing, common_part, derivation, in_order, standings, told
+from standing import MOST_MEMBERS, Standing, StandingTeller, common_part, standings
 
 # Longer reasons are told by a summary.
 MOST_SENTENCES = 40
@@ -90,6 +90,7 @@ class Reasons:
     sets: list[Numbers]
     sections: list[Section]
     refutations: list[Refutation]
+    grounded: Optional[Numbers] = None
 
     def fill(self, text: str) -> str:
         """A text with names in the place of its marks."""
@@ -161,9 +162,10 @@ def _shorter(view: View, claim: Claim, steps: list[Step]) -> list[Step]:
 
 
 def _length(view: View, claim: Claim, steps: list[Step]) -> int:
-    """How many sentences a refutation takes."""
+    """How many sentences a refutation takes; one on an inner link of a chain, which nobody reads with ease, counts thrice."""
     read = read_refutation(view, claim, steps)
-    return sum(1 for _ in walk([*read.items, *(item for lemma in read.lemmas for item in lemma.items)]))
+    told = list(walk([*read.items, *(item for lemma in read.lemmas for item in lemma.items)]))
+    return len(told) + 2 * sum(1 for record in told if record.conclusion is not None and is_inner(record.conclusion))
 
 
 class _Telling:
@@ -174,6 +176,7 @@ class _Telling:
         self.problem, self.semantics = task.split("-")
         self.certificate, self.claims, self.run = certificate, claims, run
         self.narrator = Narrator(view)
+        self.teller = StandingTeller(view)
         self.sections: list[Section] = []
         self.holds = "assumes" if view.is_rules else "holds"
 
@@ -190,7 +193,7 @@ class _Telling:
         self._tell_refutations(refutations, decided)
         adjective, gloss = SEMANTICS[self.semantics]
         return Reasons(framework, self.task, self.query, self.answer, self.certificate, self._question(adjective), gloss,
-                       self._answer(adjective), sets, self.sections, refutations)
+                       self._answer(adjective), sets, self.sections, refutations, grounded)
 
     # Question and answer
 
@@ -285,7 +288,7 @@ class _Telling:
 
     def _tell(self, heading: str, intro: str, found: Sequence[Standing], folded: bool = False) -> None:
         if found:
-            sentences = told(self.view, found, self.narrator.number)
+            sentences = self.teller.told(found, self.narrator.number)
             self.narrator.number += len(sentences)
             self.sections.append(Section(heading, intro, sentences, folded))
 
@@ -298,10 +301,11 @@ class _Telling:
                 self._tell("In every set", f"Each set holds {names_of(common)}.", standings(self.view, common), folded)
         for number, members in enumerate(sets, 1):
             heading = f"Set {number}{self._label(sets, number)}" if len(sets) > 1 else self._heading_of_one()
-            intro = f"It {self.holds} {names_of(members) or 'nothing'}."
+            own = [a for a in members if a not in common] if common else members
+            intro = f"{'Beside what each set holds, it' if common else 'It'} {self.holds} {names_of(own) or 'nothing more' if common else names_of(own) or 'nothing'}."
             small = len(members) <= MOST_MEMBERS and len(self.view.members) <= 2 * MOST_MEMBERS
             found = standings(self.view, members, common, opens) if small else []
-            sentences = told(self.view, found, self.narrator.number)
+            sentences = self.teller.told(found, self.narrator.number)
             self.narrator.number += len(sentences)
             self.sections.append(Section(heading, intro, sentences, folded))
 
@@ -374,21 +378,21 @@ def _attack(b: int, a: int) -> Fact:
 
 
 def _text_lines(told: Reasons, full: bool, width: int) -> Iterator[str]:
-    yield from textwrap.wrap(f"Question: {told.fill(sentence(told.question))} ({' '.join(_words(told))})", width)
-    yield from textwrap.wrap(f"Answer: {told.answer_text}", width)
-    yield from textwrap.wrap(told.gloss, width)
-    yield from textwrap.wrap(CHECKED, width)
+    yield from textwrap.wrap(f"Question: {told.fill(sentence(told.question))} ({' '.join(_words(told))})", width, break_on_hyphens=False)
+    yield from textwrap.wrap(f"Answer: {told.answer_text}", width, break_on_hyphens=False)
+    yield from textwrap.wrap(told.gloss, width, break_on_hyphens=False)
+    yield from textwrap.wrap(CHECKED, width, break_on_hyphens=False)
     for section in told.sections:
         yield ""
         yield told.fill(section.heading).upper()
         if section.summary and not full:
-            yield from textwrap.wrap(told.fill(section.summary) + " `--full` tells them.", width)
+            yield from textwrap.wrap(told.fill(section.summary) + " `--full` tells them.", width, break_on_hyphens=False)
             continue
         if section.folded and not full:
             count = sum(1 for _ in section.all())
             yield f"Not needed after the reason above: {count} {'sentence' if count == 1 else 'sentences'}, which `--full` tells."
             continue
-        yield from textwrap.wrap(told.fill(section.intro), width)
+        yield from textwrap.wrap(told.fill(section.intro), width, break_on_hyphens=False)
         for one in section.sentences:
             yield from _sentence_lines(told, one, 0, width)
 
@@ -417,7 +421,7 @@ def _sentence_lines(told: Reasons, one: Sentence, depth: int, width: int) -> Ite
     indent = "   " * depth
     label = f"{indent}{one.number}. "
     words = told.fill(one.text) + cited(one.cites)
-    yield from textwrap.wrap(words, width, initial_indent=label, subsequent_indent=" " * len(label)) or [label]
+    yield from textwrap.wrap(words, width, initial_indent=label, subsequent_indent=" " * len(label), break_on_hyphens=False) or [label]
     for item in one.items:
         yield from _sentence_lines(told, item, depth + 1, width)
 

@@ -9,7 +9,7 @@ from dataclasses import dataclass, field
 from typing import Iterable, Iterator, NamedTuple, Optional, Sequence, Union
 
 from certificate import (
-    END, MODES, Axiom, Claim, Derived, Literal, Side, Step, View, clause_of, loop_of, no,
+    END, MODES, OWN, Axiom, Claim, Derived, Literal, Side, Step, View, clause_of, loop_of, no,
 )
 
 # The axioms of one chain make one sentence, which is the one of the chain's name.
@@ -238,8 +238,15 @@ class _Reader:
         if lemma is not None:
             self._tell_lemma(lemma)
         side = next((step.number for step in chosen if isinstance(step, Side)), None)
-        group = _group_of(chosen)
-        return Record(group, literal, tuple(dict.fromkeys(premises)), facts_of(self.view, chosen), chosen, side, lemma)
+        spoken = tuple(step for step in chosen if not self._is_assuming(step))
+        group = _group_of(spoken)
+        return Record(group, literal, tuple(dict.fromkeys(premises)), facts_of(self.view, spoken), chosen, side, lemma)
+
+    def _is_assuming(self, step: Step) -> bool:
+        """Whether a step says that an assumption is derived by being assumed alone."""
+        if not isinstance(step, Axiom) or step.name not in ("B9", "B10", "B11"):
+            return False
+        return step.numbers[0] == OWN and step.numbers[1] in self.view.assumed
 
     def _gather(self, reason: _Reason, reasons, shown, steps: list[int], premises: list[Literal]) -> None:
         """The steps behind a record, and the premises that are said, depth first."""

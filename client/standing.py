@@ -235,16 +235,66 @@ def _lacks_of(shut: _Shut, about: Iterable[int]) -> list[int]:
 # Sentences
 
 
-def told(view: View, found: Sequence[Standing], number: int) -> list[Sentence]:
-    """The sentences of standings, numbered on from `number`."""
-    out = []
-    shut = _Shut(view, found[0].members) if view.is_rules and found else None
-    for standing in found:
-        number += 1
-        standing.number = number
-        text = STANDINGS[standing.kind].format(**_fields(view, standing, shut))
-        out.append(Sentence(sentence(text), [standing], number))
-    return out
+class StandingTeller:
+    """Tells standings, each once: what an earlier set's sentence has said is cited."""
+
+    def __init__(self, view: View):
+        self.view = view
+        self.said: dict[tuple, int] = {}
+
+    def told(self, found: Sequence[Standing], number: int) -> list[Sentence]:
+        """The sentences of standings, numbered on from `number`."""
+        out: list[Sentence] = []
+        shut = _Shut(self.view, found[0].members) if self.view.is_rules and found else None
+        for group in self._groups(found):
+            number += 1
+            text, cites = self._text(group, shut)
+            for standing in group:
+                standing.number = number
+                self.said.setdefault(_key(standing), number)
+            out.append(Sentence(sentence(text), list(group), number, cites))
+        return out
+
+    def _groups(self, found: Sequence[Standing]) -> list[list[Standing]]:
+        """What was said before, together; what nothing attacks; each of the others; what falls."""
+        before = [one for one in found if _key(one) in self.said]
+        new = [one for one in found if _key(one) not in self.said]
+        alone = [one for one in new if one.kind == "unattacked"]
+        fallen = [one for one in new if one.kind == "falls"]
+        others = [[one] for one in new if one.kind not in ("unattacked", "falls")]
+        return [group for group in [before, alone, *others, fallen] if group]
+
+    def _text(self, group: Sequence[Standing], shut: Optional[_Shut]) -> tuple[str, list[int]]:
+        if _key(group[0]) in self.said:
+            return self._repeated(group)
+        if group[0].kind == "unattacked" and len(group) > 1:
+            return f"{names_of(one.about[0] for one in group)} stand: nothing attacks them", []
+        texts = [STANDINGS[one.kind].format(**_fields(self.view, one, shut)) for one in group]
+        return "; ".join(texts), []
+
+    def _repeated(self, group: Sequence[Standing]) -> tuple[str, list[int]]:
+        parts = []
+        for words, kinds in (("known or derived are", ("known", "derived")), ("out of reach", ("lacking", "circle")),
+                             ("stand", STANDING_KINDS), ("fall", ("falls", "attacked")), ("open", ("open", "possible"))):
+            those = sorted({n for one in group if one.kind in kinds for n in one.about})
+            if those:
+                parts.append(REPEATED[words].format(list=names_of(those), s="s" if len(those) == 1 else "",
+                                                    are="is" if len(those) == 1 else "are"))
+        return f"as said already, {listed(parts)}", sorted({self.said[_key(one)] for one in group})
+
+
+STANDING_KINDS = ("unattacked", "answered", "unopposed", "underivable", "shut")
+REPEATED = {
+    "known or derived are": "{list} follow{s}",
+    "out of reach": "{list} {are} shut out",
+    "stand": "{list} stand{s}",
+    "fall": "{list} fall{s}",
+    "open": "{list} stay{s} open",
+}
+
+
+def _key(standing: Standing) -> tuple:
+    return standing.kind, standing.about, standing.by, standing.facts
 
 
 def _fields(view: View, one: Standing, shut: Optional[_Shut]) -> dict[str, str]:

@@ -165,6 +165,7 @@ SENTENCES = {
     "side is clash all": "there is nothing to hold, so it is {set}",
     "side wider clash all": "{set} has a verdict on everything, so no position has more",
     "side unattacked clash all": "{set} holds nothing, so nothing attacks it",
+    "mode clash both": "so it both assumes {a} and doesn't",
     "mode clash": "which such a position never is",
     "lemma": "by lemma {lemma}, {words}",
     "lemma clash": "by lemma {lemma}, that can't be",

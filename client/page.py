@@ -1,0 +1,379 @@
+"""One page with the reasons of an answer: the picture, the sentences tied to it, the table of what each number says.
+
+The page is one file without anything from elsewhere. All that a user wrote is escaped, and stands in text alone: attributes and
+script have numbers.
+"""
+from __future__ import annotations
+
+import math
+from html import escape
+from typing import Sequence
+
+from certificate import View
+from layout import MOST_DRAWN, placed
+from narration import CAPITAL_MARK, MARKED, SET_MARK, Sentence
+from reasons import CHECKED, Reasons, Section, cited
+
+MOST_BUTTONS = 40
+LONGEST_LABEL = 20
+# How a number stands in a view: held by each set, held by some, attacked by each or out of reach, none of these.
+STATES = {"h": "held", "s": "held by some", "o": "attacked", "u": "without a verdict"}
+
+STYLE = """
+:root { --ink: #111; --soft: #666; --rim: #e07b00 }
+* { box-sizing: border-box }
+body { margin: 0; font: 16px/1.5 system-ui, "DejaVu Sans", sans-serif; color: var(--ink); background: #fff }
+header, main, footer { padding: 0 24px; max-width: 1500px; margin: auto }
+h1 { font-size: 1.25rem; margin: 18px 0 4px; font-weight: 600 }
+.answer { font-size: 1.5rem; font-weight: 700; margin: 0 0 6px }
+.note { color: var(--soft); margin: 0; max-width: 75ch; font-size: .92rem }
+main { display: grid; grid-template-columns: minmax(380px, 46%) 1fr; gap: 28px; margin-top: 14px; align-items: start }
+main.plain { grid-template-columns: 1fr }
+.left { position: sticky; top: 8px; max-height: 98vh; overflow: auto }
+h2 { font-size: 1.05rem; margin: 20px 0 2px } h2:first-child { margin-top: 0 }
+.intro { margin: 0 0 4px }
+ol { list-style: none; margin: 0; padding: 0 } ol ol { padding-left: 26px; border-left: 2px solid #ddd; margin-left: 6px }
+li.s { padding: 2px 6px 2px 40px; position: relative; border-left: 4px solid transparent; border-radius: 3px }
+li.s .no { position: absolute; left: 0; width: 32px; text-align: right; color: var(--soft); font-size: .85rem; line-height: 1.7rem }
+li.s.case { padding-left: 40px } summary { cursor: pointer }
+li.s:focus, [data-rest]:focus { outline: 2px solid var(--rim); outline-offset: -2px }
+li.s.cited { border-left-color: var(--rim); background: #fff6ea }
+li.s.names { background: #eef6ff; border-left-color: #2b6cb0 }
+b { font-weight: 600 } .cite { color: var(--soft); font-size: .85rem }
+.views button { font: inherit; font-size: .9rem; border: 1px solid #999; background: #fff; padding: 2px 10px; border-radius: 12px; margin: 0 4px 4px 0; cursor: pointer }
+.views button[aria-pressed=true] { background: #111; color: #fff }
+#marked { min-height: 3em; font-size: .92rem; margin: 4px 0; padding: 4px 8px; background: #f6f6f6; border-radius: 4px }
+.legend { font-size: .85rem; color: var(--soft) } .legend i { display: inline-block; width: 14px; height: 14px; border: 1px solid #333; vertical-align: -2px; margin: 0 4px 0 10px }
+table { border-collapse: collapse; width: 100%; margin: 8px 0 40px; font-size: .92rem } td, th { text-align: left; padding: 3px 8px; border-bottom: 1px solid #ddd; vertical-align: top }
+@media (max-width: 900px) { main { grid-template-columns: 1fr } .left { position: static } }
+@media print { main { display: block } .left { position: static } #marked, .views { display: none } }
+"""
+PICTURE_STYLE = """
+svg.dispute text { font: 13px system-ui, "DejaVu Sans", sans-serif; text-anchor: middle; pointer-events: none }
+svg.dispute .edge path { fill: none; stroke: #555; stroke-width: 1.4; marker-end: url(#tip) }
+svg.dispute .edge.half path { marker-end: none } svg.dispute .edge.against path { stroke-dasharray: 6 4 }
+svg.dispute .node .shape { fill: #fff; stroke: #333; stroke-width: 1.4 } svg.dispute .node { cursor: pointer }
+svg.dispute .node.known .shape { stroke-width: 3 } svg.dispute .node.asked .shape { stroke-width: 3.2; stroke: #2b6cb0 }
+svg.dispute .h .shape { fill: #1b7f4b } svg.dispute .h text { fill: #fff } svg.dispute .s .shape { fill: #a8dcbf }
+svg.dispute .o .shape { fill: #d9d9d9 }
+svg.dispute.dim .node, svg.dispute.dim .edge { opacity: .25 } svg.dispute.dim .on { opacity: 1 }
+svg.dispute .node.on .shape { stroke: #e07b00; stroke-width: 4.5 } svg.dispute .node.on.cant .shape { stroke-dasharray: 5 3 }
+svg.dispute .edge.on path { stroke: #e07b00; stroke-width: 3 } svg.dispute .node:focus { outline: none } svg.dispute .node:focus .shape { stroke-width: 5 }
+"""
+SCRIPT = """
+(function () {
+  var svg = document.querySelector('svg.dispute'), live = document.getElementById('marked'), rest = live ? live.textContent : '';
+  function all(q, root) { return Array.prototype.slice.call((root || document).querySelectorAll(q)); }
+  function words(el, key) { var v = el.getAttribute(key); return v ? v.split(' ') : []; }
+  function label(n) { var el = document.getElementById('name-' + n); return el ? el.textContent : n; }
+  function clear() {
+    all('.on').forEach(function (el) { el.classList.remove('on', 'cant'); });
+    all('.cited').forEach(function (el) { el.classList.remove('cited'); });
+    all('.names').forEach(function (el) { el.classList.remove('names'); });
+    if (svg) svg.classList.remove('dim');
+    if (live) live.textContent = rest;
+  }
+  function mark(el) {
+    clear();
+    var a = words(el, 'data-a'), e = words(el, 'data-e'), x = words(el, 'data-x');
+    if (svg) {
+      if (a.length) svg.classList.add('dim');
+      all('.node', svg).forEach(function (n) {
+        var k = n.getAttribute('data-n');
+        if (a.indexOf(k) >= 0) { n.classList.add('on'); if (x.indexOf(k) >= 0) n.classList.add('cant'); }
+      });
+      all('.edge', svg).forEach(function (g) {
+        if (words(g, 'data-e').some(function (k) { return e.indexOf(k) >= 0; })) g.classList.add('on');
+      });
+    }
+    words(el, 'data-p').forEach(function (p) { var c = document.getElementById('p' + p); if (c) c.classList.add('cited'); });
+    if (live && a.length) live.textContent = 'Marked: ' + a.map(label).join(', ') + '.';
+  }
+  function told(n) {
+    clear();
+    all('li.s').forEach(function (li) { if (words(li, 'data-a').indexOf(n) >= 0) li.classList.add('names'); });
+    all('.node').forEach(function (g) { if (g.getAttribute('data-n') === n) g.classList.add('on'); });
+    var text = document.getElementById('text-' + n);
+    if (live) live.textContent = label(n) + (text && text.textContent ? ': ' + text.textContent : '');
+  }
+  all('li.s, [data-rest]').forEach(function (li) {
+    li.addEventListener('mouseover', function (ev) {
+      var b = ev.target.closest('b[data-n]');
+      ev.stopPropagation(); mark(li);
+      if (b && live) { var t = document.getElementById('text-' + b.getAttribute('data-n')); live.textContent = b.textContent + (t && t.textContent ? ': ' + t.textContent : ''); }
+    });
+    li.addEventListener('focusin', function (ev) { ev.stopPropagation(); mark(li); });
+    li.addEventListener('mouseleave', clear);
+    li.addEventListener('focusout', clear);
+  });
+  all('.node').forEach(function (g) {
+    var n = g.getAttribute('data-n');
+    g.addEventListener('mouseenter', function () { told(n); });
+    g.addEventListener('focus', function () { told(n); });
+    g.addEventListener('mouseleave', clear);
+    g.addEventListener('blur', clear);
+  });
+  all('.views button').forEach(function (button) {
+    button.addEventListener('click', function () {
+      var v = +button.getAttribute('data-v');
+      all('.views button').forEach(function (o) { o.setAttribute('aria-pressed', o === button); });
+      all('.node').forEach(function (g) {
+        g.classList.remove('h', 's', 'o', 'u'); g.classList.add(g.getAttribute('data-s').charAt(v));
+      });
+      all('td[data-s]').forEach(function (td) { td.textContent = { h: 'held', s: 'held by some', o: 'attacked', u: '' }[td.getAttribute('data-s').charAt(v)]; });
+    });
+  });
+  addEventListener('beforeprint', function () { all('details').forEach(function (d) { d.open = true; }); });
+})();
+"""
+
+
+# How each number stands
+
+
+def views(found: Reasons) -> list[Sequence]:
+    """The sets of each view: all, and then each by itself where there are several."""
+    sets = found.sets or ([found.grounded] if found.grounded is not None else [])
+    return [sets] + ([[one] for one in sets[:MOST_BUTTONS]] if len(sets) > 1 else [])
+
+
+def states(view: View, sets: Sequence) -> dict[int, str]:
+    """For each number a key of STATES."""
+    framework = view.framework
+    numbers = framework.atoms if view.is_rules else framework.arguments
+    held = [set(framework.closure(one)) for one in sets]
+    out = [_out(view, one) for one in sets]
+    found = {}
+    for n in numbers:
+        inside = sum(n in one for one in held)
+        if sets and inside == len(sets):
+            found[n] = "h"
+        elif inside:
+            found[n] = "s"
+        else:
+            found[n] = "o" if sets and all(n in one for one in out) else "u"
+    return found
+
+
+def _out(view: View, members) -> set[int]:
+    attacked = view.attacked(members)
+    if not view.is_rules:
+        return attacked
+    left = set(view.framework.closure(a for a in view.assumed if a not in attacked))
+    return set(view.framework.atoms) - left
+
+
+# The picture
+
+
+def _label(found: Reasons, n: int) -> str:
+    said = found.framework.names.get(n, str(n))
+    return said if len(said) <= LONGEST_LABEL else said[: LONGEST_LABEL - 1] + "…"
+
+
+def _edges(found: Reasons) -> list[tuple[int, int, str, str]]:
+    """Start, end, kind and the pairs that a sentence may mark: rules of several premises meet at a joint, a negative number."""
+    framework = found.framework
+    edges = [(b, a, "", f"{b}-{a}") for b, a in framework.attacks]
+    edges += [(c, a, "against", f"{c}-{a}") for a, c in framework.contraries.items()]
+    for rule in framework.rules:
+        pairs = [f"{x}-{rule.head}" for x in rule.body]
+        if len(rule.body) == 1:
+            edges.append((rule.body[0], rule.head, "rule", pairs[0]))
+        elif rule.body:
+            edges += [(x, -rule.number, "half", pair) for x, pair in zip(rule.body, pairs)]
+            edges.append((-rule.number, rule.head, "rule", " ".join(pairs)))
+    return edges
+
+
+def picture(found: Reasons, view: View, view_sets: Sequence[Sequence]) -> str:
+    """The drawn framework as an element, or nothing where it is too large."""
+    numbers = list(found.framework.atoms if view.is_rules else found.framework.arguments)
+    if not numbers or len(numbers) > MOST_DRAWN:
+        return ""
+    edges = _edges(found)
+    joints = sorted({end for _, end, _, _ in edges if end < 0}, reverse=True)
+    widths = {n: max(36.0, 7.6 * len(_label(found, n)) + 24) for n in numbers} | {joint: 10.0 for joint in joints}
+    at = placed(numbers + joints, [(start, end) for start, end, _, _ in edges], widths)
+    width = max(x + widths[n] / 2 for n, (x, _) in at.items()) + 40
+    height = max(y for _, y in at.values()) + 40
+    pairs = {(start, end) for start, end, _, _ in edges}
+    parts = [_edge(edge, at, widths, pairs) for edge in edges]
+    parts += [f'<circle cx="{at[j][0]}" cy="{at[j][1]}" r="3.5" fill="#555"/>' for j in joints]
+    looks = [states(view, sets) for sets in view_sets]
+    known = {rule.head for rule in found.framework.rules if not rule.body}
+    for n in numbers:
+        parts.append(_node(found, n, at[n], widths[n], "".join(look[n] for look in looks), n in known, view))
+    return (
+        f'<svg xmlns="http://www.w3.org/2000/svg" class="dispute" viewBox="0 0 {width:.0f} {height:.0f}" role="img" '
+        f'aria-label="The dispute as a graph; the table at the end says the same">'
+        '<defs><marker id="tip" viewBox="0 0 8 8" refX="7" refY="4" markerWidth="7" markerHeight="7" orient="auto-start-reverse" '
+        'markerUnits="userSpaceOnUse"><path d="M0,0 L8,4 L0,8 z" fill="#555"/></marker></defs>'
+        + "\n".join(parts) + "</svg>"
+    )
+
+
+def _node(found: Reasons, n: int, point, width: float, looks: str, known: bool, view: View) -> str:
+    x, y = point
+    square = view.is_rules and n not in view.assumed
+    classes = ["node", looks[0]] + ["known"] * known + ["asked"] * (n == found.query)
+    shape = (f'<rect class="shape" x="{x - width / 2:.1f}" y="{y - 15:.1f}" width="{width:.1f}" height="30" '
+             f'rx="{2 if square else 15}"/>')
+    return (f'<g class="{" ".join(classes)}" data-n="{n}" data-s="{looks}" tabindex="0">'
+            f'<title>{_text(found.framework.texts.get(n) or _label(found, n))}</title>{shape}'
+            f'<text x="{x:.1f}" y="{y + 4.5:.1f}">{_text(_label(found, n))}</text></g>')
+
+
+def _border(at, towards, width: float, gap: float) -> tuple[float, float]:
+    """Where a line from a node's middle leaves it."""
+    dx, dy = towards[0] - at[0], towards[1] - at[1]
+    half_x, half_y = width / 2 + gap, (15 if width > 10 else 4) + gap
+    part = min(half_x / abs(dx) if dx else 9e9, half_y / abs(dy) if dy else 9e9, 1.0)
+    return at[0] + dx * part, at[1] + dy * part
+
+
+def _edge(edge, at, widths, pairs) -> str:
+    start, end, kind, marks = edge
+    if start == end:
+        x, y, half = *at[start], widths[start] / 2
+        path = f"M{x + half - 12:.1f},{y - 15:.1f} C{x + half - 4:.1f},{y - 46:.1f} {x + half + 34:.1f},{y - 34:.1f} {x + half + 1:.1f},{y - 5:.1f}"
+    else:
+        (x1, y1), (x2, y2) = at[start], at[end]
+        length = math.hypot(x2 - x1, y2 - y1) or 1.0
+        bend = 16 if (end, start) in pairs else 0
+        middle = ((x1 + x2) / 2 - (y2 - y1) / length * bend, (y1 + y2) / 2 + (x2 - x1) / length * bend)
+        (x1, y1), (x2, y2) = _border(at[start], middle, widths[start], 1), _border(at[end], middle, widths[end], 2 if end > 0 else 0)
+        path = f"M{x1:.1f},{y1:.1f} Q{middle[0]:.1f},{middle[1]:.1f} {x2:.1f},{y2:.1f}"
+    return f'<g class="edge {kind}" data-e="{marks}"><path d="{path}"/></g>'
+
+
+def picture_file(found: Reasons) -> str:
+    """The picture alone as an SVG file."""
+    view = View(found.framework)
+    drawn = picture(found, view, views(found)[:1])
+    if not drawn:
+        raise ValueError("there is nothing to draw, or too much")
+    return drawn.replace("<defs>", f"<style>{PICTURE_STYLE}</style><defs>", 1) + "\n"
+
+
+# The page
+
+
+def _text(text: str) -> str:
+    return escape(text.encode("utf-8", "replace").decode(), quote=True)
+
+
+def _marked(found: Reasons, text: str) -> str:
+    """A text with names in bold, tied to their numbers."""
+    parts, last = [], 0
+    for mark in MARKED.finditer(text):
+        parts.append(_text(text[last : mark.start()]))
+        n, last = int(mark[2]), mark.end()
+        if mark[1] == SET_MARK:
+            parts.append(_text(found.set_label(n)))
+            continue
+        said = found.framework.names.get(n, str(n))
+        said = said[:1].upper() + said[1:] if mark[1] == CAPITAL_MARK else said
+        parts.append(f'<b data-n="{n}"><bdi>{_text(said)}</bdi></b>')
+    return "".join(parts) + _text(text[last:])
+
+
+def _attributes(one: Sentence) -> str:
+    out = [record.conclusion.atom[1] for record in one.records if getattr(record, "conclusion", None) is not None
+           and record.conclusion.atom[0] == "Member" and not record.conclusion.positive]
+    told = {"a": one.arguments, "e": [f"{b}-{a}" for b, a in one.attacks], "x": out, "p": one.cites}
+    return "".join(f' data-{key}="{" ".join(map(str, value))}"' for key, value in told.items() if value)
+
+
+def _sentence(found: Reasons, one: Sentence) -> str:
+    said = f'{_marked(found, one.text)}<span class="cite">{_text(cited(one.cites))}</span>'
+    head = f'<li class="s{" case" if one.items else ""}" id="p{one.number}" tabindex="0"{_attributes(one)}><span class="no">{one.number}</span>'
+    if not one.items:
+        return f"{head}{said}</li>"
+    inner = "".join(_sentence(found, item) for item in one.items)
+    return f"{head}<details open><summary>{said}</summary><ol>{inner}</ol></details></li>"
+
+
+def _section(found: Reasons, section: Section) -> str:
+    inner = f'<p class="intro">{_marked(found, section.intro)}</p>' if section.intro else ""
+    inner += f'<ol>{"".join(_sentence(found, one) for one in section.sentences)}</ol>'
+    count = sum(1 for _ in section.all())
+    heading = f"<h2>{_marked(found, section.heading)}</h2>"
+    if section.summary:
+        rests = " ".join(map(str, section.rests_on))
+        inner = (f'<p data-rest data-a="{rests}" tabindex="0">{_marked(found, section.summary)}</p>'
+                 f"<details><summary>All {count} sentences</summary>{inner}</details>")
+    elif section.folded:
+        said = f"{count} {'sentence' if count == 1 else 'sentences'}, not needed after the reason above"
+        inner = f"<details><summary>{said}</summary>{inner}</details>"
+    return f"<section>{heading}{inner}</section>"
+
+
+def _buttons(found: Reasons, count: int) -> str:
+    if count == 1:
+        return ""
+    names = ["all sets"] + [f"set {n}" for n in range(1, count)]
+    buttons = "".join(f'<button type="button" data-v="{v}" aria-pressed="{str(v == 0).lower()}">{said}</button>'
+                      for v, said in enumerate(names))
+    more = len(found.sets) - (count - 1)
+    return f'<div class="views" role="group" aria-label="What is coloured">{buttons}{f" and {more} more" if more else ""}</div>'
+
+
+def _legend(view: View, several: bool) -> str:
+    parts = [("#1b7f4b", "held" + (" by each" if several else "")), *([("#a8dcbf", "held by some")] if several else [])]
+    parts += [("#d9d9d9", "out of reach" if view.is_rules else "attacked"), ("#ffffff", "without a verdict")]
+    said = "".join(f'<i style="background:{colour}"></i>{text}' for colour, text in parts)
+    more = " Round: assumptions; square: statements, thick where known; dashed arrows: what speaks against." if view.is_rules else ""
+    return f'<p class="legend">{said}.{more}</p>'
+
+
+def _table(found: Reasons, view: View, view_sets) -> str:
+    looks = [states(view, sets) for sets in view_sets]
+    framework = found.framework
+    numbers = framework.atoms if view.is_rules else framework.arguments
+    words = {"h": "held", "s": "held by some", "o": "attacked", "u": ""}
+    rows = []
+    for n in numbers:
+        codes = "".join(look[n] for look in looks)
+        relation = _relations(found, view, n)
+        rows.append(f'<tr><td id="name-{n}"><bdi>{_text(framework.names.get(n, str(n)))}</bdi></td><td dir="auto" id="text-{n}">'
+                    f'{_text(framework.texts.get(n, ""))}</td><td>{relation}</td><td data-s="{codes}">{words[codes[0]]}</td></tr>')
+    relation = "Speaks against, follows from" if view.is_rules else "Attacks"
+    return (f"<h2>What each says</h2><table><thead><tr><th>Name</th><th>Text</th><th>{relation}</th><th>Stands</th></tr></thead>"
+            f"<tbody>{''.join(rows)}</tbody></table>")
+
+
+def _relations(found: Reasons, view: View, n: int) -> str:
+    names = lambda those: ", ".join(f"<bdi>{_text(found.framework.names.get(one, str(one)))}</bdi>" for one in those)
+    if not view.is_rules:
+        return names(view.targets[n])
+    against = [a for a, c in view.contrary.items() if c == n]
+    parts = [f"against {names(against)}"] if against else []
+    for rule in view.rules_for[n]:
+        body = view.rules[rule][1]
+        parts.append(f"from {names(body)}" if body else "known")
+    return "; ".join(parts)
+
+
+def page(found: Reasons) -> str:
+    """The whole page."""
+    view = View(found.framework)
+    view_sets = views(found)
+    drawn = picture(found, view, view_sets)
+    asked = found.task if found.query is None else f"{found.task} {found.query}"
+    said = _marked(found, found.said)
+    left = ""
+    if drawn:
+        left = (f'<div class="left">{_buttons(found, len(view_sets))}{drawn}{_legend(view, len(view_sets) > 1)}'
+                '<p id="marked" aria-live="polite">Point at a sentence to see what it speaks of, or at the picture to see where it is named.</p></div>')
+    sections = "".join(_section(found, section) for section in found.sections)
+    return f"""<!DOCTYPE html>
+<html lang="en"><head><meta charset="utf-8"><meta name="viewport" content="width=device-width">
+<meta http-equiv="Content-Security-Policy" content="default-src 'none'; style-src 'unsafe-inline'; script-src 'unsafe-inline'">
+<title>Reasons: {_text(found.fill(found.question))}</title><style>{STYLE}{PICTURE_STYLE}</style></head><body>
+<header><h1>{_marked(found, found.question)} <span class="cite">{_text(asked)}</span></h1><p class="answer">{said}</p>
+<p class="note">{_text(found.gloss)}</p><p class="note">{_text(CHECKED).replace("`argue check`", "<code>argue check</code>")}</p></header>
+<main{'' if drawn else ' class="plain"'}>{left}<div class="right">{sections}</div></main>
+<footer>{_table(found, view, view_sets)}</footer><script>{SCRIPT}</script></body></html>
+"""
+
