@@ -220,8 +220,8 @@ class Framework:
 
     Made by `from_text`, `from_file`, `of_attacks` and `of_rules`.
 
-    Raises InvalidFramework for numbers out of range, for an assumption that heads a rule, and for a contrary of no
-    assumption.
+    Raises InvalidFramework for numbers out of range, for an assumption that heads a rule, for a contrary of no
+    assumption, and for a name that isn't a letter with letters, digits, `-` and `_` behind it.
     """
 
     kind: Kind
@@ -239,6 +239,9 @@ class Framework:
         for number in self._numbers():
             if not 1 <= number <= self.size:
                 raise InvalidFramework("OutOfRange", number)
+        for number, name in self.names.items():
+            if not re.fullmatch(NAME, name):
+                raise InvalidFramework("BadName", number)
         assumed = set(self.assumptions)
         for rule in self.rules:
             if rule.head in assumed:
@@ -408,6 +411,8 @@ class Framework:
         for rule in self.rules:
             yield rule.head
             yield from rule.body
+        yield from self.texts
+        yield from self.names
 
 
 def _comment(number: int, name: Optional[str], text: Optional[str]) -> str:

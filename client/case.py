@@ -105,18 +105,15 @@ class Case:
 
     @classmethod
     def of_framework(cls, framework: Framework) -> Case:
-        """The case of a framework. A number without a name, or with one that is a word of the notation, gets one:
-        `a3` for an argument, `s3` for a statement.
+        """The case of a framework. A number without a name of its own, or with one that is a word of the notation, gets
+        one: `a3` for an argument, `s3` for a statement.
 
         >>> Case.of_framework(Framework.of_attacks([(1, 2)], names={1: "claim"})).text()
         'claim:\\na2:\\n\\nclaim attacks a2\\n'
         """
-        names = {
-            number: name
-            for number, name in framework.names.items()
-            if name not in RESERVED and NAME.fullmatch(name) and number <= framework.size
-        }
-        taken = set(names.values())
+        owners = {name: number for number, name in reversed(framework.names.items()) if name not in RESERVED}
+        names = {number: name for name, number in owners.items()}
+        taken = set(owners)
         letter = "a" if framework.kind is Kind.ATTACKS else "s"
         for number in range(1, framework.size + 1):
             if number not in names:

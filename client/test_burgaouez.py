@@ -141,6 +141,8 @@ class MakingTest(unittest.TestCase):
             ("OutOfRange", lambda: Framework.of_attacks([(0, 1)])),
             ("OutOfRange", lambda: Framework.of_attacks([], size=1_000_001)),
             ("OutOfRange", lambda: Framework.of_rules([1], {1: 5}, [], size=4)),
+            ("OutOfRange", lambda: Framework.of_attacks([], size=1, texts={2: "Two."})),
+            ("BadName", lambda: Framework.of_attacks([], size=1, names={1: "two words"})),
             ("NotFlat", lambda: Framework.of_rules([1], {}, [(1, [])])),
             ("ContraryOfNonAssumption", lambda: Framework.of_rules([1], {2: 1}, [])),
         ):

@@ -197,6 +197,8 @@ class RoundTripTest(unittest.TestCase):
     def test_numbers_without_a_name(self):
         case = Case.of_framework(Framework.of_attacks([(1, 2), (2, 3)], names={1: "a2", 3: "if"}))
         self.assertEqual(case.framework.names, {1: "a2", 2: "a2-", 3: "a3"})
+        twice = Case.of_framework(Framework.of_attacks([], 3, names={1: "x", 2: "x"}))
+        self.assertEqual(twice.framework.names, {1: "x", 2: "a2", 3: "a3"})
 
     def test_examples_are_the_files_with_numbers(self):
         for name in ("hearing.af", "inheritance.af", "anticoagulant.aba"):
