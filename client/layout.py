@@ -8,6 +8,8 @@ from typing import Iterable, Mapping, Sequence
 # Larger frameworks are listed, not drawn.
 MOST_DRAWN = 150
 ROUNDS = 240
+# How much nearer to each other all come at the end, across and down.
+DENSER = (0.62, 0.72)
 
 Point = tuple[float, float]
 
@@ -47,7 +49,7 @@ def placed(nodes: Sequence[int], edges: Sequence[tuple[int, int]], widths: Mappi
     for node in nodes:
         rows.setdefault(depth[node], []).append(node)
     chance = random.Random(1)
-    step = sum(widths.values()) / max(len(widths), 1) + 36
+    step = 120.0
     at = {}
     for row, those in rows.items():
         for index, node in enumerate(those):
@@ -55,6 +57,8 @@ def placed(nodes: Sequence[int], edges: Sequence[tuple[int, int]], widths: Mappi
     ends = [(start, end) for start, end in dict.fromkeys(edges) if start != end]
     for round_ in range(ROUNDS):
         _move(at, ends, step, 24.0 * (1 - round_ / ROUNDS) + 0.5)
+    for point in at.values():
+        point[0], point[1] = point[0] * DENSER[0], point[1] * DENSER[1]
     _part(at, widths)
     return _shifted(at, widths)
 
@@ -79,7 +83,7 @@ def _move(at: dict[int, list[float]], ends: Sequence[tuple[int, int]], step: flo
             force[node][1] += sign * dy * pull
     centre = [sum(point[axis] for point in at.values()) / len(at) for axis in (0, 1)]
     for node, (x, y) in force.items():
-        x, y = x - (at[node][0] - centre[0]) * 0.35, y - (at[node][1] - centre[1]) * 0.35
+        x, y = x - (at[node][0] - centre[0]) * 0.5, y - (at[node][1] - centre[1]) * 0.45
         length = math.hypot(x, y) or 1.0
         at[node][0] += x / length * min(length, most)
         at[node][1] += y / length * min(length, most)
@@ -94,7 +98,7 @@ def _part(at: dict[int, list[float]], widths: Mapping[int, float]) -> None:
             for other in nodes[index + 1 :]:
                 dx, dy = at[other][0] - at[one][0], at[other][1] - at[one][1]
                 lacks_x = (widths[one] + widths[other]) / 2 + 18 - abs(dx)
-                lacks_y = 52 - abs(dy)
+                lacks_y = 48 - abs(dy)
                 if lacks_x > 0 and lacks_y > 0:
                     moved = True
                     axis, lack, way = (1, lacks_y, dy) if lacks_y < lacks_x else (0, lacks_x, dx)

@@ -489,6 +489,7 @@ class Narrator:
     def __init__(self, view: View):
         self.view = view
         self.number = 0
+        self.first = 1
         self.ground: dict[Literal, int] = {}
         self.wording = Wording(view)
 
@@ -530,6 +531,7 @@ class Narrator:
     def refutation(self, refutation: Refutation) -> list[Sentence]:
         """The paragraphs of a refutation, its lemmas first."""
         self.wording = Wording(self.view, refutation.claim, refutation.lemmas)
+        self.first = self.number + 1
         sentences = []
         for number, lemma in enumerate(refutation.lemmas, 1):
             self.number += 1
@@ -544,7 +546,7 @@ class Narrator:
         """The paragraphs of a scope; `known` says in which paragraph each conclusion stands."""
         sentences = []
         for group in merged(items):
-            before = self.number
+            before = self.number if self.number >= self.first else 0
             self.number += 1
             if isinstance(group[0], Case):
                 told = self._case(group[0], known)

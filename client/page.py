@@ -30,7 +30,7 @@ h1 { font-size: 1.25rem; margin: 18px 0 4px; font-weight: 600 }
 main { display: grid; grid-template-columns: minmax(380px, 46%) 1fr; gap: 28px; margin-top: 14px; align-items: start }
 main.plain { grid-template-columns: 1fr }
 .left { position: sticky; top: 8px; max-height: 98vh; overflow: auto }
-h2 { font-size: 1.05rem; margin: 20px 0 2px } h2:first-child { margin-top: 0 }
+h2 { font-size: 1.05rem; margin: 22px 0 2px } section:first-child h2 { margin-top: 0 }
 .intro { margin: 0 0 4px }
 ol { list-style: none; margin: 0; padding: 0 } ol ol { padding-left: 26px; border-left: 2px solid #ddd; margin-left: 6px }
 li.s { padding: 2px 6px 2px 40px; position: relative; border-left: 4px solid transparent; border-radius: 3px }
@@ -49,7 +49,7 @@ table { border-collapse: collapse; width: 100%; margin: 8px 0 40px; font-size: .
 @media print { main { display: block } .left { position: static } #marked, .views { display: none } }
 """
 PICTURE_STYLE = """
-svg.dispute text { font: 13px system-ui, "DejaVu Sans", sans-serif; text-anchor: middle; pointer-events: none }
+svg.dispute { width: 100%; max-height: 76vh } svg.dispute text { font: 13px system-ui, "DejaVu Sans", sans-serif; text-anchor: middle; pointer-events: none }
 svg.dispute .edge path { fill: none; stroke: #555; stroke-width: 1.4; marker-end: url(#tip) }
 svg.dispute .edge.half path { marker-end: none } svg.dispute .edge.against path { stroke-dasharray: 6 4 }
 svg.dispute .node .shape { fill: #fff; stroke: #333; stroke-width: 1.4 } svg.dispute .node { cursor: pointer }

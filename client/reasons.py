@@ -217,8 +217,7 @@ class _Telling:
             case "SE", Sets():
                 return f"It holds {names_of(self.answer.sets[0]) or 'nothing'}."
             case "EE", Sets():
-                count = len(self.answer.sets)
-                return f"There {'is one' if count == 1 else f'are {count}'}."
+                return self._count_words(self.answer.sets)
             case "SE" | "EE", _:
                 return "There is none: no position without conflict has a verdict on everything."
             case _ if self.semantics in ("GR", "ID"):
@@ -233,6 +232,16 @@ class _Telling:
             case "DS", Yes():
                 return f"Yes: every {adjective} set {verb} {name(self.query)}."
         return f"No: here is one that doesn't {verb[:-1]} {name(self.query)}."
+
+    def _count_words(self, sets: Sequence[Numbers]) -> str:
+        """How many sets there are, with what sets each apart where they are few."""
+        if len(sets) == 1:
+            return f"There is one: it {self.holds} {names_of(sets[0]) or 'nothing'}."
+        count = {2: "two", 3: "three", 4: "four", 5: "five", 6: "six"}.get(len(sets), str(len(sets)))
+        if len(sets) > 6:
+            return f"There are {count}."
+        labels = [self._label(list(sets), number).removeprefix(", ") for number in range(1, len(sets) + 1)]
+        return f"There are {count}: {'; '.join(f'set {n}{chr(44) * bool(label)} {label}'.strip() for n, label in enumerate(labels, 1))}."
 
     # Sets
 

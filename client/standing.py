@@ -22,10 +22,10 @@ STANDINGS = {
     "known": "known are {list}",
     "derived": "{x} follows from {body}",
     "unopposed": "{a} stands: nothing speaks against it",
-    "underivable": "{a} stands: {c} speaks against it, and no rule gives {c}",
-    "shut": "{a} stands: {c} speaks against it, and {c} {why}",
+    "underivable": "{a} stands: only {c} speaks against it, and no rule gives {c}",
+    "shut": "{a} stands: only {c} speaks against it, which {why}",
     "attacked": "{a} falls: {c} speaks against it, and {holds}",
-    "possible": "{a} stays open: {c} speaks against it, and isn't shut out by the set",
+    "possible": "{a} stays open: {c} speaks against it, and the set doesn't shut {c} out",
     "lacking": "{x} is shut out: it {why}",
     "circle": "{list} are shut out: they could only come from each other{ways}",
 }
@@ -186,11 +186,10 @@ class _Shut:
         ways = [(self.view.rules[r][1], lack) for r, lack in self.lacks[x].items()]
         if not ways:
             return "has no rule"
-        said = [f"needs {name(lack)}" + (f" beside {names_of(y for y in body if y != lack)}" if len(body) > 1 else "")
-                for body, lack in ways]
-        out = listed(sorted({name(lack) for _, lack in ways}))
-        verb = "is" if len({lack for _, lack in ways}) == 1 else "are"
-        return f"{listed(list(dict.fromkeys(said)), 'or')}; and {out} {verb} out"
+        lacks = list(dict.fromkeys(lack for _, lack in ways))
+        if len(lacks) == 1:
+            return f"needs {name(lacks[0])}, which is out"
+        return f"needs {names_of(lacks, 'or')}, and {'both' if len(lacks) == 2 else 'all of them'} are out"
 
 
 def _of_assumptions(view: View, members: Numbers, opens: bool) -> list[Standing]:
@@ -312,7 +311,7 @@ def _fields(view: View, one: Standing, shut: Optional[_Shut]) -> dict[str, str]:
     if one.kind == "derived":
         fields["body"] = names_of(one.by)
     if one.kind == "attacked":
-        fields["holds"] = "is assumed" if one.by[0] in one.members else "follows"
+        fields["holds"] = "it is assumed" if one.by[0] in one.members else "that follows"
     if one.kind in ("shut", "lacking"):
         fields["why"] = shut.why(one.by[0] if one.kind == "shut" else first)
     if one.kind == "circle":

@@ -7,7 +7,9 @@ BURGAOUEZ_SEED the first seed. The definitions here are the tests' own: they sha
 """
 from __future__ import annotations
 
+import contextlib
 import copy
+import io
 import os
 import random
 import re
@@ -20,13 +22,14 @@ from pathlib import Path
 sys.path.insert(0, str(Path(__file__).resolve().parent))
 
 import certificate
+import page
 import records
 import words
 from burgaouez import Accepted, ArgueError, Framework, No, Sets, Yes, check, solve
-from certificate import AXIOMS, Literal, View, claims_of, literal_of, read_certificate
-from narration import MARKED, Narrator, plain
+from certificate import AXIOMS, Literal, View, literal_of
+from narration import Wording, literal_words
 from reasons import NotAccepted, cited, main, reasons
-from records import Case, Fact, Record, read_refutation, walk
+from records import Case, Fact, Record, walk
 
 COUNT = int(os.environ.get("BURGAOUEZ_FRAMEWORKS", "30"))
 SEED = int(os.environ.get("BURGAOUEZ_SEED", "1"))
@@ -333,8 +336,10 @@ class Told:
 
 
 def told_of(framework, rng):
-    """The reasons of each task for one number."""
+    """The reasons of each task that may need a refutation, for one number."""
     for task in framework.tasks:
+        if task.endswith("-GR") or task == "SE-CO":
+            continue
         if task.startswith("D"):
             yield Told(framework, task, rng.randint(1, framework.size))
         else:
@@ -451,10 +456,20 @@ class RandomReasons(unittest.TestCase):
             homes.update((record.conclusion, one.number) for record in one.records)
 
     def test_the_told_certificate_is_accepted(self):
-        for _, told in self.each():
+        """One in ten, as `reasons` itself asks for each."""
+        for _, told in list(self.each())[::10]:
             found = told.found
             verdict = check(found.framework, found.task, found.answer, found.query, found.certificate.text(), seconds=SECONDS)
             self.assertEqual(verdict, Accepted())
+
+    def test_each_record_has_its_sentence(self):
+        for _, told in self.each():
+            for refutation, _ in told.parts:
+                wording = Wording(View(told.found.framework), refutation.claim, refutation.lemmas)
+                for record in walk(refutation.items):
+                    inner = any(records.is_inner(one) for one in (*record.premises, record.conclusion) if one is not None
+                                and one.atom[0] not in MODES)
+                    self.assertTrue(inner or not wording.key(record)[0].startswith("other"), record)
 
     def test_planted_faults_are_caught(self):
         missed, planted = [], 0
@@ -534,8 +549,10 @@ def planted_in(record, sides, plain):
         if fact.name == "rule" and fact.values[2]:
             yield "a shorter rule", exchanged((*fact.values[:2], fact.values[2][:-1]))
     for premise in record.premises:
-        if premise.atom[0] not in MODES:
-            yield "a premise dropped", altered(record, premises=tuple(p for p in record.premises if p != premise))
+        rest = tuple(p for p in record.premises if p != premise)
+        negated = () if record.conclusion is None else (-record.conclusion,)
+        if same(plain, record.premises + negated) != same(plain, rest + negated):
+            yield "a premise dropped", altered(record, premises=rest)
     if record.conclusion is not None:
         yield "turned conclusion", altered(record, conclusion=-record.conclusion)
 
@@ -545,6 +562,210 @@ def altered(record, **changes):
     for name, value in changes.items():
         setattr(wrong, name, value)
     return wrong
+
+
+# The table, the words, and bad input
+
+
+class Table(unittest.TestCase):
+    """No axiom is without its sentence, no literal without its words."""
+
+    def test_each_axiom_has_a_sentence_for_each_literal_it_gives(self):
+        for row, (_, clause) in AXIOMS.items():
+            group = records.CHAINS.get(row, row)
+            if row in records.SILENT:
+                continue
+            for text in clause.split():
+                name = text.removeprefix("-").split(":")[0]
+                if name in certificate.FACTS or name in MODES or name in ("Miss", "Sup") or text.split(":")[-1] not in (
+                        "a", "b", "c", "x", "j", "h", "1"):
+                    continue
+                given = f"{group} {'-' if text.startswith('-') else ''}{name}"
+                self.assertTrue(any(key == given or key.startswith(given + " ") for key in words.SENTENCES), given)
+            self.assertTrue(any(key.startswith(group + " clash") for key in words.SENTENCES), group)
+
+    def test_each_literal_has_words(self):
+        view = View(Framework.of_rules([1], {1: 2}, [(2, [1])]))
+        for row, (_, clause) in AXIOMS.items():
+            for text in clause.split():
+                name, *numbers = text.removeprefix("-").split(":")
+                if name not in certificate.FACTS:
+                    for sign in (True, False):
+                        for last in (1, 2):
+                            atom = (name, *([1] * (len(numbers) - 1)), *([last] if numbers else []))
+                            self.assertTrue(literal_words(view, Literal(sign, atom)), atom)
+
+    def test_the_sentences_name_only_fields_that_are_filled(self):
+        for key, text in {**words.SENTENCES, **words.MERGED}.items():
+            self.assertNotIn("??", text)
+            self.assertNotRegex(text, r"[.]$", key)
+
+
+class ByHand(unittest.TestCase):
+    """Reasons compared with what was written by hand."""
+
+    def section(self, framework, task, query, heading):
+        found = reasons(framework, task, query, seconds=SECONDS)
+        part = next(one for one in found.sections if one.heading == heading)
+        return [found.fill(part.intro)] + [f"{one.number} {found.fill(one.text)}{cited(one.cites)}" for one in part.all()]
+
+    def example(self, name):
+        return Framework.from_file(EXAMPLES / name)
+
+    def test_silence(self):
+        self.assertEqual(self.section(self.example("hearing.af"), "DC-PR", 7, "Why"), [
+            "Suppose there is a position that defends itself and holds silent.",
+            "1 Letter attacks silent, so it must answer letter; only contract does, so it holds contract.",
+            "2 Contract attacks silent: it would attack itself. That can't be.",
+        ])
+
+    def test_on_time(self):
+        self.assertEqual(self.section(self.example("hearing.af"), "DC-PR", 2, "Beyond doubt already")[1:], [
+            "1 Both-signed stands: nothing attacks it.",
+            "2 Note stands: date-changed attacks it, and both-signed answers that.",
+            "3 On-time falls to note.",
+        ])
+
+    def test_hearing_ground(self):
+        self.assertEqual(self.section(self.example("hearing.af"), "EE-PR", None, "Beyond doubt"), [
+            "This is so of every position that defends itself.",
+            "8 Nothing attacks both-signed, so both-signed stays, and date-changed, which it attacks, is out.",
+            "9 Only date-changed attacks note, and is out; so note stays, and on-time, which it attacks, is out.",
+        ])
+
+    def test_a_ring_has_no_stable_set(self):
+        self.assertEqual(self.section(self.example("cycle.af"), "SE-ST", None, "Why")[0],
+                         "Suppose there is a position with a verdict on everything.")
+
+    def test_itself(self):
+        self.assertEqual(self.section(Framework.of_attacks([(1, 1)]), "DC-PR", 1, "A short reason"), [
+            "Nothing that attacks itself is ever held.", "1 1 attacks itself.",
+        ])
+
+    def test_demand_without_answer(self):
+        ring = Framework.of_attacks([(1, 2), (3, 1), (4, 3), (5, 4), (2, 5)])
+        self.assertEqual(self.section(ring, "DC-PR", 2, "Why"), [
+            "Suppose there is a position that defends itself and holds 2.",
+            "1 1 attacks 2, so it must answer 1; only 3 does, so it holds 3.",
+            "2 4 attacks 3, so it must answer 4; only 5 does, so it holds 5.",
+            "3 2 attacks 5: it would attack itself. That can't be.",
+        ])
+
+    def test_untreated(self):
+        self.assertEqual(self.section(self.example("anticoagulant.aba"), "DC-PR", 2, "Beyond doubt already")[1:], [
+            "1 Known are stroke-risk, bleed-recorded, normal-count and unfilled.",
+            "2 Untreated-unsafe follows from stroke-risk.",
+            "3 Untreated falls: untreated-unsafe speaks against it, and that follows.",
+        ])
+
+    def test_anticoagulant(self):
+        found = self.section(self.example("anticoagulant.aba"), "EE-PR", None, "Why there is no other")
+        self.assertEqual([line.split(" ", 1)[1] for line in found], [
+            "there is a position that defends itself and lies within none of the sets shown.",
+            "Unless it lies within set 1, it assumes record-right. [19]",
+            "It derives tablets-missed, which follows from record-right and unfilled and speaks against tablets-taken; so it "
+            "can't assume tablets-taken. [18]",
+            "Unless it lies within set 2, it assumes give. [19]",
+            "It derives bleeding-risk, which follows from record-right and bleed-recorded. [18, 20]",
+            "It derives unsafe, which follows from bleeding-risk and speaks against give: it would attack itself. That can't "
+            "be. [22]",
+        ])
+
+    def test_charity(self):
+        found = self.section(self.example("inheritance.af"), "DS-PR", 4, "Why")
+        self.assertEqual(found[1:4], [
+            "11 It doesn't hold no-will. Suppose it did:",
+            "12 May attacks no-will, so it must answer May; only March does, so it holds March.",
+            "13 March attacks no-will: it would attack itself. That can't be. [11]",
+        ])
+        self.assertEqual(found[-1], "21 May attacks March: it would attack itself. That can't be. [19]")
+
+    def test_grounded(self):
+        found = self.section(self.example("rivals.af"), "SE-GR", None, "The grounded set")
+        self.assertEqual(found[1:], [
+            "1 Open stay 1 (2 attacks it), 2 (1 attacks it) and 3 (2 attacks it): nothing in the set answers that.",
+        ])
+
+
+class BadInput(unittest.TestCase):
+    """What isn't accepted gives no reasons; what users write does no harm."""
+
+    def run_words(self, *arguments):
+        out, errors = io.StringIO(), io.StringIO()
+        with contextlib.redirect_stdout(out), contextlib.redirect_stderr(errors):
+            status = main(list(arguments))
+        return status, out.getvalue(), errors.getvalue()
+
+    def test_a_certificate_of_another_framework(self):
+        one, other = Framework.of_attacks([(1, 2), (2, 1), (2, 3)]), Framework.of_attacks([(1, 2), (2, 1), (1, 3)])
+        answer = solve(one, "EE-PR", seconds=SECONDS)
+        with self.assertRaises(ArgueError):
+            reasons(other, "EE-PR", None, answer, seconds=SECONDS)
+
+    def test_a_truncated_certificate(self):
+        framework = Framework.of_attacks([(1, 2), (2, 1), (2, 3)])
+        answer = solve(framework, "EE-PR", seconds=SECONDS)
+        with self.assertRaises(ArgueError):
+            reasons(framework, "EE-PR", None, answer, answer.certificate[:-8], seconds=SECONDS)
+        with tempfile.TemporaryDirectory() as folder:
+            paths = [Path(folder, name) for name in ("framework", "answer", "certificate", "page.html")]
+            for path, text in zip(paths, (framework.text(), "w 1 3\nw 2\n", answer.certificate[:-8])):
+                path.write_text(text)
+            status, _, errors = self.run_words("-p", "EE-PR", "-f", str(paths[0]), "-r", str(paths[1]), "-c", str(paths[2]),
+                                               "--page", str(paths[3]))
+            self.assertEqual(status, 1)
+            self.assertIn("CertificateFault", errors)
+            self.assertFalse(paths[3].exists())
+
+    def test_a_wrong_step(self):
+        framework = Framework.of_attacks([(1, 2), (2, 1), (2, 3)])
+        answer = solve(framework, "EE-PR", seconds=SECONDS)
+        with self.assertRaises(NotAccepted):
+            reasons(framework, "EE-PR", None, answer, answer.certificate.replace("s 2", "s 1"), seconds=SECONDS)
+
+    def test_html_in_texts(self):
+        evil = '<script>alert("x")</script> & "quotes" \'single\' ]]> --> \u202e right to left?'
+        framework = Framework.of_attacks([(1, 2), (2, 1)], texts={1: evil, 2: "long " * 100}, names={2: "b-b"})
+        made = page.page(reasons(framework, "EE-PR", seconds=SECONDS))
+        self.assertEqual(made.count("<script>"), 1)
+        self.assertNotIn("alert(", made.replace("alert(&quot;", ""))
+        self.assertIn("&lt;script&gt;", made)
+        self.assertNotRegex(made, r"(src|href)\s*=")
+        for value in re.findall(r' data-[a-z]+="([^"]*)"', made):
+            self.assertRegex(value, r"^[-0-9 hsou]*$")
+
+    def test_words_that_do_not_fit(self):
+        missing = self.run_words("-p", "EE-PR", "-f", "/nowhere/at/all.af")
+        self.assertEqual(missing[0], 1)
+        self.assertIn("/nowhere/at/all.af", missing[2])
+        wrong = self.run_words("-p", "EE-XX", "-f", str(EXAMPLES / "two.af"))
+        self.assertEqual(wrong[0], 1)
+        self.assertIn("Usage", wrong[2])
+        unknown = self.run_words("-p", "DC-PR", "-a", "9", "-f", str(EXAMPLES / "two.af"))
+        self.assertIn("UnknownArgument", unknown[2])
+
+    def test_no_arguments(self):
+        self.assertIn("nothing", reasons(Framework.of_attacks([], size=0), "EE-PR", seconds=SECONDS).text())
+
+    def test_many_arguments(self):
+        framework = Framework.of_attacks([(n, n + 1) for n in range(1, 10_000)])
+        found = reasons(framework, "EE-PR", seconds=300)
+        made = page.page(found)
+        self.assertNotIn("<svg", made)
+        self.assertIn("These reasons take", found.text() + made) if any(s.summary for s in found.sections) else None
+
+    def test_each_sentence_is_tied_to_what_it_names(self):
+        found = reasons(Framework.from_file(EXAMPLES / "anticoagulant.aba"), "EE-ST", seconds=SECONDS)
+        made = page.page(found)
+        nodes = set(re.findall(r'<g class="node[^"]*" data-n="([0-9]+)"', made))
+        self.assertEqual(len(nodes), 14)
+        edges = {pair for marks in re.findall(r'<g class="edge[^"]*" data-e="([^"]*)"', made) for pair in marks.split()}
+        for one in re.findall(r"<li class=\"s[^>]*>", made):
+            told = dict(re.findall(r' data-([a-z])="([^"]*)"', one))
+            self.assertLessEqual(set(told.get("a", "").split()), nodes)
+            self.assertLessEqual(set(told.get("e", "").split()), edges)
+            for paragraph in told.get("p", "").split():
+                self.assertIn(f'id="p{paragraph}"', made)
 
 
 if __name__ == "__main__":
