@@ -102,7 +102,7 @@ class ReadingTest(unittest.TestCase):
             ("p aba 2\na 1\nr 1", 3, "NotFlat"),
             ("p aba 2\nr 1\na 1", 3, "NotFlat"),
             ("p aba 3\na 1\nc 1 2\nc 1 3", 4, "SecondContrary"),
-            ("p aba 3\nc 1 2\nc 2 2\na 2", 2, "ContraryOfNonAssumption"),
+            ("p aba 3\nc 1 2\nc 3 2\na 2", 2, "ContraryOfNonAssumption"),
         ):
             with self.subTest(text), self.assertRaises(burgaouez.FrameworkFault) as caught:
                 Framework.from_text(text)
@@ -167,6 +167,7 @@ class MakingTest(unittest.TestCase):
         self.assertEqual(drug.closure([3]), (3, 5, 6, 7, 8, 9, 11, 12, 14))
         circle = Framework.of_rules([1], {}, [(2, [3]), (3, [2]), (4, [1, 1]), (5, [4, 2])], 5)
         self.assertEqual((circle.closure([]), circle.closure([1]), circle.closure([3])), ((), (1, 4), (2, 3)))
+        self.assertEqual(DRUG.edited(burgaouez.DropRule(1)).edited(burgaouez.AddRule(3, (2, 2))).closure([2]), (2, 3))
 
 
 class AnsweringTest(unittest.TestCase):
@@ -522,6 +523,12 @@ class ScriptTest(unittest.TestCase):
             "5 rule 3 1 2\n5 rule 3\n6 norule 7\n8 ask SE-GR\n8 ask DC-PR 1\n"
         )
         self.assertEqual(Script.from_text(text).text(), text)
+
+    def test_rules_keep_their_numbers(self):
+        transcript = Script.from_text("1 norule 2\n1 rule 3 1\n1 norule 1\n").run(DRUG)
+        self.assertEqual(transcript.replies[1].outcome, burgaouez.Taken(rule=3))
+        self.assertEqual(transcript.framework_at(DRUG, 2).rules, (Rule(1, 3, (2,)), Rule(3, 3, (1,))))
+        self.assertEqual(transcript.framework_at(DRUG, 3).rules, (Rule(3, 3, (1,)),))
 
     def test_a_framework_with_a_gap(self):
         with self.assertRaises(burgaouez.InvalidFramework):

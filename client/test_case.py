@@ -184,6 +184,10 @@ class RoundTripTest(unittest.TestCase):
                 self.assertEqual(Case.from_text(case.text()).framework, case.framework, case.text())
                 self.assertTrue(same_framework(case.framework, drawn))
 
+    def test_text(self):
+        lines = [line for line in WITNESS.splitlines() if line and not line.startswith("#")]
+        self.assertEqual(Case.from_text(WITNESS).text().splitlines(), [*lines[:3], "", *lines[3:]])
+
     def test_rules_without_any(self):
         with self.assertRaises(ValueError):
             Case.of_framework(Framework.of_rules([], {}, [], 2)).text()
@@ -330,6 +334,9 @@ class LintTest(unittest.TestCase):
         ):
             with self.subTest(line):
                 self.assertIn(warning, self.told(given + line + "\n"))
+
+    def test_two_rules_for_one_statement(self):
+        self.assertEqual(self.told("assume x: X.\nassume z: Z.\nk: K.\nk against x\nk if z\nk if z, x\n"), [])
 
     def test_lines(self):
         warnings = case_lint.warnings_of(Case.from_text("assume a: A.\nb: B.\n\nb against a\nb if a\nb if a\n"))
