@@ -460,7 +460,7 @@ class Merging:
 
     def _excluded(self, record: Record) -> str:
         key, fields = self.wording.key(record)
-        reason = {"of": "({y} attacks it)", "on": "(it attacks {y})", "self": "(it attacks itself)"}[key.split()[-1]]
+        reason = {"of": "(attacked by {y})", "on": "(which attacks {y})", "self": "(which attacks itself)"}[key.split()[-1]]
         return f"{name(record.conclusion.atom[1])} {reason.format(**fields)}"
 
     def _unanswered(self, records: Sequence[Record]) -> str:
@@ -470,7 +470,7 @@ class Merging:
         if last.conclusion is None:
             return MERGED[f"unanswered clash {_how_many(those)}"].format(**fields)
         out = [_target(record) for record in records[1:]]
-        fields.update(out=names_of(out), are="is" if len(out) == 1 else "are")
+        fields["out"] = names_of(out)
         return MERGED[f"unanswered {_how_many(those)}"].format(**fields)
 
     def _against(self, first: Record, second: Record) -> str:

@@ -6,9 +6,11 @@ script have numbers.
 from __future__ import annotations
 
 import math
+import re
 from html import escape
-from typing import Sequence
+from typing import Optional, Sequence
 
+from burgaouez import Framework
 from certificate import View
 from layout import MOST_DRAWN, placed
 from narration import CAPITAL_MARK, MARKED, SET_MARK, Sentence
@@ -43,13 +45,13 @@ b { font-weight: 600 } .cite { color: var(--soft); font-size: .85rem }
 .views button { font: inherit; font-size: .9rem; border: 1px solid #999; background: #fff; padding: 2px 10px; border-radius: 12px; margin: 0 4px 4px 0; cursor: pointer }
 .views button[aria-pressed=true] { background: #111; color: #fff }
 #marked { min-height: 3em; font-size: .92rem; margin: 4px 0; padding: 4px 8px; background: #f6f6f6; border-radius: 4px }
-.legend { font-size: .85rem; color: var(--soft) } .legend i { display: inline-block; width: 14px; height: 14px; border: 1px solid #333; vertical-align: -2px; margin: 0 4px 0 10px }
+svg.dispute { width: 100%; max-height: 76vh } .legend { font-size: .85rem; color: var(--soft) } .legend i { display: inline-block; width: 14px; height: 14px; border: 1px solid #333; vertical-align: -2px; margin: 0 4px 0 10px }
 table { border-collapse: collapse; width: 100%; margin: 8px 0 40px; font-size: .92rem } td, th { text-align: left; padding: 3px 8px; border-bottom: 1px solid #ddd; vertical-align: top }
 @media (max-width: 900px) { main { grid-template-columns: 1fr } .left { position: static } }
 @media print { main { display: block } .left { position: static } #marked, .views { display: none } }
 """
 PICTURE_STYLE = """
-svg.dispute { width: 100%; max-height: 76vh } svg.dispute text { font: 13px system-ui, "DejaVu Sans", sans-serif; text-anchor: middle; pointer-events: none }
+svg.dispute text { font: 13px system-ui, "DejaVu Sans", sans-serif; text-anchor: middle; pointer-events: none }
 svg.dispute .edge path { fill: none; stroke: #555; stroke-width: 1.4; marker-end: url(#tip) }
 svg.dispute .edge.half path { marker-end: none } svg.dispute .edge.against path { stroke-dasharray: 6 4 }
 svg.dispute .node .shape { fill: #fff; stroke: #333; stroke-width: 1.4 } svg.dispute .node { cursor: pointer }
@@ -166,14 +168,13 @@ def _out(view: View, members) -> set[int]:
 # The picture
 
 
-def _label(found: Reasons, n: int) -> str:
-    said = found.framework.names.get(n, str(n))
+def _label(framework: Framework, n: int) -> str:
+    said = framework.names.get(n, str(n))
     return said if len(said) <= LONGEST_LABEL else said[: LONGEST_LABEL - 1] + "…"
 
 
-def _edges(found: Reasons) -> list[tuple[int, int, str, str]]:
+def _edges(framework: Framework) -> list[tuple[int, int, str, str]]:
     """Start, end, kind and the pairs that a sentence may mark: rules of several premises meet at a joint, a negative number."""
-    framework = found.framework
     edges = [(b, a, "", f"{b}-{a}") for b, a in framework.attacks]
     edges += [(c, a, "against", f"{c}-{a}") for a, c in framework.contraries.items()]
     for rule in framework.rules:
@@ -186,14 +187,16 @@ def _edges(found: Reasons) -> list[tuple[int, int, str, str]]:
     return edges
 
 
-def picture(found: Reasons, view: View, view_sets: Sequence[Sequence]) -> str:
-    """The drawn framework as an element, or nothing where it is too large."""
-    numbers = list(found.framework.atoms if view.is_rules else found.framework.arguments)
+def picture(framework: Framework, view_sets: Sequence[Sequence], query: Optional[int] = None) -> str:
+    """The drawn framework as an element, or nothing where it is too large. Each of `view_sets` is a list of sets by which the
+    numbers are coloured, the first of them to begin with."""
+    view = View(framework)
+    numbers = list(framework.atoms if view.is_rules else framework.arguments)
     if not numbers or len(numbers) > MOST_DRAWN:
         return ""
-    edges = _edges(found)
+    edges = _edges(framework)
     joints = sorted({end for _, end, _, _ in edges if end < 0}, reverse=True)
-    widths = {n: max(36.0, 7.6 * len(_label(found, n)) + 24) for n in numbers} | {joint: 10.0 for joint in joints}
+    widths = {n: max(36.0, 7.6 * len(_label(framework, n)) + 24) for n in numbers} | {joint: 10.0 for joint in joints}
     at = placed(numbers + joints, [(start, end) for start, end, _, _ in edges], widths)
     width = max(x + widths[n] / 2 for n, (x, _) in at.items()) + 40
     height = max(y for _, y in at.values()) + 40
@@ -201,27 +204,32 @@ def picture(found: Reasons, view: View, view_sets: Sequence[Sequence]) -> str:
     parts = [_edge(edge, at, widths, pairs) for edge in edges]
     parts += [f'<circle cx="{at[j][0]}" cy="{at[j][1]}" r="3.5" fill="#555"/>' for j in joints]
     looks = [states(view, sets) for sets in view_sets]
-    known = {rule.head for rule in found.framework.rules if not rule.body}
+    known = {rule.head for rule in framework.rules if not rule.body}
     for n in numbers:
-        parts.append(_node(found, n, at[n], widths[n], "".join(look[n] for look in looks), n in known, view))
+        marks = ["known"] * (n in known) + ["asked"] * (n == query)
+        parts.append(_node(view, n, at[n], widths[n], "".join(look[n] for look in looks), marks))
+    return _drawing(width, height, "\n".join(parts))
+
+
+def _drawing(width: float, height: float, inner: str) -> str:
     return (
         f'<svg xmlns="http://www.w3.org/2000/svg" class="dispute" viewBox="0 0 {width:.0f} {height:.0f}" role="img" '
-        f'aria-label="The dispute as a graph; the table at the end says the same">'
-        '<defs><marker id="tip" viewBox="0 0 8 8" refX="7" refY="4" markerWidth="7" markerHeight="7" orient="auto-start-reverse" '
-        'markerUnits="userSpaceOnUse"><path d="M0,0 L8,4 L0,8 z" fill="#555"/></marker></defs>'
-        + "\n".join(parts) + "</svg>"
+        'aria-label="The dispute as a graph; the table at the end says the same">'
+        '<defs><marker id="tip" viewBox="0 0 8 8" refX="7" refY="4" markerWidth="7" markerHeight="7" '
+        'orient="auto-start-reverse" markerUnits="userSpaceOnUse"><path d="M0,0 L8,4 L0,8 z" fill="#555"/></marker></defs>'
+        f"{inner}</svg>"
     )
 
 
-def _node(found: Reasons, n: int, point, width: float, looks: str, known: bool, view: View) -> str:
+def _node(view: View, n: int, point, width: float, looks: str, marks: Sequence[str]) -> str:
     x, y = point
+    framework = view.framework
     square = view.is_rules and n not in view.assumed
-    classes = ["node", looks[0]] + ["known"] * known + ["asked"] * (n == found.query)
     shape = (f'<rect class="shape" x="{x - width / 2:.1f}" y="{y - 15:.1f}" width="{width:.1f}" height="30" '
              f'rx="{2 if square else 15}"/>')
-    return (f'<g class="{" ".join(classes)}" data-n="{n}" data-s="{looks}" tabindex="0">'
-            f'<title>{_text(found.framework.texts.get(n) or _label(found, n))}</title>{shape}'
-            f'<text x="{x:.1f}" y="{y + 4.5:.1f}">{_text(_label(found, n))}</text></g>')
+    return (f'<g class="{" ".join(["node", looks[0], *marks])}" data-n="{n}" data-s="{looks}" tabindex="0">'
+            f'<title>{_text(framework.texts.get(n) or _label(framework, n))}</title>{shape}'
+            f'<text x="{x:.1f}" y="{y + 4.5:.1f}">{_text(_label(framework, n))}</text></g>')
 
 
 def _border(at, towards, width: float, gap: float) -> tuple[float, float]:
@@ -242,18 +250,23 @@ def _edge(edge, at, widths, pairs) -> str:
         length = math.hypot(x2 - x1, y2 - y1) or 1.0
         bend = 16 if (end, start) in pairs else 0
         middle = ((x1 + x2) / 2 - (y2 - y1) / length * bend, (y1 + y2) / 2 + (x2 - x1) / length * bend)
-        (x1, y1), (x2, y2) = _border(at[start], middle, widths[start], 1), _border(at[end], middle, widths[end], 2 if end > 0 else 0)
+        (x1, y1), (x2, y2) = _border(at[start], middle if bend else at[end], widths[start], 1), \
+            _border(at[end], middle if bend else at[start], widths[end], 2 if end > 0 else 0)
         path = f"M{x1:.1f},{y1:.1f} Q{middle[0]:.1f},{middle[1]:.1f} {x2:.1f},{y2:.1f}"
     return f'<g class="edge {kind}" data-e="{marks}"><path d="{path}"/></g>'
 
 
-def picture_file(found: Reasons) -> str:
-    """The picture alone as an SVG file."""
-    view = View(found.framework)
-    drawn = picture(found, view, views(found)[:1])
+def picture_file(framework: Framework, sets: Sequence, title: str) -> str:
+    """The picture of a framework and these sets as an SVG file, under a title. Raises ValueError for what isn't drawn."""
+    drawn = picture(framework, [sets])
     if not drawn:
-        raise ValueError("there is nothing to draw, or too much")
-    return drawn.replace("<defs>", f"<style>{PICTURE_STYLE}</style><defs>", 1) + "\n"
+        raise ValueError(f"only frameworks of 1 to {MOST_DRAWN} are drawn")
+    width, height = map(int, re.search(r'viewBox="0 0 ([0-9]+) ([0-9]+)"', drawn).groups())
+    width = max(width, 8 * len(title))
+    head = (f'<style>{PICTURE_STYLE}</style><rect y="-34" width="{width}" height="{height + 34}" fill="#fff"/>'
+            f'<text x="12" y="-12" style="text-anchor: start">{_text(title)}</text><defs>')
+    box = f'viewBox="0 -34 {width} {height + 34}" width="{width}" height="{height + 34}"'
+    return re.sub(r'viewBox="[^"]*"', box, drawn, count=1).replace("<defs>", head, 1) + "\n"
 
 
 # The page
@@ -359,7 +372,7 @@ def page(found: Reasons) -> str:
     """The whole page."""
     view = View(found.framework)
     view_sets = views(found)
-    drawn = picture(found, view, view_sets)
+    drawn = picture(found.framework, view_sets, found.query)
     asked = found.task if found.query is None else f"{found.task} {found.query}"
     said = _marked(found, found.said)
     left = ""

@@ -178,6 +178,7 @@ class _Telling:
         self.narrator = Narrator(view)
         self.teller = StandingTeller(view)
         self.sections: list[Section] = []
+        self.grounded: Optional[Numbers] = None
         self.holds = "assumes" if view.is_rules else "holds"
 
     def whole(self) -> Reasons:
@@ -193,7 +194,7 @@ class _Telling:
         self._tell_refutations(refutations, decided)
         adjective, gloss = SEMANTICS[self.semantics]
         return Reasons(framework, self.task, self.query, self.answer, self.certificate, self._question(adjective), gloss,
-                       self._answer(adjective), sets, self.sections, refutations, grounded)
+                       self._answer(adjective), sets, self.sections, refutations, self.grounded)
 
     # Question and answer
 
@@ -201,6 +202,9 @@ class _Telling:
         if not self.view.is_rules:
             return "held"
         return "assumed" if self.query in self.view.assumed else "derived"
+
+    def _verb(self) -> str:
+        return {"held": "holds", "assumed": "assumes", "derived": "derives"}[self._accepted()]
 
     def _question(self, adjective: str) -> str:
         if self.problem == "SE":
@@ -212,7 +216,7 @@ class _Telling:
         return f"Is {name(self.query)} {self._accepted()} by {'some' if self.problem == 'DC' else 'every'} {adjective} set?"
 
     def _answer(self, adjective: str) -> str:
-        verb = {"held": "holds", "assumed": "assumes", "derived": "derives"}[self._accepted()]
+        verb = self._verb()
         match self.problem, self.answer:
             case "SE", Sets():
                 return f"It holds {names_of(self.answer.sets[0]) or 'nothing'}."
@@ -258,7 +262,8 @@ class _Telling:
         found = solve(self.view.framework, "SE-GR", **self.run)
         if not isinstance(check(self.view.framework, "SE-GR", found, **self.run), Accepted):
             raise NotAccepted("argue check rejects the grounded set")
-        return found.sets[0]
+        self.grounded = found.sets[0]
+        return self.grounded
 
     def _stronger(self) -> Optional[Numbers]:
         """Tells how the grounded set decides the query, where it does; gives that set then, or where the task is about it."""
@@ -343,10 +348,18 @@ class _Telling:
             mode = next(literal.atom[0] for literal in self.claims[0].goals if literal.atom[0] in MODES)
             self.sections.append(Section("Beyond doubt", f"This is so of every {POSITIONS[mode][2:]}.", ground, folded))
         for refutation in refutations:
-            intro = self.narrator.supposition(refutation.claim, refutation.supposed, refutation.sides) + "."
+            supposed = self.narrator.supposition(refutation.claim, refutation.supposed, refutation.sides)
+            intro = f"{self._before(refutation)}{supposed}."
             section = Section(self._heading(refutation.claim), intro, self.narrator.refutation(refutation), folded)
             self._summarize(section, refutation)
             self.sections.append(section)
+
+    def _before(self, refutation: Refutation) -> str:
+        """Why it is enough that no position lies outside of the sets shown."""
+        if self.semantics != "PR" or refutation.claim.about or not refutation.sides:
+            return ""
+        holds = f", and {self._verb()} {name(self.query)}" if self.query is not None else ""
+        return f"A preferred set that lies within one of the sets shown is that set{holds}. "
 
     def _heading(self, claim: Claim) -> str:
         match claim.about:
@@ -446,7 +459,6 @@ def _parser() -> argparse.ArgumentParser:
     parser.add_argument("-r", dest="answer", help="a file with the answer, where it isn't to be asked for")
     parser.add_argument("-c", dest="certificate", help="the file of that answer's certificate")
     parser.add_argument("--page", help="writes a page to this file, in place of the text")
-    parser.add_argument("--picture", help="writes the picture alone, an SVG, to this file")
     parser.add_argument("--full", action="store_true", help="tells what a summary or a stronger reason stands for")
     return parser
 
@@ -484,18 +496,12 @@ def _told_error(error: Exception) -> str:
 
 
 def _write(found: Reasons, words: argparse.Namespace) -> None:
-    if words.page is None and words.picture is None:
+    if words.page is None:
         sys.stdout.write(found.text(words.full))
         return
-    import page
-    if words.page is not None:
-        _put(words.page, page.page(found))
-    if words.picture is not None:
-        _put(words.picture, page.picture_file(found))
-
-
-def _put(path: str, text: str) -> None:
-    with open(path, "w", encoding="utf-8", errors="replace") as file:
+    from page import page
+    text = page(found)
+    with open(words.page, "w", encoding="utf-8", errors="replace") as file:
         file.write(text)
 
 

@@ -629,8 +629,8 @@ class ByHand(unittest.TestCase):
     def test_hearing_ground(self):
         self.assertEqual(self.section(self.example("hearing.af"), "EE-PR", None, "Beyond doubt"), [
             "This is so of every position that defends itself.",
-            "8 Nothing attacks both-signed, so both-signed stays, and date-changed, which it attacks, is out.",
-            "9 Only date-changed attacks note, and is out; so note stays, and on-time, which it attacks, is out.",
+            "8 Nothing attacks both-signed, so both-signed goes unanswered and rules out date-changed.",
+            "9 Only date-changed attacks note, and is out; so note goes unanswered and rules out on-time.",
         ])
 
     def test_a_ring_has_no_stable_set(self):
@@ -661,11 +661,12 @@ class ByHand(unittest.TestCase):
     def test_anticoagulant(self):
         found = self.section(self.example("anticoagulant.aba"), "EE-PR", None, "Why there is no other")
         self.assertEqual([line.split(" ", 1)[1] for line in found], [
-            "there is a position that defends itself and lies within none of the sets shown.",
-            "Unless it lies within set 1, it assumes record-right. [19]",
+            "preferred set that lies within one of the sets shown is that set. Suppose there is a position that defends itself and "
+            "lies within none of the sets shown.",
+            "All else outside of set 1 is out; so it assumes record-right, unless it lies within set 1. [19]",
             "It derives tablets-missed, which follows from record-right and unfilled and speaks against tablets-taken; so it "
             "can't assume tablets-taken. [18]",
-            "Unless it lies within set 2, it assumes give. [19]",
+            "All else outside of set 2 is out; so it assumes give, unless it lies within set 2. [19]",
             "It derives bleeding-risk, which follows from record-right and bleed-recorded. [18, 20]",
             "It derives unsafe, which follows from bleeding-risk and speaks against give: it would attack itself. That can't "
             "be. [22]",
