@@ -98,7 +98,7 @@ def _part(at: dict[int, list[float]], widths: Mapping[int, float]) -> None:
             for other in nodes[index + 1 :]:
                 dx, dy = at[other][0] - at[one][0], at[other][1] - at[one][1]
                 lacks_x = (widths[one] + widths[other]) / 2 + 18 - abs(dx)
-                lacks_y = 48 - abs(dy)
+                lacks_y = 54 - abs(dy)
                 if lacks_x > 0 and lacks_y > 0:
                     moved = True
                     axis, lack, way = (1, lacks_y, dy) if lacks_y < lacks_x else (0, lacks_x, dx)

@@ -590,7 +590,9 @@ class Narrator:
         parts = self._goal_words(claim, supposed)
         if sides:
             parts.append(self._except_words(claim, sides))
-        return f"Suppose there is {POSITIONS[mode]}" + (f" and {listed(parts)}" if parts else "")
+        if mode in ("Ad", "Co"):
+            return f"Suppose there is {listed([POSITIONS[mode], *parts])}"
+        return f"Suppose there is {POSITIONS[mode]}" + (f" that {listed(parts)}" if parts else "")
 
     def _except_words(self, claim: Claim, sides: Sequence[int]) -> str:
         """What a supposed position isn't, by its side clauses."""

@@ -232,28 +232,33 @@ def _node(view: View, n: int, point, width: float, looks: str, marks: Sequence[s
             f'<text x="{x:.1f}" y="{y + 4.5:.1f}">{_text(_label(framework, n))}</text></g>')
 
 
-def _border(at, towards, width: float, gap: float) -> tuple[float, float]:
-    """Where a line from a node's middle leaves it."""
-    dx, dy = towards[0] - at[0], towards[1] - at[1]
-    half_x, half_y = width / 2 + gap, (15 if width > 10 else 4) + gap
-    part = min(half_x / abs(dx) if dx else 9e9, half_y / abs(dy) if dy else 9e9, 1.0)
-    return at[0] + dx * part, at[1] + dy * part
+# How far apart two arrows run that lead both ways.
+BOTH_WAYS = 6.0
 
 
 def _edge(edge, at, widths, pairs) -> str:
     start, end, kind, marks = edge
     if start == end:
         x, y, half = *at[start], widths[start] / 2
-        path = f"M{x + half - 12:.1f},{y - 15:.1f} C{x + half - 4:.1f},{y - 46:.1f} {x + half + 34:.1f},{y - 34:.1f} {x + half + 1:.1f},{y - 5:.1f}"
+        path = (f"M{x + half - 12:.1f},{y - 15:.1f} C{x + half - 4:.1f},{y - 46:.1f} "
+                f"{x + half + 34:.1f},{y - 34:.1f} {x + half + 1:.1f},{y - 5:.1f}")
     else:
         (x1, y1), (x2, y2) = at[start], at[end]
         length = math.hypot(x2 - x1, y2 - y1) or 1.0
-        bend = 16 if (end, start) in pairs else 0
-        middle = ((x1 + x2) / 2 - (y2 - y1) / length * bend, (y1 + y2) / 2 + (x2 - x1) / length * bend)
-        (x1, y1), (x2, y2) = _border(at[start], middle if bend else at[end], widths[start], 1), \
-            _border(at[end], middle if bend else at[start], widths[end], 2 if end > 0 else 0)
-        path = f"M{x1:.1f},{y1:.1f} Q{middle[0]:.1f},{middle[1]:.1f} {x2:.1f},{y2:.1f}"
+        apart = BOTH_WAYS if (end, start) in pairs else 0.0
+        across = (-(y2 - y1) / length * apart, (x2 - x1) / length * apart)
+        way = (x2 - x1, y2 - y1)
+        x1, y1 = _border(at[start], across, way, widths[start], 1)
+        x2, y2 = _border(at[end], across, (-way[0], -way[1]), widths[end], 2 if end > 0 else 0)
+        path = f"M{x1:.1f},{y1:.1f} L{x2:.1f},{y2:.1f}"
     return f'<g class="edge {kind}" data-e="{marks}"><path d="{path}"/></g>'
+
+
+def _border(middle, across, way, width: float, gap: float) -> tuple[float, float]:
+    """Where a line that begins beside a node's middle, and goes this way, leaves the node."""
+    halves = (width / 2 + gap, (15 if width > 10 else 4) + gap)
+    part = min((math.copysign(half, step) - off) / step for half, step, off in zip(halves, way, across) if abs(step) > 1e-9)
+    return middle[0] + across[0] + way[0] * part, middle[1] + across[1] + way[1] * part
 
 
 def picture_file(framework: Framework, sets: Sequence, title: str) -> str:

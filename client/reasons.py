@@ -46,6 +46,13 @@ CHECKED = (
     "what is written is true, or whether something was left out."
 )
 
+# Why it is enough that the grounded set attacks, or accepts, what is asked about.
+BEYOND_DOUBT = {
+    True: "What stands without any choice is in every complete set, and so in every preferred and stable one.",
+    False: "What stands without any choice is in every complete set, and each position that defends itself can be widened to a "
+           "complete set; so none holds what it attacks.",
+}
+
 
 class NotAccepted(ArgueError):
     """`argue check` doesn't take the certificate for this answer, so there are no reasons to tell."""
@@ -233,9 +240,16 @@ class _Telling:
                 position = "stable set" if self.semantics == "ST" else "semi-stable set" if self.semantics == "SST" \
                     else "position that defends itself"
                 return f"No: no {position} {verb} {name(self.query)}."
+            case "DS", Yes() if self.semantics == "ST" and self._has_no_stable_set():
+                return f"Yes, for want of any: there is no stable set, so none is without {name(self.query)}."
             case "DS", Yes():
                 return f"Yes: every {adjective} set {verb} {name(self.query)}."
         return f"No: here is one that doesn't {verb[:-1]} {name(self.query)}."
+
+    def _has_no_stable_set(self) -> bool:
+        found = solve(self.view.framework, "SE-ST", **self.run)
+        accepted = isinstance(check(self.view.framework, "SE-ST", found, **self.run), Accepted)
+        return isinstance(found, No) and accepted
 
     def _count_words(self, sets: Sequence[Numbers]) -> str:
         """How many sets there are, with what sets each apart where they are few."""
@@ -278,8 +292,7 @@ class _Telling:
         positive = self.query in (self.view.framework.closure(grounded) if self.view.is_rules else grounded)
         fallen = self.query in self.view.attacked(grounded)
         if positive or fallen:
-            intro = "What follows here stands without any choice, and so in every complete set, and all that can be made larger."
-            self._tell("Beyond doubt already", intro, self._chain_to(grounded, positive))
+            self._tell("Beyond doubt already", BEYOND_DOUBT[positive], self._chain_to(grounded, positive))
             return grounded
         return grounded if about_it else None
 
@@ -405,18 +418,19 @@ def _text_lines(told: Reasons, full: bool, width: int) -> Iterator[str]:
     yield from textwrap.wrap(told.gloss, width, break_on_hyphens=False)
     yield from textwrap.wrap(CHECKED, width, break_on_hyphens=False)
     for section in told.sections:
+        if section.folded and not section.summary and not full:
+            continue
         yield ""
         yield told.fill(section.heading).upper()
         if section.summary and not full:
             yield from textwrap.wrap(told.fill(section.summary) + " `--full` tells them.", width, break_on_hyphens=False)
             continue
-        if section.folded and not full:
-            count = sum(1 for _ in section.all())
-            yield f"Not needed after the reason above: {count} {'sentence' if count == 1 else 'sentences'}, which `--full` tells."
-            continue
         yield from textwrap.wrap(told.fill(section.intro), width, break_on_hyphens=False)
         for one in section.sentences:
             yield from _sentence_lines(told, one, 0, width)
+    left = sum(1 for section in told.sections if section.folded and not section.summary for _ in section.all())
+    if left and not full:
+        yield from ("", f"That is reason enough. `--full` tells {left} more {'sentence' if left == 1 else 'sentences'}, of the certificate.")
 
 
 def _words(told: Reasons) -> list[str]:

@@ -135,8 +135,12 @@ class Search:
         self.units = [index for index, link in enumerate(self.links) if len(link.clause) <= 1]
         self.members = sorted({lit.atom for link in self.links for lit in link.clause if lit.atom[0] == "Member"})
 
-    def refute(self, goals: Sequence[Literal]) -> Scope:
-        """A short proof that no position has all goals. Raises SearchStopped."""
+    def refute(self, goals: Sequence[Literal], together: bool = False) -> Scope:
+        """A short proof that no position has all goals. What follows from the modes alone is taken first, where `together`
+        doesn't say that the other goals are as good a beginning. Raises SearchStopped."""
+        if together:
+            self.ground = set()
+            return self._scope(tuple(goals), set(), self._propagate(self._put(goals), self.units))
         modes = [goal for goal in goals if len(goal.atom) == 1]
         clashes = self._propagate(self._put(modes), self.units)
         self.ground = set(self.trail)
@@ -396,7 +400,7 @@ def links_for(view: View, claim: Claim, loops: Iterable[Axiom]) -> list[Link]:
 def shorter_steps(view: View, claim: Claim, steps: Sequence[Step], most_looks: int = MOST_LOOKS) -> list[Step]:
     """The steps of a short proof of the claim, of which a proof is given. Raises SearchStopped."""
     loops = [step for step in steps if isinstance(step, Axiom) and step.name == "B17"]
-    scope = Search(links_for(view, claim, loops), most_looks).refute(claim.goals)
+    scope = Search(links_for(view, claim, loops), most_looks).refute(claim.goals, claim.about == "largest")
     writer = _Writer(view, [side.literals for side in claim.sides])
     writer.derived(scope)
     return writer.steps

@@ -26,10 +26,10 @@ import page
 import records
 import words
 from burgaouez import Accepted, ArgueError, Framework, No, Sets, Yes, check, solve
-from certificate import AXIOMS, Literal, View, literal_of
+from certificate import AXIOMS, Literal, View, literal_of, read_certificate
 from narration import Wording, literal_words
 from reasons import NotAccepted, cited, main, reasons
-from records import Case, Fact, Record, walk
+from records import Case, Fact, Record, read_refutation, walk
 
 COUNT = int(os.environ.get("BURGAOUEZ_FRAMEWORKS", "30"))
 SEED = int(os.environ.get("BURGAOUEZ_SEED", "1"))
@@ -470,6 +470,19 @@ class RandomReasons(unittest.TestCase):
                     inner = any(records.is_inner(one) for one in (*record.premises, record.conclusion) if one is not None
                                 and one.atom[0] not in MODES)
                     self.assertTrue(inner or not wording.key(record)[0].startswith("other"), record)
+
+    def test_the_programs_own_certificates(self):
+        """Read as they stand, with their lemmas."""
+        lemmas = 0
+        for worlds, told in self.each():
+            view, steps = View(told.found.framework), read_certificate(told.found.answer.certificate).refutations
+            for (refutation, _), mine in zip(told.parts, steps):
+                found = read_refutation(view, refutation.claim, mine)
+                lemmas += len(found.lemmas)
+                self.assertEqual(scope_faults(found, ()), [])
+                for record in walk([*found.items, *(item for lemma in found.lemmas for item in lemma.items)]):
+                    self.assertEqual(faults(worlds, found, told.sets, record), [], record)
+        print(f"{lemmas} lemmas", file=sys.stderr)
 
     def test_planted_faults_are_caught(self):
         missed, planted = [], 0
