@@ -147,7 +147,7 @@ class _Reader:
         number = len(self.steps)
         step = self.steps[number - 1]
         if isinstance(step, Derived):
-            items, used = self._items(number)
+            items, used = self._items(number, {})
         else:
             reason = _Reason(number, tuple(-literal for literal in self.clauses[number - 1]))
             record = self._record(None, reason, {}, set())
@@ -179,17 +179,19 @@ class _Reader:
                 wanted.update(reason.premises)
         return {literal: reason for literal, reason in reasons.items() if literal in wanted}
 
-    def _items(self, number: int) -> tuple[list[Union[Record, Case]], set[Literal]]:
-        """The records of a derived step, and all literals that they use."""
-        reasons, clash = self._played(number)
-        reasons = self._reached(reasons, clash)
-        shown = self._shown(reasons, clash)
+    def _items(self, number: int, outer: dict[Literal, _Reason]) -> tuple[list[Union[Record, Case]], set[Literal]]:
+        """The records of a derived step, and all literals that they use; `outer` has the links of open scopes that have no
+        record of their own."""
+        mine, clash = self._played(number)
+        mine = self._reached(mine, clash)
+        shown = self._shown(mine, clash)
+        reasons = {**outer, **mine}
         items: list[Union[Record, Case]] = []
         used: set[Literal] = set(clash.premises)
-        for literal, reason in [*reasons.items(), (None, clash)]:
+        for literal, reason in [*mine.items(), (None, clash)]:
             used.update(reason.premises)
             if literal is None and self._is_inlined(reason.hint):
-                inner, more = self._items(reason.hint)
+                inner, more = self._items(reason.hint, _links(reasons, shown))
                 return items + inner, used | more
             if literal is None or literal in shown:
                 items.append(self._item(literal, reason, reasons, shown))
@@ -197,15 +199,18 @@ class _Reader:
 
     def _item(self, literal, reason: _Reason, reasons, shown) -> Union[Record, Case]:
         if literal is not None and self._is_inlined(reason.hint):
-            return Case(literal, self._items(reason.hint)[0])
+            return Case(literal, self._items(reason.hint, _links(reasons, shown))[0])
         return self._record(literal, reason, reasons, shown)
+
+    def _is_lemma(self, hint: int) -> bool:
+        return isinstance(self.steps[hint - 1], Derived) and not self._is_inlined(hint)
 
     def _is_inlined(self, hint: int) -> bool:
         return isinstance(self.steps[hint - 1], Derived) and self.uses.get(hint, 0) <= 1
 
     def _shown(self, reasons: dict[Literal, _Reason], clash: _Reason) -> set[Literal]:
         """The literals of which something is said: the others are inner links or definitions."""
-        by_lemma = [one for one in [*reasons.values(), clash] if isinstance(self.steps[one.hint - 1], Derived)]
+        by_lemma = [one for one in [*reasons.values(), clash] if self._is_lemma(one.hint)]
         kept = {premise for reason in by_lemma for premise in reason.premises if premise.atom[0] not in MODES}
         shown = set()
         for literal, reason in reasons.items():
@@ -263,10 +268,15 @@ class _Reader:
     def _tell_lemma(self, number: int) -> None:
         if any(lemma.step == number for lemma in self.lemmas):
             return
-        items, used = self._items(number)
+        items, used = self._items(number, {})
         supposed = tuple(-lit for lit in self.steps[number - 1].clause if -lit in used and not self._is_fixed(lit))
         sides = tuple(sorted(lit.atom[1] for lit in self.steps[number - 1].clause if lit.atom[0] == "Ask"))
         self.lemmas.append(Lemma(number, supposed, sides, items))
+
+
+def _links(reasons: dict[Literal, _Reason], shown: set[Literal]) -> dict[Literal, _Reason]:
+    """The reasons of what isn't shown."""
+    return {literal: reason for literal, reason in reasons.items() if literal not in shown}
 
 
 def is_inner(literal: Literal) -> bool:
