@@ -394,7 +394,7 @@ class _Telling:
 
     def _summarize(self, section: Section, refutation: Refutation) -> None:
         count = sum(1 for _ in section.all())
-        if count <= MOST_SENTENCES:
+        if count <= MOST_SENTENCES or section.folded:
             return
         section.rests_on = sorted({n for one in section.all() for n in one.arguments})
         cases = sum(1 for one in section.all() if one.case is not None)
@@ -473,6 +473,7 @@ def _parser() -> argparse.ArgumentParser:
     parser.add_argument("-r", dest="answer", help="a file with the answer, where it isn't to be asked for")
     parser.add_argument("-c", dest="certificate", help="the file of that answer's certificate")
     parser.add_argument("--page", help="writes a page to this file, in place of the text")
+    parser.add_argument("--seconds", type=float, help="how long each run of the program may take")
     parser.add_argument("--full", action="store_true", help="tells what a summary or a stronger reason stands for")
     return parser
 
@@ -495,7 +496,7 @@ def main(arguments: Optional[Sequence[str]] = None) -> int:
     try:
         framework = Framework.from_file(words.file)
         answer, certificate = _given(words)
-        found = reasons(framework, words.task, words.query, answer, certificate)
+        found = reasons(framework, words.task, words.query, answer, certificate, seconds=words.seconds)
         _write(found, words)
     except (ArgueError, OSError, ValueError) as error:
         print(f"reasons.py: {_told_error(error)}", file=sys.stderr)

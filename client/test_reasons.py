@@ -740,6 +740,20 @@ class BadInput(unittest.TestCase):
             self.assertIn("CertificateFault", errors)
             self.assertFalse(paths[3].exists())
 
+    def test_an_answer_in_files(self):
+        framework = Framework.of_attacks([(1, 2), (2, 1), (2, 3)], names={1: "one"})
+        answer = solve(framework, "EE-PR", seconds=SECONDS)
+        with tempfile.TemporaryDirectory() as folder:
+            paths = [Path(folder, name) for name in ("framework", "answer", "certificate", "page.html")]
+            for path, text in zip(paths, (framework.text(), "w 1 3\n# a comment\nw 2\n", answer.certificate)):
+                path.write_text(text)
+            given = ["-p", "EE-PR", "-f", str(paths[0]), "-r", str(paths[1]), "-c", str(paths[2])]
+            status, out, errors = self.run_words(*given)
+            self.assertEqual((status, errors), (0, ""))
+            self.assertIn("There are two: set 1, with one; set 2, with 2.", out)
+            self.assertEqual(self.run_words(*given, "--page", str(paths[3]))[:2], (0, ""))
+            self.assertIn("Checked by <code>argue check</code>", paths[3].read_text())
+
     def test_a_wrong_step(self):
         framework = Framework.of_attacks([(1, 2), (2, 1), (2, 3)])
         answer = solve(framework, "EE-PR", seconds=SECONDS)
