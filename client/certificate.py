@@ -1,8 +1,8 @@
 """What a certificate holds: atoms, the axioms of both kinds, claims, and the text with its steps.
 
-An atom is a tuple of its name and numbers, such as `("Member", 3)`; a `Literal` adds a sign. The axioms are one row each in
-AXIOMS. `claims_of` says what the refutations behind an answer refute, in order; a certificate leaves that unsaid.
-"""
+An atom is a tuple of its name and numbers, such as `("Member", 3)`; a `Literal` adds a sign. The axioms are one row
+each in AXIOMS. `claims_of` says what the refutations behind an answer refute, in order; a certificate leaves that
+unsaid. """
 from __future__ import annotations
 
 from dataclasses import dataclass, field
@@ -140,8 +140,8 @@ def _filled(text: str, value: dict[str, int]) -> Literal:
 
 
 class Loop(NamedTuple):
-    """What a loop clause names: statements that could only be derived from each other. Each row has a statement and, for
-    each of its rules, the rule's number with 0, or with a body statement that is in the circle."""
+    """What a loop clause names: statements that could only be derived from each other. Each row has a statement and,
+    for each of its rules, the rule's number with 0, or with a body statement that is in the circle."""
 
     closure: int
     statement: int

@@ -15,8 +15,8 @@ Point = tuple[float, float]
 
 
 def layers(nodes: Sequence[int], edges: Iterable[tuple[int, int]]) -> dict[int, int]:
-    """For each node how far it is along the edges from a node without one that comes in; 0 for those that can't be reached
-    from any, where nothing better is there.
+    """For each node how far it is along the edges from a node without one that comes in; 0 for those that can't be
+    reached from any, where nothing better is there.
 
     >>> layers([1, 2, 3], [(1, 2), (2, 3)])
     {1: 0, 2: 1, 3: 2}
@@ -42,8 +42,8 @@ def layers(nodes: Sequence[int], edges: Iterable[tuple[int, int]]) -> dict[int, 
 
 
 def placed(nodes: Sequence[int], edges: Sequence[tuple[int, int]], widths: Mapping[int, float]) -> dict[int, Point]:
-    """A place for each node: its layer gives where it begins, springs along the edges and pushes between all move it. The
-    same nodes and edges always give the same places."""
+    """A place for each node: its layer gives where it begins, springs along the edges and pushes between all move it.
+    The same nodes and edges always give the same places."""
     depth = layers(nodes, edges)
     rows: dict[int, list[int]] = {}
     for node in nodes:

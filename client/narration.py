@@ -1,7 +1,7 @@
 """Makes sentences from records: merges what belongs together, numbers paragraphs, cites, and fills the words in.
 
-A sentence's text has marks in the place of names, so that a page can tie each name to its argument: `plain` fills them in.
-"""
+A sentence's text has marks in the place of names, so that a page can tie each name to its argument: `plain` fills
+them in. """
 from __future__ import annotations
 
 import re
@@ -19,7 +19,8 @@ Item = Union[Record, Case]
 
 @dataclass
 class Sentence:
-    """One paragraph: its text with marks, the records that it tells, the paragraphs that it cites, and those of its case."""
+    """One paragraph: its text with marks, the records that it tells, the paragraphs that it cites, and those of its
+    case."""
 
     text: str
     records: list[Record]
@@ -233,7 +234,8 @@ class Wording:
 
     def _closure(self, record) -> str:
         """Whose derivations a chain of rules is about: `own`, or `rest`."""
-        axiom = next(s for s in record.steps if isinstance(s, Axiom) and s.name in ("B5", "B7", "B8", "B9", "B10", "B17"))
+        chains = ("B5", "B7", "B8", "B9", "B10", "B17")
+        axiom = next(step for step in record.steps if isinstance(step, Axiom) and step.name in chains)
         return "own" if axiom.numbers[0] == OWN else "rest"
 
     def _b5(self, record):
@@ -254,7 +256,8 @@ class Wording:
         if record.given == "Der":
             taken = [step for step in record.steps if isinstance(step, Axiom) and step.name == "B6"][-1].numbers[1]
             body = self.view.rules[taken][1]
-            return f"B9 Der {own} {many}", {**fields, "body": names_of(body), **self.get("y", record.conclusion.atom[2])}
+            fields.update(body=names_of(body), **self.get("y", record.conclusion.atom[2]))
+            return f"B9 Der {own} {many}", fields
         if record.given == "-Der":
             return f"B9 -Der {own} {many}", fields
         if record.given == "Member" or not rules:
@@ -263,7 +266,8 @@ class Wording:
 
     def _lacks(self, record, body) -> list[int]:
         """What the premises say is missing of a body."""
-        gone = {premise.atom[-1] for premise in record.premises if premise.atom[0] in ("Der", "Member") and not premise.positive}
+        lacking = [premise.atom for premise in record.premises if not premise.positive]
+        gone = {atom[-1] for atom in lacking if atom[0] in ("Der", "Member")}
         return [x for x in body if x in gone][:1]
 
     def _ways(self, record, rules) -> str:
@@ -417,10 +421,12 @@ def _pair(items: Sequence[Item]) -> int:
     if len(items) < 2 or not all(isinstance(item, Record) for item in items[:2]):
         return 1
     first, second = items[:2]
-    if first.conclusion not in second.premises or any(fact.name.startswith("some ") for fact in first.facts + second.facts):
+    partial = any(fact.name.startswith("some ") for fact in first.facts + second.facts)
+    if first.conclusion not in second.premises or partial:
         return 1
+    demands = _is(first, "A3", "Tail") and _target(first) != first.facts[0].values[0]
     fits = (
-        (_is(first, "A3", "Tail") and _is(second, "A5", "Member", "clash") and _target(first) != first.facts[0].values[0])
+        (demands and _is(second, "A5", "Member", "clash"))
         or (_is(first, "A5", "-Tail") and _is(second, "A3", "clash"))
         or (_is(first, "A7", "Unmet") and _is(second, "A8", "-Tail", "clash"))
         or (_is(first, "A8", "-Unmet") and _is(second, "A7", "Member"))
@@ -460,8 +466,8 @@ class Merging:
 
     def _excluded(self, record: Record) -> str:
         key, fields = self.wording.key(record)
-        reason = {"of": "(attacked by {y})", "on": "(which attacks {y})", "self": "(which attacks itself)"}[key.split()[-1]]
-        return f"{name(record.conclusion.atom[1])} {reason.format(**fields)}"
+        reasons = {"of": "(attacked by {y})", "on": "(which attacks {y})", "self": "(which attacks itself)"}
+        return f"{name(record.conclusion.atom[1])} {reasons[key.split()[-1]].format(**fields)}"
 
     def _unanswered(self, records: Sequence[Record]) -> str:
         first, last = records[0], records[-1]
@@ -566,7 +572,9 @@ class Narrator:
 
     def _case(self, case: Case, known: dict[Literal, int]) -> Sentence:
         words = literal_words(self.view, case.claim)
-        otherwise = "it did" if words.startswith("it doesn't") else "it didn't" if words.startswith("it ") else "otherwise"
+        otherwise = "otherwise"
+        if words.startswith("it "):
+            otherwise = "it did" if words.startswith("it doesn't") else "it didn't"
         told = Sentence(f"{sentence(words)} Suppose {otherwise}:", [], self.number)
         told.case = case
         told.items = self.told(case.items, {**known, case.supposed: told.number})
@@ -620,7 +628,8 @@ class Narrator:
         elif lacking:
             parts.append(f"doesn't {verb[:-1]} {names_of(lacking, 'or')}")
         if seen:
-            parts.append("has each verdict that the set has" if claim.about == "widest" else f"has a verdict on {names_of(seen)}")
+            whole = claim.about == "widest"
+            parts.append("has each verdict that the set has" if whole else f"has a verdict on {names_of(seen)}")
         rest = [literal for literal in supposed if literal.atom[0] not in ("Member", "Range", *MODES)]
         return parts + [literal_words(self.view, literal).removeprefix("it ") for literal in rest]
 

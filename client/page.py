@@ -1,13 +1,13 @@
 """One page with the reasons of an answer: the picture, the sentences tied to it, the table of what each number says.
 
-The page is one file without anything from elsewhere. All that a user wrote is escaped, and stands in text alone: attributes and
-script have numbers.
-"""
+The page is one file without anything from elsewhere. All that a user wrote is escaped, and stands in text alone:
+attributes and script have numbers. """
 from __future__ import annotations
 
 import math
 import re
 from html import escape
+from pathlib import Path
 from typing import Optional, Sequence
 
 from burgaouez import Framework
@@ -16,118 +16,20 @@ from layout import MOST_DRAWN, placed
 from narration import CAPITAL_MARK, MARKED, SET_MARK, Sentence
 from reasons import CHECKED, Reasons, Section, cited
 
+POINT = "Point at a sentence to see what it speaks of, or at the picture to see where it is named."
+POLICY = "default-src 'none'; style-src 'unsafe-inline'; script-src 'unsafe-inline'"
 MOST_BUTTONS = 40
 LONGEST_LABEL = 20
 # How a number stands in a view: held by each set, held by some, attacked by each or out of reach, none of these.
 STATES = {"h": "held", "s": "held by some", "o": "attacked", "u": "without a verdict"}
 
-STYLE = """
-:root { --ink: #111; --soft: #666; --rim: #e07b00 }
-* { box-sizing: border-box }
-body { margin: 0; font: 16px/1.5 system-ui, "DejaVu Sans", sans-serif; color: var(--ink); background: #fff }
-header, main, footer { padding: 0 24px; max-width: 1500px; margin: auto }
-h1 { font-size: 1.25rem; margin: 18px 0 4px; font-weight: 600 }
-.answer { font-size: 1.5rem; font-weight: 700; margin: 0 0 6px }
-.note { color: var(--soft); margin: 0; max-width: 75ch; font-size: .92rem }
-main { display: grid; grid-template-columns: minmax(380px, 46%) 1fr; gap: 28px; margin-top: 14px; align-items: start }
-main.plain { grid-template-columns: 1fr }
-.left { position: sticky; top: 8px; max-height: 98vh; overflow: auto }
-h2 { font-size: 1.05rem; margin: 22px 0 2px } section:first-child h2 { margin-top: 0 }
-.intro { margin: 0 0 4px }
-ol { list-style: none; margin: 0; padding: 0 } ol ol { padding-left: 26px; border-left: 2px solid #ddd; margin-left: 6px }
-li.s { padding: 2px 6px 2px 40px; position: relative; border-left: 4px solid transparent; border-radius: 3px }
-li.s .no { position: absolute; left: 0; width: 32px; text-align: right; color: var(--soft); font-size: .85rem; line-height: 1.7rem }
-li.s.case { padding-left: 40px } summary { cursor: pointer }
-li.s:focus, [data-rest]:focus { outline: 2px solid var(--rim); outline-offset: -2px }
-li.s.cited { border-left-color: var(--rim); background: #fff6ea }
-li.s.names { background: #eef6ff; border-left-color: #2b6cb0 }
-b { font-weight: 600 } .cite { color: var(--soft); font-size: .85rem }
-.views button { font: inherit; font-size: .9rem; border: 1px solid #999; background: #fff; padding: 2px 10px; border-radius: 12px; margin: 0 4px 4px 0; cursor: pointer }
-.views button[aria-pressed=true] { background: #111; color: #fff }
-#marked { min-height: 3em; font-size: .92rem; margin: 4px 0; padding: 4px 8px; background: #f6f6f6; border-radius: 4px }
-svg.dispute { width: 100%; max-height: 76vh } .legend { font-size: .85rem; color: var(--soft) } .legend i { display: inline-block; width: 14px; height: 14px; border: 1px solid #333; vertical-align: -2px; margin: 0 4px 0 10px }
-table { border-collapse: collapse; width: 100%; margin: 8px 0 40px; font-size: .92rem } td, th { text-align: left; padding: 3px 8px; border-bottom: 1px solid #ddd; vertical-align: top }
-@media (max-width: 900px) { main { grid-template-columns: 1fr } .left { position: static } }
-@media print { main { display: block } .left { position: static } #marked, .views { display: none } }
-"""
-PICTURE_STYLE = """
-svg.dispute text { font: 13px system-ui, "DejaVu Sans", sans-serif; text-anchor: middle; pointer-events: none }
-svg.dispute .edge path { fill: none; stroke: #555; stroke-width: 1.4; marker-end: url(#tip) }
-svg.dispute .edge.half path { marker-end: none } svg.dispute .edge.against path { stroke-dasharray: 6 4 }
-svg.dispute .node .shape { fill: #fff; stroke: #333; stroke-width: 1.4 } svg.dispute .node { cursor: pointer }
-svg.dispute .node.known .shape { stroke-width: 3 } svg.dispute .node.asked .shape { stroke-width: 3.2; stroke: #2b6cb0 }
-svg.dispute .h .shape { fill: #1b7f4b } svg.dispute .h text { fill: #fff } svg.dispute .s .shape { fill: #a8dcbf }
-svg.dispute .o .shape { fill: #d9d9d9 }
-svg.dispute.dim .node, svg.dispute.dim .edge { opacity: .25 } svg.dispute.dim .on { opacity: 1 }
-svg.dispute .node.on .shape { stroke: #e07b00; stroke-width: 4.5 } svg.dispute .node.on.cant .shape { stroke-dasharray: 5 3 }
-svg.dispute .edge.on path { stroke: #e07b00; stroke-width: 3 } svg.dispute .node:focus { outline: none } svg.dispute .node:focus .shape { stroke-width: 5 }
-"""
-SCRIPT = """
-(function () {
-  var svg = document.querySelector('svg.dispute'), live = document.getElementById('marked'), rest = live ? live.textContent : '';
-  function all(q, root) { return Array.prototype.slice.call((root || document).querySelectorAll(q)); }
-  function words(el, key) { var v = el.getAttribute(key); return v ? v.split(' ') : []; }
-  function label(n) { var el = document.getElementById('name-' + n); return el ? el.textContent : n; }
-  function clear() {
-    all('.on').forEach(function (el) { el.classList.remove('on', 'cant'); });
-    all('.cited').forEach(function (el) { el.classList.remove('cited'); });
-    all('.names').forEach(function (el) { el.classList.remove('names'); });
-    if (svg) svg.classList.remove('dim');
-    if (live) live.textContent = rest;
-  }
-  function mark(el) {
-    clear();
-    var a = words(el, 'data-a'), e = words(el, 'data-e'), x = words(el, 'data-x');
-    if (svg) {
-      if (a.length) svg.classList.add('dim');
-      all('.node', svg).forEach(function (n) {
-        var k = n.getAttribute('data-n');
-        if (a.indexOf(k) >= 0) { n.classList.add('on'); if (x.indexOf(k) >= 0) n.classList.add('cant'); }
-      });
-      all('.edge', svg).forEach(function (g) {
-        if (words(g, 'data-e').some(function (k) { return e.indexOf(k) >= 0; })) g.classList.add('on');
-      });
-    }
-    words(el, 'data-p').forEach(function (p) { var c = document.getElementById('p' + p); if (c) c.classList.add('cited'); });
-    if (live && a.length) live.textContent = 'Marked: ' + a.map(label).join(', ') + '.';
-  }
-  function told(n) {
-    clear();
-    all('li.s').forEach(function (li) { if (words(li, 'data-a').indexOf(n) >= 0) li.classList.add('names'); });
-    all('.node').forEach(function (g) { if (g.getAttribute('data-n') === n) g.classList.add('on'); });
-    var text = document.getElementById('text-' + n);
-    if (live) live.textContent = label(n) + (text && text.textContent ? ': ' + text.textContent : '');
-  }
-  all('li.s, [data-rest]').forEach(function (li) {
-    li.addEventListener('mouseover', function (ev) {
-      var b = ev.target.closest('b[data-n]');
-      ev.stopPropagation(); mark(li);
-      if (b && live) { var t = document.getElementById('text-' + b.getAttribute('data-n')); live.textContent = b.textContent + (t && t.textContent ? ': ' + t.textContent : ''); }
-    });
-    li.addEventListener('focusin', function (ev) { ev.stopPropagation(); mark(li); });
-    li.addEventListener('mouseleave', clear);
-    li.addEventListener('focusout', clear);
-  });
-  all('.node').forEach(function (g) {
-    var n = g.getAttribute('data-n');
-    g.addEventListener('mouseenter', function () { told(n); });
-    g.addEventListener('focus', function () { told(n); });
-    g.addEventListener('mouseleave', clear);
-    g.addEventListener('blur', clear);
-  });
-  all('.views button').forEach(function (button) {
-    button.addEventListener('click', function () {
-      var v = +button.getAttribute('data-v');
-      all('.views button').forEach(function (o) { o.setAttribute('aria-pressed', o === button); });
-      all('.node').forEach(function (g) {
-        g.classList.remove('h', 's', 'o', 'u'); g.classList.add(g.getAttribute('data-s').charAt(v));
-      });
-      all('td[data-s]').forEach(function (td) { td.textContent = { h: 'held', s: 'held by some', o: 'attacked', u: '' }[td.getAttribute('data-s').charAt(v)]; });
-    });
-  });
-  addEventListener('beforeprint', function () { all('details').forEach(function (d) { d.open = true; }); });
-})();
-"""
+
+
+def _beside(name: str) -> str:
+    return Path(__file__).with_name(name).read_text(encoding="utf-8")
+
+
+PAGE_STYLE, PICTURE_STYLE, SCRIPT = map(_beside, ("page.css", "picture.css", "page.js"))
 
 
 # How each number stands
@@ -174,7 +76,8 @@ def _label(framework: Framework, n: int) -> str:
 
 
 def _edges(framework: Framework) -> list[tuple[int, int, str, str]]:
-    """Start, end, kind and the pairs that a sentence may mark: rules of several premises meet at a joint, a negative number."""
+    """Start, end, kind and the pairs that a sentence may mark: rules of several premises meet at a joint, a negative
+    number."""
     edges = [(b, a, "", f"{b}-{a}") for b, a in framework.attacks]
     edges += [(c, a, "against", f"{c}-{a}") for a, c in framework.contraries.items()]
     for rule in framework.rules:
@@ -188,8 +91,8 @@ def _edges(framework: Framework) -> list[tuple[int, int, str, str]]:
 
 
 def picture(framework: Framework, view_sets: Sequence[Sequence], query: Optional[int] = None) -> str:
-    """The drawn framework as an element, or nothing where it is too large. Each of `view_sets` is a list of sets by which the
-    numbers are coloured, the first of them to begin with."""
+    """The drawn framework as an element, or nothing where it is too large. Each of `view_sets` is a list of sets by
+    which the numbers are coloured, the first of them to begin with."""
     view = View(framework)
     numbers = list(framework.atoms if view.is_rules else framework.arguments)
     if not numbers or len(numbers) > MOST_DRAWN:
@@ -216,7 +119,8 @@ def _drawing(width: float, height: float, inner: str) -> str:
         f'<svg xmlns="http://www.w3.org/2000/svg" class="dispute" viewBox="0 0 {width:.0f} {height:.0f}" role="img" '
         'aria-label="The dispute as a graph; the table at the end says the same">'
         '<defs><marker id="tip" viewBox="0 0 8 8" refX="7" refY="4" markerWidth="7" markerHeight="7" '
-        'orient="auto-start-reverse" markerUnits="userSpaceOnUse"><path d="M0,0 L8,4 L0,8 z" fill="#555"/></marker></defs>'
+        'orient="auto-start-reverse" markerUnits="userSpaceOnUse"><path d="M0,0 L8,4 L0,8 z" fill="#555"/>'
+        "</marker></defs>"
         f"{inner}</svg>"
     )
 
@@ -257,12 +161,14 @@ def _edge(edge, at, widths, pairs) -> str:
 def _border(middle, across, way, width: float, gap: float) -> tuple[float, float]:
     """Where a line that begins beside a node's middle, and goes this way, leaves the node."""
     halves = (width / 2 + gap, (15 if width > 10 else 4) + gap)
-    part = min((math.copysign(half, step) - off) / step for half, step, off in zip(halves, way, across) if abs(step) > 1e-9)
+    ways = zip(halves, way, across)
+    part = min((math.copysign(half, step) - off) / step for half, step, off in ways if abs(step) > 1e-9)
     return middle[0] + across[0] + way[0] * part, middle[1] + across[1] + way[1] * part
 
 
 def picture_file(framework: Framework, sets: Sequence, title: str) -> str:
-    """The picture of a framework and these sets as an SVG file, under a title. Raises ValueError for what isn't drawn."""
+    """The picture of a framework and these sets as an SVG file, under a title. Raises ValueError for what isn't
+    drawn."""
     drawn = picture(framework, [sets])
     if not drawn:
         raise ValueError(f"only frameworks of 1 to {MOST_DRAWN} are drawn")
@@ -305,7 +211,8 @@ def _attributes(one: Sentence) -> str:
 
 def _sentence(found: Reasons, one: Sentence) -> str:
     said = f'{_marked(found, one.text)}<span class="cite">{_text(cited(one.cites))}</span>'
-    head = f'<li class="s{" case" if one.items else ""}" id="p{one.number}" tabindex="0"{_attributes(one)}><span class="no">{one.number}</span>'
+    kind = "s case" if one.items else "s"
+    head = f'<li class="{kind}" id="p{one.number}" tabindex="0"{_attributes(one)}><span class="no">{one.number}</span>'
     if not one.items:
         return f"{head}{said}</li>"
     inner = "".join(_sentence(found, item) for item in one.items)
@@ -334,15 +241,16 @@ def _buttons(found: Reasons, count: int) -> str:
     buttons = "".join(f'<button type="button" data-v="{v}" aria-pressed="{str(v == 0).lower()}">{said}</button>'
                       for v, said in enumerate(names))
     more = len(found.sets) - (count - 1)
-    return f'<div class="views" role="group" aria-label="What is coloured">{buttons}{f" and {more} more" if more else ""}</div>'
+    rest = f" and {more} more" if more > 0 else ""
+    return f'<div class="views" role="group" aria-label="What is coloured">{buttons}{rest}</div>'
 
 
 def _legend(view: View, several: bool) -> str:
     parts = [("#1b7f4b", "held" + (" by each" if several else "")), *([("#a8dcbf", "held by some")] if several else [])]
     parts += [("#d9d9d9", "out of reach" if view.is_rules else "attacked"), ("#ffffff", "without a verdict")]
     said = "".join(f'<i style="background:{colour}"></i>{text}' for colour, text in parts)
-    more = " Round: assumptions; square: statements, thick where known; dashed arrows: what speaks against." if view.is_rules else ""
-    return f'<p class="legend">{said}.{more}</p>'
+    more = " Round: assumptions; square: statements, thick where known; dashed arrows: what speaks against."
+    return f'<p class="legend">{said}.{more if view.is_rules else ""}</p>'
 
 
 def _table(found: Reasons, view: View, view_sets) -> str:
@@ -354,11 +262,17 @@ def _table(found: Reasons, view: View, view_sets) -> str:
     for n in numbers:
         codes = "".join(look[n] for look in looks)
         relation = _relations(found, view, n)
-        rows.append(f'<tr><td id="name-{n}"><bdi>{_text(framework.names.get(n, str(n)))}</bdi></td><td dir="auto" id="text-{n}">'
-                    f'{_text(framework.texts.get(n, ""))}</td><td>{relation}</td><td data-s="{codes}">{words[codes[0]]}</td></tr>')
+        said = _text(framework.names.get(n, str(n))), _text(framework.texts.get(n, ""))
+        rows.append(
+            f'<tr><td id="name-{n}"><bdi>{said[0]}</bdi></td><td dir="auto" id="text-{n}">{said[1]}</td>'
+            f'<td>{relation}</td><td data-s="{codes}">{words[codes[0]]}</td></tr>'
+        )
     relation = "Speaks against, follows from" if view.is_rules else "Attacks"
-    return (f"<h2>What each says</h2><table><thead><tr><th>Name</th><th>Text</th><th>{relation}</th><th>Stands</th></tr></thead>"
-            f"<tbody>{''.join(rows)}</tbody></table>")
+    heads = "".join(f"<th>{head}</th>" for head in ("Name", "Text", relation, "Stands"))
+    return (
+        f"<h2>What each says</h2><table><thead><tr>{heads}</tr></thead>"
+        f"<tbody>{''.join(rows)}</tbody></table>"
+    )
 
 
 def _relations(found: Reasons, view: View, n: int) -> str:
@@ -382,15 +296,18 @@ def page(found: Reasons) -> str:
     said = _marked(found, found.said)
     left = ""
     if drawn:
-        left = (f'<div class="left">{_buttons(found, len(view_sets))}{drawn}{_legend(view, len(view_sets) > 1)}'
-                '<p id="marked" aria-live="polite">Point at a sentence to see what it speaks of, or at the picture to see where it is named.</p></div>')
+        left = (
+            f'<div class="left">{_buttons(found, len(view_sets))}{drawn}{_legend(view, len(view_sets) > 1)}'
+            f'<p id="marked" aria-live="polite">{POINT}</p></div>'
+        )
     sections = "".join(_section(found, section) for section in found.sections)
+    checked = _text(CHECKED).replace("`argue check`", "<code>argue check</code>")
     return f"""<!DOCTYPE html>
 <html lang="en"><head><meta charset="utf-8"><meta name="viewport" content="width=device-width">
-<meta http-equiv="Content-Security-Policy" content="default-src 'none'; style-src 'unsafe-inline'; script-src 'unsafe-inline'">
-<title>Reasons: {_text(found.fill(found.question))}</title><style>{STYLE}{PICTURE_STYLE}</style></head><body>
+<meta http-equiv="Content-Security-Policy" content="{POLICY}">
+<title>Reasons: {_text(found.fill(found.question))}</title><style>{PAGE_STYLE}{PICTURE_STYLE}</style></head><body>
 <header><h1>{_marked(found, found.question)} <span class="cite">{_text(asked)}</span></h1><p class="answer">{said}</p>
-<p class="note">{_text(found.gloss)}</p><p class="note">{_text(CHECKED).replace("`argue check`", "<code>argue check</code>")}</p></header>
+<p class="note">{_text(found.gloss)}</p><p class="note">{checked}</p></header>
 <main{'' if drawn else ' class="plain"'}>{left}<div class="right">{sections}</div></main>
 <footer>{_table(found, view, view_sets)}</footer><script>{SCRIPT}</script></body></html>
 """

@@ -3,7 +3,8 @@
     python3 client/reasons.py -p DS-PR -a 4 -f examples/inheritance.af
     python3 client/reasons.py -p EE-PR -f examples/hearing.af --page hearing.html
 
-The reasons are those of the answer's certificate, or of a shorter one: nothing is told that `argue check` hasn't accepted.
+The reasons are those of the answer's certificate, or of a shorter one: nothing is told that `argue check` hasn't
+accepted.
 
     >>> from burgaouez import Framework
     >>> print(reasons(Framework.of_attacks([(1, 2), (2, 3)]), "DC-PR", 2).answer_text)
@@ -30,6 +31,8 @@ from standing import MOST_MEMBERS, Standing, StandingTeller, common_part, standi
 
 # Longer reasons are told by a summary.
 MOST_SENTENCES = 40
+# More members than this aren't named in the answer itself.
+MOST_NAMED = 12
 # Larger frameworks have no shorter proof searched.
 MOST_SEARCHED = 150
 
@@ -37,8 +40,8 @@ SEMANTICS = {
     "CO": ("complete", "A complete set is a position without conflict that holds just what it defends."),
     "GR": ("grounded", "The grounded set holds what stands without any choice, and nothing else."),
     "PR": ("preferred", "A preferred set is a position without conflict that defends itself and can't be made larger."),
-    "ST": ("stable", "A stable set is a position without conflict that attacks everything outside of it. There may be none."),
-    "SST": ("semi-stable", "A semi-stable set is a position that defends itself and leaves as little as can be without a verdict."),
+    "ST": ("stable", "A stable set is a position without conflict that attacks all outside of it. There may be none."),
+    "SST": ("semi-stable", "A semi-stable set defends itself and leaves as little as can be without a verdict."),
     "ID": ("ideal", "The ideal set is the largest position that defends itself and lies within every preferred set."),
 }
 CHECKED = (
@@ -49,8 +52,8 @@ CHECKED = (
 # Why it is enough that the grounded set attacks, or accepts, what is asked about.
 BEYOND_DOUBT = {
     True: "What stands without any choice is in every complete set, and so in every preferred and stable one.",
-    False: "What stands without any choice is in every complete set, and each position that defends itself can be widened to a "
-           "complete set; so none holds what it attacks.",
+    False: "What stands without any choice is in every complete set, and each position that defends itself can be "
+    "widened to a complete set; so none holds what it attacks.",
 }
 
 
@@ -83,8 +86,8 @@ class Section:
 class Reasons:
     """The reasons of one answer: texts with marks for names, and the records that they were made of.
 
-    `certificate` is the one that was told, which `argue check` has accepted; `sets` are those that the text numbers from 1.
-    """
+    `certificate` is the one that was told, which `argue check` has accepted; `sets` are those that the text numbers
+    from 1. """
 
     framework: Framework
     task: str
@@ -132,9 +135,8 @@ def reasons(
 ) -> Reasons:
     """The reasons of an answer, which is asked for where it isn't given.
 
-    Raises NotAccepted where `argue check` rejects the answer with its certificate, CertificateFault where it can't be read,
-    NoAnswer where the budget was spent, and what `burgaouez.solve` raises.
-    """
+    Raises NotAccepted where `argue check` rejects the answer with its certificate, CertificateFault where it can't be
+    read, NoAnswer where the budget was spent, and what `burgaouez.solve` raises. """
     run = {"program": program, "seconds": seconds}
     if answer is None:
         answer = solve(framework, task, query, **run)
@@ -169,7 +171,8 @@ def _shorter(view: View, claim: Claim, steps: list[Step]) -> list[Step]:
 
 
 def _length(view: View, claim: Claim, steps: list[Step]) -> int:
-    """How many sentences a refutation takes; one on an inner link of a chain, which nobody reads with ease, counts thrice."""
+    """How many sentences a refutation takes; one on an inner link of a chain, which nobody reads with ease, counts
+    thrice."""
     read = read_refutation(view, claim, steps)
     told = list(walk([*read.items, *(item for lemma in read.lemmas for item in lemma.items)]))
     return len(told) + 2 * sum(1 for record in told if record.conclusion is not None and is_inner(record.conclusion))
@@ -200,8 +203,20 @@ class _Telling:
         ]
         self._tell_refutations(refutations, decided)
         adjective, gloss = SEMANTICS[self.semantics]
-        return Reasons(framework, self.task, self.query, self.answer, self.certificate, self._question(adjective), gloss,
-                       self._answer(adjective), sets, self.sections, refutations, self.grounded)
+        return Reasons(
+            framework,
+            self.task,
+            self.query,
+            self.answer,
+            self.certificate,
+            self._question(adjective),
+            gloss,
+            self._answer(adjective),
+            sets,
+            self.sections,
+            refutations,
+            self.grounded,
+        )
 
     # Question and answer
 
@@ -220,25 +235,26 @@ class _Telling:
             return f"Which are the {adjective} sets?"
         if self.semantics in ("GR", "ID"):
             return f"Is {name(self.query)} {self._accepted()} by the {adjective} set?"
-        return f"Is {name(self.query)} {self._accepted()} by {'some' if self.problem == 'DC' else 'every'} {adjective} set?"
+        some = "some" if self.problem == "DC" else "every"
+        return f"Is {name(self.query)} {self._accepted()} by {some} {adjective} set?"
 
     def _answer(self, adjective: str) -> str:
         verb = self._verb()
         match self.problem, self.answer:
             case "SE", Sets():
-                return f"It holds {names_of(self.answer.sets[0]) or 'nothing'}."
+                return f"It {self._held_words(self.answer.sets[0])}."
             case "EE", Sets():
                 return self._count_words(self.answer.sets)
             case "SE" | "EE", _:
                 return "There is none: no position without conflict has a verdict on everything."
             case _ if self.semantics in ("GR", "ID"):
-                said = f"it {verb} {name(self.query)}" if isinstance(self.answer, Yes) else f"it doesn't {verb[:-1]} {name(self.query)}"
-                return f"{'Yes' if isinstance(self.answer, Yes) else 'No'}: {said}."
+                if isinstance(self.answer, Yes):
+                    return f"Yes: it {verb} {name(self.query)}."
+                return f"No: it doesn't {verb[:-1]} {name(self.query)}."
             case "DC", Yes():
                 return f"Yes: here is one that {verb} {name(self.query)}."
             case "DC", No():
-                position = "stable set" if self.semantics == "ST" else "semi-stable set" if self.semantics == "SST" \
-                    else "position that defends itself"
+                position = f"{adjective} set" if self.semantics in ("ST", "SST") else "position that defends itself"
                 return f"No: no {position} {verb} {name(self.query)}."
             case "DS", Yes() if self.semantics == "ST" and self._has_no_stable_set():
                 return f"Yes, for want of any: there is no stable set, so none is without {name(self.query)}."
@@ -254,12 +270,18 @@ class _Telling:
     def _count_words(self, sets: Sequence[Numbers]) -> str:
         """How many sets there are, with what sets each apart where they are few."""
         if len(sets) == 1:
-            return f"There is one: it {self.holds} {names_of(sets[0]) or 'nothing'}."
+            return f"There is one: it {self._held_words(sets[0])}."
         count = {2: "two", 3: "three", 4: "four", 5: "five", 6: "six"}.get(len(sets), str(len(sets)))
         if len(sets) > 6:
             return f"There are {count}."
         labels = [self._label(list(sets), number).removeprefix(", ") for number in range(1, len(sets) + 1)]
-        return f"There are {count}: {'; '.join(f'set {n}{chr(44) * bool(label)} {label}'.strip() for n, label in enumerate(labels, 1))}."
+        said = [f"set {number}" + (f", {label}" if label else "") for number, label in enumerate(labels, 1)]
+        return f"There are {count}: {'; '.join(said)}."
+
+    def _held_words(self, members: Numbers) -> str:
+        if len(members) > MOST_NAMED:
+            return f"{self.holds} {len(members)} of {len(self.view.members)}"
+        return f"{self.holds} {names_of(members) or 'nothing'}"
 
     # Sets
 
@@ -280,7 +302,8 @@ class _Telling:
         return self.grounded
 
     def _stronger(self) -> Optional[Numbers]:
-        """Tells how the grounded set decides the query, where it does; gives that set then, or where the task is about it."""
+        """Tells how the grounded set decides the query, where it does; gives that set then, or where the task is
+        about it."""
         about_it = self.semantics == "GR" or self.task == "DS-CO"
         if self.query is None or (isinstance(self.answer, Yes) == (self.problem == "DC") and not about_it):
             return None
@@ -329,7 +352,9 @@ class _Telling:
         for number, members in enumerate(sets, 1):
             heading = f"Set {number}{self._label(sets, number)}" if len(sets) > 1 else self._heading_of_one()
             own = [a for a in members if a not in common] if common else members
-            intro = f"{'Beside what each set holds, it' if common else 'It'} {self.holds} {names_of(own) or 'nothing more' if common else names_of(own) or 'nothing'}."
+            intro = f"It {self.holds} {names_of(own) or 'nothing'}."
+            if common:
+                intro = f"Beside what each set holds, it {self.holds} {names_of(own) or 'nothing'}."
             small = len(members) <= MOST_MEMBERS and len(self.view.members) <= 2 * MOST_MEMBERS
             found = standings(self.view, members, common, opens) if small else []
             sentences = self.teller.told(found, self.narrator.number)
@@ -413,24 +438,30 @@ def _attack(b: int, a: int) -> Fact:
 
 
 def _text_lines(told: Reasons, full: bool, width: int) -> Iterator[str]:
-    yield from textwrap.wrap(f"Question: {told.fill(sentence(told.question))} ({' '.join(_words(told))})", width, break_on_hyphens=False)
-    yield from textwrap.wrap(f"Answer: {told.answer_text}", width, break_on_hyphens=False)
-    yield from textwrap.wrap(told.gloss, width, break_on_hyphens=False)
-    yield from textwrap.wrap(CHECKED, width, break_on_hyphens=False)
+    asked = f"Question: {told.fill(sentence(told.question))} ({' '.join(_words(told))})"
+    for said in (asked, f"Answer: {told.answer_text}", told.gloss, CHECKED):
+        yield from _wrapped(said, width)
     for section in told.sections:
         if section.folded and not section.summary and not full:
             continue
         yield ""
         yield told.fill(section.heading).upper()
         if section.summary and not full:
-            yield from textwrap.wrap(told.fill(section.summary) + " `--full` tells them.", width, break_on_hyphens=False)
+            yield from _wrapped(told.fill(section.summary) + " `--full` tells them.", width)
             continue
-        yield from textwrap.wrap(told.fill(section.intro), width, break_on_hyphens=False)
+        yield from _wrapped(told.fill(section.intro), width)
         for one in section.sentences:
             yield from _sentence_lines(told, one, 0, width)
     left = sum(1 for section in told.sections if section.folded and not section.summary for _ in section.all())
     if left and not full:
-        yield from ("", f"That is reason enough. `--full` tells {left} more {'sentence' if left == 1 else 'sentences'}, of the certificate.")
+        more = f"{left} more {'sentence' if left == 1 else 'sentences'}"
+        yield from ("", f"That is reason enough. `--full` tells {more}, of the certificate.")
+
+
+def _wrapped(text: str, width: int, first: str = "") -> list[str]:
+    """The lines of a text, behind its label."""
+    indents = {"initial_indent": first, "subsequent_indent": " " * len(first)}
+    return textwrap.wrap(text, width, break_on_hyphens=False, **indents)
 
 
 def _words(told: Reasons) -> list[str]:
@@ -457,7 +488,7 @@ def _sentence_lines(told: Reasons, one: Sentence, depth: int, width: int) -> Ite
     indent = "   " * depth
     label = f"{indent}{one.number}. "
     words = told.fill(one.text) + cited(one.cites)
-    yield from textwrap.wrap(words, width, initial_indent=label, subsequent_indent=" " * len(label), break_on_hyphens=False) or [label]
+    yield from _wrapped(words, width, label)
     for item in one.items:
         yield from _sentence_lines(told, item, depth + 1, width)
 
@@ -485,7 +516,8 @@ def _given(words: argparse.Namespace):
     if words.answer is None:
         return None, None
     with open(words.answer, encoding="utf-8") as file:
-        answer = _answer_of([line for line in file.read().splitlines() if line.strip() and not line.startswith("#")], None)
+        lines = [line for line in file.read().splitlines() if line.strip() and not line.startswith("#")]
+        answer = _answer_of(lines, None)
     with open(words.certificate, encoding="utf-8") as file:
         return answer, file.read()
 

@@ -1,8 +1,8 @@
-"""Reads the refutations of an accepted certificate as records: one for each inference that there is something to say of.
+"""Reads the refutations of an accepted certificate as records: one for each inference that there is something to say
+of.
 
-A record has what it concludes, from which earlier conclusions, and the facts of the framework that it speaks. Inner links
-of a chain of axioms have no record of their own. Sentences and tests are made from records alone.
-"""
+A record has what it concludes, from which earlier conclusions, and the facts of the framework that it speaks. Inner
+links of a chain of axioms have no record of their own. Sentences and tests are made from records alone. """
 from __future__ import annotations
 
 from dataclasses import dataclass, field
@@ -13,18 +13,24 @@ from certificate import (
 )
 
 # The axioms of one chain make one sentence, which is the one of the chain's name.
-CHAINS = {"A6": "A5", "A9": "A8", "B6": "B5", "B7": "B5", "B8": "B5", "B9 1": "B9", "B9 2": "B9", "B10": "B9", "B11": "B9"}
-# Definitions, of which nothing is said: freedom from conflict of numbers that are there, what assuming is, what modes have.
+CHAINS = {
+    "A6": "A5",
+    "A9": "A8",
+    **dict.fromkeys(("B6", "B7", "B8"), "B5"),
+    **dict.fromkeys(("B9 1", "B9 2", "B10", "B11"), "B9"),
+}
+# Definitions, of which nothing is said: freedom from conflict of numbers that are there, what assuming is, what modes
+# have.
 SILENT = ("A1", "A14 1", "A14 2", "A14 3", "B1", "B2", "B4", "B16 1", "B16 2", "B16 3")
 # Where a record's steps are of several groups, the first of these in it names it.
 RANKS = ("lemma", "side", "B17", "B9", "B5")
 
 
 class Fact(NamedTuple):
-    """What a sentence says of the framework: `attacks` with attacker and target; `attackers` with an argument and all of its
-    attackers; `some attackers` with an argument, the numbers from and to which it looks, and its attackers there; `contrary`
-    with an assumption and its contrary; `rule` with number, head and body; `rules` with a statement and the numbers of all of
-    its rules; `some rules` as with attackers."""
+    """What a sentence says of the framework: `attacks` with attacker and target; `attackers` with an argument and all
+    of its attackers; `some attackers` with an argument, the numbers from and to which it looks, and its attackers
+    there; `contrary` with an assumption and its contrary; `rule` with number, head and body; `rules` with a statement
+    and the numbers of all of its rules; `some rules` as with attackers."""
 
     name: str
     values: tuple
@@ -34,9 +40,8 @@ class Fact(NamedTuple):
 class Record:
     """One inference. Without a conclusion it is a clash: its premises can't hold together.
 
-    `group` is the axiom, chain or kind of step that gives the sentence; `number` is the paragraph; `side` is the number of the
-    side clause it rests on; `lemma` the step of a lemma.
-    """
+    `group` is the axiom, chain or kind of step that gives the sentence; `number` is the paragraph; `side` is the
+    number of the side clause it rests on; `lemma` the step of a lemma. """
 
     group: str
     conclusion: Optional[Literal]
@@ -180,8 +185,8 @@ class _Reader:
         return {literal: reason for literal, reason in reasons.items() if literal in wanted}
 
     def _items(self, number: int, outer: dict[Literal, _Reason]) -> tuple[list[Union[Record, Case]], set[Literal]]:
-        """The records of a derived step, and all literals that they use; `outer` has the links of open scopes that have no
-        record of their own."""
+        """The records of a derived step, and all literals that they use; `outer` has the links of open scopes that
+        have no record of their own."""
         mine, clash = self._played(number)
         mine = self._reached(mine, clash)
         shown = self._shown(mine, clash)

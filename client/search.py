@@ -1,7 +1,7 @@
 """Searches a short proof of a claim and writes it as the steps of a certificate.
 
-The search trusts nothing and is trusted by nobody: what it writes goes through `argue check` like any certificate. It works
-on *links*: an axiom, a side clause, or a chain of axioms that speak of one argument or one rule, as one clause.
+The search trusts nothing and is trusted by nobody: what it writes goes through `argue check` like any certificate. It
+works on *links*: an axiom, a side clause, or a chain of axioms that speak of one argument or one rule, as one clause.
 """
 from __future__ import annotations
 
@@ -26,8 +26,8 @@ class Link(NamedTuple):
 
 @dataclass
 class Scope:
-    """A proof by contradiction: what is supposed, the literals that follow, each with its link or its own proof, and the
-    clash, a link of which nothing is left, or a proof that needs nothing more."""
+    """A proof by contradiction: what is supposed, the literals that follow, each with its link or its own proof, and
+    the clash, a link of which nothing is left, or a proof that needs nothing more."""
 
     supposed: tuple[Literal, ...]
     moves: list[tuple[Literal, Union[Link, Scope]]] = field(default_factory=list)
@@ -136,8 +136,8 @@ class Search:
         self.members = sorted({lit.atom for link in self.links for lit in link.clause if lit.atom[0] == "Member"})
 
     def refute(self, goals: Sequence[Literal], together: bool = False) -> Scope:
-        """A short proof that no position has all goals. What follows from the modes alone is taken first, where `together`
-        doesn't say that the other goals are as good a beginning. Raises SearchStopped."""
+        """A short proof that no position has all goals. What follows from the modes alone is taken first, where
+        `together` doesn't say that the other goals are as good a beginning. Raises SearchStopped."""
         if together:
             self.ground = set()
             return self._scope(tuple(goals), set(), self._propagate(self._put(goals), self.units))
@@ -356,7 +356,8 @@ class _Writer:
     def derived(self, scope: Scope) -> Derived:
         """Writes a proof, the proofs within it first, as a derived step."""
         parts = [self._parts(reason) for _, reason in scope.moves] + [scope.clash.steps]
-        closed = {literal for steps in parts for step in steps for literal in self.clause(step) if self._is_closed(literal)}
+        literals = {literal for steps in parts for step in steps for literal in self.clause(step)}
+        closed = {literal for literal in literals if self._is_closed(literal)}
         clause = tuple([-literal for literal in scope.used] + sorted(closed))
         true = {-literal for literal in clause}
         hints: list[int] = []

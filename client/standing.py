@@ -33,8 +33,8 @@ STANDINGS = {
 
 @dataclass
 class Standing:
-    """Why something stands, falls or stays open beside a set: the kind is a key of STANDINGS; `about` is what it is said of,
-    and `by` the members, or the statements out of reach, that it rests on."""
+    """Why something stands, falls or stays open beside a set: the kind is a key of STANDINGS; `about` is what it is
+    said of, and `by` the members, or the statements out of reach, that it rests on."""
 
     kind: str
     about: Numbers
@@ -126,7 +126,8 @@ def derivation(view: View, members: Iterable[int], goals: Optional[Iterable[int]
     have, by = set(members), {}
     growing = True
     while growing:
-        ready = {head: number for number, (head, body) in view.rules.items() if head not in have and have.issuperset(body)}
+        left = {number: rule for number, rule in view.rules.items() if rule[0] not in have}
+        ready = {head: number for number, (head, body) in left.items() if have.issuperset(body)}
         growing = bool(ready)
         for head, number in ready.items():
             by[head] = _rule(view, number)
@@ -194,7 +195,8 @@ class _Shut:
 
 def _of_assumptions(view: View, members: Numbers, opens: bool) -> list[Standing]:
     rules = derivation(view, members)
-    out = [Standing("known", tuple(f.values[1] for f in rules if not f.values[2]), (), tuple(f for f in rules if not f.values[2]), members)]
+    known = tuple(f for f in rules if not f.values[2])
+    out = [Standing("known", tuple(f.values[1] for f in known), (), known, members)]
     out += [Standing("derived", (f.values[1],), f.values[2], (f,), members) for f in rules if f.values[2]]
     out = [one for one in out if one.about]
     shut, said = _Shut(view, members), set()
@@ -205,7 +207,9 @@ def _of_assumptions(view: View, members: Numbers, opens: bool) -> list[Standing]
         out.append(Standing("attacked", (a,), (view.contrary[a],), (contrary,), members))
     if opens:
         left = [a for a in sorted(view.assumed) if a not in members and a not in shut.attacked]
-        out += [Standing("possible", (a,), (view.contrary[a],), (Fact("contrary", (a, view.contrary[a])),), members) for a in left]
+        for a in left:
+            c = view.contrary[a]
+            out.append(Standing("possible", (a,), (c,), (Fact("contrary", (a, c)),), members))
     return out
 
 
@@ -273,22 +277,21 @@ class StandingTeller:
 
     def _repeated(self, group: Sequence[Standing]) -> tuple[str, list[int]]:
         parts = []
-        for words, kinds in (("known or derived are", ("known", "derived")), ("out of reach", ("lacking", "circle")),
-                             ("stand", STANDING_KINDS), ("fall", ("falls", "attacked")), ("open", ("open", "possible"))):
+        for words, kinds in REPEATED.items():
             those = sorted({n for one in group if one.kind in kinds for n in one.about})
             if those:
-                parts.append(REPEATED[words].format(list=names_of(those), s="s" if len(those) == 1 else "",
-                                                    are="is" if len(those) == 1 else "are"))
+                s, are = ("s", "is") if len(those) == 1 else ("", "are")
+                parts.append(words.format(list=names_of(those), s=s, are=are))
         return f"as said already, {listed(parts)}", sorted({self.said[_key(one)] for one in group})
 
 
-STANDING_KINDS = ("unattacked", "answered", "unopposed", "underivable", "shut")
+# What is said again of kinds of standings.
 REPEATED = {
-    "known or derived are": "{list} follow{s}",
-    "out of reach": "{list} {are} shut out",
-    "stand": "{list} stand{s}",
-    "fall": "{list} fall{s}",
-    "open": "{list} stay{s} open",
+    "{list} follow{s}": ("known", "derived"),
+    "{list} {are} shut out": ("lacking", "circle"),
+    "{list} stand{s}": ("unattacked", "answered", "unopposed", "underivable", "shut"),
+    "{list} fall{s}": ("falls", "attacked"),
+    "{list} stay{s} open": ("open", "possible"),
 }
 
 

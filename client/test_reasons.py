@@ -109,7 +109,8 @@ class World:
             return n[1] in self.derived[n[0]]
         rules = list(enumerate(self.plain.rules, 1))
         if name == "Miss":
-            return any(r == n[1] and any(x >= n[2] and x not in self.derived[n[0]] for x in body) for r, (_, body) in rules)
+            bodies = [body for r, (_, body) in rules if r == n[1]]
+            return any(x >= n[2] and x not in self.derived[n[0]] for body in bodies for x in body)
         assert name == "Sup"
         return any(r >= n[2] and head == n[1] and body <= self.derived[n[0]] for r, (head, body) in rules)
 
@@ -179,8 +180,8 @@ def literals(*texts):
 
 
 def allowed_clashes(plain, record, side):
-    """The sets of literals that can't hold together by the record's facts alone: one of them has to be its premises with
-    the negation of its conclusion. Assuming and deriving an assumption are one."""
+    """The sets of literals that can't hold together by the record's facts alone: one of them has to be its premises
+    with the negation of its conclusion. Assuming and deriving an assumption are one."""
     group = record.group
     if group == "side":
         return [side]
@@ -220,9 +221,8 @@ def allowed_by_rules(plain, record):
     found = []
     for k in (1, 2):
         for x in mine:
-            ways = [[y for y in body if group == "B9" or not set(mine) & set(body)] for _, head, body in rules if head in mine]
             bodies = [body for (_, head, body) in rules if head in mine]
-            outer = [way for way, body in zip(ways, bodies) if group == "B9" or not set(mine) & set(body)]
+            outer = [body for body in bodies if group == "B9" or not set(mine) & set(body)]
             chosen = [set()]
             for way in outer:
                 chosen = [one | {y} for one in chosen for y in way]
@@ -324,8 +324,10 @@ def random_framework(rng):
             [(b, a) for b in range(1, n + 1) for a in range(1, n + 1) if rng.random() < 1.6 / n], size=n)
     n = rng.randint(3, 9)
     m = rng.randint(1, min(5, n - 1))
-    rules = [(rng.randint(m + 1, n), [rng.randint(1, n) for _ in range(rng.randint(0, 2))]) for _ in range(rng.randint(1, 7))]
-    return Framework.of_rules(range(1, m + 1), {a: rng.randint(1, n) for a in range(1, m + 1) if rng.random() < 0.9}, rules, size=n)
+    heads = [rng.randint(m + 1, n) for _ in range(rng.randint(1, 7))]
+    rules = [(head, [rng.randint(1, n) for _ in range(rng.randint(0, 2))]) for head in heads]
+    contraries = {a: rng.randint(1, n) for a in range(1, m + 1) if rng.random() < 0.9}
+    return Framework.of_rules(range(1, m + 1), contraries, rules, size=n)
 
 
 class Told:
@@ -425,7 +427,8 @@ class RandomReasons(unittest.TestCase):
 
     def check_words(self, told, one):
         text = told.found.fill(re.sub("[\ue001]([0-9]+)[\ue003]", "SET", one.text))
-        said = {int(number) for number in re.findall(r"[0-9]+", re.sub(r"^Lemma [0-9]+|by lemma [0-9]+|rule [0-9]+", "", text))}
+        bare = re.sub(r"^Lemma [0-9]+|by lemma [0-9]+|rule [0-9]+", "", text)
+        said = {int(number) for number in re.findall(r"[0-9]+", bare)}
         if not one.records or not isinstance(one.records[0], Record):
             return
         mine, must = set(), set()
@@ -468,7 +471,8 @@ class RandomReasons(unittest.TestCase):
         """One in ten, as `reasons` itself asks for each."""
         for _, told in list(self.each())[::10]:
             found = told.found
-            verdict = check(found.framework, found.task, found.answer, found.query, found.certificate.text(), seconds=SECONDS)
+            given = (found.framework, found.task, found.answer, found.query, found.certificate.text())
+            verdict = check(*given, seconds=SECONDS)
             self.assertEqual(verdict, Accepted())
 
     def test_each_record_has_its_sentence(self):
@@ -476,7 +480,8 @@ class RandomReasons(unittest.TestCase):
             for refutation, _ in told.parts:
                 wording = Wording(View(told.found.framework), refutation.claim, refutation.lemmas)
                 for record in walk(refutation.items):
-                    self.assertTrue(speaks_of_inner_links(record) or not wording.key(record)[0].startswith("other"), record)
+                    own = not wording.key(record)[0].startswith("other")
+                    self.assertTrue(own or speaks_of_inner_links(record), record)
 
     def test_the_programs_own_certificates(self):
         """Read as they stand, with their lemmas."""
@@ -572,7 +577,8 @@ def planted_in(record, sides, plain):
         rest = tuple(p for p in record.premises if p != premise)
         negated = () if record.conclusion is None else (-record.conclusion,)
         told, left = same(plain, record.premises + negated), same(plain, rest + negated)
-        enough = record.group in ("B9", "B17") and any(left == same(plain, one) for one in allowed_by_rules(plain, record))
+        others = allowed_by_rules(plain, record) if record.group in ("B9", "B17") else []
+        enough = any(left == same(plain, one) for one in others)
         if told != left and not enough:  # a rule may lack two of its statements, of which either is reason enough
             yield "a premise dropped", altered(record, premises=rest)
     if record.conclusion is not None:
@@ -629,7 +635,8 @@ class ByHand(unittest.TestCase):
     def section(self, framework, task, query, heading):
         found = reasons(framework, task, query, seconds=SECONDS)
         part = next(one for one in found.sections if one.heading == heading)
-        return [found.fill(part.intro)] + [f"{one.number} {found.fill(one.text)}{cited(one.cites)}" for one in part.all()]
+        told = [f"{one.number} {found.fill(one.text)}{cited(one.cites)}" for one in part.all()]
+        return [found.fill(part.intro), *told]
 
     def example(self, name):
         return Framework.from_file(EXAMPLES / name)
@@ -683,15 +690,15 @@ class ByHand(unittest.TestCase):
     def test_anticoagulant(self):
         found = self.section(self.example("anticoagulant.aba"), "EE-PR", None, "Why there is no other")
         self.assertEqual([line.split(" ", 1)[1] for line in found], [
-            "preferred set that lies within one of the sets shown is that set. Suppose there is a position that defends itself and "
-            "lies within none of the sets shown.",
+            "preferred set that lies within one of the sets shown is that set. Suppose there is a position that "
+            "defends itself and lies within none of the sets shown.",
             "All else outside of set 1 is out; so it assumes record-right, unless it lies within set 1. [19]",
-            "It derives tablets-missed, which follows from record-right and unfilled and speaks against tablets-taken; so it "
-            "can't assume tablets-taken. [18]",
+            "It derives tablets-missed, which follows from record-right and unfilled and speaks against tablets-taken; "
+            "so it can't assume tablets-taken. [18]",
             "All else outside of set 2 is out; so it assumes give, unless it lies within set 2. [19]",
             "It derives bleeding-risk, which follows from record-right and bleed-recorded. [18, 20]",
-            "It derives unsafe, which follows from bleeding-risk and speaks against give: it would attack itself. That can't "
-            "be. [22]",
+            "It derives unsafe, which follows from bleeding-risk and speaks against give: it would attack itself. "
+            "That can't be. [22]",
         ])
 
     def test_charity(self):
@@ -734,8 +741,8 @@ class BadInput(unittest.TestCase):
             paths = [Path(folder, name) for name in ("framework", "answer", "certificate", "page.html")]
             for path, text in zip(paths, (framework.text(), "w 1 3\nw 2\n", answer.certificate[:-8])):
                 path.write_text(text)
-            status, _, errors = self.run_words("-p", "EE-PR", "-f", str(paths[0]), "-r", str(paths[1]), "-c", str(paths[2]),
-                                               "--page", str(paths[3]))
+            given = ["-p", "EE-PR", "-f", str(paths[0]), "-r", str(paths[1]), "-c", str(paths[2])]
+            status, _, errors = self.run_words(*given, "--page", str(paths[3]))
             self.assertEqual(status, 1)
             self.assertIn("CertificateFault", errors)
             self.assertFalse(paths[3].exists())

@@ -1,9 +1,8 @@
 """The words of literals and the sentences of inferences, one line each.
 
-"It" is the position that is supposed. Fields in braces are filled by `narration.py`: a to j are arguments or statements, `list`
-is a list of them, `has_c` is "derives c", or "assumes c" where c is an assumption, `opens_c` and `shuts_c` are whether its
-opponents may still derive c, `body` is what a rule needs.
-"""
+"It" is the position that is supposed. Fields in braces are filled by `narration.py`: a to j are arguments or
+statements, `list` is a list of them, `has_c` is "derives c", or "assumes c" where c is an assumption, `opens_c` and
+`shuts_c` are whether its opponents may still derive c, `body` is what a rule needs. """
 
 # What a literal says where it is true, and where it is false.
 LITERALS = {
@@ -12,18 +11,18 @@ LITERALS = {
     "Tail": ("it attacks {a}", "it leaves {a} unanswered"),
     "Tail from": ("it attacks {a} by an argument from {i} on", "it attacks {a} by no argument from {i} on"),
     "Unmet": ("it leaves an attacker of {a} unanswered", "it defends {a}"),
-    "Unmet from": ("it leaves an attacker of {a}, from {i} on, unanswered", "it answers each attacker of {a} from {i} on"),
+    "Unmet from": ("it leaves an attacker of {a}, from {i} on, unanswered", "it answers those, from {i} on, against {a}"),
     "Range": ("it has a verdict on {a}", "it has no verdict on {a}"),
     "Der own": ("it derives {a}", "it doesn't derive {a}"),
     "Der rest": ("it leaves {a} open to its opponents", "it shuts {a} out"),
     "Asm rest": ("it doesn't attack {a}", "it attacks {a}"),
     "Miss": ("it lacks something of what {rule} needs", "it has all that {rule} needs"),
-    "Miss from": ("it lacks something, from {i} on, of what {rule} needs", "it has all, from {i} on, that {rule} needs"),
+    "Miss from": ("it lacks something that {rule} needs, from {i} on", "it has all that {rule} needs, from {i} on"),
     "Miss rest": ("something of what {rule} needs is shut out", "nothing of what {rule} needs is shut out"),
     "Miss rest from": ("something, from {i} on, of what {rule} needs is shut out",
                        "nothing, from {i} on, of what {rule} needs is shut out"),
-    "Sup": ("some rule for {a}, from rule {i} on, has all it needs", "no rule for {a}, from rule {i} on, has all it needs"),
-    "Sup rest": ("some rule for {a}, from rule {i} on, is left open", "no rule for {a}, from rule {i} on, is left open"),
+    "Sup": ("a rule for {a}, from {i} on, has all it needs", "no rule for {a}, from {i} on, has all it needs"),
+    "Sup rest": ("a rule for {a}, from {i} on, is left open", "no rule for {a}, from {i} on, is left open"),
     "Cf": ("it is without conflict", "it isn't without conflict"),
     "Ad": ("it defends itself", "it doesn't defend itself"),
     "Co": ("it holds just what it defends", "it doesn't hold just what it defends"),
@@ -104,9 +103,9 @@ SENTENCES = {
     "B5 Der rest": "it leaves open {body}, from which {h} follows; so it leaves {h} open",
     "B5 Der rest known": "{h} is known, so it can't be shut out",
     "B5 -Der own one": "from {x} follows {h}, which it doesn't derive; so it doesn't {have_x}",
-    "B5 -Der own more": "from {body} follows {h}, which it doesn't derive; it has all of these but {x}, so it doesn't {have_x}",
+    "B5 -Der own more": "from {body} follows {h}, which it doesn't derive; it has the others, so it doesn't {have_x}",
     "B5 -Der rest one": "from {x} follows {h}, which it shuts out; so it {shuts_x}",
-    "B5 -Der rest more": "from {body} follows {h}, which it shuts out; it leaves all of these open but {x}, so it {shuts_x}",
+    "B5 -Der rest more": "from {body} follows {h}, which it shuts out; it leaves the others open, so it {shuts_x}",
     "B5 clash own": "it has {body}, from which {h} follows, but doesn't derive {h}",
     "B5 clash own known": "but {h} is known",
     "B5 clash rest": "it leaves open {body}, from which {h} follows, but shuts {h} out",
@@ -149,13 +148,13 @@ SENTENCES = {
     "B15 clash none": "but nothing speaks against {a}, so it must assume {a}",
     "B17 -Der": "{list} could only come from each other, in a circle{ways}; so not {x}",
     "B17 Member": "{list} could only come from each other, in a circle{ways}; so it assumes {y}",
-    "B17 Der": "{list} could only come from each other, in a circle, but for the way from {body}{ways}; so it needs {y}",
+    "B17 Der": "{list} could only come from each other, in a circle, or from {body}{ways}; so it needs {y}",
     "B17 clash": "but {list} could only come from each other, in a circle{ways}",
     "side within": "all else outside of {set} is out; so it {holds} {x}, unless it lies within {set}",
     "side within only": "outside of {set} there is only {x}; so it {holds} {x}, unless it lies within {set}",
     "side is": "in all else it agrees with {set}; so it {holds} {x}, unless it is {set}",
     "side is not": "in all else it agrees with {set}; so it doesn't {hold} {x}, unless it is {set}",
-    "side wider": "it has no other verdict beyond those of {set}; so it has one on {x}, unless it has none at all beyond them",
+    "side wider": "it has no other verdict beyond those of {set}; so it has one on {x}, unless it has none beyond them",
     "side unattacked": "it attacks nothing else of {set}; so it attacks {x}, if it attacks {set} at all",
     "side within clash": "so it holds nothing outside of {set}, and lies within it",
     "side is clash": "so it is {set}",
@@ -176,7 +175,7 @@ SENTENCES = {
 # Two records or more in one sentence.
 MERGED = {
     "demand one": "{b} attacks {a}, so it must answer {b}; only {j} does, so it holds {j}",
-    "demand more": "{b} attacks {a}, so it must answer {b}; of what attacks {b} ({list}) it can only hold {j}, so it does",
+    "demand more": "{b} attacks {a}, so it must answer {b}; of what attacks {b} ({list}) only {j} is left: it holds {j}",
     "demand clash none": "{b} attacks {a}, and nothing attacks {b}",
     "demand clash one": "{b} attacks {a}, so it must answer {b}; but only {list} does, and is out",
     "demand clash more": "{b} attacks {a}, so it must answer {b}; but all that attacks {b} is out ({list})",
@@ -187,7 +186,7 @@ MERGED = {
     "unanswered clash one": "only {list} attacks {b}, and is out; so {b}, which attacks {a}, goes unanswered",
     "unanswered clash more": "all that attacks {b} is out ({list}); so {b}, which attacks {a}, goes unanswered",
     "undefended -Tail one": "it doesn't hold {a}, so it can't answer {j}, the only attacker of {a}",
-    "undefended -Tail more": "it doesn't hold {a}, and answers all attackers of {a} ({list}) but {j}; so it doesn't answer {j}",
+    "undefended -Tail more": "it doesn't hold {a}, but answers all against it ({list}) except {j}; so it doesn't answer {j}",
     "undefended clash none": "nothing attacks {a}, so it must hold {a}",
     "undefended clash one": "it answers {list}, the only attacker of {a}, so it must hold {a}",
     "undefended clash more": "it answers each attacker of {a} ({list}), so it must hold {a}",

@@ -3,10 +3,11 @@
 
     examples/draw.py examples/hearing.af SE-GR docs/pictures/hearing-GR.svg
 
-The extensions are what `./argue -p TASK -f FILE` prints, where `argue check` accepts it. Dark: each of them holds it; light:
-some do; grey: each attacks it; white: neither. An arrow is an attack. Of assumptions and rules the assumptions are round and
-the statements square; an arrow leads from what a rule needs to what follows, and a dashed one from a statement to the
-assumption that it speaks against. Names are those of comments `# N NAME: TEXT`, and the text is the tooltip."""
+The extensions are what `./argue -p TASK -f FILE` prints, where `argue check` accepts it. Dark: each of them holds it;
+light: some do; grey: each attacks it; white: neither. An arrow is an attack. Of assumptions and rules the assumptions
+are round and the statements square; an arrow leads from what a rule needs to what follows, and a dashed one from a
+statement to the assumption that it speaks against. Names are those of comments `# N NAME: TEXT`, and the text is the
+tooltip."""
 import sys
 from pathlib import Path
 
