@@ -8,7 +8,7 @@ import re
 from dataclasses import dataclass, field
 from typing import Callable, Iterable, Iterator, Optional, Sequence, Union
 
-from certificate import MODES, OWN, Axiom, Claim, Literal, View, loop_of, no, yes
+from certificate import MODES, OWN, Axiom, Claim, Literal, View, loop_of
 from records import Case, Fact, Lemma, Record, Refutation, walk
 from words import LITERALS, MERGED, POSITIONS, SENTENCES, UNLESS
 

@@ -22,8 +22,8 @@ from typing import Iterator, Optional, Sequence, Union
 from burgaouez import (
     Accepted, Answer, ArgueError, Framework, No, Numbers, Sets, Unknown, Yes, _answer_of, check, solve,
 )
-from certificate import MODES, Axiom, Certificate, Claim, Step, View, claims_of, read_certificate
-from narration import Narrator, Sentence, name, names_of, plain, sentence, set_name
+from certificate import MODES, Certificate, Claim, Step, View, claims_of, read_certificate
+from narration import Narrator, Sentence, name, names_of, plain, sentence
 from records import Fact, Refutation, is_inner, read_refutation, walk
 from search import SearchStopped, shorter_steps
 from words import POSITIONS

@@ -9,7 +9,7 @@ from dataclasses import dataclass, field
 from typing import Iterable, NamedTuple, Optional, Sequence, Union
 
 from certificate import (
-    END, OWN, REST, Axiom, Claim, Derived, Literal, Side, Step, View, clause_of, no, yes,
+    OWN, REST, Axiom, Claim, Derived, Literal, Side, Step, View, clause_of, no, yes,
 )
 
 # A clause is looked at this often at most: some three seconds.

@@ -11,7 +11,10 @@ LITERALS = {
     "Tail": ("it attacks {a}", "it leaves {a} unanswered"),
     "Tail from": ("it attacks {a} by an argument from {i} on", "it attacks {a} by no argument from {i} on"),
     "Unmet": ("it leaves an attacker of {a} unanswered", "it defends {a}"),
-    "Unmet from": ("it leaves an attacker of {a}, from {i} on, unanswered", "it answers those, from {i} on, against {a}"),
+    "Unmet from": (
+        "it leaves an attacker of {a}, from {i} on, unanswered",
+        "it answers each attacker of {a} from {i} on",
+    ),
     "Range": ("it has a verdict on {a}", "it has no verdict on {a}"),
     "Der own": ("it derives {a}", "it doesn't derive {a}"),
     "Der rest": ("it leaves {a} open to its opponents", "it shuts {a} out"),
@@ -175,7 +178,7 @@ SENTENCES = {
 # Two records or more in one sentence.
 MERGED = {
     "demand one": "{b} attacks {a}, so it must answer {b}; only {j} does, so it holds {j}",
-    "demand more": "{b} attacks {a}, so it must answer {b}; of what attacks {b} ({list}) only {j} is left: it holds {j}",
+    "demand more": "{b} attacks {a}, so it must answer {b}; of all against {b} ({list}) it can only hold {j}, and does",
     "demand clash none": "{b} attacks {a}, and nothing attacks {b}",
     "demand clash one": "{b} attacks {a}, so it must answer {b}; but only {list} does, and is out",
     "demand clash more": "{b} attacks {a}, so it must answer {b}; but all that attacks {b} is out ({list})",
@@ -186,7 +189,7 @@ MERGED = {
     "unanswered clash one": "only {list} attacks {b}, and is out; so {b}, which attacks {a}, goes unanswered",
     "unanswered clash more": "all that attacks {b} is out ({list}); so {b}, which attacks {a}, goes unanswered",
     "undefended -Tail one": "it doesn't hold {a}, so it can't answer {j}, the only attacker of {a}",
-    "undefended -Tail more": "it doesn't hold {a}, but answers all against it ({list}) except {j}; so it doesn't answer {j}",
+    "undefended -Tail more": "as it doesn't hold {a}, of the attackers of {a} ({list}) one goes unanswered, and that is {j}",
     "undefended clash none": "nothing attacks {a}, so it must hold {a}",
     "undefended clash one": "it answers {list}, the only attacker of {a}, so it must hold {a}",
     "undefended clash more": "it answers each attacker of {a} ({list}), so it must hold {a}",
