@@ -798,6 +798,14 @@ class BadInput(unittest.TestCase):
         self.assertNotIn("<svg", made)
         self.assertIn("These reasons take", found.text() + made) if any(s.summary for s in found.sections) else None
 
+    def test_each_task_of_the_examples_has_its_text_and_page(self):
+        for name, number in (("inheritance.af", 4), ("anticoagulant.aba", 8), ("loops.af", 2), ("self.af", 1)):
+            framework = Framework.from_file(EXAMPLES / name)
+            for task in framework.tasks:
+                found = reasons(framework, task, number if task.startswith("D") else None, seconds=SECONDS)
+                for text in (found.text(), found.text(full=True), page.page(found)):
+                    self.assertNotRegex(text, "[\ue000-\ue003]|\\?\\?|None", task)
+
     def test_each_sentence_is_tied_to_what_it_names(self):
         found = reasons(Framework.from_file(EXAMPLES / "anticoagulant.aba"), "EE-ST", seconds=SECONDS)
         made = page.page(found)

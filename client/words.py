@@ -189,7 +189,7 @@ MERGED = {
     "unanswered clash one": "only {list} attacks {b}, and is out; so {b}, which attacks {a}, goes unanswered",
     "unanswered clash more": "all that attacks {b} is out ({list}); so {b}, which attacks {a}, goes unanswered",
     "undefended -Tail one": "it doesn't hold {a}, so it can't answer {j}, the only attacker of {a}",
-    "undefended -Tail more": "as it doesn't hold {a}, of the attackers of {a} ({list}) one goes unanswered, and that is {j}",
+    "undefended -Tail more": "it doesn't hold {a}, so some attacker of {a} ({list}) goes unanswered; only {j} may",
     "undefended clash none": "nothing attacks {a}, so it must hold {a}",
     "undefended clash one": "it answers {list}, the only attacker of {a}, so it must hold {a}",
     "undefended clash more": "it answers each attacker of {a} ({list}), so it must hold {a}",
