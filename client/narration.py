@@ -538,10 +538,12 @@ class Narrator:
         """The paragraphs of a refutation, its lemmas first."""
         self.wording = Wording(self.view, refutation.claim, refutation.lemmas)
         self.first = self.number + 1
+        self.lemma_paragraphs: dict[int, int] = {}
         sentences = []
         for number, lemma in enumerate(refutation.lemmas, 1):
             self.number += 1
             lemma.number = self.number
+            self.lemma_paragraphs[lemma.step] = self.number
             heading = f"Lemma {number}. {self.supposition(refutation.claim, lemma.supposed, lemma.sides)}:"
             own = Sentence(heading, [], self.number)
             own.items = self.told(lemma.items, dict(self.ground))
@@ -585,12 +587,8 @@ class Narrator:
         own = {record.conclusion for record in group}
         premises = {premise for record in group for premise in record.premises if premise not in own}
         numbers = {known[premise] for premise in premises if premise in known}
-        numbers |= {self.lemma_number(record) for record in group if record.lemma is not None}
+        numbers |= {self.lemma_paragraphs[record.lemma] for record in group if record.lemma is not None}
         return sorted(numbers - {before})
-
-    def lemma_number(self, record: Record) -> int:
-        """The paragraph of the lemma that a record rests on."""
-        return self.wording.lemma_names[record.lemma]
 
     def supposition(self, claim: Claim, supposed: Sequence[Literal], sides: Sequence[int]) -> str:
         """What is supposed of the position, as a sentence without its end."""

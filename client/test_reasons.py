@@ -27,7 +27,7 @@ import records
 import words
 from burgaouez import Accepted, ArgueError, Framework, No, Sets, Yes, check, solve
 from certificate import AXIOMS, Literal, View, literal_of, read_certificate
-from narration import Wording, literal_words
+from narration import Narrator, Wording, literal_words, plain
 from reasons import NotAccepted, cited, main, reasons
 from records import Case, Fact, Record, read_refutation, walk
 
@@ -427,7 +427,7 @@ class RandomReasons(unittest.TestCase):
 
     def check_words(self, told, one):
         text = told.found.fill(re.sub("[\ue001]([0-9]+)[\ue003]", "SET", one.text))
-        bare = re.sub(r"^Lemma [0-9]+|by lemma [0-9]+|rule [0-9]+", "", text)
+        bare = re.sub(r"^Lemma [0-9]+|[Ll]emma [0-9]+|rule [0-9]+", "", text)
         said = {int(number) for number in re.findall(r"[0-9]+", bare)}
         if not one.records or not isinstance(one.records[0], Record):
             return
@@ -501,7 +501,7 @@ class RandomReasons(unittest.TestCase):
         for worlds, told in self.each():
             for refutation, _ in told.parts:
                 for record in walk(refutation.items):
-                    for what, wrong in planted_in(record, len(refutation.claim.sides), told.plain):
+                    for what, wrong in planted_in(record, refutation.claim.sides, told.plain):
                         planted += 1
                         if not faults(worlds, refutation, told.sets, wrong):
                             missed.append((what, record))
@@ -581,6 +581,10 @@ def planted_in(record, sides, plain):
         enough = any(left == same(plain, one) for one in others)
         if told != left and not enough:  # a rule may lack two of its statements, of which either is reason enough
             yield "a premise dropped", altered(record, premises=rest)
+    if record.side is not None and len(sides) > 1:
+        other = record.side % len(sides) + 1
+        if set(sides[other - 1].literals) != set(sides[record.side - 1].literals):
+            yield "another set", altered(record, side=other)
     if record.conclusion is not None:
         yield "turned conclusion", altered(record, conclusion=-record.conclusion)
 
@@ -627,6 +631,26 @@ class Table(unittest.TestCase):
         for key, text in {**words.SENTENCES, **words.MERGED}.items():
             self.assertNotIn("??", text)
             self.assertNotRegex(text, r"[.]$", key)
+
+
+# Of 1 attacks 2, 8 attacks 5, 6 and 2 attack 8, 7 attacks 6 and 2 attacks 7: step 3 is a hint of two others.
+TWICE = """cert 1
+r
+a A3 1 2
+a A6 1 1
+d -Ad -Member:2 -Attack:1:2 -Gap:1:1:1000001 0 1 2
+a A3 7 6
+a A6 7 3
+a A5 7 1 2
+d -Ad -Member:6 -Attack:7:6 -Gap:7:3:1000001 -Gap:7:1:2 -Attack:1:2 -Gap:1:1:1000001 0 4 5 6 3
+a A3 8 5
+a A5 8 1 2
+a A5 8 3 6
+a A6 8 7
+d -Ad -Member:5 -Attack:8:5 -Gap:8:1:2 -Gap:8:3:6 -Gap:8:7:1000001 -Attack:1:2 -Gap:1:1:1000001 -Attack:7:6 \
+-Gap:7:3:1000001 -Gap:7:1:2 0 3 7 8 9 10 11
+end
+"""
 
 
 class ByHand(unittest.TestCase):
@@ -709,6 +733,28 @@ class ByHand(unittest.TestCase):
             "13 March attacks no-will: it would attack itself. That can't be. [11]",
         ])
         self.assertEqual(found[-1], "21 May attacks March: it would attack itself. That can't be. [19]")
+
+    def test_a_lemma_that_is_used_twice(self):
+        framework = Framework.of_attacks([(1, 2), (8, 5), (6, 8), (2, 8), (7, 6), (2, 7)])
+        answer = No(certificate=TWICE)
+        self.assertEqual(check(framework, "DC-PR", answer, 5, seconds=SECONDS), Accepted())
+        view, read = View(framework), read_certificate(TWICE)
+        claim = certificate.claims_of(view, "DC-PR", 5, answer, read.sets)[0]
+        found = read_refutation(view, claim, read.refutations[0])
+        worlds = Worlds(Plain(framework.text()))
+        self.assertEqual(scope_faults(found, ()), [])
+        for record in walk([*found.items, *found.lemmas[0].items]):
+            self.assertEqual(faults(worlds, found, [], record), [])
+        told = [one for sentence in Narrator(view).refutation(found) for one in sentence.all()]
+        self.assertEqual([f"{one.number} {plain(one.text, str)}{cited(one.cites)}" for one in told], [
+            "1 Lemma 1. Suppose there is a position that defends itself and holds 2:",
+            "2 1 attacks 2, and nothing attacks 1. That can't be.",
+            "3 By lemma 1, it doesn't hold 2. [1]",
+            "4 It doesn't hold 6. Suppose it did:",
+            "5 7 attacks 6, so it must answer 7; only 2 does, so it holds 2.",
+            "6 Lemma 1 rules that out. That can't be. [1]",
+            "7 8 attacks 5, so it must answer 8; but all that attacks 8 is out (2 and 6). That can't be. [3, 4]",
+        ])
 
     def test_grounded(self):
         found = self.section(self.example("rivals.af"), "SE-GR", None, "The grounded set")

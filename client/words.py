@@ -170,7 +170,7 @@ SENTENCES = {
     "mode clash both": "so it both assumes {a} and doesn't",
     "mode clash": "which such a position never is",
     "lemma": "by lemma {lemma}, {words}",
-    "lemma clash": "by lemma {lemma}, that can't be",
+    "lemma clash": "lemma {lemma} rules that out",
     "other": "since {premises}, {words}",
     "other clash": "it can't be that {premises}",
 }
