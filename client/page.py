@@ -14,7 +14,7 @@ from burgaouez import Framework
 from certificate import View
 from layout import MOST_DRAWN, placed
 from narration import CAPITAL_MARK, MARKED, SET_MARK, Sentence
-from reasons import CHECKED, Reasons, Section, cited
+from reasons import CHECKED, Reasons, Section, apart, cited
 
 POINT = "Point at a sentence to see what it speaks of, or at the picture to see where it is named."
 POLICY = "default-src 'none'; style-src 'unsafe-inline'; script-src 'unsafe-inline'"
@@ -237,7 +237,7 @@ def _section(found: Reasons, section: Section) -> str:
 def _buttons(found: Reasons, count: int) -> str:
     if count == 1:
         return ""
-    names = ["all sets"] + [f"set {n}" for n in range(1, count)]
+    names = ["all sets"] + [_text(found.fill(f"set {n}{apart(found.sets, n)}")) for n in range(1, count)]
     buttons = "".join(f'<button type="button" data-v="{v}" aria-pressed="{str(v == 0).lower()}">{said}</button>'
                       for v, said in enumerate(names))
     more = len(found.sets) - (count - 1)

@@ -178,6 +178,20 @@ def _length(view: View, claim: Claim, steps: list[Step]) -> int:
     return len(told) + 2 * sum(1 for record in told if record.conclusion is not None and is_inner(record.conclusion))
 
 
+def apart(sets: Sequence[Numbers], number: int) -> str:
+    """What sets a set apart: `, with` a member that no other has, or two; nothing where there are no such."""
+    others = [set(one) for n, one in enumerate(sets, 1) if n != number]
+    members = sets[number - 1]
+    for one in members:
+        if not any(one in other for other in others):
+            return f", with {name(one)}"
+    for one in members:
+        for two in members:
+            if one < two and not any(one in other and two in other for other in others):
+                return f", with {name(one)} and {name(two)}"
+    return ""
+
+
 class _Telling:
     """The making of one answer's reasons."""
 
@@ -274,7 +288,7 @@ class _Telling:
         count = {2: "two", 3: "three", 4: "four", 5: "five", 6: "six"}.get(len(sets), str(len(sets)))
         if len(sets) > 6:
             return f"There are {count}."
-        labels = [self._label(list(sets), number).removeprefix(", ") for number in range(1, len(sets) + 1)]
+        labels = [apart(sets, number).removeprefix(", ") for number in range(1, len(sets) + 1)]
         said = [f"set {number}" + (f", {label}" if label else "") for number, label in enumerate(labels, 1)]
         return f"There are {count}: {'; '.join(said)}."
 
@@ -350,7 +364,7 @@ class _Telling:
             if len(common) <= MOST_MEMBERS:
                 self._tell("In every set", f"Each set holds {names_of(common)}.", standings(self.view, common), folded)
         for number, members in enumerate(sets, 1):
-            heading = f"Set {number}{self._label(sets, number)}" if len(sets) > 1 else self._heading_of_one()
+            heading = f"Set {number}{apart(sets, number)}" if len(sets) > 1 else self._heading_of_one()
             own = [a for a in members if a not in common] if common else members
             intro = f"It {self.holds} {names_of(own) or 'nothing'}."
             if common:
@@ -364,19 +378,6 @@ class _Telling:
     def _heading_of_one(self) -> str:
         about_it = self.semantics == "GR" or (self.task == "DS-CO" and isinstance(self.answer, Yes))
         return "The grounded set" if about_it else "The set"
-
-    def _label(self, sets: list[Numbers], number: int) -> str:
-        """What sets a set apart: a member that no other has, or two."""
-        others = [set(one) for n, one in enumerate(sets, 1) if n != number]
-        members = sets[number - 1]
-        for one in members:
-            if not any(one in other for other in others):
-                return f", with {name(one)}"
-        for one in members:
-            for two in members:
-                if one < two and not any(one in other and two in other for other in others):
-                    return f", with {name(one)} and {name(two)}"
-        return ""
 
     # Refutations
 
