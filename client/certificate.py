@@ -197,10 +197,21 @@ class View:
         for number, (head, _) in self.rules.items():
             self.rules_for[head].append(number)
 
+    def closure(self, given: Iterable[int]) -> set[int]:
+        """All that follows from what is given; of attacks that is what is given."""
+        derived = set(given)
+        left = [rule for rule in self.rules.values() if rule[0] not in derived]
+        while True:
+            ready = {head for head, body in left if derived.issuperset(body)}
+            if not ready:
+                return derived
+            derived |= ready
+            left = [rule for rule in left if rule[0] not in derived]
+
     def attacked(self, chosen: Iterable[int]) -> set[int]:
         """What a set of arguments attacks, or the assumptions that a set of assumptions attacks."""
         if self.is_rules:
-            derived = set(self.framework.closure(chosen))
+            derived = self.closure(chosen)
             return {a for a, c in self.contrary.items() if c in derived}
         return {target for one in chosen for target in self.targets[one]}
 

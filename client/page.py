@@ -45,7 +45,7 @@ def states(view: View, sets: Sequence) -> dict[int, str]:
     """For each number a key of STATES."""
     framework = view.framework
     numbers = framework.atoms if view.is_rules else framework.arguments
-    held = [set(framework.closure(one)) for one in sets]
+    held = [view.closure(one) for one in sets]
     out = [_out(view, one) for one in sets]
     found = {}
     for n in numbers:
@@ -63,7 +63,7 @@ def _out(view: View, members) -> set[int]:
     attacked = view.attacked(members)
     if not view.is_rules:
         return attacked
-    left = set(view.framework.closure(a for a in view.assumed if a not in attacked))
+    left = view.closure(a for a in view.assumed if a not in attacked)
     return set(view.framework.atoms) - left
 
 

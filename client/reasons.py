@@ -326,7 +326,7 @@ class _Telling:
             self._tell("A short reason", "Nothing that attacks itself is ever held.", [fact])
             return ()
         grounded = self._grounded()
-        positive = self.query in (self.view.framework.closure(grounded) if self.view.is_rules else grounded)
+        positive = self.query in self.view.closure(grounded)
         fallen = self.query in self.view.attacked(grounded)
         if positive or fallen:
             self._tell("Beyond doubt already", BEYOND_DOUBT[positive], self._chain_to(grounded, positive))

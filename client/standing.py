@@ -145,7 +145,7 @@ class _Shut:
     def __init__(self, view: View, members: Numbers):
         self.view = view
         self.attacked = view.attacked(members)
-        self.open = set(view.framework.closure(a for a in view.assumed if a not in self.attacked))
+        self.open = view.closure(a for a in view.assumed if a not in self.attacked)
         self.lacks: dict[int, dict[int, int]] = {}
         out = set(self.attacked)
         growing = True
