@@ -19,7 +19,7 @@ STANDINGS = {
     "falls": "{list} {falls} to {c}",
     "itself": "{a} attacks itself",
     "open": "open {stays} {pairs}: nothing in the set answers that",
-    "known": "known are {list}",
+    "known": "known {are} {list}",
     "derived": "{x} follows from {body}",
     "unopposed": "{a} stands: nothing speaks against it",
     "underivable": "{a} stands: only {c} speaks against it, and no rule gives {c}",
@@ -302,7 +302,7 @@ def _key(standing: Standing) -> tuple:
 def _fields(view: View, one: Standing, shut: Optional[_Shut]) -> dict[str, str]:
     first = one.about[0]
     fields = {"a": name(first), "x": name(first), "list": names_of(one.about)}
-    fields["falls"] = "falls" if len(one.about) == 1 else "fall"
+    fields["falls"], fields["are"] = ("falls", "is") if len(one.about) == 1 else ("fall", "are")
     if one.by:
         fields.update(c=name(one.by[0]), b=name(one.by[0]))
     if one.kind == "open":

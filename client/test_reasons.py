@@ -756,6 +756,15 @@ class ByHand(unittest.TestCase):
             "7 8 attacks 5, so it must answer 8; but all that attacks 8 is out (2 and 6). That can't be. [3, 4]",
         ])
 
+    def test_a_statement_that_is_known_twice(self):
+        framework = Framework.of_rules([1], {1: 5}, [(4, []), (4, []), (5, [4, 6])])
+        self.assertEqual(self.section(framework, "SE-GR", None, "The grounded set"), [
+            "It assumes 1.",
+            "1 Known is 4.",
+            "2 6 is shut out: it has no rule.",
+            "3 1 stands: only 5 speaks against it, which needs 6, which is out.",
+        ])
+
     def test_grounded(self):
         found = self.section(self.example("rivals.af"), "SE-GR", None, "The grounded set")
         self.assertEqual(found[1:], [
