@@ -288,7 +288,7 @@ class Wording:
         outer = [rule for _, pairs in loop.rows for rule, y in pairs if y == 0]
         ways = self._ways(record, outer)
         fields = {"list": names_of(member for member, _ in loop.rows), "ways": f" ({ways})" if ways else ""}
-        fields["x"] = name(loop.statement)
+        fields.update(x=name(loop.statement), each="itself" if len(loop.rows) == 1 else "each other")
         if record.given == "Der":
             taken = [step for step in record.steps if isinstance(step, Axiom) and step.name == "B6"][-1].numbers[1]
             fields["body"] = names_of(self.view.rules[taken][1])

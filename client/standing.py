@@ -27,7 +27,7 @@ STANDINGS = {
     "attacked": "{a} falls: {c} speaks against it, and {holds}",
     "possible": "{a} stays open: {c} speaks against it, and the set doesn't shut {c} out",
     "lacking": "{x} is shut out: it {why}",
-    "circle": "{list} are shut out: they could only come from each other{ways}",
+    "circle": "{list} {are} shut out, coming only from {each}{ways}",
 }
 
 
@@ -318,6 +318,7 @@ def _fields(view: View, one: Standing, shut: Optional[_Shut]) -> dict[str, str]:
     if one.kind in ("shut", "lacking"):
         fields["why"] = shut.why(one.by[0] if one.kind == "shut" else first)
     if one.kind == "circle":
+        fields["each"] = "itself" if len(one.about) == 1 else "each other"
         lacks = names_of(one.by)
         fields["ways"] = f", or from {lacks}, which {'is' if len(one.by) == 1 else 'are'} out" if lacks else ""
     return fields

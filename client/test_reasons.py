@@ -765,6 +765,21 @@ class ByHand(unittest.TestCase):
             "3 1 stands: only 5 speaks against it, which needs 6, which is out.",
         ])
 
+    def test_a_circle(self):
+        """2 and 3 only follow from each other, and nothing else speaks against 1."""
+        framework = Framework.of_rules([1], {1: 3}, [(2, [3]), (3, [2])])
+        self.assertEqual(self.section(framework, "SE-GR", None, "The grounded set")[1:], [
+            "1 2 and 3 are shut out, coming only from each other.",
+            "2 1 stands: only 3 speaks against it, which can only come from itself, in a circle.",
+        ])
+        self.assertEqual(self.section(framework, "DC-PR", 3, "Why"), [
+            "Suppose there is a position that defends itself and derives 3.",
+            "2 It has 3, from which 2 follows, but doesn't derive 2. That can't be. [1]",
+        ])
+        self.assertEqual(self.section(framework, "DC-PR", 3, "Beyond doubt")[1:], [
+            "1 2 and 3 could only come from each other, in a circle; so not 2.",
+        ])
+
     def test_grounded(self):
         found = self.section(self.example("rivals.af"), "SE-GR", None, "The grounded set")
         self.assertEqual(found[1:], [
