@@ -30,6 +30,7 @@ from certificate import AXIOMS, Literal, View, literal_of, read_certificate
 from narration import Narrator, Wording, literal_words, plain
 from reasons import NotAccepted, cited, main, reasons
 from records import Case, Fact, Record, read_refutation, walk
+from standing import Standing
 
 COUNT = int(os.environ.get("BURGAOUEZ_FRAMEWORKS", "30"))
 SEED = int(os.environ.get("BURGAOUEZ_SEED", "1"))
@@ -287,6 +288,32 @@ def side_literals(plain, kind, one):
     return literals(*(f"-Tail:{e}:1" for e in one))
 
 
+def stands_so(plain, one):
+    """Whether what a standing's kind says is so of its set, by the definitions."""
+    members, attacked = set(one.members), plain.attacked(one.members)
+    if one.kind == "itself":
+        return {(a, a) for a in one.about} <= plain.attacks
+    if one.kind in ("unattacked", "answered"):
+        answered = {fact.values[1] for fact in one.facts if fact.name == "attacks" and fact.values[0] in members}
+        return set(one.about) <= members and all(plain.attackers(a) == answered for a in one.about)
+    if one.kind == "falls":
+        return set(one.by) <= members and all((one.by[0], x) in plain.attacks for x in one.about)
+    if one.kind == "open":
+        pairs = set(zip(one.by, one.about))
+        return pairs <= plain.attacks and not attacked & {n for pair in pairs for n in pair}
+    derived, reach = plain.closure(members), plain.closure(plain.assumed - attacked)
+    if one.kind in ("known", "derived"):
+        return set(one.about) | set(one.by) <= derived
+    if one.kind in ("lacking", "circle"):
+        return not reach & (set(one.about) | set(one.by))
+    against = plain.against.get(one.about[0])
+    if one.kind == "attacked":
+        return against in derived
+    if one.kind == "possible":
+        return against in reach and one.about[0] not in attacked
+    return one.about[0] in members and against not in reach and not reach & set(one.by)
+
+
 def scope_faults(refutation, ground):
     """Premises out of scope, cases that don't close, ends that are no clash."""
     wrong = []
@@ -386,6 +413,16 @@ class RandomReasons(unittest.TestCase):
                     count += 1
                     self.assertEqual(faults(worlds, refutation, told.sets, record), [], record)
         print(f"{count} inferences of {len(self.told)} answers of {COUNT} frameworks", file=sys.stderr)
+
+    def test_each_standing_is_right(self):
+        count = 0
+        for _, told in self.each():
+            sentences = [one for section in told.found.sections for one in section.sentences]
+            for standing in (record for one in sentences for record in one.records if isinstance(record, Standing)):
+                count += 1
+                self.assertTrue(all(fact_is_so(told.plain, fact) for fact in standing.facts), standing)
+                self.assertTrue(stands_so(told.plain, standing), standing)
+        print(f"{count} standings", file=sys.stderr)
 
     def test_scopes(self):
         for _, told in self.each():
