@@ -20,8 +20,9 @@ from dataclasses import dataclass, field, replace
 from typing import Iterator, Optional, Sequence, Union
 
 from burgaouez import (
-    Accepted, Answer, ArgueError, Framework, No, Numbers, Sets, Unknown, Yes, _answer_of, check, solve,
+    Accepted, Answer, ArgueError, Framework, No, Numbers, Sets, Unknown, Yes, read_answer, check, solve,
 )
+from case import Case
 from certificate import MODES, Certificate, Claim, Step, View, claims_of, read_certificate
 from narration import Narrator, Sentence, name, names_of, plain, sentence
 from records import Fact, Refutation, is_inner, read_refutation, walk
@@ -500,8 +501,8 @@ def _sentence_lines(told: Reasons, one: Sentence, depth: int, width: int) -> Ite
 def _parser() -> argparse.ArgumentParser:
     parser = argparse.ArgumentParser(prog="reasons.py", description="Tells the reasons of an answer in plain words.")
     parser.add_argument("-p", dest="task", required=True, help="the task, such as DS-PR")
-    parser.add_argument("-f", dest="file", required=True, help="the file of the framework")
-    parser.add_argument("-a", dest="query", type=int, help="the number that DC and DS ask about")
+    parser.add_argument("-f", dest="file", required=True, help="the file of the framework, or a .case with names")
+    parser.add_argument("-a", dest="query", help="the number that DC and DS ask about; in a case its name serves too")
     parser.add_argument("-r", dest="answer", help="a file with the answer, where it isn't to be asked for")
     parser.add_argument("-c", dest="certificate", help="the file of that answer's certificate")
     parser.add_argument("--page", help="writes a page to this file, in place of the text")
@@ -517,19 +518,31 @@ def _given(words: argparse.Namespace):
     if words.answer is None:
         return None, None
     with open(words.answer, encoding="utf-8") as file:
-        lines = [line for line in file.read().splitlines() if line.strip() and not line.startswith("#")]
-        answer = _answer_of(lines, None)
+        answer = read_answer(file.read())
     with open(words.certificate, encoding="utf-8") as file:
         return answer, file.read()
+
+
+def _asked(words: argparse.Namespace) -> tuple[Framework, Optional[int]]:
+    """The framework of the file, which may be a case with names, and the number that is asked about."""
+    case = Case.from_file(words.file) if words.file.endswith(".case") else None
+    framework = case.framework if case else Framework.from_file(words.file)
+    if words.query is None:
+        return framework, None
+    if case:
+        return framework, case.number(words.query)
+    if not words.query.isdecimal():
+        raise ValueError(f"-a asks about a number, and {words.query} is none")
+    return framework, int(words.query)
 
 
 def main(arguments: Optional[Sequence[str]] = None) -> int:
     """Runs the words; the status is 0, 1 where there are no reasons to tell, 2 for words that don't fit."""
     words = _parser().parse_args(arguments)
     try:
-        framework = Framework.from_file(words.file)
+        framework, query = _asked(words)
         answer, certificate = _given(words)
-        found = reasons(framework, words.task, words.query, answer, certificate, seconds=words.seconds)
+        found = reasons(framework, words.task, query, answer, certificate, seconds=words.seconds)
         _write(found, words)
     except (ArgueError, OSError, ValueError) as error:
         print(f"reasons.py: {_told_error(error)}", file=sys.stderr)

@@ -839,6 +839,33 @@ class BadInput(unittest.TestCase):
         with self.assertRaises(ArgueError):
             reasons(other, "EE-PR", None, answer, seconds=SECONDS)
 
+    def test_a_case_with_names(self):
+        text = "late: It came late.\nlate attacks noneed\nnoneed attacks refund\nnoneed: No.\nrefund: Money back.\n"
+        with tempfile.TemporaryDirectory() as folder:
+            case = Path(folder, "mine.case")
+            case.write_text(text)
+            status, out, errors = self.run_words("-p", "DS-PR", "-a", "refund", "-f", str(case))
+            self.assertEqual((status, errors), (0, ""))
+            self.assertIn("every preferred set holds refund", out)
+            status, out, errors = self.run_words("-p", "DS-PR", "-a", "refun", "-f", str(case))
+            self.assertEqual((status, out), (1, ""))
+            self.assertIn("UnknownName", errors)
+
+    def test_a_name_where_a_number_is_asked_for(self):
+        with tempfile.TemporaryDirectory() as folder:
+            path = Path(folder, "numbers.af")
+            path.write_text("p af 2\n1 2\n")
+            status, out, errors = self.run_words("-p", "DS-PR", "-a", "one", "-f", str(path))
+        self.assertEqual((status, out), (1, ""))
+        self.assertIn("asks about a number", errors)
+
+    def test_numbers_without_sentences(self):
+        pairs = [(2 * k + 1, 2 * k + 2) for k in range(6)] + [(2 * k + 2, 2 * k + 1) for k in range(6)]
+        framework = Framework.of_attacks([*pairs, *[(2 * k + 2, 13) for k in range(6)]])
+        told = reasons(framework, "DC-PR", query=13, seconds=SECONDS)
+        self.assertIn("13", told.text())
+        self.assertNotIn("None", told.text())
+
     def test_a_truncated_certificate(self):
         framework = Framework.of_attacks([(1, 2), (2, 1), (2, 3)])
         answer = solve(framework, "EE-PR", seconds=SECONDS)
