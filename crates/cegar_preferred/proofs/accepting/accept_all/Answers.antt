@@ -1,7 +1,15 @@
-use Rattle.std.proofs.Common.{◌∙◌, ◌+◌, ◌*◌, length, arith}
+use Rattle.std.proofs.Common.{◌∙◌, ◌+◌, ◌*◌, length, arith, refl, subst, sym}
 use Rattle.goal_lists.proofs.Calls.{closes_refuted, closes_set, run_handed, then_same}
 use Rattle.cegar_preferred.specs.Largest.{MadeOutside}
-use Rattle.cegar_preferred.proofs.CoverLemmas.{accepting_found, cover_extended, cover_grown, cover_kept, extended_of, few_closings, fewer_open, one_more}
+use Rattle.cegar_preferred.proofs.CoverLemmas.{accepting_found, cover_extended, cover_grown, cover_kept, extended_of, few_closings, fewer_open, one_more, cover_empty}
+use Rattle.std.specs.Prelude.{Option}
+use Rattle.std.proofs.lemmas.Result.{IfOk-from_err}
+use Rattle.semantics.specs.Frameworks.{Framework}
+use Rattle.oracle_face.specs.declared.face.Found.{Found}
+use Rattle.oracle_face.proofs.GrowingLemmas.{run_none}
+use Rattle.edit_rules.specs.Fitting.{IsKnown}
+use Rattle.cegar_preferred.specs.declared.maximal.Maximal.{Maximal}
+use Rattle.cegar_preferred.specs.Covers.{Extends, IsAccepting, IsCover, IsUncovered}
 use Rattle.cegar_preferred.proofs.accepting.accept_all.Goals as goal
 
 pub returns-in_err-step-clause-run : goal.returns-in_err-step-clause-run
@@ -130,3 +138,90 @@ loop-cover-preserved g c =
       follows = g.met.O.Oracle.joins _ _ _ (g.met.O.Oracle.joins _ _ _ inv.follows c.in_ok-step.ensures.follows)
           c.in_ok-counter-in-Set.ensures.follows;
     }
+
+pub loop-cover-init : goal.loop-cover-init
+loop-cover-init g c =
+    let f = g.O.Oracle.framework c.args.oracle.now in
+    record {
+      cover = cover_empty f (g.O.Oracle.log c.args.oracle.now) c.args.goal _ c.new.ensures c.new-2.ensures;
+      run = run_none (MadeOutside f) _ f _ _ _;
+      framework = refl;
+      kept = c.members-members.ensures.kept;
+      follows = g.met.O.Oracle.stays _;
+    }
+
+pub uncovered-requires-clause-goal : goal.uncovered-requires-clause-goal
+uncovered-requires-clause-goal g c =
+    subst (λ (x : Framework). IsKnown x c.args.goal) (sym c.loop-cover.invariant.framework) c.requires
+
+pub uncovered-requires-clause-cover : goal.uncovered-requires-clause-cover
+uncovered-requires-clause-cover g c =
+    subst (λ (x : Framework). IsCover x (g.O.Oracle.log c.loop-cover.oracle) c.args.goal c.loop-cover.cover)
+    (sym c.loop-cover.invariant.framework) c.loop-cover.invariant.cover
+
+pub extend-requires-clause-set : goal.extend-requires-clause-set
+extend-requires-clause-set g c =
+    let k = g.O.Oracle.framework c.uncovered.new.oracle in
+    let log = g.O.Oracle.log c.uncovered.new.oracle in
+    subst (λ (x : Found). IsUncovered k log c.args.goal c.loop-cover.cover x) c.in-Set.is
+    (subst (λ (x : Framework). IsUncovered x log c.args.goal c.loop-cover.cover c.in_ok-step.field-0)
+    (sym c.in_ok-step.ensures.framework) c.in_ok-step.ensures.uncovered)
+
+pub returns-in_err-step-clause-accepting : goal.returns-in_err-step-clause-accepting
+returns-in_err-step-clause-accepting g c =
+    IfOk-from_err c.from_residual.result
+    (IsAccepting (g.O.Oracle.framework c.args.oracle.now) (g.O.Oracle.log c.uncovered.new.oracle) c.args.goal) c.from_residual.ensures.0
+
+pub returns-in_err-step-clause-framework : goal.returns-in_err-step-clause-framework
+returns-in_err-step-clause-framework g c = c.in_err-step.ensures.framework ∙ c.loop-cover.invariant.framework
+
+pub returns-in_err-step-clause-kept : goal.returns-in_err-step-clause-kept
+returns-in_err-step-clause-kept g c = c.in_err-step.ensures.kept
+
+pub returns-in_err-step-clause-follows : goal.returns-in_err-step-clause-follows
+returns-in_err-step-clause-follows g c = g.met.O.Oracle.joins _ _ _ c.loop-cover.invariant.follows c.in_err-step.ensures.follows
+
+pub returns-in-Refuted-clause-framework : goal.returns-in-Refuted-clause-framework
+returns-in-Refuted-clause-framework g c = c.in_ok-step.ensures.framework ∙ c.loop-cover.invariant.framework
+
+pub returns-in-Refuted-clause-kept : goal.returns-in-Refuted-clause-kept
+returns-in-Refuted-clause-kept g c = c.in_ok-step.ensures.kept
+
+pub returns-in-Refuted-clause-follows : goal.returns-in-Refuted-clause-follows
+returns-in-Refuted-clause-follows g c = g.met.O.Oracle.joins _ _ _ c.loop-cover.invariant.follows c.in_ok-step.ensures.follows
+
+pub returns-in_err-counter-in-Set-clause-accepting : goal.returns-in_err-counter-in-Set-clause-accepting
+returns-in_err-counter-in-Set-clause-accepting g c =
+    IfOk-from_err c.from_residual-in_err-counter-in-Set.result
+    (IsAccepting (g.O.Oracle.framework c.args.oracle.now) (g.O.Oracle.log c.extend.new.oracle) c.args.goal)
+    c.from_residual-in_err-counter-in-Set.ensures.0
+
+pub returns-in_err-counter-in-Set-clause-framework : goal.returns-in_err-counter-in-Set-clause-framework
+returns-in_err-counter-in-Set-clause-framework g c = c.in_err-counter-in-Set.ensures.framework ∙ (c.in_ok-step.ensures.framework ∙ c.loop-cover.invariant.framework)
+
+pub returns-in_err-counter-in-Set-clause-kept : goal.returns-in_err-counter-in-Set-clause-kept
+returns-in_err-counter-in-Set-clause-kept g c = c.in_err-counter-in-Set.ensures.kept
+
+pub returns-in_err-counter-in-Set-clause-follows : goal.returns-in_err-counter-in-Set-clause-follows
+returns-in_err-counter-in-Set-clause-follows g c = g.met.O.Oracle.joins _ _ _ (g.met.O.Oracle.joins _ _ _ c.loop-cover.invariant.follows c.in_ok-step.ensures.follows)
+    c.in_err-counter-in-Set.ensures.follows
+
+pub returns-in-Some-clause-accepting : goal.returns-in-Some-clause-accepting
+returns-in-Some-clause-accepting g c =
+    let log = g.O.Oracle.log c.extend.new.oracle in
+    subst (λ (x : Option Maximal). Extends (g.O.Oracle.framework c.args.oracle.now) log c.args.goal c.loop-cover.cover
+    c.extend.new.cover x)
+    c.in-Some.is
+    (subst (λ (x : Framework). Extends x log c.args.goal c.loop-cover.cover c.extend.new.cover
+    c.in_ok-counter-in-Set.field-0)
+    (c.in_ok-step.ensures.framework ∙ c.loop-cover.invariant.framework) c.in_ok-counter-in-Set.ensures.extends)
+
+pub returns-in-Some-clause-framework : goal.returns-in-Some-clause-framework
+returns-in-Some-clause-framework g c = c.in_ok-counter-in-Set.ensures.framework ∙ (c.in_ok-step.ensures.framework ∙ c.loop-cover.invariant.framework)
+
+pub returns-in-Some-clause-kept : goal.returns-in-Some-clause-kept
+returns-in-Some-clause-kept g c = c.in_ok-counter-in-Set.ensures.kept
+
+pub returns-in-Some-clause-follows : goal.returns-in-Some-clause-follows
+returns-in-Some-clause-follows g c = g.met.O.Oracle.joins _ _ _ (g.met.O.Oracle.joins _ _ _ c.loop-cover.invariant.follows c.in_ok-step.ensures.follows)
+    c.in_ok-counter-in-Set.ensures.follows

@@ -1,10 +1,18 @@
-use Rattle.std.proofs.Common.{◌∙◌, ◌+◌, ◌*◌, ◌≤◌, length, arith}
+use Rattle.std.proofs.Common.{◌∙◌, ◌+◌, ◌*◌, ◌≤◌, length, arith, ap, refl, subst, sym}
 use Rattle.meaning_atoms.specs.declared.atom.Atom.TheVariants.{Ad}
 use Rattle.plain_lits.specs.declared.halt.Halt.TheVariants.{Memory}
 use Rattle.goal_lists.proofs.Calls.{closes_refuted, closes_set, makes_same, run_handed, then_refused}
 use Rattle.enumerate_block.specs.semi_stable.specs.Widest.{MadeWider}
 use Rattle.enumerate_block.proofs.RangeLemmas.{log_kept, two_more}
-use Rattle.enumerate_block.proofs.WitnessLemmas.{cover_extended, cover_grown, extended_of, few_closings, fewer_open, no_witness, then_call, witness_of}
+use Rattle.enumerate_block.proofs.WitnessLemmas.{cover_extended, cover_grown, extended_of, few_closings, fewer_open, no_witness, then_call, witness_of, cover_empty}
+use Rattle.std.specs.Prelude.{Contains}
+use Rattle.std.proofs.lemmas.Result.{IfOk-from_err}
+use Rattle.semantics.specs.Frameworks.{Framework}
+use Rattle.oracle_face.specs.declared.face.Found.{Found}
+use Rattle.certificate_claims.specs.SetLiterals.{members}
+use Rattle.oracle_face.specs.Kinds.{is_assumption_based}
+use Rattle.oracle_face.proofs.GrowingLemmas.{run_none}
+use Rattle.enumerate_block.specs.Witnesses.{IsCover, IsDecided, IsUncovered}
 use Rattle.enumerate_block.proofs.deciding.decide.Goals as goal
 
 pub returns-in_err-step-clause-run : goal.returns-in_err-step-clause-run
@@ -168,3 +176,102 @@ loop-cover-preserved g c =
       follows = g.met.O.Oracle.joins _ _ _ (g.met.O.Oracle.joins _ _ _ inv.follows c.in_ok-step.ensures.follows)
           c.in_ok-witness-in-Set.ensures.follows;
     }
+
+pub loop-cover-init : goal.loop-cover-init
+loop-cover-init g c =
+    let f = g.O.Oracle.framework c.args.oracle.now in
+    record {
+      cover = cover_empty f (g.O.Oracle.log c.args.oracle.now) c.args.goal c.args.accepted _ c.requires.kind
+          c.new.ensures c.new-2.ensures c.new-3.ensures;
+      run = run_none (MadeWider f Ad) _ f _ _ _;
+      framework = refl;
+      kept = c.members-members.ensures.kept;
+      follows = g.met.O.Oracle.stays _;
+    }
+
+pub uncovered-requires-clause-goal : goal.uncovered-requires-clause-goal
+uncovered-requires-clause-goal g c =
+    subst (λ (x : Framework). Contains (members x) c.args.goal) (sym c.loop-cover.invariant.framework) c.requires.goal
+
+pub uncovered-requires-clause-cover : goal.uncovered-requires-clause-cover
+uncovered-requires-clause-cover g c =
+    subst (λ (x : Framework). IsCover x (g.O.Oracle.log c.loop-cover.oracle) c.args.goal c.args.accepted
+    c.loop-cover.cover)
+    (sym c.loop-cover.invariant.framework) c.loop-cover.invariant.cover
+
+pub returns-in_err-step-clause-decided : goal.returns-in_err-step-clause-decided
+returns-in_err-step-clause-decided g c =
+    IfOk-from_err c.from_residual.result
+    (IsDecided (g.O.Oracle.framework c.args.oracle.now) (g.O.Oracle.log c.uncovered.new.oracle) c.args.goal c.args.accepted)
+    c.from_residual.ensures.0
+
+pub returns-in_err-step-clause-framework : goal.returns-in_err-step-clause-framework
+returns-in_err-step-clause-framework g c = c.in_err-step.ensures.framework ∙ c.loop-cover.invariant.framework
+
+pub returns-in_err-step-clause-kept : goal.returns-in_err-step-clause-kept
+returns-in_err-step-clause-kept g c = c.in_err-step.ensures.kept
+
+pub returns-in_err-step-clause-follows : goal.returns-in_err-step-clause-follows
+returns-in_err-step-clause-follows g c = g.met.O.Oracle.joins _ _ _ c.loop-cover.invariant.follows c.in_err-step.ensures.follows
+
+pub returns-in_err-steps-in-Refuted-clause-decided : goal.returns-in_err-steps-in-Refuted-clause-decided
+returns-in_err-steps-in-Refuted-clause-decided g c =
+    IfOk-from_err c.from_residual-in_err-steps-in-Refuted.result
+    (IsDecided (g.O.Oracle.framework c.args.oracle.now) (g.O.Oracle.log c.uncovered.new.oracle) c.args.goal c.args.accepted)
+    c.from_residual-in_err-steps-in-Refuted.ensures.0
+
+pub returns-in_err-steps-in-Refuted-clause-framework : goal.returns-in_err-steps-in-Refuted-clause-framework
+returns-in_err-steps-in-Refuted-clause-framework g c = c.in_ok-step.ensures.framework ∙ c.loop-cover.invariant.framework
+
+pub returns-in_err-steps-in-Refuted-clause-kept : goal.returns-in_err-steps-in-Refuted-clause-kept
+returns-in_err-steps-in-Refuted-clause-kept g c = c.in_ok-step.ensures.kept
+
+pub returns-in_err-steps-in-Refuted-clause-follows : goal.returns-in_err-steps-in-Refuted-clause-follows
+returns-in_err-steps-in-Refuted-clause-follows g c = g.met.O.Oracle.joins _ _ _ c.loop-cover.invariant.follows c.in_ok-step.ensures.follows
+
+pub returns-in-Refuted-clause-framework : goal.returns-in-Refuted-clause-framework
+returns-in-Refuted-clause-framework g c = c.in_ok-step.ensures.framework ∙ c.loop-cover.invariant.framework
+
+pub returns-in-Refuted-clause-kept : goal.returns-in-Refuted-clause-kept
+returns-in-Refuted-clause-kept g c = c.in_ok-step.ensures.kept
+
+pub returns-in-Refuted-clause-follows : goal.returns-in-Refuted-clause-follows
+returns-in-Refuted-clause-follows g c = g.met.O.Oracle.joins _ _ _ c.loop-cover.invariant.follows c.in_ok-step.ensures.follows
+
+pub extend-requires-clause-kind : goal.extend-requires-clause-kind
+extend-requires-clause-kind g c = ap is_assumption_based (c.in_ok-step.ensures.framework ∙ c.loop-cover.invariant.framework) ∙ c.requires.kind
+
+pub extend-requires-clause-goal : goal.extend-requires-clause-goal
+extend-requires-clause-goal g c =
+    subst (λ (x : Framework). Contains (members x) c.args.goal) (sym (c.in_ok-step.ensures.framework ∙ c.loop-cover.invariant.framework))
+    c.requires.goal
+
+pub extend-requires-clause-set : goal.extend-requires-clause-set
+extend-requires-clause-set g c =
+    let k = g.O.Oracle.framework c.uncovered.new.oracle in
+    let log = g.O.Oracle.log c.uncovered.new.oracle in
+    subst (λ (x : Found). IsUncovered k log c.args.goal c.args.accepted c.loop-cover.cover x) c.in-Set.is
+    (subst (λ (x : Framework). IsUncovered x log c.args.goal c.args.accepted c.loop-cover.cover c.in_ok-step.field-0)
+    (sym c.in_ok-step.ensures.framework) c.in_ok-step.ensures.uncovered)
+
+pub returns-in_err-witness-in-Set-clause-decided : goal.returns-in_err-witness-in-Set-clause-decided
+returns-in_err-witness-in-Set-clause-decided g c =
+    IfOk-from_err c.from_residual-in_err-witness-in-Set.result
+    (IsDecided (g.O.Oracle.framework c.args.oracle.now) (g.O.Oracle.log c.extend.new.oracle) c.args.goal c.args.accepted)
+    c.from_residual-in_err-witness-in-Set.ensures.0
+
+pub returns-in_err-witness-in-Set-clause-framework : goal.returns-in_err-witness-in-Set-clause-framework
+returns-in_err-witness-in-Set-clause-framework g c = c.in_err-witness-in-Set.ensures.framework ∙ (c.in_ok-step.ensures.framework ∙ c.loop-cover.invariant.framework)
+
+pub returns-in_err-witness-in-Set-clause-kept : goal.returns-in_err-witness-in-Set-clause-kept
+returns-in_err-witness-in-Set-clause-kept g c = c.in_err-witness-in-Set.ensures.kept
+
+pub returns-in_err-witness-in-Set-clause-follows : goal.returns-in_err-witness-in-Set-clause-follows
+returns-in_err-witness-in-Set-clause-follows g c = g.met.O.Oracle.joins _ _ _ (g.met.O.Oracle.joins _ _ _ c.loop-cover.invariant.follows c.in_ok-step.ensures.follows)
+    c.in_err-witness-in-Set.ensures.follows
+
+pub returns-in-Some-clause-framework : goal.returns-in-Some-clause-framework
+returns-in-Some-clause-framework g c = c.in_ok-witness-in-Set.ensures.framework ∙ (c.in_ok-step.ensures.framework ∙ c.loop-cover.invariant.framework)
+
+pub returns-in-Some-clause-kept : goal.returns-in-Some-clause-kept
+returns-in-Some-clause-kept g c = c.in_ok-witness-in-Set.ensures.kept

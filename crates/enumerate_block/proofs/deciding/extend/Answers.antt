@@ -1,8 +1,12 @@
-use Rattle.std.proofs.Common.{◌∙◌, ◌+◌, ◌≤◌, arith}
+use Rattle.std.proofs.Common.{◌∙◌, ◌+◌, ◌≤◌, arith, subst, sym}
 use Rattle.meaning_atoms.specs.declared.atom.Atom.TheVariants.{Ad}
-use Rattle.goal_lists.proofs.Calls.{closes_refuted, closes_set, run_handed}
+use Rattle.goal_lists.proofs.Calls.{closes_refuted, closes_set, run_handed, makes_same}
 use Rattle.enumerate_block.specs.semi_stable.specs.Widest.{MadeWider}
 use Rattle.enumerate_block.proofs.WitnessLemmas.{found_witness, taken, then_call}
+use Rattle.std.specs.Prelude.{Contains}
+use Rattle.semantics.specs.Frameworks.{Framework}
+use Rattle.certificate_claims.specs.SetLiterals.{members}
+use Rattle.oracle_face.proofs.GrowingLemmas.{run_as}
 use Rattle.enumerate_block.proofs.deciding.extend.Goals as goal
 
 pub returns-in_err-set-clause-run : goal.returns-in_err-set-clause-run
@@ -71,3 +75,60 @@ returns-in_ok-take_range-in-Refuted-clause-follows g c =
     g.met.O.Oracle.joins _ _ _
     (g.met.O.Oracle.joins _ _ _ c.in_ok-widest.ensures.follows c.in_ok-set.ensures.follows)
     c.in_ok-take_range-in-Refuted.ensures.follows
+
+pub widest_from-requires-clause-holds : goal.widest_from-requires-clause-holds
+widest_from-requires-clause-holds g c = c.requires.set.0
+
+pub within_range-requires-clause-goal : goal.within_range-requires-clause-goal
+within_range-requires-clause-goal g c =
+    subst (λ (x : Framework). Contains (members x) c.args.goal) (sym c.in_ok-widest.ensures.framework) c.requires.goal
+
+pub returns-in_err-widest-clause-run : goal.returns-in_err-widest-clause-run
+returns-in_err-widest-clause-run g c =
+    let f = g.O.Oracle.framework c.args.oracle.now in
+    let few : 1 ≤ 2 = omega arith in
+    run_handed (MadeWider f Ad) 2 f _ _ _ _ _ _ c.in_err-widest.field-0.0 c.from_residual.ensures
+    (run_as (MadeWider f Ad) (MadeWider f Ad) 1 2 f _ _ _ _ _ _ (makes_same (MadeWider f Ad)) few c.in_err-widest.ensures.run)
+
+pub returns-in_err-widest-clause-framework : goal.returns-in_err-widest-clause-framework
+returns-in_err-widest-clause-framework g c = c.in_err-widest.ensures.framework
+
+pub returns-in_err-widest-clause-kept : goal.returns-in_err-widest-clause-kept
+returns-in_err-widest-clause-kept g c = c.in_err-widest.ensures.kept
+
+pub returns-in_err-widest-clause-follows : goal.returns-in_err-widest-clause-follows
+returns-in_err-widest-clause-follows g c = c.in_err-widest.ensures.follows
+
+pub returns-in_err-set-clause-framework : goal.returns-in_err-set-clause-framework
+returns-in_err-set-clause-framework g c = c.in_err-set.ensures.framework ∙ c.in_ok-widest.ensures.framework
+
+pub returns-in_err-set-clause-kept : goal.returns-in_err-set-clause-kept
+returns-in_err-set-clause-kept g c = c.in_err-set.ensures.kept
+
+pub returns-in_err-set-clause-follows : goal.returns-in_err-set-clause-follows
+returns-in_err-set-clause-follows g c = g.met.O.Oracle.joins _ _ _ c.in_ok-widest.ensures.follows c.in_err-set.ensures.follows
+
+pub returns-in-Set-clause-framework : goal.returns-in-Set-clause-framework
+returns-in-Set-clause-framework g c = c.in_ok-set.ensures.framework ∙ c.in_ok-widest.ensures.framework
+
+pub returns-in-Set-clause-kept : goal.returns-in-Set-clause-kept
+returns-in-Set-clause-kept g c = c.in_ok-set.ensures.kept
+
+pub returns-in-Set-clause-follows : goal.returns-in-Set-clause-follows
+returns-in-Set-clause-follows g c = g.met.O.Oracle.joins _ _ _ c.in_ok-widest.ensures.follows c.in_ok-set.ensures.follows
+
+pub returns-in_err-take_range-in-Refuted-clause-framework : goal.returns-in_err-take_range-in-Refuted-clause-framework
+returns-in_err-take_range-in-Refuted-clause-framework g c = c.in_err-take_range-in-Refuted.ensures.framework ∙ (c.in_ok-set.ensures.framework ∙ c.in_ok-widest.ensures.framework)
+
+pub returns-in_err-take_range-in-Refuted-clause-kept : goal.returns-in_err-take_range-in-Refuted-clause-kept
+returns-in_err-take_range-in-Refuted-clause-kept g c = c.in_err-take_range-in-Refuted.ensures.kept
+
+pub returns-in_err-take_range-in-Refuted-clause-follows : goal.returns-in_err-take_range-in-Refuted-clause-follows
+returns-in_err-take_range-in-Refuted-clause-follows g c = g.met.O.Oracle.joins _ _ _ (g.met.O.Oracle.joins _ _ _ c.in_ok-widest.ensures.follows c.in_ok-set.ensures.follows)
+    c.in_err-take_range-in-Refuted.ensures.follows
+
+pub returns-in_ok-take_range-in-Refuted-clause-framework : goal.returns-in_ok-take_range-in-Refuted-clause-framework
+returns-in_ok-take_range-in-Refuted-clause-framework g c = c.in_ok-take_range-in-Refuted.ensures.framework ∙ (c.in_ok-set.ensures.framework ∙ c.in_ok-widest.ensures.framework)
+
+pub returns-in_ok-take_range-in-Refuted-clause-kept : goal.returns-in_ok-take_range-in-Refuted-clause-kept
+returns-in_ok-take_range-in-Refuted-clause-kept g c = c.in_ok-take_range-in-Refuted.ensures.kept

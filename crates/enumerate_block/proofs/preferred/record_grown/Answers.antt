@@ -97,3 +97,108 @@ returns-clause-run g c =
     c.in_ok-maximal.ensures.framework c.in_ok-maximal.ensures.maximal.admissible
     (c.deref.ensures.value ∙ c.in_ok-side.ensures h c.members.ensures.value)
     c.in_ok-maximal.ensures.run c.in_ok-ask.ensures.run
+
+pub maximal_from-requires : goal.maximal_from-requires
+maximal_from-requires g c = c.requires.set.0
+
+pub returns-in_err-maximal-clause-run : goal.returns-in_err-maximal-clause-run
+returns-in_err-maximal-clause-run g c =
+    let f = g.O.Oracle.framework c.args.oracle.now in
+    run_handed (MadeOutside f) 1 f _ _ _ _ _ _ c.in_err-maximal.field-0.0 c.from_residual.ensures
+    c.in_err-maximal.ensures.run
+
+pub returns-in_err-maximal-clause-framework : goal.returns-in_err-maximal-clause-framework
+returns-in_err-maximal-clause-framework g c = c.in_err-maximal.ensures.framework
+
+pub returns-in_err-maximal-clause-kept : goal.returns-in_err-maximal-clause-kept
+returns-in_err-maximal-clause-kept g c = c.in_err-maximal.ensures.kept
+
+pub returns-in_err-maximal-clause-follows : goal.returns-in_err-maximal-clause-follows
+returns-in_err-maximal-clause-follows g c = c.in_err-maximal.ensures.follows
+
+pub returns-in_err-side-clause-run : goal.returns-in_err-side-clause-run
+returns-in_err-side-clause-run g c =
+    let f = g.O.Oracle.framework c.args.oracle.now in
+    let few : 1 ≤ 1 = omega arith in
+    run_handed (MadeOutside f) 1 f _ _ _ _ _ _ Memory c.from_residual-in_err-side.ensures
+    (then_refused (MadeOutside f) (MadeOutside f) 1 1 f _ _ _ _ _ (makes_same (MadeOutside f)) few c.in_ok-maximal.ensures.run)
+
+pub returns-in_err-side-clause-framework : goal.returns-in_err-side-clause-framework
+returns-in_err-side-clause-framework g c = c.in_ok-maximal.ensures.framework
+
+pub returns-in_err-side-clause-kept : goal.returns-in_err-side-clause-kept
+returns-in_err-side-clause-kept g c = c.in_ok-maximal.ensures.kept
+
+pub returns-in_err-side-clause-follows : goal.returns-in_err-side-clause-follows
+returns-in_err-side-clause-follows g c = c.in_ok-maximal.ensures.follows
+
+pub returns-in_err-copy-clause-run : goal.returns-in_err-copy-clause-run
+returns-in_err-copy-clause-run g c =
+    let f = g.O.Oracle.framework c.args.oracle.now in
+    let few : 1 ≤ 1 = omega arith in
+    run_handed (MadeOutside f) 1 f _ _ _ _ _ _ Memory c.from_residual-in_err-copy.ensures
+    (then_refused (MadeOutside f) (MadeOutside f) 1 1 f _ _ _ _ _ (makes_same (MadeOutside f)) few c.in_ok-maximal.ensures.run)
+
+pub returns-in_err-copy-clause-framework : goal.returns-in_err-copy-clause-framework
+returns-in_err-copy-clause-framework g c = c.in_ok-maximal.ensures.framework
+
+pub returns-in_err-copy-clause-kept : goal.returns-in_err-copy-clause-kept
+returns-in_err-copy-clause-kept g c = c.in_ok-maximal.ensures.kept
+
+pub returns-in_err-copy-clause-follows : goal.returns-in_err-copy-clause-follows
+returns-in_err-copy-clause-follows g c = c.in_ok-maximal.ensures.follows
+
+pub returns-in_err-insert_in_order-clause-run : goal.returns-in_err-insert_in_order-clause-run
+returns-in_err-insert_in_order-clause-run g c =
+    let f = g.O.Oracle.framework c.args.oracle.now in
+    let few : 1 ≤ 1 = omega arith in
+    run_handed (MadeOutside f) 1 f _ _ _ _ _ _ Memory c.from_residual-in_err-insert_in_order.ensures
+    (then_refused (MadeOutside f) (MadeOutside f) 1 1 f _ _ _ _ _ (makes_same (MadeOutside f)) few c.in_ok-maximal.ensures.run)
+
+pub returns-in_err-insert_in_order-clause-framework : goal.returns-in_err-insert_in_order-clause-framework
+returns-in_err-insert_in_order-clause-framework g c = c.in_ok-maximal.ensures.framework
+
+pub returns-in_err-insert_in_order-clause-kept : goal.returns-in_err-insert_in_order-clause-kept
+returns-in_err-insert_in_order-clause-kept g c = c.in_ok-maximal.ensures.kept
+
+pub returns-in_err-insert_in_order-clause-follows : goal.returns-in_err-insert_in_order-clause-follows
+returns-in_err-insert_in_order-clause-follows g c = c.in_ok-maximal.ensures.follows
+
+pub returns-then-len-limit-clause-run : goal.returns-then-len-limit-clause-run
+returns-then-len-limit-clause-run g c = c.in_ok-maximal.ensures.run
+
+pub returns-then-len-limit-clause-framework : goal.returns-then-len-limit-clause-framework
+returns-then-len-limit-clause-framework g c = c.in_ok-maximal.ensures.framework
+
+pub returns-then-len-limit-clause-kept : goal.returns-then-len-limit-clause-kept
+returns-then-len-limit-clause-kept g c = c.in_ok-maximal.ensures.kept
+
+pub returns-then-len-limit-clause-follows : goal.returns-then-len-limit-clause-follows
+returns-then-len-limit-clause-follows g c = c.in_ok-maximal.ensures.follows
+
+pub returns-in_err-ask-clause-framework : goal.returns-in_err-ask-clause-framework
+returns-in_err-ask-clause-framework g c = c.in_err-ask.ensures.framework ∙ c.in_ok-maximal.ensures.framework
+
+pub returns-in_err-ask-clause-kept : goal.returns-in_err-ask-clause-kept
+returns-in_err-ask-clause-kept g c = c.in_err-ask.ensures.kept
+
+pub returns-in_err-ask-clause-follows : goal.returns-in_err-ask-clause-follows
+returns-in_err-ask-clause-follows g c = g.met.O.Oracle.joins _ _ _ c.in_ok-maximal.ensures.follows c.in_err-ask.ensures.follows
+
+pub returns-in_err-push-clause-framework : goal.returns-in_err-push-clause-framework
+returns-in_err-push-clause-framework g c = c.in_ok-ask.ensures.framework ∙ c.in_ok-maximal.ensures.framework
+
+pub returns-in_err-push-clause-kept : goal.returns-in_err-push-clause-kept
+returns-in_err-push-clause-kept g c = c.in_ok-ask.ensures.kept
+
+pub returns-in_err-push-clause-follows : goal.returns-in_err-push-clause-follows
+returns-in_err-push-clause-follows g c = g.met.O.Oracle.joins _ _ _ c.in_ok-maximal.ensures.follows c.in_ok-ask.ensures.follows
+
+pub returns-clause-framework : goal.returns-clause-framework
+returns-clause-framework g c = c.in_ok-ask.ensures.framework ∙ c.in_ok-maximal.ensures.framework
+
+pub returns-clause-kept : goal.returns-clause-kept
+returns-clause-kept g c = c.in_ok-ask.ensures.kept
+
+pub returns-clause-follows : goal.returns-clause-follows
+returns-clause-follows g c = g.met.O.Oracle.joins _ _ _ c.in_ok-maximal.ensures.follows c.in_ok-ask.ensures.follows

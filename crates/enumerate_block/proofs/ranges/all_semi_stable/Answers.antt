@@ -1,9 +1,12 @@
-use Rattle.std.proofs.Common.{◌∷◌, ◌∙◌, ◌+◌, ◌*◌, ◌≤◌, ap, length, arith}
+use Rattle.std.proofs.Common.{◌∷◌, ◌∙◌, ◌+◌, ◌*◌, ◌≤◌, ap, length, arith, subst, sym}
 use Rattle.plain_lits.specs.declared.halt.Halt.TheVariants.{Memory}
 use Rattle.enumerate_block.specs.goal_lists.proofs.Calls.{closes_refuted, closes_set, makes_same, run_handed, then_refused, then_same}
 use Rattle.enumerate_block.specs.Marks.{marked_steps}
-use Rattle.enumerate_block.specs.Ranges.{MadeForRanges}
+use Rattle.enumerate_block.specs.Ranges.{MadeForRanges, AreFound, IsAllOrMore, IsUncovered}
 use Rattle.enumerate_block.proofs.RangeLemmas.{all_refuted, few_closings, fewer_open, found_grown, found_kept, log_kept, not_recorded, recorded, two_more}
+use Rattle.std.proofs.lemmas.Result.{IfOk-from_err}
+use Rattle.semantics.specs.Frameworks.{Framework}
+use Rattle.oracle_face.specs.declared.face.Found.{Found}
 use Rattle.enumerate_block.proofs.ranges.all_semi_stable.Goals as goal
 
 pub returns-in_err-step-clause-run : goal.returns-in_err-step-clause-run
@@ -162,3 +165,84 @@ loop-found-preserved g c =
       follows = g.met.O.Oracle.joins _ _ _ (g.met.O.Oracle.joins _ _ _ inv.follows c.in_ok-step.ensures.follows)
           c.in_ok-room-in-Set.ensures.follows;
     }
+
+pub uncovered-requires : goal.uncovered-requires
+uncovered-requires g c =
+    subst (λ (x : Framework). AreFound x (g.O.Oracle.log c.loop-found.oracle) c.loop-found.found)
+    (sym c.loop-found.invariant.framework) c.loop-found.invariant.found
+
+pub returns-in_err-step-clause-ranged : goal.returns-in_err-step-clause-ranged
+returns-in_err-step-clause-ranged g c =
+    IfOk-from_err c.from_residual.result
+    (IsAllOrMore (g.O.Oracle.framework c.args.oracle.now) (g.O.Oracle.log c.uncovered.new.oracle) c.args.limit)
+    c.from_residual.ensures.0
+
+pub returns-in_err-step-clause-framework : goal.returns-in_err-step-clause-framework
+returns-in_err-step-clause-framework g c = c.in_err-step.ensures.framework ∙ c.loop-found.invariant.framework
+
+pub returns-in_err-step-clause-kept : goal.returns-in_err-step-clause-kept
+returns-in_err-step-clause-kept g c = c.in_err-step.ensures.kept
+
+pub returns-in_err-step-clause-follows : goal.returns-in_err-step-clause-follows
+returns-in_err-step-clause-follows g c = g.met.O.Oracle.joins _ _ _ c.loop-found.invariant.follows c.in_err-step.ensures.follows
+
+pub returns-in_err-steps-in-Refuted-clause-ranged : goal.returns-in_err-steps-in-Refuted-clause-ranged
+returns-in_err-steps-in-Refuted-clause-ranged g c =
+    IfOk-from_err c.from_residual-in_err-steps-in-Refuted.result
+    (IsAllOrMore (g.O.Oracle.framework c.args.oracle.now) (g.O.Oracle.log c.uncovered.new.oracle) c.args.limit)
+    c.from_residual-in_err-steps-in-Refuted.ensures.0
+
+pub returns-in_err-steps-in-Refuted-clause-framework : goal.returns-in_err-steps-in-Refuted-clause-framework
+returns-in_err-steps-in-Refuted-clause-framework g c = c.in_ok-step.ensures.framework ∙ c.loop-found.invariant.framework
+
+pub returns-in_err-steps-in-Refuted-clause-kept : goal.returns-in_err-steps-in-Refuted-clause-kept
+returns-in_err-steps-in-Refuted-clause-kept g c = c.in_ok-step.ensures.kept
+
+pub returns-in_err-steps-in-Refuted-clause-follows : goal.returns-in_err-steps-in-Refuted-clause-follows
+returns-in_err-steps-in-Refuted-clause-follows g c = g.met.O.Oracle.joins _ _ _ c.loop-found.invariant.follows c.in_ok-step.ensures.follows
+
+pub record_range-requires-clause-room : goal.record_range-requires-clause-room
+record_range-requires-clause-room g c = c.loop-found.invariant.room
+
+pub returns-in-Refuted-clause-framework : goal.returns-in-Refuted-clause-framework
+returns-in-Refuted-clause-framework g c = c.in_ok-step.ensures.framework ∙ c.loop-found.invariant.framework
+
+pub returns-in-Refuted-clause-kept : goal.returns-in-Refuted-clause-kept
+returns-in-Refuted-clause-kept g c = c.in_ok-step.ensures.kept
+
+pub returns-in-Refuted-clause-follows : goal.returns-in-Refuted-clause-follows
+returns-in-Refuted-clause-follows g c = g.met.O.Oracle.joins _ _ _ c.loop-found.invariant.follows c.in_ok-step.ensures.follows
+
+pub record_range-requires-clause-set : goal.record_range-requires-clause-set
+record_range-requires-clause-set g c =
+    let k = g.O.Oracle.framework c.uncovered.new.oracle in
+    let log = g.O.Oracle.log c.uncovered.new.oracle in
+    subst (λ (x : Found). IsUncovered k log c.loop-found.found x) c.in-Set.is
+    (subst (λ (x : Framework). IsUncovered x log c.loop-found.found c.in_ok-step.field-0)
+    (sym c.in_ok-step.ensures.framework) c.in_ok-step.ensures.uncovered)
+
+pub returns-in_err-room-in-Set-clause-ranged : goal.returns-in_err-room-in-Set-clause-ranged
+returns-in_err-room-in-Set-clause-ranged g c =
+    IfOk-from_err c.from_residual-in_err-room-in-Set.result
+    (IsAllOrMore (g.O.Oracle.framework c.args.oracle.now) (g.O.Oracle.log c.record_range.new.oracle) c.args.limit)
+    c.from_residual-in_err-room-in-Set.ensures.0
+
+pub returns-in_err-room-in-Set-clause-framework : goal.returns-in_err-room-in-Set-clause-framework
+returns-in_err-room-in-Set-clause-framework g c = c.in_err-room-in-Set.ensures.framework ∙ (c.in_ok-step.ensures.framework ∙ c.loop-found.invariant.framework)
+
+pub returns-in_err-room-in-Set-clause-kept : goal.returns-in_err-room-in-Set-clause-kept
+returns-in_err-room-in-Set-clause-kept g c = c.in_err-room-in-Set.ensures.kept
+
+pub returns-in_err-room-in-Set-clause-follows : goal.returns-in_err-room-in-Set-clause-follows
+returns-in_err-room-in-Set-clause-follows g c = g.met.O.Oracle.joins _ _ _ (g.met.O.Oracle.joins _ _ _ c.loop-found.invariant.follows c.in_ok-step.ensures.follows)
+    c.in_err-room-in-Set.ensures.follows
+
+pub returns-then-not-room-clause-framework : goal.returns-then-not-room-clause-framework
+returns-then-not-room-clause-framework g c = c.in_ok-room-in-Set.ensures.framework ∙ (c.in_ok-step.ensures.framework ∙ c.loop-found.invariant.framework)
+
+pub returns-then-not-room-clause-kept : goal.returns-then-not-room-clause-kept
+returns-then-not-room-clause-kept g c = c.in_ok-room-in-Set.ensures.kept
+
+pub returns-then-not-room-clause-follows : goal.returns-then-not-room-clause-follows
+returns-then-not-room-clause-follows g c = g.met.O.Oracle.joins _ _ _ (g.met.O.Oracle.joins _ _ _ c.loop-found.invariant.follows c.in_ok-step.ensures.follows)
+    c.in_ok-room-in-Set.ensures.follows

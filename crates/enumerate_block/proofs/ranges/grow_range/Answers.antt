@@ -98,3 +98,51 @@ returns-clause-run g c =
     (subst (λ x. IsSetOf (IsRanged x w.set) w.range) (sym c.in_ok-widest.ensures.framework)
     c.in_ok-widest.ensures.widest.range))
     (as_widest f 1 _ _ _ _ _ _ c.in_ok-widest.ensures.run) c.in_ok-ask.ensures.run
+
+pub widest_from-requires-clause-holds : goal.widest_from-requires-clause-holds
+widest_from-requires-clause-holds g c = c.requires.set.0
+
+pub returns-in_err-widest-clause-framework : goal.returns-in_err-widest-clause-framework
+returns-in_err-widest-clause-framework g c = c.in_err-widest.ensures.framework
+
+pub returns-in_err-widest-clause-kept : goal.returns-in_err-widest-clause-kept
+returns-in_err-widest-clause-kept g c = c.in_err-widest.ensures.kept
+
+pub returns-in_err-widest-clause-follows : goal.returns-in_err-widest-clause-follows
+returns-in_err-widest-clause-follows g c = c.in_err-widest.ensures.follows
+
+pub returns-in_err-side-clause-framework : goal.returns-in_err-side-clause-framework
+returns-in_err-side-clause-framework g c = c.in_ok-widest.ensures.framework
+
+pub returns-in_err-side-clause-kept : goal.returns-in_err-side-clause-kept
+returns-in_err-side-clause-kept g c = c.in_ok-widest.ensures.kept
+
+pub returns-in_err-side-clause-follows : goal.returns-in_err-side-clause-follows
+returns-in_err-side-clause-follows g c = c.in_ok-widest.ensures.follows
+
+pub returns-in_err-ask-clause-framework : goal.returns-in_err-ask-clause-framework
+returns-in_err-ask-clause-framework g c = c.in_err-ask.ensures.framework ∙ c.in_ok-widest.ensures.framework
+
+pub returns-in_err-ask-clause-kept : goal.returns-in_err-ask-clause-kept
+returns-in_err-ask-clause-kept g c = c.in_err-ask.ensures.kept
+
+pub returns-in_err-ask-clause-follows : goal.returns-in_err-ask-clause-follows
+returns-in_err-ask-clause-follows g c = g.met.O.Oracle.joins _ _ _ c.in_ok-widest.ensures.follows c.in_err-ask.ensures.follows
+
+pub returns-in_err-push-clause-framework : goal.returns-in_err-push-clause-framework
+returns-in_err-push-clause-framework g c = c.in_ok-ask.ensures.framework ∙ c.in_ok-widest.ensures.framework
+
+pub returns-in_err-push-clause-kept : goal.returns-in_err-push-clause-kept
+returns-in_err-push-clause-kept g c = c.in_ok-ask.ensures.kept
+
+pub returns-in_err-push-clause-follows : goal.returns-in_err-push-clause-follows
+returns-in_err-push-clause-follows g c = g.met.O.Oracle.joins _ _ _ c.in_ok-widest.ensures.follows c.in_ok-ask.ensures.follows
+
+pub returns-clause-framework : goal.returns-clause-framework
+returns-clause-framework g c = c.in_ok-ask.ensures.framework ∙ c.in_ok-widest.ensures.framework
+
+pub returns-clause-kept : goal.returns-clause-kept
+returns-clause-kept g c = c.in_ok-ask.ensures.kept
+
+pub returns-clause-follows : goal.returns-clause-follows
+returns-clause-follows g c = g.met.O.Oracle.joins _ _ _ c.in_ok-widest.ensures.follows c.in_ok-ask.ensures.follows

@@ -1,9 +1,13 @@
-use Rattle.std.proofs.Common.{◌∙◌, ◌+◌, ◌≤◌, subst, sym, arith}
+use Rattle.std.proofs.Common.{◌∙◌, ◌+◌, ◌≤◌, subst, sym, arith, refl}
 use Rattle.lists.specs.Members.{IsWithin}
 use Rattle.certificate_claims.specs.SetLiterals.{members}
 use Rattle.goal_lists.proofs.Calls.{closes_refuted, closes_set, run_handed, then_same}
-use Rattle.enumerate_block.specs.Modes.{MadeDiffers}
+use Rattle.enumerate_block.specs.Modes.{MadeDiffers, IsAllOrMore, IsFurtherOf, IsListing}
 use Rattle.enumerate_block.proofs.ModeLemmas.{fewer_unlisted, further_refuted, further_set, listing_grown, listing_kept, mode_members, not_recorded, recorded}
+use Rattle.std.proofs.lemmas.Result.{IfOk-from_err}
+use Rattle.semantics.specs.Frameworks.{Framework}
+use Rattle.oracle_face.specs.declared.face.Found.{Found}
+use Rattle.oracle_face.proofs.GrowingLemmas.{run_none}
 use Rattle.enumerate_block.proofs.with_mode.list_on.Goals as goal
 
 pub further-requires-clause-range : goal.further-requires-clause-range
@@ -123,3 +127,86 @@ loop-listing-preserved g c =
       follows = g.met.O.Oracle.joins _ _ _ (g.met.O.Oracle.joins _ _ _ inv.follows c.in_ok-step.ensures.follows)
           c.in_ok-room-in-Set.ensures.follows;
     }
+
+pub loop-listing-init : goal.loop-listing-init
+loop-listing-init g c =
+    let f = g.O.Oracle.framework c.args.oracle.now in
+    record {
+      listing = c.requires.start;
+      room = c.requires.room;
+      run = run_none (MadeDiffers f) 0 f _ _ _;
+      framework = refl;
+      kept = c.members-members.ensures.kept;
+      follows = g.met.O.Oracle.stays _;
+    }
+
+pub further-requires-clause-mode : goal.further-requires-clause-mode
+further-requires-clause-mode g c = c.requires.mode
+
+pub further-requires-clause-listing : goal.further-requires-clause-listing
+further-requires-clause-listing g c =
+    subst (λ (x : Framework). IsListing x (g.O.Oracle.log c.loop-listing.oracle) c.args.mode c.args.range.now
+    c.loop-listing.listing)
+    (sym c.loop-listing.invariant.framework) c.loop-listing.invariant.listing
+
+pub returns-in_err-step-clause-listed : goal.returns-in_err-step-clause-listed
+returns-in_err-step-clause-listed g c =
+    IfOk-from_err c.from_residual.result
+    (IsAllOrMore (g.O.Oracle.framework c.args.oracle.now) (g.O.Oracle.log c.further.new.oracle) c.args.mode c.args.range.now c.args.limit)
+    c.from_residual.ensures.0
+
+pub returns-in_err-step-clause-framework : goal.returns-in_err-step-clause-framework
+returns-in_err-step-clause-framework g c = c.in_err-step.ensures.framework ∙ c.loop-listing.invariant.framework
+
+pub returns-in_err-step-clause-kept : goal.returns-in_err-step-clause-kept
+returns-in_err-step-clause-kept g c = c.in_err-step.ensures.kept
+
+pub returns-in_err-step-clause-follows : goal.returns-in_err-step-clause-follows
+returns-in_err-step-clause-follows g c = g.met.O.Oracle.joins _ _ _ c.loop-listing.invariant.follows c.in_err-step.ensures.follows
+
+pub returns-in-Refuted-clause-framework : goal.returns-in-Refuted-clause-framework
+returns-in-Refuted-clause-framework g c = c.in_ok-step.ensures.framework ∙ c.loop-listing.invariant.framework
+
+pub returns-in-Refuted-clause-kept : goal.returns-in-Refuted-clause-kept
+returns-in-Refuted-clause-kept g c = c.in_ok-step.ensures.kept
+
+pub returns-in-Refuted-clause-follows : goal.returns-in-Refuted-clause-follows
+returns-in-Refuted-clause-follows g c = g.met.O.Oracle.joins _ _ _ c.loop-listing.invariant.follows c.in_ok-step.ensures.follows
+
+pub record_set-requires-clause-mode : goal.record_set-requires-clause-mode
+record_set-requires-clause-mode g c = c.requires.mode
+
+pub record_set-requires-clause-set : goal.record_set-requires-clause-set
+record_set-requires-clause-set g c =
+    let k = g.O.Oracle.framework c.further.new.oracle in
+    let log = g.O.Oracle.log c.further.new.oracle in
+    subst (λ (x : Found). IsFurtherOf k log c.args.mode c.args.range.now c.loop-listing.listing x) c.in-Set.is
+    (subst (λ (x : Framework). IsFurtherOf x log c.args.mode c.args.range.now c.loop-listing.listing
+    c.in_ok-step.field-0)
+    (sym c.in_ok-step.ensures.framework) c.in_ok-step.ensures.further)
+
+pub returns-in_err-room-in-Set-clause-listed : goal.returns-in_err-room-in-Set-clause-listed
+returns-in_err-room-in-Set-clause-listed g c =
+    IfOk-from_err c.from_residual-in_err-room-in-Set.result
+    (IsAllOrMore (g.O.Oracle.framework c.args.oracle.now) (g.O.Oracle.log c.record_set.new.oracle) c.args.mode c.args.range.now c.args.limit)
+    c.from_residual-in_err-room-in-Set.ensures.0
+
+pub returns-in_err-room-in-Set-clause-framework : goal.returns-in_err-room-in-Set-clause-framework
+returns-in_err-room-in-Set-clause-framework g c = c.in_err-room-in-Set.ensures.framework ∙ (c.in_ok-step.ensures.framework ∙ c.loop-listing.invariant.framework)
+
+pub returns-in_err-room-in-Set-clause-kept : goal.returns-in_err-room-in-Set-clause-kept
+returns-in_err-room-in-Set-clause-kept g c = c.in_err-room-in-Set.ensures.kept
+
+pub returns-in_err-room-in-Set-clause-follows : goal.returns-in_err-room-in-Set-clause-follows
+returns-in_err-room-in-Set-clause-follows g c = g.met.O.Oracle.joins _ _ _ (g.met.O.Oracle.joins _ _ _ c.loop-listing.invariant.follows c.in_ok-step.ensures.follows)
+    c.in_err-room-in-Set.ensures.follows
+
+pub returns-then-not-room-clause-framework : goal.returns-then-not-room-clause-framework
+returns-then-not-room-clause-framework g c = c.in_ok-room-in-Set.ensures.framework ∙ (c.in_ok-step.ensures.framework ∙ c.loop-listing.invariant.framework)
+
+pub returns-then-not-room-clause-kept : goal.returns-then-not-room-clause-kept
+returns-then-not-room-clause-kept g c = c.in_ok-room-in-Set.ensures.kept
+
+pub returns-then-not-room-clause-follows : goal.returns-then-not-room-clause-follows
+returns-then-not-room-clause-follows g c = g.met.O.Oracle.joins _ _ _ (g.met.O.Oracle.joins _ _ _ c.loop-listing.invariant.follows c.in_ok-step.ensures.follows)
+    c.in_ok-room-in-Set.ensures.follows
