@@ -1,14 +1,8 @@
-//! Tests of what no clause says in the crates of assumption-based frameworks, and of frameworks of both kinds in clauses.
+//! Tests of what no clause says in the crates of assumption-based frameworks: texts, definitions, edits and queries.
 #![tactic(auto)]
 
 #[cfg(test)]
 mod aba_text;
-#[cfg(test)]
-mod af_changes;
-#[cfg(test)]
-mod af_decoding;
-#[cfg(test)]
-mod af_needed;
 #[cfg(test)]
 mod changes;
 #[cfg(test)]
@@ -16,10 +10,6 @@ mod definitions;
 #[cfg(test)]
 mod edits;
 #[cfg(test)]
-mod encoding;
-#[cfg(test)]
 mod frameworks;
 #[cfg(test)]
 mod notions;
-#[cfg(test)]
-mod searches;

@@ -25,7 +25,8 @@ use Rattle.core_answers.specs.declared.counts.Count.{Count}
 use Rattle.core_answers.specs.declared.outcome.Outcome.{Outcome}
 use Rattle.core_answers.specs.declared.outcome.Outcome.TheVariants.{Definite, LogFull, Refused, TooMany, Unknown}
 use Rattle.core_answers.specs.Outcomes.{Comes, EndsFit, EndsSo, course_since, ending_of}
-use Rattle.core_answers.specs.Serving.{AreNamed, HasServed, IsNamedInHand, IsTold, LoopServes, counts}
+use Rattle.core_logs.specs.Tests.{AreNamed}
+use Rattle.core_answers.specs.Serving.{HasServed, IsNamedInHand, IsTold, LoopServes, counts}
 use Rattle.core_answers.proofs.PendingLemmas.{facts_each, facts_from}
 
 -- ---- halts

@@ -29,11 +29,6 @@ counts Units step = is_unit step
 
 -- ---- names
 
--- the arguments of each axiom's name fit its row
-pub record AreNamed (steps : List LogStep) : Type 0 where
-  pub each : (k : ℕ) (name : AxiomName) → k < length steps
-      → (slice_index_or steps k no_step).source ≡ by_axiom name → IsAxiomName name
-
 -- the arguments of the name of a loop clause in hand fit its row
 abbrev pub IsNamedInHand : Option Pending → Type 0
 IsNamedInHand (Some (Loop name)) = IsAxiomName name

@@ -7,7 +7,8 @@ ghost use Rattle.oracle_face.specs.Growing.{IsSpent};
 ghost use Rattle.oracle_face.specs.Logs.{is_unit};
 ghost use Rattle.session_log.specs.Ends.{IsByGrounded, LoopInHand, MadeFor, MayStop};
 ghost use Rattle.core_answers.specs.Outcomes.{Comes, EndsFit, EndsSo};
-ghost use Rattle.core_answers.specs.Serving.{AreNamed, HasServed};
+ghost use Rattle.core_logs.specs.Tests.{AreNamed};
+ghost use Rattle.core_answers.specs.Serving.{HasServed};
 
 use crate::counts::{Count, number_of};
 use crate::outcome::Outcome;

@@ -12,7 +12,8 @@ ghost use Rattle.oracle_face.specs.Logs.{IsSameClause, OracleLog, by_axiom, is_l
 ghost use Rattle.session_log.specs.Ends.{IsTakenByNone, LoopInHand, SideServes, sides_for};
 ghost use Rattle.answer_claims.specs.SideClauses.{side_of};
 ghost use Rattle.core_logs.specs.Sources.{source_of};
-ghost use Rattle.core_answers.specs.Serving.{AreNamed, IsFresh, IsMadeAs, IsNamedInHand, LoopServes, SidesServe, StepServes, StepsServe};
+ghost use Rattle.core_logs.specs.Tests.{AreNamed};
+ghost use Rattle.core_answers.specs.Serving.{IsFresh, IsMadeAs, IsNamedInHand, LoopServes, SidesServe, StepServes, StepsServe};
 
 use crate::counts::{is_loop, is_unit};
 use crate::facts::facts_are_false;

@@ -7,7 +7,6 @@ pub mod history;
 pub mod laws;
 pub mod log_events;
 pub mod machine;
-pub mod named_log;
 pub mod naming;
 pub mod needs;
 pub mod places;

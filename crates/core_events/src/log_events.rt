@@ -6,7 +6,7 @@ ghost use Rattle.session_log.specs.Steps.{IsWorthIt, LearnsClause};
 ghost use Rattle.core_events.specs.LogEvents.{KeepsSide, TakesOnce};
 ghost use Rattle.core_events.specs.Stops.{Comes};
 
-use crate::named_log::NamedLog;
+use core_logs::NamedLog;
 use crate::stop::StepStop;
 use core_logs::CoreStep;
 use core_logs::checking::{follows, has_part, is_new};

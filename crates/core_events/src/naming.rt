@@ -8,7 +8,7 @@ ghost use Rattle.session_log.specs.Imports.{IsCalled, IsOfEntry};
 ghost use Rattle.core_events.specs.Naming.{CallsFirst, Imports, IsCalledAt, MayCome, StandForSome, StandsForSome};
 ghost use Rattle.core_events.specs.Stops.{Comes};
 
-use crate::named_log::NamedLog;
+use core_logs::NamedLog;
 use crate::needs::is_axiom_of;
 use crate::stop::StepStop;
 use core_logs::CoreStep;

@@ -3,7 +3,7 @@
 ghost use Rattle.std.specs.Prelude.{◌≡◌, ◌+◌, ◌<◌, length, OnErr, OnOk, IfOk, IfSome, IfNone, take, slice_index_or};
 ghost use Rattle.core_events.specs.Seats.{HasNoSeat, IsSeatAt, fresh, session_of, sessions_of};
 
-use crate::named_log::NamedLog;
+use core_logs::NamedLog;
 use lists::Memory;
 use plain_lits::StepId;
 use std::alloc::Global;

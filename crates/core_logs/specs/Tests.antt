@@ -1,5 +1,5 @@
 -- What the tests tell, where it has no word yet.
-use Rattle.std.specs.Prelude.{◌≡◌, ◌≢◌, ◌⊎◌, ℕ, true, false, List, Contains, Some}
+use Rattle.std.specs.Prelude.{◌≡◌, ◌≢◌, ◌⊎◌, ℕ, true, false, List, Contains, Some, ◌<◌, length, slice_index_or}
 use Rattle.plain_lits.specs.HintCheck.{IsFalsified, IsUnit, IsFalseHint, IsUnitHint, IsOtherHint}
 use Rattle.semantics.specs.Arguments.{IsArgument}
 use Rattle.meaning_atoms.specs.declared.atom.AtomLit.{AtomLit}
@@ -10,7 +10,7 @@ use Rattle.meaning_atoms.specs.Worlds.{IsAsk}
 use Rattle.certificate_claims.specs.Refutations.{axiom_clause}
 use Rattle.oracle_face.specs.Goals.{IsMemberAtom, Tells}
 use Rattle.oracle_face.specs.declared.entry.EntryName.{EntryName}
-use Rattle.oracle_face.specs.Logs.{IsNumberOf, IsSameClause, LogStep, SideClause, by_axiom, side_at, step_at}
+use Rattle.oracle_face.specs.Logs.{IsNumberOf, IsSameClause, LogStep, SideClause, by_axiom, side_at, step_at, no_step}
 use Rattle.session_log.specs.Steps.{StandsInHint}
 use Rattle.core_logs.specs.declared.checking.Status.{Status}
 use Rattle.core_logs.specs.declared.checking.Status.TheVariants.{Falsified, Unit as Single, Other}
@@ -80,6 +80,11 @@ pub record IsKeptHint (steps : List LogStep) (hint : ℕ) : Type 0 where
   pub kept : (step_at steps hint).closing ≡ false
 
 -- ---- where steps come from
+
+-- the arguments of each axiom's name fit its row
+pub record AreNamed (steps : List LogStep) : Type 0 where
+  pub each : (k : ℕ) (name : AxiomName) → k < length steps
+      → (slice_index_or steps k no_step).source ≡ by_axiom name → IsAxiomName name
 
 -- the step is the axiom's
 pub record IsOfAxiom (step : LogStep) (name : AxiomName) : Type 0 where

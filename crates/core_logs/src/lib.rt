@@ -6,9 +6,11 @@ pub mod checking;
 pub mod equality;
 pub mod literals;
 pub mod log;
+pub mod named_log;
 pub mod sources;
 pub mod steps;
 pub mod taking;
 
 pub use log::CoreLog;
+pub use named_log::NamedLog;
 pub use steps::{CoreSide, CoreStep, StepSource};

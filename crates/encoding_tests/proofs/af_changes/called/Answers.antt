@@ -1,4 +1,4 @@
-use Rattle.aba_tests.proofs.af_changes.called.Goals as goal
+use Rattle.encoding_tests.proofs.af_changes.called.Goals as goal
 
 pub called_behind-requires : goal.called_behind-requires
 called_behind-requires c = record {

@@ -1,8 +1,9 @@
 //! Frameworks in clauses, compared with what was worked out by hand from the table of axioms.
 
-use crate::aba_text::framework_of;
 use aba_encoding::{decode, missing, needed};
 use aba_facts::fact;
+use aba_format::read_aba;
+use aba_notions::AbaPlain;
 use lists::{Items, Memory};
 use meaning_atoms::Atom::{
     Ask, Asm, Attack, BGap, Body, Cf, Con, Der, Gap, HGap, Head, Live, Member, Miss, Sup,
@@ -34,6 +35,14 @@ macro_rules! not {
             positive: false,
         }
     };
+}
+
+/// The framework of a text that is no longer than a text may be.
+fn framework_of(alloc: Global, text: &str) -> Option<AbaPlain> {
+    if text.len() > 268_435_456 {
+        return None;
+    }
+    read_aba(alloc, text.as_bytes()).ok()
 }
 
 /// Whether this is the text of a name.

@@ -5,10 +5,10 @@ ghost use Rattle.meaning_atoms.specs.AxiomNames.{IsAxiomName};
 ghost use Rattle.oracle_face.specs.Goals.{IsSide};
 ghost use Rattle.oracle_face.specs.Logs.{guarded};
 ghost use Rattle.session_log.specs.Steps.{GainsStep, TakesSide, axiom_step, derived_step};
-ghost use Rattle.core_logs.specs.Tests.{HasSideLike};
-ghost use Rattle.core_answers.specs.Serving.{AreNamed};
+ghost use Rattle.core_logs.specs.Tests.{AreNamed, HasSideLike};
 
-use core_logs::{CoreLog, CoreSide, CoreStep};
+use crate::log::CoreLog;
+use crate::steps::{CoreSide, CoreStep};
 use lists::Memory;
 use meaning_atoms::{AtomLit, AxiomName};
 use oracle_face::EntryName;
@@ -25,7 +25,7 @@ pub struct NamedLog {
 
 impl Model for NamedLog {
     ghost use Rattle.oracle_face.specs.Logs.{OracleLog};
-    ghost use Rattle.core_answers.specs.Serving.{AreNamed};
+    ghost use Rattle.core_logs.specs.Tests.{AreNamed};
 
     ghost Value = { OracleLog };
 

@@ -1,5 +1,5 @@
 use Rattle.sat_core.proofs.Searching.{plain_none}
-use Rattle.aba_tests.proofs.searches.solve_free.Goals as goal
+use Rattle.encoding_tests.proofs.searches.solve_free.Goals as goal
 
 pub solve-requires : goal.solve-requires
 solve-requires c = plain_none
