@@ -41,7 +41,7 @@ use Rattle.aba_encoding.specs.Listing.{walk_along}
 use Rattle.oracle_face.specs.Walks.{IsWalkEnd, IsWalkStep}
 use Rattle.aba_encoding.proofs.NeededLemmas.{flat_from, heads_low, heads_under}
 use Rattle.aba_encoding.proofs.WalkLemmas.{AreAhead, all_ahead, along_from}
-use Rattle.aba_encoding.specs.AbaModels.{AddsAtom, IsFalseUnder, IsFounded, IsLoopBeside, IsLoopName}
+use Rattle.aba_encoding.specs.AbaModels.{AddsAtom, IsFalseUnder, IsFirstLoop, IsFounded, IsLoopBeside, IsLoopName}
 use Rattle.aba_encoding.proofs.ModelReadings.{affirmed_here, consistent, fact_here, fact_so, fact_told, first_or_later, last_one, none_left, own_told, satisfied}
 
 -- ---- the literals of the clause
@@ -315,6 +315,27 @@ rest_unfounded f values own set rest name decoded is rest_is h founded =
     not_all_follow f values rest Rest name h
     (λ x atom told. derives_more f.rules (IsUnattacked (collective_of f) own) (Contains rest)
     (λ y u. (rest_is.members y).1 u) x (by x atom told))
+
+pub own_first : (f : Aba) (values : List AtomLit) (own set : List ℕ) (name : AxiomName)
+    → IsSetOf (IsDecoded Asm values) own → IsSetOf (IsDecoded Asm values) set → IsLoopBeside f values own Own name
+    → IsFirstLoop f values set name
+own_first f values own set name decoded is h =
+    subst (λ s. IsFirstLoop f values s name) (same_set values own set decoded is) (record {
+      closure = Own;
+      turn = tt;
+      base = own;
+      base_is = record { rises = decoded.rises; members = λ x. (λ c. c, λ c. c) };
+      loop = h;
+    })
+
+pub rest_first : (f : Aba) (values : List AtomLit) (own set rest : List ℕ) (name : AxiomName)
+    → IsSetOf (IsDecoded Asm values) own → IsSetOf (IsDecoded Asm values) set
+    → IsSetOf (IsUnattacked (collective_of f) own) rest
+    → ((x : ℕ) → IsAtom f.atoms x → Affirms values (Der Own x) → Derives f.rules (Contains own) x)
+    → IsLoopBeside f values rest Rest name → IsFirstLoop f values set name
+rest_first f values own set rest name decoded is rest_is none_own h =
+    subst (λ s. IsFirstLoop f values s name) (same_set values own set decoded is)
+    (record { closure = Rest; turn = none_own; base = rest; base_is = rest_is; loop = h })
 
 module _ (f : Aba) (values : List AtomLit) (form : IsNumberedAba f) (own rest : List ℕ)
     (decoded : IsSetOf (IsDecoded Asm values) own) (rest_is : IsSetOf (IsUnattacked (collective_of f) own) rest)

@@ -1,12 +1,14 @@
 -- What a model of the needed axioms tells of the set that it is read as, where the framework is assumption-based.
-use Rattle.std.specs.Prelude.{◌≡◌, ◌↔◌, ◌⊎◌, ℕ, List, Contains, map, slice_index}
+use Rattle.std.specs.Prelude.{◌≡◌, ◌↔◌, ◌⊎◌, ℕ, List, Contains, Unit, map, slice_index}
 use Rattle.lists.specs.Members.{IsSetOf}
-use Rattle.semantics.specs.AbaFrameworks.{Aba, IsAtom}
+use Rattle.semantics.specs.AbaFrameworks.{Aba, IsAtom, collective_of}
+use Rattle.semantics.specs.Collectives.{IsUnattacked}
 use Rattle.meaning_atoms.specs.declared.aba_axiom.AbaAxiom.TheVariants.{B17}
 use Rattle.meaning_atoms.specs.declared.atom.Atom.{Atom}
 use Rattle.meaning_atoms.specs.declared.atom.Atom.TheVariants.{Member, Asm, Der}
 use Rattle.meaning_atoms.specs.declared.atom.AtomLit.{AtomLit}
 use Rattle.meaning_atoms.specs.declared.atom.Closure.{Closure}
+use Rattle.meaning_atoms.specs.declared.atom.Closure.TheVariants.{Own, Rest}
 use Rattle.meaning_atoms.specs.declared.axiom.AxiomName.{AxiomName}
 use Rattle.meaning_atoms.specs.declared.axiom.AxiomName.TheVariants.{Aba as OfAba}
 use Rattle.meaning_atoms.specs.AbaAxioms.{IsAbaAxiom}
@@ -43,7 +45,7 @@ abbrev pub IsFalseUnder : List AtomLit → AxiomName → Type 0
 IsFalseUnder values name = (l : AtomLit) → Contains (axiom_clause name) l → Contains values (negated l)
 
 -- the loop clause of the least of the atoms that the values affirm to be in a closure and that do not follow from its
--- base
+-- base, with a row for each of them
 pub record IsLoopBeside (f : Aba) (values : List AtomLit) (base : List ℕ) (k : Closure) (name : AxiomName)
     : Type 0 where
   pub claimed : List ℕ
@@ -51,6 +53,25 @@ pub record IsLoopBeside (f : Aba) (values : List AtomLit) (base : List ℕ) (k :
   pub found : Unfounded
   pub unfounded : IsUnfoundedOf f (Contains base) claimed found
   pub named : name ≡ OfAba (B17 k (slice_index found.atoms 0) (loop_rows found.rows))
+
+-- what a closure of a set starts from: its members, or the assumptions that it does not attack
+abbrev pub IsBaseOf : Aba → List ℕ → Closure → ℕ → Type 0
+IsBaseOf f s Own a = Contains s a
+IsBaseOf f s Rest a = IsUnattacked (collective_of f) s a
+
+-- the set's own closure comes first: the other one has its turn only if the values affirm nothing of it that is not there
+abbrev pub HasItsTurn : Aba → List AtomLit → List ℕ → Closure → Type 0
+HasItsTurn f values s Own = Unit {0}
+HasItsTurn f values s Rest = IsFounded f values s Own
+
+-- the loop clause, for a model that is read as the set, of all atoms which it affirms to be in the first closure that
+-- lacks one of them, and which are not there
+pub record IsFirstLoop (f : Aba) (values : List AtomLit) (s : List ℕ) (name : AxiomName) : Type 0 where
+  pub closure : Closure
+  pub turn : HasItsTurn f values s closure
+  pub base : List ℕ
+  pub base_is : IsSetOf (IsBaseOf f s closure) base
+  pub loop : IsLoopBeside f values base closure name
 
 -- the list has gained x if that is one of so many atoms, and nothing else
 pub record AddsAtom (atoms x : ℕ) (old new : List ℕ) : Type 0 where

@@ -13,7 +13,7 @@ ghost use Rattle.loop_clauses.specs.LoopNames.{closure_numbered, loop_rows};
 ghost use Rattle.semantics.specs.Frameworks.{aba};
 ghost use Rattle.oracle_face.specs.Decoding.{IsDecoded, IsModelOf, IsNewLoop, ReadsBack, TellsMembers};
 ghost use Rattle.af_encoding.specs.Decoded.{Affirms};
-ghost use Rattle.aba_encoding.specs.AbaModels.{AddsAtom, IsFounded, IsLoopBeside, IsLoopName};
+ghost use Rattle.aba_encoding.specs.AbaModels.{AddsAtom, IsFirstLoop, IsFounded, IsLoopBeside, IsLoopName};
 ghost use Rattle.aba_encoding.specs.NumberAtoms.{atom_of};
 
 use crate::affirming::{NumberAtom, affirmed_numbers};
@@ -26,9 +26,9 @@ use set_lists::NumSet;
 use std::alloc::Global;
 
 /// The loop clause that a model of the needed axioms lacks to be read as a set, or None: that of the least of the atoms
-/// which it says the decoded set derives and which that set doesn't derive; or, where there is none, of the atoms which
-/// it says are derived from the assumptions that the decoded set doesn't attack. Only the framework's atoms are looked
-/// at. The clause is false under a model that is conflict-free and says of each assumption whether it is a member. Time
+/// which it says the decoded set derives and which that set doesn't derive, with a row for each of them; or, if there is
+/// none, the same of the atoms which it says are derived from the assumptions that the decoded set doesn't attack. Only
+/// the framework's atoms are looked at. The clause is false under a model that is conflict-free and says of each assumption whether it is a member. Time
 /// is linear in the literals and the framework, but for numbers that are put in order. `Memory` says that an allocation
 /// was refused.
 pub fn missing(
@@ -39,6 +39,8 @@ pub fn missing(
     ensures loops { IfOk result (λ found. IfSome found IsLoopName) }
     ensures lacks { IsModelOf (aba plain.now) values.now → TellsMembers (aba plain.now) values.now
         → IfOk result (λ found. IfSome found (IsNewLoop (aba plain.now) values.now)) }
+    ensures first { IfOk result (λ found. IfSome found (λ name. (set : List ℕ) → IsSetOf (IsDecoded Asm values.now) set
+        → IsFirstLoop plain.now values.now set name)) }
     ensures unfounded { IfOk result (λ found. IfSome found (λ name. (set : List ℕ)
         → IsSetOf (IsDecoded Asm values.now) set → ¬ ((k : AClosure) → IsFounded plain.now values.now set k))) }
     ensures founded { IfOk result (λ found. found ≡ None → (set : List ℕ) → IsSetOf (IsDecoded Asm values.now) set

@@ -9,7 +9,7 @@ use Rattle.meaning_atoms.specs.declared.atom.Atom.TheVariants.{Asm, Der}
 use Rattle.meaning_atoms.specs.declared.atom.Closure.{Closure}
 use Rattle.meaning_atoms.specs.declared.atom.Closure.TheVariants.{Own, Rest}
 use Rattle.oracle_face.specs.Decoding.{IsDecoded, IsNewLoop}
-use Rattle.aba_encoding.specs.AbaModels.{IsFounded, IsLoopBeside, IsLoopName}
+use Rattle.aba_encoding.specs.AbaModels.{IsFirstLoop, IsFounded, IsLoopBeside, IsLoopName}
 use Rattle.aba_encoding.proofs.LoopLemmas.{
   all_founded,
   found_there,
@@ -17,8 +17,10 @@ use Rattle.aba_encoding.proofs.LoopLemmas.{
   loop_is,
   none_else,
   none_there,
+  own_first,
   own_loop_new,
   own_unfounded,
+  rest_first,
   rest_loop_new,
   rest_unfounded,
 }
@@ -41,6 +43,27 @@ returns-in-Some-clause-lacks c =
     c.in-Some.name
     (found_there (IsLoopBeside f values c.in_ok-own.own Own) c.in_ok-name.field-0 c.in-Some.name c.in-Some.is
     c.in_ok-name.ensures.some)
+
+pub returns-in-Some-clause-first : goal.returns-in-Some-clause-first
+returns-in-Some-clause-first c =
+    let f = c.args.plain.now in
+    let values = c.args.values.now in
+    λ set is. own_first f values c.in_ok-own.own set c.in-Some.name c.in_ok-own.ensures is
+    (found_there (IsLoopBeside f values c.in_ok-own.own Own) c.in_ok-name.field-0 c.in-Some.name c.in-Some.is
+    c.in_ok-name.ensures.some)
+
+pub returns-clause-first : goal.returns-clause-first
+returns-clause-first c =
+    let f = c.args.plain.now in
+    let values = c.args.values.now in
+    let own = c.in_ok-own.own in
+    found_weaker (IsLoopBeside f values c.in_ok-rest.rest Rest)
+    (λ name. (set : List ℕ) → IsSetOf (IsDecoded Asm values) set → IsFirstLoop f values set name)
+    c.in_ok-found.found
+    (λ name h set is. rest_first f values own set c.in_ok-rest.rest name c.in_ok-own.ensures is c.in_ok-rest.ensures
+    (none_else ((x : ℕ) → IsAtom f.atoms x → Affirms values (Der Own x) → Derives f.rules (Contains own) x)
+    c.in_ok-name.field-0 c.in_default.not-Some c.in_ok-name.ensures.none) h)
+    c.in_ok-found.ensures.some
 
 pub returns-in-Some-clause-unfounded : goal.returns-in-Some-clause-unfounded
 returns-in-Some-clause-unfounded c =
