@@ -1,5 +1,5 @@
 -- What a model of the needed axioms tells of the set that it is read as, where the framework is assumption-based.
-use Rattle.std.specs.Prelude.{◌≡◌, ◌↔◌, ◌⊎◌, ℕ, List, Contains, Unit, map, slice_index}
+use Rattle.std.specs.Prelude.{◌≡◌, ◌↔◌, ◌⊎◌, ℕ, List, Contains, map, slice_index}
 use Rattle.lists.specs.Members.{IsSetOf}
 use Rattle.semantics.specs.AbaFrameworks.{Aba, IsAtom, collective_of}
 use Rattle.semantics.specs.Collectives.{IsUnattacked}
