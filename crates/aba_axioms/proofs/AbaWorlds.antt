@@ -2,25 +2,25 @@
 use Rattle.std.proofs.Common.{◌≡◌, ◌+◌, ◌<◌, ◌≤◌, ℕ, List, [], ◌∷◌, refl, sym, ap, subst, ◌∙◌, ⊎_elim, arith}
 use Rattle.std.specs.Prelude.{Contains}
 use Rattle.std.proofs.lemmas.Bool.{cases_eq, cases_lt}
-use Rattle.af_axioms.specs.semantics.specs.AbaFrameworks.{Aba, AttacksAssumption, collective_of}
-use Rattle.af_axioms.specs.semantics.specs.Collectives.{IsUnattacked}
-use Rattle.af_axioms.specs.semantics.specs.Rules.{Rule, Derives, given as from_given, by_rule}
-use Rattle.af_axioms.specs.aba_laws.proofs.AbaLemmas.{aba_lawful, decide_attacks}
-use Rattle.af_axioms.specs.aba_laws.proofs.CollectiveSets.{defends_by_rest, rest_of}
-use Rattle.af_axioms.specs.aba_laws.proofs.DerivationLemmas.{derives_more}
-use Rattle.af_axioms.specs.semantics.specs.Frameworks.{aba}
-use Rattle.af_axioms.specs.meaning_atoms.specs.declared.atom.Atom.TheVariants.{Member, Asm, Con, Head, HGap, Body, BGap, Der, Miss, Sup}
-use Rattle.af_axioms.specs.meaning_atoms.specs.declared.atom.Atom.TheVariants.{Cf, Ad, Co, St}
-use Rattle.af_axioms.specs.meaning_atoms.specs.declared.atom.Closure.{Closure}
-use Rattle.af_axioms.specs.meaning_atoms.specs.declared.atom.Closure.TheVariants.{Own, Rest}
-use Rattle.af_axioms.specs.meaning_atoms.specs.declared.atom.AtomLit.{AtomLit}
-use Rattle.af_axioms.specs.meaning_atoms.specs.declared.aba_axiom.AbaAxiom.{AbaAxiom}
-use Rattle.af_axioms.specs.meaning_atoms.specs.declared.aba_axiom.AbaAxiom.TheVariants.{B1, B2, B3, B4, B5, B6, B7, B8, B9, B9Con, B10, B11, B12, B13, B14, B15}
-use Rattle.af_axioms.specs.meaning_atoms.specs.AbaReadings.{IsInClosure, MissesAtom}
-use Rattle.af_axioms.specs.meaning_atoms.specs.Literals.{affirmed}
-use Rattle.af_axioms.specs.meaning_atoms.specs.Worlds.{world_of, IsAbaWorld, IsTrueBeside}
-use Rattle.af_axioms.specs.meaning_atoms.proofs.Clauses.{so, or_else, given}
-use Rattle.af_axioms.proofs.AbaRows.{IsValidOfAba}
+use Rattle.meaning_atoms.specs.semantics.specs.AbaFrameworks.{Aba, AttacksAssumption, collective_of}
+use Rattle.meaning_atoms.specs.semantics.specs.Collectives.{IsUnattacked}
+use Rattle.meaning_atoms.specs.semantics.specs.Rules.{Rule, Derives, given as from_given, by_rule}
+use Rattle.meaning_atoms.specs.aba_laws.proofs.AbaLemmas.{aba_lawful, decide_attacks}
+use Rattle.meaning_atoms.specs.aba_laws.proofs.CollectiveSets.{defends_by_rest, rest_of}
+use Rattle.meaning_atoms.specs.aba_laws.proofs.DerivationLemmas.{derives_more}
+use Rattle.meaning_atoms.specs.semantics.specs.Frameworks.{aba}
+use Rattle.meaning_atoms.specs.declared.atom.Atom.TheVariants.{Member, Asm, Con, Head, HGap, Body, BGap, Der, Miss, Sup}
+use Rattle.meaning_atoms.specs.declared.atom.Atom.TheVariants.{Cf, Ad, Co, St}
+use Rattle.meaning_atoms.specs.declared.atom.Closure.{Closure}
+use Rattle.meaning_atoms.specs.declared.atom.Closure.TheVariants.{Own, Rest}
+use Rattle.meaning_atoms.specs.declared.atom.AtomLit.{AtomLit}
+use Rattle.meaning_atoms.specs.declared.aba_axiom.AbaAxiom.{AbaAxiom}
+use Rattle.meaning_atoms.specs.declared.aba_axiom.AbaAxiom.TheVariants.{B1, B2, B3, B4, B5, B6, B7, B8, B9, B9Con, B10, B11, B12, B13, B14, B15}
+use Rattle.meaning_atoms.specs.AbaReadings.{IsInClosure, MissesAtom}
+use Rattle.meaning_atoms.specs.Literals.{affirmed}
+use Rattle.meaning_atoms.specs.Worlds.{world_of, IsAbaWorld, IsTrueBeside}
+use Rattle.meaning_atoms.proofs.Clauses.{so, or_else, given}
+use Rattle.meaning_atoms.proofs.NotionClauses.{IsValidOfAba}
 use Rattle.aba_axioms.specs.AbaTable.{aba_clause, given_atom}
 use Rattle.aba_axioms.proofs.FrameworkLemmas.{
   IsGivenIn,

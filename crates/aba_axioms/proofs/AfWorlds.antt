@@ -2,22 +2,18 @@
 -- the atoms of assumption-based frameworks say there.
 use Rattle.std.proofs.Common.{◌+◌, ℕ, List, [], ◌∷◌, refl, arith}
 use Rattle.std.specs.Prelude.{Contains}
-use Rattle.af_axioms.specs.semantics.specs.Framework.{Af}
-use Rattle.af_axioms.specs.semantics.specs.Frameworks.{af}
-use Rattle.af_axioms.specs.meaning_atoms.specs.declared.atom.Atom.TheVariants.{Member, Asm, Con, Head, HGap, Body, BGap, Der, Miss, Sup}
-use Rattle.af_axioms.specs.meaning_atoms.specs.declared.atom.Closure.{Closure}
-use Rattle.af_axioms.specs.meaning_atoms.specs.declared.atom.Closure.TheVariants.{Own, Rest}
-use Rattle.af_axioms.specs.meaning_atoms.specs.declared.atom.AtomLit.{AtomLit}
-use Rattle.af_axioms.specs.meaning_atoms.specs.declared.aba_axiom.AbaAxiom.TheVariants.{B1, B2, B3, B4, B5, B6, B7, B8, B9, B9Con, B10, B11, B12, B13, B14, B15}
-use Rattle.af_axioms.specs.meaning_atoms.specs.Literals.{affirmed, denied}
-use Rattle.af_axioms.specs.meaning_atoms.specs.Worlds.{world_of, HoldsLit, IsAfWorld, IsTrueBeside}
-use Rattle.af_axioms.specs.meaning_atoms.proofs.Clauses.{so, given}
+use Rattle.meaning_atoms.specs.semantics.specs.Framework.{Af}
+use Rattle.meaning_atoms.specs.semantics.specs.Frameworks.{af}
+use Rattle.meaning_atoms.specs.declared.atom.Atom.TheVariants.{Member, Asm, Con, Head, HGap, Body, BGap, Der, Miss, Sup}
+use Rattle.meaning_atoms.specs.declared.atom.Closure.{Closure}
+use Rattle.meaning_atoms.specs.declared.atom.Closure.TheVariants.{Own, Rest}
+use Rattle.meaning_atoms.specs.declared.atom.AtomLit.{AtomLit}
+use Rattle.meaning_atoms.specs.declared.aba_axiom.AbaAxiom.TheVariants.{B1, B2, B3, B4, B5, B6, B7, B8, B9, B9Con, B10, B11, B12, B13, B14, B15}
+use Rattle.meaning_atoms.specs.Literals.{affirmed, denied}
+use Rattle.meaning_atoms.specs.Worlds.{world_of, HoldsLit, IsAfWorld, IsTrueBeside}
+use Rattle.meaning_atoms.proofs.Clauses.{so, given}
+use Rattle.meaning_atoms.proofs.NotionClauses.{IsValidOfAf}
 use Rattle.aba_axioms.specs.AbaTable.{aba_clause}
-
--- the clause is true in every world of an abstract framework
-abbrev pub IsValidOfAf : List AtomLit → Type 0
-IsValidOfAf clause = (f : Af) (s : List ℕ) → IsAfWorld f s → (sides : List (List AtomLit))
-    → IsTrueBeside (world_of (af f) s) sides clause
 
 -- a literal that is true in every such world
 abbrev IsTrueOfAf : AtomLit → Type 0

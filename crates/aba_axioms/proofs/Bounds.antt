@@ -5,21 +5,21 @@ use Rattle.std.specs.List.{AllByRecursion, flat_map}
 use Rattle.std.proofs.lemmas.Bool.{cond_both, eqb-false}
 use Rattle.std.proofs.lemmas.List.Elements.{All-from_recursion}
 use Rattle.std.proofs.lemmas.List.Kept.{AllPairs-from_increasing}
-use Rattle.af_axioms.specs.semantics.specs.Arguments.{IsArgument}
-use Rattle.af_axioms.specs.meaning_atoms.specs.declared.atom.Atom.{Atom}
-use Rattle.af_axioms.specs.meaning_atoms.specs.declared.atom.Atom.TheVariants.{Member, Asm, HGap, BGap, Body, Miss}
-use Rattle.af_axioms.specs.meaning_atoms.specs.declared.atom.Closure.{Closure}
-use Rattle.af_axioms.specs.meaning_atoms.specs.declared.atom.Closure.TheVariants.{Own, Rest}
-use Rattle.af_axioms.specs.meaning_atoms.specs.declared.atom.AtomLit.{AtomLit}
-use Rattle.af_axioms.specs.meaning_atoms.specs.declared.aba_axiom.AbaAxiom.{AbaAxiom}
-use Rattle.af_axioms.specs.meaning_atoms.specs.declared.aba_axiom.AbaAxiom.TheVariants.{B1, B2, B3, B4, B5, B6, B7, B8, B9, B9Con, B10, B11, B12, B13, B14, B15, B16, B17}
-use Rattle.af_axioms.specs.meaning_atoms.specs.declared.loop_rows.LoopRow.{LoopRow}
-use Rattle.af_axioms.specs.meaning_atoms.specs.AbaAxioms.{IsAbaAxiom, IsLoop, IsLoopAtom, IsLoopPair, IsLoopRow}
-use Rattle.af_axioms.specs.meaning_atoms.specs.Atoms.{IsAtom, IsAtomOrNone, IsLit, IsPosition}
-use Rattle.af_axioms.specs.meaning_atoms.specs.Axioms.{IsStretch}
-use Rattle.af_axioms.specs.meaning_atoms.specs.Literals.{affirmed}
-use Rattle.af_axioms.specs.meaning_atoms.specs.Worlds.{IsAsk}
-use Rattle.af_axioms.specs.Table.{notion_clause}
+use Rattle.meaning_atoms.specs.semantics.specs.Arguments.{IsArgument}
+use Rattle.meaning_atoms.specs.declared.atom.Atom.{Atom}
+use Rattle.meaning_atoms.specs.declared.atom.Atom.TheVariants.{Member, Asm, HGap, BGap, Body, Miss}
+use Rattle.meaning_atoms.specs.declared.atom.Closure.{Closure}
+use Rattle.meaning_atoms.specs.declared.atom.Closure.TheVariants.{Own, Rest}
+use Rattle.meaning_atoms.specs.declared.atom.AtomLit.{AtomLit}
+use Rattle.meaning_atoms.specs.declared.aba_axiom.AbaAxiom.{AbaAxiom}
+use Rattle.meaning_atoms.specs.declared.aba_axiom.AbaAxiom.TheVariants.{B1, B2, B3, B4, B5, B6, B7, B8, B9, B9Con, B10, B11, B12, B13, B14, B15, B16, B17}
+use Rattle.meaning_atoms.specs.declared.loop_rows.LoopRow.{LoopRow}
+use Rattle.meaning_atoms.specs.AbaAxioms.{IsAbaAxiom, IsLoop, IsLoopAtom, IsLoopPair, IsLoopRow}
+use Rattle.meaning_atoms.specs.Atoms.{IsAtom, IsAtomOrNone, IsLit, IsPosition}
+use Rattle.meaning_atoms.specs.Axioms.{IsStretch}
+use Rattle.meaning_atoms.specs.Literals.{affirmed}
+use Rattle.meaning_atoms.specs.Worlds.{IsAsk}
+use Rattle.meaning_atoms.proofs.NotionClauses.{notions_fit, notions_plain}
 use Rattle.aba_axioms.specs.AbaTable.{aba_clause, filled_gap, given_atom, loop_clause, other_heads, pair_literal, row_literals}
 
 first_place : IsPosition 1
@@ -159,11 +159,6 @@ loop_fits k x rows h = (
 
 -- ---- the table
 
-notions_fit : (part : ℕ) → AllByRecursion IsLit (notion_clause part)
-notions_fit part =
-    cond_both (part == 1) _ _ (AllByRecursion IsLit) (λ _. (tt, (tt, tt)))
-    (λ _. cond_both (part == 2) _ _ (AllByRecursion IsLit) (λ _. (tt, (tt, tt))) (λ _. (tt, (tt, tt))))
-
 given_in_bounds : (k : Closure) (x : ℕ) → IsArgument x → IsAtom (given_atom k x)
 given_in_bounds Own x a = a
 given_in_bounds Rest x a = a
@@ -235,12 +230,6 @@ rows_plain k (row ∷ rows) =
     (heads_plain row.atom 1 (map (λ (p : ℕ × ℕ). p.0) row.pairs))
     (each_by_list AsksNone (pair_literal k) row.pairs (λ p c. pair_plain k p)))
     (rows_plain k rows)
-
-notions_plain : (part : ℕ) → AllByRecursion AsksNone (notion_clause part)
-notions_plain part =
-    cond_both (part == 1) _ _ (AllByRecursion AsksNone) (λ _. (λ a. a, (λ a. a, tt)))
-    (λ _. cond_both (part == 2) _ _ (AllByRecursion AsksNone) (λ _. (λ a. a, (λ a. a, tt)))
-    (λ _. (λ a. a, (λ a. a, tt))))
 
 plain : (name : AbaAxiom) → AllByRecursion AsksNone (aba_clause name)
 plain (B1 a) = (λ h. h, (λ h. h, (λ h. h, tt)))

@@ -6,18 +6,18 @@ use Rattle.std.proofs.lemmas.Bool.{cases_lt}
 use Rattle.std.proofs.lemmas.List.{get_or_default, get_or-map, length-map}
 use Rattle.std.proofs.lemmas.List.Elements.{Contains-get_or}
 use Rattle.std.proofs.lemmas.List.Kept.{AllPairs-from_increasing}
-use Rattle.af_axioms.specs.semantics.specs.AbaFrameworks.{Aba, AttacksAssumption, IsAba, IsRuleOf, IsNumberedAba, collective_of}
-use Rattle.af_axioms.specs.semantics.specs.Collectives.{IsUnattacked}
-use Rattle.af_axioms.specs.semantics.specs.Rules.{Rule, Derives, given, by_rule}
-use Rattle.af_axioms.specs.aba_laws.proofs.AbaLemmas.{aba_lawful, decide_attacks}
-use Rattle.af_axioms.specs.aba_laws.proofs.CollectiveSets.{rest_of}
-use Rattle.af_axioms.specs.aba_laws.proofs.DerivationLemmas.{derives_more}
-use Rattle.af_axioms.specs.meaning_atoms.specs.declared.atom.Closure.{Closure}
-use Rattle.af_axioms.specs.meaning_atoms.specs.declared.atom.Closure.TheVariants.{Own, Rest}
-use Rattle.af_axioms.specs.meaning_atoms.specs.AbaReadings.{HasContrary, IsInClosure, MissesAtom}
-use Rattle.af_axioms.specs.meaning_atoms.specs.Worlds.{IsAbaWorld}
-use Rattle.af_axioms.specs.meaning_atoms.proofs.AbaDecided.{decide_closure}
-use Rattle.af_axioms.specs.semantics.proofs.Decided.{Decided, decide_both, decide_at_most, decide_not, decide_some}
+use Rattle.meaning_atoms.specs.semantics.specs.AbaFrameworks.{Aba, AttacksAssumption, IsAba, IsRuleOf, IsNumberedAba, collective_of}
+use Rattle.meaning_atoms.specs.semantics.specs.Collectives.{IsUnattacked}
+use Rattle.meaning_atoms.specs.semantics.specs.Rules.{Rule, Derives, given, by_rule}
+use Rattle.meaning_atoms.specs.aba_laws.proofs.AbaLemmas.{aba_lawful, decide_attacks}
+use Rattle.meaning_atoms.specs.aba_laws.proofs.CollectiveSets.{rest_of}
+use Rattle.meaning_atoms.specs.aba_laws.proofs.DerivationLemmas.{derives_more}
+use Rattle.meaning_atoms.specs.declared.atom.Closure.{Closure}
+use Rattle.meaning_atoms.specs.declared.atom.Closure.TheVariants.{Own, Rest}
+use Rattle.meaning_atoms.specs.AbaReadings.{HasContrary, IsInClosure, MissesAtom}
+use Rattle.meaning_atoms.specs.Worlds.{IsAbaWorld}
+use Rattle.meaning_atoms.proofs.AbaDecided.{decide_closure}
+use Rattle.meaning_atoms.specs.semantics.proofs.Decided.{Decided, decide_both, decide_at_most, decide_not, decide_some}
 
 -- members with the same key are one, where the keys rise
 pub same_item : {X : Type 0} (key : X → ℕ) (xs : List X) (x y : X) → IsStrictlyIncreasing (map key xs)

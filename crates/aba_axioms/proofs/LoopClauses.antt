@@ -6,24 +6,23 @@ use Rattle.std.proofs.lemmas.Bool.{cases_eq, cases_lt, ne_eqb}
 use Rattle.std.proofs.lemmas.List.Elements.{Contains-append_left, Contains-append_right}
 use Rattle.lists.proofs.Membership.{Contains-head, Contains-tail, Contains-cons_cases, Contains-nil}
 use Rattle.plain_lits.proofs.HintCheckLemmas.{Contains-mapped}
-use Rattle.af_axioms.specs.semantics.specs.AbaFrameworks.{Aba}
-use Rattle.af_axioms.specs.semantics.specs.Rules.{Rule, Derives, given as from_given, by_rule}
-use Rattle.af_axioms.specs.semantics.specs.Framework.{Af}
-use Rattle.af_axioms.specs.semantics.specs.Frameworks.{af, aba}
-use Rattle.af_axioms.specs.meaning_atoms.specs.declared.atom.Atom.{Atom}
-use Rattle.af_axioms.specs.meaning_atoms.specs.declared.atom.Atom.TheVariants.{Member, Asm, HGap, Body, Der, Miss}
-use Rattle.af_axioms.specs.meaning_atoms.specs.declared.atom.Closure.{Closure}
-use Rattle.af_axioms.specs.meaning_atoms.specs.declared.atom.Closure.TheVariants.{Own, Rest}
-use Rattle.af_axioms.specs.meaning_atoms.specs.declared.atom.AtomLit.{AtomLit}
-use Rattle.af_axioms.specs.meaning_atoms.specs.declared.loop_rows.LoopRow.{LoopRow}
-use Rattle.af_axioms.specs.meaning_atoms.specs.AbaAxioms.{IsLoop, IsLoopAtom}
-use Rattle.af_axioms.specs.meaning_atoms.specs.AbaReadings.{IsInClosure}
-use Rattle.af_axioms.specs.meaning_atoms.specs.Literals.{affirmed, denied}
-use Rattle.af_axioms.specs.meaning_atoms.specs.Worlds.{World, world_of, Holds, HoldsLit, IsAbaWorld, IsAfWorld, IsTrueBeside}
-use Rattle.af_axioms.specs.meaning_atoms.proofs.Valuations.{decide_atom, decide_true_beside}
-use Rattle.af_axioms.proofs.AbaRows.{IsValidOfAba}
+use Rattle.meaning_atoms.specs.semantics.specs.AbaFrameworks.{Aba}
+use Rattle.meaning_atoms.specs.semantics.specs.Rules.{Rule, Derives, given as from_given, by_rule}
+use Rattle.meaning_atoms.specs.semantics.specs.Framework.{Af}
+use Rattle.meaning_atoms.specs.semantics.specs.Frameworks.{af, aba}
+use Rattle.meaning_atoms.specs.declared.atom.Atom.{Atom}
+use Rattle.meaning_atoms.specs.declared.atom.Atom.TheVariants.{Member, Asm, HGap, Body, Der, Miss}
+use Rattle.meaning_atoms.specs.declared.atom.Closure.{Closure}
+use Rattle.meaning_atoms.specs.declared.atom.Closure.TheVariants.{Own, Rest}
+use Rattle.meaning_atoms.specs.declared.atom.AtomLit.{AtomLit}
+use Rattle.meaning_atoms.specs.declared.loop_rows.LoopRow.{LoopRow}
+use Rattle.meaning_atoms.specs.AbaAxioms.{IsLoop, IsLoopAtom}
+use Rattle.meaning_atoms.specs.AbaReadings.{IsInClosure}
+use Rattle.meaning_atoms.specs.Literals.{affirmed, denied}
+use Rattle.meaning_atoms.specs.Worlds.{World, world_of, Holds, HoldsLit, IsAbaWorld, IsAfWorld, IsTrueBeside}
+use Rattle.meaning_atoms.proofs.Valuations.{decide_atom, decide_true_beside}
+use Rattle.meaning_atoms.proofs.NotionClauses.{IsValidOfAba, IsValidOfAf}
 use Rattle.aba_axioms.specs.AbaTable.{filled_gap, given_atom, loop_clause, other_heads, pair_literal, row_literals}
-use Rattle.aba_axioms.proofs.AfWorlds.{IsValidOfAf}
 use Rattle.aba_axioms.proofs.FrameworkLemmas.{IsGivenIn, given_low, in_closure, of_closure, same_rule}
 
 -- ---- which literals the clause has

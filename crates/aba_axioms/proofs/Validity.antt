@@ -1,14 +1,12 @@
 -- Every row of the table is true in every world of both kinds.
 use Rattle.std.proofs.Common.{ℕ, List}
-use Rattle.af_axioms.specs.semantics.specs.Frameworks.{Framework, af, aba}
-use Rattle.af_axioms.specs.meaning_atoms.specs.declared.atom.AtomLit.{AtomLit}
-use Rattle.af_axioms.specs.meaning_atoms.specs.declared.aba_axiom.AbaAxiom.{AbaAxiom}
-use Rattle.af_axioms.specs.meaning_atoms.specs.declared.aba_axiom.AbaAxiom.TheVariants.{B1, B2, B3, B4, B5, B6, B7, B8, B9, B9Con, B10, B11, B12, B13, B14, B15, B16, B17}
-use Rattle.af_axioms.specs.meaning_atoms.specs.declared.axiom.AfAxiom.TheVariants.{A14}
-use Rattle.af_axioms.specs.meaning_atoms.specs.AbaAxioms.{IsAbaAxiom}
-use Rattle.af_axioms.specs.meaning_atoms.specs.Worlds.{world_of, IsTrueBeside, IsValid, IsWorldOf}
-use Rattle.af_axioms.proofs.AbaRows.{IsValidOfAba, notions_imply}
-use Rattle.af_axioms.proofs.Rows.{rows_are_valid}
+use Rattle.meaning_atoms.specs.semantics.specs.Frameworks.{Framework, af, aba}
+use Rattle.meaning_atoms.specs.declared.atom.AtomLit.{AtomLit}
+use Rattle.meaning_atoms.specs.declared.aba_axiom.AbaAxiom.{AbaAxiom}
+use Rattle.meaning_atoms.specs.declared.aba_axiom.AbaAxiom.TheVariants.{B1, B2, B3, B4, B5, B6, B7, B8, B9, B9Con, B10, B11, B12, B13, B14, B15, B16, B17}
+use Rattle.meaning_atoms.specs.AbaAxioms.{IsAbaAxiom}
+use Rattle.meaning_atoms.specs.Worlds.{IsTrueBeside, IsValid, IsWorldOf}
+use Rattle.meaning_atoms.proofs.NotionClauses.{IsValidOfAba, IsValidOfAf, notions_of_aba, notions_of_af}
 use Rattle.aba_axioms.specs.AbaTable.{aba_clause}
 use Rattle.aba_axioms.proofs.AbaWorlds.{
   bodies_are_missed,
@@ -28,7 +26,7 @@ use Rattle.aba_axioms.proofs.AbaWorlds.{
   support_ends,
   support_steps,
 }
-use Rattle.aba_axioms.proofs.AfWorlds.{IsValidOfAf, b1, b2, b3, b4, b5, b6, b7, b8, b9, b9_con, b10, b11, b12, b13, b14, b15}
+use Rattle.aba_axioms.proofs.AfWorlds.{b1, b2, b3, b4, b5, b6, b7, b8, b9, b9_con, b10, b11, b12, b13, b14, b15}
 use Rattle.aba_axioms.proofs.LoopClauses.{loop_of_aba, loop_of_af}
 
 rows_of_aba : (name : AbaAxiom) → IsAbaAxiom name → IsValidOfAba (aba_clause name)
@@ -48,7 +46,7 @@ rows_of_aba (B12 a c) fits = members_are_apart a c
 rows_of_aba (B13 a c) fits = rest_attacks_no_member a c
 rows_of_aba (B14 a c) fits = defended_are_members a c
 rows_of_aba (B15 a c) fits = outsiders_are_attacked a c
-rows_of_aba (B16 part) fits = notions_imply part
+rows_of_aba (B16 part) fits = notions_of_aba part
 rows_of_aba (B17 k x rows) fits = loop_of_aba k x rows fits
 
 rows_of_af : (name : AbaAxiom) → IsAbaAxiom name → IsValidOfAf (aba_clause name)
@@ -68,7 +66,7 @@ rows_of_af (B12 a c) fits = b12 a c
 rows_of_af (B13 a c) fits = b13 a c
 rows_of_af (B14 a c) fits = b14 a c
 rows_of_af (B15 a c) fits = b15 a c
-rows_of_af (B16 part) fits = λ f s ok sides. rows_are_valid (A14 part) (world_of (af f) s) ok sides
+rows_of_af (B16 part) fits = notions_of_af part
 rows_of_af (B17 k x rows) fits = loop_of_af k x rows fits
 
 rows_of : (name : AbaAxiom) → IsAbaAxiom name → (f : Framework) (s : List ℕ) → IsWorldOf f s

@@ -1,22 +1,21 @@
 //! The table of axioms.
 
 ghost use Rattle.std.specs.Prelude.{◌≡◌, ◌<◌, ◌∷◌, [], All, IfOk};
-ghost use Rattle.af_axioms.specs.meaning_atoms.specs.declared.aba_axiom.AbaAxiom.TheVariants.{B7, B9, B10};
-ghost use Rattle.af_axioms.specs.meaning_atoms.specs.declared.atom.Atom.TheVariants.{Con, Der, Member};
-ghost use Rattle.af_axioms.specs.meaning_atoms.specs.Literals.{denied};
-ghost use Rattle.af_axioms.specs.meaning_atoms.specs.AbaAxioms.{IsAbaAxiom};
-ghost use Rattle.af_axioms.specs.meaning_atoms.specs.Atoms.{IsLit};
-ghost use Rattle.af_axioms.specs.meaning_atoms.specs.Worlds.{IsAsk, IsValid};
+ghost use Rattle.meaning_atoms.specs.declared.aba_axiom.AbaAxiom.TheVariants.{B7, B9, B10};
+ghost use Rattle.meaning_atoms.specs.declared.atom.Atom.TheVariants.{Con, Der, Member};
+ghost use Rattle.meaning_atoms.specs.Literals.{denied};
+ghost use Rattle.meaning_atoms.specs.AbaAxioms.{IsAbaAxiom};
+ghost use Rattle.meaning_atoms.specs.Atoms.{IsLit};
+ghost use Rattle.meaning_atoms.specs.Worlds.{IsAsk, IsValid};
 ghost use Rattle.aba_axioms.specs.AbaTable.{aba_clause, given_atom as given_in};
 
 use crate::loop_clause::loop_clause;
-use af_axioms::{list, no, yes};
 use lists::{Items, Memory};
 use meaning_atoms::Atom::{
     Ad, Asm, BGap, Body, Cf, Co, Con, Der, HGap, Head, Member, Miss, St, Sup,
 };
 use meaning_atoms::Closure::{Own, Rest};
-use meaning_atoms::{AbaAxiom, Atom, AtomLit, Closure, END};
+use meaning_atoms::{AbaAxiom, Atom, AtomLit, Closure, END, list, no, yes};
 use std::alloc::Global;
 
 /// The clause of an axiom, with its literals in the order of the table. A clause says that one of its literals is true.

@@ -1,8 +1,8 @@
 //! The law of the axioms. It does nothing; its contract is the law.
 
-ghost use Rattle.af_axioms.specs.meaning_atoms.specs.declared.aba_axiom.AbaAxiom.{AbaAxiom};
-ghost use Rattle.af_axioms.specs.meaning_atoms.specs.AbaAxioms.{IsAbaAxiom};
-ghost use Rattle.af_axioms.specs.meaning_atoms.specs.Worlds.{IsValid};
+ghost use Rattle.meaning_atoms.specs.declared.aba_axiom.AbaAxiom.{AbaAxiom};
+ghost use Rattle.meaning_atoms.specs.AbaAxioms.{IsAbaAxiom};
+ghost use Rattle.meaning_atoms.specs.Worlds.{IsValid};
 ghost use Rattle.aba_axioms.specs.AbaTable.{aba_clause};
 
 /// Each axiom of the table is true in every world, whatever the side clauses: of assumption-based frameworks, and, by the

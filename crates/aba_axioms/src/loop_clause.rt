@@ -2,17 +2,16 @@
 
 ghost use Rattle.std.specs.Prelude.{◌≡◌, ℕ, ◌≤◌, ◌<◌, ◌++◌, ◌∷◌, Contains, map, IfOk, OnOk};
 ghost use Rattle.std.specs.List.{flat_map};
-ghost use Rattle.af_axioms.specs.meaning_atoms.specs.Literals.{affirmed};
-ghost use Rattle.af_axioms.specs.meaning_atoms.specs.AbaAxioms.{IsLoop};
-ghost use Rattle.af_axioms.specs.meaning_atoms.specs.declared.loop_rows.LoopRow.{LoopRow as ALoopRow};
+ghost use Rattle.meaning_atoms.specs.Literals.{affirmed};
+ghost use Rattle.meaning_atoms.specs.AbaAxioms.{IsLoop};
+ghost use Rattle.meaning_atoms.specs.declared.loop_rows.LoopRow.{LoopRow as ALoopRow};
 ghost use Rattle.aba_axioms.specs.AbaTable.{filled_gap, given_atom as given_in, loop_clause as loop_literals};
 ghost use Rattle.aba_axioms.specs.AbaTable.{other_heads, pair_literal, row_literals};
 
 use crate::clause::given_atom;
-use af_axioms::{no, yes};
 use lists::{Items, Memory};
 use meaning_atoms::Atom::{Body, Der, HGap, Miss};
-use meaning_atoms::{AtomLit, Closure, END, LoopRow};
+use meaning_atoms::{AtomLit, Closure, END, LoopRow, no, yes};
 use std::alloc::Global;
 
 /// B17: the atom is not in the closure; or some atom of the rows is given; or some atom of the rows is headed by a rule

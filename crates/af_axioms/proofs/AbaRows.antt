@@ -1,26 +1,17 @@
 -- Each row of the table of axioms is true in every world of an assumption-based framework, by the fixed choice of what
 -- the atoms of abstract frameworks say there.
-use Rattle.std.proofs.Common.{◌+◌, ◌==◌, ℕ, List, [], ◌∷◌, arith, refl}
+use Rattle.std.proofs.Common.{◌+◌, ℕ, List, arith, refl}
 use Rattle.std.specs.Prelude.{Contains}
-use Rattle.std.proofs.lemmas.Bool.{cond_both}
-use Rattle.meaning_atoms.specs.semantics.specs.AbaFrameworks.{Aba, collective_of}
-use Rattle.meaning_atoms.specs.aba_laws.proofs.AbaLemmas.{aba_lawful}
-use Rattle.meaning_atoms.specs.aba_laws.proofs.CollectiveExtensions.{preferred_complete, stable_preferred}
+use Rattle.meaning_atoms.specs.semantics.specs.AbaFrameworks.{Aba}
 use Rattle.meaning_atoms.specs.semantics.specs.Frameworks.{aba}
 use Rattle.meaning_atoms.specs.declared.atom.Atom.TheVariants.{Member, Live, Attack, Gap, Tail, Unmet, Range}
-use Rattle.meaning_atoms.specs.declared.atom.Atom.TheVariants.{Cf, Ad, Co, St}
 use Rattle.meaning_atoms.specs.declared.atom.AtomLit.{AtomLit}
 use Rattle.meaning_atoms.specs.declared.axiom.AfAxiom.{AfAxiom}
 use Rattle.meaning_atoms.specs.declared.axiom.AfAxiom.TheVariants.{A1, A2, A3, A4, A5, A6, A7, A8, A9, A10, A11, A12, A13, A14}
 use Rattle.meaning_atoms.specs.Literals.{affirmed, denied}
-use Rattle.meaning_atoms.specs.Worlds.{world_of, HoldsLit, IsAbaWorld, IsTrueBeside}
-use Rattle.meaning_atoms.proofs.Clauses.{so, given}
-use Rattle.af_axioms.specs.Table.{table_clause, notion_clause}
-
--- the clause is true in every world of an assumption-based framework
-abbrev pub IsValidOfAba : List AtomLit → Type 0
-IsValidOfAba clause = (f : Aba) (s : List ℕ) → IsAbaWorld f s → (sides : List (List AtomLit))
-    → IsTrueBeside (world_of (aba f) s) sides clause
+use Rattle.meaning_atoms.specs.Worlds.{world_of, HoldsLit}
+use Rattle.meaning_atoms.proofs.NotionClauses.{IsValidOfAba, notions_of_aba}
+use Rattle.af_axioms.specs.Table.{table_clause}
 
 -- a literal that is true in every such world
 abbrev IsTrueOfAba : AtomLit → Type 0
@@ -28,25 +19,6 @@ IsTrueOfAba l = (f : Aba) (s : List ℕ) (sides : List (List AtomLit)) → Holds
 
 has_true : (clause : List AtomLit) (l : AtomLit) → Contains clause l → IsTrueOfAba l → IsValidOfAba clause
 has_true clause l c says f s ok sides = record { literal = l; member = c; says = says f s sides }
-
-admissible_is_conflict_free : IsValidOfAba (denied Ad ∷ affirmed Cf ∷ [])
-admissible_is_conflict_free f s ok sides =
-    let w = world_of (aba f) s in given w sides Ad _ (λ ad. so w sides Cf [] ad.conflict_free)
-
-complete_is_admissible : IsValidOfAba (denied Co ∷ affirmed Ad ∷ [])
-complete_is_admissible f s ok sides =
-    let w = world_of (aba f) s in given w sides Co _ (λ co. so w sides Ad [] co.admissible)
-
-stable_is_complete : IsValidOfAba (denied St ∷ affirmed Co ∷ [])
-stable_is_complete f s ok sides =
-    let w = world_of (aba f) s in
-    given w sides St _ (λ st. so w sides Co []
-    (preferred_complete (collective_of f) (aba_lawful f) s (stable_preferred (collective_of f) (aba_lawful f) s st)))
-
-pub notions_imply : (part : ℕ) → IsValidOfAba (notion_clause part)
-notions_imply part =
-    cond_both (part == 1) _ _ IsValidOfAba (λ _. admissible_is_conflict_free)
-    (λ _. cond_both (part == 2) _ _ IsValidOfAba (λ _. complete_is_admissible) (λ _. stable_is_complete))
 
 -- every row of the table
 pub rows_of_aba : (name : AfAxiom) → IsValidOfAba (table_clause name)
@@ -63,4 +35,4 @@ rows_of_aba (A10 a) = has_true _ (affirmed (Tail a 1)) (3, omega arith, refl) (�
 rows_of_aba (A11 a) = has_true _ (affirmed (Tail a 1)) (2, omega arith, refl) (λ f s sides. tt)
 rows_of_aba (A12 a) = has_true _ (affirmed (Range a)) (1, omega arith, refl) (λ f s sides. tt)
 rows_of_aba (A13 a) = has_true _ (affirmed (Range a)) (1, omega arith, refl) (λ f s sides. tt)
-rows_of_aba (A14 part) = notions_imply part
+rows_of_aba (A14 part) = notions_of_aba part

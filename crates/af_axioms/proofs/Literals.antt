@@ -1,8 +1,7 @@
 -- The literals of the table are within their bounds, where the arguments fit the row.
-use Rattle.std.proofs.Common.{◌+◌, ◌==◌, ℕ, arith}
+use Rattle.std.proofs.Common.{◌+◌, ℕ, arith}
 use Rattle.std.specs.Prelude.{All}
 use Rattle.std.specs.List.{AllByRecursion}
-use Rattle.std.proofs.lemmas.Bool.{cond_both}
 use Rattle.std.proofs.lemmas.List.Elements.{All-from_recursion}
 use Rattle.meaning_atoms.specs.declared.atom.Atom.TheVariants.{Gap}
 use Rattle.meaning_atoms.specs.declared.axiom.AfAxiom.{AfAxiom}
@@ -10,7 +9,8 @@ use Rattle.meaning_atoms.specs.declared.axiom.AfAxiom.TheVariants.{A1, A2, A3, A
 use Rattle.meaning_atoms.specs.semantics.specs.Arguments.{IsArgument}
 use Rattle.meaning_atoms.specs.Atoms.{IsPosition, IsAtom, IsLit}
 use Rattle.meaning_atoms.specs.Axioms.{IsStretch, IsAfAxiom}
-use Rattle.af_axioms.specs.Table.{table_clause, notion_clause}
+use Rattle.meaning_atoms.proofs.NotionClauses.{notions_fit}
+use Rattle.af_axioms.specs.Table.{table_clause}
 
 -- the position of the first argument, and that past the last
 first_place : IsPosition 1
@@ -35,11 +35,6 @@ stretch_past a i j s = record { low = omega arith; high = omega arith }
 -- the gap of a stretch
 stretch_gap : (a i j : ℕ) → IsStretch a i j → IsAtom (Gap a i j)
 stretch_gap a i j s = (s.argument, stretch_begin a i j s, stretch_end a i j s, s.order)
-
-notions_fit : (part : ℕ) → AllByRecursion IsLit (notion_clause part)
-notions_fit part =
-    cond_both (part == 1) _ _ (AllByRecursion IsLit) (λ _. (tt, (tt, tt)))
-    (λ _. cond_both (part == 2) _ _ (AllByRecursion IsLit) (λ _. (tt, (tt, tt))) (λ _. (tt, (tt, tt))))
 
 fits : (name : AfAxiom) → IsAfAxiom name → AllByRecursion IsLit (table_clause name)
 fits (A1 a) h = (tt, (h, (h, tt)))

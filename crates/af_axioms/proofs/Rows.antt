@@ -1,7 +1,7 @@
 -- Each row of the table of axioms is true in every world.
-use Rattle.std.proofs.Common.{◌≤◌, ◌<◌, ◌+◌, ◌==◌, ℕ, List, [], ◌∷◌, arith, subst, sym, inl, inr, ⊎_elim}
+use Rattle.std.proofs.Common.{◌≤◌, ◌<◌, ◌+◌, ℕ, List, [], ◌∷◌, arith, subst, sym, inl, inr, ⊎_elim}
 use Rattle.std.specs.Prelude.{Contains}
-use Rattle.std.proofs.lemmas.Bool.{cases_eq, cases_lt, cond_both}
+use Rattle.std.proofs.lemmas.Bool.{cases_eq, cases_lt}
 use Rattle.meaning_atoms.specs.declared.atom.Atom.TheVariants.{Member, Live, Attack, Gap, Tail, Unmet, Range}
 use Rattle.meaning_atoms.specs.declared.atom.Atom.TheVariants.{Cf, Ad, Co, St}
 use Rattle.meaning_atoms.specs.declared.axiom.AfAxiom.{AfAxiom}
@@ -9,13 +9,12 @@ use Rattle.meaning_atoms.specs.declared.axiom.AfAxiom.TheVariants.{A1, A2, A3, A
 use Rattle.meaning_atoms.specs.semantics.specs.Framework.{Af, Attacks, IsAttackedBy, Defends}
 use Rattle.meaning_atoms.specs.semantics.specs.Frameworks.{Framework, af, aba}
 use Rattle.meaning_atoms.specs.declared.atom.AtomLit.{AtomLit}
-use Rattle.meaning_atoms.specs.Literals.{affirmed, denied}
 use Rattle.meaning_atoms.specs.Worlds.{world_of, IsWorldOf, IsAfWorld, HasGap, HasTail, HasUnmet, IsTrueBeside, IsValid}
 use Rattle.meaning_atoms.specs.semantics.proofs.Decided.{decide_attacked}
 use Rattle.meaning_atoms.proofs.Valuations.{decide_unmet}
-use Rattle.meaning_atoms.specs.semantics.proofs.Extensions.{stable_largest, preferred_complete}
 use Rattle.meaning_atoms.proofs.Clauses.{so, or_else, given}
-use Rattle.af_axioms.specs.Table.{table_clause, notion_clause}
+use Rattle.meaning_atoms.proofs.NotionClauses.{IsValidOfAf, notions_of_af}
+use Rattle.af_axioms.specs.Table.{table_clause}
 use Rattle.af_axioms.proofs.AbaRows.{rows_of_aba}
 
 -- the number of an attacker lies before the end of all positions
@@ -39,11 +38,6 @@ met_is_defended f s ok a none b at =
 -- an attacker from i on, where there is none from i to just before j, is j or a later one
 past_gap : (f : Af) (a b i j : ℕ) → HasGap f a i j → Attacks f b a → i ≤ b → j ≤ b
 past_gap f a b i j gap at late = ⊎_elim (λ lt. absurd (gap b at late lt)) (λ ge. ge) (cases_lt b j)
-
--- the clause is true in every world of an abstract framework
-abbrev IsValidOfAf : List AtomLit → Type 0
-IsValidOfAf clause = (f : Af) (s : List ℕ) → IsAfWorld f s → (sides : List (List AtomLit))
-    → IsTrueBeside (world_of (af f) s) sides clause
 
 members_are_live : (a : ℕ) → IsValidOfAf (table_clause (A1 a))
 members_are_live a f s ok sides =
@@ -139,25 +133,6 @@ attacked_are_in_range a f s ok sides =
     let w = world_of (af f) s in
     given w sides (Tail a 1) _ (λ tail. so w sides (Range a) [] (inr (tail.attacker, tail.member, tail.attack)))
 
-admissible_is_conflict_free : IsValidOfAf (denied Ad ∷ affirmed Cf ∷ [])
-admissible_is_conflict_free f s ok sides =
-    let w = world_of (af f) s in given w sides Ad _ (λ ad. so w sides Cf [] ad.conflict_free)
-
-complete_is_admissible : IsValidOfAf (denied Co ∷ affirmed Ad ∷ [])
-complete_is_admissible f s ok sides =
-    let w = world_of (af f) s in given w sides Co _ (λ co. so w sides Ad [] co.admissible)
-
-stable_is_complete : IsValidOfAf (denied St ∷ affirmed Co ∷ [])
-stable_is_complete f s ok sides =
-    let w = world_of (af f) s in
-    given w sides St _ (λ st. so w sides Co []
-    (preferred_complete f s ((stable_largest f ok.framework.form).preferred s st)))
-
-notions_imply : (part : ℕ) → IsValidOfAf (notion_clause part)
-notions_imply part =
-    cond_both (part == 1) _ _ IsValidOfAf (λ _. admissible_is_conflict_free)
-    (λ _. cond_both (part == 2) _ _ IsValidOfAf (λ _. complete_is_admissible) (λ _. stable_is_complete))
-
 -- every row of the table
 rows_of_af : (name : AfAxiom) → IsValidOfAf (table_clause name)
 rows_of_af (A1 a) = members_are_live a
@@ -173,7 +148,7 @@ rows_of_af (A10 a) = outsiders_are_attacked a
 rows_of_af (A11 a) = range_is_told a
 rows_of_af (A12 a) = members_are_in_range a
 rows_of_af (A13 a) = attacked_are_in_range a
-rows_of_af (A14 part) = notions_imply part
+rows_of_af (A14 part) = notions_of_af part
 
 -- in worlds of each kind
 rows_of : (name : AfAxiom) (f : Framework) (s : List ℕ) → IsWorldOf f s → (sides : List (List AtomLit))

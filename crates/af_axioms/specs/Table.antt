@@ -3,7 +3,7 @@
 -- The axioms are the program's own; they put into clauses what the definitions of the notions say (Dung 1995).
 -- Who attacks an argument is told by walking along its attackers by rising number: A5 and A8 step from a position
 -- over a gap to the next attacker, A6 and A9 end the walk.
-use Rattle.std.specs.Prelude.{ℕ, ◌+◌, ◌==◌, if◌then◌else◌, true, false, List, [], ◌∷◌}
+use Rattle.std.specs.Prelude.{◌+◌, List, [], ◌∷◌}
 use Rattle.meaning_atoms.specs.declared.atom.TheConstants.{END}
 use Rattle.meaning_atoms.specs.declared.atom.Atom.{Atom}
 use Rattle.meaning_atoms.specs.declared.atom.Atom.TheVariants.{Member, Live, Attack, Gap, Tail, Unmet, Range, Cf, Ad, Co, St}
@@ -11,13 +11,7 @@ use Rattle.meaning_atoms.specs.declared.atom.AtomLit.{AtomLit}
 use Rattle.meaning_atoms.specs.declared.axiom.AfAxiom.{AfAxiom}
 use Rattle.meaning_atoms.specs.declared.axiom.AfAxiom.TheVariants.{A1, A2, A3, A4, A5, A6, A7, A8, A9, A10, A11, A12, A13, A14}
 use Rattle.meaning_atoms.specs.Literals.{affirmed, denied}
-
--- the three clauses of A14, by their number: which notion has another within it
-abbrev pub notion_clause : ℕ → List AtomLit
-notion_clause part =
-    if part == 1 then denied Ad ∷ affirmed Cf ∷ []
-    else if part == 2 then denied Co ∷ affirmed Ad ∷ []
-    else denied St ∷ affirmed Co ∷ []
+use Rattle.meaning_atoms.specs.Notions.{notion_clause}
 
 -- the clause of an axiom
 abbrev pub table_clause : AfAxiom → List AtomLit

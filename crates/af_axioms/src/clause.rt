@@ -4,13 +4,12 @@ ghost use Rattle.std.specs.Prelude.{◌≡◌, ◌<◌, All, IfOk};
 ghost use Rattle.meaning_atoms.specs.declared.axiom.AfAxiom.TheVariants.{A5, A8};
 ghost use Rattle.meaning_atoms.specs.Atoms.{IsLit};
 ghost use Rattle.meaning_atoms.specs.Axioms.{IsAfAxiom};
-ghost use Rattle.meaning_atoms.specs.Literals.{affirmed, denied};
 ghost use Rattle.meaning_atoms.specs.Worlds.{IsAsk, IsValid};
 ghost use Rattle.af_axioms.specs.Table.{table_clause};
 
 use lists::{Items, Memory};
 use meaning_atoms::Atom::{Ad, Attack, Cf, Co, Gap, Live, Member, Range, St, Tail, Unmet};
-use meaning_atoms::{AfAxiom, Atom, AtomLit, END};
+use meaning_atoms::{AfAxiom, AtomLit, END, list, no, yes};
 use std::alloc::Global;
 
 /// The clause of an axiom, with its literals in the order of the table. A clause says that one of its literals
@@ -85,31 +84,4 @@ fn unmet_step(alloc: Global, a: u32, i: u32, j: u32) -> Result<Items<AtomLit>, M
         alloc,
         [no(Unmet(a, i)), no(Gap(a, i, j)), no(Tail(j, 1)), later],
     )
-}
-
-/// The list of literals in their order. `Memory` says that an allocation was refused.
-pub fn list<const N: usize>(alloc: Global, literals: [AtomLit; N]) -> Result<Items<AtomLit>, Memory>
-    ensures { IfOk result (λ clause. clause ≡ literals.entry) }
-{
-    Ok(Items::from_vec(Vec::from_array(alloc, literals)?))
-}
-
-/// The literal that says an atom.
-pub fn yes(atom: Atom) -> AtomLit
-    ensures { result ≡ affirmed atom }
-{
-    AtomLit {
-        atom,
-        positive: true,
-    }
-}
-
-/// The literal that says that an atom is not so.
-pub fn no(atom: Atom) -> AtomLit
-    ensures { result ≡ denied atom }
-{
-    AtomLit {
-        atom,
-        positive: false,
-    }
 }

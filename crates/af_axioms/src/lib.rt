@@ -6,5 +6,5 @@ mod clause;
 mod fact;
 pub mod laws;
 
-pub use clause::{clause_of, list, no, yes};
+pub use clause::clause_of;
 pub use fact::fact_value;

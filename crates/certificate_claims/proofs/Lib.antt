@@ -1,4 +1,5 @@
 pub mod Found
 pub mod OrderLemmas
 pub mod SetTests
+pub mod RisingLists
 pub mod RangeLists

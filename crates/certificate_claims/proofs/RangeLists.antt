@@ -1,7 +1,6 @@
 -- Ranges as lists, and the first sets with their ranges.
-use Rattle.std.proofs.Common.{◌≡◌, ◌+◌, ◌<◌, ◌≤◌, ⊎_elim, ℕ, Bool, true, false, not, if◌then◌else◌, List, [], ◌∷◌, ◌++◌, length, get_or, map, filter, take, arith, refl, ap, sym, subst, ◌∙◌}
+use Rattle.std.proofs.Common.{◌≡◌, ◌+◌, ◌<◌, ◌≤◌, ⊎_elim, ℕ, Bool, true, false, not, if◌then◌else◌, List, [], ◌∷◌, ◌++◌, length, get_or, map, filter, take, refl, ap, sym, subst, ◌∙◌}
 use Rattle.std.specs.Prelude.{◌↔◌, IsTrue, Contains}
-use Rattle.std.specs.List.Sorted.{IsStrictlyIncreasing}
 use Rattle.std.specs.Cmp.{both_ways}
 use Rattle.std.proofs.lemmas.Bool.{cases_Bool, not_from_false}
 use Rattle.std.proofs.lemmas.List.{append-nil, get_or-map, map-append, take_more, take_all}
@@ -12,7 +11,6 @@ use Rattle.lists.proofs.Filters.{Contains-filter}
 use Rattle.lists.proofs.ListTests.{any_gives, any_from}
 use Rattle.lists.proofs.Membership.{Contains-nil, Contains-head, Contains-tail, Contains-cons_cases}
 use Rattle.plain_lits.proofs.HintCheckLemmas.{Contains-mapped, Contains-from_mapped}
-use Rattle.set_lists.proofs.Rising.{below_across, rises_right}
 use Rattle.iccma_tasks.specs.semantics.specs.Framework.{Af, IsAf, IsInRange, IsRangeWithin}
 use Rattle.iccma_tasks.specs.semantics.specs.Frameworks.{Framework, af, IsNumberedAf}
 use Rattle.certificate_claims.specs.declared.ranges.FirstRanged.{FirstRanged}
@@ -20,42 +18,9 @@ use Rattle.certificate_claims.specs.Acceptance.{NoneWithin, NoRangeWithin}
 use Rattle.certificate_claims.specs.Claims.{first_ranged, has_ranged}
 use Rattle.certificate_claims.specs.Ranges.{AddsIfFirst, AddsIfRanged, AreLive, AreWithRange, IsFirstRanged}
 use Rattle.certificate_claims.specs.SetLiterals.{is_range_within, is_ranged, members, range_of, same_range}
+use Rattle.certificate_claims.proofs.RisingLists.{same_rising}
 use Rattle.certificate_claims.proofs.SetTests.{chosen, passed, one_kept, one_lost, firsts_more, firsts_within, in_range_list, same_trans, within_from, within_gives}
 use Rattle.std.proofs.lemmas.Bool.{and_from, and_parts}
-
--- ---- rising lists with the same members
-
-below_head : (x : ℕ) (xs : List ℕ) (y : ℕ) → IsStrictlyIncreasing (x ∷ xs) → Contains xs y → x < y
-below_head x xs y rises c = below_across (x ∷ []) xs rises x y (Contains-head x [] x refl) c
-
-same_first : (x y : ℕ) (xs ys : List ℕ) → IsStrictlyIncreasing (x ∷ xs) → IsStrictlyIncreasing (y ∷ ys)
-    → ((a : ℕ) → Contains (x ∷ xs) a ↔ Contains (y ∷ ys) a) → x ≡ y
-same_first x y xs ys up_x up_y same =
-    ⊎_elim (λ e. sym e)
-    (λ (c : Contains ys x). ⊎_elim (λ e. e)
-    (λ (d : Contains xs y).
-    absurd (let a = below_head x xs y up_x d in let b = below_head y ys x up_y c in omega arith))
-    (Contains-cons_cases x xs y ((same y).1 (Contains-head y ys y refl))))
-    (Contains-cons_cases y ys x ((same x).0 (Contains-head x xs x refl)))
-
-same_rest : (x y : ℕ) (xs ys : List ℕ) → IsStrictlyIncreasing (x ∷ xs) → x ≡ y
-    → ((a : ℕ) → Contains (x ∷ xs) a → Contains (y ∷ ys) a) → (a : ℕ) → Contains xs a → Contains ys a
-same_rest x y xs ys up e there a c =
-    ⊎_elim (λ (f : y ≡ a). absurd (let lt = below_head x xs a up c in omega arith)) (λ d. d)
-    (Contains-cons_cases y ys a (there a (Contains-tail x xs a c)))
-
-pub same_rising : (xs ys : List ℕ) → IsStrictlyIncreasing xs → IsStrictlyIncreasing ys
-    → ((a : ℕ) → Contains xs a ↔ Contains ys a) → xs ≡ ys
-same_rising [] [] up_x up_y same = refl
-same_rising [] (y ∷ ys) up_x up_y same = absurd (Contains-nil y ((same y).1 (Contains-head y ys y refl)))
-same_rising (x ∷ xs) [] up_x up_y same = absurd (Contains-nil x ((same x).0 (Contains-head x xs x refl)))
-same_rising (x ∷ xs) (y ∷ ys) up_x up_y same =
-    let e : x ≡ y = same_first x y xs ys up_x up_y same in
-    let rest : xs ≡ ys = same_rising xs ys (rises_right (x ∷ []) xs up_x) (rises_right (y ∷ []) ys up_y) (λ a. (
-      same_rest x y xs ys up_x e (λ b. (same b).0) a,
-      same_rest y x ys xs up_y (sym e) (λ b. (same b).1) a,
-    )) in
-    ap (λ z. z ∷ xs) e ∙ ap (λ zs. y ∷ zs) rest
 
 -- the range of a set of live arguments, however it was found, is the range as a list
 pub range_is : (f : Af) (s r : List ℕ) → IsNumberedAf f → IsWithin s f.live → IsSetOf (IsInRange f s) r

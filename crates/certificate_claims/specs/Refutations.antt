@@ -15,8 +15,8 @@ use Rattle.aba_axioms.specs.meaning_atoms.specs.AbaAxioms.{IsAbaAxiom}
 use Rattle.aba_axioms.specs.meaning_atoms.specs.Axioms.{IsAfAxiom}
 use Rattle.aba_axioms.specs.meaning_atoms.specs.Literals.{denied, negated, AsksNothing}
 use Rattle.aba_axioms.specs.meaning_atoms.specs.Worlds.{world_of, IsWorldOf, HoldsOf, Says, IsTrueAlone}
-use Rattle.aba_axioms.specs.af_axioms.specs.Facts.{IsFactValue}
-use Rattle.aba_axioms.specs.af_axioms.specs.Table.{table_clause}
+use Rattle.af_axioms.specs.Facts.{IsFactValue}
+use Rattle.af_axioms.specs.Table.{table_clause}
 use Rattle.aba_axioms.specs.AbaTable.{aba_clause}
 use Rattle.certificate_claims.specs.declared.certificate.Step.{Step}
 use Rattle.certificate_claims.specs.declared.certificate.Step.TheVariants.{Axiom, Side, Derived}

@@ -1,5 +1,5 @@
 -- Literals about sets, which are functions of the sets.
-use Rattle.std.specs.Prelude.{ℕ, ◌==◌, Bool, true, false, not, ◌&&◌, ◌||◌, List, ◌++◌, map, filter}
+use Rattle.std.specs.Prelude.{ℕ, ◌==◌, Bool, false, not, ◌&&◌, ◌||◌, List, ◌++◌, map, filter}
 use Rattle.std.specs.List.{list_any, list_all}
 use Rattle.iccma_tasks.specs.semantics.specs.Frameworks.{Framework, af, aba}
 use Rattle.aba_axioms.specs.meaning_atoms.specs.declared.atom.Atom.TheVariants.{Member, Range, Tail, Der}

@@ -10,3 +10,4 @@ pub mod AfEvidence
 pub mod Evidence
 pub mod Right
 pub mod Verdicts
+pub mod Agreeing

@@ -12,6 +12,7 @@ use Rattle.certificate_claims.specs.Claims.{claims, row_of, sets_of}
 use Rattle.certificate_claims.specs.Refutations.{Claim, IsPlain, IsRefutationOf, IsExcluded}
 use Rattle.certificate_claims.specs.Rights.{IsRight}
 use Rattle.certificate_claims.specs.Verdicts.{IsVerdict}
+use Rattle.certificate_laws.specs.Agreement.{Agree}
 
 -- a claim with a refutation is met by no set of the framework
 abbrev pub RefutationsExclude : Type 0
@@ -34,6 +35,11 @@ ShownIsRight = (f : Framework) (asked : Asked) (answer : Answer) (sets : List (L
 abbrev pub AcceptedIsRight : Type 0
 AcceptedIsRight = (f : Framework) (asked : Asked) (answer : Answer) (certificate : Certificate) → IsNumbered f
     → IsAccepted f asked answer certificate → IsRight f asked answer
+
+-- two right answers to one query on one framework agree
+abbrev pub RightAnswersAgree : Type 0
+RightAnswersAgree = (f : Framework) (asked : Asked) (a b : Answer) → IsRight f asked a → IsRight f asked b
+    → Agree asked a b
 
 -- there is one verdict at most
 abbrev pub OneVerdict : Type 0

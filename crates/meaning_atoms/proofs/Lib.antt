@@ -1,6 +1,7 @@
 pub mod AbaDecided
 pub mod Valuations
 pub mod Clauses
+pub mod NotionClauses
 pub mod PieceLemmas
 pub mod SameAtoms
 pub mod WrittenLits

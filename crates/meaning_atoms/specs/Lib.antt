@@ -7,6 +7,7 @@ pub mod AxiomNames
 pub mod AxiomText
 pub mod Literals
 pub mod LoopRows
+pub mod Notions
 pub mod Pieces
 pub mod Valuations
 pub mod Worlds

@@ -1,6 +1,6 @@
 use Rattle.std.proofs.Common.{◌≡◌, ◌++◌}
 use Rattle.std.specs.Prelude.{map, take}
-use Rattle.af_axioms.specs.meaning_atoms.specs.Literals.{affirmed}
+use Rattle.meaning_atoms.specs.Literals.{affirmed}
 use Rattle.aba_axioms.specs.AbaTable.{given_atom}
 use Rattle.aba_axioms.proofs.loop_clause.push_given.Given as goal
 
