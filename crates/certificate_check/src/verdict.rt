@@ -21,6 +21,7 @@ use dung_notions::AfPlain;
 use edit_rules::Framework;
 use iccma_tasks::{Answer, Query};
 use lists::Memory;
+use marked_sets::Marks;
 use set_lists::NumSet;
 use std::alloc::Global;
 
@@ -56,12 +57,13 @@ fn check_sets(
     row: &Row,
     shown: &[NumSet],
     certificate: &Certificate,
+    marks: &mut Marks,
 ) -> Result<Verdict, Memory>
     requires { HasSetsOf (framework_of framework.now) row.now }
     ensures { IfOk result (FindsFrom (framework_of framework.now) query.now row.now shown.now certificate.now
         (after_set_count certificate.now)) }
 {
-    let bad = first_bad_set(alloc, framework, query, row, certificate.sets.as_slice())?;
+    let bad = first_bad_set(alloc, framework, query, row, certificate.sets.as_slice(), marks)?;
     if let Some(index) = bad {
         return Ok(Verdict::Rejected(Cause::BadSet, 0, index + 1));
     }
@@ -77,6 +79,7 @@ fn check_set_count(
     row: &Row,
     shown: &[NumSet],
     certificate: &Certificate,
+    marks: &mut Marks,
 ) -> Result<Verdict, Memory>
     requires { HasSetsOf (framework_of framework.now) row.now }
     ensures { IfOk result (FindsFrom (framework_of framework.now) query.now row.now shown.now certificate.now
@@ -86,7 +89,7 @@ fn check_set_count(
     if !takes {
         return Ok(Verdict::Rejected(Cause::SetCount, 0, 0));
     }
-    let verdict = check_sets(alloc, framework, query, row, shown, certificate)?;
+    let verdict = check_sets(alloc, framework, query, row, shown, certificate, marks)?;
     Ok(verdict)
 }
 
@@ -196,6 +199,7 @@ fn check_order(
     row: &Row,
     shown: &[NumSet],
     certificate: &Certificate,
+    marks: &mut Marks,
 ) -> Result<Verdict, Memory>
     requires { HasSetsOf (framework_of framework.now) row.now }
     ensures { IfOk result (FindsFrom (framework_of framework.now) query.now row.now shown.now certificate.now
@@ -209,7 +213,7 @@ fn check_order(
     if !grounded {
         return Ok(Verdict::Rejected(Cause::BadWitness, 0, 0));
     }
-    let verdict = check_set_count(alloc, framework, query, row, shown, certificate)?;
+    let verdict = check_set_count(alloc, framework, query, row, shown, certificate, marks)?;
     Ok(verdict)
 }
 
@@ -221,6 +225,7 @@ fn check_witnesses(
     row: &Row,
     shown: &[NumSet],
     certificate: &Certificate,
+    marks: &mut Marks,
 ) -> Result<Verdict, Memory>
     requires sets { ShowsSets row.now shown.now }
     requires tested { IsTestedRow row.now query.now.task.semantics }
@@ -228,11 +233,11 @@ fn check_witnesses(
     ensures { IfOk result (FindsFrom (framework_of framework.now) query.now row.now shown.now certificate.now
         (after_shape shown.now certificate.now)) }
 {
-    let bad = first_bad_witness(alloc, framework, query, row, shown)?;
+    let bad = first_bad_witness(alloc, framework, query, row, shown, marks)?;
     if let Some(index) = bad {
         return Ok(Verdict::Rejected(Cause::BadWitness, 0, index + 1));
     }
-    let verdict = check_order(alloc, framework, query, row, shown, certificate)?;
+    let verdict = check_order(alloc, framework, query, row, shown, certificate, marks)?;
     Ok(verdict)
 }
 
@@ -244,6 +249,7 @@ fn check_row(
     row: &Row,
     shown: &[NumSet],
     certificate: &Certificate,
+    marks: &mut Marks,
 ) -> Result<Verdict, Memory>
     requires sets { ShowsSets row.now shown.now }
     requires tested { IsTestedRow row.now query.now.task.semantics }
@@ -255,7 +261,7 @@ fn check_row(
     if !shaped {
         return Ok(Verdict::Rejected(Cause::AnswerShape, 0, 0));
     }
-    let verdict = check_witnesses(alloc, framework, query, row, shown, certificate)?;
+    let verdict = check_witnesses(alloc, framework, query, row, shown, certificate, marks)?;
     Ok(verdict)
 }
 
@@ -276,6 +282,7 @@ pub fn check(
     let _kind = framework.kind();
     let row = row(alloc, framework, query, answer)?;
     let shown = shown_sets(alloc, answer)?;
-    let verdict = check_row(alloc, framework, query, &row, shown.as_slice(), certificate)?;
+    let mut marks = Marks::new(alloc);
+    let verdict = check_row(alloc, framework, query, &row, shown.as_slice(), certificate, &mut marks)?;
     Ok(verdict)
 }

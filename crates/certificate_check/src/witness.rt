@@ -15,6 +15,7 @@ use certificate_claims::Row;
 use edit_rules::Framework;
 use iccma_tasks::{Problem, Query};
 use lists::Memory;
+use marked_sets::Marks;
 use set_lists::NumSet;
 use std::alloc::Global;
 
@@ -54,11 +55,12 @@ fn is_suitable(
     framework: &Framework,
     query: &Query,
     set: &NumSet,
+    marks: &mut Marks,
 ) -> Result<bool, Memory>
     ensures { IfOk result (λ is. IsTrue is ↔ (HoldsOf (framework_of framework.now) set.now Ad
         × Suits (framework_of framework.now) query.now.task.problem query.now.number set.now)) }
 {
-    let admissible = is_admissible(alloc, framework, set)?;
+    let admissible = is_admissible(alloc, framework, set, marks)?;
     if !admissible {
         return Ok(false);
     }
@@ -72,12 +74,13 @@ fn is_suitable_extension(
     framework: &Framework,
     query: &Query,
     set: &NumSet,
+    marks: &mut Marks,
 ) -> Result<bool, Memory>
     requires { IsTested query.now.task.semantics }
     ensures { IfOk result (λ is. IsTrue is ↔ (IsExtension (framework_of framework.now) query.now.task.semantics set.now
         × Suits (framework_of framework.now) query.now.task.problem query.now.number set.now)) }
 {
-    let extension = is_extension(alloc, framework, query.task().semantics, set)?;
+    let extension = is_extension(alloc, framework, query.task().semantics, set, marks)?;
     if !extension {
         return Ok(false);
     }
@@ -92,19 +95,20 @@ fn passes_test(
     query: &Query,
     row: &Row,
     set: &NumSet,
+    marks: &mut Marks,
 ) -> Result<bool, Memory>
     requires { IsTestedRow row.now query.now.task.semantics }
     ensures { IfOk result (λ passes. IsTrue passes
         ↔ PassesTest (framework_of framework.now) query.now row.now set.now) }
 {
     match row {
-        Row::Tested(_) => Ok(is_suitable_extension(alloc, framework, query, set)?),
-        Row::Largest(_) | Row::Widest(_) => Ok(is_suitable(alloc, framework, query, set)?),
+        Row::Tested(_) => Ok(is_suitable_extension(alloc, framework, query, set, marks)?),
+        Row::Largest(_) | Row::Widest(_) => Ok(is_suitable(alloc, framework, query, set, marks)?),
         Row::AllTested(_, _) => {
             let semantics = query.task().semantics;
-            Ok(is_extension(alloc, framework, semantics, set)?)
+            Ok(is_extension(alloc, framework, semantics, set, marks)?)
         }
-        Row::AllLargest(_) | Row::AllWidest(_) => Ok(is_admissible(alloc, framework, set)?),
+        Row::AllLargest(_) | Row::AllWidest(_) => Ok(is_admissible(alloc, framework, set, marks)?),
         _ => Ok(true),
     }
 }
@@ -116,13 +120,14 @@ pub(crate) fn first_bad_witness(
     query: &Query,
     row: &Row,
     shown: &[NumSet],
+    marks: &mut Marks,
 ) -> Result<Option<usize>, Memory>
     requires { IsTestedRow row.now query.now.task.semantics }
     ensures { IfOk result (IsFirstWithout (λ k. PassesTest (framework_of framework.now) query.now row.now
         (slice_index_or shown.now k [])) (length shown.now)) }
 {
     for index in 0..shown.len() {
-        let passes = passes_test(alloc, framework, query, row, &shown[index])?;
+        let passes = passes_test(alloc, framework, query, row, &shown[index], marks)?;
         if !passes {
             return Ok(Some(index));
         }
@@ -149,15 +154,16 @@ fn passes_set(
     row: &Row,
     index: usize,
     set: &NumSet,
+    marks: &mut Marks,
 ) -> Result<bool, Memory>
     ensures { IfOk result (λ passes. IsTrue passes
         ↔ PassesSet (framework_of framework.now) query.now row.now index set.now) }
 {
     match row {
-        Row::Covered(number) => Ok(covers(alloc, framework, set, *number)?),
-        Row::Ranged(_) => Ok(is_admissible(alloc, framework, set)?),
+        Row::Covered(number) => Ok(covers(alloc, framework, set, *number, marks)?),
+        Row::Ranged(_) => Ok(is_admissible(alloc, framework, set, marks)?),
         Row::Ideal(shown, says) => {
-            let passes = passes_ideal(alloc, framework, query, shown, *says, index, set)?;
+            let passes = passes_ideal(alloc, framework, query, shown, *says, index, set, marks)?;
             Ok(passes)
         }
         _ => Ok(true),
@@ -165,11 +171,17 @@ fn passes_set(
 }
 
 /// Whether a set is admissible and accepts what is asked about.
-fn covers(alloc: Global, framework: &Framework, set: &NumSet, number: u32) -> Result<bool, Memory>
+fn covers(
+    alloc: Global,
+    framework: &Framework,
+    set: &NumSet,
+    number: u32,
+    marks: &mut Marks,
+) -> Result<bool, Memory>
     ensures { IfOk result (λ covers. IsTrue covers ↔ (HoldsOf (framework_of framework.now) set.now Ad
         × Accepts (framework_of framework.now) set.now number)) }
 {
-    let admissible = is_admissible(alloc, framework, set)?;
+    let admissible = is_admissible(alloc, framework, set, marks)?;
     if !admissible {
         return Ok(false);
     }
@@ -186,15 +198,16 @@ fn passes_ideal(
     says: Option<bool>,
     index: usize,
     set: &NumSet,
+    marks: &mut Marks,
 ) -> Result<bool, Memory>
     ensures { IfOk result (λ passes. IsTrue passes
         ↔ PassesSet (framework_of framework.now) query.now (Ideal shown.now says) index set.now) }
 {
     if index == 0 {
-        let first = is_ideal_shown(alloc, framework, query, shown, says, set)?;
+        let first = is_ideal_shown(alloc, framework, query, shown, says, set, marks)?;
         return Ok(first);
     }
-    let admissible = is_admissible(alloc, framework, set)?;
+    let admissible = is_admissible(alloc, framework, set, marks)?;
     Ok(admissible)
 }
 
@@ -206,12 +219,13 @@ fn is_ideal_shown(
     shown: &Option<NumSet>,
     says: Option<bool>,
     set: &NumSet,
+    marks: &mut Marks,
 ) -> Result<bool, Memory>
     ensures { IfOk result (λ is. IsTrue is
         ↔ (HoldsOf (framework_of framework.now) set.now Ad × (IsShown shown.now set.now
         × AcceptsAsSaid (framework_of framework.now) query.now.number says set.now))) }
 {
-    let admissible = is_admissible(alloc, framework, set)?;
+    let admissible = is_admissible(alloc, framework, set, marks)?;
     if !admissible {
         return Ok(false);
     }
@@ -266,12 +280,13 @@ pub(crate) fn first_bad_set(
     query: &Query,
     row: &Row,
     sets: &[NumSet],
+    marks: &mut Marks,
 ) -> Result<Option<usize>, Memory>
     ensures { IfOk result (IsFirstWithout (λ k. PassesSet (framework_of framework.now) query.now row.now k
         (slice_index_or sets.now k [])) (length sets.now)) }
 {
     for index in 0..sets.len() {
-        let passes = passes_set(alloc, framework, query, row, index, &sets[index])?;
+        let passes = passes_set(alloc, framework, query, row, index, &sets[index], marks)?;
         if !passes {
             return Ok(Some(index));
         }
