@@ -63,7 +63,14 @@ fn check_sets(
     ensures { IfOk result (FindsFrom (framework_of framework.now) query.now row.now shown.now certificate.now
         (after_set_count certificate.now)) }
 {
-    let bad = first_bad_set(alloc, framework, query, row, certificate.sets.as_slice(), marks)?;
+    let bad = first_bad_set(
+        alloc,
+        framework,
+        query,
+        row,
+        certificate.sets.as_slice(),
+        marks,
+    )?;
     if let Some(index) = bad {
         return Ok(Verdict::Rejected(Cause::BadSet, 0, index + 1));
     }
@@ -283,6 +290,14 @@ pub fn check(
     let row = row(alloc, framework, query, answer)?;
     let shown = shown_sets(alloc, answer)?;
     let mut marks = Marks::new(alloc);
-    let verdict = check_row(alloc, framework, query, &row, shown.as_slice(), certificate, &mut marks)?;
+    let verdict = check_row(
+        alloc,
+        framework,
+        query,
+        &row,
+        shown.as_slice(),
+        certificate,
+        &mut marks,
+    )?;
     Ok(verdict)
 }
