@@ -32,7 +32,7 @@ pub(crate) fn is_admissible(
     ensures { IfOk result (λ is. IsTrue is ↔ HoldsOf (framework_of framework.now) set.now Ad) }
 {
     match framework {
-        Framework::Af(plain) => arguments::is_admissible(alloc, plain, set, marks),
+        Framework::Af(plain) => Ok(arguments::is_admissible(alloc, plain, set, marks)?),
         Framework::Aba(plain) => Ok(plain.is_admissible(alloc, set)?),
     }
 }
@@ -72,7 +72,7 @@ pub(crate) fn is_extension(
     ensures { IfOk result (λ is. IsTrue is ↔ IsExtension (framework_of framework.now) semantics set.now) }
 {
     match framework {
-        Framework::Af(plain) => is_af_extension(alloc, plain, semantics, set, marks),
+        Framework::Af(plain) => Ok(is_af_extension(alloc, plain, semantics, set, marks)?),
         Framework::Aba(plain) => Ok(is_aba_extension(alloc, plain, semantics, set)?),
     }
 }
@@ -91,7 +91,7 @@ fn is_af_extension(
     match semantics {
         Semantics::Complete => Ok(plain.is_complete(set)),
         Semantics::Grounded => Ok(is_grounded(alloc, plain, set)?),
-        Semantics::Stable => arguments::is_stable(alloc, plain, set, marks),
+        Semantics::Stable => Ok(arguments::is_stable(alloc, plain, set, marks)?),
         _ => Ok(false),
     }
 }
