@@ -28,7 +28,7 @@ use std::alloc::Global;
 /// What is checked: the framework, the query on it, the row that the answer picks, the sets that the answer shows, and
 /// the certificate.
 #[derive(Clone, Copy)]
-pub(crate) struct Check<'a> {
+pub(crate) struct Checked<'a> {
     pub(crate) framework: &'a Framework,
     pub(crate) query: &'a Query,
     pub(crate) row: &'a Row,
@@ -36,7 +36,7 @@ pub(crate) struct Check<'a> {
     pub(crate) certificate: &'a Certificate,
 }
 
-impl Check<'_> {
+impl Checked<'_> {
     /// From the answer's shape on.
     fn check_row(&self, alloc: Global, marks: &mut Marks) -> Result<Verdict, Memory>
         requires sets { ShowsSets self.now.row.now self.now.shown.now }
@@ -255,7 +255,7 @@ pub fn check(
     let row = row(alloc, framework, query, answer)?;
     let shown = shown_sets(alloc, answer)?;
     let mut marks = Marks::new(alloc);
-    let checked = Check {
+    let checked = Checked {
         framework,
         query,
         row: &row,

@@ -11,7 +11,7 @@ ghost use Rattle.certificate_check.specs.Witnesses.{IsTested, IsTestedRow};
 ghost use Rattle.certificate_check.specs.Standing.{IsFirstWithout};
 
 use crate::kinds::{accepts, is_admissible, is_extension};
-use crate::verdict::Check;
+use crate::verdict::Checked;
 use certificate_claims::Row;
 use edit_rules::Framework;
 use iccma_tasks::{Problem, Query};
@@ -202,7 +202,7 @@ fn accepts_as_said(
     }
 }
 
-impl Check<'_> {
+impl Checked<'_> {
     /// Whether the certificate's set at an index passes its test.
     fn passes_set(
         &self,

@@ -2,7 +2,7 @@ use Rattle.std.proofs.Common.{ℕ, ◌<◌, []}
 use Rattle.std.specs.Prelude.{slice_index_or}
 use Rattle.edit_rules.specs.Kinds.{framework_of}
 use Rattle.certificate_claims.specs.Acceptance.{PassesSet}
-use Rattle.certificate_check.proofs.verdict.Check.first_bad_set.Given as goal
+use Rattle.certificate_check.proofs.verdict.Checked.first_bad_set.Given as goal
 
 abbrev pub invariant-loop-index : goal.invariant-loop-index
 invariant-loop-index l =

@@ -1,7 +1,7 @@
 use Rattle.std.proofs.Common.{◌∙◌, sym}
 use Rattle.edit_rules.specs.Kinds.{framework_of}
 use Rattle.certificate_check.proofs.SectionLemmas.{count_failed, count_passed}
-use Rattle.certificate_check.proofs.verdict.Check.check_refutation_count.Goals as goal
+use Rattle.certificate_check.proofs.verdict.Checked.check_refutation_count.Goals as goal
 
 pub returns-then-refutations-len : goal.returns-then-refutations-len
 returns-then-refutations-len c =

@@ -3,7 +3,7 @@ use Rattle.std.proofs.lemmas.Bool.{false≢true}
 use Rattle.edit_rules.specs.Kinds.{framework_of}
 use Rattle.certificate_claims.specs.Acceptance.{PassesSet}
 use Rattle.certificate_check.proofs.SetLemmas.{holds_next, fails_here}
-use Rattle.certificate_check.proofs.verdict.Check.first_bad_set.Goals as goal
+use Rattle.certificate_check.proofs.verdict.Checked.first_bad_set.Goals as goal
 
 pub returns-then-not-passes : goal.returns-then-not-passes
 returns-then-not-passes c =

@@ -1,7 +1,7 @@
 use Rattle.edit_rules.specs.Kinds.{framework_of}
 use Rattle.certificate_check.proofs.RowLemmas.{tested_sets}
 use Rattle.certificate_check.proofs.SectionLemmas.{witness_failed, witnesses_passed}
-use Rattle.certificate_check.proofs.verdict.Check.check_witnesses.Goals as goal
+use Rattle.certificate_check.proofs.verdict.Checked.check_witnesses.Goals as goal
 
 pub check_order-requires : goal.check_order-requires
 check_order-requires c = tested_sets (framework_of c.args.self.now.framework.now) c.args.self.now.query.now

@@ -1,6 +1,6 @@
 use Rattle.edit_rules.specs.Kinds.{framework_of}
 use Rattle.certificate_check.proofs.SetLemmas.{later_set}
-use Rattle.certificate_check.proofs.verdict.Check.passes_ideal.Goals as goal
+use Rattle.certificate_check.proofs.verdict.Checked.passes_ideal.Goals as goal
 
 pub returns : goal.returns
 returns c =

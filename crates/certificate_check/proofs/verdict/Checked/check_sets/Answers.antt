@@ -1,6 +1,6 @@
 use Rattle.edit_rules.specs.Kinds.{framework_of}
 use Rattle.certificate_check.proofs.SectionLemmas.{set_failed, sets_passed}
-use Rattle.certificate_check.proofs.verdict.Check.check_sets.Goals as goal
+use Rattle.certificate_check.proofs.verdict.Checked.check_sets.Goals as goal
 
 pub returns-in-Some : goal.returns-in-Some
 returns-in-Some c =
