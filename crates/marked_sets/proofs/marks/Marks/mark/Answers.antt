@@ -1,5 +1,4 @@
-use Rattle.std.proofs.Common.{◌∙◌, ap}
-use Rattle.std.proofs.Common.{set, true}
+use Rattle.std.proofs.Common.{set, true, ap, ◌∙◌}
 use Rattle.marked_sets.proofs.MarkLemmas.{stamped, marks_here}
 use Rattle.marked_sets.proofs.marks.Marks.mark.Goals as goal
 

@@ -1,4 +1,3 @@
-use Rattle.std.proofs.Common.{arith}
 use Rattle.marked_sets.proofs.MarkLemmas.{none_stamped}
 use Rattle.marked_sets.proofs.marks.Marks.restart.Goals as goal
 
