@@ -18,19 +18,21 @@ use dung_notions::AfPlain;
 use edit_rules::Framework;
 use iccma_tasks::Semantics;
 use lists::Memory;
+use marked_sets::{Marks, arguments};
 use set_lists::NumSet;
 use std::alloc::Global;
 
-/// Whether a set is admissible.
+/// Whether a set is admissible. `marks` is room that one test leaves to the next.
 pub(crate) fn is_admissible(
     alloc: Global,
     framework: &Framework,
     set: &NumSet,
+    marks: &mut Marks,
 ) -> Result<bool, Memory>
     ensures { IfOk result (λ is. IsTrue is ↔ HoldsOf (framework_of framework.now) set.now Ad) }
 {
     match framework {
-        Framework::Af(plain) => Ok(plain.is_admissible(set)),
+        Framework::Af(plain) => Ok(arguments::is_admissible(alloc, plain, set, marks)?),
         Framework::Aba(plain) => Ok(plain.is_admissible(alloc, set)?),
     }
 }
@@ -64,12 +66,13 @@ pub(crate) fn is_extension(
     framework: &Framework,
     semantics: Semantics,
     set: &NumSet,
+    marks: &mut Marks,
 ) -> Result<bool, Memory>
     requires { IsTested semantics }
     ensures { IfOk result (λ is. IsTrue is ↔ IsExtension (framework_of framework.now) semantics set.now) }
 {
     match framework {
-        Framework::Af(plain) => Ok(is_af_extension(alloc, plain, semantics, set)?),
+        Framework::Af(plain) => Ok(is_af_extension(alloc, plain, semantics, set, marks)?),
         Framework::Aba(plain) => Ok(is_aba_extension(alloc, plain, semantics, set)?),
     }
 }
@@ -80,6 +83,7 @@ fn is_af_extension(
     plain: &AfPlain,
     semantics: Semantics,
     set: &NumSet,
+    marks: &mut Marks,
 ) -> Result<bool, Memory>
     requires { IsTested semantics }
     ensures { IfOk result (λ is. IsTrue is ↔ IsExtension (af plain.now) semantics set.now) }
@@ -87,7 +91,7 @@ fn is_af_extension(
     match semantics {
         Semantics::Complete => Ok(plain.is_complete(set)),
         Semantics::Grounded => Ok(is_grounded(alloc, plain, set)?),
-        Semantics::Stable => Ok(plain.is_stable(set)),
+        Semantics::Stable => Ok(arguments::is_stable(alloc, plain, set, marks)?),
         _ => Ok(false),
     }
 }

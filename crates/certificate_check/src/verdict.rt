@@ -7,12 +7,12 @@ ghost use Rattle.certificate_claims.specs.Rights.{IsRight, SetsRise};
 ghost use Rattle.certificate_claims.specs.Verdicts.{IsVerdict, looks};
 ghost use Rattle.edit_rules.specs.Kinds.{framework_of};
 ghost use Rattle.answer_claims.specs.SetFacts.{AreSetsOf, HasSetsOf};
-ghost use Rattle.certificate_check.specs.Sections.{FindsFrom, after_order, after_set_count, after_sets, after_shape, after_witnesses};
+ghost use Rattle.certificate_check.specs.Sections.{FindsIn, after_order, after_set_count, after_sets, after_shape, after_witnesses};
 ghost use Rattle.certificate_check.specs.Witnesses.{IsRowOf, IsTestedRow, ShowsSets, TellsApart};
 
 use crate::check_refutations;
 use crate::kinds::grounded_accepts;
-use crate::witness::{first_bad_set, first_bad_witness, is_shaped, takes_sets};
+use crate::witness::{first_bad_witness, is_shaped, takes_sets};
 use answer_claims::{claims_of, row, shown_sets};
 use certificate_claims::{
     Cause, Certificate, Row, Verdict, no_range_within, none_within, sets_rise,
@@ -21,73 +21,122 @@ use dung_notions::AfPlain;
 use edit_rules::Framework;
 use iccma_tasks::{Answer, Query};
 use lists::Memory;
+use marked_sets::Marks;
 use set_lists::NumSet;
 use std::alloc::Global;
 
-/// From the number of refutations on.
-fn check_refutation_count(
-    alloc: Global,
-    framework: &Framework,
-    query: &Query,
-    row: &Row,
-    shown: &[NumSet],
-    certificate: &Certificate,
-) -> Result<Verdict, Memory>
-    requires { HasSetsOf (framework_of framework.now) row.now }
-    ensures { IfOk result (FindsFrom (framework_of framework.now) query.now row.now shown.now certificate.now
-        (after_sets certificate.now)) }
-{
-    let _task = query.task();
-    let _count = shown.len();
-    let claims = claims_of(alloc, framework, row, certificate.sets.as_slice())?;
-    let refutations = certificate.refutations.as_slice();
-    if refutations.len() != claims.len() {
-        return Ok(Verdict::Rejected(Cause::RefutationCount, 0, 0));
-    }
-    let verdict = check_refutations(alloc, framework, claims.as_slice(), refutations)?;
-    Ok(verdict)
+/// What is checked: the framework, the query on it, the row that the answer picks, the sets that the answer shows, and
+/// the certificate.
+#[derive(Clone, Copy)]
+pub(crate) struct Checked<'a> {
+    pub(crate) framework: &'a Framework,
+    pub(crate) query: &'a Query,
+    pub(crate) row: &'a Row,
+    pub(crate) shown: &'a [NumSet],
+    pub(crate) certificate: &'a Certificate,
 }
 
-/// From the certificate's sets on.
-fn check_sets(
-    alloc: Global,
-    framework: &Framework,
-    query: &Query,
-    row: &Row,
-    shown: &[NumSet],
-    certificate: &Certificate,
-) -> Result<Verdict, Memory>
-    requires { HasSetsOf (framework_of framework.now) row.now }
-    ensures { IfOk result (FindsFrom (framework_of framework.now) query.now row.now shown.now certificate.now
-        (after_set_count certificate.now)) }
-{
-    let bad = first_bad_set(alloc, framework, query, row, certificate.sets.as_slice())?;
-    if let Some(index) = bad {
-        return Ok(Verdict::Rejected(Cause::BadSet, 0, index + 1));
+impl Checked<'_> {
+    /// From the answer's shape on.
+    fn check_row(&self, alloc: Global, marks: &mut Marks) -> Result<Verdict, Memory>
+        requires sets { ShowsSets self.now.row.now self.now.shown.now }
+        requires tested { IsTestedRow self.now.row.now self.now.query.now.task.semantics }
+        requires kind { IsRowOf (framework_of self.now.framework.now) self.now.row.now }
+        ensures { IfOk result (FindsIn self.now (looks self.now.shown.now self.now.certificate.now)) }
+    {
+        let shaped = is_shaped(self.row);
+        if !shaped {
+            return Ok(Verdict::Rejected(Cause::AnswerShape, 0, 0));
+        }
+        let verdict = self.check_witnesses(alloc, marks)?;
+        Ok(verdict)
     }
-    let verdict = check_refutation_count(alloc, framework, query, row, shown, certificate)?;
-    Ok(verdict)
-}
 
-/// From the number of the certificate's sets on.
-fn check_set_count(
-    alloc: Global,
-    framework: &Framework,
-    query: &Query,
-    row: &Row,
-    shown: &[NumSet],
-    certificate: &Certificate,
-) -> Result<Verdict, Memory>
-    requires { HasSetsOf (framework_of framework.now) row.now }
-    ensures { IfOk result (FindsFrom (framework_of framework.now) query.now row.now shown.now certificate.now
-        (after_order certificate.now)) }
-{
-    let takes = takes_sets(row, certificate.sets.len());
-    if !takes {
-        return Ok(Verdict::Rejected(Cause::SetCount, 0, 0));
+    /// From the sets that the answer shows on.
+    fn check_witnesses(&self, alloc: Global, marks: &mut Marks) -> Result<Verdict, Memory>
+        requires sets { ShowsSets self.now.row.now self.now.shown.now }
+        requires tested { IsTestedRow self.now.row.now self.now.query.now.task.semantics }
+        requires kind { IsRowOf (framework_of self.now.framework.now) self.now.row.now }
+        ensures { IfOk result (FindsIn self.now (after_shape self.now.shown.now self.now.certificate.now)) }
+    {
+        let bad = first_bad_witness(
+            alloc,
+            self.framework,
+            self.query,
+            self.row,
+            self.shown,
+            marks,
+        )?;
+        if let Some(index) = bad {
+            return Ok(Verdict::Rejected(Cause::BadWitness, 0, index + 1));
+        }
+        let verdict = self.check_order(alloc, marks)?;
+        Ok(verdict)
     }
-    let verdict = check_sets(alloc, framework, query, row, shown, certificate)?;
-    Ok(verdict)
+
+    /// From the order of the listed sets and the grounded set on.
+    fn check_order(&self, alloc: Global, marks: &mut Marks) -> Result<Verdict, Memory>
+        requires { HasSetsOf (framework_of self.now.framework.now) self.now.row.now }
+        ensures { IfOk result (FindsIn self.now (after_witnesses self.now.certificate.now)) }
+    {
+        let ordered = passes_order(alloc, self.framework, self.row)?;
+        if !ordered {
+            return Ok(Verdict::Rejected(Cause::BadWitness, 0, 0));
+        }
+        let grounded = passes_grounded(alloc, self.framework, self.query, self.row)?;
+        if !grounded {
+            return Ok(Verdict::Rejected(Cause::BadWitness, 0, 0));
+        }
+        let verdict = self.check_set_count(alloc, marks)?;
+        Ok(verdict)
+    }
+
+    /// From the number of the certificate's sets on.
+    fn check_set_count(&self, alloc: Global, marks: &mut Marks) -> Result<Verdict, Memory>
+        requires { HasSetsOf (framework_of self.now.framework.now) self.now.row.now }
+        ensures { IfOk result (FindsIn self.now (after_order self.now.certificate.now)) }
+    {
+        let takes = takes_sets(self.row, self.certificate.sets.len());
+        if !takes {
+            return Ok(Verdict::Rejected(Cause::SetCount, 0, 0));
+        }
+        let verdict = self.check_sets(alloc, marks)?;
+        Ok(verdict)
+    }
+
+    /// From the certificate's sets on.
+    fn check_sets(&self, alloc: Global, marks: &mut Marks) -> Result<Verdict, Memory>
+        requires { HasSetsOf (framework_of self.now.framework.now) self.now.row.now }
+        ensures { IfOk result (FindsIn self.now (after_set_count self.now.certificate.now)) }
+    {
+        let bad = self.first_bad_set(alloc, self.certificate.sets.as_slice(), marks)?;
+        if let Some(index) = bad {
+            return Ok(Verdict::Rejected(Cause::BadSet, 0, index + 1));
+        }
+        let verdict = self.check_refutation_count(alloc)?;
+        Ok(verdict)
+    }
+
+    /// From the number of refutations on.
+    fn check_refutation_count(&self, alloc: Global) -> Result<Verdict, Memory>
+        requires { HasSetsOf (framework_of self.now.framework.now) self.now.row.now }
+        ensures { IfOk result (FindsIn self.now (after_sets self.now.certificate.now)) }
+    {
+        let _task = self.query.task();
+        let _count = self.shown.len();
+        let claims = claims_of(
+            alloc,
+            self.framework,
+            self.row,
+            self.certificate.sets.as_slice(),
+        )?;
+        let refutations = self.certificate.refutations.as_slice();
+        if refutations.len() != claims.len() {
+            return Ok(Verdict::Rejected(Cause::RefutationCount, 0, 0));
+        }
+        let verdict = check_refutations(alloc, self.framework, claims.as_slice(), refutations)?;
+        Ok(verdict)
+    }
 }
 
 /// Whether the listed sets stand to each other as they have to.
@@ -188,77 +237,6 @@ fn grounded_says_of(
     Ok(accepts == says)
 }
 
-/// From the order of the listed sets and the grounded set on.
-fn check_order(
-    alloc: Global,
-    framework: &Framework,
-    query: &Query,
-    row: &Row,
-    shown: &[NumSet],
-    certificate: &Certificate,
-) -> Result<Verdict, Memory>
-    requires { HasSetsOf (framework_of framework.now) row.now }
-    ensures { IfOk result (FindsFrom (framework_of framework.now) query.now row.now shown.now certificate.now
-        (after_witnesses certificate.now)) }
-{
-    let ordered = passes_order(alloc, framework, row)?;
-    if !ordered {
-        return Ok(Verdict::Rejected(Cause::BadWitness, 0, 0));
-    }
-    let grounded = passes_grounded(alloc, framework, query, row)?;
-    if !grounded {
-        return Ok(Verdict::Rejected(Cause::BadWitness, 0, 0));
-    }
-    let verdict = check_set_count(alloc, framework, query, row, shown, certificate)?;
-    Ok(verdict)
-}
-
-/// From the sets that the answer shows on.
-fn check_witnesses(
-    alloc: Global,
-    framework: &Framework,
-    query: &Query,
-    row: &Row,
-    shown: &[NumSet],
-    certificate: &Certificate,
-) -> Result<Verdict, Memory>
-    requires sets { ShowsSets row.now shown.now }
-    requires tested { IsTestedRow row.now query.now.task.semantics }
-    requires kind { IsRowOf (framework_of framework.now) row.now }
-    ensures { IfOk result (FindsFrom (framework_of framework.now) query.now row.now shown.now certificate.now
-        (after_shape shown.now certificate.now)) }
-{
-    let bad = first_bad_witness(alloc, framework, query, row, shown)?;
-    if let Some(index) = bad {
-        return Ok(Verdict::Rejected(Cause::BadWitness, 0, index + 1));
-    }
-    let verdict = check_order(alloc, framework, query, row, shown, certificate)?;
-    Ok(verdict)
-}
-
-/// From the answer's shape on.
-fn check_row(
-    alloc: Global,
-    framework: &Framework,
-    query: &Query,
-    row: &Row,
-    shown: &[NumSet],
-    certificate: &Certificate,
-) -> Result<Verdict, Memory>
-    requires sets { ShowsSets row.now shown.now }
-    requires tested { IsTestedRow row.now query.now.task.semantics }
-    requires kind { IsRowOf (framework_of framework.now) row.now }
-    ensures { IfOk result (FindsFrom (framework_of framework.now) query.now row.now shown.now certificate.now
-        (looks shown.now certificate.now)) }
-{
-    let shaped = is_shaped(row);
-    if !shaped {
-        return Ok(Verdict::Rejected(Cause::AnswerShape, 0, 0));
-    }
-    let verdict = check_witnesses(alloc, framework, query, row, shown, certificate)?;
-    Ok(verdict)
-}
-
 /// Checks a certificate for an answer to a query. It is `Accepted` exactly where the answer has a shape that its task
 /// gives, the direct tests pass, and there is a refutation of each claim; else the first failure is told, in the order
 /// in which these are looked at. An answer with an accepted certificate is right.
@@ -276,6 +254,14 @@ pub fn check(
     let _kind = framework.kind();
     let row = row(alloc, framework, query, answer)?;
     let shown = shown_sets(alloc, answer)?;
-    let verdict = check_row(alloc, framework, query, &row, shown.as_slice(), certificate)?;
+    let mut marks = Marks::new(alloc);
+    let checked = Checked {
+        framework,
+        query,
+        row: &row,
+        shown: shown.as_slice(),
+        certificate,
+    };
+    let verdict = checked.check_row(alloc, &mut marks)?;
     Ok(verdict)
 }

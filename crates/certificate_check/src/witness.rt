@@ -11,10 +11,12 @@ ghost use Rattle.certificate_check.specs.Witnesses.{IsTested, IsTestedRow};
 ghost use Rattle.certificate_check.specs.Standing.{IsFirstWithout};
 
 use crate::kinds::{accepts, is_admissible, is_extension};
+use crate::verdict::Checked;
 use certificate_claims::Row;
 use edit_rules::Framework;
 use iccma_tasks::{Problem, Query};
 use lists::Memory;
+use marked_sets::Marks;
 use set_lists::NumSet;
 use std::alloc::Global;
 
@@ -54,11 +56,12 @@ fn is_suitable(
     framework: &Framework,
     query: &Query,
     set: &NumSet,
+    marks: &mut Marks,
 ) -> Result<bool, Memory>
     ensures { IfOk result (λ is. IsTrue is ↔ (HoldsOf (framework_of framework.now) set.now Ad
         × Suits (framework_of framework.now) query.now.task.problem query.now.number set.now)) }
 {
-    let admissible = is_admissible(alloc, framework, set)?;
+    let admissible = is_admissible(alloc, framework, set, marks)?;
     if !admissible {
         return Ok(false);
     }
@@ -72,12 +75,13 @@ fn is_suitable_extension(
     framework: &Framework,
     query: &Query,
     set: &NumSet,
+    marks: &mut Marks,
 ) -> Result<bool, Memory>
     requires { IsTested query.now.task.semantics }
     ensures { IfOk result (λ is. IsTrue is ↔ (IsExtension (framework_of framework.now) query.now.task.semantics set.now
         × Suits (framework_of framework.now) query.now.task.problem query.now.number set.now)) }
 {
-    let extension = is_extension(alloc, framework, query.task().semantics, set)?;
+    let extension = is_extension(alloc, framework, query.task().semantics, set, marks)?;
     if !extension {
         return Ok(false);
     }
@@ -92,19 +96,20 @@ fn passes_test(
     query: &Query,
     row: &Row,
     set: &NumSet,
+    marks: &mut Marks,
 ) -> Result<bool, Memory>
     requires { IsTestedRow row.now query.now.task.semantics }
     ensures { IfOk result (λ passes. IsTrue passes
         ↔ PassesTest (framework_of framework.now) query.now row.now set.now) }
 {
     match row {
-        Row::Tested(_) => Ok(is_suitable_extension(alloc, framework, query, set)?),
-        Row::Largest(_) | Row::Widest(_) => Ok(is_suitable(alloc, framework, query, set)?),
+        Row::Tested(_) => Ok(is_suitable_extension(alloc, framework, query, set, marks)?),
+        Row::Largest(_) | Row::Widest(_) => Ok(is_suitable(alloc, framework, query, set, marks)?),
         Row::AllTested(_, _) => {
             let semantics = query.task().semantics;
-            Ok(is_extension(alloc, framework, semantics, set)?)
+            Ok(is_extension(alloc, framework, semantics, set, marks)?)
         }
-        Row::AllLargest(_) | Row::AllWidest(_) => Ok(is_admissible(alloc, framework, set)?),
+        Row::AllLargest(_) | Row::AllWidest(_) => Ok(is_admissible(alloc, framework, set, marks)?),
         _ => Ok(true),
     }
 }
@@ -116,13 +121,14 @@ pub(crate) fn first_bad_witness(
     query: &Query,
     row: &Row,
     shown: &[NumSet],
+    marks: &mut Marks,
 ) -> Result<Option<usize>, Memory>
     requires { IsTestedRow row.now query.now.task.semantics }
     ensures { IfOk result (IsFirstWithout (λ k. PassesTest (framework_of framework.now) query.now row.now
         (slice_index_or shown.now k [])) (length shown.now)) }
 {
     for index in 0..shown.len() {
-        let passes = passes_test(alloc, framework, query, row, &shown[index])?;
+        let passes = passes_test(alloc, framework, query, row, &shown[index], marks)?;
         if !passes {
             return Ok(Some(index));
         }
@@ -141,85 +147,22 @@ pub(crate) fn takes_sets(row: &Row, count: usize) -> bool
     }
 }
 
-/// Whether the certificate's set at an index passes its test.
-fn passes_set(
+/// Whether a set is admissible and accepts what is asked about.
+fn covers(
     alloc: Global,
     framework: &Framework,
-    query: &Query,
-    row: &Row,
-    index: usize,
     set: &NumSet,
+    number: u32,
+    marks: &mut Marks,
 ) -> Result<bool, Memory>
-    ensures { IfOk result (λ passes. IsTrue passes
-        ↔ PassesSet (framework_of framework.now) query.now row.now index set.now) }
-{
-    match row {
-        Row::Covered(number) => Ok(covers(alloc, framework, set, *number)?),
-        Row::Ranged(_) => Ok(is_admissible(alloc, framework, set)?),
-        Row::Ideal(shown, says) => {
-            let passes = passes_ideal(alloc, framework, query, shown, *says, index, set)?;
-            Ok(passes)
-        }
-        _ => Ok(true),
-    }
-}
-
-/// Whether a set is admissible and accepts what is asked about.
-fn covers(alloc: Global, framework: &Framework, set: &NumSet, number: u32) -> Result<bool, Memory>
     ensures { IfOk result (λ covers. IsTrue covers ↔ (HoldsOf (framework_of framework.now) set.now Ad
         × Accepts (framework_of framework.now) set.now number)) }
 {
-    let admissible = is_admissible(alloc, framework, set)?;
+    let admissible = is_admissible(alloc, framework, set, marks)?;
     if !admissible {
         return Ok(false);
     }
     let accepts = accepts(alloc, framework, set, number)?;
-    Ok(accepts)
-}
-
-/// Whether the set at an index of a certificate for the ideal set passes its test.
-fn passes_ideal(
-    alloc: Global,
-    framework: &Framework,
-    query: &Query,
-    shown: &Option<NumSet>,
-    says: Option<bool>,
-    index: usize,
-    set: &NumSet,
-) -> Result<bool, Memory>
-    ensures { IfOk result (λ passes. IsTrue passes
-        ↔ PassesSet (framework_of framework.now) query.now (Ideal shown.now says) index set.now) }
-{
-    if index == 0 {
-        let first = is_ideal_shown(alloc, framework, query, shown, says, set)?;
-        return Ok(first);
-    }
-    let admissible = is_admissible(alloc, framework, set)?;
-    Ok(admissible)
-}
-
-/// Whether a set is admissible, the one that the answer shows, and accepts the query or not as the answer says.
-fn is_ideal_shown(
-    alloc: Global,
-    framework: &Framework,
-    query: &Query,
-    shown: &Option<NumSet>,
-    says: Option<bool>,
-    set: &NumSet,
-) -> Result<bool, Memory>
-    ensures { IfOk result (λ is. IsTrue is
-        ↔ (HoldsOf (framework_of framework.now) set.now Ad × (IsShown shown.now set.now
-        × AcceptsAsSaid (framework_of framework.now) query.now.number says set.now))) }
-{
-    let admissible = is_admissible(alloc, framework, set)?;
-    if !admissible {
-        return Ok(false);
-    }
-    let same = is_shown(shown, set);
-    if !same {
-        return Ok(false);
-    }
-    let accepts = accepts_as_said(alloc, framework, query.number(), says, set)?;
     Ok(accepts)
 }
 
@@ -259,22 +202,91 @@ fn accepts_as_said(
     }
 }
 
-/// The index of the first set of the certificate that fails its test, if there is one.
-pub(crate) fn first_bad_set(
-    alloc: Global,
-    framework: &Framework,
-    query: &Query,
-    row: &Row,
-    sets: &[NumSet],
-) -> Result<Option<usize>, Memory>
-    ensures { IfOk result (IsFirstWithout (λ k. PassesSet (framework_of framework.now) query.now row.now k
-        (slice_index_or sets.now k [])) (length sets.now)) }
-{
-    for index in 0..sets.len() {
-        let passes = passes_set(alloc, framework, query, row, index, &sets[index])?;
-        if !passes {
-            return Ok(Some(index));
+impl Checked<'_> {
+    /// Whether the certificate's set at an index passes its test.
+    fn passes_set(
+        &self,
+        alloc: Global,
+        index: usize,
+        set: &NumSet,
+        marks: &mut Marks,
+    ) -> Result<bool, Memory>
+        ensures { IfOk result (λ passes. IsTrue passes
+            ↔ PassesSet (framework_of self.now.framework.now) self.now.query.now self.now.row.now index set.now) }
+    {
+        match self.row {
+            Row::Covered(number) => Ok(covers(alloc, self.framework, set, *number, marks)?),
+            Row::Ranged(_) => Ok(is_admissible(alloc, self.framework, set, marks)?),
+            Row::Ideal(shown, says) => {
+                let passes = self.passes_ideal(alloc, shown, *says, index, set, marks)?;
+                Ok(passes)
+            }
+            _ => Ok(true),
         }
     }
-    Ok(None)
+
+    /// Whether the set at an index of a certificate for the ideal set passes its test.
+    fn passes_ideal(
+        &self,
+        alloc: Global,
+        shown: &Option<NumSet>,
+        says: Option<bool>,
+        index: usize,
+        set: &NumSet,
+        marks: &mut Marks,
+    ) -> Result<bool, Memory>
+        ensures { IfOk result (λ passes. IsTrue passes
+            ↔ PassesSet (framework_of self.now.framework.now) self.now.query.now (Ideal shown.now says) index set.now) }
+    {
+        if index == 0 {
+            let first = self.is_ideal_shown(alloc, shown, says, set, marks)?;
+            return Ok(first);
+        }
+        let admissible = is_admissible(alloc, self.framework, set, marks)?;
+        Ok(admissible)
+    }
+
+    /// Whether a set is admissible, the one that the answer shows, and accepts the query or not as the answer says.
+    fn is_ideal_shown(
+        &self,
+        alloc: Global,
+        shown: &Option<NumSet>,
+        says: Option<bool>,
+        set: &NumSet,
+        marks: &mut Marks,
+    ) -> Result<bool, Memory>
+        ensures { IfOk result (λ is. IsTrue is
+            ↔ (HoldsOf (framework_of self.now.framework.now) set.now Ad × (IsShown shown.now set.now
+            × AcceptsAsSaid (framework_of self.now.framework.now) self.now.query.now.number says set.now))) }
+    {
+        let admissible = is_admissible(alloc, self.framework, set, marks)?;
+        if !admissible {
+            return Ok(false);
+        }
+        let same = is_shown(shown, set);
+        if !same {
+            return Ok(false);
+        }
+        let accepts = accepts_as_said(alloc, self.framework, self.query.number(), says, set)?;
+        Ok(accepts)
+    }
+
+    /// The index of the first set of the certificate that fails its test, if there is one.
+    pub(crate) fn first_bad_set(
+        &self,
+        alloc: Global,
+        sets: &[NumSet],
+        marks: &mut Marks,
+    ) -> Result<Option<usize>, Memory>
+        ensures { IfOk result (IsFirstWithout (λ k. PassesSet (framework_of self.now.framework.now) self.now.query.now
+            self.now.row.now k (slice_index_or sets.now k [])) (length sets.now)) }
+    {
+        for index in 0..sets.len() {
+            let passes = self.passes_set(alloc, index, &sets[index], marks)?;
+            if !passes {
+                return Ok(Some(index));
+            }
+        }
+        Ok(None)
+    }
 }

@@ -1,6 +1,6 @@
 use Rattle.std.proofs.Common.{refl, sym, ◌∙◌, inr}
 use Rattle.std.proofs.lemmas.Bool.{false≢true}
-use Rattle.certificate_check.proofs.verdict.check_order.Goals as goal
+use Rattle.certificate_check.proofs.verdict.Checked.check_order.Goals as goal
 
 pub returns-then-not-ordered : goal.returns-then-not-ordered
 returns-then-not-ordered c =
