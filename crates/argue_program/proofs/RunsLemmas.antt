@@ -300,8 +300,8 @@ module _ (words : List (List ℕ)) (seen : Seen) (ended : Ended) (run : IsRunOf 
   output_fails : ((name : List ℕ) → NamesCertificate words name → seen.Accepts name) → ended.status ≡ WriteFault
       → FaultCounted seen.before.fault_count seen.after.fault_count
   output_fails all broken =
-      output_fault seen.files words seen.Accepts run.ending seen.before.fault_count seen.after.fault_count run.decided all
-      (run.refused broken)
+      output_fault seen.files words seen.Accepts run.ending seen.before.fault_count seen.after.fault_count
+      run.decided all (run.refused broken)
 
   no_write : ended.status ≢ WriteFault → seen.after.write_count ≡ seen.before.write_count
   no_write whole = (run.whole whole).1.no_fault.0
@@ -344,7 +344,8 @@ module _ (words : List (List ℕ)) (seen : Seen) (ended : Ended) (run : IsRunOf 
       → ended.status ≢ WriteFault → EndsCommand seen.files (check_row seen.files.holds by texts) ended.kept ended.status
   at_check texts by query asks whole =
       let P : Request → Type 0 = λ r. EndsCommand seen.files (row_of seen.files.holds r) ended.kept ended.status in
-      let Q : Option Asked → Type 0 = λ o. EndsCommand seen.files (check_row seen.files.holds o texts) ended.kept ended.status in
+      let Q : Option Asked → Type 0 =
+      λ o. EndsCommand seen.files (check_row seen.files.holds o texts) ended.kept ended.status in
       subst Q asks (subst P (requested_texts words texts query) (ends whole))
 
   -- where a check is done, the answer is right
@@ -447,7 +448,8 @@ module _ (words : List (List ℕ)) (seen : Seen) (ended : Ended) (run : IsRunOf 
       → ended.status ≢ WriteFault → EndsCommand seen.files (live_row seen.files.holds by texts) ended.kept ended.status
   at_script texts by asks budget_is whole =
       let P : Request → Type 0 = λ r. EndsCommand seen.files (row_of seen.files.holds r) ended.kept ended.status in
-      let Q : Option ℕ → Type 0 = λ o. EndsCommand seen.files (live_row seen.files.holds o texts) ended.kept ended.status in
+      let Q : Option ℕ → Type 0 =
+      λ o. EndsCommand seen.files (live_row seen.files.holds o texts) ended.kept ended.status in
       subst Q budget_is (subst P (requested_script words texts asks) (ends whole))
 
   lives_on : (texts : LiveTexts) (budget : ℕ) → IsLiveQuery words texts → budget_of texts.budget ≡ Some budget

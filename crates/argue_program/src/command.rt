@@ -37,8 +37,8 @@ pub fn execute<F: Files, O: Sink>(
 }
 
 /// Runs the program on the words after its name, with what its sessions need beside files and output: a runtime, and a
-/// gate for tests. Where the words ask for a script's run or that of a large input, its sessions run in threads of their
-/// own, and this returns where they do; on all other words it does what `execute` does.
+/// gate for tests. If the words ask for a script's run or that of a large input, its sessions run in threads of their
+/// own, and this returns if they do; on all other words it does what `execute` does.
 pub fn run<F: Files, O: Sink, P: Pace + Sync, R: Threads + Wait + Sync>(
     rt: &R,
     alloc: Global,

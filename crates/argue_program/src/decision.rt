@@ -61,7 +61,7 @@ pub fn decide<F: Files>(alloc: Global, words: &[String], files: &mut F) -> Endin
 }
 
 /// Decides how a run on any words ends: what it keeps, and what it has to write. Files are read, and nothing is
-/// written. All memory of a run is taken here. Where the words ask for it, the sessions of a script, or those of a large
+/// written. All memory of a run is taken here. If the words ask for it, the sessions of a script, or those of a large
 /// input, run in threads of their own.
 pub fn decide_with<R: Threads + Wait + Sync, F: Files, P: Pace + Sync>(
     rt: &R,

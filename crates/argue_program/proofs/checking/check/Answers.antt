@@ -8,5 +8,6 @@ returns-in-Err-clause-ending g c =
     check_stopped _ _ _ _ c.status_ending-in-Err.result c.in-Err.status (sym c.query_of.ensures ∙ c.in-Some.is)
     c.in-Err.ensures.err
     (λ none. c.in-Err.ensures.quiet (λ of e. none of (let is : Err c.in-Err.status ≡ Err (ReadFault of) = e in cc)))
-    c.in-Err.ensures.others c.status_ending-in-Err.ensures.status c.status_ending-in-Err.ensures.kept c.status_ending-in-Err.ensures.text
+    c.in-Err.ensures.others c.status_ending-in-Err.ensures.status c.status_ending-in-Err.ensures.kept
+    c.status_ending-in-Err.ensures.text
     c.status_ending-in-Err.ensures.files

@@ -13,7 +13,8 @@ write_ending-requires g c =
 
 pub returns-clause-run : goal.returns-clause-run
 returns-clause-run g c =
-    IsRunOf-written _ _ _ c.decide_with-ending.result _ _ _ c.decide_with-ending.ensures.ending c.decide_with-ending.ensures.same
+    IsRunOf-written _ _ _ c.decide_with-ending.result _ _ _ c.decide_with-ending.ensures.ending
+    c.decide_with-ending.ensures.same
     c.decide_with-ending.ensures.writes c.write_ending.ensures.kept c.write_ending.ensures.whole
     c.write_ending.ensures.broken c.write_ending.ensures.refused c.write_ending.ensures.reads
 

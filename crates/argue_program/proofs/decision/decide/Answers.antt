@@ -13,7 +13,8 @@ returns-in-Err-clause-ending g c =
     let row = row_of holds (requested (map string_bytes c.args.words.now)) in
     let takes = takes_memory holds _ (c.in-Err.ensures.memory refl) in
     IsEndingOf-stopped found row c.status_ending.result _ (EndsCommand-memory found row takes) takes
-    c.status_ending.ensures.status c.status_ending.ensures.kept c.status_ending.ensures.text c.status_ending.ensures.files
+    c.status_ending.ensures.status c.status_ending.ensures.kept c.status_ending.ensures.text
+    c.status_ending.ensures.files
     (CountsReads-none found row _ refl)
 
 pub decide_command-requires-clause-live : goal.decide_command-requires-clause-live

@@ -6,11 +6,13 @@ use Rattle.argue_program.proofs.solving.solve.Goals as goal
 
 pub returns-in-Err-clause-ending : goal.returns-in-Err-clause-ending
 returns-in-Err-clause-ending g c =
-    solve_stopped _ _ c.in-Some.query _ c.status_ending-in-Err.result (sym c.solving_of.ensures ∙ c.in-Some.is) c.in-Err.status
+    solve_stopped _ _ c.in-Some.query _ c.status_ending-in-Err.result (sym c.solving_of.ensures ∙ c.in-Some.is)
+    c.in-Err.status
     c.in-Err.ensures.err
     (λ other. c.in-Err.ensures.quiet (λ e. other (let is : Err c.in-Err.status ≡ Err (ReadFault (Framework 1)) =
     e in cc)))
-    c.in-Err.ensures.others c.status_ending-in-Err.ensures.status c.status_ending-in-Err.ensures.kept c.status_ending-in-Err.ensures.text
+    c.in-Err.ensures.others c.status_ending-in-Err.ensures.status c.status_ending-in-Err.ensures.kept
+    c.status_ending-in-Err.ensures.text
     c.status_ending-in-Err.ensures.files
 
 pub returns-in-Ok-session_ending-clause-ending : goal.returns-in-Ok-session_ending-clause-ending
