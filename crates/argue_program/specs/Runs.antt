@@ -56,7 +56,7 @@ use Rattle.argue_program.specs.declared.ended.Transcript.{Transcript}
 use Rattle.argue_commands.specs.declared.query.TheConstants.{LOG_LIMIT}
 
 -- the run of these words comes to an ending that the row of what they ask for has, and writes it whole, or ends with a
--- write fault in the midst of it: then the output failed, or it didn't accept a file's name
+-- write fault in the midst of it: then the output failed, or a file's name wasn't accepted
 pub record IsRunOf (words : List (List ℕ)) (seen : Seen) (ended : Ended) : Type 0 where
   pub ending : Ending
   pub decided : IsEndingFor seen.files (requested words) ending
