@@ -23,7 +23,7 @@ use Rattle.certificate_claims.specs.declared.certificate.Certificate.{Certificat
 use Rattle.certificate_text.specs.declared.fault.CertFault.{CertFault}
 use Rattle.certificate_text.specs.declared.fault.CertFault.TheVariants as certificate_fault
 use Rattle.argue_commands.specs.Checks.{CheckEnds, ChecksFiles, EndsChecking, HasCheckBytes, IsChecked, IsTextFault, answer_status, certificate_status, check_inputs}
-use Rattle.argue_commands.specs.Inputs.{EndsReading, Follow, Input, IsRead, IsSoundIn, IsUnrefused, Passes, Reading, StopsAt, StopsAtFirst, StopsReading, input, reading, status_of_fault}
+use Rattle.argue_commands.specs.Inputs.{EndsReading, Follow, Input, IsRead, IsSoundIn, IsUnrefused, Passes, Reading, StopsAt, StopsAtFirst, StopsReading, input, status_of_fault}
 use Rattle.argue_commands.specs.Texts.{common_text}
 use Rattle.argue_commands.specs.declared.checking.CheckBytes.{CheckBytes}
 use Rattle.argue_commands.specs.declared.checking.Checked.{Checked}
@@ -71,9 +71,12 @@ pub later_stops : (found : Reading) (one : Input) (more : List Input) (end : Sta
 later_stops found one more end r h (inl stops) = inl (inr (passes_unrefused found one end h r, stops))
 later_stops found one more end r h (inr memory) = inr memory
 
+abbrev pub parts : (List ℕ → KnownFile) → (List ℕ → Type 0) → (Role → ℕ) → (Role → ℕ) → Reading
+parts h S c n = record { holds = h; Serves = S; old_count = c; new_count = n }
+
 -- what a later call knows of the files is what was known at first
 still_stops : (h : List ℕ → KnownFile) (S S' : List ℕ → Type 0) (c n : Role → ℕ) (one : Input) (end : Status)
-    → HoldsStill S S' → StopsAt (reading h S' c n) end one → StopsAt (reading h S c n) end one
+    → HoldsStill S S' → StopsAt (parts h S' c n) end one → StopsAt (parts h S c n) end one
 still_stops h S S' c n one (InputRefused (Line of line cause)) still stops =
     (stops.0, record { bytes = stops.1.bytes; has = stops.1.has; first = stops.1.first })
 still_stops h S S' c n one (InputRefused (Query fault)) still stops = absurd stops
@@ -90,10 +93,10 @@ still_stops h S S' c n one WantOfMemory still stops = absurd stops
 still_stops h S S' c n one (Rejected failure refutation step) still stops = absurd stops
 
 pub moved : (h h' : List ℕ → KnownFile) (S S' : List ℕ → Type 0) (c c' n : Role → ℕ) (one : Input) (end : Status)
-    → h' ≡ h → HoldsStill S S' → c' ≡ c → EndsReading (reading h' S' c' n) one end → EndsReading (reading h S c n) one end
+    → h' ≡ h → HoldsStill S S' → c' ≡ c → EndsReading (parts h' S' c' n) one end → EndsReading (parts h S c n) one end
 moved h h' S S' c c' n one end holds still counts (inl stops) =
-    let P : (List ℕ → KnownFile) → Type 0 = λ k. StopsAt (reading k S' c' n) end one in
-    let Q : (Role → ℕ) → Type 0 = λ k. StopsAt (reading h S' k n) end one in
+    let P : (List ℕ → KnownFile) → Type 0 = λ k. StopsAt (parts k S' c' n) end one in
+    let Q : (Role → ℕ) → Type 0 = λ k. StopsAt (parts h S' k n) end one in
     inl (still_stops h S S' c n one end still (subst Q counts (subst P holds stops)))
 moved h h' S S' c c' n one end holds still counts (inr memory) = inr memory
 

@@ -1,6 +1,7 @@
 -- The inputs of a run, and how one of them ends it.
 use Rattle.std.specs.Prelude.{◌≡◌, ℕ, ◌≤◌, ◌⊎◌, List, [], ◌∷◌, length, Contains, Err}
 use Rattle.argue_outside.specs.Outside.{FaultCounted, HoldsWhole, IsLonger, KnownFile}
+use Rattle.argue_outside.specs.declared.Files.{Ghosts as FilesWords}
 use Rattle.argue_outside.specs.declared.Role.{Role}
 use Rattle.argue_outside.specs.declared.Role.TheVariants.{Framework, Script as OfScript, Answer as OfAnswer, Certificate as OfCertificate}
 use Rattle.iccma_tasks.specs.AnswerText.{IsFaultOf}
@@ -28,9 +29,14 @@ pub record Reading : Type 1 where
   pub old_count : Role → ℕ
   pub new_count : Role → ℕ
 
-abbrev pub reading : (List ℕ → KnownFile) → (List ℕ → Type 0) → (Role → ℕ) → (Role → ℕ) → Reading
-reading holds Serves old_count new_count =
-    record { holds = holds; Serves = Serves; old_count = old_count; new_count = new_count }
+-- that of these files before and after, by the words of their trait
+abbrev pub reading : {S : Type 0} → FilesWords S → S → S → Reading
+reading files old new = record {
+  holds = files.holds old;
+  Serves = files.serves old;
+  old_count = files.read_count old;
+  new_count = files.read_count new;
+}
 
 -- a file that a command reads, and what for
 pub record Input : Type 0 where

@@ -67,8 +67,8 @@ fn read_files<F: Files>(
     words: &CheckWords<'_>,
 ) -> Result<CheckBytes, Status>
     ensures ok { IfOk result (HasCheckBytes (F.holds files.old) (check_texts words.now)) }
-    ensures err { IfErr result (StopsReading (reading (F.holds files.old) (F.serves files.old) (F.read_count files.old)
-        (F.read_count files.new)) (check_inputs (check_texts words.now))) }
+    ensures err { IfErr result
+        (StopsReading (reading F.Files files.old files.new) (check_inputs (check_texts words.now))) }
     ensures quiet { ((role : ARole) → IsErrOf result (Status.ReadFault role) → ⊥)
         → F.read_count files.new ≡ F.read_count files.old }
     ensures others { (role : ARole) → role ≢ Role.Framework 1 → role ≢ Role.Answer → role ≢ Role.Certificate
@@ -182,8 +182,8 @@ pub fn check_files<F: Files>(
     words: &CheckWords<'_>,
 ) -> Result<(), Status>
     ensures ok { OnOk result (ChecksFiles (F.holds files.old) query.now (check_texts words.now) Status.Done) }
-    ensures err { IfErr result (EndsChecking (reading (F.holds files.old) (F.serves files.old) (F.read_count files.old)
-        (F.read_count files.new)) query.now (check_texts words.now)) }
+    ensures err { IfErr result
+        (EndsChecking (reading F.Files files.old files.new) query.now (check_texts words.now)) }
     ensures told { IfErr result (λ end. IsSome (common_text end)) }
     ensures quiet { ((role : ARole) → IsErrOf result (Status.ReadFault role) → ⊥)
         → F.read_count files.new ≡ F.read_count files.old }

@@ -34,8 +34,7 @@ pub(crate) fn read_input<F: Files>(
 ) -> Result<Bytes, Status>
     requires { IsRole role }
     ensures ok { IfOk result (HasBytes (F.holds files.old name.now)) }
-    ensures err { IfErr result (EndsReading (reading (F.holds files.old) (F.serves files.old) (F.read_count files.old)
-        (F.read_count files.new)) (input role name.now)) }
+    ensures err { IfErr result (EndsReading (reading F.Files files.old files.new) (input role name.now)) }
     ensures unrefused { IfErr result IsUnrefused }
     ensures quiet { (IsErrOf result (Status.ReadFault role) → ⊥) → F.read_count files.new ≡ F.read_count files.old }
     ensures others { OtherCountsKept role (F.read_count files.old) (F.read_count files.new) }
@@ -74,8 +73,8 @@ pub(crate) fn read_framework<F: Files>(
 ) -> Result<Framework, Status>
     requires { IsRole (Role.Framework number) }
     ensures ok { IfOk result (λ framework. IsFrameworkOf (F.holds files.old name.now) (framework_of framework)) }
-    ensures err { IfErr result (EndsReading (reading (F.holds files.old) (F.serves files.old) (F.read_count files.old)
-        (F.read_count files.new)) (input (Role.Framework number) name.now)) }
+    ensures err { IfErr result
+        (EndsReading (reading F.Files files.old files.new) (input (Role.Framework number) name.now)) }
     ensures quiet { (IsErrOf result (Status.ReadFault (Role.Framework number)) → ⊥)
         → F.read_count files.new ≡ F.read_count files.old }
     ensures others { OtherCountsKept (Role.Framework number) (F.read_count files.old) (F.read_count files.new) }

@@ -39,8 +39,8 @@ fn read_files<F: Files>(
     words: &LiveWords<'_>,
 ) -> Result<LiveBytes, Status>
     ensures ok { IfOk result (HasLiveBytes (F.holds files.old) (live_texts words.now)) }
-    ensures err { IfErr result (StopsReading (reading (F.holds files.old) (F.serves files.old) (F.read_count files.old)
-        (F.read_count files.new)) (live_inputs (live_texts words.now))) }
+    ensures err { IfErr result
+        (StopsReading (reading F.Files files.old files.new) (live_inputs (live_texts words.now))) }
     ensures quiet { ((role : ARole) → IsErrOf result (Status.ReadFault role) → ⊥)
         → F.read_count files.new ≡ F.read_count files.old }
     ensures others { (role : ARole) → role ≢ Role.Framework 1 → role ≢ Role.Script
@@ -94,8 +94,8 @@ pub fn open_files<F: Files>(
     words: &LiveWords<'_>,
 ) -> Result<Opened, Status>
     ensures ok { IfOk result (OpensFiles (F.holds files.old) (live_texts words.now)) }
-    ensures err { IfErr result (StopsReading (reading (F.holds files.old) (F.serves files.old) (F.read_count files.old)
-        (F.read_count files.new)) (live_inputs (live_texts words.now))) }
+    ensures err { IfErr result
+        (StopsReading (reading F.Files files.old files.new) (live_inputs (live_texts words.now))) }
     ensures told { IfErr result (λ end. IsSome (common_text end)) }
     ensures quiet { ((role : ARole) → IsErrOf result (Status.ReadFault role) → ⊥)
         → F.read_count files.new ≡ F.read_count files.old }

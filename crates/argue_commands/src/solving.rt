@@ -81,8 +81,8 @@ pub fn solve_file<F: Files>(
     words: &SolveWords<'_>,
 ) -> Result<KeptSession, Status>
     ensures ok { IfOk result (IsSessionOn (F.holds files.old words.now.file.now) solving.now) }
-    ensures err { IfErr result (EndsReading (reading (F.holds files.old) (F.serves files.old) (F.read_count files.old)
-        (F.read_count files.new)) (input (Role.Framework 1) words.now.file.now)) }
+    ensures err { IfErr result
+        (EndsReading (reading F.Files files.old files.new) (input (Role.Framework 1) words.now.file.now)) }
     ensures told { IfErr result (λ end. IsSome (common_text end)) }
     ensures quiet { (IsErrOf result (Status.ReadFault (Role.Framework 1)) → ⊥)
         → F.read_count files.new ≡ F.read_count files.old }

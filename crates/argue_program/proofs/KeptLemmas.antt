@@ -7,7 +7,7 @@ use Rattle.argue_words.proofs.RequestLaws.{input_requested, query_requested, scr
 use Rattle.argue_commands.specs.Inputs.{Reading}
 use Rattle.argue_commands.specs.Replacing.{FileText, certificate_files, file_text, RefusesFile}
 use Rattle.argue_commands.proofs.ReplacingLemmas.{HaveOtherNames}
-use Rattle.argue_program.specs.Rows.{EndsCommand, IsEndingOf, Row, bench_row, check_row, certificates_files, files_beside, live_row, nothing_kept, reply_files, row_of, script_files, script_kept, session_files, solve_row}
+use Rattle.argue_program.specs.Rows.{EndsCommand, IsEndingFor, IsEndingOf, bench_row, check_row, certificates_files, files_beside, live_row, nothing_kept, reply_files, row_of, script_files, script_kept, session_files, solve_row}
 use Rattle.iccma_tasks.specs.Tasks.{Asked}
 use Rattle.argue_program.specs.LargeInputs.{large_by}
 use Rattle.argue_commands.specs.Queries.{asked_by, budget_of, solving_by}
@@ -25,8 +25,9 @@ use Rattle.bench_runs.specs.oracle_core.specs.declared.reply.AnswerStop.{AnswerS
 use Rattle.bench_runs.specs.oracle_core.specs.declared.reply.Answered.{Answered}
 use Rattle.certificate_claims.specs.declared.certificate.Certificate.{Certificate}
 use Rattle.argue_program.specs.Runs.{AsksLarge, AsksScript, AsksSession, AsksTranscript, IsRunOf, NamesCertificate}
+use Rattle.argue_program.specs.Seen.{Seen}
 use Rattle.argue_program.specs.Writing.{BreaksOff, IsWritten, Output}
-use Rattle.argue_program.specs.declared.decision.Ending.{Ending}
+use Rattle.argue_program.specs.declared.ending.Ending.{Ending}
 use Rattle.argue_program.specs.declared.ended.Ended.{Ended}
 use Rattle.argue_commands.specs.declared.ended.KeptSession.{KeptSession}
 use Rattle.argue_commands.specs.declared.ended.Status.{Status}
@@ -148,27 +149,28 @@ write_fault_or (Limit l) = inr (λ e. cc)
 write_fault_or (Rejected failure r s) = inr (λ e. cc)
 
 -- what is decided and then written is a run
-pub IsRunOf-written : (found : Reading) (holds : List ℕ → KnownFile) (count : Role
-    → ℕ) (row : Row) (ended : Ended) (writes : ℕ)
-    (old new : Output) (ending : Ending) → IsEndingOf (record found {
-      new_count =
-          count;
-    }) row ending → found.new_count ≡ count
-    → ended.kept ≡ ending.kept
-    → (ended.status ≢ WriteFault
-    → (ended.status ≡ ending.status) × IsWritten ending (record old { holds = holds; write_count = writes }) new)
-    → (ended.status ≡ WriteFault → BreaksOff ending (record old { holds = holds; write_count = writes }) new)
-    → holds ≡ old.holds → writes ≡ old.write_count → IsRunOf found row ended old new
-IsRunOf-written found holds count row ended writes old new ending decided reads kept whole broken same none =
-    let before : Output = record old { holds = holds; write_count = writes } in
-    let is : before ≡ old = λ i. record old { holds = same i; write_count = none i } in
-    let P : (Role → ℕ) → Type 0 = λ c. IsEndingOf (record found { new_count = c }) row ending in
+pub IsRunOf-written : (words : List (List ℕ)) (seen : Seen) (ended : Ended) (ending : Ending) (count : Role → ℕ)
+    (holds : List ℕ → KnownFile) (writes : ℕ)
+    → IsEndingFor (record seen.files { new_count = count }) (requested words) ending → holds ≡ seen.before.holds
+    → writes ≡ seen.before.write_count → ended.kept ≡ ending.kept
+    → (ended.status ≢ WriteFault → (ended.status ≡ ending.status)
+    × IsWritten ending (record seen.before { holds = holds; write_count = writes }) seen.after)
+    → (ended.status ≡ WriteFault
+    → BreaksOff ending (record seen.before { holds = holds; write_count = writes }) seen.after)
+    → (ended.status ≡ WriteFault → FaultCounted seen.before.fault_count seen.after.fault_count
+    ⊎ RefusesFile seen.Accepts (map file_text ending.files))
+    → seen.files.new_count ≡ count → IsRunOf words seen ended
+IsRunOf-written words seen ended ending count holds writes decided same none kept whole broken refused reads =
+    let old : Output = record seen.before { holds = holds; write_count = writes } in
+    let is : old ≡ seen.before = λ i. record seen.before { holds = same i; write_count = none i } in
+    let P : (Role → ℕ) → Type 0 = λ c. IsEndingFor (record seen.files { new_count = c }) (requested words) ending in
     record {
       ending = ending;
       decided = subst P (sym reads) decided;
       kept = kept;
-      whole = λ w. let both = whole w in (both.0, subst (λ (o : Output). IsWritten ending o new) is both.1);
-      broken = λ b. subst (λ (o : Output). BreaksOff ending o new) is (broken b);
+      whole = λ w. let both = whole w in (both.0, subst (λ (o : Output). IsWritten ending o seen.after) is both.1);
+      broken = λ b. subst (λ (o : Output). BreaksOff ending o seen.after) is (broken b);
+      refused = refused;
     }
 
 -- nothing is kept, and so no session

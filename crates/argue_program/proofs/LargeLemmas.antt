@@ -8,7 +8,7 @@ use Rattle.argue_commands.specs.Inputs.{Reading}
 use Rattle.argue_commands.specs.Replacing.{file_text}
 use Rattle.argue_program.specs.Rows.{EndsSummed, IsEndingOf, bench_row, files_beside}
 use Rattle.argue_commands.specs.Texts.{common_text}
-use Rattle.argue_program.specs.declared.decision.Ending.{Ending}
+use Rattle.argue_program.specs.declared.ending.Ending.{Ending}
 use Rattle.argue_program.specs.declared.large.LargeInput.{LargeInput}
 use Rattle.argue_program.proofs.RowsLemmas.{CountsReads-none}
 

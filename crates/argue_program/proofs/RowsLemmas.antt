@@ -29,7 +29,7 @@ use Rattle.bench_runs.specs.oracle_core.specs.declared.reply.AnswerStop.{AnswerS
 use Rattle.bench_runs.specs.oracle_core.specs.declared.reply.AnswerStop.TheVariants as stop
 use Rattle.bench_runs.specs.oracle_core.specs.declared.reply.Answered.{Answered}
 use Rattle.argue_commands.specs.Texts.{IsRefusal, common_text, text_bytes}
-use Rattle.argue_program.specs.declared.decision.Ending.{Ending}
+use Rattle.argue_program.specs.declared.ending.Ending.{Ending}
 use Rattle.argue_commands.specs.declared.ended.Status.{Status}
 use Rattle.argue_commands.specs.declared.ended.Status.TheVariants.{Done, Usage, InputRefused, ReadFault, WriteFault, WantOfMemory, Unknown, Limit}
 use Rattle.argue_program.specs.declared.ended.Transcript.{Transcript}

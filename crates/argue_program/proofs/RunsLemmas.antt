@@ -30,9 +30,10 @@ use Rattle.semantics.specs.Frameworks.{Framework as AnyFramework}
 use Rattle.iccma_tasks.specs.WrittenText.{text_of as answer_text}
 use Rattle.iccma_tasks.specs.declared.answer.Answer.{Answer}
 use Rattle.certificate_claims.specs.declared.certificate.Certificate.{Certificate}
+use Rattle.argue_program.specs.Promises.{Promises}
+use Rattle.argue_program.specs.Seen.{Seen}
 use Rattle.argue_program.specs.Runs.{AnswersRight, AsksSession, AsksTranscript, ChecksContents, FillsLog, IsCheckEnd, IsDoneOrMemory, IsFaultyScript, IsLiveEnd, IsRunOf, IsSolveEnd, LivesContents, NamesCertificate, QueriesBytes, RefusesBytes, RefusesLength, RefusesWords, ScriptsBytes, SolvesContents, SpendsBudget, WritesAnswer, WritesSummary, WritesTranscript}
 use Rattle.argue_commands.specs.Texts.{common_text, text_bytes}
-use Rattle.argue_program.specs.Writing.{Output}
 use Rattle.argue_program.specs.declared.ended.Ended.{Ended}
 use Rattle.argue_commands.specs.declared.ended.KeptSession.{KeptSession}
 use Rattle.argue_commands.specs.declared.ended.Limit.TheVariants as limit
@@ -42,7 +43,7 @@ use Rattle.argue_program.specs.declared.ended.Transcript.{Transcript}
 use Rattle.num_text.specs.declared.limit.TheConstants.{INPUT_LIMIT}
 use Rattle.argue_program.proofs.EndsLemmas.{EndsLiving, EndsQuery, at_query, done_no_memory, done_right, ends_check, ends_live, ends_large, ends_living, ends_query, ends_solve, ends_unknown, large_done, problems_done, refuses_bytes, refuses_length, refuses_long_script, refuses_script, refuses_words, version_done}
 use Rattle.argue_commands.proofs.ReplacingLemmas.{HaveOtherNames, written_other, broken_other}
-use Rattle.argue_program.proofs.KeptLemmas.{ending_other, write_fault_or, kept_at, script_at}
+use Rattle.argue_program.proofs.KeptLemmas.{ending_other, kept_at, output_fault, script_at, write_fault_or}
 
 -- ---- a run that ends by its session alone
 
@@ -208,156 +209,173 @@ no_files files Unknown other = refl
 no_files files (Limit l) other = refl
 no_files files (Rejected failure r s) other = refl
 
-module _ (found : Reading) (words : List (List ℕ)) (ended : Ended) (old new : Output)
-    (run : IsRunOf found (row_of found.holds (requested words)) ended old new) where
-  ends : ended.status ≢ WriteFault → EndsCommand found (row_of found.holds (requested words)) ended.kept ended.status
+module _ (words : List (List ℕ)) (seen : Seen) (ended : Ended) (run : IsRunOf words seen ended) where
+  ends : ended.status ≢ WriteFault
+      → EndsCommand seen.files (row_of seen.files.holds (requested words)) ended.kept ended.status
   ends whole =
-      let P : Transcript → Type 0 = λ k. EndsCommand found (row_of found.holds (requested words)) k run.ending.status in
-      let Q : Status → Type 0 = EndsCommand found (row_of found.holds (requested words)) ended.kept in
+      let P : Transcript → Type 0 =
+      λ k. EndsCommand seen.files (row_of seen.files.holds (requested words)) k run.ending.status in
+      let Q : Status → Type 0 = EndsCommand seen.files (row_of seen.files.holds (requested words)) ended.kept in
       subst Q (sym (run.whole whole).0) (subst P (sym run.kept) run.decided.cause)
 
   ends_on : (texts : SolveTexts) (query : Solving) → IsSolveQuery words texts → solving_by texts ≡ Some query
-      → ended.status ≢ WriteFault → EndsQuery found texts query ended.kept ended.status
+      → ended.status ≢ WriteFault → EndsQuery seen.files texts query ended.kept ended.status
   ends_on texts query asks query_is whole =
-      ends_query found texts query ended.kept ended.status
-      (at_query found words texts (Some query) ended.kept ended.status asks query_is (ends whole))
+      ends_query seen.files texts query ended.kept ended.status
+      (at_query seen.files words texts (Some query) ended.kept ended.status asks query_is (ends whole))
 
   -- a session that the run keeps is that of the words' query
-  pub right_session : (session : KeptSession) → ended.kept.session ≡ Some session
-      → AsksSession words found.holds session
+  right_session : (session : KeptSession) → ended.kept.session ≡ Some session
+      → AsksSession words seen.files.holds session
   right_session session is =
-      let P : Transcript → Type 0 = λ k. EndsCommand found (row_of found.holds (requested words)) k run.ending.status in
-      kept_at found words (requested words) ended.kept run.ending.status session refl (subst P
+      let P : Transcript → Type 0 =
+      λ k. EndsCommand seen.files (row_of seen.files.holds (requested words)) k run.ending.status in
+      kept_at seen.files words (requested words) ended.kept run.ending.status session refl (subst P
       (sym run.kept) run.decided.cause) is
 
-  kept_why : SaysWhy ended.status → KeepsAsked words found.holds ended.kept ended.status
+  kept_why : SaysWhy ended.status → KeepsAsked words seen.files.holds ended.kept ended.status
   kept_why why =
-      keeps_asked found words (requested words) ended.kept ended.status why refl
+      keeps_asked seen.files words (requested words) ended.kept ended.status why refl
       (ends (not_why ended.status WriteFault why (λ w. w)))
 
   -- a run that ends as unknown spent the budget
-  pub spent : ended.status ≡ Unknown → SpendsBudget words found.holds ended.kept
+  spent : ended.status ≡ Unknown → SpendsBudget words seen.files.holds ended.kept
   spent is =
-      spends_budget words found.holds ended.kept
-      (subst (KeepsAsked words found.holds ended.kept) is (kept_why (subst SaysWhy (sym is) tt)))
+      spends_budget words seen.files.holds ended.kept
+      (subst (KeepsAsked words seen.files.holds ended.kept) is (kept_why (subst SaysWhy (sym is) tt)))
 
   -- a run that ends by a full log filled it
-  pub filled : ended.status ≡ Limit limit.Log → FillsLog words found.holds ended.kept
+  filled : ended.status ≡ Limit limit.Log → FillsLog words seen.files.holds ended.kept
   filled is =
-      fills_log words found.holds ended.kept
-      (subst (KeepsAsked words found.holds ended.kept) is (kept_why (subst SaysWhy (sym is) tt)))
+      fills_log words seen.files.holds ended.kept
+      (subst (KeepsAsked words seen.files.holds ended.kept) is (kept_why (subst SaysWhy (sym is) tt)))
 
-  pub complete : (texts : SolveTexts) (query : Solving) (f : AnyFramework) → SolvesContents found words texts query f
-      → IsSolveEnd f query ended.kept ended.status
+  complete : (texts : SolveTexts) (query : Solving) (f : AnyFramework)
+      → SolvesContents seen.files words texts query f → IsSolveEnd f query ended.kept ended.status
   complete texts query f contents = ⊎_elim
       (λ broken. let P : Status → Type 0 = IsSolveEnd f query ended.kept in subst P (sym broken) tt)
-      (λ whole. ends_solve found words texts query f contents ended.kept ended.status
+      (λ whole. ends_solve seen.files words texts query f contents ended.kept ended.status
       (ends_on texts query contents.asks contents.query_is whole)) (write_fault_or ended.status)
 
-  pub faulty : (texts : SolveTexts) (query : Solving) (bytes : List ℕ) → QueriesBytes found words texts query bytes
-      → IsFaulty bytes → length bytes ≤ INPUT_LIMIT → RefusesBytes (Framework 1) bytes ended.status
+  faulty : (texts : SolveTexts) (query : Solving) (bytes : List ℕ)
+      → QueriesBytes seen.files words texts query bytes → IsFaulty bytes → length bytes ≤ INPUT_LIMIT
+      → RefusesBytes (Framework 1) bytes ended.status
   faulty texts query bytes asks bad short =
-      refuses_bytes found words texts query bytes ended.kept asks ended.status bad short
+      refuses_bytes seen.files words texts query bytes ended.kept asks ended.status bad short
       (ends_on texts query asks.asks asks.query_is)
 
-  pub too_long : (texts : SolveTexts) (query : Solving) (bytes : List ℕ) → QueriesBytes found words texts query bytes
-      → INPUT_LIMIT < length bytes → RefusesLength ended.status
+  too_long : (texts : SolveTexts) (query : Solving) (bytes : List ℕ)
+      → QueriesBytes seen.files words texts query bytes → INPUT_LIMIT < length bytes → RefusesLength ended.status
   too_long texts query bytes asks long =
-      refuses_length found words texts query bytes ended.kept asks ended.status long
+      refuses_length seen.files words texts query bytes ended.kept asks ended.status long
       (ends_on texts query asks.asks asks.query_is)
 
   -- a query that there isn't is refused
-  pub no_query : (texts : SolveTexts) → IsSolveQuery words texts → solving_by texts ≡ None → RefusesWords ended.status
+  no_query : (texts : SolveTexts) → IsSolveQuery words texts → solving_by texts ≡ None → RefusesWords ended.status
   no_query texts asks none =
-      refuses_words found ended.kept ended.status
-      (λ whole. at_query found words texts None ended.kept ended.status asks none (ends whole))
+      refuses_words seen.files ended.kept ended.status
+      (λ whole. at_query seen.files words texts None ended.kept ended.status asks none (ends whole))
 
-  pub problems_told : words_are_problems words ≡ true → ended.status ≢ WriteFault → IsDoneOrMemory ended.status
+  problems_told : words_are_problems words ≡ true → ended.status ≢ WriteFault → IsDoneOrMemory ended.status
   problems_told listed whole =
-      let P : Request → Type 0 = λ r. EndsCommand found (row_of found.holds r) ended.kept ended.status in
-      problems_done found ended.kept ended.status (subst P (requested_list words listed) (ends whole))
+      let P : Request → Type 0 = λ r. EndsCommand seen.files (row_of seen.files.holds r) ended.kept ended.status in
+      problems_done seen.files ended.kept ended.status (subst P (requested_list words listed) (ends whole))
 
-  pub usage : ¬ AreWords words → RefusesWords ended.status
+  usage : ¬ AreWords words → RefusesWords ended.status
   usage other =
-      let P : Request → Type 0 = λ r. EndsCommand found (row_of found.holds r) ended.kept ended.status in
-      refuses_words found ended.kept ended.status (λ whole. subst P (requested_unknown words other) (ends whole))
+      let P : Request → Type 0 = λ r. EndsCommand seen.files (row_of seen.files.holds r) ended.kept ended.status in
+      refuses_words seen.files ended.kept ended.status (λ whole. subst P (requested_unknown words other) (ends whole))
 
-  pub version_is_done : words ≡ [] → ended.status ≢ WriteFault → ended.status ≡ Done
+  version_is_done : words ≡ [] → ended.status ≢ WriteFault → ended.status ≡ Done
   version_is_done none whole =
-      let P : Request → Type 0 = λ r. EndsCommand found (row_of found.holds r) ended.kept ended.status in
-      version_done found ended.kept ended.status (subst P (requested_none words none) (ends whole))
+      let P : Request → Type 0 = λ r. EndsCommand seen.files (row_of seen.files.holds r) ended.kept ended.status in
+      version_done seen.files ended.kept ended.status (subst P (requested_none words none) (ends whole))
 
-  pub write_fault : ended.status ≡ WriteFault
-      → FaultCounted old.fault_count new.fault_count ⊎ FaultCounted old.write_count new.write_count
+  write_fault : ended.status ≡ WriteFault
+      → FaultCounted seen.before.fault_count seen.after.fault_count
+      ⊎ FaultCounted seen.before.write_count seen.after.write_count
   write_fault broken = ⊎_elim (λ files. inr files.counted) (λ text. inl text.counted) (run.broken broken)
 
-  pub no_write : ended.status ≢ WriteFault → new.write_count ≡ old.write_count
+  -- where each name for certificates is accepted, a write fault is one of the output
+  output_fails : ((name : List ℕ) → NamesCertificate words name → seen.Accepts name) → ended.status ≡ WriteFault
+      → FaultCounted seen.before.fault_count seen.after.fault_count
+  output_fails all broken =
+      output_fault seen.files words seen.Accepts run.ending seen.before.fault_count seen.after.fault_count
+      run.decided all (run.refused broken)
+
+  no_write : ended.status ≢ WriteFault → seen.after.write_count ≡ seen.before.write_count
   no_write whole = (run.whole whole).1.no_fault.0
 
   -- the files that the ending has to write have other names than one that names no certificate
   named_otherwise : (name : List ℕ) → ¬ NamesCertificate words name
       → HaveOtherNames name (map file_text run.ending.files)
-  named_otherwise name other = ending_other found words run.ending name run.decided other
+  named_otherwise name other = ending_other seen.files words run.ending name run.decided other
 
-  pub other_files : (name : List ℕ) → ¬ NamesCertificate words name → new.holds name ≡ old.holds name
+  other_files : (name : List ℕ) → ¬ NamesCertificate words name → seen.after.holds name ≡ seen.before.holds name
   other_files name other =
       let names = named_otherwise name other in
+      let files = map file_text run.ending.files in
+      let old = seen.before.holds in
+      let new = seen.after.holds in
       ⊎_elim
       (λ broken. ⊎_elim
-      (λ in_files. broken_other name (map file_text run.ending.files) old.holds new.holds names in_files.files)
-      (λ in_text. written_other name (map file_text run.ending.files) old.holds new.holds names in_text.files)
+      (λ in_files. broken_other name files old new names in_files.files)
+      (λ in_text. written_other name files old new names in_text.files)
       (run.broken broken))
-      (λ whole. written_other name (map file_text run.ending.files) old.holds new.holds names (run.whole whole).1.files)
+      (λ whole. written_other name files old new names (run.whole whole).1.files)
       (write_fault_or ended.status)
 
-  pub untouched : ended.status ≢ Done → ended.status ≢ WriteFault → new.holds ≡ old.holds
+  untouched : ended.status ≢ Done → ended.status ≢ WriteFault → seen.after.holds ≡ seen.before.holds
   untouched other whole =
       let both = run.whole whole in
-      let P : List FileText → Type 0 = λ files. WritesFiles files old.holds new.holds in
+      let P : List FileText → Type 0 = λ files. WritesFiles files seen.before.holds seen.after.holds in
       let none : map file_text run.ending.files ≡ [] =
       run.decided.files
-      ∙ no_files ((row_of found.holds (requested words)).files run.ending.kept run.ending.status) run.ending.status
+      ∙ no_files ((row_of seen.files.holds (requested words)).files run.ending.kept run.ending.status) run.ending.status
       (λ done. other (both.0 ∙ done)) in
       subst P none both.1.files
 
-  pub other_counts : (other : Role) → HasNoInput (row_of found.holds (requested words)) other
-      → found.new_count other ≡ found.old_count other
+  other_counts : (other : Role) → HasNoInput (row_of seen.files.holds (requested words)) other
+      → seen.files.new_count other ≡ seen.files.old_count other
   other_counts other none = run.decided.counts.others other none
 
   -- at a check, the row is that of its query
   at_check : (texts : CheckTexts) (by : Option Asked) → IsCheckQuery words texts → asked_by texts.task texts.number ≡ by
-      → ended.status ≢ WriteFault → EndsCommand found (check_row found.holds by texts) ended.kept ended.status
+      → ended.status ≢ WriteFault → EndsCommand seen.files (check_row seen.files.holds by texts) ended.kept ended.status
   at_check texts by query asks whole =
-      let P : Request → Type 0 = λ r. EndsCommand found (row_of found.holds r) ended.kept ended.status in
-      let Q : Option Asked → Type 0 = λ o. EndsCommand found (check_row found.holds o texts) ended.kept ended.status in
+      let P : Request → Type 0 = λ r. EndsCommand seen.files (row_of seen.files.holds r) ended.kept ended.status in
+      let Q : Option Asked → Type 0 =
+      λ o. EndsCommand seen.files (check_row seen.files.holds o texts) ended.kept ended.status in
       subst Q asks (subst P (requested_texts words texts query) (ends whole))
 
   -- where a check is done, the answer is right
-  pub accepted : (texts : CheckTexts) → IsCheckQuery words texts → ended.status ≡ Done → AnswersRight found.holds texts
+  accepted : (texts : CheckTexts) → IsCheckQuery words texts → ended.status ≡ Done
+      → AnswersRight seen.files.holds texts
   accepted texts query done =
       let P : Status → Type 0 =
-      λ e. EndsCommand found (check_row found.holds (asked_by texts.task texts.number) texts) ended.kept e in
-      done_right found (asked_by texts.task texts.number) texts ended.kept refl
+      λ e. EndsCommand seen.files (check_row seen.files.holds (asked_by texts.task texts.number) texts) ended.kept e in
+      done_right seen.files (asked_by texts.task texts.number) texts ended.kept refl
       (subst P done (at_check texts (asked_by texts.task texts.number) query refl (λ e. let x : Done ≡ WriteFault =
       sym done ∙ e in cc)))
 
-  pub checked : (texts : CheckTexts) (asked : Asked) (f : AnyFramework) (answer : Answer) (certificate : Certificate)
-      → ChecksContents found words texts asked f answer certificate → IsCheckEnd f asked answer certificate ended.status
+  checked : (texts : CheckTexts) (asked : Asked) (f : AnyFramework) (answer : Answer) (certificate : Certificate)
+      → ChecksContents seen.files words texts asked f answer certificate
+      → IsCheckEnd f asked answer certificate ended.status
   checked texts asked f answer certificate contents = ⊎_elim
       (λ broken. let P : Status → Type 0 = IsCheckEnd f asked answer certificate in subst P (sym broken) tt)
-      (λ whole. ends_check found words texts asked f answer certificate contents ended.kept ended.status
+      (λ whole. ends_check seen.files words texts asked f answer certificate contents ended.kept ended.status
       (at_check texts (Some asked) contents.query contents.asks whole)) (write_fault_or ended.status)
 
   -- a check that asks no query is refused
-  pub unasked : (texts : CheckTexts) → IsCheckQuery words texts → asked_by texts.task texts.number ≡ None
+  unasked : (texts : CheckTexts) → IsCheckQuery words texts → asked_by texts.task texts.number ≡ None
       → RefusesWords ended.status
   unasked texts query asks =
-      refuses_words found ended.kept ended.status (λ whole. at_check texts None query asks whole)
+      refuses_words seen.files ended.kept ended.status (λ whole. at_check texts None query asks whole)
 
   -- a query that is done writes its answer
   written_done : (texts : SolveTexts) (query : Solving) → IsSolveQuery words texts → solving_by texts ≡ Some query
-      → ended.status ≡ Done → EndsSolved (found.holds texts.file) query ended.kept ended.status
-      → WritesAnswer found.holds texts old new
+      → ended.status ≡ Done → EndsSolved (seen.files.holds texts.file) query ended.kept ended.status
+      → WritesAnswer seen texts
   written_done texts query asks query_is done solved =
       let whole : ended.status ≢ WriteFault = λ e. let x : Done ≡ WriteFault = sym done ∙ e in cc in
       let both = run.whole whole in
@@ -369,8 +387,8 @@ module _ (found : Reading) (words : List (List ℕ)) (ended : Ended) (old new : 
       (text_bytes run.ending.text ≡ text_of row run.ending.kept run.ending.status)
       × (map file_text run.ending.files
       ≡ files_beside (common_text run.ending.status) (row.files run.ending.kept run.ending.status)) in
-      let P : Request → Type 0 = λ r. Says (row_of found.holds r) in
-      let Q : Option Solving → Type 0 = λ o. Says (solve_row found.holds o texts) in
+      let P : Request → Type 0 = λ r. Says (row_of seen.files.holds r) in
+      let Q : Option Solving → Type 0 = λ o. Says (solve_row seen.files.holds o texts) in
       let says = subst Q query_is
       (subst P (requested_query words texts asks) (run.decided.text, run.decided.files)) in
       let text : text_bytes run.ending.text ≡ answer_text told.reply.answer =
@@ -386,87 +404,90 @@ module _ (found : Reading) (words : List (List ℕ)) (ended : Ended) (old new : 
         of_framework = solved.on.of_framework;
         reply = told.reply;
         replies = told.replies;
-        text = subst (Appends old.contents new.contents) text both.1.text;
-        files = subst (λ list. WritesFiles list old.holds new.holds) files both.1.files;
+        text = subst (Appends seen.before.contents seen.after.contents) text both.1.text;
+        files = subst (λ list. WritesFiles list seen.before.holds seen.after.holds) files both.1.files;
       }
 
   at_done : (texts : SolveTexts) (by : Option Solving) → IsSolveQuery words texts → solving_by texts ≡ by
-      → ended.status ≡ Done → EndsCommand found (solve_row found.holds by texts) ended.kept Done
-      → WritesAnswer found.holds texts old new
+      → ended.status ≡ Done → EndsCommand seen.files (solve_row seen.files.holds by texts) ended.kept Done
+      → WritesAnswer seen texts
   at_done texts None asks query_is done cause =
-      absurd (ends_unknown found ended.kept Done (λ e. cc) (λ e. cc) cause)
-  at_done texts (Some query) asks query_is done cause = from_query (ends_query found texts query ended.kept Done cause)
+      absurd (ends_unknown seen.files ended.kept Done (λ e. cc) (λ e. cc) cause)
+  at_done texts (Some query) asks query_is done cause =
+      from_query (ends_query seen.files texts query ended.kept Done cause)
     where
-      from_query : EndsQuery found texts query ended.kept Done → WritesAnswer found.holds texts old new
+      from_query : EndsQuery seen.files texts query ended.kept Done → WritesAnswer seen texts
       from_query (inl stops) = absurd stops
       from_query (inr (inl is)) = absurd (done_no_memory is)
       from_query (inr (inr solved)) =
           written_done texts query asks query_is done
-          (subst (EndsSolved (found.holds texts.file) query ended.kept) (sym done) solved)
+          (subst (EndsSolved (seen.files.holds texts.file) query ended.kept) (sym done) solved)
 
   -- a query that is done writes a right answer, and an accepted certificate where a file is named
-  pub solved_written : (texts : SolveTexts) → IsSolveQuery words texts → ended.status ≡ Done
-      → WritesAnswer found.holds texts old new
+  solved_written : (texts : SolveTexts) → IsSolveQuery words texts → ended.status ≡ Done
+      → WritesAnswer seen texts
   solved_written texts asks done =
-      let P : Status → Type 0 = EndsCommand found (row_of found.holds (requested words)) ended.kept in
+      let P : Status → Type 0 = EndsCommand seen.files (row_of seen.files.holds (requested words)) ended.kept in
       let cause = subst P done (ends (λ e. let x : Done ≡ WriteFault = sym done ∙ e in cc)) in
       at_done texts (solving_by texts) asks refl done
-      (at_query found words texts (solving_by texts) ended.kept Done asks refl cause)
+      (at_query seen.files words texts (solving_by texts) ended.kept Done asks refl cause)
 
   -- ---- scripts
 
   -- a transcript that the run keeps is that of the words' script or large input
-  pub right_transcript : (transcript : ScriptTranscript) → ended.kept.script ≡ Some transcript
-      → AsksTranscript words found.holds transcript
+  right_transcript : (transcript : ScriptTranscript) → ended.kept.script ≡ Some transcript
+      → AsksTranscript words seen.files.holds transcript
   right_transcript transcript is =
-      let P : Transcript → Type 0 = λ k. EndsCommand found (row_of found.holds (requested words)) k run.ending.status in
-      script_at found words (requested words) ended.kept run.ending.status transcript refl (subst P
+      let P : Transcript → Type 0 =
+      λ k. EndsCommand seen.files (row_of seen.files.holds (requested words)) k run.ending.status in
+      script_at seen.files words (requested words) ended.kept run.ending.status transcript refl (subst P
       (sym run.kept) run.decided.cause) is
 
   -- at a script's run, the row is that of its budget
   at_script : (texts : LiveTexts) (by : Option ℕ) → IsLiveQuery words texts → budget_of texts.budget ≡ by
-      → ended.status ≢ WriteFault → EndsCommand found (live_row found.holds by texts) ended.kept ended.status
+      → ended.status ≢ WriteFault → EndsCommand seen.files (live_row seen.files.holds by texts) ended.kept ended.status
   at_script texts by asks budget_is whole =
-      let P : Request → Type 0 = λ r. EndsCommand found (row_of found.holds r) ended.kept ended.status in
-      let Q : Option ℕ → Type 0 = λ o. EndsCommand found (live_row found.holds o texts) ended.kept ended.status in
+      let P : Request → Type 0 = λ r. EndsCommand seen.files (row_of seen.files.holds r) ended.kept ended.status in
+      let Q : Option ℕ → Type 0 =
+      λ o. EndsCommand seen.files (live_row seen.files.holds o texts) ended.kept ended.status in
       subst Q budget_is (subst P (requested_script words texts asks) (ends whole))
 
   lives_on : (texts : LiveTexts) (budget : ℕ) → IsLiveQuery words texts → budget_of texts.budget ≡ Some budget
-      → ended.status ≢ WriteFault → EndsLiving found texts budget ended.kept ended.status
+      → ended.status ≢ WriteFault → EndsLiving seen.files texts budget ended.kept ended.status
   lives_on texts budget asks budget_is whole =
-      ends_living found texts budget ended.kept ended.status (at_script texts (Some budget) asks budget_is whole)
+      ends_living seen.files texts budget ended.kept ended.status (at_script texts (Some budget) asks budget_is whole)
 
-  pub complete_script : (texts : LiveTexts) (budget : ℕ) (f : AnyFramework) (script : Script)
-      → LivesContents found words texts budget f script → IsLiveEnd f script budget ended.kept ended.status
+  complete_script : (texts : LiveTexts) (budget : ℕ) (f : AnyFramework) (script : Script)
+      → LivesContents seen.files words texts budget f script → IsLiveEnd f script budget ended.kept ended.status
   complete_script texts budget f script contents = ⊎_elim
       (λ broken. let P : Status → Type 0 = IsLiveEnd f script budget ended.kept in subst P (sym broken) tt)
-      (λ whole. ends_live found words texts budget f script contents ended.kept ended.status
+      (λ whole. ends_live seen.files words texts budget f script contents ended.kept ended.status
       (lives_on texts budget contents.asks contents.budget_is whole)) (write_fault_or ended.status)
 
-  pub faulty_script : (texts : LiveTexts) (budget : ℕ) (f : AnyFramework) (bytes : List ℕ)
-      → ScriptsBytes found words texts budget f bytes → IsFaultyScript bytes → length bytes ≤ INPUT_LIMIT
+  faulty_script : (texts : LiveTexts) (budget : ℕ) (f : AnyFramework) (bytes : List ℕ)
+      → ScriptsBytes seen.files words texts budget f bytes → IsFaultyScript bytes → length bytes ≤ INPUT_LIMIT
       → RefusesBytes OfScript bytes ended.status
   faulty_script texts budget f bytes asks bad short = ⊎_elim
       (λ broken. let P : Status → Type 0 = RefusesBytes OfScript bytes in subst P (sym broken) tt)
-      (λ whole. refuses_script found words texts budget f bytes ended.kept asks ended.status bad short
+      (λ whole. refuses_script seen.files words texts budget f bytes ended.kept asks ended.status bad short
       (lives_on texts budget asks.asks asks.budget_is whole)) (write_fault_or ended.status)
 
-  pub long_script : (texts : LiveTexts) (budget : ℕ) (f : AnyFramework) (bytes : List ℕ)
-      → ScriptsBytes found words texts budget f bytes → INPUT_LIMIT < length bytes → RefusesLength ended.status
+  long_script : (texts : LiveTexts) (budget : ℕ) (f : AnyFramework) (bytes : List ℕ)
+      → ScriptsBytes seen.files words texts budget f bytes → INPUT_LIMIT < length bytes → RefusesLength ended.status
   long_script texts budget f bytes asks long = ⊎_elim
       (λ broken. subst RefusesLength (sym broken) tt)
-      (λ whole. refuses_long_script found words texts budget f bytes ended.kept asks ended.status long
+      (λ whole. refuses_long_script seen.files words texts budget f bytes ended.kept asks ended.status long
       (lives_on texts budget asks.asks asks.budget_is whole)) (write_fault_or ended.status)
 
   -- a budget that is none is refused
-  pub no_budget : (texts : LiveTexts) → IsLiveQuery words texts → budget_of texts.budget ≡ None
+  no_budget : (texts : LiveTexts) → IsLiveQuery words texts → budget_of texts.budget ≡ None
       → RefusesWords ended.status
   no_budget texts asks none =
-      refuses_words found ended.kept ended.status (λ whole. at_script texts None asks none whole)
+      refuses_words seen.files ended.kept ended.status (λ whole. at_script texts None asks none whole)
 
   written_script : (texts : LiveTexts) (budget : ℕ) → IsLiveQuery words texts → budget_of texts.budget ≡ Some budget
-      → ended.status ≡ Done → EndsLive found.holds budget texts ended.kept ended.status
-      → WritesTranscript found.holds texts ended.kept old new
+      → ended.status ≡ Done → EndsLive seen.files.holds budget texts ended.kept ended.status
+      → WritesTranscript seen texts ended.kept
   written_script texts budget asks budget_is done lives =
       let whole : ended.status ≢ WriteFault = λ e. let x : Done ≡ WriteFault = sym done ∙ e in cc in
       let both = run.whole whole in
@@ -476,8 +497,8 @@ module _ (found : Reading) (words : List (List ℕ)) (ended : Ended) (old new : 
       (text_bytes run.ending.text ≡ text_of row run.ending.kept run.ending.status)
       × (map file_text run.ending.files
       ≡ files_beside (common_text run.ending.status) (row.files run.ending.kept run.ending.status)) in
-      let P : Request → Type 0 = λ r. Says (row_of found.holds r) in
-      let Q : Option ℕ → Type 0 = λ o. Says (live_row found.holds o texts) in
+      let P : Request → Type 0 = λ r. Says (row_of seen.files.holds r) in
+      let Q : Option ℕ → Type 0 = λ o. Says (live_row seen.files.holds o texts) in
       let says = subst Q budget_is
       (subst P (requested_script words texts asks) (run.decided.text, run.decided.files)) in
       let text : text_bytes run.ending.text ≡ transcript_bytes lives.transcript =
@@ -490,31 +511,31 @@ module _ (found : Reading) (words : List (List ℕ)) (ended : Ended) (old new : 
         transcript = lives.transcript;
         keeps = ap (λ (k : Transcript). k.script) lives.keeps;
         runs = lives.runs;
-        text = subst (Appends old.contents new.contents) text both.1.text;
-        files = subst (λ list. WritesFiles list old.holds new.holds) files both.1.files;
+        text = subst (Appends seen.before.contents seen.after.contents) text both.1.text;
+        files = subst (λ list. WritesFiles list seen.before.holds seen.after.holds) files both.1.files;
       }
 
   at_done_script : (texts : LiveTexts) (by : Option ℕ) → IsLiveQuery words texts → budget_of texts.budget ≡ by
-      → ended.status ≡ Done → EndsCommand found (live_row found.holds by texts) ended.kept Done
-      → WritesTranscript found.holds texts ended.kept old new
+      → ended.status ≡ Done → EndsCommand seen.files (live_row seen.files.holds by texts) ended.kept Done
+      → WritesTranscript seen texts ended.kept
   at_done_script texts None asks budget_is done cause =
-      absurd (ends_unknown found ended.kept Done (λ e. cc) (λ e. cc) cause)
+      absurd (ends_unknown seen.files ended.kept Done (λ e. cc) (λ e. cc) cause)
   at_done_script texts (Some budget) asks budget_is done cause =
-      from_script (ends_living found texts budget ended.kept Done cause)
+      from_script (ends_living seen.files texts budget ended.kept Done cause)
     where
-      from_script : EndsLiving found texts budget ended.kept Done → WritesTranscript found.holds texts ended.kept old new
-      from_script (inl stops) = absurd (stops_told found (live_inputs texts) Done stops refl)
+      from_script : EndsLiving seen.files texts budget ended.kept Done → WritesTranscript seen texts ended.kept
+      from_script (inl stops) = absurd (stops_told seen.files (live_inputs texts) Done stops refl)
       from_script (inr (inl is)) = absurd (done_no_memory is)
       from_script (inr (inr lives)) =
           written_script texts budget asks budget_is done
-          (subst (EndsLive found.holds budget texts ended.kept) (sym done) lives)
+          (subst (EndsLive seen.files.holds budget texts ended.kept) (sym done) lives)
 
   -- a script's run that is done writes its transcript, and the certificates where a file is named
-  pub script_written : (texts : LiveTexts) → IsLiveQuery words texts → ended.status ≡ Done
-      → WritesTranscript found.holds texts ended.kept old new
+  script_written : (texts : LiveTexts) → IsLiveQuery words texts → ended.status ≡ Done
+      → WritesTranscript seen texts ended.kept
   script_written texts asks done =
       let P : Status → Type 0 =
-      λ e. EndsCommand found (live_row found.holds (budget_of texts.budget) texts) ended.kept e in
+      λ e. EndsCommand seen.files (live_row seen.files.holds (budget_of texts.budget) texts) ended.kept e in
       at_done_script texts (budget_of texts.budget) asks refl done
       (subst P done (at_script texts (budget_of texts.budget) asks refl (λ e. let x : Done ≡ WriteFault =
       sym done ∙ e in cc)))
@@ -523,24 +544,24 @@ module _ (found : Reading) (words : List (List ℕ)) (ended : Ended) (old new : 
 
   -- at a large input's run, the row is that of what the words ask for
   at_bench : (texts : BenchTexts) (by : Option LargeInput) → IsBenchQuery words texts → large_by texts ≡ by
-      → ended.status ≢ WriteFault → EndsCommand found (bench_row by) ended.kept ended.status
+      → ended.status ≢ WriteFault → EndsCommand seen.files (bench_row by) ended.kept ended.status
   at_bench texts by asks large_is whole =
-      let P : Request → Type 0 = λ r. EndsCommand found (row_of found.holds r) ended.kept ended.status in
-      let Q : Option LargeInput → Type 0 = λ o. EndsCommand found (bench_row o) ended.kept ended.status in
+      let P : Request → Type 0 = λ r. EndsCommand seen.files (row_of seen.files.holds r) ended.kept ended.status in
+      let Q : Option LargeInput → Type 0 = λ o. EndsCommand seen.files (bench_row o) ended.kept ended.status in
       subst Q large_is (subst P (requested_input words texts asks) (ends whole))
 
-  pub complete_bench : (texts : BenchTexts) (large : LargeInput) → IsBenchQuery words texts
+  complete_bench : (texts : BenchTexts) (large : LargeInput) → IsBenchQuery words texts
       → large_by texts ≡ Some large → ended.status ≢ WriteFault → IsDoneOrMemory ended.status
   complete_bench texts large asks large_is whole =
-      large_done found large ended.kept ended.status (at_bench texts (Some large) asks large_is whole)
+      large_done seen.files large ended.kept ended.status (at_bench texts (Some large) asks large_is whole)
 
   -- words that ask for no large input are refused
-  pub no_large : (texts : BenchTexts) → IsBenchQuery words texts → large_by texts ≡ None → RefusesWords ended.status
+  no_large : (texts : BenchTexts) → IsBenchQuery words texts → large_by texts ≡ None → RefusesWords ended.status
   no_large texts asks none =
-      refuses_words found ended.kept ended.status (λ whole. at_bench texts None asks none whole)
+      refuses_words seen.files ended.kept ended.status (λ whole. at_bench texts None asks none whole)
 
   written_large : (texts : BenchTexts) (large : LargeInput) → IsBenchQuery words texts → large_by texts ≡ Some large
-      → ended.status ≡ Done → EndsLarge large ended.kept Done → WritesSummary texts ended.kept old new
+      → ended.status ≡ Done → EndsLarge large ended.kept Done → WritesSummary seen texts ended.kept
   written_large texts large asks large_is done runs =
       let both = run.whole (λ e. let x : Done ≡ WriteFault = sym done ∙ e in cc) in
       let status : run.ending.status ≡ Done = sym both.0 ∙ done in
@@ -548,7 +569,7 @@ module _ (found : Reading) (words : List (List ℕ)) (ended : Ended) (old new : 
       (text_bytes run.ending.text ≡ text_of row run.ending.kept run.ending.status)
       × (map file_text run.ending.files
       ≡ files_beside (common_text run.ending.status) (row.files run.ending.kept run.ending.status)) in
-      let P : Request → Type 0 = λ r. Says (row_of found.holds r) in
+      let P : Request → Type 0 = λ r. Says (row_of seen.files.holds r) in
       let Q : Option LargeInput → Type 0 = λ o. Says (bench_row o) in
       let says = subst Q large_is
       (subst P (requested_input words texts asks) (run.decided.text, run.decided.files)) in
@@ -562,22 +583,57 @@ module _ (found : Reading) (words : List (List ℕ)) (ended : Ended) (old new : 
         run = runs.run;
         keeps = ap (λ (k : Transcript). k.script) runs.keeps;
         is = runs.is;
-        text = subst (Appends old.contents new.contents) text both.1.text;
-        no_file = subst (λ list. WritesFiles list old.holds new.holds) files both.1.files;
+        text = subst (Appends seen.before.contents seen.after.contents) text both.1.text;
+        no_file = subst (λ list. WritesFiles list seen.before.holds seen.after.holds) files both.1.files;
       }
 
   at_done_large : (texts : BenchTexts) (by : Option LargeInput) → IsBenchQuery words texts → large_by texts ≡ by
-      → ended.status ≡ Done → EndsCommand found (bench_row by) ended.kept Done
-      → WritesSummary texts ended.kept old new
+      → ended.status ≡ Done → EndsCommand seen.files (bench_row by) ended.kept Done
+      → WritesSummary seen texts ended.kept
   at_done_large texts None asks large_is done cause =
-      absurd (ends_unknown found ended.kept Done (λ e. cc) (λ e. cc) cause)
+      absurd (ends_unknown seen.files ended.kept Done (λ e. cc) (λ e. cc) cause)
   at_done_large texts (Some large) asks large_is done cause =
-      written_large texts large asks large_is done (ends_large found large ended.kept cause)
+      written_large texts large asks large_is done (ends_large seen.files large ended.kept cause)
 
   -- a large input's run that is done writes its summary
-  pub summary_written : (texts : BenchTexts) → IsBenchQuery words texts → ended.status ≡ Done
-      → WritesSummary texts ended.kept old new
+  summary_written : (texts : BenchTexts) → IsBenchQuery words texts → ended.status ≡ Done
+      → WritesSummary seen texts ended.kept
   summary_written texts asks done =
-      let P : Status → Type 0 = EndsCommand found (bench_row (large_by texts)) ended.kept in
+      let P : Status → Type 0 = EndsCommand seen.files (bench_row (large_by texts)) ended.kept in
       at_done_large texts (large_by texts) asks refl done
       (subst P done (at_bench texts (large_by texts) asks refl (λ e. let x : Done ≡ WriteFault = sym done ∙ e in cc)))
+
+  -- ---- all of it
+
+  pub promises : Promises words seen ended
+  promises = record {
+    right = right_session;
+    unknown = spent;
+    full = filled;
+    solved = solved_written;
+    transcript = right_transcript;
+    live = script_written;
+    bench = summary_written;
+    version = version_is_done;
+    problems = problems_told;
+    complete = complete;
+    complete_script = complete_script;
+    complete_bench = complete_bench;
+    usage = usage;
+    no_query = no_query;
+    faulty = faulty;
+    too_long = too_long;
+    no_budget = no_budget;
+    no_large = no_large;
+    faulty_script = faulty_script;
+    long_script = long_script;
+    accepted = accepted;
+    checked = checked;
+    unasked = unasked;
+    write_fault = write_fault;
+    output_fault = output_fails;
+    other_files = other_files;
+    untouched = untouched;
+    no_write = no_write;
+    no_other_read = other_counts;
+  }

@@ -15,7 +15,7 @@ use Rattle.argue_commands.specs.Inputs.{Reading, StopsReading, input}
 use Rattle.argue_program.specs.Rows.{EndsCommand, EndsScript, EndsServed, IsEndingOf, CountsReads, files_beside, live_row, nothing_kept, script_files, script_text, unknown_row}
 use Rattle.argue_commands.specs.Opening.{OpensFiles, live_inputs}
 use Rattle.argue_commands.specs.Texts.{IsRefusal, common_text, text_bytes}
-use Rattle.argue_program.specs.declared.decision.Ending.{Ending}
+use Rattle.argue_program.specs.declared.ending.Ending.{Ending}
 use Rattle.argue_commands.specs.declared.ended.Status.{Status}
 use Rattle.argue_commands.specs.declared.ended.Status.TheVariants.{Usage, ReadFault, WantOfMemory}
 use Rattle.argue_program.specs.declared.ended.Transcript.{Transcript}

@@ -20,7 +20,7 @@ use Rattle.argue_commands.specs.declared.query.Solving.{Solving}
 use Rattle.argue_commands.specs.Inputs.{Input, Reading, StopsAtFirst, input}
 use Rattle.argue_commands.specs.Replacing.{FileText, certificate_files, file_text}
 use Rattle.argue_commands.specs.Texts.{common_text, text_bytes}
-use Rattle.argue_program.specs.declared.decision.Ending.{Ending}
+use Rattle.argue_program.specs.declared.ending.Ending.{Ending}
 use Rattle.argue_commands.specs.declared.ended.KeptSession.{KeptSession}
 use Rattle.argue_commands.specs.declared.ended.Status.{Status}
 use Rattle.argue_commands.specs.declared.ended.Status.TheVariants.{Done, Usage, ReadFault, WantOfMemory}
@@ -241,6 +241,10 @@ pub record IsEndingOf (found : Reading) (row : Row) (ending : Ending) : Type 0 w
   pub files :
       map file_text ending.files ≡ files_beside (common_text ending.status) (row.files ending.kept ending.status)
   pub counts : CountsReads found row ending.status
+
+-- the ending is one that the row of the request has
+abbrev pub IsEndingFor : Reading → Request → Ending → Type 0
+IsEndingFor found request ending = IsEndingOf found (row_of found.holds request) ending
 
 -- the ending of a session: it keeps the session, ends as its reply says, and writes the text of its answer and the file
 -- of its certificate, or the line of its status

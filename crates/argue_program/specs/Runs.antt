@@ -1,12 +1,12 @@
 -- What a run does, and what follows of it in the words of its query.
-use Rattle.std.specs.Prelude.{◌≡◌, ◌≢◌, ℕ, ◌⊎◌, ◌<◌, ◌≤◌, true, List, length, take, slice_index_or, Ok, Some}
+use Rattle.std.specs.Prelude.{◌≡◌, ◌≢◌, ℕ, ◌⊎◌, ◌<◌, ◌≤◌, true, List, length, map, take, slice_index_or, Ok, Some}
 use Rattle.std.specs.Io.KnownBytes.{Appends}
 use Rattle.argue_outside.specs.Outside.{FaultCounted, KnownFile}
 use Rattle.argue_outside.specs.declared.Role.{Role}
 use Rattle.argue_outside.specs.declared.Role.TheVariants as role
 use Rattle.semantics.specs.Frameworks.{Framework, af}
 use Rattle.num_text.specs.declared.limit.TheConstants.{INPUT_LIMIT}
-use Rattle.argue_words.specs.Words.{BenchTexts, CheckTexts, IsBenchQuery, IsCheckQuery, IsLiveQuery, IsSolveQuery, LiveTexts, SolveTexts}
+use Rattle.argue_words.specs.Words.{BenchTexts, CheckTexts, IsBenchQuery, IsCheckQuery, IsLiveQuery, IsSolveQuery, LiveTexts, SolveTexts, requested}
 use Rattle.iccma_tasks.specs.AnswerText.{filled_fields, ReadsAs as AnswerReadsAs}
 use Rattle.iccma_tasks.specs.WrittenText.{text_of as answer_text}
 use Rattle.iccma_tasks.specs.Tasks.{Asked}
@@ -41,10 +41,11 @@ use Rattle.oracle_face.specs.Logs.{IsNew, is_unit, no_step, units_of, working}
 use Rattle.session_log.specs.Ends.{MadeFor}
 use Rattle.bench_runs.specs.oracle_core.specs.declared.reply.Answered.{Answered}
 use Rattle.argue_commands.specs.Inputs.{Input, IsFirstFaultIn, IsFrameworkOf, Reading, input}
-use Rattle.argue_commands.specs.Replacing.{certificate_files, WritesFiles}
-use Rattle.argue_program.specs.Rows.{IsEndingOf, Row, certificates_files}
-use Rattle.argue_program.specs.Writing.{BreaksOff, IsWritten, Output}
-use Rattle.argue_program.specs.declared.decision.Ending.{Ending}
+use Rattle.argue_commands.specs.Replacing.{RefusesFile, WritesFiles, certificate_files, file_text}
+use Rattle.argue_program.specs.Rows.{IsEndingFor, certificates_files}
+use Rattle.argue_program.specs.Seen.{Seen}
+use Rattle.argue_program.specs.Writing.{BreaksOff, IsWritten}
+use Rattle.argue_program.specs.declared.ending.Ending.{Ending}
 use Rattle.argue_program.specs.declared.ended.Ended.{Ended}
 use Rattle.argue_commands.specs.declared.ended.KeptSession.{KeptSession}
 use Rattle.argue_commands.specs.declared.ended.Limit.TheVariants as limit
@@ -54,13 +55,16 @@ use Rattle.argue_commands.specs.declared.ended.Status.TheVariants.{Done, Usage, 
 use Rattle.argue_program.specs.declared.ended.Transcript.{Transcript}
 use Rattle.argue_commands.specs.declared.query.TheConstants.{LOG_LIMIT}
 
--- the run comes to an ending that its row has, and writes it whole, or ends with a write fault in the midst of it
-pub record IsRunOf (found : Reading) (row : Row) (ended : Ended) (old new : Output) : Type 0 where
+-- the run of these words comes to an ending that the row of what they ask for has, and writes it whole, or ends with a
+-- write fault in the midst of it: then the output failed, or a file's name wasn't accepted
+pub record IsRunOf (words : List (List ℕ)) (seen : Seen) (ended : Ended) : Type 0 where
   pub ending : Ending
-  pub decided : IsEndingOf found row ending
+  pub decided : IsEndingFor seen.files (requested words) ending
   pub kept : ended.kept ≡ ending.kept
-  pub whole : ended.status ≢ WriteFault → (ended.status ≡ ending.status) × IsWritten ending old new
-  pub broken : ended.status ≡ WriteFault → BreaksOff ending old new
+  pub whole : ended.status ≢ WriteFault → (ended.status ≡ ending.status) × IsWritten ending seen.before seen.after
+  pub broken : ended.status ≡ WriteFault → BreaksOff ending seen.before seen.after
+  pub refused : ended.status ≡ WriteFault → FaultCounted seen.before.fault_count seen.after.fault_count
+      ⊎ RefusesFile seen.Accepts (map file_text ending.files)
 
 -- ---- what follows
 
@@ -97,15 +101,16 @@ pub record FillsLog (words : List (List ℕ)) (holds : List ℕ → KnownFile) (
 
 -- the output has gained the text of a right answer to the words' query on the framework in its file, and the file that
 -- is named for the certificate has that of one that is accepted for the answer
-pub record WritesAnswer (holds : List ℕ → KnownFile) (texts : SolveTexts) (old new : Output) : Type 0 where
+pub record WritesAnswer (seen : Seen) (texts : SolveTexts) : Type 0 where
   pub query : Solving
   pub query_is : solving_by texts ≡ Some query
   pub framework : Framework
-  pub of_framework : IsFrameworkOf (holds texts.file) framework
+  pub of_framework : IsFrameworkOf (seen.files.holds texts.file) framework
   pub reply : Answered
   pub replies : IsReplyTo framework query reply
-  pub text : Appends old.contents new.contents (answer_text reply.answer)
-  pub files : WritesFiles (certificate_files texts.certificate reply.certificate) old.holds new.holds
+  pub text : Appends seen.before.contents seen.after.contents (answer_text reply.answer)
+  pub files :
+      WritesFiles (certificate_files texts.certificate reply.certificate) seen.before.holds seen.after.holds
 
 -- the words ask this query of a file with these bytes, of which no read fails: it is served, or no fault is counted
 pub record QueriesBytes (found : Reading) (words : List (List ℕ)) (texts : SolveTexts) (query : Solving)
@@ -229,15 +234,14 @@ pub record AsksScript (words : List (List ℕ)) (holds : List ℕ → KnownFile)
 
 -- the run keeps what the sessions of the script in its file come to on the framework in its file; the output has gained
 -- the text of it, and the file that is named for the certificates has those of all answers
-pub record WritesTranscript (holds : List ℕ → KnownFile) (texts : LiveTexts) (kept : Transcript) (old new : Output)
-    : Type 0 where
+pub record WritesTranscript (seen : Seen) (texts : LiveTexts) (kept : Transcript) : Type 0 where
   pub budget : ℕ
   pub budget_is : budget_of texts.budget ≡ Some budget
   pub transcript : ScriptTranscript
   pub keeps : kept.script ≡ Some transcript
-  pub runs : RunsScript holds budget texts transcript
-  pub text : Appends old.contents new.contents (transcript_bytes transcript)
-  pub files : WritesFiles (certificates_files texts.certificate transcript) old.holds new.holds
+  pub runs : RunsScript seen.files.holds budget texts transcript
+  pub text : Appends seen.before.contents seen.after.contents (transcript_bytes transcript)
+  pub files : WritesFiles (certificates_files texts.certificate transcript) seen.before.holds seen.after.holds
 
 -- the words ask for a script's run with this budget, and the files read as this framework and this script
 pub record LivesContents (found : Reading) (words : List (List ℕ)) (texts : LiveTexts) (budget : ℕ) (f : Framework)
@@ -290,11 +294,11 @@ abbrev pub AsksTranscript : List (List ℕ) → (List ℕ → KnownFile) → Scr
 AsksTranscript words holds transcript = AsksScript words holds transcript ⊎ AsksLarge words transcript
 
 -- the run keeps what the sessions of the large input come to; the output has gained the summary, and no file changes
-pub record WritesSummary (texts : BenchTexts) (kept : Transcript) (old new : Output) : Type 0 where
+pub record WritesSummary (seen : Seen) (texts : BenchTexts) (kept : Transcript) : Type 0 where
   pub large : LargeInput
   pub large_is : large_by texts ≡ Some large
   pub run : BenchRun
   pub keeps : kept.script ≡ Some run.transcript
   pub is : IsBenchRun large.arguments large.seed run
-  pub text : Appends old.contents new.contents (summary large.arguments large.seed)
-  pub no_file : new.holds ≡ old.holds
+  pub text : Appends seen.before.contents seen.after.contents (summary large.arguments large.seed)
+  pub no_file : seen.after.holds ≡ seen.before.holds

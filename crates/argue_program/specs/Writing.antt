@@ -2,9 +2,11 @@
 use Rattle.std.specs.Prelude.{◌≡◌, ℕ, ◌⊎◌, List, Option, map}
 use Rattle.std.specs.Io.KnownBytes.{Appends}
 use Rattle.argue_outside.specs.Outside.{AppendsPart, FaultCounted, KnownFile}
+use Rattle.argue_outside.specs.declared.Files.{Ghosts as FilesWords}
+use Rattle.argue_outside.specs.declared.Sink.{Ghosts as SinkWords}
 use Rattle.argue_commands.specs.Texts.{text_bytes}
 use Rattle.argue_commands.specs.Replacing.{BreaksFiles, WritesFiles, file_text}
-use Rattle.argue_program.specs.declared.decision.Ending.{Ending}
+use Rattle.argue_program.specs.declared.ending.Ending.{Ending}
 
 -- what can be written, at one moment
 pub record Output : Type 0 where
@@ -13,9 +15,14 @@ pub record Output : Type 0 where
   pub contents : Option (List ℕ)
   pub fault_count : ℕ
 
-abbrev pub output : (List ℕ → KnownFile) → ℕ → Option (List ℕ) → ℕ → Output
-output holds write_count contents fault_count =
-    record { holds = holds; write_count = write_count; contents = contents; fault_count = fault_count }
+-- that of these files and this sink, by the words of their traits
+abbrev pub output : {S T : Type 0} → FilesWords S → SinkWords T → S → T → Output
+output files sink at out = record {
+  holds = files.holds at;
+  write_count = files.write_count at;
+  contents = sink.contents out;
+  fault_count = sink.fault_count out;
+}
 
 -- the ending was written whole: first its files, then its text
 pub record IsWritten (ending : Ending) (old new : Output) : Type 0 where

@@ -5,10 +5,10 @@ ghost use Rattle.argue_words.specs.Words.{bench_texts, benching};
 ghost use Rattle.bench_runs.specs.declared.input.TheConstants.{MOST_ARGUMENTS};
 ghost use Rattle.argue_commands.specs.Inputs.{reading};
 ghost use Rattle.argue_program.specs.LargeInputs.{arguments_of, large_by};
-ghost use Rattle.argue_program.specs.Rows.{EndsSummed, IsEndingOf, row_of};
+ghost use Rattle.argue_program.specs.Rows.{EndsSummed, IsEndingFor};
 
-use crate::decision::{Ending, stopped};
 use crate::ended::Transcript;
+use crate::ending::{Ending, status_ending};
 use argue_commands::query::number_in;
 use argue_commands::{Status, Text};
 use argue_outside::{Files, Pace};
@@ -53,7 +53,7 @@ fn large_of(words: &BenchWords<'_>) -> Option<LargeInput>
 }
 
 /// The ending of a large input's run, which keeps what its sessions came to.
-fn summed(alloc: Global, run: BenchRun) -> Ending
+fn summary_ending(alloc: Global, run: BenchRun) -> Ending
     ensures { EndsSummed run result }
 {
     let BenchRun {
@@ -80,14 +80,13 @@ pub(crate) fn bench<R: Threads + Wait + Sync, F: Files, P: Pace + Sync>(
     words: BenchWords<'_>,
     pace: &P,
 ) -> Ending
-    ensures { IsEndingOf (reading (F.holds files.now) (F.serves files.now) (F.read_count files.now)
-        (F.read_count files.now)) (row_of (F.holds files.now) (benching (bench_texts words.entry))) result }
+    ensures { IsEndingFor (reading F.Files files.now files.now) (benching (bench_texts words.entry)) result }
 {
     let Some(large) = large_of(&words) else {
-        return stopped(alloc, Status::Usage);
+        return status_ending(alloc, Status::Usage);
     };
     match run_bench(rt, alloc, large.arguments, large.seed, pace) {
-        Ok(run) => summed(alloc, run),
-        Err(Memory) => stopped(alloc, Status::WantOfMemory),
+        Ok(run) => summary_ending(alloc, run),
+        Err(Memory) => status_ending(alloc, Status::WantOfMemory),
     }
 }

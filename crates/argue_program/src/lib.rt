@@ -5,18 +5,21 @@
 //! and `write_ending` writes it. `decide` and `execute` are the same of words that want no threads.
 #![tactic(auto)]
 
+mod checking;
 pub mod command;
 pub mod decision;
 pub mod ended;
+pub mod ending;
 mod large;
 pub mod process;
-pub mod scripts;
+mod scripts;
+mod solving;
 pub mod writing;
 
 pub use argue_commands::{Cause, KeptSession, Limit, Refusal, Status, Text, Written};
 pub use command::{execute, run};
-pub use decision::{Ending, decide};
+pub use decision::{decide, decide_with};
 pub use ended::{Ended, Transcript};
+pub use ending::Ending;
 pub use process::run_process;
-pub use scripts::decide_with;
 pub use writing::write_ending;

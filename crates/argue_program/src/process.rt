@@ -8,8 +8,8 @@ ghost use Rattle.argue_program.specs.Rows.{nothing_kept};
 ghost use Rattle.argue_commands.specs.Texts.{common_text};
 
 use crate::command::run;
-use crate::decision::stopped;
 use crate::ended::Ended;
+use crate::ending::status_ending;
 use crate::writing::write_ending;
 use argue_commands::Status;
 use argue_outside::{Files, NoPace, RealFiles, RealOut, Sink};
@@ -82,6 +82,6 @@ fn refuse_words<F: Files, O: Sink>(
     ensures write_fault { result.status ≡ Status.WriteFault → FaultCounted (O.fault_count out.old)
         (O.fault_count out.new) }
 {
-    let ending = stopped(alloc, status);
+    let ending = status_ending(alloc, status);
     write_ending(files, out, ending)
 }

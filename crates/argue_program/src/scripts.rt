@@ -2,21 +2,19 @@
 
 ghost use Rattle.std.specs.Prelude.{◌≡◌, IfOk, map};
 ghost use Rattle.std.specs.Option.{option_map};
-ghost use Rattle.std.specs.String.{string_bytes};
-ghost use Rattle.argue_words.specs.Words.{live_texts, living, requested};
+ghost use Rattle.argue_words.specs.Words.{live_texts, living};
 ghost use Rattle.edit_rules.specs.Kinds.{framework_of};
 ghost use Rattle.argue_commands.specs.Inputs.{reading};
 ghost use Rattle.argue_commands.specs.Replacing.{file_text};
-ghost use Rattle.argue_program.specs.Rows.{EndsScript, EndsServed, IsEndingOf, certificates_files, row_of};
+ghost use Rattle.argue_program.specs.Rows.{EndsScript, EndsServed, IsEndingFor, certificates_files};
 
-use crate::decision::{Ending, decide_command, stopped};
 use crate::ended::Transcript;
-use crate::large::bench;
+use crate::ending::{Ending, status_ending};
 use argue_commands::opening::{Opened, open_files};
 use argue_commands::query::budget_in;
 use argue_commands::{Status, Text, Written};
 use argue_outside::{Files, Pace};
-use argue_words::{Command, LiveWords, read_words};
+use argue_words::LiveWords;
 use bench_runs::{ScriptTranscript, run_script};
 use lists::{Items, Memory};
 use session_replies::{Reply, certificates_text, transcript_text};
@@ -87,49 +85,25 @@ fn serve<R: Threads + Wait + Sync, P: Pace + Sync>(
 }
 
 /// The ending of a script's run.
-fn live<R: Threads + Wait + Sync, F: Files, P: Pace + Sync>(
+pub(crate) fn live<R: Threads + Wait + Sync, F: Files, P: Pace + Sync>(
     rt: &R,
     alloc: Global,
     files: &mut F,
     words: LiveWords<'_>,
     pace: &P,
 ) -> Ending
-    ensures ending { IsEndingOf (reading (F.holds files.old) (F.serves files.old) (F.read_count files.old)
-        (F.read_count files.new)) (row_of (F.holds files.old) (living (live_texts words.entry))) result }
+    ensures ending { IsEndingFor (reading F.Files files.old files.new) (living (live_texts words.entry)) result }
     ensures same { F.holds files.new ≡ F.holds files.old }
     ensures writes { F.write_count files.new ≡ F.write_count files.old }
 {
     let Some(budget) = budget_in(words.budget) else {
-        return stopped(alloc, Status::Usage);
+        return status_ending(alloc, Status::Usage);
     };
     match open_files(alloc, files, &words) {
         Ok(opened) => match serve(rt, alloc, opened, budget, words.certificate, pace) {
             Ok(ending) => ending,
-            Err(Memory) => stopped(alloc, Status::WantOfMemory),
+            Err(Memory) => status_ending(alloc, Status::WantOfMemory),
         },
-        Err(status) => stopped(alloc, status),
-    }
-}
-
-/// Decides how a run on any words ends: what it keeps, and what it has to write. Files are read, and nothing is
-/// written. All memory of a run is taken here. Where the words ask for it, the sessions of a script, or those of a large
-/// input, run in threads of their own.
-pub fn decide_with<R: Threads + Wait + Sync, F: Files, P: Pace + Sync>(
-    rt: &R,
-    alloc: Global,
-    words: &[String],
-    files: &mut F,
-    pace: &P,
-) -> Ending
-    ensures ending { IsEndingOf (reading (F.holds files.old) (F.serves files.old) (F.read_count files.old)
-        (F.read_count files.new)) (row_of (F.holds files.old) (requested (map string_bytes words.now))) result }
-    ensures same { F.holds files.new ≡ F.holds files.old }
-    ensures writes { F.write_count files.new ≡ F.write_count files.old }
-{
-    match read_words(alloc, words) {
-        Ok(Command::Live(words)) => live(rt, alloc, files, words, pace),
-        Ok(Command::Bench(words)) => bench(rt, alloc, &*files, words, pace),
-        Ok(command) => decide_command(alloc, command, files),
-        Err(Memory) => stopped(alloc, Status::WantOfMemory),
+        Err(status) => status_ending(alloc, status),
     }
 }

@@ -5,8 +5,8 @@ ghost use Rattle.argue_outside.specs.Outside.{FaultCounted};
 ghost use Rattle.argue_commands.specs.Replacing.{file_text, RefusesFile};
 ghost use Rattle.argue_program.specs.Writing.{BreaksOff, IsWritten, output};
 
-use crate::decision::Ending;
 use crate::ended::Ended;
+use crate::ending::Ending;
 use argue_commands::Status;
 use argue_commands::replacing::write_files;
 use argue_outside::{Files, Sink, put_all};
@@ -17,11 +17,9 @@ pub fn write_ending<F: Files, O: Sink>(files: &mut F, out: &mut O, ending: Endin
     requires { ending.status ≢ Status.WriteFault }
     ensures kept { result.kept ≡ ending.kept }
     ensures whole { result.status ≢ Status.WriteFault → (result.status ≡ ending.status) × IsWritten ending
-        (output (F.holds files.old) (F.write_count files.old) (O.contents out.old) (O.fault_count out.old))
-        (output (F.holds files.new) (F.write_count files.new) (O.contents out.new) (O.fault_count out.new)) }
+        (output F.Files O.Sink files.old out.old) (output F.Files O.Sink files.new out.new) }
     ensures broken { result.status ≡ Status.WriteFault → BreaksOff ending
-        (output (F.holds files.old) (F.write_count files.old) (O.contents out.old) (O.fault_count out.old))
-        (output (F.holds files.new) (F.write_count files.new) (O.contents out.new) (O.fault_count out.new)) }
+        (output F.Files O.Sink files.old out.old) (output F.Files O.Sink files.new out.new) }
     ensures refused { result.status ≡ Status.WriteFault → FaultCounted (O.fault_count out.old) (O.fault_count out.new)
         ⊎ RefusesFile (F.accepts files.new) (map file_text ending.files) }
     ensures reads { F.read_count files.new ≡ F.read_count files.old }

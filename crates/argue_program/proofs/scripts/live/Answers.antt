@@ -11,8 +11,10 @@ returns-in-Ok-serve-clause-ending g c =
 
 pub returns-in-Err-clause-ending : goal.returns-in-Err-clause-ending
 returns-in-Err-clause-ending g c =
-    live_stopped _ _ _ c.stopped-in-Err.result c.in-Some.budget c.in-Err.status (sym c.budget_in.ensures ∙ c.in-Some.is)
+    live_stopped _ _ _ c.status_ending-in-Err.result c.in-Some.budget c.in-Err.status
+    (sym c.budget_in.ensures ∙ c.in-Some.is)
     c.in-Err.ensures.err
     (λ none. c.in-Err.ensures.quiet (λ of e. none of (let is : Err c.in-Err.status ≡ Err (ReadFault of) = e in cc)))
-    c.in-Err.ensures.others c.stopped-in-Err.ensures.status c.stopped-in-Err.ensures.kept c.stopped-in-Err.ensures.text
-    c.stopped-in-Err.ensures.files
+    c.in-Err.ensures.others c.status_ending-in-Err.ensures.status c.status_ending-in-Err.ensures.kept
+    c.status_ending-in-Err.ensures.text
+    c.status_ending-in-Err.ensures.files

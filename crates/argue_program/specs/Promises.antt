@@ -1,0 +1,120 @@
+-- What a run promises in the words of its query. All of it follows from what the run does (`IsRunOf`).
+use Rattle.std.specs.Prelude.{◌≡◌, ◌≢◌, ℕ, ◌⊎◌, ◌<◌, ◌≤◌, true, List, [], length, None, Some}
+use Rattle.argue_outside.specs.Outside.{FaultCounted}
+use Rattle.argue_outside.specs.declared.Role.{Role}
+use Rattle.argue_outside.specs.declared.Role.TheVariants as role
+use Rattle.semantics.specs.Frameworks.{Framework}
+use Rattle.num_text.specs.declared.limit.TheConstants.{INPUT_LIMIT}
+use Rattle.argue_words.specs.Words.{AreWords, BenchTexts, CheckTexts, IsBenchQuery, IsCheckQuery, IsLiveQuery, IsSolveQuery, LiveTexts, SolveTexts, requested, words_are_problems}
+use Rattle.iccma_tasks.specs.Tasks.{Asked}
+use Rattle.iccma_tasks.specs.declared.answer.Answer.{Answer}
+use Rattle.certificate_claims.specs.declared.certificate.Certificate.{Certificate}
+use Rattle.framework_text.specs.FrameworkText.{IsFaulty}
+use Rattle.script_text.specs.declared.script.Script.{Script}
+use Rattle.bench_runs.specs.declared.transcript.ScriptTranscript.{ScriptTranscript}
+use Rattle.argue_commands.specs.Queries.{asked_by, budget_of, solving_by}
+use Rattle.argue_commands.specs.declared.ended.KeptSession.{KeptSession}
+use Rattle.argue_commands.specs.declared.ended.Limit.TheVariants as limit
+use Rattle.argue_commands.specs.declared.ended.Status.TheVariants.{Done, WriteFault, Unknown, Limit}
+use Rattle.argue_commands.specs.declared.query.Solving.{Solving}
+use Rattle.argue_program.specs.LargeInputs.{large_by}
+use Rattle.argue_program.specs.Rows.{HasNoInput, row_of}
+use Rattle.argue_program.specs.Runs.{AnswersRight, AsksSession, AsksTranscript, ChecksContents, FillsLog, IsCheckEnd, IsDoneOrMemory, IsFaultyScript, IsLiveEnd, IsSolveEnd, LivesContents, NamesCertificate, QueriesBytes, RefusesBytes, RefusesLength, RefusesWords, ScriptsBytes, SolvesContents, SpendsBudget, WritesAnswer, WritesSummary, WritesTranscript}
+use Rattle.argue_program.specs.Seen.{Seen}
+use Rattle.argue_program.specs.declared.ended.Ended.{Ended}
+use Rattle.argue_program.specs.declared.large.LargeInput.{LargeInput}
+
+-- what a run of these words promises, by what is seen of it and how it ended
+pub record Promises (words : List (List ℕ)) (seen : Seen) (ended : Ended) : Type 0 where
+  -- ---- the headline, for the one query there is, over what the run keeps
+  -- a session that is kept is that of the words' query: its answer is right, and its certificate is accepted
+  pub right : (session : KeptSession) → ended.kept.session ≡ Some session
+      → AsksSession words seen.files.holds session
+  -- the run is unknown only where the log has spent the budget
+  pub unknown : ended.status ≡ Unknown → SpendsBudget words seen.files.holds ended.kept
+  -- it is stopped by a full log only where the log is full
+  pub full : ended.status ≡ Limit limit.Log → FillsLog words seen.files.holds ended.kept
+  -- a query that is done has written a right answer, and an accepted certificate where a file is named
+  pub solved : (texts : SolveTexts) → IsSolveQuery words texts → ended.status ≡ Done → WritesAnswer seen texts
+  -- ---- the same for scripts and large inputs
+  -- a transcript that is kept is that of the words' script on the framework in its file, or of the words' large input
+  pub transcript : (one : ScriptTranscript) → ended.kept.script ≡ Some one
+      → AsksTranscript words seen.files.holds one
+  -- a script's run that is done has written that transcript, and the certificates of all its answers where a file is
+  -- named
+  pub live : (texts : LiveTexts) → IsLiveQuery words texts → ended.status ≡ Done
+      → WritesTranscript seen texts ended.kept
+  -- that of a large input has written the summary
+  pub bench : (texts : BenchTexts) → IsBenchQuery words texts → ended.status ≡ Done
+      → WritesSummary seen texts ended.kept
+  -- ---- completeness: with well-formed words and input and no fault, the run does what was asked, or wants memory
+  -- without words it is done
+  pub version : words ≡ [] → ended.status ≢ WriteFault → ended.status ≡ Done
+  -- the list of tasks is done, or wants memory
+  pub problems : words_are_problems words ≡ true → ended.status ≢ WriteFault → IsDoneOrMemory ended.status
+  -- a query on a file that reads as a framework ends as its session's reply says
+  pub complete : (texts : SolveTexts) (query : Solving) (f : Framework)
+      → SolvesContents seen.files words texts query f → IsSolveEnd f query ended.kept ended.status
+  -- a script's run on files that read as a framework and a script is done
+  pub complete_script : (texts : LiveTexts) (budget : ℕ) (f : Framework) (script : Script)
+      → LivesContents seen.files words texts budget f script → IsLiveEnd f script budget ended.kept ended.status
+  -- a large input's run is done
+  pub complete_bench : (texts : BenchTexts) (large : LargeInput) → IsBenchQuery words texts
+      → large_by texts ≡ Some large → ended.status ≢ WriteFault → IsDoneOrMemory ended.status
+  -- ---- the converses: words that aren't well-formed, or that ask for what there isn't, are refused, and so is a file
+  -- with a fault and one over the limit
+  -- words that aren't well-formed are refused
+  pub usage : ¬ AreWords words → RefusesWords ended.status
+  -- a query that there isn't is refused
+  pub no_query : (texts : SolveTexts) → IsSolveQuery words texts → solving_by texts ≡ None
+      → RefusesWords ended.status
+  -- a framework with a fault is refused by its first
+  pub faulty : (texts : SolveTexts) (query : Solving) (bytes : List ℕ)
+      → QueriesBytes seen.files words texts query bytes → IsFaulty bytes → length bytes ≤ INPUT_LIMIT
+      → RefusesBytes (role.Framework 1) bytes ended.status
+  -- a framework over the limit is refused for its length
+  pub too_long : (texts : SolveTexts) (query : Solving) (bytes : List ℕ)
+      → QueriesBytes seen.files words texts query bytes → INPUT_LIMIT < length bytes → RefusesLength ended.status
+  -- a script's run whose budget is none is refused
+  pub no_budget : (texts : LiveTexts) → IsLiveQuery words texts → budget_of texts.budget ≡ None
+      → RefusesWords ended.status
+  -- a large input that there isn't is refused
+  pub no_large : (texts : BenchTexts) → IsBenchQuery words texts → large_by texts ≡ None
+      → RefusesWords ended.status
+  -- a script with a fault is refused by its first
+  pub faulty_script : (texts : LiveTexts) (budget : ℕ) (f : Framework) (bytes : List ℕ)
+      → ScriptsBytes seen.files words texts budget f bytes → IsFaultyScript bytes → length bytes ≤ INPUT_LIMIT
+      → RefusesBytes role.Script bytes ended.status
+  -- a script over the limit is refused for its length
+  pub long_script : (texts : LiveTexts) (budget : ℕ) (f : Framework) (bytes : List ℕ)
+      → ScriptsBytes seen.files words texts budget f bytes → INPUT_LIMIT < length bytes
+      → RefusesLength ended.status
+  -- ---- checks
+  -- a check is done only where the answer is right
+  pub accepted : (texts : CheckTexts) → IsCheckQuery words texts → ended.status ≡ Done
+      → AnswersRight seen.files.holds texts
+  -- one of files that read as something, with no fault, ends as these say, or wants memory
+  pub checked : (texts : CheckTexts) (asked : Asked) (f : Framework) (answer : Answer) (certificate : Certificate)
+      → ChecksContents seen.files words texts asked f answer certificate
+      → IsCheckEnd f asked answer certificate ended.status
+  -- one that asks no query is refused
+  pub unasked : (texts : CheckTexts) → IsCheckQuery words texts → asked_by texts.task texts.number ≡ None
+      → RefusesWords ended.status
+  -- ---- faults and files
+  -- a write fault was counted
+  pub write_fault : ended.status ≡ WriteFault
+      → FaultCounted seen.before.fault_count seen.after.fault_count
+      ⊎ FaultCounted seen.before.write_count seen.after.write_count
+  -- and by the output where each name for certificates is accepted
+  pub output_fault : ((name : List ℕ) → NamesCertificate words name → seen.Accepts name)
+      → ended.status ≡ WriteFault → FaultCounted seen.before.fault_count seen.after.fault_count
+  -- no file changes but that for certificates
+  pub other_files : (name : List ℕ) → ¬ NamesCertificate words name
+      → seen.after.holds name ≡ seen.before.holds name
+  -- and that one only where the run is done or its writing fails
+  pub untouched : ended.status ≢ Done → ended.status ≢ WriteFault → seen.after.holds ≡ seen.before.holds
+  -- a fault of writing files is counted only where the run ends by it
+  pub no_write : ended.status ≢ WriteFault → seen.after.write_count ≡ seen.before.write_count
+  -- no fault of reading is counted in a role in which the command reads no input
+  pub no_other_read : (of : Role) → HasNoInput (row_of seen.files.holds (requested words)) of
+      → seen.files.new_count of ≡ seen.files.old_count of
