@@ -225,7 +225,8 @@ walks_alone f limit first second s (line ∷ lines) (a ∷ ones) (b ∷ twos) se
 
 -- two histories of one session alone are the same
 alone_told : (f : Framework) (limit first second s : ℕ) (lines : List ScriptLine) (history later : List Entry)
-    (log other_log : OracleLog) (answers others : List KeptAnswer) (ones twos : List Reply) → AreOwn s history → AreOwn s later
+    (log other_log : OracleLog) (answers others : List KeptAnswer) (ones twos : List Reply) → AreOwn s history
+    → AreOwn s later
     → HasWalked f limit first s lines history log answers ones
     → HasWalked f limit second s lines later other_log others twos
     → (history ≡ later) × AreAlike f s [] lines ones twos

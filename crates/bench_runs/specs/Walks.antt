@@ -50,7 +50,8 @@ pub record DoesQuery (f : Framework) (budget s : ℕ) (asked : Asked) (old : Sta
   pub front : reply.front ≡ length new.seen
   pub followed : new.followed ≡ length new.seen
   pub before : OracleLog
-  pub catches_up : CatchesUp (framework_after f (take old.followed new.seen)) (drop old.followed new.seen) old.log before
+  pub catches_up : CatchesUp (framework_after f (take old.followed new.seen)) (drop old.followed new.seen) old.log
+      before
   pub used : ℕ
   pub kept : KeptAnswer
   pub replied : IsReplied (framework_after f new.seen) asked budget before new.log kept.pending used reply.body
