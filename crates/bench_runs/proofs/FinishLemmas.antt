@@ -24,10 +24,10 @@ use Rattle.bench_runs.specs.declared.script_run.TheConstants.{HISTORY_LIMIT}
 use Rattle.bench_runs.specs.declared.runner.Runner.{Runner}
 use Rattle.bench_runs.specs.declared.transcript.ScriptTranscript.{ScriptTranscript}
 use Rattle.bench_runs.specs.Finishing.{IsFinished, kept_in, number_in}
-use Rattle.bench_runs.specs.Running.{HasServed}
+use Rattle.bench_runs.specs.Running.{HasServed, stand_of}
 use Rattle.bench_runs.specs.Served.{IsServed, LineEnds, entries_made, lines_of}
 use Rattle.bench_runs.specs.Transcripts.{AreSessions, IsTranscriptOf}
-use Rattle.bench_runs.proofs.ServedLemmas.{served_later}
+use Rattle.bench_runs.proofs.ToldLemmas.{walked_served}
 
 -- ---- an empty script
 
@@ -92,9 +92,8 @@ seen_whole hub budget lines runners t all numbers count h k inside =
     ≡ entries_of session_of r.session.number (seen_by r.session) =
     subst (λ n. entries_of session_of n entries ≡ entries_of session_of n (seen_by r.session))
     served.ready.number own in
-    let later = served_later (start_of hub) (limit_of hub) budget r.session.number (lines_of r.session.number lines)
-    (seen_by r.session) entries r.session.engine.log r.session.answers.items r.replies served.served longer
-    own_here in
+    let later = walked_served (start_of hub) (limit_of hub) budget r.session.number (lines_of r.session.number lines)
+    r.replies entries (stand_of r.session) served.walks (record { longer = longer; own = own_here }) in
     record {
       served = subst (λ n. IsServed (start_of hub) (limit_of hub) budget n (lines_of n lines) entries
           r.session.engine.log r.session.answers.items r.replies) number later;

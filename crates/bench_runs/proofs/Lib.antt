@@ -18,3 +18,5 @@ pub mod OpenLemmas
 pub mod SessionLemmas
 pub mod LentLemmas
 pub mod LeaveLemmas
+pub mod WalkLemmas
+pub mod AloneLemmas

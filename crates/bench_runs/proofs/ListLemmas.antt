@@ -10,6 +10,10 @@ use mathlib.Core.List.{IsPrefix}
 use Rattle.lists.proofs.Counts.{count_by-cons, count_no, count_yes, none_counted}
 use Rattle.lists.proofs.Filters.{filter_whole}
 
+pub some_item : {X : Type 0} (xs : List X) → 0 < length xs → X
+some_item [] lt = absurd (omega arith)
+some_item (x ∷ xs) lt = x
+
 pub zip_long : {A B : Type 0} (R : A → B → Type 0) (xs : List A) (ys : List B) → AllZip R xs ys → length xs ≡ length ys
 zip_long R [] [] all = refl
 zip_long R [] (y ∷ ys) all = absurd all

@@ -35,13 +35,9 @@ use Rattle.bench_runs.specs.Taken.{IsTakenOn}
 use Rattle.bench_runs.specs.Runs.{AreCounts, IsBenchRun}
 use Rattle.bench_runs.specs.Summaries.{AreRejected, IsGroundedSize, bench_counts, counts_text, queries_told, summary}
 use Rattle.bench_runs.proofs.EndLemmas.{history_long, same_at_end}
-use Rattle.bench_runs.proofs.ListLemmas.{zip_long}
+use Rattle.bench_runs.proofs.ListLemmas.{some_item, zip_long}
 use Rattle.bench_runs.proofs.SummaryLemmas.{none_grounded, queries_long, rejected_none}
 use Rattle.bench_runs.proofs.TakenLemmas.{IsHistoryOf, all_taken}
-
-some_item : {X : Type 0} (xs : List X) → 0 < length xs → X
-some_item [] lt = absurd (omega arith)
-some_item (x ∷ xs) lt = x
 
 sum_at_most : {X : Type 0} (g : X → ℕ) (most : ℕ) (xs : List X)
     → ((k : ℕ) (d : X) → k < length xs → g (get_or xs k d) ≤ most)

@@ -1,4 +1,4 @@
--- How the replies of a session come together, line by line.
+-- How the replies of a session come together, line by line, and what follows of its way through its lines.
 use Rattle.std.proofs.Common.{arith, Bool, ◌≡◌, ℕ, ◌==◌, ◌+◌, List, [], ◌∷◌, ◌++◌, true, false, refl, sym, ap, subst, ◌∙◌}
 use Rattle.std.specs.Prelude.{◌≢◌, ◌≤◌, length, filter, Contains}
 use Rattle.std.specs.List.{AllZip}
@@ -23,7 +23,8 @@ use Rattle.session_replies.specs.declared.reply.Body.{Body}
 use Rattle.session_replies.specs.declared.reply.Body.TheVariants.{Done, EditRefused, Full, Answered, QueryRefused, Unknown, TooMany, LogFull}
 use Rattle.session_replies.specs.declared.reply.Reply.{Reply}
 use Rattle.bench_runs.specs.Running.{GoesOn}
-use Rattle.bench_runs.specs.Served.{CommandEnds, EditEnds, FrontsRise, IsFront, IsServed, LineEnds, entries_made, entry_by, lines_of, made_by}
+use Rattle.bench_runs.specs.Served.{CommandEnds, EditEnds, FrontsRise, IsFront, LineEnds, entries_made, entry_by, lines_of, made_by}
+use Rattle.bench_runs.specs.Walks.{DoesCommand, Stand, Walks}
 
 -- ---- lists
 
@@ -34,19 +35,12 @@ prefix_on xs ys zs one two =
 pub prefix_short : {X : Type 0} → (xs ys : List X) → IsPrefix xs ys → length xs ≤ length ys
 prefix_short xs ys one = let whole = sym (length-append xs one.0) ∙ ap length one.1 in omega arith
 
-all_zip_weaker : {A B : Type 0} (R S : A → B → Type 0) → ((x : A) (y : B) → R x y → S x y) → (xs : List A)
+pub all_zip_weaker : {A B : Type 0} (R S : A → B → Type 0) → ((x : A) (y : B) → R x y → S x y) → (xs : List A)
     (ys : List B) → AllZip R xs ys → AllZip S xs ys
 all_zip_weaker R S weaker [] [] all = all
 all_zip_weaker R S weaker [] (y ∷ ys) all = absurd all
 all_zip_weaker R S weaker (x ∷ xs) [] all = absurd all
 all_zip_weaker R S weaker (x ∷ xs) (y ∷ ys) all = (weaker x y all.0, all_zip_weaker R S weaker xs ys all.1)
-
-all_zip_push : {A B : Type 0} (R : A → B → Type 0) (xs : List A) (ys : List B) (x : A) (y : B) → AllZip R xs ys
-    → R x y → AllZip R (xs ++ x ∷ []) (ys ++ y ∷ [])
-all_zip_push R [] [] x y all here = (here, all)
-all_zip_push R [] (z ∷ ys) x y all here = absurd all
-all_zip_push R (z ∷ xs) [] x y all here = absurd all
-all_zip_push R (z ∷ xs) (w ∷ ys) x y all here = (all.0, all_zip_push R xs ys x y all.1 here)
 
 filter_none : {X : Type 0} (p : X → Bool) (x : X) → p x ≡ false → filter p (x ∷ []) ≡ []
 filter_none p x fails = rw fails refl
@@ -72,7 +66,12 @@ edit_ends_on f limit s history more edit front (Done effect) longer h = record {
   taken = h.taken;
 }
 edit_ends_on f limit s history more edit front (EditRefused fault) longer h =
-    record { found = h.found; at = front_on history more h.found front longer h.at; refused = h.refused }
+    record {
+      found = h.found;
+      at = front_on history more h.found front longer h.at;
+      room = h.room;
+      refused = h.refused;
+    }
 edit_ends_on f limit s history more edit front Full longer h =
     record { found = h.found; at = front_on history more h.found front longer h.at; full = h.full }
 edit_ends_on f limit s history more edit front (Answered answer certificate) longer h = absurd h
@@ -81,7 +80,7 @@ edit_ends_on f limit s history more edit front (Unknown count) longer h = absurd
 edit_ends_on f limit s history more edit front TooMany longer h = absurd h
 edit_ends_on f limit s history more edit front LogFull longer h = absurd h
 
-ends_on : (f : Framework) (limit budget s : ℕ) (history more : List Entry) (log grown : OracleLog)
+pub ends_on : (f : Framework) (limit budget s : ℕ) (history more : List Entry) (log grown : OracleLog)
     (answers kept : List KeptAnswer) (command : Command) (front : ℕ) (body : Body)
     → GoesOn history more log grown answers kept → CommandEnds f limit budget s history log answers command front body
     → CommandEnds f limit budget s more grown kept command front body
@@ -102,32 +101,17 @@ ends_on f limit budget s history more log grown answers kept (Ask asked) front b
 
 -- ---- fronts
 
-rise_on : (low high more : ℕ) (replies : List Reply) → high ≤ more → FrontsRise low replies high
+pub rise_on : (low high more : ℕ) (replies : List Reply) → high ≤ more → FrontsRise low replies high
     → FrontsRise low replies more
 rise_on low high more [] on h = omega (arith, h, on)
 rise_on low high more (reply ∷ replies) on h = (h.0, rise_on reply.front high more replies on h.1)
 
-rise_push : (low middle high : ℕ) (replies : List Reply) (reply : Reply) → FrontsRise low replies middle
-    → middle ≤ reply.front → reply.front ≤ high → FrontsRise low (replies ++ reply ∷ []) high
-rise_push low middle high [] reply h up within = (omega (arith, h, up), within)
-rise_push low middle high (other ∷ replies) reply h up within =
-    (h.0, rise_push other.front middle high replies reply h.1 up within)
+rise_from : (low middle high : ℕ) (replies : List Reply) → low ≤ middle → FrontsRise middle replies high
+    → FrontsRise low replies high
+rise_from low middle high [] on h = omega (arith, h, on)
+rise_from low middle high (reply ∷ replies) on h = let first = h.0 in (omega (arith, first, on), h.1)
 
--- ---- entries
-
-made_push : (s : ℕ) (R : ScriptLine → Reply → Type 0) (lines : List ScriptLine) (replies : List Reply)
-    (line : ScriptLine) (reply : Reply) → AllZip R lines replies
-    → entries_made s (lines ++ line ∷ []) (replies ++ reply ∷ [])
-    ≡ entries_made s lines replies ++ made_by s line.command reply.body
-made_push s R [] [] line reply all = append-nil (made_by s line.command reply.body)
-made_push s R [] (other ∷ replies) line reply all = absurd all
-made_push s R (other ∷ lines) [] line reply all = absurd all
-made_push s R (other ∷ lines) (told ∷ replies) line reply all =
-    ap (λ l. made_by s other.command told.body ++ l) (made_push s R lines replies line reply all.1)
-    ∙ sym (append_assoc (made_by s other.command told.body) (entries_made s lines replies)
-    (made_by s line.command reply.body))
-
--- ---- a session goes on
+-- ---- lines of a session
 
 -- a line of another session is none of its lines
 pub other_line : (s : ℕ) (lines : List ScriptLine) (line : ScriptLine) → line.session ≢ s
@@ -138,50 +122,82 @@ other_line s lines line other =
     ∙ (ap (λ l. lines_of s lines ++ l) (filter_none (λ (l : ScriptLine). l.session == s) line is)
     ∙ append-nil (lines_of s lines))
 
-own_line : (s : ℕ) (lines : List ScriptLine) (line : ScriptLine) → line.session ≡ s
+pub own_line : (s : ℕ) (lines : List ScriptLine) (line : ScriptLine) → line.session ≡ s
     → lines_of s (lines ++ line ∷ []) ≡ lines_of s lines ++ line ∷ []
 own_line s lines line own =
     let is : (line.session == s) ≡ true = grind (arith, nat_tests) in
     filter-append (λ (l : ScriptLine). l.session == s) lines (line ∷ [])
     ∙ ap (λ l. lines_of s lines ++ l) (filter_one (λ (l : ScriptLine). l.session == s) line is)
 
--- a line of its own was done: it was told something that is so, and only its own edit made an entry of the session's
-pub served_next : (f : Framework) (limit budget s : ℕ) (lines : List ScriptLine) (history more : List Entry)
-    (log grown : OracleLog) (answers kept : List KeptAnswer) (replies : List Reply) (line : ScriptLine) (reply : Reply)
-    → line.session ≡ s → IsServed f limit budget s (lines_of s lines) history log answers replies
-    → GoesOn history more log grown answers kept → LineEnds f limit budget s more grown kept line reply
-    → length history ≤ reply.front → reply.front ≤ length more
-    → entries_of session_of s more ≡ entries_of session_of s history ++ made_by s line.command reply.body
-    → IsServed f limit budget s (lines_of s (lines ++ line ∷ [])) more grown kept (replies ++ reply ∷ [])
-served_next f limit budget s lines history more log grown answers kept replies line reply own h on ends low high
-    entries =
-    subst (λ l. IsServed f limit budget s l more grown kept (replies ++ reply ∷ [])) (sym (own_line s lines line own))
-    (record {
-      each = all_zip_push (LineEnds f limit budget s more grown kept) (lines_of s lines) replies line reply
-          (all_zip_weaker (LineEnds f limit budget s history log answers) (LineEnds f limit budget s more grown kept)
-          (λ l r. ends_on f limit budget s history more log grown answers kept l.command r.front r.body on)
-          (lines_of s lines) replies h.each) ends;
-      rise = rise_push 0 (length history) (length more) replies reply h.rise low high;
-      own = entries ∙ (ap (λ l. l ++ made_by s line.command reply.body) h.own
-          ∙ sym (made_push s (LineEnds f limit budget s history log answers) (lines_of s lines) replies line reply
-          h.each));
-    })
+-- ---- the walk
 
--- other sessions' entries came behind
-pub served_later : (f : Framework) (limit budget s : ℕ) (lines : List ScriptLine) (history more : List Entry)
-    (log : OracleLog) (answers : List KeptAnswer) (replies : List Reply)
-    → IsServed f limit budget s lines history log answers replies → IsPrefix history more
-    → entries_of session_of s more ≡ entries_of session_of s history
-    → IsServed f limit budget s lines more log answers replies
-served_later f limit budget s lines history more log answers replies h longer same = record {
-  each = all_zip_weaker (LineEnds f limit budget s history log answers) (LineEnds f limit budget s more log answers)
-      (λ l r. ends_on f limit budget s history more log log answers answers l.command r.front r.body
-      (record { longer = longer; grows = grows_same AnySide log; keeps = λ a there. there })) lines replies h.each;
-  rise = rise_on 0 (length history) (length more) replies (prefix_short history more longer) h.rise;
-  own = same ∙ h.own;
+-- one line more
+pub walks_push : (f : Framework) (limit budget s : ℕ) (old mid new : Stand) (lines : List ScriptLine)
+    (replies : List Reply) (line : ScriptLine) (reply : Reply) → Walks f limit budget s old lines replies mid
+    → DoesCommand f limit budget s line.command mid reply new
+    → Walks f limit budget s old (lines ++ line ∷ []) (replies ++ reply ∷ []) new
+walks_push f limit budget s old mid new [] [] line reply h does =
+    (new, subst (λ m. DoesCommand f limit budget s line.command m reply new) h does, refl)
+walks_push f limit budget s old mid new [] (told ∷ replies) line reply h does = absurd h
+walks_push f limit budget s old mid new (other ∷ lines) [] line reply h does = absurd h
+walks_push f limit budget s old mid new (other ∷ lines) (told ∷ replies) line reply h does =
+    (h.0, h.1, walks_push f limit budget s h.0 mid new lines replies line reply h.2 does)
+
+-- what was done at a line
+pub record IsDoneAt (f : Framework) (limit budget s : ℕ) (command : Command) (old : Stand) (reply : Reply)
+    (new : Stand) : Type 0 where
+  pub on : GoesOn old.seen new.seen old.log new.log old.answers new.answers
+  pub front : reply.front ≡ length new.seen
+  pub ends : CommandEnds f limit budget s new.seen new.log new.answers command reply.front reply.body
+  pub own : entries_of session_of s new.seen ≡ entries_of session_of s old.seen ++ made_by s command reply.body
+
+-- what was done at lines
+pub record AreDoneBy (f : Framework) (limit budget s : ℕ) (old : Stand) (lines : List ScriptLine)
+    (replies : List Reply) (new : Stand) : Type 0 where
+  pub on : GoesOn old.seen new.seen old.log new.log old.answers new.answers
+  pub each : AllZip (LineEnds f limit budget s new.seen new.log new.answers) lines replies
+  pub rise : FrontsRise (length old.seen) replies (length new.seen)
+  pub own : entries_of session_of s new.seen ≡ entries_of session_of s old.seen ++ entries_made s lines replies
+
+goes_same : (stand : Stand) → GoesOn stand.seen stand.seen stand.log stand.log stand.answers stand.answers
+goes_same stand = record {
+  longer = ([], append-nil stand.seen);
+  grows = grows_same AnySide stand.log;
+  keeps = λ a there. there;
 }
 
--- nothing was asked yet
-pub served_none : (f : Framework) (limit budget s : ℕ) (log : OracleLog) (answers : List KeptAnswer)
-    → IsServed f limit budget s [] [] log answers []
-served_none f limit budget s log answers = record { each = tt; rise = omega arith; own = refl }
+pub done_none : (f : Framework) (limit budget s : ℕ) (old : Stand) → AreDoneBy f limit budget s old [] [] old
+done_none f limit budget s old = record {
+  on = goes_same old;
+  each = tt;
+  rise = omega arith;
+  own = sym (append-nil (entries_of session_of s old.seen));
+}
+
+pub done_next : (f : Framework) (limit budget s : ℕ) (old mid new : Stand) (line : ScriptLine) (reply : Reply)
+    (lines : List ScriptLine) (replies : List Reply) → IsDoneAt f limit budget s line.command old reply mid
+    → AreDoneBy f limit budget s mid lines replies new
+    → AreDoneBy f limit budget s old (line ∷ lines) (reply ∷ replies) new
+done_next f limit budget s old mid new line reply lines replies first rest =
+    let long = prefix_short old.seen mid.seen first.on.longer in
+    let at = first.front in
+    record {
+      on = record {
+        longer = prefix_on old.seen mid.seen new.seen first.on.longer rest.on.longer;
+        grows = goes_on old.log mid.log new.log first.on.grows rest.on.grows;
+        keeps = λ a there. rest.on.keeps a (first.on.keeps a there);
+      };
+      each = (
+        ends_on f limit budget s mid.seen new.seen mid.log new.log mid.answers new.answers line.command reply.front
+            reply.body rest.on first.ends,
+        rest.each,
+      );
+      rise = (
+        omega (arith, long, at),
+        rise_from reply.front (length mid.seen) (length new.seen) replies (omega (arith, at)) rest.rise,
+      );
+      own = rest.own
+          ∙ (ap (λ l. l ++ entries_made s lines replies) first.own
+          ∙ append_assoc (entries_of session_of s old.seen) (made_by s line.command reply.body)
+          (entries_made s lines replies));
+    }

@@ -102,7 +102,7 @@ no_reply = record { front = 0; body = Full }
 
 told_done : (f : Framework) (limit s : ℕ) (history : List Entry) (edit : Edit) (front : ℕ) (real body : Body)
     → real ≡ body → EditEnds f limit s history edit front body → (IsFull limit history front → ⊥)
-    → ((fault : EditFault) → real ≡ EditRefused fault → RefusesEdit f history edit front fault → ⊥) → IsDone body
+    → ((fault : EditFault) → real ≡ EditRefused fault → RefusesEdit f limit history edit front fault → ⊥) → IsDone body
 told_done f limit s history edit front real (Done effect) is ends full refuses = tt
 told_done f limit s history edit front real (EditRefused fault) is ends full refuses = refuses fault is ends
 told_done f limit s history edit front real Full is ends full refuses = full ends

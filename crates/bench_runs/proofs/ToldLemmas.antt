@@ -1,4 +1,4 @@
--- What a session is told of an edit and of a query is so.
+-- What a session is told of an edit and of a query is so, and what its walk through its lines comes to.
 use Rattle.std.proofs.Common.{arith, Bool, ◌≡◌, ℕ, ◌==◌, ◌+◌, List, [], ◌∷◌, ◌++◌, true, false, refl, sym, ap, subst, ◌∙◌}
 use Rattle.std.specs.Prelude.{◌≢◌, ◌≤◌, length, filter, Contains}
 use Rattle.std.proofs.lemmas.Bool.Decides.{nat_tests}
@@ -21,17 +21,20 @@ use Rattle.session_log.specs.Ends.{MadeFor}
 use Rattle.script_text.specs.declared.script.Command.{Command}
 use Rattle.script_text.specs.declared.script.Command.TheVariants.{Edit as change_by, Ask}
 use Rattle.script_text.specs.declared.script.ScriptLine.{ScriptLine}
-use Rattle.session_core.specs.declared.kept.KeptAnswer.{KeptAnswer}
+use Rattle.session_core.specs.oracle_core.specs.Engines.{EngineState}
 use Rattle.session_core.specs.declared.session.Session.{Session}
-use Rattle.session_core.specs.Replies.{EditSays, IsEditReply}
+use Rattle.session_core.specs.Replies.{EditSays, IsBySteps, IsEditReply}
 use Rattle.session_core.specs.Sessions.{IsAsked, seen_by}
 use Rattle.session_replies.specs.declared.reply.Body.{Body}
 use Rattle.session_replies.specs.declared.reply.Body.TheVariants.{Done, EditRefused, Full, Answered, QueryRefused, Unknown, TooMany, LogFull}
 use Rattle.session_replies.specs.declared.reply.Reply.{Reply}
 use Rattle.bench_runs.specs.declared.runner.Runner.{Runner}
-use Rattle.bench_runs.specs.Running.{GoesOn, HasServed, IsReady, IsTold}
-use Rattle.bench_runs.specs.Served.{EditEnds, IsFront, entry_by, made_by}
-use Rattle.bench_runs.proofs.ServedLemmas.{filter_one, goes_on, other_line, prefix_on, prefix_short, served_next}
+use Rattle.bench_runs.specs.declared.runner.TheConstants.{LOG_LIMIT}
+use Rattle.bench_runs.specs.Running.{HasServed, IsReady, IsTold, stand_of}
+use Rattle.bench_runs.specs.Served.{EditEnds, IsFront, IsServed, LineEnds, entry_by, lines_of, made_by}
+use Rattle.bench_runs.specs.Walks.{DoesCommand, DoesEdit, DoesQuery, Stand, Walks, at_start}
+use Rattle.bench_runs.proofs.ServedLemmas.{AreDoneBy, IsDoneAt, all_zip_weaker, done_next, done_none, ends_on, filter_one}
+use Rattle.bench_runs.proofs.ServedLemmas.{goes_on, other_line, own_line, prefix_on, prefix_short, rise_on, walks_push}
 
 same_prefix : {X : Type 0} → (xs : List X) → IsPrefix xs xs
 same_prefix xs = ([], append-nil xs)
@@ -76,7 +79,12 @@ edit_told f limit s edit before now front (Done effect) at says =
     }
 edit_told f limit s edit before now front (EditRefused fault) at says =
     others_told f limit s edit before now front (EditRefused fault) says.0
-    (record { found = now; at = record { beginning = same_prefix now; counts = at }; refused = says.2 }) refl
+    (record {
+      found = now;
+      at = record { beginning = same_prefix now; counts = at };
+      room = let room = says.1 in omega (arith, room, at);
+      refused = says.2;
+    }) refl
 edit_told f limit s edit before now front Full at says =
     others_told f limit s edit before now front Full says.0
     (record { found = now; at = record { beginning = same_prefix now; counts = at }; full = at ∙ says.1 }) refl
@@ -87,59 +95,129 @@ edit_told f limit s edit before now front TooMany at says = absurd says
 edit_told f limit s edit before now front LogFull at says = absurd says
 
 -- an edit leaves the engine and what is kept of queries as they are
-pub told_of_edit : (hub : Hub) (budget : ℕ) (edit : Edit) (old new : Session) (reply : Reply)
-    → IsEditReply (limit_of hub) (start_of hub) old.number edit (seen_by old) (seen_by new) reply
-    → new.engine ≡ old.engine → new.answers ≡ old.answers → IsTold hub budget (change_by edit) old new reply
-told_of_edit hub budget edit old new reply said engine answers =
-    let h = edit_told (start_of hub) (limit_of hub) old.number edit (seen_by old) (seen_by new) reply.front reply.body
-    said.front said.says in
-    let long = prefix_short (seen_by old) (seen_by new) h.longer in
-    let at = said.front in
+done_edit : (f : Framework) (limit budget s : ℕ) (edit : Edit) (old new : Stand) (reply : Reply)
+    → DoesEdit f limit s edit old reply new → IsDoneAt f limit budget s (change_by edit) old reply new
+done_edit f limit budget s edit old new reply does =
+    let told = does.told in
+    let h = edit_told f limit s edit old.seen new.seen reply.front reply.body told.front told.says in
     record {
       on = record {
         longer = h.longer;
-        grows = subst (λ e. Grows AnySide old.engine.log e.log) (sym engine) (grows_same AnySide old.engine.log);
-        keeps = λ a there. subst (λ l. Contains l.items a) (sym answers) there;
+        grows = subst (Grows AnySide old.log) (sym does.log) (grows_same AnySide old.log);
+        keeps = λ a there. subst (λ l. Contains l a) (sym does.answers) there;
       };
+      front = told.front;
       ends = h.ends;
-      low = omega (arith, long, at);
-      high = omega (arith, at);
       own = h.own;
     }
 
 -- a query adds no entry of the session's
-pub told_of_query : (hub : Hub) (budget : ℕ) (asked : Asked) (old new : Session) (reply : Reply)
-    → IsAsked hub asked budget old new reply → GainsOthers old.number (seen_by old) (seen_by new)
-    → IsTold hub budget (Ask asked) old new reply
-told_of_query hub budget asked old new reply h gained =
-    let long = prefix_short (seen_by old) (seen_by new) gained.longer in
-    let at = h.front in
+done_query : (f : Framework) (limit budget s : ℕ) (asked : Asked) (old new : Stand) (reply : Reply)
+    → DoesQuery f budget s asked old reply new → IsDoneAt f limit budget s (Ask asked) old reply new
+done_query f limit budget s asked old new reply h = record {
+  on = record {
+    longer = h.gained.longer;
+    grows = goes_on old.log h.before new.log
+        (grows_as NoSide AnySide old.log h.before (λ literals set made. tt) h.catches_up.grows)
+        (grows_as (MadeFor (framework_after f new.seen) asked) AnySide h.before new.log (λ literals set made. tt)
+        h.replied.run.grows);
+    keeps = λ a there. subst (λ l. Contains l a) (sym h.answers)
+        (Contains-append_left old.answers (h.kept ∷ []) a there);
+  };
+  front = h.front;
+  ends = record {
+    found = new.seen;
+    at = record { beginning = same_prefix new.seen; counts = h.front };
+    before = h.before;
+    behind = new.log;
+    grown = grows_same AnySide new.log;
+    kept = h.kept;
+    used = h.used;
+    replied = h.replied;
+    kept_is = h.kept_is;
+    listed = subst (λ l. Contains l h.kept) (sym h.answers) (Contains-push old.answers h.kept);
+  };
+  own = h.gained.own ∙ sym (append-nil (entries_of session_of s old.seen));
+}
+
+pub done_at : (f : Framework) (limit budget s : ℕ) (command : Command) (old new : Stand) (reply : Reply)
+    → DoesCommand f limit budget s command old reply new → IsDoneAt f limit budget s command old reply new
+done_at f limit budget s (change_by edit) old new reply does = done_edit f limit budget s edit old new reply does
+done_at f limit budget s (Ask asked) old new reply does = done_query f limit budget s asked old new reply does
+
+pub done_by : (f : Framework) (limit budget s : ℕ) (lines : List ScriptLine) (old new : Stand) (replies : List Reply)
+    → Walks f limit budget s old lines replies new → AreDoneBy f limit budget s old lines replies new
+done_by f limit budget s [] old new [] h =
+    subst (AreDoneBy f limit budget s old [] []) (sym h) (done_none f limit budget s old)
+done_by f limit budget s [] old new (reply ∷ replies) h = absurd h
+done_by f limit budget s (line ∷ lines) old new [] h = absurd h
+done_by f limit budget s (line ∷ lines) old new (reply ∷ replies) h =
+    done_next f limit budget s old h.0 new line reply lines replies
+    (done_at f limit budget s line.command old h.0 reply h.1) (done_by f limit budget s lines h.0 new replies h.2)
+
+-- a session that walked its lines was served, as each history has it to which others alone added since
+pub walked_served : (f : Framework) (limit budget s : ℕ) (lines : List ScriptLine) (replies : List Reply)
+    (history : List Entry) (end : Stand) → Walks f limit budget s (at_start LOG_LIMIT) lines replies end
+    → GainsOthers s end.seen history
+    → IsServed f limit budget s lines history end.log end.answers replies
+walked_served f limit budget s lines replies history end walks gained =
+    let done = done_by f limit budget s lines (at_start LOG_LIMIT) end replies walks in
     record {
-      on = record {
-        longer = gained.longer;
-        grows = goes_on old.engine.log h.log new.engine.log
-            (grows_as NoSide AnySide old.engine.log h.log (λ literals set made. tt) h.catches_up.grows)
-            (grows_as (MadeFor (framework_after (start_of hub) (seen_by new)) asked) AnySide h.log new.engine.log
-            (λ literals set made. tt) h.replied.run.grows);
-        keeps = λ a there. subst (λ l. Contains l a) (sym h.answers)
-            (Contains-append_left old.answers.items (h.kept ∷ []) a there);
-      };
-      ends = record {
-        found = seen_by new;
-        at = record { beginning = same_prefix (seen_by new); counts = at };
-        before = h.log;
-        behind = new.engine.log;
-        grown = grows_same AnySide new.engine.log;
-        kept = h.kept;
-        used = h.used;
-        replied = h.replied;
-        kept_is = h.kept_is;
-        listed = subst (λ l. Contains l h.kept) (sym h.answers) (Contains-push old.answers.items h.kept);
-      };
-      low = omega (arith, long, at);
-      high = omega (arith, at);
-      own = gained.own ∙ sym (append-nil (entries_of session_of old.number (seen_by old)));
+      each = all_zip_weaker (LineEnds f limit budget s end.seen end.log end.answers)
+          (LineEnds f limit budget s history end.log end.answers)
+          (λ l r. ends_on f limit budget s end.seen history end.log end.log end.answers end.answers l.command r.front
+          r.body (record {
+            longer = gained.longer;
+            grows = grows_same AnySide end.log;
+            keeps = λ a there. there;
+          })) lines replies done.each;
+      rise = rise_on 0 (length end.seen) (length history) replies (prefix_short end.seen history gained.longer)
+          done.rise;
+      own = gained.own ∙ done.own;
+      walked = record { end = end; walks = walks; gained = gained; log_is = refl; answers_are = refl };
     }
+
+-- ---- what a session does
+
+pub told_of_edit : (hub : Hub) (budget : ℕ) (edit : Edit) (old new : Session) (reply : Reply)
+    → IsEditReply (limit_of hub) (start_of hub) old.number edit (seen_by old) (seen_by new) reply
+    → new.engine ≡ old.engine → new.followed ≡ old.followed → new.answers ≡ old.answers
+    → IsTold hub budget (change_by edit) old new reply
+told_of_edit hub budget edit old new reply said engine followed answers = record {
+  told = said;
+  followed = followed;
+  log = ap (λ (e : EngineState). e.log) engine;
+  answers = ap (λ a. a.items) answers;
+}
+
+pub told_of_query : (hub : Hub) (budget : ℕ) (asked : Asked) (old new : Session) (reply : Reply)
+    → old.engine.number ≡ old.number → IsAsked hub asked budget old new reply
+    → GainsOthers old.number (seen_by old) (seen_by new) → IsTold hub budget (Ask asked) old new reply
+told_of_query hub budget asked old new reply number h gained = record {
+  gained = gained;
+  front = h.front;
+  followed = h.followed;
+  before = h.log;
+  catches_up = h.catches_up;
+  used = h.used;
+  kept = h.kept;
+  replied = h.replied;
+  steps = subst (λ n. IsBySteps (framework_after (start_of hub) (seen_by new)) n asked h.log new.engine.log
+      h.kept.pending reply.body) number h.steps;
+  kept_is = h.kept_is;
+  answers = h.answers;
+}
+
+-- a session that was opened stands at the start
+pub opened_stand : (session : Session) → seen_by session ≡ [] → session.followed ≡ 0
+    → session.engine.log ≡ (at_start LOG_LIMIT).log → session.answers.items ≡ []
+    → stand_of session ≡ at_start LOG_LIMIT
+opened_stand session seen followed log answers = λ i. record {
+  seen = seen i;
+  followed = followed i;
+  log = log i;
+  answers = answers i;
+}
 
 -- ---- a line is done
 
@@ -151,10 +229,9 @@ pub own_done : (hub : Hub) (budget : ℕ) (before : List ScriptLine) (old : Runn
     → HasServed hub budget (before ++ line ∷ []) (record { session = new; replies = replies })
 own_done hub budget before old new replies line reply own ready told number pushed h = record {
   ready = ready;
-  served = rw (pushed, number)
-      (served_next (start_of hub) (limit_of hub) budget old.session.number before (seen_by old.session) (seen_by new)
-      old.session.engine.log new.engine.log old.session.answers.items new.answers.items old.replies line reply own
-      h.served told.on told.ends told.low told.high told.own);
+  walks = rw (pushed, number, own_line old.session.number before line own)
+      (walks_push (start_of hub) (limit_of hub) budget old.session.number (at_start LOG_LIMIT) (stand_of old.session)
+      (stand_of new) (lines_of old.session.number before) old.replies line reply h.walks told);
 }
 
 -- a line of another session's was passed over
@@ -163,5 +240,5 @@ pub other_done : (hub : Hub) (budget : ℕ) (before : List ScriptLine) (runner :
     → HasServed hub budget (before ++ line ∷ []) runner
 other_done hub budget before runner line other h = record {
   ready = h.ready;
-  served = rw (other_line runner.session.number before line other) h.served;
+  walks = rw (other_line runner.session.number before line other) h.walks;
 }

@@ -6,6 +6,8 @@ pub mod Laws
 pub mod Generator
 pub mod Scripts
 pub mod InputLaws
+pub mod Walks
+pub mod WalkLaws
 pub mod Served
 pub mod Running
 pub mod Transcripts

@@ -16,7 +16,9 @@ use Rattle.session_core.specs.declared.kept.KeptAnswer.{KeptAnswer}
 use Rattle.session_core.specs.declared.session.Session.{Session}
 use Rattle.session_core.specs.Sessions.{Follows, seen_by}
 use Rattle.session_replies.specs.declared.reply.Reply.{Reply}
-use Rattle.bench_runs.specs.Served.{CommandEnds, IsServed, lines_of, made_by}
+use Rattle.bench_runs.specs.Served.{lines_of}
+use Rattle.bench_runs.specs.Walks.{DoesCommand, Stand, Walks, at_start}
+use Rattle.bench_runs.specs.declared.runner.TheConstants.{LOG_LIMIT}
 use Rattle.bench_runs.specs.declared.runner.Runner.{Runner}
 
 -- the history has what it had, the log has grown, and each query that was kept is kept
@@ -25,25 +27,29 @@ pub record GoesOn (history more : List Entry) (log grown : OracleLog) (answers k
   pub grows : Grows AnySide log grown
   pub keeps : (a : KeptAnswer) → Contains answers a → Contains kept a
 
--- the session is at the hub, by its number, and may go on
+-- the session is at the hub, by its number, as its engine is, and may go on
 pub record IsReady (hub : Hub) (session : Session) : Type 0 where
   pub seat : IsSeatAt hub session.seat
   pub number : number_of session.seat ≡ session.number
+  pub engine : session.engine.number ≡ session.number
   pub follows : Follows hub session
 
--- the session did what a command says, and was told this of it
-pub record IsTold (hub : Hub) (budget : ℕ) (command : Command) (old new : Session) (reply : Reply) : Type 0 where
-  pub on : GoesOn (seen_by old) (seen_by new) old.engine.log new.engine.log old.answers.items new.answers.items
-  pub ends : CommandEnds (start_of hub) (limit_of hub) budget old.number (seen_by new) new.engine.log new.answers.items
-      command reply.front reply.body
-  pub low : length (seen_by old) ≤ reply.front
-  pub high : reply.front ≤ length (seen_by new)
-  pub own : entries_of session_of old.number (seen_by new)
-      ≡ entries_of session_of old.number (seen_by old) ++ made_by old.number command reply.body
+-- where the session stands
+abbrev pub stand_of : Session → Stand
+stand_of session = record {
+  seen = seen_by session;
+  followed = session.followed;
+  log = session.engine.log;
+  answers = session.answers.items;
+}
 
--- the session has done its lines among these, and got these replies
+-- the session did what a command says, and was told this of it
+abbrev pub IsTold : Hub → ℕ → Command → Session → Session → Reply → Type 0
+IsTold hub budget command old new reply =
+    DoesCommand (start_of hub) (limit_of hub) budget old.number command (stand_of old) reply (stand_of new)
+
+-- the session has done its lines among these, one after the other, and got these replies
 pub record HasServed (hub : Hub) (budget : ℕ) (lines : List ScriptLine) (runner : Runner) : Type 0 where
   pub ready : IsReady hub runner.session
-  pub served : IsServed (start_of hub) (limit_of hub) budget runner.session.number
-      (lines_of runner.session.number lines) (seen_by runner.session) runner.session.engine.log
-      runner.session.answers.items runner.replies
+  pub walks : Walks (start_of hub) (limit_of hub) budget runner.session.number (at_start LOG_LIMIT)
+      (lines_of runner.session.number lines) runner.replies (stand_of runner.session)

@@ -1,5 +1,5 @@
 -- What one session is told of the lines of its script.
-use Rattle.std.specs.Prelude.{◌≡◌, ℕ, ◌==◌, ◌≤◌, List, [], ◌∷◌, ◌++◌, length, filter, Contains, Err}
+use Rattle.std.specs.Prelude.{◌≡◌, ℕ, ◌==◌, ◌<◌, ◌≤◌, List, [], ◌∷◌, ◌++◌, length, filter, Contains, Err}
 use Rattle.std.specs.List.{AllZip}
 use mathlib.Core.List.{IsPrefix}
 use Rattle.semantics.specs.Frameworks.{Framework}
@@ -23,6 +23,7 @@ use Rattle.oracle_face.specs.Growing.{Grows}
 use Rattle.oracle_face.specs.Logs.{OracleLog}
 use Rattle.session_core.specs.Replies.{IsKeptOf, IsReplied}
 use Rattle.session_core.specs.declared.kept.KeptAnswer.{KeptAnswer}
+use Rattle.bench_runs.specs.Walks.{HasWalked}
 
 -- ---- the lines of a script
 
@@ -47,11 +48,12 @@ pub record TakesEdit (f : Framework) (s : ℕ) (history : List Entry) (edit : Ed
   pub at : IsFront history (found ++ entry_by s edit ∷ []) front
   pub taken : IsTaken (framework_after f found) edit effect
 
--- the framework behind the entries up to the front refuses the edit so
-pub record RefusesEdit (f : Framework) (history : List Entry) (edit : Edit) (front : ℕ) (fault : EditFault)
+-- the history has room, and the framework behind the entries up to the front refuses the edit so
+pub record RefusesEdit (f : Framework) (limit : ℕ) (history : List Entry) (edit : Edit) (front : ℕ) (fault : EditFault)
     : Type 0 where
   pub found : List Entry
   pub at : IsFront history found front
+  pub room : front < limit
   pub refused : edit_outcome (framework_after f found) edit ≡ Err fault
 
 -- the history has as many entries as it may have
@@ -63,7 +65,7 @@ pub record IsFull (limit : ℕ) (history : List Entry) (front : ℕ) : Type 0 wh
 -- what an edit may be told
 abbrev pub EditEnds : Framework → ℕ → ℕ → List Entry → Edit → ℕ → Body → Type 0
 EditEnds f limit s history edit front (Done effect) = TakesEdit f s history edit front effect
-EditEnds f limit s history edit front (EditRefused fault) = RefusesEdit f history edit front fault
+EditEnds f limit s history edit front (EditRefused fault) = RefusesEdit f limit history edit front fault
 EditEnds f limit s history edit front Full = IsFull limit history front
 EditEnds f limit s history edit front _ = ⊥
 
@@ -110,10 +112,11 @@ abbrev pub entries_made : ℕ → List ScriptLine → List Reply → List Entry
 entries_made s (line ∷ lines) (reply ∷ replies) = made_by s line.command reply.body ++ entries_made s lines replies
 entries_made s lines replies = []
 
--- a session of these lines: each is told something that is so, in order; the fronts never fall; and the session's
--- entries in the history are the edits that were taken
+-- a session of these lines: it walked them in order, each from where the one before left it. So each is told something
+-- that is so; the fronts never fall; and the session's entries in the history are the edits that were taken
 pub record IsServed (f : Framework) (limit budget s : ℕ) (lines : List ScriptLine) (history : List Entry)
     (log : OracleLog) (answers : List KeptAnswer) (replies : List Reply) : Type 0 where
   pub each : AllZip (LineEnds f limit budget s history log answers) lines replies
   pub rise : FrontsRise 0 replies (length history)
   pub own : entries_of session_of s history ≡ entries_made s lines replies
+  pub walked : HasWalked f limit budget s lines history log answers replies

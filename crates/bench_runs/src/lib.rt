@@ -16,6 +16,7 @@ mod script;
 mod script_run;
 mod tally;
 mod transcript;
+pub mod walk_laws;
 
 pub use counts::Counts;
 pub use draws::{INCREMENT, MULTIPLIER};

@@ -1,0 +1,20 @@
+//! What follows of a session's way through its lines. Each function does nothing; its contract is the law.
+
+ghost use Rattle.bench_runs.specs.WalkLaws.{AloneIsDetermined, FrontsAreMade, RecordsAreOwn};
+
+/// Behind each line, the session's entries among those that its reply counts are the ones that its lines up to this one
+/// made.
+pub fn fronts_are_made()
+    ensures { FrontsAreMade }
+{}
+
+/// A session keeps one record for each of its queries, and no step of its log is in two of them.
+pub fn records_are_own()
+    ensures { RecordsAreOwn }
+{}
+
+/// What one session alone is told is determined by its script and the framework, up to which right set is shown and
+/// whether a budget sufficed.
+pub fn alone_is_determined()
+    ensures { AloneIsDetermined }
+{}
