@@ -21,8 +21,8 @@ use Rattle.iccma_tasks.specs.AnswerText.{filled_fields, ReadsAs as AnswerReadsAs
 use Rattle.iccma_tasks.specs.declared.answer.Answer.{Answer}
 use Rattle.iccma_tasks.proofs.Exact.{ReadsAs-unique}
 use Rattle.certificate_claims.specs.declared.certificate.Certificate.{Certificate}
-use Rattle.certificate_laws.proofs.Right.{accepted_right}
-use Rattle.certificate_laws.proofs.Verdicts.{accepted_is_verdict}
+use Rattle.certificate_claims.proofs.Right.{accepted_right}
+use Rattle.certificate_claims.proofs.Verdicts.{accepted_is_verdict}
 use Rattle.certificate_text.specs.Reading.{ReadsAs as CertReadsAs}
 use Rattle.certificate_text.proofs.OneOutcome.{one_reading}
 use Rattle.argue_program.specs.Runs.{AnswersRight, ChecksContents, EndsAsReplied, HasText, IsCheckEnd, IsDoneOrMemory, IsSolveEnd, QueriesBytes, IsFaultyScript, IsLiveEnd, KeepsTranscript, LivesContents, RefusesBytes, RefusesLength, RefusesWords, ScriptsBytes, SolvesContents}

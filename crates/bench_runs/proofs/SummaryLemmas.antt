@@ -17,7 +17,7 @@ use Rattle.semantics.specs.Frameworks.{Framework, af, aba}
 use Rattle.certificate_claims.specs.declared.verdict.Verdict.{Verdict}
 use Rattle.certificate_claims.specs.declared.verdict.Verdict.TheVariants.{Accepted, Rejected}
 use Rattle.certificate_claims.specs.Verdicts.{IsVerdict}
-use Rattle.certificate_laws.proofs.Verdicts.{accepted_is_verdict, one_verdict}
+use Rattle.certificate_claims.proofs.Verdicts.{accepted_is_verdict, one_verdict}
 use Rattle.edit_history.specs.declared.entry.Entry.{Entry}
 use Rattle.edit_history.specs.Entries.{framework_after}
 use Rattle.script_text.specs.declared.script.Command.{Command}

@@ -14,9 +14,9 @@ use Rattle.iccma_tasks.specs.declared.task.Semantics.TheVariants.{Preferred}
 use Rattle.certificate_claims.specs.Refutations.{IsPlain}
 use Rattle.certificate_claims.specs.Rights.{Accepts, IsExtension}
 use Rattle.certificate_claims.specs.SetLiterals.{goal, has, members, outside}
-use Rattle.certificate_laws.proofs.GoalLists.{plain_mapped}
-use Rattle.certificate_laws.proofs.LargestSets.{covered_accepts}
-use Rattle.certificate_laws.proofs.SideClauses.{outside_plain}
+use Rattle.certificate_claims.proofs.GoalLists.{plain_mapped}
+use Rattle.certificate_claims.proofs.LargestSets.{covered_accepts}
+use Rattle.certificate_claims.proofs.SideClauses.{outside_plain}
 use Rattle.oracle_face.specs.declared.face.Found.{Found}
 use Rattle.oracle_face.specs.declared.face.Found.TheVariants.{Set, Refuted}
 use Rattle.oracle_face.specs.Goals.{Refutes}

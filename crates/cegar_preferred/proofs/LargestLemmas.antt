@@ -15,9 +15,9 @@ use Rattle.iccma_tasks.specs.declared.task.Semantics.TheVariants.{Preferred}
 use Rattle.certificate_claims.specs.Refutations.{IsPlain}
 use Rattle.certificate_claims.specs.Rights.{IsExtension}
 use Rattle.certificate_claims.specs.SetLiterals.{are_in, outside}
-use Rattle.certificate_laws.proofs.GoalLists.{asks_cons, plain_mapped}
-use Rattle.certificate_laws.proofs.LargestSets.{largest_preferred}
-use Rattle.certificate_laws.proofs.SideClauses.{in_plain, outside_plain}
+use Rattle.certificate_claims.proofs.GoalLists.{asks_cons, plain_mapped}
+use Rattle.certificate_claims.proofs.LargestSets.{largest_preferred}
+use Rattle.certificate_claims.proofs.SideClauses.{in_plain, outside_plain}
 use Rattle.oracle_face.specs.declared.face.Found.{Found}
 use Rattle.oracle_face.specs.declared.face.Pending.{Pending}
 use Rattle.oracle_face.specs.declared.face.Found.TheVariants.{Set, Refuted}

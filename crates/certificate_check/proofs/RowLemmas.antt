@@ -21,7 +21,7 @@ use Rattle.certificate_claims.specs.Acceptance.{GroundedSays, PassesTest}
 use Rattle.certificate_claims.specs.Claims.{shown, none_accepts, each_accepts, there_is_none, all_shown, credulous_row, sceptical_row, some_row, all_row, row_for, row_of, row_where, sets_of}
 use Rattle.certificate_claims.specs.Ranges.{AreLive}
 use Rattle.certificate_claims.specs.Rights.{Accepts, IsExtension}
-use Rattle.certificate_laws.proofs.KindFacts.{accepts_more, grounded_is}
+use Rattle.certificate_claims.proofs.KindFacts.{accepts_more, grounded_is}
 use Rattle.answer_claims.specs.SetFacts.{HasSetsOf}
 use Rattle.certificate_check.specs.Standing.{IsFirstWithout}
 use Rattle.certificate_check.specs.Witnesses.{HasRanges, IsRowOf, IsTestedRow, ShowsSets}

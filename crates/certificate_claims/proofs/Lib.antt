@@ -3,3 +3,16 @@ pub mod OrderLemmas
 pub mod SetTests
 pub mod RisingLists
 pub mod RangeLists
+pub mod KindFacts
+pub mod ExtensionFacts
+pub mod Refuting
+pub mod GoalLists
+pub mod SideClauses
+pub mod LargestSets
+pub mod WidestSets
+pub mod IdealSets
+pub mod AfEvidence
+pub mod Evidence
+pub mod Right
+pub mod Verdicts
+pub mod Agreeing

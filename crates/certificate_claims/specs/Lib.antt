@@ -1,5 +1,7 @@
 pub mod Acceptance
+pub mod Agreement
 pub mod Claims
+pub mod Laws
 pub mod Orders
 pub mod Ranges
 pub mod Refutations

@@ -1,8 +1,11 @@
-//! What a certificate is, what it has to show for an answer, when it does, and the verdict that a check tells.
+//! What a certificate is, what it has to show for an answer, when it does, and the verdict that a check tells. The laws
+//! that make certificates worth checking: an answer with an accepted certificate is right, right answers agree, and
+//! there is one verdict on a certificate.
 #![tactic(auto)]
 
 mod axiom;
 pub mod certificate;
+pub mod laws;
 mod order;
 mod ranges;
 pub mod row;

@@ -28,7 +28,7 @@ use Rattle.iccma_tasks.specs.declared.task.Problem.TheVariants.{Credulous, Scept
 use Rattle.iccma_tasks.specs.declared.task.Semantics.{Semantics}
 use Rattle.iccma_tasks.specs.declared.task.Semantics.TheVariants.{Complete, Grounded, Preferred, Stable, SemiStable, Ideal as IdealSets}
 use Rattle.certificate_claims.specs.Refutations.{Claim as TableClaim, IsPlain, IsRefutationOf}
-use Rattle.certificate_laws.proofs.KindFacts.{admissible_members, numbered_members}
+use Rattle.certificate_claims.proofs.KindFacts.{admissible_members, numbered_members}
 use Rattle.certificate_text.specs.Written.{IsWritable, IsWritableStep}
 use Rattle.oracle_face.specs.Goals.{Refutes}
 use Rattle.oracle_face.specs.Logs.{OracleLog, SideClause, IsLog, IsNumberOf}

@@ -27,9 +27,9 @@ use Rattle.certificate_claims.specs.Claims.{there_is_none}
 use Rattle.certificate_claims.specs.Refutations.{Claim, IsPlain}
 use Rattle.certificate_claims.specs.SetLiterals.{are_in, are_out, are_ranged, attacked, differs, goal, hit_by_any}
 use Rattle.certificate_claims.specs.SetLiterals.{outside, range_of, same_range, wider}
-use Rattle.certificate_laws.proofs.GoalLists.{asks_append, asks_cons, asks_nil, plain_mapped}
-use Rattle.certificate_laws.proofs.SideClauses.{attacked_plain, differs_plain, in_plain, out_plain, outside_plain}
-use Rattle.certificate_laws.proofs.SideClauses.{ranged_plain, wider_plain}
+use Rattle.certificate_claims.proofs.GoalLists.{asks_append, asks_cons, asks_nil, plain_mapped}
+use Rattle.certificate_claims.proofs.SideClauses.{attacked_plain, differs_plain, in_plain, out_plain, outside_plain}
+use Rattle.certificate_claims.proofs.SideClauses.{ranged_plain, wider_plain}
 
 abbrev AllPlain : List Claim → Type 0
 AllPlain list = (claim : Claim) → Contains list claim → IsPlain claim

@@ -25,10 +25,10 @@ use Rattle.certificate_claims.specs.Acceptance.{NoRangeWithin, Tests}
 use Rattle.certificate_claims.specs.Claims.{claim_of}
 use Rattle.certificate_claims.specs.Rights.{IsExtension, SetsRise}
 use Rattle.certificate_claims.specs.SetLiterals.{differs, outside, wider}
-use Rattle.certificate_laws.proofs.ExtensionFacts.{admissible_world, preferred_admissible}
-use Rattle.certificate_laws.proofs.GoalLists.{asks_cons, asks_nil, fails_mapped, meets_cons, meets_nil, plain_mapped}
-use Rattle.certificate_laws.proofs.KindFacts.{complete_admissible, complete_is, complete_round, none_admissible, semi_stable_admissible, stable_is}
-use Rattle.certificate_laws.proofs.SideClauses.{differs_plain, outside_plain, wider_plain}
+use Rattle.certificate_claims.proofs.ExtensionFacts.{admissible_world, preferred_admissible}
+use Rattle.certificate_claims.proofs.GoalLists.{asks_cons, asks_nil, fails_mapped, meets_cons, meets_nil, plain_mapped}
+use Rattle.certificate_claims.proofs.KindFacts.{complete_admissible, complete_is, complete_round, none_admissible, semi_stable_admissible, stable_is}
+use Rattle.certificate_claims.proofs.SideClauses.{differs_plain, outside_plain, wider_plain}
 use Rattle.oracle_face.specs.declared.face.Pending.{Pending}
 use Rattle.oracle_face.specs.Goals.{Refutes}
 use Rattle.oracle_face.specs.Growing.{HasRun}

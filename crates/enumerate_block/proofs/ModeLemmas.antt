@@ -15,10 +15,10 @@ use Rattle.meaning_atoms.specs.Literals.{affirmed, denied, negated}
 use Rattle.meaning_atoms.specs.Worlds.{HoldsOf, IsAsk}
 use Rattle.certificate_claims.specs.Refutations.{IsPlain, MeetsGoals}
 use Rattle.certificate_claims.specs.SetLiterals.{are_ranged, differs, has, members}
-use Rattle.certificate_laws.proofs.ExtensionFacts.{admissible_world}
-use Rattle.certificate_laws.proofs.GoalLists.{asks_cons, fails_mapped, meets_cons, meets_mapped, plain_mapped}
-use Rattle.certificate_laws.proofs.KindFacts.{complete_admissible, stable_admissible}
-use Rattle.certificate_laws.proofs.SideClauses.{differs_plain, ranged_plain, same_where_false}
+use Rattle.certificate_claims.proofs.ExtensionFacts.{admissible_world}
+use Rattle.certificate_claims.proofs.GoalLists.{asks_cons, fails_mapped, meets_cons, meets_mapped, plain_mapped}
+use Rattle.certificate_claims.proofs.KindFacts.{complete_admissible, stable_admissible}
+use Rattle.certificate_claims.proofs.SideClauses.{differs_plain, ranged_plain, same_where_false}
 use Rattle.oracle_face.specs.declared.face.Found.{Found}
 use Rattle.oracle_face.specs.declared.face.Found.TheVariants.{Set, Refuted}
 use Rattle.oracle_face.specs.Goals.{IsMemberAtom, IsMode, IsSide, MakesTrue, Refutes}

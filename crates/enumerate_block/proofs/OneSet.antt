@@ -12,8 +12,8 @@ use Rattle.certificate_claims.specs.declared.row.Row.{Row}
 use Rattle.certificate_claims.specs.declared.row.Row.TheVariants.{Tested, Largest, Widest}
 use Rattle.certificate_claims.specs.Acceptance.{IsShaped, PassesGrounded, PassesOrder, PassesTest, TakesSets, Tests, no_claim}
 use Rattle.certificate_claims.specs.Refutations.{Claim}
-use Rattle.certificate_laws.proofs.ExtensionFacts.{preferred_admissible}
-use Rattle.certificate_laws.proofs.KindFacts.{complete_is, semi_stable_admissible, stable_is}
+use Rattle.certificate_claims.proofs.ExtensionFacts.{preferred_admissible}
+use Rattle.certificate_claims.proofs.KindFacts.{complete_is, semi_stable_admissible, stable_is}
 use Rattle.oracle_face.specs.Goals.{Refutes}
 use Rattle.oracle_face.specs.Kinds.{is_assumption_based}
 use Rattle.oracle_face.specs.Logs.{OracleLog}

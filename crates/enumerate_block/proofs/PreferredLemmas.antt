@@ -14,10 +14,10 @@ use Rattle.certificate_claims.specs.Acceptance.{NoneWithin}
 use Rattle.certificate_claims.specs.Refutations.{IsPlain}
 use Rattle.certificate_claims.specs.Rights.{IsExtension}
 use Rattle.certificate_claims.specs.SetLiterals.{has, members, outside}
-use Rattle.certificate_laws.proofs.ExtensionFacts.{preferred_admissible, preferred_maximal}
-use Rattle.certificate_laws.proofs.GoalLists.{asks_cons, asks_nil, plain_mapped}
-use Rattle.certificate_laws.proofs.LargestSets.{all_preferred}
-use Rattle.certificate_laws.proofs.SideClauses.{outside_plain}
+use Rattle.certificate_claims.proofs.ExtensionFacts.{preferred_admissible, preferred_maximal}
+use Rattle.certificate_claims.proofs.GoalLists.{asks_cons, asks_nil, plain_mapped}
+use Rattle.certificate_claims.proofs.LargestSets.{all_preferred}
+use Rattle.certificate_claims.proofs.SideClauses.{outside_plain}
 use Rattle.oracle_face.specs.declared.face.Found.{Found}
 use Rattle.oracle_face.specs.declared.face.Found.TheVariants.{Set, Refuted}
 use Rattle.oracle_face.specs.Goals.{Refutes}

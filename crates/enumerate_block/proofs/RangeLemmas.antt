@@ -26,9 +26,9 @@ use Rattle.certificate_claims.specs.Rights.{IsExtension, SetsRise}
 use Rattle.certificate_claims.specs.SetLiterals.{are_ranged, differs, has, is_range_within, members, range_of, same_range, wider}
 use Rattle.certificate_claims.proofs.RangeLists.{equal_ranges}
 use Rattle.certificate_claims.proofs.SetTests.{firsts_within}
-use Rattle.certificate_laws.proofs.GoalLists.{asks_cons, asks_nil, only_one, plain_mapped}
-use Rattle.certificate_laws.proofs.SideClauses.{differs_plain, ranged_plain, wider_plain}
-use Rattle.certificate_laws.proofs.WidestSets.{all_semi_stable, widest_semi_stable}
+use Rattle.certificate_claims.proofs.GoalLists.{asks_cons, asks_nil, only_one, plain_mapped}
+use Rattle.certificate_claims.proofs.SideClauses.{differs_plain, ranged_plain, wider_plain}
+use Rattle.certificate_claims.proofs.WidestSets.{all_semi_stable, widest_semi_stable}
 use Rattle.oracle_face.specs.declared.face.Found.{Found}
 use Rattle.oracle_face.specs.declared.face.Found.TheVariants.{Set, Refuted}
 use Rattle.oracle_face.specs.declared.face.Pending.{Pending}

@@ -23,9 +23,9 @@ use Rattle.certificate_claims.specs.Refutations.{Claim, IsPlain}
 use Rattle.certificate_claims.specs.Rights.{IsExtension}
 use Rattle.certificate_claims.specs.SetLiterals.{are_ranged, has, is_range_within, members, range_of, wider}
 use Rattle.certificate_claims.proofs.SetTests.{in_range_live, ranged_from, ranged_gives, tests_range_within}
-use Rattle.certificate_laws.proofs.GoalLists.{asks_cons, only_one, plain_mapped}
-use Rattle.certificate_laws.proofs.SideClauses.{ranged_plain, wider_plain}
-use Rattle.certificate_laws.proofs.WidestSets.{ranged_out, widest_semi_stable}
+use Rattle.certificate_claims.proofs.GoalLists.{asks_cons, only_one, plain_mapped}
+use Rattle.certificate_claims.proofs.SideClauses.{ranged_plain, wider_plain}
+use Rattle.certificate_claims.proofs.WidestSets.{ranged_out, widest_semi_stable}
 use Rattle.oracle_face.specs.declared.face.Found.{Found}
 use Rattle.oracle_face.specs.declared.face.Found.TheVariants.{Set, Refuted}
 use Rattle.oracle_face.specs.declared.face.Pending.{Pending}

@@ -1,4 +1,4 @@
--- What of the goals depends on the kind of a framework, by cases on it; certificate_laws has the rest, in KindFacts.
+-- What of the goals depends on the kind of a framework, by cases on it; certificate_claims has the rest, in KindFacts.
 use Rattle.std.proofs.Common.{◌≡◌, ℕ, Bool, true, false, not, List, refl, ap, sym}
 use Rattle.std.specs.Prelude.{Contains}
 use Rattle.std.specs.Cmp.{both_ways}

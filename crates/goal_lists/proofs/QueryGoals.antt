@@ -14,8 +14,8 @@ use Rattle.meaning_atoms.proofs.Clauses.{alone_holds, holds_alone, says_moved}
 use Rattle.oracle_face.specs.certificate_claims.specs.Acceptance.{AcceptsAsSaid}
 use Rattle.oracle_face.specs.certificate_claims.specs.Claims.{claim_of}
 use Rattle.oracle_face.specs.certificate_claims.specs.SetLiterals.{goal}
-use Rattle.certificate_laws.proofs.GoalLists.{asks_cons, asks_nil}
-use Rattle.certificate_laws.proofs.KindFacts.{denied_is, goal_asks_nothing, goal_is}
+use Rattle.oracle_face.specs.certificate_claims.proofs.GoalLists.{asks_cons, asks_nil}
+use Rattle.oracle_face.specs.certificate_claims.proofs.KindFacts.{denied_is, goal_asks_nothing, goal_is}
 use Rattle.oracle_face.specs.Goals.{AreGoals, AsksSide, IsGoal, IsMode, MakesTrue, Refutes, RefutesGoals}
 use Rattle.oracle_face.specs.Kinds.{is_assumption_based}
 use Rattle.oracle_face.specs.Logs.{OracleLog, SideClause, literals_of}

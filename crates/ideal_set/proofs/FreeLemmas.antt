@@ -13,9 +13,9 @@ use Rattle.meaning_atoms.specs.Literals.{affirmed, denied}
 use Rattle.meaning_atoms.specs.Worlds.{HoldsOf}
 use Rattle.certificate_claims.specs.Refutations.{IsPlain}
 use Rattle.certificate_claims.specs.SetLiterals.{are_in, are_out, members, outside}
-use Rattle.certificate_laws.proofs.KindFacts.{none_admissible}
-use Rattle.certificate_laws.proofs.GoalLists.{asks_append, asks_cons, plain_mapped}
-use Rattle.certificate_laws.proofs.SideClauses.{in_plain, out_plain, outside_plain}
+use Rattle.certificate_claims.proofs.KindFacts.{none_admissible}
+use Rattle.certificate_claims.proofs.GoalLists.{asks_append, asks_cons, plain_mapped}
+use Rattle.certificate_claims.proofs.SideClauses.{in_plain, out_plain, outside_plain}
 use Rattle.oracle_face.specs.declared.face.Found.{Found}
 use Rattle.oracle_face.specs.declared.face.Found.TheVariants.{Set, Refuted}
 use Rattle.oracle_face.specs.Goals.{IsClaimSide, IsSide, SpeaksOf}

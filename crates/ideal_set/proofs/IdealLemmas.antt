@@ -25,9 +25,9 @@ use Rattle.certificate_claims.specs.Rights.{IsExtension}
 use Rattle.certificate_claims.specs.SetLiterals.{attacked, has, hit_by_any, hits, members}
 use Rattle.certificate_claims.proofs.RangeLists.{same_rising}
 use Rattle.certificate_claims.proofs.SetTests.{in_hit_list}
-use Rattle.certificate_laws.proofs.GoalLists.{asks_cons, asks_nil, only_one, plain_mapped}
-use Rattle.certificate_laws.proofs.IdealSets.{shown_ideal}
-use Rattle.certificate_laws.proofs.SideClauses.{attacked_plain}
+use Rattle.certificate_claims.proofs.GoalLists.{asks_cons, asks_nil, only_one, plain_mapped}
+use Rattle.certificate_claims.proofs.IdealSets.{shown_ideal}
+use Rattle.certificate_claims.proofs.SideClauses.{attacked_plain}
 use Rattle.oracle_face.specs.declared.face.Found.{Found}
 use Rattle.oracle_face.specs.declared.face.Found.TheVariants.{Set, Refuted}
 use Rattle.oracle_face.specs.Goals.{IsClaimSide, IsSide, Refutes, SpeaksOf}

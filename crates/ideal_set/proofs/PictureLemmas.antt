@@ -10,7 +10,7 @@ use Rattle.lists.proofs.Membership.{Contains-cons_cases, Contains-head, Contains
 use Rattle.semantics.specs.Framework.{Af, Attacks}
 use Rattle.semantics.specs.Frameworks.{Framework, af, aba, IsNumbered}
 use Rattle.certificate_claims.specs.SetLiterals.{members}
-use Rattle.certificate_laws.proofs.KindFacts.{numbered_members}
+use Rattle.certificate_claims.proofs.KindFacts.{numbered_members}
 use Rattle.dung_notions.specs.Neighbours.{AreArguments, AreBetween}
 use Rattle.oracle_face.specs.Kinds.{IsRanged, is_assumption_based}
 use Rattle.ideal_set.specs.Ideals.{GainsTargets, IsPicture}

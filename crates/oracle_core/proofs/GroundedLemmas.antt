@@ -18,9 +18,9 @@ use Rattle.certificate_claims.specs.Acceptance.{GroundedSays, IsAccepted, Passes
 use Rattle.certificate_claims.specs.Claims.{claims, row_of, sets_of}
 use Rattle.certificate_claims.specs.Rights.{Accepts, IsExtension}
 use Rattle.certificate_claims.specs.declared.row.Row.TheVariants.{Tested, ByGrounded}
-use Rattle.certificate_laws.proofs.ExtensionFacts.{extension_admissible, grounded_complete}
-use Rattle.certificate_laws.proofs.KindFacts.{admissible_members, numbered_members}
-use Rattle.certificate_laws.proofs.Right.{accepted_right}
+use Rattle.certificate_claims.proofs.ExtensionFacts.{extension_admissible, grounded_complete}
+use Rattle.certificate_claims.proofs.KindFacts.{admissible_members, numbered_members}
+use Rattle.certificate_claims.proofs.Right.{accepted_right}
 use Rattle.query_answers.specs.Answers.{IsSaid, is_by_grounded}
 use Rattle.oracle_core.specs.Answers.{IsAnswerBy, IsShownBy, answer_by, no_certificate}
 

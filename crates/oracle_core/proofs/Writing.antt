@@ -15,9 +15,9 @@ use Rattle.certificate_claims.specs.declared.certificate.Certificate.{Certificat
 use Rattle.certificate_claims.specs.Acceptance.{IsAccepted}
 use Rattle.certificate_claims.specs.Rights.{IsExtension, IsRightOf}
 use Rattle.certificate_text.specs.Written.{IsWritable}
-use Rattle.certificate_laws.proofs.ExtensionFacts.{extension_admissible}
-use Rattle.certificate_laws.proofs.KindFacts.{admissible_members, numbered_members}
-use Rattle.certificate_laws.proofs.Right.{accepted_right}
+use Rattle.certificate_claims.proofs.ExtensionFacts.{extension_admissible}
+use Rattle.certificate_claims.proofs.KindFacts.{admissible_members, numbered_members}
+use Rattle.certificate_claims.proofs.Right.{accepted_right}
 use Rattle.oracle_face.specs.Logs.{OracleLog}
 use Rattle.session_log.specs.Ends.{IsShownBy as IsShownByLog}
 use Rattle.query_answers.specs.declared.evidence.Evidence.{Evidence}

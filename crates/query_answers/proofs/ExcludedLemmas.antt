@@ -21,9 +21,9 @@ use Rattle.certificate_claims.specs.declared.row.Row.TheVariants.{Tested}
 use Rattle.certificate_claims.specs.Acceptance.{AcceptsAsSaid}
 use Rattle.certificate_claims.specs.Claims.{claim_of}
 use Rattle.certificate_claims.specs.SetLiterals.{goal, are_in, members}
-use Rattle.certificate_laws.proofs.ExtensionFacts.{admissible_world}
-use Rattle.certificate_laws.proofs.GoalLists.{asks_cons, asks_nil}
-use Rattle.certificate_laws.proofs.KindFacts.{accepts_more, complete_admissible, complete_is, complete_round, member_is, stable_is}
+use Rattle.certificate_claims.proofs.ExtensionFacts.{admissible_world}
+use Rattle.certificate_claims.proofs.GoalLists.{asks_cons, asks_nil}
+use Rattle.certificate_claims.proofs.KindFacts.{accepts_more, complete_admissible, complete_is, complete_round, member_is, stable_is}
 use Rattle.edit_rules.specs.Fitting.{Fits}
 use Rattle.oracle_face.specs.declared.face.Found.{Found}
 use Rattle.oracle_face.specs.declared.face.Found.TheVariants.{Set, Refuted}

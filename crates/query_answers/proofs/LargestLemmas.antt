@@ -14,7 +14,7 @@ use Rattle.iccma_tasks.specs.Tasks.{Asked}
 use Rattle.certificate_claims.specs.declared.row.Row.TheVariants.{Largest}
 use Rattle.certificate_claims.specs.Claims.{claim_of}
 use Rattle.certificate_claims.specs.SetLiterals.{goal}
-use Rattle.certificate_laws.proofs.KindFacts.{accepts_more, none_admissible}
+use Rattle.certificate_claims.proofs.KindFacts.{accepts_more, none_admissible}
 use Rattle.oracle_face.specs.declared.face.Found.{Found}
 use Rattle.oracle_face.specs.declared.face.Found.TheVariants.{Set, Refuted}
 use Rattle.oracle_face.specs.Goals.{RefutesGoals}

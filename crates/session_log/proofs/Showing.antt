@@ -11,7 +11,7 @@ use Rattle.iccma_tasks.specs.Tasks.{Asked}
 use Rattle.oracle_face.specs.certificate_claims.specs.Refutations.{IsAxiomOf}
 use Rattle.oracle_face.specs.certificate_claims.specs.Rights.{IsExtension, IsRight}
 use Rattle.meaning_atoms.specs.declared.atom.AtomLit.{AtomLit}
-use Rattle.certificate_laws.proofs.Right.{shown_right}
+use Rattle.certificate_claims.proofs.Right.{shown_right}
 use Rattle.oracle_face.specs.Growing.{Making, Grows}
 use Rattle.oracle_face.specs.Logs.{OracleLog, LogStep, SideClause, Source, by_axiom, IsGiven, IsLog, is_loop}
 use Rattle.oracle_face.proofs.Refuting.{claim_excluded, refutes_grown}

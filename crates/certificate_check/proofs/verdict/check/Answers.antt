@@ -1,8 +1,8 @@
 use Rattle.std.proofs.Common.{◌∙◌, subst}
 use Rattle.edit_rules.specs.Kinds.{framework_of}
 use Rattle.certificate_claims.specs.Verdicts.{IsVerdict}
-use Rattle.certificate_laws.proofs.Right.{accepted_right}
-use Rattle.certificate_laws.proofs.Verdicts.{accepted_is_verdict}
+use Rattle.certificate_claims.proofs.Right.{accepted_right}
+use Rattle.certificate_claims.proofs.Verdicts.{accepted_is_verdict}
 use Rattle.certificate_check.proofs.RowLemmas.{answer_known, answer_of_kind}
 use Rattle.certificate_check.proofs.SectionLemmas.{verdict_from}
 use Rattle.certificate_check.proofs.verdict.check.Goals as goal

@@ -1,0 +1,118 @@
+-- What the rows of the table show that are about ranges and about the ideal set, which abstract frameworks alone are
+-- asked for: by cases on the kind.
+use Rattle.std.proofs.Common.{◌≡◌, ◌<◌, ℕ, List, [], ◌∷◌, ◌++◌, length, map, filter, arith, refl}
+use Rattle.std.specs.Prelude.{Contains, slice_index_or}
+use Rattle.lists.proofs.Membership.{Contains-nil, Contains-tail}
+use Rattle.plain_lits.proofs.HintCheckLemmas.{Contains-mapped}
+use Rattle.iccma_tasks.specs.semantics.specs.Frameworks.{Framework, af, aba, IsNumbered}
+use Rattle.aba_axioms.specs.meaning_atoms.specs.declared.atom.Atom.TheVariants.{Ad}
+use Rattle.aba_axioms.specs.meaning_atoms.specs.declared.atom.AtomLit.{AtomLit}
+use Rattle.aba_axioms.specs.meaning_atoms.specs.Literals.{affirmed}
+use Rattle.aba_axioms.specs.meaning_atoms.specs.Worlds.{HoldsOf, Says, IsAsk}
+use Rattle.iccma_tasks.specs.declared.task.Semantics.{Semantics}
+use Rattle.iccma_tasks.specs.declared.task.Semantics.TheVariants.{Complete, Grounded, Preferred, Stable, SemiStable, Ideal as IdealSets}
+use Rattle.iccma_tasks.specs.Tasks.{Asked}
+use Rattle.certificate_claims.specs.declared.row.Row.{Row}
+use Rattle.certificate_claims.specs.declared.row.Row.TheVariants.{Widest, Ranged, AllWidest}
+use Rattle.certificate_claims.specs.Acceptance.{NoRangeWithin, Tests}
+use Rattle.certificate_claims.specs.Claims.{claims, row_where, first_ranged, ideal_claims, range_cover, range_free, range_listed}
+use Rattle.certificate_claims.specs.Rights.{IsExtension}
+use Rattle.certificate_claims.specs.SetLiterals.{range_of, same_range, hit_by_any, are_in, are_out, are_ranged, outside, differs, wider, attacked}
+use Rattle.certificate_claims.specs.Laws.{AreExcluded}
+use Rattle.certificate_claims.proofs.GoalLists.{asks_nil, asks_cons, asks_append, ad_plain, plain_mapped, excluded_in, each_of}
+use Rattle.certificate_claims.proofs.IdealSets.{shown_ideal}
+use Rattle.certificate_claims.proofs.LargestSets.{AreExactly}
+use Rattle.certificate_claims.proofs.SideClauses.{in_plain, out_plain, ranged_plain, outside_plain, differs_plain, wider_plain, attacked_plain}
+use Rattle.certificate_claims.proofs.WidestSets.{widest_semi_stable, ranged_out, all_semi_stable}
+
+-- ---- the frameworks that are asked for a semantics
+
+-- answers by the semantics have rows: those on assumption-based frameworks have none by semi-stable and by ideal sets
+abbrev pub HasRows : Semantics → Framework → Type 0
+HasRows SemiStable (aba f) = ⊥
+HasRows IdealSets (aba f) = ⊥
+HasRows semantics f = Unit {0}
+
+-- where tests pass, answers by the semantics have rows, and the row is the answer's own
+pub row_is_own : (semantics : Semantics) (f : Framework) (asked : Asked) (row : Row) (shown sets : List (List ℕ))
+    → Tests f asked (row_where semantics f row) shown sets
+    → HasRows semantics f × (row_where semantics f row ≡ row)
+row_is_own Complete f asked row shown sets h = (tt, refl)
+row_is_own Grounded f asked row shown sets h = (tt, refl)
+row_is_own Preferred f asked row shown sets h = (tt, refl)
+row_is_own Stable f asked row shown sets h = (tt, refl)
+row_is_own SemiStable (af f) asked row shown sets h = (tt, refl)
+row_is_own SemiStable (aba f) asked row shown sets h = absurd (h.shape)
+row_is_own IdealSets (af f) asked row shown sets h = (tt, refl)
+row_is_own IdealSets (aba f) asked row shown sets h = absurd (h.shape)
+
+-- ---- semi-stable sets
+
+pub is_semi_stable : (f : Framework) → HasRows SemiStable f → (e : List ℕ) (sets : List (List ℕ)) → IsNumbered f
+    → HoldsOf f e Ad → AreExcluded f (claims f (Widest e) sets)
+    → IsExtension f SemiStable e
+is_semi_stable (aba f) rows e sets numbered ok none = absurd rows
+is_semi_stable (af f) rows e sets numbered ok none =
+    let goals = are_ranged (range_of (af f) e) in
+    widest_semi_stable f e numbered ok
+    (none 0 (omega arith)
+    (plain_mapped (affirmed Ad ∷ goals) (wider (af f)) (e ∷ [])
+    (ad_plain goals (ranged_plain (range_of (af f) e))) (wider_plain (af f))))
+
+pub none_semi_stable : (f : Framework) → HasRows SemiStable f → (bad : AtomLit) (sets : List (List ℕ)) → IsNumbered f
+    → (IsAsk bad.atom → ⊥)
+    → ((k : ℕ) → k < length sets → HoldsOf f (slice_index_or sets k []) Ad)
+    → AreExcluded f (claims f (Ranged bad) sets)
+    → (e : List ℕ) → IsExtension f SemiStable e → Says bad.positive (HoldsOf f e bad.atom) → ⊥
+none_semi_stable (aba f) rows bad sets numbered no_ask ok none e semi says = absurd rows
+none_semi_stable (af f) rows bad sets numbered no_ask ok none e semi says =
+    ranged_out f bad sets numbered (each_of (λ s. HoldsOf (af f) s Ad) sets ok)
+    (none 0 (omega arith)
+    (plain_mapped (affirmed Ad ∷ bad ∷ []) (wider (af f)) sets
+    (ad_plain (bad ∷ []) (asks_cons bad [] no_ask asks_nil)) (wider_plain (af f))))
+    (λ s c. excluded_in (af f) (claims (af f) (Ranged bad) sets) (range_free (af f) bad s) none
+    (Contains-tail (range_cover (af f) (bad ∷ []) sets) (map (range_free (af f) bad) sets) (range_free (af f) bad s)
+    (Contains-mapped (range_free (af f) bad) sets s c))
+    (record {
+      goals = ad_plain (bad ∷ are_ranged (range_of (af f) s))
+          (asks_cons bad (are_ranged (range_of (af f) s)) no_ask (ranged_plain (range_of (af f) s)));
+      sides = λ side k. absurd (Contains-nil side k);
+    }))
+    e semi says
+
+-- admissible sets, no range in another, are all semi-stable sets where no set meets the claims of their row
+pub are_widest : (f : Framework) → HasRows SemiStable f → (all sets : List (List ℕ)) → IsNumbered f
+    → ((e : List ℕ) → Contains all e → HoldsOf f e Ad) → NoRangeWithin f all
+    → AreExcluded f (claims f (AllWidest all) sets)
+    → AreExactly (IsExtension f SemiStable) all
+are_widest (aba f) rows all sets numbered ok apart none = absurd rows
+are_widest (af f) rows all sets numbered ok apart none =
+    let firsts = first_ranged (af f) all in
+    let cover = range_cover (af f) [] firsts in
+    all_semi_stable f all numbered ok apart
+    (none 0 (omega arith)
+    (plain_mapped (affirmed Ad ∷ []) (wider (af f)) firsts (ad_plain [] asks_nil) (wider_plain (af f))))
+    (λ e c. excluded_in (af f) (cover ∷ map (range_listed (af f) all) firsts) (range_listed (af f) all e) none
+    (Contains-tail cover (map (range_listed (af f) all) firsts) (range_listed (af f) all e)
+    (Contains-mapped (range_listed (af f) all) firsts e c))
+    (plain_mapped (affirmed Ad ∷ are_ranged (range_of (af f) e)) (differs (af f))
+    (filter (same_range (af f) e) all)
+    (ad_plain (are_ranged (range_of (af f) e)) (ranged_plain (range_of (af f) e))) (differs_plain (af f))))
+
+-- ---- the ideal set
+
+pub is_ideal : (f : Framework) → HasRows IdealSets f → (e : List ℕ) (others : List (List ℕ)) → IsNumbered f
+    → HoldsOf f e Ad
+    → ((o : List ℕ) → Contains others o → HoldsOf f o Ad)
+    → AreExcluded f (ideal_claims f (e ∷ others))
+    → IsExtension f IdealSets e
+is_ideal (aba f) rows e others numbered ok each none = absurd rows
+is_ideal (af f) rows e others numbered ok each none =
+    let out = are_out (hit_by_any (af f) others) in
+    shown_ideal f e others numbered ok each
+    (none 0 (omega arith)
+    (plain_mapped (affirmed Ad ∷ []) (attacked (af f)) (e ∷ []) (ad_plain [] asks_nil) (attacked_plain (af f))))
+    (none 1 (omega arith)
+    (plain_mapped (affirmed Ad ∷ (are_in e ++ out)) (outside (af f)) (e ∷ [])
+    (ad_plain (are_in e ++ out) (asks_append (are_in e) out (in_plain e) (out_plain (hit_by_any (af f) others))))
+    (outside_plain (af f))))

@@ -1,5 +1,0 @@
-use Rattle.certificate_laws.proofs.Right.{accepted_right}
-use Rattle.certificate_laws.proofs.laws.accepted_is_right.Goals as goal
-
-pub returns : goal.returns
-returns c = accepted_right
