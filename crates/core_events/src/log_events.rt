@@ -6,13 +6,12 @@ ghost use Rattle.session_log.specs.Steps.{IsWorthIt, LearnsClause};
 ghost use Rattle.core_events.specs.LogEvents.{KeepsSide, TakesOnce};
 ghost use Rattle.core_events.specs.Stops.{Comes};
 
-use core_logs::NamedLog;
 use crate::stop::StepStop;
-use core_logs::CoreStep;
 use core_logs::checking::{follows, has_part, is_new};
 use core_logs::literals::is_side;
 use core_logs::sources::{has_axiom, is_clause_of};
 use core_logs::taking::has_side_like;
+use core_logs::{CoreStep, NamedLog};
 use meaning_atoms::{AtomLit, AxiomName};
 use plain_lits::StepId;
 use set_lists::NumSet;

@@ -8,16 +8,15 @@ ghost use Rattle.session_log.specs.Imports.{IsCalled, IsOfEntry};
 ghost use Rattle.core_events.specs.Naming.{CallsFirst, Imports, IsCalledAt, MayCome, StandForSome, StandsForSome};
 ghost use Rattle.core_events.specs.Stops.{Comes};
 
-use core_logs::NamedLog;
 use crate::needs::is_axiom_of;
 use crate::stop::StepStop;
-use core_logs::CoreStep;
 use core_logs::checking::is_taken;
 use core_logs::literals::asks_nothing;
 use core_logs::sources::{
     has_axiom, has_entry, is_clause_of, is_from_entry, is_loop_clause, is_of_axiom,
 };
 use core_logs::steps::{clause_at, find_step, is_closing_at, is_number};
+use core_logs::{CoreStep, NamedLog};
 use edit_rules::Framework;
 use lists::{Items, Memory};
 use meaning_atoms::AxiomName;
