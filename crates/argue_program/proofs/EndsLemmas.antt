@@ -21,6 +21,7 @@ use Rattle.iccma_tasks.specs.AnswerText.{filled_fields, ReadsAs as AnswerReadsAs
 use Rattle.iccma_tasks.specs.declared.answer.Answer.{Answer}
 use Rattle.iccma_tasks.proofs.Exact.{ReadsAs-unique}
 use Rattle.certificate_claims.specs.declared.certificate.Certificate.{Certificate}
+use Rattle.certificate_claims.proofs.Agreeing.{agrees_with_right}
 use Rattle.certificate_claims.proofs.Right.{accepted_right}
 use Rattle.certificate_claims.proofs.Verdicts.{accepted_is_verdict}
 use Rattle.certificate_text.specs.Reading.{ReadsAs as CertReadsAs}
@@ -265,17 +266,20 @@ refuses_words found kept (Limit l) ends =
 
 accepts_right : (holds : List ℕ → KnownFile) (asked : Asked) (texts : CheckTexts)
     → asked_by texts.task texts.number ≡ Some asked → ChecksFiles holds asked texts Done → AnswersRight holds texts
-accepts_right holds asked texts asks checks = record {
-  asked = asked;
-  asks = asks;
-  framework = checks.framework;
-  answer = checks.answer;
-  of_framework = checks.of_framework;
-  of_answer = checks.of_answer;
-  right = accepted_right checks.framework asked checks.answer checks.certificate
-      (ReadsAs-numbered checks.of_framework.bytes checks.framework checks.of_framework.reads)
-      ((accepted_is_verdict checks.framework asked checks.answer checks.certificate).0 checks.ends.1);
-}
+accepts_right holds asked texts asks checks =
+    let right = accepted_right checks.framework asked checks.answer checks.certificate
+    (ReadsAs-numbered checks.of_framework.bytes checks.framework checks.of_framework.reads)
+    ((accepted_is_verdict checks.framework asked checks.answer checks.certificate).0 checks.ends.1) in
+    record {
+      asked = asked;
+      asks = asks;
+      framework = checks.framework;
+      answer = checks.answer;
+      of_framework = checks.of_framework;
+      of_answer = checks.of_answer;
+      right = right;
+      agrees = agrees_with_right checks.framework asked checks.answer right;
+    }
 
 pub done_right : (found : Reading) (by : Option Asked) (texts : CheckTexts) (kept : Transcript)
     → asked_by texts.task texts.number ≡ by → EndsCommand found (check_row found.holds by texts) kept Done

@@ -11,6 +11,7 @@ use Rattle.iccma_tasks.specs.AnswerText.{filled_fields, ReadsAs as AnswerReadsAs
 use Rattle.iccma_tasks.specs.WrittenText.{text_of as answer_text}
 use Rattle.iccma_tasks.specs.Tasks.{Asked}
 use Rattle.iccma_tasks.specs.declared.answer.Answer.{Answer}
+use Rattle.certificate_claims.specs.Agreement.{AgreesWithRight}
 use Rattle.certificate_claims.specs.Rights.{IsRight}
 use Rattle.certificate_claims.specs.declared.certificate.Certificate.{Certificate}
 use Rattle.certificate_text.specs.Reading.{ReadsAs as CertReadsAs}
@@ -180,7 +181,8 @@ RefusesLength _ = ⊥
 
 -- ---- checks
 
--- the answer in its file is right for the query of these texts, on the framework in its file
+-- the answer in its file is right for the query of these texts, on the framework in its file, and whatever other answer
+-- is right agrees with it
 pub record AnswersRight (holds : List ℕ → KnownFile) (texts : CheckTexts) : Type 0 where
   pub asked : Asked
   pub asks : asked_by texts.task texts.number ≡ Some asked
@@ -189,6 +191,7 @@ pub record AnswersRight (holds : List ℕ → KnownFile) (texts : CheckTexts) : 
   pub of_framework : IsFrameworkOf (holds texts.file) framework
   pub of_answer : IsAnswerOf (holds texts.answer) answer
   pub right : IsRight framework asked answer
+  pub agrees : AgreesWithRight framework asked answer
 
 -- the input has bytes within the limit, of which P holds and no read fails: it is served, or no fault is counted
 pub record HasText (found : Reading) (one : Input) (P : List ℕ → Type 0) : Type 0 where

@@ -20,6 +20,7 @@ use Rattle.certificate_claims.specs.Rights.{Accepts, IsExtension}
 use Rattle.certificate_claims.specs.declared.row.Row.TheVariants.{Tested, ByGrounded}
 use Rattle.certificate_claims.proofs.ExtensionFacts.{extension_admissible, grounded_complete}
 use Rattle.certificate_claims.proofs.KindFacts.{admissible_members, numbered_members}
+use Rattle.certificate_claims.proofs.Agreeing.{agrees_with_right}
 use Rattle.certificate_claims.proofs.Right.{accepted_right}
 use Rattle.query_answers.specs.Answers.{IsSaid, is_by_grounded}
 use Rattle.oracle_core.specs.Answers.{IsAnswerBy, IsShownBy, answer_by, no_certificate}
@@ -37,8 +38,10 @@ module _ (f : Framework) (numbered : IsNumbered f) (asked : Asked) (answer : Ans
         number = sym (ap length none);
         refutations = λ k lt. absurd (omega arith);
       } in
+      let right = accepted_right f asked answer no_certificate numbered accepted in
       record {
-        right = accepted_right f asked answer no_certificate numbered accepted;
+        right = right;
+        agrees = agrees_with_right f asked answer right;
         accepted = accepted;
         writable_answer = writable;
         writable = record { sets = All-nil HasArguments; steps = All-nil _ };

@@ -17,6 +17,7 @@ use Rattle.certificate_claims.specs.Rights.{IsExtension, IsRightOf}
 use Rattle.certificate_text.specs.Written.{IsWritable}
 use Rattle.certificate_claims.proofs.ExtensionFacts.{extension_admissible}
 use Rattle.certificate_claims.proofs.KindFacts.{admissible_members, numbered_members}
+use Rattle.certificate_claims.proofs.Agreeing.{agrees_with_right}
 use Rattle.certificate_claims.proofs.Right.{accepted_right}
 use Rattle.oracle_face.specs.Logs.{OracleLog}
 use Rattle.session_log.specs.Ends.{IsShownBy as IsShownByLog}
@@ -76,6 +77,7 @@ shown_by f asked answer certificate numbered accepted writable =
     let right = accepted_right f asked answer certificate numbered accepted in
     record {
       right = right;
+      agrees = agrees_with_right f asked answer right;
       accepted = accepted;
       writable_answer = written f numbered asked.task.semantics asked.task.problem asked.number answer right;
       writable = writable;

@@ -9,13 +9,16 @@ use Rattle.iccma_tasks.specs.Tasks.{Asked}
 use Rattle.iccma_tasks.specs.WrittenText.{IsWritable as IsWritableAnswer}
 use Rattle.certificate_claims.specs.declared.certificate.Certificate.{Certificate}
 use Rattle.certificate_claims.specs.Acceptance.{IsAccepted}
+use Rattle.certificate_claims.specs.Agreement.{AgreesWithRight}
 use Rattle.certificate_claims.specs.Rights.{IsRight}
 use Rattle.certificate_text.specs.Written.{IsWritable}
 use Rattle.query_answers.specs.Answers.{IsSaid}
 
--- the answer is right, the certificate is accepted for it, and both can be written as texts
+-- the answer is right, whatever other answer is right agrees with it, the certificate is accepted for it, and both can
+-- be written as texts
 pub record IsShownBy (f : Framework) (asked : Asked) (answer : Answer) (certificate : Certificate) : Type 0 where
   pub right : IsRight f asked answer
+  pub agrees : AgreesWithRight f asked answer
   pub accepted : IsAccepted f asked answer certificate
   pub writable_answer : IsWritableAnswer answer
   pub writable : IsWritable certificate
