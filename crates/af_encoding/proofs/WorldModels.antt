@@ -23,7 +23,7 @@ use Rattle.meaning_atoms.specs.Literals.{affirmed, negated}
 use Rattle.meaning_atoms.specs.Valuations.{IsValuation}
 use Rattle.meaning_atoms.specs.Worlds.{world_of, IsAfWorld, Says, Holds, HoldsOfAf, IsAfFact, IsTrueBeside}
 use Rattle.meaning_atoms.proofs.Valuations.{world_valuation}
-use Rattle.af_axioms.specs.Table.{notion_clause}
+use Rattle.meaning_atoms.specs.Notions.{notion_clause}
 use Rattle.af_axioms.proofs.Rows.{rows_are_valid}
 use Rattle.certificate_claims.specs.Refutations.{axiom_clause}
 use Rattle.oracle_face.specs.Decoding.{IsModelOf}

@@ -15,7 +15,7 @@ use Rattle.meaning_atoms.specs.declared.axiom.AxiomName.TheVariants.{Af as OfAf,
 use Rattle.meaning_atoms.specs.AxiomNames.{IsAxiomName}
 use Rattle.meaning_atoms.specs.Literals.{denied}
 use Rattle.meaning_atoms.specs.Worlds.{IsFact}
-use Rattle.af_axioms.specs.Table.{notion_clause}
+use Rattle.meaning_atoms.specs.Notions.{notion_clause}
 use Rattle.certificate_claims.specs.Refutations.{IsAxiomOf, axiom_clause}
 use Rattle.certificate_claims.specs.SetLiterals.{members}
 use Rattle.edit_rules.specs.Kinds.{kind_of}

@@ -18,7 +18,7 @@ use Rattle.meaning_atoms.specs.declared.axiom.AxiomName.{AxiomName}
 use Rattle.meaning_atoms.specs.Literals.{affirmed, denied, lit_value, negated}
 use Rattle.meaning_atoms.proofs.SameAtoms.{same_literal}
 use Rattle.meaning_atoms.specs.Worlds.{world_of, IsTrueAlone, HoldsLit, HoldsOf, Says}
-use Rattle.af_axioms.specs.Table.{notion_clause}
+use Rattle.meaning_atoms.specs.Notions.{notion_clause}
 use Rattle.certificate_claims.specs.Refutations.{axiom_clause}
 use Rattle.certificate_claims.specs.SetLiterals.{members}
 use Rattle.oracle_face.specs.Decoding.{IsModelOf, IsNewLoop, IsReadBack, ReadsBack, TellsMembers}

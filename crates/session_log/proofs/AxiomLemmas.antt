@@ -26,7 +26,8 @@ use Rattle.meaning_atoms.specs.declared.axiom.AxiomName.{AxiomName}
 use Rattle.meaning_atoms.specs.declared.axiom.AxiomName.TheVariants.{Af as OfAf, Aba as OfAba}
 use Rattle.meaning_atoms.specs.Literals.{AsksNothing, not_ask}
 use Rattle.meaning_atoms.proofs.Clauses.{asks_nothing}
-use Rattle.oracle_face.specs.af_axioms.specs.Table.{table_clause, notion_clause}
+use Rattle.meaning_atoms.specs.Notions.{notion_clause}
+use Rattle.oracle_face.specs.af_axioms.specs.Table.{table_clause}
 use Rattle.oracle_face.specs.aba_axioms.specs.AbaTable.{aba_clause}
 use Rattle.oracle_face.specs.aba_axioms.proofs.Bounds.{rows_fit as aba_rows_fit, asks_nothing as aba_asks_nothing}
 use Rattle.oracle_face.specs.certificate_claims.specs.Refutations.{IsAxiomOf, axiom_clause}
