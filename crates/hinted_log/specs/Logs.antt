@@ -32,13 +32,17 @@ no_step = record { clause = []; kind = Axiom; hints = [] }
 abbrev pub step_at : List Step → ℕ → Step
 step_at steps number = slice_index_or steps (number - 1) no_step
 
+-- a step by its parts
+abbrev pub step_of : List Lit → Kind → List ℕ → Step
+step_of clause kind hints = record { clause = clause; kind = kind; hints = hints }
+
 -- a step of a kind that needs no hints
 abbrev pub given_step : List Lit → Kind → Step
-given_step clause kind = record { clause = clause; kind = kind; hints = [] }
+given_step clause kind = step_of clause kind []
 
 -- a derived step
 abbrev pub derived_step : List Lit → List ℕ → Step
-derived_step clause hints = record { clause = clause; kind = Derived; hints = hints }
+derived_step clause hints = step_of clause Derived hints
 
 -- a log with one more step
 abbrev pub with_step : LogState → Step → LogState

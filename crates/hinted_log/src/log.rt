@@ -1,12 +1,12 @@
 //! A log of clauses, of which each follows from earlier ones or is given.
 
 ghost use Rattle.std.specs.Prelude.{◌≡◌, ◌≢◌, ◌↔◌, ℕ, ◌+◌, ◌-◌, ◌<◌, ◌≤◌, ◌^◌, [], ◌∷◌, ◌++◌, length, map};
-ghost use Rattle.std.specs.Prelude.{take, slice_get, Contains, IfOk, OnOk, OnErr, IsTrue};
+ghost use Rattle.std.specs.Prelude.{take, slice_get, Contains, IfOk, OnOk, OnErr, IsTrue, Ok};
 ghost use Rattle.lists.specs.Members.{IsSetOf};
 ghost use Rattle.plain_lits.specs.Literals.{negation};
 ghost use Rattle.plain_lits.specs.HintCheck.{Checks};
 ghost use Rattle.hinted_log.specs.Logs.{IsLog, IsGiven, IsStepOf, AddsStep, Reaches, AddsDerived, clauses_of};
-ghost use Rattle.hinted_log.specs.Logs.{log_of, step_at, given_step, derived_step};
+ghost use Rattle.hinted_log.specs.Logs.{log_of, step_at, step_of, given_step, derived_step};
 ghost use Rattle.hinted_log.specs.Follows.{FollowsFromHints, FollowsFromReached};
 ghost use Rattle.plain_lits.specs.Checking.{HasRoomFor, IsPackable};
 ghost use Rattle.hinted_log.specs.declared.log.TheConstants.{MOST_STEPS};
@@ -166,6 +166,17 @@ impl Log {
         }
     }
 
+    /// Adds a clause whose hints are proved to show it, so nothing is checked when it runs: what a search learns comes
+    /// so. `Memory` is want of memory alone.
+    pub fn derive_shown(&mut self, clause: &[Lit], hints: &[StepId]) -> Result<StepId, Memory>
+        requires room { length self.old.steps ≢ self.old.limit }
+        requires shown { Checks negation (clauses_of self.old.steps) clause.now hints.now (Ok (length hints.now)) }
+        ensures ok { IfOk result (AddsStep self.old self.new (derived_step clause.now hints.now)) }
+        ensures err { OnErr result (self.new ≡ self.old) }
+    {
+        self.add_step(clause, Kind::Derived, hints)
+    }
+
     /// Takes the last step away.
     pub fn take_back(&mut self)
         requires { 0 < length self.old.steps }
@@ -232,9 +243,20 @@ impl Log {
         if self.is_full() {
             return Err(LogFault::LogFull);
         }
+        let step = self.add_step(clause, kind, &[])?;
+        Ok(step)
+    }
+
+    /// Adds a step that the log may have next.
+    fn add_step(&mut self, clause: &[Lit], kind: Kind, hints: &[StepId]) -> Result<StepId, Memory>
+        requires room { length self.old.steps ≢ self.old.limit }
+        requires given { IsGiven self.old.steps (step_of clause.now kind hints.now) kind }
+        ensures ok { IfOk result (AddsStep self.old self.new (step_of clause.now kind hints.now)) }
+        ensures err { OnErr result (self.new ≡ self.old) }
+    {
         make_room(&mut self.trail, clause)?;
         pack_into(&mut self.packed, clause)?;
-        self.steps.push(self.packed.as_slice(), kind, &[])?;
+        self.steps.push(self.packed.as_slice(), kind, hints)?;
         Ok(StepId::new(self.steps.len() as u32))
     }
 }

@@ -9,9 +9,8 @@ use Rattle.std.proofs.lemmas.List.Elements.{Contains-append_left, Contains-push_
 use Rattle.plain_lits.specs.declared.lit.Lit.{Lit}
 use Rattle.plain_lits.specs.Literals.{negation}
 use Rattle.plain_lits.specs.HintCheck.{Checks}
-use Rattle.hinted_log.specs.Logs.{Step, LogState, clauses_of, derived_step, log_of, no_step}
+use Rattle.hinted_log.specs.Logs.{Step, LogState, AddsStep, clauses_of, derived_step, log_of, no_step}
 use Rattle.sat_core.specs.Solving.{SolverState, Keeps, Derives, IsShown, IsShownAt, front, clause_of, with_unit, with_derived}
-use Rattle.sat_core.specs.Mirrors.{IsDerived}
 use Rattle.sat_core.proofs.Searching.{Recorded}
 
 -- ---- what comes into use
@@ -167,10 +166,10 @@ derives_one old new clause hints shown log more active later =
     }
 
 pub derives_derived : (old new : SolverState) (clause : List Lit) (hints : List ℕ) (number : ℕ)
-    → IsShown old clause hints → IsDerived old.log new.log clause hints number → new.active ≡ old.active
+    → IsShown old clause hints → AddsStep old.log new.log (derived_step clause hints) number → new.active ≡ old.active
     → Derives old new
 derives_derived old new clause hints number shown d active =
-    derives_one old new clause hints shown d.log_is [] (active ∙ sym (append-nil old.active))
+    derives_one old new clause hints shown d.new_log [] (active ∙ sym (append-nil old.active))
     (same_later old new.active active)
 
 pub derives_unit : (old new : SolverState) (clause : List Lit) (hints : List ℕ) → IsShown old clause hints

@@ -5,12 +5,12 @@ use Rattle.std.specs.Prelude.{Contains}
 use Rattle.plain_lits.specs.declared.lit.Lit.{Lit}
 use Rattle.plain_lits.specs.Literals.{negation}
 use Rattle.plain_lits.specs.HintCheck.{IsNamed, IsFalsified, IsUnit, IsTautology, Checks}
-use Rattle.hinted_log.specs.Logs.{Step, LogState, IsStepOf, clauses_of, derived_step}
+use Rattle.hinted_log.specs.Logs.{Step, LogState, IsStepOf, AddsStep, clauses_of, derived_step}
 use Rattle.unit_propagate.specs.Search.{Search, IsSearch, GoesBack, Learns}
 use Rattle.conflict_learn.specs.Learning.{IsLearned, IsNew, IsOpen, IsAssumed}
 use Rattle.sat_core.specs.Solving.{SolverState, clause_of, IsShown, IsUnitOf, EndsCore}
 use Rattle.sat_core.specs.Solving.{with_unit}
-use Rattle.sat_core.specs.Mirrors.{IsMirror, step_of, AreIds, IsDerived, IsServed, HoldsNone}
+use Rattle.sat_core.specs.Mirrors.{IsMirror, step_of, AreIds, IsServed, HoldsNone}
 use Rattle.sat_core.specs.Runs.{IsRun}
 use Rattle.sat_core.specs.Turns.{IsAsserting}
 use Rattle.sat_core.proofs.Running.{back, learned, back_lits, lits_below, core_lits, not_assumed}
@@ -55,18 +55,18 @@ run_learned old mid new level target clause lit id assumptions form mid_form a p
 -- the clauses and the steps, where a step has come but not its clause, and where both have
 pub mirror_derived : (clauses new_clauses : List (List Lit)) (active new_active : List ℕ) (log new_log : LogState)
     (clause : List Lit) (hints : List ℕ) (number : ℕ) → new_clauses ≡ clauses → new_active ≡ active
-    → IsDerived log new_log clause hints number → IsMirror clauses active log.steps
+    → AddsStep log new_log (derived_step clause hints) number → IsMirror clauses active log.steps
     → IsMirror new_clauses new_active new_log.steps
 mirror_derived clauses new_clauses active new_active log new_log clause hints number e e2 d m =
     subst (λ cs. IsMirror cs new_active new_log.steps) (sym e)
     (subst (λ xs. IsMirror clauses xs new_log.steps) (sym e2)
-    (subst (λ (g : LogState). IsMirror clauses active g.steps) (sym d.log_is)
+    (subst (λ (g : LogState). IsMirror clauses active g.steps) (sym d.new_log)
     (mirror_grown clauses active log.steps (derived_step clause hints) m)))
 
 pub mirror_learned : (clauses mid new_clauses : List (List Lit)) (active new_active : List ℕ) (log new_log : LogState)
     (clause : List Lit) (hints : List ℕ) (number : ℕ) → mid ≡ clauses → new_clauses ≡ mid ++ clause ∷ []
     → new_active ≡ active ++ number ∷ []
-    → IsDerived log new_log clause hints number → IsMirror clauses active log.steps
+    → AddsStep log new_log (derived_step clause hints) number → IsMirror clauses active log.steps
     → IsMirror new_clauses new_active new_log.steps
 mirror_learned clauses mid new_clauses active new_active log new_log clause hints number e0 e1 e2 d m =
     let cs : new_clauses ≡ clauses ++ clause ∷ [] = e1 ∙ ap (λ xs. xs ++ clause ∷ []) e0 in
@@ -74,16 +74,16 @@ mirror_learned clauses mid new_clauses active new_active log new_log clause hint
     subst (λ xs. IsMirror xs new_active new_log.steps) (sym cs)
     (subst (λ xs. IsMirror (clauses ++ clause ∷ []) xs new_log.steps) (sym ns)
     (subst (λ (g : LogState). IsMirror (clauses ++ clause ∷ []) (active ++ (length log.steps + 1) ∷ []) g.steps)
-    (sym d.log_is)
+    (sym d.new_log)
     (mirror_more clauses active log.steps (derived_step clause hints) m)))
 
 pub state_learned : (s : SolverState) (log : LogState) (active : List ℕ) (clause : List Lit) (hints : List ℕ)
     (number : ℕ)
-    → IsDerived s.log log clause hints number → active ≡ s.active ++ number ∷ []
+    → AddsStep s.log log (derived_step clause hints) number → active ≡ s.active ++ number ∷ []
     → record { log = log; active = active; pending = s.pending } ≡ with_unit s clause hints
 state_learned s log active clause hints number d e =
     let ns : active ≡ s.active ++ (length s.log.steps + 1) ∷ [] = e ∙ ap (λ n. s.active ++ n ∷ []) d.next in
-    rw (d.log_is, ns) refl
+    rw (d.new_log, ns) refl
 
 -- ids of clauses have steps
 pub ids_of : (clauses : List (List Lit)) (active : List ℕ) (steps : List Step) (clause : List Lit) (hints ids : List ℕ)
@@ -148,11 +148,11 @@ pub core_derived : (state : SolverState) (log : LogState) (s : Search) (assumpti
     → IsMirror s.clauses state.active state.log.steps → length s.starts ≤ 1 → IsRun assumptions s
     → IsLearned s.clauses s.lits clause ids → ((x : Lit) → Contains clause x → IsAssumed s x)
     → HoldsNone state.log.steps clause → hints ≡ map (step_of state.active) ids
-    → IsDerived state.log log clause hints number
+    → AddsStep state.log log (derived_step clause hints) number
     → EndsCore state (record { log = log; active = state.active; pending = state.pending }) assumptions number
 core_derived state log s assumptions clause ids hints number m shallow run l assumed none e d =
     let steps_are : log.steps ≡ state.log.steps ++ derived_step clause hints ∷ [] =
-    ap (λ (g : LogState). g.steps) d.log_is in
+    ap (λ (g : LogState). g.steps) d.new_log in
     let clause_is : clause_of log.steps number ≡ clause = ap (λ xs. clause_of xs number) steps_are
     ∙ clause_new state.log.steps (derived_step clause hints) number d.next in
     record {
@@ -168,7 +168,7 @@ core_derived state log s assumptions clause ids hints number m shallow run l ass
         shown = core_shown state s clause ids hints m l e;
         holds_none = none;
         next = d.next;
-        log_is = d.log_is;
+        log_is = d.new_log;
         active_same = refl;
         pending_same = refl;
       });

@@ -4,8 +4,8 @@ use Rattle.std.specs.List.Sorted.{IsStrictlyIncreasing}
 use Rattle.plain_lits.specs.declared.lit.Lit.{Lit}
 use Rattle.plain_lits.specs.HintCheck.{clause_at, IsNamed}
 use Rattle.plain_lits.specs.Literals.{negation}
-use Rattle.hinted_log.specs.Logs.{Step, LogState, IsStepOf}
-use Rattle.sat_core.specs.Solving.{clause_of, Holds, with_derived}
+use Rattle.hinted_log.specs.Logs.{Step, IsStepOf}
+use Rattle.sat_core.specs.Solving.{clause_of, Holds}
 
 -- the step of a clause's id
 abbrev pub step_of : List ℕ → ℕ → ℕ
@@ -22,11 +22,6 @@ pub record IsMirror (clauses : List (List Lit)) (active : List ℕ) (steps : Lis
 pub record AreIds (active ids : List ℕ) : Type 0 where
   pub from_one : (id : ℕ) → Contains ids id → 0 < id
   pub within : (id : ℕ) → Contains ids id → id ≤ length active
-
--- a derived step has come
-pub record IsDerived (old new : LogState) (clause : List Lit) (hints : List ℕ) (number : ℕ) : Type 0 where
-  pub log_is : new ≡ with_derived old clause hints
-  pub next : number ≡ length old.steps + 1
 
 -- just the negations of a clause's literals are true
 pub record DeniesAll (clause lits : List Lit) : Type 0 where

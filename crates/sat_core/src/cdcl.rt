@@ -11,7 +11,7 @@ ghost use Rattle.sat_core.specs.Turns.{state_of, IsKept, IsAtRest, IsAsserting, 
 
 use crate::answer::{Added, Pending, Solved};
 use crate::descent::{Descent, bump_all};
-use crate::ledger::{Ledger, derive, record, serving, steps_of};
+use crate::ledger::{Ledger, record, serving, steps_of};
 use conflict_learn::{Core, Learned, Learner};
 use hinted_log::{Log, LogFault, MOST_STEPS};
 use lists::{Items, Memory};
@@ -125,14 +125,11 @@ impl Cdcl {
     {
         let _before = self.descent.search.vars();
         self.ledger.active.reserve(1)?;
-        let clause = learned.clause.copy(self.alloc)?;
-        let step = derive(&mut self.ledger.log, clause, hints)?;
+        let clause = learned.clause.as_slice();
+        let step = self.ledger.log.derive_shown(clause, hints)?;
         self.descent.back_to(kept_level(learned.level));
         let _form = self.descent.search.vars();
-        let _ = self
-            .descent
-            .search
-            .add_learned(learned.clause.as_slice(), learned.asserting)?;
+        let _ = self.descent.search.add_learned(clause, learned.asserting)?;
         let _ = self.ledger.active.push(step);
         Ok(())
     }
@@ -207,7 +204,10 @@ impl Cdcl {
             return Err(Halt::LogFull);
         }
         let hints = steps_of(self.alloc, &self.ledger.active, hints.as_slice())?;
-        let step = derive(&mut self.ledger.log, clause, hints.as_slice())?;
+        let step = self
+            .ledger
+            .log
+            .derive_shown(clause.as_slice(), hints.as_slice())?;
         Ok(step)
     }
 

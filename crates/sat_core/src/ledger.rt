@@ -5,10 +5,10 @@ ghost use Rattle.std.specs.Prelude.{OnErr};
 ghost use Rattle.std.specs.Bool.{OnTrue, OnFalse};
 ghost use Rattle.plain_lits.specs.declared.lit.Lit.{Lit};
 ghost use Rattle.plain_lits.specs.Literals.{negation};
-ghost use Rattle.plain_lits.specs.HintCheck.{IsTautology, Checks};
-ghost use Rattle.hinted_log.specs.Logs.{IsStepOf, clauses_of};
+ghost use Rattle.plain_lits.specs.HintCheck.{IsTautology};
+ghost use Rattle.hinted_log.specs.Logs.{IsStepOf};
 ghost use Rattle.sat_core.specs.Solving.{Records, IsRejected, clause_of};
-ghost use Rattle.sat_core.specs.Mirrors.{step_of, AreIds, IsDerived, DeniesAll, IsServed, HoldsNone};
+ghost use Rattle.sat_core.specs.Mirrors.{step_of, AreIds, DeniesAll, IsServed, HoldsNone};
 
 use crate::answer::Added;
 use hinted_log::{Log, LogFault};
@@ -51,21 +51,6 @@ pub(crate) fn steps_of(
         steps.push(active[index])?;
     }
     Ok(steps)
-}
-
-/// Adds a clause that its hints show to a log that isn't full.
-pub(crate) fn derive(log: &mut Log, clause: Clause, hints: &[StepId]) -> Result<StepId, Memory>
-    requires room { length log.old.steps ≡ log.old.limit → ⊥ }
-    requires shown { Checks negation (clauses_of log.old.steps) clause hints.now (Ok (length hints.now)) }
-    ensures ok { IfOk result (IsDerived log.old log.new clause hints.now) }
-    ensures err { OnErr result (log.new ≡ log.old) }
-{
-    match log.derive(clause, hints) {
-        Ok(step) => Ok(step),
-        Err(LogFault::Memory) => Err(Memory),
-        Err(LogFault::LogFull) => unreachable!(),
-        Err(LogFault::Rejected(_)) => unreachable!(),
-    }
 }
 
 /// Adds a clause to a log.

@@ -1,31 +1,8 @@
-use Rattle.hinted_log.specs.Logs.{log_of, given_step}
-use Rattle.hinted_log.proofs.Proofs.{stored_kept, stored_more, IsGiven-given, not_so}
+use Rattle.hinted_log.proofs.Proofs.{IsGiven-given, not_so}
 use Rattle.hinted_log.proofs.log.Log.add_given.Goals as goal
 
-pub invariant_of-self : goal.invariant_of-self
-invariant_of-self c =
-    let s = c.self.inside in
-    stored_kept (log_of s.limit s.steps) s.trail.lits _ s.trail.vars _ c.self.invariant c.make_room.ensures.lits
-    c.make_room.ensures.more
+pub add_step-requires-clause-room : goal.add_step-requires-clause-room
+add_step-requires-clause-room c = not_so _ _ c.is_full.ensures.full c.if-is_full.false
 
-pub invariant_of-self-in_err-pack_into : goal.invariant_of-self-in_err-pack_into
-invariant_of-self-in_err-pack_into c =
-    let s = c.self.inside in
-    stored_kept (log_of s.limit s.steps) s.trail.lits _ s.trail.vars _ c.self.invariant c.make_room.ensures.lits
-    c.make_room.ensures.more
-
-pub invariant_of-self-in_err-push : goal.invariant_of-self-in_err-push
-invariant_of-self-in_err-push c =
-    let s = c.self.inside in
-    rw c.in_err-push.ensures.err (stored_kept (log_of s.limit s.steps) s.trail.lits _ s.trail.vars _ c.self.invariant
-    c.make_room.ensures.lits c.make_room.ensures.more)
-
-pub invariant_of-self-2 : goal.invariant_of-self-2
-invariant_of-self-2 c =
-    let s = c.self.inside in
-    let full = rw (← c.self.view_is) at c.is_full.ensures.full in
-    stored_more s.limit s.steps c.push.new.self (given_step c.args.clause.now c.args.kind) s.trail.lits _ s.trail.vars _
-    c.self.invariant
-    c.make_room.ensures.lits c.make_room.ensures.more (not_so _ _ full c.if-is_full.false)
-    (IsGiven-given s.steps c.args.clause.now c.args.kind c.requires) c.in_ok-make_room.ensures.ok
-    (rw (c.as_slice.ensures.value, c.in_ok-pack_into.ensures) at c.in_ok-push.ensures.ok)
+pub add_step-requires-clause-given : goal.add_step-requires-clause-given
+add_step-requires-clause-given c = IsGiven-given c.args.self.now.steps c.args.clause.now c.args.kind c.requires

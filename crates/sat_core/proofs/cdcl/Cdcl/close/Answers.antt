@@ -29,14 +29,14 @@ steps_of-requires c =
     _ _ _
     c.requires.kept.mirror c.in_ok-clause.ensures.learned.taken c.as_slice-2.ensures)
 
-pub derive-requires-clause-shown : goal.derive-requires-clause-shown
-derive-requires-clause-shown c =
+pub derive_shown-requires-clause-shown : goal.derive_shown-requires-clause-shown
+derive_shown-requires-clause-shown c =
     let s = c.args.self.now.descent.search in
-    let hints : c.as_slice-3.result.now ≡ map (step_of c.args.self.now.ledger.active.items)
+    let hints : c.as_slice-4.result.now ≡ map (step_of c.args.self.now.ledger.active.items)
     c.in_ok-clause.field-0.hints =
-    rw (c.as_slice-3.ensures, c.in_ok-hints.ensures, c.deref.ensures.value, c.as_slice-2.ensures) refl in
-    moved_to s.clauses c.args.self.now.ledger.active.items c.args.self.now.ledger.log.steps _ _ _
-    c.requires.kept.mirror c.in_ok-clause.ensures.learned.taken hints
+    rw (c.as_slice-4.ensures, c.in_ok-hints.ensures, c.deref.ensures.value, c.as_slice-2.ensures) refl in
+    rw c.as_slice-3.ensures.lits (moved_to s.clauses c.args.self.now.ledger.active.items
+    c.args.self.now.ledger.log.steps _ _ _ c.requires.kept.mirror c.in_ok-clause.ensures.learned.taken hints)
 
 pub returns-clause-kept : goal.returns-clause-kept
 returns-clause-kept c =
@@ -51,25 +51,25 @@ returns-clause-kept c =
 pub returns-clause-core : goal.returns-clause-core
 returns-clause-core c =
     let s = c.args.self.now.descent.search in
-    let hints : c.as_slice-3.result.now ≡ map (step_of c.args.self.now.ledger.active.items)
+    let hints : c.as_slice-4.result.now ≡ map (step_of c.args.self.now.ledger.active.items)
     c.in_ok-clause.field-0.hints =
-    rw (c.as_slice-3.ensures, c.in_ok-hints.ensures, c.deref.ensures.value, c.as_slice-2.ensures) refl in
+    rw (c.as_slice-4.ensures, c.in_ok-hints.ensures, c.deref.ensures.value, c.as_slice-2.ensures) refl in
     let none : HoldsNone c.args.self.now.ledger.log.steps c.as_slice.result.now = rw c.in-None.is at
     c.in_ok-served.ensures in
     core_derived (state_of c.args.self.now) _ s c.args.assumptions.now _ _ _ _ c.requires.kept.mirror
     c.requires.shallow c.requires.run c.in_ok-clause.ensures.learned c.in_ok-clause.ensures.assumed
     (subst (λ xs. HoldsNone c.args.self.now.ledger.log.steps xs) c.as_slice.ensures.lits none) hints
-    c.in_ok-step.ensures.ok
+    (rw c.as_slice-3.ensures.lits at c.in_ok-step.ensures.ok)
 
 pub returns-clause-derives : goal.returns-clause-derives
 returns-clause-derives c =
     let s = c.args.self.now.descent.search in
-    let hints : c.as_slice-3.result.now ≡ map (step_of c.args.self.now.ledger.active.items)
+    let hints : c.as_slice-4.result.now ≡ map (step_of c.args.self.now.ledger.active.items)
     c.in_ok-clause.field-0.hints =
-    rw (c.as_slice-3.ensures, c.in_ok-hints.ensures, c.deref.ensures.value, c.as_slice-2.ensures) refl in
+    rw (c.as_slice-4.ensures, c.in_ok-hints.ensures, c.deref.ensures.value, c.as_slice-2.ensures) refl in
     derives_derived (state_of c.args.self.now) _ _ _ _
     (core_shown (state_of c.args.self.now) s _ _ _ c.requires.kept.mirror c.in_ok-clause.ensures.learned hints)
-    c.in_ok-step.ensures.ok refl
+    (rw c.as_slice-3.ensures.lits at c.in_ok-step.ensures.ok) refl
 
 pub returns-in_err-step-clause-derives : goal.returns-in_err-step-clause-derives
 returns-in_err-step-clause-derives c = derives_logs _ _ c.in_err-step.ensures.err refl

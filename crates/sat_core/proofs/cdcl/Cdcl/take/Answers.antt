@@ -1,4 +1,4 @@
-use Rattle.std.proofs.Common.{◌≡◌, ◌++◌, ◌∷◌, [], arith, ap, sym, subst, ◌∙◌, rules}
+use Rattle.std.proofs.Common.{◌≡◌, ◌++◌, ◌∷◌, [], arith, sym, subst, ◌∙◌, rules}
 use Rattle.plain_lits.specs.Literals.{negation}
 use Rattle.plain_lits.specs.HintCheck.{IsUnit}
 use Rattle.sat_core.proofs.Running.{based_of, stays_run}
@@ -22,7 +22,7 @@ add_learned-requires c =
     let l = c.args.learned.now in
     let lt = target_within s l.level c.kept_level.result c.requires.asserting.level_in c.requires.deep
     c.kept_level.ensures.within in
-    subst (λ xs. IsUnit negation c.back_to.new.self.search.lits xs l.asserting) (sym c.as_slice.ensures.lits)
+    subst (λ xs. IsUnit negation c.back_to.new.self.search.lits xs l.asserting) (sym c.as_slice-clause.ensures.lits)
     (unit_after s c.back_to.new.self.search l.level c.kept_level.result l.clause l.asserting c.requires.asserting
     c.kept_level.ensures.kept lt c.back_to.ensures)
 
@@ -50,21 +50,17 @@ returns-clause-kept c =
     let lt = target_within s l.level c.kept_level.result c.requires.asserting.level_in c.requires.deep
     c.kept_level.ensures.within in
     let learns = c.in_ok-add_learned.ensures.ok in
-    let clause_is : c.as_slice.result.now ≡ c.in_ok-clause.clause = c.as_slice.ensures.lits
-    ∙ sym c.in_ok-clause.ensures in
     let pushed : c.push.new.self.items ≡ c.args.self.now.ledger.active.items ++ c.in_ok-step.step ∷ [] =
     search rules in
     record {
       mirror = mirror_learned s.clauses c.back_to.new.self.search.clauses _ c.args.self.now.ledger.active.items _
-          c.args.self.now.ledger.log _ c.in_ok-clause.clause _ c.in_ok-step.step
-          c.back_to.ensures.clauses
-          (learns.clauses ∙ ap (λ xs. c.back_to.new.self.search.clauses ++ xs ∷ []) clause_is) pushed
-          c.in_ok-step.ensures.ok c.requires.kept.mirror;
+          c.args.self.now.ledger.log _ c.as_slice-clause.result.now _ c.in_ok-step.step
+          c.back_to.ensures.clauses learns.clauses pushed c.in_ok-step.ensures.ok c.requires.kept.mirror;
       based = based_of _ c.args.assumptions.now
           (run_learned s c.back_to.new.self.search _ l.level c.kept_level.result l.clause l.asserting _
           c.args.assumptions.now c.vars-before.ensures.form c.vars-form.ensures.form c.requires.asserting
           c.kept_level.ensures.positive c.kept_level.ensures.low lt c.back_to.ensures
-          (rw c.as_slice.ensures.lits at learns) c.requires.run);
+          (rw c.as_slice-clause.ensures.lits at learns) c.requires.run);
     }
 
 pub returns-clause-run : goal.returns-clause-run
@@ -77,15 +73,15 @@ returns-clause-run c =
     run_learned s c.back_to.new.self.search _ l.level c.kept_level.result l.clause l.asserting _
     c.args.assumptions.now c.vars-before.ensures.form c.vars-form.ensures.form c.requires.asserting
     c.kept_level.ensures.positive c.kept_level.ensures.low lt c.back_to.ensures
-    (rw c.as_slice.ensures.lits at learns) c.requires.run
+    (rw c.as_slice-clause.ensures.lits at learns) c.requires.run
 
 pub returns-in_err-step-clause-derives : goal.returns-in_err-step-clause-derives
 returns-in_err-step-clause-derives c = derives_logs _ _ c.in_err-step.ensures.err c.reserve.ensures.items
 
 pub returns-in_err-add_learned-clause-derives : goal.returns-in_err-add_learned-clause-derives
-returns-in_err-add_learned-clause-derives c = derives_derived (state_of c.args.self.now) _ c.in_ok-clause.clause
+returns-in_err-add_learned-clause-derives c = derives_derived (state_of c.args.self.now) _ c.as_slice-clause.result.now
     c.args.hints.now _
-    (subst (λ xs. IsShown (state_of c.args.self.now) xs c.args.hints.now) (sym c.in_ok-clause.ensures)
+    (subst (λ xs. IsShown (state_of c.args.self.now) xs c.args.hints.now) (sym c.as_slice-clause.ensures.lits)
     c.requires.shown.shown)
     c.in_ok-step.ensures.ok c.reserve.ensures.items
 
@@ -93,7 +89,7 @@ pub returns-clause-derives : goal.returns-clause-derives
 returns-clause-derives c =
     let pushed : c.push.new.self.items ≡ c.args.self.now.ledger.active.items ++ c.in_ok-step.step ∷ [] =
     search rules in
-    derives_unit (state_of c.args.self.now) _ c.in_ok-clause.clause c.args.hints.now
-    (subst (λ xs. IsShown (state_of c.args.self.now) xs c.args.hints.now) (sym c.in_ok-clause.ensures)
+    derives_unit (state_of c.args.self.now) _ c.as_slice-clause.result.now c.args.hints.now
+    (subst (λ xs. IsShown (state_of c.args.self.now) xs c.args.hints.now) (sym c.as_slice-clause.ensures.lits)
     c.requires.shown.shown)
     (state_learned (state_of c.args.self.now) _ _ _ _ _ c.in_ok-step.ensures.ok pushed)
