@@ -24,7 +24,7 @@ use Rattle.bench_runs.specs.declared.script_run.TheConstants.{HISTORY_LIMIT}
 use Rattle.bench_runs.specs.declared.runner.Runner.{Runner}
 use Rattle.bench_runs.specs.declared.transcript.ScriptTranscript.{ScriptTranscript}
 use Rattle.bench_runs.specs.Finishing.{IsFinished, kept_in, number_in}
-use Rattle.bench_runs.specs.Running.{HasServed, stand_of}
+use Rattle.bench_runs.specs.Running.{HasServedOwn, stand_of}
 use Rattle.bench_runs.specs.Served.{IsServed, LineEnds, entries_made, lines_of}
 use Rattle.bench_runs.specs.Transcripts.{AreSessions, IsTranscriptOf}
 use Rattle.bench_runs.proofs.ToldLemmas.{walked_served}
@@ -65,7 +65,7 @@ record SeenWhole (hub : Hub) (budget : ℕ) (lines : List ScriptLine) (entries :
       r.session.answers.items r.replies
 
 seen_whole : (hub : Hub) (budget : ℕ) (lines : List ScriptLine) (runners : List Runner) (t : ScriptTranscript)
-    → All (HasServed hub budget lines) runners → map number_in runners ≡ range_with_len 1 (sessions_of hub)
+    → All (HasServedOwn hub budget lines) runners → map number_in runners ≡ range_with_len 1 (sessions_of hub)
     → (count : ℕ) → IsFinished hub runners count t → (k : ℕ) (inside : k < length runners)
     → SeenWhole hub budget lines (entries_in t.history.entries.items)
     (slice_index_or runners k (some_runner runners k inside)) k
@@ -101,7 +101,7 @@ seen_whole hub budget lines runners t all numbers count h k inside =
 
 -- what is told of the session at an index
 served_at : (hub : Hub) (budget count : ℕ) (lines : List ScriptLine) (runners : List Runner) (t : ScriptTranscript)
-    → All (HasServed hub budget lines) runners → map number_in runners ≡ range_with_len 1 (sessions_of hub)
+    → All (HasServedOwn hub budget lines) runners → map number_in runners ≡ range_with_len 1 (sessions_of hub)
     → count ≤ sessions_of hub → IsFinished hub runners count t → (k : ℕ) (none : List Reply) (nothing : Kept)
     → k < count
     → IsServed (start_of hub) (limit_of hub) budget (k + 1) (lines_of (k + 1) lines)
@@ -125,7 +125,7 @@ served_at hub budget count lines runners t all numbers few h k none nothing low 
 
 -- the only session of an empty script made no entry
 alone_made : (hub : Hub) (budget : ℕ) (lines : List ScriptLine) (runners : List Runner) (t : ScriptTranscript)
-    → All (HasServed hub budget lines) runners → map number_in runners ≡ range_with_len 1 (sessions_of hub)
+    → All (HasServedOwn hub budget lines) runners → map number_in runners ≡ range_with_len 1 (sessions_of hub)
     → AreSessions lines 0 → sessions_of hub ≡ 1 → IsFinished hub runners 0 t
     → entries_of session_of 1 (entries_in t.history.entries.items) ≡ []
 alone_made hub budget lines runners t all numbers are single h =
@@ -147,7 +147,7 @@ taken_long count xs taken is few = ap length is ∙ length-take-le count xs few
 
 -- the sessions that entries have are those that the script names
 entries_numbered : (hub : Hub) (budget count : ℕ) (lines : List ScriptLine) (runners : List Runner)
-    (t : ScriptTranscript) → All (HasServed hub budget lines) runners
+    (t : ScriptTranscript) → All (HasServedOwn hub budget lines) runners
     → map number_in runners ≡ range_with_len 1 (sessions_of hub) → AreSessions lines count → count ≤ sessions_of hub
     → 0 < sessions_of hub → (0 < count → sessions_of hub ≡ count) → (count ≡ 0 → sessions_of hub ≡ 1)
     → IsFinished hub runners count t
@@ -168,7 +168,7 @@ entries_numbered hub budget (suc count) lines runners t all numbers are few some
 pub transcript_is : (script : Script) (budget count : ℕ) (hub : Hub) (runners : List Runner) (t : ScriptTranscript)
     (f : Framework) → start_of hub ≡ f → limit_of hub ≡ HISTORY_LIMIT → AreSessions script.lines count
     → count ≤ sessions_of hub → 0 < sessions_of hub → (0 < count → sessions_of hub ≡ count)
-    → (count ≡ 0 → sessions_of hub ≡ 1) → All (HasServed hub budget script.lines) runners
+    → (count ≡ 0 → sessions_of hub ≡ 1) → All (HasServedOwn hub budget script.lines) runners
     → map number_in runners ≡ range_with_len 1 (sessions_of hub) → IsFinished hub runners count t
     → IsTranscriptOf f script budget t
 transcript_is script budget count hub runners t f start limit are few some least one all numbers h =
@@ -198,7 +198,7 @@ transcript_is script budget count hub runners t f start limit are few some least
 -- ---- the seats
 
 numbers_same : (hub : Hub) (budget : ℕ) (lines : List ScriptLine) (runners : List Runner)
-    → All (HasServed hub budget lines) runners
+    → All (HasServedOwn hub budget lines) runners
     → map (λ s. number_of s) (map (λ (r : Runner). r.session.seat) runners) ≡ map number_in runners
 numbers_same hub budget lines [] all = refl
 numbers_same hub budget lines (r ∷ rest) all =
@@ -209,11 +209,11 @@ numbers_same hub budget lines (r ∷ rest) all =
 
 -- the sessions have all the seats of the hub
 pub all_seats : (hub : Hub) (budget : ℕ) (lines : List ScriptLine) (runners : List Runner)
-    → All (HasServed hub budget lines) runners → map number_in runners ≡ range_with_len 1 (sessions_of hub)
+    → All (HasServedOwn hub budget lines) runners → map number_in runners ≡ range_with_len 1 (sessions_of hub)
     → AreSeatsOf hub (map (λ (r : Runner). r.session.seat) runners)
 all_seats hub budget lines runners all numbers = record {
   each = All-map (λ s. IsSeatAt hub s) (λ (r : Runner). r.session.seat) runners
-      (All-weaker (HasServed hub budget lines) (λ r. IsSeatAt hub r.session.seat) (λ r h. h.ready.seat) runners all);
+      (All-weaker (HasServedOwn hub budget lines) (λ r. IsSeatAt hub r.session.seat) (λ r h. h.ready.seat) runners all);
   numbers = numbers_same hub budget lines runners all ∙ numbers;
 }
 

@@ -20,3 +20,4 @@ pub mod LentLemmas
 pub mod LeaveLemmas
 pub mod WalkLemmas
 pub mod AloneLemmas
+pub mod DealtLemmas

@@ -31,10 +31,10 @@ use Rattle.session_replies.specs.declared.reply.Reply.{Reply}
 use Rattle.bench_runs.specs.declared.runner.Runner.{Runner}
 use Rattle.bench_runs.specs.declared.runner.TheConstants.{LOG_LIMIT}
 use Rattle.bench_runs.specs.Running.{HasServed, IsReady, IsTold, stand_of}
-use Rattle.bench_runs.specs.Served.{EditEnds, IsFront, IsServed, LineEnds, entry_by, lines_of, made_by}
+use Rattle.bench_runs.specs.Served.{EditEnds, IsFront, IsServed, LineEnds, entry_by, made_by}
 use Rattle.bench_runs.specs.Walks.{DoesCommand, DoesEdit, DoesQuery, Stand, Walks, at_start}
 use Rattle.bench_runs.proofs.ServedLemmas.{AreDoneBy, IsDoneAt, all_zip_weaker, done_next, done_none, ends_on, filter_one}
-use Rattle.bench_runs.proofs.ServedLemmas.{goes_on, other_line, own_line, prefix_on, prefix_short, rise_on, walks_push}
+use Rattle.bench_runs.proofs.ServedLemmas.{goes_on, prefix_on, prefix_short, rise_on, walks_push}
 
 same_prefix : {X : Type 0} → (xs : List X) → IsPrefix xs xs
 same_prefix xs = ([], append-nil xs)
@@ -221,24 +221,14 @@ opened_stand session seen followed log answers = λ i. record {
 
 -- ---- a line is done
 
--- a line of the session's own was done
-pub own_done : (hub : Hub) (budget : ℕ) (before : List ScriptLine) (old : Runner) (new : Session) (replies : List Reply)
-    (line : ScriptLine) (reply : Reply) → line.session ≡ old.session.number → IsReady hub new
+pub line_done : (hub : Hub) (budget : ℕ) (before : List ScriptLine) (old : Runner) (new : Session)
+    (replies : List Reply) (line : ScriptLine) (reply : Reply) → IsReady hub new
     → IsTold hub budget line.command old.session new reply → new.number ≡ old.session.number
     → replies ≡ old.replies ++ reply ∷ [] → HasServed hub budget before old
     → HasServed hub budget (before ++ line ∷ []) (record { session = new; replies = replies })
-own_done hub budget before old new replies line reply own ready told number pushed h = record {
+line_done hub budget before old new replies line reply ready told number pushed h = record {
   ready = ready;
-  walks = rw (pushed, number, own_line old.session.number before line own)
+  walks = rw (pushed, number)
       (walks_push (start_of hub) (limit_of hub) budget old.session.number (at_start LOG_LIMIT) (stand_of old.session)
-      (stand_of new) (lines_of old.session.number before) old.replies line reply h.walks told);
-}
-
--- a line of another session's was passed over
-pub other_done : (hub : Hub) (budget : ℕ) (before : List ScriptLine) (runner : Runner) (line : ScriptLine)
-    → line.session ≢ runner.session.number → HasServed hub budget before runner
-    → HasServed hub budget (before ++ line ∷ []) runner
-other_done hub budget before runner line other h = record {
-  ready = h.ready;
-  walks = rw (other_line runner.session.number before line other) h.walks;
+      (stand_of new) before old.replies line reply h.walks told);
 }
