@@ -97,21 +97,29 @@ impl Runner {
         ensures number { self.new.session.number ≡ self.old.session.number }
         ensures replies { self.new.replies ≡ self.old.replies }
     {
-        let Serving { rt, hub, pool, pace, .. } = serving;
-        let (alloc, budget) = (serving.alloc, serving.budget);
         let number = self.session.number();
         match command {
             Command::Edit(edit) => {
-                let edit = edit.copy(alloc)?;
-                pace.at(number, Point::BeforeEdit);
-                let reply = self.session.edit(rt, alloc, hub, edit)?;
-                pace.at(number, Point::AfterEdit);
+                let edit = edit.copy(serving.alloc)?;
+                serving.pace.at(number, Point::BeforeEdit);
+                let reply = self
+                    .session
+                    .edit(serving.rt, serving.alloc, serving.hub, edit)?;
+                serving.pace.at(number, Point::AfterEdit);
                 Ok(reply)
             }
             Command::Ask(query) => {
-                pace.at(number, Point::BeforeAsk);
-                let reply = self.session.ask(rt, alloc, hub, pool, query, budget, pace)?;
-                pace.at(number, Point::AfterAsk);
+                serving.pace.at(number, Point::BeforeAsk);
+                let reply = self.session.ask(
+                    serving.rt,
+                    serving.alloc,
+                    serving.hub,
+                    serving.pool,
+                    query,
+                    serving.budget,
+                    serving.pace,
+                )?;
+                serving.pace.at(number, Point::AfterAsk);
                 Ok(reply)
             }
         }

@@ -6,7 +6,7 @@ use Rattle.bench_runs.proofs.ToldLemmas.{opened_stand}
 use Rattle.bench_runs.proofs.runner.Runner.open.Goals as goal
 
 pub returns-in-Ok-clause-served : goal.returns-in-Ok-clause-served
-returns-in-Ok-clause-served g c =
+returns-in-Ok-clause-served c =
     let session = c.in-Ok.session in
     let opened = c.in-Ok.ensures in
     λ budget. record {
