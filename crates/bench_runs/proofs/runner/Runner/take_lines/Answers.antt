@@ -1,0 +1,33 @@
+use Rattle.std.proofs.Common.{arith, ◌≡◌, ℕ, subst, sym, ◌∙◌}
+use Rattle.std.specs.Prelude.{slice_index_or}
+use Rattle.std.proofs.lemmas.List.{get_or_default}
+use Rattle.bench_runs.specs.Running.{HasServed}
+use Rattle.bench_runs.proofs.DealtLemmas.{chosen_all, chosen_more}
+use Rattle.bench_runs.proofs.runner.Runner.take_lines.Goals as goal
+
+pub take_line-requires : goal.take_line-requires
+take_line-requires g c = (c.loop-index.invariant.0 c.index-serving-index.result).ready
+
+pub loop-index-preserved : goal.loop-index-preserved
+loop-index-preserved g c =
+    let indexes = c.args.indexes.now in
+    let i = c.loop-index.index-index in
+    let low = c.loop-index-test.true in
+    let index : ℕ = slice_index_or indexes i 0 in
+    let is : index ≡ slice_index_or indexes i index = get_or_default indexes i 0 index low in
+    let done = c.in_ok-take_line.ensures in
+    (
+      λ none. subst (λ l. HasServed c.args.serving.now.hub.now c.args.serving.now.budget l c.take_line.new.self)
+          (sym (chosen_more c.args.serving.now.lines.now indexes i index c.index-serving-index.result none low is
+          (c.requires.within i 0 low) c.index-serving-index.is))
+          (done.served _ (c.loop-index.invariant.0 none)),
+      done.number ∙ c.loop-index.invariant.1,
+    )
+
+pub returns-clause-served : goal.returns-clause-served
+returns-clause-served g c =
+    let end = c.loop-index-test.false in
+    λ own h.
+    chosen_all (λ l. HasServed c.args.serving.now.hub.now c.args.serving.now.budget l c.loop-index.self)
+    c.args.serving.now.lines.now own c.args.indexes.now c.loop-index.index-index (omega (arith, end))
+    c.loop-index.invariant.0 h
