@@ -160,8 +160,11 @@ does_alone f limit budget s seen (Ask asked) reply old new from own does =
     record {
       front = does.front;
       now_is = stays_alone s seen new.seen own gained;
-      tells = (new.log, subst (λ l. QuerySays (framework_after f l) asked new.log reply.body)
-          (alone_same s seen new.seen own gained) does.replied.says);
+      tells = (
+        new.log,
+        subst (λ l. QuerySays (framework_after f l) asked new.log reply.body)
+            (alone_same s seen new.seen own gained) does.replied.says,
+      );
     }
 
 record AreJoined (f : Framework) (s : ℕ) (seen : List Entry) (command : Command) (one two : Reply) : Type 0 where
@@ -233,10 +236,9 @@ alone_told : (f : Framework) (limit first second s : ℕ) (lines : List ScriptLi
 alone_told f limit first second s lines history later log other_log answers others ones twos own other h k =
     let same = walks_alone f limit first second s lines ones twos [] (at_start LOG_LIMIT) (at_start LOG_LIMIT) h.end
     k.end refl refl (own_first s h.end.seen history h.gained.longer own)
-    (own_first s k.end.seen later k.gained.longer other) h.walks k.walks in
-    (
+    (own_first s k.end.seen later k.gained.longer other) h.walks k.walks in (
       alone_same s h.end.seen history own h.gained
-      ∙ (same.entries ∙ sym (alone_same s k.end.seen later other k.gained)),
+          ∙ (same.entries ∙ sym (alone_same s k.end.seen later other k.gained)),
       same.replies,
     )
 
@@ -284,57 +286,57 @@ none_numbered count (e ∷ entries) none numbered =
 
 module _ (f : Framework) (script : Script) (first second : ℕ) (one two : ScriptTranscript)
     (alone : AreFirst script.lines) (is : IsTranscriptOf f script first one) (also : IsTranscriptOf f script second two)
-    where
-  counts : is.sessions ≡ also.sessions
-  counts =
-      let up = same_count script.lines is.sessions also.sessions alone is.sessions_are also.sessions_are in
-      let down = same_count script.lines also.sessions is.sessions alone also.sessions_are is.sessions_are in
-      omega (arith, up, down)
+  where
+    counts : is.sessions ≡ also.sessions
+    counts =
+        let up = same_count script.lines is.sessions also.sessions alone is.sessions_are also.sessions_are in
+        let down = same_count script.lines also.sessions is.sessions alone also.sessions_are is.sessions_are in
+        omega (arith, up, down)
 
-  few : is.sessions ≤ 1
-  few = at_most_one script.lines is.sessions alone is.sessions_are
+    few : is.sessions ≤ 1
+    few = at_most_one script.lines is.sessions alone is.sessions_are
 
-  some_kept : (t : ScriptTranscript) (count : ℕ) → length t.kept.items ≡ count → 0 < count → Kept
-  some_kept t count long low = some_item t.kept.items (omega (arith, long, low))
+    some_kept : (t : ScriptTranscript) (count : ℕ) → length t.kept.items ≡ count → 0 < count → Kept
+    some_kept t count long low = some_item t.kept.items (omega (arith, long, low))
 
-  told : (none : List Reply) → 0 < is.sessions
-      → (entries_in one.history.entries.items ≡ entries_in two.history.entries.items)
-      × AreAlike f (0 + 1) [] (lines_of (0 + 1) script.lines) (slice_index_or one.replies.items 0 none)
-      (slice_index_or two.replies.items 0 none)
-  told none low =
-      let same = counts in
-      let most = few in
-      let there : 0 < also.sessions = omega (arith, same, low) in
-      let left = is.served 0 none (some_kept one is.sessions is.kept low) low in
-      let right = also.served 0 none (some_kept two also.sessions also.kept there) there in
-      alone_told f HISTORY_LIMIT first second 1 (lines_of 1 script.lines) (entries_in one.history.entries.items)
-      (entries_in two.history.entries.items) _ _ _ _ (slice_index_or one.replies.items 0 none)
-      (slice_index_or two.replies.items 0 none)
-      (own_all is.sessions (entries_in one.history.entries.items) most is.numbered)
-      (own_all also.sessions (entries_in two.history.entries.items) (omega (arith, same, most)) also.numbered)
-      left.walked right.walked
-
-  same_entries : (count : ℕ) → is.sessions ≡ count
-      → entries_in one.history.entries.items ≡ entries_in two.history.entries.items
-  same_entries zero none =
-      let same = counts in
-      none_numbered is.sessions (entries_in one.history.entries.items) none is.numbered
-      ∙ sym (none_numbered also.sessions (entries_in two.history.entries.items) (omega (arith, same, none))
-      also.numbered)
-  same_entries (suc count) some = (told [] (omega (arith, some))).0
-
-  pub same_told : AreTold f script one two
-  same_told = record {
-    entries = same_entries is.sessions refl;
-    sessions = is.replies ∙ (counts ∙ sym also.replies);
-    replies = λ k none low.
-        let long = is.replies in
+    told : (none : List Reply) → 0 < is.sessions
+        → (entries_in one.history.entries.items ≡ entries_in two.history.entries.items)
+        × AreAlike f (0 + 1) [] (lines_of (0 + 1) script.lines) (slice_index_or one.replies.items 0 none)
+        (slice_index_or two.replies.items 0 none)
+    told none low =
+        let same = counts in
         let most = few in
-        let zeroth : 0 ≡ k = omega (arith, long, most, low) in
-        let some : 0 < is.sessions = omega (arith, long, low) in
-        subst (λ n. AreAlike f (n + 1) [] (lines_of (n + 1) script.lines) (slice_index_or one.replies.items n none)
-        (slice_index_or two.replies.items n none)) zeroth (told none some).1;
-  }
+        let there : 0 < also.sessions = omega (arith, same, low) in
+        let left = is.served 0 none (some_kept one is.sessions is.kept low) low in
+        let right = also.served 0 none (some_kept two also.sessions also.kept there) there in
+        alone_told f HISTORY_LIMIT first second 1 (lines_of 1 script.lines) (entries_in one.history.entries.items)
+        (entries_in two.history.entries.items) _ _ _ _ (slice_index_or one.replies.items 0 none)
+        (slice_index_or two.replies.items 0 none)
+        (own_all is.sessions (entries_in one.history.entries.items) most is.numbered)
+        (own_all also.sessions (entries_in two.history.entries.items) (omega (arith, same, most)) also.numbered)
+        left.walked right.walked
+
+    same_entries : (count : ℕ) → is.sessions ≡ count
+        → entries_in one.history.entries.items ≡ entries_in two.history.entries.items
+    same_entries zero none =
+        let same = counts in
+        none_numbered is.sessions (entries_in one.history.entries.items) none is.numbered
+        ∙ sym (none_numbered also.sessions (entries_in two.history.entries.items) (omega (arith, same, none))
+        also.numbered)
+    same_entries (suc count) some = (told [] (omega (arith, some))).0
+
+    pub same_told : AreTold f script one two
+    same_told = record {
+      entries = same_entries is.sessions refl;
+      sessions = is.replies ∙ (counts ∙ sym also.replies);
+      replies = λ k none low.
+          let long = is.replies in
+          let most = few in
+          let zeroth : 0 ≡ k = omega (arith, long, most, low) in
+          let some : 0 < is.sessions = omega (arith, long, low) in
+          subst (λ n. AreAlike f (n + 1) [] (lines_of (n + 1) script.lines) (slice_index_or one.replies.items n none)
+          (slice_index_or two.replies.items n none)) zeroth (told none some).1;
+    }
 
 pub determined : AloneIsDetermined
 determined f script first second one two alone is also = same_told f script first second one two alone is also

@@ -15,8 +15,7 @@ loop-index-preserved g c =
     let low = c.loop-index-test.true in
     let index : ℕ = slice_index_or indexes i 0 in
     let is : index ≡ slice_index_or indexes i index = get_or_default indexes i 0 index low in
-    let done = c.in_ok-take_line.ensures in
-    (
+    let done = c.in_ok-take_line.ensures in (
       λ none. subst (λ l. HasServed c.args.serving.now.hub.now c.args.serving.now.budget l c.take_line.new.self)
           (sym (chosen_more c.args.serving.now.lines.now indexes i index c.index-serving-index.result none low is
           (c.requires.within i 0 low) c.index-serving-index.is))
