@@ -1,4 +1,4 @@
-use Rattle.std.proofs.Common.{arith, ◌≡◌, ℕ, subst, sym, ◌∙◌}
+use Rattle.std.proofs.Common.{arith, ◌≡◌, ◌++◌, ◌∷◌, [], ℕ, map, subst, sym, take, ◌∙◌}
 use Rattle.std.specs.Prelude.{slice_index_or}
 use Rattle.std.proofs.lemmas.List.{get_or_default}
 use Rattle.bench_runs.specs.Running.{HasServed}
@@ -10,16 +10,23 @@ take_line-requires g c = (c.loop-index.invariant.0 c.index-serving-index.result)
 
 pub loop-index-preserved : goal.loop-index-preserved
 loop-index-preserved g c =
+    let serving = c.args.serving.now in
     let indexes = c.args.indexes.now in
+    let line = c.index-serving-index.result in
+    let new = c.take_line.new.self in
     let i = c.loop-index.index-index in
     let low = c.loop-index-test.true in
     let index : ℕ = slice_index_or indexes i 0 in
     let is : index ≡ slice_index_or indexes i index = get_or_default indexes i 0 index low in
-    let done = c.in_ok-take_line.ensures in (
-      λ none. subst (λ l. HasServed c.args.serving.now.hub.now c.args.serving.now.budget l c.take_line.new.self)
-          (sym (chosen_more c.args.serving.now.lines.now indexes i index c.index-serving-index.result none low is
-          (c.requires.within i 0 low) c.index-serving-index.is))
-          (done.served _ (c.loop-index.invariant.0 none)),
+    let done = c.in_ok-take_line.ensures in
+    (
+      λ none.
+          let before = map (λ n. slice_index_or serving.lines.now n none) (take i indexes) in
+          subst (λ l. HasServed serving.hub.now serving.budget l new)
+          (sym (chosen_more serving.lines.now indexes i index line none low is (c.requires.within i 0 low)
+          c.index-serving-index.is))
+          (subst (λ l. HasServed serving.hub.now serving.budget (before ++ l ∷ []) new)
+          (sym c.index-serving-index.is) (done.served before (c.loop-index.invariant.0 none))),
       done.number ∙ c.loop-index.invariant.1,
     )
 
