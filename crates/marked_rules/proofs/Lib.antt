@@ -1,0 +1,2 @@
+pub mod ConeLemmas
+pub mod CountLemmas
