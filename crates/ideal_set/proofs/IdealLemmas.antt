@@ -23,7 +23,7 @@ use Rattle.iccma_tasks.specs.declared.task.Semantics.TheVariants.{Ideal}
 use Rattle.certificate_claims.specs.Refutations.{IsPlain}
 use Rattle.certificate_claims.specs.Rights.{IsExtension}
 use Rattle.certificate_claims.specs.SetLiterals.{attacked, has, hit_by_any, hits, members}
-use Rattle.certificate_claims.proofs.RangeLists.{same_rising}
+use Rattle.certificate_claims.proofs.RisingLists.{same_rising}
 use Rattle.certificate_claims.proofs.SetTests.{in_hit_list}
 use Rattle.certificate_claims.proofs.GoalLists.{asks_cons, asks_nil, only_one, plain_mapped}
 use Rattle.certificate_claims.proofs.IdealSets.{shown_ideal}
