@@ -14,13 +14,13 @@ use std::alloc::Global;
 /// Which atom of a number is meant.
 #[derive(Clone, Copy)]
 pub(crate) enum NumberAtom {
-    /// That it is a member.
+    /// `Member:x`: the assumption x is in the set.
     Membership,
-    /// That it is an assumption.
+    /// `Asm:x`: x is an assumption of the framework.
     Assumption,
-    /// That the set derives it.
+    /// `Der:1:x`: the set derives x.
     OwnDerived,
-    /// That the assumptions which the set does not attack derive it.
+    /// `Der:2:x`: the assumptions that the set doesn't attack derive x.
     RestDerived,
 }
 

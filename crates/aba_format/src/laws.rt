@@ -23,7 +23,7 @@ pub fn one_reading()
 {}
 
 /// The framework that is read from its own text, where that is not too long: the same one. Nothing but want of memory
-/// comes between.
+/// comes between. Only tests call it: its contract is the law.
 pub fn read_back(alloc: Global, framework: &AbaPlain) -> Result<AbaPlain, ReadFault>
     requires solid { IsSolid framework.now }
     requires short { length (aba_text framework.now) ≤ INPUT_LIMIT }

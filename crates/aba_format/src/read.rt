@@ -22,12 +22,9 @@ use af_format::{LineCause, LineFault, ReadFault, read_header};
 use num_text::{Line, Lines, lines, next_kept};
 use std::alloc::Global;
 
-/// The framework that the bytes describe. The first line that is not skipped is `p aba n` with n up to 1,000,000; each
-/// further one is `a x`, which says that x is an assumption, `c x y`, that y is the contrary of x, or `r h b1 .. bk`, a
-/// rule with the head h and k atoms in its body. All atoms are from 1 to n, and the lines may come in any order. An `a`
-/// line, a `c` line and an atom of a body may be repeated, and count once. Each `r` line is a rule of its own: rules are
-/// numbered from 1 in the order of their lines, and at most 1,000,000 are read. An assumption without a `c` line has the
-/// contrary 0.
+/// Reads a framework in the ICCMA form: `p aba n`, then lines `a x`, `c x y` and `r h b1 .. bk` in any order (the
+/// README has the grammar). Repeated lines `a` and `c` count once; each line `r` is a rule of its own, numbered by its
+/// order. An assumption without a line `c` has the contrary 0.
 ///
 /// `Line` tells the first line at which a cause stands, and of the causes that stand there the first in
 /// the order of [`LineCause`]. `Memory` says that an allocation was refused.

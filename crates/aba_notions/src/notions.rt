@@ -83,6 +83,7 @@ impl AbaPlain {
     }
 
     /// Whether the rules have the numbers from 1 to some m, and the next one gets m + 1, as in a text of the framework.
+    /// Only tests call it: no command writes a framework.
     pub fn is_solid(&self) -> bool
         ensures { IsTrue result ↔ IsSolid self.now }
     {

@@ -27,7 +27,8 @@ pub fn one_reading()
     ensures faultless { (bytes : List ℕ) → (f : Af) → ReadsAs bytes f → IsFaultless bytes }
 {}
 
-/// The framework that is read from its own text: the same one. Nothing but want of memory comes between.
+/// The framework that is read from its own text: the same one. Nothing but want of memory comes between. Only tests
+/// call it: its contract is the law.
 pub fn read_back(alloc: Global, framework: &AfPlain) -> Result<AfPlain, ReadFault>
     requires solid { IsSolid framework.now }
     requires few { length framework.now.attacks ≤ MOST_ATTACK_LINES }
@@ -39,7 +40,7 @@ pub fn read_back(alloc: Global, framework: &AfPlain) -> Result<AfPlain, ReadFaul
 }
 
 /// That a text is the text of a framework, or else its first fault. No memory is needed, so each text
-/// has an answer.
+/// has an answer. Only tests call it: its contract is the law.
 pub fn readable_or_faulty(bytes: &[u8]) -> Result<(), LineFault>
     requires { length bytes.now ≤ INPUT_LIMIT }
     ensures readable { OnOk result (IsReadable bytes.now) }

@@ -16,7 +16,8 @@ use std::fmt::Write;
 
 /// The text of a framework whose live arguments are 1 to n ([`AfPlain::is_solid`] is the test): the header,
 /// and a line for each attack, by rising attacker and then target. With up to 10,000,000 attacks it is a
-/// text that [`read_af`](crate::read_af) reads. `Memory` says that an allocation was refused.
+/// text that [`read_af`](crate::read_af) reads. `Memory` says that an allocation was refused. No command writes a
+/// framework: the law that it reads back, and tests, call this.
 pub fn write_af(alloc: Global, framework: &AfPlain) -> Result<Bytes, Memory>
     requires { IsSolid framework.now }
     ensures text { IfOk result (λ text. text ≡ af_text framework.now) }

@@ -141,7 +141,8 @@ fn push_side(
     }
 }
 
-/// Adds the literals that something is in the range that isn't in the set's range.
+/// Adds the side clause "the range is wider than the set's": a literal `Range` of each argument outside the set's
+/// range.
 fn push_wider(
     alloc: Global,
     clause: &mut Vec<AtomLit>,

@@ -74,7 +74,8 @@ impl MemFiles {
         }
     }
 
-    /// The bytes of a name, where it is there. With no call that is to fail, such a name is served.
+    /// The bytes of a name, where it is there. With no call that is to fail, such a name is served. Only tests call it,
+    /// to see what was written.
     pub fn bytes_of(&self, name: &str) -> Option<&[u8]>
         ensures served { IsSome result → ⟦<MemFiles as Planned>⟧.to_fail self.now ≡ []
             → ⟦<MemFiles as Files>⟧.serves self.now name.now }
@@ -88,7 +89,7 @@ impl MemFiles {
     }
 
     /// How often memory was refused to the files. Where it never was and no call is to fail, every name
-    /// is accepted.
+    /// is accepted. Nothing calls it: contracts name what it tells.
     pub fn refusals(&self) -> u64
         ensures { result ≡ 0 → ⟦<MemFiles as Planned>⟧.to_fail self.now ≡ [] → (name : List ℕ)
             → ⟦<MemFiles as Files>⟧.accepts self.now name }

@@ -73,14 +73,10 @@ pub struct BenchWords<'a> {
 }
 
 /// Reads the words after the program's name. No words ask for the version, and `--problems` alone for the list of tasks.
-/// Where the first is `check`, those behind it are read by clap as the options `-p TASK`, `-f FILE`, `-r ANSWER`, `-c CERT`
-/// and perhaps `-a N`, in any order: `Check` comes exactly where clap takes them. Where the first is `live`, those behind
-/// it are read as the options `-f FILE`, `-s SCRIPT` and perhaps `-b BUDGET` and `-c CERT`, in any order: `Live` comes
-/// exactly where clap takes them. Where the first is `bench`, those behind it are read as the options `-n N` and `-x SEED`,
-/// in any order: `Bench` comes exactly where clap takes them. All others are read by clap as the options `-p TASK` and
-/// `-f FILE`, both required, and perhaps `-a N`, `-b BUDGET` and `-c CERT`, each with one value, in any order: `Solve` comes
-/// exactly where clap takes them. `Unknown` comes for all other words, also for those that ask for help. `Memory` is want of
-/// memory and no fault of the words; it comes only where there are words.
+/// Else the first word is `check`, `live` or `bench`, or the command is to solve; clap reads the options of its
+/// row in `options.rt`, each with one value, in any order. A command comes exactly where clap takes its options, and
+/// `Unknown` for all other words, also for those that ask for help. `Memory` is want of memory and no fault of the
+/// words; it comes only where there are words.
 pub fn read_words<'a>(alloc: Global, words: &'a [String]) -> Result<Command<'a>, Memory>
     ensures request { IfOk result (λ c. request_of c ≡ requested (map string_bytes words.now)) }
     ensures unknown { IfOk result (λ c. c ≡ Command.Unknown → AreUnknown (map string_bytes words.now)) }

@@ -23,7 +23,7 @@ use std::mem::replace;
 
 /// Lists that are filled anew for each step, so that a step's own lists take one allocation each, and no more than
 /// their items need. With the numbers read in one pass and [`member`], a certificate of 1,000,000 steps is read and
-/// checked in 1.44 s of a processor, and took 2.23 s where each step's lists grew by themselves (medians of 7 in turn).
+/// checked in two thirds of the time that it took where each step's lists grew by themselves.
 #[derive(Drop)]
 pub(crate) struct Room {
     literals: Items<AtomLit>,

@@ -39,7 +39,7 @@ impl Pool {
         Ok(Token { pushed })
     }
 
-    /// The entry that was shared for this token.
+    /// The entry that was shared for this token. Only tests call it: a session keeps no token.
     pub fn fetch<'a>(&'a self, token: &Token) -> &'a Entry
         requires { IsTokenOf self.now token.now }
         ensures entry { result.now ≡ entry_of token.now }
@@ -49,6 +49,7 @@ impl Pool {
     }
 
     /// Copies of the entries from an index on, up to the first index at which none is found. The pool is as before.
+    /// Only tests call it: a session takes one entry after the other through its trade.
     pub fn import(&self, alloc: Global, from: u64) -> Result<Import, Memory>
         ensures indexes { IfOk result (λ import. AreFrom from import.entries) }
         ensures next { IfOk result (λ import. import.next ≡ from + length import.entries) }

@@ -133,7 +133,7 @@ pub(crate) fn in_hand_serves(
 
 // ---- side clauses
 
-/// What side clauses the table of certificates has for a problem and a semantics, by what they say of a set.
+/// The kinds of side clause that a certificate for the problem and semantics may have.
 fn kinds_for(problem: Problem, semantics: Semantics) -> &'static [SideKind]
     ensures { (f : AnyFramework) (e : List ℕ) → map (λ k. side_of f k e) result.now ≡ sides_for f problem semantics e }
 {

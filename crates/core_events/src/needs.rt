@@ -22,7 +22,7 @@ use meaning_atoms::AxiomName;
 use oracle_face::{EntryOrigin, HintName};
 use std::alloc::Global;
 
-/// The first so many entries, or all of them.
+/// The first `count` entries, or all if there are fewer.
 pub(crate) fn front(entries: &[Entry], count: usize) -> &[Entry]
     ensures { result.now ≡ take count entries.now }
 {

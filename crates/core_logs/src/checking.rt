@@ -21,9 +21,9 @@ use std::alloc::Global;
 pub enum Status {
     /// All literals are false.
     Falsified,
-    /// All are but this one, which is neither true nor false.
+    /// All literals are false but this one, which has no value.
     Unit(AtomLit),
-    /// Neither.
+    /// A literal is true, or two have no value.
     Other,
 }
 

@@ -50,8 +50,8 @@ impl AfPlain {
         self.is_conflict_free(set) && self.attacks_others(set)
     }
 
-    /// Whether the live arguments are the numbers from 1 to some n of at most 1,000,000, as in a text of the
-    /// framework.
+    /// Whether the live arguments are the numbers from 1 to some n of at most `LAST_ARGUMENT`, as in a text of the
+    /// framework. Only tests call it: no command writes a framework.
     pub fn is_solid(&self) -> bool
         ensures { IsTrue result ↔ IsSolid self.now }
     {

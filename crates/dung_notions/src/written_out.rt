@@ -13,7 +13,8 @@ use std::alloc::Global;
 
 impl AfPlain {
     /// The framework of those of the numbers that arguments may have, and of those of the attacks whose ends are
-    /// among them. `Memory` says that an allocation was refused.
+    /// among them. `Memory` says that an allocation was refused. Only tests call it: a command reads its framework from
+    /// a text.
     pub fn of_lists(
         alloc: Global,
         numbers: &[u32],

@@ -212,7 +212,8 @@ impl Log {
         self.steps.hints(step.number() as usize - 1)
     }
 
-    /// The steps that a step reaches through hints, itself included, in rising order.
+    /// The steps that a step reaches through hints, itself included, in rising order. Only tests call it: a
+    /// certificate's steps are trimmed in `certificate_making`, over an oracle's log.
     pub fn trim(&self, alloc: Global, step: StepId) -> Result<Items<StepId>, Memory>
         requires { IsStepOf self.now.steps step }
         ensures { IfOk result (IsSetOf (Reaches self.now.steps step)) }

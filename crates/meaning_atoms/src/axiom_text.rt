@@ -21,7 +21,8 @@ use std::alloc::Global;
 use std::fmt::Write;
 
 /// The text of an axiom: its name, and each argument in decimal behind a blank, as `A5 1 3 7`. Where the arguments fit
-/// their row, its fields read as the axiom again.
+/// their row, its fields read as the axiom again. Only tests call it: a certificate is written without a text of each
+/// axiom.
 pub fn write_axiom(alloc: Global, axiom: &AxiomName) -> Result<Bytes, Memory>
     ensures text { IfOk result (λ text. text ≡ axiom_text axiom.now) }
     ensures reads { IfOk result (λ text. IsAxiomName axiom.now → IsAxiomFields (field_texts text) axiom.now) }

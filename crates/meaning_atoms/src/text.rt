@@ -29,7 +29,8 @@ enum Numbers {
 
 /// The text of a literal: its atom's name, with a hyphen before it where the literal is negative, and each
 /// number of the atom in decimal behind a colon, as `-Gap:1:3:1000001`. Where the numbers are within their
-/// bounds, this text reads as the literal again.
+/// bounds, this text reads as the literal again. Only tests call it: a certificate is written without a text of each
+/// literal.
 pub fn atom_text(alloc: Global, lit: &AtomLit) -> Result<Bytes, Memory>
     ensures text { IfOk result (λ text. text ≡ lit_text lit.now) }
     ensures reads { IfOk result (λ text. IsLit lit.now → IsLitText text lit.now) }

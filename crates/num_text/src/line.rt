@@ -60,8 +60,8 @@ impl<'a> Iterator for Lines<'a> {
 
     ghost remaining = { item_count (λ lines. lines) };
 
-    // There is one reader of lines. A whole run on 1,000,000 arguments and 3,000,000 random attacks takes 0.41 s with it
-    // (median of 15 runs in turn), and took 0.40 s with a second way for lines of two numbers.
+    // There is one reader of lines: a second way for lines of two numbers made a whole run on 1,000,000 arguments and
+    // 3,000,000 random attacks faster by a fortieth (bench/RESULTS.md has the times of such a run).
     #[inline(always)]
     fn next(&mut self) -> Option<Line<'a>> {
         if self.start >= self.bytes.len() {

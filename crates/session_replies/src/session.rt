@@ -11,7 +11,8 @@ use lists::{Bytes, Items, Memory};
 use std::alloc::Global;
 
 /// The text of a session: the line `session S`, and its replies in order. A reply is the line `at FRONT`, and the
-/// lines of what is told. Every line ends with LF.
+/// lines of what is told. Every line ends with LF. Only tests call it: the transcript is written session by session
+/// into one text.
 pub fn session_text(alloc: Global, number: u32, replies: &[Reply]) -> Result<Bytes, Memory>
     ensures { IfOk result (λ text. text ≡ session_of number replies.now) }
 {

@@ -96,7 +96,7 @@ impl Engine {
         })
     }
 
-    /// Tells the form of the search, which no value shows.
+    /// Does nothing: its contract gives callers that the search is well-formed (levels in order, each literal once).
     pub(crate) fn form(&self)
         requires { IsKept (state_of self.now) }
         ensures { IsSearch (search_of (state_of self.now)) }
