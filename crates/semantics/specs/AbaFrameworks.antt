@@ -58,7 +58,7 @@ pub record IsAba (f : Aba) : Type 0 where
   pub rules_are : (r : Rule) → Contains f.rules r → IsRuleOf f r
   pub next_is : 1 ≤ f.next
 
--- a flat framework in its form, whose atoms and rules have numbers from 1 to 1,000,000
+-- a flat framework in its form, whose atoms and rules have numbers from 1 to the last ones
 pub record IsNumberedAba (f : Aba) : Type 0 where
   pub form : IsAba f
   pub atoms : f.atoms ≤ LAST_ATOM

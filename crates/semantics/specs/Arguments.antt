@@ -2,7 +2,7 @@
 use Rattle.std.specs.Prelude.{ℕ, ◌≤◌}
 use Rattle.semantics.specs.declared.argument.TheConstants.{LAST_ARGUMENT}
 
--- the number of an argument, from 1 to 1,000,000
+-- the number of an argument, from 1 to the last one
 pub record IsArgument (a : ℕ) : Type 0 where
   pub low : 1 ≤ a
   pub high : a ≤ LAST_ARGUMENT

@@ -9,7 +9,7 @@ pub data Framework : Type 0 where
   af : Af → Framework
   aba : Aba → Framework
 
--- an abstract framework in its form, whose live arguments have numbers from 1 to 1,000,000
+-- an abstract framework in its form, whose live arguments have the numbers of arguments
 pub record IsNumberedAf (f : Af) : Type 0 where
   pub form : IsAf f
   pub live : (a : ℕ) → Contains f.live a → IsArgument a

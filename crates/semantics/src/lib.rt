@@ -6,10 +6,12 @@ pub mod af_lists;
 pub mod argument;
 pub mod deciding;
 pub mod laws;
+pub mod limits;
 pub mod numbers;
 mod sets;
 
 pub use af_lists::AfLists;
 pub use argument::{LAST_ARGUMENT, is_argument};
 pub use deciding::{Notion, decide};
+pub use limits::MAX_EXTENSIONS;
 pub use numbers::{LAST_ATOM, LAST_RULE};
