@@ -1,5 +1,5 @@
 -- A pool's tokens, and what a look into it finds.
-use Rattle.std.specs.Prelude.{◌≡◌, ◌+◌, ◌<◌, ℕ, List, length, slice_index_or}
+use Rattle.std.specs.Prelude.{◌≡◌, ◌+◌, ◌<◌, ℕ, List, All, length, slice_index_or}
 use Rattle.boxcar.specs.Table.{Shows}
 use Rattle.oracle_face.specs.Entries.{IsShareable}
 use Rattle.oracle_face.specs.declared.entry.Entry.{Entry}
@@ -15,6 +15,14 @@ pub record IsTokenOf (pool : Pool) (token : Token) : Type 0 where
 -- the entry that was shared for the token
 abbrev pub entry_of : Token → Entry
 entry_of token = token.pushed.value
+
+-- each of the tokens was given by this pool
+abbrev pub AreTokensOf : Pool → List Token → Type 0
+AreTokensOf pool tokens = All (IsTokenOf pool) tokens
+
+-- the pool is the same, and where the tokens were all its own, they are now
+abbrev pub HoldsMore : Pool → List Token → Pool → List Token → Type 0
+HoldsMore old before new after = (new ≡ old) × (AreTokensOf old before → AreTokensOf old after)
 
 -- the entries stand at the indexes from the first on, one after the other
 abbrev pub AreFrom : ℕ → List Pooled → Type 0

@@ -68,6 +68,16 @@ impl Pool {
         Ok(Import { entries, next })
     }
 
+    /// A token for the entry at an index, where one is found.
+    pub fn token_at(&self, index: u64) -> Option<Token>
+        ensures token { IfSome result (IsTokenOf self.now) }
+        ensures index { IfSome result (λ token. token.pushed.index ≡ index) }
+    {
+        let pushed = self.entries.witness(index as usize)?;
+        let _shareable = self.entries.get_seen(index as usize, &pushed);
+        Some(Token { pushed })
+    }
+
     /// The entry at an index, where one is found.
     pub(crate) fn entry_at(&self, index: u64) -> Option<&Entry>
         ensures { IfSome result (λ entry. IsShareable entry.now) }

@@ -3,7 +3,7 @@
 use crate::engines::af_engine;
 use certificate_making::ReadLog;
 use iccma_tasks::{Query, Task};
-use lists::Memory;
+use lists::{Items, Memory};
 use meaning_atoms::{AfAxiom, AxiomName};
 use oracle_core::Engine;
 use oracle_face::{ClauseTrade, Entry, EntryName, NoTrade};
@@ -16,6 +16,7 @@ use std::test::Fail;
 struct OneAxiom {
     alloc: Global,
     rule: Option<AxiomName>,
+    given: Items<Entry>,
 }
 
 impl ClauseTrade for OneAxiom {
@@ -24,6 +25,10 @@ impl ClauseTrade for OneAxiom {
     ghost keeps = { λ _. false };
 
     ghost left = { λ _. None };
+
+    ghost gave = { λ t. t.given };
+
+    ghost follows = { λ _ _. Unit {0} };
 
     fn offer(&mut self, _entry: Entry) -> Result<bool, Entry> {
         Ok(false)
@@ -41,8 +46,13 @@ impl ClauseTrade for OneAxiom {
             step: StepId::new(7),
         };
         let entry = Entry::of_axiom(self.alloc, rule, name)?;
+        self.given.push(entry.copy(self.alloc)?)?;
         Ok(Some(entry))
     }
+
+    ghost stays = { λ _. tt };
+
+    ghost joins = { λ _ _ _ _ _. tt };
 }
 
 /// Whether a query for a stable set is answered with this trade.
@@ -70,6 +80,7 @@ fn takes_an_axiom(rt: HostRuntime) -> Result<(), Fail> {
     let mut trade = OneAxiom {
         alloc,
         rule: Some(AxiomName::Af(AfAxiom::A13(9))),
+        given: Items::new(alloc),
     };
     let with = steps_after(alloc, &mut trade);
     let without = steps_after(alloc, &mut NoTrade);
@@ -85,6 +96,7 @@ fn takes_no_axiom_twice(rt: HostRuntime) -> Result<(), Fail> {
     let mut trade = OneAxiom {
         alloc,
         rule: Some(AxiomName::Af(AfAxiom::A13(2))),
+        given: Items::new(alloc),
     };
     let with = steps_after(alloc, &mut trade);
     let without = steps_after(alloc, &mut NoTrade);

@@ -53,11 +53,17 @@ fn is_shared(taken: &Option<Entry>) -> bool {
 }
 
 impl<'a, R: Wait> ClauseTrade for Meanwhile<'a, R> {
-    ghost use Rattle.std.specs.Prelude.{true, None};
+    ghost use Rattle.std.specs.Prelude.{◌≡◌, map, true, None};
+    ghost use Rattle.std.proofs.Common.{◌∙◌, refl};
+    ghost use Rattle.clause_pool.specs.Pools.{entry_of};
 
     ghost keeps = { λ _. true };
 
     ghost left = { λ _. None };
+
+    ghost gave = { λ t. map entry_of t.over.taken };
+
+    ghost follows = { λ before after. after.over.pool.now ≡ before.over.pool.now };
 
     fn offer(&mut self, entry: Entry) -> Result<bool, Entry> {
         self.over.offer(entry)
@@ -73,6 +79,10 @@ impl<'a, R: Wait> ClauseTrade for Meanwhile<'a, R> {
         }
         self.over.take()
     }
+
+    ghost stays = { λ _. refl };
+
+    ghost joins = { λ before between after first second. second ∙ first };
 }
 
 /// Session 2 asks for a preferred set of two arguments that attack each other, which takes two searches at least.
