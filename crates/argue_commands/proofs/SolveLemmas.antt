@@ -1,6 +1,6 @@
 -- The session of a query.
-use Rattle.std.proofs.Common.{◌≡◌, ◌∙◌, ℕ, ◌+◌, ◌*◌, ◌<◌, ◌≤◌, length, refl, subst, true, take, arith, Option, Some, Result, Ok, Err}
-use Rattle.std.specs.Prelude.{IfErr, IfOk, IsSome, OnOk, slice_index_or}
+use Rattle.std.proofs.Common.{◌≡◌, ◌∙◌, ℕ, ◌+◌, ◌*◌, ◌<◌, ◌≤◌, [], length, refl, sym, subst, true, take, arith, Option, Some, Result, Ok, Err}
+use Rattle.std.specs.Prelude.{◌≢◌, IfErr, IfOk, IsSome, OnOk, slice_index_or}
 use Rattle.plain_lits.specs.declared.halt.Halt.{Halt}
 use Rattle.plain_lits.specs.declared.halt.Halt.TheVariants.{Spent}
 use Rattle.plain_lits.specs.Units.{Units}
@@ -14,6 +14,7 @@ use Rattle.atom_solver.specs.States.{empty_log}
 use Rattle.oracle_core.specs.Answering.{IsCause, halt_behind}
 use Rattle.oracle_core.specs.Answers.{IsShownBy}
 use Rattle.oracle_core.specs.Engines.{EngineState}
+use Rattle.oracle_core.specs.Stepping.{GoesOnBySteps}
 use Rattle.oracle_core.specs.declared.reply.AnswerStop.{AnswerStop}
 use Rattle.oracle_core.specs.declared.reply.AnswerStop.TheVariants as stop
 use Rattle.oracle_core.specs.declared.reply.Answered.{Answered}
@@ -59,16 +60,19 @@ module _ (f : Framework) (solving : Solving) where
   replies_are log before after (Err why) limit stays within fits shown units cause = cause
 
 -- what an engine with an empty log answers to a query makes up its session
-pub session_is : (f g : Framework) (solving : Solving) (session : KeptSession) (old : OracleLog) (before after : Units)
-    → g ≡ f → session.engine.framework ≡ g → old ≡ empty_log LOG_LIMIT → before.limit ≡ solving.budget
+pub session_is : (f g : Framework) (own : ℕ) (solving : Solving) (session : KeptSession) (old : OracleLog)
+    (before after : Units) → g ≡ f → session.engine.framework ≡ g → session.engine.number ≡ own
+    → old ≡ empty_log LOG_LIMIT → before.limit ≡ solving.budget
     → before.used ≡ 0 → after.used ≤ after.limit → OnOk session.reply (Fits g solving.query)
     → IfOk session.reply (λ a. IsShownBy g solving.query a.answer a.certificate)
     → IfOk session.reply (λ a. a.units ≡ after.used)
     → IfErr session.reply (IsCause g solving.query EXTENSION_LIMIT session.engine.log)
     → HasRun (MadeFor g solving.query) (2 * length session.engine.log.sides + 2) g old session.engine.log
     session.engine.pending before after (halt_behind session.reply)
+    → (session.reply ≢ Err stop.Memory → GoesOnBySteps g own [] old session.engine.log)
     → IsSessionOf f solving session
-session_is f g solving session old before after same stays empty limit unused within fits shown units cause run =
+session_is f g own solving session old before after same stays number empty limit unused within fits shown units cause
+    run steps =
     let Run : OracleLog → Units → Type 0 = λ log spent. HasRun (MadeFor g solving.query)
     (2 * length session.engine.log.sides + 2) g log session.engine.log session.engine.pending spent after
     (halt_behind session.reply) in
@@ -77,6 +81,8 @@ session_is f g solving session old before after same stays empty limit unused wi
       after = after;
       run = subst (Run (empty_log LOG_LIMIT)) (nothing_used before solving.budget limit unused)
           (subst (λ log. Run log before) empty run);
+      steps = λ so. subst (λ n. GoesOnBySteps g n [] (empty_log LOG_LIMIT) session.engine.log) (sym number)
+          (subst (λ log. GoesOnBySteps g own [] log session.engine.log) empty (steps so));
       replies = replies_are g solving session.engine.log before after session.reply limit run.limit within fits shown units cause;
     })
 

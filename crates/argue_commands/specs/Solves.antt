@@ -1,5 +1,5 @@
 -- The session of the query in a run's words.
-use Rattle.std.specs.Prelude.{◌≡◌, ℕ, ◌+◌, ◌*◌, ◌≤◌, length, Result, Ok, Err}
+use Rattle.std.specs.Prelude.{◌≡◌, ◌≢◌, ℕ, ◌+◌, ◌*◌, ◌≤◌, [], length, Result, Ok, Err}
 use Rattle.argue_outside.specs.Outside.{KnownFile}
 use Rattle.plain_lits.specs.Units.{Units}
 use Rattle.semantics.specs.Frameworks.{Framework}
@@ -10,6 +10,7 @@ use Rattle.session_log.specs.Ends.{MadeFor}
 use Rattle.atom_solver.specs.States.{empty_log}
 use Rattle.oracle_core.specs.Answering.{IsCause, halt_behind}
 use Rattle.oracle_core.specs.Answers.{IsShownBy}
+use Rattle.oracle_core.specs.Stepping.{GoesOnBySteps}
 use Rattle.oracle_core.specs.declared.reply.AnswerStop.{AnswerStop}
 use Rattle.oracle_core.specs.declared.reply.AnswerStop.TheVariants as stop
 use Rattle.oracle_core.specs.declared.reply.Answered.{Answered}
@@ -39,14 +40,18 @@ abbrev pub Replies : Framework → Solving → OracleLog → ℕ → Result Answ
 Replies f solving log used (Ok reply) = IsReplyTo f solving reply × (reply.units ≡ used)
 Replies f solving log used (Err why) = IsCause f solving.query EXTENSION_LIMIT log why
 
--- a session of this query alone on the framework: its engine began with no step; each unit that its log has was a
--- clause that was new when it came, and the budget counts them; and the reply is so. Where the budget was spent, the
--- units are as many as it has, and the further clause is kept; where the log is full, it has as many steps as it may.
+-- a session of this query alone on the framework: its engine began with no step, and unless memory was refused its log
+-- went on by steps of the session for which nothing was given, so that no axiom came, but loop clauses, that the
+-- framework doesn't need, and no clause from elsewhere; each unit that its log has was a clause that was new when it
+-- came, and the budget counts them; and the reply is so. Where the budget was spent, the units are as many as it has,
+-- and the further clause is kept; where the log is full, it has as many steps as it may.
 pub record IsSessionOf (f : Framework) (solving : Solving) (session : KeptSession) : Type 0 where
   pub framework : session.engine.framework ≡ f
   pub after : Units
   pub run : HasRun (MadeFor f solving.query) (2 * length session.engine.log.sides + 2) f (empty_log LOG_LIMIT)
       session.engine.log session.engine.pending (unspent solving.budget) after (halt_behind session.reply)
+  pub steps : session.reply ≢ Err stop.Memory
+      → GoesOnBySteps f session.engine.number [] (empty_log LOG_LIMIT) session.engine.log
   pub replies : Replies f solving session.engine.log after.used session.reply
 
 -- the same on the framework that the file's bytes read as

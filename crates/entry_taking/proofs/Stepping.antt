@@ -14,7 +14,7 @@ use Rattle.oracle_face.specs.Entries.{IsShareable}
 use Rattle.oracle_face.specs.Kinds.{is_assumption_based}
 use Rattle.oracle_face.specs.Logs.{LogStep, IsNumberOf, by_axiom, clauses_of, step_at}
 use Rattle.session_log.specs.Imports.{IsHintOf, StandForSteps, StandsFor}
-use Rattle.session_log.specs.OwnSteps.{IsCalledOn, IsNamedByEntry, IsWanted, OwnStep, learns_axiom, takes_entry}
+use Rattle.session_log.specs.OwnSteps.{IsCalledOn, IsCutOrigin, IsNamedByGiven, IsWanted, OwnStep, WasGiven, learns_axiom, takes_entry}
 use Rattle.atom_solver.specs.Imported.{Imports, IsImported}
 use Rattle.atom_solver.specs.States.{AddsAxiom, AtomState}
 use Rattle.atom_solver.proofs.EntryLemmas.{checks_same}
@@ -38,19 +38,19 @@ axiom_absent names steps name looked none number named is =
     (omega arith) is
 
 -- the axiom comes as one step of one's own, or the log is the same
-pub axiom_step : (r : Result (Unit {0}) Halt) (f : Framework) (own : ℕ) (kind : Bool) (name : AxiomName)
-    (names : StepNames) (old new : AtomState) → is_assumption_based f ≡ kind → MayCome kind name → IsAxiomName name
-    → IsNamedByEntry name → IsLooked names old.log.steps → told_of names (OfAxiom name) ≡ None
-    → OnOk r (AddsAxiom name old new) → OnErr r (new ≡ old)
-    → (new.log ≡ old.log) ⊎ OwnStep f own old.log new.log
-axiom_step (Ok u) f own kind name names old new same may is by looked none ok err =
+pub axiom_step : (r : Result (Unit {0}) Halt) (f : Framework) (own : ℕ) (given : List AnEntry) (kind : Bool)
+    (name : AxiomName) (names : StepNames) (old new : AtomState) → is_assumption_based f ≡ kind → MayCome kind name
+    → IsAxiomName name → IsNamedByGiven given name → IsLooked names old.log.steps
+    → told_of names (OfAxiom name) ≡ None → OnOk r (AddsAxiom name old new) → OnErr r (new ≡ old)
+    → (new.log ≡ old.log) ⊎ OwnStep f own given old.log new.log
+axiom_step (Ok u) f own given kind name names old new same may is by looked none ok err =
     inr (learns_axiom name ok.clause (record {
       of_kind = of_kind f name (may.of_kind ∙ sym same) is;
       once = axiom_absent names old.log.steps name looked none;
-      called = subst (λ b. IsWanted (IsCalledOn f) old.log name b) (sym may.no_loop) (inr by);
+      called = subst (λ b. IsWanted (IsCalledOn f given) old.log name b) (sym may.no_loop) (inr by);
       takes = ok.takes;
     }))
-axiom_step (Err halt) f own kind name names old new same may is by looked none ok err =
+axiom_step (Err halt) f own given kind name names old new same may is by looked none ok err =
     inl (ap (λ (s : AtomState). s.log) err)
 
 -- ---- an entry that follows
@@ -71,9 +71,9 @@ front_stands own steps names hints used stand =
           (stand.each k d (omega arith)));
     }
 
-module _ (own : ℕ) (entry : AnEntry) (names : List HintName) (hints : List ℕ) (told : StepNames)
-    (old new : AtomState) (stand : StandForSteps own old.log.steps names hints) (may : IsShareable entry)
-    (looked : IsLooked told old.log.steps) (unknown : IsKnown told own entry.name → ⊥) where
+module _ (own : ℕ) (entry : AnEntry) (names : List HintName) (origin : entry.origin ≡ Hints names) (hints : List ℕ)
+    (told : StepNames) (old new : AtomState) (stand : StandForSteps own old.log.steps names hints)
+    (may : IsShareable entry) (looked : IsLooked told old.log.steps) (unknown : IsKnown told own entry.name → ⊥) where
   -- the entry without the hints that the check doesn't look at
   abbrev looked_at : ℕ → AnEntry
   looked_at used = record { clause = entry.clause; name = entry.name; origin = Hints (take used names) }
@@ -103,9 +103,20 @@ module _ (own : ℕ) (entry : AnEntry) (names : List HintName) (hints : List ℕ
         subst (λ n. StandsFor own old.log.steps name n) at (front.each k some_name within),
       )
 
-  imported_step : (f : Framework) → Imports entry.clause hints entry.name old new → OwnStep f own old.log new.log
-  imported_step f i =
-      takes_entry (looked_at i.used) (record { valid = may.valid; plain = may.plain; within = may.within })
+  was_given : (given : List AnEntry) (used : ℕ) → Contains given entry → WasGiven given (looked_at used)
+  was_given given used there = record {
+    source = entry;
+    there = there;
+    shareable = may;
+    clause = refl;
+    name = refl;
+    origin = subst (IsCutOrigin (Hints (take used names))) (sym origin) (used, refl);
+  }
+
+  imported_step : (f : Framework) (given : List AnEntry) → Contains given entry
+      → Imports entry.clause hints entry.name old new → OwnStep f own given old.log new.log
+  imported_step f given there i =
+      takes_entry (looked_at i.used) (was_given given i.used there)
       (record {
         room = i.gains.room;
         other = λ e. unknown (inl e);
@@ -126,7 +137,8 @@ module _ (own : ℕ) (entry : AnEntry) (names : List HintName) (hints : List ℕ
         gains = i.gains;
       })
 
-  pub import_step : (taken : Bool) (f : Framework) → IsImported entry.clause hints entry.name old new taken
-      → (new.log ≡ old.log) ⊎ OwnStep f own old.log new.log
-  import_step true f i = inr (imported_step f i)
-  import_step false f i = inl (ap (λ (s : AtomState). s.log) i.0)
+  pub import_step : (taken : Bool) (f : Framework) (given : List AnEntry) → Contains given entry
+      → IsImported entry.clause hints entry.name old new taken
+      → (new.log ≡ old.log) ⊎ OwnStep f own given old.log new.log
+  import_step true f given there i = inr (imported_step f given there i)
+  import_step false f given there i = inl (ap (λ (s : AtomState). s.log) i.0)

@@ -1,15 +1,17 @@
 //! Entries that come into the log of a solver.
 
-ghost use Rattle.std.specs.Prelude.{◌≡◌, ◌≢◌, ◌⊎◌, ◌↔◌, ℕ, Bool, Contains, None, IfNone, IfOk, IfSome, IsTrue, OnOk, false, length};
+ghost use Rattle.std.specs.Prelude.{◌≡◌, ◌≢◌, ◌⊎◌, ◌↔◌, ℕ, Bool, Contains, List, None, IfNone, IfOk, IfSome, IsTrue};
+ghost use Rattle.std.specs.Prelude.{OnOk, false, length};
 ghost use Rattle.semantics.specs.Frameworks.{Framework};
 ghost use Rattle.oracle_face.specs.Entries.{IsShareable};
 ghost use Rattle.meaning_atoms.specs.declared.atom.AtomLit.{AtomLit as ALit};
 ghost use Rattle.oracle_face.specs.Kinds.{is_assumption_based};
 ghost use Rattle.oracle_face.specs.Logs.{IsSameClause, is_loop};
+ghost use Rattle.oracle_face.specs.declared.entry.Entry.{Entry as AnEntry};
 ghost use Rattle.oracle_face.specs.declared.entry.EntryOrigin.TheVariants.{Axiom, Hints};
 ghost use Rattle.oracle_face.specs.declared.entry.HintName.TheVariants.{Entry as OfEntry};
 ghost use Rattle.atom_solver.specs.Lifted.{imported_of};
-ghost use Rattle.session_log.specs.OwnSteps.{IsNamedByEntry, OwnStep};
+ghost use Rattle.session_log.specs.OwnSteps.{IsNamedByGiven, OwnStep};
 ghost use Rattle.entry_taking.specs.Names.{AreNamed};
 ghost use Rattle.entry_taking.specs.Taking.{AreFound, ComesIn, ComesInOrMayNot, GoesOn, IsCalledFirst, IsFound, IsKnown};
 ghost use Rattle.entry_taking.specs.Taking.{IsLooked, IsOfAxiom, IsOwn, MayCome, is_of_aba};
@@ -169,8 +171,9 @@ fn take_axiom(
     ensures goes { GoesOn assumption_based solver.old solver.new }
     ensures comes { OnOk result ((f : Framework) (own : ℕ) → ComesIn f own clause.now (Axiom name.now) solver.old.log
         solver.new.log) }
-    ensures steps { (f : Framework) (own : ℕ) → is_assumption_based f ≡ assumption_based → IsNamedByEntry name.now
-        → (solver.new.log ≡ solver.old.log) ⊎ OwnStep f own solver.old.log solver.new.log }
+    ensures steps { (f : Framework) (own : ℕ) (given : List AnEntry) → is_assumption_based f ≡ assumption_based
+        → IsNamedByGiven given name.now
+        → (solver.new.log ≡ solver.old.log) ⊎ OwnStep f own given solver.old.log solver.new.log }
 {
     let there = names.find_axiom(alloc, name)?;
     if there.is_some() {
@@ -215,8 +218,9 @@ fn take_named(
     ensures goes { GoesOn assumption_based solver.old solver.new }
     ensures comes { OnOk result ((f : Framework) (own : ℕ) → is_assumption_based f ≡ assumption_based
         → ComesIn f own clause.now (Axiom name.now) solver.old.log solver.new.log) }
-    ensures steps { (f : Framework) (own : ℕ) → is_assumption_based f ≡ assumption_based → IsNamedByEntry name.now
-        → (solver.new.log ≡ solver.old.log) ⊎ OwnStep f own solver.old.log solver.new.log }
+    ensures steps { (f : Framework) (own : ℕ) (given : List AnEntry) → is_assumption_based f ≡ assumption_based
+        → IsNamedByGiven given name.now
+        → (solver.new.log ≡ solver.old.log) ⊎ OwnStep f own given solver.old.log solver.new.log }
 {
     let of_kind = is_of_aba(name) == assumption_based;
     if !of_kind {
@@ -243,8 +247,9 @@ fn take_derived(
     ensures goes { (assumption_based : Bool) → GoesOn assumption_based solver.old solver.new }
     ensures comes { OnOk result ((f : Framework) → ComesIn f own entry.now.clause (Hints hints.now) solver.old.log
         solver.new.log) }
-    ensures steps { (f : Framework) → (IsKnown names.now own entry.now.name → ⊥)
-        → (solver.new.log ≡ solver.old.log) ⊎ OwnStep f own solver.old.log solver.new.log }
+    ensures steps { (f : Framework) (given : List AnEntry) → Contains given entry.now
+        → (IsKnown names.now own entry.now.name → ⊥)
+        → (solver.new.log ≡ solver.old.log) ⊎ OwnStep f own given solver.old.log solver.new.log }
 {
     let Some(steps) = steps_of(alloc, solver, names, own, hints)? else {
         return Ok(());
@@ -255,7 +260,8 @@ fn take_derived(
 
 /// Takes an entry into the log of the session of the number `own`, whose framework is assumption-based or abstract, where
 /// it may come in: an axiom of such frameworks, but a loop clause, as one's own step; any other entry by the steps that
-/// its hints name, marked with the entry's name. It spends nothing. After `Memory` the log is as before.
+/// its hints name, marked with the entry's name. It is a step of the session wherever the entry was given. It spends
+/// nothing. After `Memory` the log is as before.
 pub fn take_in(
     alloc: Global,
     solver: &mut AtomSolver,
@@ -270,8 +276,9 @@ pub fn take_in(
     ensures goes { GoesOn assumption_based solver.old solver.new }
     ensures comes { OnOk result ((f : Framework) → is_assumption_based f ≡ assumption_based
         → ComesInOrMayNot f own entry.now solver.old.log solver.new.log) }
-    ensures steps { (f : Framework) → is_assumption_based f ≡ assumption_based
-        → (solver.new.log ≡ solver.old.log) ⊎ OwnStep f own solver.old.log solver.new.log }
+    ensures steps { (f : Framework) (given : List AnEntry) → is_assumption_based f ≡ assumption_based
+        → Contains given entry.now
+        → (solver.new.log ≡ solver.old.log) ⊎ OwnStep f own given solver.old.log solver.new.log }
 {
     names.look(alloc, solver)?;
     if is_taken(names, own, entry.name) {

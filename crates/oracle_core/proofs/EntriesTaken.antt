@@ -1,7 +1,9 @@
 -- Entries that are taken from a trade, one after the other.
 use Rattle.std.proofs.Common.{◌≡◌, ℕ, ◌+◌, ◌≤◌, List, [], ◌∷◌, ◌++◌, length, ap, sym, subst, ◌∙◌, refl, arith, inl, inr}
-use Rattle.std.specs.Prelude.{Bool, Option, Some, None, Result, Ok, Err, OnOk}
+use Rattle.std.specs.Prelude.{Bool, Contains, Option, Some, None, Result, Ok, Err, OnOk}
 use Rattle.std.proofs.lemmas.List.{append_assoc, length-append, length_push}
+use Rattle.std.proofs.lemmas.List.Elements.{Contains-push}
+use mathlib.Core.List.{IsPrefix}
 use Rattle.lists.specs.declared.memory.Memory.{Memory}
 use Rattle.plain_lits.specs.Units.{Units}
 use Rattle.semantics.specs.Frameworks.{Framework}
@@ -10,16 +12,16 @@ use Rattle.oracle_face.specs.declared.entry.Entry.{Entry}
 use Rattle.oracle_face.specs.Growing.{Grows, HasRun, NoSide}
 use Rattle.oracle_face.specs.Kinds.{is_assumption_based}
 use Rattle.oracle_face.specs.Logs.{OracleLog}
-use Rattle.oracle_face.specs.Trades.{GivesFirst, GivesFrom}
+use Rattle.oracle_face.specs.Trades.{GivesFirst, GivesFrom, GivesMore}
 use Rattle.oracle_face.proofs.GrowingLemmas.{grows_as, grows_same, run_joined, run_none}
 use Rattle.entry_taking.specs.Taking.{ComesInOrMayNot}
 use Rattle.oracle_core.specs.declared.parts.Parts.{Parts}
 use Rattle.oracle_core.specs.declared.trading.TheConstants.{MOST_TAKEN}
 use Rattle.oracle_core.specs.Engines.{AreInForce, IsWhole}
 use Rattle.oracle_core.specs.Stepping.{GoesOnBySteps}
-use Rattle.oracle_core.specs.SteppingLaws.{goes_on_joined, goes_on_none}
+use Rattle.oracle_core.specs.SteppingLaws.{goes_on_joined, goes_on_none, goes_on_still}
 use Rattle.oracle_core.specs.Trading.{AnySide, TakesAll, TakesFrom}
-use Rattle.oracle_core.specs.TradingLaws.{takes_joined}
+use Rattle.oracle_core.specs.TradingLaws.{prefix_joined, prefix_none, takes_joined}
 use Rattle.oracle_core.proofs.Forcing.{force_grown}
 
 pub comes_at : (r : Result (Unit {0}) Memory) (kind : Bool) (f : Framework) (own : ℕ) (entry : Entry)
@@ -108,24 +110,27 @@ some_most f own told left a b count most h =
 -- ---- the loop
 
 -- how far the loop over the entries has come
-pub record IsTaking (own : ℕ) (first now : Parts) (left_first left : Option (List Entry)) (count : ℕ) : Type 0 where
+pub record IsTaking (own : ℕ) (first now : Parts) (left_first left : Option (List Entry))
+    (gave_first gave : List Entry) (count : ℕ) : Type 0 where
   pub whole : IsWhole now
   pub framework : now.framework ≡ first.framework
   pub run : (units : Units) → HasRun NoSide 0 (framework_of first.framework) first.solver.log now.solver.log
       now.solver.pending units units None
   pub in_force : AreInForce (framework_of first.framework) now.solver.log
-  pub steps : GoesOnBySteps (framework_of first.framework) own first.solver.log now.solver.log
+  pub more : IsPrefix gave_first gave
+  pub steps : GoesOnBySteps (framework_of first.framework) own gave first.solver.log now.solver.log
   pub given : (told : List Entry) → left_first ≡ Some told
       → TakesSome (framework_of first.framework) own told left first.solver.log now.solver.log count
 
-pub taking_none : (own : ℕ) (p : Parts) (left : Option (List Entry)) → IsWhole p
-    → AreInForce (framework_of p.framework) p.solver.log → IsTaking own p p left left 0
-taking_none own p left whole force = record {
+pub taking_none : (own : ℕ) (p : Parts) (left : Option (List Entry)) (gave : List Entry) → IsWhole p
+    → AreInForce (framework_of p.framework) p.solver.log → IsTaking own p p left left gave gave 0
+taking_none own p left gave whole force = record {
   whole = whole;
   framework = refl;
   run = λ units. run_none NoSide 0 (framework_of p.framework) p.solver.log p.solver.pending units;
   in_force = force;
-  steps = goes_on_none (framework_of p.framework) own p.solver.log;
+  more = prefix_none gave;
+  steps = goes_on_none (framework_of p.framework) own gave p.solver.log;
   given = λ told is. some_none (framework_of p.framework) own told left p.solver.log is;
 }
 
@@ -143,23 +148,46 @@ run_more first now after framework run next units =
     (subst (λ g. HasRun NoSide 0 g now.solver.log after.solver.log after.solver.pending units units None)
     (ap framework_of framework) (next units))
 
-pub steps_more : (own : ℕ) (first now after : Parts) → now.framework ≡ first.framework
-    → GoesOnBySteps (framework_of first.framework) own first.solver.log now.solver.log
-    → GoesOnBySteps (framework_of now.framework) own now.solver.log after.solver.log
-    → GoesOnBySteps (framework_of first.framework) own first.solver.log after.solver.log
-steps_more own first now after framework steps next =
-    goes_on_joined (framework_of first.framework) own first.solver.log now.solver.log after.solver.log steps
-    (subst (λ f. GoesOnBySteps f own now.solver.log after.solver.log) (ap framework_of framework) next)
+-- none was given
+pub none_more : (gave new : List Entry) (taken : Option Entry) → taken ≡ None → GivesMore gave (Ok taken) new
+    → new ≡ gave
+none_more gave new taken none gives = subst (λ t. GivesMore gave (Ok t) new) none gives
 
-pub taking_more : (own : ℕ) (first now after : Parts) (left_first left new : Option (List Entry)) (entry : Entry)
-    (count : ℕ) → IsTaking own first now left_first left count → GivesFirst left (Ok (Some entry)) new → IsWhole after
-    → after.framework ≡ now.framework
+-- an entry was given
+gave_longer : (gave new : List Entry) (entry : Entry) → GivesMore gave (Ok (Some entry)) new → IsPrefix gave new
+gave_longer gave new entry gives = (entry ∷ [], sym gives)
+
+pub gave_more : (first gave new : List Entry) (entry : Entry) → IsPrefix first gave
+    → GivesMore gave (Ok (Some entry)) new → IsPrefix first new
+gave_more first gave new entry longer gives =
+    prefix_joined first gave new longer (gave_longer gave new entry gives)
+
+-- the steps before it, and those by which it was taken in
+pub steps_more : (own : ℕ) (first now after : Parts) (gave new : List Entry) (entry : Entry)
+    → GivesMore gave (Ok (Some entry)) new → now.framework ≡ first.framework
+    → GoesOnBySteps (framework_of first.framework) own gave first.solver.log now.solver.log
+    → ((given : List Entry) → Contains given entry
+    → GoesOnBySteps (framework_of now.framework) own given now.solver.log after.solver.log)
+    → GoesOnBySteps (framework_of first.framework) own new first.solver.log after.solver.log
+steps_more own first now after gave new entry gives framework steps next =
+    let f = framework_of first.framework in
+    let there : Contains new entry = subst (λ xs. Contains xs entry) (sym gives) (Contains-push gave entry) in
+    goes_on_joined f own new first.solver.log now.solver.log after.solver.log
+    (goes_on_still f own gave new first.solver.log now.solver.log (gave_longer gave new entry gives) steps)
+    (subst (λ g. GoesOnBySteps g own new now.solver.log after.solver.log) (ap framework_of framework) (next new there))
+
+pub taking_more : (own : ℕ) (first now after : Parts) (left_first left new : Option (List Entry))
+    (gave_first gave gave_new : List Entry) (entry : Entry) (count : ℕ)
+    → IsTaking own first now left_first left gave_first gave count → GivesFirst left (Ok (Some entry)) new
+    → GivesMore gave (Ok (Some entry)) gave_new → IsWhole after → after.framework ≡ now.framework
     → ((units : Units) → HasRun NoSide 0 (framework_of now.framework) now.solver.log after.solver.log
     after.solver.pending units units None)
-    → GoesOnBySteps (framework_of now.framework) own now.solver.log after.solver.log
+    → ((given : List Entry) → Contains given entry
+    → GoesOnBySteps (framework_of now.framework) own given now.solver.log after.solver.log)
     → ComesInOrMayNot (framework_of now.framework) own entry now.solver.log after.solver.log
-    → IsTaking own first after left_first new (count + 1)
-taking_more own first now after left_first left new entry count h gives whole framework run steps comes =
+    → IsTaking own first after left_first new gave_first gave_new (count + 1)
+taking_more own first now after left_first left new gave_first gave gave_new entry count h gives gives_more whole
+    framework run steps comes =
     let f = framework_of first.framework in
     let grows = (run (record { limit = 0; used = 0 })).grows in
     record {
@@ -167,22 +195,24 @@ taking_more own first now after left_first left new entry count h gives whole fr
       framework = framework ∙ h.framework;
       run = run_more first now after h.framework h.run run;
       in_force = force_grown NoSide f now.solver.log after.solver.log grows h.in_force;
-      steps = steps_more own first now after h.framework h.steps steps;
+      more = gave_more gave_first gave gave_new entry h.more gives_more;
+      steps = steps_more own first now after gave gave_new entry gives_more h.framework h.steps steps;
       given = λ told is. some_more f own told left new entry first.solver.log now.solver.log after.solver.log count
           (h.given told is) gives h.in_force (any_side now.solver.log after.solver.log grows)
           (subst (λ g. ComesInOrMayNot g own entry now.solver.log after.solver.log) (ap framework_of h.framework) comes);
     }
 
-pub taking_last : (own : ℕ) (first now : Parts) (left_first left new : Option (List Entry)) (count : ℕ)
-    → IsTaking own first now left_first left count → GivesFirst left (Ok None) new → (told : List Entry)
-    → left_first ≡ Some told
+pub taking_last : (own : ℕ) (first now : Parts) (left_first left new : Option (List Entry))
+    (gave_first gave : List Entry) (count : ℕ) → IsTaking own first now left_first left gave_first gave count
+    → GivesFirst left (Ok None) new → (told : List Entry) → left_first ≡ Some told
     → TakesAll (framework_of first.framework) own told new first.solver.log now.solver.log
-taking_last own first now left_first left new count h gives told is =
+taking_last own first now left_first left new gave_first gave count h gives told is =
     some_last (framework_of first.framework) own told left new first.solver.log now.solver.log count (h.given told is)
     gives
 
-pub taking_most : (own : ℕ) (first now : Parts) (left_first left : Option (List Entry)) (count : ℕ)
-    → MOST_TAKEN ≤ count → IsTaking own first now left_first left count → (told : List Entry) → left_first ≡ Some told
+pub taking_most : (own : ℕ) (first now : Parts) (left_first left : Option (List Entry))
+    (gave_first gave : List Entry) (count : ℕ) → MOST_TAKEN ≤ count
+    → IsTaking own first now left_first left gave_first gave count → (told : List Entry) → left_first ≡ Some told
     → TakesAll (framework_of first.framework) own told left first.solver.log now.solver.log
-taking_most own first now left_first left count most h told is =
+taking_most own first now left_first left gave_first gave count most h told is =
     some_most (framework_of first.framework) own told left first.solver.log now.solver.log count most (h.given told is)

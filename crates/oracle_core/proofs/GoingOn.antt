@@ -9,6 +9,7 @@ use Rattle.plain_lits.specs.Units.{Units}
 use Rattle.semantics.specs.Frameworks.{Framework, IsNumbered}
 use Rattle.meaning_atoms.specs.declared.axiom.AxiomName.{AxiomName}
 use Rattle.certificate_claims.specs.Refutations.{IsAxiomOf, axiom_clause}
+use Rattle.oracle_face.specs.declared.entry.Entry.{Entry}
 use Rattle.oracle_face.specs.declared.face.Pending.{Pending}
 use Rattle.oracle_face.specs.declared.face.Pending.TheVariants.{Learned, Loop, Side}
 use Rattle.oracle_face.specs.Growing.{HasRun, NoSide, UnlessMemory, halt_of}
@@ -17,11 +18,12 @@ use Rattle.oracle_face.proofs.GrowingLemmas.{unless_then}
 use Rattle.session_log.specs.Ends.{IsTakenByNone, LoopInHand}
 use Rattle.session_log.specs.Steps.{LearnsClauses, nothing as none_learned, one_more as one_learned, own_step}
 use Rattle.session_log.proofs.AxiomLemmas.{needed_no_loop}
+use Rattle.session_log.proofs.GivenSteps.{gains_one}
 use Rattle.session_log.specs.OwnSteps.{IsCalledOn, IsWanted, OwnStep, keeps_side, learns_axiom, learns_clause, nothing, one_more}
 use Rattle.session_log.specs.OwnSteps.{takes_entry}
 use Rattle.atom_solver.specs.States.{AddsAxiom, AtomState, IsNoLoop, TakesSideOf}
 use Rattle.oracle_core.specs.Stepping.{EndsInHand, GoesOnBySteps}
-use Rattle.oracle_core.specs.SteppingLaws.{gains_one, goes_on_joined, goes_on_none, loops_one}
+use Rattle.oracle_core.specs.SteppingLaws.{goes_on_joined, goes_on_none, loops_one}
 use Rattle.oracle_core.specs.Updating.{AddsNeeded, GainsNeeded, TakesNeeded}
 use Rattle.oracle_core.proofs.EngineKinds.{needed_axiom}
 
@@ -36,62 +38,63 @@ hints_no_axiom hints name e = cc
 
 -- ---- one step
 
-one_step : (f : Framework) (own : ℕ) (a b : OracleLog) (step : OwnStep f own a b)
-    → ((name : AxiomName) → (gains_one f own a b step).0.source ≡ by_axiom name → is_loop name ≡ true
-    → IsTakenByNone a.steps (axiom_clause name)) → GoesOnBySteps f own a b
-one_step f own a b step serves =
-    let gained = gains_one f own a b step in
+one_step : (f : Framework) (own : ℕ) (given : List Entry) (a b : OracleLog) (step : OwnStep f own given a b)
+    → ((name : AxiomName) → (gains_one f own given a b step).0.source ≡ by_axiom name → is_loop name ≡ true
+    → IsTakenByNone a.steps (axiom_clause name)) → GoesOnBySteps f own given a b
+one_step f own given a b step serves =
+    let gained = gains_one f own given a b step in
     record { steps = one_more a a b (nothing a) step; loops = loops_one a b gained.0 gained.1 serves }
 
--- ---- axioms that the framework needs
+-- ---- axioms that the framework needs, for which no entry has to be given
 
 one_needed : (f : Framework) (own : ℕ) (name : AxiomName) (a b : OracleLog) → IsNumbered f → TakesNeeded f name a b
-    → GoesOnBySteps f own a b
+    → GoesOnBySteps f own [] a b
 one_needed f own name a b numbered takes =
     let no_loop = needed_no_loop f name takes.needed in
-    one_step f own a b (learns_axiom name takes.clause (record {
+    one_step f own [] a b (learns_axiom name takes.clause (record {
       of_kind = needed_axiom f numbered name takes.needed;
       once = takes.once;
-      called = subst (IsWanted (IsCalledOn f) a name) (sym no_loop) (inl takes.needed);
+      called = subst (IsWanted (IsCalledOn f []) a name) (sym no_loop) (inl takes.needed);
       takes = takes.takes;
     }))
     (λ other source loop.
     absurd (true≢false (sym loop ∙ (ap is_loop (sym (same_axiom name other source)) ∙ no_loop))))
 
 needed_go_on : (f : Framework) (own : ℕ) (names : List AxiomName) (a b : OracleLog) → IsNumbered f
-    → AddsNeeded f names a b → GoesOnBySteps f own a b
-needed_go_on f own [] a b numbered adds = subst (GoesOnBySteps f own a) (sym adds) (goes_on_none f own a)
+    → AddsNeeded f names a b → GoesOnBySteps f own [] a b
+needed_go_on f own [] a b numbered adds =
+    subst (GoesOnBySteps f own [] a) (sym adds) (goes_on_none f own [] a)
 needed_go_on f own (name ∷ names) a b numbered adds =
-    goes_on_joined f own a adds.0 b (one_needed f own name a adds.0 numbered adds.1)
+    goes_on_joined f own [] a adds.0 b (one_needed f own name a adds.0 numbered adds.1)
     (needed_go_on f own names adds.0 b numbered adds.2)
 
 pub gains_go_on : (f : Framework) (own : ℕ) (a b : OracleLog) → IsNumbered f → GainsNeeded f a b
-    → GoesOnBySteps f own a b
+    → GoesOnBySteps f own [] a b
 gains_go_on f own a b numbered gains = needed_go_on f own gains.names a b numbered gains.adds
 
 -- ---- clauses that are learned
 
-pub learned_go_on : (f : Framework) (own : ℕ) (a b : OracleLog) → LearnsClauses a b → GoesOnBySteps f own a b
-learned_go_on f own a b (none_learned _) = goes_on_none f own a
+pub learned_go_on : (f : Framework) (own : ℕ) (a b : OracleLog) → LearnsClauses a b → GoesOnBySteps f own [] a b
+learned_go_on f own a b (none_learned _) = goes_on_none f own [] a
 learned_go_on f own a b (one_learned _ mid _ clause hints closing before last) =
-    goes_on_joined f own a mid b (learned_go_on f own a mid before)
-    (one_step f own mid b (learns_clause clause hints closing last)
+    goes_on_joined f own [] a mid b (learned_go_on f own a mid before)
+    (one_step f own [] mid b (learns_clause clause hints closing last)
     (λ name source loop. absurd (hints_no_axiom hints name source)))
 
 pub search_goes_on : (f : Framework) (a b : OracleLog) (halt : Option Halt) → UnlessMemory halt (LearnsClauses a b)
-    → UnlessMemory halt ((own : ℕ) → GoesOnBySteps f own a b)
+    → UnlessMemory halt ((own : ℕ) → GoesOnBySteps f own [] a b)
 search_goes_on f a b halt learns =
-    unless_then (LearnsClauses a b) ((own : ℕ) → GoesOnBySteps f own a b) (λ h own. learned_go_on f own a b h) halt
+    unless_then (LearnsClauses a b) ((own : ℕ) → GoesOnBySteps f own [] a b) (λ h own. learned_go_on f own a b h) halt
     learns
 
 -- ---- side clauses
 
 pub side_goes_on : (f : Framework) (own : ℕ) (side : List _) (from : List ℕ) (a b : OracleLog)
-    → (b ≡ a) ⊎ TakesSideOf side from a b → GoesOnBySteps f own a b
+    → (b ≡ a) ⊎ TakesSideOf side from a b → GoesOnBySteps f own [] a b
 side_goes_on f own side from a b keeps =
-    ⊎_elim (λ same. subst (GoesOnBySteps f own a) (sym same) (goes_on_none f own a))
+    ⊎_elim (λ same. subst (GoesOnBySteps f own [] a) (sym same) (goes_on_none f own [] a))
     (λ (takes : TakesSideOf side from a b).
-    one_step f own a b (keeps_side takes.literals from takes.clause takes.takes)
+    one_step f own [] a b (keeps_side takes.literals from takes.clause takes.takes)
     (λ name source loop. absurd (side_no_axiom (length a.sides + 1) name source)))
     keeps
 
@@ -101,12 +104,12 @@ side_goes_on f own side from a b keeps =
 pub loop_goes_on : (f : Framework) (own : ℕ) (name : AxiomName) (a b : AtomState) → IsAxiomOf f name
     → is_loop name ≡ true → IsNew (working a.log.steps) (axiom_clause name)
     → ((number : ℕ) → IsNumberOf a.log.steps number → (step_at a.log.steps number).source ≡ by_axiom name → ⊥)
-    → IsTakenByNone a.log.steps (axiom_clause name) → AddsAxiom name a b → GoesOnBySteps f own a.log b.log
+    → IsTakenByNone a.log.steps (axiom_clause name) → AddsAxiom name a b → GoesOnBySteps f own [] a.log b.log
 loop_goes_on f own name a b of_kind loop fresh once by_none adds =
-    one_step f own a.log b.log (learns_axiom name adds.clause (record {
+    one_step f own [] a.log b.log (learns_axiom name adds.clause (record {
       of_kind = of_kind;
       once = once;
-      called = subst (IsWanted (IsCalledOn f) a.log name) (sym loop) fresh;
+      called = subst (IsWanted (IsCalledOn f []) a.log name) (sym loop) fresh;
       takes = adds.takes;
     }))
     (λ other source is. subst (λ n. IsTakenByNone a.log.steps (axiom_clause n)) (same_axiom name other source) by_none)
@@ -140,23 +143,24 @@ loop_counts name clause a b loop is same =
     ap (λ steps. count_by is_unit steps) is ∙ count_more is_unit a.steps step in
     omega (arith, one, more, same)
 
-entry_serves : (f : Framework) (own : ℕ) (a b : OracleLog) (step : OwnStep f own a b) → units_of b ≡ units_of a
-    → (name : AxiomName) → (gains_one f own a b step).0.source ≡ by_axiom name → is_loop name ≡ true
+entry_serves : (f : Framework) (own : ℕ) (given : List Entry) (a b : OracleLog) (step : OwnStep f own given a b)
+    → units_of b ≡ units_of a → (name : AxiomName) → (gains_one f own given a b step).0.source ≡ by_axiom name
+    → is_loop name ≡ true
     → IsTakenByNone a.steps (axiom_clause name)
-entry_serves f own a b (learns_axiom name clause learns) same other source loop =
+entry_serves f own given a b (learns_axiom name clause learns) same other source loop =
     absurd (loop_counts name clause a b (ap is_loop (same_axiom name other source) ∙ loop) learns.takes.gains.steps same)
-entry_serves f own a b (learns_clause clause hints closing learns) same other source loop =
+entry_serves f own given a b (learns_clause clause hints closing learns) same other source loop =
     absurd (hints_no_axiom hints other source)
-entry_serves f own a b (keeps_side literals set clause takes) same other source loop =
+entry_serves f own given a b (keeps_side literals set clause takes) same other source loop =
     absurd (side_no_axiom (length a.sides + 1) other source)
-entry_serves f own a b (takes_entry entry shareable may takes) same other source loop =
+entry_serves f own given a b (takes_entry entry was may takes) same other source loop =
     absurd (hints_no_axiom takes.hints other source)
 
-pub entry_goes_on : (f : Framework) (own : ℕ) (a b : OracleLog) → units_of b ≡ units_of a
-    → (b ≡ a) ⊎ OwnStep f own a b → GoesOnBySteps f own a b
-entry_goes_on f own a b same went =
-    ⊎_elim (λ is. subst (GoesOnBySteps f own a) (sym is) (goes_on_none f own a))
-    (λ (step : OwnStep f own a b). one_step f own a b step (entry_serves f own a b step same)) went
+pub entry_goes_on : (f : Framework) (own : ℕ) (given : List Entry) (a b : OracleLog) → units_of b ≡ units_of a
+    → (b ≡ a) ⊎ OwnStep f own given a b → GoesOnBySteps f own given a b
+entry_goes_on f own given a b same went =
+    ⊎_elim (λ is. subst (GoesOnBySteps f own given a) (sym is) (goes_on_none f own given a))
+    (λ (step : OwnStep f own given a b). one_step f own given a b step (entry_serves f own given a b step same)) went
 
 -- ---- the clause in hand
 

@@ -116,16 +116,17 @@ module _ (p t s : Parts) (units : Units) (course : IsCourse p t units) where
       subst (λ f. IfOk r (IsFound f s.solver.log goals)) (ap framework_of course.framework) found
 
   -- axioms that came, and what the search added
-  pub searched_steps : ((own : ℕ) → GoesOnBySteps (framework_of p.framework) own p.solver.log t.solver.log)
+  pub searched_steps : ((own : ℕ) → GoesOnBySteps (framework_of p.framework) own [] p.solver.log t.solver.log)
       → (halt : Option Halt)
-      → UnlessMemory halt ((own : ℕ) → GoesOnBySteps (framework_of t.framework) own t.solver.log s.solver.log)
-      → UnlessMemory halt ((own : ℕ) → GoesOnBySteps (framework_of p.framework) own p.solver.log s.solver.log)
+      → UnlessMemory halt ((own : ℕ) → GoesOnBySteps (framework_of t.framework) own [] t.solver.log s.solver.log)
+      → UnlessMemory halt ((own : ℕ) → GoesOnBySteps (framework_of p.framework) own [] p.solver.log s.solver.log)
   searched_steps first halt steps =
       let f = framework_of p.framework in
-      unless_then ((own : ℕ) → GoesOnBySteps (framework_of t.framework) own t.solver.log s.solver.log)
-      ((own : ℕ) → GoesOnBySteps f own p.solver.log s.solver.log)
-      (λ then own. goes_on_joined f own p.solver.log t.solver.log s.solver.log
-      (first own) (subst (λ g. GoesOnBySteps g own t.solver.log s.solver.log) (ap framework_of course.framework) (then own)))
+      unless_then ((own : ℕ) → GoesOnBySteps (framework_of t.framework) own [] t.solver.log s.solver.log)
+      ((own : ℕ) → GoesOnBySteps f own [] p.solver.log s.solver.log)
+      (λ then own. goes_on_joined f own [] p.solver.log t.solver.log s.solver.log
+      (first own)
+      (subst (λ g. GoesOnBySteps g own [] t.solver.log s.solver.log) (ap framework_of course.framework) (then own)))
       halt steps
 
 -- ---- one search of several
@@ -144,10 +145,10 @@ longer a b grows =
 
 -- what was learned, and what the model was read as
 pub turn_steps : (f g : Framework) (a b c : OracleLog) → g ≡ f → LearnsClauses a b
-    → ((own : ℕ) → GoesOnBySteps g own b c) → (own : ℕ) → GoesOnBySteps f own a c
+    → ((own : ℕ) → GoesOnBySteps g own [] b c) → (own : ℕ) → GoesOnBySteps f own [] a c
 turn_steps f g a b c same learns then own =
-    goes_on_joined f own a b c (learned_go_on f own a b learns)
-    (subst (λ h. GoesOnBySteps h own b c) same (then own))
+    goes_on_joined f own [] a b c (learned_go_on f own a b learns)
+    (subst (λ h. GoesOnBySteps h own [] b c) same (then own))
 
 -- a turn that began later is one from before
 pub turn_later : (f : Framework) (a b c : OracleLog) (goals : List AtomLit) (r : Result (Option Found) Halt)
@@ -176,7 +177,7 @@ pub record HasTurned (first now : Parts) (before after : Units) : Type 0 where
   pub in_force : AreInForce (framework_of first.framework) now.solver.log
   pub run : HasRun NoSide 0 (framework_of first.framework) first.solver.log now.solver.log now.solver.pending before
       after None
-  pub steps : (own : ℕ) → GoesOnBySteps (framework_of first.framework) own first.solver.log now.solver.log
+  pub steps : (own : ℕ) → GoesOnBySteps (framework_of first.framework) own [] first.solver.log now.solver.log
 
 pub turned_none : (p : Parts) (units : Units) → IsWhole p → AreInForce (framework_of p.framework) p.solver.log
     → HasTurned p p units units
@@ -185,7 +186,7 @@ turned_none p units whole force = record {
   framework = refl;
   in_force = force;
   run = run_none NoSide 0 (framework_of p.framework) p.solver.log p.solver.pending units;
-  steps = λ own. goes_on_none (framework_of p.framework) own p.solver.log;
+  steps = λ own. goes_on_none (framework_of p.framework) own [] p.solver.log;
 }
 
 module _ (first now next : Parts) (before between after : Units) (turned : HasTurned first now before between)
@@ -207,19 +208,20 @@ module _ (first now next : Parts) (before between after : Units) (turned : HasTu
       run)
 
   pub turned_steps : (halt : Option Halt)
-      → UnlessMemory halt ((own : ℕ) → GoesOnBySteps (framework_of now.framework) own now.solver.log next.solver.log)
-      → UnlessMemory halt ((own : ℕ) → GoesOnBySteps (framework_of first.framework) own first.solver.log next.solver.log)
+      → UnlessMemory halt ((own : ℕ) → GoesOnBySteps (framework_of now.framework) own [] now.solver.log next.solver.log)
+      → UnlessMemory halt
+      ((own : ℕ) → GoesOnBySteps (framework_of first.framework) own [] first.solver.log next.solver.log)
   turned_steps halt steps =
-      unless_then ((own : ℕ) → GoesOnBySteps (framework_of now.framework) own now.solver.log next.solver.log)
-      ((own : ℕ) → GoesOnBySteps (framework_of first.framework) own first.solver.log next.solver.log)
-      (λ then own. goes_on_joined (framework_of first.framework) own first.solver.log now.solver.log next.solver.log
-      (turned.steps own) (subst (λ f. GoesOnBySteps f own now.solver.log next.solver.log) same_now (then own)))
+      unless_then ((own : ℕ) → GoesOnBySteps (framework_of now.framework) own [] now.solver.log next.solver.log)
+      ((own : ℕ) → GoesOnBySteps (framework_of first.framework) own [] first.solver.log next.solver.log)
+      (λ then own. goes_on_joined (framework_of first.framework) own [] first.solver.log now.solver.log next.solver.log
+      (turned.steps own) (subst (λ f. GoesOnBySteps f own [] now.solver.log next.solver.log) same_now (then own)))
       halt steps
 
   pub turned_more : IsWhole next
       → HasRun NoSide 0 (framework_of now.framework) now.solver.log next.solver.log next.solver.pending between after
       None
-      → ((own : ℕ) → GoesOnBySteps (framework_of now.framework) own now.solver.log next.solver.log)
+      → ((own : ℕ) → GoesOnBySteps (framework_of now.framework) own [] now.solver.log next.solver.log)
       → HasTurned first next before after
   turned_more whole run steps = record {
     whole = whole;

@@ -1,6 +1,7 @@
 -- What calls of an engine leave of a trade and of the log, one after the other.
 use Rattle.std.proofs.Common.{◌≡◌, ℕ, ◌+◌, ◌*◌, Bool, true, false, List, [], ◌∷◌, ◌++◌, length, ap, sym, subst, ◌∙◌, arith, inl, inr, ⊎_elim}
 use Rattle.std.specs.Prelude.{◌≢◌, Option, Some, None, Result, Ok, Err, OnOk, IsErr, IsErrAnd, is_err}
+use mathlib.Core.List.{IsPrefix}
 use Rattle.lists.specs.declared.memory.Memory.{Memory as OfMemory}
 use Rattle.std.proofs.lemmas.Bool.{false≢true}
 use Rattle.std.proofs.lemmas.List.{length-append}
@@ -18,14 +19,16 @@ use Rattle.oracle_face.proofs.GrowingLemmas.{grows_as, run_as, run_joined}
 use Rattle.oracle_core.specs.Engines.{EngineState, forgotten}
 use Rattle.oracle_core.specs.Stepping.{GoesOnBySteps, ServesInHand}
 use Rattle.oracle_core.specs.Trading.{AnySide, IsEmptied, TakesAll, TakesFrom, Trades}
-use Rattle.oracle_core.specs.TradingLaws.{from_none}
+use Rattle.oracle_core.specs.SteppingLaws.{goes_on_alone}
+use Rattle.oracle_core.specs.TradingLaws.{from_none, prefix_none}
 use Rattle.oracle_core.proofs.EntriesTaken.{any_side}
 
 -- a call that the trade has no part in
-pub called_trades : (P : Making) (a b : EngineState) (left : Option (List Entry)) (lost lost_after : Bool)
-    → b.number ≡ a.number → b.framework ≡ a.framework → Grows P a.log b.log → (lost_after ≡ false → lost ≡ false)
-    → (lost_after ≡ false → GoesOnBySteps a.framework a.number a.log b.log) → Trades a b left left lost lost_after
-called_trades P a b left lost lost_after number framework grows kept steps =
+pub called_trades : (P : Making) (a b : EngineState) (left : Option (List Entry)) (gave : List Entry)
+    (lost lost_after : Bool) → b.number ≡ a.number → b.framework ≡ a.framework → Grows P a.log b.log
+    → (lost_after ≡ false → lost ≡ false) → (lost_after ≡ false → GoesOnBySteps a.framework a.number [] a.log b.log)
+    → Trades a b left left gave gave lost lost_after
+called_trades P a b left gave lost lost_after number framework grows kept steps =
     let any = grows_as P AnySide a.log b.log (λ literals set made. tt) grows in
     record {
       number = number;
@@ -33,50 +36,66 @@ called_trades P a b left lost lost_after number framework grows kept steps =
       grows = any;
       kept = kept;
       taken = λ so told is. from_none a.framework a.number told left a.log b.log is any;
-      stepped = steps;
+      gave = prefix_none gave;
+      stepped = λ so. goes_on_alone a.framework a.number gave a.log b.log (steps so);
     }
 
--- a call that leaves what the trade has left to give
-pub offered_trades : (P : Making) (a b : EngineState) (left later : Option (List Entry)) (lost lost_after : Bool)
-    → later ≡ left → b.number ≡ a.number → b.framework ≡ a.framework → Grows P a.log b.log
-    → (lost_after ≡ false → lost ≡ false)
-    → (lost_after ≡ false → GoesOnBySteps a.framework a.number a.log b.log) → Trades a b left later lost lost_after
-offered_trades P a b left later lost lost_after same number framework grows kept steps =
-    subst (λ l. Trades a b left l lost lost_after) (sym same)
-    (called_trades P a b left lost lost_after number framework grows kept steps)
+-- a call that leaves what the trade has left to give, and gives nothing
+pub offered_trades : (P : Making) (a b : EngineState) (left later : Option (List Entry)) (gave gave_later : List Entry)
+    (lost lost_after : Bool) → later ≡ left → gave_later ≡ gave → b.number ≡ a.number → b.framework ≡ a.framework
+    → Grows P a.log b.log → (lost_after ≡ false → lost ≡ false)
+    → (lost_after ≡ false → GoesOnBySteps a.framework a.number [] a.log b.log)
+    → Trades a b left later gave gave_later lost lost_after
+offered_trades P a b left later gave gave_later lost lost_after same no_more number framework grows kept steps =
+    subst (λ l. Trades a b left l gave gave_later lost lost_after) (sym same)
+    (subst (λ entries. Trades a b left left gave entries lost lost_after) (sym no_more)
+    (called_trades P a b left gave lost lost_after number framework grows kept steps))
 
 -- the axioms came
-pub forced_trades : (a b : EngineState) (left : Option (List Entry)) (lost : Bool) → b.number ≡ a.number
-    → b.framework ≡ a.framework → Grows NoSide a.log b.log → GoesOnBySteps a.framework a.number a.log b.log
-    → Trades a b left left lost lost
-forced_trades a b left lost number framework grows steps =
-    called_trades NoSide a b left lost lost number framework grows (λ so. so) (λ so. steps)
+pub forced_trades : (a b : EngineState) (left : Option (List Entry)) (gave : List Entry) (lost : Bool)
+    → b.number ≡ a.number → b.framework ≡ a.framework → Grows NoSide a.log b.log
+    → GoesOnBySteps a.framework a.number [] a.log b.log → Trades a b left left gave gave lost lost
+forced_trades a b left gave lost number framework grows steps =
+    called_trades NoSide a b left gave lost lost number framework grows (λ so. so) (λ so. steps)
 
 -- the trade gave what it has
-pub all_trades : (a b : EngineState) (left new : Option (List Entry)) (lost : Bool) → b.number ≡ a.number
-    → b.framework ≡ a.framework → Grows NoSide a.log b.log → GoesOnBySteps a.framework a.number a.log b.log
+pub all_trades : (a b : EngineState) (left new : Option (List Entry)) (gave gave_new : List Entry) (lost : Bool)
+    → b.number ≡ a.number → b.framework ≡ a.framework → Grows NoSide a.log b.log → IsPrefix gave gave_new
+    → GoesOnBySteps a.framework a.number gave_new a.log b.log
     → ((told : List Entry) → left ≡ Some told → TakesAll a.framework a.number told new a.log b.log)
-    → Trades a b left new lost lost
-all_trades a b left new lost number framework grows steps all = record {
+    → Trades a b left new gave gave_new lost lost
+all_trades a b left new gave gave_new lost number framework grows more steps all = record {
   number = number;
   framework = framework;
   grows = any_side a.log b.log grows;
   kept = λ so. so;
   taken = λ so told is. (all told is).from;
+  gave = more;
   stepped = λ so. steps;
 }
 
 -- memory was refused
-pub lost_trades : (a b : EngineState) (left new : Option (List Entry)) (lost : Bool) → b.number ≡ a.number
-    → b.framework ≡ a.framework → Grows NoSide a.log b.log → Trades a b left new lost true
-lost_trades a b left new lost number framework grows = record {
+pub lost_trades : (a b : EngineState) (left new : Option (List Entry)) (gave gave_new : List Entry) (lost : Bool)
+    → b.number ≡ a.number → b.framework ≡ a.framework → Grows NoSide a.log b.log → IsPrefix gave gave_new
+    → Trades a b left new gave gave_new lost true
+lost_trades a b left new gave gave_new lost number framework grows more = record {
   number = number;
   framework = framework;
   grows = any_side a.log b.log grows;
   kept = λ so. absurd (false≢true (sym so));
   taken = λ so told is. absurd (false≢true (sym so));
+  gave = more;
   stepped = λ so. absurd (false≢true (sym so));
 }
+
+-- ---- offers
+
+-- a trade that was offered entries has left what it had, and gave what it had given
+pub record HasOffered (left_first left : Option (List Entry)) (gave_first gave : List Entry) (Follows : Type 0) : Type 0
+  where
+    pub left_is : left ≡ left_first
+    pub gave_is : gave ≡ gave_first
+    pub follows : Follows
 
 -- ---- what is left
 
@@ -163,14 +182,16 @@ run_forgotten f a b p (Some Memory) run units =
     let h = run units in
     record { grows = h.grows; limit = h.limit; works = tt; closing = tt; stop = tt }
 
-pub trades_forgotten : (a b : EngineState) (left later : Option (List Entry)) (lost lost_after : Bool)
-    → Trades a b left later lost lost_after → Trades a (forgotten b) left later lost lost_after
-trades_forgotten a b left later lost lost_after h = record {
+pub trades_forgotten : (a b : EngineState) (left later : Option (List Entry)) (gave gave_later : List Entry)
+    (lost lost_after : Bool) → Trades a b left later gave gave_later lost lost_after
+    → Trades a (forgotten b) left later gave gave_later lost lost_after
+trades_forgotten a b left later gave gave_later lost lost_after h = record {
   number = h.number;
   framework = h.framework;
   grows = h.grows;
   kept = h.kept;
   taken = h.taken;
+  gave = h.gave;
   stepped = h.stepped;
 }
 

@@ -4,16 +4,17 @@ use Rattle.plain_lits.specs.declared.halt.Halt.{Halt}
 use Rattle.plain_lits.specs.declared.halt.Halt.TheVariants.{Spent, Memory}
 use Rattle.semantics.specs.Frameworks.{Framework}
 use Rattle.meaning_atoms.specs.declared.axiom.AxiomName.{AxiomName}
+use Rattle.oracle_face.specs.declared.entry.Entry.{Entry}
 use Rattle.oracle_face.specs.declared.face.Pending.{Pending}
 use Rattle.oracle_face.specs.Logs.{OracleLog, LogStep, IsNumberOf, by_axiom, step_at}
 use Rattle.session_log.specs.Ends.{LoopInHand, LoopsServe}
 use Rattle.session_log.specs.OwnSteps.{OwnSteps}
 use Rattle.oracle_core.specs.Engines.{EngineState}
 
--- the log went on by steps of the session of the number `own` on this framework, and each loop clause among them was
--- taken by no hints when it came
-pub record GoesOnBySteps (f : Framework) (own : ℕ) (old new : OracleLog) : Type 0 where
-  pub steps : OwnSteps f own old new
+-- the log went on by steps of the session of the number `own` on this framework, where a trade gave these entries, and
+-- each loop clause among them was taken by no hints when it came
+pub record GoesOnBySteps (f : Framework) (own : ℕ) (given : List Entry) (old new : OracleLog) : Type 0 where
+  pub steps : OwnSteps f own given old new
   pub loops : LoopsServe old new
 
 -- ---- the clause in hand

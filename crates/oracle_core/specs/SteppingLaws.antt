@@ -1,48 +1,28 @@
 -- Steps of a session that come one after the other.
 use Rattle.std.proofs.Common.{◌≡◌, ◌∙◌, ⊎_elim, ℕ, ◌+◌, ◌<◌, ◌≤◌, true, false, refl, List, [], ◌∷◌, ◌++◌, length, take, ap, arith, sym, subst, inl, inr}
-use Rattle.std.specs.Prelude.{slice_index_or, None, Some}
+use Rattle.std.specs.Prelude.{slice_index_or}
+use mathlib.Core.List.{IsPrefix}
 use Rattle.std.proofs.lemmas.Bool.{cases_lt}
-use Rattle.std.proofs.lemmas.List.{append_assoc, append-nil, get_or-append-add, get_or_append_left, length-append}
+use Rattle.std.proofs.lemmas.List.{get_or-append-add, get_or_append_left, length-append}
 use Rattle.std.proofs.lemmas.List.{take-append-le, take_all}
 use Rattle.semantics.specs.Frameworks.{Framework}
 use Rattle.meaning_atoms.specs.declared.axiom.AxiomName.{AxiomName}
 use Rattle.certificate_claims.specs.Refutations.{axiom_clause}
-use Rattle.oracle_face.specs.Logs.{OracleLog, LogStep, by_axiom, by_side, is_loop, no_step}
+use Rattle.oracle_face.specs.declared.entry.Entry.{Entry}
+use Rattle.oracle_face.specs.Logs.{OracleLog, LogStep, by_axiom, is_loop, no_step}
 use Rattle.session_log.specs.Ends.{IsTakenByNone, LoopInHand, LoopsServe}
-use Rattle.session_log.specs.Steps.{derived_step, own_step}
-use Rattle.session_log.specs.OwnSteps.{OwnStep, OwnSteps, keeps_side, learns_axiom, learns_clause, nothing, one_more}
-use Rattle.session_log.specs.OwnSteps.{takes_entry}
+use Rattle.session_log.specs.OwnSteps.{OwnSteps, nothing, one_more}
+use Rattle.session_log.proofs.GivenSteps.{gains_some, steps_stay}
 use Rattle.oracle_core.specs.Engines.{EngineState}
 use Rattle.oracle_core.specs.Stepping.{GoesOnBySteps, ServesInHand}
 
--- ---- what stands behind a step
+-- ---- steps
 
--- one step more
-abbrev pub gains_one : (f : Framework) (own : ℕ) (a b : OracleLog) → OwnStep f own a b
-    → (step : LogStep) × (b.steps ≡ a.steps ++ step ∷ [])
-gains_one f own a b (learns_axiom name clause learns) = (own_step clause (by_axiom name), learns.takes.gains.steps)
-gains_one f own a b (learns_clause clause hints closing learns) =
-    (derived_step clause hints None closing, learns.derives.gains.steps)
-gains_one f own a b (keeps_side literals set clause takes) =
-    (own_step clause (by_side (length a.sides + 1)), takes.gains.steps)
-gains_one f own a b (takes_entry entry shareable may takes) =
-    (derived_step takes.clause takes.hints (Some entry.name) false, takes.gains.steps)
-
-pub gains_some : (f : Framework) (own : ℕ) (a b : OracleLog) → OwnSteps f own a b
-    → (more : List LogStep) × (b.steps ≡ a.steps ++ more)
-gains_some f own a b (nothing _) = ([], sym (append-nil a.steps))
-gains_some f own a b (one_more _ mid _ before last) =
-    let first = gains_some f own a mid before in
-    let then = gains_one f own mid b last in (
-      first.0 ++ then.0 ∷ [],
-      then.1 ∙ (ap (λ xs. xs ++ then.0 ∷ []) first.1 ∙ append_assoc a.steps first.0 (then.0 ∷ [])),
-    )
-
-pub steps_joined : (f : Framework) (own : ℕ) (a b c : OracleLog) → OwnSteps f own a b → OwnSteps f own b c
-    → OwnSteps f own a c
-steps_joined f own a b c first (nothing _) = first
-steps_joined f own a b c first (one_more _ mid _ before last) =
-    one_more a mid c (steps_joined f own a b mid first before) last
+pub steps_joined : (f : Framework) (own : ℕ) (given : List Entry) (a b c : OracleLog) → OwnSteps f own given a b
+    → OwnSteps f own given b c → OwnSteps f own given a c
+steps_joined f own given a b c first (nothing _) = first
+steps_joined f own given a b c first (one_more _ mid _ before last) =
+    one_more a mid c (steps_joined f own given a b mid first before) last
 
 -- ---- loop clauses
 
@@ -84,17 +64,30 @@ loops_one a b step is serves = record {
 
 -- ---- both
 
-pub goes_on_none : (f : Framework) (own : ℕ) (log : OracleLog) → GoesOnBySteps f own log log
-goes_on_none f own log = record { steps = nothing log; loops = loops_none log }
+pub goes_on_none : (f : Framework) (own : ℕ) (given : List Entry) (log : OracleLog) → GoesOnBySteps f own given log log
+goes_on_none f own given log = record { steps = nothing log; loops = loops_none log }
 
-pub goes_on_joined : (f : Framework) (own : ℕ) (a b c : OracleLog) → GoesOnBySteps f own a b
-    → GoesOnBySteps f own b c → GoesOnBySteps f own a c
-goes_on_joined f own a b c first then =
-    let gained = gains_some f own b c then.steps in
+pub goes_on_joined : (f : Framework) (own : ℕ) (given : List Entry) (a b c : OracleLog) → GoesOnBySteps f own given a b
+    → GoesOnBySteps f own given b c → GoesOnBySteps f own given a c
+goes_on_joined f own given a b c first then =
+    let gained = gains_some f own given b c then.steps in
     record {
-      steps = steps_joined f own a b c first.steps then.steps;
+      steps = steps_joined f own given a b c first.steps then.steps;
       loops = loops_joined a b c gained.0 gained.1 first.loops then.loops;
     }
+
+-- where more was given the log went on by such steps still
+pub goes_on_still : (f : Framework) (own : ℕ) (given more : List Entry) (a b : OracleLog) → IsPrefix given more
+    → GoesOnBySteps f own given a b → GoesOnBySteps f own more a b
+goes_on_still f own given more a b longer h = record {
+  steps = subst (λ entries. OwnSteps f own entries a b) longer.1 (steps_stay f own given longer.0 a b h.steps);
+  loops = h.loops;
+}
+
+-- and where nothing had to be given, by such steps whatever was given
+pub goes_on_alone : (f : Framework) (own : ℕ) (given : List Entry) (a b : OracleLog) → GoesOnBySteps f own [] a b
+    → GoesOnBySteps f own given a b
+goes_on_alone f own given a b h = goes_on_still f own [] given a b (given, refl) h
 
 pub in_hand_none : (e : EngineState) → ServesInHand e e
 in_hand_none e = inr (refl, refl)

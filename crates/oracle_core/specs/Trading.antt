@@ -1,5 +1,6 @@
 -- How the entries of a trade come into a log during a query.
 use Rattle.std.specs.Prelude.{◌≡◌, ◌⊎◌, ℕ, ◌+◌, ◌≤◌, Bool, false, List, [], ◌∷◌, ◌++◌, length, Option, Some}
+use mathlib.Core.List.{IsPrefix}
 use Rattle.semantics.specs.Frameworks.{Framework}
 use Rattle.oracle_face.specs.declared.entry.Entry.{Entry}
 use Rattle.oracle_face.specs.Growing.{Making, Grows}
@@ -46,14 +47,15 @@ pub record TakesAll (f : Framework) (own : ℕ) (told : List Entry) (left : Opti
   pub from : TakesFrom f own told left old new
   pub emptied : IsEmptied told left
 
--- what a query leaves of an engine and a trade: where memory wasn't refused on the way, each entry that went from the list
--- was looked at, and the log went on by steps of the session
+-- what a query leaves of an engine and a trade: the trade gave more; where memory wasn't refused on the way, each entry
+-- that went from the list was looked at, and the log went on by steps of the session where the trade gave what it gave
 pub record Trades (before after : EngineState) (left_before left_after : Option (List Entry))
-    (lost_before lost_after : Bool) : Type 0 where
+    (gave_before gave_after : List Entry) (lost_before lost_after : Bool) : Type 0 where
   pub number : after.number ≡ before.number
   pub framework : after.framework ≡ before.framework
   pub grows : Grows AnySide before.log after.log
   pub kept : lost_after ≡ false → lost_before ≡ false
   pub taken : lost_after ≡ false → (told : List Entry) → left_before ≡ Some told
       → TakesFrom before.framework before.number told left_after before.log after.log
-  pub stepped : lost_after ≡ false → GoesOnBySteps before.framework before.number before.log after.log
+  pub gave : IsPrefix gave_before gave_after
+  pub stepped : lost_after ≡ false → GoesOnBySteps before.framework before.number gave_after before.log after.log

@@ -1,6 +1,7 @@
 -- Entries that are taken in one after the other.
 use Rattle.std.proofs.Common.{◌≡◌, ℕ, Bool, List, [], ◌∷◌, ◌++◌, ap, sym, subst, ◌∙◌, refl, Option, Some}
-use Rattle.std.proofs.lemmas.List.{append_assoc}
+use Rattle.std.proofs.lemmas.List.{append_assoc, append-nil}
+use mathlib.Core.List.{IsPrefix}
 use Rattle.semantics.specs.Frameworks.{Framework}
 use Rattle.oracle_face.specs.declared.entry.Entry.{Entry}
 use Rattle.oracle_face.specs.Growing.{Grows}
@@ -8,7 +9,7 @@ use Rattle.oracle_face.specs.Logs.{OracleLog}
 use Rattle.oracle_face.proofs.GrowingLemmas.{grows_joined, grows_same}
 use Rattle.oracle_core.specs.Engines.{EngineState}
 use Rattle.oracle_core.specs.Stepping.{GoesOnBySteps}
-use Rattle.oracle_core.specs.SteppingLaws.{goes_on_joined, goes_on_none}
+use Rattle.oracle_core.specs.SteppingLaws.{goes_on_joined, goes_on_none, goes_on_still}
 use Rattle.oracle_core.specs.Trading.{AnySide, TakesFrom, TakesIn, Trades}
 
 pub goes_on : (a b c : OracleLog) → Grows AnySide a b → Grows AnySide b c → Grows AnySide a c
@@ -58,20 +59,30 @@ from_none f own told left a b is grows =
 
 -- ---- two calls, one after the other
 
-pub trades_none : (e : EngineState) (left : Option (List Entry)) (lost : Bool) → Trades e e left left lost lost
-trades_none e left lost = record {
+pub prefix_none : (gave : List Entry) → IsPrefix gave gave
+prefix_none gave = ([], append-nil gave)
+
+pub prefix_joined : (a b c : List Entry) → IsPrefix a b → IsPrefix b c → IsPrefix a c
+prefix_joined a b c h k =
+    (h.0 ++ k.0, sym (append_assoc a h.0 k.0) ∙ (ap (λ xs. xs ++ k.0) h.1 ∙ k.1))
+
+pub trades_none : (e : EngineState) (left : Option (List Entry)) (gave : List Entry) (lost : Bool)
+    → Trades e e left left gave gave lost lost
+trades_none e left gave lost = record {
   number = refl;
   framework = refl;
   grows = grows_same AnySide e.log;
   kept = λ so. so;
   taken = λ so told is. from_none e.framework e.number told left e.log e.log is (grows_same AnySide e.log);
-  stepped = λ so. goes_on_none e.framework e.number e.log;
+  gave = prefix_none gave;
+  stepped = λ so. goes_on_none e.framework e.number gave e.log;
 }
 
-pub trades_joined : (a b c : EngineState) (left_a left_b left_c : Option (List Entry)) (lost_a lost_b lost_c : Bool)
-    → Trades a b left_a left_b lost_a lost_b → Trades b c left_b left_c lost_b lost_c
-    → Trades a c left_a left_c lost_a lost_c
-trades_joined a b c left_a left_b left_c lost_a lost_b lost_c h k = record {
+pub trades_joined : (a b c : EngineState) (left_a left_b left_c : Option (List Entry))
+    (gave_a gave_b gave_c : List Entry) (lost_a lost_b lost_c : Bool)
+    → Trades a b left_a left_b gave_a gave_b lost_a lost_b → Trades b c left_b left_c gave_b gave_c lost_b lost_c
+    → Trades a c left_a left_c gave_a gave_c lost_a lost_c
+trades_joined a b c left_a left_b left_c gave_a gave_b gave_c lost_a lost_b lost_c h k = record {
   number = k.number ∙ h.number;
   framework = k.framework ∙ h.framework;
   grows = goes_on a.log b.log c.log h.grows k.grows;
@@ -80,7 +91,9 @@ trades_joined a b c left_a left_b left_c lost_a lost_b lost_c h k = record {
       (h.taken (k.kept so) told is)
       (λ rest is_rest. subst (λ f. TakesFrom f a.number rest left_c b.log c.log) h.framework
       (subst (λ n. TakesFrom b.framework n rest left_c b.log c.log) h.number (k.taken so rest is_rest)));
-  stepped = λ so. goes_on_joined a.framework a.number a.log b.log c.log (h.stepped (k.kept so))
-      (subst (λ f. GoesOnBySteps f a.number b.log c.log) h.framework
-      (subst (λ n. GoesOnBySteps b.framework n b.log c.log) h.number (k.stepped so)));
+  gave = prefix_joined gave_a gave_b gave_c h.gave k.gave;
+  stepped = λ so. goes_on_joined a.framework a.number gave_c a.log b.log c.log
+      (goes_on_still a.framework a.number gave_b gave_c a.log b.log k.gave (h.stepped (k.kept so)))
+      (subst (λ f. GoesOnBySteps f a.number gave_c b.log c.log) h.framework
+      (subst (λ n. GoesOnBySteps b.framework n gave_c b.log c.log) h.number (k.stepped so)));
 }

@@ -97,7 +97,8 @@ impl Engine {
         ensures framework { self.new.framework ≡ self.old.framework }
         ensures number { self.new.number ≡ self.old.number }
         ensures steps { result ≢ Err Halt.Memory
-            → GoesOnBySteps self.old.framework self.old.number self.old.log self.new.log }
+            → GoesOnBySteps self.old.framework self.old.number (T.gave trade.new) self.old.log self.new.log }
+        ensures follows { T.follows trade.old trade.new }
         ensures in_hand { LoopInHand self.new.log self.new.pending }
         ensures trade { result ≢ Err Halt.Memory → (told : List AnEntry) → T.left trade.old ≡ Some told
             → TakesFrom self.old.framework self.old.number told (T.left trade.new) self.old.log self.new.log }
@@ -140,7 +141,8 @@ impl Engine {
         ensures framework { self.new.framework ≡ self.old.framework }
         ensures number { self.new.number ≡ self.old.number }
         ensures steps { result ≢ Err AnswerStop.Memory
-            → GoesOnBySteps self.old.framework self.old.number self.old.log self.new.log }
+            → GoesOnBySteps self.old.framework self.old.number (T.gave trade.new) self.old.log self.new.log }
+        ensures follows { T.follows trade.old trade.new }
         ensures in_hand { LoopInHand self.new.log self.new.pending }
         ensures trade { result ≢ Err AnswerStop.Memory → (told : List AnEntry) → T.left trade.old ≡ Some told
             → TakesFrom self.old.framework self.old.number told (T.left trade.new) self.old.log self.new.log }
@@ -160,7 +162,8 @@ impl Engine {
     /// where they are at most so many. Where the grounded set answers, no step is taken, and neither `Spent` nor `LogFull`
     /// comes. What is added to the log serves the query: each unit was new when it came, and the side clauses are those that
     /// its certificate may have. Each refutation of the certificate is made of just those steps of the log that its last one
-    /// reaches. The engine stays usable whatever comes; after a stop other than `Query` its log may be longer.
+    /// reaches. Axioms that the framework doesn't need, and clauses of others, come by the entries that the trade gave
+    /// alone. The engine stays usable whatever comes; after a stop other than `Query` its log may be longer.
     pub fn answer<T: ClauseTrade>(
         &mut self,
         alloc: Global,
@@ -185,7 +188,8 @@ impl Engine {
         ensures framework { self.new.framework ≡ self.old.framework }
         ensures number { self.new.number ≡ self.old.number }
         ensures steps { result ≢ Err AnswerStop.Memory
-            → GoesOnBySteps self.old.framework self.old.number self.old.log self.new.log }
+            → GoesOnBySteps self.old.framework self.old.number (T.gave trade.new) self.old.log self.new.log }
+        ensures follows { T.follows trade.old trade.new }
         ensures in_hand { (count : ℕ) → result ≡ Err (AnswerStop.Spent count)
             → LoopInHand self.new.log self.new.pending }
         ensures trade { result ≢ Err AnswerStop.Memory → (told : List AnEntry) → T.left trade.old ≡ Some told

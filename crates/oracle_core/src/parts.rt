@@ -1,6 +1,7 @@
 //! What an engine is made of.
 
-ghost use Rattle.std.specs.Prelude.{◌≡◌, ◌≢◌, ℕ, ◌≤◌, AllPairs, IfOk, OnOk, None, [], false, length, true};
+ghost use Rattle.std.specs.Prelude.{◌≡◌, ◌≢◌, ℕ, ◌≤◌, AllPairs, Contains, IfOk, List, OnOk, None, [], false, length};
+ghost use Rattle.std.specs.Prelude.{true};
 ghost use Rattle.plain_lits.specs.HintCheck.{IsTautology};
 ghost use Rattle.plain_lits.specs.Units.{Units};
 ghost use Rattle.meaning_atoms.specs.Literals.{negated};
@@ -8,6 +9,7 @@ ghost use Rattle.certificate_claims.specs.SetLiterals as set_literals;
 ghost use Rattle.edit_rules.specs.Kinds.{framework_of};
 ghost use Rattle.hinted_log.specs.declared.log.TheConstants.{MOST_STEPS};
 ghost use Rattle.oracle_face.specs.Entries.{IsShareable};
+ghost use Rattle.oracle_face.specs.declared.entry.Entry.{Entry as AnEntry};
 ghost use Rattle.oracle_face.specs.Goals.{AreGoals, IsSide};
 ghost use Rattle.oracle_face.specs.Growing.{HasRun, IsFound, NoSide, Obliges, OnlySide, UnlessMemory, closes, halt_of};
 ghost use Rattle.session_log.specs.Ends.{LoopInHand};
@@ -227,7 +229,7 @@ impl Parts {
         ensures framework { self.new.framework ≡ self.old.framework }
         ensures run { (units : Units) → HasRun NoSide 0 (framework_of self.old.framework) self.old.solver.log
             self.new.solver.log self.new.solver.pending units units (halt_of result) }
-        ensures steps { (own : ℕ) → GoesOnBySteps (framework_of self.old.framework) own self.old.solver.log
+        ensures steps { (own : ℕ) → GoesOnBySteps (framework_of self.old.framework) own [] self.old.solver.log
             self.new.solver.log }
     {
         if self.begun {
@@ -244,7 +246,7 @@ impl Parts {
         ensures framework { self.new.framework ≡ self.old.framework }
         ensures run { (units : Units) → HasRun NoSide 0 (framework_of self.old.framework) self.old.solver.log
             self.new.solver.log self.new.solver.pending units units (halt_of result) }
-        ensures steps { (own : ℕ) → GoesOnBySteps (framework_of self.old.framework) own self.old.solver.log
+        ensures steps { (own : ℕ) → GoesOnBySteps (framework_of self.old.framework) own [] self.old.solver.log
             self.new.solver.log }
     {
         self.take_needed(alloc)?;
@@ -252,7 +254,7 @@ impl Parts {
         Ok(())
     }
 
-    /// Takes an entry in, where it may come in.
+    /// Takes an entry in, where it may come in. What is added is steps of the session wherever the entry was given.
     pub(crate) fn take_in(&mut self, alloc: Global, own: u32, entry: &Entry) -> Result<(), Memory>
         requires whole { IsWhole self.old }
         requires shareable { IsShareable entry.now }
@@ -262,7 +264,8 @@ impl Parts {
             self.new.solver.log self.new.solver.pending units units None }
         ensures comes { OnOk result (ComesInOrMayNot (framework_of self.old.framework) own entry.now
             self.old.solver.log self.new.solver.log) }
-        ensures steps { GoesOnBySteps (framework_of self.old.framework) own self.old.solver.log self.new.solver.log }
+        ensures steps { (given : List AnEntry) → Contains given entry.now → GoesOnBySteps
+            (framework_of self.old.framework) own given self.old.solver.log self.new.solver.log }
     {
         let assumption_based = is_aba(&self.framework);
         take_in(
@@ -320,7 +323,7 @@ impl Parts {
         ensures obliges { IfOk result (Obliges side.now self.old.solver.log self.new.solver.log) }
         ensures run { HasRun (OnlySide side.now from.now) 0 (framework_of self.old.framework) self.old.solver.log
             self.new.solver.log self.new.solver.pending budget.old budget.new (halt_of result) }
-        ensures steps { (own : ℕ) → GoesOnBySteps (framework_of self.old.framework) own self.old.solver.log
+        ensures steps { (own : ℕ) → GoesOnBySteps (framework_of self.old.framework) own [] self.old.solver.log
             self.new.solver.log }
         ensures in_hand { EndsInHand (halt_of result) self.new.solver.log self.new.solver.pending }
     {
@@ -345,7 +348,7 @@ impl Parts {
             goals.now) }
         ensures run { HasRun NoSide (closes_turn result) (framework_of self.old.framework) self.old.solver.log
             self.new.solver.log self.new.solver.pending budget.old budget.new (halt_of result) }
-        ensures steps { (own : ℕ) → GoesOnBySteps (framework_of self.old.framework) own self.old.solver.log
+        ensures steps { (own : ℕ) → GoesOnBySteps (framework_of self.old.framework) own [] self.old.solver.log
             self.new.solver.log }
         ensures in_hand { EndsInHand (halt_of result) self.new.solver.log self.new.solver.pending }
     {
@@ -373,7 +376,7 @@ impl Parts {
             goals.now) }
         ensures run { HasRun NoSide (closes_turn result) (framework_of self.old.framework) self.old.solver.log
             self.new.solver.log self.new.solver.pending budget.old budget.new (halt_of result) }
-        ensures steps { (own : ℕ) → GoesOnBySteps (framework_of self.old.framework) own self.old.solver.log
+        ensures steps { (own : ℕ) → GoesOnBySteps (framework_of self.old.framework) own [] self.old.solver.log
             self.new.solver.log }
         ensures in_hand { EndsInHand (halt_of result) self.new.solver.log self.new.solver.pending }
     {
@@ -398,8 +401,8 @@ impl Parts {
             goals.now) }
         ensures run { HasRun NoSide (closes_turn result) (framework_of self.old.framework) self.old.solver.log
             self.new.solver.log self.new.solver.pending budget.old budget.new (halt_of result) }
-        ensures steps { UnlessMemory (halt_of result) ((own : ℕ) → GoesOnBySteps (framework_of self.old.framework) own
-            self.old.solver.log self.new.solver.log) }
+        ensures steps { UnlessMemory (halt_of result) ((own : ℕ) → GoesOnBySteps (framework_of self.old.framework)
+            own [] self.old.solver.log self.new.solver.log) }
         ensures in_hand { EndsInHand (halt_of result) self.new.solver.log self.new.solver.pending }
     {
         match self.search(alloc, goals, budget)? {
@@ -424,8 +427,8 @@ impl Parts {
         ensures found { IfOk result (IsFound (framework_of self.old.framework) self.new.solver.log goals.now) }
         ensures run { HasRun NoSide (closes result) (framework_of self.old.framework) self.old.solver.log
             self.new.solver.log self.new.solver.pending budget.old budget.new (halt_of result) }
-        ensures steps { UnlessMemory (halt_of result) ((own : ℕ) → GoesOnBySteps (framework_of self.old.framework) own
-            self.old.solver.log self.new.solver.log) }
+        ensures steps { UnlessMemory (halt_of result) ((own : ℕ) → GoesOnBySteps (framework_of self.old.framework)
+            own [] self.old.solver.log self.new.solver.log) }
         ensures in_hand { EndsInHand (halt_of result) self.new.solver.log self.new.solver.pending }
     {
         'models: loop {
@@ -450,8 +453,8 @@ impl Parts {
         ensures found { IfOk result (IsFound (framework_of self.old.framework) self.new.solver.log goals.now) }
         ensures run { HasRun NoSide (closes result) (framework_of self.old.framework) self.old.solver.log
             self.new.solver.log self.new.solver.pending budget.old budget.new (halt_of result) }
-        ensures steps { UnlessMemory (halt_of result) ((own : ℕ) → GoesOnBySteps (framework_of self.old.framework) own
-            self.old.solver.log self.new.solver.log) }
+        ensures steps { UnlessMemory (halt_of result) ((own : ℕ) → GoesOnBySteps (framework_of self.old.framework)
+            own [] self.old.solver.log self.new.solver.log) }
         ensures in_hand { EndsInHand (halt_of result) self.new.solver.log self.new.solver.pending }
     {
         self.force(alloc)?;
@@ -498,8 +501,8 @@ impl Parts {
         ensures run { HasRun NoSide (closes result) (framework_of self.old.framework) self.old.solver.log
             self.new.solver.log self.new.solver.pending budget.old budget.new (halt_of result) }
         ensures kept { lost.new ≡ false → lost.old ≡ false }
-        ensures steps { lost.new ≡ false → (own : ℕ) → GoesOnBySteps (framework_of self.old.framework) own
-            self.old.solver.log self.new.solver.log }
+        ensures steps { lost.new ≡ false → (own : ℕ) → GoesOnBySteps (framework_of self.old.framework)
+            own [] self.old.solver.log self.new.solver.log }
         ensures in_hand { LoopInHand self.new.solver.log self.new.solver.pending }
     {
         let end = self.find(alloc, goals, budget);
@@ -525,7 +528,7 @@ impl Parts {
         ensures run { HasRun (OnlySide side.now from.now) 0 (framework_of self.old.framework) self.old.solver.log
             self.new.solver.log self.new.solver.pending budget.old budget.new (halt_of result) }
         ensures kept { lost.new ≡ false → lost.old ≡ false }
-        ensures steps { (own : ℕ) → GoesOnBySteps (framework_of self.old.framework) own self.old.solver.log
+        ensures steps { (own : ℕ) → GoesOnBySteps (framework_of self.old.framework) own [] self.old.solver.log
             self.new.solver.log }
         ensures in_hand { LoopInHand self.new.solver.log self.new.solver.pending }
     {

@@ -132,7 +132,9 @@ fn offer_step<T: ClauseTrade>(
 ) -> bool
     requires whole { IsWhole parts.now }
     requires step { IsNumberOf parts.now.solver.log.steps step }
-    ensures { T.left trade.new ≡ T.left trade.old }
+    ensures left { T.left trade.new ≡ T.left trade.old }
+    ensures gave { T.gave trade.new ≡ T.gave trade.old }
+    ensures follows { T.follows trade.old trade.new }
 {
     match entry_of(alloc, own, &parts.solver, step) {
         Ok(Some(entry)) => match trade.offer(entry) {
@@ -154,7 +156,9 @@ fn offer_from<T: ClauseTrade>(
     trade: &mut T,
 ) -> usize
     requires { IsWhole parts.now }
-    ensures { T.left trade.new ≡ T.left trade.old }
+    ensures left { T.left trade.new ≡ T.left trade.old }
+    ensures gave { T.gave trade.new ≡ T.gave trade.old }
+    ensures follows { T.follows trade.old trade.new }
 {
     let mut offered = from;
     while offered < parts.solver.len() {
@@ -172,6 +176,8 @@ impl Engine {
     pub(crate) fn offer<T: ClauseTrade>(&mut self, alloc: Global, trade: &mut T)
         ensures same { self.new ≡ self.old }
         ensures left { T.left trade.new ≡ T.left trade.old }
+        ensures gave { T.gave trade.new ≡ T.gave trade.old }
+        ensures follows { T.follows trade.old trade.new }
     {
         self.offered = offer_from(alloc, self.number, &self.parts, self.offered, trade);
     }

@@ -1,6 +1,7 @@
 //! Entries that an engine takes from a trade before it searches.
 
-ghost use Rattle.std.specs.Prelude.{◌≡◌, ◌≢◌, Err, IfOk, List, None, OnOk, Option, Some, false};
+ghost use Rattle.std.specs.Prelude.{◌≡◌, ◌≢◌, [], Err, IfOk, List, None, OnOk, Option, Some, false};
+ghost use mathlib.Core.List.{IsPrefix};
 ghost use Rattle.edit_rules.specs.Kinds.{framework_of};
 ghost use Rattle.oracle_face.specs.Goals.{AreGoals, IsSide};
 ghost use Rattle.oracle_face.specs.Growing.{HasRun, IsFound, NoSide, Obliges, OnlySide, closes, halt_of};
@@ -38,7 +39,10 @@ pub(crate) fn take_all<T: ClauseTrade>(
     ensures framework { parts.new.framework ≡ parts.old.framework }
     ensures run { (units : Units) → HasRun NoSide 0 (framework_of parts.old.framework) parts.old.solver.log
         parts.new.solver.log parts.new.solver.pending units units None }
-    ensures steps { GoesOnBySteps (framework_of parts.old.framework) own parts.old.solver.log parts.new.solver.log }
+    ensures steps { GoesOnBySteps (framework_of parts.old.framework) own (T.gave trade.new) parts.old.solver.log
+        parts.new.solver.log }
+    ensures gave { IsPrefix (T.gave trade.old) (T.gave trade.new) }
+    ensures follows { T.follows trade.old trade.new }
     ensures all { OnOk result ((told : List AnEntry) → T.left trade.old ≡ Some told
         → TakesAll (framework_of parts.old.framework) own told (T.left trade.new) parts.old.solver.log
         parts.new.solver.log) }
@@ -60,7 +64,7 @@ impl Engine {
         ensures in_force { OnOk result (AreInForce self.new.framework self.new.log) }
         ensures run { (units : Units) → HasRun NoSide 0 self.old.framework self.old.log self.new.log self.new.pending
             units units (halt_of result) }
-        ensures steps { GoesOnBySteps self.old.framework self.old.number self.old.log self.new.log }
+        ensures steps { GoesOnBySteps self.old.framework self.old.number [] self.old.log self.new.log }
         ensures number { self.new.number ≡ self.old.number }
         ensures framework { self.new.framework ≡ self.old.framework }
         ensures kept { IsKept self.new.framework self.new.log }
@@ -75,7 +79,9 @@ impl Engine {
             → TakesAll self.old.framework self.old.number told (T.left trade.new) self.old.log self.new.log) }
         ensures run { (units : Units) → HasRun NoSide 0 self.old.framework self.old.log self.new.log self.new.pending
             units units None }
-        ensures steps { GoesOnBySteps self.old.framework self.old.number self.old.log self.new.log }
+        ensures steps { GoesOnBySteps self.old.framework self.old.number (T.gave trade.new) self.old.log self.new.log }
+        ensures gave { IsPrefix (T.gave trade.old) (T.gave trade.new) }
+        ensures follows { T.follows trade.old trade.new }
         ensures number { self.new.number ≡ self.old.number }
         ensures framework { self.new.framework ≡ self.old.framework }
         ensures kept { IsKept self.new.framework self.new.log }
@@ -91,7 +97,9 @@ impl Engine {
         trade: &mut T,
         lost: &mut bool,
     ) -> Result<(), Halt>
-        ensures trades { Trades self.old self.new (T.left trade.old) (T.left trade.new) lost.old lost.new }
+        ensures trades { Trades self.old self.new (T.left trade.old) (T.left trade.new) (T.gave trade.old)
+            (T.gave trade.new) lost.old lost.new }
+        ensures follows { T.follows trade.old trade.new }
         ensures all { OnOk result ((told : List AnEntry) → T.left trade.old ≡ Some told
             → IsEmptied told (T.left trade.new)) }
         ensures only_lost { result ≢ Err Halt.Memory → lost.new ≡ lost.old }
@@ -123,7 +131,9 @@ impl Engine {
         trade: &mut T,
         lost: &mut bool,
     ) -> Result<(), Halt>
-        ensures trades { Trades self.old self.new (T.left trade.old) (T.left trade.new) lost.old lost.new }
+        ensures trades { Trades self.old self.new (T.left trade.old) (T.left trade.new) (T.gave trade.old)
+            (T.gave trade.new) lost.old lost.new }
+        ensures follows { T.follows trade.old trade.new }
         ensures all { OnOk result ((told : List AnEntry) → T.left trade.old ≡ Some told
             → IsEmptied told (T.left trade.new)) }
         ensures only_lost { result ≢ Err Halt.Memory → lost.new ≡ lost.old }
@@ -156,7 +166,7 @@ impl Engine {
         ensures kept { IsKept self.new.framework self.new.log }
         ensures lost { lost.new ≡ false → lost.old ≡ false }
         ensures steps { lost.new ≡ false
-            → GoesOnBySteps self.old.framework self.old.number self.old.log self.new.log }
+            → GoesOnBySteps self.old.framework self.old.number [] self.old.log self.new.log }
         ensures in_hand { LoopInHand self.new.log self.new.pending }
     {
         self.parts.find_settled(alloc, goals, budget, lost)
@@ -175,7 +185,9 @@ impl Engine {
         ensures found { IfOk result (IsFound self.old.framework self.new.log goals.now) }
         ensures run { HasRun NoSide (closes result) self.old.framework self.old.log self.new.log self.new.pending
             budget.old budget.new (halt_of result) }
-        ensures trades { Trades self.old self.new (T.left trade.old) (T.left trade.new) lost.old lost.new }
+        ensures trades { Trades self.old self.new (T.left trade.old) (T.left trade.new) (T.gave trade.old)
+            (T.gave trade.new) lost.old lost.new }
+        ensures follows { T.follows trade.old trade.new }
         ensures kept { IsKept self.new.framework self.new.log }
         ensures in_hand { LoopInHand self.new.log self.new.pending }
     {
@@ -197,7 +209,8 @@ impl Engine {
         ensures obliges { IfOk result (Obliges side.now self.old.log self.new.log) }
         ensures run { HasRun (OnlySide side.now from.now) 0 self.old.framework self.old.log self.new.log
             self.new.pending budget.old budget.new (halt_of result) }
-        ensures trades { (left : Option (List AnEntry)) → Trades self.old self.new left left lost.old lost.new }
+        ensures trades { (left : Option (List AnEntry)) (gave : List AnEntry)
+            → Trades self.old self.new left left gave gave lost.old lost.new }
         ensures kept { IsKept self.new.framework self.new.log }
         ensures in_hand { LoopInHand self.new.log self.new.pending }
     {
@@ -232,9 +245,10 @@ impl<'a, T: ClauseTrade> Oracle for Trading<'a, T> {
 
     ghost follows = { λ before after. (after.engine.ghost_name ≡ before.engine.ghost_name)
         × (after.trade.ghost_name ≡ before.trade.ghost_name)
-        × Trades before.engine.now after.engine.now (T.left before.trade.now) (T.left after.trade.now) before.lost
-        after.lost
-        × ServesInHand before.engine.now after.engine.now };
+        × Trades before.engine.now after.engine.now (T.left before.trade.now) (T.left after.trade.now)
+        (T.gave before.trade.now) (T.gave after.trade.now) before.lost after.lost
+        × ServesInHand before.engine.now after.engine.now
+        × T.follows before.trade.now after.trade.now };
 
     fn members(&self) -> &NumSet {
         self.engine.members()
@@ -283,15 +297,18 @@ impl<'a, T: ClauseTrade> Oracle for Trading<'a, T> {
     ghost stays = { λ t. (
       refl,
       refl,
-      trades_none t.engine.now (T.left t.trade.now) t.lost,
+      trades_none t.engine.now (T.left t.trade.now) (T.gave t.trade.now) t.lost,
       in_hand_none t.engine.now,
+      T.stays t.trade.now,
     ) };
 
     ghost joins = { λ before between after first second. (
       second.0 ∙ first.0,
       second.1 ∙ first.1,
       trades_joined before.engine.now between.engine.now after.engine.now (T.left before.trade.now)
-          (T.left between.trade.now) (T.left after.trade.now) before.lost between.lost after.lost first.2 second.2,
+          (T.left between.trade.now) (T.left after.trade.now) (T.gave before.trade.now) (T.gave between.trade.now)
+          (T.gave after.trade.now) before.lost between.lost after.lost first.2 second.2,
       in_hand_joined before.engine.now between.engine.now after.engine.now first.3 second.3,
+      T.joins before.trade.now between.trade.now after.trade.now first.4 second.4,
     ) };
 }

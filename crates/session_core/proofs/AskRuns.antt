@@ -20,13 +20,15 @@ use Rattle.oracle_face.specs.declared.face.Pending.{Pending}
 use Rattle.oracle_face.specs.Growing.{NoSide}
 use Rattle.oracle_face.specs.Logs.{OracleLog}
 use Rattle.oracle_face.proofs.GrowingLemmas.{run_joined}
+use Rattle.clause_pool.specs.Pools.{entry_of}
+use Rattle.session_log.proofs.GivenSteps.{gains_some}
 use Rattle.session_log.specs.Ends.{Course, Ending, IsByGrounded, IsEnd, LoopInHand, MadeFor, WorksFor}
 use Rattle.session_log.specs.Ends.{definite, log_full, refused, too_many, unknown}
 use Rattle.oracle_core.specs.query_answers.specs.Answers.{is_by_grounded}
 use Rattle.core_machine.specs.Core.{Core, CoreSession, seen_framework, with_session}
 use Rattle.core_machine.specs.Steps.{IsStep, after_turn, answer, cut, goes, refresh, rests}
 use Rattle.oracle_core.specs.Answering.{NeedsSearch}
-use Rattle.oracle_core.specs.SteppingLaws.{gains_some, loops_joined}
+use Rattle.oracle_core.specs.SteppingLaws.{loops_joined}
 use Rattle.session_replies.specs.declared.reply.Body.{Body}
 use Rattle.session_replies.specs.declared.reply.Body.TheVariants.{Answered, Done, EditRefused, Full, LogFull, QueryRefused, TooMany, Unknown}
 use Rattle.session_replies.specs.declared.reply.Reply.{Reply}
@@ -117,7 +119,8 @@ module _ (hub : Hub) (asked : Asked) (limit : ℕ) (old new : Session) (reply : 
 
   served : WorksFor framework asked (course_of (cut is.log answered)) (halt_told reply.body)
   served =
-      let gained = gains_some framework old.engine.number is.log log_now is.steps.goes_on.steps in
+      let gained = gains_some framework old.engine.number (map entry_of is.kept.tokens) is.log log_now
+      is.steps.goes_on.steps in
       record {
         run = run_joined NoSide (MadeFor framework asked) (MadeFor framework asked) 0 (2 * length log_now.sides + 2)
             (2 * length log_now.sides + 2) framework (cut is.log answered) is.log log_now is.kept.pending is.kept.pending
@@ -139,7 +142,8 @@ module _ (hub : Hub) (asked : Asked) (limit : ℕ) (old new : Session) (reply : 
   -- and the log is at rest then
   pub rested : IsAtRest log_now (length log_now.steps)
   rested = record {
-    sided = sided_behind framework old.engine.number is.log log_now is.steps.goes_on.steps rest.sided;
+    sided = sided_behind framework old.engine.number (map entry_of is.kept.tokens) is.log log_now is.steps.goes_on.steps
+        rest.sided;
     within = omega arith;
     quiet = λ k low high. absurd (omega arith);
   }
@@ -222,10 +226,11 @@ asks_run hub asked limit old new reply core is followed stands pooled =
     ∙ (ap (λ g. framework_after g turned.history) stands.opening ∙ ap (framework_after start) history)) in
     let kinds : kind_of f ≡ kind_of first.end.opening =
     kinds_after start entries ∙ ap kind_of (sym (first.moved.opening ∙ stands.opening)) in
-    let then = steps_reach first.end s f is.log new.engine.log is.steps.goes_on.steps
+    let given = map entry_of is.kept.tokens in
+    let then = steps_reach first.end s f given is.log new.engine.log is.steps.goes_on.steps
     (sym (seen_same turned first.end s is.log first.moved ∙ whole)) kinds (sym first.moved.log_is)
     (pooled_same turned first.end s is.log
-    (entries_of f s is.log new.engine.log is.steps.goes_on.steps) first.moved (record { each = pooled.each })) in
+    (entries_of f s given is.log new.engine.log is.steps.goes_on.steps) first.moved (record { each = pooled.each })) in
     -- the answer
     let rest : IsAtRest is.log count =
     rest_behind (framework_after start (take old.followed entries)) (drop old.followed entries) is.catches_up.names

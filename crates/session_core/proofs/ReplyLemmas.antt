@@ -1,11 +1,12 @@
 -- The reply that an engine's end of a query comes to.
 use Rattle.std.proofs.Common.{◌≡◌, ◌∙◌, ℕ, ◌+◌, ◌*◌, ◌≤◌, true, length, refl, sym, ap, subst, arith}
-use Rattle.std.proofs.Common.{Option, Result, Ok, Err}
+use Rattle.std.proofs.Common.{map, Option, Result, Ok, Err}
 use Rattle.std.specs.Prelude.{◌≢◌, IfErr, IfOk, OnOk}
 use Rattle.plain_lits.specs.Units.{Units}
 use Rattle.semantics.specs.Frameworks.{Framework}
 use Rattle.iccma_tasks.specs.Tasks.{Asked}
 use Rattle.edit_rules.specs.Fitting.{Fits}
+use Rattle.clause_pool.specs.Pools.{entry_of}
 use Rattle.oracle_face.specs.declared.face.Pending.{Pending}
 use Rattle.oracle_face.specs.Growing.{HasRun, IsStop}
 use Rattle.oracle_face.specs.Logs.{OracleLog}
@@ -133,7 +134,7 @@ pub told_is : (f : Framework) (own : ℕ) (asked : Asked) (limit : ℕ) (old new
     → IfErr end (IsCause f asked EXTENSION_LIMIT new)
     → HasRun (MadeFor f asked) (2 * length new.sides + 2) f old new pending before after (halt_behind end)
     → (is_by_grounded asked.task.problem asked.task.semantics ≡ true → new ≡ old)
-    → (end ≢ Err stop.Memory → GoesOnBySteps f own old new)
+    → (end ≢ Err stop.Memory → GoesOnBySteps f own (map entry_of told.kept.tokens) old new)
     → ((count : ℕ) → end ≡ Err (stop.Spent count) → LoopInHand new pending)
     → IfOk end (λ a. IsShownByLog f asked a.answer a.certificate.sets new) → IsBodyOf end told.body
     → told.kept.pending ≡ clause_kept told.body pending → told.kept.before ≡ length old.steps

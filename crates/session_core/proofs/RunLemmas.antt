@@ -154,13 +154,13 @@ same_may f g own log entry kinds may = record {
 
 -- ---- one step
 
-wanted_for : (core : Core) (s : ℕ) (f : Framework) (log : OracleLog) (name : AxiomName) (loop : Bool)
-    → f ≡ seen_framework core s → (w : IsWanted (IsCalledOn f) log name loop)
-    → ArePooled core (entries_naming f log name loop w) → IsWanted (IsCalledFor core s) log name loop
-wanted_for core s f log name true is w pooled = w
-wanted_for core s f log name false is (inl needed) pooled =
+wanted_for : (core : Core) (s : ℕ) (f : Framework) (given : List PoolEntry) (log : OracleLog) (name : AxiomName)
+    (loop : Bool) → f ≡ seen_framework core s → (w : IsWanted (IsCalledOn f given) log name loop)
+    → ArePooled core (entries_naming f given log name loop w) → IsWanted (IsCalledFor core s) log name loop
+wanted_for core s f given log name true is w pooled = w
+wanted_for core s f given log name false is (inl needed) pooled =
     inl (record { count = (core.sessions s).seen; seen = omega arith; needed = subst (λ g. IsNeeded g name) is needed })
-wanted_for core s f log name false is (inr named) pooled =
+wanted_for core s f given log name false is (inr named) pooled =
     let at = pooled.each named.entry (Contains-head named.entry [] named.entry refl) in
     inr (record { index = at.0; entry = named.entry; there = at.1; named = named.named })
 
@@ -177,10 +177,11 @@ taken_by_origin s entry (OfAxiom name) a b is takes =
     absurd (no_hints_check (clauses_of a.steps) takes.clause takes.hints
     (λ hint there. subst (λ origin. IsHintOf s a.steps origin hint) is (takes.named hint there)) takes.checks)
 
-step_event : (core : Core) (s : ℕ) (f : Framework) (a b : OracleLog) (step : OwnStep f s a b)
+step_event : (core : Core) (s : ℕ) (f : Framework) (given : List PoolEntry) (a b : OracleLog)
+    (step : OwnStep f s given a b)
     → f ≡ seen_framework core s → kind_of f ≡ kind_of core.opening → a ≡ (core.sessions s).log
-    → ArePooled core (entries_of_step f s a b step) → IsEventTo core s b
-step_event core s f a b (learns_axiom name clause learns) seen kinds is pooled = record {
+    → ArePooled core (entries_of_step f s given a b step) → IsEventTo core s b
+step_event core s f given a b (learns_axiom name clause learns) seen kinds is pooled = record {
   event = learn s clause (by_axiom name) false;
   of_log = refl;
   step = (
@@ -190,7 +191,7 @@ step_event core s f a b (learns_axiom name clause learns) seen kinds is pooled =
       subst (λ g. LearnsAxiom (IsCalledFor core s) core.opening name clause g b) is (record {
         of_kind = same_axioms f core.opening name kinds learns.of_kind;
         once = learns.once;
-        called = wanted_for core s f a name (is_loop name) seen learns.called pooled;
+        called = wanted_for core s f given a name (is_loop name) seen learns.called pooled;
         takes = learns.takes;
       }),
     ),
@@ -198,19 +199,19 @@ step_event core s f a b (learns_axiom name clause learns) seen kinds is pooled =
   );
   none_taken = refl;
 }
-step_event core s f a b (learns_clause clause hints closing learns) seen kinds is pooled = record {
+step_event core s f given a b (learns_clause clause hints closing learns) seen kinds is pooled = record {
   event = learn s clause (by_hints hints) closing;
   of_log = refl;
   step = (b, subst (λ g. LearnsClause clause hints closing g b) is learns, refl);
   none_taken = refl;
 }
-step_event core s f a b (keeps_side literals set clause takes) seen kinds is pooled = record {
+step_event core s f given a b (keeps_side literals set clause takes) seen kinds is pooled = record {
   event = side s set literals;
   of_log = refl;
   step = (b, (clause, subst (λ g. TakesSide literals set clause g b) is takes), refl);
   none_taken = refl;
 }
-step_event core s f a b (takes_entry entry shareable may takes) seen kinds is pooled =
+step_event core s f given a b (takes_entry entry was may takes) seen kinds is pooled =
     let at = pooled.each entry (Contains-head entry [] entry refl) in
     record {
       event = take_in s at.0;
@@ -243,18 +244,19 @@ pooled_same core end s log entries h pooled = record {
 }
 
 -- steps of a session's own are a run of the core
-pub steps_reach : (core : Core) (s : ℕ) (f : Framework) (a b : OracleLog) (steps : OwnSteps f s a b)
+pub steps_reach : (core : Core) (s : ℕ) (f : Framework) (given : List PoolEntry) (a b : OracleLog)
+    (steps : OwnSteps f s given a b)
     → f ≡ seen_framework core s → kind_of f ≡ kind_of core.opening → a ≡ (core.sessions s).log
-    → ArePooled core (entries_of f s a b steps) → IsReached core s b
-steps_reach core s f a b (nothing _) seen kinds is pooled = reached_none core s a is
-steps_reach core s f a b (one_more _ mid _ before last) seen kinds is pooled =
-    let first = entries_of f s a mid before in
-    let others = entries_of_step f s mid b last in
-    let r = steps_reach core s f a mid before seen kinds is (record {
+    → ArePooled core (entries_of f s given a b steps) → IsReached core s b
+steps_reach core s f given a b (nothing _) seen kinds is pooled = reached_none core s a is
+steps_reach core s f given a b (one_more _ mid _ before last) seen kinds is pooled =
+    let first = entries_of f s given a mid before in
+    let others = entries_of_step f s given mid b last in
+    let r = steps_reach core s f given a mid before seen kinds is (record {
       each = λ entry there. pooled.each entry (Contains-append_left first others entry there);
     }) in
     reached_more core s mid b r
-    (step_event r.end s f mid b last (seen ∙ sym (seen_same core r.end s mid r.moved))
+    (step_event r.end s f given mid b last (seen ∙ sym (seen_same core r.end s mid r.moved))
     (kinds ∙ ap kind_of (sym r.moved.opening)) (sym r.moved.log_is)
     (pooled_same core r.end s mid others r.moved (record {
       each = λ entry there. pooled.each entry (Contains-append_right first others entry there);
@@ -516,21 +518,21 @@ rest_behind f entries (name ∷ names) a b answered rest adds =
     (rest_more name takes.clause a adds.0 answered rest
     (needed_no_loop (framework_after f (take adds.1.count entries)) name takes.needed) takes.takes) adds.2
 
-sided_step : (f : Framework) (own : ℕ) (a b : OracleLog) → OwnStep f own a b
+sided_step : (f : Framework) (own : ℕ) (given : List PoolEntry) (a b : OracleLog) → OwnStep f own given a b
     → count_by is_side_step a.steps ≡ length a.sides → count_by is_side_step b.steps ≡ length b.sides
-sided_step f own a b (learns_axiom name clause learns) sided =
+sided_step f own given a b (learns_axiom name clause learns) sided =
     sided_more (own_step clause (by_axiom name)) a.sides a b learns.takes.gains sided (omega arith)
-sided_step f own a b (learns_clause clause hints closing learns) sided =
+sided_step f own given a b (learns_clause clause hints closing learns) sided =
     sided_more (derived_step clause hints None closing) a.sides a b learns.derives.gains sided (omega arith)
-sided_step f own a b (keeps_side literals set clause takes) sided =
+sided_step f own given a b (keeps_side literals set clause takes) sided =
     let made = side_made literals set in
     sided_more (own_step clause (by_side (length a.sides + 1))) (a.sides ++ made ∷ []) a b takes.gains sided
     (omega (arith, length-append a.sides (made ∷ [])))
-sided_step f own a b (takes_entry entry shareable may takes) sided =
+sided_step f own given a b (takes_entry entry was may takes) sided =
     sided_more (derived_step takes.clause takes.hints (Some entry.name) false) a.sides a b takes.gains sided (omega arith)
 
-pub sided_behind : (f : Framework) (own : ℕ) (a b : OracleLog) → OwnSteps f own a b
+pub sided_behind : (f : Framework) (own : ℕ) (given : List PoolEntry) (a b : OracleLog) → OwnSteps f own given a b
     → count_by is_side_step a.steps ≡ length a.sides → count_by is_side_step b.steps ≡ length b.sides
-sided_behind f own a b (nothing _) sided = sided
-sided_behind f own a b (one_more _ mid _ before last) sided =
-    sided_step f own mid b last (sided_behind f own a mid before sided)
+sided_behind f own given a b (nothing _) sided = sided
+sided_behind f own given a b (one_more _ mid _ before last) sided =
+    sided_step f own given mid b last (sided_behind f own given a mid before sided)

@@ -1,6 +1,7 @@
 -- What a session's calls leave, one part after the other.
-use Rattle.std.proofs.Common.{◌≡◌, ◌∙◌, ℕ, ◌≤◌, List, length, take, drop, sym, ap, subst}
+use Rattle.std.proofs.Common.{◌≡◌, ◌∙◌, ℕ, ◌≤◌, List, [], ◌∷◌, ◌++◌, length, take, drop, sym, ap, subst}
 use Rattle.std.proofs.lemmas.List.{take-append-le}
+use Rattle.std.proofs.lemmas.List.Elements.{All-push}
 use Rattle.std.proofs.Math.Seq.{take-append_seam}
 use mathlib.Core.List.{IsPrefix}
 use Rattle.semantics.specs.Frameworks.{Framework}
@@ -14,10 +15,13 @@ use Rattle.oracle_face.proofs.GrowingLemmas.{grows_joined, grows_same}
 use Rattle.session_log.specs.Ends.{MadeFor}
 use Rattle.oracle_core.specs.Engines.{EngineState}
 use Rattle.oracle_core.specs.Trading.{AnySide}
+use Rattle.clause_pool.specs.declared.pool.Pool.{Pool}
+use Rattle.clause_pool.specs.Pools.{AreTokensOf}
+use Rattle.session_core.specs.declared.kept.KeptAnswer.{KeptAnswer}
 use Rattle.session_core.specs.declared.session.Session.{Session}
 use Rattle.session_core.specs.Following.{CatchesUp, HasFollowed}
 use Rattle.session_core.specs.Laws.{AskedIsReadable, ReadableStays}
-use Rattle.session_core.specs.Sessions.{seen_by}
+use Rattle.session_core.specs.Sessions.{RestOnPool, seen_by}
 use Rattle.session_core.specs.Telling.{IsCaughtUp}
 use Rattle.session_core.proofs.FollowingLemmas.{after_parts}
 
@@ -102,3 +106,11 @@ readable_still f asked limit log later kept body is grows =
       last = front_is AnySide is.new later since ∙ ap (λ n. take n later.steps) (sym is.kept_is.after);
       since = since;
     }
+
+-- ---- what the pool gave
+
+-- a query more, for which the pool gave the entries of its own tokens
+pub rest_more : (pool : Pool) (before after : List KeptAnswer) (kept : KeptAnswer) → after ≡ before ++ kept ∷ []
+    → AreTokensOf pool kept.tokens → RestOnPool pool before → RestOnPool pool after
+rest_more pool before after kept is own rest =
+    subst (RestOnPool pool) (sym is) (All-push (λ (a : KeptAnswer). AreTokensOf pool a.tokens) before kept rest own)

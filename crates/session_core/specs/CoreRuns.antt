@@ -1,6 +1,6 @@
 -- What a session's query is in the core: a refresh, steps of the session's own log, and an answer.
 use Rattle.std.proofs.Common.{inl, inr}
-use Rattle.std.specs.Prelude.{◌≡◌, ℕ, ◌≤◌, ◌<◌, Bool, true, false, List, [], ◌∷◌, ◌++◌, length, Contains, count_by, slice_index_or, Option, Some}
+use Rattle.std.specs.Prelude.{◌≡◌, ℕ, ◌≤◌, ◌<◌, Bool, true, false, List, [], ◌∷◌, ◌++◌, length, map, Contains, count_by, slice_index_or, Option, Some}
 use Rattle.semantics.specs.Frameworks.{Framework, IsNumbered}
 use Rattle.meaning_atoms.specs.declared.axiom.AxiomName.{AxiomName}
 use Rattle.iccma_tasks.specs.Tasks.{Asked}
@@ -10,6 +10,7 @@ use Rattle.edit_history.specs.Hubs.{start_of}
 use Rattle.oracle_face.specs.declared.entry.Entry.{Entry as PoolEntry}
 use Rattle.oracle_face.specs.declared.face.Pending.{Pending}
 use Rattle.oracle_face.specs.Logs.{OracleLog, LogStep, by_axiom, is_loop, no_step}
+use Rattle.clause_pool.specs.Pools.{entry_of}
 use Rattle.session_log.specs.Ends.{Ending, definite, log_full, refused, too_many, unknown}
 use Rattle.session_log.specs.OwnSteps.{IsCalledOn, IsWanted, OwnStep, OwnSteps, keeps_side, learns_axiom, learns_clause, nothing, one_more}
 use Rattle.session_log.specs.OwnSteps.{takes_entry}
@@ -25,23 +26,26 @@ use Rattle.session_core.specs.Sessions.{IsAsked, seen_by}
 -- ---- the entries that steps rest on
 
 -- the entry that names an axiom, where the framework doesn't need it
-abbrev pub entries_naming : (f : Framework) (log : OracleLog) (name : AxiomName) (loop : Bool)
-    → IsWanted (IsCalledOn f) log name loop → List PoolEntry
-entries_naming f log name true wanted = []
-entries_naming f log name false (inl needed) = []
-entries_naming f log name false (inr named) = named.entry ∷ []
+abbrev pub entries_naming : (f : Framework) (given : List PoolEntry) (log : OracleLog) (name : AxiomName) (loop : Bool)
+    → IsWanted (IsCalledOn f given) log name loop → List PoolEntry
+entries_naming f given log name true wanted = []
+entries_naming f given log name false (inl needed) = []
+entries_naming f given log name false (inr named) = named.entry ∷ []
 
 -- that entry, or the one that is taken in
-abbrev pub entries_of_step : (f : Framework) (own : ℕ) (a b : OracleLog) → OwnStep f own a b → List PoolEntry
-entries_of_step f own a b (learns_axiom name clause learns) = entries_naming f a name (is_loop name) learns.called
-entries_of_step f own a b (takes_entry entry shareable may takes) = entry ∷ []
-entries_of_step f own a b (learns_clause clause hints closing learns) = []
-entries_of_step f own a b (keeps_side literals set clause takes) = []
+abbrev pub entries_of_step : (f : Framework) (own : ℕ) (given : List PoolEntry) (a b : OracleLog)
+    → OwnStep f own given a b → List PoolEntry
+entries_of_step f own given a b (learns_axiom name clause learns) =
+    entries_naming f given a name (is_loop name) learns.called
+entries_of_step f own given a b (takes_entry entry was may takes) = entry ∷ []
+entries_of_step f own given a b (learns_clause clause hints closing learns) = []
+entries_of_step f own given a b (keeps_side literals set clause takes) = []
 
-abbrev pub entries_of : (f : Framework) (own : ℕ) (a b : OracleLog) → OwnSteps f own a b → List PoolEntry
-entries_of f own a b (nothing _) = []
-entries_of f own a b (one_more _ mid _ before last) =
-    entries_of f own a mid before ++ entries_of_step f own mid b last
+abbrev pub entries_of : (f : Framework) (own : ℕ) (given : List PoolEntry) (a b : OracleLog) → OwnSteps f own given a b
+    → List PoolEntry
+entries_of f own given a b (nothing _) = []
+entries_of f own given a b (one_more _ mid _ before last) =
+    entries_of f own given a mid before ++ entries_of_step f own given mid b last
 
 -- the pool has each of them
 pub record ArePooled (core : Core) (entries : List PoolEntry) : Type 0 where
@@ -113,6 +117,7 @@ abbrev pub AsksAreRuns : Type 0
 AsksAreRuns = (hub : Hub) (asked : Asked) (limit : ℕ) (old new : Session) (reply : Reply) (core : Core)
     → (is : IsAsked hub asked limit old new reply) → old.followed ≤ length (seen_by new)
     → StandsAt core old.engine.number (start_of hub) (seen_by new) old.engine.log
-    → ArePooled core (entries_of _ old.engine.number is.log new.engine.log is.steps.goes_on.steps)
+    → ArePooled core (entries_of _ old.engine.number (map entry_of is.kept.tokens) is.log new.engine.log
+    is.steps.goes_on.steps)
     → (end : Core) × StandsAt end old.engine.number (start_of hub) (seen_by new) new.engine.log
     × RunsToAnswer core end old.engine.number asked limit is.kept.pending reply.body

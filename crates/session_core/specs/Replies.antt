@@ -11,6 +11,7 @@ use Rattle.edit_rules.specs.Fitting.{Fits, IsFaultOf}
 use Rattle.edit_history.specs.declared.entry.Entry.{Entry}
 use Rattle.edit_history.specs.Entries.{framework_after}
 use Rattle.edit_history.specs.Hubs.{GainsOthers, IsCommitted}
+use Rattle.oracle_face.specs.declared.entry.Entry.{Entry as PoolEntry}
 use Rattle.oracle_face.specs.declared.face.Pending.{Pending}
 use Rattle.oracle_face.specs.Growing.{Grows, HasRun}
 use Rattle.oracle_face.specs.Logs.{OracleLog}
@@ -114,10 +115,11 @@ abbrev pub IsShownIn : Framework → Asked → OracleLog → Body → Type 0
 IsShownIn f asked log (Answered answer certificate) = IsShownByLog f asked answer certificate.sets log
 IsShownIn f asked log body = Unit {0}
 
--- what was added for a query with this reply is steps of the session of the number `own` on this framework, and each loop
--- clause among them was taken by no hints when it came; so is a loop clause in hand; and the log shows the answer
-pub record IsBySteps (f : Framework) (own : ℕ) (asked : Asked) (old new : OracleLog) (pending : Option Pending)
-    (body : Body) : Type 0 where
-  pub goes_on : GoesOnBySteps f own old new
+-- what was added for a query with this reply is steps of the session of the number `own` on this framework, where its
+-- trade gave these entries, and each loop clause among them was taken by no hints when it came; so is a loop clause in
+-- hand; and the log shows the answer
+pub record IsBySteps (f : Framework) (own : ℕ) (given : List PoolEntry) (asked : Asked) (old new : OracleLog)
+    (pending : Option Pending) (body : Body) : Type 0 where
+  pub goes_on : GoesOnBySteps f own given old new
   pub in_hand : LoopInHand new pending
   pub shown : IsShownIn f asked new body

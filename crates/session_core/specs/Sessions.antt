@@ -1,5 +1,5 @@
 -- What is said of a session at a hub.
-use Rattle.std.specs.Prelude.{◌≡◌, ℕ, false, List, [], ◌∷◌, ◌++◌, length, take, drop}
+use Rattle.std.specs.Prelude.{◌≡◌, ℕ, false, List, [], ◌∷◌, ◌++◌, All, length, map, take, drop}
 use Rattle.semantics.specs.Frameworks.{Framework}
 use Rattle.iccma_tasks.specs.Tasks.{Asked}
 use Rattle.turn_lock.specs.Seats.{list_of}
@@ -8,6 +8,8 @@ use Rattle.edit_history.specs.declared.hub.Hub.{Hub}
 use Rattle.edit_history.specs.Entries.{framework_after}
 use Rattle.edit_history.specs.Hubs.{start_of}
 use Rattle.oracle_face.specs.Logs.{OracleLog}
+use Rattle.clause_pool.specs.declared.pool.Pool.{Pool}
+use Rattle.clause_pool.specs.Pools.{AreTokensOf, entry_of}
 use Rattle.session_replies.specs.declared.reply.Reply.{Reply}
 use Rattle.session_core.specs.declared.kept.KeptAnswer.{KeptAnswer}
 use Rattle.session_core.specs.declared.session.Session.{Session}
@@ -28,9 +30,13 @@ Follows hub session =
 abbrev pub FollowsFrom : Framework → Session → Type 0
 FollowsFrom f session = (hub : Hub) → start_of hub ≡ f → Follows hub session
 
+-- for each of these queries the tokens that are kept are the pool's
+abbrev pub RestOnPool : Pool → List KeptAnswer → Type 0
+RestOnPool pool answers = All (λ kept. AreTokensOf pool kept.tokens) answers
+
 -- the session took a query, and this is its reply: it followed the whole history as it then was, the log gained axioms
--- that were needed on the way, and then steps of the session, the reply is about the framework after the whole history,
--- and what is kept of the query is added
+-- that were needed on the way, and then steps of the session, for which the pool gave the entries of the tokens that
+-- are kept, the reply is about the framework after the whole history, and what is kept of the query is added
 pub record IsAsked (hub : Hub) (asked : Asked) (limit : ℕ) (old new : Session) (reply : Reply) : Type 0 where
   pub front : reply.front ≡ length (seen_by new)
   pub followed : new.followed ≡ length (seen_by new)
@@ -42,7 +48,7 @@ pub record IsAsked (hub : Hub) (asked : Asked) (limit : ℕ) (old new : Session)
   pub kept : KeptAnswer
   pub replied : IsReplied (framework_after (start_of hub) (seen_by new)) asked limit log new.engine.log kept.pending
       used reply.body
-  pub steps : IsBySteps (framework_after (start_of hub) (seen_by new)) old.engine.number asked log new.engine.log
-      kept.pending reply.body
+  pub steps : IsBySteps (framework_after (start_of hub) (seen_by new)) old.engine.number (map entry_of kept.tokens)
+      asked log new.engine.log kept.pending reply.body
   pub kept_is : IsKeptOf log new.engine.log reply.body kept
   pub answers : new.answers.items ≡ old.answers.items ++ kept ∷ []

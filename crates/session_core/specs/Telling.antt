@@ -1,5 +1,5 @@
 -- How a session comes to the reply to a query.
-use Rattle.std.specs.Prelude.{◌≡◌, ℕ, ◌<◌, [], ◌∷◌, ◌++◌, length, take, drop, Option, None, Result, Ok, Err}
+use Rattle.std.specs.Prelude.{◌≡◌, ℕ, ◌<◌, [], ◌∷◌, ◌++◌, length, map, take, drop, Option, None, Result, Ok, Err}
 use Rattle.semantics.specs.Frameworks.{Framework}
 use Rattle.iccma_tasks.specs.Tasks.{Asked}
 use Rattle.turn_lock.specs.Seats.{number_of, turns_of}
@@ -8,6 +8,7 @@ use Rattle.edit_history.specs.Entries.{framework_after}
 use Rattle.edit_history.specs.Hubs.{GainsOthers, IsSeatAt}
 use Rattle.oracle_face.specs.declared.face.Pending.{Pending}
 use Rattle.oracle_face.specs.Logs.{OracleLog}
+use Rattle.clause_pool.specs.Pools.{entry_of}
 use Rattle.oracle_core.specs.declared.reply.Answered.{Answered}
 use Rattle.oracle_core.specs.declared.reply.AnswerStop.{AnswerStop}
 use Rattle.oracle_core.specs.declared.reply.AnswerStop.TheVariants as stop
@@ -36,12 +37,12 @@ abbrev pub clause_kept : Body → Option Pending → Option Pending
 clause_kept (body.Unknown count) in_hand = in_hand
 clause_kept said in_hand = None
 
--- a query to the engine of a number came to a reply, and what is kept of it
+-- a query to the engine of a number came to a reply, and what is kept of it, with the tokens of what the pool gave
 pub record IsTold (f : Framework) (own : ℕ) (asked : Asked) (limit : ℕ) (old new : OracleLog) (told : Told) : Type 0
   where
     pub used : ℕ
     pub replied : IsReplied f asked limit old new told.kept.pending used told.body
-    pub steps : IsBySteps f own asked old new told.kept.pending told.body
+    pub steps : IsBySteps f own (map entry_of told.kept.tokens) asked old new told.kept.pending told.body
     pub kept_is : IsKeptOf old new told.body told.kept
 
 -- ---- the session's parts
@@ -66,6 +67,7 @@ pub record HasTold (asked : Asked) (limit : ℕ) (old new : Session) (said : Bod
   pub used : ℕ
   pub kept : KeptAnswer
   pub replied : IsReplied old.engine.framework asked limit old.engine.log new.engine.log kept.pending used said
-  pub steps : IsBySteps old.engine.framework old.engine.number asked old.engine.log new.engine.log kept.pending said
+  pub steps : IsBySteps old.engine.framework old.engine.number (map entry_of kept.tokens) asked old.engine.log
+      new.engine.log kept.pending said
   pub kept_is : IsKeptOf old.engine.log new.engine.log said kept
   pub answers : new.answers.items ≡ old.answers.items ++ kept ∷ []

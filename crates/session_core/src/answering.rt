@@ -1,18 +1,21 @@
 //! The reply to a query, on the framework that the engine is for.
 
-ghost use Rattle.std.specs.Prelude.{◌≡◌, IfOk};
+ghost use Rattle.std.specs.Prelude.{◌≡◌, [], IfOk};
+ghost use Rattle.clause_pool.specs.Pools.{AreTokensOf};
 ghost use Rattle.oracle_core.specs.Trading.{AnySide};
 ghost use Rattle.oracle_face.specs.Growing.{Grows};
 ghost use Rattle.session_core.specs.Telling.{IsBodyOf, IsTold, clause_kept};
 
 use crate::kept::KeptAnswer;
+use clause_pool::PoolTrade;
 use iccma_tasks::Query;
 use lists::Memory;
 use oracle_core::{AnswerStop, Answered, Engine};
-use oracle_face::{ClauseTrade, Pending};
+use oracle_face::Pending;
 use plain_lits::Budget;
 use session_replies::Body;
 use std::alloc::Global;
+use std::sync::Wait;
 
 /// How many extensions are listed at most.
 pub const EXTENSION_LIMIT: u32 = 10_000;
@@ -22,6 +25,8 @@ pub const EXTENSION_LIMIT: u32 = 10_000;
 pub(crate) struct Told {
     pub(crate) body: Body,
     pub(crate) kept: KeptAnswer,
+    /// The index of the next entry that the pool has to give.
+    pub(crate) next: u64,
 }
 
 /// What a reply says where the engine answered so.
@@ -48,32 +53,38 @@ fn clause_of(alloc: Global, engine: &Engine, body: &Body) -> Result<Option<Pendi
     }
 }
 
-/// Answers a query by at most so many units, without any lock. Clauses come and go by a trade meanwhile.
-pub(crate) fn tell<T: ClauseTrade>(
+/// Answers a query by at most so many units, without any lock. Clauses come and go meanwhile by a trade over the pool,
+/// which has given none yet.
+pub(crate) fn tell<R: Wait>(
     alloc: Global,
     engine: &mut Engine,
-    trade: &mut T,
+    mut trade: PoolTrade<'_, R>,
     query: &Query,
     limit: u64,
 ) -> Result<Told, Memory>
+    requires { trade.entry.taken ≡ [] }
     ensures told { IfOk result (IsTold engine.old.framework engine.old.number query.now limit engine.old.log
         engine.new.log) }
+    ensures tokens { IfOk result (λ told. AreTokensOf trade.entry.pool.now told.kept.tokens) }
     ensures framework { engine.new.framework ≡ engine.old.framework }
     ensures number { engine.new.number ≡ engine.old.number }
     ensures grows { Grows AnySide engine.old.log engine.new.log }
 {
     let before = engine.steps() as u64;
     let mut budget = Budget::new(limit);
-    let end = engine.answer(alloc, query, &mut budget, EXTENSION_LIMIT, trade);
+    let end = engine.answer(alloc, query, &mut budget, EXTENSION_LIMIT, &mut trade);
     let body = body_of(end)?;
     let pending = clause_of(alloc, engine, &body)?;
     let after = engine.steps() as u64;
+    let next = trade.next();
     Ok(Told {
         body,
         kept: KeptAnswer {
             before,
             after,
             pending,
+            tokens: trade.into_taken(),
         },
+        next,
     })
 }

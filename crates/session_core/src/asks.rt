@@ -7,7 +7,7 @@ ghost use Rattle.oracle_core.specs.Trading.{AnySide};
 ghost use Rattle.oracle_face.specs.Growing.{Grows};
 ghost use Rattle.oracle_face.specs.Logs.{IsKept};
 ghost use Rattle.session_core.specs.Following.{HasFollowed};
-ghost use Rattle.session_core.specs.Sessions.{Follows, IsAsked, seen_by};
+ghost use Rattle.session_core.specs.Sessions.{Follows, IsAsked, RestOnPool, seen_by};
 ghost use Rattle.session_core.specs.Telling.{HasTold, HasTurn, IsCaughtUp};
 
 use crate::answering::tell;
@@ -42,7 +42,8 @@ impl Session {
     }
 
     /// Answers a query on the framework that the engine is for, and keeps where its work stands in the log. Room for
-    /// that is made first. Clauses come from the pool and go there meanwhile.
+    /// that is made first. Clauses come from the pool and go there meanwhile; the tokens of those that came are kept.
+    #[tactic(auto, using(crate::proofs::SessionLemmas::rest_more))]
     fn answer<R: Wait>(
         &mut self,
         rt: &R,
@@ -56,14 +57,15 @@ impl Session {
         ensures framework { self.new.engine.framework ≡ self.old.engine.framework }
         ensures numbers { (self.new.number ≡ self.old.number) × (self.new.engine.number ≡ self.old.engine.number) }
         ensures answers { OnErr result (self.new.answers.items ≡ self.old.answers.items) }
+        ensures pooled { RestOnPool pool.now self.old.answers.items → RestOnPool pool.now self.new.answers.items }
         ensures seat { self.new.seat ≡ self.old.seat }
         ensures followed { self.new.followed ≡ self.old.followed }
         ensures lost { self.new.lost ≡ self.old.lost }
     {
         self.answers.reserve(1)?;
-        let mut trade = PoolTrade::new(rt, alloc, pool, self.taken);
-        let told = tell(alloc, &mut self.engine, &mut trade, query, limit)?;
-        self.taken = trade.next();
+        let trade = PoolTrade::new(rt, alloc, pool, self.taken);
+        let told = tell(alloc, &mut self.engine, trade, query, limit)?;
+        self.taken = told.next;
         self.answers.push(told.kept)?;
         Ok(told.body)
     }
@@ -86,6 +88,7 @@ impl Session {
         ensures grows { Grows AnySide self.old.engine.log self.new.engine.log }
         ensures numbers { (self.new.number ≡ self.old.number) × (self.new.engine.number ≡ self.old.engine.number) }
         ensures answers { OnErr result (self.new.answers.items ≡ self.old.answers.items) }
+        ensures pooled { RestOnPool pool.now self.old.answers.items → RestOnPool pool.now self.new.answers.items }
         ensures lost { self.new.lost ≡ self.old.lost }
     {
         let front = self.catch_up(rt, alloc, hub)?;
@@ -98,7 +101,8 @@ impl Session {
     /// reply is about the framework after it; its front is the history's length then. Others may edit meanwhile, since
     /// nothing is locked while the query is answered. Before each search the engine takes in what others share through
     /// the pool, where it may come in. Each step of the log stands beside those before it, be it one's own or taken from
-    /// another's entry. `Unknown` comes only where the units were spent on clauses that
+    /// another's entry: what came so, and each axiom that the framework doesn't need, is of entries that the pool gave,
+    /// of which the tokens are kept. `Unknown` comes only where the units were spent on clauses that
     /// were new and serve the query and a further one was in hand, `LogFull` only where the log is full, neither where
     /// the grounded set answers; `TooMany` where there are more than [`EXTENSION_LIMIT`](crate::EXTENSION_LIMIT)
     /// extensions to list. After `Memory` the session answers nothing any more.
@@ -121,6 +125,7 @@ impl Session {
         ensures grows { Grows AnySide self.old.engine.log self.new.engine.log }
         ensures numbers { (self.new.number ≡ self.old.number) × (self.new.engine.number ≡ self.old.engine.number) }
         ensures answers { OnErr result (self.new.answers.items ≡ self.old.answers.items) }
+        ensures pooled { RestOnPool pool.now self.old.answers.items → RestOnPool pool.now self.new.answers.items }
         ensures follows { Follows hub.now self.new }
         ensures stands { IsKept self.new.engine.framework self.new.engine.log }
         ensures kept { OnOk result (self.new.lost ≡ false) }

@@ -1,5 +1,7 @@
 //! What is left of a session.
 
+use clause_pool::Token;
+use lists::Items;
 use oracle_core::Engine;
 use oracle_face::Pending;
 
@@ -12,6 +14,8 @@ pub struct KeptAnswer {
     pub after: u64,
     /// Where the budget was spent, the clause that was in hand.
     pub pending: Option<Pending>,
+    /// The pool's tokens of the entries that it gave for the query.
+    pub tokens: Items<Token>,
 }
 
 /// An engine with its log, and where in the log each query's work stands.

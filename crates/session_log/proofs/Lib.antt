@@ -1,5 +1,6 @@
 pub mod AxiomLemmas
 pub mod Closing
+pub mod GivenSteps
 pub mod NewSides
 pub mod Showing
 pub mod Spending

@@ -1,4 +1,5 @@
 pub mod Ends
+pub mod GivenLaws
 pub mod Guards
 pub mod Laws
 pub mod Steps

@@ -1,6 +1,6 @@
 -- By what steps the log of a session goes on: an axiom comes, a clause is derived, a side clause is kept, or an entry of
--- another session is taken in.
-use Rattle.std.specs.Prelude.{◌≡◌, ◌⊎◌, ℕ, Bool, true, false, List, Contains}
+-- another session that a trade gave is taken in.
+use Rattle.std.specs.Prelude.{◌≡◌, ◌⊎◌, ℕ, Bool, true, false, List, Contains, take}
 use Rattle.semantics.specs.Frameworks.{Framework}
 use Rattle.meaning_atoms.specs.declared.atom.AtomLit.{AtomLit}
 use Rattle.meaning_atoms.specs.declared.axiom.AxiomName.{AxiomName}
@@ -23,9 +23,10 @@ abbrev pub NamesAxiom : AxiomName → EntryOrigin → Type 0
 NamesAxiom name (OfAxiom other) = other ≡ name
 NamesAxiom name (Hints names) = Contains names (Axiom name)
 
--- an entry that may be shared names the axiom
-pub record IsNamedByEntry (name : AxiomName) : Type 0 where
+-- an entry that was given, and may be shared, names the axiom
+pub record IsNamedByGiven (given : List Entry) (name : AxiomName) : Type 0 where
   pub entry : Entry
+  pub there : Contains given entry
   pub shareable : IsShareable entry
   pub named : NamesAxiom name entry.origin
 
@@ -42,24 +43,41 @@ pub record LearnsAxiom (Called : AxiomName → Type 0) (f : Framework) (name : A
   pub called : IsWanted Called old name (is_loop name)
   pub takes : TakesAxiom name clause old new
 
--- the framework needs the axiom, or an entry that may be shared names it
-abbrev pub IsCalledOn : Framework → AxiomName → Type 0
-IsCalledOn f name = IsNeeded f name ⊎ IsNamedByEntry name
+-- the framework needs the axiom, or an entry that was given names it
+abbrev pub IsCalledOn : Framework → List Entry → AxiomName → Type 0
+IsCalledOn f given name = IsNeeded f name ⊎ IsNamedByGiven given name
+
+-- ---- entries
+
+-- the one origin is the other, where of hints the last may be cut off
+abbrev pub IsCutOrigin : EntryOrigin → EntryOrigin → Type 0
+IsCutOrigin (Hints names) (Hints whole) = (count : ℕ) × (names ≡ take count whole)
+IsCutOrigin origin whole = origin ≡ whole
+
+-- the entry was given, and may be shared; of its hints the last may be cut off, since the check needn't look at all
+pub record WasGiven (given : List Entry) (entry : Entry) : Type 0 where
+  pub source : Entry
+  pub there : Contains given source
+  pub shareable : IsShareable source
+  pub clause : entry.clause ≡ source.clause
+  pub name : entry.name ≡ source.name
+  pub origin : IsCutOrigin entry.origin source.origin
 
 -- ---- steps
 
--- one step of the session of the number `own`, on this framework
-pub data OwnStep (f : Framework) (own : ℕ) (old new : OracleLog) : Type 0 where
-  learns_axiom : (name : AxiomName) (clause : List AtomLit) → LearnsAxiom (IsCalledOn f) f name clause old new
-      → OwnStep f own old new
+-- one step of the session of the number `own`, on this framework, where a trade gave these entries so far
+pub data OwnStep (f : Framework) (own : ℕ) (given : List Entry) (old new : OracleLog) : Type 0 where
+  learns_axiom : (name : AxiomName) (clause : List AtomLit) → LearnsAxiom (IsCalledOn f given) f name clause old new
+      → OwnStep f own given old new
   learns_clause : (clause : List AtomLit) (hints : List ℕ) (closing : Bool) → LearnsClause clause hints closing old new
-      → OwnStep f own old new
+      → OwnStep f own given old new
   keeps_side : (literals : List AtomLit) (set : List ℕ) (clause : List AtomLit)
-      → TakesSide literals set clause old new → OwnStep f own old new
-  takes_entry : (entry : Entry) → IsShareable entry → MayImport f own old entry → TakesEntry own entry old new
-      → OwnStep f own old new
+      → TakesSide literals set clause old new → OwnStep f own given old new
+  takes_entry : (entry : Entry) → WasGiven given entry → MayImport f own old entry → TakesEntry own entry old new
+      → OwnStep f own given old new
 
 -- such steps, one after the other
-pub data OwnSteps (f : Framework) (own : ℕ) : OracleLog → OracleLog → Type 0 where
-  nothing : (log : OracleLog) → OwnSteps f own log log
-  one_more : (old mid new : OracleLog) → OwnSteps f own old mid → OwnStep f own mid new → OwnSteps f own old new
+pub data OwnSteps (f : Framework) (own : ℕ) (given : List Entry) : OracleLog → OracleLog → Type 0 where
+  nothing : (log : OracleLog) → OwnSteps f own given log log
+  one_more : (old mid new : OracleLog) → OwnSteps f own given old mid → OwnStep f own given mid new
+      → OwnSteps f own given old new

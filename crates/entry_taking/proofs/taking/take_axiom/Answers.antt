@@ -32,12 +32,12 @@ returns-in-Ok-clause-comes c = λ f own.
     c.take_axiom.ensures.unspent
 
 pub returns-in-Ok-clause-steps : goal.returns-in-Ok-clause-steps
-returns-in-Ok-clause-steps c = λ f own same by.
+returns-in-Ok-clause-steps c = λ f own given same by.
     let so : c.in_ok-is_of_axiom.is_of_axiom ≡ true = search rules in
     let none : told_of c.args.names.now (Axiom c.args.name.now) ≡ None = search rules in
     let old = c.args.solver.now in
     let new = c.take_axiom.new.self in
-    axiom_step c.take_axiom.result f own c.args.assumption_based c.args.name.now c.args.names.now old new same
+    axiom_step c.take_axiom.result f own given c.args.assumption_based c.args.name.now c.args.names.now old new same
     c.requires.may (c.in_ok-is_of_axiom.ensures.0 so).0 by c.requires.looked none
     (subst (λ (n : AxiomName). OnOk c.take_axiom.result (AddsAxiom n old new)) c.in_ok-taken.ensures
     c.take_axiom.ensures.ok) c.take_axiom.ensures.err

@@ -26,11 +26,12 @@ returns-clause-comes c = λ f.
     c.as_slice.ensures c.in_ok-import.ensures.imported)
 
 pub returns-clause-steps : goal.returns-clause-steps
-returns-clause-steps c = λ f unknown.
+returns-clause-steps c = λ f given there unknown.
     let old = c.args.solver.now in
     let entry = c.args.entry.now in
-    import_step c.args.own entry c.args.hints.now c.in-Some.steps c.args.names.now old c.import.new.self
+    import_step c.args.own entry c.args.hints.now c.requires.origin c.in-Some.steps c.args.names.now old
+    c.import.new.self
     (subst (AreFound c.args.own old.log.steps c.args.hints.now) c.in-Some.is c.in_ok-steps.ensures)
-    c.requires.shareable c.requires.looked unknown c.in_ok-import.field-0 f
+    c.requires.shareable c.requires.looked unknown c.in_ok-import.field-0 f given there
     (subst (λ literals. IsImported literals c.in-Some.steps entry.name old c.import.new.self c.in_ok-import.field-0)
     c.as_slice.ensures c.in_ok-import.ensures.imported)

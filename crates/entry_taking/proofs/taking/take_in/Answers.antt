@@ -32,13 +32,15 @@ returns-in-Hints-clause-comes c =
     c.as_slice.ensures c.take_derived.ensures.comes
 
 pub returns-in-Axiom-clause-steps : goal.returns-in-Axiom-clause-steps
-returns-in-Axiom-clause-steps c = λ f same.
-    c.take_named.ensures.steps f c.args.own same (record {
+returns-in-Axiom-clause-steps c = λ f given same there.
+    c.take_named.ensures.steps f c.args.own given same (record {
       entry = c.args.entry.now;
+      there = there;
       shareable = c.requires.shareable;
       named = subst (NamesAxiom c.in-Axiom.name) (sym c.in-Axiom.is) refl;
     })
 
 pub returns-in-Hints-clause-steps : goal.returns-in-Hints-clause-steps
-returns-in-Hints-clause-steps c = λ f same.
-    c.take_derived.ensures.steps f (λ known. false≢true (sym c.if-is_taken.false ∙ c.is_taken.ensures.1 known))
+returns-in-Hints-clause-steps c = λ f given same there.
+    c.take_derived.ensures.steps f given there
+    (λ known. false≢true (sym c.if-is_taken.false ∙ c.is_taken.ensures.1 known))

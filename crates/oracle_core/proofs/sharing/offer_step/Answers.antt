@@ -12,3 +12,9 @@ offer-requires g c =
     c.requires.whole.guarded c.requires.step
     (subst (λ r. IfSome r (IsEntryOf c.args.own p.solver.log.steps c.args.step)) c.in-Ok-Some.field-0-is
     c.in-Ok-Some.ensures)
+
+pub returns-in-Ok-None-clause-follows : goal.returns-in-Ok-None-clause-follows
+returns-in-Ok-None-clause-follows g c = g.met.T.ClauseTrade.stays c.args.trade.now
+
+pub returns-in-Err-clause-follows : goal.returns-in-Err-clause-follows
+returns-in-Err-clause-follows g c = g.met.T.ClauseTrade.stays c.args.trade.now

@@ -11,8 +11,11 @@ returns-clause-trades g c =
     let b = c.find_settled-end.new.self in
     let left = g.T.ClauseTrade.left c.args.trade.now in
     let later = g.T.ClauseTrade.left c.offer.new.trade in
-    subst (λ (e : EngineState). Trades a e left later c.args.lost.now c.find_settled-end.new.lost)
+    let gave = g.T.ClauseTrade.gave c.args.trade.now in
+    let gave_later = g.T.ClauseTrade.gave c.offer.new.trade in
+    subst (λ (e : EngineState). Trades a e left later gave gave_later c.args.lost.now c.find_settled-end.new.lost)
     (sym c.offer.ensures.same)
-    (offered_trades NoSide a b left later c.args.lost.now c.find_settled-end.new.lost c.offer.ensures.left
+    (offered_trades NoSide a b left later gave gave_later c.args.lost.now c.find_settled-end.new.lost
+    c.offer.ensures.left c.offer.ensures.gave
     c.find_settled-end.ensures.number c.find_settled-end.ensures.framework c.find_settled-end.ensures.run.grows
     c.find_settled-end.ensures.lost c.find_settled-end.ensures.steps)

@@ -13,7 +13,8 @@ pub returns-in_err-force-clause-trades : goal.returns-in_err-force-clause-trades
 returns-in_err-force-clause-trades g c =
     let a = c.args.self.now in
     let b = c.force.new.self in
-    forced_trades a b (g.T.ClauseTrade.left c.args.trade.now) c.args.lost.now c.in_err-force.ensures.number
+    forced_trades a b (g.T.ClauseTrade.left c.args.trade.now) (g.T.ClauseTrade.gave c.args.trade.now) c.args.lost.now
+    c.in_err-force.ensures.number
     c.in_err-force.ensures.framework (c.in_err-force.ensures.run no_units).grows c.in_err-force.ensures.steps
 
 pub returns-in_err-force-clause-run : goal.returns-in_err-force-clause-run
@@ -28,11 +29,13 @@ returns-then-is_err-clause-trades g c =
     let d = c.take_all-taken.new.self in
     let left = g.T.ClauseTrade.left c.args.trade.now in
     let later = g.T.ClauseTrade.left c.take_all-taken.new.trade in
-    trades_joined a b d left left later c.args.lost.now c.args.lost.now true
-    (forced_trades a b left c.args.lost.now c.in_ok-force.ensures.number c.in_ok-force.ensures.framework
+    let gave = g.T.ClauseTrade.gave c.args.trade.now in
+    let gave_new = g.T.ClauseTrade.gave c.take_all-taken.new.trade in
+    trades_joined a b d left left later gave gave gave_new c.args.lost.now c.args.lost.now true
+    (forced_trades a b left gave c.args.lost.now c.in_ok-force.ensures.number c.in_ok-force.ensures.framework
     (c.in_ok-force.ensures.run no_units).grows c.in_ok-force.ensures.steps)
-    (lost_trades b d left later c.args.lost.now c.take_all-taken.ensures.number c.take_all-taken.ensures.framework
-    (c.take_all-taken.ensures.run no_units).grows)
+    (lost_trades b d left later gave gave_new c.args.lost.now c.take_all-taken.ensures.number
+    c.take_all-taken.ensures.framework (c.take_all-taken.ensures.run no_units).grows c.take_all-taken.ensures.gave)
 
 pub returns-clause-run : goal.returns-clause-run
 returns-clause-run g c = λ units.
@@ -58,14 +61,20 @@ returns-clause-trades g c =
     let d = c.take_all-taken.new.self in
     let left = g.T.ClauseTrade.left c.args.trade.now in
     let later = g.T.ClauseTrade.left c.take_all-taken.new.trade in
-    trades_joined a b d left left later c.args.lost.now c.args.lost.now c.args.lost.now
-    (forced_trades a b left c.args.lost.now c.in_ok-force.ensures.number c.in_ok-force.ensures.framework
+    let gave = g.T.ClauseTrade.gave c.args.trade.now in
+    let gave_new = g.T.ClauseTrade.gave c.take_all-taken.new.trade in
+    trades_joined a b d left left later gave gave gave_new c.args.lost.now c.args.lost.now c.args.lost.now
+    (forced_trades a b left gave c.args.lost.now c.in_ok-force.ensures.number c.in_ok-force.ensures.framework
     (c.in_ok-force.ensures.run no_units).grows c.in_ok-force.ensures.steps)
-    (all_trades b d left later c.args.lost.now c.take_all-taken.ensures.number c.take_all-taken.ensures.framework
-    (c.take_all-taken.ensures.run no_units).grows c.take_all-taken.ensures.steps
+    (all_trades b d left later gave gave_new c.args.lost.now c.take_all-taken.ensures.number
+    c.take_all-taken.ensures.framework (c.take_all-taken.ensures.run no_units).grows c.take_all-taken.ensures.gave
+    c.take_all-taken.ensures.steps
     (ok_of c.take_all-taken.result (sym c.is_err.ensures.value ∙ c.if-is_err.false) c.take_all-taken.ensures.all))
 
 pub returns-clause-all : goal.returns-clause-all
 returns-clause-all g c = λ told is.
     (ok_of c.take_all-taken.result (sym c.is_err.ensures.value ∙ c.if-is_err.false) c.take_all-taken.ensures.all told
     is).emptied
+
+pub returns-in_err-force-clause-follows : goal.returns-in_err-force-clause-follows
+returns-in_err-force-clause-follows g c = g.met.T.ClauseTrade.stays c.args.trade.now

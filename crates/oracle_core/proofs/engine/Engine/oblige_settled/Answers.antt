@@ -6,10 +6,10 @@ use Rattle.oracle_core.proofs.TradeLemmas.{called_trades}
 use Rattle.oracle_core.proofs.engine.Engine.oblige_settled.Goals as goal
 
 pub returns-clause-trades : goal.returns-clause-trades
-returns-clause-trades c = rw (← c.self.view_is) (λ left.
+returns-clause-trades c = rw (← c.self.view_is) (λ left gave.
     let own = c.self.inside.number in
     let parts = c.oblige_settled.new.self in
     called_trades (OnlySide c.args.side.now c.args.from.now) (engine_state own c.self.inside.parts)
-    (engine_state own parts) left c.args.lost.now c.oblige_settled.new.lost refl
+    (engine_state own parts) left gave c.args.lost.now c.oblige_settled.new.lost refl
     (ap framework_of c.oblige_settled.ensures.framework) c.oblige_settled.ensures.run.grows c.oblige_settled.ensures.kept
     (λ so. c.oblige_settled.ensures.steps own))

@@ -12,9 +12,12 @@ returns-clause-trades g c =
     let b = c.force_and_take-end.new.self in
     let left = g.T.ClauseTrade.left c.args.trade.now in
     let later = g.T.ClauseTrade.left c.force_and_take-end.new.trade in
-    subst (λ (e : EngineState). Trades a e left later c.args.lost.now c.force_and_take-end.new.lost)
+    let gave = g.T.ClauseTrade.gave c.args.trade.now in
+    let gave_later = g.T.ClauseTrade.gave c.force_and_take-end.new.trade in
+    subst (λ (e : EngineState). Trades a e left later gave gave_later c.args.lost.now c.force_and_take-end.new.lost)
     (sym c.forget.ensures.forgotten)
-    (trades_forgotten a b left later c.args.lost.now c.force_and_take-end.new.lost c.force_and_take-end.ensures.trades)
+    (trades_forgotten a b left later gave gave_later c.args.lost.now c.force_and_take-end.new.lost
+    c.force_and_take-end.ensures.trades)
 
 pub returns-clause-run : goal.returns-clause-run
 returns-clause-run g c = λ (units : Units).

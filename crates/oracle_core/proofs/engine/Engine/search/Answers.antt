@@ -57,8 +57,10 @@ returns-clause-trade g c = λ other told here.
     let is : c.self-1.given.0 ≡ o.engine.now = search rules in
     let is' : c.trade-1.given.0 ≡ o.trade.now = search rules in
     let all = trades_joined a b o.engine.now (g.T.ClauseTrade.left c.args.trade.now)
-    (g.T.ClauseTrade.left c.prepare.new.trade) (g.T.ClauseTrade.left o.trade.now) false c.prepare.new.lost o.lost
-    c.in_ok-prepare.ensures.trades c.answer-end.ensures.follows.2 in
+    (g.T.ClauseTrade.left c.prepare.new.trade) (g.T.ClauseTrade.left o.trade.now)
+    (g.T.ClauseTrade.gave c.args.trade.now) (g.T.ClauseTrade.gave c.prepare.new.trade)
+    (g.T.ClauseTrade.gave o.trade.now) false c.prepare.new.lost o.lost c.in_ok-prepare.ensures.trades
+    c.answer-end.ensures.follows.2 in
     subst (λ (e : EngineState). TakesFrom a.framework a.number told (g.T.ClauseTrade.left c.trade-1.given.0) a.log e.log)
     (sym is)
     (subst (λ t. TakesFrom a.framework a.number told (g.T.ClauseTrade.left t) a.log o.engine.now.log) (sym is')
@@ -99,10 +101,32 @@ returns-clause-steps g c = λ other.
     let b = c.prepare.new.self in
     let o = c.answer-end.new.oracle in
     let is : c.self-1.given.0 ≡ o.engine.now = search rules in
+    let is' : c.trade-1.given.0 ≡ o.trade.now = search rules in
     let all = trades_joined a b o.engine.now (g.T.ClauseTrade.left c.args.trade.now)
-    (g.T.ClauseTrade.left c.prepare.new.trade) (g.T.ClauseTrade.left o.trade.now) false c.prepare.new.lost o.lost
-    c.in_ok-prepare.ensures.trades c.answer-end.ensures.follows.2 in
-    subst (λ (e : EngineState). GoesOnBySteps a.framework a.number a.log e.log) (sym is) (all.stepped c.if-trading.false)
+    (g.T.ClauseTrade.left c.prepare.new.trade) (g.T.ClauseTrade.left o.trade.now)
+    (g.T.ClauseTrade.gave c.args.trade.now) (g.T.ClauseTrade.gave c.prepare.new.trade)
+    (g.T.ClauseTrade.gave o.trade.now) false c.prepare.new.lost o.lost c.in_ok-prepare.ensures.trades
+    c.answer-end.ensures.follows.2 in
+    subst (λ (e : EngineState). GoesOnBySteps a.framework a.number (g.T.ClauseTrade.gave c.trade-1.given.0) a.log e.log)
+    (sym is)
+    (subst (λ t. GoesOnBySteps a.framework a.number (g.T.ClauseTrade.gave t) a.log o.engine.now.log) (sym is')
+    (all.stepped c.if-trading.false))
+
+pub returns-then-trading-clause-follows : goal.returns-then-trading-clause-follows
+returns-then-trading-clause-follows g c =
+    let o = c.answer-end.new.oracle in
+    let is' : c.trade-1.given.0 ≡ o.trade.now = search rules in
+    subst (g.T.ClauseTrade.follows c.args.trade.now) (sym is')
+    (g.met.T.ClauseTrade.joins c.args.trade.now c.prepare.new.trade o.trade.now c.in_ok-prepare.ensures.follows
+    c.answer-end.ensures.follows.4)
+
+pub returns-clause-follows : goal.returns-clause-follows
+returns-clause-follows g c =
+    let o = c.answer-end.new.oracle in
+    let is' : c.trade-1.given.0 ≡ o.trade.now = search rules in
+    subst (g.T.ClauseTrade.follows c.args.trade.now) (sym is')
+    (g.met.T.ClauseTrade.joins c.args.trade.now c.prepare.new.trade o.trade.now c.in_ok-prepare.ensures.follows
+    c.answer-end.ensures.follows.4)
 
 pub returns-clause-in_hand : goal.returns-clause-in_hand
 returns-clause-in_hand g c =

@@ -1,4 +1,4 @@
-use Rattle.std.proofs.Common.{ℕ}
+use Rattle.std.proofs.Common.{ℕ, []}
 use Rattle.edit_rules.specs.Kinds.{framework_of}
 use Rattle.oracle_face.specs.Growing.{closes, halt_of}
 use Rattle.atom_solver.proofs.Running.{unless_all}
@@ -17,7 +17,7 @@ returns-in_err-force-clause-steps c =
     let p = c.args.self.now in
     let t = c.force.new.self in
     let f = framework_of p.framework in
-    unless_all ((own : ℕ) → GoesOnBySteps f own p.solver.log t.solver.log) (halt_of c.from_residual.result)
+    unless_all ((own : ℕ) → GoesOnBySteps f own [] p.solver.log t.solver.log) (halt_of c.from_residual.result)
     c.in_err-force.ensures.steps
 
 pub returns-in_err-force-clause-in_hand : goal.returns-in_err-force-clause-in_hand

@@ -1,4 +1,4 @@
-use Rattle.std.proofs.Common.{ℕ, subst, None, Ok, Some}
+use Rattle.std.proofs.Common.{ℕ, subst, None, Ok, Some, []}
 use Rattle.edit_rules.specs.Kinds.{framework_of}
 use Rattle.oracle_face.specs.Growing.{HasRun, NoSide, UnlessMemory}
 use Rattle.oracle_core.specs.Readings.{closes_turn}
@@ -48,8 +48,8 @@ pub returns-in_err-found-clause-steps : goal.returns-in_err-found-clause-steps
 returns-in_err-found-clause-steps c =
     let first = c.args.self.now in
     let next = c.turn.new.self in
-    handed_on (λ halt. UnlessMemory halt ((own : ℕ) → GoesOnBySteps (framework_of first.framework) own first.solver.log
-    next.solver.log)) c.from_residual.result c.in_err-found.field-0.0 c.from_residual.ensures
+    handed_on (λ halt. UnlessMemory halt ((own : ℕ) → GoesOnBySteps (framework_of first.framework) own []
+    first.solver.log next.solver.log)) c.from_residual.result c.in_err-found.field-0.0 c.from_residual.ensures
     (turned_steps first c.models.self next c.args.budget.now c.models.budget c.turn.new.budget c.models.invariant
     c.in_err-found.ensures.framework (Some c.in_err-found.field-0.0) c.in_err-found.ensures.steps)
 

@@ -1,4 +1,4 @@
-use Rattle.std.proofs.Common.{◌∙◌, ℕ, ap, subst, sym}
+use Rattle.std.proofs.Common.{◌∙◌, ℕ, ap, subst, sym, []}
 use Rattle.std.specs.Prelude.{IfOk}
 use Rattle.edit_rules.specs.Kinds.{framework_of}
 use Rattle.oracle_face.specs.Growing.{HasRun, IsFound, NoSide, closes, halt_of}
@@ -53,8 +53,9 @@ returns-clause-steps c = λ so own.
     let is = c.settle.ensures.parts ∙ ap (settled q) c.halt_in.ensures in
     let flag = sym (c.settle.ensures.lost ∙ ap (λ h. lost_by h c.args.lost.now) c.halt_in.ensures) in
     let f = framework_of p.framework in
-    subst (λ (r : Parts). GoesOnBySteps f own p.solver.log r.solver.log) (sym is)
-    (without_memory ((own : ℕ) → GoesOnBySteps f own p.solver.log q.solver.log) (halt_of c.find-end.result) c.args.lost.now
+    subst (λ (r : Parts). GoesOnBySteps f own [] p.solver.log r.solver.log) (sym is)
+    (without_memory ((own : ℕ) → GoesOnBySteps f own [] p.solver.log q.solver.log) (halt_of c.find-end.result)
+    c.args.lost.now
     (flag ∙ so) c.find-end.ensures.steps own)
 
 pub returns-clause-in_hand : goal.returns-clause-in_hand

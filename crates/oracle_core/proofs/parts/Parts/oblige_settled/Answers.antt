@@ -1,4 +1,4 @@
-use Rattle.std.proofs.Common.{◌∙◌, ap, subst, sym}
+use Rattle.std.proofs.Common.{◌∙◌, ap, subst, sym, []}
 use Rattle.std.specs.Prelude.{IfOk}
 use Rattle.edit_rules.specs.Kinds.{framework_of}
 use Rattle.oracle_face.specs.Growing.{HasRun, Obliges, OnlySide, halt_of}
@@ -51,7 +51,7 @@ returns-clause-steps c = λ own.
     let p = c.args.self.now in
     let q = c.oblige-end.new.self in
     let is = c.settle.ensures.parts ∙ ap (settled q) c.halt_in.ensures in
-    subst (λ (r : Parts). GoesOnBySteps (framework_of p.framework) own p.solver.log r.solver.log) (sym is)
+    subst (λ (r : Parts). GoesOnBySteps (framework_of p.framework) own [] p.solver.log r.solver.log) (sym is)
     (c.oblige-end.ensures.steps own)
 
 pub returns-clause-in_hand : goal.returns-clause-in_hand

@@ -1,4 +1,4 @@
-use Rattle.std.proofs.Common.{subst}
+use Rattle.std.proofs.Common.{subst, []}
 use Rattle.plain_lits.specs.declared.halt.Halt.TheVariants.{Memory}
 use Rattle.edit_rules.specs.Kinds.{framework_of}
 use Rattle.oracle_core.specs.Readings.{IsReadAs, IsReading}
@@ -30,7 +30,7 @@ returns-in-Set-clause-turn c =
 
 pub returns-in_err-set-clause-steps : goal.returns-in_err-set-clause-steps
 returns-in_err-set-clause-steps c = λ own.
-    let p = c.args.self.now in goes_on_none (framework_of p.framework) own p.solver.log
+    let p = c.args.self.now in goes_on_none (framework_of p.framework) own [] p.solver.log
 
 pub returns-in_err-set-clause-in_hand : goal.returns-in_err-set-clause-in_hand
 returns-in_err-set-clause-in_hand c =
@@ -40,4 +40,4 @@ returns-in_err-set-clause-in_hand c =
 
 pub returns-in-Set-clause-steps : goal.returns-in-Set-clause-steps
 returns-in-Set-clause-steps c = λ own.
-    let p = c.args.self.now in goes_on_none (framework_of p.framework) own p.solver.log
+    let p = c.args.self.now in goes_on_none (framework_of p.framework) own [] p.solver.log

@@ -29,9 +29,9 @@ returns-clause-comes c =
     p.solver.log c.take_in.new.solver.log (sym c.is_aba-assumption_based.ensures) c.take_in.ensures.comes
 
 pub returns-clause-steps : goal.returns-clause-steps
-returns-clause-steps c =
+returns-clause-steps c = λ given there.
     let p = c.args.self.now in
     let f = framework_of p.framework in
     let counted = (c.take_in.ensures.goes.run f no_units c.requires.whole.guarded).works.counted in
-    entry_goes_on f c.args.own p.solver.log c.take_in.new.solver.log (omega (arith, counted))
-    (c.take_in.ensures.steps f (sym c.is_aba-assumption_based.ensures))
+    entry_goes_on f c.args.own given p.solver.log c.take_in.new.solver.log (omega (arith, counted))
+    (c.take_in.ensures.steps f given (sym c.is_aba-assumption_based.ensures) there)

@@ -1,4 +1,4 @@
-use Rattle.std.proofs.Common.{Err, ap, subst, sym}
+use Rattle.std.proofs.Common.{Err, ap, subst, sym, []}
 use Rattle.edit_rules.specs.Kinds.{framework_of}
 use Rattle.oracle_face.specs.Growing.{NoSide}
 use Rattle.oracle_core.specs.Stepping.{GoesOnBySteps}
@@ -63,7 +63,8 @@ pub returns-in_err-take_loop-clause-steps : goal.returns-in_err-take_loop-clause
 returns-in_err-take_loop-clause-steps c = λ own.
     let p = c.args.self.now in
     let f = framework_of p.framework in
-    subst (GoesOnBySteps f own p.solver.log) (sym c.in_err-take_loop.ensures.same) (goes_on_none f own p.solver.log)
+    subst (GoesOnBySteps f own [] p.solver.log) (sym c.in_err-take_loop.ensures.same)
+    (goes_on_none f own [] p.solver.log)
 
 pub returns-in_err-take_loop-clause-in_hand : goal.returns-in_err-take_loop-clause-in_hand
 returns-in_err-take_loop-clause-in_hand c =

@@ -1,4 +1,4 @@
-use Rattle.std.proofs.Common.{ℕ, ap, subst, None, Ok, Some}
+use Rattle.std.proofs.Common.{ℕ, ap, subst, None, Ok, Some, []}
 use Rattle.edit_rules.specs.Kinds.{framework_of}
 use Rattle.oracle_face.specs.Growing.{HasRun, NoSide, UnlessMemory, halt_of}
 use Rattle.atom_solver.specs.Searches.{ends_in}
@@ -37,7 +37,7 @@ returns-in_err-values-clause-steps c =
     let p = c.args.self.now in
     let s = c.search.new.self in
     let f = framework_of p.framework in
-    handed_on (λ halt. UnlessMemory halt ((own : ℕ) → GoesOnBySteps f own p.solver.log s.solver.log))
+    handed_on (λ halt. UnlessMemory halt ((own : ℕ) → GoesOnBySteps f own [] p.solver.log s.solver.log))
     c.from_residual.result c.in_err-values.field-0.0 c.from_residual.ensures
     (search_goes_on f p.solver.log s.solver.log (Some c.in_err-values.field-0.0) c.in_err-values.ensures.learns)
 
@@ -52,7 +52,7 @@ returns-in-Model-clause-steps c =
     let p = c.args.self.now in
     let s = c.search.new.self in
     let f = framework_of p.framework in
-    unless_all ((own : ℕ) → GoesOnBySteps f own p.solver.log c.read.new.self.solver.log) (halt_of c.read.result)
+    unless_all ((own : ℕ) → GoesOnBySteps f own [] p.solver.log c.read.new.self.solver.log) (halt_of c.read.result)
     (turn_steps f (framework_of s.framework) p.solver.log s.solver.log c.read.new.self.solver.log
     (ap framework_of c.in_ok-values.ensures.framework) c.in_ok-values.ensures.learns c.read.ensures.steps)
 

@@ -32,11 +32,16 @@ returns-clause-follows g c =
     let b = c.prepare.new.self in
     let d = c.find_and_offer-2.new.self in
     let left = g.T.ClauseTrade.left c.args.self.now.trade.now in
-    let later = g.T.ClauseTrade.left c.prepare.new.trade in (
+    let later = g.T.ClauseTrade.left c.prepare.new.trade in
+    let gave = g.T.ClauseTrade.gave c.args.self.now.trade.now in
+    let gave_later = g.T.ClauseTrade.gave c.prepare.new.trade in (
       refl,
       refl,
-      trades_joined a b d left later (g.T.ClauseTrade.left c.find_and_offer-2.new.trade)
+      trades_joined a b d left later (g.T.ClauseTrade.left c.find_and_offer-2.new.trade) gave gave_later
+          (g.T.ClauseTrade.gave c.find_and_offer-2.new.trade)
           c.args.self.now.lost c.prepare.new.lost c.find_and_offer-2.new.lost
           c.in_ok-prepare.ensures.trades c.find_and_offer-2.ensures.trades,
       inl c.find_and_offer-2.ensures.in_hand,
+      g.met.T.ClauseTrade.joins c.args.self.now.trade.now c.prepare.new.trade c.find_and_offer-2.new.trade
+          c.in_ok-prepare.ensures.follows c.find_and_offer-2.ensures.follows,
     )
