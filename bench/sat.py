@@ -54,7 +54,7 @@ fn read_lits(alloc: Global, line: &str) -> Result<Vec<Lit>, Memory> {
 /// Adds a clause, whose variables are worth deciding.
 fn add_clause(solver: &mut Solver, alloc: Global, lits: &[Lit]) -> Result<(), LogFault> {
     for lit in lits {
-        solver.name(Lit {
+        solver.declare(Lit {
             var: lit.var,
             positive: false,
         })?;

@@ -39,7 +39,7 @@ ghost use Rattle.edit_rules.specs.Replay.{IsTaken};
 
 use dung_notions::AfPlain;
 use edit_rules::{Edit, Effect, Framework};
-use hinted_log::MOST_STEPS;
+use hinted_log::MAX_STEPS;
 use oracle_core::Engine;
 use plain_lists::Memory;
 use semantics::is_argument;
@@ -349,7 +349,7 @@ fn measure_engine(
     arguments: u32,
     count: u32,
 ) -> io::Result<()> {
-    let Ok(mut engine) = Engine::new(alloc, 1, Framework::Af(plain), MOST_STEPS) else {
+    let Ok(mut engine) = Engine::new(alloc, 1, Framework::Af(plain), MAX_STEPS) else {
         return Ok(());
     };
     let Some(first) = followed(rt, alloc, &mut engine, state, arguments, true)? else {

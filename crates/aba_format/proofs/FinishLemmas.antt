@@ -1,5 +1,6 @@
 -- From what the lines say to the framework.
-use Rattle.std.proofs.Common.{◌≡◌, ℕ, zero, suc, ◌+◌, ◌<◌, ◌≤◌, List, [], ◌∷◌, ◌++◌, length, map, take, get_or, refl, sym, ap, subst, ◌∙◌, ◌⊎◌, inl, inr, ⊎_elim, arith}
+use Rattle.std.proofs.Common.{◌≡◌, ℕ, zero, suc, ◌+◌, ◌<◌, ◌≤◌, List, [], ◌∷◌, ◌++◌, length, map, take, get_or}
+use Rattle.std.proofs.Common.{refl, sym, ap, subst, ◌∙◌, ◌⊎◌, inl, inr, ⊎_elim, arith}
 use Rattle.std.specs.Prelude.{Contains, ◌↔◌, Result, Ok, Err, IfOk}
 use Rattle.std.specs.List.{range_with_len}
 use Rattle.std.specs.List.Sorted.{IsStrictlyIncreasing}
@@ -14,15 +15,16 @@ use Rattle.num_text.specs.Lines.{kept}
 use Rattle.af_format.specs.Headers.{aba_word, BeginWith}
 use Rattle.af_format.proofs.Reading.{arguments_rise}
 use Rattle.aba_laws.proofs.Images.{image_there, image_from}
-use Rattle.semantics.specs.declared.numbers.TheConstants.{LAST_ATOM}
+use Rattle.semantics.specs.declared.numbers.TheConstants.{MAX_ATOM}
 use Rattle.semantics.specs.AbaFrameworks.{Aba, IsAtom, IsNumberedAba}
 use Rattle.aba_notions.specs.declared.rule_table.RuleLists.{RuleLists}
 use Rattle.semantics.specs.Rules.{Rule}
 use Rattle.aba_notions.specs.Storage.{AreParts, AreRulesOf, no_rule}
-use Rattle.aba_format.specs.AbaText.{Said, says_assumption, says_contrary, says_rule, atoms_of, rules_said, IsRuleSaid, IsFrameworkOf, ReadsAs}
+use Rattle.aba_format.specs.AbaText.{Said, says_assumption, says_contrary, says_rule, atoms_of, rules_said}
+use Rattle.aba_format.specs.AbaText.{IsRuleSaid, IsFrameworkOf, ReadsAs}
 use Rattle.aba_format.specs.Reading.{AreRulesIn, AreWhole}
 use Rattle.aba_format.specs.Finishing.{AreFrameworkParts, IsPairedBy, IsFrameworkBy}
-use Rattle.aba_format.specs.declared.said.Parts.{Parts}
+use Rattle.aba_format.specs.declared.said.LineParts.{LineParts}
 use Rattle.aba_format.proofs.SaysLemmas.{atoms_within, said_by_line, listed_rule}
 
 pub paired_all : (assumptions contrary : List ℕ) (pairs : List (ℕ × ℕ)) (n : ℕ) → length assumptions ≤ n
@@ -46,7 +48,7 @@ rule_in : (all : List Said) (k : ℕ) (d : ℕ × List ℕ) → k < length (rule
     → Contains all (says_rule (get_or (rules_said all) k d).0 (get_or (rules_said all) k d).1)
 rule_in all k d lt = listed_rule all (get_or (rules_said all) k d) (Contains-get_or (rules_said all) k d lt)
 
-pub framework_parts : (count : ℕ) (lines : List LineText) (parts : Parts) → count ≤ LAST_ATOM
+pub framework_parts : (count : ℕ) (lines : List LineText) (parts : LineParts) → count ≤ MAX_ATOM
     → AreWhole count lines parts → AreFrameworkParts count parts
 framework_parts count lines parts small h =
     let all = h.read.all in
@@ -97,7 +99,8 @@ number_in n k c =
     let here = get_or-range_with_len 1 n c.0 k lt in
     (omega (arith, here, c.2), omega (arith, here, c.2))
 
-pub made_parts : (count : ℕ) (parts : Parts) (assumptions : List ℕ) (pairs : List (ℕ × ℕ)) (rules : RuleLists) (next : ℕ)
+pub made_parts : (count : ℕ) (parts : LineParts) (assumptions : List ℕ) (pairs : List (ℕ × ℕ)) (rules : RuleLists)
+    (next : ℕ)
     → AreFrameworkParts count parts → ((x : ℕ) → Contains assumptions x ↔ Contains parts.assumptions.items x)
     → IsPairedBy assumptions parts.contrary.items pairs
     → rules.numbers.items ≡ range_with_len 1 (length parts.heads.items) → rules.heads.items ≡ parts.heads.items
@@ -131,7 +134,7 @@ made_parts count parts assumptions pairs rules next h same paired numbers heads 
       flat = λ x c d. h.flat x (subst (λ hs. Contains hs x) heads c) ((same x).0 d);
     }
 
-pub made_framework : {E : Type 0} (r : Result Aba E) (count : ℕ) (parts : Parts) (assumptions : List ℕ)
+pub made_framework : {E : Type 0} (r : Result Aba E) (count : ℕ) (parts : LineParts) (assumptions : List ℕ)
     (pairs : List (ℕ × ℕ)) (rules : RuleLists) (next : ℕ)
     → ((x : ℕ) → Contains assumptions x ↔ Contains parts.assumptions.items x)
     → IsPairedBy assumptions parts.contrary.items pairs
@@ -180,7 +183,8 @@ rules_zip rules heads bodies rs h is = zip_by_index IsRuleSaid rules rs no_rule 
     headed = is.heads_are ∙ h.heads_are
 
     long : length rules ≡ length rs
-    long = sym (length-map rules (λ (r : ℕ × List ℕ). r.0)) ∙ sym (ap length headed) ∙ length-map rs (λ (r : Rule). r.head)
+    long = sym (length-map rules (λ (r : ℕ × List ℕ). r.0)) ∙ sym (ap length headed) ∙ length-map rs
+        (λ (r : Rule). r.head)
 
     each : (k : ℕ) → k < length rules → IsRuleSaid (get_or rules k (0, [])) (get_or rs k no_rule)
     each k lt = record {
@@ -192,7 +196,7 @@ rules_zip rules heads bodies rs h is = zip_by_index IsRuleSaid rules rs no_rule 
       );
     }
 
-pub framework_said : (count : ℕ) (lines : List LineText) (parts : Parts) (f : Aba) (h : AreWhole count lines parts)
+pub framework_said : (count : ℕ) (lines : List LineText) (parts : LineParts) (f : Aba) (h : AreWhole count lines parts)
     → IsFrameworkBy count parts f → IsFrameworkOf count h.read.all f
 framework_said count lines parts f h is =
     let all = h.read.all in
@@ -238,7 +242,7 @@ framework_said count lines parts f h is =
       form = is.form;
     }
 
-pub reads_as : (bytes : List ℕ) (count : ℕ) (left : List LineText) (parts : Parts) (f : Aba)
+pub reads_as : (bytes : List ℕ) (count : ℕ) (left : List LineText) (parts : LineParts) (f : Aba)
     → BeginWith aba_word bytes count left → AreWhole count (kept left) parts → IsFrameworkBy count parts f
     → ReadsAs bytes f
 reads_as bytes count left parts f h are is = record {

@@ -1,5 +1,6 @@
 -- The atoms that were given contraries, with the lines that first did so.
-use Rattle.std.proofs.Common.{◌≡◌, ◌≢◌, ℕ, zero, suc, ◌+◌, ◌<◌, ◌≤◌, List, [], ◌∷◌, ◌++◌, length, get_or, refl, sym, ap, subst, ◌∙◌, ◌⊎◌, inl, inr, ⊎_elim, Bool, true, false, arith}
+use Rattle.std.proofs.Common.{◌≡◌, ◌≢◌, ℕ, zero, suc, ◌+◌, ◌<◌, ◌≤◌, List, [], ◌∷◌, ◌++◌, length, get_or, refl}
+use Rattle.std.proofs.Common.{sym, ap, subst, ◌∙◌, ◌⊎◌, inl, inr, ⊎_elim, Bool, true, false, arith}
 use Rattle.std.specs.Prelude.{Contains}
 use Rattle.std.specs.List.{AllPairs, AllZip}
 use Rattle.std.proofs.lemmas.Bool.{cases_eq, cases_lt}
@@ -12,7 +13,7 @@ use Rattle.num_text.specs.Cuts.{LineText}
 use Rattle.semantics.specs.AbaFrameworks.{IsAtom}
 use Rattle.aba_format.specs.AbaText.{Said, says_assumption, says_contrary, says_rule, SaysLine}
 use Rattle.aba_format.specs.Reading.{is_marked, IsSaidIn, GivesAt, AreGivenBy, NumbersRise, AreAllMarked, Adds}
-use Rattle.aba_format.specs.declared.said.Parts.{Parts}
+use Rattle.aba_format.specs.declared.said.LineParts.{LineParts}
 use Rattle.aba_format.proofs.SaysLemmas.{SaysLine-same, said_by_line, atoms_within}
 use Rattle.aba_format.proofs.TakenLemmas.{kind, other_kind, first_atom, second_atom}
 
@@ -34,8 +35,10 @@ earlier_number : (before : List LineText) (here : LineText) (rest : List LineTex
     → NumbersRise (before ++ here ∷ rest) → Contains before line → line.number < here.number
 earlier_number before here rest line rise (k, within, e) =
     let long = length-append before (here ∷ rest) in
-    let first : get_or (before ++ here ∷ rest) k line ≡ line = get_or_append_left before (here ∷ rest) line k within ∙ e in
-    let second : get_or (before ++ here ∷ rest) (length before) line ≡ here = get_or-append_seam before here rest line in
+    let first : get_or (before ++ here ∷ rest) k line ≡ line = get_or_append_left before (here ∷ rest) line k within ∙ e
+    in
+    let second : get_or (before ++ here ∷ rest) (length before) line ≡ here = get_or-append_seam before here rest line
+    in
     let less = rise k (length before) line within (omega arith) in
     subst (λ (l : LineText). l.number < here.number) first
     (subst (λ (m : LineText). (get_or (before ++ here ∷ rest) k line).number < m.number) second less)
@@ -73,7 +76,8 @@ given_again count before here rest given all x y rise zip says c h = record {
   by_line = λ z line d. given_in count before here z line (h.by_line z line d);
   all = λ l z w d gives. ⊎_elim (λ there. h.all l z w there gives)
       (λ (e : here ≡ l).
-      let same : says_contrary x y ≡ says_contrary z w = SaysLine-same count l.text (says_contrary x y) (says_contrary z w)
+      let same : says_contrary x y ≡ says_contrary z w = SaysLine-same count l.text (says_contrary x y)
+      (says_contrary z w)
       (subst (λ (m : LineText). SaysLine count m.text (says_contrary x y)) e says) gives in
       let earlier = said_by_line count before all zip (says_contrary x y) c in
       let first = h.all earlier.0 x y earlier.1 earlier.2 in
@@ -103,7 +107,8 @@ given_first count before here rest given x y rise says h = record {
       let first = h.all l z w there gives in
       (first.0, Contains-append_left given ((x, here.number) ∷ []) (z, first.0) first.1, first.2))
       (λ (e : here ≡ l).
-      let same : says_contrary x y ≡ says_contrary z w = SaysLine-same count l.text (says_contrary x y) (says_contrary z w)
+      let same : says_contrary x y ≡ says_contrary z w = SaysLine-same count l.text (says_contrary x y)
+      (says_contrary z w)
       (subst (λ (m : LineText). SaysLine count m.text (says_contrary x y)) e says) gives in
       let number : here.number ≡ l.number = ap (λ (m : LineText). m.number) e in (
         here.number,
@@ -121,7 +126,7 @@ given_first count before here rest given x y rise says h = record {
 }
 
 pub given_next : (count : ℕ) (before : List LineText) (here : LineText) (rest : List LineText) (all : List Said)
-    (s : Said) (old new : Parts) → NumbersRise (before ++ here ∷ rest)
+    (s : Said) (old new : LineParts) → NumbersRise (before ++ here ∷ rest)
     → AllZip (λ line s. SaysLine count line.text s) before all → SaysLine count here.text s → IsSaidIn count all old
     → Adds s here.number old new → AreGivenBy count before old.given.items
     → AreGivenBy count (before ++ here ∷ []) new.given.items

@@ -1,5 +1,6 @@
 -- The lines that were taken in, and those that are left.
-use Rattle.std.proofs.Common.{◌≡◌, ℕ, zero, suc, ◌+◌, ◌<◌, ◌≤◌, List, [], ◌∷◌, ◌++◌, length, get_or, refl, sym, ap, subst, ◌∙◌, ◌⊎◌, inl, inr, ⊎_elim, Bool, true, false, arith}
+use Rattle.std.proofs.Common.{◌≡◌, ℕ, zero, suc, ◌+◌, ◌<◌, ◌≤◌, List, [], ◌∷◌, ◌++◌, length, get_or, refl, sym, ap}
+use Rattle.std.proofs.Common.{subst, ◌∙◌, ◌⊎◌, inl, inr, ⊎_elim, Bool, true, false, arith}
 use Rattle.std.specs.Prelude.{Contains}
 use Rattle.std.specs.List.{AllPairs}
 use Rattle.std.proofs.lemmas.Bool.{cases_lt}
@@ -30,14 +31,14 @@ use Rattle.aba_format.specs.Reading.{
   IsFirstUnmarked,
   AreAllMarked,
 }
-use Rattle.aba_format.specs.declared.said.Parts.{Parts}
+use Rattle.aba_format.specs.declared.said.LineParts.{LineParts}
 use Rattle.aba_format.proofs.SaysLemmas.{atoms_within, says_said, said_by_line}
 use Rattle.aba_format.proofs.TakenLemmas.{said_nothing, consistent_nothing, taken, consistent}
 use Rattle.aba_format.proofs.GivenLemmas.{given_nothing, given_next}
 use Rattle.aba_format.proofs.RefusedLemmas.{stopped}
 
 -- some lines, whose parts these are, and those that are left
-pub record HasRead (count : ℕ) (lines left : List LineText) (parts : Parts) : Type 0 where
+pub record HasRead (count : ℕ) (lines left : List LineText) (parts : LineParts) : Type 0 where
   pub before : List LineText
   pub lines_are : lines ≡ before ++ left
   pub all : List Said
@@ -45,7 +46,7 @@ pub record HasRead (count : ℕ) (lines left : List LineText) (parts : Parts) : 
   pub said_in : IsSaidIn count all parts
   pub given_by : AreGivenBy count before parts.given.items
 
-pub read_none : (count : ℕ) (lines : List LineText) (parts : Parts) → AreEmpty count parts
+pub read_none : (count : ℕ) (lines : List LineText) (parts : LineParts) → AreEmpty count parts
     → HasRead count lines lines parts
 read_none count lines parts h = record {
   before = [];
@@ -56,7 +57,8 @@ read_none count lines parts h = record {
   given_by = given_nothing count parts.given.items h.given;
 }
 
-pub read_next : (count : ℕ) (lines left rest : List LineText) (here : LineText) (old new : Parts) → NumbersRise lines
+pub read_next : (count : ℕ) (lines left rest : List LineText) (here : LineText) (old new : LineParts) → NumbersRise
+    lines
     → HasRead count lines left old → left ≡ here ∷ rest → TakesLine count here.number here.text old new
     → HasRead count lines rest new
 read_next count lines left rest here old new rise h e takes =
@@ -68,7 +70,8 @@ read_next count lines left rest here old new rise h e takes =
       lines_are = cut ∙ sym (append_assoc h.before (here ∷ []) rest);
       all = h.all ++ s ∷ [];
       before_are = record {
-        each = all_zipped_more (λ (line : LineText) t. SaysLine count line.text t) h.before h.all here s h.before_are.each
+        each = all_zipped_more (λ (line : LineText) t. SaysLine count line.text t) h.before h.all here s
+            h.before_are.each
             takes.says;
         consistent = consistent count h.all s here.number old new h.said_in within takes.adds h.before_are.consistent;
       };
@@ -77,7 +80,7 @@ read_next count lines left rest here old new rise h e takes =
           takes.says h.said_in takes.adds h.given_by;
     }
 
-pub read_all : (count : ℕ) (lines left : List LineText) (parts : Parts) → HasRead count lines left parts → left ≡ []
+pub read_all : (count : ℕ) (lines left : List LineText) (parts : LineParts) → HasRead count lines left parts → left ≡ []
     → AreRead count lines parts
 read_all count lines left parts h e =
     let whole : h.before ≡ lines = sym (h.lines_are ∙ ap (λ ls. h.before ++ ls) e ∙ append-nil h.before) in
@@ -88,7 +91,7 @@ read_all count lines left parts h e =
       given_by = subst (λ ls. AreGivenBy count ls parts.given.items) whole h.given_by;
     }
 
-pub read_bad : (count : ℕ) (lines left rest : List LineText) (here : LineText) (parts : Parts) (number : ℕ)
+pub read_bad : (count : ℕ) (lines left rest : List LineText) (here : LineText) (parts : LineParts) (number : ℕ)
     (cause : LineCause) → HasRead count lines left parts → left ≡ here ∷ rest
     → (number ≡ here.number) × IsStopped count here.text parts cause → IsFirstBadLine count lines number cause
 read_bad count lines left rest here parts number cause h e bad = record {
@@ -102,7 +105,7 @@ read_bad count lines left rest here parts number cause h e bad = record {
   told = stopped count h.before here h.all parts cause h.before_are h.said_in bad.1;
 }
 
-pub read_fault : (count : ℕ) (lines left rest : List LineText) (here : LineText) (parts : Parts) (e : ReadFault)
+pub read_fault : (count : ℕ) (lines left rest : List LineText) (here : LineText) (parts : LineParts) (e : ReadFault)
     → HasRead count lines left parts → left ≡ here ∷ rest
     → IfLine e (λ fault. (fault.line ≡ here.number) × IsStopped count here.text parts fault.cause)
     → IfLine e (λ fault. IsFirstBadLine count lines fault.line fault.cause)
@@ -113,7 +116,7 @@ read_fault count lines left rest here parts Memory h cut bad = bad
 -- ---- contraries of assumptions
 
 -- the given atoms lie within the marks
-pub given_wide : (count : ℕ) (lines : List LineText) (parts : Parts) → AreRead count lines parts → (x line : ℕ)
+pub given_wide : (count : ℕ) (lines : List LineText) (parts : LineParts) → AreRead count lines parts → (x line : ℕ)
     → Contains parts.given.items (x, line) → x < length parts.assumed.items
 given_wide count lines parts h x line c =
     let g = h.given_by.by_line x line c in
@@ -122,7 +125,7 @@ given_wide count lines parts h x line c =
     let wide = h.said_in.wide.assumed in
     omega arith
 
-pub whole : (count : ℕ) (lines : List LineText) (parts : Parts) → AreRead count lines parts
+pub whole : (count : ℕ) (lines : List LineText) (parts : LineParts) → AreRead count lines parts
     → AreAllMarked parts.given.items parts.assumed.items → AreWhole count lines parts
 whole count lines parts h marked = record {
   read = h;
@@ -132,7 +135,7 @@ whole count lines parts h marked = record {
       h.said_in.assumed.marked x (marked x given.0 given.1);
 }
 
-pub stray : (count : ℕ) (lines : List LineText) (parts : Parts) (line : ℕ) → AreRead count lines parts
+pub stray : (count : ℕ) (lines : List LineText) (parts : LineParts) (line : ℕ) → AreRead count lines parts
     → IsFirstUnmarked parts.given.items parts.assumed.items line
     → IsFirstStray count lines line ContraryOfNonAssumption
 stray count lines parts line h u =

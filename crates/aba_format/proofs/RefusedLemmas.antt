@@ -1,5 +1,7 @@
 -- Which cause is told of a line that is refused, and that none stands on one that is taken in.
-use Rattle.std.proofs.Common.{◌≡◌, ◌≢◌, ℕ, zero, suc, ◌+◌, ◌<◌, ◌≤◌, List, [], ◌∷◌, ◌++◌, length, map, take, drop, get_or, refl, sym, ap, subst, ◌∙◌, ◌⊎◌, inl, inr, ⊎_elim, Bool, true, false, cond, arith}
+use Rattle.std.proofs.Common.{◌≡◌, ◌≢◌, ℕ, zero, suc, ◌+◌, ◌<◌, ◌≤◌, List, [], ◌∷◌, ◌++◌, length, map, take, drop}
+use Rattle.std.proofs.Common.{get_or, refl, sym, ap, subst, ◌∙◌, ◌⊎◌, inl, inr, ⊎_elim, Bool, true, false, cond}
+use Rattle.std.proofs.Common.{arith}
 use Rattle.std.specs.Prelude.{Contains, codes, count_by}
 use Rattle.std.specs.List.{AllZip}
 use Rattle.std.proofs.lemmas.List.{length-append, length-map, take-append-drop, take_more}
@@ -10,17 +12,21 @@ use Rattle.lists.proofs.Membership.{Contains-pushed}
 use Rattle.num_text.specs.Cuts.{LineText, field_texts}
 use Rattle.num_text.specs.Number.{IsNumber}
 use Rattle.af_format.specs.declared.fault.LineCause.{LineCause}
-use Rattle.af_format.specs.declared.fault.LineCause.TheVariants.{NoHeader, WrongKind, BadHeader, SecondHeader, BadLine, BadNumber, OutOfRange, TooManyLines, NotFlat, SecondContrary, ContraryOfNonAssumption}
+use Rattle.af_format.specs.declared.fault.LineCause.TheVariants.{NoHeader, WrongKind, BadHeader, SecondHeader}
+use Rattle.af_format.specs.declared.fault.LineCause.TheVariants.{BadLine, BadNumber, OutOfRange, TooManyLines}
+use Rattle.af_format.specs.declared.fault.LineCause.TheVariants.{NotFlat, SecondContrary, ContraryOfNonAssumption}
 use Rattle.af_format.specs.Causes.{rank, IsFirstCause}
 use Rattle.af_format.specs.Faults.{HaveNoNumber, HaveOutsider}
 use Rattle.af_format.proofs.LineCauses.{IsNumber-same}
 use Rattle.af_format.proofs.Zips.{AllZip-at}
 use Rattle.semantics.specs.AbaFrameworks.{IsAtom}
-use Rattle.aba_format.specs.AbaText.{Said, says_assumption, says_contrary, says_rule, keyword, atoms_of, SpellsAtom, SaysLine, rules_said, AreConsistent, AreLines}
-use Rattle.aba_format.specs.Faults.{HaveForm, behind_first, StandsOnFields, is_rule_line, SaySome, AreNotFlat, IsSecondContrary, StandsOnLine}
+use Rattle.aba_format.specs.AbaText.{Said, says_assumption, says_contrary, says_rule, keyword, atoms_of}
+use Rattle.aba_format.specs.AbaText.{SpellsAtom, SaysLine, rules_said, AreConsistent, AreLines}
+use Rattle.aba_format.specs.Faults.{HaveForm, behind_first, StandsOnFields, is_rule_line, SaySome, AreNotFlat}
+use Rattle.aba_format.specs.Faults.{IsSecondContrary, StandsOnLine}
 use Rattle.aba_format.specs.Reading.{is_marked, IsSaidIn, Refuses, IsRefusedLine, IsStopped}
-use Rattle.aba_format.specs.declared.said.Parts.{Parts}
-use Rattle.aba_format.specs.declared.said.TheConstants.{MOST_RULE_LINES}
+use Rattle.aba_format.specs.declared.said.LineParts.{LineParts}
+use Rattle.aba_format.specs.declared.said.TheConstants.{MAX_RULE_LINES}
 use Rattle.aba_format.proofs.FormCauses.{a_not_p, c_not_p, r_not_p}
 use Rattle.aba_format.proofs.SaysLemmas.{rule_line, rule_lines_count, is_rule, says_said, said_by_line, SaysLine-same}
 use Rattle.aba_format.proofs.TakenLemmas.{kind, other_kind, still}
@@ -152,7 +158,7 @@ not_rule : (count : ℕ) (here : LineText) (s : Said) → SaysLine count here.te
 not_rule count here s says no_rule yes_rule =
     let bad : true ≡ false = sym yes_rule ∙ rule_line count here s says ∙ no_rule in cc
 
-refused : (count : ℕ) (before : List LineText) (here : LineText) (all : List Said) (s : Said) (old : Parts)
+refused : (count : ℕ) (before : List LineText) (here : LineText) (all : List Said) (s : Said) (old : LineParts)
     (cause : LineCause) → AreLines count before all → IsSaidIn count all old → SaysLine count here.text s
     → Refuses s old cause → IsFirstCause (StandsOnLine count before here) cause
 refused count before here all (says_assumption x) old cause are held says h =
@@ -186,9 +192,11 @@ refused count before here all (says_contrary x y) old cause are held says h =
     let flat : AreNotFlat count (before ++ here ∷ []) → ⊥ = λ f.
     are.consistent.flat f.x f.body
     (still all s (says_assumption f.x) (other_kind s (says_assumption f.x) (λ e. omega arith))
-    (says_said count (before ++ here ∷ []) (all ++ s ∷ []) longer f.assumed.0 (says_assumption f.x) f.assumed.1 f.assumed.2))
+    (says_said count (before ++ here ∷ []) (all ++ s ∷ []) longer f.assumed.0 (says_assumption f.x) f.assumed.1
+    f.assumed.2))
     (still all s (says_rule f.x f.body) (other_kind s (says_rule f.x f.body) (λ e. omega arith))
-    (says_said count (before ++ here ∷ []) (all ++ s ∷ []) longer f.heads.0 (says_rule f.x f.body) f.heads.1 f.heads.2)) in
+    (says_said count (before ++ here ∷ []) (all ++ s ∷ []) longer f.heads.0 (says_rule f.x f.body) f.heads.1 f.heads.2))
+    in
     subst (IsFirstCause (StandsOnLine count before here)) (sym h.0) (record {
       stands = stands;
       first = line_rank count before here s 10 says (omega arith)
@@ -218,7 +226,7 @@ refused count before here all (says_rule head body) old cause are held says h =
     ]
 
 -- what stops reading at a line is told of it
-pub stopped : (count : ℕ) (before : List LineText) (here : LineText) (all : List Said) (old : Parts)
+pub stopped : (count : ℕ) (before : List LineText) (here : LineText) (all : List Said) (old : LineParts)
     (cause : LineCause) → AreLines count before all → IsSaidIn count all old → IsStopped count here.text old cause
     → IsFirstCause (StandsOnLine count before here) cause
 stopped count before here all old cause are held (inl told) = told_fields count before here cause told

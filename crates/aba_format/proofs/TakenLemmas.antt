@@ -1,14 +1,18 @@
 -- What the lines say, with one line more.
-use Rattle.std.proofs.Common.{◌≡◌, ◌≢◌, ℕ, zero, suc, ◌+◌, ◌<◌, ◌≤◌, List, [], ◌∷◌, ◌++◌, length, map, get_or, set, refl, sym, ap, subst, ◌∙◌, ◌⊎◌, inl, inr, ⊎_elim, Bool, true, false, arith, get_or-set_same, get_or-set_other}
+use Rattle.std.proofs.Common.{◌≡◌, ◌≢◌, ℕ, zero, suc, ◌+◌, ◌<◌, ◌≤◌, List, [], ◌∷◌, ◌++◌, length, map, get_or, set}
+use Rattle.std.proofs.Common.{refl, sym, ap, subst, ◌∙◌, ◌⊎◌, inl, inr, ⊎_elim, Bool, true, false, arith}
+use Rattle.std.proofs.Common.{get_or-set_same, get_or-set_other}
 use Rattle.std.specs.Prelude.{Contains}
 use Rattle.std.proofs.lemmas.Bool.{cases_eq, cases_Bool}
 use Rattle.std.proofs.lemmas.List.{length-append, length-map, map-append, append-nil, get_or_append_left, length-set}
-use Rattle.std.proofs.lemmas.List.Elements.{Contains-push_cases, Contains-append_left, Contains-append_right, Contains-append_cases}
+use Rattle.std.proofs.lemmas.List.Elements.{Contains-push_cases, Contains-append_left, Contains-append_right}
+use Rattle.std.proofs.lemmas.List.Elements.{Contains-append_cases}
 use Rattle.std.proofs.Math.Seq.{get_or-append_seam}
 use Rattle.lists.proofs.Membership.{Contains-pushed}
 use Rattle.aba_laws.proofs.Images.{image_there, image_from}
 use Rattle.semantics.specs.AbaFrameworks.{IsAtom}
-use Rattle.aba_format.specs.AbaText.{Said, says_assumption, says_contrary, says_rule, atoms_of, SaysLine, rules_said, AreConsistent}
+use Rattle.aba_format.specs.AbaText.{Said, says_assumption, says_contrary, says_rule, atoms_of, SaysLine}
+use Rattle.aba_format.specs.AbaText.{rules_said, AreConsistent}
 use Rattle.aba_format.specs.Reading.{
   is_marked,
   AreMarked,
@@ -24,8 +28,8 @@ use Rattle.aba_format.specs.Reading.{
   AddsRule,
   Adds,
 }
-use Rattle.aba_format.specs.declared.said.Parts.{Parts}
-use Rattle.aba_format.specs.declared.said.TheConstants.{MOST_RULE_LINES}
+use Rattle.aba_format.specs.declared.said.LineParts.{LineParts}
+use Rattle.aba_format.specs.declared.said.TheConstants.{MAX_RULE_LINES}
 use Rattle.aba_format.proofs.SaysLemmas.{rules_said-append, atoms_within}
 
 -- ---- what is said, with one thing more
@@ -70,14 +74,16 @@ marks_more marks y P Q h wide here to from = record {
   marked = λ x m. ⊎_elim (λ (e : x ≡ y). subst Q (sym e) here)
       (λ ne. to x (h.marked x (sym (get_or-set_other marks y x true false ne) ∙ m))) (cases_eq x y);
   all = λ x q. ⊎_elim
-      (λ p. ⊎_elim (λ (e : x ≡ y). ap (λ n. get_or (set marks y true) n false) e ∙ get_or-set_same marks y true false wide)
+      (λ p. ⊎_elim (λ (e : x ≡ y). ap (λ n. get_or (set marks y true) n false) e ∙ get_or-set_same marks y true false
+      wide)
       (λ ne. get_or-set_other marks y x true false ne ∙ h.all x p) (cases_eq x y))
-      (λ (e : x ≡ y). ap (λ n. get_or (set marks y true) n false) e ∙ get_or-set_same marks y true false wide) (from x q);
+      (λ (e : x ≡ y). ap (λ n. get_or (set marks y true) n false) e ∙ get_or-set_same marks y true false wide)
+      (from x q);
 }
 
 -- ---- nothing
 
-pub said_nothing : (count : ℕ) (parts : Parts) → AreEmpty count parts → IsSaidIn count [] parts
+pub said_nothing : (count : ℕ) (parts : LineParts) → AreEmpty count parts → IsSaidIn count [] parts
 said_nothing count parts h = record {
   wide = record { assumed = h.assumed_wide; heading = h.heading_wide; contrary = h.contrary_wide };
   assumed = record {
@@ -137,7 +143,7 @@ record AreContraries (all : List Said) (contrary : List ℕ) : Type 0 where
   every : (x y : ℕ) → Contains all (says_contrary x y) → get_or contrary x 0 ≡ y
   low : (x y : ℕ) → Contains all (says_contrary x y) → 1 ≤ y
 
-contraries_in : (count : ℕ) (all : List Said) (parts : Parts) → IsSaidIn count all parts
+contraries_in : (count : ℕ) (all : List Said) (parts : LineParts) → IsSaidIn count all parts
     → AreContraries all parts.contrary.items
 contraries_in count all parts h = record { some = h.contrary; every = h.contraries_all; low = h.contraries_low }
 
@@ -154,7 +160,7 @@ record AreAssumptions (all : List Said) (xs : List ℕ) : Type 0 where
   some : (x : ℕ) → Contains xs x → Contains all (says_assumption x)
   every : (x : ℕ) → Contains all (says_assumption x) → Contains xs x
 
-assumptions_in : (count : ℕ) (all : List Said) (parts : Parts) → IsSaidIn count all parts
+assumptions_in : (count : ℕ) (all : List Said) (parts : LineParts) → IsSaidIn count all parts
     → AreAssumptions all parts.assumptions.items
 assumptions_in count all parts h = record { some = h.assumptions; every = h.assumptions_all }
 
@@ -173,7 +179,7 @@ rules_kept all s heads bodies none h =
     (sym (rules_said-append all (s ∷ []) ∙ ap (λ rs. rules_said all ++ rs) none ∙ append-nil (rules_said all))) h
 
 -- the parts hold what is said in these lists
-said_in_lists : (count : ℕ) (all : List Said) (parts : Parts) (assumed heading : List Bool)
+said_in_lists : (count : ℕ) (all : List Said) (parts : LineParts) (assumed heading : List Bool)
     (contrary assumptions heads : List ℕ) (bodies : List (ℕ × ℕ)) → parts.assumed.items ≡ assumed
     → parts.heading.items ≡ heading → parts.contrary.items ≡ contrary → parts.assumptions.items ≡ assumptions
     → parts.heads.items ≡ heads → parts.bodies.items ≡ bodies → length assumed ≡ count + 1
@@ -181,7 +187,8 @@ said_in_lists : (count : ℕ) (all : List Said) (parts : Parts) (assumed heading
     → AreMarked assumed (λ x. Contains all (says_assumption x))
     → AreMarked heading (λ x. (body : List ℕ) × Contains all (says_rule x body)) → AreContraries all contrary
     → AreAssumptions all assumptions → AreRulesIn (rules_said all) heads bodies → IsSaidIn count all parts
-said_in_lists count all parts assumed heading contrary assumptions heads bodies e1 e2 e3 e4 e5 e6 w1 w2 w3 m1 m2 cs asms rs =
+said_in_lists count all parts assumed heading contrary assumptions heads bodies e1 e2 e3 e4 e5 e6 w1 w2 w3 m1 m2 cs asms
+    rs =
     let cs' : AreContraries all parts.contrary.items = subst (AreContraries all) (sym e3) cs in
     let asms' : AreAssumptions all parts.assumptions.items = subst (AreAssumptions all) (sym e4) asms in
     record {
@@ -199,7 +206,7 @@ said_in_lists count all parts assumed heading contrary assumptions heads bodies 
 
 -- ---- an assumption more
 
-assumption_again : (count : ℕ) (all : List Said) (x : ℕ) (old : Parts) → IsSaidIn count all old
+assumption_again : (count : ℕ) (all : List Said) (x : ℕ) (old : LineParts) → IsSaidIn count all old
     → Contains all (says_assumption x) → IsSaidIn count (all ++ says_assumption x ∷ []) old
 assumption_again count all x old h c =
     let s : Said = says_assumption x in
@@ -219,10 +226,11 @@ assumption_again count all x old h c =
   where
     back : (z : ℕ) → Contains (all ++ says_assumption x ∷ []) (says_assumption z) → Contains all (says_assumption z)
     back z d = ⊎_elim (λ there. there)
-        (λ (e : says_assumption x ≡ says_assumption z). subst (λ n. Contains all (says_assumption n)) (ap first_atom e) c)
+        (λ (e : says_assumption x ≡ says_assumption z). subst (λ n. Contains all (says_assumption n)) (ap first_atom e)
+        c)
         (Contains-push_cases all (says_assumption x) (says_assumption z) d)
 
-assumption_new : (count : ℕ) (all : List Said) (x : ℕ) (old new : Parts) → IsSaidIn count all old → IsAtom count x
+assumption_new : (count : ℕ) (all : List Said) (x : ℕ) (old new : LineParts) → IsSaidIn count all old → IsAtom count x
     → IsNewAssumption x old new → IsSaidIn count (all ++ says_assumption x ∷ []) new
 assumption_new count all x old new h atom a =
     let s : Said = says_assumption x in
@@ -251,7 +259,7 @@ assumption_new count all x old new h atom a =
     })
     (rules_kept all s old.heads.items old.bodies.items refl h.rules)
 
-assumption_next : (count : ℕ) (all : List Said) (x : ℕ) (old new : Parts) → IsSaidIn count all old → IsAtom count x
+assumption_next : (count : ℕ) (all : List Said) (x : ℕ) (old new : LineParts) → IsSaidIn count all old → IsAtom count x
     → AddsAssumption x old new → IsSaidIn count (all ++ says_assumption x ∷ []) new
 assumption_next count all x old new h atom a = ⊎_elim
     (λ (same : (is_marked old.assumed.items x ≡ true) × (new ≡ old)).
@@ -259,13 +267,13 @@ assumption_next count all x old new h atom a = ⊎_elim
     (assumption_again count all x old h (h.assumed.marked x same.0)))
     (λ fresh. assumption_new count all x old new h atom fresh) a.added
 
-assumption_consistent : (count : ℕ) (all : List Said) (x : ℕ) (old : Parts) → IsSaidIn count all old
+assumption_consistent : (count : ℕ) (all : List Said) (x : ℕ) (old : LineParts) → IsSaidIn count all old
     → is_marked old.heading.items x ≡ false → AreConsistent all → AreConsistent (all ++ says_assumption x ∷ [])
 assumption_consistent count all x old h flat ok =
     let rules : rules_said (all ++ says_assumption x ∷ []) ≡ rules_said all
     = rules_said-append all (says_assumption x ∷ []) ∙ append-nil (rules_said all) in
     record {
-      few = let few = ok.few in subst (λ rs. length rs ≤ MOST_RULE_LINES) (sym rules) few;
+      few = let few = ok.few in subst (λ rs. length rs ≤ MAX_RULE_LINES) (sym rules) few;
       flat = λ z body c d.
           let rule = still all (says_assumption x) (says_rule z body)
           (other_kind (says_assumption x) (says_rule z body) (λ e. omega arith)) d in
@@ -284,7 +292,7 @@ assumption_consistent count all x old h flat ok =
 
 -- ---- a contrary more
 
-contrary_again : (count : ℕ) (all : List Said) (x y : ℕ) (old : Parts) → IsSaidIn count all old
+contrary_again : (count : ℕ) (all : List Said) (x y : ℕ) (old : LineParts) → IsSaidIn count all old
     → get_or old.contrary.items x 0 ≡ y → 1 ≤ y → IsSaidIn count (all ++ says_contrary x y ∷ []) old
 contrary_again count all x y old h same low =
     let s : Said = says_contrary x y in
@@ -307,7 +315,7 @@ contrary_again count all x y old h same low =
     (assumptions_kept all s old.assumptions.items (λ e. omega arith) (assumptions_in count all old h))
     (rules_kept all s old.heads.items old.bodies.items refl h.rules)
 
-contrary_new : (count : ℕ) (all : List Said) (x y line : ℕ) (old new : Parts) → IsSaidIn count all old
+contrary_new : (count : ℕ) (all : List Said) (x y line : ℕ) (old new : LineParts) → IsSaidIn count all old
     → IsAtom count x → 1 ≤ y → IsNewContrary x y line old new → IsSaidIn count (all ++ says_contrary x y ∷ []) new
 contrary_new count all x y line old new h atom low a =
     let s : Said = says_contrary x y in
@@ -323,7 +331,8 @@ contrary_new count all x y line old new h atom low a =
     (heading_kept all s old.heading.items (λ e. omega arith) h.heading)
     (record {
       some = λ z given. ⊎_elim
-          (λ (e : z ≡ x). subst (λ n. Contains (all ++ s ∷ []) (says_contrary n (get_or (set old.contrary.items x y) n 0)))
+          (λ (e : z ≡ x). subst (λ n. Contains (all ++ s ∷ [])
+          (says_contrary n (get_or (set old.contrary.items x y) n 0)))
           (sym e) (subst (λ m. Contains (all ++ s ∷ []) (says_contrary x m)) (sym here) (newest all s)))
           (λ ne.
           let there = get_or-set_other old.contrary.items x z y 0 ne in
@@ -335,7 +344,8 @@ contrary_new count all x y line old new h atom low a =
           (λ there. ⊎_elim
           (λ (e : z ≡ x).
           let none = a.fresh in
-          let is : get_or old.contrary.items x 0 ≡ w = sym (ap (λ n. get_or old.contrary.items n 0) e) ∙ cs.every z w there in
+          let is : get_or old.contrary.items x 0 ≡ w = sym (ap (λ n. get_or old.contrary.items n 0) e) ∙ cs.every z w
+          there in
           let low = cs.low z w there in
           absurd (omega arith))
           (λ ne. get_or-set_other old.contrary.items x z y 0 ne ∙ cs.every z w there)
@@ -350,15 +360,16 @@ contrary_new count all x y line old new h atom low a =
     (assumptions_kept all s old.assumptions.items (λ e. omega arith) (assumptions_in count all old h))
     (rules_kept all s old.heads.items old.bodies.items refl h.rules)
 
-contrary_next : (count : ℕ) (all : List Said) (x y line : ℕ) (old new : Parts) → IsSaidIn count all old
-    → IsAtom count x → IsAtom count y → AddsContrary x y line old new → IsSaidIn count (all ++ says_contrary x y ∷ []) new
+contrary_next : (count : ℕ) (all : List Said) (x y line : ℕ) (old new : LineParts) → IsSaidIn count all old
+    → IsAtom count x → IsAtom count y → AddsContrary x y line old new → IsSaidIn count (all ++ says_contrary x y ∷ [])
+    new
 contrary_next count all x y line old new h atom atom' a = ⊎_elim
     (λ (same : (get_or old.contrary.items x 0 ≡ y) × (new ≡ old)).
     subst (λ p. IsSaidIn count (all ++ says_contrary x y ∷ []) p) (sym same.1)
     (contrary_again count all x y old h same.0 atom'.low))
     (λ fresh. contrary_new count all x y line old new h atom atom'.low fresh) a
 
-contrary_consistent : (count : ℕ) (all : List Said) (x y line : ℕ) (old new : Parts) → IsSaidIn count all old
+contrary_consistent : (count : ℕ) (all : List Said) (x y line : ℕ) (old new : LineParts) → IsSaidIn count all old
     → IsAtom count y → AddsContrary x y line old new → AreConsistent all → AreConsistent (all ++ says_contrary x y ∷ [])
 contrary_consistent count all x y line old new h atom a ok =
     let s : Said = says_contrary x y in
@@ -374,7 +385,7 @@ contrary_consistent count all x y line old new h atom a ok =
           absurd (omega arith)
     ] in
     record {
-      few = let few = ok.few in subst (λ rs. length rs ≤ MOST_RULE_LINES) (sym rules) few;
+      few = let few = ok.few in subst (λ rs. length rs ≤ MAX_RULE_LINES) (sym rules) few;
       flat = λ z body c d. ok.flat z body
           (still all s (says_assumption z) (other_kind s (says_assumption z) (λ e. omega arith)) c)
           (still all s (says_rule z body) (other_kind s (says_rule z body) (λ e. omega arith)) d);
@@ -434,7 +445,7 @@ rules_more rules heads bodies head body h =
           (cases_eq k (length rules));
     }
 
-rule_next : (count : ℕ) (all : List Said) (head : ℕ) (body : List ℕ) (old new : Parts) → IsSaidIn count all old
+rule_next : (count : ℕ) (all : List Said) (head : ℕ) (body : List ℕ) (old new : LineParts) → IsSaidIn count all old
     → IsAtom count head → AddsRule head body old new → IsSaidIn count (all ++ says_rule head body ∷ []) new
 rule_next count all head body old new h atom a =
     let s : Said = says_rule head body in
@@ -458,7 +469,8 @@ rule_next count all head body old new h atom a =
     (old.bodies.items ++ map (λ y. (length old.heads.items, y)) body)) (sym (rules_said-append all (s ∷ [])))
     (rules_more (rules_said all) old.heads.items old.bodies.items head body h.rules))
 
-rule_consistent : (count : ℕ) (all : List Said) (head : ℕ) (body : List ℕ) (old new : Parts) → IsSaidIn count all old
+rule_consistent : (count : ℕ) (all : List Said) (head : ℕ) (body : List ℕ) (old new : LineParts) → IsSaidIn count all
+    old
     → AddsRule head body old new → AreConsistent all → AreConsistent (all ++ says_rule head body ∷ [])
 rule_consistent count all head body old new h a ok =
     let s : Said = says_rule head body in
@@ -485,7 +497,7 @@ rule_consistent count all head body old new h a ok =
 -- ---- one thing more
 
 -- what is said, with one thing more that is taken in
-pub taken : (count : ℕ) (all : List Said) (s : Said) (line : ℕ) (old new : Parts) → IsSaidIn count all old
+pub taken : (count : ℕ) (all : List Said) (s : Said) (line : ℕ) (old new : LineParts) → IsSaidIn count all old
     → ((x : ℕ) → Contains (atoms_of s) x → IsAtom count x) → Adds s line old new → IsSaidIn count (all ++ s ∷ []) new
 taken count all (says_assumption x) line old new h atoms a =
     assumption_next count all x old new h (atoms x (0, omega arith, refl)) a
@@ -494,7 +506,7 @@ taken count all (says_contrary x y) line old new h atoms a =
 taken count all (says_rule head body) line old new h atoms a =
     rule_next count all head body old new h (atoms head (0, omega arith, refl)) a
 
-pub consistent : (count : ℕ) (all : List Said) (s : Said) (line : ℕ) (old new : Parts) → IsSaidIn count all old
+pub consistent : (count : ℕ) (all : List Said) (s : Said) (line : ℕ) (old new : LineParts) → IsSaidIn count all old
     → ((x : ℕ) → Contains (atoms_of s) x → IsAtom count x) → Adds s line old new → AreConsistent all
     → AreConsistent (all ++ s ∷ [])
 consistent count all (says_assumption x) line old new h atoms a ok =
@@ -507,7 +519,7 @@ consistent count all (says_rule head body) line old new h atoms a ok =
 -- ---- room
 
 -- an atom of a statement lies within the lists by atoms
-pub wide_for : (count : ℕ) (line : List ℕ) (s : Said) (parts : Parts) → AreWideFor count parts
+pub wide_for : (count : ℕ) (line : List ℕ) (s : Said) (parts : LineParts) → AreWideFor count parts
     → SaysLine count line s → AreWide (first_atom s) parts
 wide_for count line s parts h says =
     let atom = first_within s says in

@@ -8,7 +8,7 @@ use Rattle.semantics.specs.Rules.{Rule}
 use Rattle.semantics.specs.AbaFrameworks.{Aba, IsAtom, IsNumberedAba}
 use Rattle.aba_notions.specs.Solid.{IsSolid}
 use Rattle.af_format.specs.Headers.{aba_word, IsHeaderOf}
-use Rattle.aba_format.specs.declared.said.TheConstants.{MOST_RULE_LINES}
+use Rattle.aba_format.specs.declared.said.TheConstants.{MAX_RULE_LINES}
 
 -- what a line behind the header says: that x is an assumption, that y is the contrary of x, or a rule with this head and
 -- this body
@@ -49,7 +49,7 @@ rules_said (says_rule head body ∷ more) = (head, body) ∷ rules_said more
 
 -- what is said makes no assumption the head of a rule, gives no atom two contraries, and there aren't too many rules
 pub record AreConsistent (all : List Said) : Type 0 where
-  pub few : length (rules_said all) ≤ MOST_RULE_LINES
+  pub few : length (rules_said all) ≤ MAX_RULE_LINES
   pub flat : (x : ℕ) (body : List ℕ) → Contains all (says_assumption x) → Contains all (says_rule x body) → ⊥
   pub one_contrary : (x y z : ℕ) → Contains all (says_contrary x y) → Contains all (says_contrary x z) → y ≡ z
 

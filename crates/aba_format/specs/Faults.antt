@@ -1,14 +1,17 @@
 -- The faults of the text of a flat assumption-based framework: which cause stands at which line, and which is told.
-use Rattle.std.specs.Prelude.{◌≡◌, ◌≢◌, ℕ, ◌+◌, ◌<◌, ◌≤◌, ◌⊎◌, ◌==◌, ◌&&◌, Bool, true, false, List, [], ◌∷◌, ◌++◌, length, take, count_by, Contains, codes, slice_index, slice_index_or}
+use Rattle.std.specs.Prelude.{◌≡◌, ◌≢◌, ℕ, ◌+◌, ◌<◌, ◌≤◌, ◌⊎◌, ◌==◌, ◌&&◌, Bool, true, false, List, [], ◌∷◌, ◌++◌}
+use Rattle.std.specs.Prelude.{length, take, count_by, Contains, codes, slice_index, slice_index_or}
 use Rattle.num_text.specs.Cuts.{LineText, field_texts, lines_of}
 use Rattle.num_text.specs.Lines.{kept_lines}
 use Rattle.af_format.specs.declared.fault.LineCause.{LineCause}
-use Rattle.af_format.specs.declared.fault.LineCause.TheVariants.{NoHeader, WrongKind, BadHeader, SecondHeader, BadLine, BadNumber, OutOfRange, TooManyLines, NotFlat, SecondContrary, ContraryOfNonAssumption}
+use Rattle.af_format.specs.declared.fault.LineCause.TheVariants.{NoHeader, WrongKind, BadHeader, SecondHeader}
+use Rattle.af_format.specs.declared.fault.LineCause.TheVariants.{BadLine, BadNumber, OutOfRange, TooManyLines}
+use Rattle.af_format.specs.declared.fault.LineCause.TheVariants.{NotFlat, SecondContrary, ContraryOfNonAssumption}
 use Rattle.af_format.specs.Causes.{rank}
 use Rattle.af_format.specs.Faults.{HaveNoNumber, HaveOutsider}
 use Rattle.af_format.specs.Headers.{af_word, aba_word, IsHeaderOf, BeginWithP, IsHeaderFault}
 use Rattle.aba_format.specs.AbaText.{Said, says_assumption, says_contrary, says_rule, SaysLine}
-use Rattle.aba_format.specs.declared.said.TheConstants.{MOST_RULE_LINES}
+use Rattle.aba_format.specs.declared.said.TheConstants.{MAX_RULE_LINES}
 
 -- the fields are those of a line of one of the three kinds: `a` and one more, `c` and two more, or `r` and one more at
 -- least
@@ -75,7 +78,8 @@ StandsOnLine count before here SecondHeader = StandsOnFields count (field_texts 
 StandsOnLine count before here BadLine = StandsOnFields count (field_texts here.text) BadLine
 StandsOnLine count before here BadNumber = StandsOnFields count (field_texts here.text) BadNumber
 StandsOnLine count before here OutOfRange = StandsOnFields count (field_texts here.text) OutOfRange
-StandsOnLine count before here TooManyLines = (is_rule_line here ≡ true) × (MOST_RULE_LINES ≤ count_by is_rule_line before)
+StandsOnLine count before here TooManyLines = (is_rule_line here ≡ true) ×
+    (MAX_RULE_LINES ≤ count_by is_rule_line before)
 StandsOnLine count before here NotFlat = AreNotFlat count (before ++ here ∷ [])
 StandsOnLine count before here SecondContrary = IsSecondContrary count before here
 StandsOnLine count before here ContraryOfNonAssumption = ⊥

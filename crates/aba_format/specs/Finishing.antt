@@ -1,16 +1,16 @@
 -- From what the lines of a text say to the framework.
 use Rattle.std.specs.Prelude.{◌≡◌, ◌↔◌, ℕ, ◌+◌, ◌<◌, ◌≤◌, List, Contains, length, slice_index}
-use Rattle.semantics.specs.declared.numbers.TheConstants.{LAST_ATOM, LAST_RULE}
+use Rattle.semantics.specs.declared.numbers.TheConstants.{MAX_ATOM, MAX_RULE}
 use Rattle.semantics.specs.AbaFrameworks.{Aba, IsAtom, IsNumberedAba}
 use Rattle.aba_notions.specs.Solid.{IsSolid}
 use Rattle.aba_notions.specs.Storage.{AreRulesOf}
 use Rattle.std.specs.List.{range_with_len}
-use Rattle.aba_format.specs.declared.said.Parts.{Parts}
+use Rattle.aba_format.specs.declared.said.LineParts.{LineParts}
 
 -- the parts of a framework of so many atoms
-pub record AreFrameworkParts (count : ℕ) (parts : Parts) : Type 0 where
-  pub few : count ≤ LAST_ATOM
-  pub few_rules : length parts.heads.items ≤ LAST_RULE
+pub record AreFrameworkParts (count : ℕ) (parts : LineParts) : Type 0 where
+  pub few : count ≤ MAX_ATOM
+  pub few_rules : length parts.heads.items ≤ MAX_RULE
   pub assumptions : (a : ℕ) → Contains parts.assumptions.items a → IsAtom count a
   pub wide : length parts.contrary.items ≡ count + 1
   pub contraries : (a : ℕ) → slice_index parts.contrary.items a ≤ count
@@ -24,7 +24,7 @@ IsPairedBy assumptions contrary pairs =
     (a c : ℕ) → Contains pairs (a, c) ↔ (Contains assumptions a × (c ≡ slice_index contrary a))
 
 -- the framework has these parts
-pub record IsFrameworkBy (count : ℕ) (parts : Parts) (f : Aba) : Type 0 where
+pub record IsFrameworkBy (count : ℕ) (parts : LineParts) (f : Aba) : Type 0 where
   pub atoms_are : f.atoms ≡ count
   pub assumptions_are : (a : ℕ) → Contains f.assumptions a ↔ Contains parts.assumptions.items a
   pub contraries_are : (a c : ℕ) → Contains f.contraries (a, c)

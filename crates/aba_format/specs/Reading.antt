@@ -1,17 +1,20 @@
 -- How a text is read, line by line.
-use Rattle.std.specs.Prelude.{◌≡◌, ◌≢◌, ◌⊎◌, ℕ, ◌+◌, ◌<◌, ◌≤◌, Bool, true, false, List, [], ◌∷◌, ◌++◌, length, map, Contains, slice_index, slice_index_or, slice_set}
+use Rattle.std.specs.Prelude.{◌≡◌, ◌≢◌, ◌⊎◌, ℕ, ◌+◌, ◌<◌, ◌≤◌, Bool, true, false, List, [], ◌∷◌, ◌++◌, length, map}
+use Rattle.std.specs.Prelude.{Contains, slice_index, slice_index_or, slice_set}
 use Rattle.std.specs.List.{AllZip, AllPairs}
 use Rattle.num_text.specs.Cuts.{LineText, FieldText, field_texts}
 use Rattle.num_text.specs.Number.{IsNumber}
 use Rattle.semantics.specs.AbaFrameworks.{IsAtom}
 use Rattle.af_format.specs.declared.fault.LineCause.{LineCause}
-use Rattle.af_format.specs.declared.fault.LineCause.TheVariants.{BadNumber, TooManyLines, NotFlat, SecondContrary, ContraryOfNonAssumption}
+use Rattle.af_format.specs.declared.fault.LineCause.TheVariants.{BadNumber, TooManyLines, NotFlat, SecondContrary}
+use Rattle.af_format.specs.declared.fault.LineCause.TheVariants.{ContraryOfNonAssumption}
 use Rattle.af_format.specs.Causes.{IsFirstCause}
 use Rattle.af_format.specs.Faults.{HaveNoNumber}
-use Rattle.aba_format.specs.AbaText.{Said, says_assumption, says_contrary, says_rule, SaysLine, AreLines, AreOfAssumptions, rules_said}
+use Rattle.aba_format.specs.AbaText.{Said, says_assumption, says_contrary, says_rule, SaysLine, AreLines}
+use Rattle.aba_format.specs.AbaText.{AreOfAssumptions, rules_said}
 use Rattle.aba_format.specs.Faults.{StandsOnFields, StandsOnLine}
-use Rattle.aba_format.specs.declared.said.TheConstants.{MOST_RULE_LINES}
-use Rattle.aba_format.specs.declared.said.Parts.{Parts}
+use Rattle.aba_format.specs.declared.said.TheConstants.{MAX_RULE_LINES}
+use Rattle.aba_format.specs.declared.said.LineParts.{LineParts}
 use Rattle.aba_format.specs.declared.statement.Statement.{Statement}
 use Rattle.aba_format.specs.declared.statement.Statement.TheVariants.{Assumption, Contrary, Rule}
 use Rattle.aba_format.specs.declared.stop.LineStop.{LineStop}
@@ -45,13 +48,13 @@ abbrev pub is_marked : List Bool → ℕ → Bool
 is_marked marks x = slice_index_or marks x false
 
 -- each list by atoms reaches this one
-pub record AreWide (x : ℕ) (parts : Parts) : Type 0 where
+pub record AreWide (x : ℕ) (parts : LineParts) : Type 0 where
   pub assumed : x < length parts.assumed.items
   pub heading : x < length parts.heading.items
   pub contrary : x < length parts.contrary.items
 
 -- nothing is said of so many atoms
-pub record AreEmpty (count : ℕ) (parts : Parts) : Type 0 where
+pub record AreEmpty (count : ℕ) (parts : LineParts) : Type 0 where
   pub assumed_wide : length parts.assumed.items ≡ count + 1
   pub heading_wide : length parts.heading.items ≡ count + 1
   pub contrary_wide : length parts.contrary.items ≡ count + 1
@@ -64,7 +67,7 @@ pub record AreEmpty (count : ℕ) (parts : Parts) : Type 0 where
   pub bodies : parts.bodies.items ≡ []
 
 -- x becomes an assumption
-pub record IsNewAssumption (x : ℕ) (old new : Parts) : Type 0 where
+pub record IsNewAssumption (x : ℕ) (old new : LineParts) : Type 0 where
   pub fresh : is_marked old.assumed.items x ≡ false
   pub assumed : new.assumed.items ≡ slice_set old.assumed.items x true
   pub assumptions : new.assumptions.items ≡ old.assumptions.items ++ x ∷ []
@@ -75,12 +78,12 @@ pub record IsNewAssumption (x : ℕ) (old new : Parts) : Type 0 where
   pub bodies : new.bodies.items ≡ old.bodies.items
 
 -- x heads no rule, and is an assumption from here on
-pub record AddsAssumption (x : ℕ) (old new : Parts) : Type 0 where
+pub record AddsAssumption (x : ℕ) (old new : LineParts) : Type 0 where
   pub flat : is_marked old.heading.items x ≡ false
   pub added : ((is_marked old.assumed.items x ≡ true) × (new ≡ old)) ⊎ IsNewAssumption x old new
 
 -- x gets its contrary, as the line of this number says
-pub record IsNewContrary (x y line : ℕ) (old new : Parts) : Type 0 where
+pub record IsNewContrary (x y line : ℕ) (old new : LineParts) : Type 0 where
   pub fresh : slice_index old.contrary.items x ≡ 0
   pub contrary : new.contrary.items ≡ slice_set old.contrary.items x y
   pub given : new.given.items ≡ old.given.items ++ (x, line) ∷ []
@@ -91,7 +94,7 @@ pub record IsNewContrary (x y line : ℕ) (old new : Parts) : Type 0 where
   pub bodies : new.bodies.items ≡ old.bodies.items
 
 -- x has the contrary y from here on
-abbrev pub AddsContrary : ℕ → ℕ → ℕ → Parts → Parts → Type 0
+abbrev pub AddsContrary : ℕ → ℕ → ℕ → LineParts → LineParts → Type 0
 AddsContrary x y line old new =
     ((slice_index old.contrary.items x ≡ y) × (new ≡ old)) ⊎ IsNewContrary x y line old new
 
@@ -100,8 +103,8 @@ abbrev pub AddsBody : ℕ → List ℕ → List (ℕ × ℕ) → List (ℕ × �
 AddsBody index body old new = new ≡ old ++ map (λ y. (index, y)) body
 
 -- a rule more, whose head is no assumption
-pub record AddsRule (head : ℕ) (body : List ℕ) (old new : Parts) : Type 0 where
-  pub few : length old.heads.items < MOST_RULE_LINES
+pub record AddsRule (head : ℕ) (body : List ℕ) (old new : LineParts) : Type 0 where
+  pub few : length old.heads.items < MAX_RULE_LINES
   pub flat : is_marked old.assumed.items head ≡ false
   pub heading : new.heading.items ≡ slice_set old.heading.items head true
   pub heads : new.heads.items ≡ old.heads.items ++ head ∷ []
@@ -112,50 +115,50 @@ pub record AddsRule (head : ℕ) (body : List ℕ) (old new : Parts) : Type 0 wh
   pub given : new.given.items ≡ old.given.items
 
 -- the cause for which each of the three is refused
-abbrev pub RefusesAssumption : ℕ → Parts → LineCause → Type 0
+abbrev pub RefusesAssumption : ℕ → LineParts → LineCause → Type 0
 RefusesAssumption x old cause = (cause ≡ NotFlat) × (is_marked old.heading.items x ≡ true)
 
-abbrev pub RefusesContrary : ℕ → ℕ → Parts → LineCause → Type 0
+abbrev pub RefusesContrary : ℕ → ℕ → LineParts → LineCause → Type 0
 RefusesContrary x y old cause =
     (cause ≡ SecondContrary) × (slice_index old.contrary.items x ≢ 0) × (slice_index old.contrary.items x ≢ y)
 
-abbrev pub RefusesRule : ℕ → Parts → LineCause → Type 0
+abbrev pub RefusesRule : ℕ → LineParts → LineCause → Type 0
 RefusesRule head old cause =
-    ((cause ≡ TooManyLines) × (MOST_RULE_LINES ≤ length old.heads.items))
-    ⊎ ((cause ≡ NotFlat) × (length old.heads.items < MOST_RULE_LINES) × (is_marked old.assumed.items head ≡ true))
+    ((cause ≡ TooManyLines) × (MAX_RULE_LINES ≤ length old.heads.items))
+    ⊎ ((cause ≡ NotFlat) × (length old.heads.items < MAX_RULE_LINES) × (is_marked old.assumed.items head ≡ true))
 
 -- what is said is taken in, as the line of this number says it
-abbrev pub Adds : Said → ℕ → Parts → Parts → Type 0
+abbrev pub Adds : Said → ℕ → LineParts → LineParts → Type 0
 Adds (says_assumption x) line old new = AddsAssumption x old new
 Adds (says_contrary x y) line old new = AddsContrary x y line old new
 Adds (says_rule head body) line old new = AddsRule head body old new
 
 -- the cause for which it is refused
-abbrev pub Refuses : Said → Parts → LineCause → Type 0
+abbrev pub Refuses : Said → LineParts → LineCause → Type 0
 Refuses (says_assumption x) old cause = RefusesAssumption x old cause
 Refuses (says_contrary x y) old cause = RefusesContrary x y old cause
 Refuses (says_rule head body) old cause = RefusesRule head old cause
 
 -- each list by atoms has an item for each of so many
-pub record AreWideFor (count : ℕ) (parts : Parts) : Type 0 where
+pub record AreWideFor (count : ℕ) (parts : LineParts) : Type 0 where
   pub assumed : length parts.assumed.items ≡ count + 1
   pub heading : length parts.heading.items ≡ count + 1
   pub contrary : length parts.contrary.items ≡ count + 1
 
 -- what the line says is taken in
-pub record TakesLine (count number : ℕ) (line : List ℕ) (old new : Parts) : Type 0 where
+pub record TakesLine (count number : ℕ) (line : List ℕ) (old new : LineParts) : Type 0 where
   pub said : Said
   pub says : SaysLine count line said
   pub adds : Adds said number old new
 
 -- the line says something that is refused for this cause
-pub record IsRefusedLine (count : ℕ) (line : List ℕ) (old : Parts) (cause : LineCause) : Type 0 where
+pub record IsRefusedLine (count : ℕ) (line : List ℕ) (old : LineParts) (cause : LineCause) : Type 0 where
   pub said : Said
   pub says : SaysLine count line said
   pub refuses : Refuses said old cause
 
 -- the line is refused for this cause: for its fields alone, or for what it says beside the others
-abbrev pub IsStopped : ℕ → List ℕ → Parts → LineCause → Type 0
+abbrev pub IsStopped : ℕ → List ℕ → LineParts → LineCause → Type 0
 IsStopped count line old cause =
     IsFirstCause (StandsOnFields count (field_texts line)) cause ⊎ IsRefusedLine count line old cause
 
@@ -176,7 +179,7 @@ pub record AreRulesIn (rules : List (ℕ × List ℕ)) (heads : List ℕ) (bodie
       → Contains bodies (k, y)
 
 -- what is said stands in these lists
-pub record IsSaidIn (count : ℕ) (all : List Said) (parts : Parts) : Type 0 where
+pub record IsSaidIn (count : ℕ) (all : List Said) (parts : LineParts) : Type 0 where
   pub wide : AreWideFor count parts
   pub assumed : AreMarked parts.assumed.items (λ x. Contains all (says_assumption x))
   pub heading : AreMarked parts.heading.items (λ x. (body : List ℕ) × Contains all (says_rule x body))
@@ -208,7 +211,7 @@ abbrev pub NumbersRise : List LineText → Type 0
 NumbersRise lines = AllPairs (λ l m. l.number < m.number) lines
 
 -- the lines say what stands in these lists
-pub record AreRead (count : ℕ) (lines : List LineText) (parts : Parts) : Type 0 where
+pub record AreRead (count : ℕ) (lines : List LineText) (parts : LineParts) : Type 0 where
   pub all : List Said
   pub lines_are : AreLines count lines all
   pub said_in : IsSaidIn count all parts
@@ -242,7 +245,7 @@ abbrev pub IsBadText : ℕ → List LineText → ℕ → LineCause → Type 0
 IsBadText count lines number cause = IsFirstBadLine count lines number cause ⊎ IsFirstStray count lines number cause
 
 -- the lines say what stands in these lists, and only assumptions have contraries
-pub record AreWhole (count : ℕ) (lines : List LineText) (parts : Parts) : Type 0 where
+pub record AreWhole (count : ℕ) (lines : List LineText) (parts : LineParts) : Type 0 where
   pub read : AreRead count lines parts
   pub of_assumptions : AreOfAssumptions read.all
 

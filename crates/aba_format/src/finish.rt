@@ -2,21 +2,21 @@
 
 ghost use Rattle.std.specs.Prelude.{◌≡◌, ◌↔◌, ℕ, ◌+◌, ◌<◌, ◌≤◌, Contains, IfOk, length, slice_index};
 ghost use Rattle.std.specs.List.{range_with_len};
-ghost use Rattle.semantics.specs.declared.numbers.TheConstants.{LAST_RULE};
+ghost use Rattle.semantics.specs.declared.numbers.TheConstants.{MAX_RULE};
 ghost use Rattle.aba_format.specs.Finishing.{AreFrameworkParts, IsFrameworkBy, IsPairedBy};
 
-use crate::said::Parts;
+use crate::said::LineParts;
 use aba_notions::{AbaPlain, RuleLists};
 use lists::Memory;
 use set_lists::NumSet;
 use std::alloc::Global;
 
 /// The framework of so many atoms and of what was said of them.
-pub(crate) fn framework_of(alloc: Global, count: u32, parts: Parts) -> Result<AbaPlain, Memory>
+pub(crate) fn framework_of(alloc: Global, count: u32, parts: LineParts) -> Result<AbaPlain, Memory>
     requires { AreFrameworkParts count parts }
     ensures { IfOk result (IsFrameworkBy count parts) }
 {
-    let Parts {
+    let LineParts {
         assumed: _,
         heading: _,
         contrary,

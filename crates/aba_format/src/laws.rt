@@ -8,7 +8,7 @@ ghost use Rattle.aba_format.specs.AbaText.{ReadsAs};
 ghost use Rattle.aba_format.specs.Faults.{IsFaultless};
 ghost use Rattle.aba_format.specs.Written.{aba_text};
 ghost use Rattle.af_format.specs.declared.fault.ReadFault.TheVariants.{Memory as refused};
-ghost use Rattle.num_text.specs.declared.limit.TheConstants.{INPUT_LIMIT};
+ghost use Rattle.num_text.specs.declared.limit.TheConstants.{MAX_INPUT};
 
 use crate::read::read_aba;
 use crate::write::write_aba;
@@ -26,7 +26,7 @@ pub fn one_reading()
 /// comes between. Only tests call it: its contract is the law.
 pub fn read_back(alloc: Global, framework: &AbaPlain) -> Result<AbaPlain, ReadFault>
     requires solid { IsSolid framework.now }
-    requires short { length (aba_text framework.now) ≤ INPUT_LIMIT }
+    requires short { length (aba_text framework.now) ≤ MAX_INPUT }
     ensures same { IfOk result (λ f. f ≡ framework.now) }
     ensures fault { IfErr result (λ e. e ≡ refused) }
 {

@@ -15,5 +15,5 @@ mod write;
 
 pub use laws::{one_reading, read_back};
 pub use read::read_aba;
-pub use said::MOST_RULE_LINES;
+pub use said::MAX_RULE_LINES;
 pub use write::write_aba;

@@ -3,18 +3,19 @@
 ghost use Rattle.std.specs.Prelude.{◌≡◌, ℕ, ◌≤◌, ◌<◌, ◌⊎◌, length, Contains, IfOk, IfErr, IfSome, IfNone, OnOk};
 ghost use Rattle.num_text.specs.Cuts.{field_texts};
 ghost use Rattle.num_text.specs.Lines.{kept};
-ghost use Rattle.num_text.specs.declared.limit.TheConstants.{INPUT_LIMIT};
-ghost use Rattle.semantics.specs.declared.numbers.TheConstants.{LAST_ATOM};
+ghost use Rattle.num_text.specs.declared.limit.TheConstants.{MAX_INPUT};
+ghost use Rattle.semantics.specs.declared.numbers.TheConstants.{MAX_ATOM};
 ghost use Rattle.semantics.specs.AbaFrameworks.{Aba};
 ghost use Rattle.aba_notions.specs.Solid.{IsSolid};
 ghost use Rattle.af_format.specs.Faults.{IfLine};
 ghost use Rattle.aba_format.specs.AbaText.{ReadsAs};
 ghost use Rattle.aba_format.specs.Faults.{IsFaultless, IsFirstFault};
-ghost use Rattle.aba_format.specs.Reading.{AreAllMarked, AreRead, AreWhole, AreWideFor, IfCause, IsBadText, IsFirstBadLine};
+ghost use Rattle.aba_format.specs.Reading.{AreAllMarked, AreRead, AreWhole, AreWideFor, IfCause, IsBadText};
+ghost use Rattle.aba_format.specs.Reading.{IsFirstBadLine};
 ghost use Rattle.aba_format.specs.Reading.{IsFirstUnmarked, IsStopped, NumbersRise, TakesLine};
 
 use crate::finish::framework_of;
-use crate::said::Parts;
+use crate::said::LineParts;
 use crate::statement::{Statement, statement_of};
 use crate::stop::LineStop;
 use aba_notions::AbaPlain;
@@ -24,13 +25,13 @@ use std::alloc::Global;
 
 /// Reads a framework in the ICCMA form: `p aba n`, then lines `a x`, `c x y` and `r h b1 .. bk` in any order (the
 /// README has the grammar). Repeated lines `a` and `c`, and atoms repeated in a body, count once; each line `r` is
-/// a rule of its own, numbered by its order, and at most `MOST_RULE_LINES` are read. An assumption without a line `c` has
+/// a rule of its own, numbered by its order, and at most `MAX_RULE_LINES` are read. An assumption without a line `c` has
 /// the contrary 0.
 ///
 /// `Line` tells the first line at which a cause stands, and of the causes that stand there the first in
 /// the order of [`LineCause`]. `Memory` says that an allocation was refused.
 pub fn read_aba(alloc: Global, bytes: &[u8]) -> Result<AbaPlain, ReadFault>
-    requires { length bytes.now ≤ INPUT_LIMIT }
+    requires { length bytes.now ≤ MAX_INPUT }
     ensures ok { IfOk result (ReadsAs bytes.now) }
     ensures no_other { IfOk result (λ f. (g : Aba) → ReadsAs bytes.now g → g ≡ f) }
     ensures solid { IfOk result IsSolid }
@@ -44,8 +45,8 @@ pub fn read_aba(alloc: Global, bytes: &[u8]) -> Result<AbaPlain, ReadFault>
 }
 
 // What all lines say that are left and not skipped.
-fn read_lines(alloc: Global, left: Lines<'_>, count: u32) -> Result<Parts, ReadFault>
-    requires few { count ≤ LAST_ATOM }
+fn read_lines(alloc: Global, left: Lines<'_>, count: u32) -> Result<LineParts, ReadFault>
+    requires few { count ≤ MAX_ATOM }
     requires rise { NumbersRise (kept left) }
     ensures ok { IfOk result (AreWhole count (kept left.entry)) }
     ensures fault { IfErr result
@@ -63,14 +64,14 @@ fn read_lines(alloc: Global, left: Lines<'_>, count: u32) -> Result<Parts, ReadF
 
 // The same, whether or not only assumptions have contraries.
 #[inline(never)]
-fn take_lines(alloc: Global, mut left: Lines<'_>, count: u32) -> Result<Parts, ReadFault>
-    requires few { count ≤ LAST_ATOM }
+fn take_lines(alloc: Global, mut left: Lines<'_>, count: u32) -> Result<LineParts, ReadFault>
+    requires few { count ≤ MAX_ATOM }
     requires rise { NumbersRise (kept left) }
     ensures ok { IfOk result (AreRead count (kept left.entry)) }
     ensures fault { IfErr result
         (λ e. IfLine e (λ fault. IsFirstBadLine count (kept left.entry) fault.line fault.cause)) }
 {
-    let mut parts = Parts::new(alloc, count)?;
+    let mut parts = LineParts::new(alloc, count)?;
     let mut body = Vec::new(alloc);
     while let Some(line) = next_kept(&mut left) {
         take_line(&mut parts, &mut body, &line, count)?;
@@ -80,7 +81,7 @@ fn take_lines(alloc: Global, mut left: Lines<'_>, count: u32) -> Result<Parts, R
 
 // Takes in what a line says. `body` is room for the body of a rule, and is left with anything.
 fn take_line(
-    parts: &mut Parts,
+    parts: &mut LineParts,
     body: &mut Vec<u32>,
     line: &Line<'_>,
     count: u32,
@@ -103,7 +104,7 @@ fn take_line(
 // The same, and why it stops.
 #[inline(always)]
 fn take_statement(
-    parts: &mut Parts,
+    parts: &mut LineParts,
     body: &mut Vec<u32>,
     line: &Line<'_>,
     count: u32,

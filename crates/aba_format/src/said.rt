@@ -1,9 +1,10 @@
 //! What the lines of a text say, taken together.
 
 ghost use Rattle.std.specs.Prelude.{◌≡◌, ℕ, ◌+◌, ◌<◌, ◌≤◌, All, IfErr, IfOk, OnOk, length};
-ghost use Rattle.semantics.specs.declared.numbers.TheConstants.{LAST_ATOM};
+ghost use Rattle.semantics.specs.declared.numbers.TheConstants.{MAX_ATOM};
 ghost use Rattle.semantics.specs.AbaFrameworks.{IsAtom};
-ghost use Rattle.aba_format.specs.Reading.{IfCause, AddsAssumption, AddsContrary, AddsRule, AddsBody, AreEmpty, AreWide};
+ghost use Rattle.aba_format.specs.Reading.{IfCause, AddsAssumption, AddsContrary, AddsRule, AddsBody, AreEmpty};
+ghost use Rattle.aba_format.specs.Reading.{AreWide};
 ghost use Rattle.aba_format.specs.Reading.{RefusesAssumption, RefusesContrary, RefusesRule};
 
 use crate::stop::LineStop;
@@ -12,11 +13,11 @@ use lists::Memory;
 use std::alloc::Global;
 
 /// The most rule lines that a framework's text may have.
-pub const MOST_RULE_LINES: usize = 1_000_000;
+pub const MAX_RULE_LINES: usize = 1_000_000;
 
 /// What the lines of a text say. The first three lists have an item for each atom, by its number.
 #[derive(Drop)]
-pub(crate) struct Parts {
+pub(crate) struct LineParts {
     /// Whether an atom is an assumption.
     pub(crate) assumed: Vec<bool>,
     /// Whether an atom heads a rule.
@@ -33,14 +34,14 @@ pub(crate) struct Parts {
     pub(crate) bodies: Vec<(u32, u32)>,
 }
 
-impl Parts {
+impl LineParts {
     /// What no line says, of so many atoms.
-    pub(crate) fn new(alloc: Global, count: u32) -> Result<Parts, Memory>
-        requires { count ≤ LAST_ATOM }
+    pub(crate) fn new(alloc: Global, count: u32) -> Result<LineParts, Memory>
+        requires { count ≤ MAX_ATOM }
         ensures { IfOk result (AreEmpty count) }
     {
         let width = count as usize + 1;
-        Ok(Parts {
+        Ok(LineParts {
             assumed: vec![in alloc; false; width]?,
             heading: vec![in alloc; false; width]?,
             contrary: vec![in alloc; 0u32; width]?,
@@ -95,7 +96,7 @@ impl Parts {
         ensures err { IfErr result (λ stop. IfCause stop (RefusesRule head self.old)) }
     {
         let index = self.heads.len();
-        if index >= MOST_RULE_LINES {
+        if index >= MAX_RULE_LINES {
             return Err(LineStop::Cause(LineCause::TooManyLines));
         }
         if self.assumed[head as usize] {

@@ -1,8 +1,9 @@
 -- A framework's rules in flat lists, and the pairs by which they are found.
-use Rattle.std.specs.Prelude.{◌≡◌, ◌↔◌, ℕ, ◌+◌, ◌<◌, ◌≤◌, ◌==◌, List, [], Contains, filter, length, map, slice_index, slice_index_or}
+use Rattle.std.specs.Prelude.{◌≡◌, ◌↔◌, ℕ, ◌+◌, ◌<◌, ◌≤◌, ◌==◌, List, [], Contains, filter, length, map}
+use Rattle.std.specs.Prelude.{slice_index, slice_index_or}
 use Rattle.std.specs.List.{range_with_len}
 use Rattle.std.specs.List.Sorted.{IsStrictlyIncreasing}
-use Rattle.semantics.specs.declared.numbers.TheConstants.{LAST_ATOM, LAST_RULE}
+use Rattle.semantics.specs.declared.numbers.TheConstants.{MAX_ATOM, MAX_RULE}
 use Rattle.semantics.specs.Rules.{Rule}
 use Rattle.semantics.specs.AbaFrameworks.{Aba, IsAtom, IsNumberedAba}
 use Rattle.dung_notions.specs.attack_index.specs.PairOrder.{PairsRise, reversed}
@@ -88,9 +89,9 @@ pub record AreRuleLists (atoms : ℕ) (numbers heads : List ℕ) (bodies : List 
 -- no assumption heads a rule
 pub record AreParts (atoms : ℕ) (assumptions : List ℕ) (contraries : List (ℕ × ℕ)) (rules : RuleLists) (next : ℕ)
     : Type 0 where
-  pub atoms_small : atoms ≤ LAST_ATOM
+  pub atoms_small : atoms ≤ MAX_ATOM
   pub next_low : 1 ≤ next
-  pub next_small : next ≤ LAST_RULE + 1
+  pub next_small : next ≤ MAX_RULE + 1
   pub assumptions_are : (a : ℕ) → Contains assumptions a → IsAtom atoms a
   pub contraries_are : AreContraries atoms assumptions contraries
   pub rules_are : AreRuleLists atoms rules.numbers.items rules.heads.items rules.bodies.items

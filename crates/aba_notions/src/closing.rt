@@ -4,10 +4,11 @@
 
 ghost use Rattle.std.specs.Prelude.{◌≡◌, ℕ, ◌+◌, ◌<◌, ◌≤◌, [], Bool, true, Contains, IfOk, OnOk, length, slice_index};
 ghost use Rattle.lists.specs.Members.{IsSetOf};
-ghost use Rattle.semantics.specs.declared.numbers.TheConstants.{LAST_ATOM};
+ghost use Rattle.semantics.specs.declared.numbers.TheConstants.{MAX_ATOM};
 ghost use Rattle.semantics.specs.Rules.{Derives};
 ghost use Rattle.aba_notions.specs.Storage.{IsTableOf, rules_in};
-ghost use Rattle.aba_notions.specs.Closing.{EntersSearch, FiresInSearch, GoesOn, IsClosed, IsMarked, IsSearchOf, ListsDerived, is_derived};
+ghost use Rattle.aba_notions.specs.Closing.{EntersSearch, FiresInSearch, GoesOn, IsClosed, IsMarked, IsSearchOf};
+ghost use Rattle.aba_notions.specs.Closing.{ListsDerived, is_derived};
 
 use crate::rule_table::RuleTable;
 use lists::Memory;
@@ -44,7 +45,7 @@ impl RuleTable {
         set: &NumSet,
     ) -> Result<Vec<u32>, Memory>
         requires table { IsTableOf atoms self.now }
-        requires small { atoms ≤ LAST_ATOM }
+        requires small { atoms ≤ MAX_ATOM }
         ensures { IfOk result (λ found. IsSetOf (λ x. (x ≤ atoms) × Derives (rules_in self.now) (Contains set.now) x)
             found.items) }
     {
@@ -58,7 +59,7 @@ impl RuleTable {
     /// The beginning: nothing is derived.
     fn begin(&self, alloc: Global, atoms: u32) -> Result<Search, Memory>
         requires table { IsTableOf atoms self.now }
-        requires small { atoms ≤ LAST_ATOM }
+        requires small { atoms ≤ MAX_ATOM }
         ensures state { IfOk result (λ s. IsSearchOf self.now (IsMarked s.derived.items) 0 s) }
         ensures none { IfOk result (λ s. (x : ℕ) → IsMarked s.derived.items x → ⊥) }
         ensures wide { IfOk result (λ s. length s.derived.items ≡ atoms + 1) }
@@ -146,7 +147,7 @@ impl RuleTable {
 
 /// The atoms that are marked as derived, by rising number.
 fn derived_atoms(alloc: Global, derived: &[bool]) -> Result<Vec<u32>, Memory>
-    requires { length derived.now ≤ LAST_ATOM + 1 }
+    requires { length derived.now ≤ MAX_ATOM + 1 }
     ensures { IfOk result (λ found. ListsDerived derived.now (length derived.now) found.items) }
 {
     let mut found = Vec::new(alloc);

@@ -1,7 +1,7 @@
 //! Rules in flat storage, which are found by their index, by their head and by the atoms of their bodies.
 
 ghost use Rattle.std.specs.Prelude.{◌≡◌, ◌↔◌, ℕ, ◌<◌, ◌≤◌, Contains, IfOk, length, slice_index};
-ghost use Rattle.semantics.specs.declared.numbers.TheConstants.{LAST_ATOM, LAST_RULE};
+ghost use Rattle.semantics.specs.declared.numbers.TheConstants.{MAX_ATOM, MAX_RULE};
 ghost use Rattle.aba_notions.specs.Storage.{AreRuleLists, AreRulesOf, IsTableOf, rules_in};
 
 use attack_index::AttackIndex;
@@ -53,9 +53,9 @@ impl RuleTable {
         rules: RuleLists,
         spare: &mut Vec<(u32, u32)>,
     ) -> Result<RuleTable, Memory>
-        requires atoms { atoms ≤ LAST_ATOM }
+        requires atoms { atoms ≤ MAX_ATOM }
         requires rules { AreRuleLists atoms rules.numbers.items rules.heads.items rules.bodies.items }
-        requires small { length rules.heads.items ≤ LAST_RULE }
+        requires small { length rules.heads.items ≤ MAX_RULE }
         ensures table { IfOk result (IsTableOf atoms) }
         ensures rules { IfOk result (λ t.
             AreRulesOf rules.numbers.items rules.heads.items rules.bodies.items (rules_in t)) }
@@ -82,7 +82,7 @@ impl RuleTable {
 
 /// Pairs of the head of a rule and the rule's index.
 fn pairs_of_heads(alloc: Global, heads: &[u32]) -> Result<Vec<(u32, u32)>, Memory>
-    requires { length heads.now ≤ LAST_RULE }
+    requires { length heads.now ≤ MAX_RULE }
     ensures { IfOk result (λ pairs. (h k : ℕ)
         → Contains pairs.items (h, k) ↔ ((k < length heads.now) × (slice_index heads.now k ≡ h))) }
 {

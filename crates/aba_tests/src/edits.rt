@@ -178,7 +178,7 @@ const CHANGES: &[Row] = &[
 const ONE_LEFT: Shown<'static> = (2, &[(1, 2)], &[], 1_000_000);
 
 /// The last rule, and then none.
-const LAST_RULE: Shown<'static> = (2, &[(1, 2)], &[(1_000_000, 2, &[1, 2])], 1_000_001);
+const MAX_RULE: Shown<'static> = (2, &[(1, 2)], &[(1_000_000, 2, &[1, 2])], 1_000_001);
 
 const NONE_LEFT: Shown<'static> = (2, &[(1, 2)], &[], 1_000_001);
 
@@ -188,22 +188,22 @@ const LAST_NUMBERS: &[Row] = &[
     (
         Change::RuleAdd(2, &[2, 1, 2]),
         Ok((1_000_000, 0, 0, &[])),
-        LAST_RULE,
+        MAX_RULE,
     ),
     (
         Change::RuleAdd(2, &[3]),
         Err(EditFault::OutOfRange(3)),
-        LAST_RULE,
+        MAX_RULE,
     ),
     (
         Change::RuleAdd(1, &[]),
         Err(EditFault::NotFlat(1)),
-        LAST_RULE,
+        MAX_RULE,
     ),
     (
         Change::RuleAdd(2, &[]),
         Err(EditFault::OutOfRange(1_000_001)),
-        LAST_RULE,
+        MAX_RULE,
     ),
     (
         Change::RuleDrop(1_000_000),

@@ -14,7 +14,7 @@ const FEW_ARGUMENTS: usize = 4;
 const NEAR_ARGUMENTS: usize = 100;
 
 /// How many atoms are listed at most: an argument may have a million attackers.
-const MOST_ATOMS: usize = 4_096;
+const MAX_ATOMS: usize = 4_096;
 
 /// Arguments in the order in which they were found, each once, with a mark for each that was.
 #[derive(Drop)]
@@ -66,7 +66,7 @@ impl Neighbourhood {
     }
 
     /// Adds what attacks those that were found or is attacked by them, in rounds, until enough are found.
-    fn spread(&mut self, plain: &AfPlain) -> Result<(), Memory> {
+    fn find_neighbours(&mut self, plain: &AfPlain) -> Result<(), Memory> {
         for index in 0..NEAR_ARGUMENTS {
             let Some(argument) = self.found.get(index).copied() else {
                 return Ok(());
@@ -99,7 +99,7 @@ fn push_attackers(plain: &AfPlain, argument: u32, atoms: &mut Items<Atom>) -> Re
     atoms.push(Atom::Live(argument))?;
     let mut begin = 1;
     for attack in plain.attackers_of(argument) {
-        if atoms.len() >= MOST_ATOMS {
+        if atoms.len() >= MAX_ATOMS {
             return Ok(());
         }
         atoms.push(Atom::Attack(attack.1, argument))?;
@@ -130,6 +130,6 @@ pub(crate) fn near(
     if near.found.len() > FEW_ARGUMENTS {
         return Ok(Items::new(alloc));
     }
-    near.spread(plain)?;
+    near.find_neighbours(plain)?;
     atoms_about(alloc, plain, near.found.as_slice())
 }

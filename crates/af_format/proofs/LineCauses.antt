@@ -1,14 +1,17 @@
 -- Which causes stand on a header, and on an attack line.
-use Rattle.std.proofs.Common.{◌≡◌, ℕ, zero, suc, ◌<◌, ◌≤◌, List, [], ◌∷◌, length, get_or, refl, sym, ap, subst, ◌∙◌, ◌⊎◌, inl, inr, arith}
+use Rattle.std.proofs.Common.{◌≡◌, ℕ, zero, suc, ◌<◌, ◌≤◌, List, [], ◌∷◌, length, get_or, refl, sym, ap, subst}
+use Rattle.std.proofs.Common.{◌∙◌, ◌⊎◌, inl, inr, arith}
 use Rattle.std.specs.Prelude.{Contains, codes, All, Option, Some, None}
 use Rattle.std.proofs.lemmas.List.Elements.{All-head}
 use Rattle.num_text.specs.Cuts.{field_texts}
 use Rattle.num_text.specs.Number.{IsNumber, IsDigit}
 use Rattle.num_text.specs.Numerals.{IsReadNumber}
-use Rattle.semantics.specs.declared.argument.TheConstants.{LAST_ARGUMENT}
-use Rattle.af_format.specs.declared.af_line.TheConstants.{MOST_ATTACK_LINES}
+use Rattle.semantics.specs.declared.argument.TheConstants.{MAX_ARGUMENT}
+use Rattle.af_format.specs.declared.af_line.TheConstants.{MAX_ATTACK_LINES}
 use Rattle.af_format.specs.declared.fault.LineCause.{LineCause}
-use Rattle.af_format.specs.declared.fault.LineCause.TheVariants.{NoHeader, WrongKind, BadHeader, SecondHeader, BadLine, BadNumber, OutOfRange, TooManyLines, NotFlat, SecondContrary, ContraryOfNonAssumption}
+use Rattle.af_format.specs.declared.fault.LineCause.TheVariants.{NoHeader, WrongKind, BadHeader, SecondHeader}
+use Rattle.af_format.specs.declared.fault.LineCause.TheVariants.{BadLine, BadNumber, OutOfRange, TooManyLines}
+use Rattle.af_format.specs.declared.fault.LineCause.TheVariants.{NotFlat, SecondContrary, ContraryOfNonAssumption}
 use Rattle.af_format.specs.AfText.{IsHeader, IsAttackLine}
 use Rattle.af_format.specs.Causes.{rank, IsFirstCause}
 use Rattle.af_format.specs.Faults.{StandsOnAttack}
@@ -54,7 +57,7 @@ IsHeader-same line m n a b = IsHeaderOf-same af_word line m n a b
 
 -- where the fields are a header's, only its number can be wrong
 over_only : (own other : List ℕ) (fields : List (List ℕ)) (n : ℕ) → (own ≡ other → ⊥) → AreHeaderOf own fields n
-    → (cause : LineCause) → StandsOnHeader own other fields cause → (LAST_ARGUMENT < n) × (7 ≤ rank cause)
+    → (cause : LineCause) → StandsOnHeader own other fields cause → (MAX_ARGUMENT < n) × (7 ≤ rank cause)
 over_only own other fields n ne h NoHeader stands = absurd (stands (own ∷ h.number ∷ [], h.fields_are))
 over_only own other fields n ne h WrongKind stands =
     absurd (kinds_differ own other fields stands.more stands.first h.number ne stands.fields_are h.fields_are)
@@ -63,7 +66,7 @@ over_only own other fields n ne h SecondHeader stands = absurd stands
 over_only own other fields n ne h BadLine stands = absurd stands
 over_only own other fields n ne h BadNumber stands = absurd stands
 over_only own other fields n ne h OutOfRange stands =
-    (subst (λ m. LAST_ARGUMENT < m) (AreHeaderOf-same own fields stands.0 n stands.1 h) stands.2, omega arith)
+    (subst (λ m. MAX_ARGUMENT < m) (AreHeaderOf-same own fields stands.0 n stands.1 h) stands.2, omega arith)
 over_only own other fields n ne h TooManyLines stands = absurd stands
 over_only own other fields n ne h NotFlat stands = absurd stands
 over_only own other fields n ne h SecondContrary stands = absurd stands
@@ -71,7 +74,7 @@ over_only own other fields n ne h ContraryOfNonAssumption stands = absurd stands
 
 -- a header whose number is too large
 pub header_over : (own other : List ℕ) (fields : List (List ℕ)) (number : List ℕ) (n : ℕ) → (own ≡ other → ⊥)
-    → fields ≡ codes "p" ∷ own ∷ number ∷ [] → IsNumber number n → LAST_ARGUMENT < n
+    → fields ≡ codes "p" ∷ own ∷ number ∷ [] → IsNumber number n → MAX_ARGUMENT < n
     → IsFirstCause (StandsOnHeader own other fields) OutOfRange
 header_over own other fields number n ne e number_is over =
     let h : AreHeaderOf own fields n = record { number = number; fields_are = e; number_is = number_is } in
@@ -111,7 +114,7 @@ two_members fields a b field e member = two_members_of a b field (subst (λ xs. 
 
 -- only the limit on lines can be broken at an attack line
 pub limit_only : (count index : ℕ) (line : List ℕ) (attack : ℕ × ℕ) → IsAttackLine count line attack
-    → (other : LineCause) → StandsOnAttack count index (field_texts line) other → (MOST_ATTACK_LINES ≤ index)
+    → (other : LineCause) → StandsOnAttack count index (field_texts line) other → (MAX_ATTACK_LINES ≤ index)
     × (8 ≤ rank other)
 limit_only count index line attack h NoHeader stands = absurd stands
 limit_only count index line attack h WrongKind stands = absurd stands

@@ -1,5 +1,6 @@
 -- The lines that were read, and those that are left.
-use Rattle.std.proofs.Common.{◌≡◌, ℕ, zero, suc, ◌+◌, ◌<◌, ◌≤◌, List, [], ◌∷◌, ◌++◌, length, get_or, ◌⊎◌, inl, inr, refl, sym, ap, subst, ◌∙◌, arith}
+use Rattle.std.proofs.Common.{◌≡◌, ℕ, zero, suc, ◌+◌, ◌<◌, ◌≤◌, List, [], ◌∷◌, ◌++◌, length, get_or, ◌⊎◌, inl, inr}
+use Rattle.std.proofs.Common.{refl, sym, ap, subst, ◌∙◌, arith}
 use Rattle.std.specs.Prelude.{Contains, Result, Ok, Err, IfOk, ◌↔◌}
 use Rattle.std.specs.List.{range_with_len}
 use Rattle.std.specs.List.Sorted.{IsStrictlyIncreasing}
@@ -7,8 +8,8 @@ use Rattle.std.proofs.lemmas.List.{length-append, append_assoc, append-nil}
 use Rattle.std.proofs.lemmas.Slice.Zip.{all_zipped_more, AllZip-long}
 use Rattle.std.proofs.lemmas.List.FromFn.{length-range_with_len, get_or-range_with_len}
 use Rattle.num_text.specs.Cuts.{LineText, field_texts, lines_of}
-use Rattle.semantics.specs.declared.argument.TheConstants.{LAST_ARGUMENT}
-use Rattle.af_format.specs.declared.af_line.TheConstants.{MOST_ATTACK_LINES}
+use Rattle.semantics.specs.declared.argument.TheConstants.{MAX_ARGUMENT}
+use Rattle.af_format.specs.declared.af_line.TheConstants.{MAX_ATTACK_LINES}
 use Rattle.af_format.specs.declared.fault.LineCause.{LineCause}
 use Rattle.af_format.specs.AfText.{IsHeader, IsAttackLine, AreAttackLines, IsFrameworkOf, ReadsAs}
 use Rattle.num_text.specs.Lines.{kept}
@@ -42,7 +43,7 @@ read_none count lines = record {
 pub read_more : (count : ℕ) (lines left rest : List LineText) (line : LineText) (attacks : List (ℕ × ℕ)) (attack : ℕ
     × ℕ)
     → HasRead count lines left attacks → left ≡ line ∷ rest → IsAttackLine count line.text attack
-    → length attacks < MOST_ATTACK_LINES → HasRead count lines rest (attacks ++ attack ∷ [])
+    → length attacks < MAX_ATTACK_LINES → HasRead count lines rest (attacks ++ attack ∷ [])
 read_more count lines left rest line attacks attack h e is few =
     let R : LineText → ℕ × ℕ → Type 0 = λ line attack. IsAttackLine count line.text attack in
     let long = AllZip-long R h.before attacks h.before_are.each in
@@ -144,7 +145,7 @@ framework_made (Ok f) count attacks live items range same is_live are form = rec
 framework_made (Err e) count attacks live items range same is_live are form = form
 
 pub header_few : (bytes : List ℕ) (count : ℕ) (left : List LineText) → BeginWithHeader bytes count left
-    → count ≤ LAST_ARGUMENT
+    → count ≤ MAX_ARGUMENT
 header_few bytes count left h = h.header_is.few
 
 pub reads_as : (bytes : List ℕ) (count : ℕ) (left : List LineText) (attacks : List (ℕ × ℕ)) (f : Af)
@@ -200,7 +201,7 @@ faultless bytes count left attacks h are = record {
 }
 
 -- what is read has the arguments 1 to n
-pub read_is_solid : (count : ℕ) (attacks : List (ℕ × ℕ)) (f : Af) → count ≤ LAST_ARGUMENT
+pub read_is_solid : (count : ℕ) (attacks : List (ℕ × ℕ)) (f : Af) → count ≤ MAX_ARGUMENT
     → IsFrameworkOf count attacks f
     → IsSolid f
 read_is_solid count attacks f few h =

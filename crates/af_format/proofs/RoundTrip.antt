@@ -1,6 +1,7 @@
 -- A text that was written reads as the framework that it was written of.
-use Rattle.num_text.specs.declared.limit.TheConstants.{INPUT_LIMIT}
-use Rattle.std.proofs.Common.{◌≡◌, ℕ, ◌+◌, ◌*◌, ◌<◌, ◌≤◌, ◌==◌, false, not, List, [], ◌∷◌, ◌++◌, length, take, drop, get_or, filter, refl, sym, ap, subst, ◌∙◌, arith}
+use Rattle.num_text.specs.declared.limit.TheConstants.{MAX_INPUT}
+use Rattle.std.proofs.Common.{◌≡◌, ℕ, ◌+◌, ◌*◌, ◌<◌, ◌≤◌, ◌==◌, false, not, List, [], ◌∷◌, ◌++◌, length, take}
+use Rattle.std.proofs.Common.{drop, get_or, filter, refl, sym, ap, subst, ◌∙◌, arith}
 use Rattle.std.specs.Prelude.{Contains, codes, All}
 use Rattle.std.specs.List.{AllZip, flat_map, position_or_len, range_with_len}
 use Rattle.std.specs.Fmt.{decimal}
@@ -19,8 +20,8 @@ use Rattle.num_text.proofs.DigitFields.{digit_no_end, no_blanks, not_empty, two_
 use Rattle.num_text.proofs.CutLemmas.{lines_from-nil, lines_from-first}
 use Rattle.semantics.specs.Framework.{Af, IsAf}
 use Rattle.num_text.specs.Lines.{are_skipped, kept}
-use Rattle.semantics.specs.declared.argument.TheConstants.{LAST_ARGUMENT}
-use Rattle.af_format.specs.declared.af_line.TheConstants.{MOST_ATTACK_LINES}
+use Rattle.semantics.specs.declared.argument.TheConstants.{MAX_ARGUMENT}
+use Rattle.af_format.specs.declared.af_line.TheConstants.{MAX_ATTACK_LINES}
 use Rattle.af_format.specs.AfText.{IsAttackLine, ReadsAs}
 use Rattle.dung_notions.specs.Solid.{IsSolid}
 use Rattle.af_format.specs.Written.{header_line, attack_line, af_text}
@@ -98,7 +99,7 @@ header_line-piece count = sym (append_assoc (codes "p af ") (decimal count) (10 
 
 -- both numbers of the pair are arguments
 record IsPair (count : ℕ) (p : ℕ × ℕ) : Type 0 where
-  few : count ≤ LAST_ARGUMENT
+  few : count ≤ MAX_ARGUMENT
   low : 1 ≤ p.0
   high : p.0 ≤ count
   target_low : 1 ≤ p.1
@@ -167,7 +168,7 @@ header_free =
     (All-cons P 102 (32 ∷ []) refl
     (All-cons P 32 [] refl (All-nil P)))))
 
-pub reads_back : (f : Af) → IsAf f → IsSolid f → length f.attacks ≤ MOST_ATTACK_LINES → ReadsAs (af_text f) f
+pub reads_back : (f : Af) → IsAf f → IsSolid f → length f.attacks ≤ MAX_ATTACK_LINES → ReadsAs (af_text f) f
 unfolding lines_of line_at
 reads_back f form solid few =
     let n = decimal_number (length f.live) (let few = solid.small in omega arith) in
@@ -216,7 +217,7 @@ text_more head old now items attacks i d before same line within =
 -- ---- how long the text is
 
 -- a number up to 1,000,000 has at most seven digits
-pub short : (n : ℕ) → n ≤ LAST_ARGUMENT → length (decimal n) ≤ 7
+pub short : (n : ℕ) → n ≤ MAX_ARGUMENT → length (decimal n) ≤ 7
 short n h = length-decimal-le 7 n (omega arith) (omega arith) (omega arith)
 
 lines_within : (count : ℕ) (attacks : List (ℕ × ℕ)) → All (IsPair count) attacks
@@ -238,8 +239,8 @@ lines_within count (p ∷ ps) all =
     )
 
 -- a text of at most 10,000,000 attacks keeps the reader's limit
-pub text_within : (f : Af) → IsAf f → IsSolid f → length f.attacks ≤ MOST_ATTACK_LINES
-    → length (af_text f) ≤ INPUT_LIMIT
+pub text_within : (f : Af) → IsAf f → IsSolid f → length f.attacks ≤ MAX_ATTACK_LINES
+    → length (af_text f) ≤ MAX_INPUT
 text_within f form solid few =
     omega (
       arith,

@@ -6,7 +6,7 @@ use Rattle.num_text.specs.Number.{IsNumber}
 use Rattle.semantics.specs.Framework.{Af, IsAf}
 use Rattle.num_text.specs.Lines.{kept_lines}
 use Rattle.af_format.specs.Headers.{af_word, IsHeaderOf}
-use Rattle.af_format.specs.declared.af_line.TheConstants.{MOST_ATTACK_LINES}
+use Rattle.af_format.specs.declared.af_line.TheConstants.{MAX_ATTACK_LINES}
 
 -- the line is `p af n`, where n is the number of arguments
 abbrev pub IsHeader : List ℕ → ℕ → Type 0
@@ -29,7 +29,7 @@ pub record IsAttackLine (count : ℕ) (line : List ℕ) (attack : ℕ × ℕ) : 
 -- each line is an attack line, of the attack at its index, and there aren't too many
 pub record AreAttackLines (count : ℕ) (lines : List LineText) (attacks : List (ℕ × ℕ)) : Type 0 where
   pub each : AllZip (λ line attack. IsAttackLine count line.text attack) lines attacks
-  pub few : length lines ≤ MOST_ATTACK_LINES
+  pub few : length lines ≤ MAX_ATTACK_LINES
 
 -- but for skipped lines, the bytes are a header with this number of arguments, followed by these attacks
 -- line by line

@@ -2,9 +2,11 @@
 use Rattle.std.specs.Prelude.{◌≡◌, ℕ, ◌+◌, ◌<◌, ◌≤◌, ◌⊎◌, List, [], ◌∷◌, length, Contains, slice_index_or}
 use Rattle.num_text.specs.Cuts.{LineText, field_texts, lines_of}
 use Rattle.num_text.specs.Number.{IsNumber}
-use Rattle.af_format.specs.declared.af_line.TheConstants.{MOST_ATTACK_LINES}
+use Rattle.af_format.specs.declared.af_line.TheConstants.{MAX_ATTACK_LINES}
 use Rattle.af_format.specs.declared.fault.LineCause.{LineCause}
-use Rattle.af_format.specs.declared.fault.LineCause.TheVariants.{NoHeader, WrongKind, BadHeader, SecondHeader, BadLine, BadNumber, OutOfRange, TooManyLines, NotFlat, SecondContrary, ContraryOfNonAssumption}
+use Rattle.af_format.specs.declared.fault.LineCause.TheVariants.{NoHeader, WrongKind, BadHeader, SecondHeader}
+use Rattle.af_format.specs.declared.fault.LineCause.TheVariants.{BadLine, BadNumber, OutOfRange, TooManyLines}
+use Rattle.af_format.specs.declared.fault.LineCause.TheVariants.{NotFlat, SecondContrary, ContraryOfNonAssumption}
 use Rattle.af_format.specs.declared.fault.LineFault.{LineFault}
 use Rattle.af_format.specs.declared.fault.ReadFault.{ReadFault}
 use Rattle.af_format.specs.declared.fault.ReadFault.TheVariants.{Line, Memory}
@@ -37,7 +39,7 @@ StandsOnAttack count index fields SecondHeader = BeginWithP fields
 StandsOnAttack count index fields BadLine = (b a : List ℕ) → ¬ (fields ≡ b ∷ a ∷ [])
 StandsOnAttack count index fields BadNumber = HaveNoNumber fields
 StandsOnAttack count index fields OutOfRange = HaveOutsider count fields
-StandsOnAttack count index fields TooManyLines = MOST_ATTACK_LINES ≤ index
+StandsOnAttack count index fields TooManyLines = MAX_ATTACK_LINES ≤ index
 StandsOnAttack count index fields NotFlat = ⊥
 StandsOnAttack count index fields SecondContrary = ⊥
 StandsOnAttack count index fields ContraryOfNonAssumption = ⊥
@@ -54,7 +56,8 @@ pub record IsAttackFault (header : LineText) (others : List LineText) (line : �
 -- the cause stands at the line, in a text of so many lines of which these are not skipped
 abbrev pub StandsIn : ℕ → List LineText → ℕ → LineCause → Type 0
 StandsIn size [] line cause = (line ≡ size + 1) × (cause ≡ NoHeader)
-StandsIn size (header ∷ others) line cause = IsHeaderFault af_word aba_word header line cause ⊎ IsAttackFault header others line cause
+StandsIn size (header ∷ others) line cause = IsHeaderFault af_word aba_word header line cause ⊎ IsAttackFault header
+    others line cause
 
 -- the cause stands at the line of the bytes
 abbrev pub HasFault : List ℕ → ℕ → LineCause → Type 0

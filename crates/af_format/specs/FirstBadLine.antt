@@ -1,7 +1,7 @@
 -- How far a text is read, line by line.
 use Rattle.std.specs.Prelude.{◌≡◌, ℕ, ◌<◌, List, ◌∷◌, ◌++◌, length}
 use Rattle.num_text.specs.Cuts.{LineText, field_texts}
-use Rattle.af_format.specs.declared.af_line.TheConstants.{MOST_ATTACK_LINES}
+use Rattle.af_format.specs.declared.af_line.TheConstants.{MAX_ATTACK_LINES}
 use Rattle.af_format.specs.declared.fault.LineCause.{LineCause}
 use Rattle.af_format.specs.AfText.{IsAttackLine, AreAttackLines}
 use Rattle.af_format.specs.Headers.{af_word, BeginWith}
@@ -17,7 +17,7 @@ pub record TellsNext (count index : ℕ) (before after : List LineText) (attack 
   pub line : LineText
   pub lines_are : before ≡ line ∷ after
   pub attack_is : IsAttackLine count line.text attack
-  pub few : index < MOST_ATTACK_LINES
+  pub few : index < MAX_ATTACK_LINES
 
 -- the next line has this number and is no attack line, so many attack lines standing before it, and the cause is
 -- told of it

@@ -3,9 +3,11 @@ use Rattle.std.specs.Prelude.{◌≡◌, ℕ, ◌+◌, ◌≤◌, ◌<◌, List,
 use Rattle.num_text.specs.Cuts.{LineText, field_texts, lines_of}
 use Rattle.num_text.specs.Lines.{kept, kept_lines}
 use Rattle.num_text.specs.Number.{IsNumber}
-use Rattle.semantics.specs.declared.argument.TheConstants.{LAST_ARGUMENT}
+use Rattle.semantics.specs.declared.argument.TheConstants.{MAX_ARGUMENT}
 use Rattle.af_format.specs.declared.fault.LineCause.{LineCause}
-use Rattle.af_format.specs.declared.fault.LineCause.TheVariants.{NoHeader, WrongKind, BadHeader, SecondHeader, BadLine, BadNumber, OutOfRange, TooManyLines, NotFlat, SecondContrary, ContraryOfNonAssumption}
+use Rattle.af_format.specs.declared.fault.LineCause.TheVariants.{NoHeader, WrongKind, BadHeader, SecondHeader}
+use Rattle.af_format.specs.declared.fault.LineCause.TheVariants.{BadLine, BadNumber, OutOfRange, TooManyLines}
+use Rattle.af_format.specs.declared.fault.LineCause.TheVariants.{NotFlat, SecondContrary, ContraryOfNonAssumption}
 use Rattle.af_format.specs.Causes.{IsFirstCause}
 
 -- the words of the two kinds
@@ -20,7 +22,7 @@ pub record IsHeaderOf (word : List ℕ) (line : List ℕ) (count : ℕ) : Type 0
   pub number : List ℕ
   pub fields : field_texts line ≡ codes "p" ∷ word ∷ number ∷ []
   pub number_is : IsNumber number count
-  pub few : count ≤ LAST_ARGUMENT
+  pub few : count ≤ MAX_ARGUMENT
 
 -- the first field is `p`
 abbrev pub BeginWithP : List (List ℕ) → Type 0
@@ -47,7 +49,7 @@ StandsOnHeader own other fields BadHeader = (n : ℕ) → ¬ AreHeaderOf own fie
 StandsOnHeader own other fields SecondHeader = ⊥
 StandsOnHeader own other fields BadLine = ⊥
 StandsOnHeader own other fields BadNumber = ⊥
-StandsOnHeader own other fields OutOfRange = (n : ℕ) × AreHeaderOf own fields n × (LAST_ARGUMENT < n)
+StandsOnHeader own other fields OutOfRange = (n : ℕ) × AreHeaderOf own fields n × (MAX_ARGUMENT < n)
 StandsOnHeader own other fields TooManyLines = ⊥
 StandsOnHeader own other fields NotFlat = ⊥
 StandsOnHeader own other fields SecondContrary = ⊥

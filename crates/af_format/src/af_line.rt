@@ -12,13 +12,13 @@ use crate::fault::LineCause;
 use num_text::{Line, NumberField, fields};
 
 /// The most attack lines that a framework's text may have.
-pub const MOST_ATTACK_LINES: usize = 10_000_000;
+pub const MAX_ATTACK_LINES: usize = 10_000_000;
 
 /// The attack that a line tells, where so many attack lines stand before it.
 #[inline(always)]
 pub(crate) fn attack_of(line: &Line<'_>, count: u32, index: usize) -> Result<(u32, u32), LineCause>
     ensures ok { IfOk result (IsAttackLine count line.now.text.now) }
-    ensures few { IfOk result (λ _. index < MOST_ATTACK_LINES) }
+    ensures few { IfOk result (λ _. index < MAX_ATTACK_LINES) }
     ensures err { IfErr result (IsFirstCause (StandsOnAttack count index (field_texts line.now.text.now))) }
 {
     let (first, second) = two_fields(line, count, index)?;
@@ -31,7 +31,7 @@ pub(crate) fn attack_of(line: &Line<'_>, count: u32, index: usize) -> Result<(u3
     if !is_argument(attacker, count) || !is_argument(target, count) {
         return Err(LineCause::OutOfRange);
     }
-    if index >= MOST_ATTACK_LINES {
+    if index >= MAX_ATTACK_LINES {
         return Err(LineCause::TooManyLines);
     }
     Ok((attacker, target))

@@ -4,11 +4,11 @@ ghost use Rattle.std.specs.Prelude.{◌≡◌, ◌≢◌, ◌∷◌, ◌≤◌, 
 ghost use Rattle.num_text.specs.Cuts.{field_texts, lines_of};
 ghost use Rattle.af_format.specs.Causes.{IsFirstCause};
 ghost use Rattle.af_format.specs.Headers.{IsHeaderOf, StandsOnHeader, BeginWith, IsBadHeader};
-ghost use Rattle.num_text.specs.declared.limit.TheConstants.{INPUT_LIMIT};
+ghost use Rattle.num_text.specs.declared.limit.TheConstants.{MAX_INPUT};
 
 use crate::fault::{LineCause, LineFault};
 use num_text::{Line, Lines, decimal, fields, line_count, next_kept};
-use semantics::LAST_ARGUMENT;
+use semantics::MAX_ARGUMENT;
 
 /// The number that the header of a text tells: `p`, the word of the text's own kind of framework, and a number of at
 /// most 1,000,000. The lines behind the header are left. `other` is the word of the other kind.
@@ -20,7 +20,7 @@ pub fn read_header(
     own: &[u8],
     other: &[u8],
 ) -> Result<u32, LineFault>
-    requires size { length bytes.now ≤ INPUT_LIMIT }
+    requires size { length bytes.now ≤ MAX_INPUT }
     requires all { left.old ≡ lines_of bytes.now }
     requires differ { own.now ≢ other.now }
     ensures ok { IfOk result (λ count. BeginWith own.now bytes.now count left.new) }
@@ -49,7 +49,7 @@ fn header_of(line: &Line<'_>, own: &[u8], other: &[u8]) -> Result<u32, LineCause
 {
     let text = header_number(line, own, other)?;
     let count = decimal(text).ok_or(LineCause::BadHeader)?;
-    if count > LAST_ARGUMENT {
+    if count > MAX_ARGUMENT {
         return Err(LineCause::OutOfRange);
     }
     Ok(count)

@@ -10,9 +10,9 @@ ghost use Rattle.af_format.specs.AfText.{ReadsAs, IsReadable};
 ghost use Rattle.af_format.specs.Faults.{IsFirstFault, IsFaultless};
 ghost use Rattle.af_format.specs.FirstBadLine.{AreSomeAttacks, IsFirstBadLine};
 ghost use Rattle.af_format.specs.declared.fault.ReadFault.TheVariants.{Memory as refused};
-ghost use Rattle.num_text.specs.declared.limit.TheConstants.{INPUT_LIMIT};
+ghost use Rattle.num_text.specs.declared.limit.TheConstants.{MAX_INPUT};
 
-use crate::af_line::MOST_ATTACK_LINES;
+use crate::af_line::MAX_ATTACK_LINES;
 use crate::fault::{LineFault, ReadFault};
 use crate::next_attack::next_attack;
 use crate::read::{read_af, read_count};
@@ -31,7 +31,7 @@ pub fn one_reading()
 /// call it: its contract is the law.
 pub fn read_back(alloc: Global, framework: &AfPlain) -> Result<AfPlain, ReadFault>
     requires solid { IsSolid framework.now }
-    requires few { length framework.now.attacks ≤ MOST_ATTACK_LINES }
+    requires few { length framework.now.attacks ≤ MAX_ATTACK_LINES }
     ensures same { IfOk result (λ f. f ≡ framework.now) }
     ensures fault { IfErr result (λ e. e ≡ refused) }
 {
@@ -42,7 +42,7 @@ pub fn read_back(alloc: Global, framework: &AfPlain) -> Result<AfPlain, ReadFaul
 /// That a text is the text of a framework, or else its first fault. No memory is needed, so each text
 /// has an answer. Only tests call it: its contract is the law.
 pub fn readable_or_faulty(bytes: &[u8]) -> Result<(), LineFault>
-    requires { length bytes.now ≤ INPUT_LIMIT }
+    requires { length bytes.now ≤ MAX_INPUT }
     ensures readable { OnOk result (IsReadable bytes.now) }
     ensures faulty { IfErr result (λ fault. IsFirstFault bytes.now fault.line fault.cause) }
 {

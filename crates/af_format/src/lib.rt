@@ -13,7 +13,7 @@ mod next_attack;
 mod read;
 mod write;
 
-pub use af_line::MOST_ATTACK_LINES;
+pub use af_line::MAX_ATTACK_LINES;
 pub use fault::{LineCause, LineFault, ReadFault};
 pub use header::read_header;
 pub use laws::{one_reading, read_back, readable_or_faulty};

@@ -9,7 +9,7 @@ ghost use Rattle.af_format.specs.Faults.{IsFirstFault, IsFaultless, IfLine};
 ghost use Rattle.dung_notions.specs.Solid.{IsSolid};
 ghost use Rattle.semantics.specs.Framework.{Af};
 ghost use Rattle.af_format.specs.FirstBadLine.{BeginWithHeader, IsFirstBadLine};
-ghost use Rattle.num_text.specs.declared.limit.TheConstants.{INPUT_LIMIT};
+ghost use Rattle.num_text.specs.declared.limit.TheConstants.{MAX_INPUT};
 
 use crate::fault::{LineFault, ReadFault};
 use crate::header::read_header;
@@ -17,7 +17,7 @@ use crate::next_attack::next_attack;
 use dung_notions::AfPlain;
 use lists::{Items, Memory};
 use num_text::{Lines, lines};
-use semantics::LAST_ARGUMENT;
+use semantics::MAX_ARGUMENT;
 use set_lists::NumSet;
 use std::alloc::Global;
 
@@ -29,7 +29,7 @@ use std::alloc::Global;
 /// the order of [`LineCause`]. `Memory` says that an allocation was refused.
 #[tactic(auto, using(crate::proofs::Reading::header_few, crate::proofs::Reading::reads_as, crate::proofs::Reading::bad_line_told, crate::proofs::Reading::ends_are_arguments, crate::proofs::Reading::faultless,))]
 pub fn read_af(alloc: Global, bytes: &[u8]) -> Result<AfPlain, ReadFault>
-    requires { length bytes.now ≤ INPUT_LIMIT }
+    requires { length bytes.now ≤ MAX_INPUT }
     ensures ok { IfOk result (ReadsAs bytes.now) }
     ensures no_other { IfOk result (λ f. (g : Af) → ReadsAs bytes.now g → g ≡ f) }
     ensures solid { IfOk result IsSolid }
@@ -44,7 +44,7 @@ pub fn read_af(alloc: Global, bytes: &[u8]) -> Result<AfPlain, ReadFault>
 
 /// The number of arguments that the text's header tells. The lines behind the header are left.
 pub(crate) fn read_count(bytes: &[u8], left: &mut Lines<'_>) -> Result<u32, LineFault>
-    requires size { length bytes.now ≤ INPUT_LIMIT }
+    requires size { length bytes.now ≤ MAX_INPUT }
     requires all { left.old ≡ lines_of bytes.now }
     ensures ok { IfOk result (λ count. BeginWithHeader bytes.now count left.new) }
     ensures fault { IfErr result (λ fault. IsFirstFault bytes.now fault.line fault.cause) }
@@ -73,7 +73,7 @@ fn read_attacks(
 
 // The framework of the arguments 1 to n and the attacks.
 fn framework_of(alloc: Global, count: u32, attacks: Items<(u32, u32)>) -> Result<AfPlain, Memory>
-    requires few { count ≤ LAST_ARGUMENT }
+    requires few { count ≤ MAX_ARGUMENT }
     requires ends { (b a : ℕ) → Contains attacks (b, a)
         → Contains (range_with_len 1 count) b × Contains (range_with_len 1 count) a }
     ensures { IfOk result (IsFrameworkOf count attacks) }
@@ -84,7 +84,7 @@ fn framework_of(alloc: Global, count: u32, attacks: Items<(u32, u32)>) -> Result
 
 // The arguments 1 to n.
 fn arguments(alloc: Global, count: u32) -> Result<NumSet, Memory>
-    requires { count ≤ LAST_ARGUMENT }
+    requires { count ≤ MAX_ARGUMENT }
     ensures { IfOk result (λ s. s ≡ range_with_len 1 count) }
 {
     let numbers: Vec<u32> = (1..count + 1).collect(alloc)?;

@@ -6,9 +6,9 @@ ghost use Rattle.semantics.specs.Frameworks.{IsNumberedAf};
 ghost use Rattle.af_format.specs.AfText.{ReadsAs};
 ghost use Rattle.dung_notions.specs.Solid.{IsSolid};
 ghost use Rattle.af_format.specs.Written.{af_text};
-ghost use Rattle.num_text.specs.declared.limit.TheConstants.{INPUT_LIMIT};
+ghost use Rattle.num_text.specs.declared.limit.TheConstants.{MAX_INPUT};
 
-use crate::af_line::MOST_ATTACK_LINES;
+use crate::af_line::MAX_ATTACK_LINES;
 use dung_notions::AfPlain;
 use lists::{Bytes, Memory};
 use std::alloc::Global;
@@ -21,9 +21,9 @@ use std::fmt::Write;
 pub fn write_af(alloc: Global, framework: &AfPlain) -> Result<Bytes, Memory>
     requires { IsSolid framework.now }
     ensures text { IfOk result (λ text. text ≡ af_text framework.now) }
-    ensures back { length framework.now.attacks ≤ MOST_ATTACK_LINES
+    ensures back { length framework.now.attacks ≤ MAX_ATTACK_LINES
         → IfOk result (λ text. ReadsAs text framework.now) }
-    ensures within { length framework.now.attacks ≤ MOST_ATTACK_LINES → IfOk result (λ text. length text ≤ INPUT_LIMIT) }
+    ensures within { length framework.now.attacks ≤ MAX_ATTACK_LINES → IfOk result (λ text. length text ≤ MAX_INPUT) }
 {
     let text = text_of(alloc, framework)?;
     Ok(Bytes::from_vec(text.into_bytes()))

@@ -95,7 +95,7 @@ fn add_if_lacking(found: &mut Vec<u32>, set: &NumSet, number: u32) -> Result<(),
 }
 
 /// Those of the numbers that are no members.
-fn lacking(alloc: Global, numbers: &[u32], set: &NumSet) -> Result<Vec<u32>, Memory>
+fn numbers_outside(alloc: Global, numbers: &[u32], set: &NumSet) -> Result<Vec<u32>, Memory>
     ensures { IfOk result (λ found. found.items ≡ filter (λ x. not (has set.now x)) numbers.now) }
 {
     let mut found = Vec::new(alloc);
@@ -116,7 +116,7 @@ fn push_lacking(
     ensures { OnOk result (clause.new.items ≡ clause.old.items ++ map (literal_of word)
         (filter (λ x. not (has set.now x)) (members (framework_of framework.now)))) }
 {
-    let numbers = lacking(alloc, members_of(framework), set)?;
+    let numbers = numbers_outside(alloc, members_of(framework), set)?;
     push_all(clause, word, numbers.as_slice())
 }
 

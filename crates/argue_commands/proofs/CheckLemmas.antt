@@ -1,5 +1,6 @@
 -- The inputs of a check, read one after the other.
-use Rattle.std.proofs.Common.{◌≡◌, ◌≢◌, ◌∙◌, ◌⊎◌, ◌<◌, ℕ, zero, suc, arith, List, [], ◌∷◌, refl, sym, subst, inl, inr, ⊎_elim, Err, Ok}
+use Rattle.std.proofs.Common.{◌≡◌, ◌≢◌, ◌∙◌, ◌⊎◌, ◌<◌, ℕ, zero, suc, arith, List, [], ◌∷◌, refl, sym, subst, inl}
+use Rattle.std.proofs.Common.{inr, ⊎_elim, Err, Ok}
 use Rattle.std.specs.Prelude.{Contains, IsSome, IfErr, OnOk, Result}
 use Rattle.argue_outside.specs.Outside.{HoldsStill, KnownFile}
 use Rattle.argue_outside.specs.declared.Role.{Role}
@@ -22,17 +23,21 @@ use Rattle.certificate_text.proofs.OneOutcome.{one_reading}
 use Rattle.certificate_claims.specs.declared.certificate.Certificate.{Certificate}
 use Rattle.certificate_text.specs.declared.fault.CertFault.{CertFault}
 use Rattle.certificate_text.specs.declared.fault.CertFault.TheVariants as certificate_fault
-use Rattle.argue_commands.specs.Checks.{CheckEnds, ChecksFiles, EndsChecking, HasCheckBytes, IsChecked, IsTextFault, answer_status, certificate_status, check_inputs}
-use Rattle.argue_commands.specs.Inputs.{EndsReading, Follow, Input, IsRead, IsSoundIn, IsUnrefused, Passes, Reading, StopsAt, StopsAtFirst, StopsReading, input, status_of_fault}
+use Rattle.argue_commands.specs.Checks.{CheckEnds, ChecksFiles, EndsChecking, HasCheckBytes, IsChecked}
+use Rattle.argue_commands.specs.Checks.{IsTextFault, answer_status, certificate_status, check_inputs}
+use Rattle.argue_commands.specs.Inputs.{EndsReading, Follow, Input, IsRead, IsSoundIn, IsUnrefused, Passes}
+use Rattle.argue_commands.specs.Inputs.{Reading, StopsAt, StopsAtFirst, StopsReading, input, status_of_fault}
 use Rattle.argue_commands.specs.Texts.{common_text}
 use Rattle.argue_commands.specs.declared.checking.CheckBytes.{CheckBytes}
 use Rattle.argue_commands.specs.declared.checking.Checked.{Checked}
 use Rattle.edit_rules.specs.Kinds.{framework_of}
-use Rattle.argue_commands.specs.declared.ended.Cause.TheVariants as cause
+use Rattle.argue_commands.specs.declared.ended.FaultCause.TheVariants as cause
 use Rattle.argue_commands.specs.declared.ended.Limit.TheVariants as limit
 use Rattle.argue_commands.specs.declared.ended.Refusal.TheVariants.{Line, Query}
 use Rattle.argue_commands.specs.declared.ended.Status.{Status}
-use Rattle.argue_commands.specs.declared.ended.Status.TheVariants.{Done, Usage, InputRefused, ReadFault, WriteFault, WantOfMemory, Unknown, Limit, Rejected}
+use Rattle.argue_commands.specs.declared.ended.Status.TheVariants.{Done, Usage, InputRefused, ReadFault}
+use Rattle.argue_commands.specs.declared.ended.Status.TheVariants.{WriteFault, WantOfMemory, Unknown, Limit}
+use Rattle.argue_commands.specs.declared.ended.Status.TheVariants.{Rejected}
 
 -- ---- reading
 
@@ -66,7 +71,8 @@ first_stops found one more end (inl stops) h = inl (inl (stops, follow_unrefused
 first_stops found one more end (inr memory) h = inr memory
 
 -- a later one does
-pub later_stops : (found : Reading) (one : Input) (more : List Input) (end : Status) → IsRead found one → IsUnrefused end
+pub later_stops : (found : Reading) (one : Input) (more : List Input) (end : Status) → IsRead found one → IsUnrefused
+    end
     → StopsReading found more end → StopsReading found (one ∷ more) end
 later_stops found one more end r h (inl stops) = inl (inr (passes_unrefused found one end h r, stops))
 later_stops found one more end r h (inr memory) = inr memory
@@ -136,7 +142,8 @@ answer_fault_first bytes (answer_fault.At line c) g reads first =
     inr (inl (refl, framework_sound bytes.framework g reads, first))
 answer_fault_first bytes answer_fault.Memory g reads first = tt
 
-pub certificate_fault_first : (bytes : CheckBytes) (f : CertFault) (g : AnyFramework) (a : Answer) → ReadsAs bytes.framework g
+pub certificate_fault_first : (bytes : CheckBytes) (f : CertFault) (g : AnyFramework) (a : Answer) → ReadsAs
+    bytes.framework g
     → AnswerReadsAs (filled_fields bytes.answer) a → IsCertRead bytes.certificate (Err f)
     → IsTextFault bytes (certificate_status f)
 certificate_fault_first bytes (certificate_fault.At line c) g a reads answers first =
@@ -170,14 +177,22 @@ text_stops found texts bytes (InputRefused (Line of line c)) has (inl first) =
 text_stops found texts bytes (InputRefused (Line of line c)) has (inr (inl second)) =
     inl (inr (
       record { bytes = bytes.framework; has = has.framework; faultless = second.1 },
-      inl ((second.0, record { bytes = bytes.answer; has = has.answer; first = second.2 }), one_behind found texts bytes has),
+      inl (
+        (second.0, record { bytes = bytes.answer; has = has.answer; first = second.2 }),
+        one_behind found texts bytes
+            has,
+      ),
     ))
 text_stops found texts bytes (InputRefused (Line of line c)) has (inr (inr third)) =
     inl (inr (
       record { bytes = bytes.framework; has = has.framework; faultless = third.1 },
       inr (
         record { bytes = bytes.answer; has = has.answer; faultless = third.2 },
-        inl ((third.0, record { bytes = bytes.certificate; has = has.certificate; first = third.3 }), none_behind found),
+        inl (
+          (third.0, record { bytes = bytes.certificate; has = has.certificate; first = third.3 }),
+          none_behind
+              found,
+        ),
       ),
     ))
 text_stops found texts bytes (InputRefused (Query fault)) has is = absurd is
@@ -211,7 +226,8 @@ not_done_told (Rejected failure refutation step) other = refl
 pub reading_told : (found : Reading) (inputs : List Input) (end : Status) → StopsReading found inputs end
     → IsSome (common_text end)
 reading_told found inputs end (inl stops) = not_done_told end (stops_told found inputs end stops)
-reading_told found inputs end (inr memory) = not_done_told end (λ is. let e : WantOfMemory ≡ Done = sym memory ∙ is in cc)
+reading_told found inputs end (inr memory) = not_done_told end
+    (λ is. let e : WantOfMemory ≡ Done = sym memory ∙ is in cc)
 
 pub ends_reading : (found : Reading) (asked : Asked) (texts : CheckTexts) (end : Status)
     → StopsReading found (check_inputs texts) end → EndsChecking found asked texts end
@@ -223,7 +239,8 @@ pub text_quiet : (bytes : CheckBytes) (end : Status) → IsTextFault bytes end �
 text_quiet bytes end is of e = let P : Status → Type 0 = IsTextFault bytes in subst P e is
 
 -- what was read, checked
-pub checks_from : (holds : List ℕ → KnownFile) (asked : Asked) (texts : CheckTexts) (bytes : CheckBytes) (read : Checked)
+pub checks_from : (holds : List ℕ → KnownFile) (asked : Asked) (texts : CheckTexts) (bytes : CheckBytes)
+    (read : Checked)
     (end : Status) → HasCheckBytes holds texts bytes → IsChecked bytes read
     → CheckEnds (framework_of read.framework) asked read.answer read.certificate end → ChecksFiles holds asked texts end
 checks_from holds asked texts bytes read end has is ends = record {
@@ -245,7 +262,8 @@ judged_ok holds asked texts bytes read (Err e) has is ends = tt
 
 pub judged_err : {T : Type 0} (found : Reading) (asked : Asked) (texts : CheckTexts) (bytes : CheckBytes)
     (read : Checked) (r : Result T Status) → HasCheckBytes found.holds texts bytes → IsChecked bytes read
-    → IfErr r (λ end. (end ≡ WantOfMemory) ⊎ CheckEnds (framework_of read.framework) asked read.answer read.certificate end)
+    → IfErr r (λ end. (end ≡ WantOfMemory) ⊎ CheckEnds (framework_of read.framework) asked read.answer read.certificate
+    end)
     → IfErr r (EndsChecking found asked texts)
 judged_err found asked texts bytes read (Ok x) has is ends = tt
 judged_err found asked texts bytes read (Err end) has is (inl memory) = inr (inl memory)

@@ -16,10 +16,12 @@ use Rattle.script_text.specs.declared.script.Script.{Script}
 use Rattle.script_text.proofs.FirstFaults.{script_is_faultless}
 use Rattle.argue_commands.specs.Inputs.{Input, IsRead, IsSoundIn, Reading, StopsReading, input, status_of_fault}
 use Rattle.argue_commands.specs.Opening.{HasLiveBytes, IsLiveFault, IsOpened, OpensFiles, live_inputs, script_status}
-use Rattle.argue_commands.specs.declared.ended.Cause.TheVariants as cause
+use Rattle.argue_commands.specs.declared.ended.FaultCause.TheVariants as cause
 use Rattle.argue_commands.specs.declared.ended.Refusal.TheVariants.{Line, Query}
 use Rattle.argue_commands.specs.declared.ended.Status.{Status}
-use Rattle.argue_commands.specs.declared.ended.Status.TheVariants.{Done, Usage, InputRefused, ReadFault, WriteFault, WantOfMemory, Unknown, Limit, Rejected}
+use Rattle.argue_commands.specs.declared.ended.Status.TheVariants.{Done, Usage, InputRefused, ReadFault}
+use Rattle.argue_commands.specs.declared.ended.Status.TheVariants.{WriteFault, WantOfMemory, Unknown, Limit}
+use Rattle.argue_commands.specs.declared.ended.Status.TheVariants.{Rejected}
 use Rattle.argue_commands.specs.declared.opening.LiveBytes.{LiveBytes}
 use Rattle.argue_commands.specs.declared.opening.Opened.{Opened}
 use Rattle.argue_commands.proofs.CheckLemmas.{framework_sound}
@@ -42,7 +44,8 @@ framework_fault_live bytes fault.Memory first = tt
 
 pub script_fault_live : (bytes : LiveBytes) (f : ScriptFault) (g : AnyFramework) → ReadsAs bytes.framework g
     → IsToldOf bytes.script f → IsLiveFault bytes (script_status f)
-script_fault_live bytes (script_fault.At line c) g reads first = inr (refl, framework_sound bytes.framework g reads, first)
+script_fault_live bytes (script_fault.At line c) g reads first = inr
+    (refl, framework_sound bytes.framework g reads, first)
 script_fault_live bytes script_fault.Memory g reads first = tt
 
 -- ---- the files

@@ -1,5 +1,6 @@
 -- The session of a query.
-use Rattle.std.proofs.Common.{◌≡◌, ◌∙◌, ℕ, ◌+◌, ◌*◌, ◌<◌, ◌≤◌, [], length, refl, sym, subst, true, take, arith, Option, Some, Result, Ok, Err}
+use Rattle.std.proofs.Common.{◌≡◌, ◌∙◌, ℕ, ◌+◌, ◌*◌, ◌<◌, ◌≤◌, [], length, refl, sym, subst, true, take, arith}
+use Rattle.std.proofs.Common.{Option, Some, Result, Ok, Err}
 use Rattle.std.specs.Prelude.{◌≢◌, IfErr, IfOk, IsSome, OnOk, slice_index_or}
 use Rattle.plain_lits.specs.declared.halt.Halt.{Halt}
 use Rattle.plain_lits.specs.declared.halt.Halt.TheVariants.{Spent}
@@ -25,7 +26,8 @@ use Rattle.argue_commands.specs.declared.ended.Limit.TheVariants as limit
 use Rattle.argue_commands.specs.declared.ended.Refusal.TheVariants.{Query}
 use Rattle.argue_commands.specs.declared.ended.Status.TheVariants.{Done, InputRefused, Limit, Unknown, WantOfMemory}
 use Rattle.argue_commands.specs.declared.query.Solving.{Solving}
-use Rattle.argue_commands.specs.declared.query.TheConstants.{EXTENSION_LIMIT, LOG_LIMIT}
+use Rattle.argue_commands.specs.declared.query.TheConstants.{LOG_LIMIT}
+use Rattle.semantics.specs.declared.limits.TheConstants.{MAX_EXTENSIONS}
 
 nothing_used : (units : Units) (limit : ℕ) → units.limit ≡ limit → units.used ≡ 0 → units ≡ unspent limit
 nothing_used units limit is none = λ i. record { limit = is i; used = none i }
@@ -43,7 +45,7 @@ module _ (f : Framework) (solving : Solving) where
       → before.limit ≡ solving.budget
       → after.limit ≡ before.limit → after.used ≤ after.limit → OnOk reply (Fits f solving.query)
       → IfOk reply (λ a. IsShownBy f solving.query a.answer a.certificate) → IfOk reply (λ a. a.units ≡ after.used)
-      → IfErr reply (IsCause f solving.query EXTENSION_LIMIT log) → Replies f solving log after.used reply
+      → IfErr reply (IsCause f solving.query MAX_EXTENSIONS log) → Replies f solving log after.used reply
   replies_are log before after (Ok reply) limit stays within fits shown units cause = (
     record {
       fits = fits;
@@ -66,7 +68,7 @@ pub session_is : (f g : Framework) (own : ℕ) (solving : Solving) (session : Ke
     → before.used ≡ 0 → after.used ≤ after.limit → OnOk session.reply (Fits g solving.query)
     → IfOk session.reply (λ a. IsShownBy g solving.query a.answer a.certificate)
     → IfOk session.reply (λ a. a.units ≡ after.used)
-    → IfErr session.reply (IsCause g solving.query EXTENSION_LIMIT session.engine.log)
+    → IfErr session.reply (IsCause g solving.query MAX_EXTENSIONS session.engine.log)
     → HasRun (MadeFor g solving.query) (2 * length session.engine.log.sides + 2) g old session.engine.log
     session.engine.pending before after (halt_behind session.reply)
     → (session.reply ≢ Err stop.Memory → GoesOnBySteps g own [] old session.engine.log)
@@ -83,7 +85,8 @@ session_is f g own solving session old before after same stays number empty limi
           (subst (λ log. Run log before) empty run);
       steps = λ so. subst (λ n. GoesOnBySteps g n [] (empty_log LOG_LIMIT) session.engine.log) (sym number)
           (subst (λ log. GoesOnBySteps g own [] log session.engine.log) empty (steps so));
-      replies = replies_are g solving session.engine.log before after session.reply limit run.limit within fits shown units cause;
+      replies = replies_are g solving session.engine.log before after session.reply limit run.limit within fits shown
+          units cause;
     })
 
 -- ---- why there is no answer

@@ -14,10 +14,11 @@ use Rattle.certificate_claims.specs.declared.verdict.Verdict.TheVariants.{Accept
 use Rattle.certificate_text.specs.Reading.{ReadsAs as CertReadsAs}
 use Rattle.edit_rules.specs.Fitting.{Fits, IsFaultOf}
 use Rattle.edit_rules.specs.Kinds.{framework_of}
-use Rattle.argue_commands.specs.Inputs.{HasBytes, Input, IsFirstFaultIn, IsFrameworkOf, IsSoundIn, Reading, StopsAtFirst, input}
+use Rattle.argue_commands.specs.Inputs.{HasBytes, Input, IsFirstFaultIn, IsFrameworkOf, IsSoundIn, Reading}
+use Rattle.argue_commands.specs.Inputs.{StopsAtFirst, input}
 use Rattle.argue_commands.specs.declared.checking.CheckBytes.{CheckBytes}
 use Rattle.argue_commands.specs.declared.checking.Checked.{Checked}
-use Rattle.argue_commands.specs.declared.ended.Cause.TheVariants as cause_of
+use Rattle.argue_commands.specs.declared.ended.FaultCause.TheVariants as cause_of
 use Rattle.iccma_tasks.specs.declared.fault.AnswerFault.{AnswerFault}
 use Rattle.iccma_tasks.specs.declared.fault.AnswerFault.TheVariants as answer_fault
 use Rattle.certificate_text.specs.declared.fault.CertFault.{CertFault}
@@ -93,7 +94,8 @@ answer_status (answer_fault.At line cause) = InputRefused (Line role.Answer line
 answer_status answer_fault.Memory = WantOfMemory
 
 abbrev pub certificate_status : CertFault → Status
-certificate_status (certificate_fault.At line cause) = InputRefused (Line role.Certificate line (cause_of.Certificate cause))
+certificate_status (certificate_fault.At line cause) = InputRefused
+    (Line role.Certificate line (cause_of.Certificate cause))
 certificate_status certificate_fault.Memory = WantOfMemory
 
 -- how a check of the files may end: by reading them, for want of memory, or as it ends on what they read as

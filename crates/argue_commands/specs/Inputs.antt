@@ -3,7 +3,8 @@ use Rattle.std.specs.Prelude.{◌≡◌, ℕ, ◌≤◌, ◌⊎◌, List, [], �
 use Rattle.argue_outside.specs.Outside.{FaultCounted, HoldsWhole, IsLonger, KnownFile}
 use Rattle.argue_outside.specs.declared.Files.{Ghosts as FilesWords}
 use Rattle.argue_outside.specs.declared.Role.{Role}
-use Rattle.argue_outside.specs.declared.Role.TheVariants.{Framework, Script as OfScript, Answer as OfAnswer, Certificate as OfCertificate}
+use Rattle.argue_outside.specs.declared.Role.TheVariants.{Framework, Script as OfScript, Answer as OfAnswer}
+use Rattle.argue_outside.specs.declared.Role.TheVariants.{Certificate as OfCertificate}
 use Rattle.iccma_tasks.specs.AnswerText.{IsFaultOf}
 use Rattle.certificate_text.specs.Reading.{ReadsAs as CertReadsAs}
 use Rattle.certificate_text.specs.declared.fault.CertFault.TheVariants.{At}
@@ -14,13 +15,13 @@ use Rattle.semantics.specs.Frameworks.{Framework as AnyFramework}
 use Rattle.framework_text.specs.FrameworkText.{IsFirstFault, ReadsAs}
 use Rattle.af_format.specs.declared.fault.ReadFault.{ReadFault as FrameworkFault}
 use Rattle.af_format.specs.declared.fault.ReadFault.TheVariants as fault
-use Rattle.argue_commands.specs.declared.ended.Cause.{Cause}
-use Rattle.argue_commands.specs.declared.ended.Cause.TheVariants as cause
+use Rattle.argue_commands.specs.declared.ended.FaultCause.{FaultCause}
+use Rattle.argue_commands.specs.declared.ended.FaultCause.TheVariants as cause
 use Rattle.argue_commands.specs.declared.ended.Limit.TheVariants as limit
 use Rattle.argue_commands.specs.declared.ended.Refusal.TheVariants.{Line}
 use Rattle.argue_commands.specs.declared.ended.Status.{Status}
 use Rattle.argue_commands.specs.declared.ended.Status.TheVariants.{InputRefused, ReadFault, WantOfMemory, Limit}
-use Rattle.num_text.specs.declared.limit.TheConstants.{INPUT_LIMIT}
+use Rattle.num_text.specs.declared.limit.TheConstants.{MAX_INPUT}
 
 -- what is known of the files before a run, and the faults of reading before and after it
 pub record Reading : Type 1 where
@@ -49,10 +50,10 @@ input role file = record { role = role; file = file }
 -- these are the file's bytes, as far as they are known, and no more than the limit
 pub record HasBytes (known : KnownFile) (bytes : List ℕ) : Type 0 where
   pub held : HoldsWhole known bytes
-  pub within : length bytes ≤ INPUT_LIMIT
+  pub within : length bytes ≤ MAX_INPUT
 
 -- the first fault of bytes that are read in a role: a row for each kind of text
-abbrev pub IsFirstFaultIn : Role → List ℕ → ℕ → Cause → Type 0
+abbrev pub IsFirstFaultIn : Role → List ℕ → ℕ → FaultCause → Type 0
 IsFirstFaultIn (Framework k) bytes line (cause.Framework cause) = IsFirstFault bytes line cause
 IsFirstFaultIn OfScript bytes line (cause.Script cause) = IsFirstScriptFault bytes line cause
 IsFirstFaultIn OfAnswer bytes line (cause.Answer cause) = IsFaultOf bytes line cause
@@ -61,7 +62,7 @@ IsFirstFaultIn _ bytes line cause = ⊥
 
 -- the text has no fault
 abbrev pub IsSoundIn : Role → List ℕ → Type 0
-IsSoundIn of bytes = (line : ℕ) (cause : Cause) → ¬ IsFirstFaultIn of bytes line cause
+IsSoundIn of bytes = (line : ℕ) (cause : FaultCause) → ¬ IsFirstFaultIn of bytes line cause
 
 -- the input has been read whole
 abbrev pub IsRead : Reading → Input → Type 0
@@ -74,7 +75,7 @@ pub record IsSound (found : Reading) (input : Input) : Type 0 where
   pub faultless : IsSoundIn input.role bytes
 
 -- the input's text has this first fault
-pub record HasFirstFault (found : Reading) (input : Input) (line : ℕ) (cause : Cause) : Type 0 where
+pub record HasFirstFault (found : Reading) (input : Input) (line : ℕ) (cause : FaultCause) : Type 0 where
   pub bytes : List ℕ
   pub has : HasBytes (found.holds input.file) bytes
   pub first : IsFirstFaultIn input.role bytes line cause
@@ -88,7 +89,7 @@ pub record HasReadFault (found : Reading) (input : Input) : Type 0 where
 abbrev pub StopsAt : Reading → Status → Input → Type 0
 StopsAt found (InputRefused (Line role line cause)) input = (role ≡ input.role) × HasFirstFault found input line cause
 StopsAt found (ReadFault role) input = (role ≡ input.role) × HasReadFault found input
-StopsAt found (Limit limit.Input) input = IsLonger (found.holds input.file) INPUT_LIMIT
+StopsAt found (Limit limit.Input) input = IsLonger (found.holds input.file) MAX_INPUT
 StopsAt found _ input = ⊥
 
 -- the inputs before one that ends the run so: a text has its fault told where those before it have none

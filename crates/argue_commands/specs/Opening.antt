@@ -9,7 +9,7 @@ use Rattle.script_text.specs.ScriptText.{IsScript}
 use Rattle.script_text.specs.declared.fault.ScriptFault.{ScriptFault}
 use Rattle.script_text.specs.declared.fault.ScriptFault.TheVariants as script_fault
 use Rattle.argue_commands.specs.Inputs.{HasBytes, Input, IsFirstFaultIn, IsFrameworkOf, IsScriptOf, IsSoundIn, input}
-use Rattle.argue_commands.specs.declared.ended.Cause.TheVariants as cause_of
+use Rattle.argue_commands.specs.declared.ended.FaultCause.TheVariants as cause_of
 use Rattle.argue_commands.specs.declared.ended.Refusal.TheVariants.{Line}
 use Rattle.argue_commands.specs.declared.ended.Status.{Status}
 use Rattle.argue_commands.specs.declared.ended.Status.TheVariants.{InputRefused, WantOfMemory}

@@ -21,7 +21,8 @@ use Rattle.argue_commands.specs.declared.ended.Refusal.TheVariants.{Query}
 use Rattle.argue_commands.specs.declared.ended.Status.{Status}
 use Rattle.argue_commands.specs.declared.ended.Status.TheVariants.{Done, InputRefused, Limit, Unknown, WantOfMemory}
 use Rattle.argue_commands.specs.declared.query.Solving.{Solving}
-use Rattle.argue_commands.specs.declared.query.TheConstants.{EXTENSION_LIMIT, LOG_LIMIT}
+use Rattle.argue_commands.specs.declared.query.TheConstants.{LOG_LIMIT}
+use Rattle.semantics.specs.declared.limits.TheConstants.{MAX_EXTENSIONS}
 
 -- the query fits the framework, and this is a right answer to it, with a certificate that is accepted, by no more units
 -- than its budget
@@ -38,7 +39,7 @@ unspent limit = record { limit = limit; used = 0 }
 -- behind it
 abbrev pub Replies : Framework → Solving → OracleLog → ℕ → Result Answered AnswerStop → Type 0
 Replies f solving log used (Ok reply) = IsReplyTo f solving reply × (reply.units ≡ used)
-Replies f solving log used (Err why) = IsCause f solving.query EXTENSION_LIMIT log why
+Replies f solving log used (Err why) = IsCause f solving.query MAX_EXTENSIONS log why
 
 -- a session of this query alone on the framework: its engine began with no step, and unless memory was refused its log
 -- went on by steps of the session for which nothing was given, so that no axiom came, but loop clauses, that the

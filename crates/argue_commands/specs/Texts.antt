@@ -9,10 +9,11 @@ use Rattle.iccma_tasks.specs.Names.{cause_name as answer_cause}
 use Rattle.certificate_text.specs.Names.{cause_name as certificate_cause}
 use Rattle.script_text.specs.ScriptFaults.{cause_name as script_cause}
 use Rattle.certificate_claims.specs.declared.verdict.Cause.{Cause as Failure}
-use Rattle.certificate_claims.specs.declared.verdict.Cause.TheVariants.{AnswerShape, BadWitness, SetCount, BadSet, RefutationCount, BadStep, OpenLiteral}
+use Rattle.certificate_claims.specs.declared.verdict.Cause.TheVariants.{AnswerShape, BadWitness, SetCount, BadSet}
+use Rattle.certificate_claims.specs.declared.verdict.Cause.TheVariants.{RefutationCount, BadStep, OpenLiteral}
 use Rattle.edit_rules.specs.Fitting.{fault_name, fault_number}
-use Rattle.argue_commands.specs.declared.ended.Cause.{Cause}
-use Rattle.argue_commands.specs.declared.ended.Cause.TheVariants as cause
+use Rattle.argue_commands.specs.declared.ended.FaultCause.{FaultCause}
+use Rattle.argue_commands.specs.declared.ended.FaultCause.TheVariants as cause
 use Rattle.argue_commands.specs.declared.ended.Limit.{Limit}
 use Rattle.argue_commands.specs.declared.ended.Limit.TheVariants as limit
 use Rattle.argue_commands.specs.declared.ended.Refusal.{Refusal}
@@ -39,7 +40,7 @@ role_text role.Cnf = codes "cnf"
 role_text role.Lrat = codes "lrat"
 
 -- the name of a cause
-abbrev pub cause_text : Cause → List ℕ
+abbrev pub cause_text : FaultCause → List ℕ
 cause_text (cause.Framework cause) = cause_name cause
 cause_text (cause.Script cause) = script_cause cause
 cause_text (cause.Answer cause) = answer_cause cause

@@ -4,12 +4,13 @@ ghost use Rattle.std.specs.Prelude.{◌≡◌, ◌≢◌, ◌⊎◌, ◌≤◌, 
 ghost use Rattle.argue_outside.specs.declared.Role.{Role as ARole};
 ghost use Rattle.argue_words.specs.Words.{check_texts};
 ghost use Rattle.edit_rules.specs.Kinds.{framework_of};
-ghost use Rattle.num_text.specs.declared.limit.TheConstants.{INPUT_LIMIT};
-ghost use Rattle.argue_commands.specs.Checks.{CheckEnds, ChecksFiles, EndsChecking, HasCheckBytes, IsChecked, IsTextFault, answer_status, certificate_status, check_inputs};
+ghost use Rattle.num_text.specs.declared.limit.TheConstants.{MAX_INPUT};
+ghost use Rattle.argue_commands.specs.Checks.{CheckEnds, ChecksFiles, EndsChecking, HasCheckBytes, IsChecked};
+ghost use Rattle.argue_commands.specs.Checks.{IsTextFault, answer_status, certificate_status, check_inputs};
 ghost use Rattle.argue_commands.specs.Inputs.{StopsReading, reading};
 ghost use Rattle.argue_commands.specs.Texts.{common_text};
 
-use crate::ended::{Cause, Refusal, Status};
+use crate::ended::{FaultCause, Refusal, Status};
 use crate::input::{read_input, refused};
 use argue_outside::{Files, Role};
 use argue_words::CheckWords;
@@ -101,7 +102,7 @@ fn answer_refused(fault: AnswerFault) -> Status
 {
     match fault {
         AnswerFault::At { line, cause } => {
-            Status::InputRefused(Refusal::Line(Role::Answer, line, Cause::Answer(cause)))
+            Status::InputRefused(Refusal::Line(Role::Answer, line, FaultCause::Answer(cause)))
         }
         AnswerFault::Memory => Status::WantOfMemory,
     }
@@ -115,7 +116,7 @@ fn certificate_refused(fault: CertFault) -> Status
         CertFault::At { line, cause } => Status::InputRefused(Refusal::Line(
             Role::Certificate,
             line,
-            Cause::Certificate(cause),
+            FaultCause::Certificate(cause),
         )),
         CertFault::Memory => Status::WantOfMemory,
     }
@@ -123,8 +124,8 @@ fn certificate_refused(fault: CertFault) -> Status
 
 /// Reads the texts of a check, in order.
 fn parse(alloc: Global, bytes: &CheckBytes) -> Result<Checked, Status>
-    requires framework { length bytes.now.framework ≤ INPUT_LIMIT }
-    requires certificate { length bytes.now.certificate ≤ INPUT_LIMIT }
+    requires framework { length bytes.now.framework ≤ MAX_INPUT }
+    requires certificate { length bytes.now.certificate ≤ MAX_INPUT }
     ensures ok { IfOk result (IsChecked bytes.now) }
     ensures err { IfErr result (IsTextFault bytes.now) }
 {

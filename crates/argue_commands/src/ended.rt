@@ -14,7 +14,7 @@ use script_text::ScriptCause;
 
 /// What is wrong with a line of an input: a variant for each kind of text.
 #[derive(Clone, Copy)]
-pub enum Cause {
+pub enum FaultCause {
     /// A line of a framework.
     Framework(LineCause),
     /// A line of a script.
@@ -29,7 +29,7 @@ pub enum Cause {
 #[derive(Clone, Copy)]
 pub enum Refusal {
     /// The text read in this role has its first fault at this line, counted from 1.
-    Line(Role, usize, Cause),
+    Line(Role, usize, FaultCause),
     /// The query doesn't fit the framework.
     Query(QueryFault),
 }
@@ -37,9 +37,9 @@ pub enum Refusal {
 /// Which bound was met.
 #[derive(Clone, Copy)]
 pub enum Limit {
-    /// An input has more than `INPUT_LIMIT` bytes.
+    /// An input has more than `MAX_INPUT` bytes.
     Input,
-    /// There are more than `EXTENSION_LIMIT` extensions.
+    /// There are more than `MAX_EXTENSIONS` extensions.
     Extensions,
     /// The log of the search has `LOG_LIMIT` steps.
     Log,

@@ -3,15 +3,16 @@
 ghost use Rattle.std.specs.Prelude.{◌≡◌, IfErr, IfOk, IsErrOf};
 ghost use Rattle.edit_rules.specs.Kinds.{framework_of};
 ghost use Rattle.argue_outside.specs.Outside.{HoldsStill, IsRole, OtherCountsKept};
-ghost use Rattle.argue_commands.specs.Inputs.{EndsReading, HasBytes, IsFrameworkOf, IsUnrefused, input, reading, status_of_fault};
+ghost use Rattle.argue_commands.specs.Inputs.{EndsReading, HasBytes, IsFrameworkOf, IsUnrefused, input, reading};
+ghost use Rattle.argue_commands.specs.Inputs.{status_of_fault};
 
-use crate::ended::{Cause, Limit, Refusal, Status};
+use crate::ended::{FaultCause, Limit, Refusal, Status};
 use af_format::ReadFault;
 use argue_outside::{Files, ReadStop, Role, read_all};
 use edit_rules::Framework;
 use framework_text::read_framework as read_text;
 use lists::{Bytes, Memory};
-use num_text::INPUT_LIMIT;
+use num_text::MAX_INPUT;
 use std::alloc::Global;
 
 impl From<Memory> for Status {
@@ -42,7 +43,7 @@ pub(crate) fn read_input<F: Files>(
     ensures same { F.holds files.new ≡ F.holds files.old }
     ensures writes { F.write_count files.new ≡ F.write_count files.old }
 {
-    match read_all(alloc, files, role, name, INPUT_LIMIT) {
+    match read_all(alloc, files, role, name, MAX_INPUT) {
         Ok(bytes) => Ok(bytes),
         Err(ReadStop::Failed) => Err(Status::ReadFault(role)),
         Err(ReadStop::TooLong) => Err(Status::Limit(Limit::Input)),
@@ -58,7 +59,7 @@ pub(crate) fn refused(role: Role, fault: ReadFault) -> Status
         ReadFault::Line(fault) => Status::InputRefused(Refusal::Line(
             role,
             fault.line,
-            Cause::Framework(fault.cause),
+            FaultCause::Framework(fault.cause),
         )),
         ReadFault::Memory => Status::WantOfMemory,
     }

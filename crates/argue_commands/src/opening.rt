@@ -3,12 +3,13 @@
 ghost use Rattle.std.specs.Prelude.{◌≡◌, ◌≢◌, ◌≤◌, length, IfErr, IfOk, IsErrOf, IsSome};
 ghost use Rattle.argue_outside.specs.declared.Role.{Role as ARole};
 ghost use Rattle.argue_words.specs.Words.{live_texts};
-ghost use Rattle.num_text.specs.declared.limit.TheConstants.{INPUT_LIMIT};
+ghost use Rattle.num_text.specs.declared.limit.TheConstants.{MAX_INPUT};
 ghost use Rattle.argue_commands.specs.Inputs.{StopsReading, reading};
-ghost use Rattle.argue_commands.specs.Opening.{HasLiveBytes, IsLiveFault, IsOpened, OpensFiles, live_inputs, script_status};
+ghost use Rattle.argue_commands.specs.Opening.{HasLiveBytes, IsLiveFault, IsOpened, OpensFiles, live_inputs};
+ghost use Rattle.argue_commands.specs.Opening.{script_status};
 ghost use Rattle.argue_commands.specs.Texts.{common_text};
 
-use crate::ended::{Cause, Refusal, Status};
+use crate::ended::{FaultCause, Refusal, Status};
 use crate::input::{read_input, refused};
 use argue_outside::{Files, Role};
 use argue_words::LiveWords;
@@ -65,7 +66,7 @@ fn script_refused(fault: ScriptFault) -> Status
 {
     match fault {
         ScriptFault::At { line, cause } => {
-            Status::InputRefused(Refusal::Line(Role::Script, line, Cause::Script(cause)))
+            Status::InputRefused(Refusal::Line(Role::Script, line, FaultCause::Script(cause)))
         }
         ScriptFault::Memory => Status::WantOfMemory,
     }
@@ -73,7 +74,7 @@ fn script_refused(fault: ScriptFault) -> Status
 
 /// Reads the texts of a script's run, in order.
 fn parse(alloc: Global, bytes: &LiveBytes) -> Result<Opened, Status>
-    requires { length bytes.now.framework ≤ INPUT_LIMIT }
+    requires { length bytes.now.framework ≤ MAX_INPUT }
     ensures ok { IfOk result (IsOpened bytes.now) }
     ensures err { IfErr result (IsLiveFault bytes.now) }
 {

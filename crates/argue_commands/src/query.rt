@@ -7,17 +7,15 @@ ghost use Rattle.iccma_tasks.specs.Tasks.{all_tasks};
 ghost use Rattle.argue_commands.specs.Queries.{asked_by, asked_with, budget_of, first_named, number_of, solving_by};
 
 use argue_words::SolveWords;
+use hinted_log::MAX_STEPS;
 use iccma_tasks::{Query, Task};
 use num_text::decimal;
 
 /// The units of a budget where none is given.
 pub const DEFAULT_BUDGET: u32 = 1_000_000;
 
-/// How many extensions are listed at most.
-pub const EXTENSION_LIMIT: u32 = 10_000;
-
 /// How many steps the log of a search has at most.
-pub const LOG_LIMIT: u64 = 50_000_000;
+pub const LOG_LIMIT: u64 = MAX_STEPS;
 
 /// A query to be solved, and the budget of units for its answer.
 #[derive(Drop)]

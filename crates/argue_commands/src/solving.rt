@@ -11,7 +11,7 @@ ghost use Rattle.argue_commands.specs.Texts.{common_text};
 
 use crate::ended::{KeptSession, Limit, Refusal, Status};
 use crate::input::read_framework;
-use crate::query::{EXTENSION_LIMIT, LOG_LIMIT, Solving};
+use crate::query::{LOG_LIMIT, Solving};
 use crate::replacing::Written;
 use argue_outside::{Files, Role};
 use argue_words::SolveWords;
@@ -22,6 +22,7 @@ use lists::{Items, Memory};
 use oracle_core::{AnswerStop, Engine};
 use oracle_face::NoTrade;
 use plain_lits::Budget;
+use semantics::MAX_EXTENSIONS;
 use std::alloc::Global;
 
 /// The status of a run whose query has no answer for this reason.
@@ -47,7 +48,7 @@ fn answer(alloc: Global, framework: Framework, solving: &Solving) -> Result<Kept
         alloc,
         &solving.query,
         &mut budget,
-        EXTENSION_LIMIT,
+        MAX_EXTENSIONS,
         &mut NoTrade,
     );
     Ok(KeptSession { reply, engine })

@@ -3,9 +3,10 @@
 ghost use Rattle.std.specs.Prelude.{◌≡◌, ◌++◌, IfOk, IsErr, IsSome, Some, codes};
 ghost use Rattle.std.specs.String.{string_bytes};
 ghost use Rattle.edit_rules.specs.Fitting.{fault_name, fault_number};
-ghost use Rattle.argue_commands.specs.Texts.{IsRefusal, cause_text, common_text, failure_text, limit_text, query_line, refusal_text, rejection_text, role_text, text_bytes};
+ghost use Rattle.argue_commands.specs.Texts.{IsRefusal, cause_text, common_text, failure_text, limit_text};
+ghost use Rattle.argue_commands.specs.Texts.{query_line, refusal_text, rejection_text, role_text, text_bytes};
 
-use crate::ended::{Cause, Limit, Refusal, Status};
+use crate::ended::{FaultCause, Limit, Refusal, Status};
 use argue_outside::Role;
 use certificate_claims::Cause as Failure;
 use edit_rules::QueryFault;
@@ -49,14 +50,14 @@ fn role_name(role: Role) -> &'static str
 }
 
 /// The name of the cause of a fault.
-fn cause_name(cause: Cause) -> &'static str
+fn cause_name(cause: FaultCause) -> &'static str
     ensures { result.now ≡ cause_text cause }
 {
     match cause {
-        Cause::Framework(cause) => cause.name(),
-        Cause::Script(cause) => cause.name(),
-        Cause::Answer(cause) => cause.name(),
-        Cause::Certificate(cause) => cause.name(),
+        FaultCause::Framework(cause) => cause.name(),
+        FaultCause::Script(cause) => cause.name(),
+        FaultCause::Answer(cause) => cause.name(),
+        FaultCause::Certificate(cause) => cause.name(),
     }
 }
 

@@ -1,13 +1,16 @@
 -- How a command may end, by its row of the table.
-use Rattle.std.proofs.Common.{◌≡◌, ◌≢◌, ◌⊎◌, ◌<◌, ◌≤◌, ℕ, List, length, refl, sym, ap, subst, inl, inr, ⊎_elim, true, false, arith, Option, None, Some, Ok}
+use Rattle.std.proofs.Common.{◌≡◌, ◌≢◌, ◌⊎◌, ◌<◌, ◌≤◌, ℕ, List, length, refl, sym, ap, subst, inl, inr, ⊎_elim}
+use Rattle.std.proofs.Common.{true, false, arith, Option, None, Some, Ok}
 use Rattle.argue_outside.specs.Outside.{KnownFile}
 use Rattle.argue_outside.specs.declared.Role.TheVariants.{Framework, Script as OfScript}
 use Rattle.argue_words.specs.Words.{CheckTexts, IsSolveQuery, LiveTexts, Request, SolveTexts, requested}
 use Rattle.argue_words.proofs.RequestLaws.{requested_query}
 use Rattle.framework_text.specs.FrameworkText.{IsFaulty, ReadsAs}
 use Rattle.framework_text.proofs.Readings.{ReadsAs-numbered, ReadsAs-same}
-use Rattle.argue_commands.specs.Inputs.{HasReadFault, Input, IsFirstFaultIn, IsFrameworkOf, IsScriptOf, IsSoundIn, Reading, StopsAt, StopsAtFirst, input}
-use Rattle.argue_program.specs.Rows.{EndsCommand, EndsLarge, EndsLive, EndsSolved, bench_row, check_row, live_row, problems_row, row_of, solve_row, unknown_row, version_row}
+use Rattle.argue_commands.specs.Inputs.{HasReadFault, Input, IsFirstFaultIn, IsFrameworkOf, IsScriptOf, IsSoundIn}
+use Rattle.argue_commands.specs.Inputs.{Reading, StopsAt, StopsAtFirst, input}
+use Rattle.argue_program.specs.Rows.{EndsCommand, EndsLarge, EndsLive, EndsSolved, bench_row, check_row, live_row}
+use Rattle.argue_program.specs.Rows.{problems_row, row_of, solve_row, unknown_row, version_row}
 use Rattle.iccma_tasks.specs.Tasks.{Asked}
 use Rattle.argue_commands.specs.Queries.{asked_by, solving_by}
 use Rattle.argue_commands.specs.Solves.{IsSessionOf}
@@ -15,7 +18,8 @@ use Rattle.argue_program.specs.declared.large.LargeInput.{LargeInput}
 use Rattle.argue_commands.specs.declared.query.Solving.{Solving}
 use Rattle.argue_commands.specs.Checks.{CheckEnds, ChecksFiles, IsAnswerOf, IsCertificateOf, check_inputs}
 use Rattle.argue_commands.proofs.CheckLemmas.{answer_sound, certificate_sound, framework_sound, stops_told}
-use Rattle.argue_commands.proofs.KnownLemmas.{bytes_at, within_at, longer_at, readable_or_faulty, first_at, framework_reads}
+use Rattle.argue_commands.proofs.KnownLemmas.{bytes_at, within_at, longer_at, readable_or_faulty, first_at}
+use Rattle.argue_commands.proofs.KnownLemmas.{framework_reads}
 use Rattle.semantics.specs.Frameworks.{Framework as AnyFramework}
 use Rattle.iccma_tasks.specs.AnswerText.{filled_fields, ReadsAs as AnswerReadsAs}
 use Rattle.iccma_tasks.specs.declared.answer.Answer.{Answer}
@@ -26,7 +30,10 @@ use Rattle.certificate_claims.proofs.Right.{accepted_right}
 use Rattle.certificate_claims.proofs.Verdicts.{accepted_is_verdict}
 use Rattle.certificate_text.specs.Reading.{ReadsAs as CertReadsAs}
 use Rattle.certificate_text.proofs.OneOutcome.{one_reading}
-use Rattle.argue_program.specs.Runs.{AnswersRight, ChecksContents, EndsAsReplied, HasText, IsCheckEnd, IsDoneOrMemory, IsSolveEnd, QueriesBytes, IsFaultyScript, IsLiveEnd, KeepsTranscript, LivesContents, RefusesBytes, RefusesLength, RefusesWords, ScriptsBytes, SolvesContents}
+use Rattle.argue_program.specs.Runs.{AnswersRight, ChecksContents, EndsAsReplied, HasText, IsCheckEnd}
+use Rattle.argue_program.specs.Runs.{IsDoneOrMemory, IsSolveEnd, QueriesBytes, IsFaultyScript, IsLiveEnd}
+use Rattle.argue_program.specs.Runs.{KeepsTranscript, LivesContents, RefusesBytes, RefusesLength, RefusesWords}
+use Rattle.argue_program.specs.Runs.{ScriptsBytes, SolvesContents}
 use Rattle.argue_commands.specs.Opening.{live_inputs}
 use Rattle.argue_commands.proofs.OpeningLemmas.{script_sound}
 use Rattle.bench_runs.specs.Transcripts.{IsTranscriptOf}
@@ -37,9 +44,11 @@ use Rattle.script_text.specs.declared.script.Script.{Script}
 use Rattle.argue_commands.specs.declared.ended.Limit.TheVariants as limit
 use Rattle.argue_commands.specs.declared.ended.Refusal.TheVariants.{Line, Query}
 use Rattle.argue_commands.specs.declared.ended.Status.{Status}
-use Rattle.argue_commands.specs.declared.ended.Status.TheVariants.{Done, Usage, InputRefused, ReadFault, WriteFault, WantOfMemory, Unknown, Limit, Rejected}
+use Rattle.argue_commands.specs.declared.ended.Status.TheVariants.{Done, Usage, InputRefused, ReadFault}
+use Rattle.argue_commands.specs.declared.ended.Status.TheVariants.{WriteFault, WantOfMemory, Unknown, Limit}
+use Rattle.argue_commands.specs.declared.ended.Status.TheVariants.{Rejected}
 use Rattle.argue_program.specs.declared.ended.Transcript.{Transcript}
-use Rattle.num_text.specs.declared.limit.TheConstants.{INPUT_LIMIT}
+use Rattle.num_text.specs.declared.limit.TheConstants.{MAX_INPUT}
 
 -- ---- the row of a query
 
@@ -84,14 +93,14 @@ module _ (found : Reading) (words : List (List ℕ)) (texts : SolveTexts) (query
       readable_or_faulty bytes
       (framework_reads (found.holds texts.file) bytes solved.on.framework asks.known solved.on.of_framework) faulty
 
-  too_long_for : (end : Status) → EndsSolved (found.holds texts.file) query kept end → INPUT_LIMIT < length bytes → ⊥
+  too_long_for : (end : Status) → EndsSolved (found.holds texts.file) query kept end → MAX_INPUT < length bytes → ⊥
   too_long_for end solved long =
       let of = solved.on.of_framework in
       let short = within_at (found.holds texts.file) bytes of.bytes asks.known of.has in
       omega arith
 
   -- faulty bytes within the limit are refused
-  pub refuses_bytes : (end : Status) → IsFaulty bytes → length bytes ≤ INPUT_LIMIT → (end ≢ WriteFault
+  pub refuses_bytes : (end : Status) → IsFaulty bytes → length bytes ≤ MAX_INPUT → (end ≢ WriteFault
       → EndsQuery found texts query kept end) → RefusesBytes (Framework 1) bytes end
   refuses_bytes Done faulty short ends = not_done (ends (λ e. cc))
     where
@@ -160,7 +169,7 @@ module _ (found : Reading) (words : List (List ℕ)) (texts : SolveTexts) (query
       not_longer (inr (inr solved)) = unread (Limit limit.Input) solved faulty
 
   -- bytes over the limit are refused
-  pub refuses_length : (end : Status) → INPUT_LIMIT < length bytes → (end ≢ WriteFault
+  pub refuses_length : (end : Status) → MAX_INPUT < length bytes → (end ≢ WriteFault
       → EndsQuery found texts query kept end) → RefusesLength end
   refuses_length Done long ends = not_done (ends (λ e. cc))
     where
@@ -291,7 +300,8 @@ done_right found (Some asked) texts kept asks (inl (nothing, inr memory)) = absu
 done_right found (Some asked) texts kept asks (inr checks) = accepts_right found.holds asked texts asks checks.1
 
 -- an input that reads as something ends no run
-no_stop : (found : Reading) (one : Input) (P : List ℕ → Type 0) → ((bytes : List ℕ) → P bytes → IsSoundIn one.role bytes)
+no_stop : (found : Reading) (one : Input) (P : List ℕ → Type 0) →
+    ((bytes : List ℕ) → P bytes → IsSoundIn one.role bytes)
     → HasText found one P → (end : Status) → ¬ StopsAt found end one
 no_stop found one P sound has (InputRefused (Line of line c)) stops =
     sound has.bytes has.reads line c
@@ -330,9 +340,11 @@ framework_same : (found : Reading) (one : Input) (f g : AnyFramework) → HasTex
     → IsFrameworkOf (found.holds one.file) g → g ≡ f
 framework_same found one f g has is =
     ReadsAs-same has.bytes g f
-    (subst (λ bs. ReadsAs bs g) (bytes_at (found.holds one.file) has.bytes is.bytes has.known is.has) is.reads) has.reads
+    (subst (λ bs. ReadsAs bs g) (bytes_at (found.holds one.file) has.bytes is.bytes has.known is.has) is.reads)
+    has.reads
 
-module _ (found : Reading) (words : List (List ℕ)) (texts : CheckTexts) (asked : Asked) (f : AnyFramework) (answer : Answer)
+module _ (found : Reading) (words : List (List ℕ)) (texts : CheckTexts) (asked : Asked) (f : AnyFramework)
+    (answer : Answer)
     (certificate : Certificate) (contents : ChecksContents found words texts asked f answer certificate) where
   same_framework : (g : AnyFramework) → IsFrameworkOf (found.holds texts.file) g → g ≡ f
   same_framework g is = framework_same found (input (Framework 1) texts.file) f g contents.of_framework is
@@ -354,7 +366,8 @@ module _ (found : Reading) (words : List (List ℕ)) (texts : CheckTexts) (asked
       cc e
 
   no_stops : (end : Status) → ¬ StopsAtFirst found end (check_inputs texts)
-  no_stops end (inl stops) = no_stop found _ _ (λ bytes reads. framework_sound bytes f reads) contents.of_framework end stops.0
+  no_stops end (inl stops) = no_stop found _ _ (λ bytes reads. framework_sound bytes f reads) contents.of_framework end
+      stops.0
   no_stops end (inr (passed, inl stops)) =
       no_stop found _ _ (λ bytes reads. answer_sound bytes answer reads) contents.of_answer end stops.0
   no_stops end (inr (passed, inr (passed', inl stops))) =
@@ -369,7 +382,8 @@ module _ (found : Reading) (words : List (List ℕ)) (texts : CheckTexts) (asked
       (subst (λ k. CheckEnds checks.framework asked checks.answer k end)
       (same_certificate checks.certificate checks.of_certificate) checks.ends)))
 
-  pub ends_check : (kept : Transcript) (end : Status) → EndsCommand found (check_row found.holds (Some asked) texts) kept end
+  pub ends_check : (kept : Transcript) (end : Status) → EndsCommand found (check_row found.holds (Some asked) texts)
+      kept end
       → IsCheckEnd f asked answer certificate end
   ends_check kept end (inl (nothing, inl stops)) = absurd (no_stops end stops)
   ends_check kept end (inl (nothing, inr memory)) =
@@ -431,7 +445,8 @@ module _ (found : Reading) (words : List (List ℕ)) (texts : LiveTexts) (budget
   same_script s is =
       let has = contents.of_script in
       script_same has.bytes s script
-      (subst (λ bs. IsScript bs s) (bytes_at (found.holds texts.script) has.bytes is.bytes has.known is.has) is.reads) has.reads
+      (subst (λ bs. IsScript bs s) (bytes_at (found.holds texts.script) has.bytes is.bytes has.known is.has) is.reads)
+      has.reads
 
   neither_stops : (end : Status) → ¬ StopsAtFirst found end (live_inputs texts)
   neither_stops end (inl stops) =
@@ -473,7 +488,7 @@ module _ (found : Reading) (words : List (List ℕ)) (texts : LiveTexts) (budget
       of.reads in
       (script_is_faultless bytes lives.runs.script.lines reads).none faulty.0 faulty.1 faulty.2
 
-  no_long_script : (end : Status) → EndsLive found.holds budget texts kept end → INPUT_LIMIT < length bytes → ⊥
+  no_long_script : (end : Status) → EndsLive found.holds budget texts kept end → MAX_INPUT < length bytes → ⊥
   no_long_script end lives long =
       let of = lives.runs.of_script in
       let short = within_at (found.holds texts.script) bytes of.bytes asks.known of.has in
@@ -482,7 +497,7 @@ module _ (found : Reading) (words : List (List ℕ)) (texts : LiveTexts) (budget
   script_read : ¬ HasReadFault found (input OfScript texts.script)
   script_read h = ⊎_elim (λ served. h.unserved served) (λ uncounted. uncounted h.counted) asks.no_fault
 
-  stops_at_script : (end : Status) → length bytes ≤ INPUT_LIMIT → StopsAt found end (input OfScript texts.script)
+  stops_at_script : (end : Status) → length bytes ≤ MAX_INPUT → StopsAt found end (input OfScript texts.script)
       → RefusesBytes OfScript bytes end
   stops_at_script (InputRefused (Line of line c)) short stops =
       (stops.0, first_at found (input OfScript texts.script) bytes line c asks.known stops.1)
@@ -500,7 +515,7 @@ module _ (found : Reading) (words : List (List ℕ)) (texts : LiveTexts) (budget
   stops_at_script (Rejected failure r s) short stops = stops
 
   -- faulty bytes within the limit are refused by their first fault
-  pub refuses_script : (end : Status) → IsFaultyScript bytes → length bytes ≤ INPUT_LIMIT
+  pub refuses_script : (end : Status) → IsFaultyScript bytes → length bytes ≤ MAX_INPUT
       → EndsLiving found texts budget kept end → RefusesBytes OfScript bytes end
   refuses_script end faulty short (inl (inl stops)) =
       absurd (no_stop found _ _ (λ bs reads. framework_sound bs f reads) asks.of_framework end stops.0)
@@ -510,10 +525,11 @@ module _ (found : Reading) (words : List (List ℕ)) (texts : LiveTexts) (budget
       let P : Status → Type 0 = RefusesBytes OfScript bytes in subst P (sym is) tt
   refuses_script end faulty short (inr (inr lives)) = absurd (no_script end lives faulty)
 
-  stops_at_length : (end : Status) → INPUT_LIMIT < length bytes → StopsAt found end (input OfScript texts.script)
+  stops_at_length : (end : Status) → MAX_INPUT < length bytes → StopsAt found end (input OfScript texts.script)
       → RefusesLength end
   stops_at_length (InputRefused (Line of line c)) long stops =
-      let short = within_at (found.holds texts.script) bytes stops.1.bytes asks.known stops.1.has in absurd (omega arith)
+      let short = within_at (found.holds texts.script) bytes stops.1.bytes asks.known stops.1.has in absurd
+      (omega arith)
   stops_at_length (InputRefused (Query fault)) long stops = stops
   stops_at_length (ReadFault of) long stops = absurd (script_read stops.1)
   stops_at_length (Limit limit.Input) long stops = tt
@@ -527,7 +543,7 @@ module _ (found : Reading) (words : List (List ℕ)) (texts : LiveTexts) (budget
   stops_at_length (Rejected failure r s) long stops = stops
 
   -- bytes over the limit are refused for their length
-  pub refuses_long_script : (end : Status) → INPUT_LIMIT < length bytes → EndsLiving found texts budget kept end
+  pub refuses_long_script : (end : Status) → MAX_INPUT < length bytes → EndsLiving found texts budget kept end
       → RefusesLength end
   refuses_long_script end long (inl (inl stops)) =
       absurd (no_stop found _ _ (λ bs reads. framework_sound bs f reads) asks.of_framework end stops.0)

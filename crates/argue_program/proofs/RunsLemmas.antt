@@ -1,16 +1,23 @@
 -- What follows of a run, in the words of its query.
-use Rattle.std.proofs.Common.{◌≡◌, ◌≢◌, ◌∙◌, ◌⊎◌, ◌<◌, ◌≤◌, ℕ, List, [], ◌∷◌, length, refl, sym, ap, subst, inl, inr, ⊎_elim, true, Option, None, Some, Ok, map}
+use Rattle.std.proofs.Common.{◌≡◌, ◌≢◌, ◌∙◌, ◌⊎◌, ◌<◌, ◌≤◌, ℕ, List, [], ◌∷◌, length, refl, sym, ap, subst, inl}
+use Rattle.std.proofs.Common.{inr, ⊎_elim, true, Option, None, Some, Ok, map}
 use Rattle.std.specs.Io.KnownBytes.{Appends}
 use Rattle.std.specs.Option.{unwrap_or}
 use Rattle.argue_outside.specs.Outside.{FaultCounted, KnownFile}
 use Rattle.argue_outside.specs.declared.Role.{Role}
 use Rattle.argue_outside.specs.declared.Role.TheVariants.{Framework, Script as OfScript}
-use Rattle.argue_words.specs.Words.{AreWords, BenchTexts, CheckTexts, IsBenchQuery, IsCheckQuery, IsLiveQuery, IsSolveQuery, LiveTexts, Request, version, problems, solving, checking, living, benching, unknown, SolveTexts, requested, words_are_problems}
-use Rattle.argue_words.proofs.RequestLaws.{query_requested, requested_input, requested_list, requested_script, requested_texts, requested_none, requested_query, requested_unknown}
+use Rattle.argue_words.specs.Words.{AreWords, BenchTexts, CheckTexts, IsBenchQuery, IsCheckQuery, IsLiveQuery}
+use Rattle.argue_words.specs.Words.{IsSolveQuery, LiveTexts, Request, version, problems, solving, checking, living}
+use Rattle.argue_words.specs.Words.{benching, unknown, SolveTexts, requested, words_are_problems}
+use Rattle.argue_words.proofs.RequestLaws.{query_requested, requested_input, requested_list, requested_script}
+use Rattle.argue_words.proofs.RequestLaws.{requested_texts, requested_none, requested_query, requested_unknown}
 use Rattle.framework_text.specs.FrameworkText.{IsFaulty}
 use Rattle.argue_commands.specs.Inputs.{Input, Reading, StopsAt, StopsAtFirst}
 use Rattle.argue_commands.specs.Replacing.{FileText, certificate_files, file_text, WritesFiles}
-use Rattle.argue_program.specs.Rows.{EndsCommand, EndsLarge, EndsLive, EndsSolved, HasNoInput, Row, bench_row, check_row, certificates_files, files_beside, live_row, reply_files, reply_text, row_of, script_files, script_kept, script_text, session_files, session_text, solve_row, text_of}
+use Rattle.argue_program.specs.Rows.{EndsCommand, EndsLarge, EndsLive, EndsSolved, HasNoInput, Row, bench_row}
+use Rattle.argue_program.specs.Rows.{check_row, certificates_files, files_beside, live_row, reply_files}
+use Rattle.argue_program.specs.Rows.{reply_text, row_of, script_files, script_kept, script_text, session_files}
+use Rattle.argue_program.specs.Rows.{session_text, solve_row, text_of}
 use Rattle.iccma_tasks.specs.Tasks.{Asked}
 use Rattle.argue_program.specs.LargeInputs.{large_by}
 use Rattle.argue_commands.specs.Queries.{asked_by, budget_of, solving_by}
@@ -32,16 +39,25 @@ use Rattle.iccma_tasks.specs.declared.answer.Answer.{Answer}
 use Rattle.certificate_claims.specs.declared.certificate.Certificate.{Certificate}
 use Rattle.argue_program.specs.Promises.{Promises}
 use Rattle.argue_program.specs.Seen.{Seen}
-use Rattle.argue_program.specs.Runs.{AnswersRight, AsksSession, AsksTranscript, ChecksContents, FillsLog, IsCheckEnd, IsDoneOrMemory, IsFaultyScript, IsLiveEnd, IsRunOf, IsSolveEnd, LivesContents, NamesCertificate, QueriesBytes, RefusesBytes, RefusesLength, RefusesWords, ScriptsBytes, SolvesContents, SpendsBudget, WritesAnswer, WritesSummary, WritesTranscript}
+use Rattle.argue_program.specs.Runs.{AnswersRight, AsksSession, AsksTranscript, ChecksContents, FillsLog}
+use Rattle.argue_program.specs.Runs.{IsCheckEnd, IsDoneOrMemory, IsFaultyScript, IsLiveEnd, IsRunOf, IsSolveEnd}
+use Rattle.argue_program.specs.Runs.{LivesContents, NamesCertificate, QueriesBytes, RefusesBytes, RefusesLength}
+use Rattle.argue_program.specs.Runs.{RefusesWords, ScriptsBytes, SolvesContents, SpendsBudget, WritesAnswer}
+use Rattle.argue_program.specs.Runs.{WritesSummary, WritesTranscript}
 use Rattle.argue_commands.specs.Texts.{common_text, text_bytes}
 use Rattle.argue_program.specs.declared.ended.Ended.{Ended}
 use Rattle.argue_commands.specs.declared.ended.KeptSession.{KeptSession}
 use Rattle.argue_commands.specs.declared.ended.Limit.TheVariants as limit
 use Rattle.argue_commands.specs.declared.ended.Status.{Status}
-use Rattle.argue_commands.specs.declared.ended.Status.TheVariants.{Done, Usage, InputRefused, ReadFault, WriteFault, WantOfMemory, Unknown, Limit, Rejected}
+use Rattle.argue_commands.specs.declared.ended.Status.TheVariants.{Done, Usage, InputRefused, ReadFault}
+use Rattle.argue_commands.specs.declared.ended.Status.TheVariants.{WriteFault, WantOfMemory, Unknown, Limit}
+use Rattle.argue_commands.specs.declared.ended.Status.TheVariants.{Rejected}
 use Rattle.argue_program.specs.declared.ended.Transcript.{Transcript}
-use Rattle.num_text.specs.declared.limit.TheConstants.{INPUT_LIMIT}
-use Rattle.argue_program.proofs.EndsLemmas.{EndsLiving, EndsQuery, at_query, done_no_memory, done_right, ends_check, ends_live, ends_large, ends_living, ends_query, ends_solve, ends_unknown, large_done, problems_done, refuses_bytes, refuses_length, refuses_long_script, refuses_script, refuses_words, version_done}
+use Rattle.num_text.specs.declared.limit.TheConstants.{MAX_INPUT}
+use Rattle.argue_program.proofs.EndsLemmas.{EndsLiving, EndsQuery, at_query, done_no_memory, done_right}
+use Rattle.argue_program.proofs.EndsLemmas.{ends_check, ends_live, ends_large, ends_living, ends_query, ends_solve}
+use Rattle.argue_program.proofs.EndsLemmas.{ends_unknown, large_done, problems_done, refuses_bytes, refuses_length}
+use Rattle.argue_program.proofs.EndsLemmas.{refuses_long_script, refuses_script, refuses_words, version_done}
 use Rattle.argue_commands.proofs.ReplacingLemmas.{HaveOtherNames, written_other, broken_other}
 use Rattle.argue_program.proofs.KeptLemmas.{ending_other, kept_at, output_fault, script_at, write_fault_or}
 
@@ -79,7 +95,8 @@ no_first_why found end [] why stops = stops
 no_first_why found end (one ∷ more) why (inl stops) = no_why found end one why stops.0
 no_first_why found end (one ∷ more) why (inr passes) = no_first_why found end more why passes.1
 
-no_check_why : (f : AnyFramework) (asked : Asked) (answer : Answer) (certificate : Certificate) (end : Status) → SaysWhy end
+no_check_why : (f : AnyFramework) (asked : Asked) (answer : Answer) (certificate : Certificate) (end : Status) → SaysWhy
+    end
     → ¬ CheckEnds f asked answer certificate end
 no_check_why f asked answer certificate Unknown why ends = ends
 no_check_why f asked answer certificate (Limit l) why ends = ends
@@ -258,14 +275,14 @@ module _ (words : List (List ℕ)) (seen : Seen) (ended : Ended) (run : IsRunOf 
       (ends_on texts query contents.asks contents.query_is whole)) (write_fault_or ended.status)
 
   faulty : (texts : SolveTexts) (query : Solving) (bytes : List ℕ)
-      → QueriesBytes seen.files words texts query bytes → IsFaulty bytes → length bytes ≤ INPUT_LIMIT
+      → QueriesBytes seen.files words texts query bytes → IsFaulty bytes → length bytes ≤ MAX_INPUT
       → RefusesBytes (Framework 1) bytes ended.status
   faulty texts query bytes asks bad short =
       refuses_bytes seen.files words texts query bytes ended.kept asks ended.status bad short
       (ends_on texts query asks.asks asks.query_is)
 
   too_long : (texts : SolveTexts) (query : Solving) (bytes : List ℕ)
-      → QueriesBytes seen.files words texts query bytes → INPUT_LIMIT < length bytes → RefusesLength ended.status
+      → QueriesBytes seen.files words texts query bytes → MAX_INPUT < length bytes → RefusesLength ended.status
   too_long texts query bytes asks long =
       refuses_length seen.files words texts query bytes ended.kept asks ended.status long
       (ends_on texts query asks.asks asks.query_is)
@@ -392,10 +409,12 @@ module _ (words : List (List ℕ)) (seen : Seen) (ended : Ended) (run : IsRunOf 
       let says = subst Q query_is
       (subst P (requested_query words texts asks) (run.decided.text, run.decided.files)) in
       let text : text_bytes run.ending.text ≡ answer_text told.reply.answer =
-      says.0 ∙ session_text_is run.ending.status run.ending.kept.session solved.session told.reply status keeps told.is in
+      says.0 ∙ session_text_is run.ending.status run.ending.kept.session solved.session told.reply status keeps told.is
+      in
       let files : map file_text run.ending.files ≡ certificate_files texts.certificate told.reply.certificate =
       says.1
-      ∙ session_files_is run.ending.status texts.certificate run.ending.kept.session solved.session told.reply status keeps
+      ∙ session_files_is run.ending.status texts.certificate run.ending.kept.session solved.session told.reply status
+      keeps
       told.is in
       record {
         query = query;
@@ -465,7 +484,7 @@ module _ (words : List (List ℕ)) (seen : Seen) (ended : Ended) (run : IsRunOf 
       (lives_on texts budget contents.asks contents.budget_is whole)) (write_fault_or ended.status)
 
   faulty_script : (texts : LiveTexts) (budget : ℕ) (f : AnyFramework) (bytes : List ℕ)
-      → ScriptsBytes seen.files words texts budget f bytes → IsFaultyScript bytes → length bytes ≤ INPUT_LIMIT
+      → ScriptsBytes seen.files words texts budget f bytes → IsFaultyScript bytes → length bytes ≤ MAX_INPUT
       → RefusesBytes OfScript bytes ended.status
   faulty_script texts budget f bytes asks bad short = ⊎_elim
       (λ broken. let P : Status → Type 0 = RefusesBytes OfScript bytes in subst P (sym broken) tt)
@@ -473,7 +492,7 @@ module _ (words : List (List ℕ)) (seen : Seen) (ended : Ended) (run : IsRunOf 
       (lives_on texts budget asks.asks asks.budget_is whole)) (write_fault_or ended.status)
 
   long_script : (texts : LiveTexts) (budget : ℕ) (f : AnyFramework) (bytes : List ℕ)
-      → ScriptsBytes seen.files words texts budget f bytes → INPUT_LIMIT < length bytes → RefusesLength ended.status
+      → ScriptsBytes seen.files words texts budget f bytes → MAX_INPUT < length bytes → RefusesLength ended.status
   long_script texts budget f bytes asks long = ⊎_elim
       (λ broken. subst RefusesLength (sym broken) tt)
       (λ whole. refuses_long_script seen.files words texts budget f bytes ended.kept asks ended.status long

@@ -2,13 +2,13 @@
 use Rattle.std.specs.Prelude.{ℕ, ◌&&◌, List, Option, Some, None, if◌then◌else◌, nat_le}
 use Rattle.argue_words.specs.Words.{BenchTexts}
 use Rattle.argue_commands.specs.Queries.{number_of}
-use Rattle.bench_runs.specs.declared.input.TheConstants.{MOST_ARGUMENTS}
+use Rattle.bench_runs.specs.declared.input.TheConstants.{MAX_ARGUMENTS}
 use Rattle.argue_program.specs.declared.large.LargeInput.{LargeInput}
 
 -- as many arguments as a large input may have: from 1 to 100,000
 abbrev pub within_most : Option ℕ → Option ℕ
 within_most None = None
-within_most (Some n) = if nat_le 1 n && nat_le n MOST_ARGUMENTS then Some n else None
+within_most (Some n) = if nat_le 1 n && nat_le n MAX_ARGUMENTS then Some n else None
 
 -- how many arguments a text asks for
 abbrev pub arguments_of : List ℕ → Option ℕ

@@ -4,8 +4,9 @@ use Rattle.argue_outside.specs.Outside.{FaultCounted}
 use Rattle.argue_outside.specs.declared.Role.{Role}
 use Rattle.argue_outside.specs.declared.Role.TheVariants as role
 use Rattle.semantics.specs.Frameworks.{Framework}
-use Rattle.num_text.specs.declared.limit.TheConstants.{INPUT_LIMIT}
-use Rattle.argue_words.specs.Words.{AreWords, BenchTexts, CheckTexts, IsBenchQuery, IsCheckQuery, IsLiveQuery, IsSolveQuery, LiveTexts, SolveTexts, requested, words_are_problems}
+use Rattle.num_text.specs.declared.limit.TheConstants.{MAX_INPUT}
+use Rattle.argue_words.specs.Words.{AreWords, BenchTexts, CheckTexts, IsBenchQuery, IsCheckQuery, IsLiveQuery}
+use Rattle.argue_words.specs.Words.{IsSolveQuery, LiveTexts, SolveTexts, requested, words_are_problems}
 use Rattle.iccma_tasks.specs.Tasks.{Asked}
 use Rattle.iccma_tasks.specs.declared.answer.Answer.{Answer}
 use Rattle.certificate_claims.specs.declared.certificate.Certificate.{Certificate}
@@ -19,7 +20,11 @@ use Rattle.argue_commands.specs.declared.ended.Status.TheVariants.{Done, WriteFa
 use Rattle.argue_commands.specs.declared.query.Solving.{Solving}
 use Rattle.argue_program.specs.LargeInputs.{large_by}
 use Rattle.argue_program.specs.Rows.{HasNoInput, row_of}
-use Rattle.argue_program.specs.Runs.{AnswersRight, AsksSession, AsksTranscript, ChecksContents, FillsLog, IsCheckEnd, IsDoneOrMemory, IsFaultyScript, IsLiveEnd, IsSolveEnd, LivesContents, NamesCertificate, QueriesBytes, RefusesBytes, RefusesLength, RefusesWords, ScriptsBytes, SolvesContents, SpendsBudget, WritesAnswer, WritesSummary, WritesTranscript}
+use Rattle.argue_program.specs.Runs.{AnswersRight, AsksSession, AsksTranscript, ChecksContents, FillsLog}
+use Rattle.argue_program.specs.Runs.{IsCheckEnd, IsDoneOrMemory, IsFaultyScript, IsLiveEnd, IsSolveEnd}
+use Rattle.argue_program.specs.Runs.{LivesContents, NamesCertificate, QueriesBytes, RefusesBytes, RefusesLength}
+use Rattle.argue_program.specs.Runs.{RefusesWords, ScriptsBytes, SolvesContents, SpendsBudget, WritesAnswer}
+use Rattle.argue_program.specs.Runs.{WritesSummary, WritesTranscript}
 use Rattle.argue_program.specs.Seen.{Seen}
 use Rattle.argue_program.specs.declared.ended.Ended.{Ended}
 use Rattle.argue_program.specs.declared.large.LargeInput.{LargeInput}
@@ -70,11 +75,11 @@ pub record Promises (words : List (List ℕ)) (seen : Seen) (ended : Ended) : Ty
       → RefusesWords ended.status
   -- a framework with a fault is refused by its first
   pub faulty : (texts : SolveTexts) (query : Solving) (bytes : List ℕ)
-      → QueriesBytes seen.files words texts query bytes → IsFaulty bytes → length bytes ≤ INPUT_LIMIT
+      → QueriesBytes seen.files words texts query bytes → IsFaulty bytes → length bytes ≤ MAX_INPUT
       → RefusesBytes (role.Framework 1) bytes ended.status
   -- a framework over the limit is refused for its length
   pub too_long : (texts : SolveTexts) (query : Solving) (bytes : List ℕ)
-      → QueriesBytes seen.files words texts query bytes → INPUT_LIMIT < length bytes → RefusesLength ended.status
+      → QueriesBytes seen.files words texts query bytes → MAX_INPUT < length bytes → RefusesLength ended.status
   -- a script's run whose budget is none is refused
   pub no_budget : (texts : LiveTexts) → IsLiveQuery words texts → budget_of texts.budget ≡ None
       → RefusesWords ended.status
@@ -83,11 +88,11 @@ pub record Promises (words : List (List ℕ)) (seen : Seen) (ended : Ended) : Ty
       → RefusesWords ended.status
   -- a script with a fault is refused by its first
   pub faulty_script : (texts : LiveTexts) (budget : ℕ) (f : Framework) (bytes : List ℕ)
-      → ScriptsBytes seen.files words texts budget f bytes → IsFaultyScript bytes → length bytes ≤ INPUT_LIMIT
+      → ScriptsBytes seen.files words texts budget f bytes → IsFaultyScript bytes → length bytes ≤ MAX_INPUT
       → RefusesBytes role.Script bytes ended.status
   -- a script over the limit is refused for its length
   pub long_script : (texts : LiveTexts) (budget : ℕ) (f : Framework) (bytes : List ℕ)
-      → ScriptsBytes seen.files words texts budget f bytes → INPUT_LIMIT < length bytes
+      → ScriptsBytes seen.files words texts budget f bytes → MAX_INPUT < length bytes
       → RefusesLength ended.status
   -- ---- checks
   -- a check is done only where the answer is right

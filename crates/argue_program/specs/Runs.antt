@@ -5,8 +5,9 @@ use Rattle.argue_outside.specs.Outside.{FaultCounted, KnownFile}
 use Rattle.argue_outside.specs.declared.Role.{Role}
 use Rattle.argue_outside.specs.declared.Role.TheVariants as role
 use Rattle.semantics.specs.Frameworks.{Framework, af}
-use Rattle.num_text.specs.declared.limit.TheConstants.{INPUT_LIMIT}
-use Rattle.argue_words.specs.Words.{BenchTexts, CheckTexts, IsBenchQuery, IsCheckQuery, IsLiveQuery, IsSolveQuery, LiveTexts, SolveTexts, requested}
+use Rattle.num_text.specs.declared.limit.TheConstants.{MAX_INPUT}
+use Rattle.argue_words.specs.Words.{BenchTexts, CheckTexts, IsBenchQuery, IsCheckQuery, IsLiveQuery, IsSolveQuery}
+use Rattle.argue_words.specs.Words.{LiveTexts, SolveTexts, requested}
 use Rattle.iccma_tasks.specs.AnswerText.{filled_fields, ReadsAs as AnswerReadsAs}
 use Rattle.iccma_tasks.specs.WrittenText.{text_of as answer_text}
 use Rattle.iccma_tasks.specs.Tasks.{Asked}
@@ -52,7 +53,8 @@ use Rattle.argue_commands.specs.declared.ended.KeptSession.{KeptSession}
 use Rattle.argue_commands.specs.declared.ended.Limit.TheVariants as limit
 use Rattle.argue_commands.specs.declared.ended.Refusal.TheVariants.{Line}
 use Rattle.argue_commands.specs.declared.ended.Status.{Status}
-use Rattle.argue_commands.specs.declared.ended.Status.TheVariants.{Done, Usage, InputRefused, WriteFault, WantOfMemory, Limit}
+use Rattle.argue_commands.specs.declared.ended.Status.TheVariants.{Done, Usage, InputRefused, WriteFault}
+use Rattle.argue_commands.specs.declared.ended.Status.TheVariants.{WantOfMemory, Limit}
 use Rattle.argue_program.specs.declared.ended.Transcript.{Transcript}
 use Rattle.argue_commands.specs.declared.query.TheConstants.{LOG_LIMIT}
 
@@ -197,7 +199,7 @@ pub record AnswersRight (holds : List ℕ → KnownFile) (texts : CheckTexts) : 
 pub record HasText (found : Reading) (one : Input) (P : List ℕ → Type 0) : Type 0 where
   pub bytes : List ℕ
   pub known : found.holds one.file ≡ Some (Some bytes)
-  pub within : length bytes ≤ INPUT_LIMIT
+  pub within : length bytes ≤ MAX_INPUT
   pub reads : P bytes
   pub no_fault : found.Serves one.file ⊎ ¬ FaultCounted (found.old_count one.role) (found.new_count one.role)
 
@@ -208,7 +210,8 @@ pub record ChecksContents (found : Reading) (words : List (List ℕ)) (texts : C
   pub asks : asked_by texts.task texts.number ≡ Some asked
   pub of_framework : HasText found (input (role.Framework 1) texts.file) (λ bytes. ReadsAs bytes f)
   pub of_answer : HasText found (input role.Answer texts.answer) (λ bytes. AnswerReadsAs (filled_fields bytes) answer)
-  pub of_certificate : HasText found (input role.Certificate texts.certificate) (λ bytes. CertReadsAs bytes (Ok certificate))
+  pub of_certificate : HasText found (input role.Certificate texts.certificate)
+      (λ bytes. CertReadsAs bytes (Ok certificate))
 
 -- a check ends as its framework, query, answer and certificate say, but for want of memory or a write fault
 abbrev pub IsCheckEnd : Framework → Asked → Answer → Certificate → Status → Type 0
@@ -219,7 +222,8 @@ IsCheckEnd f asked answer certificate end = CheckEnds f asked answer certificate
 -- ---- queries
 
 -- the words ask this query, and the file reads as this framework
-pub record SolvesContents (found : Reading) (words : List (List ℕ)) (texts : SolveTexts) (query : Solving) (f : Framework)
+pub record SolvesContents (found : Reading) (words : List (List ℕ)) (texts : SolveTexts) (query : Solving)
+    (f : Framework)
     : Type 0 where
   pub asks : IsSolveQuery words texts
   pub query_is : solving_by texts ≡ Some query
@@ -228,12 +232,13 @@ pub record SolvesContents (found : Reading) (words : List (List ℕ)) (texts : S
 -- ---- scripts
 
 -- the words ask for a script's run, and this is what its sessions come to on the framework in its file
-pub record AsksScript (words : List (List ℕ)) (holds : List ℕ → KnownFile) (transcript : ScriptTranscript) : Type 0 where
-  pub texts : LiveTexts
-  pub asks : IsLiveQuery words texts
-  pub budget : ℕ
-  pub budget_is : budget_of texts.budget ≡ Some budget
-  pub runs : RunsScript holds budget texts transcript
+pub record AsksScript (words : List (List ℕ)) (holds : List ℕ → KnownFile) (transcript : ScriptTranscript) : Type 0
+  where
+    pub texts : LiveTexts
+    pub asks : IsLiveQuery words texts
+    pub budget : ℕ
+    pub budget_is : budget_of texts.budget ≡ Some budget
+    pub runs : RunsScript holds budget texts transcript
 
 -- the run keeps what the sessions of the script in its file come to on the framework in its file; the output has gained
 -- the text of it, and the file that is named for the certificates has those of all answers

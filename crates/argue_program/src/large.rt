@@ -2,7 +2,7 @@
 
 ghost use Rattle.std.specs.Prelude.{◌≡◌, ◌≤◌, IfSome};
 ghost use Rattle.argue_words.specs.Words.{bench_texts, benching};
-ghost use Rattle.bench_runs.specs.declared.input.TheConstants.{MOST_ARGUMENTS};
+ghost use Rattle.bench_runs.specs.declared.input.TheConstants.{MAX_ARGUMENTS};
 ghost use Rattle.argue_commands.specs.Inputs.{reading};
 ghost use Rattle.argue_program.specs.LargeInputs.{arguments_of, large_by};
 ghost use Rattle.argue_program.specs.Rows.{EndsSummed, IsEndingFor};
@@ -13,7 +13,7 @@ use argue_commands::query::number_in;
 use argue_commands::{Status, Text};
 use argue_outside::{Files, Pace};
 use argue_words::BenchWords;
-use bench_runs::{BenchRun, MOST_ARGUMENTS, run_bench};
+use bench_runs::{BenchRun, MAX_ARGUMENTS, run_bench};
 use lists::{Items, Memory};
 use std::alloc::Global;
 use std::sync::Wait;
@@ -30,10 +30,10 @@ pub struct LargeInput {
 fn arguments_in(text: &str) -> Option<u32>
     ensures is { result ≡ arguments_of text.now }
     ensures some { IfSome result (λ n. 1 ≤ n) }
-    ensures few { IfSome result (λ n. n ≤ MOST_ARGUMENTS) }
+    ensures few { IfSome result (λ n. n ≤ MAX_ARGUMENTS) }
 {
     let number = number_in(text)?;
-    if 1 <= number && number <= MOST_ARGUMENTS {
+    if 1 <= number && number <= MAX_ARGUMENTS {
         Some(number)
     } else {
         None
@@ -45,7 +45,7 @@ fn arguments_in(text: &str) -> Option<u32>
 fn large_of(words: &BenchWords<'_>) -> Option<LargeInput>
     ensures is { result ≡ large_by (bench_texts words.now) }
     ensures some { IfSome result (λ large. 1 ≤ large.arguments) }
-    ensures few { IfSome result (λ large. large.arguments ≤ MOST_ARGUMENTS) }
+    ensures few { IfSome result (λ large. large.arguments ≤ MAX_ARGUMENTS) }
 {
     let arguments = arguments_in(words.arguments)?;
     let seed = number_in(words.seed)?;

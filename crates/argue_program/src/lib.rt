@@ -16,7 +16,7 @@ mod scripts;
 mod solving;
 pub mod writing;
 
-pub use argue_commands::{Cause, KeptSession, Limit, Refusal, Status, Text, Written};
+pub use argue_commands::{FaultCause, KeptSession, Limit, Refusal, Status, Text, Written};
 pub use command::{execute, run};
 pub use decision::{decide, decide_with};
 pub use ended::{Ended, Transcript};

@@ -10,7 +10,7 @@ use std::sync::Wait;
 use std::thread::Threads;
 
 /// More bytes than any file of a row has.
-const MOST_BYTES: u64 = 1_000_000;
+const MAX_BYTES: u64 = 1_000_000;
 
 /// The text with ends of lines in place of `;`, and with the bytes that `\r` and `\0` stand for.
 pub fn with_ends(alloc: Global, text: &str) -> Result<String, AllocError> {
@@ -90,7 +90,7 @@ pub fn run<R: Threads + Wait + Sync>(
     let mut out = MemSink::failing(alloc, only(alloc, given.faults.output)?, most);
     let code = status_of(rt, alloc, words.as_slice(), &mut files, &mut out);
     let text = with_semicolons(alloc, out.bytes())?;
-    let held = match read_all(alloc, &mut files, Role::Certificate, "c", MOST_BYTES) {
+    let held = match read_all(alloc, &mut files, Role::Certificate, "c", MAX_BYTES) {
         Ok(bytes) => bytes,
         Err(_) => return Err(AllocError),
     };

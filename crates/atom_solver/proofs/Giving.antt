@@ -1,5 +1,6 @@
 -- A clause that is given comes, and is in use.
-use Rattle.std.proofs.Common.{◌≡◌, ℕ, suc, ◌+◌, ◌<◌, ◌≤◌, List, [], ◌∷◌, ◌++◌, length, get_or, ap, sym, subst, ◌∙◌, refl, arith, ⊎_elim, add-one}
+use Rattle.std.proofs.Common.{◌≡◌, ℕ, suc, ◌+◌, ◌<◌, ◌≤◌, List, [], ◌∷◌, ◌++◌, length, get_or, ap, sym, subst, ◌∙◌}
+use Rattle.std.proofs.Common.{refl, arith, ⊎_elim, add-one}
 use Rattle.std.specs.Prelude.{Contains, Result, Ok, Err, IfOk, OnOk, OnErr, Option, None, slice_index_or, true, false}
 use Rattle.std.proofs.lemmas.Bool.{cases_lt}
 use Rattle.std.proofs.lemmas.List.{length_push, get_or_past, get_or_push, get_or_append_left}
@@ -18,7 +19,7 @@ use Rattle.meaning_atoms.specs.declared.axiom.AxiomName.{AxiomName}
 use Rattle.certificate_claims.specs.Refutations.{IsAxiomOf}
 use Rattle.session_log.proofs.Staying.{axiom_stays}
 use Rattle.atom_solver.specs.States.{AtomState, AddsAxiom, IsGuardedLog}
-use Rattle.hinted_log.specs.declared.kind.Kind.TheVariants as kind
+use Rattle.hinted_log.specs.declared.step_kind.StepKind.TheVariants as kind
 use Rattle.sat_core.specs.declared.answer.Added.{Added}
 use Rattle.sat_core.specs.declared.answer.Added.TheVariants.{Axiom, Side, Derived}
 use Rattle.sat_core.specs.Solving.{SolverState, AddsTo, IsRejected}
@@ -30,7 +31,8 @@ use Rattle.session_log.specs.Steps.{GainsStep, own_step}
 use Rattle.atom_solver.specs.declared.origin.Origin.{Origin}
 use Rattle.atom_solver.specs.declared.origin.Origin.TheVariants.{Axiom as OfAxiom, Hints}
 use Rattle.atom_solver.specs.Inner.{GainsGiven, IsFilled, NeedsNoHints}
-use Rattle.atom_solver.specs.Lifted.{IsLifting, lit_of, atoms_of, source_of, imported_of, in_use, lifted_step, lifted_at, listed, log_over, state_over}
+use Rattle.atom_solver.specs.Lifted.{IsLifting, lit_of, atoms_of, source_of, imported_of, in_use, lifted_step}
+use Rattle.atom_solver.specs.Lifted.{lifted_at, listed, log_over, state_over}
 use Rattle.atom_solver.specs.Tables.{AddsLits, StandsFor}
 use Rattle.atom_solver.proofs.Lifting.{in_use_gives, in_use_yes, in_use_same}
 use Rattle.atom_solver.proofs.Listing.{length-listed, listed_same}
@@ -207,7 +209,8 @@ pub given_gains : (atoms : List Atom) (old new : SolverState) (clause : List Lit
     (pending : Option Pending) → length old.log.steps < old.log.limit
     → GainsGiven (atoms_of atoms clause) (source_of origin []) (state_over atoms old origins sides pending)
     (state_over atoms new pushed sides pending)
-given_gains atoms old new clause how number origins filled pushed origin needs adds own same long is sides pending room =
+given_gains atoms old new clause how number origins filled pushed origin needs adds own same long is sides pending room
+    =
     record {
       gains = subst (λ step. GainsStep step sides (log_over atoms old origins sides) (log_over atoms new pushed sides))
           (given_is atoms clause how origin own)

@@ -1,5 +1,6 @@
 -- What a search leaves, whatever it answers.
-use Rattle.std.proofs.Common.{◌≡◌, ◌≢◌, ℕ, ◌+◌, ◌-◌, ◌≤◌, List, length, ap, sym, subst, ◌∙◌, refl, arith, inl, inr, ⊎_elim, Vec, Global}
+use Rattle.std.proofs.Common.{◌≡◌, ◌≢◌, ℕ, ◌+◌, ◌-◌, ◌≤◌, List, length, ap, sym, subst, ◌∙◌, refl, arith, inl, inr}
+use Rattle.std.proofs.Common.{⊎_elim, Vec, Global}
 use Rattle.std.specs.Prelude.{Contains, filter, Option, None, Some, Result, Ok, Err}
 use Rattle.std.specs.Result.{IsErr, IsErrAnd}
 use Rattle.std.proofs.lemmas.Bool.{false≢true, lt-ltb, ltb-true}
@@ -31,7 +32,7 @@ use Rattle.oracle_face.specs.Goals.{RefutesGoals}
 use Rattle.session_log.specs.Guards.{IsGuarded}
 use Rattle.atom_solver.specs.States.{IsNoLoop}
 use Rattle.atom_solver.specs.declared.searched.Searched.{Searched}
-use Rattle.atom_solver.specs.declared.parts.Parts.{Parts}
+use Rattle.atom_solver.specs.declared.parts.SolverParts.{SolverParts}
 use Rattle.atom_solver.specs.Inner.{IsKept, KeepsInHand, Tells}
 use Rattle.atom_solver.specs.Searches.{IsAnswer, ends_in}
 use Rattle.atom_solver.specs.Lifted.{IsLifting, lit_of, atoms_of, lifted_at, log_over, state_over}
@@ -40,7 +41,8 @@ use Rattle.atom_solver.proofs.Deriving.{front_same, search_grows, hint_named, ro
 use Rattle.atom_solver.proofs.Learning.{AreNamed, has_learned}
 use Rattle.atom_solver.proofs.Listing.{length-listed}
 use Rattle.atom_solver.proofs.Lifting.{in_use_gives, in_use_yes, room_at, log_grow}
-use Rattle.atom_solver.proofs.Searching.{LeavesAs, gained_of, gained_free, gained_works, gained_closings, closing_left, unit_further, AreValues, model_satisfies, core_refutes}
+use Rattle.atom_solver.proofs.Searching.{LeavesAs, gained_of, gained_free, gained_works, gained_closings}
+use Rattle.atom_solver.proofs.Searching.{closing_left, unit_further, AreValues, model_satisfies, core_refutes}
 use Rattle.atom_solver.proofs.TableLemmas.{told_whole}
 
 memory_not_spent : (count : ℕ) → Memory ≡ Spent count → ⊥
@@ -237,7 +239,8 @@ module _ (atoms : List Atom) (old new : SolverState) (origins : List Origin) (si
       run_memory atoms old new origins sides f pending before after 0 keeps limit
 
 -- a look that found a core: as a search that learned nothing
-pub looked : (old new : SolverState) (assumed : List Lit) (step : ℕ) (units : Units) → EndsCore (begun old) new assumed step
+pub looked : (old new : SolverState) (assumed : List Lit) (step : ℕ) (units : Units) → EndsCore (begun old) new assumed
+    step
     → HasSearched old new assumed units units (answered (Core step))
 looked old new assumed step units ends = record {
   learned = begun old;
@@ -259,7 +262,8 @@ module _ (atoms : List Atom) (old new : SolverState) (origins : List Origin) (si
   pub near_run : (pending : Option Pending) (units : Units)
       → HasRun NoSide 1 f (log_over atoms old origins sides) (log_over atoms new origins sides) pending units units None
   near_run pending units =
-      let gained = gained_of atoms old (begun old) new origins different room assumed 0 (nothing (begun old)) named marked
+      let gained = gained_of atoms old (begun old) new origins different room assumed 0 (nothing (begun old)) named
+      marked
       near_left in
       let front = front_same atoms old new origins sides keeps in
       let few = closing_left (begun old) new near_left in
@@ -281,7 +285,8 @@ module _ (atoms : List Atom) (old new : SolverState) (origins : List Origin) (si
 
   pub near_refutes : AreNear f atoms goals assumed → IsGuarded (log_over atoms new origins sides)
       → RefutesGoals f (log_over atoms new origins sides) goals step
-  near_refutes are guards = core_refutes atoms new origins different room f goals assumed sides step are guards ends.core
+  near_refutes are guards = core_refutes atoms new origins different room f goals assumed sides step are guards
+      ends.core
 
 -- the clause in hand of a search whose budget was spent is one that it learned
 pub halted_no_loop : (atoms : List Atom) (old new : SolverState) (assumed : List Lit) (before after : Units)
@@ -333,7 +338,7 @@ log_grown literals old new s t origins sides h grows e =
     ∙ log_grow old grows.more s origins sides (length s.log.steps) h.room (omega arith))
 
 -- what is in hand is kept, and the log is the same
-pub log_kept : (old new : Parts) → KeepsInHand old new
+pub log_kept : (old new : SolverParts) → KeepsInHand old new
     → log_over new.table new.solver new.origins.items new.sides.items
     ≡ log_over old.table old.solver old.origins.items old.sides.items
 log_kept old new h =
@@ -342,7 +347,7 @@ log_kept old new h =
     ∙ (ap (λ (origins : Vec Origin Global). log_over old.table old.solver origins.items new.sides.items) h.origins
     ∙ ap (λ (sides : Vec SideClause Global). log_over old.table old.solver old.origins.items sides.items) h.sides))
 
-pub whole_kept : (old new : Parts) → KeepsInHand old new → IsLifting old.table old.solver old.origins.items
+pub whole_kept : (old new : SolverParts) → KeepsInHand old new → IsLifting old.table old.solver old.origins.items
     → IsLifting new.table new.solver new.origins.items
 whole_kept old new h whole =
     subst (λ atoms. IsLifting atoms new.solver new.origins.items) (sym h.table)

@@ -12,7 +12,7 @@ ghost use Rattle.atom_solver.specs.Lifted.{atom_at, atoms_of};
 ghost use Rattle.atom_solver.specs.Tables.{told};
 
 use crate::origin::Origin;
-use crate::parts::{Parts, fill};
+use crate::parts::{SolverParts, fill};
 use atom_table::AtomTable;
 use hinted_log::LogFault;
 use lists::{Items, Memory};
@@ -51,7 +51,7 @@ fn asks_nothing(table: &AtomTable, clause: &[PackedLit]) -> bool
     true
 }
 
-impl Parts {
+impl SolverParts {
     /// Adds a clause that steps show, as one that is taken from an entry.
     fn add_entry(
         &mut self,

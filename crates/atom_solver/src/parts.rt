@@ -1,11 +1,12 @@
 //! What a solver over atoms is made of.
 
-ghost use Rattle.std.specs.Prelude.{◌+◌, ◌-◌, ◌⊎◌, IfErr, IfNone, None, IfSome, slice_index_or, ◌≡◌, ◌↔◌, ℕ, ◌≤◌, [], length, List, IfOk, OnOk, OnErr, Contains, ◌<◌, vec_len, vec_capacity};
+ghost use Rattle.std.specs.Prelude.{◌+◌, ◌-◌, ◌⊎◌, IfErr, IfNone, None, IfSome, slice_index_or, ◌≡◌, ◌↔◌, ℕ, ◌≤◌};
+ghost use Rattle.std.specs.Prelude.{[], length, List, IfOk, OnOk, OnErr, Contains, ◌<◌, vec_len, vec_capacity};
 ghost use Rattle.plain_lits.specs.declared.lit.Lit.{Lit as ALit};
 ghost use Rattle.plain_lits.specs.HintCheck.{IsTautology};
 ghost use Rattle.plain_lits.specs.Literals.{negation};
 ghost use Rattle.semantics.specs.Frameworks.{Framework};
-ghost use Rattle.hinted_log.specs.declared.log.TheConstants.{MOST_STEPS};
+ghost use Rattle.hinted_log.specs.declared.log.TheConstants.{MAX_STEPS};
 ghost use Rattle.certificate_claims.specs.Refutations.{axiom_clause};
 ghost use Rattle.plain_lits.specs.Checking.{HasRoomFor};
 ghost use Rattle.meaning_atoms.specs.declared.atom.AtomLit.{AtomLit as AnAtomLit};
@@ -36,7 +37,7 @@ use crate::tables::{
 };
 use atom_table::AtomTable;
 use certificate_claims::clause_of_axiom;
-use hinted_log::{LogFault, MOST_STEPS};
+use hinted_log::{LogFault, MAX_STEPS};
 use lists::{Items, Memory};
 use meaning_atoms::{Atom, AtomLit, AxiomName};
 use oracle_face::{AskId, Encoding, Pending};
@@ -46,7 +47,7 @@ use set_lists::NumSet;
 use std::alloc::Global;
 
 /// The solver with the table of its atoms, and what its log over atoms has besides.
-pub(crate) struct Parts {
+pub(crate) struct SolverParts {
     pub(crate) table: AtomTable,
     pub(crate) solver: Solver,
     /// Where the first steps come from; all others follow from their hints.
@@ -60,9 +61,9 @@ pub(crate) struct Parts {
 }
 
 // By hand, so that a drop is one call (docs/PROVING.md).
-impl Drop for Parts {
+impl Drop for SolverParts {
     fn drop(self) {
-        let Parts {
+        let SolverParts {
             table: _,
             solver: _,
             origins: _,
@@ -110,15 +111,15 @@ fn searched(alloc: Global, table: &AtomTable, solved: Solved) -> Result<Searched
     }
 }
 
-impl Parts {
+impl SolverParts {
     /// No clause, and a log for at most so many steps.
-    pub(crate) fn open(alloc: Global, log_limit: u64) -> Result<Parts, Memory>
-        requires { log_limit ≤ MOST_STEPS }
+    pub(crate) fn open(alloc: Global, log_limit: u64) -> Result<SolverParts, Memory>
+        requires { log_limit ≤ MAX_STEPS }
         ensures whole { IfOk result IsWhole }
         ensures state { IfOk result (λ parts. state_of parts ≡ empty_state log_limit) }
     {
         let solver = Solver::open(alloc, log_limit)?;
-        Ok(Parts {
+        Ok(SolverParts {
             table: AtomTable::new(alloc),
             solver,
             origins: Vec::new(alloc),

@@ -1,17 +1,20 @@
 //! The solver, as callers see it.
 
-ghost use Rattle.std.specs.Prelude.{◌≡◌, ◌⊎◌, ◌↔◌, ℕ, ◌≤◌, true, length, IfNone, IfOk, IfSome, IsTrue, OnOk, OnErr, None, Some};
+ghost use Rattle.std.specs.Prelude.{◌≡◌, ◌⊎◌, ◌↔◌, ℕ, ◌≤◌, true, length, IfNone, IfOk, IfSome, IsTrue, OnOk, OnErr};
+ghost use Rattle.std.specs.Prelude.{None, Some};
 ghost use Rattle.certificate_claims.specs.Refutations.{IsAxiomOf, axiom_clause};
 ghost use Rattle.plain_lits.specs.HintCheck.{IsTautology};
 ghost use Rattle.semantics.specs.Frameworks.{Framework};
 ghost use Rattle.meaning_atoms.specs.Literals.{negated};
-ghost use Rattle.hinted_log.specs.declared.log.TheConstants.{MOST_STEPS};
-ghost use Rattle.oracle_face.specs.Logs.{FactsAreFalse, IsNew, IsNumberOf, hints_of, is_loop, side_at, step_at, working};
+ghost use Rattle.hinted_log.specs.declared.log.TheConstants.{MAX_STEPS};
+ghost use Rattle.oracle_face.specs.Logs.{FactsAreFalse, IsNew, IsNumberOf, hints_of, is_loop, side_at, step_at};
+ghost use Rattle.oracle_face.specs.Logs.{working};
 ghost use Rattle.oracle_face.specs.Goals.{IsSide};
 ghost use Rattle.oracle_face.specs.Growing.{HasRun, NoSide, Obliges, OnlySide, UnlessMemory, halt_of};
 ghost use Rattle.meaning_atoms.specs.AxiomNames.{IsAxiomName};
 ghost use Rattle.oracle_face.specs.declared.face.Pending.TheVariants.{Loop as OfLoop};
-ghost use Rattle.atom_solver.specs.States.{AddsAxiom, IsGuardedLog, IsNoLoop, StaysLog, TakesSideOf, UsesAxioms, empty_log};
+ghost use Rattle.atom_solver.specs.States.{AddsAxiom, IsGuardedLog, IsNoLoop, StaysLog, TakesSideOf, UsesAxioms};
+ghost use Rattle.atom_solver.specs.States.{empty_log};
 ghost use Rattle.session_log.specs.Steps.{LearnsClauses};
 ghost use Rattle.atom_solver.specs.Searches.{IsAnswer, AreUnfixed, ends_in};
 ghost use Rattle.atom_solver.specs.Imported.{IsImported, IsPlain};
@@ -21,9 +24,9 @@ ghost use Rattle.atom_solver.specs.Sides.{HasNoSide, IsSideOf};
 use crate::in_hand::copy_of;
 use crate::kept_side::KeptSide;
 use crate::origin::Origin;
-use crate::parts::Parts;
+use crate::parts::SolverParts;
 use crate::searched::Searched;
-use hinted_log::MOST_STEPS;
+use hinted_log::MAX_STEPS;
 use lists::{Items, Memory};
 use meaning_atoms::{AtomLit, AxiomName};
 use oracle_face::{AskId, Encoding, EntryName, Pending};
@@ -37,7 +40,7 @@ use std::marker::Model;
 /// still is.
 #[derive(Drop)]
 pub struct AtomSolver {
-    parts: Parts,
+    parts: SolverParts,
 }
 
 impl Model for AtomSolver {
@@ -54,11 +57,11 @@ impl Model for AtomSolver {
 impl AtomSolver {
     /// No clause, and a log for at most so many steps.
     pub fn open(alloc: Global, log_limit: u64) -> Result<AtomSolver, Memory>
-        requires { log_limit ≤ MOST_STEPS }
+        requires { log_limit ≤ MAX_STEPS }
         ensures log { IfOk result (λ s. s.log ≡ empty_log log_limit) }
         ensures pending { IfOk result (λ s. s.pending ≡ None) }
     {
-        let parts = Parts::open(alloc, log_limit)?;
+        let parts = SolverParts::open(alloc, log_limit)?;
         Ok(AtomSolver { parts })
     }
 
@@ -192,7 +195,7 @@ impl AtomSolver {
     pub fn len(&self) -> usize
         ensures len { result ≡ length self.now.log.steps }
         ensures within { length self.now.log.steps ≤ self.now.log.limit }
-        ensures small { self.now.log.limit ≤ MOST_STEPS }
+        ensures small { self.now.log.limit ≤ MAX_STEPS }
         ensures axioms { UsesAxioms self.now.log }
     {
         self.parts.solver.log().len()

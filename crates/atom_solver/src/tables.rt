@@ -72,7 +72,7 @@ fn push_lit_for(
     let var = table.var_of(&literal.atom)?;
     if var >= before {
         if let Atom::Member(_) = literal.atom {
-            solver.name(Lit {
+            solver.declare(Lit {
                 var,
                 positive: true,
             })?;
@@ -110,7 +110,7 @@ fn prefer_attack(table: &AtomTable, solver: &mut Solver, lit: Lit) -> Result<(),
         return Ok(());
     }
     match table.atom_at(lit.var) {
-        Atom::Tail(_, _) => solver.prefer(lit),
+        Atom::Tail(_, _) => solver.prioritize(lit),
         _ => Ok(()),
     }
 }

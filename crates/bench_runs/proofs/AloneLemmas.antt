@@ -1,5 +1,6 @@
 -- What one session alone is told is determined by its lines and the framework.
-use Rattle.std.proofs.Common.{arith, Bool, true, false, ◌≡◌, ◌⊎◌, ⊎_elim, ℕ, zero, suc, ◌==◌, ◌+◌, ◌<◌, ◌≤◌, List, [], ◌∷◌, ◌++◌, cond, nat_lt, refl, sym, ap, subst, ◌∙◌}
+use Rattle.std.proofs.Common.{arith, Bool, true, false, ◌≡◌, ◌⊎◌, ⊎_elim, ℕ, zero, suc, ◌==◌, ◌+◌, ◌<◌, ◌≤◌, List}
+use Rattle.std.proofs.Common.{[], ◌∷◌, ◌++◌, cond, nat_lt, refl, sym, ap, subst, ◌∙◌}
 use Rattle.std.specs.Prelude.{All, Contains, Err, Ok, Result, length, slice_index_or}
 use Rattle.std.proofs.lemmas.Bool.Decides.{nat_tests}
 use Rattle.std.proofs.lemmas.List.{append-nil, get_or_append_left, length-append}
@@ -15,22 +16,23 @@ use Rattle.edit_rules.specs.declared.effect.EditFault.{EditFault}
 use Rattle.edit_rules.specs.Edits.{edit_outcome}
 use Rattle.edit_rules.specs.Replay.{after_edit}
 use Rattle.turn_lock.specs.Turns.{entries_of}
-use Rattle.edit_history.specs.declared.entry.Entry.{Entry}
+use Rattle.edit_history.specs.declared.entry.HistoryEntry.{HistoryEntry}
 use Rattle.edit_history.specs.Entries.{entries_in, framework_after, session_of}
 use Rattle.edit_history.specs.Hubs.{GainsOthers}
 use Rattle.oracle_face.specs.Logs.{OracleLog}
-use Rattle.script_text.specs.declared.script.Command.{Command}
-use Rattle.script_text.specs.declared.script.Command.TheVariants.{Edit as change_by, Ask}
+use Rattle.script_text.specs.declared.script.ScriptCommand.{ScriptCommand}
+use Rattle.script_text.specs.declared.script.ScriptCommand.TheVariants.{Edit as change_by, Ask}
 use Rattle.script_text.specs.declared.script.Script.{Script}
 use Rattle.script_text.specs.declared.script.ScriptLine.{ScriptLine}
 use Rattle.session_core.specs.declared.kept.Kept.{Kept}
 use Rattle.session_core.specs.declared.kept.KeptAnswer.{KeptAnswer}
 use Rattle.session_core.specs.Replies.{EditSays, QuerySays}
 use Rattle.session_replies.specs.declared.reply.Body.{Body}
-use Rattle.session_replies.specs.declared.reply.Body.TheVariants.{Done, EditRefused, Full, Answered, QueryRefused, Unknown, TooMany, LogFull}
+use Rattle.session_replies.specs.declared.reply.Body.TheVariants.{Done, EditRefused, Full, Answered, QueryRefused}
+use Rattle.session_replies.specs.declared.reply.Body.TheVariants.{Unknown, TooMany, LogFull}
 use Rattle.session_replies.specs.declared.reply.Reply.{Reply}
-use Rattle.bench_runs.specs.declared.runner.TheConstants.{LOG_LIMIT}
-use Rattle.bench_runs.specs.declared.script_run.TheConstants.{HISTORY_LIMIT}
+use Rattle.bench_runs.specs.declared.runner.TheConstants.{MAX_STEPS}
+use Rattle.bench_runs.specs.declared.script_run.TheConstants.{MAX_HISTORY}
 use Rattle.bench_runs.specs.declared.transcript.ScriptTranscript.{ScriptTranscript}
 use Rattle.bench_runs.specs.Served.{entry_by, lines_of, made_by}
 use Rattle.bench_runs.specs.Transcripts.{AreSessions, IsTranscriptOf}
@@ -41,31 +43,32 @@ use Rattle.bench_runs.proofs.ToldLemmas.{done_by}
 
 -- ---- one session's entries alone
 
-abbrev AreOwn : ℕ → List Entry → Type 0
-AreOwn s entries = All (λ (e : Entry). e.session ≡ s) entries
+abbrev AreOwn : ℕ → List HistoryEntry → Type 0
+AreOwn s entries = All (λ (e : HistoryEntry). e.session ≡ s) entries
 
 none_more : {X : Type 0} → (xs more ys : List X) → xs ++ more ≡ ys → length ys ≤ length xs → ys ≡ xs
 none_more xs [] ys whole few = sym whole ∙ append-nil xs
 none_more xs (x ∷ more) ys whole few =
     let long = length-append xs (x ∷ more) in let e = ap length whole in absurd (omega arith)
 
-own_first : (s : ℕ) (xs ys : List Entry) → IsPrefix xs ys → AreOwn s ys → AreOwn s xs
+own_first : (s : ℕ) (xs ys : List HistoryEntry) → IsPrefix xs ys → AreOwn s ys → AreOwn s xs
 own_first s xs ys one own =
     let all : AreOwn s (xs ++ one.0) = subst (AreOwn s) (sym one.1) own in
     let long = length-append xs one.0 in
-    λ k d low. subst (λ (e : Entry). e.session ≡ s) (get_or_append_left xs one.0 d k low)
+    λ k d low. subst (λ (e : HistoryEntry). e.session ≡ s) (get_or_append_left xs one.0 d k low)
     (all k d (omega (arith, low, long)))
 
 -- others add nothing where all entries are the session's
-alone_same : (s : ℕ) (before after : List Entry) → AreOwn s after → GainsOthers s before after → after ≡ before
+alone_same : (s : ℕ) (before after : List HistoryEntry) → AreOwn s after → GainsOthers s before after → after ≡ before
 alone_same s before after own gained =
     let whole : entries_of session_of s after ≡ after =
-    filter_whole (λ (e : Entry). session_of e == s) after
-    (All-weaker (λ (e : Entry). e.session ≡ s) (λ e. (session_of e == s) ≡ true) (λ e is. grind (arith, nat_tests))
+    filter_whole (λ (e : HistoryEntry). session_of e == s) after
+    (All-weaker (λ (e : HistoryEntry). e.session ≡ s) (λ e. (session_of e == s) ≡ true)
+    (λ e is. grind (arith, nat_tests))
     after own) in
     let same = ap length (sym whole ∙ gained.own) in
-    let kept = length-filter (λ (e : Entry). session_of e == s) before in
-    let few = count_by-le-length (λ (e : Entry). session_of e == s) before in
+    let kept = length-filter (λ (e : HistoryEntry). session_of e == s) before in
+    let few = count_by-le-length (λ (e : HistoryEntry). session_of e == s) before in
     none_more before gained.longer.0 after gained.longer.1 (omega (arith, same, kept, few))
 
 -- ---- an edit
@@ -89,22 +92,22 @@ without_room limit count outcome full =
     let room : nat_lt count limit ≡ false = grind (arith, nat_tests) in rw room refl
 
 -- what a session alone is told
-abbrev TellsOf : Framework → ℕ → List Entry → Command → Body → Type 0
+abbrev TellsOf : Framework → ℕ → List HistoryEntry → ScriptCommand → Body → Type 0
 TellsOf f limit seen (change_by edit) body =
     body ≡ body_for limit (length seen) (edit_outcome (framework_after f seen) edit)
 TellsOf f limit seen (Ask asked) body = (log : OracleLog) × QuerySays (framework_after f seen) asked log body
 
-record DoesAlone (f : Framework) (limit s : ℕ) (seen : List Entry) (command : Command) (reply : Reply)
-    (now : List Entry) : Type 0 where
+record DoesAlone (f : Framework) (limit s : ℕ) (seen : List HistoryEntry) (command : ScriptCommand) (reply : Reply)
+    (now : List HistoryEntry) : Type 0 where
   front : reply.front ≡ length now
   now_is : now ≡ seen ++ made_by s command reply.body
   tells : TellsOf f limit seen command reply.body
 
 -- nothing was added
-stays_alone : (s : ℕ) (seen now : List Entry) → AreOwn s now → GainsOthers s seen now → now ≡ seen ++ []
+stays_alone : (s : ℕ) (seen now : List HistoryEntry) → AreOwn s now → GainsOthers s seen now → now ≡ seen ++ []
 stays_alone s seen now own gained = alone_same s seen now own gained ∙ sym (append-nil seen)
 
-edit_alone : (f : Framework) (limit s : ℕ) (edit : Edit) (seen now : List Entry) (front : ℕ) (body : Body)
+edit_alone : (f : Framework) (limit s : ℕ) (edit : Edit) (seen now : List HistoryEntry) (front : ℕ) (body : Body)
     → AreOwn s now → front ≡ length now → EditSays limit f s edit seen now body
     → DoesAlone f limit s seen (change_by edit) (record { front = front; body = body }) now
 edit_alone f limit s edit seen now front (Done effect) own at says =
@@ -149,7 +152,7 @@ edit_alone f limit s edit seen now front LogFull own at says = absurd says
 
 -- ---- a line
 
-does_alone : (f : Framework) (limit budget s : ℕ) (seen : List Entry) (command : Command) (reply : Reply)
+does_alone : (f : Framework) (limit budget s : ℕ) (seen : List HistoryEntry) (command : ScriptCommand) (reply : Reply)
     (old new : Stand) → old.seen ≡ seen → AreOwn s new.seen → DoesCommand f limit budget s command old reply new
     → DoesAlone f limit s seen command reply new.seen
 does_alone f limit budget s seen (change_by edit) reply old new from own does =
@@ -167,16 +170,18 @@ does_alone f limit budget s seen (Ask asked) reply old new from own does =
       );
     }
 
-record AreJoined (f : Framework) (s : ℕ) (seen : List Entry) (command : Command) (one two : Reply) : Type 0 where
-  alike : IsAlike (framework_after f seen) command one two
-  made : made_by s command one.body ≡ made_by s command two.body
+record AreJoined (f : Framework) (s : ℕ) (seen : List HistoryEntry) (command : ScriptCommand) (one two : Reply) : Type 0
+  where
+    alike : IsAlike (framework_after f seen) command one two
+    made : made_by s command one.body ≡ made_by s command two.body
 
-fronts_same : (s : ℕ) (seen one_now two_now made other : List Entry) (one two : ℕ) → one ≡ length one_now
+fronts_same : (s : ℕ) (seen one_now two_now made other : List HistoryEntry) (one two : ℕ) → one ≡ length one_now
     → two ≡ length two_now → one_now ≡ seen ++ made → two_now ≡ seen ++ other → made ≡ other → one ≡ two
 fronts_same s seen one_now two_now made other one two at also first second same =
     at ∙ (ap length (first ∙ (ap (λ l. seen ++ l) same ∙ sym second)) ∙ sym also)
 
-joined : (f : Framework) (limit s : ℕ) (seen one_now two_now : List Entry) (command : Command) (one two : Reply)
+joined : (f : Framework) (limit s : ℕ) (seen one_now two_now : List HistoryEntry) (command : ScriptCommand)
+    (one two : Reply)
     → DoesAlone f limit s seen command one one_now → DoesAlone f limit s seen command two two_now
     → AreJoined f s seen command one two
 joined f limit s seen one_now two_now (change_by edit) one two h k =
@@ -196,13 +201,13 @@ joined f limit s seen one_now two_now (Ask asked) one two h k = record {
 
 -- ---- all lines
 
-record AreTheSame (f : Framework) (s : ℕ) (seen : List Entry) (lines : List ScriptLine) (ones twos : List Reply)
+record AreTheSame (f : Framework) (s : ℕ) (seen : List HistoryEntry) (lines : List ScriptLine) (ones twos : List Reply)
     (one two : Stand) : Type 0 where
   entries : one.seen ≡ two.seen
   replies : AreAlike f s seen lines ones twos
 
 walks_alone : (f : Framework) (limit first second s : ℕ) (lines : List ScriptLine) (ones twos : List Reply)
-    (seen : List Entry) (from also one two : Stand) → from.seen ≡ seen → also.seen ≡ seen → AreOwn s one.seen
+    (seen : List HistoryEntry) (from also one two : Stand) → from.seen ≡ seen → also.seen ≡ seen → AreOwn s one.seen
     → AreOwn s two.seen → Walks f limit first s from lines ones one → Walks f limit second s also lines twos two
     → AreTheSame f s seen lines ones twos one two
 walks_alone f limit first second s [] [] [] seen from also one two is_from is_also own other h k = record {
@@ -227,14 +232,14 @@ walks_alone f limit first second s (line ∷ lines) (a ∷ ones) (b ∷ twos) se
     record { entries = rest.entries; replies = (here.alike, rest.replies) }
 
 -- two histories of one session alone are the same
-alone_told : (f : Framework) (limit first second s : ℕ) (lines : List ScriptLine) (history later : List Entry)
+alone_told : (f : Framework) (limit first second s : ℕ) (lines : List ScriptLine) (history later : List HistoryEntry)
     (log other_log : OracleLog) (answers others : List KeptAnswer) (ones twos : List Reply) → AreOwn s history
     → AreOwn s later
     → HasWalked f limit first s lines history log answers ones
     → HasWalked f limit second s lines later other_log others twos
     → (history ≡ later) × AreAlike f s [] lines ones twos
 alone_told f limit first second s lines history later log other_log answers others ones twos own other h k =
-    let same = walks_alone f limit first second s lines ones twos [] (at_start LOG_LIMIT) (at_start LOG_LIMIT) h.end
+    let same = walks_alone f limit first second s lines ones twos [] (at_start MAX_STEPS) (at_start MAX_STEPS) h.end
     k.end refl refl (own_first s h.end.seen history h.gained.longer own)
     (own_first s k.end.seen later k.gained.longer other) h.walks k.walks in (
       alone_same s h.end.seen history own h.gained
@@ -269,14 +274,14 @@ same_count : (lines : List ScriptLine) (count other : ℕ) → AreFirst lines �
 same_count lines count other alone are also =
     ⊎_elim (λ (none : count ≡ 0). omega (arith, none)) (one_counted lines count other alone also) are.named
 
-own_all : (count : ℕ) (entries : List Entry) → count ≤ 1
-    → All (λ (e : Entry). (0 < e.session) × (e.session ≤ count)) entries → AreOwn 1 entries
-own_all count entries few numbered = All-weaker (λ (e : Entry). (0 < e.session) × (e.session ≤ count))
-    (λ (e : Entry). e.session ≡ 1)
+own_all : (count : ℕ) (entries : List HistoryEntry) → count ≤ 1
+    → All (λ (e : HistoryEntry). (0 < e.session) × (e.session ≤ count)) entries → AreOwn 1 entries
+own_all count entries few numbered = All-weaker (λ (e : HistoryEntry). (0 < e.session) × (e.session ≤ count))
+    (λ (e : HistoryEntry). e.session ≡ 1)
     (λ e is. let low = is.0 in let high = is.1 in omega (arith, low, high, few)) entries numbered
 
-none_numbered : (count : ℕ) (entries : List Entry) → count ≡ 0
-    → All (λ (e : Entry). (0 < e.session) × (e.session ≤ count)) entries → entries ≡ []
+none_numbered : (count : ℕ) (entries : List HistoryEntry) → count ≡ 0
+    → All (λ (e : HistoryEntry). (0 < e.session) × (e.session ≤ count)) entries → entries ≡ []
 none_numbered count [] none numbered = refl
 none_numbered count (e ∷ entries) none numbered =
     let first = numbered 0 e (omega arith) in
@@ -309,7 +314,7 @@ module _ (f : Framework) (script : Script) (first second : ℕ) (one two : Scrip
         let there : 0 < also.sessions = omega (arith, same, low) in
         let left = is.served 0 none (some_kept one is.sessions is.kept low) low in
         let right = also.served 0 none (some_kept two also.sessions also.kept there) there in
-        alone_told f HISTORY_LIMIT first second 1 (lines_of 1 script.lines) (entries_in one.history.entries.items)
+        alone_told f MAX_HISTORY first second 1 (lines_of 1 script.lines) (entries_in one.history.entries.items)
         (entries_in two.history.entries.items) _ _ _ _ (slice_index_or one.replies.items 0 none)
         (slice_index_or two.replies.items 0 none)
         (own_all is.sessions (entries_in one.history.entries.items) most is.numbered)

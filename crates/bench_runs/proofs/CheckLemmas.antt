@@ -1,5 +1,6 @@
 -- How a framework is led along a history, and certificates are checked on the way.
-use Rattle.std.proofs.Common.{arith, ◌≡◌, ℕ, zero, suc, ◌+◌, ◌<◌, ◌≤◌, List, [], ◌∷◌, ◌++◌, length, get_or, take, drop, map, refl, sym, ap, subst, ◌∙◌}
+use Rattle.std.proofs.Common.{arith, ◌≡◌, ℕ, zero, suc, ◌+◌, ◌<◌, ◌≤◌, List, [], ◌∷◌, ◌++◌, length, get_or, take}
+use Rattle.std.proofs.Common.{drop, map, refl, sym, ap, subst, ◌∙◌}
 use Rattle.std.specs.Prelude.{All, ◌==◌, count_by, filter}
 use Rattle.std.specs.List.{sum_by}
 use Rattle.std.proofs.lemmas.List.Sums.{sum_by_more, sum_by_more_le}
@@ -14,7 +15,7 @@ use Rattle.semantics.specs.Frameworks.{Framework}
 use Rattle.edit_rules.specs.declared.edit.Edit.{Edit}
 use Rattle.edit_rules.specs.Replay.{after_edit, replay}
 use Rattle.edit_history.specs.declared.entry.Change.{Change}
-use Rattle.edit_history.specs.declared.entry.Entry.{Entry}
+use Rattle.edit_history.specs.declared.entry.HistoryEntry.{HistoryEntry}
 use Rattle.edit_history.specs.Entries.{entries_in, entry_of, framework_after}
 use Rattle.bench_runs.proofs.TakenLemmas.{edits_of, replay_on}
 
@@ -32,7 +33,7 @@ led_next f g h history i d lt before after =
     ∙ ap (λ e. take i (entries_in history) ++ e ∷ []) here in
     after ∙ ap (λ k. after_edit k change.effect.edit) before
     ∙ sym (ap (framework_after f) more
-    ∙ ap (replay f) (map-append (λ (e : Entry). e.edit) (take i (entries_in history)) (one ∷ []))
+    ∙ ap (replay f) (map-append (λ (e : HistoryEntry). e.edit) (take i (entries_in history)) (one ∷ []))
     ∙ replay_on f (edits_of (take i (entries_in history))) (change.effect.edit ∷ []))
 
 -- ---- replies, one by one
@@ -110,7 +111,7 @@ checked_next f history lines replies left framework next front checked rejected 
           (sym is.left) both)));
     }
 
-no_rejections : (f : Framework) (entries : List Entry) (lines : List ScriptLine) (n : ℕ)
+no_rejections : (f : Framework) (entries : List HistoryEntry) (lines : List ScriptLine) (n : ℕ)
     → (AreRejections f entries lines [] n → n ≡ 0) × (n ≡ 0 → AreRejections f entries lines [] n)
 no_rejections f entries [] n = (λ h. h, λ h. h)
 no_rejections f entries (line ∷ lines) n = (λ h. h, λ h. h)
@@ -134,7 +135,7 @@ checked_all f history lines replies left framework front checked rejected s line
           ((no_rejections f (entries_in history) (lines_of s (line ∷ left)) more).1 zero_more));
     }
 
-ended : (f : Framework) (entries : List Entry) (replies : List Reply) → AreRejections f entries [] replies 0
+ended : (f : Framework) (entries : List HistoryEntry) (replies : List Reply) → AreRejections f entries [] replies 0
 ended f entries [] = refl
 ended f entries (reply ∷ replies) = refl
 
@@ -181,14 +182,15 @@ no_line_left f history own lines replies framework front checked rejected s i al
 -- ---- sessions, one by one
 
 -- so many certificates of the sessions before the i-th were rejected, at most one for each reply
-pub record IsTotalledTo (f : Framework) (entries : List Entry) (lines : List ScriptLine) (sessions : List (List Reply))
+pub record IsTotalledTo (f : Framework) (entries : List HistoryEntry) (lines : List ScriptLine)
+    (sessions : List (List Reply))
     (i s total : ℕ) : Type 0 where
   pub session : s ≡ i + 1
   pub few : total ≤ sum_by length (take i sessions)
   pub counted : (more : ℕ) → AreRejected f entries lines s (drop i sessions) more
       → AreRejected f entries lines 1 sessions (total + more)
 
-pub total_begin : (f : Framework) (entries : List Entry) (lines : List ScriptLine) (sessions : List (List Reply))
+pub total_begin : (f : Framework) (entries : List HistoryEntry) (lines : List ScriptLine) (sessions : List (List Reply))
     → IsTotalledTo f entries lines sessions 0 1 0
 total_begin f entries lines sessions = record {
   session = omega arith;
@@ -206,7 +208,7 @@ total_fits sessions i total here item lt is before few =
     let same : length item ≡ length (get_or sessions i item) = ap length is in
     (omega (arith, most, same, before, few), omega (arith, more, same, before, few))
 
-pub total_next : (f : Framework) (entries : List Entry) (lines : List ScriptLine) (sessions : List (List Reply))
+pub total_next : (f : Framework) (entries : List HistoryEntry) (lines : List ScriptLine) (sessions : List (List Reply))
     (i s total here : ℕ) (item : List Reply) → i < length sessions → item ≡ get_or sessions i item
     → IsTotalledTo f entries lines sessions i s total → here ≤ length item
     → AreRejections f entries (lines_of s lines) item here
@@ -224,7 +226,7 @@ total_next f entries lines sessions i s total here item lt is to few found = rec
       (to.counted (here + more) (subst (λ l. AreRejected f entries lines s l (here + more)) (sym left) both));
 }
 
-pub total_end : (f : Framework) (entries : List Entry) (lines : List ScriptLine) (sessions : List (List Reply))
+pub total_end : (f : Framework) (entries : List HistoryEntry) (lines : List ScriptLine) (sessions : List (List Reply))
     (i s total : ℕ) → length sessions ≤ i → IsTotalledTo f entries lines sessions i s total
     → AreRejected f entries lines 1 sessions total
 total_end f entries lines sessions i s total all to =

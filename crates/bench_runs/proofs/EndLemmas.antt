@@ -1,5 +1,7 @@
 -- What the sessions of a large input leave: as many entries as there are edits, and the framework that there was.
-use Rattle.std.proofs.Common.{arith, Bool, true, false, ◌≡◌, ◌⊎◌, ℕ, zero, suc, ◌==◌, ◌+◌, ◌-◌, ◌*◌, ◌<◌, ◌≤◌, List, [], ◌∷◌, ◌++◌, Contains, length, get_or, map, refl, sym, ap, subst, ◌∙◌, nat_lt, inl, inr, ⊎_elim}
+use Rattle.std.proofs.Common.{arith, Bool, true, false, ◌≡◌, ◌⊎◌, ℕ, zero, suc, ◌==◌, ◌+◌, ◌-◌, ◌*◌, ◌<◌, ◌≤◌}
+use Rattle.std.proofs.Common.{List, [], ◌∷◌, ◌++◌, Contains, length, get_or, map, refl, sym, ap, subst, ◌∙◌}
+use Rattle.std.proofs.Common.{nat_lt, inl, inr, ⊎_elim}
 use Rattle.std.specs.Prelude.{All, ◌↔◌, count_by, filter, min}
 use Rattle.std.specs.List.{AllPairs, range_with_len}
 use Rattle.std.proofs.lemmas.Bool.{cases_eq, cases_lt, eq-eqb, lt-ltb, ne_eqb}
@@ -16,9 +18,9 @@ use Rattle.edit_rules.specs.declared.edit.Edit.TheVariants.{AttackAdd, AttackDro
 use Rattle.edit_rules.specs.Replay.{IsTaken, after_edit, replay}
 use Rattle.edit_rules.proofs.SameFrameworks.{same_framework}
 use Rattle.turn_lock.specs.Turns.{entries_of}
-use Rattle.edit_history.specs.declared.entry.Entry.{Entry}
+use Rattle.edit_history.specs.declared.entry.HistoryEntry.{HistoryEntry}
 use Rattle.edit_history.specs.Entries.{framework_after, session_of}
-use Rattle.script_text.specs.declared.script.Command.TheVariants.{Edit as change_by, Ask}
+use Rattle.script_text.specs.declared.script.ScriptCommand.TheVariants.{Edit as change_by, Ask}
 use Rattle.script_text.specs.declared.script.ScriptLine.{ScriptLine}
 use Rattle.session_replies.specs.declared.reply.Reply.{Reply}
 use Rattle.oracle_face.specs.Logs.{OracleLog}
@@ -31,7 +33,9 @@ use Rattle.bench_runs.proofs.Moves.{attacks_in, come, live_in, live_stays, stays
 use Rattle.bench_runs.proofs.ScriptLines.{IsBenchEdit, added_in, edit_lines, edit_place, is_edit, sessions_few}
 use Rattle.bench_runs.proofs.ListLemmas.{behind, count_all, count_swap, total_within}
 use Rattle.bench_runs.proofs.MadeLemmas.{IsEntryBefore, entries_rise, made_each}
-use Rattle.bench_runs.proofs.TakenLemmas.{IsHistoryOf, add_done, all_taken, bench_edit, bench_entry, edit_ends, edits_of, history_few, in_form, line_in, mapped, moves, no_line, no_reply, plain_after, replay_on, rise, session_at, takes_of, target}
+use Rattle.bench_runs.proofs.TakenLemmas.{IsHistoryOf, add_done, all_taken, bench_edit, bench_entry, edit_ends}
+use Rattle.bench_runs.proofs.TakenLemmas.{edits_of, history_few, in_form, line_in, mapped, moves, no_line}
+use Rattle.bench_runs.proofs.TakenLemmas.{no_reply, plain_after, replay_on, rise, session_at, takes_of, target}
 
 no_session : (s : ℕ) → 1 ≤ s → (s == 0) ≡ false
 no_session s low = ne_eqb s 0 (λ e. absurd (omega arith))
@@ -69,7 +73,7 @@ filtered_one : {X : Type 0} (p : X → Bool) (xs : List X) (x : X) (ys : List X)
 filtered_one p xs x ys pass =
     ap (filter p) (append_assoc xs (x ∷ []) ys) ∙ filter-append p xs (x ∷ ys) ∙ rw pass refl
 
-module _ (n seed limit budget sessions : ℕ) (history : List Entry) (replies : ℕ → List Reply)
+module _ (n seed limit budget sessions : ℕ) (history : List HistoryEntry) (replies : ℕ → List Reply)
     (log : ℕ → OracleLog) (answers : ℕ → List KeptAnswer)
     (is : IsHistoryOf n seed limit budget sessions history replies log answers) where
   abbrev f : Framework
@@ -149,14 +153,14 @@ module _ (n seed limit budget sessions : ℕ) (history : List Entry) (replies : 
       }
 
   -- behind the addition there is no drop
-  no_drop_behind : (k a : ℕ) (found rest : List Entry) → k < sessions
+  no_drop_behind : (k a : ℕ) (found rest : List HistoryEntry) → k < sessions
       → IsBenchEdit n seed (k + 1) (AttackAdd (first n seed a) a)
       → (found ++ entry_by (k + 1) (AttackAdd (first n seed a) a) ∷ []) ++ rest ≡ history
-      → (x : Entry) → Contains rest x → x.edit ≡ AttackDrop (first n seed a) a → ⊥
+      → (x : HistoryEntry) → Contains rest x → x.edit ≡ AttackDrop (first n seed a) a → ⊥
   no_drop_behind k a found rest below mine split x c e =
       let b = first n seed a in
       let add = entry_by (k + 1) (AttackAdd b a) in
-      let own : Entry → Bool = λ y. session_of y == k + 1 in
+      let own : HistoryEntry → Bool = λ y. session_of y == k + 1 in
       let there : Contains history x =
       subst (λ l. Contains l x) split (Contains-append_right (found ++ add ∷ []) rest x c) in
       let s : x.session ≡ k + 1 =
@@ -194,20 +198,21 @@ module _ (n seed limit budget sessions : ℕ) (history : List Entry) (replies : 
       let mine = bench_edit n seed limit budget sessions history replies log answers is at.k at.at
       (AttackAdd b a) at.inside
       at.command_is in
-      let within : (x : Entry) → Contains rest x → Contains history x = λ x c.
+      let within : (x : HistoryEntry) → Contains rest x → Contains history x = λ x c.
       subst (λ l. Contains l x) split (Contains-append_right (found ++ add ∷ []) rest x c) in
       let left : framework_after f history
       ≡ replay (after_edit (framework_after f found) (AttackAdd b a)) (edits_of rest) =
-      ap (framework_after f) (sym split) ∙ ap (replay f) (map-append (λ (e : Entry). e.edit) (found ++ add ∷ []) rest)
+      ap (framework_after f) (sym split) ∙ ap (replay f) (map-append (λ (e : HistoryEntry). e.edit) (found ++ add ∷ [])
+      rest)
       ∙ replay_on f (edits_of (found ++ add ∷ [])) (edits_of rest)
-      ∙ ap (λ l. replay (replay f l) (edits_of rest)) (map-append (λ (e : Entry). e.edit) found (add ∷ []))
+      ∙ ap (λ l. replay (replay f l) (edits_of rest)) (map-append (λ (e : HistoryEntry). e.edit) found (add ∷ []))
       ∙ ap (λ g. replay g (edits_of rest)) (replay_on f (edits_of found) (AttackAdd b a ∷ [])) in
       let h = plain_after n seed limit budget sessions history replies log answers is found in
       let there : Contains (attacks_in (after_edit (framework_after f found) (AttackAdd b a))) (b, a) =
       subst (λ g. Contains (attacks_in (after_edit g (AttackAdd b a))) (b, a)) (sym h.1)
       (come h.0 b a takes.0 (subst (λ g. IsTaken g (AttackAdd b a) takes.0) h.1 takes.1.taken)) in
       let none : Contains (edits_of rest) (AttackDrop b a) → ⊥ = λ c.
-      let dropped = mapped (λ (e : Entry). e.edit) rest (AttackDrop b a) c in
+      let dropped = mapped (λ (e : HistoryEntry). e.edit) rest (AttackDrop b a) c in
       no_drop_behind at.k a found rest at.below mine split dropped.0 dropped.1 dropped.2 in
       subst (λ g. Contains (attacks_in g) (b, a)) (sym left)
       (stays (after_edit (framework_after f found) (AttackAdd b a)) (edits_of rest) (b, a)
@@ -217,7 +222,7 @@ module _ (n seed limit budget sessions : ℕ) (history : List Entry) (replies : 
   others_alone : (p : ℕ × ℕ) → (IsFirst n seed p → ⊥) → (edit : Edit) → pair_of edit ≡ p
       → Contains (edits_of history) edit → ⊥
   others_alone p never edit e c =
-      let found = mapped (λ (e : Entry). e.edit) history edit c in
+      let found = mapped (λ (e : HistoryEntry). e.edit) history edit c in
       never (is_first n seed found.0.session found.0.edit p
       (bench_entry n seed limit budget sessions history replies log answers is found.0 found.1)
       (ap pair_of found.2 ∙ e))

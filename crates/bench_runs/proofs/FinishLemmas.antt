@@ -1,5 +1,6 @@
 -- What the closed hub's history is to the sessions that were served.
-use Rattle.std.proofs.Common.{arith, ◌≡◌, ℕ, zero, suc, ◌==◌, ◌+◌, List, [], ◌∷◌, true, false, refl, sym, ap, subst, ◌∙◌}
+use Rattle.std.proofs.Common.{arith, ◌≡◌, ℕ, zero, suc, ◌==◌, ◌+◌, List, [], ◌∷◌, true, false, refl, sym, ap}
+use Rattle.std.proofs.Common.{subst, ◌∙◌}
 use Rattle.std.specs.Prelude.{◌<◌, ◌≤◌, Result, Ok, Err, IfOk, All, Contains, length, map, take, filter, slice_index_or}
 use Rattle.std.specs.List.{AllZip, range_with_len}
 use Rattle.std.proofs.lemmas.Bool.Decides.{nat_tests}
@@ -11,7 +12,7 @@ use mathlib.Core.List.{IsPrefix}
 use Rattle.semantics.specs.Frameworks.{Framework}
 use Rattle.turn_lock.specs.Seats.{list_of, number_of}
 use Rattle.turn_lock.specs.Turns.{entries_of}
-use Rattle.edit_history.specs.declared.entry.Entry.{Entry}
+use Rattle.edit_history.specs.declared.entry.HistoryEntry.{HistoryEntry}
 use Rattle.edit_history.specs.declared.hub.Hub.{Hub}
 use Rattle.edit_history.specs.Entries.{AreDone, entries_in, session_of}
 use Rattle.edit_history.specs.Hubs.{AreSeatsOf, IsSeatAt, limit_of, sessions_of, start_of}
@@ -20,7 +21,7 @@ use Rattle.script_text.specs.declared.script.ScriptLine.{ScriptLine}
 use Rattle.session_core.specs.declared.kept.Kept.{Kept}
 use Rattle.session_core.specs.Sessions.{seen_by}
 use Rattle.session_replies.specs.declared.reply.Reply.{Reply}
-use Rattle.bench_runs.specs.declared.script_run.TheConstants.{HISTORY_LIMIT}
+use Rattle.bench_runs.specs.declared.script_run.TheConstants.{MAX_HISTORY}
 use Rattle.bench_runs.specs.declared.runner.Runner.{Runner}
 use Rattle.bench_runs.specs.declared.transcript.ScriptTranscript.{ScriptTranscript}
 use Rattle.bench_runs.specs.Finishing.{IsFinished, kept_in, number_in}
@@ -44,11 +45,11 @@ none_made : (s : ℕ) (lines : List ScriptLine) (replies : List Reply) → lines
 none_made s lines replies none = rw none refl
 
 -- entries of the session 1 alone are none where it has none
-none_left : (entries : List Entry) → All (λ e. (0 < e.session) × (e.session ≤ 1)) entries
+none_left : (entries : List HistoryEntry) → All (λ e. (0 < e.session) × (e.session ≤ 1)) entries
     → entries_of session_of 1 entries ≡ [] → entries ≡ []
 none_left entries numbered none =
-    sym (filter_whole (λ (e : Entry). session_of e == 1) entries
-    (All-weaker (λ (e : Entry). (0 < e.session) × (e.session ≤ 1)) (λ e. (session_of e == 1) ≡ true)
+    sym (filter_whole (λ (e : HistoryEntry). session_of e == 1) entries
+    (All-weaker (λ (e : HistoryEntry). (0 < e.session) × (e.session ≤ 1)) (λ e. (session_of e == 1) ≡ true)
     (λ e is. let low = is.0 in let high = is.1 in grind (arith, nat_tests)) entries numbered)) ∙ none
 
 -- ---- one session
@@ -59,7 +60,7 @@ some_runner [] k low = absurd (omega (arith, low))
 some_runner (runner ∷ more) k low = runner
 
 -- the session at an index was served, as the whole history has it
-record SeenWhole (hub : Hub) (budget : ℕ) (lines : List ScriptLine) (entries : List Entry) (r : Runner) (k : ℕ)
+record SeenWhole (hub : Hub) (budget : ℕ) (lines : List ScriptLine) (entries : List HistoryEntry) (r : Runner) (k : ℕ)
     : Type 0 where
   served : IsServed (start_of hub) (limit_of hub) budget (k + 1) (lines_of (k + 1) lines) entries r.session.engine.log
       r.session.answers.items r.replies
@@ -155,18 +156,18 @@ entries_numbered : (hub : Hub) (budget count : ℕ) (lines : List ScriptLine) (r
 entries_numbered hub budget zero lines runners t all numbers are few some least one h =
     let single = one refl in
     let entries = entries_in t.history.entries.items in
-    let numbered : All (λ (e : Entry). (0 < e.session) × (e.session ≤ 1)) entries =
-    subst (λ n. All (λ (e : Entry). (0 < e.session) × (e.session ≤ n)) entries) single h.history.numbered in
+    let numbered : All (λ (e : HistoryEntry). (0 < e.session) × (e.session ≤ 1)) entries =
+    subst (λ n. All (λ (e : HistoryEntry). (0 < e.session) × (e.session ≤ n)) entries) single h.history.numbered in
     let alone = alone_made hub budget lines runners t all numbers are single h in
     let none = none_left entries numbered alone in
-    subst (λ l. All (λ (e : Entry). (0 < e.session) × (e.session ≤ 0)) l) (sym none)
+    subst (λ l. All (λ (e : HistoryEntry). (0 < e.session) × (e.session ≤ 0)) l) (sym none)
     (λ k d low. absurd (omega (arith, low)))
 entries_numbered hub budget (suc count) lines runners t all numbers are few some least one h =
-    subst (λ n. All (λ (e : Entry). (0 < e.session) × (e.session ≤ n)) (entries_in t.history.entries.items))
+    subst (λ n. All (λ (e : HistoryEntry). (0 < e.session) × (e.session ≤ n)) (entries_in t.history.entries.items))
     (least (omega arith)) h.history.numbered
 
 pub transcript_is : (script : Script) (budget count : ℕ) (hub : Hub) (runners : List Runner) (t : ScriptTranscript)
-    (f : Framework) → start_of hub ≡ f → limit_of hub ≡ HISTORY_LIMIT → AreSessions script.lines count
+    (f : Framework) → start_of hub ≡ f → limit_of hub ≡ MAX_HISTORY → AreSessions script.lines count
     → count ≤ sessions_of hub → 0 < sessions_of hub → (0 < count → sessions_of hub ≡ count)
     → (count ≡ 0 → sessions_of hub ≡ 1) → All (HasServed hub budget script.lines) runners
     → map number_in runners ≡ range_with_len 1 (sessions_of hub) → IsFinished hub runners count t

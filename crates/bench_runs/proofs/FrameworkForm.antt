@@ -2,13 +2,14 @@
 use Rattle.std.proofs.Common.{◌≡◌, ℕ, ◌<◌, ◌≤◌, List, [], ◌∷◌, Contains, arith, refl, ap, sym, subst, inl, inr, ⊎_elim}
 use Rattle.std.specs.Prelude.{◌↔◌}
 use Rattle.std.specs.List.{range_with_len}
-use Rattle.semantics.specs.declared.argument.TheConstants.{LAST_ARGUMENT}
+use Rattle.semantics.specs.declared.argument.TheConstants.{MAX_ARGUMENT}
 use Rattle.semantics.specs.Framework.{Af}
 use Rattle.semantics.specs.Frameworks.{IsNumberedAf}
 use Rattle.dung_notions.specs.Neighbours.{AreArguments, AreBetween}
 use Rattle.lists.proofs.Membership.{Contains-cons_cases, Contains-head, Contains-nil, Contains-tail}
 use Rattle.edit_rules.proofs.RowForms.{with_attack_form, with_pair_members}
-use Rattle.bench_runs.specs.Generator.{attacker_of, attacks_drawn, attacks_on, bench_framework, first, next_state, rising, state_before}
+use Rattle.bench_runs.specs.Generator.{attacker_of, attacks_drawn, attacks_on, bench_framework, first, next_state}
+use Rattle.bench_runs.specs.Generator.{rising, state_before}
 use Rattle.bench_runs.proofs.Numbers.{for_listed, listed_for, number_from, number_in, numbers_rise}
 use Rattle.bench_runs.proofs.DrawLemmas.{attacker_within}
 
@@ -33,7 +34,7 @@ rising_form live (p ∷ ps) ok between =
     (rising_form live ps ok (λ b a c. between b a (Contains-tail p ps (b, a) c)))
     (between p.0 p.1 (Contains-head p ps (p.0, p.1) refl))
 
-pub numbers_are_arguments : (n : ℕ) → n ≤ LAST_ARGUMENT → AreArguments (range_with_len 1 n)
+pub numbers_are_arguments : (n : ℕ) → n ≤ MAX_ARGUMENT → AreArguments (range_with_len 1 n)
 numbers_are_arguments n few a c = let at = number_in n a c in record { low = at.0; high = omega (arith, at.1) }
 
 pair_between : (n b a state : ℕ) → 0 < n → Contains (range_with_len 1 n) a → b ≡ attacker_of n state
@@ -60,7 +61,7 @@ drawn_between n seed some b a c =
     (Contains-cons_cases second (third ∷ []) (b, a) d))
     (Contains-cons_cases first (second ∷ third ∷ []) (b, a) found.2)
 
-pub bench_form : (n seed : ℕ) → 0 < n → n ≤ LAST_ARGUMENT → IsNumberedAf (bench_framework n seed)
+pub bench_form : (n seed : ℕ) → 0 < n → n ≤ MAX_ARGUMENT → IsNumberedAf (bench_framework n seed)
 bench_form n seed some few =
     rising_form (range_with_len 1 n) (attacks_drawn n seed) (record {
       form = record {

@@ -1,5 +1,6 @@
 -- The entries that a session's lines made.
-use Rattle.std.proofs.Common.{arith, Bool, true, false, ◌≡◌, ◌⊎◌, ℕ, zero, suc, ◌+◌, ◌<◌, ◌≤◌, List, [], ◌∷◌, ◌++◌, Contains, length, get_or, cond, refl, sym, ap, subst, ◌∙◌, inl, inr, ⊎_elim}
+use Rattle.std.proofs.Common.{arith, Bool, true, false, ◌≡◌, ◌⊎◌, ℕ, zero, suc, ◌+◌, ◌<◌, ◌≤◌, List, [], ◌∷◌, ◌++◌}
+use Rattle.std.proofs.Common.{Contains, length, get_or, cond, refl, sym, ap, subst, ◌∙◌, inl, inr, ⊎_elim}
 use Rattle.std.specs.Prelude.{All, count_by}
 use Rattle.std.specs.List.{AllPairs, AllZip}
 use Rattle.std.proofs.lemmas.List.{length-append}
@@ -8,26 +9,30 @@ use Rattle.std.proofs.lemmas.List.Kept.{AllPairs-cons}
 use Rattle.lists.proofs.Counts.{count_by-cons}
 use Rattle.lists.proofs.Membership.{Contains-cons_cases, Contains-nil}
 use Rattle.edit_rules.specs.declared.edit.Edit.{Edit}
-use Rattle.edit_history.specs.declared.entry.Entry.{Entry}
-use Rattle.script_text.specs.declared.script.Command.{Command}
-use Rattle.script_text.specs.declared.script.Command.TheVariants.{Edit as change_by, Ask}
+use Rattle.edit_history.specs.declared.entry.HistoryEntry.{HistoryEntry}
+use Rattle.script_text.specs.declared.script.ScriptCommand.{ScriptCommand}
+use Rattle.script_text.specs.declared.script.ScriptCommand.TheVariants.{Edit as change_by, Ask}
 use Rattle.script_text.specs.declared.script.ScriptLine.{ScriptLine}
 use Rattle.session_replies.specs.declared.reply.Body.{Body}
-use Rattle.session_replies.specs.declared.reply.Body.TheVariants.{Done, EditRefused, Full, Answered, QueryRefused, Unknown, TooMany, LogFull}
+use Rattle.session_replies.specs.declared.reply.Body.TheVariants.{Done, EditRefused, Full, Answered, QueryRefused}
+use Rattle.session_replies.specs.declared.reply.Body.TheVariants.{Unknown, TooMany, LogFull}
 use Rattle.session_replies.specs.declared.reply.Reply.{Reply}
 use Rattle.bench_runs.specs.Served.{entries_made, entry_by, made_by}
 use Rattle.bench_runs.specs.Taken.{IsDone, IsTakenOn}
 use Rattle.bench_runs.proofs.ScriptLines.{IsPlacedBefore, edit_place, is_edit, place_of}
 
 -- the entry is the edit of a line, and the reply to it tells that it was taken
-pub record IsOfLine (command : Command) (body : Body) (x : Entry) : Type 0 where
+pub record IsOfLine (command : ScriptCommand) (body : Body) (x : HistoryEntry) : Type 0 where
   pub command_is : command ≡ change_by x.edit
   pub done : IsDone body
 
-made_here : (s : ℕ) (command : Command) (body : Body) (x : Entry) → Contains (made_by s command body) x
+made_here : (s : ℕ) (command : ScriptCommand) (body : Body) (x : HistoryEntry) → Contains (made_by s command body) x
     → IsOfLine command body x
 made_here s (change_by edit) (Done effect) x c =
-    ⊎_elim (λ (e : entry_by s edit ≡ x). record { command_is = ap (λ (y : Entry). change_by y.edit) e; done = tt })
+    ⊎_elim (λ (e : entry_by s edit ≡ x). record {
+      command_is = ap (λ (y : HistoryEntry). change_by y.edit) e;
+      done = tt;
+    })
     (λ none. absurd (Contains-nil x none)) (Contains-cons_cases (entry_by s edit) [] x c)
 made_here s (change_by edit) (EditRefused fault) x c = absurd (Contains-nil x c)
 made_here s (change_by edit) Full x c = absurd (Contains-nil x c)
@@ -39,12 +44,12 @@ made_here s (change_by edit) LogFull x c = absurd (Contains-nil x c)
 made_here s (Ask asked) body x c = absurd (Contains-nil x c)
 
 -- the line and the reply that an entry comes from
-pub record MadeAt (lines : List ScriptLine) (replies : List Reply) (x : Entry) : Type 0 where
+pub record MadeAt (lines : List ScriptLine) (replies : List Reply) (x : HistoryEntry) : Type 0 where
   pub at : ℕ
   pub inside : at < length lines
   pub of_line : (d : ScriptLine) (e : Reply) → IsOfLine (get_or lines at d).command (get_or replies at e).body x
 
-pub made_at : (s : ℕ) (lines : List ScriptLine) (replies : List Reply) (x : Entry)
+pub made_at : (s : ℕ) (lines : List ScriptLine) (replies : List Reply) (x : HistoryEntry)
     → Contains (entries_made s lines replies) x → MadeAt lines replies x
 made_at s [] replies x c = absurd (Contains-nil x c)
 made_at s (line ∷ lines) [] x c = absurd (Contains-nil x c)
@@ -59,11 +64,11 @@ made_at s (line ∷ lines) (reply ∷ replies) x c =
     (Contains-append_cases (made_by s line.command reply.body) (entries_made s lines replies) x c)
 
 -- the place of an entry that a line made is the line's
-abbrev pub IsEntryBefore : Entry → Entry → Type 0
+abbrev pub IsEntryBefore : HistoryEntry → HistoryEntry → Type 0
 IsEntryBefore x y = edit_place x.edit < edit_place y.edit
 
 places_on : (s : ℕ) (line : ScriptLine) (lines : List ScriptLine) (replies : List Reply)
-    → AllPairs IsPlacedBefore (line ∷ lines) → (y : Entry) → Contains (entries_made s lines replies) y
+    → AllPairs IsPlacedBefore (line ∷ lines) → (y : HistoryEntry) → Contains (entries_made s lines replies) y
     → place_of line.command < edit_place y.edit
 places_on s line lines replies rise y c =
     let made = made_at s lines replies y c in
@@ -72,8 +77,8 @@ places_on s line lines replies rise y c =
     subst (λ p. place_of line.command < place_of p)
     (made.of_line line (record { front = 0; body = Full })).command_is after
 
-made_rise : (s : ℕ) (command : Command) (body : Body) (rest : List Entry) → AllPairs IsEntryBefore rest
-    → ((y : Entry) → Contains rest y → place_of command < edit_place y.edit)
+made_rise : (s : ℕ) (command : ScriptCommand) (body : Body) (rest : List HistoryEntry) → AllPairs IsEntryBefore rest
+    → ((y : HistoryEntry) → Contains rest y → place_of command < edit_place y.edit)
     → AllPairs IsEntryBefore (made_by s command body ++ rest)
 made_rise s (change_by edit) (Done effect) rest up after =
     AllPairs-cons IsEntryBefore (entry_by s edit) rest
@@ -98,7 +103,7 @@ entries_rise s (line ∷ lines) (reply ∷ replies) rise =
 
 -- ---- how many entries lines make
 
-made_long : (s : ℕ) (command : Command) (body : Body)
+made_long : (s : ℕ) (command : ScriptCommand) (body : Body)
     → (length (made_by s command body) ≤ cond (is_edit command) 1 0)
     × (IsTakenOn command body → length (made_by s command body) ≡ cond (is_edit command) 1 0)
 made_long s (change_by edit) (Done effect) = (omega arith, λ _. refl)

@@ -8,7 +8,7 @@ use Rattle.turn_lock.specs.declared.board.Turned.{Ghosts}
 use Rattle.turn_lock.specs.declared.seat.Seat.{Seat}
 use Rattle.turn_lock.specs.Seats.{IsFresh, number_of}
 use Rattle.edit_rules.specs.declared.framework.Framework.{Framework as Held}
-use Rattle.edit_history.specs.declared.entry.Entry.{Entry}
+use Rattle.edit_history.specs.declared.entry.HistoryEntry.{HistoryEntry}
 use Rattle.edit_history.specs.declared.hub.Hub.{Hub}
 use Rattle.edit_history.specs.declared.journal.Journal.{Journal}
 use Rattle.edit_history.specs.Hubs.{AreNewSeats, sessions_of}
@@ -18,14 +18,14 @@ use Rattle.bench_runs.specs.Finishing.{number_in}
 use Rattle.bench_runs.specs.Running.{HasServed}
 
 -- these sessions are open, and these seats are left
-pub record IsOpening {g : Ghosts Journal (Held × ℕ) Entry} (hub : Hub) (runners : List Runner)
-    (left : List (Seat Journal (Held × ℕ) Entry g)) : Type 0 where
+pub record IsOpening {g : Ghosts Journal (Held × ℕ) HistoryEntry} (hub : Hub) (runners : List Runner)
+    (left : List (Seat Journal (Held × ℕ) HistoryEntry g)) : Type 0 where
   pub served : (budget : ℕ) → All (HasServed hub budget []) runners
   pub fresh : All (IsFresh opening_of hub.lock) left
   pub numbers : map number_in runners ++ map number_of left ≡ range_with_len 1 (sessions_of hub)
 
-module _ {g : Ghosts Journal (Held × ℕ) Entry} where
-  pub opening_begins : (hub : Hub) (seats : List (Seat Journal (Held × ℕ) Entry g))
+module _ {g : Ghosts Journal (Held × ℕ) HistoryEntry} where
+  pub opening_begins : (hub : Hub) (seats : List (Seat Journal (Held × ℕ) HistoryEntry g))
       → AreNewSeats hub (sessions_of hub) seats → IsOpening hub [] seats
   opening_begins hub seats are = record {
     served = λ budget k d low. absurd (omega (arith, low));
@@ -33,8 +33,9 @@ module _ {g : Ghosts Journal (Held × ℕ) Entry} where
     numbers = are.numbers;
   }
 
-  pub opening_next : (hub : Hub) (runners : List Runner) (left rest : List (Seat Journal (Held × ℕ) Entry g))
-      (seat : Seat Journal (Held × ℕ) Entry g) (runner : Runner) → left ≡ seat ∷ rest → IsOpening hub runners left
+  pub opening_next : (hub : Hub) (runners : List Runner) (left rest : List (Seat Journal (Held × ℕ) HistoryEntry g))
+      (seat : Seat Journal (Held × ℕ) HistoryEntry g) (runner : Runner) → left ≡ seat ∷ rest → IsOpening hub runners
+      left
       → ((budget : ℕ) → HasServed hub budget [] runner) → runner.session.number ≡ number_of seat
       → IsOpening hub (runners ++ runner ∷ []) rest
   opening_next hub runners left rest seat runner is h here number = record {
@@ -48,8 +49,10 @@ module _ {g : Ghosts Journal (Held × ℕ) Entry} where
   }
 
   -- the first of the seats that are left is taken
-  pub opening_taken : (hub : Hub) (runners pushed : List Runner) (left rest : List (Seat Journal (Held × ℕ) Entry g))
-      (seat : Seat Journal (Held × ℕ) Entry g) (runner : Runner) → 0 < length left → seat ≡ slice_index_or left 0 seat
+  pub opening_taken : (hub : Hub) (runners pushed : List Runner)
+      (left rest : List (Seat Journal (Held × ℕ) HistoryEntry g))
+      (seat : Seat Journal (Held × ℕ) HistoryEntry g) (runner : Runner) → 0 < length left → seat ≡ slice_index_or left 0
+      seat
       → rest ≡ take 0 left ++ drop 1 left → pushed ≡ runners ++ runner ∷ [] → IsOpening hub runners left
       → ((budget : ℕ) → HasServed hub budget [] runner) → runner.session.number ≡ number_of seat
       → IsOpening hub pushed rest
@@ -58,7 +61,7 @@ module _ {g : Ghosts Journal (Held × ℕ) Entry} where
   opening_taken hub runners pushed (x ∷ left) rest seat runner some first others added h here number =
       rw (added, others) (opening_next hub runners (x ∷ left) left x runner refl h here (number ∙ ap number_of first))
 
-  pub opening_ends : (hub : Hub) (runners : List Runner) (left : List (Seat Journal (Held × ℕ) Entry g))
+  pub opening_ends : (hub : Hub) (runners : List Runner) (left : List (Seat Journal (Held × ℕ) HistoryEntry g))
       → left ≡ [] → IsOpening hub runners left → map number_in runners ≡ range_with_len 1 (sessions_of hub)
   opening_ends hub runners left none h =
       sym (append-nil (map number_in runners))

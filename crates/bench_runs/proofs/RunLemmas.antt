@@ -1,5 +1,6 @@
 -- What is counted of any run of a large input, and that it may be counted.
-use Rattle.std.proofs.Common.{arith, Result, Ok, Err, IfOk, ◌≡◌, ℕ, zero, suc, ◌+◌, ◌*◌, ◌^◌, ◌<◌, ◌≤◌, List, [], ◌∷◌, Contains, length, get_or, refl, sym, ap, subst, ◌∙◌, ⊎_elim}
+use Rattle.std.proofs.Common.{arith, Result, Ok, Err, IfOk, ◌≡◌, ℕ, zero, suc, ◌+◌, ◌*◌, ◌^◌, ◌<◌, ◌≤◌, List, []}
+use Rattle.std.proofs.Common.{◌∷◌, Contains, length, get_or, refl, sym, ap, subst, ◌∙◌, ⊎_elim}
 use Rattle.std.specs.Prelude.{All, ◌⊎◌, ◌==◌, count_by, filter, min}
 use Rattle.std.specs.List.{AllZip, range_with_len, sum_by}
 use Rattle.std.proofs.lemmas.List.{get_or_default, length-map}
@@ -12,20 +13,20 @@ use Rattle.iccma_tasks.specs.declared.task.Semantics.TheVariants.{Grounded}
 use Rattle.edit_rules.specs.Kinds.{framework_of}
 use Rattle.edit_history.specs.declared.entry.Change.{Change}
 use Rattle.edit_history.specs.Entries.{entries_in, entry_of, framework_after}
-use Rattle.script_text.specs.declared.script.Command.TheVariants.{Edit as change_by}
+use Rattle.script_text.specs.declared.script.ScriptCommand.TheVariants.{Edit as change_by}
 use Rattle.script_text.specs.declared.script.Script.{Script}
 use Rattle.script_text.specs.declared.script.ScriptLine.{ScriptLine}
-use Rattle.script_text.specs.declared.script.TheConstants.{MOST_SESSIONS}
+use Rattle.script_text.specs.declared.script.TheConstants.{MAX_SESSIONS}
 use Rattle.edit_rules.specs.declared.edit.Edit.TheVariants.{AttackDrop}
 use Rattle.bench_runs.specs.session_core.specs.declared.kept.Kept.{Kept}
 use Rattle.session_replies.specs.declared.reply.Reply.{Reply}
 use Rattle.bench_runs.specs.Served.{FrontsRise, LineEnds, lines_of}
 use Rattle.bench_runs.specs.Transcripts.{AreSessions, IsTranscriptOf}
-use Rattle.bench_runs.specs.declared.script_run.TheConstants.{HISTORY_LIMIT}
+use Rattle.bench_runs.specs.declared.script_run.TheConstants.{MAX_HISTORY}
 use Rattle.bench_runs.specs.declared.transcript.ScriptTranscript.{ScriptTranscript}
 use Rattle.bench_runs.specs.Generator.{bench_framework, first}
 use Rattle.bench_runs.specs.Scripts.{asked_about, bench_script, line_for}
-use Rattle.bench_runs.specs.declared.input.TheConstants.{MOST_ARGUMENTS}
+use Rattle.bench_runs.specs.declared.input.TheConstants.{MAX_ARGUMENTS}
 use Rattle.bench_runs.proofs.ScriptLines.{dropped_in, script_long, sessions_few}
 use Rattle.bench_runs.specs.declared.counts.Counts.{Counts}
 use Rattle.bench_runs.specs.declared.run.BenchRun.{BenchRun}
@@ -59,11 +60,11 @@ at_most lines count are each =
 -- what the counting of a transcript needs to know of it
 pub record MayCount (history : List Change) (sessions : List (List Reply)) : Type 0 where
   pub rise : All (λ replies. FrontsRise 0 replies (length history)) sessions
-  pub few : length sessions ≤ MOST_SESSIONS
+  pub few : length sessions ≤ MAX_SESSIONS
   pub short : sum_by length sessions < 2 ^ 32
   pub queries : queries_told sessions < 2 ^ 32
 
-module _ (n seed budget : ℕ) (t : ScriptTranscript) (some : 1 ≤ n) (few : n ≤ MOST_ARGUMENTS)
+module _ (n seed budget : ℕ) (t : ScriptTranscript) (some : 1 ≤ n) (few : n ≤ MAX_ARGUMENTS)
     (is : IsTranscriptOf (af (bench_framework n seed)) (bench_script n seed) budget t) where
   abbrev history : List Change
   history = t.history.entries.items
@@ -79,7 +80,7 @@ module _ (n seed budget : ℕ) (t : ScriptTranscript) (some : 1 ≤ n) (few : n 
   abbrev nothing : Kept
   nothing = some_item t.kept.items (omega (arith, some_session, is.kept))
 
-  served : IsHistoryOf n seed HISTORY_LIMIT budget is.sessions (entries_in history) (λ k. get_or t.replies.items k [])
+  served : IsHistoryOf n seed MAX_HISTORY budget is.sessions (entries_in history) (λ k. get_or t.replies.items k [])
       (λ k. (get_or t.kept.items k nothing).engine.log) (λ k. (get_or t.kept.items k nothing).answers.items)
   served = record {
     some = omega arith;
@@ -99,7 +100,7 @@ module _ (n seed budget : ℕ) (t : ScriptTranscript) (some : 1 ≤ n) (few : n 
       let log = (get_or t.kept.items k nothing).engine.log in
       let answers = (get_or t.kept.items k nothing).answers.items in
       let lines = lines_of (k + 1) (bench_script n seed).lines in
-      let told = zip_long (LineEnds (af (bench_framework n seed)) HISTORY_LIMIT budget (k + 1)
+      let told = zip_long (LineEnds (af (bench_framework n seed)) MAX_HISTORY budget (k + 1)
       (entries_in history) log answers)
       lines (get_or t.replies.items k []) (is.served k [] nothing lt).each in
       let own = length-filter (λ (l : ScriptLine). l.session == k + 1) (bench_script n seed).lines in
@@ -111,7 +112,7 @@ module _ (n seed budget : ℕ) (t : ScriptTranscript) (some : 1 ≤ n) (few : n 
   may_count =
       let long = is.replies in
       let size = length-map history entry_of in
-      let queries = queries_long n seed HISTORY_LIMIT budget is.sessions (entries_in history) t.replies.items
+      let queries = queries_long n seed MAX_HISTORY budget is.sessions (entries_in history) t.replies.items
       (λ k. (get_or t.kept.items k nothing).engine.log) (λ k. (get_or t.kept.items k nothing).answers.items) is.replies
       served in
       let four = few_sessions in
@@ -135,13 +136,15 @@ module _ (n seed budget : ℕ) (t : ScriptTranscript) (some : 1 ≤ n) (few : n 
         taken = λ k none lt.
             subst (λ replies. AllZip (λ line reply. IsTakenOn line.command reply.body)
             (lines_of (k + 1) (bench_script n seed).lines) replies) (get_or_default t.replies.items k [] none lt)
-            (all_taken n seed HISTORY_LIMIT budget is.sessions (entries_in history) (λ k. get_or t.replies.items k [])
-            (λ k. (get_or t.kept.items k nothing).engine.log) (λ k. (get_or t.kept.items k nothing).answers.items) served k
+            (all_taken n seed MAX_HISTORY budget is.sessions (entries_in history) (λ k. get_or t.replies.items k [])
+            (λ k. (get_or t.kept.items k nothing).engine.log) (λ k. (get_or t.kept.items k nothing).answers.items)
+            served k
             (omega (arith, long, lt)));
         entries = sym (length-map history entry_of)
-            ∙ history_long n seed HISTORY_LIMIT budget is.sessions (entries_in history) (λ k. get_or t.replies.items k [])
-            (λ k. (get_or t.kept.items k nothing).engine.log) (λ k. (get_or t.kept.items k nothing).answers.items) served;
-        same = same_at_end n seed HISTORY_LIMIT budget is.sessions (entries_in history)
+            ∙ history_long n seed MAX_HISTORY budget is.sessions (entries_in history) (λ k. get_or t.replies.items k [])
+            (λ k. (get_or t.kept.items k nothing).engine.log) (λ k. (get_or t.kept.items k nothing).answers.items)
+            served;
+        same = same_at_end n seed MAX_HISTORY budget is.sessions (entries_in history)
             (λ k. get_or t.replies.items k []) (λ k. (get_or t.kept.items k nothing).engine.log)
             (λ k. (get_or t.kept.items k nothing).answers.items) served;
       }
@@ -154,11 +157,11 @@ module _ (n seed budget : ℕ) (t : ScriptTranscript) (some : 1 ≤ n) (few : n 
       let edits : counts.edits ≡ 2 * asked_about n = are.edits ∙ all_undisturbed.entries in
       let queries : counts.queries ≡ 2 * asked_about n =
       are.queries
-      ∙ queries_long n seed HISTORY_LIMIT budget is.sessions (entries_in history) t.replies.items
+      ∙ queries_long n seed MAX_HISTORY budget is.sessions (entries_in history) t.replies.items
       (λ k. (get_or t.kept.items k nothing).engine.log) (λ k. (get_or t.kept.items k nothing).answers.items) is.replies
       served in
       let rejected : counts.rejected ≡ 0 =
-      rejected_none n seed HISTORY_LIMIT budget is.sessions (entries_in history) t.replies.items
+      rejected_none n seed MAX_HISTORY budget is.sessions (entries_in history) t.replies.items
       (λ k. (get_or t.kept.items k nothing).engine.log) (λ k. (get_or t.kept.items k nothing).answers.items) is.replies
       served counts.rejected are.rejected in
       let grounded : counts.grounded ≡ 0 =
@@ -177,17 +180,17 @@ module _ (n seed budget : ℕ) (t : ScriptTranscript) (some : 1 ≤ n) (few : n 
 pub undisturbed : EditsAreTaken
 undisturbed n seed budget t some few is = all_undisturbed n seed budget t some few is
 
-run_counts : (n seed : ℕ) → 1 ≤ n → n ≤ MOST_ARGUMENTS → (run : BenchRun) → IsBenchRun n seed run
+run_counts : (n seed : ℕ) → 1 ≤ n → n ≤ MAX_ARGUMENTS → (run : BenchRun) → IsBenchRun n seed run
     → run.counts ≡ bench_counts n seed
 run_counts n seed some few run is = counts_are n seed BENCH_BUDGET run.transcript some few is.transcript run.counts
     is.counts
 
-pub counts_told : {E : Type 0} (n seed : ℕ) (r : Result BenchRun E) → 1 ≤ n → n ≤ MOST_ARGUMENTS
+pub counts_told : {E : Type 0} (n seed : ℕ) (r : Result BenchRun E) → 1 ≤ n → n ≤ MAX_ARGUMENTS
     → IfOk r (IsBenchRun n seed) → IfOk r (λ run. run.counts ≡ bench_counts n seed)
 counts_told n seed (Ok run) some few is = run_counts n seed some few run is
 counts_told n seed (Err e) some few is = is
 
-pub summary_told : {E : Type 0} (n seed : ℕ) (r : Result BenchRun E) → 1 ≤ n → n ≤ MOST_ARGUMENTS
+pub summary_told : {E : Type 0} (n seed : ℕ) (r : Result BenchRun E) → 1 ≤ n → n ≤ MAX_ARGUMENTS
     → IfOk r (IsBenchRun n seed) → IfOk r (λ run. run.summary ≡ summary n seed)
 summary_told n seed (Ok run) some few is = is.text ∙ ap counts_text (run_counts n seed some few run is)
 summary_told n seed (Err e) some few is = is
@@ -208,7 +211,8 @@ pub all_counted : (f : Af) (script : Script) (t : ScriptTranscript) (opening : A
       rejected = rejected;
       grounded = grounded;
     })
-all_counted f script t opening history lines replies arguments attacks edits queries rejected grounded is_f is_h is_l is_r
+all_counted f script t opening history lines replies arguments attacks edits queries rejected grounded is_f is_h is_l
+    is_r
     lives attack long told checked size = record {
       arguments = lives f is_f;
       attacks = attack f is_f;

@@ -1,5 +1,6 @@
 -- The lines of a large input's script: which there are, and that no edit stands twice.
-use Rattle.std.proofs.Common.{Bool, true, false, ◌≡◌, ◌⊎◌, ℕ, zero, suc, ◌+◌, ◌-◌, ◌*◌, ◌<◌, ◌≤◌, List, ◌∷◌, Contains, length, get_or, arith, refl, subst, ◌∙◌, inl, inr, Option, Some}
+use Rattle.std.proofs.Common.{Bool, true, false, ◌≡◌, ◌⊎◌, ℕ, zero, suc, ◌+◌, ◌-◌, ◌*◌, ◌<◌, ◌≤◌, List, ◌∷◌}
+use Rattle.std.proofs.Common.{Contains, length, get_or, arith, refl, subst, ◌∙◌, inl, inr, Option, Some}
 use Rattle.std.specs.Prelude.{All, count_by}
 use Rattle.std.specs.List.{AllPairs, flat_map, range_with_len}
 use Rattle.std.proofs.Math.Nat.{mod-lt}
@@ -14,8 +15,8 @@ use Rattle.iccma_tasks.specs.declared.task.Problem.TheVariants.{Credulous, Scept
 use Rattle.iccma_tasks.specs.declared.task.Semantics.TheVariants.{Complete, Preferred}
 use Rattle.edit_rules.specs.declared.edit.Edit.{Edit}
 use Rattle.edit_rules.specs.declared.edit.Edit.TheVariants.{AttackAdd, AttackDrop}
-use Rattle.script_text.specs.declared.script.Command.{Command}
-use Rattle.script_text.specs.declared.script.Command.TheVariants.{Edit as change_by, Ask}
+use Rattle.script_text.specs.declared.script.ScriptCommand.{ScriptCommand}
+use Rattle.script_text.specs.declared.script.ScriptCommand.TheVariants.{Edit as change_by, Ask}
 use Rattle.script_text.specs.declared.script.ScriptLine.{ScriptLine}
 use Rattle.bench_runs.specs.Generator.{first}
 use Rattle.bench_runs.specs.Scripts.{asked_about, asked_of, bench_script, line_for, lines_by, lines_for, session_for}
@@ -36,7 +37,7 @@ edit_place (AttackAdd b a) = 4 * a + 2
 edit_place edit = 0
 
 -- each line has a place of its own, and they rise along the script
-abbrev pub place_of : Command → ℕ
+abbrev pub place_of : ScriptCommand → ℕ
 place_of (change_by edit) = edit_place edit
 place_of (Ask asked) = asked_place asked.task.problem asked.number
 
@@ -118,7 +119,7 @@ pub record IsBenchEdit (n seed session : ℕ) (edit : Edit) : Type 0 where
   pub edit_is : (edit ≡ AttackDrop (first n seed about) about) ⊎ (edit ≡ AttackAdd (first n seed about) about)
 
 -- where the command is an edit, it is one of those
-abbrev IfEdit : ℕ → ℕ → ScriptLine → Command → Type 0
+abbrev IfEdit : ℕ → ℕ → ScriptLine → ScriptCommand → Type 0
 IfEdit n seed line (change_by edit) = IsBenchEdit n seed line.session edit
 IfEdit n seed line (Ask asked) = Unit {0}
 
@@ -153,11 +154,11 @@ added_in n seed a low high =
 
 -- ---- how many lines there are
 
-abbrev pub is_edit : Command → Bool
+abbrev pub is_edit : ScriptCommand → Bool
 is_edit (change_by edit) = true
 is_edit (Ask asked) = false
 
-abbrev pub is_ask : Command → Bool
+abbrev pub is_ask : ScriptCommand → Bool
 is_ask (change_by edit) = false
 is_ask (Ask asked) = true
 

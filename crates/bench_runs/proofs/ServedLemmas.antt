@@ -1,5 +1,6 @@
 -- How the replies of a session come together, line by line, and what follows of its way through its lines.
-use Rattle.std.proofs.Common.{arith, Bool, ◌≡◌, ℕ, ◌==◌, ◌+◌, List, [], ◌∷◌, ◌++◌, true, false, refl, sym, ap, subst, ◌∙◌}
+use Rattle.std.proofs.Common.{arith, Bool, ◌≡◌, ℕ, ◌==◌, ◌+◌, List, [], ◌∷◌, ◌++◌, true, false, refl, sym, ap}
+use Rattle.std.proofs.Common.{subst, ◌∙◌}
 use Rattle.std.specs.Prelude.{◌≢◌, ◌≤◌, length, filter, Contains}
 use Rattle.std.specs.List.{AllZip}
 use Rattle.std.proofs.lemmas.List.{append-nil, append_assoc, length-append}
@@ -8,22 +9,24 @@ use Rattle.std.proofs.lemmas.List.Elements.{filter-append}
 use mathlib.Core.List.{IsPrefix}
 use Rattle.semantics.specs.Frameworks.{Framework}
 use Rattle.turn_lock.specs.Turns.{entries_of}
-use Rattle.edit_history.specs.declared.entry.Entry.{Entry}
+use Rattle.edit_history.specs.declared.entry.HistoryEntry.{HistoryEntry}
 use Rattle.edit_history.specs.Entries.{session_of}
 use Rattle.edit_rules.specs.declared.edit.Edit.{Edit}
 use Rattle.session_core.specs.oracle_core.specs.Trading.{AnySide}
 use Rattle.oracle_face.proofs.GrowingLemmas.{grows_joined, grows_same}
 use Rattle.oracle_face.specs.Growing.{Grows}
 use Rattle.oracle_face.specs.Logs.{OracleLog}
-use Rattle.script_text.specs.declared.script.Command.{Command}
-use Rattle.script_text.specs.declared.script.Command.TheVariants.{Edit as change_by, Ask}
+use Rattle.script_text.specs.declared.script.ScriptCommand.{ScriptCommand}
+use Rattle.script_text.specs.declared.script.ScriptCommand.TheVariants.{Edit as change_by, Ask}
 use Rattle.script_text.specs.declared.script.ScriptLine.{ScriptLine}
 use Rattle.session_core.specs.declared.kept.KeptAnswer.{KeptAnswer}
 use Rattle.session_replies.specs.declared.reply.Body.{Body}
-use Rattle.session_replies.specs.declared.reply.Body.TheVariants.{Done, EditRefused, Full, Answered, QueryRefused, Unknown, TooMany, LogFull}
+use Rattle.session_replies.specs.declared.reply.Body.TheVariants.{Done, EditRefused, Full, Answered, QueryRefused}
+use Rattle.session_replies.specs.declared.reply.Body.TheVariants.{Unknown, TooMany, LogFull}
 use Rattle.session_replies.specs.declared.reply.Reply.{Reply}
 use Rattle.bench_runs.specs.Running.{GoesOn}
-use Rattle.bench_runs.specs.Served.{CommandEnds, EditEnds, FrontsRise, IsFront, LineEnds, entries_made, entry_by, lines_of, made_by}
+use Rattle.bench_runs.specs.Served.{CommandEnds, EditEnds, FrontsRise, IsFront, LineEnds, entries_made, entry_by}
+use Rattle.bench_runs.specs.Served.{lines_of, made_by}
 use Rattle.bench_runs.specs.Walks.{DoesCommand, Stand, Walks}
 
 -- ---- lists
@@ -53,12 +56,12 @@ filter_one p x holds = rw holds refl
 pub goes_on : (a b c : OracleLog) → Grows AnySide a b → Grows AnySide b c → Grows AnySide a c
 goes_on a b c h k = grows_joined AnySide AnySide AnySide a b c (λ literals set made. tt) (λ literals set made. tt) h k
 
-front_on : (history more found : List Entry) (front : ℕ) → IsPrefix history more → IsFront history found front
+front_on : (history more found : List HistoryEntry) (front : ℕ) → IsPrefix history more → IsFront history found front
     → IsFront more found front
 front_on history more found front longer at =
     record { beginning = prefix_on found history more at.beginning longer; counts = at.counts }
 
-edit_ends_on : (f : Framework) (limit s : ℕ) (history more : List Entry) (edit : Edit) (front : ℕ) (body : Body)
+edit_ends_on : (f : Framework) (limit s : ℕ) (history more : List HistoryEntry) (edit : Edit) (front : ℕ) (body : Body)
     → IsPrefix history more → EditEnds f limit s history edit front body → EditEnds f limit s more edit front body
 edit_ends_on f limit s history more edit front (Done effect) longer h = record {
   found = h.found;
@@ -80,8 +83,8 @@ edit_ends_on f limit s history more edit front (Unknown count) longer h = absurd
 edit_ends_on f limit s history more edit front TooMany longer h = absurd h
 edit_ends_on f limit s history more edit front LogFull longer h = absurd h
 
-pub ends_on : (f : Framework) (limit budget s : ℕ) (history more : List Entry) (log grown : OracleLog)
-    (answers kept : List KeptAnswer) (command : Command) (front : ℕ) (body : Body)
+pub ends_on : (f : Framework) (limit budget s : ℕ) (history more : List HistoryEntry) (log grown : OracleLog)
+    (answers kept : List KeptAnswer) (command : ScriptCommand) (front : ℕ) (body : Body)
     → GoesOn history more log grown answers kept → CommandEnds f limit budget s history log answers command front body
     → CommandEnds f limit budget s more grown kept command front body
 ends_on f limit budget s history more log grown answers kept (change_by edit) front body on h =
@@ -144,7 +147,7 @@ walks_push f limit budget s old mid new (other ∷ lines) (told ∷ replies) lin
     (h.0, h.1, walks_push f limit budget s h.0 mid new lines replies line reply h.2 does)
 
 -- what was done at a line
-pub record IsDoneAt (f : Framework) (limit budget s : ℕ) (command : Command) (old : Stand) (reply : Reply)
+pub record IsDoneAt (f : Framework) (limit budget s : ℕ) (command : ScriptCommand) (old : Stand) (reply : Reply)
     (new : Stand) : Type 0 where
   pub on : GoesOn old.seen new.seen old.log new.log old.answers new.answers
   pub front : reply.front ≡ length new.seen

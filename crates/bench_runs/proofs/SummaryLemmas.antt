@@ -1,5 +1,7 @@
 -- What is counted of a run of a large input.
-use Rattle.std.proofs.Common.{arith, Bool, true, false, ◌≡◌, ◌⊎◌, ℕ, zero, suc, ◌==◌, ◌+◌, ◌-◌, ◌*◌, ◌<◌, ◌≤◌, List, [], ◌∷◌, ◌++◌, Contains, length, get_or, take, map, refl, sym, ap, subst, ◌∙◌, nat_lt, inl, inr, ⊎_elim}
+use Rattle.std.proofs.Common.{arith, Bool, true, false, ◌≡◌, ◌⊎◌, ℕ, zero, suc, ◌==◌, ◌+◌, ◌-◌, ◌*◌, ◌<◌, ◌≤◌}
+use Rattle.std.proofs.Common.{List, [], ◌∷◌, ◌++◌, Contains, length, get_or, take, map, refl, sym, ap, subst, ◌∙◌}
+use Rattle.std.proofs.Common.{nat_lt, inl, inr, ⊎_elim}
 use Rattle.std.specs.Prelude.{All, ◌↔◌, cond, count_by, filter, min}
 use Rattle.std.specs.List.{AllZip, sum_by}
 use Rattle.std.proofs.lemmas.Bool.Decides.{nat_tests}
@@ -11,20 +13,21 @@ use mathlib.Core.List.{IsPrefix}
 use Rattle.lists.proofs.Counts.{count_by-cons, none_counted}
 use Rattle.lists.proofs.Filters.{Contains-filter}
 use Rattle.lists.proofs.Membership.{Contains-head, Contains-nil}
-use Rattle.semantics.specs.declared.argument.TheConstants.{LAST_ARGUMENT}
+use Rattle.semantics.specs.declared.argument.TheConstants.{MAX_ARGUMENT}
 use Rattle.semantics.specs.Framework.{Af, IsComplete, IsGrounded}
 use Rattle.semantics.specs.Frameworks.{Framework, af, aba}
 use Rattle.certificate_claims.specs.declared.verdict.Verdict.{Verdict}
 use Rattle.certificate_claims.specs.declared.verdict.Verdict.TheVariants.{Accepted, Rejected}
 use Rattle.certificate_claims.specs.Verdicts.{IsVerdict}
 use Rattle.certificate_claims.proofs.Verdicts.{accepted_is_verdict, one_verdict}
-use Rattle.edit_history.specs.declared.entry.Entry.{Entry}
+use Rattle.edit_history.specs.declared.entry.HistoryEntry.{HistoryEntry}
 use Rattle.edit_history.specs.Entries.{framework_after}
-use Rattle.script_text.specs.declared.script.Command.{Command}
-use Rattle.script_text.specs.declared.script.Command.TheVariants.{Edit as change_by, Ask}
+use Rattle.script_text.specs.declared.script.ScriptCommand.{ScriptCommand}
+use Rattle.script_text.specs.declared.script.ScriptCommand.TheVariants.{Edit as change_by, Ask}
 use Rattle.script_text.specs.declared.script.ScriptLine.{ScriptLine}
 use Rattle.session_replies.specs.declared.reply.Body.{Body}
-use Rattle.session_replies.specs.declared.reply.Body.TheVariants.{Done, EditRefused, Full, Answered, QueryRefused, Unknown, TooMany, LogFull}
+use Rattle.session_replies.specs.declared.reply.Body.TheVariants.{Done, EditRefused, Full, Answered, QueryRefused}
+use Rattle.session_replies.specs.declared.reply.Body.TheVariants.{Unknown, TooMany, LogFull}
 use Rattle.session_replies.specs.declared.reply.Reply.{Reply}
 use Rattle.oracle_face.specs.Logs.{OracleLog}
 use Rattle.bench_runs.specs.session_core.specs.declared.kept.KeptAnswer.{KeptAnswer}
@@ -41,8 +44,10 @@ use Rattle.bench_runs.proofs.TakenLemmas.{IsHistoryOf}
 -- ---- queries
 
 -- the reply to a query is told as one
-asked_one : (f : Framework) (limit budget s : ℕ) (history : List Entry) (log : OracleLog) (answers : List KeptAnswer)
-    (command : Command) (front : ℕ) (body : Body) → CommandEnds f limit budget s history log answers command front body
+asked_one : (f : Framework) (limit budget s : ℕ) (history : List HistoryEntry) (log : OracleLog)
+    (answers : List KeptAnswer)
+    (command : ScriptCommand) (front : ℕ) (body : Body) → CommandEnds f limit budget s history log answers command front
+    body
     → is_told_query body ≡ is_ask command
 asked_one f limit budget s history log answers (change_by edit) front (Done effect) h = refl
 asked_one f limit budget s history log answers (change_by edit) front (EditRefused fault) h = refl
@@ -80,14 +85,14 @@ take_next (suc k) (x ∷ xs) d lt = ap (λ l. x ∷ l) (take_next k xs d (omega 
 
 -- ---- certificates
 
-front_is : (history found : List Entry) (front : ℕ) → IsPrefix found history → front ≡ length found
+front_is : (history found : List HistoryEntry) (front : ℕ) → IsPrefix found history → front ≡ length found
     → take front history ≡ found
 front_is history found front one e =
     ap (take front) (sym one.1) ∙ take-append-le front found one.0 (omega arith) ∙ take_all front found (omega arith)
 
-none_rejected : (f : Framework) (limit budget s : ℕ) (history : List Entry) (log : OracleLog)
+none_rejected : (f : Framework) (limit budget s : ℕ) (history : List HistoryEntry) (log : OracleLog)
     (answers : List KeptAnswer)
-    (command : Command) (front : ℕ) (body : Body) (count : ℕ)
+    (command : ScriptCommand) (front : ℕ) (body : Body) (count : ℕ)
     → CommandEnds f limit budget s history log answers command front body
     → IsRejection (framework_after f (take front history)) command body count → count ≡ 0
 none_rejected f limit budget s history log answers (change_by edit) front body count h is = is
@@ -106,7 +111,7 @@ none_rejected f limit budget s history log answers (Ask asked) front (Unknown n)
 none_rejected f limit budget s history log answers (Ask asked) front TooMany count h is = is
 none_rejected f limit budget s history log answers (Ask asked) front LogFull count h is = is
 
-none_of_lines : (f : Framework) (limit budget s : ℕ) (history : List Entry) (log : OracleLog)
+none_of_lines : (f : Framework) (limit budget s : ℕ) (history : List HistoryEntry) (log : OracleLog)
     (answers : List KeptAnswer) (lines : List ScriptLine) (replies : List Reply) (count : ℕ)
     → AllZip (LineEnds f limit budget s history log answers) lines replies
     → AreRejections f history lines replies count → count ≡ 0
@@ -120,7 +125,8 @@ none_of_lines f limit budget s history log answers (line ∷ lines) (reply ∷ r
     let sum = are.4 in
     omega arith
 
-none_of_sessions : (f : Framework) (history : List Entry) (lines : List ScriptLine) (s : ℕ) (lists : List (List Reply))
+none_of_sessions : (f : Framework) (history : List HistoryEntry) (lines : List ScriptLine) (s : ℕ)
+    (lists : List (List Reply))
     (count : ℕ)
     → ((k c : ℕ) → k < length lists → AreRejections f history (lines_of (s + k) lines) (get_or lists k []) c → c ≡ 0)
     → AreRejected f history lines s lists count → count ≡ 0
@@ -164,7 +170,7 @@ none_grounded n seed set is =
 
 -- ---- all sessions
 
-module _ (n seed limit budget sessions : ℕ) (history : List Entry) (lists : List (List Reply))
+module _ (n seed limit budget sessions : ℕ) (history : List HistoryEntry) (lists : List (List Reply))
     (log : ℕ → OracleLog) (answers : ℕ → List KeptAnswer) (long : length lists ≡ sessions)
     (is : IsHistoryOf n seed limit budget sessions history (λ k. get_or lists k []) log answers) where
   abbrev f : Framework

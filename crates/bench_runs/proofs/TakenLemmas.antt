@@ -1,5 +1,7 @@
 -- On a large input no edit of the script is refused, in whatever order the sessions take their turns.
-use Rattle.std.proofs.Common.{arith, Bool, true, false, Err, ◌≡◌, ◌⊎◌, ℕ, zero, suc, ◌==◌, ◌+◌, ◌-◌, ◌*◌, ◌<◌, ◌≤◌, List, [], ◌∷◌, ◌++◌, Contains, length, get_or, map, refl, sym, ap, subst, ◌∙◌, nat_lt, inl, inr, ⊎_elim}
+use Rattle.std.proofs.Common.{arith, Bool, true, false, Err, ◌≡◌, ◌⊎◌, ℕ, zero, suc, ◌==◌, ◌+◌, ◌-◌, ◌*◌, ◌<◌, ◌≤◌}
+use Rattle.std.proofs.Common.{List, [], ◌∷◌, ◌++◌, Contains, length, get_or, map, refl, sym, ap, subst, ◌∙◌}
+use Rattle.std.proofs.Common.{nat_lt, inl, inr, ⊎_elim}
 use Rattle.std.specs.Prelude.{All, count_by, filter, min}
 use Rattle.std.specs.List.{AllPairs, AllZip}
 use Rattle.std.proofs.lemmas.Bool.{cases_lt, eq-eqb, eqb-true, lt-ltb, ne_eqb}
@@ -11,13 +13,14 @@ use mathlib.Core.List.{IsPrefix}
 use Rattle.lists.proofs.Counts.{none_counted}
 use Rattle.lists.proofs.Filters.{Contains-filter}
 use Rattle.lists.proofs.Membership.{Contains-cons_cases, Contains-head, Contains-nil, Contains-tail}
-use Rattle.semantics.specs.declared.argument.TheConstants.{LAST_ARGUMENT}
+use Rattle.semantics.specs.declared.argument.TheConstants.{MAX_ARGUMENT}
 use Rattle.semantics.specs.Framework.{Af}
 use Rattle.semantics.specs.Frameworks.{Framework, af, aba, IsNumbered, IsNumberedAf}
 use Rattle.iccma_tasks.specs.declared.task.Kind.{Kind}
 use Rattle.iccma_tasks.specs.declared.task.Kind.TheVariants.{Af as OfAf, Aba as OfAba}
 use Rattle.edit_rules.specs.declared.edit.Edit.{Edit}
-use Rattle.edit_rules.specs.declared.edit.Edit.TheVariants.{ArgAdd, ArgDrop, AttackAdd, AttackDrop, AsmAdd, AsmDrop, ConSet, RuleAdd, RuleDrop}
+use Rattle.edit_rules.specs.declared.edit.Edit.TheVariants.{ArgAdd, ArgDrop, AttackAdd, AttackDrop, AsmAdd}
+use Rattle.edit_rules.specs.declared.edit.Edit.TheVariants.{AsmDrop, ConSet, RuleAdd, RuleDrop}
 use Rattle.edit_rules.specs.declared.effect.Effect.{Effect}
 use Rattle.edit_rules.specs.declared.effect.EditFault.{EditFault}
 use Rattle.edit_rules.specs.Edits.{edit_outcome}
@@ -25,23 +28,27 @@ use Rattle.edit_rules.specs.Kinds.{kind_of}
 use Rattle.edit_rules.specs.Replay.{IsTaken, after_edit, replay}
 use Rattle.edit_rules.proofs.ReplayLemmas.{edits_keep, kind_stays}
 use Rattle.turn_lock.specs.Turns.{entries_of}
-use Rattle.edit_history.specs.declared.entry.Entry.{Entry}
+use Rattle.edit_history.specs.declared.entry.HistoryEntry.{HistoryEntry}
 use Rattle.edit_history.specs.Entries.{framework_after, session_of}
-use Rattle.script_text.specs.declared.script.Command.{Command}
-use Rattle.script_text.specs.declared.script.Command.TheVariants.{Edit as change_by, Ask}
+use Rattle.script_text.specs.declared.script.ScriptCommand.{ScriptCommand}
+use Rattle.script_text.specs.declared.script.ScriptCommand.TheVariants.{Edit as change_by, Ask}
 use Rattle.script_text.specs.declared.script.ScriptLine.{ScriptLine}
 use Rattle.session_replies.specs.declared.reply.Body.{Body}
-use Rattle.session_replies.specs.declared.reply.Body.TheVariants.{Done, EditRefused, Full, Answered, QueryRefused, Unknown, TooMany, LogFull}
+use Rattle.session_replies.specs.declared.reply.Body.TheVariants.{Done, EditRefused, Full, Answered, QueryRefused}
+use Rattle.session_replies.specs.declared.reply.Body.TheVariants.{Unknown, TooMany, LogFull}
 use Rattle.session_replies.specs.declared.reply.Reply.{Reply}
 use Rattle.oracle_face.specs.Logs.{OracleLog}
 use Rattle.bench_runs.specs.session_core.specs.declared.kept.KeptAnswer.{KeptAnswer}
-use Rattle.bench_runs.specs.Served.{CommandEnds, EditEnds, FrontsRise, IsFront, IsFull, IsServed, LineEnds, RefusesEdit, TakesEdit, entries_made, entry_by, lines_of}
+use Rattle.bench_runs.specs.Served.{CommandEnds, EditEnds, FrontsRise, IsFront, IsFull, IsServed, LineEnds}
+use Rattle.bench_runs.specs.Served.{RefusesEdit, TakesEdit, entries_made, entry_by, lines_of}
 use Rattle.bench_runs.specs.Generator.{bench_framework, first}
 use Rattle.bench_runs.specs.Scripts.{asked_about, bench_script, line_for, session_for}
 use Rattle.bench_runs.proofs.FrameworkForm.{bench_form, first_there}
-use Rattle.bench_runs.proofs.Moves.{AreMoves, IsMove, add_passes, attacks_in, drop_passes, gone, live_in, live_stays, stays, was_there}
+use Rattle.bench_runs.proofs.Moves.{AreMoves, IsMove, add_passes, attacks_in, drop_passes, gone, live_in}
+use Rattle.bench_runs.proofs.Moves.{live_stays, stays, was_there}
 use Rattle.bench_runs.proofs.Numbers.{number_from}
-use Rattle.bench_runs.proofs.ScriptLines.{IsBenchEdit, IsPlacedBefore, dropped_in, edit_lines, edit_of_line, is_edit, lines_rise, place_of}
+use Rattle.bench_runs.proofs.ScriptLines.{IsBenchEdit, IsPlacedBefore, dropped_in, edit_lines, edit_of_line}
+use Rattle.bench_runs.proofs.ScriptLines.{is_edit, lines_rise, place_of}
 use Rattle.bench_runs.proofs.ListLemmas.{count_all, count_swap, prefix_within, total_within, zip_at, zip_from, zip_long}
 use Rattle.bench_runs.proofs.MadeLemmas.{MadeAt, made_at, made_each, made_few}
 use Rattle.bench_runs.specs.Taken.{IsDone, IsTakenOn}
@@ -100,7 +107,7 @@ no_line = record { session = 0; command = change_by (ArgAdd 0) }
 abbrev pub no_reply : Reply
 no_reply = record { front = 0; body = Full }
 
-told_done : (f : Framework) (limit s : ℕ) (history : List Entry) (edit : Edit) (front : ℕ) (real body : Body)
+told_done : (f : Framework) (limit s : ℕ) (history : List HistoryEntry) (edit : Edit) (front : ℕ) (real body : Body)
     → real ≡ body → EditEnds f limit s history edit front body → (IsFull limit history front → ⊥)
     → ((fault : EditFault) → real ≡ EditRefused fault → RefusesEdit f limit history edit front fault → ⊥) → IsDone body
 told_done f limit s history edit front real (Done effect) is ends full refuses = tt
@@ -112,7 +119,7 @@ told_done f limit s history edit front real (Unknown count) is ends full refuses
 told_done f limit s history edit front real TooMany is ends full refuses = ends
 told_done f limit s history edit front real LogFull is ends full refuses = ends
 
-pub takes_of : (f : Framework) (limit s : ℕ) (history : List Entry) (edit : Edit) (front : ℕ) (body : Body)
+pub takes_of : (f : Framework) (limit s : ℕ) (history : List HistoryEntry) (edit : Edit) (front : ℕ) (body : Body)
     → IsDone body
     → EditEnds f limit s history edit front body → (effect : Effect) × TakesEdit f s history edit front effect
 takes_of f limit s history edit front (Done effect) done ends = (effect, ends)
@@ -146,7 +153,7 @@ as_af : (f : Framework) → kind_of f ≡ OfAf → (g : Af) × (f ≡ af g)
 as_af (af g) is = (g, refl)
 as_af (aba g) is = cc
 
-abbrev pub edits_of : List Entry → List Edit
+abbrev pub edits_of : List HistoryEntry → List Edit
 edits_of entries = map (λ e. e.edit) entries
 
 pub replay_on : (f : Framework) (xs ys : List Edit) → replay f (xs ++ ys) ≡ replay (replay f xs) ys
@@ -156,10 +163,10 @@ replay_on f (x ∷ xs) ys = replay_on (after_edit f x) xs ys
 -- ---- a history of the sessions of a large input
 
 -- each of the sessions is told what is so of its lines, and the history has entries of these sessions alone
-pub record IsHistoryOf (n seed limit budget sessions : ℕ) (history : List Entry) (replies : ℕ → List Reply)
+pub record IsHistoryOf (n seed limit budget sessions : ℕ) (history : List HistoryEntry) (replies : ℕ → List Reply)
     (log : ℕ → OracleLog) (answers : ℕ → List KeptAnswer) : Type 0 where
   pub some : 0 < n
-  pub few : n ≤ LAST_ARGUMENT
+  pub few : n ≤ MAX_ARGUMENT
   pub room : 64 < limit
   pub named : (line : ScriptLine) → Contains (bench_script n seed).lines line → line.session ≤ sessions
   pub numbered : All (λ e. (0 < e.session) × (e.session ≤ sessions)) history
@@ -167,7 +174,7 @@ pub record IsHistoryOf (n seed limit budget sessions : ℕ) (history : List Entr
       → IsServed (af (bench_framework n seed)) limit budget (k + 1) (lines_of (k + 1) (bench_script n seed).lines)
       history (log k) (answers k) (replies k)
 
-module _ (n seed limit budget sessions : ℕ) (history : List Entry) (replies : ℕ → List Reply)
+module _ (n seed limit budget sessions : ℕ) (history : List HistoryEntry) (replies : ℕ → List Reply)
     (log : ℕ → OracleLog) (answers : ℕ → List KeptAnswer)
     (is : IsHistoryOf n seed limit budget sessions history replies log answers) where
   abbrev f : Framework
@@ -194,13 +201,13 @@ module _ (n seed limit budget sessions : ℕ) (history : List Entry) (replies : 
       subst (λ s. IsBenchEdit n seed s edit) c.1 (edit_of_line n seed (get_or (lines k) i no_line) edit c.0 e)
 
   -- each entry comes from a line of its session
-  record FromLine (x : Entry) : Type 0 where
+  record FromLine (x : HistoryEntry) : Type 0 where
     k : ℕ
     below : k < sessions
     session_is : x.session ≡ k + 1
     made : MadeAt (lines k) (replies k) x
 
-  from_line : (x : Entry) → Contains history x → FromLine x
+  from_line : (x : HistoryEntry) → Contains history x → FromLine x
   from_line x c =
       let bounds = All-contains (λ e. (0 < e.session) × (e.session ≤ sessions)) history x is.numbered c in
       let k : ℕ = x.session - 1 in
@@ -214,7 +221,7 @@ module _ (n seed limit budget sessions : ℕ) (history : List Entry) (replies : 
         made = made_at (k + 1) (lines k) (replies k) x (subst (λ l. Contains l x) (is.served k below).own own);
       }
 
-  pub bench_entry : (x : Entry) → Contains history x → IsBenchEdit n seed x.session x.edit
+  pub bench_entry : (x : HistoryEntry) → Contains history x → IsBenchEdit n seed x.session x.edit
   bench_entry x c =
       let from = from_line x c in
       subst (λ s. IsBenchEdit n seed s x.edit) (sym from.session_is)
@@ -222,7 +229,7 @@ module _ (n seed limit budget sessions : ℕ) (history : List Entry) (replies : 
 
   -- where the edit of a line is in the history, the session was told so
   told_of_entry : (k i : ℕ) (edit : Edit) → i < length (lines k)
-      → (get_or (lines k) i no_line).command ≡ change_by edit → (x : Entry) → Contains history x → x.edit ≡ edit
+      → (get_or (lines k) i no_line).command ≡ change_by edit → (x : HistoryEntry) → Contains history x → x.edit ≡ edit
       → IsDone (get_or (replies k) i no_reply).body
   told_of_entry k i edit lt is_edit x c e =
       let from = from_line x c in
@@ -279,25 +286,26 @@ module _ (n seed limit budget sessions : ℕ) (history : List Entry) (replies : 
 
   -- ---- no edit is refused
 
-  pub moves : (xs : List Entry) → ((x : Entry) → Contains xs x → Contains history x) → AreMoves (edits_of xs)
+  pub moves : (xs : List HistoryEntry) → ((x : HistoryEntry) → Contains xs x → Contains history x) → AreMoves
+      (edits_of xs)
   moves xs within edit c =
-      let found = mapped (λ (e : Entry). e.edit) xs edit c in
+      let found = mapped (λ (e : HistoryEntry). e.edit) xs edit c in
       subst IsMove found.2
       (is_move n seed found.0.session found.0.edit (bench_entry found.0 (within found.0 found.1)))
 
-  pub in_form : (xs : List Entry) → IsNumbered (framework_after f xs)
+  pub in_form : (xs : List HistoryEntry) → IsNumbered (framework_after f xs)
   in_form xs = edits_keep f (edits_of xs) (bench_form n seed is.some is.few)
 
-  pub plain_after : (xs : List Entry) → (g : Af) × (framework_after f xs ≡ af g)
+  pub plain_after : (xs : List HistoryEntry) → (g : Af) × (framework_after f xs ≡ af g)
   plain_after xs = as_af (framework_after f xs) (kind_stays f (edits_of xs))
 
   -- an edit that a session is refused isn't in the history
   refused_absent : (k i : ℕ) (edit : Edit) (fault : EditFault) → i < length (lines k)
       → (get_or (lines k) i no_line).command ≡ change_by edit
-      → (get_or (replies k) i no_reply).body ≡ EditRefused fault → (xs : List Entry)
-      → ((x : Entry) → Contains xs x → Contains history x) → Contains (edits_of xs) edit → ⊥
+      → (get_or (replies k) i no_reply).body ≡ EditRefused fault → (xs : List HistoryEntry)
+      → ((x : HistoryEntry) → Contains xs x → Contains history x) → Contains (edits_of xs) edit → ⊥
   refused_absent k i edit fault lt is_edit real xs within c =
-      let found = mapped (λ (e : Entry). e.edit) xs edit c in
+      let found = mapped (λ (e : HistoryEntry). e.edit) xs edit c in
       subst IsDone real (told_of_entry k i edit lt is_edit found.0 (within found.0 found.1) found.2)
 
   pub edit_ends : (k i : ℕ) (edit : Edit) → k < sessions → i < length (lines k)
@@ -319,7 +327,7 @@ module _ (n seed limit budget sessions : ℕ) (history : List Entry) (replies : 
       (edit_ends k i (AttackDrop b a) below lt is_drop) (not_full reply.front)
       (λ fault real refuses.
       let found = refuses.found in
-      let within : (x : Entry) → Contains found x → Contains history x = λ x c.
+      let within : (x : HistoryEntry) → Contains found x → Contains history x = λ x c.
       in_prefix found history x refuses.at.beginning c in
       let there = stays f (edits_of found) (b, a) (moves found within)
       (refused_absent k i (AttackDrop b a) fault lt is_drop real found within) (first_there n seed a low high) in
@@ -377,7 +385,7 @@ module _ (n seed limit budget sessions : ℕ) (history : List Entry) (replies : 
       let found = refuses.found in
       let mine = takes.1.found in
       let drops = mine ++ entry_by (k + 1) (AttackDrop b a) ∷ [] in
-      let within : (x : Entry) → Contains found x → Contains history x = λ x c.
+      let within : (x : HistoryEntry) → Contains found x → Contains history x = λ x c.
       in_prefix found history x refuses.at.beginning c in
       let long = zip_long (LineEnds f limit budget (k + 1) history (log k) (answers k)) (lines k) (replies k)
       (is.served k below).each in
@@ -387,14 +395,14 @@ module _ (n seed limit budget sessions : ℕ) (history : List Entry) (replies : 
       let two = refuses.at.counts in
       let on = prefix_within drops found history takes.1.at.beginning refuses.at.beginning (omega arith) in
       let rest = on.0 in
-      let in_rest : (x : Entry) → Contains rest x → Contains history x = λ x c.
+      let in_rest : (x : HistoryEntry) → Contains rest x → Contains history x = λ x c.
       within x (subst (λ l. Contains l x) on.1 (Contains-append_right drops rest x c)) in
       let split : framework_after f found
       ≡ replay (after_edit (framework_after f mine) (AttackDrop b a)) (edits_of rest) =
-      ap (framework_after f) (sym on.1) ∙ ap (replay f) (map-append (λ (e : Entry). e.edit) drops rest)
+      ap (framework_after f) (sym on.1) ∙ ap (replay f) (map-append (λ (e : HistoryEntry). e.edit) drops rest)
       ∙ replay_on f (edits_of drops) (edits_of rest)
       ∙ ap (λ l. replay (replay f l) (edits_of rest))
-      (map-append (λ (e : Entry). e.edit) mine (entry_by (k + 1) (AttackDrop b a) ∷ []))
+      (map-append (λ (e : HistoryEntry). e.edit) mine (entry_by (k + 1) (AttackDrop b a) ∷ []))
       ∙ ap (λ g. replay g (edits_of rest)) (replay_on f (edits_of mine) (AttackDrop b a ∷ [])) in
       let h = plain_after mine in
       let gone_then : Contains (attacks_in (after_edit (framework_after f mine) (AttackDrop b a))) (b, a) → ⊥ =
@@ -413,7 +421,7 @@ module _ (n seed limit budget sessions : ℕ) (history : List Entry) (replies : 
       (λ c. never (subst (λ h. Contains (attacks_in h) (b, a)) (sym g.1) c))
       (subst (λ h. edit_outcome h (AttackAdd b a) ≡ Err fault) g.1 refuses.refused))
 
-  taken_on : (k i : ℕ) (command : Command) → k < sessions → i < length (lines k)
+  taken_on : (k i : ℕ) (command : ScriptCommand) → k < sessions → i < length (lines k)
       → (get_or (lines k) i no_line).command ≡ command → IsTakenOn command (get_or (replies k) i no_reply).body
   taken_on k i (Ask asked) below lt e = tt
   taken_on k i (change_by edit) below lt e =

@@ -1,5 +1,6 @@
 -- What a session is told of an edit and of a query is so, and what its walk through its lines comes to.
-use Rattle.std.proofs.Common.{arith, Bool, ◌≡◌, ℕ, ◌==◌, ◌+◌, List, [], ◌∷◌, ◌++◌, true, false, refl, sym, ap, subst, ◌∙◌}
+use Rattle.std.proofs.Common.{arith, Bool, ◌≡◌, ℕ, ◌==◌, ◌+◌, List, [], ◌∷◌, ◌++◌, true, false, refl, sym, ap}
+use Rattle.std.proofs.Common.{subst, ◌∙◌}
 use Rattle.std.specs.Prelude.{◌≢◌, ◌≤◌, length, filter, Contains}
 use Rattle.std.proofs.lemmas.Bool.Decides.{nat_tests}
 use Rattle.std.proofs.lemmas.List.{append-nil, length-append}
@@ -9,7 +10,7 @@ use Rattle.semantics.specs.Frameworks.{Framework}
 use Rattle.iccma_tasks.specs.Tasks.{Asked}
 use Rattle.edit_rules.specs.declared.edit.Edit.{Edit}
 use Rattle.turn_lock.specs.Turns.{entries_of}
-use Rattle.edit_history.specs.declared.entry.Entry.{Entry}
+use Rattle.edit_history.specs.declared.entry.HistoryEntry.{HistoryEntry}
 use Rattle.edit_history.specs.declared.hub.Hub.{Hub}
 use Rattle.edit_history.specs.Entries.{framework_after, session_of}
 use Rattle.edit_history.specs.Hubs.{GainsOthers, limit_of, start_of}
@@ -18,35 +19,37 @@ use Rattle.oracle_face.specs.Growing.{Grows, NoSide}
 use Rattle.oracle_face.specs.Logs.{OracleLog}
 use Rattle.oracle_face.proofs.GrowingLemmas.{grows_as, grows_same}
 use Rattle.session_log.specs.Ends.{MadeFor}
-use Rattle.script_text.specs.declared.script.Command.{Command}
-use Rattle.script_text.specs.declared.script.Command.TheVariants.{Edit as change_by, Ask}
+use Rattle.script_text.specs.declared.script.ScriptCommand.{ScriptCommand}
+use Rattle.script_text.specs.declared.script.ScriptCommand.TheVariants.{Edit as change_by, Ask}
 use Rattle.script_text.specs.declared.script.ScriptLine.{ScriptLine}
 use Rattle.session_core.specs.oracle_core.specs.Engines.{EngineState}
 use Rattle.session_core.specs.declared.session.Session.{Session}
 use Rattle.session_core.specs.Replies.{EditSays, IsBySteps, IsEditReply}
 use Rattle.session_core.specs.Sessions.{IsAsked, seen_by}
 use Rattle.session_replies.specs.declared.reply.Body.{Body}
-use Rattle.session_replies.specs.declared.reply.Body.TheVariants.{Done, EditRefused, Full, Answered, QueryRefused, Unknown, TooMany, LogFull}
+use Rattle.session_replies.specs.declared.reply.Body.TheVariants.{Done, EditRefused, Full, Answered, QueryRefused}
+use Rattle.session_replies.specs.declared.reply.Body.TheVariants.{Unknown, TooMany, LogFull}
 use Rattle.session_replies.specs.declared.reply.Reply.{Reply}
 use Rattle.bench_runs.specs.declared.runner.Runner.{Runner}
-use Rattle.bench_runs.specs.declared.runner.TheConstants.{LOG_LIMIT}
+use Rattle.bench_runs.specs.declared.runner.TheConstants.{MAX_STEPS}
 use Rattle.bench_runs.specs.Running.{HasServed, IsReady, IsTold, stand_of}
 use Rattle.bench_runs.specs.Served.{EditEnds, IsFront, IsServed, LineEnds, entry_by, lines_of, made_by}
 use Rattle.bench_runs.specs.Walks.{DoesCommand, DoesEdit, DoesQuery, Stand, Walks, at_start}
-use Rattle.bench_runs.proofs.ServedLemmas.{AreDoneBy, IsDoneAt, all_zip_weaker, done_next, done_none, ends_on, filter_one}
+use Rattle.bench_runs.proofs.ServedLemmas.{AreDoneBy, IsDoneAt, all_zip_weaker, done_next, done_none, ends_on}
+use Rattle.bench_runs.proofs.ServedLemmas.{filter_one}
 use Rattle.bench_runs.proofs.ServedLemmas.{goes_on, other_line, own_line, prefix_on, prefix_short, rise_on, walks_push}
 
 same_prefix : {X : Type 0} → (xs : List X) → IsPrefix xs xs
 same_prefix xs = ([], append-nil xs)
 
 -- what an edit was told, over plain values
-record EditTold (f : Framework) (limit s : ℕ) (edit : Edit) (before now : List Entry) (front : ℕ) (body : Body)
+record EditTold (f : Framework) (limit s : ℕ) (edit : Edit) (before now : List HistoryEntry) (front : ℕ) (body : Body)
     : Type 0 where
   longer : IsPrefix before now
   ends : EditEnds f limit s now edit front body
   own : entries_of session_of s now ≡ entries_of session_of s before ++ made_by s (change_by edit) body
 
-others_told : (f : Framework) (limit s : ℕ) (edit : Edit) (before now : List Entry) (front : ℕ) (body : Body)
+others_told : (f : Framework) (limit s : ℕ) (edit : Edit) (before now : List HistoryEntry) (front : ℕ) (body : Body)
     → GainsOthers s before now → EditEnds f limit s now edit front body → made_by s (change_by edit) body ≡ []
     → EditTold f limit s edit before now front body
 others_told f limit s edit before now front body gained ends none = record {
@@ -56,7 +59,7 @@ others_told f limit s edit before now front body gained ends none = record {
       ∙ ap (λ l. entries_of session_of s before ++ l) (sym none));
 }
 
-edit_told : (f : Framework) (limit s : ℕ) (edit : Edit) (before now : List Entry) (front : ℕ) (body : Body)
+edit_told : (f : Framework) (limit s : ℕ) (edit : Edit) (before now : List HistoryEntry) (front : ℕ) (body : Body)
     → front ≡ length now → EditSays limit f s edit before now body → EditTold f limit s edit before now front body
 edit_told f limit s edit before now front (Done effect) at says =
     let found = says.found in
@@ -73,8 +76,9 @@ edit_told f limit s edit before now front (Done effect) at says =
         taken = says.added.taken;
       };
       own = ap (entries_of session_of s) says.added.longer
-          ∙ (filter-append (λ (e : Entry). session_of e == s) found (entry ∷ [])
-          ∙ (ap (λ l. entries_of session_of s found ++ l) (filter_one (λ (e : Entry). session_of e == s) entry same)
+          ∙ (filter-append (λ (e : HistoryEntry). session_of e == s) found (entry ∷ [])
+          ∙ (ap (λ l. entries_of session_of s found ++ l) (filter_one (λ (e : HistoryEntry). session_of e == s) entry
+          same)
           ∙ ap (λ l. l ++ entry ∷ []) says.gained.own));
     }
 edit_told f limit s edit before now front (EditRefused fault) at says =
@@ -140,7 +144,7 @@ done_query f limit budget s asked old new reply h = record {
   own = h.gained.own ∙ sym (append-nil (entries_of session_of s old.seen));
 }
 
-pub done_at : (f : Framework) (limit budget s : ℕ) (command : Command) (old new : Stand) (reply : Reply)
+pub done_at : (f : Framework) (limit budget s : ℕ) (command : ScriptCommand) (old new : Stand) (reply : Reply)
     → DoesCommand f limit budget s command old reply new → IsDoneAt f limit budget s command old reply new
 done_at f limit budget s (change_by edit) old new reply does = done_edit f limit budget s edit old new reply does
 done_at f limit budget s (Ask asked) old new reply does = done_query f limit budget s asked old new reply does
@@ -157,11 +161,11 @@ done_by f limit budget s (line ∷ lines) old new (reply ∷ replies) h =
 
 -- a session that walked its lines was served, as each history has it to which others alone added since
 pub walked_served : (f : Framework) (limit budget s : ℕ) (lines : List ScriptLine) (replies : List Reply)
-    (history : List Entry) (end : Stand) → Walks f limit budget s (at_start LOG_LIMIT) lines replies end
+    (history : List HistoryEntry) (end : Stand) → Walks f limit budget s (at_start MAX_STEPS) lines replies end
     → GainsOthers s end.seen history
     → IsServed f limit budget s lines history end.log end.answers replies
 walked_served f limit budget s lines replies history end walks gained =
-    let done = done_by f limit budget s lines (at_start LOG_LIMIT) end replies walks in
+    let done = done_by f limit budget s lines (at_start MAX_STEPS) end replies walks in
     record {
       each = all_zip_weaker (LineEnds f limit budget s end.seen end.log end.answers)
           (LineEnds f limit budget s history end.log end.answers)
@@ -210,8 +214,8 @@ told_of_query hub budget asked old new reply number h gained = record {
 
 -- a session that was opened stands at the start
 pub opened_stand : (session : Session) → seen_by session ≡ [] → session.followed ≡ 0
-    → session.engine.log ≡ (at_start LOG_LIMIT).log → session.answers.items ≡ []
-    → stand_of session ≡ at_start LOG_LIMIT
+    → session.engine.log ≡ (at_start MAX_STEPS).log → session.answers.items ≡ []
+    → stand_of session ≡ at_start MAX_STEPS
 opened_stand session seen followed log answers = λ i. record {
   seen = seen i;
   followed = followed i;
@@ -230,7 +234,7 @@ pub own_done : (hub : Hub) (budget : ℕ) (before : List ScriptLine) (old : Runn
 own_done hub budget before old new replies line reply own ready told number pushed h = record {
   ready = ready;
   walks = rw (pushed, number, own_line old.session.number before line own)
-      (walks_push (start_of hub) (limit_of hub) budget old.session.number (at_start LOG_LIMIT) (stand_of old.session)
+      (walks_push (start_of hub) (limit_of hub) budget old.session.number (at_start MAX_STEPS) (stand_of old.session)
       (stand_of new) (lines_of old.session.number before) old.replies line reply h.walks told);
 }
 

@@ -1,5 +1,6 @@
 -- What follows of a session's way through its lines: its fronts and its records.
-use Rattle.std.proofs.Common.{arith, true, false, ◌≡◌, ℕ, zero, suc, ◌+◌, ◌<◌, ◌≤◌, List, [], ◌∷◌, ◌++◌, refl, sym, ap, subst, ◌∙◌}
+use Rattle.std.proofs.Common.{arith, true, false, ◌≡◌, ℕ, zero, suc, ◌+◌, ◌<◌, ◌≤◌, List, [], ◌∷◌, ◌++◌, refl, sym}
+use Rattle.std.proofs.Common.{ap, subst, ◌∙◌}
 use Rattle.std.specs.Prelude.{count_by, length, take, slice_index_or}
 use Rattle.std.proofs.lemmas.List.{append-nil, append_assoc, length-append, take-append-le}
 use Rattle.std.proofs.Math.Seq.{take-append_seam}
@@ -7,16 +8,16 @@ use mathlib.Core.List.{IsPrefix}
 use Rattle.lists.proofs.Counts.{count_no, count_yes}
 use Rattle.semantics.specs.Frameworks.{Framework}
 use Rattle.turn_lock.specs.Turns.{entries_of}
-use Rattle.edit_history.specs.declared.entry.Entry.{Entry}
+use Rattle.edit_history.specs.declared.entry.HistoryEntry.{HistoryEntry}
 use Rattle.edit_history.specs.Entries.{session_of}
 use Rattle.oracle_face.specs.Growing.{Grows, Making}
 use Rattle.oracle_face.specs.Logs.{OracleLog}
-use Rattle.script_text.specs.declared.script.Command.{Command}
-use Rattle.script_text.specs.declared.script.Command.TheVariants.{Edit as change_by, Ask}
+use Rattle.script_text.specs.declared.script.ScriptCommand.{ScriptCommand}
+use Rattle.script_text.specs.declared.script.ScriptCommand.TheVariants.{Edit as change_by, Ask}
 use Rattle.script_text.specs.declared.script.ScriptLine.{ScriptLine}
 use Rattle.session_core.specs.declared.kept.KeptAnswer.{KeptAnswer}
 use Rattle.session_replies.specs.declared.reply.Reply.{Reply}
-use Rattle.bench_runs.specs.declared.runner.TheConstants.{LOG_LIMIT}
+use Rattle.bench_runs.specs.declared.runner.TheConstants.{MAX_STEPS}
 use Rattle.bench_runs.specs.Served.{entries_made, made_by}
 use Rattle.bench_runs.specs.WalkLaws.{FrontsAreMade, RecordsAreOwn, StretchesRise, is_query}
 use Rattle.bench_runs.specs.Walks.{DoesCommand, Stand, Walks, at_start}
@@ -69,7 +70,7 @@ pub fronts_made : FrontsAreMade
 fronts_made f limit budget s lines history log answers replies h k none low =
     let end = h.end in
     let front = (slice_index_or replies k none).front in
-    let to = front_made f limit budget s lines replies k none (at_start LOG_LIMIT) end h.walks low in
+    let to = front_made f limit budget s lines replies k none (at_start MAX_STEPS) end h.walks low in
     let more = h.gained.longer in
     let next : k + 1 ≡ suc k = omega arith in
     let same : take front history ≡ take front end.seen =
@@ -95,7 +96,8 @@ grown_long P a b h =
 recorded_none : (old : Stand) → Recorded [] old old
 recorded_none old = record { added = []; answers = sym (append-nil old.answers); one_each = refl; apart = omega arith }
 
-recorded_next : (f : Framework) (limit budget s : ℕ) (command : Command) (line : ScriptLine) (lines : List ScriptLine)
+recorded_next : (f : Framework) (limit budget s : ℕ) (command : ScriptCommand) (line : ScriptLine)
+    (lines : List ScriptLine)
     (reply : Reply) (old mid new : Stand) → line.command ≡ command
     → DoesCommand f limit budget s command old reply mid → Recorded lines mid new → Recorded (line ∷ lines) old new
 recorded_next f limit budget s (change_by edit) line lines reply old mid new is does rest = record {
@@ -135,7 +137,7 @@ recorded f limit budget s (line ∷ lines) (reply ∷ replies) old new h =
 
 pub own_records : RecordsAreOwn
 own_records f limit budget s lines history log answers replies h =
-    let all = recorded f limit budget s lines replies (at_start LOG_LIMIT) h.end h.walks in
+    let all = recorded f limit budget s lines replies (at_start MAX_STEPS) h.end h.walks in
     let is : answers ≡ all.added = h.answers_are ∙ all.answers in
     record {
       one_each = ap length is ∙ all.one_each;

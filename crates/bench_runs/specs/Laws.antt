@@ -10,7 +10,7 @@ use Rattle.bench_runs.specs.Transcripts.{IsTranscriptOf}
 use Rattle.bench_runs.specs.declared.transcript.ScriptTranscript.{ScriptTranscript}
 use Rattle.bench_runs.specs.Generator.{bench_framework}
 use Rattle.bench_runs.specs.Scripts.{asked_about, bench_script}
-use Rattle.bench_runs.specs.declared.input.TheConstants.{MOST_ARGUMENTS}
+use Rattle.bench_runs.specs.declared.input.TheConstants.{MAX_ARGUMENTS}
 use Rattle.bench_runs.specs.Taken.{IsTakenOn}
 
 -- each edit of each session is taken, these are all entries of the history, and they leave the framework that there was
@@ -23,7 +23,7 @@ pub record IsUndisturbed (n seed : ℕ) (t : ScriptTranscript) : Type 0 where
       ≡ af (bench_framework n seed)
 
 abbrev pub EditsAreTaken : Type 0
-EditsAreTaken = (n seed budget : ℕ) (t : ScriptTranscript) → 1 ≤ n → n ≤ MOST_ARGUMENTS
+EditsAreTaken = (n seed budget : ℕ) (t : ScriptTranscript) → 1 ≤ n → n ≤ MAX_ARGUMENTS
     → IsTranscriptOf (af (bench_framework n seed)) (bench_script n seed) budget t → IsUndisturbed n seed t
 
 -- each argument has an attacker, so the grounded set is empty

@@ -3,14 +3,14 @@ use Rattle.std.specs.Prelude.{◌≡◌, ℕ, ◌≤◌, false, List, ◌++◌, 
 use mathlib.Core.List.{IsPrefix}
 use Rattle.turn_lock.specs.Seats.{number_of}
 use Rattle.turn_lock.specs.Turns.{entries_of}
-use Rattle.edit_history.specs.declared.entry.Entry.{Entry}
+use Rattle.edit_history.specs.declared.entry.HistoryEntry.{HistoryEntry}
 use Rattle.edit_history.specs.declared.hub.Hub.{Hub}
 use Rattle.edit_history.specs.Entries.{session_of}
 use Rattle.edit_history.specs.Hubs.{IsSeatAt, limit_of, start_of}
 use Rattle.session_core.specs.oracle_core.specs.Trading.{AnySide}
 use Rattle.oracle_face.specs.Growing.{Grows}
 use Rattle.oracle_face.specs.Logs.{OracleLog}
-use Rattle.script_text.specs.declared.script.Command.{Command}
+use Rattle.script_text.specs.declared.script.ScriptCommand.{ScriptCommand}
 use Rattle.script_text.specs.declared.script.ScriptLine.{ScriptLine}
 use Rattle.session_core.specs.declared.kept.KeptAnswer.{KeptAnswer}
 use Rattle.session_core.specs.declared.session.Session.{Session}
@@ -18,14 +18,15 @@ use Rattle.session_core.specs.Sessions.{Follows, seen_by}
 use Rattle.session_replies.specs.declared.reply.Reply.{Reply}
 use Rattle.bench_runs.specs.Served.{lines_of}
 use Rattle.bench_runs.specs.Walks.{DoesCommand, Stand, Walks, at_start}
-use Rattle.bench_runs.specs.declared.runner.TheConstants.{LOG_LIMIT}
+use Rattle.bench_runs.specs.declared.runner.TheConstants.{MAX_STEPS}
 use Rattle.bench_runs.specs.declared.runner.Runner.{Runner}
 
 -- the history has what it had, the log has grown, and each query that was kept is kept
-pub record GoesOn (history more : List Entry) (log grown : OracleLog) (answers kept : List KeptAnswer) : Type 0 where
-  pub longer : IsPrefix history more
-  pub grows : Grows AnySide log grown
-  pub keeps : (a : KeptAnswer) → Contains answers a → Contains kept a
+pub record GoesOn (history more : List HistoryEntry) (log grown : OracleLog) (answers kept : List KeptAnswer) : Type 0
+  where
+    pub longer : IsPrefix history more
+    pub grows : Grows AnySide log grown
+    pub keeps : (a : KeptAnswer) → Contains answers a → Contains kept a
 
 -- the session is at the hub, by its number, as its engine is, and may go on
 pub record IsReady (hub : Hub) (session : Session) : Type 0 where
@@ -44,12 +45,12 @@ stand_of session = record {
 }
 
 -- the session did what a command says, and was told this of it
-abbrev pub IsTold : Hub → ℕ → Command → Session → Session → Reply → Type 0
+abbrev pub IsTold : Hub → ℕ → ScriptCommand → Session → Session → Reply → Type 0
 IsTold hub budget command old new reply =
     DoesCommand (start_of hub) (limit_of hub) budget old.number command (stand_of old) reply (stand_of new)
 
 -- the session has done its lines among these, one after the other, and got these replies
 pub record HasServed (hub : Hub) (budget : ℕ) (lines : List ScriptLine) (runner : Runner) : Type 0 where
   pub ready : IsReady hub runner.session
-  pub walks : Walks (start_of hub) (limit_of hub) budget runner.session.number (at_start LOG_LIMIT)
+  pub walks : Walks (start_of hub) (limit_of hub) budget runner.session.number (at_start MAX_STEPS)
       (lines_of runner.session.number lines) runner.replies (stand_of runner.session)

@@ -7,11 +7,11 @@ use Rattle.iccma_tasks.specs.declared.task.Semantics.{Semantics}
 use Rattle.iccma_tasks.specs.declared.task.Semantics.TheVariants.{Complete, Preferred}
 use Rattle.iccma_tasks.specs.Tasks.{Asked, task_of}
 use Rattle.edit_rules.specs.declared.edit.Edit.TheVariants.{AttackAdd, AttackDrop}
-use Rattle.script_text.specs.declared.script.Command.{Command}
-use Rattle.script_text.specs.declared.script.Command.TheVariants.{Edit as change_by, Ask}
+use Rattle.script_text.specs.declared.script.ScriptCommand.{ScriptCommand}
+use Rattle.script_text.specs.declared.script.ScriptCommand.TheVariants.{Edit as change_by, Ask}
 use Rattle.script_text.specs.declared.script.ScriptLine.{ScriptLine}
 use Rattle.script_text.specs.declared.script.Script.{Script}
-use Rattle.bench_runs.specs.declared.script.TheConstants.{BENCH_SESSIONS, MOST_ASKED}
+use Rattle.bench_runs.specs.declared.script.TheConstants.{BENCH_SESSIONS, MAX_ASKED}
 use Rattle.bench_runs.specs.Generator.{first}
 
 -- the session of an argument: the one of those from 1 to 4 that equals it modulo 4
@@ -24,12 +24,12 @@ asked_of problem semantics a = record { task = task_of problem semantics; number
 
 -- what is done for an argument with a first attacker: that attack goes, DC-CO is asked, the attack comes again, and
 -- DS-PR is asked
-abbrev pub commands_for : ℕ → ℕ → List Command
+abbrev pub commands_for : ℕ → ℕ → List ScriptCommand
 commands_for b a =
     change_by (AttackDrop b a) ∷ Ask (asked_of Credulous Complete a)
     ∷ change_by (AttackAdd b a) ∷ Ask (asked_of Sceptical Preferred a) ∷ []
 
-abbrev pub line_for : ℕ → Command → ScriptLine
+abbrev pub line_for : ℕ → ScriptCommand → ScriptLine
 line_for a command = record { session = session_for a; command = command }
 
 -- the lines of an argument with a first attacker, and those of an argument
@@ -41,7 +41,7 @@ lines_for n seed a = lines_by (first n seed a) a
 
 -- how many arguments of n the script is about: the first 32, or all
 abbrev pub asked_about : ℕ → ℕ
-asked_about n = min n MOST_ASKED
+asked_about n = min n MAX_ASKED
 
 -- the lines of the arguments, by rising argument
 abbrev pub bench_script : ℕ → ℕ → Script

@@ -10,10 +10,10 @@ use Rattle.edit_rules.specs.declared.effect.EditFault.{EditFault}
 use Rattle.edit_rules.specs.Edits.{edit_outcome}
 use Rattle.edit_rules.specs.Replay.{IsTaken}
 use Rattle.turn_lock.specs.Turns.{entries_of}
-use Rattle.edit_history.specs.declared.entry.Entry.{Entry}
+use Rattle.edit_history.specs.declared.entry.HistoryEntry.{HistoryEntry}
 use Rattle.edit_history.specs.Entries.{framework_after, session_of}
-use Rattle.script_text.specs.declared.script.Command.{Command}
-use Rattle.script_text.specs.declared.script.Command.TheVariants.{Edit as change_by, Ask}
+use Rattle.script_text.specs.declared.script.ScriptCommand.{ScriptCommand}
+use Rattle.script_text.specs.declared.script.ScriptCommand.TheVariants.{Edit as change_by, Ask}
 use Rattle.script_text.specs.declared.script.ScriptLine.{ScriptLine}
 use Rattle.session_replies.specs.declared.reply.Body.{Body}
 use Rattle.session_replies.specs.declared.reply.Body.TheVariants.{Done, EditRefused, Full}
@@ -34,36 +34,37 @@ lines_of s lines = filter (λ (l : ScriptLine). l.session == s) lines
 -- ---- a reply stands in the history
 
 -- the first entries of the history are these, and the front counts them
-pub record IsFront (history found : List Entry) (front : ℕ) : Type 0 where
+pub record IsFront (history found : List HistoryEntry) (front : ℕ) : Type 0 where
   pub beginning : IsPrefix found history
   pub counts : front ≡ length found
 
-abbrev pub entry_by : ℕ → Edit → Entry
+abbrev pub entry_by : ℕ → Edit → HistoryEntry
 entry_by s edit = record { session = s; edit = edit }
 
 -- the last entry up to the front is the session's edit, which was taken with this effect behind those before it
-pub record TakesEdit (f : Framework) (s : ℕ) (history : List Entry) (edit : Edit) (front : ℕ) (effect : Effect)
+pub record TakesEdit (f : Framework) (s : ℕ) (history : List HistoryEntry) (edit : Edit) (front : ℕ) (effect : Effect)
     : Type 0 where
-  pub found : List Entry
+  pub found : List HistoryEntry
   pub at : IsFront history (found ++ entry_by s edit ∷ []) front
   pub taken : IsTaken (framework_after f found) edit effect
 
 -- the history has room, and the framework behind the entries up to the front refuses the edit so
-pub record RefusesEdit (f : Framework) (limit : ℕ) (history : List Entry) (edit : Edit) (front : ℕ) (fault : EditFault)
+pub record RefusesEdit (f : Framework) (limit : ℕ) (history : List HistoryEntry) (edit : Edit) (front : ℕ)
+    (fault : EditFault)
     : Type 0 where
-  pub found : List Entry
+  pub found : List HistoryEntry
   pub at : IsFront history found front
   pub room : front < limit
   pub refused : edit_outcome (framework_after f found) edit ≡ Err fault
 
 -- the history has as many entries as it may have
-pub record IsFull (limit : ℕ) (history : List Entry) (front : ℕ) : Type 0 where
-  pub found : List Entry
+pub record IsFull (limit : ℕ) (history : List HistoryEntry) (front : ℕ) : Type 0 where
+  pub found : List HistoryEntry
   pub at : IsFront history found front
   pub full : front ≡ limit
 
 -- what an edit may be told
-abbrev pub EditEnds : Framework → ℕ → ℕ → List Entry → Edit → ℕ → Body → Type 0
+abbrev pub EditEnds : Framework → ℕ → ℕ → List HistoryEntry → Edit → ℕ → Body → Type 0
 EditEnds f limit s history edit front (Done effect) = TakesEdit f s history edit front effect
 EditEnds f limit s history edit front (EditRefused fault) = RefusesEdit f limit history edit front fault
 EditEnds f limit s history edit front Full = IsFull limit history front
@@ -71,9 +72,9 @@ EditEnds f limit s history edit front _ = ⊥
 
 -- a query has this reply on the framework behind the entries up to the front, by what the log had before it and behind
 -- it; the log has only grown since, and what is kept of the query is listed
-pub record AnswersQuery (f : Framework) (budget : ℕ) (history : List Entry) (log : OracleLog)
+pub record AnswersQuery (f : Framework) (budget : ℕ) (history : List HistoryEntry) (log : OracleLog)
     (answers : List KeptAnswer) (asked : Asked) (front : ℕ) (body : Body) : Type 0 where
-  pub found : List Entry
+  pub found : List HistoryEntry
   pub at : IsFront history found front
   pub before : OracleLog
   pub behind : OracleLog
@@ -85,13 +86,15 @@ pub record AnswersQuery (f : Framework) (budget : ℕ) (history : List Entry) (l
   pub listed : Contains answers kept
 
 -- what a line of the script may be told
-abbrev pub CommandEnds : Framework → ℕ → ℕ → ℕ → List Entry → OracleLog → List KeptAnswer → Command → ℕ → Body → Type 0
+abbrev pub CommandEnds : Framework → ℕ → ℕ → ℕ → List HistoryEntry → OracleLog → List KeptAnswer → ScriptCommand → ℕ →
+    Body → Type 0
 CommandEnds f limit budget s history log answers (change_by edit) front body =
     EditEnds f limit s history edit front body
 CommandEnds f limit budget s history log answers (Ask asked) front body =
     AnswersQuery f budget history log answers asked front body
 
-abbrev pub LineEnds : Framework → ℕ → ℕ → ℕ → List Entry → OracleLog → List KeptAnswer → ScriptLine → Reply → Type 0
+abbrev pub LineEnds : Framework → ℕ → ℕ → ℕ → List HistoryEntry → OracleLog → List KeptAnswer → ScriptLine → Reply →
+    Type 0
 LineEnds f limit budget s history log answers line reply =
     CommandEnds f limit budget s history log answers line.command reply.front reply.body
 
@@ -103,18 +106,18 @@ FrontsRise low [] high = low ≤ high
 FrontsRise low (reply ∷ more) high = (low ≤ reply.front) × FrontsRise reply.front more high
 
 -- the entry that a line made, if it did
-abbrev pub made_by : ℕ → Command → Body → List Entry
+abbrev pub made_by : ℕ → ScriptCommand → Body → List HistoryEntry
 made_by s (change_by edit) (Done effect) = entry_by s edit ∷ []
 made_by s command body = []
 
 -- the entries that lines made, in order
-abbrev pub entries_made : ℕ → List ScriptLine → List Reply → List Entry
+abbrev pub entries_made : ℕ → List ScriptLine → List Reply → List HistoryEntry
 entries_made s (line ∷ lines) (reply ∷ replies) = made_by s line.command reply.body ++ entries_made s lines replies
 entries_made s lines replies = []
 
 -- a session of these lines: it walked them in order, each from where the one before left it. So each is told something
 -- that is so; the fronts never fall; and the session's entries in the history are the edits that were taken
-pub record IsServed (f : Framework) (limit budget s : ℕ) (lines : List ScriptLine) (history : List Entry)
+pub record IsServed (f : Framework) (limit budget s : ℕ) (lines : List ScriptLine) (history : List HistoryEntry)
     (log : OracleLog) (answers : List KeptAnswer) (replies : List Reply) : Type 0 where
   pub each : AllZip (LineEnds f limit budget s history log answers) lines replies
   pub rise : FrontsRise 0 replies (length history)

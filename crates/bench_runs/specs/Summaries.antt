@@ -9,10 +9,10 @@ use Rattle.certificate_claims.specs.declared.verdict.Verdict.TheVariants.{Accept
 use Rattle.certificate_claims.specs.Rights.{IsExtension}
 use Rattle.certificate_claims.specs.Verdicts.{IsVerdict}
 use Rattle.iccma_tasks.specs.declared.task.Semantics.TheVariants.{Grounded}
-use Rattle.edit_history.specs.declared.entry.Entry.{Entry}
+use Rattle.edit_history.specs.declared.entry.HistoryEntry.{HistoryEntry}
 use Rattle.edit_history.specs.Entries.{framework_after}
-use Rattle.script_text.specs.declared.script.Command.{Command}
-use Rattle.script_text.specs.declared.script.Command.TheVariants.{Ask}
+use Rattle.script_text.specs.declared.script.ScriptCommand.{ScriptCommand}
+use Rattle.script_text.specs.declared.script.ScriptCommand.TheVariants.{Ask}
 use Rattle.script_text.specs.declared.script.ScriptLine.{ScriptLine}
 use Rattle.session_replies.specs.declared.reply.Body.{Body}
 use Rattle.session_replies.specs.declared.reply.Body.TheVariants.{Done, EditRefused, Full, Answered}
@@ -68,13 +68,13 @@ rejections Accepted = 0
 rejections (Rejected cause refutation step) = 1
 
 -- how many certificates of a reply are rejected on a framework: that of an answer may be, and other replies have none
-abbrev pub IsRejection : Framework → Command → Body → ℕ → Type 0
+abbrev pub IsRejection : Framework → ScriptCommand → Body → ℕ → Type 0
 IsRejection f (Ask asked) (Answered answer certificate) count =
     (verdict : Verdict) × IsVerdict f asked answer certificate verdict × (count ≡ rejections verdict)
 IsRejection f command body count = count ≡ 0
 
 -- of the replies of a session to its lines, each on the framework behind the entries up to its front
-abbrev pub AreRejections : Framework → List Entry → List ScriptLine → List Reply → ℕ → Type 0
+abbrev pub AreRejections : Framework → List HistoryEntry → List ScriptLine → List Reply → ℕ → Type 0
 AreRejections f history (line ∷ lines) (reply ∷ replies) count = (here : ℕ) × (more : ℕ)
     × IsRejection (framework_after f (take reply.front history)) line.command reply.body here
     × AreRejections f history lines replies more
@@ -82,7 +82,7 @@ AreRejections f history (line ∷ lines) (reply ∷ replies) count = (here : ℕ
 AreRejections f history lines replies count = count ≡ 0
 
 -- of the sessions from s on
-abbrev pub AreRejected : Framework → List Entry → List ScriptLine → ℕ → List (List Reply) → ℕ → Type 0
+abbrev pub AreRejected : Framework → List HistoryEntry → List ScriptLine → ℕ → List (List Reply) → ℕ → Type 0
 AreRejected f history lines s [] count = count ≡ 0
 AreRejected f history lines s (replies ∷ sessions) count = (here : ℕ) × (more : ℕ)
     × AreRejections f history (lines_of s lines) replies here

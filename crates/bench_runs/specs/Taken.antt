@@ -1,6 +1,6 @@
 -- Edits that were taken.
-use Rattle.script_text.specs.declared.script.Command.{Command}
-use Rattle.script_text.specs.declared.script.Command.TheVariants.{Edit as change_by, Ask}
+use Rattle.script_text.specs.declared.script.ScriptCommand.{ScriptCommand}
+use Rattle.script_text.specs.declared.script.ScriptCommand.TheVariants.{Edit as change_by, Ask}
 use Rattle.session_replies.specs.declared.reply.Body.{Body}
 use Rattle.session_replies.specs.declared.reply.Body.TheVariants.{Done}
 
@@ -10,6 +10,6 @@ IsDone (Done effect) = Unit {0}
 IsDone _ = ⊥
 
 -- where the command is an edit, it was taken
-abbrev pub IsTakenOn : Command → Body → Type 0
+abbrev pub IsTakenOn : ScriptCommand → Body → Type 0
 IsTakenOn (change_by edit) body = IsDone body
 IsTakenOn (Ask asked) body = Unit {0}

@@ -8,7 +8,7 @@ use Rattle.script_text.specs.declared.script.ScriptLine.{ScriptLine}
 use Rattle.session_core.specs.declared.kept.Kept.{Kept}
 use Rattle.session_replies.specs.declared.reply.Reply.{Reply}
 use Rattle.bench_runs.specs.Served.{IsServed, lines_of}
-use Rattle.bench_runs.specs.declared.script_run.TheConstants.{HISTORY_LIMIT}
+use Rattle.bench_runs.specs.declared.script_run.TheConstants.{MAX_HISTORY}
 use Rattle.bench_runs.specs.declared.transcript.ScriptTranscript.{ScriptTranscript}
 
 -- the sessions that lines name are at most so many, and that one is named, unless there is none
@@ -20,7 +20,7 @@ pub record AreSessions (lines : List ScriptLine) (count : ℕ) : Type 0 where
 -- from 1 to the greatest that the script names, what it was told of its lines, with its engine's log
 pub record IsTranscriptOf (f : Framework) (script : Script) (budget : ℕ) (t : ScriptTranscript) : Type 0 where
   pub opening : framework_of t.history.opening ≡ f
-  pub within : length t.history.entries.items ≤ HISTORY_LIMIT
+  pub within : length t.history.entries.items ≤ MAX_HISTORY
   pub taken : AreDone f t.history.entries.items
   pub sessions : ℕ
   pub sessions_are : AreSessions script.lines sessions
@@ -28,6 +28,6 @@ pub record IsTranscriptOf (f : Framework) (script : Script) (budget : ℕ) (t : 
   pub replies : length t.replies.items ≡ sessions
   pub kept : length t.kept.items ≡ sessions
   pub served : (k : ℕ) (none : List Reply) (nothing : Kept) → k < sessions
-      → IsServed f HISTORY_LIMIT budget (k + 1) (lines_of (k + 1) script.lines) (entries_in t.history.entries.items)
+      → IsServed f MAX_HISTORY budget (k + 1) (lines_of (k + 1) script.lines) (entries_in t.history.entries.items)
       (slice_index_or t.kept.items k nothing).engine.log (slice_index_or t.kept.items k nothing).answers.items
       (slice_index_or t.replies.items k none)

@@ -1,14 +1,15 @@
 -- What follows of a session's way through its lines: whose entries its fronts count, that each query has records of its
 -- own, and what two transcripts of one session alone have in common.
-use Rattle.std.specs.Prelude.{◌≡◌, ℕ, ◌+◌, ◌<◌, ◌≤◌, Bool, true, false, List, [], ◌∷◌, ◌++◌, All, length, take, count_by, slice_index_or}
+use Rattle.std.specs.Prelude.{◌≡◌, ℕ, ◌+◌, ◌<◌, ◌≤◌, Bool, true, false, List, [], ◌∷◌, ◌++◌, All, length, take}
+use Rattle.std.specs.Prelude.{count_by, slice_index_or}
 use Rattle.semantics.specs.Frameworks.{Framework}
 use Rattle.iccma_tasks.specs.Tasks.{Asked}
 use Rattle.turn_lock.specs.Turns.{entries_of}
-use Rattle.edit_history.specs.declared.entry.Entry.{Entry}
+use Rattle.edit_history.specs.declared.entry.HistoryEntry.{HistoryEntry}
 use Rattle.edit_history.specs.Entries.{entries_in, framework_after, session_of}
 use Rattle.oracle_face.specs.Logs.{OracleLog}
-use Rattle.script_text.specs.declared.script.Command.{Command}
-use Rattle.script_text.specs.declared.script.Command.TheVariants.{Edit as change_by, Ask}
+use Rattle.script_text.specs.declared.script.ScriptCommand.{ScriptCommand}
+use Rattle.script_text.specs.declared.script.ScriptCommand.TheVariants.{Edit as change_by, Ask}
 use Rattle.script_text.specs.declared.script.Script.{Script}
 use Rattle.script_text.specs.declared.script.ScriptLine.{ScriptLine}
 use Rattle.session_core.specs.Replies.{QuerySays}
@@ -22,7 +23,8 @@ use Rattle.bench_runs.specs.declared.transcript.ScriptTranscript.{ScriptTranscri
 -- behind each line, the session's entries among the first `front` of the history are just those that its lines up to
 -- this one made, in order
 abbrev pub FrontsAreMade : Type 0
-FrontsAreMade = (f : Framework) (limit budget s : ℕ) (lines : List ScriptLine) (history : List Entry) (log : OracleLog)
+FrontsAreMade = (f : Framework) (limit budget s : ℕ) (lines : List ScriptLine) (history : List HistoryEntry)
+    (log : OracleLog)
     (answers : List KeptAnswer) (replies : List Reply) → HasWalked f limit budget s lines history log answers replies
     → (k : ℕ) (none : Reply) → k < length lines
     → entries_of session_of s (take (slice_index_or replies k none).front history)
@@ -30,7 +32,7 @@ FrontsAreMade = (f : Framework) (limit budget s : ℕ) (lines : List ScriptLine)
 
 -- ---- what is kept of queries
 
-abbrev pub is_query : Command → Bool
+abbrev pub is_query : ScriptCommand → Bool
 is_query (change_by edit) = false
 is_query (Ask asked) = true
 
@@ -46,7 +48,8 @@ pub record AreOwnRecords (lines : List ScriptLine) (log : OracleLog) (answers : 
   pub apart : StretchesRise 0 answers (length log.steps)
 
 abbrev pub RecordsAreOwn : Type 0
-RecordsAreOwn = (f : Framework) (limit budget s : ℕ) (lines : List ScriptLine) (history : List Entry) (log : OracleLog)
+RecordsAreOwn = (f : Framework) (limit budget s : ℕ) (lines : List ScriptLine) (history : List HistoryEntry)
+    (log : OracleLog)
     (answers : List KeptAnswer) (replies : List Reply) → HasWalked f limit budget s lines history log answers replies
     → AreOwnRecords lines log answers
 
@@ -59,12 +62,12 @@ pub record AreOfOne (g : Framework) (asked : Asked) (one two : Reply) : Type 0 w
   pub second : (log : OracleLog) × QuerySays g asked log two.body
 
 -- two replies to an edit are the same; two replies to a query are told of one framework
-abbrev pub IsAlike : Framework → Command → Reply → Reply → Type 0
+abbrev pub IsAlike : Framework → ScriptCommand → Reply → Reply → Type 0
 IsAlike g (change_by edit) one two = one ≡ two
 IsAlike g (Ask asked) one two = AreOfOne g asked one two
 
 -- so are the replies to lines, where these edits were taken before
-abbrev pub AreAlike : Framework → ℕ → List Entry → List ScriptLine → List Reply → List Reply → Type 0
+abbrev pub AreAlike : Framework → ℕ → List HistoryEntry → List ScriptLine → List Reply → List Reply → Type 0
 AreAlike f s made [] [] [] = Unit {0}
 AreAlike f s made (line ∷ lines) (one ∷ ones) (two ∷ twos) =
     IsAlike (framework_after f made) line.command one two

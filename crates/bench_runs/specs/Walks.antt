@@ -3,23 +3,23 @@ use Rattle.std.specs.Prelude.{◌≡◌, ℕ, List, [], ◌∷◌, ◌++◌, len
 use Rattle.semantics.specs.Frameworks.{Framework}
 use Rattle.iccma_tasks.specs.Tasks.{Asked}
 use Rattle.edit_rules.specs.declared.edit.Edit.{Edit}
-use Rattle.edit_history.specs.declared.entry.Entry.{Entry}
+use Rattle.edit_history.specs.declared.entry.HistoryEntry.{HistoryEntry}
 use Rattle.edit_history.specs.Entries.{framework_after}
 use Rattle.edit_history.specs.Hubs.{GainsOthers}
 use Rattle.oracle_face.specs.Logs.{OracleLog}
-use Rattle.script_text.specs.declared.script.Command.{Command}
-use Rattle.script_text.specs.declared.script.Command.TheVariants.{Edit as change_by, Ask}
+use Rattle.script_text.specs.declared.script.ScriptCommand.{ScriptCommand}
+use Rattle.script_text.specs.declared.script.ScriptCommand.TheVariants.{Edit as change_by, Ask}
 use Rattle.script_text.specs.declared.script.ScriptLine.{ScriptLine}
 use Rattle.session_core.specs.Following.{CatchesUp}
 use Rattle.session_core.specs.Replies.{IsBySteps, IsEditReply, IsKeptOf, IsReplied}
 use Rattle.session_core.specs.declared.kept.KeptAnswer.{KeptAnswer}
 use Rattle.session_replies.specs.declared.reply.Reply.{Reply}
-use Rattle.bench_runs.specs.declared.runner.TheConstants.{LOG_LIMIT}
+use Rattle.bench_runs.specs.declared.runner.TheConstants.{MAX_STEPS}
 
 -- where a session stands between two lines: the history as it saw it last, how many of these entries its engine
 -- followed, its engine's log, and what it kept of its queries
 pub record Stand : Type 0 where
-  pub seen : List Entry
+  pub seen : List HistoryEntry
   pub followed : ℕ
   pub log : OracleLog
   pub answers : List KeptAnswer
@@ -60,7 +60,7 @@ pub record DoesQuery (f : Framework) (budget s : ℕ) (asked : Asked) (old : Sta
   pub answers : new.answers ≡ old.answers ++ kept ∷ []
 
 -- what a line says is done
-abbrev pub DoesCommand : Framework → ℕ → ℕ → ℕ → Command → Stand → Reply → Stand → Type 0
+abbrev pub DoesCommand : Framework → ℕ → ℕ → ℕ → ScriptCommand → Stand → Reply → Stand → Type 0
 DoesCommand f limit budget s (change_by edit) old reply new = DoesEdit f limit s edit old reply new
 DoesCommand f limit budget s (Ask asked) old reply new = DoesQuery f budget s asked old reply new
 
@@ -74,10 +74,10 @@ Walks f limit budget s old lines replies new = ⊥
 
 -- the session walked its lines with these replies, from an empty log of 50,000,000 steps at most, and this is its log
 -- and what it kept; behind its last turn only other sessions added to the history
-pub record HasWalked (f : Framework) (limit budget s : ℕ) (lines : List ScriptLine) (history : List Entry)
+pub record HasWalked (f : Framework) (limit budget s : ℕ) (lines : List ScriptLine) (history : List HistoryEntry)
     (log : OracleLog) (answers : List KeptAnswer) (replies : List Reply) : Type 0 where
   pub end : Stand
-  pub walks : Walks f limit budget s (at_start LOG_LIMIT) lines replies end
+  pub walks : Walks f limit budget s (at_start MAX_STEPS) lines replies end
   pub gained : GainsOthers s end.seen history
   pub log_is : log ≡ end.log
   pub answers_are : answers ≡ end.answers

@@ -2,7 +2,7 @@
 
 ghost use Rattle.std.specs.Prelude.{◌≡◌, ◌<◌, ◌≤◌, ◌++◌, IfOk, OnOk};
 ghost use Rattle.std.specs.List.{range_with_len};
-ghost use Rattle.semantics.specs.declared.argument.TheConstants.{LAST_ARGUMENT};
+ghost use Rattle.semantics.specs.declared.argument.TheConstants.{MAX_ARGUMENT};
 ghost use Rattle.bench_runs.specs.Generator.{attacks_drawn, attacks_from, bench_framework, next_state};
 
 use crate::draws::{drawn, next};
@@ -34,7 +34,7 @@ fn push_attacks(
 /// The attacks that are drawn, argument by argument.
 fn draw_attacks(alloc: Global, n: u32, seed: u32) -> Result<Vec<(u32, u32)>, Memory>
     requires some { 0 < n }
-    requires few { n ≤ LAST_ARGUMENT }
+    requires few { n ≤ MAX_ARGUMENT }
     ensures { IfOk result (λ attacks. attacks.items ≡ attacks_drawn n seed) }
 {
     let mut attacks = Vec::new(alloc);
@@ -47,7 +47,7 @@ fn draw_attacks(alloc: Global, n: u32, seed: u32) -> Result<Vec<(u32, u32)>, Mem
 
 /// The arguments from 1 to n.
 fn arguments(alloc: Global, n: u32) -> Result<NumSet, Memory>
-    requires { n ≤ LAST_ARGUMENT }
+    requires { n ≤ MAX_ARGUMENT }
     ensures { IfOk result (λ live. live ≡ range_with_len 1 n) }
 {
     let numbers: Vec<u32> = (1..n + 1).collect(alloc)?;
@@ -57,7 +57,7 @@ fn arguments(alloc: Global, n: u32) -> Result<NumSet, Memory>
 /// The arguments from 1 to n, and the attacks that are drawn.
 pub(crate) fn framework(alloc: Global, n: u32, seed: u32) -> Result<AfPlain, Memory>
     requires some { 0 < n }
-    requires few { n ≤ LAST_ARGUMENT }
+    requires few { n ≤ MAX_ARGUMENT }
     ensures { IfOk result (λ f. f ≡ bench_framework n seed) }
 {
     let live = arguments(alloc, n)?;

@@ -14,14 +14,14 @@ use script_text::Script;
 use std::alloc::Global;
 
 /// The most arguments of a large input.
-pub const MOST_ARGUMENTS: u32 = 100_000;
+pub const MAX_ARGUMENTS: u32 = 100_000;
 
 /// The framework of n arguments and a seed, and the script of its sessions, in time linear in n. Of each argument three
 /// attacks are drawn. For each of the first 32 arguments a session drops the first of them, asks, adds it again, and
 /// asks; the lines stand by rising argument.
 pub fn bench_input(alloc: Global, n: u32, seed: u32) -> Result<(Framework, Script), Memory>
     requires some { 1 ≤ n }
-    requires few { n ≤ MOST_ARGUMENTS }
+    requires few { n ≤ MAX_ARGUMENTS }
     ensures framework { IfOk result (λ input. framework_of input.0 ≡ af (bench_framework n seed)) }
     ensures script { IfOk result (λ input. input.1 ≡ bench_script n seed) }
 {

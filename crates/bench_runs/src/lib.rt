@@ -20,9 +20,8 @@ pub mod walk_laws;
 
 pub use counts::Counts;
 pub use draws::{INCREMENT, MULTIPLIER};
-pub use input::{MOST_ARGUMENTS, bench_input};
+pub use input::{MAX_ARGUMENTS, bench_input};
 pub use run::{BENCH_BUDGET, BenchRun, run_bench};
-pub use runner::LOG_LIMIT;
-pub use script::{BENCH_SESSIONS, MOST_ASKED};
-pub use script_run::{HISTORY_LIMIT, run_script};
+pub use script::{BENCH_SESSIONS, MAX_ASKED};
+pub use script_run::{MAX_HISTORY, run_script};
 pub use transcript::ScriptTranscript;

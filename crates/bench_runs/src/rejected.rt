@@ -16,7 +16,7 @@ use certificate_claims::Verdict;
 use edit_history::Change;
 use edit_rules::Framework;
 use lists::{Items, Memory};
-use script_text::{Command, MOST_SESSIONS, ScriptLine};
+use script_text::{MAX_SESSIONS, ScriptCommand, ScriptLine};
 use session_replies::{Body, Reply};
 use std::alloc::Global;
 
@@ -35,14 +35,14 @@ fn rejection(verdict: Verdict) -> usize
 fn check_reply(
     alloc: Global,
     framework: &Framework,
-    command: &Command,
+    command: &ScriptCommand,
     body: &Body,
 ) -> Result<usize, Memory>
     ensures is { IfOk result (IsRejection (framework_of framework.now) command.now body.now) }
     ensures one { IfOk result (λ count. count ≤ 1) }
 {
     match (command, body) {
-        (Command::Ask(query), Body::Answered(answer, certificate)) => Ok(rejection(check(
+        (ScriptCommand::Ask(query), Body::Answered(answer, certificate)) => Ok(rejection(check(
             alloc,
             framework,
             query,
@@ -131,7 +131,7 @@ pub(crate) fn rejected_in(
     sessions: &[Items<Reply>],
 ) -> Result<usize, Memory>
     requires rise { All (λ replies. FrontsRise 0 replies (length history.now)) sessions.now }
-    requires few { length sessions.now ≤ MOST_SESSIONS }
+    requires few { length sessions.now ≤ MAX_SESSIONS }
     requires short { sum_by length sessions.now < 2 ^ 32 }
     ensures { IfOk result (AreRejected (framework_of opening.now) (entries_in history.now) lines.now 1 sessions.now) }
 {

@@ -5,7 +5,7 @@ ghost use Rattle.semantics.specs.Frameworks.{af};
 ghost use Rattle.bench_runs.specs.Transcripts.{IsTranscriptOf};
 ghost use Rattle.bench_runs.specs.Generator.{bench_framework};
 ghost use Rattle.bench_runs.specs.Scripts.{bench_script};
-ghost use Rattle.bench_runs.specs.declared.input.TheConstants.{MOST_ARGUMENTS};
+ghost use Rattle.bench_runs.specs.declared.input.TheConstants.{MAX_ARGUMENTS};
 ghost use Rattle.bench_runs.specs.Runs.{AreCounts, IsBenchRun};
 ghost use Rattle.bench_runs.specs.Summaries.{bench_counts, counts_text, summary as summary_of};
 
@@ -44,7 +44,7 @@ fn count(
     transcript: &ScriptTranscript,
 ) -> Result<Counts, Memory>
     requires some { 1 ≤ n }
-    requires few { n ≤ MOST_ARGUMENTS }
+    requires few { n ≤ MAX_ARGUMENTS }
     requires script { script.now ≡ bench_script n seed }
     requires transcript { IsTranscriptOf (af (bench_framework n seed)) (bench_script n seed) BENCH_BUDGET
         transcript.now }
@@ -75,7 +75,7 @@ fn summarized(
     transcript: &ScriptTranscript,
 ) -> Result<(Counts, Bytes), Memory>
     requires some { 1 ≤ n }
-    requires few { n ≤ MOST_ARGUMENTS }
+    requires few { n ≤ MAX_ARGUMENTS }
     requires script { script.now ≡ bench_script n seed }
     requires transcript { IsTranscriptOf (af (bench_framework n seed)) (bench_script n seed) BENCH_BUDGET
         transcript.now }
@@ -97,7 +97,7 @@ fn told(
     transcript: ScriptTranscript,
 ) -> Result<BenchRun, Memory>
     requires some { 1 ≤ n }
-    requires few { n ≤ MOST_ARGUMENTS }
+    requires few { n ≤ MAX_ARGUMENTS }
     requires script { script.now ≡ bench_script n seed }
     requires transcript { IsTranscriptOf (af (bench_framework n seed)) (bench_script n seed) BENCH_BUDGET transcript }
     ensures { IfOk result (IsBenchRun n seed) }
@@ -123,7 +123,7 @@ pub fn run_bench<R: Threads + Wait + Sync, P: Pace + Sync>(
     pace: &P,
 ) -> Result<BenchRun, Memory>
     requires some { 1 ≤ n }
-    requires few { n ≤ MOST_ARGUMENTS }
+    requires few { n ≤ MAX_ARGUMENTS }
     ensures run { IfOk result (IsBenchRun n seed) }
     ensures counts { IfOk result (λ run. run.counts ≡ bench_counts n seed) }
     ensures summary { IfOk result (λ run. run.summary ≡ summary_of n seed) }

@@ -11,15 +11,13 @@ use argue_outside::{Pace, Point};
 use clause_pool::Pool;
 use edit_history::{Hub, Seat};
 use edit_rules::Framework;
+use hinted_log::MAX_STEPS;
 use lists::{Items, Memory};
-use script_text::{Command, Script, ScriptLine};
+use script_text::{Script, ScriptCommand, ScriptLine};
 use session_core::Session;
 use session_replies::Reply;
 use std::alloc::Global;
 use std::sync::Wait;
-
-/// The most steps that the log of a session may have.
-pub const LOG_LIMIT: u64 = 50_000_000;
 
 /// A session, with the replies to the lines that it has done.
 pub(crate) struct Runner {
@@ -52,7 +50,7 @@ impl Runner {
     {
         let opening = framework.copy(alloc)?;
         let number = seat.number();
-        match Session::open(alloc, number, opening, seat, LOG_LIMIT) {
+        match Session::open(alloc, number, opening, seat, MAX_STEPS) {
             Ok(session) => Ok(Runner {
                 session,
                 replies: Items::new(alloc),
@@ -77,7 +75,7 @@ impl Runner {
         alloc: Global,
         hub: &Hub,
         pool: &Pool,
-        command: &Command,
+        command: &ScriptCommand,
         budget: u64,
         pace: &P,
     ) -> Result<Reply, Memory>
@@ -89,14 +87,14 @@ impl Runner {
     {
         let number = self.session.number();
         match command {
-            Command::Edit(edit) => {
+            ScriptCommand::Edit(edit) => {
                 let edit = edit.copy(alloc)?;
                 pace.at(number, Point::BeforeEdit);
                 let reply = self.session.edit(rt, alloc, hub, edit)?;
                 pace.at(number, Point::AfterEdit);
                 Ok(reply)
             }
-            Command::Ask(query) => {
+            ScriptCommand::Ask(query) => {
                 pace.at(number, Point::BeforeAsk);
                 let reply = self.session.ask(rt, alloc, hub, pool, query, budget, pace)?;
                 pace.at(number, Point::AfterAsk);

@@ -2,24 +2,24 @@
 
 ghost use Rattle.std.specs.Prelude.{◌≡◌, ◌<◌, ◌++◌, ◌∷◌, [], Some, IfOk, OnOk};
 ghost use Rattle.iccma_tasks.specs.Tasks.{FitsTask};
-ghost use Rattle.script_text.specs.declared.script.Command.TheVariants.{Ask};
+ghost use Rattle.script_text.specs.declared.script.ScriptCommand.TheVariants.{Ask};
 ghost use Rattle.bench_runs.specs.Scripts.{asked_of, bench_script, line_for, lines_by};
 
 use crate::draws::{drawn, next};
 use edit_rules::Edit;
 use iccma_tasks::{Problem, Query, Semantics, Task};
 use lists::{Items, Memory};
-use script_text::{Command, Script, ScriptLine};
+use script_text::{Script, ScriptCommand, ScriptLine};
 use std::alloc::Global;
 
 /// How many sessions a large input has.
 pub const BENCH_SESSIONS: u32 = 4;
 
 /// The most arguments that the sessions ask about.
-pub const MOST_ASKED: u32 = 32;
+pub const MAX_ASKED: u32 = 32;
 
 /// A query about an argument.
-fn ask(problem: Problem, semantics: Semantics, argument: u32) -> Command
+fn ask(problem: Problem, semantics: Semantics, argument: u32) -> ScriptCommand
     requires { FitsTask problem (Some argument) }
     ensures { result ≡ Ask (asked_of problem semantics argument) }
 {
@@ -27,11 +27,15 @@ fn ask(problem: Problem, semantics: Semantics, argument: u32) -> Command
     let Some(query) = Query::new(task, Some(argument)) else {
         unreachable!()
     };
-    Command::Ask(query)
+    ScriptCommand::Ask(query)
 }
 
 /// Adds a line of the session of an argument.
-fn push_line(lines: &mut Items<ScriptLine>, argument: u32, command: Command) -> Result<(), Memory>
+fn push_line(
+    lines: &mut Items<ScriptLine>,
+    argument: u32,
+    command: ScriptCommand,
+) -> Result<(), Memory>
     requires { 0 < argument }
     ensures { OnOk result (lines.new ≡ lines.old ++ line_for argument command ∷ []) }
 {
@@ -45,11 +49,11 @@ fn push_lines(lines: &mut Items<ScriptLine>, attacker: u32, argument: u32) -> Re
     ensures { OnOk result (lines.new ≡ lines.old ++ lines_by attacker argument) }
 {
     let edit = Edit::AttackDrop(attacker, argument);
-    push_line(lines, argument, Command::Edit(edit))?;
+    push_line(lines, argument, ScriptCommand::Edit(edit))?;
     let query = ask(Problem::Credulous, Semantics::Complete, argument);
     push_line(lines, argument, query)?;
     let edit = Edit::AttackAdd(attacker, argument);
-    push_line(lines, argument, Command::Edit(edit))?;
+    push_line(lines, argument, ScriptCommand::Edit(edit))?;
     let query = ask(Problem::Sceptical, Semantics::Preferred, argument);
     push_line(lines, argument, query)
 }
@@ -61,7 +65,7 @@ pub(crate) fn script(alloc: Global, n: u32, seed: u32) -> Result<Script, Memory>
 {
     let mut lines = Items::new(alloc);
     let mut state = seed as u64;
-    for argument in 1..n.min(MOST_ASKED) + 1 {
+    for argument in 1..n.min(MAX_ASKED) + 1 {
         let one = next(state);
         push_lines(&mut lines, drawn(one, n), argument)?;
         state = next(next(one));

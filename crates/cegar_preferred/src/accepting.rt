@@ -58,7 +58,7 @@ pub fn accept_all<O: Oracle>(
         asks: Items::new(alloc),
     };
     loop {
-        match uncovered(alloc, oracle, budget, goal, &cover)? {
+        match find_uncovered(alloc, oracle, budget, goal, &cover)? {
             Found::Refuted(step) => return Ok(Accepting::Cover(cover.sets, step)),
             Found::Set(set) => match extend(alloc, oracle, budget, goal, &mut cover, &set)? {
                 Some(counter) => return Ok(Accepting::Counter(counter)),
@@ -70,7 +70,7 @@ pub fn accept_all<O: Oracle>(
 
 /// An admissible set that doesn't accept the query and lies in no set of the cover, or the step that shows that
 /// there is none.
-fn uncovered<O: Oracle>(
+fn find_uncovered<O: Oracle>(
     alloc: Global,
     oracle: &mut O,
     budget: &mut Budget,

@@ -2,12 +2,14 @@
 
 ghost use Rattle.std.specs.Prelude.{◌≡◌, ◌↔◌, Some, IfOk, IsTrue};
 ghost use Rattle.semantics.specs.Frameworks.{af};
-ghost use Rattle.certificate_claims.specs.Acceptance.{GroundedSays, NoneWithin, NoRangeWithin, PassesGrounded, PassesOrder};
+ghost use Rattle.certificate_claims.specs.Acceptance.{GroundedSays, NoneWithin, NoRangeWithin, PassesGrounded};
+ghost use Rattle.certificate_claims.specs.Acceptance.{PassesOrder};
 ghost use Rattle.certificate_claims.specs.Rights.{IsRight, SetsRise};
 ghost use Rattle.certificate_claims.specs.Verdicts.{IsVerdict, looks};
 ghost use Rattle.edit_rules.specs.Kinds.{framework_of};
 ghost use Rattle.answer_claims.specs.SetFacts.{AreSetsOf, HasSetsOf};
-ghost use Rattle.certificate_check.specs.Sections.{FindsIn, after_order, after_set_count, after_sets, after_shape, after_witnesses};
+ghost use Rattle.certificate_check.specs.Sections.{FindsIn, after_order, after_set_count, after_sets, after_shape};
+ghost use Rattle.certificate_check.specs.Sections.{after_witnesses};
 ghost use Rattle.certificate_check.specs.Witnesses.{IsRowOf, IsTestedRow, ShowsSets, TellsApart};
 
 use crate::check_refutations;
@@ -117,7 +119,7 @@ impl Checked<'_> {
         Ok(verdict)
     }
 
-    /// From the number of refutations on.
+    /// Checks that there are as many refutations as claims, and then each refutation.
     fn check_refutation_count(&self, alloc: Global) -> Result<Verdict, Memory>
         requires { HasSetsOf (framework_of self.now.framework.now) self.now.row.now }
         ensures { IfOk result (FindsIn self.now (after_sets self.now.certificate.now)) }
@@ -193,7 +195,7 @@ fn af_ranges_apart(alloc: Global, plain: &AfPlain, sets: &[NumSet]) -> Result<bo
     Ok(apart)
 }
 
-/// Whether the grounded set accepts the query or doesn't, as the row says, if it does.
+/// Whether the grounded set says of the query what the row says. A row that isn't about the grounded set passes.
 fn passes_grounded(
     alloc: Global,
     framework: &Framework,

@@ -3,11 +3,11 @@
 
 pub mod laws;
 mod making;
-mod moved;
 pub mod positions;
 mod reached;
 pub mod read_log;
 pub mod refute;
+mod renumbering;
 
 pub use making::certificate_for;
 pub use positions::positions_of;

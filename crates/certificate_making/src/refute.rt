@@ -8,9 +8,9 @@ ghost use Rattle.certificate_making.specs.Refuted.{AreRefuting, IsRefutingStep};
 ghost use Rattle.certificate_making.specs.Cuts.{IsCutAt};
 ghost use Rattle.certificate_making.specs.Marks.{AreMarks, IsMarked, IsWriting, MayWrite, Writes};
 
-use crate::moved::moved_step;
 use crate::reached::mark_reached;
 use crate::read_log::ReadLog;
+use crate::renumbering::moved_step;
 use certificate_claims::{Refutation, Step};
 use lists::{Items, Memory};
 use plain_lits::StepId;

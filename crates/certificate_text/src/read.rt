@@ -2,11 +2,12 @@
 
 ghost use Rattle.std.specs.Prelude.{◌≡◌, ◌↔◌, ◌≤◌, [], ◌∷◌, codes, length, map, IfOk, IfErr, IsTrue};
 ghost use Rattle.num_text.specs.Cuts.{field_texts};
-ghost use Rattle.num_text.specs.declared.limit.TheConstants.{INPUT_LIMIT};
+ghost use Rattle.num_text.specs.declared.limit.TheConstants.{MAX_INPUT};
 ghost use Rattle.iccma_tasks.specs.AnswerText.{behind_first};
 ghost use Rattle.certificate_text.specs.declared.draft.Draft.TheVariants.{Nothing};
 ghost use Rattle.certificate_text.specs.declared.word.Word.TheVariants.{Set as SetWord};
-ghost use Rattle.certificate_text.specs.Lines.{FaultsAt, LeadsBy, LeadsFromSets, LeadsFromSteps, LeadsTo, Stands, StandsBehindSets, StandsBehindSteps, StandsBy, first_word};
+ghost use Rattle.certificate_text.specs.Lines.{FaultsAt, LeadsBy, LeadsFromSets, LeadsFromSteps, LeadsTo, Stands};
+ghost use Rattle.certificate_text.specs.Lines.{StandsBehindSets, StandsBehindSteps, StandsBy, first_word};
 ghost use Rattle.certificate_text.specs.Reading.{Ends, IsRead, end_of};
 
 use crate::draft::Draft;
@@ -192,7 +193,7 @@ fn with_line(
 
 // The certificate, where all of it was read.
 fn finish(draft: Draft, bytes: &[u8]) -> Result<Certificate, CertFault>
-    requires { length bytes.now ≤ INPUT_LIMIT }
+    requires { length bytes.now ≤ MAX_INPUT }
     ensures { Ends draft (end_of bytes.now) result }
 {
     match draft {
@@ -209,7 +210,7 @@ fn finish(draft: Draft, bytes: &[u8]) -> Result<Certificate, CertFault>
 /// `At` tells the first line at which a cause stands, and of the causes that stand there the first in the order of
 /// `CertCause`. `Memory` is want of memory, and says nothing of the text.
 pub fn read_certificate(alloc: Global, bytes: &[u8]) -> Result<Certificate, CertFault>
-    requires { length bytes.now ≤ INPUT_LIMIT }
+    requires { length bytes.now ≤ MAX_INPUT }
     ensures read { IsRead bytes.now result }
 {
     let mut left = lines(bytes);

@@ -10,9 +10,9 @@ use std::test::Fail;
 fn three_named(alloc: Global) -> Result<DecisionOrder, Memory> {
     let mut order = DecisionOrder::new(alloc);
     order.make_room(4)?;
-    order.name(lit(0, false));
-    order.name(lit(1, true));
-    order.name(lit(2, false));
+    order.declare(lit(0, false));
+    order.declare(lit(1, true));
+    order.declare(lit(2, false));
     Ok(order)
 }
 
@@ -36,9 +36,9 @@ fn most_active_first(rt: HostRuntime) -> Result<(), Fail> {
 fn raised_first(rt: HostRuntime) -> Result<(), Fail> {
     let mut order = three_named(rt.alloc())?;
     order.bump(1);
-    order.raise(0);
-    order.raise(2);
-    order.raise(3);
+    order.raise_to_top(0);
+    order.raise_to_top(2);
+    order.raise_to_top(3);
     assert!(rt; order.pop() == Some(lit(2, false)));
     assert!(rt; order.pop() == Some(lit(0, false)));
     assert!(rt; order.pop() == Some(lit(1, true)));

@@ -3,7 +3,7 @@
 ghost use Rattle.hinted_log.specs.Logs.{IsStepOf};
 
 use crate::named::{N1, N2, N3, P1, P2, P3};
-use hinted_log::{Kind, Log, LogFault};
+use hinted_log::{Log, LogFault, StepKind};
 use lists::Memory;
 use plain_lits::{Clause, Lit, StepId};
 use std::alloc::Global;
@@ -15,7 +15,12 @@ const LARGEST: Lit = Lit {
 };
 
 /// A step to add: its kind, clause and hints, and the number that it gets.
-type Row = (Kind, &'static [Lit], &'static [u32], Result<u32, LogFault>);
+type Row = (
+    StepKind,
+    &'static [Lit],
+    &'static [u32],
+    Result<u32, LogFault>,
+);
 
 /// The steps of these numbers.
 fn steps_of(alloc: Global, numbers: &[u32]) -> Result<Vec<StepId>, LogFault> {
@@ -33,9 +38,9 @@ fn steps_of(alloc: Global, numbers: &[u32]) -> Result<Vec<StepId>, LogFault> {
 fn added(alloc: Global, log: &mut Log, row: &Row) -> Result<u32, LogFault> {
     let clause = Clause::from_slice(alloc, row.1)?;
     let step = match row.0 {
-        Kind::Axiom => log.axiom(clause)?,
-        Kind::Side => log.side(clause)?,
-        Kind::Derived => log.derive(clause, steps_of(alloc, row.2)?.as_slice())?,
+        StepKind::Axiom => log.axiom(clause)?,
+        StepKind::Side => log.side(clause)?,
+        StepKind::Derived => log.derive(clause, steps_of(alloc, row.2)?.as_slice())?,
     };
     Ok(step.number())
 }
@@ -62,10 +67,12 @@ fn have_numbers(steps: &[StepId], numbers: &[u32]) -> bool {
 }
 
 /// Whether two kinds are the same.
-fn are_one(kind: Kind, other: Kind) -> bool {
+fn are_one(kind: StepKind, other: StepKind) -> bool {
     matches!(
         (kind, other),
-        (Kind::Axiom, Kind::Axiom) | (Kind::Side, Kind::Side) | (Kind::Derived, Kind::Derived)
+        (StepKind::Axiom, StepKind::Axiom)
+            | (StepKind::Side, StepKind::Side)
+            | (StepKind::Derived, StepKind::Derived)
     )
 }
 
@@ -97,11 +104,16 @@ fn is_kept(alloc: Global, log: &Log, row: &Row, reached: &[u32]) -> Result<bool,
 
 /// Steps for a log with room for three.
 const SMALL_LOG: &[Row] = &[
-    (Kind::Axiom, &[P1, P2], &[], Ok(1)),
-    (Kind::Axiom, &[N1, P2], &[], Ok(2)),
-    (Kind::Derived, &[P1], &[1, 2], Err(LogFault::Rejected(2))),
-    (Kind::Derived, &[P2], &[1, 2], Ok(3)),
-    (Kind::Side, &[P1], &[], Err(LogFault::LogFull)),
+    (StepKind::Axiom, &[P1, P2], &[], Ok(1)),
+    (StepKind::Axiom, &[N1, P2], &[], Ok(2)),
+    (
+        StepKind::Derived,
+        &[P1],
+        &[1, 2],
+        Err(LogFault::Rejected(2)),
+    ),
+    (StepKind::Derived, &[P2], &[1, 2], Ok(3)),
+    (StepKind::Side, &[P1], &[], Err(LogFault::LogFull)),
 ];
 
 #[test]
@@ -118,28 +130,38 @@ fn small_log(rt: HostRuntime) -> Result<(), Fail> {
 
 /// Steps with hints of every kind.
 const HINTS: &[Row] = &[
-    (Kind::Axiom, &[P1, P2], &[], Ok(1)),
-    (Kind::Axiom, &[N1, P2], &[], Ok(2)),
-    (Kind::Axiom, &[N2, N2, P3], &[], Ok(3)),
-    (Kind::Derived, &[P1], &[], Err(LogFault::Rejected(1))),
-    (Kind::Derived, &[P2], &[4], Err(LogFault::Rejected(1))),
-    (Kind::Derived, &[P2], &[0], Err(LogFault::Rejected(1))),
-    (Kind::Derived, &[P2], &[1, 9], Err(LogFault::Rejected(2))),
-    (Kind::Derived, &[P2], &[1, 1, 2], Err(LogFault::Rejected(2))),
-    (Kind::Derived, &[P2], &[1], Err(LogFault::Rejected(2))),
+    (StepKind::Axiom, &[P1, P2], &[], Ok(1)),
+    (StepKind::Axiom, &[N1, P2], &[], Ok(2)),
+    (StepKind::Axiom, &[N2, N2, P3], &[], Ok(3)),
+    (StepKind::Derived, &[P1], &[], Err(LogFault::Rejected(1))),
+    (StepKind::Derived, &[P2], &[4], Err(LogFault::Rejected(1))),
+    (StepKind::Derived, &[P2], &[0], Err(LogFault::Rejected(1))),
     (
-        Kind::Derived,
+        StepKind::Derived,
+        &[P2],
+        &[1, 9],
+        Err(LogFault::Rejected(2)),
+    ),
+    (
+        StepKind::Derived,
+        &[P2],
+        &[1, 1, 2],
+        Err(LogFault::Rejected(2)),
+    ),
+    (StepKind::Derived, &[P2], &[1], Err(LogFault::Rejected(2))),
+    (
+        StepKind::Derived,
         &[P1, P2, N1],
         &[1],
         Err(LogFault::Rejected(0)),
     ),
-    (Kind::Derived, &[], &[1], Err(LogFault::Rejected(1))),
-    (Kind::Derived, &[P2, P2], &[1, 2], Ok(4)),
-    (Kind::Derived, &[P3], &[4, 3], Ok(5)),
-    (Kind::Side, &[N3], &[], Ok(6)),
-    (Kind::Derived, &[], &[5, 6], Ok(7)),
-    (Kind::Axiom, &[LARGEST], &[], Err(LogFault::Memory)),
-    (Kind::Derived, &[P2], &[1, 2, 99], Ok(8)),
+    (StepKind::Derived, &[], &[1], Err(LogFault::Rejected(1))),
+    (StepKind::Derived, &[P2, P2], &[1, 2], Ok(4)),
+    (StepKind::Derived, &[P3], &[4, 3], Ok(5)),
+    (StepKind::Side, &[N3], &[], Ok(6)),
+    (StepKind::Derived, &[], &[5, 6], Ok(7)),
+    (StepKind::Axiom, &[LARGEST], &[], Err(LogFault::Memory)),
+    (StepKind::Derived, &[P2], &[1, 2, 99], Ok(8)),
 ];
 
 #[test]
@@ -149,7 +171,7 @@ fn hints_of_every_kind(rt: HostRuntime) -> Result<(), Fail> {
     for row in HINTS {
         assert!(rt; added(alloc, &mut log, row) == row.3);
     }
-    let last: Row = (Kind::Derived, &[P2], &[1, 2], Ok(8));
+    let last: Row = (StepKind::Derived, &[P2], &[1, 2], Ok(8));
     assert!(rt; is_kept(alloc, &log, &HINTS[13], &[6])?);
     assert!(rt; is_kept(alloc, &log, &HINTS[14], &[1, 2, 3, 4, 5, 6, 7])?);
     assert!(rt; is_kept(alloc, &log, &last, &[1, 2, 8])?);

@@ -115,7 +115,7 @@ fn add_pigeons(solver: &mut Solver, alloc: Global) -> Result<(), LogFault> {
 /// The core where each pigeon has a hole, and whether there is a model where none has.
 fn pigeons_found(solver: &mut Solver) -> Result<(Option<Lit>, bool), Halt> {
     let mut budget = Budget::new(1000);
-    solver.name(lit(0, true))?;
+    solver.declare(lit(0, true))?;
     let core = solve_with(solver, lit(12, true), &mut budget)?;
     solver.reset_phases();
     let model = solve_with(solver, lit(12, false), &mut budget)?;

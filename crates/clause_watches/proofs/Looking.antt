@@ -1,10 +1,11 @@
 -- The look for another literal to watch.
-use Rattle.std.proofs.Common.{◌≡◌, ◌≢◌, ℕ, ◌<◌, ◌+◌, List, length, get_or, take, drop, arith, ap, sym, subst, ◌∙◌, ⊎_elim}
+use Rattle.std.proofs.Common.{◌≡◌, ◌≢◌, ℕ, ◌<◌, ◌+◌, List, length, get_or, take, drop, arith, ap, sym, subst, ◌∙◌}
+use Rattle.std.proofs.Common.{⊎_elim}
 use Rattle.std.proofs.Common.{refl, ◌-◌, length-drop}
 use Rattle.std.specs.Prelude.{Option, Some, None}
 use Rattle.std.proofs.lemmas.List.{take-append-drop, take_all}
 use Rattle.std.proofs.lemmas.List.Elements.{Contains-append_cases}
-use Rattle.clause_watches.specs.declared.finding.Found.{Found}
+use Rattle.clause_watches.specs.declared.finding.NewWatch.{NewWatch}
 use Rattle.clause_watches.specs.Picks.{FindsWatch}
 use Rattle.std.specs.Prelude.{Contains}
 use Rattle.std.proofs.lemmas.List.{get_or_default}
@@ -56,7 +57,7 @@ looked_other lits clause i item code other lt is code_is e before = λ x there n
     (front_cases i clause x there)
 
 -- a look from an index on, and then before it, is one of the whole clause
-pub looked_around : (lits clause : List Lit) (n other : ℕ) (result : Option Found)
+pub looked_around : (lits clause : List Lit) (n other : ℕ) (result : Option NewWatch)
     → FindsWatch lits (take (length clause - n) (drop n clause)) other None
     → FindsWatch lits (take n clause) other result → FindsWatch lits clause other result
 looked_around lits clause n other None none h = λ l there ne. ⊎_elim

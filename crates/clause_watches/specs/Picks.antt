@@ -5,7 +5,7 @@ use Rattle.plain_lits.specs.declared.lit.Lit.{Lit}
 use Rattle.plain_lits.specs.Literals.{negation}
 use Rattle.plain_lits.specs.Packed.{packed}
 use Rattle.clause_watches.specs.declared.pair.Pair.{Pair}
-use Rattle.clause_watches.specs.declared.finding.Found.{Found}
+use Rattle.clause_watches.specs.declared.finding.NewWatch.{NewWatch}
 use Rattle.clause_watches.specs.WatchLists.{Listed, list_at, HasMoreRoom}
 
 -- a pair's literals stand in the clause, and a pair of one literal has a clause of no other
@@ -15,7 +15,7 @@ pub record IsPairOf (clause : List Lit) (p : Pair) : Type 0 where
   pub alone : p.first ≡ p.second → (a b : Lit) → Contains clause a → Contains clause b → a ≡ b
 
 -- what a look for another literal to watch gives: one that isn't false and isn't the other watched one
-abbrev pub FindsWatch : List Lit → List Lit → ℕ → Option Found → Type 0
+abbrev pub FindsWatch : List Lit → List Lit → ℕ → Option NewWatch → Type 0
 FindsWatch lits clause other None =
     (l : Lit) → Contains clause l → packed l ≢ other → Contains lits (negation l)
 FindsWatch lits clause other (Some found) =

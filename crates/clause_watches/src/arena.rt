@@ -7,7 +7,7 @@ ghost use Rattle.plain_lits.specs.declared.lit.Lit.{Lit};
 ghost use Rattle.clause_watches.specs.Arenas.{pair_of};
 ghost use Rattle.clause_watches.specs.Picks.{FindsWatch};
 
-use crate::finding::{Found, find_around};
+use crate::finding::{NewWatch, find_around};
 use crate::pair::Pair;
 use lists::Memory;
 use plain_lits::{Lit, PackedLit, Rows, Trail};
@@ -118,7 +118,7 @@ impl Arena {
 
     /// A literal of a clause that isn't false and isn't the other watched one, whose code is given. The look begins
     /// where the clause's last one ended.
-    pub fn find_watch(&self, trail: &Trail, id: u32, other: usize) -> Option<Found>
+    pub fn find_watch(&self, trail: &Trail, id: u32, other: usize) -> Option<NewWatch>
         requires { IsNamed self.now.clauses id }
         ensures { FindsWatch trail.now.lits (clause_at self.now.clauses id) other result }
     {

@@ -8,13 +8,13 @@ use plain_lits::{PackedLit, Trail, Value};
 /// A literal of a clause, and about where it was found: a later look may begin there. What is told of the index is
 /// advice.
 #[derive(Clone, Copy)]
-pub struct Found {
+pub struct NewWatch {
     pub lit: PackedLit,
     pub at: usize,
 }
 
 /// A literal of a part of a clause that isn't false and isn't the other watched one.
-fn find_in(trail: &Trail, part: &[PackedLit], other: usize) -> Option<Found>
+fn find_in(trail: &Trail, part: &[PackedLit], other: usize) -> Option<NewWatch>
     ensures { FindsWatch trail.now.lits part.now other result }
 {
     for at in 0..part.len() {
@@ -22,7 +22,7 @@ fn find_in(trail: &Trail, part: &[PackedLit], other: usize) -> Option<Found>
         if lit.code() != other {
             match trail.value(lit.lit()) {
                 Value::False => {}
-                _ => return Some(Found { lit, at }),
+                _ => return Some(NewWatch { lit, at }),
             }
         }
     }
@@ -36,12 +36,12 @@ pub(crate) fn find_around(
     clause: &[PackedLit],
     begin: usize,
     other: usize,
-) -> Option<Found>
+) -> Option<NewWatch>
     requires { begin ≤ length clause.now }
     ensures { FindsWatch trail.now.lits clause.now other result }
 {
     match find_in(trail, &clause[begin..], other) {
-        Some(found) => Some(Found {
+        Some(found) => Some(NewWatch {
             lit: found.lit,
             at: begin.saturating_add(found.at),
         }),

@@ -1,12 +1,13 @@
 -- What calls for an axiom, in the core's words, and how an axiom or an entry comes.
-use Rattle.std.proofs.Common.{◌≡◌, inl, ⊎_elim, ℕ, ◌<◌, ◌≤◌, min, Bool, true, false, List, length, take, refl, ap, sym, subst, ◌∙◌, arith}
+use Rattle.std.proofs.Common.{◌≡◌, inl, ⊎_elim, ℕ, ◌<◌, ◌≤◌, min, Bool, true, false, List, length, take, refl, ap}
+use Rattle.std.proofs.Common.{sym, subst, ◌∙◌, arith}
 use Rattle.std.specs.Prelude.{◌↔◌, IsTrue, Some, None}
 use Rattle.std.proofs.lemmas.Bool.{cases_lt, false≢true}
 use Rattle.std.proofs.lemmas.List.{length-take, take_all, take-take}
 use Rattle.meaning_atoms.specs.declared.atom.AtomLit.{AtomLit}
 use Rattle.meaning_atoms.specs.declared.axiom.AxiomName.{AxiomName}
 use Rattle.certificate_claims.specs.Refutations.{axiom_clause}
-use Rattle.edit_history.specs.declared.entry.Entry.{Entry}
+use Rattle.edit_history.specs.declared.entry.HistoryEntry.{HistoryEntry}
 use Rattle.edit_history.specs.Entries.{framework_after}
 use Rattle.oracle_face.specs.declared.entry.Entry.{Entry as PoolEntry}
 use Rattle.oracle_face.specs.Logs.{IsNew, LogStep, OracleLog, by_axiom, is_loop, working}
@@ -23,7 +24,7 @@ use Rattle.core_events.specs.Needs.{IsNamedAmong, IsNeededAmong}
 -- ---- needed axioms
 
 module _ (core : Core) (s : ℕ) (name : AxiomName) where
-  abbrev seen_part : List Entry
+  abbrev seen_part : List HistoryEntry
   seen_part = take (core.sessions s).seen core.history
 
   -- fewer entries of a front are a front
@@ -40,7 +41,8 @@ module _ (core : Core) (s : ℕ) (name : AxiomName) where
       record {
         count = w.count;
         seen = le;
-        needed = subst (λ (es : List Entry). IsNeeded (framework_after core.opening es) name) (shorter w.count le)
+        needed = subst (λ (es : List HistoryEntry). IsNeeded (framework_after core.opening es) name)
+            (shorter w.count le)
             w.needed;
       }
 
@@ -51,7 +53,7 @@ module _ (core : Core) (s : ℕ) (name : AxiomName) where
       (λ (more : length seen_part < w.count). record {
         count = length seen_part;
         within = omega arith;
-        needed = subst (λ (es : List Entry). IsNeeded (framework_after core.opening es) name)
+        needed = subst (λ (es : List HistoryEntry). IsNeeded (framework_after core.opening es) name)
             (take_all w.count core.history (omega (arith, long))
             ∙ (sym (take_all (core.sessions s).seen core.history (omega (arith, long)))
             ∙ sym (take_all (length seen_part) seen_part (omega arith)))) w.needed;
@@ -59,17 +61,17 @@ module _ (core : Core) (s : ℕ) (name : AxiomName) where
       (λ few. record {
         count = w.count;
         within = omega (arith, few);
-        needed = subst (λ (es : List Entry). IsNeeded (framework_after core.opening es) name)
+        needed = subst (λ (es : List HistoryEntry). IsNeeded (framework_after core.opening es) name)
             (sym (shorter w.count w.seen)) w.needed;
       })
       (cases_lt (length seen_part) w.count)
 
-  pub called_needed : (b named : Bool) (seen : List Entry) → seen ≡ seen_part
+  pub called_needed : (b named : Bool) (seen : List HistoryEntry) → seen ≡ seen_part
       → IsTrue named ↔ IsNamedInPool core name → named ≡ false → IsTrue b ↔ IsNeededAmong core.opening seen name
       → IsTrue b ↔ IsCalledFor core s name
   called_needed b named seen e hn no_ h = (
-    λ t. inl (needed_to (subst (λ (es : List Entry). IsNeededAmong core.opening es name) e (h.0 t))),
-    λ called. ⊎_elim (λ w. h.1 (subst (λ (es : List Entry). IsNeededAmong core.opening es name) (sym e)
+    λ t. inl (needed_to (subst (λ (es : List HistoryEntry). IsNeededAmong core.opening es name) e (h.0 t))),
+    λ called. ⊎_elim (λ w. h.1 (subst (λ (es : List HistoryEntry). IsNeededAmong core.opening es name) (sym e)
         (needed_from w)))
         (λ w. absurd (false≢true (sym no_ ∙ hn.1 w))) called,
   )

@@ -1,5 +1,6 @@
 -- What the looks for axioms come to.
-use Rattle.std.proofs.Common.{◌≡◌, ⊎_elim, ℕ, ◌+◌, ◌<◌, ◌≤◌, ◌==◌, Bool, true, false, List, [], ◌∷◌, ◌++◌, length, take, get_or, refl, ap, sym, subst, ◌∙◌, arith}
+use Rattle.std.proofs.Common.{◌≡◌, ⊎_elim, ℕ, ◌+◌, ◌<◌, ◌≤◌, ◌==◌, Bool, true, false, List, [], ◌∷◌, ◌++◌, length}
+use Rattle.std.proofs.Common.{take, get_or, refl, ap, sym, subst, ◌∙◌, arith}
 use Rattle.std.specs.Prelude.{◌↔◌, IsTrue, Some}
 use Rattle.std.proofs.lemmas.Bool.{cases_Bool, cases_lt, eqb-true, false≢true}
 use Rattle.std.proofs.lemmas.List.{take_all, take_more}
@@ -7,7 +8,7 @@ use Rattle.lists.proofs.Membership.{Contains-head, Contains-tail}
 use Rattle.semantics.specs.Frameworks.{Framework}
 use Rattle.meaning_atoms.specs.declared.axiom.AxiomName.{AxiomName}
 use Rattle.edit_rules.specs.Replay.{after_edit}
-use Rattle.edit_history.specs.declared.entry.Entry.{Entry}
+use Rattle.edit_history.specs.declared.entry.HistoryEntry.{HistoryEntry}
 use Rattle.edit_history.specs.Entries.{framework_after}
 use Rattle.oracle_face.specs.declared.entry.Entry.{Entry as PoolEntry}
 use Rattle.oracle_face.specs.Needed.{IsNeeded}
@@ -19,27 +20,29 @@ use Rattle.core_events.proofs.Tests.{if_false}
 
 -- ---- frameworks
 
-after_one : (f : Framework) (entries : List Entry) (entry : Entry)
+after_one : (f : Framework) (entries : List HistoryEntry) (entry : HistoryEntry)
     → framework_after f (entries ++ entry ∷ []) ≡ after_edit (framework_after f entries) entry.edit
 after_one f [] entry = refl
 after_one f (first ∷ more) entry = after_one (after_edit f first.edit) more entry
 
-pub after_next : (f now next : Framework) (entries : List Entry) (i : ℕ) (entry : Entry) → i < length entries
+pub after_next : (f now next : Framework) (entries : List HistoryEntry) (i : ℕ) (entry : HistoryEntry) → i < length
+    entries
     → entry ≡ get_or entries i entry → now ≡ framework_after f (take i entries) → next ≡ after_edit now entry.edit
     → next ≡ framework_after f (take (i + 1) entries)
 after_next f now next entries i entry lt read so_far step =
     step ∙ (ap (λ g. after_edit g entry.edit) so_far
     ∙ (sym (after_one f (take i entries) entry)
-    ∙ ap (framework_after f) (ap (λ (e : Entry). take i entries ++ e ∷ []) read ∙ sym (take_more entries i entry lt))))
+    ∙ ap (framework_after f) (ap (λ (e : HistoryEntry). take i entries ++ e ∷ []) read ∙ sym
+    (take_more entries i entry lt))))
 
-pub after_all : (f now : Framework) (entries : List Entry) (i : ℕ) → length entries ≤ i
+pub after_all : (f now : Framework) (entries : List HistoryEntry) (i : ℕ) → length entries ≤ i
     → now ≡ framework_after f (take i entries) → now ≡ framework_after f entries
 after_all f now entries i le so_far = so_far ∙ ap (framework_after f) (take_all i entries le)
 
 -- ---- needed axioms
 
 -- none of one more framework
-pub needed_no_more : (f now : Framework) (entries : List Entry) (i : ℕ) (name : AxiomName) (b : Bool)
+pub needed_no_more : (f now : Framework) (entries : List HistoryEntry) (i : ℕ) (name : AxiomName) (b : Bool)
     → now ≡ framework_after f (take i entries) → IsTrue b ↔ IsNeeded now name → b ≡ false
     → ((count : ℕ) → count < i → IsNeeded (framework_after f (take count entries)) name → ⊥)
     → (count : ℕ) → count < i + 1 → IsNeeded (framework_after f (take count entries)) name → ⊥
@@ -51,7 +54,7 @@ needed_no_more f now entries i name b e h no_ none count lt needed =
     (cases_lt count i)
 
 -- it is needed after some of the entries
-pub needed_here : (f now : Framework) (entries : List Entry) (i : ℕ) (name : AxiomName) (b : Bool)
+pub needed_here : (f now : Framework) (entries : List HistoryEntry) (i : ℕ) (name : AxiomName) (b : Bool)
     → now ≡ framework_after f (take i entries) → IsTrue b ↔ IsNeeded now name → b ≡ true → i ≤ length entries
     → IsTrue true ↔ IsNeededAmong f entries name
 needed_here f now entries i name b e h yes_ le = (
@@ -60,7 +63,7 @@ needed_here f now entries i name b e h yes_ le = (
 )
 
 -- after all of them, where it isn't after fewer
-pub needed_last : (f now : Framework) (entries : List Entry) (i : ℕ) (name : AxiomName) (b : Bool)
+pub needed_last : (f now : Framework) (entries : List HistoryEntry) (i : ℕ) (name : AxiomName) (b : Bool)
     → i ≡ length entries → now ≡ framework_after f (take i entries)
     → ((count : ℕ) → count < i → IsNeeded (framework_after f (take count entries)) name → ⊥)
     → IsTrue b ↔ IsNeeded now name → IsTrue b ↔ IsNeededAmong f entries name

@@ -1,12 +1,13 @@
 -- Events in turn, and that they are a run of the core.
-use Rattle.std.proofs.Common.{◌≡◌, ◌∙◌, ℕ, ◌+◌, ◌<◌, List, [], ◌∷◌, ◌++◌, length, get_or, map, take, drop, ap, sym, subst}
+use Rattle.std.proofs.Common.{◌≡◌, ◌∙◌, ℕ, ◌+◌, ◌<◌, List, [], ◌∷◌, ◌++◌, length, get_or, map, take, drop, ap, sym}
+use Rattle.std.proofs.Common.{subst}
 use Rattle.std.specs.Prelude.{Result, Ok, Err}
 use Rattle.std.specs.Result.{IsErr, IsErrAnd}
 use Rattle.std.proofs.lemmas.Bool.{false≢true}
 use Rattle.std.proofs.lemmas.List.{drop_more, take-append-drop, take_more}
 use Rattle.core_machine.specs.Core.{Core}
 use Rattle.core_machine.specs.Steps.{IsStep, Runs, goes, rests, taken_by}
-use Rattle.edit_history.specs.declared.entry.Entry.{Entry}
+use Rattle.edit_history.specs.declared.entry.HistoryEntry.{HistoryEntry}
 use Rattle.core_events.specs.declared.event.Event.{Event}
 use Rattle.core_events.specs.declared.stop.StepStop.{StepStop}
 use Rattle.core_events.specs.declared.stop.StepStop.TheVariants.{Memory, NotAStep}
@@ -71,7 +72,7 @@ module _ (old : Core) (events : List Event) where
 
 -- events that lead somewhere are a run of the core
 pub lead_runs : (old new : Core) (events : List Event) → Lead old events new
-    → (taken : List Entry) × Runs old (map event_of events) taken new
+    → (taken : List HistoryEntry) × Runs old (map event_of events) taken new
 lead_runs old new events (nothing _) = ([], rests old)
 lead_runs old new events (first _ mid _ event more step later) =
     let run = lead_runs mid new more later in (

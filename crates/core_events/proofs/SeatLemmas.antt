@@ -3,13 +3,13 @@ use Rattle.std.proofs.Common.{◌≡◌, ◌≢◌, ⊎_elim, ℕ, zero, suc, �
 use Rattle.std.specs.Prelude.{slice_index_or, slice_set, if◌then◌else◌}
 use Rattle.std.proofs.lemmas.Bool.{cases_Bool, eqb-true, false≢true}
 use Rattle.core_machine.specs.Core.{CoreSession, put_at}
-use Rattle.core_events.specs.declared.seats.Seat.{Seat}
+use Rattle.core_events.specs.declared.seats.MachineSeat.{MachineSeat}
 use Rattle.core_events.specs.Seats.{IsSeatAt, fresh, session_of, sessions_of}
 use Rattle.core_events.proofs.Tests.{if_false, if_true, other_test, same_test}
 
 -- ---- seats
 
-tail_at : (seat : Seat) (seats : List Seat) (number k : ℕ) → IsSeatAt (seat ∷ seats) number (suc k)
+tail_at : (seat : MachineSeat) (seats : List MachineSeat) (number k : ℕ) → IsSeatAt (seat ∷ seats) number (suc k)
     → IsSeatAt seats number k
 tail_at seat seats number k at =
     let lt = at.within in
@@ -20,7 +20,8 @@ tail_at seat seats number k at =
     }
 
 -- the session of a seat's number is its own
-pub session_there : (limit : ℕ) (seats : List Seat) (number index : ℕ) (blank : Seat) → IsSeatAt seats number index
+pub session_there : (limit : ℕ) (seats : List MachineSeat) (number index : ℕ) (blank : MachineSeat) → IsSeatAt seats
+    number index
     → sessions_of limit seats number ≡ session_of (slice_index_or seats index blank).session
 session_there limit [] number index blank at = absurd (let lt = at.within in omega (arith, lt))
 session_there limit (seat ∷ seats) number zero blank at =
@@ -32,9 +33,10 @@ session_there limit (seat ∷ seats) number (suc k) blank at =
     ∙ session_there limit seats number k blank (tail_at seat seats number k at)
 
 -- one seat has another session now
-pub session_replaced : (limit : ℕ) (seats : List Seat) (number index : ℕ) (new : Seat) (n : ℕ)
+pub session_replaced : (limit : ℕ) (seats : List MachineSeat) (number index : ℕ) (new : MachineSeat) (n : ℕ)
     → IsSeatAt seats number index → new.number ≡ number
-    → sessions_of limit (slice_set seats index new) n ≡ put_at number (session_of new.session) (sessions_of limit seats) n
+    → sessions_of limit (slice_set seats index new) n ≡ put_at number (session_of new.session) (sessions_of limit seats)
+    n
 session_replaced limit [] number index new n at e = absurd (let lt = at.within in omega (arith, lt))
 session_replaced limit (seat ∷ seats) number zero new n at e =
     let rest = sessions_of limit seats n in
@@ -65,11 +67,13 @@ session_replaced limit (seat ∷ seats) number (suc k) new n at e =
     (cases_Bool (n == number))
 
 -- a seat more for a session that has done nothing
-pub session_added : (limit : ℕ) (seats : List Seat) (new : Seat) (n : ℕ) → session_of new.session ≡ fresh limit
+pub session_added : (limit : ℕ) (seats : List MachineSeat) (new : MachineSeat) (n : ℕ) → session_of new.session ≡ fresh
+    limit
     → sessions_of limit (seats ++ new ∷ []) n ≡ sessions_of limit seats n
 session_added limit [] new n e =
     ⊎_elim
     (λ t. if_true (n == new.number) (session_of new.session) (fresh limit) t ∙ e)
     (λ f. if_false (n == new.number) (session_of new.session) (fresh limit) f) (cases_Bool (n == new.number))
 session_added limit (seat ∷ seats) new n e =
-    ap (λ (x : CoreSession). if n == seat.number then session_of seat.session else x) (session_added limit seats new n e)
+    ap (λ (x : CoreSession). if n == seat.number then session_of seat.session else x)
+    (session_added limit seats new n e)

@@ -1,5 +1,6 @@
 -- What is handed on, and what the core then is.
-use Rattle.std.proofs.Common.{◌≡◌, inl, inr, ⊎_elim, ℕ, ◌<◌, Bool, false, List, [], ◌∷◌, ◌++◌, length, map, get_or, refl, ap, sym, subst, ◌∙◌}
+use Rattle.std.proofs.Common.{◌≡◌, inl, inr, ⊎_elim, ℕ, ◌<◌, Bool, false, List, [], ◌∷◌, ◌++◌, length, map, get_or}
+use Rattle.std.proofs.Common.{refl, ap, sym, subst, ◌∙◌}
 use Rattle.std.specs.Prelude.{◌⊎◌, ◌↔◌, IsTrue, OnOk, Option, Some, None, Result, Ok, Err, slice_index_or}
 use Rattle.std.specs.Global.{Vec}
 use Rattle.std.specs.Vec.{with_item}
@@ -16,7 +17,7 @@ use Rattle.core_machine.specs.Core.{Core, CoreSession, put_at}
 use Rattle.core_machine.specs.Steps.{IsStep, name_of_step, origin_of, share}
 use Rattle.core_events.specs.declared.machine.Machine.{Machine}
 use Rattle.core_events.specs.declared.places.Place.{Place}
-use Rattle.core_events.specs.declared.seats.Seat.{Seat}
+use Rattle.core_events.specs.declared.seats.MachineSeat.{MachineSeat}
 use Rattle.core_events.specs.Machines.{core_of}
 use Rattle.core_events.specs.Places.{pool_of}
 use Rattle.core_events.specs.Seats.{IsSeatAt, session_of, sessions_of}
@@ -109,7 +110,7 @@ not_there core s k i places entry b pool here h no_ next is =
 abbrev handed : CoreSession → List ℕ → CoreSession
 handed session shared = record session { shared = shared }
 
-abbrev with_shared : Machine → ℕ → Seat → Vec Place → Vec ℕ → Machine
+abbrev with_shared : Machine → ℕ → MachineSeat → Vec Place → Vec ℕ → Machine
 with_shared m index seat pool shared = record m {
   pool = pool;
   seats = with_item m.seats index (record {
@@ -123,7 +124,7 @@ with_shared m index seat pool shared = record m {
   });
 }
 
-pub shares : (m : Machine) (s k i index : ℕ) (seat : Seat) (pool : Vec Place) (shared : Vec ℕ) (entry : Entry)
+pub shares : (m : Machine) (s k i index : ℕ) (seat : MachineSeat) (pool : Vec Place) (shared : Vec ℕ) (entry : Entry)
     → IsSeatAt m.seats.items s index → seat ≡ get_or m.seats.items index seat
     → IsEntryFor s ((core_of m).sessions s).log.steps k entry
     → ((pool_of m.pool.items i ≡ None) ⊎ (pool_of m.pool.items i ≡ Some entry))
@@ -133,7 +134,7 @@ shares m s k i index seat pool shared entry at read made place e long =
     let there = seated m s index seat at read in
     let session = ap (handed (session_of seat.session)) long
     ∙ ap (λ (x : CoreSession). handed x (k ∷ x.shared)) (sym there) in
-    let new : Seat = record {
+    let new : MachineSeat = record {
       number = seat.number;
       session = record {
         seen = seat.session.seen;

@@ -11,12 +11,12 @@ use Rattle.edit_rules.specs.declared.edit.Edit.{Edit}
 use Rattle.edit_rules.specs.declared.effect.Effect.{Effect}
 use Rattle.edit_rules.specs.declared.effect.EditFault.{EditFault}
 use Rattle.edit_rules.specs.Edits.{edit_outcome}
-use Rattle.edit_history.specs.declared.entry.Entry.{Entry}
+use Rattle.edit_history.specs.declared.entry.HistoryEntry.{HistoryEntry}
 use Rattle.edit_history.specs.Entries.{framework_after}
 use Rattle.core_machine.specs.Core.{Core, CoreSession, put_at}
 use Rattle.core_machine.specs.Steps.{IsStep, after_turn, commit, committed, entry_taken, refresh}
 use Rattle.core_events.specs.declared.machine.Machine.{Machine}
-use Rattle.core_events.specs.declared.seats.Seat.{Seat}
+use Rattle.core_events.specs.declared.seats.MachineSeat.{MachineSeat}
 use Rattle.core_events.specs.declared.stop.StepStop.{StepStop}
 use Rattle.core_events.specs.declared.stop.StepStop.TheVariants.{Memory, NotAStep}
 use Rattle.core_events.specs.Machines.{core_of}
@@ -32,7 +32,7 @@ use Rattle.core_events.proofs.Tests.{if_false, if_true}
 abbrev seen_now : CoreSession → ℕ → CoreSession
 seen_now session n = record session { seen = n }
 
-abbrev with_seen : Machine → ℕ → ℕ → Seat → Vec Entry → ℕ → Machine
+abbrev with_seen : Machine → ℕ → ℕ → MachineSeat → Vec HistoryEntry → ℕ → Machine
 with_seen m index turns seat history seen = record m {
   history = history;
   turns = turns;
@@ -47,9 +47,9 @@ with_seen m index turns seat history seen = record m {
   });
 }
 
-module _ (m : Machine) (s index : ℕ) (seat : Seat) (at : IsSeatAt m.seats.items s index)
+module _ (m : Machine) (s index : ℕ) (seat : MachineSeat) (at : IsSeatAt m.seats.items s index)
     (read : seat ≡ get_or m.seats.items index seat) where
-  turned_here : (turns : ℕ) (history : Vec Entry) (seen : ℕ) (entries : List Entry) → turns ≡ m.turns + 1
+  turned_here : (turns : ℕ) (history : Vec HistoryEntry) (seen : ℕ) (entries : List HistoryEntry) → turns ≡ m.turns + 1
       → history.items ≡ m.history.items ++ entries → seen ≡ length history.items
       → core_of (with_seen m index turns seat history seen) ≡ after_turn (core_of m) s entries
   turned_here turns history seen entries et eh es =
@@ -57,7 +57,7 @@ module _ (m : Machine) (s index : ℕ) (seat : Seat) (at : IsSeatAt m.seats.item
       let session = ap (seen_now (session_of seat.session)) long
       ∙ ap (λ (x : CoreSession). seen_now x (length (m.history.items ++ entries)))
       (sym (seated m s index seat at read)) in
-      let new : Seat = record {
+      let new : MachineSeat = record {
         number = seat.number;
         session = record {
           seen = seen;
@@ -74,7 +74,7 @@ module _ (m : Machine) (s index : ℕ) (seat : Seat) (at : IsSeatAt m.seats.item
             ∙ ap (λ (x : CoreSession). put_at s x (sessions_of m.log_limit m.seats.items) n) session) i;
       }
 
-  pub turned : (before : Core) (turns : ℕ) (history : Vec Entry) (seen : ℕ) (entries : List Entry)
+  pub turned : (before : Core) (turns : ℕ) (history : Vec HistoryEntry) (seen : ℕ) (entries : List HistoryEntry)
       → core_of m ≡ before → turns ≡ before.turns + 1 → history.items ≡ m.history.items ++ entries
       → seen ≡ length history.items
       → core_of (with_seen m index turns seat history seen) ≡ after_turn before s entries
@@ -82,15 +82,15 @@ module _ (m : Machine) (s index : ℕ) (seat : Seat) (at : IsSeatAt m.seats.item
       turned_here turns history seen entries (et ∙ ap (λ (c : Core). c.turns + 1) (sym same)) eh es
       ∙ ap (λ (c : Core). after_turn c s entries) same
 
-pub nothing_added : (entries : List Entry) → entries ≡ entries ++ []
+pub nothing_added : (entries : List HistoryEntry) → entries ≡ entries ++ []
 nothing_added entries = sym (append-nil entries)
 
 -- entries that weren't added
-pub same_history : (m : Machine) (before : Core) (history : Vec Entry) → history.items ≡ m.history.items
+pub same_history : (m : Machine) (before : Core) (history : Vec HistoryEntry) → history.items ≡ m.history.items
     → core_of m ≡ before → core_of (record m { history = history }) ≡ before
 same_history m before history e same = (λ i. record (core_of m) { history = e i }) ∙ same
 
-pub turn_stopped : (core now : Core) (s : ℕ) (entries : List Entry) (r : Result (Unit {0}) StepStop)
+pub turn_stopped : (core now : Core) (s : ℕ) (entries : List HistoryEntry) (r : Result (Unit {0}) StepStop)
     → IsErr r × IsErrAnd r (λ stop. stop ≡ Memory) → now ≡ core → Turns core s entries now r
 turn_stopped core now s entries (Ok done) h same = absurd (false≢true h.0)
 turn_stopped core now s entries (Err stop) h same =
@@ -98,7 +98,8 @@ turn_stopped core now s entries (Err stop) h same =
 
 -- ---- commits
 
-pub commit_comes : (core now : Core) (s : ℕ) (edit : Edit) (entries : List Entry) (r : Result (Unit {0}) StepStop)
+pub commit_comes : (core now : Core) (s : ℕ) (edit : Edit) (entries : List HistoryEntry)
+    (r : Result (Unit {0}) StepStop)
     → committed core s edit ≡ entries → Turns core s entries now r → Comes (IsStep core (commit s edit)) core now r
 commit_comes core now s edit entries (Ok done) e h = h ∙ ap (after_turn core s) (sym e)
 commit_comes core now s edit entries (Err NotAStep) e h = absurd h

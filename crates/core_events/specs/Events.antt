@@ -1,4 +1,5 @@
 -- The events of the core that a machine's events are.
+use Rattle.semantics.specs.declared.limits.TheConstants.{MAX_EXTENSIONS}
 use Rattle.oracle_face.specs.Logs.{Source, by_axiom, by_hints}
 use Rattle.core_machine.specs.Steps.{Event as CoreEvent, answer, commit, learn, refresh, share, side, take_in}
 use Rattle.core_answers.specs.Outcomes.{ending_of}
@@ -11,7 +12,7 @@ abbrev pub source_by : Origin → Source
 source_by (Axiom name) = by_axiom name
 source_by (Hints hints) = by_hints hints
 
--- the core's event that an event is: an answer lists 10,000 extensions at most
+-- the core's event that an event is: an answer lists `MAX_EXTENSIONS` at most
 abbrev pub event_of : Event → CoreEvent
 event_of (Commit s edit) = commit s edit
 event_of (Refresh s) = refresh s
@@ -19,4 +20,4 @@ event_of (Learn s clause origin closing) = learn s clause (source_by origin) clo
 event_of (Side s set literals) = side s set literals
 event_of (Share s step index) = share s step index
 event_of (Import s index) = take_in s index
-event_of (Answer s query limit pending result) = answer s query 10000 limit pending (ending_of result)
+event_of (Answer s query limit pending result) = answer s query MAX_EXTENSIONS limit pending (ending_of result)

@@ -2,7 +2,7 @@
 use Rattle.std.specs.Prelude.{◌≡◌, ◌≤◌, ℕ, List, length, take, Some}
 use Rattle.semantics.specs.Frameworks.{Framework}
 use Rattle.meaning_atoms.specs.declared.axiom.AxiomName.{AxiomName}
-use Rattle.edit_history.specs.declared.entry.Entry.{Entry}
+use Rattle.edit_history.specs.declared.entry.HistoryEntry.{HistoryEntry}
 use Rattle.edit_history.specs.Entries.{framework_after}
 use Rattle.oracle_face.specs.declared.entry.Entry.{Entry as PoolEntry}
 use Rattle.oracle_face.specs.Needed.{IsNeeded}
@@ -11,7 +11,7 @@ use Rattle.core_events.specs.declared.places.Place.{Place}
 use Rattle.core_events.specs.Places.{pool_of}
 
 -- the axiom is needed on the framework after some of the entries
-pub record IsNeededAmong (opening : Framework) (entries : List Entry) (name : AxiomName) : Type 0 where
+pub record IsNeededAmong (opening : Framework) (entries : List HistoryEntry) (name : AxiomName) : Type 0 where
   pub count : ℕ
   pub within : count ≤ length entries
   pub needed : IsNeeded (framework_after opening (take count entries)) name

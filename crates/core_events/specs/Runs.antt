@@ -1,7 +1,7 @@
 -- What events come to, one after the other.
 use Rattle.std.specs.Prelude.{◌≡◌, ℕ, List, [], ◌∷◌, ◌++◌, map, Result, Ok, Err}
 use Rattle.semantics.specs.Frameworks.{Framework}
-use Rattle.edit_history.specs.declared.entry.Entry.{Entry}
+use Rattle.edit_history.specs.declared.entry.HistoryEntry.{HistoryEntry}
 use Rattle.core_machine.specs.Core.{Core}
 use Rattle.core_machine.specs.Laws.{IsRun}
 use Rattle.core_machine.specs.Steps.{IsStep}
@@ -45,4 +45,4 @@ ComeTo old events new (Err Memory) = BreaksOff old events new
 abbrev pub MachinesRun : Type 0
 MachinesRun = (f : Framework) (limit log_limit : ℕ) (start : Machine) (events : List Event) (core : Core)
     → IsNewMachine f limit log_limit start → Lead (core_of start) events core
-    → (taken : List Entry) × IsRun (core_of start) (map event_of events) taken core
+    → (taken : List HistoryEntry) × IsRun (core_of start) (map event_of events) taken core

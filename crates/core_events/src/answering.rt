@@ -1,6 +1,7 @@
 //! Answers to queries.
 
 ghost use Rattle.std.specs.Prelude.{◌↔◌, IfOk, IsTrue};
+ghost use Rattle.semantics.specs.declared.limits.TheConstants.{MAX_EXTENSIONS};
 ghost use Rattle.core_machine.specs.Steps.{IsStep, answer};
 ghost use Rattle.core_answers.specs.Outcomes.{ending_of};
 ghost use Rattle.core_events.specs.Answering.{MayAnswer};
@@ -15,10 +16,8 @@ use core_answers::{Outcome, may_end};
 use iccma_tasks::Query;
 use lists::Memory;
 use oracle_face::Pending;
+use semantics::MAX_EXTENSIONS;
 use std::alloc::Global;
-
-/// How many extensions an answer may list.
-pub const MOST_EXTENSIONS: u32 = 10_000;
 
 impl Machine {
     /// Whether the session of a seat may answer a query so.
@@ -45,7 +44,7 @@ impl Machine {
             alloc,
             &framework,
             query,
-            MOST_EXTENSIONS,
+            MAX_EXTENSIONS,
             log,
             answered,
             budget,
@@ -65,7 +64,7 @@ impl Machine {
         outcome: &Outcome,
     ) -> Result<(), StepStop>
         ensures { Comes (IsStep (core_of self.old)
-            (answer session query.now 10000 budget pending.now (ending_of outcome.now)))
+            (answer session query.now MAX_EXTENSIONS budget pending.now (ending_of outcome.now)))
             (core_of self.old) (core_of self.new) result }
     {
         let index = self.seat(alloc, session)?;

@@ -9,17 +9,17 @@ ghost use Rattle.core_events.specs.Turns.{IsCommitted, Turns};
 use crate::machine::Machine;
 use crate::needs::replay;
 use crate::stop::StepStop;
-use edit_history::Entry;
+use edit_history::HistoryEntry;
 use edit_rules::{Edit, EditFault, apply};
 use lists::Memory;
 use std::alloc::Global;
 
 /// Adds an entry behind the others. After `Memory` the entries are as before.
-fn add_entry(history: &mut Vec<Entry>, session: u32, edit: Edit) -> Result<(), Memory>
+fn add_entry(history: &mut Vec<HistoryEntry>, session: u32, edit: Edit) -> Result<(), Memory>
     ensures ok { OnOk result (history.new.items ≡ history.old.items ++ record { session = session; edit = edit } ∷ []) }
     ensures err { OnErr result (history.new.items ≡ history.old.items) }
 {
-    history.push(Entry { session, edit })?;
+    history.push(HistoryEntry { session, edit })?;
     Ok(())
 }
 

@@ -14,12 +14,12 @@ use crate::log_events::{derive, keep_side, take_axiom};
 use crate::naming::import;
 use crate::needs::{front, is_axiom_of, is_named, is_needed_among};
 use crate::places::{Place, find_entry};
-use crate::seats::{Seat, seat_of};
+use crate::seats::{MachineSeat, seat_of};
 use crate::stop::StepStop;
 use certificate_claims::clause_of_axiom;
 use core_logs::checking::is_new;
 use core_logs::sources::is_loop_clause;
-use edit_history::Entry;
+use edit_history::HistoryEntry;
 use edit_rules::Framework;
 use lists::Memory;
 use meaning_atoms::{AtomLit, AxiomName};
@@ -33,10 +33,10 @@ pub struct Machine {
     pub(crate) opening: Framework,
     pub(crate) limit: u64,
     pub(crate) log_limit: u64,
-    pub(crate) history: Vec<Entry>,
+    pub(crate) history: Vec<HistoryEntry>,
     pub(crate) turns: u64,
     pub(crate) pool: Vec<Place>,
-    pub(crate) seats: Vec<Seat>,
+    pub(crate) seats: Vec<MachineSeat>,
 }
 
 impl Drop for Machine {

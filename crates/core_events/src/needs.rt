@@ -15,7 +15,7 @@ use crate::places::{Place, find_entry};
 use aba_encoding::needed as needed_of_aba;
 use af_encoding::needed as needed_of_af;
 use core_logs::equality::axioms_are_equal;
-use edit_history::Entry;
+use edit_history::HistoryEntry;
 use edit_rules::{Edit, EditFault, Framework, apply};
 use lists::{Items, Memory};
 use meaning_atoms::AxiomName;
@@ -23,7 +23,7 @@ use oracle_face::{EntryOrigin, HintName};
 use std::alloc::Global;
 
 /// The first `count` entries, or all if there are fewer.
-pub(crate) fn front(entries: &[Entry], count: usize) -> &[Entry]
+pub(crate) fn front(entries: &[HistoryEntry], count: usize) -> &[HistoryEntry]
     ensures { result.now ≡ take count entries.now }
 {
     if entries.len() <= count {
@@ -46,7 +46,7 @@ fn follow(alloc: Global, framework: &mut Framework, edit: &Edit) -> Result<(), M
 pub(crate) fn replay(
     alloc: Global,
     opening: &Framework,
-    entries: &[Entry],
+    entries: &[HistoryEntry],
 ) -> Result<Framework, Memory>
     ensures { IfOk result (λ framework. framework_of framework
         ≡ framework_after (framework_of opening.now) entries.now) }
@@ -88,7 +88,7 @@ fn is_needed(alloc: Global, framework: &Framework, name: &AxiomName) -> Result<b
 fn is_needed_along(
     alloc: Global,
     framework: &mut Framework,
-    entries: &[Entry],
+    entries: &[HistoryEntry],
     name: &AxiomName,
 ) -> Result<bool, Memory>
     ensures { IfOk result (λ is. IsTrue is ↔ IsNeededAmong (framework_of framework.old) entries.now name.now) }
@@ -106,7 +106,7 @@ fn is_needed_along(
 pub(crate) fn is_needed_among(
     alloc: Global,
     opening: &Framework,
-    entries: &[Entry],
+    entries: &[HistoryEntry],
     name: &AxiomName,
 ) -> Result<bool, Memory>
     ensures { IfOk result (λ is. IsTrue is ↔ IsNeededAmong (framework_of opening.now) entries.now name.now) }
@@ -121,7 +121,7 @@ fn is_hint(hint: &HintName, name: &AxiomName) -> bool
 {
     match hint {
         HintName::Axiom(other) => axioms_are_equal(other, name),
-        HintName::Entry(_) => false,
+        HintName::HistoryEntry(_) => false,
     }
 }
 

@@ -20,7 +20,7 @@ pub struct SessionState {
 
 /// A session under its number.
 #[derive(Drop)]
-pub struct Seat {
+pub struct MachineSeat {
     pub(crate) number: u32,
     pub(crate) session: SessionState,
 }
@@ -38,7 +38,7 @@ fn fresh_session(alloc: Global, log_limit: u64) -> SessionState
 }
 
 /// The index of the first seat of a number.
-fn find_seat(seats: &[Seat], number: u32) -> Option<usize>
+fn find_seat(seats: &[MachineSeat], number: u32) -> Option<usize>
     ensures some { IfSome result (IsSeatAt seats.now number) }
     ensures none { IfNone result (HasNoSeat seats.now number) }
 {
@@ -53,7 +53,7 @@ fn find_seat(seats: &[Seat], number: u32) -> Option<usize>
 /// The index of the first seat of a number, which is made if there is none. What sessions mean stays.
 pub(crate) fn seat_of(
     alloc: Global,
-    seats: &mut Vec<Seat>,
+    seats: &mut Vec<MachineSeat>,
     log_limit: u64,
     number: u32,
 ) -> Result<usize, Memory>
@@ -65,6 +65,6 @@ pub(crate) fn seat_of(
     }
     let index = seats.len();
     let session = fresh_session(alloc, log_limit);
-    seats.push(Seat { number, session })?;
+    seats.push(MachineSeat { number, session })?;
     Ok(index)
 }

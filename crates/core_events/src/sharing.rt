@@ -199,12 +199,12 @@ impl Machine {
         )?;
         match found {
             None => Err(StepStop::NotAStep),
-            Some(entry) => self.hand_on(alloc, session, index, number, place, entry),
+            Some(entry) => self.put_in_pool(alloc, session, index, number, place, entry),
         }
     }
 
     /// The session of a seat hands an entry to the pool.
-    fn hand_on(
+    fn put_in_pool(
         &mut self,
         alloc: Global,
         session: u32,

@@ -1,5 +1,6 @@
 -- What each step of the core keeps, and so every run.
-use Rattle.std.proofs.Common.{◌≡◌, ◌∙◌, ℕ, ◌==◌, ◌≤◌, Bool, List, [], ◌∷◌, ◌++◌, length, map, take, refl, sym, ap, subst, arith, Option, Some, None, Result, Ok, Err}
+use Rattle.std.proofs.Common.{◌≡◌, ◌∙◌, ℕ, ◌==◌, ◌≤◌, Bool, List, [], ◌∷◌, ◌++◌, length, map, take, refl, sym, ap}
+use Rattle.std.proofs.Common.{subst, arith, Option, Some, None, Result, Ok, Err}
 use Rattle.std.specs.Prelude.{nat_le, All}
 use Rattle.std.proofs.lemmas.Bool.{cond_both, eq-eqb, eqb-true, false≢true}
 use Rattle.std.proofs.lemmas.List.{append_assoc, append-nil, length-append, map-append}
@@ -21,7 +22,7 @@ use Rattle.edit_rules.specs.Edits.{edit_outcome}
 use Rattle.edit_rules.specs.Kinds.{kind_of}
 use Rattle.edit_rules.specs.Replay.{AreTaken, after_edit, left_by, replay}
 use Rattle.edit_rules.proofs.ReplayLemmas.{edits_keep, kind_stays}
-use Rattle.edit_history.specs.declared.entry.Entry.{Entry}
+use Rattle.edit_history.specs.declared.entry.HistoryEntry.{HistoryEntry}
 use Rattle.edit_history.specs.Entries.{framework_after}
 use Rattle.oracle_face.specs.declared.entry.Entry.{Entry as PoolEntry}
 use Rattle.oracle_face.specs.declared.entry.EntryOrigin.{EntryOrigin}
@@ -29,7 +30,8 @@ use Rattle.oracle_face.specs.declared.entry.EntryOrigin.TheVariants.{Axiom as Of
 use Rattle.oracle_face.specs.declared.face.Pending.{Pending}
 use Rattle.oracle_face.specs.Entries.{IsShareable}
 use Rattle.oracle_face.specs.Growing.{NoSide}
-use Rattle.oracle_face.specs.Logs.{IsGiven, IsLog, IsNumberOf, LogStep, OracleLog, SideClause, Source, by_axiom, by_hints, by_side}
+use Rattle.oracle_face.specs.Logs.{IsGiven, IsLog, IsNumberOf, LogStep, OracleLog, SideClause, Source, by_axiom}
+use Rattle.oracle_face.specs.Logs.{by_hints, by_side}
 use Rattle.session_log.specs.Ends.{definite}
 use Rattle.session_log.specs.Guards.{IsGuarded}
 use Rattle.session_log.specs.Steps.{Spends, StaysGuarded}
@@ -86,8 +88,8 @@ same_log f g log kinds form = record {
 
 -- ---- edits that are taken
 
-abbrev edits_in : List Entry → List Edit
-edits_in entries = map (λ (e : Entry). e.edit) entries
+abbrev edits_in : List HistoryEntry → List Edit
+edits_in entries = map (λ (e : HistoryEntry). e.edit) entries
 
 taken_more : (f : Framework) (edits : List Edit) (edit : Edit) (effect : Effect) → AreTaken f edits
     → edit_outcome (replay f edits) edit ≡ Ok (after_edit (replay f edits) edit, effect)
@@ -120,7 +122,7 @@ opened_good core opened numbered = record {
 
 -- ---- edits
 
-turned_good : (core : Core) (s : ℕ) (entries : List Entry) → IsGood core
+turned_good : (core : Core) (s : ℕ) (entries : List HistoryEntry) → IsGood core
     → AreTaken core.opening (edits_in (core.history ++ entries)) → IsGood (after_turn core s entries)
 turned_good core s entries good taken =
     let all = core.history ++ entries in
@@ -143,8 +145,8 @@ entry_added : (core : Core) (s : ℕ) (edit : Edit) (outcome : Result (Framework
 entry_added core s edit (Ok done) good is =
     let f = framework_after core.opening core.history in
     let behind : after_edit f edit ≡ done.0 = ap (left_by f) is in
-    let entry : Entry = record { session = s; edit = edit } in
-    subst (AreTaken core.opening) (sym (map-append (λ (e : Entry). e.edit) core.history (entry ∷ [])))
+    let entry : HistoryEntry = record { session = s; edit = edit } in
+    subst (AreTaken core.opening) (sym (map-append (λ (e : HistoryEntry). e.edit) core.history (entry ∷ [])))
     (taken_more core.opening (edits_in core.history) edit done.1 good.taken
     (is ∙ ap (λ g. Ok (g, done.1)) (sym behind)))
 entry_added core s edit (Err fault) good is =
@@ -242,7 +244,8 @@ origin_spends f s entry (Hints names) old new takes = entry_spends s entry old n
 
 put_there : {X : Type 0} (n : ℕ) (x : X) (items : ℕ → X) → put_at n x items n ≡ x
 put_there n x items =
-    cond_both (n == n) x (items n) (λ y. y ≡ x) (λ is. refl) (λ other. absurd (false≢true (sym other ∙ eq-eqb n n refl)))
+    cond_both (n == n) x (items n) (λ y. y ≡ x) (λ is. refl) (λ other. absurd
+    (false≢true (sym other ∙ eq-eqb n n refl)))
 
 pub imports_spend : (f : Framework) (core new : Core) (s i : ℕ) → IsStep core (take_in s i) new
     → Spends f (core.sessions s).log (new.sessions s).log 0 0
@@ -312,7 +315,7 @@ seen_in : (core old new : Core) (s : ℕ) → new ≡ old → (core.sessions s).
     → (core.sessions s).seen ≤ (new.sessions s).seen
 seen_in core old new s is le = subst (λ (c : Core). (core.sessions s).seen ≤ (c.sessions s).seen) (sym is) le
 
-turned_seen : (core : Core) (n : ℕ) (entries : List Entry) → IsGood core → (s : ℕ)
+turned_seen : (core : Core) (n : ℕ) (entries : List HistoryEntry) → IsGood core → (s : ℕ)
     → (core.sessions s).seen ≤ ((after_turn core n entries).sessions s).seen
 turned_seen core n entries good =
     let low = good.seen n in
@@ -339,13 +342,14 @@ step_seen core new (answer n asked most budget pending ending) good is s =
 
 -- ---- runs
 
-runs_good : (core new : Core) (events : List Event) (taken : List Entry) → Runs core events taken new → IsGood core
+runs_good : (core new : Core) (events : List Event) (taken : List HistoryEntry) → Runs core events taken new → IsGood
+    core
     → IsGood new
 runs_good core new events taken (rests _) good = good
 runs_good core new events taken (goes _ mid _ event more later step runs) good =
     runs_good mid new more later runs (step_good core mid event good step)
 
-runs_history : (core new : Core) (events : List Event) (taken : List Entry) → Runs core events taken new
+runs_history : (core new : Core) (events : List Event) (taken : List HistoryEntry) → Runs core events taken new
     → (new.opening ≡ core.opening) × (new.history ≡ core.history ++ taken)
 runs_history core new events taken (rests _) = (refl, sym (append-nil core.history))
 runs_history core new events taken (goes _ mid _ event more later step runs) =
@@ -355,7 +359,8 @@ runs_history core new events taken (goes _ mid _ event more later step runs) =
       then.1 ∙ (ap (λ history. history ++ later) first.1 ∙ append_assoc core.history (taken_by core event) later),
     )
 
-runs_seen : (core new : Core) (events : List Event) (taken : List Entry) → Runs core events taken new → IsGood core
+runs_seen : (core new : Core) (events : List Event) (taken : List HistoryEntry) → Runs core events taken new → IsGood
+    core
     → (s : ℕ) → (core.sessions s).seen ≤ (new.sessions s).seen
 runs_seen core new events taken (rests _) good s = omega arith
 runs_seen core new events taken (goes _ mid _ event more later step runs) good s =
@@ -363,13 +368,15 @@ runs_seen core new events taken (goes _ mid _ event more later step runs) good s
     let then = runs_seen mid new more later runs (step_good core mid event good step) s in
     omega arith
 
-run_good : (start core : Core) (events : List Event) (taken : List Entry) → IsRun start events taken core → IsGood core
+run_good : (start core : Core) (events : List Event) (taken : List HistoryEntry) → IsRun start events taken core →
+    IsGood core
 run_good start core events taken run =
     runs_good start core events taken run.runs (opened_good start run.opened run.numbered)
 
-pub history_taken : (start core : Core) (events : List Event) (taken : List Entry) → IsRun start events taken core
+pub history_taken : (start core : Core) (events : List Event) (taken : List HistoryEntry) → IsRun start events taken
+    core
     → (core.opening ≡ start.opening) × (core.history ≡ taken)
-    × AreTaken start.opening (map (λ (e : Entry). e.edit) core.history)
+    × AreTaken start.opening (map (λ (e : HistoryEntry). e.edit) core.history)
 history_taken start core events taken run =
     let all = runs_history start core events taken run.runs in (
       all.0,
@@ -377,23 +384,24 @@ history_taken start core events taken run =
       subst (λ f. AreTaken f (edits_in core.history)) all.0 (run_good start core events taken run).taken,
     )
 
-pub sees_more : (start core new : Core) (before events : List Event) (earlier taken : List Entry)
+pub sees_more : (start core new : Core) (before events : List Event) (earlier taken : List HistoryEntry)
     → IsRun start before earlier core → Runs core events taken new → (s : ℕ)
     → ((core.sessions s).seen ≤ (new.sessions s).seen) × ((new.sessions s).seen ≤ length new.history)
 sees_more start core new before events earlier taken run runs s =
     let good = run_good start core before earlier run in
     (runs_seen core new events taken runs good s, (runs_good core new events taken runs good).seen s)
 
-pub logs_true : (start core : Core) (events : List Event) (taken : List Entry) → IsRun start events taken core
+pub logs_true : (start core : Core) (events : List Event) (taken : List HistoryEntry) → IsRun start events taken core
     → (s number : ℕ) → IsNumberOf (core.sessions s).log.steps number → IsTrueOfWorlds (core.sessions s).log number
 logs_true start core events taken run s number is =
     step_true core.opening (core.sessions s).log number ((run_good start core events taken run).form s) is
 
-pub pool_valid : (start core : Core) (events : List Event) (taken : List Entry) → IsRun start events taken core
+pub pool_valid : (start core : Core) (events : List Event) (taken : List HistoryEntry) → IsRun start events taken core
     → (i : ℕ) (entry : PoolEntry) → core.pool i ≡ Some entry → IsShareable entry
 pool_valid start core events taken run = (run_good start core events taken run).pool
 
-pub answers_right : (start core new : Core) (events : List Event) (taken : List Entry) → IsRun start events taken core
+pub answers_right : (start core new : Core) (events : List Event) (taken : List HistoryEntry) → IsRun start events taken
+    core
     → (s : ℕ) (asked : Asked) (most budget : ℕ) (pending : Option Pending) (given : Answer) (sets : List (List ℕ))
     → IsStep core (answer s asked most budget pending (definite given sets)) new
     → IsRight (seen_framework core s) asked given × HasAccepted (seen_framework core s) asked given sets

@@ -1,7 +1,7 @@
 -- The core: one framework that sessions edit, the log of each, and the clauses that they share.
 use Rattle.std.specs.Prelude.{◌≡◌, ℕ, ◌==◌, List, [], take, Option, None, if◌then◌else◌}
 use Rattle.semantics.specs.Frameworks.{Framework}
-use Rattle.edit_history.specs.declared.entry.Entry.{Entry}
+use Rattle.edit_history.specs.declared.entry.HistoryEntry.{HistoryEntry}
 use Rattle.edit_history.specs.Entries.{framework_after}
 use Rattle.oracle_face.specs.declared.entry.Entry.{Entry as PoolEntry}
 use Rattle.oracle_face.specs.Logs.{OracleLog}
@@ -19,7 +19,7 @@ pub record CoreSession : Type 0 where
 pub record Core : Type 0 where
   pub opening : Framework
   pub limit : ℕ
-  pub history : List Entry
+  pub history : List HistoryEntry
   pub turns : ℕ
   pub pool : ℕ → Option PoolEntry
   pub sessions : ℕ → CoreSession

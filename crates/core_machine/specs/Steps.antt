@@ -1,6 +1,8 @@
 -- The steps of the core: an edit is committed, a session sees all edits, learns a clause, keeps a side clause, hands a
 -- clause to the pool or takes one from it, and answers a query.
-use Rattle.std.specs.Prelude.{◌≡◌, ◌⊎◌, ℕ, ◌+◌, ◌≤◌, ◌<◌, Bool, true, false, List, [], ◌∷◌, ◌++◌, length, take, Contains, slice_index_or, count_by, Option, Some, None, Result, Ok, Err, if◌then◌else◌, nat_le}
+use Rattle.std.specs.Prelude.{◌≡◌, ◌⊎◌, ℕ, ◌+◌, ◌≤◌, ◌<◌, Bool, true, false, List, [], ◌∷◌, ◌++◌, length, take}
+use Rattle.std.specs.Prelude.{Contains, slice_index_or, count_by, Option, Some, None, Result, Ok, Err}
+use Rattle.std.specs.Prelude.{if◌then◌else◌, nat_le}
 use Rattle.plain_lits.specs.Units.{Units}
 use Rattle.semantics.specs.Frameworks.{Framework}
 use Rattle.meaning_atoms.specs.declared.atom.AtomLit.{AtomLit}
@@ -11,7 +13,7 @@ use Rattle.edit_rules.specs.declared.edit.Edit.{Edit}
 use Rattle.edit_rules.specs.declared.effect.Effect.{Effect}
 use Rattle.edit_rules.specs.declared.effect.EditFault.{EditFault}
 use Rattle.edit_rules.specs.Edits.{edit_outcome}
-use Rattle.edit_history.specs.declared.entry.Entry.{Entry}
+use Rattle.edit_history.specs.declared.entry.HistoryEntry.{HistoryEntry}
 use Rattle.edit_history.specs.Entries.{framework_after}
 use Rattle.oracle_face.specs.declared.entry.Entry.{Entry as PoolEntry}
 use Rattle.oracle_face.specs.declared.entry.EntryName.{EntryName}
@@ -20,7 +22,8 @@ use Rattle.oracle_face.specs.declared.entry.EntryOrigin.TheVariants.{Axiom as Of
 use Rattle.oracle_face.specs.declared.entry.HintName.{HintName}
 use Rattle.oracle_face.specs.declared.entry.HintName.TheVariants.{Axiom, Entry as OfEntry}
 use Rattle.oracle_face.specs.declared.face.Pending.{Pending}
-use Rattle.oracle_face.specs.Logs.{OracleLog, LogStep, Source, by_axiom, by_side, by_hints, IsNumberOf, IsSameClause, step_at}
+use Rattle.oracle_face.specs.Logs.{OracleLog, LogStep, Source, by_axiom, by_side, by_hints, IsNumberOf}
+use Rattle.oracle_face.specs.Logs.{IsSameClause, step_at}
 use Rattle.oracle_face.specs.Needed.{IsNeeded}
 use Rattle.session_log.specs.Ends.{Ending, IsEnd}
 use Rattle.session_log.specs.Steps.{GainsStep, LearnsClause, TakesSide, axiom_step}
@@ -40,18 +43,18 @@ pub data Event : Type 0 where
 
 -- ---- edits
 
-abbrev pub entry_taken : ℕ → Edit → Result (Framework × Effect) EditFault → List Entry
+abbrev pub entry_taken : ℕ → Edit → Result (Framework × Effect) EditFault → List HistoryEntry
 entry_taken s edit (Ok done) = record { session = s; edit = edit } ∷ []
 entry_taken s edit (Err fault) = []
 
 -- what a commit adds: its entry, where the history has room and the framework after it takes the edit
-abbrev pub committed : Core → ℕ → Edit → List Entry
+abbrev pub committed : Core → ℕ → Edit → List HistoryEntry
 committed core s edit =
     if nat_le core.limit (length core.history) then []
     else entry_taken s edit (edit_outcome (framework_after core.opening core.history) edit)
 
 -- one turn: the history gains these entries, and the session has seen all of it
-abbrev pub after_turn : Core → ℕ → List Entry → Core
+abbrev pub after_turn : Core → ℕ → List HistoryEntry → Core
 after_turn core s entries =
     with_session (record core { history = core.history ++ entries; turns = core.turns + 1 }) s
     (record (core.sessions s) { seen = length (core.history ++ entries) })
@@ -184,12 +187,12 @@ IsStep core (take_in s i) new = TakesFromPool core s i new
 IsStep core (answer s asked most budget pending ending) new = Answers core s asked most budget pending ending new
 
 -- the entries that an event adds to the history
-abbrev pub taken_by : Core → Event → List Entry
+abbrev pub taken_by : Core → Event → List HistoryEntry
 taken_by core (commit s edit) = committed core s edit
 taken_by core event = []
 
 -- the events lead from the one state to the other, and these entries are added
-pub data Runs : Core → List Event → List Entry → Core → Type 0 where
+pub data Runs : Core → List Event → List HistoryEntry → Core → Type 0 where
   rests : (core : Core) → Runs core [] [] core
-  goes : (core mid new : Core) (event : Event) (events : List Event) (taken : List Entry) → IsStep core event mid
+  goes : (core mid new : Core) (event : Event) (events : List Event) (taken : List HistoryEntry) → IsStep core event mid
       → Runs mid events taken new → Runs core (event ∷ events) (taken_by core event ++ taken) new

@@ -7,9 +7,9 @@ pub record AreVars (vars : ℕ) (heap : List ℕ) : Type 0 where
   pub below : All (λ v. v < vars) heap
 
 -- each array has an entry for each variable, and the heap holds variables
-pub record IsOrder (heap indices activities : List ℕ) (named phases firsts : List Bool) : Type 0 where
+pub record IsOrder (heap indices activities : List ℕ) (declared phases initial_phases : List Bool) : Type 0 where
   pub heap_vars : AreVars (length activities) heap
   pub indices_long : length activities ≤ length indices
-  pub named_long : length activities ≤ length named
+  pub named_long : length activities ≤ length declared
   pub phases_long : length activities ≤ length phases
-  pub firsts_long : length activities ≤ length firsts
+  pub firsts_long : length activities ≤ length initial_phases

@@ -15,7 +15,7 @@ const ABSENT: usize = usize::MAX;
 const FIRST_STEP: u64 = 1 << 20;
 
 /// Where the step is greater, it and all activities are divided by `2 ^ 36`.
-const LAST_STEP: u64 = 1 << 56;
+const MAX_STEP: u64 = 1 << 56;
 
 /// The variables that are worth deciding, by activity: how often they stood in the clauses of late conflicts (the
 /// rule of Moskewicz and others, Chaff, 2001, with the heap and the growing step of MiniSat, 2003). Each has a phase,
@@ -26,9 +26,9 @@ pub struct DecisionOrder {
     heap: Vec<usize>,
     indices: Vec<usize>,
     activities: Vec<u64>,
-    named: Vec<bool>,
+    declared: Vec<bool>,
     phases: Vec<bool>,
-    firsts: Vec<bool>,
+    initial_phases: Vec<bool>,
     step: u64,
 }
 
@@ -39,9 +39,9 @@ impl Drop for DecisionOrder {
             heap: _,
             indices: _,
             activities: _,
-            named: _,
+            declared: _,
             phases: _,
-            firsts: _,
+            initial_phases: _,
             step: _,
         } = self;
     }
@@ -55,8 +55,8 @@ impl Model for DecisionOrder {
 
     ghost view = { λ o. length o.activities.items };
 
-    ghost invariant = { λ o. IsOrder o.heap.items o.indices.items o.activities.items o.named.items o.phases.items
-        o.firsts.items };
+    ghost invariant = { λ o. IsOrder o.heap.items o.indices.items o.activities.items o.declared.items o.phases.items
+        o.initial_phases.items };
 }
 
 impl DecisionOrder {
@@ -68,9 +68,9 @@ impl DecisionOrder {
             heap: Vec::new(alloc),
             indices: Vec::new(alloc),
             activities: Vec::new(alloc),
-            named: Vec::new(alloc),
+            declared: Vec::new(alloc),
             phases: Vec::new(alloc),
-            firsts: Vec::new(alloc),
+            initial_phases: Vec::new(alloc),
             step: FIRST_STEP,
         }
     }
@@ -92,20 +92,20 @@ impl DecisionOrder {
         }
         self.heap.reserve(vars.saturating_sub(self.heap.len()))?;
         self.indices.resize(vars, ABSENT)?;
-        self.named.resize(vars, false)?;
+        self.declared.resize(vars, false)?;
         self.phases.resize(vars, false)?;
-        self.firsts.resize(vars, false)?;
+        self.initial_phases.resize(vars, false)?;
         self.activities.resize(vars, 0)?;
         Ok(())
     }
 
     /// Says that a variable is worth deciding, and that its first phase is the literal's sign.
-    pub fn name(&mut self, lit: Lit)
+    pub fn declare(&mut self, lit: Lit)
         requires { lit.var < self.old }
         ensures { self.new ≡ self.old }
     {
-        self.named[lit.var] = true;
-        self.firsts[lit.var] = lit.positive;
+        self.declared[lit.var] = true;
+        self.initial_phases[lit.var] = lit.positive;
         self.phases[lit.var] = lit.positive;
         self.insert(lit.var);
     }
@@ -115,7 +115,7 @@ impl DecisionOrder {
         requires { var < self.old }
         ensures { self.new ≡ self.old }
     {
-        if !self.named[var] || self.indices[var] != ABSENT {
+        if !self.declared[var] || self.indices[var] != ABSENT {
             return;
         }
         let at = self.heap.len();
@@ -159,7 +159,7 @@ impl DecisionOrder {
     }
 
     /// A variable becomes just more active than all that wait to be decided.
-    pub fn raise(&mut self, var: usize)
+    pub fn raise_to_top(&mut self, var: usize)
         ensures { self.new ≡ self.old }
     {
         if var >= self.activities.len() {
@@ -177,7 +177,7 @@ impl DecisionOrder {
     pub fn decay(&mut self)
         ensures { self.new ≡ self.old }
     {
-        if self.step > LAST_STEP {
+        if self.step > MAX_STEP {
             self.rescale();
         }
         self.step = self.step.saturating_add(self.step / 20);
@@ -235,7 +235,7 @@ impl DecisionOrder {
         ensures { self.new ≡ self.old }
     {
         for var in 0..self.activities.len() {
-            self.phases[var] = self.firsts[var];
+            self.phases[var] = self.initial_phases[var];
         }
     }
 }

@@ -10,7 +10,8 @@
 ghost use Rattle.std.specs.Prelude.{◌≡◌, ◌↔◌, ℕ, Contains, IsTrue, length};
 ghost use Rattle.std.specs.List.{range_with_len};
 ghost use Rattle.std.specs.List.Sorted.{IsStrictlyIncreasing};
-ghost use Rattle.attack_index.specs.semantics.specs.Framework.{IsAttackedBy, Defends, IsConflictFree, IsAdmissible, IsComplete, IsStable};
+ghost use Rattle.attack_index.specs.semantics.specs.Framework.{IsAttackedBy, Defends, IsConflictFree, IsAdmissible};
+ghost use Rattle.attack_index.specs.semantics.specs.Framework.{IsComplete, IsStable};
 ghost use Rattle.dung_notions.specs.Neighbours.{AreArguments};
 ghost use Rattle.dung_notions.specs.Notions.{AttacksInto};
 ghost use Rattle.dung_notions.specs.Solid.{IsSolid};
@@ -50,7 +51,7 @@ impl AfPlain {
         self.is_conflict_free(set) && self.attacks_others(set)
     }
 
-    /// Whether the live arguments are the numbers from 1 to some n of at most `LAST_ARGUMENT`, as in a text of the
+    /// Whether the live arguments are the numbers from 1 to some n of at most `MAX_ARGUMENT`, as in a text of the
     /// framework. Only tests call it: no command writes a framework.
     pub fn is_solid(&self) -> bool
         ensures { IsTrue result ↔ IsSolid self.now }

@@ -13,15 +13,17 @@ use Rattle.edit_rules.specs.declared.edit.Edit.TheVariants.{ArgAdd, ArgDrop, Att
 use Rattle.edit_rules.specs.declared.edit.Edit.TheVariants.{AsmAdd, AsmDrop, ConSet, RuleAdd, RuleDrop}
 use Rattle.edit_rules.specs.declared.effect.Effect.{Effect}
 use Rattle.edit_rules.proofs.RefusalLemmas.{done_row}
-use Rattle.edit_rules.specs.AbaEdits.{AbaRow, assumption_added, assumption_dropped, contrary_set, rule_added, rule_dropped}
+use Rattle.edit_rules.specs.AbaEdits.{AbaRow, assumption_added, assumption_dropped, contrary_set, rule_added}
+use Rattle.edit_rules.specs.AbaEdits.{rule_dropped}
 use Rattle.edit_rules.specs.Edits.{Row, any_row, edit_outcome, outcome_in, row_outcome}
 use Rattle.edit_rules.specs.Edits.{argument_added, argument_dropped, attack_added, attack_dropped}
 use Rattle.edit_rules.specs.Replay.{after_edit, left_by, replay}
 use Rattle.edit_history.specs.declared.entry.Change.{Change}
-use Rattle.edit_history.specs.declared.entry.Entry.{Entry}
+use Rattle.edit_history.specs.declared.entry.HistoryEntry.{HistoryEntry}
 use Rattle.edit_history.specs.declared.fault.CommitFault.{CommitFault}
 use Rattle.edit_history.specs.declared.fault.CommitFault.TheVariants.{Memory}
-use Rattle.edit_history.specs.Entries.{AreDone, FaultSays, IsAdded, session_of, effect_told, effects_of, entries_in, entry_of, framework_after}
+use Rattle.edit_history.specs.Entries.{AreDone, FaultSays, IsAdded, session_of, effect_told, effects_of}
+use Rattle.edit_history.specs.Entries.{entries_in, entry_of, framework_after}
 
 row_edit : (row : Row) (done : Framework × Effect) → row_outcome row ≡ Ok done → done.1.edit ≡ row.effect.edit
 row_edit row done e = sym (ap (λ d. d.1.edit) (done_row row.refusals (row.framework, row.effect) done e).1)
@@ -130,10 +132,11 @@ done_from f (suc n) [] done = refl
 done_from f (suc n) (c ∷ changes) done = done_from (after_edit f c.effect.edit) n changes (ap rest_of done)
 
 -- an entry of the session's own is what the history gains
-pub continues : (limit : ℕ) (f : Framework) (session : ℕ) (edit : Edit) (before after : List Entry) (effect : Effect)
+pub continues : (limit : ℕ) (f : Framework) (session : ℕ) (edit : Edit) (before after : List HistoryEntry)
+    (effect : Effect)
     → IsAdded limit f session edit before after effect → Continues session_of session before after
 continues limit f session edit before after effect is =
-    let entry : Entry = record { session = session; edit = edit } in
+    let entry : HistoryEntry = record { session = session; edit = edit } in
     record {
       added = entry ∷ [];
       longer = is.longer;

@@ -5,13 +5,13 @@ use Rattle.std.proofs.lemmas.List.{drop-map, length-append, length-map}
 use mathlib.Core.List.{IsPrefix}
 use Rattle.semantics.specs.Frameworks.{Framework}
 use Rattle.edit_history.specs.declared.entry.Change.{Change}
-use Rattle.edit_history.specs.declared.entry.Entry.{Entry}
+use Rattle.edit_history.specs.declared.entry.HistoryEntry.{HistoryEntry}
 use Rattle.edit_history.specs.Entries.{AreDone, entries_in, entry_of}
 use Rattle.edit_history.specs.Hubs.{IsFresh}
 use Rattle.edit_history.proofs.EntryLemmas.{done_from}
 
 -- what was seen is still there
-pub still_there : (from : ℕ) (seen : List Entry) (changes : List Change) → from ≤ length seen
+pub still_there : (from : ℕ) (seen : List HistoryEntry) (changes : List Change) → from ≤ length seen
     → IsPrefix seen (entries_in changes) → from ≤ length changes
 still_there from seen changes low longer =
     let whole : length seen + length longer.0 ≡ length changes =
@@ -19,7 +19,7 @@ still_there from seen changes low longer =
     omega arith
 
 -- the changes from an entry on, over the framework before them
-pub fresh_from : (f g : Framework) (from : ℕ) (changes told : List Change) (list : List Entry) (front : ℕ)
+pub fresh_from : (f g : Framework) (from : ℕ) (changes told : List Change) (list : List HistoryEntry) (front : ℕ)
     → f ≡ g → AreDone f changes → told ≡ drop from changes → list ≡ entries_in changes → front ≡ length list
     → IsFresh g list from (record { entries = told; front = front })
 fresh_from f g from changes told list front same done is seen long =

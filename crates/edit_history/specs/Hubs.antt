@@ -11,7 +11,7 @@ use Rattle.turn_lock.specs.declared.seat.Seat.{Seat}
 use Rattle.turn_lock.specs.Turns.{entries_of}
 use Rattle.turn_lock.specs.Locks.{opened_with, seats_of}
 use Rattle.turn_lock.specs.Seats.{AreAllSeats, AreFresh, MayEnter, list_of, number_of, turns_of}
-use Rattle.edit_history.specs.declared.entry.Entry.{Entry}
+use Rattle.edit_history.specs.declared.entry.HistoryEntry.{HistoryEntry}
 use Rattle.edit_history.specs.declared.hub.Fresh.{Fresh}
 use Rattle.edit_history.specs.declared.hub.History.{History}
 use Rattle.edit_history.specs.declared.hub.Hub.{Hub}
@@ -32,38 +32,39 @@ abbrev pub sessions_of : Hub → ℕ
 sessions_of hub = seats_of hub.lock
 
 -- the second history continues the first by entries of other sessions alone
-pub record GainsOthers (session : ℕ) (before after : List Entry) : Type 0 where
+pub record GainsOthers (session : ℕ) (before after : List HistoryEntry) : Type 0 where
   pub longer : IsPrefix before after
   pub own : entries_of session_of session after ≡ entries_of session_of session before
 
 -- a commit that is taken: the history that it found continues what the session had seen, and the edit is added to it
-pub record IsCommitted (limit : ℕ) (f : Framework) (session : ℕ) (edit : Edit) (before after : List Entry)
+pub record IsCommitted (limit : ℕ) (f : Framework) (session : ℕ) (edit : Edit) (before after : List HistoryEntry)
     (effect : Effect) : Type 0 where
-  pub found : List Entry
+  pub found : List HistoryEntry
   pub gained : GainsOthers session before found
   pub added : IsAdded limit f session edit found after effect
 
 -- the entries of the history after the first `from`, each with its effect, and the history's length
-pub record IsFresh (f : Framework) (history : List Entry) (from : ℕ) (fresh : Fresh) : Type 0 where
+pub record IsFresh (f : Framework) (history : List HistoryEntry) (from : ℕ) (fresh : Fresh) : Type 0 where
   pub entries : entries_in fresh.entries ≡ drop from history
   pub effects : AreDone (framework_after f (take from history)) fresh.entries
   pub front : fresh.front ≡ length history
 
-module _ {g : Ghosts Journal (Held × ℕ) Entry} where
+module _ {g : Ghosts Journal (Held × ℕ) HistoryEntry} where
   -- the seat is this hub's, and between two calls
-  abbrev pub IsSeatAt : Hub → Seat Journal (Held × ℕ) Entry g → Type 0
+  abbrev pub IsSeatAt : Hub → Seat Journal (Held × ℕ) HistoryEntry g → Type 0
   IsSeatAt hub seat = MayEnter opening_of hub.lock seat
 
   -- the seats 1 to n of a hub, which have seen nothing yet
-  abbrev pub AreNewSeats : Hub → ℕ → List (Seat Journal (Held × ℕ) Entry g) → Type 0
+  abbrev pub AreNewSeats : Hub → ℕ → List (Seat Journal (Held × ℕ) HistoryEntry g) → Type 0
   AreNewSeats hub n seats = AreFresh opening_of hub.lock n seats
 
   -- all the seats of a hub, in the order of their numbers
-  abbrev pub AreSeatsOf : Hub → List (Seat Journal (Held × ℕ) Entry g) → Type 0
+  abbrev pub AreSeatsOf : Hub → List (Seat Journal (Held × ℕ) HistoryEntry g) → Type 0
   AreSeatsOf hub seats = AreAllSeats opening_of hub.lock seats
 
 -- what the history of a closed hub is to its seats
-pub record EndsWith {g : Ghosts Journal (Held × ℕ) Entry} (hub : Hub) (seats : List (Seat Journal (Held × ℕ) Entry g))
+pub record EndsWith {g : Ghosts Journal (Held × ℕ) HistoryEntry} (hub : Hub)
+    (seats : List (Seat Journal (Held × ℕ) HistoryEntry g))
     (history : History) : Type 0 where
   pub opening : framework_of history.opening ≡ start_of hub
   pub within : length history.entries.items ≤ limit_of hub
@@ -76,5 +77,5 @@ pub record EndsWith {g : Ghosts Journal (Held × ℕ) Entry} (hub : Hub) (seats 
       (λ seat. entries_of session_of (number_of seat) (entries_in history.entries.items)
       ≡ entries_of session_of (number_of seat) (list_of seat)) seats
   -- a seat whose last turn was no later saw a beginning of what the other saw
-  pub ordered : (one two : Seat Journal (Held × ℕ) Entry g) → Contains seats one → Contains seats two
+  pub ordered : (one two : Seat Journal (Held × ℕ) HistoryEntry g) → Contains seats one → Contains seats two
       → turns_of one ≤ turns_of two → IsPrefix (list_of one) (list_of two)

@@ -1,7 +1,7 @@
 -- What a journal means.
 use Rattle.std.specs.Prelude.{ℕ, List}
 use Rattle.edit_rules.specs.declared.framework.Framework.{Framework}
-use Rattle.edit_history.specs.declared.entry.Entry.{Entry}
+use Rattle.edit_history.specs.declared.entry.HistoryEntry.{HistoryEntry}
 use Rattle.edit_history.specs.declared.journal.Journal.{Journal}
 use Rattle.edit_history.specs.Entries.{entries_in}
 
@@ -9,5 +9,5 @@ use Rattle.edit_history.specs.Entries.{entries_in}
 abbrev pub opening_of : Journal → Framework × ℕ
 opening_of journal = (journal.opening, journal.limit)
 
-abbrev pub history_of : Journal → List Entry
+abbrev pub history_of : Journal → List HistoryEntry
 history_of journal = entries_in journal.changes.items

@@ -8,7 +8,7 @@ use std::alloc::Global;
 
 /// One entry of a history, as contracts name it.
 #[derive(Drop)]
-pub struct Entry {
+pub struct HistoryEntry {
     /// The number of the session that committed the edit.
     pub session: u32,
     /// The edit.

@@ -4,7 +4,7 @@ ghost use Rattle.std.specs.Prelude.{◌≡◌, ◌≤◌, length};
 ghost use Rattle.edit_rules.specs.Kinds.{framework_of};
 ghost use Rattle.edit_history.specs.Entries.{AreDone, entries_in, framework_after};
 
-use crate::entry::{Change, Entry};
+use crate::entry::{Change, HistoryEntry};
 use edit_rules::Framework;
 use turn_lock::Turned;
 
@@ -52,7 +52,7 @@ impl Turned for Journal {
 
     type Opening = (Framework, u64);
 
-    type Entry = Entry;
+    type Entry = HistoryEntry;
 
     ghost opening = { opening_of };
 

@@ -9,7 +9,7 @@ pub mod fault;
 pub mod hub;
 pub mod journal;
 
-pub use entry::{Change, Entry};
+pub use entry::{Change, HistoryEntry};
 pub use fault::CommitFault;
 pub use hub::{Committed, Fresh, History, Hub, Seat};
 pub use journal::Journal;

@@ -1,5 +1,6 @@
 -- The frameworks behind the edits are in form.
-use Rattle.std.proofs.Common.{Result, Ok, Err, IfOk, ◌≡◌, ◌<◌, ◌≤◌, ◌+◌, ℕ, false, not, List, [], ◌∷◌, ◌++◌, refl, ap, sym, subst, ◌∙◌, map, get_or, arith, ⊎_elim, inl, inr}
+use Rattle.std.proofs.Common.{Result, Ok, Err, IfOk, ◌≡◌, ◌<◌, ◌≤◌, ◌+◌, ℕ, false, not, List, [], ◌∷◌, ◌++◌, refl}
+use Rattle.std.proofs.Common.{ap, sym, subst, ◌∙◌, map, get_or, arith, ⊎_elim, inl, inr}
 use Rattle.std.specs.Prelude.{Contains, ◌↔◌, ◌==◌, filter, nat_le, nat_lt, ◌&&◌}
 use Rattle.std.specs.List.Sorted.{IsStrictlyIncreasing}
 use Rattle.std.proofs.lemmas.Bool.{false≢true, eqb-true, leb-true, lt-ltb, not-false, not_from_false, cases_lt}
@@ -10,7 +11,7 @@ use Rattle.lists.proofs.Filters.{Contains-filter, filter_whole}
 use Rattle.lists.proofs.Membership.{Contains-nil, Contains-head, Contains-tail, Contains-cons_cases}
 use Rattle.set_lists.proofs.Rising.{rises_append}
 use Rattle.aba_notions.specs.aba_laws.proofs.Images.{image_there, image_from}
-use Rattle.semantics.specs.declared.numbers.TheConstants.{LAST_RULE}
+use Rattle.semantics.specs.declared.numbers.TheConstants.{MAX_RULE}
 use Rattle.semantics.specs.Rules.{Rule}
 use Rattle.semantics.specs.AbaFrameworks.{Aba, IsAtom, IsRuleOf, IsNumberedAba}
 use Rattle.edit_rules.specs.declared.effect.EditFault.TheVariants.{NotFlat, OutOfRange}
@@ -19,10 +20,12 @@ use Rattle.edit_rules.specs.Refusals.{refused_if, NoneStands}
 use Rattle.edit_rules.proofs.EditWordTests.{absent, both_gives, is_false, number_there}
 use Rattle.edit_rules.proofs.NumberLists.{with_number_rises, with_number_members}
 use Rattle.edit_rules.specs.AbaEdits.{beyond, in_order, heads_of, numbers_of, next_rule, rules_but}
-use Rattle.edit_rules.specs.AbaEdits.{aba_with_assumption, aba_without_assumption, aba_with_contrary, aba_with_rule, aba_without_rule}
+use Rattle.edit_rules.specs.AbaEdits.{aba_with_assumption, aba_without_assumption, aba_with_contrary}
+use Rattle.edit_rules.specs.AbaEdits.{aba_with_rule, aba_without_rule}
 use Rattle.edit_rules.specs.AbaEdits.{assumption_added, contrary_set, rule_added}
 use Rattle.edit_rules.proofs.RefusalLemmas.{each_passes, each_stands_not, parts_stand_not}
-use Rattle.edit_rules.proofs.ContraryLists.{filter-map, firsts_with, firsts_without, with_member, with_contrary_members, without_contrary_members}
+use Rattle.edit_rules.proofs.ContraryLists.{filter-map, firsts_with, firsts_without, with_member}
+use Rattle.edit_rules.proofs.ContraryLists.{with_contrary_members, without_contrary_members}
 
 -- ---- bodies
 
@@ -152,9 +155,9 @@ below_next f ok n c =
     let from = image_from (λ (r : Rule). r.number) f.rules n c in
     subst (λ m. m < f.next) from.2 (ok.form.rules_are from.0 from.1).given
 
-pub room_for : (f : Aba) → nat_lt LAST_RULE f.next ≡ false → f.next ≤ LAST_RULE
+pub room_for : (f : Aba) → nat_lt MAX_RULE f.next ≡ false → f.next ≤ MAX_RULE
 room_for f free =
-    ⊎_elim (λ lt. absurd (false≢true (sym free ∙ lt-ltb LAST_RULE f.next lt))) (λ ge. ge) (cases_lt LAST_RULE f.next)
+    ⊎_elim (λ lt. absurd (false≢true (sym free ∙ lt-ltb MAX_RULE f.next lt))) (λ ge. ge) (cases_lt MAX_RULE f.next)
 
 numbers_with : (f : Aba) (h : ℕ) (body : List ℕ) → IsNumberedAba f
     → IsStrictlyIncreasing (numbers_of (f.rules ++ next_rule f h body ∷ []))
@@ -169,13 +172,13 @@ pub record IsRuleFor (f : Aba) (h : ℕ) (items : List ℕ) : Type 0 where
   pub head : IsAtom f.atoms h
   pub body : (y : ℕ) → Contains items y → IsAtom f.atoms y
   pub flat : Contains f.assumptions h → ⊥
-  pub room : f.next ≤ LAST_RULE
+  pub room : f.next ≤ MAX_RULE
 
 pub rule_for : (f : Aba) (h : ℕ) (items : List ℕ) → NoneStands (rule_added f h items).refusals → IsRuleFor f h items
 rule_for f h items none =
     let tests = map (beyond 1 f.atoms) (h ∷ items) in
     let rest = refused_if (has_number f.assumptions h) (NotFlat h)
-    ∷ refused_if (nat_lt LAST_RULE f.next) (OutOfRange (LAST_RULE + 1)) ∷ [] in
+    ∷ refused_if (nat_lt MAX_RULE f.next) (OutOfRange (MAX_RULE + 1)) ∷ [] in
     let parts = parts_stand_not tests rest none in
     let each = each_passes rest parts.1 in record {
       head = is_atom f.atoms h
@@ -200,7 +203,7 @@ with_rule_form f h body ok none = record {
     next_is = omega arith;
   };
   atoms = ok.atoms;
-  rules = let room : f.next ≤ LAST_RULE = is.room in omega arith;
+  rules = let room : f.next ≤ MAX_RULE = is.room in omega arith;
 }
   where
     is : IsRuleFor f h body

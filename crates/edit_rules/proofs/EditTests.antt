@@ -1,13 +1,15 @@
 -- What the tests of an edit's row say.
 use Rattle.std.proofs.Common.{◌≡◌, ◌<◌, ◌≤◌, ℕ, true, false, not, List, refl, sym, ◌∙◌, subst, arith, ⊎_elim, inl, inr}
 use Rattle.std.specs.Prelude.{◌⊎◌, ◌&&◌, ◌==◌, Contains, nat_lt, nat_le}
-use Rattle.std.proofs.lemmas.Bool.{false≢true, eqb-true, eq-eqb, ltb-true, lt-ltb, not-false, not_from_false, not_from_true, cases_lt}
+use Rattle.std.proofs.lemmas.Bool.{false≢true, eqb-true, eq-eqb, ltb-true, lt-ltb, not-false, not_from_false}
+use Rattle.std.proofs.lemmas.Bool.{not_from_true, cases_lt}
 use Rattle.std.proofs.lemmas.Bool.Decides.{leb_tells}
 use Rattle.lists.proofs.ListTests.{any_gives, any_from}
 use Rattle.semantics.specs.Arguments.{IsArgument}
-use Rattle.semantics.specs.declared.argument.TheConstants.{LAST_ARGUMENT}
+use Rattle.semantics.specs.declared.argument.TheConstants.{MAX_ARGUMENT}
 use Rattle.semantics.specs.Framework.{IsPairBefore}
-use Rattle.edit_rules.proofs.EditWordTests.{both_from, both_gives, either_gives, either_left, either_right, is_false, same_pair}
+use Rattle.edit_rules.proofs.EditWordTests.{both_from, both_gives, either_gives, either_left, either_right}
+use Rattle.edit_rules.proofs.EditWordTests.{is_false, same_pair}
 use Rattle.edit_rules.specs.Edits.{has_pair, is_before}
 
 pub pair_there : (ps : List (ℕ × ℕ)) (p : ℕ × ℕ) → has_pair ps p ≡ true → Contains ps p
@@ -49,20 +51,20 @@ le_from : (a b : ℕ) → a ≤ b → nat_le a b ≡ true
 le_from a b le = ⊎_elim (λ y. y.0) (λ n. let lt = n.1 in absurd (omega arith)) (leb_tells a b)
 
 -- the bounds of an argument's number
-pub within_bounds : (x : ℕ) → not (nat_le 1 x && nat_le x LAST_ARGUMENT) ≡ false → IsArgument x
+pub within_bounds : (x : ℕ) → not (nat_le 1 x && nat_le x MAX_ARGUMENT) ≡ false → IsArgument x
 within_bounds x h =
-    let b = both_gives (nat_le 1 x) (nat_le x LAST_ARGUMENT)
-    (not-false (nat_le 1 x && nat_le x LAST_ARGUMENT) h) in record {
+    let b = both_gives (nat_le 1 x) (nat_le x MAX_ARGUMENT)
+    (not-false (nat_le 1 x && nat_le x MAX_ARGUMENT) h) in record {
       low = le_true 1 x b.0;
-      high = le_true x LAST_ARGUMENT b.1;
+      high = le_true x MAX_ARGUMENT b.1;
     }
 
-pub bounds_within : (x : ℕ) → IsArgument x → not (nat_le 1 x && nat_le x LAST_ARGUMENT) ≡ false
-bounds_within x h = not_from_true (nat_le 1 x && nat_le x LAST_ARGUMENT)
-    (both_from (nat_le 1 x) (nat_le x LAST_ARGUMENT) (le_from 1 x h.low) (le_from x LAST_ARGUMENT h.high))
+pub bounds_within : (x : ℕ) → IsArgument x → not (nat_le 1 x && nat_le x MAX_ARGUMENT) ≡ false
+bounds_within x h = not_from_true (nat_le 1 x && nat_le x MAX_ARGUMENT)
+    (both_from (nat_le 1 x) (nat_le x MAX_ARGUMENT) (le_from 1 x h.low) (le_from x MAX_ARGUMENT h.high))
 
-pub out_of_bounds : (x : ℕ) → (IsArgument x → ⊥) → not (nat_le 1 x && nat_le x LAST_ARGUMENT) ≡ true
-out_of_bounds x never = not_from_false (nat_le 1 x && nat_le x LAST_ARGUMENT)
-    (is_false (nat_le 1 x && nat_le x LAST_ARGUMENT) (λ h.
-    let b = both_gives (nat_le 1 x) (nat_le x LAST_ARGUMENT) h in
-    never (record { low = le_true 1 x b.0; high = le_true x LAST_ARGUMENT b.1 })))
+pub out_of_bounds : (x : ℕ) → (IsArgument x → ⊥) → not (nat_le 1 x && nat_le x MAX_ARGUMENT) ≡ true
+out_of_bounds x never = not_from_false (nat_le 1 x && nat_le x MAX_ARGUMENT)
+    (is_false (nat_le 1 x && nat_le x MAX_ARGUMENT) (λ h.
+    let b = both_gives (nat_le 1 x) (nat_le x MAX_ARGUMENT) h in
+    never (record { low = le_true 1 x b.0; high = le_true x MAX_ARGUMENT b.1 })))

@@ -1,5 +1,6 @@
 -- A framework that is made of the flat lists of another's parts is that one.
-use Rattle.std.proofs.Common.{◌≡◌, ◌<◌, ◌≤◌, ℕ, List, Result, Ok, Err, IfOk, length, get_or, refl, ap, sym, subst, ◌∙◌, map, arith, ⊎_elim}
+use Rattle.std.proofs.Common.{◌≡◌, ◌<◌, ◌≤◌, ℕ, List, Result, Ok, Err, IfOk, length, get_or, refl, ap, sym, subst}
+use Rattle.std.proofs.Common.{◌∙◌, map, arith, ⊎_elim}
 use Rattle.std.specs.Prelude.{Contains, ◌↔◌}
 use Rattle.std.specs.List.{AllPairs}
 use Rattle.std.specs.List.Sorted.{IsStrictlyIncreasing}
@@ -8,7 +9,7 @@ use Rattle.std.proofs.lemmas.List.{ext_get_or, get_or-map, get_or_default, lengt
 use Rattle.std.proofs.lemmas.List.Elements.{Contains-get_or}
 use Rattle.std.proofs.lemmas.List.Kept.{AllPairs-from_increasing}
 use Rattle.aba_notions.specs.aba_laws.proofs.Images.{image_there, image_from}
-use Rattle.semantics.specs.declared.numbers.TheConstants.{LAST_RULE}
+use Rattle.semantics.specs.declared.numbers.TheConstants.{MAX_RULE}
 use Rattle.semantics.specs.Rules.{Rule}
 use Rattle.semantics.specs.AbaFrameworks.{Aba, IsAtom, IsNumberedAba}
 use Rattle.aba_notions.specs.declared.rule_table.RuleLists.{RuleLists}
@@ -185,7 +186,7 @@ made f atoms assumptions contraries lists next (Err x) ok h a b c d e fine = a
 -- ---- bounds
 
 -- there are no more rules than numbers for them
-pub few_rules : (f : Aba) → IsNumberedAba f → length f.rules ≤ LAST_RULE
+pub few_rules : (f : Aba) → IsNumberedAba f → length f.rules ≤ MAX_RULE
 few_rules f ok =
     let bounded : (n : ℕ) → Contains (numbers_of f.rules) n → (1 ≤ n) × (n < f.next) = λ n c.
     (let from = image_from (λ (r : Rule). r.number) f.rules n c in

@@ -5,15 +5,17 @@
 use Rattle.std.specs.Prelude.{ℕ, ◌+◌, ◌==◌, ◌&&◌, not, nat_le, nat_lt}
 use Rattle.std.specs.Prelude.{List, [], ◌∷◌, ◌++◌, filter, map, Option, Some, None, Result, Err}
 use Rattle.std.specs.List.{find}
-use Rattle.semantics.specs.declared.numbers.TheConstants.{LAST_RULE}
+use Rattle.semantics.specs.declared.numbers.TheConstants.{MAX_RULE}
 use Rattle.semantics.specs.Rules.{Rule}
 use Rattle.semantics.specs.AbaFrameworks.{Aba}
 use Rattle.aba_notions.specs.Storage.{aba_of, no_rule}
 use Rattle.edit_rules.specs.declared.edit.Edit.{Edit}
-use Rattle.edit_rules.specs.declared.edit.Edit.TheVariants.{ArgAdd, ArgDrop, AttackAdd, AttackDrop, AsmAdd, AsmDrop, ConSet, RuleAdd, RuleDrop}
+use Rattle.edit_rules.specs.declared.edit.Edit.TheVariants.{ArgAdd, ArgDrop, AttackAdd, AttackDrop, AsmAdd}
+use Rattle.edit_rules.specs.declared.edit.Edit.TheVariants.{AsmDrop, ConSet, RuleAdd, RuleDrop}
 use Rattle.edit_rules.specs.declared.effect.Effect.{Effect}
 use Rattle.edit_rules.specs.declared.effect.EditFault.{EditFault}
-use Rattle.edit_rules.specs.declared.effect.EditFault.TheVariants.{WrongKind, OutOfRange, AssumptionIsThere, NotFlat, UnknownAssumption, NoSuchRule}
+use Rattle.edit_rules.specs.declared.effect.EditFault.TheVariants.{WrongKind, OutOfRange, AssumptionIsThere}
+use Rattle.edit_rules.specs.declared.effect.EditFault.TheVariants.{NotFlat, UnknownAssumption, NoSuchRule}
 use Rattle.edit_rules.specs.Effects.{plain_effect}
 use Rattle.edit_rules.specs.Numbers.{has_number, with_number}
 use Rattle.edit_rules.specs.Refusals.{Refusal, refused_if, done_unless}
@@ -132,14 +134,14 @@ contrary_set f a c = record {
 abbrev pub rule_added : Aba → ℕ → List ℕ → AbaRow
 rule_added f h body = record {
   refusals = map (beyond 1 f.atoms) (h ∷ body) ++ refused_if (has_number f.assumptions h) (NotFlat h)
-      ∷ refused_if (nat_lt LAST_RULE f.next) (OutOfRange (LAST_RULE + 1)) ∷ [];
+      ∷ refused_if (nat_lt MAX_RULE f.next) (OutOfRange (MAX_RULE + 1)) ∷ [];
   framework = aba_with_rule f h body;
   effect = rule_effect (RuleAdd h body) f.next;
 }
 
 abbrev pub rule_dropped : Aba → ℕ → AbaRow
 rule_dropped f r = record {
-  refusals = beyond 1 LAST_RULE r ∷ refused_if (not (has_number (numbers_of f.rules) r)) (NoSuchRule r) ∷ [];
+  refusals = beyond 1 MAX_RULE r ∷ refused_if (not (has_number (numbers_of f.rules) r)) (NoSuchRule r) ∷ [];
   framework = aba_without_rule f r;
   effect = dropped_effect (RuleDrop r) (rule_numbered f.rules r);
 }

@@ -7,12 +7,14 @@ use Rattle.std.specs.Prelude.{List, [], ◌∷◌, ◌++◌, filter, Option, Som
 use Rattle.std.specs.List.{list_any}
 use Rattle.semantics.specs.Framework.{Af}
 use Rattle.semantics.specs.Frameworks.{Framework, af, aba}
-use Rattle.semantics.specs.declared.argument.TheConstants.{LAST_ARGUMENT}
+use Rattle.semantics.specs.declared.argument.TheConstants.{MAX_ARGUMENT}
 use Rattle.edit_rules.specs.declared.edit.Edit.{Edit}
-use Rattle.edit_rules.specs.declared.edit.Edit.TheVariants.{ArgAdd, ArgDrop, AttackAdd, AttackDrop, AsmAdd, AsmDrop, ConSet, RuleAdd, RuleDrop}
+use Rattle.edit_rules.specs.declared.edit.Edit.TheVariants.{ArgAdd, ArgDrop, AttackAdd, AttackDrop, AsmAdd}
+use Rattle.edit_rules.specs.declared.edit.Edit.TheVariants.{AsmDrop, ConSet, RuleAdd, RuleDrop}
 use Rattle.edit_rules.specs.declared.effect.Effect.{Effect}
 use Rattle.edit_rules.specs.declared.effect.EditFault.{EditFault}
-use Rattle.edit_rules.specs.declared.effect.EditFault.TheVariants.{WrongKind, OutOfRange, ArgumentIsThere, UnknownArgument, AttackIsThere, NoSuchAttack}
+use Rattle.edit_rules.specs.declared.effect.EditFault.TheVariants.{WrongKind, OutOfRange, ArgumentIsThere}
+use Rattle.edit_rules.specs.declared.effect.EditFault.TheVariants.{UnknownArgument, AttackIsThere, NoSuchAttack}
 use Rattle.edit_rules.specs.Refusals.{Refusal, refused_if, done_unless}
 use Rattle.edit_rules.specs.Numbers.{has_number, with_number}
 use Rattle.edit_rules.specs.Effects.{plain_effect}
@@ -30,7 +32,7 @@ has_pair ps p = list_any (λ q. q.0 == p.0 && q.1 == p.1) ps
 
 -- the number is no argument's
 abbrev pub outside : ℕ → Refusal
-outside x = refused_if (not (nat_le 1 x && nat_le x LAST_ARGUMENT)) (OutOfRange x)
+outside x = refused_if (not (nat_le 1 x && nat_le x MAX_ARGUMENT)) (OutOfRange x)
 
 -- the argument isn't live
 abbrev pub unknown : Af → ℕ → Refusal

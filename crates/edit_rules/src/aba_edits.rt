@@ -30,13 +30,17 @@ pub fn apply_aba(alloc: Global, plain: &mut AbaPlain, edit: &Edit) -> Result<Eff
     ensures fault { IfErr result (λ fault. (fault ≡ Memory) ⊎ (aba_outcome plain.old edit.now ≡ Err fault)) }
     ensures kept { OnErr result (plain.new ≡ plain.old) }
 {
-    let (after, effect) = edited(alloc, plain, edit)?;
+    let (after, effect) = copy_edited(alloc, plain, edit)?;
     *plain = after;
     Ok(effect)
 }
 
 /// The framework after an edit, and what the edit did.
-fn edited(alloc: Global, plain: &AbaPlain, edit: &Edit) -> Result<(AbaPlain, Effect), EditFault>
+fn copy_edited(
+    alloc: Global,
+    plain: &AbaPlain,
+    edit: &Edit,
+) -> Result<(AbaPlain, Effect), EditFault>
     ensures { ComesTo (aba_outcome plain.now edit.now) result }
 {
     match edit {

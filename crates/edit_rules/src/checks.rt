@@ -9,7 +9,7 @@ ghost use Rattle.edit_rules.specs.AbaEdits.{rule_added, rule_dropped};
 
 use crate::EditFault;
 use aba_notions::AbaPlain;
-use semantics::LAST_RULE;
+use semantics::MAX_RULE;
 
 /// Whether a number lies outside its range.
 fn is_beyond(low: u32, high: u32, number: u32) -> bool
@@ -125,8 +125,8 @@ pub(crate) fn check_rule(plain: &AbaPlain, head: u32, body: &[u32]) -> Result<()
     if is_assumption(plain, head) {
         return Err(EditFault::NotFlat(head));
     }
-    if LAST_RULE < plain.next() {
-        return Err(EditFault::OutOfRange(LAST_RULE + 1));
+    if MAX_RULE < plain.next() {
+        return Err(EditFault::OutOfRange(MAX_RULE + 1));
     }
     Ok(())
 }
@@ -135,7 +135,7 @@ pub(crate) fn check_rule(plain: &AbaPlain, head: u32, body: &[u32]) -> Result<()
 pub(crate) fn check_rule_drop(plain: &AbaPlain, number: u32) -> Result<(), EditFault>
     ensures { result ≡ done_unless (rule_dropped plain.now number).refusals tt }
 {
-    if is_beyond(1, LAST_RULE, number) {
+    if is_beyond(1, MAX_RULE, number) {
         return Err(EditFault::OutOfRange(number));
     }
     if !is_rule(plain, number) {

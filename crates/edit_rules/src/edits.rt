@@ -18,7 +18,7 @@ use crate::framework::Framework;
 use crate::{Edit, EditFault, Effect, apply_aba, numbers_but};
 use dung_notions::AfPlain;
 use lists::{Items, Memory as OutOfMemory};
-use semantics::LAST_ARGUMENT;
+use semantics::MAX_ARGUMENT;
 use set_lists::NumSet;
 use std::alloc::Global;
 
@@ -70,7 +70,7 @@ fn check_range(number: u32) -> Result<(), EditFault>
     ensures told { AreTold (outside number ∷ []) result }
     ensures argument { OnOk result (IsArgument number) }
 {
-    if number < 1 || LAST_ARGUMENT < number {
+    if number < 1 || MAX_ARGUMENT < number {
         return Err(EditFault::OutOfRange(number));
     }
     Ok(())

@@ -2,7 +2,7 @@
 
 ghost use Rattle.std.specs.Prelude.{◌≡◌, ◌<◌, ◌≤◌, ◌+◌, ◌==◌, ◌++◌, ◌∷◌, [], not, true};
 ghost use Rattle.std.specs.Prelude.{IfOk, OnOk, filter, length, map, take};
-ghost use Rattle.semantics.specs.declared.numbers.TheConstants.{LAST_RULE};
+ghost use Rattle.semantics.specs.declared.numbers.TheConstants.{MAX_RULE};
 ghost use Rattle.aba_notions.specs.Storage.{rule_at};
 ghost use Rattle.edit_rules.specs.Numbers.{has_number};
 ghost use Rattle.edit_rules.specs.Refusals.{NoneStands};
@@ -225,7 +225,7 @@ fn push_rule(
     head: u32,
     body: &[u32],
 ) -> Result<(), Memory>
-    requires { length rules.old.heads.items ≤ LAST_RULE }
+    requires { length rules.old.heads.items ≤ MAX_RULE }
     ensures numbers { OnOk result (rules.new.numbers.items ≡ rules.old.numbers.items ++ number ∷ []) }
     ensures heads { OnOk result (rules.new.heads.items ≡ rules.old.heads.items ++ head ∷ []) }
     ensures bodies { OnOk result (rules.new.bodies.items

@@ -3,7 +3,7 @@
 use aba_format::read_aba;
 use dung_notions::AfPlain;
 use edit_rules::Framework;
-use hinted_log::MOST_STEPS;
+use hinted_log::MAX_STEPS;
 use oracle_core::Engine;
 use std::alloc::Global;
 
@@ -14,7 +14,7 @@ pub(crate) fn af_engine(
     attacks: &[(u32, u32)],
     steps: u64,
 ) -> Option<Engine> {
-    if steps > MOST_STEPS {
+    if steps > MAX_STEPS {
         return None;
     }
     let plain = AfPlain::of_lists(alloc, arguments, attacks).ok()?;

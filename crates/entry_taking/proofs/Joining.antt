@@ -1,6 +1,8 @@
 -- What a log gains by an entry, and why it gains nothing.
-use Rattle.std.proofs.Common.{◌≡◌, ℕ, ◌<◌, List, length, take, ap, sym, subst, ◌∙◌, refl, arith, inl, inr, ⊎_elim, false, not, filter}
-use Rattle.std.specs.Prelude.{Contains, Bool, true, Option, Some, None, Result, Ok, Err, OnOk, OnErr, slice_index_or, IsSome}
+use Rattle.std.proofs.Common.{◌≡◌, ℕ, ◌<◌, List, length, take, ap, sym, subst, ◌∙◌, refl, arith, inl, inr, ⊎_elim}
+use Rattle.std.proofs.Common.{false, not, filter}
+use Rattle.std.specs.Prelude.{Contains, Bool, true, Option, Some, None, Result, Ok, Err, OnOk, OnErr}
+use Rattle.std.specs.Prelude.{slice_index_or, IsSome}
 use Rattle.lists.specs.declared.memory.Memory.{Memory}
 use Rattle.plain_lits.specs.declared.halt.Halt.{Halt}
 use Rattle.plain_lits.specs.declared.halt.Halt.TheVariants.{Spent, LogFull, Memory as OfMemory}
@@ -38,7 +40,8 @@ use Rattle.atom_solver.specs.States.{AddsAxiom, AtomState, IsGuardedLog}
 use Rattle.entry_taking.specs.declared.names.StepName.TheVariants.{Axiom as OfAxiom, Entry as EntryOf}
 use Rattle.entry_taking.specs.declared.names.StepNames.{StepNames}
 use Rattle.entry_taking.specs.Names.{IsFirstOf, told_of}
-use Rattle.entry_taking.specs.Taking.{ComesIn, ComesInOrMayNot, GoesOn, IsKnown, IsLooked, IsOfAxiom, MayCome, is_of_aba}
+use Rattle.entry_taking.specs.Taking.{ComesIn, ImportsOrMayNot, GoesOn, IsKnown, IsLooked, IsOfAxiom, MayCome}
+use Rattle.entry_taking.specs.Taking.{is_of_aba}
 use Rattle.entry_taking.proofs.Finding.{some_name, stand_once}
 
 -- ---- the log goes on
@@ -188,7 +191,8 @@ module _ (own : ℕ) (entry : AnEntry) (names : List HintName) (origin : entry.o
       ⊎_elim (λ full. full_comes f own entry.clause (Hints names) old.log new.log full)
       (λ none. inr (λ room shown.
       let same = stand_once own old.log.steps names shown.hints hints shown.stand stand in
-      none (subst (λ hs. Checks negated (clauses_of old.log.steps) entry.clause hs (Ok (length hs))) same shown.checks)))
+      none (subst (λ hs. Checks negated (clauses_of old.log.steps) entry.clause hs (Ok (length hs))) same
+      shown.checks)))
       refused
 
 pub unnamed_comes : (f : Framework) (own : ℕ) (clause : List AtomLit) (names : List HintName) (old new : OracleLog)
@@ -198,14 +202,14 @@ unnamed_comes f own clause names old new none = inr (λ room shown. none shown.h
 -- ---- an entry comes
 
 pub entry_comes : (f : Framework) (own : ℕ) (entry : AnEntry) (origin : EntryOrigin) (old new : OracleLog)
-    → entry.origin ≡ origin → ComesIn f own entry.clause origin old new → ComesInOrMayNot f own entry old new
+    → entry.origin ≡ origin → ComesIn f own entry.clause origin old new → ImportsOrMayNot f own entry old new
 entry_comes f own entry origin old new is comes =
     ⊎_elim (λ part. inl part)
     (λ none. inr (λ may. none may.room (subst (λ o. IsShownHere f own old.steps entry.clause o) is may.shown)))
     comes
 
 pub known_stays : (f : Framework) (own : ℕ) (entry : AnEntry) (old new : OracleLog) (names : StepNames)
-    → IsLooked names old.steps → IsKnown names own entry.name → ComesInOrMayNot f own entry old new
+    → IsLooked names old.steps → IsKnown names own entry.name → ImportsOrMayNot f own entry old new
 known_stays f own entry old new names looked known = inr (λ may. ⊎_elim (λ same. may.other same)
     (λ some. go may (told_of names (EntryOf entry.name.session entry.name.step)) refl some) known)
   where
@@ -252,16 +256,17 @@ module _ (own : ℕ) (entry : AnEntry) (names : List HintName) (origin : entry.o
 pub axiom_entry_came : (r : Result (Unit {0}) Memory) (kind : Bool) (own : ℕ) (entry : AnEntry) (name : AxiomName)
     (clause : List AtomLit) (old new : OracleLog) → entry.origin ≡ Axiom name → clause ≡ entry.clause
     → OnOk r ((f : Framework) (own : ℕ) → is_assumption_based f ≡ kind → ComesIn f own clause (Axiom name) old new)
-    → OnOk r ((f : Framework) → is_assumption_based f ≡ kind → ComesInOrMayNot f own entry old new)
+    → OnOk r ((f : Framework) → is_assumption_based f ≡ kind → ImportsOrMayNot f own entry old new)
 axiom_entry_came (Ok u) kind own entry name clause old new is same comes = λ f of_kind.
     entry_comes f own entry (Axiom name) old new is
     (subst (λ c. ComesIn f own c (Axiom name) old new) same (comes f own of_kind))
 axiom_entry_came (Err e) kind own entry name clause old new is same comes = tt
 
-pub hints_entry_came : (r : Result (Unit {0}) Memory) (kind : Bool) (own : ℕ) (entry : AnEntry) (names others : List HintName)
+pub hints_entry_came : (r : Result (Unit {0}) Memory) (kind : Bool) (own : ℕ) (entry : AnEntry)
+    (names others : List HintName)
     (old new : OracleLog) → entry.origin ≡ Hints names → others ≡ names
     → OnOk r ((f : Framework) → ComesIn f own entry.clause (Hints others) old new)
-    → OnOk r ((f : Framework) → is_assumption_based f ≡ kind → ComesInOrMayNot f own entry old new)
+    → OnOk r ((f : Framework) → is_assumption_based f ≡ kind → ImportsOrMayNot f own entry old new)
 hints_entry_came (Ok u) kind own entry names others old new is same comes = λ f of_kind.
     entry_comes f own entry (Hints names) old new is
     (subst (λ hs. ComesIn f own entry.clause (Hints hs) old new) same (comes f))

@@ -59,8 +59,8 @@ ComesIn f own clause origin before after =
     ⊎ (length before.steps < before.limit → IsShownHere f own before.steps clause origin → ⊥)
 
 -- searches use a clause that is part of the entry's, or else the entry may not be taken into the log before
-abbrev pub ComesInOrMayNot : Framework → ℕ → AnEntry → OracleLog → OracleLog → Type 0
-ComesInOrMayNot f own entry before after =
+abbrev pub ImportsOrMayNot : Framework → ℕ → AnEntry → OracleLog → OracleLog → Type 0
+ImportsOrMayNot f own entry before after =
     HasPart (working after.steps) entry.clause ⊎ (MayImport f own before entry → ⊥)
 
 -- whether the axiom is one of assumption-based frameworks

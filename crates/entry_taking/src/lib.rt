@@ -7,5 +7,5 @@ mod once;
 pub mod taking;
 
 pub use names::StepNames;
-pub use once::take_once;
-pub use taking::take_in;
+pub use once::add_axiom_once;
+pub use taking::import_entry;

@@ -16,7 +16,7 @@ use std::alloc::Global;
 
 /// Takes an axiom, unless a step of the log is that axiom already: then nothing changes. It spends nothing. `LogFull`
 /// comes only at a full log. After every `Err` the log is as before.
-pub fn take_once(
+pub fn add_axiom_once(
     alloc: Global,
     solver: &mut AtomSolver,
     names: &mut StepNames,

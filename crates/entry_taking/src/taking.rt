@@ -13,7 +13,8 @@ ghost use Rattle.oracle_face.specs.declared.entry.HintName.TheVariants.{Entry as
 ghost use Rattle.atom_solver.specs.Lifted.{imported_of};
 ghost use Rattle.session_log.specs.OwnSteps.{IsNamedByGiven, OwnStep};
 ghost use Rattle.entry_taking.specs.Names.{AreNamed};
-ghost use Rattle.entry_taking.specs.Taking.{AreFound, ComesIn, ComesInOrMayNot, GoesOn, IsCalledFirst, IsFound, IsKnown};
+ghost use Rattle.entry_taking.specs.Taking.{AreFound, ComesIn, ImportsOrMayNot, GoesOn, IsCalledFirst, IsFound};
+ghost use Rattle.entry_taking.specs.Taking.{IsKnown};
 ghost use Rattle.entry_taking.specs.Taking.{IsLooked, IsOfAxiom, IsOwn, MayCome, is_of_aba};
 
 use crate::names::{StepName, StepNames};
@@ -262,7 +263,7 @@ fn take_derived(
 /// it may come in: an axiom of such frameworks, but a loop clause, as one's own step; any other entry by the steps that
 /// its hints name, marked with the entry's name. It is a step of the session wherever the entry was given. It spends
 /// nothing. After `Memory` the log is as before.
-pub fn take_in(
+pub fn import_entry(
     alloc: Global,
     solver: &mut AtomSolver,
     names: &mut StepNames,
@@ -275,7 +276,7 @@ pub fn take_in(
     ensures named { AreNamed names.new solver.new.log.steps }
     ensures goes { GoesOn assumption_based solver.old solver.new }
     ensures comes { OnOk result ((f : Framework) → is_assumption_based f ≡ assumption_based
-        → ComesInOrMayNot f own entry.now solver.old.log solver.new.log) }
+        → ImportsOrMayNot f own entry.now solver.old.log solver.new.log) }
     ensures steps { (f : Framework) (given : List AnEntry) → is_assumption_based f ≡ assumption_based
         → Contains given entry.now
         → (solver.new.log ≡ solver.old.log) ⊎ OwnStep f own given solver.old.log solver.new.log }

@@ -1,5 +1,6 @@
 -- Covers of ranges by sets of which none has a set in its range that makes the literal true.
-use Rattle.std.proofs.Common.{◌≡◌, inl, inr, ⊎_elim, ℕ, suc, ◌+◌, ◌*◌, ◌<◌, ◌≤◌, true, false, Bool, List, [], ◌∷◌, ◌++◌, length, map, filter, refl, ap, sym, subst, ◌∙◌, arith}
+use Rattle.std.proofs.Common.{◌≡◌, inl, inr, ⊎_elim, ℕ, suc, ◌+◌, ◌*◌, ◌<◌, ◌≤◌, true, false, Bool, List, [], ◌∷◌}
+use Rattle.std.proofs.Common.{◌++◌, length, map, filter, refl, ap, sym, subst, ◌∙◌, arith}
 use Rattle.std.specs.Prelude.{◌⊎◌, ◌↔◌, Contains, slice_index_or, Option, Some, None, Result, Ok, Err, IfOk}
 use Rattle.std.proofs.lemmas.Bool.{false≢true}
 use Rattle.std.proofs.lemmas.List.{length-append, map-append}
@@ -38,18 +39,21 @@ use Rattle.oracle_face.proofs.Refuting.{claim_excluded, refutes_grown}
 use Rattle.goal_lists.specs.Asking.{AreApart, IsAskable, goals_of}
 use Rattle.goal_lists.specs.Sides.{IsAskOf}
 use Rattle.goal_lists.proofs.AskedGoals.{not_range_within, same_wider, wider_speaks}
-use Rattle.goal_lists.proofs.Calls.{admissible_members, apart_pushed, asks_fit, found_in, found_mode, found_out, found_ranged, makes_same, then_made}
+use Rattle.goal_lists.proofs.Calls.{admissible_members, apart_pushed, asks_fit, found_in, found_mode, found_out}
+use Rattle.goal_lists.proofs.Calls.{found_ranged, makes_same, then_made}
 use Rattle.goal_lists.proofs.Lacking.{lacks_range}
 use Rattle.goal_lists.proofs.Measures.{fewer_left, kept_is_set, same_as_kept}
-use Rattle.goal_lists.proofs.SideLemmas.{HasWanted, asks_kept, asks_more, asks_none, asks_refuted, asks_speak, asks_true, same_number}
+use Rattle.goal_lists.proofs.SideLemmas.{HasWanted, asks_kept, asks_more, asks_none, asks_refuted, asks_speak}
+use Rattle.goal_lists.proofs.SideLemmas.{asks_true, same_number}
 use Rattle.enumerate_block.specs.semi_stable.specs.declared.widest.Widest.{Widest}
 use Rattle.enumerate_block.specs.semi_stable.specs.Widest.{IsRangeIn, IsWidestFrom, MadeWider, wider_claim}
 use Rattle.enumerate_block.specs.semi_stable.proofs.WidestLemmas.{range_list, range_within}
 use Rattle.enumerate_block.specs.Ranges.{AreRefuted}
 use Rattle.enumerate_block.proofs.RangeLemmas.{log_kept, open_ranges, widest_kept}
 use Rattle.enumerate_block.proofs.StepLemmas.{refuted_first, refuted_member, refuted_none}
-use Rattle.enumerate_block.specs.declared.deciding.Cover.{Cover}
-use Rattle.enumerate_block.specs.Witnesses.{Extends, HasRange, IsCover, IsExtended, IsMadeWithin, IsNoWitness, IsUncovered, IsWitness, MakesIt, Takes, ins_of, literal_of, outs_of}
+use Rattle.enumerate_block.specs.declared.deciding.RangeCover.{RangeCover}
+use Rattle.enumerate_block.specs.Witnesses.{Extends, HasRange, IsCover, IsExtended, IsMadeWithin, IsNoWitness}
+use Rattle.enumerate_block.specs.Witnesses.{IsUncovered, IsWitness, MakesIt, Takes, ins_of, literal_of, outs_of}
 
 -- ---- lists of steps
 
@@ -182,7 +186,7 @@ says_it (aba f) q accepted e kind h = absurd (false≢true (sym kind))
 
 -- ---- covers
 
-pub cover_empty : (f : Framework) (log : OracleLog) (q : ℕ) (accepted : Bool) (cover : Cover)
+pub cover_empty : (f : Framework) (log : OracleLog) (q : ℕ) (accepted : Bool) (cover : RangeCover)
     → is_assumption_based f ≡ false → cover.sets ≡ [] → cover.steps ≡ [] → cover.asks ≡ []
     → IsCover f log q accepted cover
 cover_empty f log q accepted cover kind sets steps asks =
@@ -196,7 +200,7 @@ cover_empty f log q accepted cover kind sets steps asks =
       apart = record { apart = λ i j lt high e. absurd (omega (arith, ap length asks)) };
     }
 
-pub cover_grown : (f : Framework) (P : Making) (old new : OracleLog) (q : ℕ) (accepted : Bool) (cover : Cover)
+pub cover_grown : (f : Framework) (P : Making) (old new : OracleLog) (q : ℕ) (accepted : Bool) (cover : RangeCover)
     → IsLog f old → Grows P old new → IsCover f old q accepted cover → IsCover f new q accepted cover
 cover_grown f P old new q accepted cover form grows h = record {
   kind = h.kind;
@@ -207,7 +211,7 @@ cover_grown f P old new q accepted cover form grows h = record {
   apart = h.apart;
 }
 
-pub cover_kept : (f g h : Framework) (P : Making) (old new : OracleLog) (q : ℕ) (accepted : Bool) (cover : Cover)
+pub cover_kept : (f g h : Framework) (P : Making) (old new : OracleLog) (q : ℕ) (accepted : Bool) (cover : RangeCover)
     → g ≡ f → h ≡ g → IsKept g old → Grows P old new → IsCover f old q accepted cover
     → IsCover h new q accepted cover
 cover_kept f g h P old new q accepted cover left right kept grows is =
@@ -215,7 +219,7 @@ cover_kept f g h P old new q accepted cover left right kept grows is =
     (cover_grown f P old new q accepted cover (log_kept f g old left kept) grows is)
 
 -- two closing steps for each set, and two more, are no more than the side clauses allow
-pub few_closings : (f : Framework) (P : Making) (old new : OracleLog) (q : ℕ) (accepted : Bool) (cover : Cover)
+pub few_closings : (f : Framework) (P : Making) (old new : OracleLog) (q : ℕ) (accepted : Bool) (cover : RangeCover)
     → IsCover f old q accepted cover → Grows P old new → 2 * length cover.asks + 2 ≤ 2 * length new.sides + 2
 few_closings f P old new q accepted cover h grows =
     let few = asks_fit cover.asks old.sides h.apart (λ n c. (h.asks.each n c).2.number) in
@@ -224,7 +228,7 @@ few_closings f P old new q accepted cover h grows =
 
 -- ---- a set that is not covered
 
-pub may_ask_uncovered : (f : Framework) (log : OracleLog) (q : ℕ) (accepted : Bool) (cover : Cover)
+pub may_ask_uncovered : (f : Framework) (log : OracleLog) (q : ℕ) (accepted : Bool) (cover : RangeCover)
     (ins outs these numbers : List ℕ) → AreFor q accepted [] cover.asks ins outs these numbers
     → Contains (members f) q → IsCover f log q accepted cover → IsAskable f log.sides Ad ins outs these numbers
 may_ask_uncovered f log q accepted cover ins outs these numbers are live h =
@@ -237,7 +241,7 @@ not_in_range : (f : Framework) (e set : List ℕ) → is_assumption_based f ≡ 
 not_in_range (af f) e set kind t sub = not_range_within f e set t sub
 not_in_range (aba f) e set kind t sub = false≢true (sym kind)
 
-found_uncovered : (f : Framework) (log : OracleLog) (q : ℕ) (accepted : Bool) (cover : Cover)
+found_uncovered : (f : Framework) (log : OracleLog) (q : ℕ) (accepted : Bool) (cover : RangeCover)
     → IsCover f log q accepted cover → (found : Found)
     → IsFound f log (goals_of Ad (ins_of accepted (q ∷ [])) (outs_of accepted (q ∷ [])) [] cover.asks) found
     → IsUncovered f log q accepted cover found
@@ -254,7 +258,7 @@ found_uncovered f log q accepted cover h (Refuted step) refuted =
     (outs_of accepted (q ∷ [])) [] cover.asks step
     (wanted f q accepted [] [] h.kind (λ a c. c)) h.asks refuted
 
-pub if_uncovered : (f : Framework) (P : Making) (old log : OracleLog) (q : ℕ) (accepted : Bool) (cover : Cover)
+pub if_uncovered : (f : Framework) (P : Making) (old log : OracleLog) (q : ℕ) (accepted : Bool) (cover : RangeCover)
     (ins outs these numbers : List ℕ) → AreFor q accepted [] cover.asks ins outs these numbers → IsLog f old
     → Grows P old log → IsCover f old q accepted cover → (r : Result Found Halt)
     → IfOk r (IsFound f log (goals_of Ad ins outs these numbers)) → IfOk r (IsUncovered f log q accepted cover)
@@ -382,7 +386,7 @@ has_range f h log given widest kind same is =
     subst (λ (x : Framework). HasRange x widest) (sym same)
     (record { kind = kind; admissible = is.has_mode; range = is.range })
 
-set_more : (old new : Cover) (e : List ℕ) → new.sets ≡ old.sets ++ e ∷ [] → (s : List ℕ)
+set_more : (old new : RangeCover) (e : List ℕ) → new.sets ≡ old.sets ++ e ∷ [] → (s : List ℕ)
     → Contains new.sets s ↔ (Contains old.sets s ⊎ (s ≡ e))
 set_more old new e is s = (
   λ c. ⊎_elim (λ k. inl k) (λ k. inr (sym (only_one e s k)))
@@ -400,7 +404,7 @@ same_clause_range (af f) d e kind ok adm same a h =
     ranged_gives f d a (same_wider (af f) d e same a (in_range_live f e a ok.form adm.conflict_free.live h)
     (ranged_from f e a h))
 
-not_asked : (f : Framework) (log : OracleLog) (q : ℕ) (accepted : Bool) (old new : Cover) (e : List ℕ)
+not_asked : (f : Framework) (log : OracleLog) (q : ℕ) (accepted : Bool) (old new : RangeCover) (e : List ℕ)
     (step n : ℕ) → IsNumbered f → IsCover f log q accepted old → IsExtended f log q accepted old new e step n
     → Contains old.asks n → ⊥
 not_asked f log q accepted old new e step n ok cover h c =
@@ -408,7 +412,7 @@ not_asked f log q accepted old new e step n ok cover h c =
     h.outside_all m.0 m.1
     (same_clause_range f m.0 e cover.kind ok h.admissible (same_number log.sides (wider f m.0) (wider f e) n m.2 h.ask))
 
-pub cover_extended : (f : Framework) (log : OracleLog) (q : ℕ) (accepted : Bool) (old new : Cover) (e : List ℕ)
+pub cover_extended : (f : Framework) (log : OracleLog) (q : ℕ) (accepted : Bool) (old new : RangeCover) (e : List ℕ)
     (step n : ℕ) → IsNumbered f → IsCover f log q accepted old → IsExtended f log q accepted old new e step n
     → IsCover f log q accepted new
 cover_extended f log q accepted old new e step n ok cover h =
@@ -427,7 +431,7 @@ cover_extended f log q accepted old new e step n ok cover h =
           (apart_pushed old.asks n cover.apart (not_asked f log q accepted old new e step n ok cover h));
     }
 
-pub fewer_open : (f : Framework) (log : OracleLog) (q : ℕ) (accepted : Bool) (old new : Cover) (e : List ℕ)
+pub fewer_open : (f : Framework) (log : OracleLog) (q : ℕ) (accepted : Bool) (old new : RangeCover) (e : List ℕ)
     (step n : ℕ) → is_assumption_based f ≡ false → IsNumbered f → IsExtended f log q accepted old new e step n
     → open_ranges f new.sets < open_ranges f old.sets
 fewer_open (aba f) log q accepted old new e step n kind ok h = absurd (false≢true (sym kind))
@@ -444,7 +448,7 @@ fewer_open (af f) log q accepted old new e step n kind ok h =
 -- ---- a turn of the search
 
 pub taken : (f g h : Framework) (before first mid log : OracleLog) (P : Making) (q : ℕ) (accepted : Bool)
-    (old new : Cover) (given : List ℕ) (widest : Widest) (found : Found) (step : ℕ) → g ≡ f → h ≡ g → IsKept h mid
+    (old new : RangeCover) (given : List ℕ) (widest : Widest) (found : Found) (step : ℕ) → g ≡ f → h ≡ g → IsKept h mid
     → Grows P mid log
     → IsUncovered f before q accepted old (Set given) → IsWidestFrom f first Ad given widest
     → found ≡ Refuted step → IsMadeWithin g mid q accepted widest.set found → Takes h log widest step old new
@@ -470,14 +474,16 @@ taken f g h before first mid log P q accepted old new given widest found step le
       },
     )
 
-pub extended_of : (f g : Framework) (log : OracleLog) (q : ℕ) (accepted : Bool) (old new : Cover) (r : Option Widest)
+pub extended_of : (f g : Framework) (log : OracleLog) (q : ℕ) (accepted : Bool) (old new : RangeCover)
+    (r : Option Widest)
     → g ≡ f → r ≡ None → Extends g log q accepted old new r
     → (e : List ℕ) × (step : ℕ) × (n : ℕ) × IsExtended f log q accepted old new e step n
 extended_of f g log q accepted old new r same is h =
     subst (λ (x : Framework). Extends x log q accepted old new None) same
     (subst (Extends g log q accepted old new) is h)
 
-pub witness_of : (f g : Framework) (log : OracleLog) (q : ℕ) (accepted : Bool) (old new : Cover) (r : Option Widest)
+pub witness_of : (f g : Framework) (log : OracleLog) (q : ℕ) (accepted : Bool) (old new : RangeCover)
+    (r : Option Widest)
     (found : Widest) → g ≡ f → r ≡ Some found → Extends g log q accepted old new r → IsWitness f log q accepted found
 witness_of f g log q accepted old new r found same is h =
     subst (λ (x : Framework). IsWitness x log q accepted found) same
@@ -508,7 +514,8 @@ free_plain f q accepted e kind =
     plain_mapped (affirmed Ad ∷ literal_of f q accepted ∷ are_ranged (range_of f e)) (wider f) []
     (wanted f q accepted [] (range_of f e) kind (λ a c. absurd (Contains-nil a c))).plain (wider_plain f)
 
-none_makes_it : (f : Framework) (log : OracleLog) (q : ℕ) (accepted : Bool) (cover : Cover) (step : ℕ) → IsKept f log
+none_makes_it : (f : Framework) (log : OracleLog) (q : ℕ) (accepted : Bool) (cover : RangeCover) (step : ℕ) → IsKept f
+    log
     → IsCover f log q accepted cover → Refutes f log (range_cover f (literal_of f q accepted ∷ []) cover.sets) step
     → (e : List ℕ) → IsExtension f SemiStable e → MakesIt f q accepted e → ⊥
 none_makes_it (aba f) log q accepted cover step kept h refuted e semi makes = false≢true (sym h.kind)
@@ -523,7 +530,8 @@ none_makes_it (af f) log q accepted cover step kept h refuted e semi makes =
     claim_excluded (af f) log (range_free (af f) bad d) r.0 kept.form (free_plain (af f) q accepted d h.kind) r.1)
     e semi (says_it (af f) q accepted e h.kind makes)
 
-pub no_witness : (f g h : Framework) (log : OracleLog) (q : ℕ) (accepted : Bool) (cover : Cover) (r : Found) (step : ℕ)
+pub no_witness : (f g h : Framework) (log : OracleLog) (q : ℕ) (accepted : Bool) (cover : RangeCover) (r : Found)
+    (step : ℕ)
     (steps : List ℕ) → g ≡ f → h ≡ f → IsKept h log → IsCover f log q accepted cover → r ≡ Refuted step
     → IsUncovered g log q accepted cover r → steps ≡ step ∷ cover.steps
     → IsNoWitness f log q accepted cover.sets steps

@@ -22,7 +22,7 @@ use Rattle.goal_lists.specs.Sides.{AreAsksOf, IsAskOf}
 use Rattle.enumerate_block.specs.semi_stable.specs.declared.widest.Widest.{Widest}
 use Rattle.enumerate_block.specs.semi_stable.specs.Widest.{IsRangeIn, wider_claim}
 use Rattle.enumerate_block.specs.Ranges.{AreRefuted}
-use Rattle.enumerate_block.specs.declared.deciding.Cover.{Cover}
+use Rattle.enumerate_block.specs.declared.deciding.RangeCover.{RangeCover}
 use Rattle.enumerate_block.specs.declared.deciding.Deciding.{Deciding}
 use Rattle.enumerate_block.specs.declared.deciding.Deciding.TheVariants.{Witness, NoWitness}
 
@@ -78,7 +78,7 @@ IsDecided f log q accepted (NoWitness sets steps) = IsNoWitness f log q accepted
 -- admissible sets of an abstract framework, each with a step that shows that no admissible set that makes the literal
 -- true has all of its range; and different side clauses, each that something is in the range that isn't in that of one
 -- of the sets
-pub record IsCover (f : Framework) (log : OracleLog) (q : ℕ) (accepted : Bool) (cover : Cover) : Type 0 where
+pub record IsCover (f : Framework) (log : OracleLog) (q : ℕ) (accepted : Bool) (cover : RangeCover) : Type 0 where
   pub kind : is_assumption_based f ≡ false
   pub each : (e : List ℕ) → Contains cover.sets e → HoldsOf f e Ad
   pub free : AreRefuted f log (map (range_free f (literal_of f q accepted)) cover.sets) cover.steps
@@ -87,7 +87,7 @@ pub record IsCover (f : Framework) (log : OracleLog) (q : ℕ) (accepted : Bool)
 
 -- an admissible set that makes the literal true and whose range lies in none of the sets', or a step that refutes that
 -- there is one
-abbrev pub IsUncovered : Framework → OracleLog → ℕ → Bool → Cover → Found → Type 0
+abbrev pub IsUncovered : Framework → OracleLog → ℕ → Bool → RangeCover → Found → Type 0
 IsUncovered f log q accepted cover (Set set) =
     HoldsOf f set Ad
     × MakesIt f q accepted set
@@ -102,7 +102,7 @@ IsMadeWithin f log q accepted e (Set set) = HoldsOf f set Ad × MakesIt f q acce
 IsMadeWithin f log q accepted e (Refuted step) = Refutes f log (range_free f (literal_of f q accepted) e) step
 
 -- the cover has one set more, with the step and with its side clause
-pub record Takes (f : Framework) (log : OracleLog) (widest : Widest) (step : ℕ) (old new : Cover) : Type 0 where
+pub record Takes (f : Framework) (log : OracleLog) (widest : Widest) (step : ℕ) (old new : RangeCover) : Type 0 where
   pub sets : new.sets ≡ old.sets ++ widest.set ∷ []
   pub steps : new.steps ≡ old.steps ++ step ∷ []
   pub number : ℕ
@@ -110,7 +110,7 @@ pub record Takes (f : Framework) (log : OracleLog) (widest : Widest) (step : ℕ
   pub ask : IsAskOf log.sides (wider f widest.set) number
 
 -- the cover has one set more, whose range lay in none of those before
-pub record IsExtended (f : Framework) (log : OracleLog) (q : ℕ) (accepted : Bool) (old new : Cover) (e : List ℕ)
+pub record IsExtended (f : Framework) (log : OracleLog) (q : ℕ) (accepted : Bool) (old new : RangeCover) (e : List ℕ)
     (step number : ℕ) : Type 0 where
   pub sets : new.sets ≡ old.sets ++ e ∷ []
   pub steps : new.steps ≡ old.steps ++ step ∷ []
@@ -121,7 +121,7 @@ pub record IsExtended (f : Framework) (log : OracleLog) (q : ℕ) (accepted : Bo
   pub outside_all : (d : List ℕ) → Contains old.sets d → IsRangeIn f e d → ⊥
 
 -- a witness, or one set more in the cover
-abbrev pub Extends : Framework → OracleLog → ℕ → Bool → Cover → Cover → Option Widest → Type 0
+abbrev pub Extends : Framework → OracleLog → ℕ → Bool → RangeCover → RangeCover → Option Widest → Type 0
 Extends f log q accepted old new (Some found) = IsWitness f log q accepted found
 Extends f log q accepted old new None =
     (e : List ℕ) × (step : ℕ) × (number : ℕ) × IsExtended f log q accepted old new e step number

@@ -33,7 +33,7 @@ pub enum Deciding {
 /// Sets with widest ranges, for each the step that shows that no set that makes the literal true has all of its range,
 /// and the side clauses that something is in the range that isn't in one of theirs.
 #[derive(Drop)]
-struct Cover {
+struct RangeCover {
     sets: Items<NumSet>,
     steps: Items<StepId>,
     asks: Items<AskId>,
@@ -61,13 +61,13 @@ pub fn decide<O: Oracle>(
     ensures follows { O.follows oracle.old oracle.new }
 {
     let _members = oracle.members();
-    let mut cover = Cover {
+    let mut cover = RangeCover {
         sets: Items::new(alloc),
         steps: Items::new(alloc),
         asks: Items::new(alloc),
     };
     loop {
-        match uncovered(alloc, oracle, budget, goal, accepted, &cover)? {
+        match find_uncovered(alloc, oracle, budget, goal, accepted, &cover)? {
             Found::Refuted(step) => {
                 let steps = with_first(step, cover.steps)?;
                 return Ok(Deciding::NoWitness(cover.sets, steps));
@@ -93,7 +93,7 @@ fn with_first(step: StepId, steps: Items<StepId>) -> Result<Items<StepId>, Memor
 
 /// What is wanted of a set that has the one argument of `goal` or hasn't it, has these in its range and makes the side
 /// clauses true.
-fn wanted_for<'a>(
+fn goals_wanted<'a>(
     goal: &'a [u32],
     accepted: bool,
     ranged: &'a [u32],
@@ -122,13 +122,13 @@ fn wanted_for<'a>(
 
 /// An admissible set that makes the literal true and whose range lies in none of those of the cover, or the step that
 /// shows that there is none.
-fn uncovered<O: Oracle>(
+fn find_uncovered<O: Oracle>(
     alloc: Global,
     oracle: &mut O,
     budget: &mut Budget,
     goal: u32,
     accepted: bool,
-    cover: &Cover,
+    cover: &RangeCover,
 ) -> Result<Found, Halt>
     requires goal { Contains (members (O.framework oracle.old)) goal }
     requires cover { IsCover (O.framework oracle.old) (O.log oracle.old) goal accepted cover.now }
@@ -141,7 +141,7 @@ fn uncovered<O: Oracle>(
 {
     let _members = oracle.members();
     let goals = [goal];
-    let wanted = wanted_for(&goals, accepted, &[], cover.asks.as_slice());
+    let wanted = goals_wanted(&goals, accepted, &[], cover.asks.as_slice());
     search_for(alloc, oracle, budget, Atom::Ad, &wanted)
 }
 
@@ -167,7 +167,7 @@ fn within_range<O: Oracle>(
 {
     let _members = oracle.members();
     let goals = [goal];
-    let wanted = wanted_for(&goals, accepted, widest.range.as_slice(), &[]);
+    let wanted = goals_wanted(&goals, accepted, widest.range.as_slice(), &[]);
     search_for(alloc, oracle, budget, Atom::Ad, &wanted)
 }
 
@@ -179,7 +179,7 @@ fn extend<O: Oracle>(
     budget: &mut Budget,
     goal: u32,
     accepted: bool,
-    cover: &mut Cover,
+    cover: &mut RangeCover,
     set: &NumSet,
 ) -> Result<Option<Widest>, Halt>
     requires kind { is_assumption_based (O.framework oracle.old) ≡ false }
@@ -214,7 +214,7 @@ fn take_range<O: Oracle>(
     alloc: Global,
     oracle: &mut O,
     budget: &mut Budget,
-    cover: &mut Cover,
+    cover: &mut RangeCover,
     widest: Widest,
     step: StepId,
 ) -> Result<(), Halt>

@@ -44,7 +44,7 @@ pub fn all_preferred<O: Oracle>(
         asks: Items::new(alloc),
     };
     loop {
-        match uncovered(alloc, oracle, budget, &found)? {
+        match find_uncovered(alloc, oracle, budget, &found)? {
             Found::Refuted(step) => return Ok(Listed::Whole(found.sets, step)),
             Found::Set(set) => {
                 let room = record_grown(alloc, oracle, budget, limit, &mut found, &set)?;
@@ -57,7 +57,7 @@ pub fn all_preferred<O: Oracle>(
 }
 
 /// An admissible set that lies in none of the sets found, or the step that shows that there is none.
-fn uncovered<O: Oracle>(
+fn find_uncovered<O: Oracle>(
     alloc: Global,
     oracle: &mut O,
     budget: &mut Budget,

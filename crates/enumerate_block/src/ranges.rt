@@ -62,7 +62,7 @@ pub fn all_semi_stable<O: Oracle>(
         asks: Items::new(alloc),
     };
     loop {
-        match uncovered(alloc, oracle, budget, &found)? {
+        match find_uncovered(alloc, oracle, budget, &found)? {
             Found::Refuted(step) => {
                 let steps = steps_of(alloc, step, found.marks.as_slice())?;
                 return Ok(Ranged::Whole(found.sets, steps));
@@ -78,7 +78,7 @@ pub fn all_semi_stable<O: Oracle>(
 }
 
 /// An admissible set whose range lies in none of those found, or the step that shows that there is none.
-fn uncovered<O: Oracle>(
+fn find_uncovered<O: Oracle>(
     alloc: Global,
     oracle: &mut O,
     budget: &mut Budget,

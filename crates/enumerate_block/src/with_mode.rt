@@ -6,7 +6,8 @@ ghost use Rattle.meaning_atoms.specs.declared.atom.Atom.TheVariants.{Ad};
 ghost use Rattle.certificate_claims.specs.SetLiterals.{members};
 ghost use Rattle.oracle_face.specs.Logs.{IsKept};
 ghost use Rattle.oracle_face.specs.Growing.{HasRun, closes, halt_of};
-ghost use Rattle.enumerate_block.specs.Modes.{IsAllOrMore, IsAmong, IsFurtherOf, IsListing, IsListMode, MadeDiffers, Records};
+ghost use Rattle.enumerate_block.specs.Modes.{IsAllOrMore, IsAmong, IsFurtherOf, IsListing, IsListMode};
+ghost use Rattle.enumerate_block.specs.Modes.{MadeDiffers, Records};
 
 use crate::ordered::insert_in_order;
 use goal_lists::{Wanted, differs, search_for};
@@ -120,7 +121,7 @@ fn list_on<O: Oracle>(
     let _members = oracle.members();
     let mut listing = start;
     loop {
-        match further(alloc, oracle, budget, mode, range, &listing)? {
+        match find_further(alloc, oracle, budget, mode, range, &listing)? {
             Found::Refuted(step) => return Ok(Listed::Whole(listing.sets, step)),
             Found::Set(set) => {
                 let room = record_set(
@@ -142,7 +143,7 @@ fn list_on<O: Oracle>(
 }
 
 /// A set of the mode with these in its range that isn't listed, or the step that shows that there is none.
-fn further<O: Oracle>(
+fn find_further<O: Oracle>(
     alloc: Global,
     oracle: &mut O,
     budget: &mut Budget,

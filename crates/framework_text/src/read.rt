@@ -3,7 +3,7 @@
 ghost use Rattle.std.specs.Prelude.{◌≡◌, ◌≤◌, length, IfErr, IfOk};
 ghost use Rattle.semantics.specs.Frameworks.{Framework as AFramework};
 ghost use Rattle.edit_rules.specs.Kinds.{framework_of};
-ghost use Rattle.num_text.specs.declared.limit.TheConstants.{INPUT_LIMIT};
+ghost use Rattle.num_text.specs.declared.limit.TheConstants.{MAX_INPUT};
 ghost use Rattle.af_format.specs.Faults.{IfLine};
 ghost use Rattle.framework_text.specs.FrameworkText.{IsFirstFault, ReadsAs};
 
@@ -18,7 +18,7 @@ use std::alloc::Global;
 ///
 /// `Line` tells the first fault that a text of that kind has. `Memory` says that an allocation was refused.
 pub fn read_framework(alloc: Global, bytes: &[u8]) -> Result<Framework, ReadFault>
-    requires { length bytes.now ≤ INPUT_LIMIT }
+    requires { length bytes.now ≤ MAX_INPUT }
     ensures ok { IfOk result (λ f. ReadsAs bytes.now (framework_of f)) }
     ensures no_other { IfOk result (λ f. (g : AFramework) → ReadsAs bytes.now g → g ≡ framework_of f) }
     ensures fault { IfErr result (λ e. IfLine e (λ fault. IsFirstFault bytes.now fault.line fault.cause)) }

@@ -110,7 +110,12 @@ fn push_if_lacking(
 }
 
 /// The literals that say so of those of the numbers that are no members.
-fn lacking(alloc: Global, word: Word, numbers: &[u32], set: &NumSet) -> Result<Vec<AtomLit>, Memory>
+fn literals_outside(
+    alloc: Global,
+    word: Word,
+    numbers: &[u32],
+    set: &NumSet,
+) -> Result<Vec<AtomLit>, Memory>
     ensures { IfOk result (λ clause. clause.items
         ≡ map (literal_of word) (filter (λ x. not (has set.now x)) numbers.now)) }
 {
@@ -126,7 +131,7 @@ pub fn outside(alloc: Global, members: &NumSet, set: &NumSet) -> Result<Vec<Atom
     ensures { IfOk result (λ clause. (f : Framework) → members.now ≡ set_literals.members f
         → clause.items ≡ set_literals.outside f set.now) }
 {
-    let clause = lacking(alloc, Word::In, members.as_slice(), set)?;
+    let clause = literals_outside(alloc, Word::In, members.as_slice(), set)?;
     Ok(clause)
 }
 
@@ -135,7 +140,7 @@ pub fn differs(alloc: Global, members: &NumSet, set: &NumSet) -> Result<Vec<Atom
     ensures { IfOk result (λ clause. (f : Framework) → members.now ≡ set_literals.members f
         → clause.items ≡ set_literals.differs f set.now) }
 {
-    let mut clause = lacking(alloc, Word::In, members.as_slice(), set)?;
+    let mut clause = literals_outside(alloc, Word::In, members.as_slice(), set)?;
     push_out(&mut clause, set.as_slice())?;
     Ok(clause)
 }
@@ -146,7 +151,7 @@ pub fn wider(alloc: Global, members: &NumSet, range: &NumSet) -> Result<Vec<Atom
         → members.now ≡ set_literals.members f → IsSetOf (IsRanged f set) range.now
         → clause.items ≡ set_literals.wider f set) }
 {
-    let clause = lacking(alloc, Word::Ranged, members.as_slice(), range)?;
+    let clause = literals_outside(alloc, Word::Ranged, members.as_slice(), range)?;
     Ok(clause)
 }
 

@@ -10,8 +10,8 @@ use Rattle.plain_lits.specs.declared.lit.Lit.{Lit}
 use Rattle.plain_lits.specs.Literals.{negation}
 use Rattle.plain_lits.specs.HintCheck.{Checks, clause_at, IsValuation}
 use Rattle.plain_lits.proofs.HintCheckLemmas.{taken_sound}
-use Rattle.hinted_log.specs.declared.kind.Kind.{Kind}
-use Rattle.hinted_log.specs.declared.kind.Kind.TheVariants.{Axiom, Side, Derived}
+use Rattle.hinted_log.specs.declared.step_kind.StepKind.{StepKind}
+use Rattle.hinted_log.specs.declared.step_kind.StepKind.TheVariants.{Axiom, Side, Derived}
 use Rattle.hinted_log.specs.Logs.{Step, no_step, clauses_of, step_at, IsGiven, IsProof, Reaches, itself}
 use Rattle.hinted_log.specs.Logs.{by_hint, valuation_of, IsTrueUnder}
 use Rattle.hinted_log.specs.Logs.{IsStepOf}
@@ -42,13 +42,13 @@ pub length-clauses_of : (steps : List Step) → length (clauses_of steps) ≡ le
 length-clauses_of [] = refl
 length-clauses_of (s ∷ steps) = ap suc (length-clauses_of steps)
 
-cases_kind : (kind : Kind) → (kind ≡ Derived) ⊎ (kind ≢ Derived)
+cases_kind : (kind : StepKind) → (kind ≡ Derived) ⊎ (kind ≢ Derived)
 cases_kind Axiom = inr (λ e. let bad : Axiom ≡ Derived = e in cc)
 cases_kind Side = inr (λ e. let bad : Side ≡ Derived = e in cc)
 cases_kind Derived = inl refl
 
 -- a derived step's clause follows from those of its hints, and these are before it
-given_follows : (before : List Step) (step : Step) (kind : Kind) → kind ≡ Derived → IsGiven before step kind
+given_follows : (before : List Step) (step : Step) (kind : StepKind) → kind ≡ Derived → IsGiven before step kind
     → (truth : ℕ → Bool)
     → ((hint : ℕ) → Contains step.hints hint → IsTrueUnder truth (clause_at (clauses_of before) hint))
     → IsTrueUnder truth step.clause
@@ -59,7 +59,7 @@ given_follows before step Derived e h truth all =
     sound.follows (valuation_of truth) (reads_both truth)
     (λ hint c. all hint (rw (take_all (length step.hints) step.hints (omega arith)) at c))
 
-given_hints : (before : List Step) (step : Step) (kind : Kind) → IsGiven before step kind → (hint : ℕ)
+given_hints : (before : List Step) (step : Step) (kind : StepKind) → IsGiven before step kind → (hint : ℕ)
     → Contains step.hints hint → (0 < hint) × (hint ≤ length before)
 given_hints before step Axiom h hint c = absurd (Contains-nil hint (rw h at c))
 given_hints before step Side h hint c = absurd (Contains-nil hint (rw h at c))

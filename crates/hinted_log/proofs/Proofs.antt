@@ -11,8 +11,8 @@ use Rattle.plain_lits.specs.declared.lit.Lit.{Lit}
 use Rattle.plain_lits.specs.Literals.{negation}
 use Rattle.plain_lits.specs.HintCheck.{Checks}
 use Rattle.plain_lits.proofs.HintCheckLemmas.{taken_sound}
-use Rattle.hinted_log.specs.declared.kind.Kind.{Kind}
-use Rattle.hinted_log.specs.declared.kind.Kind.TheVariants.{Axiom, Side, Derived}
+use Rattle.hinted_log.specs.declared.step_kind.StepKind.{StepKind}
+use Rattle.hinted_log.specs.declared.step_kind.StepKind.TheVariants.{Axiom, Side, Derived}
 use Rattle.plain_lits.specs.Checking.{HasRoomFor}
 use Rattle.hinted_log.specs.Logs.{Step, LogState, log_of, no_step, clauses_of, given_step, derived_step}
 use Rattle.hinted_log.specs.Logs.{IsGiven, IsProof, IsStored}
@@ -40,7 +40,7 @@ clauses_of-push [] step = refl
 clauses_of-push (s ∷ steps) step = ap (λ rest. s.clause ∷ rest) (clauses_of-push steps step)
 
 -- a given step needs nothing
-pub IsGiven-given : (before : List Step) (clause : List Lit) (kind : Kind) → kind ≢ Derived
+pub IsGiven-given : (before : List Step) (clause : List Lit) (kind : StepKind) → kind ≢ Derived
     → IsGiven before (given_step clause kind) kind
 IsGiven-given before clause Axiom ne = refl
 IsGiven-given before clause Side ne = refl

@@ -1,7 +1,7 @@
 -- What the steps of a log follow from.
 use Rattle.std.specs.Prelude.{◌≢◌, ℕ, ◌≤◌, Bool, List, Contains}
 use Rattle.plain_lits.specs.declared.lit.Lit.{Lit}
-use Rattle.hinted_log.specs.declared.kind.Kind.TheVariants.{Derived}
+use Rattle.hinted_log.specs.declared.step_kind.StepKind.TheVariants.{Derived}
 use Rattle.hinted_log.specs.Logs.{Step, IsStepOf, Reaches, IsTrueUnder, step_at}
 
 -- where the axioms and sides that a step reaches are true, so is its clause

@@ -5,14 +5,14 @@ use Rattle.plain_lits.specs.declared.lit.Lit.{Lit}
 use Rattle.plain_lits.specs.Literals.{negation}
 use Rattle.plain_lits.specs.HintCheck.{Checks, IsTrueClause}
 use Rattle.plain_lits.specs.Checking.{HaveRoomFor}
-use Rattle.hinted_log.specs.declared.log.TheConstants.{MOST_STEPS}
-use Rattle.hinted_log.specs.declared.kind.Kind.{Kind}
-use Rattle.hinted_log.specs.declared.kind.Kind.TheVariants.{Axiom, Side, Derived}
+use Rattle.hinted_log.specs.declared.log.TheConstants.{MAX_STEPS}
+use Rattle.hinted_log.specs.declared.step_kind.StepKind.{StepKind}
+use Rattle.hinted_log.specs.declared.step_kind.StepKind.TheVariants.{Axiom, Side, Derived}
 
 -- a step; a derived one keeps the hints that its check looked at, any other has none
 pub record Step : Type 0 where
   pub clause : List Lit
-  pub kind : Kind
+  pub kind : StepKind
   pub hints : List ℕ
 
 -- how many steps there may be, and the steps
@@ -33,7 +33,7 @@ abbrev pub step_at : List Step → ℕ → Step
 step_at steps number = slice_index_or steps (number - 1) no_step
 
 -- a step of a kind that needs no hints
-abbrev pub given_step : List Lit → Kind → Step
+abbrev pub given_step : List Lit → StepKind → Step
 given_step clause kind = record { clause = clause; kind = kind; hints = [] }
 
 -- a derived step
@@ -45,7 +45,7 @@ abbrev pub with_step : LogState → Step → LogState
 with_step log step = record { limit = log.limit; steps = log.steps ++ step ∷ [] }
 
 -- what a step has to meet beside those before it: the check takes a derived one, and the others have no hints
-abbrev pub IsGiven : List Step → Step → Kind → Type 0
+abbrev pub IsGiven : List Step → Step → StepKind → Type 0
 IsGiven before step Axiom = step.hints ≡ []
 IsGiven before step Side = step.hints ≡ []
 IsGiven before step Derived =
@@ -71,7 +71,7 @@ pub record AddsDerived (old new : LogState) (clause : List Lit) (hints : List �
 pub record IsLog (log : LogState) : Type 0 where
   pub proof : IsProof log.steps
   pub within : length log.steps ≤ log.limit
-  pub small : log.limit ≤ MOST_STEPS
+  pub small : log.limit ≤ MAX_STEPS
 
 -- a number names one of the steps
 pub record IsStepOf (steps : List Step) (number : ℕ) : Type 0 where
@@ -93,7 +93,7 @@ abbrev pub IsTrueUnder : (ℕ → Bool) → List Lit → Type 0
 IsTrueUnder truth clause = IsTrueClause (valuation_of truth) clause
 
 -- steps by their parts, side by side
-abbrev pub steps_of : List (List Lit) → List Kind → List (List ℕ) → List Step
+abbrev pub steps_of : List (List Lit) → List StepKind → List (List ℕ) → List Step
 steps_of [] kinds hints = []
 steps_of (clause ∷ clauses) [] hints = []
 steps_of (clause ∷ clauses) (kind ∷ kinds) [] = []
@@ -101,7 +101,7 @@ steps_of (clause ∷ clauses) (kind ∷ kinds) (hint ∷ hints) =
     record { clause = clause; kind = kind; hints = hint } ∷ steps_of clauses kinds hints
 
 -- lists of parts for the same number of steps
-pub record AreParts (clauses : List (List Lit)) (kinds : List Kind) (hints : List (List ℕ)) : Type 0 where
+pub record AreParts (clauses : List (List Lit)) (kinds : List StepKind) (hints : List (List ℕ)) : Type 0 where
   pub kinds_long : length kinds ≡ length clauses
   pub hints_long : length hints ≡ length clauses
 

@@ -3,12 +3,12 @@
 
 mod clause_rows;
 pub mod fault;
-pub mod kind;
 pub mod laws;
 pub mod log;
+pub mod step_kind;
 mod store;
 mod trim;
 
 pub use fault::LogFault;
-pub use kind::Kind;
-pub use log::{Log, MOST_STEPS};
+pub use log::{Log, MAX_STEPS};
+pub use step_kind::StepKind;

@@ -9,10 +9,10 @@ ghost use Rattle.hinted_log.specs.Logs.{IsLog, IsGiven, IsStepOf, AddsStep, Reac
 ghost use Rattle.hinted_log.specs.Logs.{log_of, step_at, given_step, derived_step};
 ghost use Rattle.hinted_log.specs.Follows.{FollowsFromHints, FollowsFromReached};
 ghost use Rattle.plain_lits.specs.Checking.{HasRoomFor, IsPackable};
-ghost use Rattle.hinted_log.specs.declared.log.TheConstants.{MOST_STEPS};
+ghost use Rattle.hinted_log.specs.declared.log.TheConstants.{MAX_STEPS};
 
 use crate::fault::LogFault;
-use crate::kind::Kind;
+use crate::step_kind::StepKind;
 use crate::store::Store;
 use crate::trim::trimmed;
 use lists::{Items, Memory};
@@ -22,7 +22,7 @@ use std::alloc::Global;
 use std::marker::Model;
 
 /// The most steps that a log may be opened for.
-pub const MOST_STEPS: u64 = 50_000_000;
+pub const MAX_STEPS: u64 = 50_000_000;
 
 /// Clauses as steps that are numbered from 1: axioms and sides, which are given, and clauses that the check of
 /// their hints takes. What the check assumes is taken back after each call, so that a step costs the
@@ -88,7 +88,7 @@ fn pack_into(packed: &mut Vec<PackedLit>, clause: &[Lit]) -> Result<(), Memory>
 impl Log {
     /// The empty log that takes at most this many steps.
     pub fn open(alloc: Global, limit: u64) -> Result<Log, Memory>
-        requires { limit ≤ MOST_STEPS }
+        requires { limit ≤ MAX_STEPS }
         ensures limit { IfOk result (λ log. log.limit ≡ limit) }
         ensures steps { IfOk result (λ log. log.steps ≡ []) }
     {
@@ -118,22 +118,22 @@ impl Log {
 
     /// Adds an axiom. `LogFull` comes exactly at a full log.
     pub fn axiom(&mut self, clause: Clause) -> Result<StepId, LogFault>
-        ensures ok { IfOk result (AddsStep self.old self.new (given_step clause Kind.Axiom)) }
+        ensures ok { IfOk result (AddsStep self.old self.new (given_step clause StepKind.Axiom)) }
         ensures full { (result ≡ Err LogFault.LogFull) ↔ (length self.old.steps ≡ self.old.limit) }
         ensures taken { (place : ℕ) → result ≢ Err (LogFault.Rejected place) }
         ensures err { OnErr result (self.new ≡ self.old) }
     {
-        self.add_given(clause.as_slice(), Kind::Axiom)
+        self.add_given(clause.as_slice(), StepKind::Axiom)
     }
 
     /// Adds a side. `LogFull` comes exactly at a full log.
     pub fn side(&mut self, clause: Clause) -> Result<StepId, LogFault>
-        ensures ok { IfOk result (AddsStep self.old self.new (given_step clause Kind.Side)) }
+        ensures ok { IfOk result (AddsStep self.old self.new (given_step clause StepKind.Side)) }
         ensures full { (result ≡ Err LogFault.LogFull) ↔ (length self.old.steps ≡ self.old.limit) }
         ensures taken { (place : ℕ) → result ≢ Err (LogFault.Rejected place) }
         ensures err { OnErr result (self.new ≡ self.old) }
     {
-        self.add_given(clause.as_slice(), Kind::Side)
+        self.add_given(clause.as_slice(), StepKind::Side)
     }
 
     /// Adds a clause that the check of its hints takes. `LogFull` comes exactly at a full log, and is tested
@@ -160,7 +160,7 @@ impl Log {
             Ok(used) => {
                 pack_into(&mut self.packed, clause.as_slice())?;
                 self.steps
-                    .push(self.packed.as_slice(), Kind::Derived, &hints[..used])?;
+                    .push(self.packed.as_slice(), StepKind::Derived, &hints[..used])?;
                 Ok(StepId::new(self.steps.len() as u32))
             }
         }
@@ -195,7 +195,7 @@ impl Log {
     }
 
     /// Where a step comes from.
-    pub fn kind(&self, step: StepId) -> Kind
+    pub fn kind(&self, step: StepId) -> StepKind
         requires { IsStepOf self.now.steps step }
         ensures kind { result ≡ (step_at self.now.steps step).kind }
         ensures form { IsLog self.now }
@@ -223,8 +223,8 @@ impl Log {
     }
 
     /// Adds a step that needs no hints.
-    fn add_given(&mut self, clause: &[Lit], kind: Kind) -> Result<StepId, LogFault>
-        requires { kind ≢ Kind.Derived }
+    fn add_given(&mut self, clause: &[Lit], kind: StepKind) -> Result<StepId, LogFault>
+        requires { kind ≢ StepKind.Derived }
         ensures ok { IfOk result (AddsStep self.old self.new (given_step clause.now kind)) }
         ensures full { (result ≡ Err LogFault.LogFull) ↔ (length self.old.steps ≡ self.old.limit) }
         ensures taken { (place : ℕ) → result ≢ Err (LogFault.Rejected place) }

@@ -4,7 +4,7 @@ ghost use Rattle.std.specs.Prelude.{◌≡◌, ◌<◌, ◌-◌, [], ◌∷◌, 
 ghost use Rattle.hinted_log.specs.Logs.{no_step, clauses_of};
 
 use crate::clause_rows::ClauseRows;
-use crate::kind::Kind;
+use crate::step_kind::StepKind;
 use lists::Memory;
 use plain_lits::{PackedLit, Rows, StepId};
 use std::alloc::Global;
@@ -15,7 +15,7 @@ use std::marker::Model;
 
 pub(crate) struct Store {
     clauses: ClauseRows,
-    kinds: Vec<Kind>,
+    kinds: Vec<StepKind>,
     hints: Rows<StepId>,
 }
 
@@ -84,7 +84,7 @@ impl Store {
     }
 
     /// The kind of the step at an index.
-    pub(crate) fn kind(&self, index: usize) -> Kind
+    pub(crate) fn kind(&self, index: usize) -> StepKind
         requires { index < length self.now }
         ensures { result ≡ (slice_index_or self.now index no_step).kind }
     {
@@ -104,7 +104,7 @@ impl Store {
     pub(crate) fn push(
         &mut self,
         clause: &[PackedLit],
-        kind: Kind,
+        kind: StepKind,
         hints: &[StepId],
     ) -> Result<(), Memory>
         ensures ok { OnOk result (self.new ≡ self.old

@@ -5,10 +5,10 @@ ghost use Rattle.meaning_atoms.specs.declared.atom.Closure.{Closure as AClosure}
 ghost use Rattle.meaning_atoms.specs.Atoms.{IsAtom, IsAtomOrNone, IsPosition, closure_number};
 ghost use Rattle.meaning_atoms.specs.AtomText.{name_of};
 
-use semantics::{LAST_ARGUMENT, is_argument};
+use semantics::{MAX_ARGUMENT, is_argument};
 
 /// The number just past the largest argument, atom or rule, 1,000,001: the end of every range of such numbers.
-pub const END: u32 = LAST_ARGUMENT + 1;
+pub const END: u32 = MAX_ARGUMENT + 1;
 
 /// Which closure under the rules of an assumption-based framework.
 #[derive(Clone, Copy, Drop, PartialEq, Eq, PartialOrd, Ord, Hash)]

@@ -2,13 +2,13 @@
 
 ghost use Rattle.std.specs.Prelude.{◌≡◌, length, ◌≤◌};
 ghost use Rattle.num_text.specs.Cuts.{lines_of};
-ghost use Rattle.num_text.specs.declared.limit.TheConstants.{INPUT_LIMIT};
+ghost use Rattle.num_text.specs.declared.limit.TheConstants.{MAX_INPUT};
 
 use crate::cuts::lines;
 
 /// The number of all lines, skipped ones included. A fault at the end of a text is told at this number plus one.
 pub fn line_count(bytes: &[u8]) -> usize
-    requires { length bytes.now ≤ INPUT_LIMIT }
+    requires { length bytes.now ≤ MAX_INPUT }
     ensures count { result ≡ length (lines_of bytes.now) }
     ensures within { result ≤ 268435457 }
 {

@@ -18,7 +18,7 @@ pub mod span;
 pub use count::line_count;
 pub use cuts::{fields, lines};
 pub use field::{Field, Fields, NumberField};
-pub use limit::INPUT_LIMIT;
+pub use limit::MAX_INPUT;
 pub use line::{Line, Lines};
 pub use number::decimal;
 pub use skips::{is_skipped, next_kept};

@@ -1,4 +1,4 @@
 //! How long a text may be.
 
 /// The most bytes that a text may have where one is read.
-pub const INPUT_LIMIT: u64 = 268_435_456;
+pub const MAX_INPUT: u64 = 268_435_456;

@@ -4,7 +4,7 @@ ghost use Rattle.std.specs.Prelude.{ℕ, ◌≤◌, IfSome, IfNone, length, take
 ghost use Rattle.num_text.specs.Number.{IsNumber};
 
 /// The largest number of 32 bits.
-const LARGEST: u64 = 4_294_967_295;
+const MAX_NUMBER: u64 = 4_294_967_295;
 
 /// The number that the bytes spell: one or more ASCII digits, with a value up to 4,294,967,295. Leading
 /// zeros are accepted. `None` for all other bytes.
@@ -21,7 +21,7 @@ pub fn decimal(bytes: &[u8]) -> Option<u32>
             return None;
         }
         value = value * 10 + u64::from(*byte - b'0');
-        if value > LARGEST {
+        if value > MAX_NUMBER {
             return None;
         }
     }

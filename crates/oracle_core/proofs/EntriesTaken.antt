@@ -14,9 +14,9 @@ use Rattle.oracle_face.specs.Kinds.{is_assumption_based}
 use Rattle.oracle_face.specs.Logs.{OracleLog}
 use Rattle.oracle_face.specs.Trades.{GivesFirst, GivesFrom, GivesMore}
 use Rattle.oracle_face.proofs.GrowingLemmas.{grows_as, grows_same, run_joined, run_none}
-use Rattle.entry_taking.specs.Taking.{ComesInOrMayNot}
-use Rattle.oracle_core.specs.declared.parts.Parts.{Parts}
-use Rattle.oracle_core.specs.declared.trading.TheConstants.{MOST_TAKEN}
+use Rattle.entry_taking.specs.Taking.{ImportsOrMayNot}
+use Rattle.oracle_core.specs.declared.parts.EngineParts.{EngineParts}
+use Rattle.oracle_core.specs.declared.trading.TheConstants.{MAX_TAKEN}
 use Rattle.oracle_core.specs.Engines.{AreInForce, IsWhole}
 use Rattle.oracle_core.specs.Stepping.{GoesOnBySteps}
 use Rattle.oracle_core.specs.SteppingLaws.{goes_on_joined, goes_on_none, goes_on_still}
@@ -26,8 +26,8 @@ use Rattle.oracle_core.proofs.Forcing.{force_grown}
 
 pub comes_at : (r : Result (Unit {0}) Memory) (kind : Bool) (f : Framework) (own : ℕ) (entry : Entry)
     (old new : OracleLog) → is_assumption_based f ≡ kind
-    → OnOk r ((f : Framework) → is_assumption_based f ≡ kind → ComesInOrMayNot f own entry old new)
-    → OnOk r (ComesInOrMayNot f own entry old new)
+    → OnOk r ((f : Framework) → is_assumption_based f ≡ kind → ImportsOrMayNot f own entry old new)
+    → OnOk r (ImportsOrMayNot f own entry old new)
 comes_at (Ok u) kind f own entry old new same comes = comes f same
 comes_at (Err e) kind f own entry old new same comes = tt
 
@@ -49,7 +49,7 @@ some_none f own told left a is = record {
 
 some_more : (f : Framework) (own : ℕ) (told : List Entry) (left new : Option (List Entry)) (entry : Entry)
     (a b c : OracleLog) (count : ℕ) → TakesSome f own told left a b count → GivesFirst left (Ok (Some entry)) new
-    → AreInForce f b → Grows AnySide b c → ComesInOrMayNot f own entry b c → TakesSome f own told new a c (count + 1)
+    → AreInForce f b → Grows AnySide b c → ImportsOrMayNot f own entry b c → TakesSome f own told new a c (count + 1)
 some_more f own told left new entry a b c count h gives force grows comes =
     let from = h.from in
     let first : GivesFrom from.rest (Ok (Some entry)) new =
@@ -95,7 +95,7 @@ some_last f own told left new a b count h gives =
 
 -- as many were taken as may be
 some_most : (f : Framework) (own : ℕ) (told : List Entry) (left : Option (List Entry)) (a b : OracleLog)
-    (count : ℕ) → MOST_TAKEN ≤ count → TakesSome f own told left a b count → TakesAll f own told left a b
+    (count : ℕ) → MAX_TAKEN ≤ count → TakesSome f own told left a b count → TakesAll f own told left a b
 some_most f own told left a b count most h =
     let from = h.from in
     record {
@@ -110,7 +110,7 @@ some_most f own told left a b count most h =
 -- ---- the loop
 
 -- how far the loop over the entries has come
-pub record IsTaking (own : ℕ) (first now : Parts) (left_first left : Option (List Entry))
+pub record IsTaking (own : ℕ) (first now : EngineParts) (left_first left : Option (List Entry))
     (gave_first gave : List Entry) (count : ℕ) : Type 0 where
   pub whole : IsWhole now
   pub framework : now.framework ≡ first.framework
@@ -122,7 +122,7 @@ pub record IsTaking (own : ℕ) (first now : Parts) (left_first left : Option (L
   pub given : (told : List Entry) → left_first ≡ Some told
       → TakesSome (framework_of first.framework) own told left first.solver.log now.solver.log count
 
-pub taking_none : (own : ℕ) (p : Parts) (left : Option (List Entry)) (gave : List Entry) → IsWhole p
+pub taking_none : (own : ℕ) (p : EngineParts) (left : Option (List Entry)) (gave : List Entry) → IsWhole p
     → AreInForce (framework_of p.framework) p.solver.log → IsTaking own p p left left gave gave 0
 taking_none own p left gave whole force = record {
   whole = whole;
@@ -134,7 +134,7 @@ taking_none own p left gave whole force = record {
   given = λ told is. some_none (framework_of p.framework) own told left p.solver.log is;
 }
 
-pub run_more : (first now after : Parts) → now.framework ≡ first.framework
+pub run_more : (first now after : EngineParts) → now.framework ≡ first.framework
     → ((units : Units) → HasRun NoSide 0 (framework_of first.framework) first.solver.log now.solver.log
     now.solver.pending units units None)
     → ((units : Units) → HasRun NoSide 0 (framework_of now.framework) now.solver.log after.solver.log
@@ -163,7 +163,7 @@ gave_more first gave new entry longer gives =
     prefix_joined first gave new longer (gave_longer gave new entry gives)
 
 -- the steps before it, and those by which it was taken in
-pub steps_more : (own : ℕ) (first now after : Parts) (gave new : List Entry) (entry : Entry)
+pub steps_more : (own : ℕ) (first now after : EngineParts) (gave new : List Entry) (entry : Entry)
     → GivesMore gave (Ok (Some entry)) new → now.framework ≡ first.framework
     → GoesOnBySteps (framework_of first.framework) own gave first.solver.log now.solver.log
     → ((given : List Entry) → Contains given entry
@@ -176,7 +176,7 @@ steps_more own first now after gave new entry gives framework steps next =
     (goes_on_still f own gave new first.solver.log now.solver.log (gave_longer gave new entry gives) steps)
     (subst (λ g. GoesOnBySteps g own new now.solver.log after.solver.log) (ap framework_of framework) (next new there))
 
-pub taking_more : (own : ℕ) (first now after : Parts) (left_first left new : Option (List Entry))
+pub taking_more : (own : ℕ) (first now after : EngineParts) (left_first left new : Option (List Entry))
     (gave_first gave gave_new : List Entry) (entry : Entry) (count : ℕ)
     → IsTaking own first now left_first left gave_first gave count → GivesFirst left (Ok (Some entry)) new
     → GivesMore gave (Ok (Some entry)) gave_new → IsWhole after → after.framework ≡ now.framework
@@ -184,7 +184,7 @@ pub taking_more : (own : ℕ) (first now after : Parts) (left_first left new : O
     after.solver.pending units units None)
     → ((given : List Entry) → Contains given entry
     → GoesOnBySteps (framework_of now.framework) own given now.solver.log after.solver.log)
-    → ComesInOrMayNot (framework_of now.framework) own entry now.solver.log after.solver.log
+    → ImportsOrMayNot (framework_of now.framework) own entry now.solver.log after.solver.log
     → IsTaking own first after left_first new gave_first gave_new (count + 1)
 taking_more own first now after left_first left new gave_first gave gave_new entry count h gives gives_more whole
     framework run steps comes =
@@ -199,10 +199,11 @@ taking_more own first now after left_first left new gave_first gave gave_new ent
       steps = steps_more own first now after gave gave_new entry gives_more h.framework h.steps steps;
       given = λ told is. some_more f own told left new entry first.solver.log now.solver.log after.solver.log count
           (h.given told is) gives h.in_force (any_side now.solver.log after.solver.log grows)
-          (subst (λ g. ComesInOrMayNot g own entry now.solver.log after.solver.log) (ap framework_of h.framework) comes);
+          (subst (λ g. ImportsOrMayNot g own entry now.solver.log after.solver.log) (ap framework_of h.framework)
+          comes);
     }
 
-pub taking_last : (own : ℕ) (first now : Parts) (left_first left new : Option (List Entry))
+pub taking_last : (own : ℕ) (first now : EngineParts) (left_first left new : Option (List Entry))
     (gave_first gave : List Entry) (count : ℕ) → IsTaking own first now left_first left gave_first gave count
     → GivesFirst left (Ok None) new → (told : List Entry) → left_first ≡ Some told
     → TakesAll (framework_of first.framework) own told new first.solver.log now.solver.log
@@ -210,8 +211,8 @@ taking_last own first now left_first left new gave_first gave count h gives told
     some_last (framework_of first.framework) own told left new first.solver.log now.solver.log count (h.given told is)
     gives
 
-pub taking_most : (own : ℕ) (first now : Parts) (left_first left : Option (List Entry))
-    (gave_first gave : List Entry) (count : ℕ) → MOST_TAKEN ≤ count
+pub taking_most : (own : ℕ) (first now : EngineParts) (left_first left : Option (List Entry))
+    (gave_first gave : List Entry) (count : ℕ) → MAX_TAKEN ≤ count
     → IsTaking own first now left_first left gave_first gave count → (told : List Entry) → left_first ≡ Some told
     → TakesAll (framework_of first.framework) own told left first.solver.log now.solver.log
 taking_most own first now left_first left gave_first gave count most h told is =

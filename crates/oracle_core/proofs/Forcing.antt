@@ -1,9 +1,11 @@
 -- The axioms that a framework needs come into the log, and stay in it.
-use Rattle.std.proofs.Common.{◌≡◌, ◌∙◌, inl, inr, ⊎_elim, ℕ, ◌+◌, ◌<◌, ◌≤◌, suc, Bool, true, false, not, true≢false, List, [], ◌∷◌, ◌++◌, length, refl, sym, ap, subst, arith, None, Some}
+use Rattle.std.proofs.Common.{◌≡◌, ◌∙◌, inl, inr, ⊎_elim, ℕ, ◌+◌, ◌<◌, ◌≤◌, suc, Bool, true, false, not}
+use Rattle.std.proofs.Common.{true≢false, List, [], ◌∷◌, ◌++◌, length, refl, sym, ap, subst, arith, None, Some}
 use Rattle.std.specs.Prelude.{◌≢◌, ◌-◌, AllPairs, Contains, cond, drop, filter, count_by, slice_index_or}
 use Rattle.std.proofs.lemmas.Bool.{cases_lt}
 use Rattle.lists.proofs.Counts.{count_by-cons}
-use Rattle.std.proofs.lemmas.List.{drop_all, get_or-append-add, get_or_append_left, get_or_default, length-append, map-append}
+use Rattle.std.proofs.lemmas.List.{drop_all, get_or-append-add, get_or_append_left, get_or_default, length-append}
+use Rattle.std.proofs.lemmas.List.{map-append}
 use Rattle.std.proofs.Math.Seq.{drop-cons}
 use Rattle.std.proofs.lemmas.List.Elements.{Contains-get_or, Contains-append_left, Contains-append_right, filter-append}
 use Rattle.lists.proofs.Filters.{Contains-filter}
@@ -19,14 +21,15 @@ use Rattle.semantics.specs.Frameworks.{IsNumbered}
 use Rattle.certificate_claims.specs.Refutations.{IsAxiomOf, axiom_clause}
 use Rattle.oracle_face.specs.Needed.{IsNeeded}
 use Rattle.edit_rules.specs.Kinds.{framework_of}
-use Rattle.oracle_face.specs.Logs.{OracleLog, LogStep, SideClause, Source, by_axiom, clauses_of, is_unit, no_step, step_at, working, units_of, closings_of}
+use Rattle.oracle_face.specs.Logs.{OracleLog, LogStep, SideClause, Source, by_axiom, clauses_of, is_unit, no_step}
+use Rattle.oracle_face.specs.Logs.{step_at, working, units_of, closings_of}
 use Rattle.oracle_face.specs.Logs.{IsGiven, IsLog, IsSameClause}
 use Rattle.oracle_face.specs.Growing.{Making, NoSide, Grows, HasRun}
 use Rattle.oracle_face.proofs.GrowingLemmas.{grows_same, run_joined, run_none}
 use Rattle.session_log.specs.Steps.{own_step}
 use Rattle.session_log.proofs.Staying.{axiom_stays}
 use Rattle.atom_solver.specs.States.{AtomState, AddsAxiom, IsGuardedLog}
-use Rattle.oracle_core.specs.declared.parts.Parts.{Parts}
+use Rattle.oracle_core.specs.declared.parts.EngineParts.{EngineParts}
 use Rattle.entry_taking.proofs.Naming.{named_grown}
 use Rattle.entry_taking.specs.declared.names.StepNames.{StepNames}
 use Rattle.entry_taking.specs.Names.{AreNamed}
@@ -70,7 +73,8 @@ waits_grown P f old new names taken grows all = λ name needed. ⊎_elim
     (λ has. inl (axiom_grown P old new name grows has)) (λ waits. inr waits) (all name needed)
 
 -- the parts of an engine whose solver has gone on
-pub whole_with : (P : Making) (p : Parts) (s : AtomState) → IsWhole p → IsGuardedLog (framework_of p.framework) s.log
+pub whole_with : (P : Making) (p : EngineParts) (s : AtomState) → IsWhole p → IsGuardedLog (framework_of p.framework)
+    s.log
     → Grows P p.solver.log s.log → IsWhole (record p { solver = s })
 whole_with P p s whole guarded grows = record {
   numbered = whole.numbered;
@@ -79,12 +83,12 @@ whole_with P p s whole guarded grows = record {
   axioms = whole.axioms;
   taken_few = whole.taken_few;
   named = named_grown P p.names p.solver.log s.log grows whole.named;
-  waits = λ begun.
-      waits_grown P (framework_of p.framework) p.solver.log s.log p.needed p.taken grows (whole.waits begun);
+  waits = λ is_listed.
+      waits_grown P (framework_of p.framework) p.solver.log s.log p.needed p.taken grows (whole.waits is_listed);
 }
 
 -- the same where names of more steps are known
-pub whole_named : (p : Parts) (s : AtomState) (names : StepNames) → IsWhole p
+pub whole_named : (p : EngineParts) (s : AtomState) (names : StepNames) → IsWhole p
     → IsGuardedLog (framework_of p.framework) s.log → Grows NoSide p.solver.log s.log → AreNamed names s.log.steps
     → IsWhole (record p { solver = s; names = names })
 whole_named p s names whole guarded grows named = record {
@@ -94,12 +98,12 @@ whole_named p s names whole guarded grows named = record {
   axioms = whole.axioms;
   taken_few = whole.taken_few;
   named = named;
-  waits = λ begun.
-      waits_grown NoSide (framework_of p.framework) p.solver.log s.log p.needed p.taken grows (whole.waits begun);
+  waits = λ is_listed.
+      waits_grown NoSide (framework_of p.framework) p.solver.log s.log p.needed p.taken grows (whole.waits is_listed);
 }
 
 -- the same where no axiom waits and the list is gone
-pub whole_forgotten : (p : Parts) → IsWhole p → AreInForce (framework_of p.framework) p.solver.log
+pub whole_forgotten : (p : EngineParts) → IsWhole p → AreInForce (framework_of p.framework) p.solver.log
     → IsWhole (record p { needed = []; taken = 0 })
 whole_forgotten p whole all = record {
   numbered = whole.numbered;
@@ -108,7 +112,7 @@ whole_forgotten p whole all = record {
   axioms = λ name c. absurd (Contains-nil name c);
   taken_few = omega arith;
   named = whole.named;
-  waits = λ begun name needed. inl (all name needed);
+  waits = λ is_listed name needed. inl (all name needed);
 }
 
 -- ---- one axiom more
@@ -138,7 +142,8 @@ module _ (f : Framework) (name : AxiomName) (old new : AtomState) (numbered : Is
   steps_are = adds.takes.gains.steps
 
   axiom_grows : Grows NoSide old.log new.log
-  axiom_grows = (axiom_stays f name adds.clause old.log new.log guarded.form guarded.guards (needed_axiom f numbered name needed)
+  axiom_grows = (axiom_stays f name adds.clause old.log new.log guarded.form guarded.guards
+      (needed_axiom f numbered name needed)
       adds.takes).grows
 
   no_unit : (k : ℕ) → length old.log.steps ≤ k → k < length new.log.steps
@@ -225,13 +230,13 @@ gains_more f name a b c gains takes =
 
 -- ---- the loop over the axioms that wait
 
-pub waiting_there : (p : Parts) (names : List AxiomName) (d : AxiomName) → names ≡ p.needed
+pub waiting_there : (p : EngineParts) (names : List AxiomName) (d : AxiomName) → names ≡ p.needed
     → p.taken < length p.needed → Contains p.needed (slice_index_or names p.taken d)
 waiting_there p names d are lt =
     subst (λ list. Contains p.needed (slice_index_or list p.taken d)) (sym are)
     (Contains-get_or p.needed p.taken d lt)
 
-pub waiting_is : (p : Parts) (names : List AxiomName) (d : AxiomName) → names ≡ p.needed
+pub waiting_is : (p : EngineParts) (names : List AxiomName) (d : AxiomName) → names ≡ p.needed
     → slice_index_or names p.taken d ≡ slice_index_or p.needed p.taken d
 waiting_is p names d are = ap (λ list. slice_index_or list p.taken d) are
 
@@ -242,19 +247,19 @@ drop_one xs i x d lt is =
     drop-cons xs i d lt ∙ ap (λ y. y ∷ drop (suc i) xs) (sym is) ∙ ap (λ n. x ∷ drop n xs) next
 
 -- how far the loop over the axioms has come
-pub record HasTaken (first now : Parts) : Type 0 where
+pub record HasTaken (first now : EngineParts) : Type 0 where
   pub whole : IsWhole now
-  pub begun : now.begun ≡ true
+  pub is_listed : now.is_listed ≡ true
   pub framework : now.framework ≡ first.framework
   pub run : (units : Units) → HasRun NoSide 0 (framework_of first.framework) first.solver.log now.solver.log
       now.solver.pending units units None
   pub gains : GainsNeeded (framework_of first.framework) first.solver.log now.solver.log
   pub pending : now.solver.pending ≡ first.solver.pending
 
-pub taken_none : (p : Parts) → IsWhole p → p.begun ≡ true → HasTaken p p
-taken_none p whole begun = record {
+pub taken_none : (p : EngineParts) → IsWhole p → p.is_listed ≡ true → HasTaken p p
+taken_none p whole is_listed = record {
   whole = whole;
-  begun = begun;
+  is_listed = is_listed;
   framework = refl;
   run = λ units. run_none NoSide 0 (framework_of p.framework) p.solver.log p.solver.pending units;
   gains = gains_none (framework_of p.framework) p.solver.log;
@@ -262,7 +267,7 @@ taken_none p whole begun = record {
 }
 
 -- one axiom fewer waits, which searches use
-taken_on : (first now : Parts) (s : AtomState) (names : StepNames) (name d : AxiomName) → HasTaken first now
+taken_on : (first now : EngineParts) (s : AtomState) (names : StepNames) (name d : AxiomName) → HasTaken first now
     → now.taken < length now.needed → name ≡ slice_index_or now.needed now.taken d
     → IsGuardedLog (framework_of now.framework) s.log → Grows NoSide now.solver.log s.log → HasAxiom s.log name
     → AreNamed names s.log.steps
@@ -279,29 +284,33 @@ taken_on first now s names name d has lt is guarded grows used named run gains p
         axioms = whole.axioms;
         taken_few = omega arith;
         named = named;
-        waits = λ begun. λ other needed. ⊎_elim
+        waits = λ is_listed. λ other needed. ⊎_elim
             (λ has_it. inl (axiom_grown NoSide now.solver.log s.log other grows has_it))
             (λ waits. ⊎_elim
             (λ same_name. inl (subst (λ n. HasAxiom s.log n) same_name used))
             (λ behind. inr behind)
             (Contains-cons_cases name (drop (now.taken + 1) now.needed) other
             (subst (λ names. Contains names other) (drop_one now.needed now.taken name d lt is) waits)))
-            (whole.waits begun other needed);
+            (whole.waits is_listed other needed);
       };
-      begun = has.begun;
+      is_listed = has.is_listed;
       framework = has.framework;
-      run = λ units. run_joined NoSide NoSide NoSide 0 0 0 (framework_of first.framework) first.solver.log now.solver.log
-          s.log now.solver.pending s.pending units units units None (λ literals set h. h) (λ literals set h. h) (omega arith)
+      run = λ units. run_joined NoSide NoSide NoSide 0 0 0 (framework_of first.framework) first.solver.log
+          now.solver.log
+          s.log now.solver.pending s.pending units units units None (λ literals set h. h) (λ literals set h. h)
+          (omega arith)
           (has.run units)
-          (subst (λ g. HasRun NoSide 0 g now.solver.log s.log s.pending units units None) (ap framework_of has.framework)
+          (subst (λ g. HasRun NoSide 0 g now.solver.log s.log s.pending units units None)
+          (ap framework_of has.framework)
           (run units));
       gains = gains;
       pending = pending ∙ has.pending;
     }
 
 -- the parts after the first axiom that waits, where it came and no step was it
-taken_came : (first now : Parts) (s : AtomState) (names : StepNames) (name d : AxiomName) → HasTaken first now
-    → now.taken < length now.needed → name ≡ slice_index_or now.needed now.taken d → IsNeeded (framework_of now.framework) name
+taken_came : (first now : EngineParts) (s : AtomState) (names : StepNames) (name d : AxiomName) → HasTaken first now
+    → now.taken < length now.needed → name ≡ slice_index_or now.needed now.taken d → IsNeeded
+    (framework_of now.framework) name
     → IsGuardedLog (framework_of now.framework) s.log → HasNoStepOf now.solver.log.steps name
     → AddsAxiom name now.solver s → AreNamed names s.log.steps
     → HasTaken first (record now { solver = s; names = names; taken = now.taken + 1 })
@@ -309,7 +318,8 @@ taken_came first now s names name d has lt is known guarded none adds named =
     let f = framework_of now.framework in
     let old = now.solver in
     let whole = has.whole in
-    taken_on first now s names name d has lt is guarded (axiom_grows f name old s whole.numbered known whole.guarded adds)
+    taken_on first now s names name d has lt is guarded (axiom_grows f name old s whole.numbered known whole.guarded
+    adds)
     (axiom_used f name old s whole.numbered known whole.guarded adds) named
     (axiom_run f name old s whole.numbered known whole.guarded adds)
     (gains_more (framework_of first.framework) name first.solver.log old.log s.log has.gains (record {
@@ -320,7 +330,7 @@ taken_came first now s names name d has lt is known guarded none adds named =
     })) adds.pending_same
 
 -- the same where it came, or a step was it already
-pub taken_more : (first now : Parts) (s : AtomState) (names : StepNames) (name d : AxiomName)
+pub taken_more : (first now : EngineParts) (s : AtomState) (names : StepNames) (name d : AxiomName)
     → HasTaken first now → now.taken < length now.needed → name ≡ slice_index_or now.needed now.taken d
     → Contains now.needed name → ComesOnce name now.solver s → AreNamed names s.log.steps
     → ((f : Framework) → IsAxiomOf f name → IsGuardedLog f now.solver.log → IsGuardedLog f s.log)
@@ -347,15 +357,15 @@ taken_more first now s names name d has lt is there comes named stays =
 -- ---- the loop that looks at no names
 
 -- each axiom among the steps is one of those that were taken, and none is listed twice
-pub record HasListed (first now : Parts) : Type 0 where
+pub record HasListed (first now : EngineParts) : Type 0 where
   pub taken : HasTaken first now
   pub once : AllPairs (λ x y. x ≢ y) now.needed
   pub listed : AreListed now.solver.log.steps now.needed now.taken
 
-pub listed_none : (p : Parts) → IsWhole p → p.begun ≡ true → AllPairs (λ x y. x ≢ y) p.needed
+pub listed_none : (p : EngineParts) → IsWhole p → p.is_listed ≡ true → AllPairs (λ x y. x ≢ y) p.needed
     → length p.solver.log.steps ≡ 0 → HasListed p p
-listed_none p whole begun once empty = record {
-  taken = taken_none p whole begun;
+listed_none p whole is_listed once empty = record {
+  taken = taken_none p whole is_listed;
   once = once;
   listed = record {
     each = λ number name named source.
@@ -366,7 +376,7 @@ listed_none p whole begun once empty = record {
 }
 
 -- so the next one that is listed is no step yet
-next_is_new : (first now : Parts) (name d : AxiomName) → HasListed first now → now.taken < length now.needed
+next_is_new : (first now : EngineParts) (name d : AxiomName) → HasListed first now → now.taken < length now.needed
     → name ≡ slice_index_or now.needed now.taken d → HasNoStepOf now.solver.log.steps name
 next_is_new first now name d has lt is number named source =
     let at = has.listed.each number name named source in
@@ -397,7 +407,7 @@ listed_more old step names count name d listed source lt is = record {
       (cases_lt (number - 1) (length old));
 }
 
-pub listed_plain : (first now : Parts) (s : AtomState) (name d : AxiomName) → HasListed first now
+pub listed_plain : (first now : EngineParts) (s : AtomState) (name d : AxiomName) → HasListed first now
     → now.taken < length now.needed → name ≡ slice_index_or now.needed now.taken d → Contains now.needed name
     → AddsAxiom name now.solver s
     → ((f : Framework) → IsAxiomOf f name → IsGuardedLog f now.solver.log → IsGuardedLog f s.log)
@@ -409,16 +419,18 @@ listed_plain first now s name d has lt is there adds stays =
     let guarded = stays f (needed_axiom f whole.numbered name known) whole.guarded in
     let grows = axiom_grows f name now.solver s whole.numbered known whole.guarded adds in
     record {
-      taken = taken_came first now s now.names name d has.taken lt is known guarded (next_is_new first now name d has lt is)
+      taken = taken_came first now s now.names name d has.taken lt is known guarded
+          (next_is_new first now name d has lt is)
           adds (named_grown NoSide now.names now.solver.log s.log grows whole.named);
       once = has.once;
       listed = subst (λ (steps : List LogStep). AreListed steps now.needed (now.taken + 1)) (sym adds.takes.gains.steps)
-          (listed_more now.solver.log.steps (own_step adds.clause (by_axiom name)) now.needed now.taken name d has.listed
+          (listed_more now.solver.log.steps (own_step adds.clause (by_axiom name)) now.needed now.taken name d
+          has.listed
           refl lt is);
     }
 
 -- a halt before an axiom came
-pub taken_halted : (first now : Parts) (s : AtomState) (halt : Halt) → HasTaken first now
+pub taken_halted : (first now : EngineParts) (s : AtomState) (halt : Halt) → HasTaken first now
     → s ≡ now.solver → (halt ≡ LogFull → length now.solver.log.steps ≡ now.solver.log.limit)
     → ((count : ℕ) → halt ≡ Spent count → ⊥) → (units : Units)
     → HasRun NoSide 0 (framework_of first.framework) first.solver.log s.log s.pending units units (Some halt)
@@ -440,26 +452,26 @@ taken_halted first now s halt has is full unspent units =
     go (Spent count) full unspent = absurd (unspent count refl)
 
 -- the parts and the gains then
-pub whole_halted : (p : Parts) (s : AtomState) (names : StepNames) → IsWhole p → s ≡ p.solver
+pub whole_halted : (p : EngineParts) (s : AtomState) (names : StepNames) → IsWhole p → s ≡ p.solver
     → AreNamed names s.log.steps → IsWhole (record p { solver = s; names = names })
 whole_halted p s names whole same named =
     whole_named p s names whole
     (subst (λ (t : AtomState). IsGuardedLog (framework_of p.framework) t.log) (sym same) whole.guarded)
     (subst (λ (t : AtomState). Grows NoSide p.solver.log t.log) (sym same) (grows_same NoSide p.solver.log)) named
 
-pub gains_halted : (first now : Parts) (s : AtomState) → HasTaken first now → s ≡ now.solver
+pub gains_halted : (first now : EngineParts) (s : AtomState) → HasTaken first now → s ≡ now.solver
     → GainsNeeded (framework_of first.framework) first.solver.log s.log
 gains_halted first now s has same =
     subst (λ (t : AtomState). GainsNeeded (framework_of first.framework) first.solver.log t.log) (sym same)
     has.gains
 
 -- no axiom waits
-pub all_in_force : (p : Parts) → IsWhole p → p.begun ≡ true → length p.needed ≤ p.taken
+pub all_in_force : (p : EngineParts) → IsWhole p → p.is_listed ≡ true → length p.needed ≤ p.taken
     → AreInForce (framework_of p.framework) p.solver.log
-all_in_force p whole begun all = λ name needed. ⊎_elim (λ used. used)
+all_in_force p whole is_listed all = λ name needed. ⊎_elim (λ used. used)
     (λ waits. absurd (Contains-nil name (subst (λ names. Contains names name) (drop_all p.taken p.needed all) waits)))
-    (whole.waits begun name needed)
+    (whole.waits is_listed name needed)
 
-pub taken_all : (first now : Parts) → HasTaken first now → length now.needed ≤ now.taken
+pub taken_all : (first now : EngineParts) → HasTaken first now → length now.needed ≤ now.taken
     → AreInForce (framework_of now.framework) now.solver.log
-taken_all first now has all = all_in_force now has.whole has.begun all
+taken_all first now has all = all_in_force now has.whole has.is_listed all

@@ -1,5 +1,6 @@
 -- What a search leaves where its parts were called one after the other.
-use Rattle.std.proofs.Common.{◌≡◌, ◌∙◌, ℕ, ◌<◌, ◌≤◌, ◌-◌, List, [], ◌∷◌, ◌++◌, length, refl, sym, ap, subst, arith, Option, None, Some, Result, Ok, Err}
+use Rattle.std.proofs.Common.{◌≡◌, ◌∙◌, ℕ, ◌<◌, ◌≤◌, ◌-◌, List, [], ◌∷◌, ◌++◌, length, refl, sym, ap, subst, arith}
+use Rattle.std.proofs.Common.{Option, None, Some, Result, Ok, Err}
 use Rattle.std.specs.Prelude.{Bool, false, IsErr, IsErrAnd, IfOk}
 use Rattle.std.proofs.lemmas.Bool.{false≢true}
 use Rattle.std.proofs.lemmas.List.{append-nil, length-append}
@@ -16,7 +17,7 @@ use Rattle.oracle_face.specs.Goals.{AreGoals}
 use Rattle.session_log.specs.Ends.{LoopInHand}
 use Rattle.session_log.specs.Steps.{LearnsClauses}
 use Rattle.atom_solver.specs.States.{AtomState}
-use Rattle.oracle_core.specs.declared.parts.Parts.{Parts}
+use Rattle.oracle_core.specs.declared.parts.EngineParts.{EngineParts}
 use Rattle.oracle_core.specs.Engines.{AreInForce, IsWhole}
 use Rattle.oracle_core.specs.Readings.{IsTurn, closes_turn}
 use Rattle.oracle_core.specs.Stepping.{EndsInHand, GoesOnBySteps, in_hand_behind, lost_by}
@@ -68,13 +69,14 @@ forced_then f g a b c p q u v most halt same first second =
     (omega arith) first (subst (λ h. HasRun NoSide most h b c q u v halt) same second)
 
 -- and then memory was refused
-pub then_memory : (f : Framework) (a c : OracleLog) (q : Option Pending) (u v : Units) → HasRun NoSide 0 f a c q u v None
+pub then_memory : (f : Framework) (a c : OracleLog) (q : Option Pending) (u v : Units) → HasRun NoSide 0 f a c q u v
+    None
     → HasRun NoSide 0 f a c q u v (Some Memory)
 then_memory f a c q u v run =
     record { grows = run.grows; limit = run.limit; works = tt; closing = tt; stop = tt }
 
 -- what was run from the parts as they were begun was run from those before
-pub begun_run : (p b : Parts) (c : OracleLog) (q : Option Pending) (u v : Units) (halt : Option Halt)
+pub begun_run : (p b : EngineParts) (c : OracleLog) (q : Option Pending) (u v : Units) (halt : Option Halt)
     → b.framework ≡ p.framework → b.solver ≡ p.solver
     → HasRun NoSide 0 (framework_of b.framework) b.solver.log c q u v halt
     → HasRun NoSide 0 (framework_of p.framework) p.solver.log c q u v halt
@@ -83,18 +85,18 @@ begun_run p b c q u v halt framework solver run =
     (subst (λ f. HasRun NoSide 0 (framework_of f) b.solver.log c q u v halt) framework run)
 
 -- and so it is with axioms that came to them
-pub begun_gains : (p b : Parts) (c : OracleLog) → b.framework ≡ p.framework → b.solver ≡ p.solver
+pub begun_gains : (p b : EngineParts) (c : OracleLog) → b.framework ≡ p.framework → b.solver ≡ p.solver
     → GainsNeeded (framework_of b.framework) b.solver.log c → GainsNeeded (framework_of p.framework) p.solver.log c
 begun_gains p b c framework solver gains =
     subst (λ (k : AtomState). GainsNeeded (framework_of p.framework) k.log c) solver
     (subst (λ f. GainsNeeded (framework_of f) b.solver.log c) framework gains)
 
 -- the parts as they are before a search, and then with the axioms in force
-pub record IsCourse (p t : Parts) (units : Units) : Type 0 where
+pub record IsCourse (p t : EngineParts) (units : Units) : Type 0 where
   pub framework : t.framework ≡ p.framework
   pub forced : HasRun NoSide 0 (framework_of p.framework) p.solver.log t.solver.log t.solver.pending units units None
 
-module _ (p t s : Parts) (units : Units) (course : IsCourse p t units) where
+module _ (p t s : EngineParts) (units : Units) (course : IsCourse p t units) where
   pub searched_run : (most : ℕ) (after : Units) (halt : Option Halt)
       → HasRun NoSide most (framework_of t.framework) t.solver.log s.solver.log s.solver.pending units after halt
       → HasRun NoSide most (framework_of p.framework) p.solver.log s.solver.log s.solver.pending units after halt
@@ -171,7 +173,7 @@ closes_found (Set set) = refl
 closes_found (Refuted step) = refl
 
 -- how far searches have come, of which each but the last had a model that lacked a loop clause
-pub record HasTurned (first now : Parts) (before after : Units) : Type 0 where
+pub record HasTurned (first now : EngineParts) (before after : Units) : Type 0 where
   pub whole : IsWhole now
   pub framework : now.framework ≡ first.framework
   pub in_force : AreInForce (framework_of first.framework) now.solver.log
@@ -179,7 +181,7 @@ pub record HasTurned (first now : Parts) (before after : Units) : Type 0 where
       after None
   pub steps : (own : ℕ) → GoesOnBySteps (framework_of first.framework) own [] first.solver.log now.solver.log
 
-pub turned_none : (p : Parts) (units : Units) → IsWhole p → AreInForce (framework_of p.framework) p.solver.log
+pub turned_none : (p : EngineParts) (units : Units) → IsWhole p → AreInForce (framework_of p.framework) p.solver.log
     → HasTurned p p units units
 turned_none p units whole force = record {
   whole = whole;
@@ -189,7 +191,7 @@ turned_none p units whole force = record {
   steps = λ own. goes_on_none (framework_of p.framework) own [] p.solver.log;
 }
 
-module _ (first now next : Parts) (before between after : Units) (turned : HasTurned first now before between)
+module _ (first now next : EngineParts) (before between after : Units) (turned : HasTurned first now before between)
     (framework : next.framework ≡ now.framework) where
   same_now : framework_of now.framework ≡ framework_of first.framework
   same_now = ap framework_of turned.framework
@@ -226,7 +228,8 @@ module _ (first now next : Parts) (before between after : Units) (turned : HasTu
   turned_more whole run steps = record {
     whole = whole;
     framework = framework ∙ turned.framework;
-    in_force = force_grown NoSide (framework_of first.framework) now.solver.log next.solver.log run.grows turned.in_force;
+    in_force = force_grown NoSide (framework_of first.framework) now.solver.log next.solver.log run.grows
+        turned.in_force;
     run = turned_run 0 None run;
     steps = turned_steps None steps;
   }
@@ -247,14 +250,14 @@ module _ (first now next : Parts) (before between after : Units) (turned : HasTu
       let same = run.grows.limit in
       omega arith
 
-pub turned_goals : (first now : Parts) (before after : Units) (goals : List AtomLit)
+pub turned_goals : (first now : EngineParts) (before after : Units) (goals : List AtomLit)
     → HasTurned first now before after → AreGoals (framework_of first.framework) first.solver.log.sides goals
     → AreGoals (framework_of now.framework) now.solver.log.sides goals
 turned_goals first now before after goals turned are =
     goals_still (framework_of first.framework) (framework_of now.framework) first.solver.log now.solver.log goals
     turned.run.grows (ap framework_of turned.framework) are
 
-pub turned_force : (first now : Parts) (before after : Units) → HasTurned first now before after
+pub turned_force : (first now : EngineParts) (before after : Units) → HasTurned first now before after
     → AreInForce (framework_of now.framework) now.solver.log
 turned_force first now before after turned =
     subst (λ f. AreInForce f now.solver.log) (sym (ap framework_of turned.framework)) turned.in_force
@@ -292,10 +295,10 @@ without_memory P (Some LogFull) lost so h = h
 without_memory P (Some Memory) lost so h = absurd (false≢true (sym so))
 
 -- the same parts, but for the clause in hand
-abbrev pub settled : Parts → Option Halt → Parts
+abbrev pub settled : EngineParts → Option Halt → EngineParts
 settled p halt = record p { solver = record { log = p.solver.log; pending = in_hand_behind halt p.solver.pending } }
 
-pub whole_settled : (p : Parts) (halt : Option Halt) → IsWhole p → IsWhole (settled p halt)
+pub whole_settled : (p : EngineParts) (halt : Option Halt) → IsWhole p → IsWhole (settled p halt)
 whole_settled p halt whole = whole_with NoSide p (record {
   log = p.solver.log;
   pending = in_hand_behind halt p.solver.pending;

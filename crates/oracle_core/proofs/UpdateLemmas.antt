@@ -1,5 +1,6 @@
 -- The parts of an engine behind an edit of its framework.
-use Rattle.std.proofs.Common.{◌≡◌, ◌∙◌, ℕ, Bool, true, false, if◌then◌else◌, List, [], ◌∷◌, length, refl, sym, ap, subst, arith, inl, inr, ⊎_elim, Option, Result, Ok, Err, Some}
+use Rattle.std.proofs.Common.{◌≡◌, ◌∙◌, ℕ, Bool, true, false, if◌then◌else◌, List, [], ◌∷◌, length, refl, sym, ap}
+use Rattle.std.proofs.Common.{subst, arith, inl, inr, ⊎_elim, Option, Result, Ok, Err, Some}
 use Rattle.std.specs.Prelude.{◌↔◌, ◌⊎◌, ◌≢◌, Contains, IfOk, IsErr, IsErrAnd}
 use Rattle.std.proofs.lemmas.Bool.{false≢true}
 use Rattle.lists.proofs.Membership.{Contains-nil}
@@ -17,7 +18,8 @@ use Rattle.meaning_atoms.proofs.SameAtoms.{same_literal}
 use Rattle.certificate_claims.specs.Refutations.{axiom_clause}
 use Rattle.certificate_claims.specs.SetLiterals as set_literals
 use Rattle.edit_rules.specs.declared.edit.Edit.{Edit}
-use Rattle.edit_rules.specs.declared.edit.Edit.TheVariants.{ArgAdd, ArgDrop, AttackAdd, AttackDrop, AsmAdd, AsmDrop, ConSet, RuleAdd, RuleDrop}
+use Rattle.edit_rules.specs.declared.edit.Edit.TheVariants.{ArgAdd, ArgDrop, AttackAdd, AttackDrop, AsmAdd}
+use Rattle.edit_rules.specs.declared.edit.Edit.TheVariants.{AsmDrop, ConSet, RuleAdd, RuleDrop}
 use Rattle.edit_rules.specs.Refusals.{Refusal, done_unless}
 use Rattle.edit_rules.specs.declared.effect.Effect.{Effect}
 use Rattle.edit_rules.specs.declared.effect.EditFault.{EditFault}
@@ -32,7 +34,7 @@ use Rattle.oracle_face.specs.Logs.{OracleLog, IsSameClause, working}
 use Rattle.af_encoding.specs.Changes.{IsCalledFor, IsEdited, IsEffectOf}
 use Rattle.aba_encoding.specs.Brought.{IsEdited as IsEditedAba}
 use Rattle.atom_solver.specs.States.{AtomState}
-use Rattle.oracle_core.specs.declared.parts.Parts.{Parts}
+use Rattle.oracle_core.specs.declared.parts.EngineParts.{EngineParts}
 use Rattle.oracle_core.specs.declared.updating.UpdateStop.{UpdateStop}
 use Rattle.oracle_core.specs.declared.updating.UpdateStop.TheVariants.{LogFull}
 use Rattle.oracle_core.specs.Following.{ChangesAttack, IsBehind}
@@ -141,11 +143,11 @@ all_needed g (Err e) are = tt
 
 -- ---- the parts behind the edit
 
-pub followed : (p : Parts) (held : Held) (numbers : List ℕ) (names : List AxiomName) (edit : Edit) → IsWhole p
+pub followed : (p : EngineParts) (held : Held) (numbers : List ℕ) (names : List AxiomName) (edit : Edit) → IsWhole p
     → framework_of held ≡ after_edit (framework_of p.framework) edit
     → numbers ≡ set_literals.members (framework_of held) → AreNeededBy (framework_of held) names
     → AreUsedOrWait (framework_of held) p.solver.log names 0
-    → IsWhole (record p { framework = held; members = numbers; needed = names; taken = 0; begun = true })
+    → IsWhole (record p { framework = held; members = numbers; needed = names; taken = 0; is_listed = true })
 followed p held numbers names edit whole same members_are needed waits =
     let f = framework_of p.framework in
     record {
@@ -159,11 +161,11 @@ followed p held numbers names edit whole same members_are needed waits =
       axioms = needed.only;
       taken_few = omega arith;
       named = whole.named;
-      waits = λ begun. waits;
+      waits = λ is_listed. waits;
     }
 
 -- an edit of an engine's framework led to the one behind it
-pub behind : (p : Parts) (g : Framework) (effect : Effect) → IsWhole p
+pub behind : (p : EngineParts) (g : Framework) (effect : Effect) → IsWhole p
     → IsTaken (framework_of p.framework) effect.edit effect → g ≡ after_edit (framework_of p.framework) effect.edit
     → IsBehind g effect
 behind p g effect whole is same = record {
@@ -202,17 +204,17 @@ members_stay f (ConSet a c) is = absurd is
 members_stay f (RuleAdd h body) is = absurd is
 members_stay f (RuleDrop r) is = absurd is
 
-pub attack_members : (p : Parts) (held : Held) (edit : Edit) → IsWhole p
+pub attack_members : (p : EngineParts) (held : Held) (edit : Edit) → IsWhole p
     → framework_of held ≡ after_edit (framework_of p.framework) edit → ChangesAttack edit
     → p.members ≡ set_literals.members (framework_of held)
 attack_members p held edit whole same is =
     whole.members_are ∙ (sym (members_stay (framework_of p.framework) edit is) ∙ ap set_literals.members (sym same))
 
 -- the parts where all axioms of the framework behind the edit wait
-pub all_waiting : (p : Parts) (held : Held) (names : List AxiomName) (edit : Edit) → IsWhole p
+pub all_waiting : (p : EngineParts) (held : Held) (names : List AxiomName) (edit : Edit) → IsWhole p
     → framework_of held ≡ after_edit (framework_of p.framework) edit
     → p.members ≡ set_literals.members (framework_of held) → names ≡ []
-    → IsWhole (record p { framework = held; needed = names; taken = 0; begun = false })
+    → IsWhole (record p { framework = held; needed = names; taken = 0; is_listed = false })
 all_waiting p held names edit whole same members_are none =
     let f = framework_of p.framework in
     record {
@@ -226,13 +228,13 @@ all_waiting p held names edit whole same members_are none =
       axioms = λ name there. absurd (Contains-nil name (subst (λ xs. Contains xs name) none there));
       taken_few = omega arith;
       named = whole.named;
-      waits = λ begun. absurd (false≢true begun);
+      waits = λ is_listed. absurd (false≢true is_listed);
     }
 
 -- ---- an update
 
 -- axioms that came behind the edit came to the log that there was
-pub gains_behind : (p b c : Parts) → b.solver ≡ p.solver → c.framework ≡ b.framework
+pub gains_behind : (p b c : EngineParts) → b.solver ≡ p.solver → c.framework ≡ b.framework
     → GainsNeeded (framework_of b.framework) b.solver.log c.solver.log
     → GainsNeeded (framework_of c.framework) p.solver.log c.solver.log
 gains_behind p b c solver framework gains =

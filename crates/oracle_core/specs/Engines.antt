@@ -13,7 +13,7 @@ use Rattle.oracle_face.specs.Logs.{OracleLog, IsSameClause, working}
 use Rattle.oracle_face.specs.Needed.{IsNeeded}
 use Rattle.atom_solver.specs.States.{IsGuardedLog}
 use Rattle.entry_taking.specs.Names.{AreNamed}
-use Rattle.oracle_core.specs.declared.parts.Parts.{Parts}
+use Rattle.oracle_core.specs.declared.parts.EngineParts.{EngineParts}
 
 -- the number by which its entries are named, the framework, the log, and the clause that was in hand when the last budget
 -- was spent
@@ -50,17 +50,17 @@ AreUsedOrWait f log names taken =
 
 -- the parts of an engine: a framework in its form, its members, a guarded log beside it, the axioms that it needs,
 -- and names of the log's steps
-pub record IsWhole (p : Parts) : Type 0 where
+pub record IsWhole (p : EngineParts) : Type 0 where
   pub numbered : IsNumbered (framework_of p.framework)
   pub members_are : p.members ≡ members (framework_of p.framework)
   pub guarded : IsGuardedLog (framework_of p.framework) p.solver.log
   pub axioms : (name : AxiomName) → Contains p.needed name → IsNeeded (framework_of p.framework) name
   pub taken_few : p.taken ≤ length p.needed
   pub named : AreNamed p.names p.solver.log.steps
-  pub waits : p.begun ≡ true → AreUsedOrWait (framework_of p.framework) p.solver.log p.needed p.taken
+  pub waits : p.is_listed ≡ true → AreUsedOrWait (framework_of p.framework) p.solver.log p.needed p.taken
 
 -- the engine of a number, whose parts are these
-abbrev pub engine_state : ℕ → Parts → EngineState
+abbrev pub engine_state : ℕ → EngineParts → EngineState
 engine_state number p = record {
   number = number;
   framework = framework_of p.framework;

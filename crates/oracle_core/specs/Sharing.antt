@@ -10,7 +10,7 @@ use Rattle.atom_solver.specs.Lifted.{imported_of, source_of}
 use Rattle.session_log.specs.Imports.{IsCalled}
 
 -- the step may go to others: it wasn't taken from an entry, didn't only end a search, and asks for no side clause
-pub record MayGo (step : LogStep) : Type 0 where
+pub record IsShareableStep (step : LogStep) : Type 0 where
   pub own : step.imported ≡ None
   pub plain : IsPlain step
 
@@ -30,7 +30,7 @@ pub record AreNamesOf (own : ℕ) (steps : List LogStep) (numbers : List ℕ) (n
 -- the entry of a step that may go to others: its clause, under the session's number and its own, with its hints by
 -- their names
 pub record IsEntryOf (own : ℕ) (steps : List LogStep) (number : ℕ) (entry : Entry) : Type 0 where
-  pub may : MayGo (step_at steps number)
+  pub may : IsShareableStep (step_at steps number)
   pub clause : entry.clause ≡ (step_at steps number).clause
   pub name : entry.name ≡ record { session = own; step = number }
   pub names : List HintName

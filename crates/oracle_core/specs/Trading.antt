@@ -5,10 +5,10 @@ use Rattle.semantics.specs.Frameworks.{Framework}
 use Rattle.oracle_face.specs.declared.entry.Entry.{Entry}
 use Rattle.oracle_face.specs.Growing.{Making, Grows}
 use Rattle.oracle_face.specs.Logs.{OracleLog}
-use Rattle.entry_taking.specs.Taking.{ComesInOrMayNot}
+use Rattle.entry_taking.specs.Taking.{ImportsOrMayNot}
 use Rattle.oracle_core.specs.Engines.{AreInForce, EngineState}
 use Rattle.oracle_core.specs.Stepping.{GoesOnBySteps}
-use Rattle.oracle_core.specs.declared.trading.TheConstants.{MOST_TAKEN}
+use Rattle.oracle_core.specs.declared.trading.TheConstants.{MAX_TAKEN}
 
 -- any side clauses
 abbrev pub AnySide : Making
@@ -19,7 +19,7 @@ pub record LooksAt (f : Framework) (own : ℕ) (entry : Entry) (old at next : Or
   pub before : Grows AnySide old at
   pub in_force : AreInForce f at
   pub after : Grows AnySide at next
-  pub comes : ComesInOrMayNot f own entry at next
+  pub comes : ImportsOrMayNot f own entry at next
 
 -- entries are looked at one after the other, each where the log has what came of those before it
 abbrev pub TakesIn : Framework → ℕ → List Entry → OracleLog → OracleLog → Type 0
@@ -39,7 +39,7 @@ pub record TakesFrom (f : Framework) (own : ℕ) (told : List Entry) (left : Opt
 -- none is left, or as many were taken as are taken before one search
 abbrev pub IsEmptied : List Entry → Option (List Entry) → Type 0
 IsEmptied told left =
-    (left ≡ Some []) ⊎ ((rest : List Entry) × (left ≡ Some rest) × (MOST_TAKEN + length rest ≤ length told))
+    (left ≡ Some []) ⊎ ((rest : List Entry) × (left ≡ Some rest) × (MAX_TAKEN + length rest ≤ length told))
 
 -- both at once
 pub record TakesAll (f : Framework) (own : ℕ) (told : List Entry) (left : Option (List Entry))

@@ -1,6 +1,7 @@
 //! Answers to queries.
 
-ghost use Rattle.std.specs.Prelude.{◌≡◌, ◌≢◌, ◌+◌, ◌*◌, ◌≤◌, true, false, length, IfErr, IfOk, OnOk, List, Some, Err, ℕ};
+ghost use Rattle.std.specs.Prelude.{◌≡◌, ◌≢◌, ◌+◌, ◌*◌, ◌≤◌, true, false, length, IfErr, IfOk, OnOk, List, Some};
+ghost use Rattle.std.specs.Prelude.{Err, ℕ};
 ghost use Rattle.edit_rules.specs.Fitting.{Fits};
 ghost use Rattle.certificate_making.specs.Cuts.{AreCut};
 ghost use Rattle.oracle_face.specs.Growing.{HasRun, halt_of};
@@ -22,7 +23,7 @@ use iccma_tasks::{Answer, Query};
 use lists::{Items, Memory};
 use oracle_face::ClauseTrade;
 use plain_lits::{Budget, Halt, StepId};
-use query_answers::{Evidence, Outcome, answer};
+use query_answers::{Evidence, SearchOutcome, answer};
 use set_lists::NumSet;
 use std::alloc::Global;
 
@@ -89,7 +90,7 @@ impl Engine {
         budget: &mut Budget,
         limit: u32,
         trade: &mut T,
-    ) -> Result<Outcome, Halt>
+    ) -> Result<SearchOutcome, Halt>
         requires { NeedsSearch self.old.framework query.now }
         ensures outcome { IfOk result (IsOutcome self.old.framework query.now limit self.new.log) }
         ensures run { HasRun (MadeFor self.old.framework query.now) (2 * length self.new.log.sides + 2)
@@ -150,11 +151,11 @@ impl Engine {
             → IsEmptied told (T.left trade.new)) }
     {
         match self.search(alloc, query, budget, limit, trade)? {
-            Outcome::Shown(evidence) => {
+            SearchOutcome::Shown(evidence) => {
                 let answered = self.certified(alloc, query, evidence, budget.used())?;
                 Ok(answered)
             }
-            Outcome::TooMany => Err(AnswerStop::TooMany),
+            SearchOutcome::TooMany => Err(AnswerStop::TooMany),
         }
     }
 

@@ -4,16 +4,16 @@ ghost use Rattle.std.specs.Prelude.{◌≡◌, ◌↔◌, ◌≤◌, IfOk, IsTru
 ghost use Rattle.semantics.specs.AbaFrameworks.{IsInTheory};
 ghost use Rattle.certificate_claims.specs.Rights.{Accepts};
 ghost use Rattle.edit_rules.specs.Kinds.{framework_of};
-ghost use Rattle.hinted_log.specs.declared.log.TheConstants.{MOST_STEPS};
+ghost use Rattle.hinted_log.specs.declared.log.TheConstants.{MAX_STEPS};
 ghost use Rattle.atom_solver.specs.States.{empty_log};
 ghost use Rattle.oracle_core.specs.Answering.{told_origin};
 
-use crate::parts::{Parts, is_aba, range_of};
+use crate::parts::{EngineParts, is_aba, range_of};
 use aba_notions::AbaPlain;
 use atom_solver::Origin;
 use certificate_making::{ReadLog, StepOrigin};
 use edit_rules::Framework;
-use hinted_log::MOST_STEPS;
+use hinted_log::MAX_STEPS;
 use lists::{Items, Memory};
 use meaning_atoms::AtomLit;
 use oracle_face::{AskId, Found, Oracle, Pending};
@@ -27,7 +27,7 @@ use std::marker::Model;
 /// was spent.
 pub struct Engine {
     pub(crate) number: u32,
-    pub(crate) parts: Parts,
+    pub(crate) parts: EngineParts,
     /// How many steps need not be offered any more: a trade kept them, or they don't go to others.
     pub(crate) offered: usize,
 }
@@ -62,13 +62,13 @@ impl Engine {
         framework: Framework,
         log_limit: u64,
     ) -> Result<Engine, Memory>
-        requires { log_limit ≤ MOST_STEPS }
+        requires { log_limit ≤ MAX_STEPS }
         ensures number { IfOk result (λ e. e.number ≡ number) }
         ensures framework { IfOk result (λ e. e.framework ≡ framework_of framework) }
         ensures log { IfOk result (λ e. e.log ≡ empty_log log_limit) }
         ensures pending { IfOk result (λ e. e.pending ≡ None) }
     {
-        let parts = Parts::open(alloc, framework, log_limit)?;
+        let parts = EngineParts::open(alloc, framework, log_limit)?;
         Ok(Engine {
             number,
             parts,

@@ -7,7 +7,7 @@ ghost use Rattle.plain_lits.specs.Units.{Units};
 ghost use Rattle.meaning_atoms.specs.Literals.{negated};
 ghost use Rattle.certificate_claims.specs.SetLiterals as set_literals;
 ghost use Rattle.edit_rules.specs.Kinds.{framework_of};
-ghost use Rattle.hinted_log.specs.declared.log.TheConstants.{MOST_STEPS};
+ghost use Rattle.hinted_log.specs.declared.log.TheConstants.{MAX_STEPS};
 ghost use Rattle.oracle_face.specs.Entries.{IsShareable};
 ghost use Rattle.oracle_face.specs.declared.entry.Entry.{Entry as AnEntry};
 ghost use Rattle.oracle_face.specs.Goals.{AreGoals, IsSide};
@@ -17,7 +17,7 @@ ghost use Rattle.session_log.specs.Steps.{LearnsClauses};
 ghost use Rattle.atom_solver.specs.Searches.{AreUnfixed, IsAnswer, Satisfies, ends_in};
 ghost use Rattle.oracle_face.specs.Decoding.{IsNewLoop};
 ghost use Rattle.oracle_core.specs.Engines.{AreInForce, HasRange, IsWhole};
-ghost use Rattle.entry_taking.specs.Taking.{ComesInOrMayNot};
+ghost use Rattle.entry_taking.specs.Taking.{ImportsOrMayNot};
 ghost use Rattle.oracle_core.specs.Needing.{AreNeeded};
 ghost use Rattle.oracle_core.specs.Updating.{GainsNeeded};
 ghost use Rattle.oracle_core.specs.Readings.{IsTurn, closes_turn};
@@ -30,8 +30,8 @@ use aba_encoding::AbaEncoding;
 use af_encoding::AfEncoding;
 use atom_solver::{AtomSolver, Searched};
 use edit_rules::Framework;
-use entry_taking::{StepNames, take_in, take_once};
-use hinted_log::MOST_STEPS;
+use entry_taking::{StepNames, add_axiom_once, import_entry};
+use hinted_log::MAX_STEPS;
 use lists::{Items, Memory};
 use meaning_atoms::{AtomLit, AxiomName};
 use oracle_face::{AskId, Entry, Found};
@@ -41,26 +41,26 @@ use std::alloc::Global;
 
 /// The framework with its members, the solver, the axioms that the framework needs with the number of those that the
 /// solver has already, and the names of the first steps, by which an axiom comes once at most.
-pub(crate) struct Parts {
+pub(crate) struct EngineParts {
     pub(crate) framework: Framework,
     pub(crate) members: NumSet,
     pub(crate) solver: AtomSolver,
     pub(crate) needed: Items<AxiomName>,
     pub(crate) taken: usize,
-    pub(crate) begun: bool,
+    pub(crate) is_listed: bool,
     pub(crate) names: StepNames,
 }
 
 // By hand, so that a drop is one call (docs/PROVING.md).
-impl Drop for Parts {
+impl Drop for EngineParts {
     fn drop(self) {
-        let Parts {
+        let EngineParts {
             framework: _,
             members: _,
             solver: _,
             needed: _,
             taken: _,
-            begun: _,
+            is_listed: _,
             names: _,
         } = self;
     }
@@ -112,10 +112,14 @@ pub(crate) fn range_of(alloc: Global, framework: &Framework, set: &NumSet) -> Re
     }
 }
 
-impl Parts {
+impl EngineParts {
     /// An empty log for at most so many steps.
-    pub(crate) fn open(alloc: Global, framework: Framework, log_limit: u64) -> Result<Parts, Memory>
-        requires { log_limit ≤ MOST_STEPS }
+    pub(crate) fn open(
+        alloc: Global,
+        framework: Framework,
+        log_limit: u64,
+    ) -> Result<EngineParts, Memory>
+        requires { log_limit ≤ MAX_STEPS }
         ensures whole { IfOk result IsWhole }
         ensures framework { IfOk result (λ p. p.framework ≡ framework) }
         ensures log { IfOk result (λ p. p.solver.log ≡ empty_log log_limit) }
@@ -124,13 +128,13 @@ impl Parts {
         let _form = framework.kind();
         let members = members_of(alloc, &framework)?;
         let solver = AtomSolver::open(alloc, log_limit)?;
-        Ok(Parts {
+        Ok(EngineParts {
             framework,
             members,
             solver,
             needed: Items::new(alloc),
             taken: 0,
-            begun: false,
+            is_listed: false,
             names: StepNames::new(alloc),
         })
     }
@@ -139,22 +143,22 @@ impl Parts {
     fn list_needed(&mut self, alloc: Global) -> Result<(), Memory>
         requires whole { IsWhole self.old }
         ensures whole { IsWhole self.new }
-        ensures begun { OnOk result (self.new.begun ≡ true) }
+        ensures is_listed { OnOk result (self.new.is_listed ≡ true) }
         ensures once { OnOk result (AllPairs (λ x y. x ≢ y) self.new.needed) }
         ensures framework { self.new.framework ≡ self.old.framework }
         ensures solver { self.new.solver ≡ self.old.solver }
     {
         self.needed = needed_of(alloc, &self.framework)?;
         self.taken = 0;
-        self.begun = true;
+        self.is_listed = true;
         Ok(())
     }
 
     /// Hands the listed axioms to the solver, of which the log has none, since it has no step. It looks at no names, so it
     /// is the quick way.
-    fn take_listed(&mut self, alloc: Global) -> Result<(), Halt>
+    fn add_all(&mut self, alloc: Global) -> Result<(), Halt>
         requires whole { IsWhole self.old }
-        requires begun { self.old.begun ≡ true }
+        requires is_listed { self.old.is_listed ≡ true }
         requires once { AllPairs (λ x y. x ≢ y) self.old.needed }
         requires empty { length self.old.solver.log.steps ≡ 0 }
         ensures whole { IsWhole self.new }
@@ -173,9 +177,9 @@ impl Parts {
     }
 
     /// Hands the axioms that still wait to the solver, but those that the log has.
-    pub(crate) fn take_lacking(&mut self, alloc: Global) -> Result<(), Halt>
+    pub(crate) fn add_missing(&mut self, alloc: Global) -> Result<(), Halt>
         requires whole { IsWhole self.old }
-        requires begun { self.old.begun ≡ true }
+        requires is_listed { self.old.is_listed ≡ true }
         ensures whole { IsWhole self.new }
         ensures in_force { OnOk result (AreInForce (framework_of self.new.framework) self.new.solver.log) }
         ensures framework { self.new.framework ≡ self.old.framework }
@@ -186,7 +190,7 @@ impl Parts {
     {
         while self.taken < self.needed.len() {
             let name = &self.needed.as_slice()[self.taken];
-            take_once(alloc, &mut self.solver, &mut self.names, name)?;
+            add_axiom_once(alloc, &mut self.solver, &mut self.names, name)?;
             self.taken += 1;
         }
         Ok(())
@@ -204,9 +208,9 @@ impl Parts {
     {
         self.list_needed(alloc)?;
         if self.solver.len() > 0 {
-            return self.take_lacking(alloc);
+            return self.add_missing(alloc);
         }
-        self.take_listed(alloc)
+        self.add_all(alloc)
     }
 
     /// Lets the list of needed axioms go, of which none waits any more. On a large framework that takes as long as many
@@ -222,7 +226,7 @@ impl Parts {
     }
 
     /// Hands the axioms that the framework needs to the solver, each of which comes once at most.
-    fn take_needed(&mut self, alloc: Global) -> Result<(), Halt>
+    fn add_needed(&mut self, alloc: Global) -> Result<(), Halt>
         requires whole { IsWhole self.old }
         ensures whole { IsWhole self.new }
         ensures in_force { OnOk result (AreInForce (framework_of self.new.framework) self.new.solver.log) }
@@ -232,14 +236,14 @@ impl Parts {
         ensures steps { (own : ℕ) → GoesOnBySteps (framework_of self.old.framework) own [] self.old.solver.log
             self.new.solver.log }
     {
-        if self.begun {
-            return self.take_lacking(alloc);
+        if self.is_listed {
+            return self.add_missing(alloc);
         }
         self.begin(alloc)
     }
 
     /// Puts the axioms that the framework needs in force, each of which comes once at most.
-    pub(crate) fn force(&mut self, alloc: Global) -> Result<(), Halt>
+    pub(crate) fn add_needed_axioms(&mut self, alloc: Global) -> Result<(), Halt>
         requires whole { IsWhole self.old }
         ensures whole { IsWhole self.new }
         ensures in_force { OnOk result (AreInForce (framework_of self.new.framework) self.new.solver.log) }
@@ -249,26 +253,31 @@ impl Parts {
         ensures steps { (own : ℕ) → GoesOnBySteps (framework_of self.old.framework) own [] self.old.solver.log
             self.new.solver.log }
     {
-        self.take_needed(alloc)?;
+        self.add_needed(alloc)?;
         self.forget_taken(alloc);
         Ok(())
     }
 
     /// Takes an entry in, where it may come in. What is added is steps of the session wherever the entry was given.
-    pub(crate) fn take_in(&mut self, alloc: Global, own: u32, entry: &Entry) -> Result<(), Memory>
+    pub(crate) fn import_entry(
+        &mut self,
+        alloc: Global,
+        own: u32,
+        entry: &Entry,
+    ) -> Result<(), Memory>
         requires whole { IsWhole self.old }
         requires shareable { IsShareable entry.now }
         ensures whole { IsWhole self.new }
         ensures framework { self.new.framework ≡ self.old.framework }
         ensures run { (units : Units) → HasRun NoSide 0 (framework_of self.old.framework) self.old.solver.log
             self.new.solver.log self.new.solver.pending units units None }
-        ensures comes { OnOk result (ComesInOrMayNot (framework_of self.old.framework) own entry.now
+        ensures comes { OnOk result (ImportsOrMayNot (framework_of self.old.framework) own entry.now
             self.old.solver.log self.new.solver.log) }
         ensures steps { (given : List AnEntry) → Contains given entry.now → GoesOnBySteps
             (framework_of self.old.framework) own given self.old.solver.log self.new.solver.log }
     {
         let assumption_based = is_aba(&self.framework);
-        take_in(
+        import_entry(
             alloc,
             &mut self.solver,
             &mut self.names,
@@ -457,7 +466,7 @@ impl Parts {
             own [] self.old.solver.log self.new.solver.log) }
         ensures in_hand { EndsInHand (halt_of result) self.new.solver.log self.new.solver.pending }
     {
-        self.force(alloc)?;
+        self.add_needed_axioms(alloc)?;
         self.find_forced(alloc, goals, budget)
     }
 

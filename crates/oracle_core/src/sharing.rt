@@ -6,10 +6,10 @@ ghost use Rattle.atom_solver.specs.declared.origin.Origin.TheVariants.{Entry as 
 ghost use Rattle.session_log.specs.Imports.{IsCalled};
 ghost use Rattle.oracle_face.specs.Logs.{IsNumberOf, step_at};
 ghost use Rattle.oracle_core.specs.Engines.{IsWhole};
-ghost use Rattle.oracle_core.specs.Sharing.{AreNamesOf, CallsAny, IsEntryOf, MayGo};
+ghost use Rattle.oracle_core.specs.Sharing.{AreNamesOf, CallsAny, IsEntryOf, IsShareableStep};
 
 use crate::engine::Engine;
-use crate::parts::Parts;
+use crate::parts::EngineParts;
 use atom_solver::{AtomSolver, Origin};
 use lists::{Items, Memory};
 use oracle_face::{ClauseTrade, Entry, EntryName, EntryOrigin, HintName};
@@ -17,13 +17,12 @@ use plain_lits::StepId;
 use std::alloc::Global;
 
 /// The most hints of a step that goes to others. A clause from many steps is long: whoever takes it looks up each hint
-/// and watches the clause from then on. Four sessions on 5,000 arguments (`argue bench -n 5000 -x 3`) took 210 seconds of
-/// the processors where all clauses went to others, 145 where none did, and 166 with those of at most 24 hints, which
-/// are a seventh of all.
-const MOST_HINTS: usize = 16;
+/// and watches the clause from then on. With clauses of any number of hints, four sessions on 5,000 arguments took half as
+/// long again as sharing none (bench/RESULTS.md).
+const MAX_HINTS: usize = 16;
 
 /// The name of an entry, where it is another session's.
-fn of_other(own: u32, name: EntryName) -> Option<HintName>
+fn remote_reference(own: u32, name: EntryName) -> Option<HintName>
     ensures { (number : ℕ) → IfSome result (CallsAny own (OfEntry name) number) }
 {
     if name.session == own {
@@ -33,19 +32,19 @@ fn of_other(own: u32, name: EntryName) -> Option<HintName>
 }
 
 /// What entries of the session of the number `own` call a step that comes from there; None where they don't name it.
-fn called(own: u32, origin: Origin, step: StepId) -> Option<HintName>
+fn reference_to(own: u32, origin: Origin, step: StepId) -> Option<HintName>
     ensures { IfSome result (CallsAny own origin step) }
 {
     match origin {
         Origin::Axiom(name) => Some(HintName::Axiom(name)),
         Origin::Side(_) => None,
-        Origin::Entry(name) => of_other(own, name),
+        Origin::Entry(name) => remote_reference(own, name),
         Origin::Hints => Some(HintName::Entry(EntryName { session: own, step })),
     }
 }
 
 /// What entries of the session of the number `own` call a step; None where they don't name it.
-fn name_of(
+fn step_reference(
     alloc: Global,
     own: u32,
     solver: &AtomSolver,
@@ -59,11 +58,11 @@ fn name_of(
         return Ok(None);
     }
     let origin = solver.origin(alloc, step)?;
-    Ok(called(own, origin, step))
+    Ok(reference_to(own, origin, step))
 }
 
 /// What entries call steps, one for one; None where they don't name one of them.
-fn names_of(
+fn step_references(
     alloc: Global,
     own: u32,
     solver: &AtomSolver,
@@ -73,7 +72,7 @@ fn names_of(
 {
     let mut names = Items::new(alloc);
     for step in steps {
-        let Some(name) = name_of(alloc, own, solver, *step)? else {
+        let Some(name) = step_reference(alloc, own, solver, *step)? else {
             return Ok(None);
         };
         names.push(name)?;
@@ -90,16 +89,16 @@ fn is_derived(origin: &Origin) -> bool
 
 /// Whether a step may go to others: it is one's own, follows from other steps, which are few, didn't only end a search,
 /// and asks for no side clause.
-fn may_go(alloc: Global, solver: &AtomSolver, step: StepId) -> Result<bool, Memory>
+fn is_shareable(alloc: Global, solver: &AtomSolver, step: StepId) -> Result<bool, Memory>
     requires { IsNumberOf solver.now.log.steps step }
-    ensures { IfOk result (λ may. IsTrue may → MayGo (step_at solver.now.log.steps step)) }
+    ensures { IfOk result (λ may. IsTrue may → IsShareableStep (step_at solver.now.log.steps step)) }
 {
     let origin = solver.origin(alloc, step)?;
-    Ok(is_derived(&origin) && solver.hints(step).len() <= MOST_HINTS && solver.is_plain(step))
+    Ok(is_derived(&origin) && solver.hints(step).len() <= MAX_HINTS && solver.is_plain(step))
 }
 
 /// The entry of a step that may go to others; None for every other step.
-fn entry_of(
+fn shared_entry(
     alloc: Global,
     own: u32,
     solver: &AtomSolver,
@@ -108,10 +107,10 @@ fn entry_of(
     requires { IsNumberOf solver.now.log.steps step }
     ensures { IfOk result (λ found. IfSome found (IsEntryOf own solver.now.log.steps step)) }
 {
-    if !may_go(alloc, solver, step)? {
+    if !is_shareable(alloc, solver, step)? {
         return Ok(None);
     }
-    let Some(names) = names_of(alloc, own, solver, solver.hints(step))? else {
+    let Some(names) = step_references(alloc, own, solver, solver.hints(step))? else {
         return Ok(None);
     };
     let clause = solver.clause(alloc, step)?;
@@ -126,7 +125,7 @@ fn entry_of(
 fn offer_step<T: ClauseTrade>(
     alloc: Global,
     own: u32,
-    parts: &Parts,
+    parts: &EngineParts,
     step: StepId,
     trade: &mut T,
 ) -> bool
@@ -136,7 +135,7 @@ fn offer_step<T: ClauseTrade>(
     ensures gave { T.gave trade.new ≡ T.gave trade.old }
     ensures follows { T.follows trade.old trade.new }
 {
-    match entry_of(alloc, own, &parts.solver, step) {
+    match shared_entry(alloc, own, &parts.solver, step) {
         Ok(Some(entry)) => match trade.offer(entry) {
             Ok(kept) => kept,
             Err(_entry) => false,
@@ -151,7 +150,7 @@ fn offer_step<T: ClauseTrade>(
 fn offer_from<T: ClauseTrade>(
     alloc: Global,
     own: u32,
-    parts: &Parts,
+    parts: &EngineParts,
     from: usize,
     trade: &mut T,
 ) -> usize
@@ -182,15 +181,15 @@ impl Engine {
         self.offered = offer_from(alloc, self.number, &self.parts, self.offered, trade);
     }
 
-    /// Whether a step went to others: it was offered to a trade, which kept it.
+    /// Whether a step went to others: it was offered to a trade, which kept it. Only tests call it.
     pub fn is_shared(&self, alloc: Global, step: StepId) -> Result<bool, Memory>
         requires { IsNumberOf self.now.log.steps step }
-        ensures { IfOk result (λ shared. IsTrue shared → MayGo (step_at self.now.log.steps step)) }
+        ensures { IfOk result (λ shared. IsTrue shared → IsShareableStep (step_at self.now.log.steps step)) }
     {
         if step.number() as usize > self.offered {
             return Ok(false);
         }
-        may_go(alloc, &self.parts.solver, step)
+        is_shareable(alloc, &self.parts.solver, step)
     }
 
     /// The name of the entry that a step was taken from, where it was taken from one.

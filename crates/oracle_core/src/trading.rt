@@ -15,7 +15,7 @@ ghost use Rattle.oracle_core.specs.Stepping.{GoesOnBySteps};
 ghost use Rattle.oracle_core.specs.Trading.{IsEmptied, TakesAll, Trades};
 
 use crate::engine::Engine;
-use crate::parts::Parts;
+use crate::parts::EngineParts;
 use lists::Memory;
 use meaning_atoms::AtomLit;
 use oracle_face::{AskId, ClauseTrade, Found, Oracle};
@@ -24,13 +24,13 @@ use set_lists::NumSet;
 use std::alloc::Global;
 
 /// How many entries are taken at most before one search.
-pub const MOST_TAKEN: usize = 1_024;
+pub const MAX_TAKEN: usize = 1_024;
 
 /// Takes what a trade gives, until it gives nothing, at most so many entries.
 pub(crate) fn take_all<T: ClauseTrade>(
     alloc: Global,
     own: u32,
-    parts: &mut Parts,
+    parts: &mut EngineParts,
     trade: &mut T,
 ) -> Result<(), Memory>
     requires whole { IsWhole parts.old }
@@ -48,11 +48,11 @@ pub(crate) fn take_all<T: ClauseTrade>(
         parts.new.solver.log) }
 {
     let mut count = 0;
-    while count < MOST_TAKEN {
+    while count < MAX_TAKEN {
         let Some(entry) = trade.take()? else {
             return Ok(());
         };
-        parts.take_in(alloc, own, &entry)?;
+        parts.import_entry(alloc, own, &entry)?;
         count += 1;
     }
     Ok(())
@@ -60,7 +60,7 @@ pub(crate) fn take_all<T: ClauseTrade>(
 
 impl Engine {
     /// Puts the axioms that the framework needs in force.
-    fn force(&mut self, alloc: Global) -> Result<(), Halt>
+    fn add_needed_axioms(&mut self, alloc: Global) -> Result<(), Halt>
         ensures in_force { OnOk result (AreInForce self.new.framework self.new.log) }
         ensures run { (units : Units) → HasRun NoSide 0 self.old.framework self.old.log self.new.log self.new.pending
             units units (halt_of result) }
@@ -69,7 +69,7 @@ impl Engine {
         ensures framework { self.new.framework ≡ self.old.framework }
         ensures kept { IsKept self.new.framework self.new.log }
     {
-        self.parts.force(alloc)
+        self.parts.add_needed_axioms(alloc)
     }
 
     /// Takes what a trade gives, until it gives nothing, at most so many entries.
@@ -106,7 +106,7 @@ impl Engine {
         ensures run { (units : Units) → HasRun NoSide 0 self.old.framework self.old.log self.new.log self.new.pending
             units units (halt_of result) }
     {
-        self.force(alloc)?;
+        self.add_needed_axioms(alloc)?;
         let taken = self.take_all(alloc, trade);
         if taken.is_err() {
             *lost = true;

@@ -13,7 +13,7 @@ ghost use Rattle.oracle_core.specs.Needing.{AreCalledFor, AreNeededBy};
 ghost use Rattle.oracle_core.specs.Updating.{GainsNeeded};
 
 use crate::engine::Engine;
-use crate::parts::{Parts, members_of, needed_of};
+use crate::parts::{EngineParts, members_of, needed_of};
 use edit_rules::{Edit, Effect, Framework, apply};
 use lists::{Items, Memory};
 use meaning_atoms::AxiomName;
@@ -56,7 +56,7 @@ impl From<Memory> for UpdateStop {
 }
 
 /// The framework behind an edit that it takes.
-fn edited(alloc: Global, framework: &Framework, effect: &Effect) -> Result<Framework, Memory>
+fn copy_edited(alloc: Global, framework: &Framework, effect: &Effect) -> Result<Framework, Memory>
     requires { IsTaken (framework_of framework.now) effect.now.edit effect.now }
     ensures { IfOk result (λ after.
         framework_of after ≡ after_edit (framework_of framework.now) effect.now.edit) }
@@ -83,7 +83,7 @@ fn changed_of(alloc: Global, after: &Framework, effect: &Effect) -> Result<Items
 
 /// The axioms that a log may lack behind an edit. Where it had all that the framework needed before the edit, these are the
 /// ones that the edit calls for, found without a walk over the framework.
-fn lacking(
+fn lacking_axioms(
     alloc: Global,
     after: &Framework,
     effect: &Effect,
@@ -108,13 +108,13 @@ fn changes_attack(edit: &Edit) -> bool
     matches!(edit, Edit::AttackAdd(_, _) | Edit::AttackDrop(_, _))
 }
 
-impl Parts {
+impl EngineParts {
     /// Whether no axiom waits.
     fn has_all(&self) -> bool
         requires { IsWhole self.now }
         ensures { IsTrue result → AreInForce (framework_of self.now.framework) self.now.solver.log }
     {
-        self.begun && self.taken == self.needed.len()
+        self.is_listed && self.taken == self.needed.len()
     }
 
     /// Changes the framework in place by an attack that comes or goes; the axioms that the log may lack wait then. Where
@@ -124,7 +124,7 @@ impl Parts {
         requires taken { IsTaken (framework_of self.old.framework) effect.now.edit effect.now }
         requires attack { ChangesAttack effect.now.edit }
         ensures whole { IsWhole self.new }
-        ensures begun { OnOk result (self.new.begun ≡ true) }
+        ensures is_listed { OnOk result (self.new.is_listed ≡ true) }
         ensures framework { OnOk result (framework_of self.new.framework
             ≡ after_edit (framework_of self.old.framework) effect.now.edit) }
         ensures solver { self.new.solver ≡ self.old.solver }
@@ -139,10 +139,10 @@ impl Parts {
         }
         self.needed = Items::new(alloc);
         self.taken = 0;
-        self.begun = false;
-        let needed = lacking(alloc, &self.framework, effect, had_all)?;
+        self.is_listed = false;
+        let needed = lacking_axioms(alloc, &self.framework, effect, had_all)?;
         self.needed = needed;
-        self.begun = true;
+        self.is_listed = true;
         Ok(())
     }
 
@@ -151,21 +151,21 @@ impl Parts {
         requires whole { IsWhole self.old }
         requires taken { IsTaken (framework_of self.old.framework) effect.now.edit effect.now }
         ensures whole { IsWhole self.new }
-        ensures begun { OnOk result (self.new.begun ≡ true) }
+        ensures is_listed { OnOk result (self.new.is_listed ≡ true) }
         ensures framework { OnOk result (framework_of self.new.framework
             ≡ after_edit (framework_of self.old.framework) effect.now.edit) }
         ensures solver { self.new.solver ≡ self.old.solver }
         ensures err { OnErr result (self.new ≡ self.old) }
     {
         let had_all = self.has_all();
-        let framework = edited(alloc, &self.framework, effect)?;
+        let framework = copy_edited(alloc, &self.framework, effect)?;
         let members = members_of(alloc, &framework)?;
-        let needed = lacking(alloc, &framework, effect, had_all)?;
+        let needed = lacking_axioms(alloc, &framework, effect, had_all)?;
         self.framework = framework;
         self.members = members;
         self.needed = needed;
         self.taken = 0;
-        self.begun = true;
+        self.is_listed = true;
         Ok(())
     }
 
@@ -175,7 +175,7 @@ impl Parts {
         requires whole { IsWhole self.old }
         requires taken { IsTaken (framework_of self.old.framework) effect.now.edit effect.now }
         ensures whole { IsWhole self.new }
-        ensures begun { OnOk result (self.new.begun ≡ true) }
+        ensures is_listed { OnOk result (self.new.is_listed ≡ true) }
         ensures framework { OnOk result (framework_of self.new.framework
             ≡ after_edit (framework_of self.old.framework) effect.now.edit) }
         ensures solver { self.new.solver ≡ self.old.solver }
@@ -204,7 +204,7 @@ impl Parts {
         ensures pending { self.new.solver.pending ≡ self.old.solver.pending }
     {
         self.follow(alloc, effect)?;
-        self.take_lacking(alloc)?;
+        self.add_missing(alloc)?;
         self.forget_taken(alloc);
         Ok(())
     }

@@ -21,7 +21,7 @@ pub trait Encoding {
     /// A framework of this kind.
     type Plain;
 
-    /// The framework that it is.
+    /// The framework that contracts see in a value of `Plain`.
     ghost framework: { Self.Plain → Framework };
     /// The atom that says of a number that it is a member of the framework.
     ghost vouches: { ℕ → Atom };

@@ -51,7 +51,7 @@ impl Drop for Entry {
 }
 
 impl Entry {
-    /// The entry of an axiom of either kind by its name. Every such entry may be shared.
+    /// The entry of an axiom of either kind by its name. Every such entry may be shared. Only tests call it.
     pub fn of_axiom(alloc: Global, rule: AxiomName, name: EntryName) -> Result<Entry, Memory>
         requires { IsAxiomName rule }
         ensures entry { IfOk result (λ entry. entry ≡ axiom_entry rule name) }

@@ -1,7 +1,7 @@
 pub mod CallLemmas
 pub mod TestLemmas
-pub mod ExcludedLemmas
-pub mod LargestLemmas
-pub mod WidestLemmas
+pub mod CompleteStableLemmas
+pub mod PreferredLemmas
+pub mod SemiStableLemmas
 pub mod IdealLemmas
 pub mod AllLemmas

@@ -19,8 +19,8 @@ use Rattle.session_log.specs.Ends.{AreTooMany as ShownAreTooMany}
 use Rattle.edit_rules.specs.Fitting.{Fits}
 use Rattle.enumerate_block.specs.Ranges.{AreRefuted}
 use Rattle.query_answers.specs.declared.evidence.Evidence.{Evidence}
-use Rattle.query_answers.specs.declared.evidence.Outcome.{Outcome}
-use Rattle.query_answers.specs.declared.evidence.Outcome.TheVariants.{Shown, TooMany}
+use Rattle.query_answers.specs.declared.evidence.SearchOutcome.{SearchOutcome}
+use Rattle.query_answers.specs.declared.evidence.SearchOutcome.TheVariants.{Shown, TooMany}
 
 -- ---- outcomes
 
@@ -35,7 +35,7 @@ abbrev pub AreTooMany : Framework → Asked → ℕ → OracleLog → Type 0
 AreTooMany f asked most log = (sets : List (List ℕ)) × ShownAreTooMany f asked most log sets
 
 -- an answer with what shows it, or more extensions than so many
-abbrev pub IsOutcome : Framework → Asked → ℕ → OracleLog → Outcome → Type 0
+abbrev pub IsOutcome : Framework → Asked → ℕ → OracleLog → SearchOutcome → Type 0
 IsOutcome f asked most log (Shown evidence) = IsEvidence f asked log evidence
 IsOutcome f asked most log TooMany = AreTooMany f asked most log
 

@@ -15,8 +15,8 @@ use Rattle.enumerate_block.specs.Extensions.{answer_of}
 use Rattle.enumerate_block.specs.declared.deciding.Deciding.{Deciding}
 use Rattle.enumerate_block.specs.declared.deciding.Deciding.TheVariants.{Witness, NoWitness}
 use Rattle.query_answers.specs.declared.evidence.Evidence.{Evidence}
-use Rattle.query_answers.specs.declared.evidence.Outcome.{Outcome}
-use Rattle.query_answers.specs.declared.evidence.Outcome.TheVariants.{Shown, TooMany}
+use Rattle.query_answers.specs.declared.evidence.SearchOutcome.{SearchOutcome}
+use Rattle.query_answers.specs.declared.evidence.SearchOutcome.TheVariants.{Shown, TooMany}
 
 -- the answer that a set shows, and the one where there is no such set
 abbrev pub shown_with : Problem → List ℕ → Answer
@@ -62,6 +62,6 @@ ideal_evidence problem accepts found = record {
 }
 
 -- a list of all extensions, or that there are more
-abbrev pub all_outcome : Extensions → Outcome
+abbrev pub all_outcome : Extensions → SearchOutcome
 all_outcome (All sets steps) = Shown (record { answer = answer_of sets; sets = []; steps = steps })
 all_outcome MoreThanListed = TooMany

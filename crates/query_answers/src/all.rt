@@ -8,7 +8,7 @@ ghost use Rattle.session_log.specs.Ends.{MadeFor};
 ghost use Rattle.query_answers.specs.Answers.{AsksAll, IsOutcome};
 ghost use Rattle.query_answers.specs.Forms.{all_outcome};
 
-use crate::evidence::{Evidence, Outcome};
+use crate::evidence::{Evidence, SearchOutcome};
 use enumerate_block::{Extensions, all};
 use iccma_tasks::{Answer, Query};
 use lists::Items;
@@ -23,7 +23,7 @@ pub(crate) fn all_extensions<O: Oracle>(
     budget: &mut Budget,
     query: &Query,
     most: usize,
-) -> Result<Outcome, Halt>
+) -> Result<SearchOutcome, Halt>
     requires { AsksAll (O.framework oracle.old) query.now }
     ensures outcome { IfOk result (IsOutcome (O.framework oracle.old) query.now most (O.log oracle.new)) }
     ensures run { HasRun (MadeFor (O.framework oracle.old) query.now) (2 * length (O.log oracle.new).sides + 2)
@@ -39,7 +39,7 @@ pub(crate) fn all_extensions<O: Oracle>(
 }
 
 /// The outcome of a list.
-fn outcome_of(alloc: Global, extensions: Extensions) -> Outcome
+fn outcome_of(alloc: Global, extensions: Extensions) -> SearchOutcome
     ensures { result ≡ all_outcome extensions }
 {
     match extensions {
@@ -49,9 +49,9 @@ fn outcome_of(alloc: Global, extensions: Extensions) -> Outcome
                 sets: Items::new(alloc),
                 steps,
             };
-            Outcome::Shown(evidence)
+            SearchOutcome::Shown(evidence)
         }
-        Extensions::TooMany => Outcome::TooMany,
+        Extensions::TooMany => SearchOutcome::TooMany,
     }
 }
 

@@ -8,11 +8,11 @@ ghost use Rattle.session_log.specs.Ends.{MadeFor};
 ghost use Rattle.query_answers.specs.Answers.{AsksOne, IsEvidence, IsOutcome, is_by_grounded};
 
 use crate::all::all_extensions;
-use crate::evidence::{Evidence, Outcome};
-use crate::excluded::{complete, stable};
+use crate::complete_stable::{complete, stable};
+use crate::evidence::{Evidence, SearchOutcome};
 use crate::ideal::by_ideal_set;
-use crate::largest::preferred;
-use crate::widest::semi_stable;
+use crate::preferred::preferred;
+use crate::semi_stable::semi_stable;
 use iccma_tasks::{Problem, Query, Semantics};
 use oracle_face::{Budget, Halt, Oracle};
 use std::alloc::Global;
@@ -26,7 +26,7 @@ pub fn answer<O: Oracle>(
     budget: &mut Budget,
     query: &Query,
     most: usize,
-) -> Result<Outcome, Halt>
+) -> Result<SearchOutcome, Halt>
     requires fits { Fits (O.framework oracle.old) query.now }
     requires by_search { is_by_grounded query.now.task.problem query.now.task.semantics ≡ false }
     ensures outcome { IfOk result (IsOutcome (O.framework oracle.old) query.now most (O.log oracle.new)) }
@@ -41,7 +41,7 @@ pub fn answer<O: Oracle>(
         Problem::AllExtensions => all_extensions(alloc, oracle, budget, query, most),
         Problem::Credulous | Problem::Sceptical | Problem::SomeExtension => {
             let evidence = one(alloc, oracle, budget, query)?;
-            Ok(Outcome::Shown(evidence))
+            Ok(SearchOutcome::Shown(evidence))
         }
     }
 }

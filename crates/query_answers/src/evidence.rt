@@ -50,7 +50,7 @@ impl Evidence {
 
 /// What came of a query.
 #[derive(Drop)]
-pub enum Outcome {
+pub enum SearchOutcome {
     /// The answer, with what shows it.
     Shown(Evidence),
     /// There are more extensions than may be listed.

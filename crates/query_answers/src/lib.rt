@@ -3,11 +3,11 @@
 
 mod all;
 mod answering;
+mod complete_stable;
 mod evidence;
-mod excluded;
 mod ideal;
-mod largest;
-mod widest;
+mod preferred;
+mod semi_stable;
 
 pub use answering::answer;
-pub use evidence::{Evidence, Outcome};
+pub use evidence::{Evidence, SearchOutcome};

@@ -35,7 +35,7 @@ counted_more before mid after count e f = omega arith
 
 -- why a search on the first level stops
 pub stops_of : (learned : SolverState) (new : Cdcl) (assumptions : List Lit) (units : Units) (halt : Halt)
-    → (halt ≡ LogFull → (state_of new ≡ learned) × (length new.ledger.log.steps ≡ new.ledger.log.limit))
+    → (halt ≡ LogFull → (state_of new ≡ learned) × (length new.logged.log.steps ≡ new.logged.log.limit))
     → ((count : ℕ) → halt ≡ Spent count → ⊥) → StopsAt learned new assumptions units units halt
 stops_of learned new assumptions units LogFull full unspent = (refl, full refl)
 stops_of learned new assumptions units (Spent count) full unspent = absurd (unspent count refl)
@@ -49,7 +49,7 @@ mirror_same clauses new_clauses active steps e m = subst (λ cs. IsMirror cs act
 -- what a search tells
 pub searched_of : (old : SolverState) (ran : Cdcl) (assumptions : List Lit) (before after : Units) (ended : End)
     (result : Result Solved Halt) → HasRun (begun old) ran assumptions before after ended
-    → Tells ran.descent.search.lits ended result → result ≢ Err Memory
+    → Tells ran.decisions.search.lits ended result → result ≢ Err Memory
     → HasSearched old (state_of ran) assumptions before after result
 searched_of old ran assumptions before after ended (Ok (Model values)) h t ne =
     let e : EndsAt h.learned ran assumptions h.mid after Satisfied =

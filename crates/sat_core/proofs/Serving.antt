@@ -16,9 +16,9 @@ use Rattle.plain_lits.proofs.LitOrder.{lit_same}
 use Rattle.clause_watches.proofs.Fronts.{from_front}
 use Rattle.hinted_log.specs.Logs.{Step, IsStepOf}
 use Rattle.sat_core.specs.Solving.{clause_of, Holds}
-use Rattle.sat_core.specs.Mirrors.{DeniesAll, IsServed, step_of}
+use Rattle.sat_core.specs.Mirrors.{FalsifiesAll, IsSubsuming, step_of}
 
-pub denies_none : (clause lits : List Lit) → lits ≡ [] → DeniesAll (take 0 clause) lits
+pub denies_none : (clause lits : List Lit) → lits ≡ [] → FalsifiesAll (take 0 clause) lits
 denies_none clause lits e = record {
   there = λ l c. absurd (Contains-nil l c);
   back = λ l c. absurd (Contains-nil (negation l) (subst (λ xs. Contains xs (negation l)) e c));
@@ -41,8 +41,8 @@ negation_same a b e =
     lit_same a b v (not_same a.positive b.positive p)
 
 -- one literal more is denied
-pub denies_more : (clause old new : List Lit) (i : ℕ) (d : Lit) → i < length clause → DeniesAll (take i clause) old
-    → new ≡ old ++ negation (get_or clause i d) ∷ [] → DeniesAll (take (i + 1) clause) new
+pub denies_more : (clause old new : List Lit) (i : ℕ) (d : Lit) → i < length clause → FalsifiesAll (take i clause) old
+    → new ≡ old ++ negation (get_or clause i d) ∷ [] → FalsifiesAll (take (i + 1) clause) new
 denies_more clause old new i d lt h e =
     let x = get_or clause i d in
     let more : take (i + 1) clause ≡ take i clause ++ x ∷ [] = take_more clause i d lt in
@@ -61,7 +61,7 @@ negated_twice : (l : Lit) → negation (negation l) ≡ l
 negated_twice l = lit_same (negation (negation l)) l refl (twice l.positive)
 
 denied_of : (clause lits : List Lit) (i : ℕ) (x : Lit) (v : Value) → Contains clause x
-    → (IsTautology negation clause → ⊥) → DeniesAll (take i clause) lits → IsValueIn lits x v → v ≢ Unset
+    → (IsTautology negation clause → ⊥) → FalsifiesAll (take i clause) lits → IsValueIn lits x v → v ≢ Unset
     → Contains lits (negation x)
 denied_of clause lits i x False there plain h value ne = value.0
 denied_of clause lits i x Unset there plain h value ne = absurd (ne refl)
@@ -72,16 +72,16 @@ denied_of clause lits i x True there plain h value ne =
 
 -- a literal that has a value is denied already
 pub denies_same : (clause lits : List Lit) (i : ℕ) (d : Lit) (v : Value) → i < length clause
-    → (IsTautology negation clause → ⊥) → DeniesAll (take i clause) lits → IsValueIn lits (get_or clause i d) v
-    → v ≢ Unset → DeniesAll (take (i + 1) clause) lits
+    → (IsTautology negation clause → ⊥) → FalsifiesAll (take i clause) lits → IsValueIn lits (get_or clause i d) v
+    → v ≢ Unset → FalsifiesAll (take (i + 1) clause) lits
 denies_same clause lits i d v lt plain h value ne =
     let x = get_or clause i d in
     let there : Contains clause x = (i, lt, get_or_default clause i x d lt) in
-    let denied : Contains lits (negation x) = denied_of clause lits i x v there plain h value ne in
+    let falsified : Contains lits (negation x) = denied_of clause lits i x v there plain h value ne in
     let more : take (i + 1) clause ≡ take i clause ++ x ∷ [] = take_more clause i d lt in
     record {
       there = λ l c. ⊎_elim (λ before. h.there l before)
-          (λ (same : x ≡ l). subst (λ y. Contains lits (negation y)) same denied)
+          (λ (same : x ≡ l). subst (λ y. Contains lits (negation y)) same falsified)
           (Contains-push_cases (take i clause) x l (subst (λ xs. Contains xs l) more c));
       back = λ l c. subst (λ xs. Contains xs l) (sym more) (Contains-append_left (take i clause) (x ∷ []) l (h.back
           l c));
@@ -97,15 +97,15 @@ front_more part i d P lt before here x c =
     (Contains-push_cases (take i part) (get_or part i d) x (subst (λ xs. Contains xs x) (take_more part i d lt) c))
 
 -- a step whose literals are all denied serves, and one with a literal that isn't denied doesn't
-pub served_of : (steps : List Step) (clause lits : List Lit) (number : ℕ) → DeniesAll clause lits
+pub served_of : (steps : List Step) (clause lits : List Lit) (number : ℕ) → FalsifiesAll clause lits
     → IsStepOf steps number
-    → ((l : Lit) → Contains (clause_of steps number) l → Contains lits (negation l)) → IsServed steps clause number
+    → ((l : Lit) → Contains (clause_of steps number) l → Contains lits (negation l)) → IsSubsuming steps clause number
 served_of steps clause lits number d step all = record {
   step = step;
   held = record { each = λ l c. d.back l (all l c) };
 }
 
-pub not_served : (steps : List Step) (clause lits : List Lit) (number : ℕ) → DeniesAll clause lits
+pub not_served : (steps : List Step) (clause lits : List Lit) (number : ℕ) → FalsifiesAll clause lits
     → (l : Lit) × Contains (clause_of steps number) l × (Contains lits (negation l) → ⊥)
     → Holds clause (clause_of steps number) → ⊥
 not_served steps clause lits number d w h = w.2 (d.there w.0 (h.each w.0 w.1))
@@ -125,7 +125,7 @@ abbrev pub no_lit : Lit
 no_lit = record { var = 0; positive = false }
 
 -- none of the steps up to a number serves
-pub none_more : (steps : List Step) (clause lits part : List Lit) (index step : ℕ) → DeniesAll clause lits
+pub none_more : (steps : List Step) (clause lits part : List Lit) (index step : ℕ) → FalsifiesAll clause lits
     → ((n : ℕ) → 0 < n → n ≤ index → Holds clause (clause_of steps n) → ⊥) → step ≡ index + 1
     → part ≡ clause_of steps step
     → (l : Lit) × Contains part l × (Contains lits (negation l) → ⊥)

@@ -10,7 +10,7 @@ use Rattle.unit_propagate.specs.Search.{Search, IsSearch, GoesBack, Learns}
 use Rattle.conflict_learn.specs.Learning.{IsLearned, IsNew, IsOpen, IsAssumed}
 use Rattle.sat_core.specs.Solving.{SolverState, clause_of, IsShown, IsUnitOf, EndsCore}
 use Rattle.sat_core.specs.Solving.{with_unit}
-use Rattle.sat_core.specs.Mirrors.{IsMirror, step_of, AreIds, IsDerived, IsServed, HoldsNone}
+use Rattle.sat_core.specs.Mirrors.{IsMirror, step_of, AreIds, IsDerived, IsSubsuming, HasNoSubsuming}
 use Rattle.sat_core.specs.Runs.{IsRun}
 use Rattle.sat_core.specs.Turns.{IsAsserting}
 use Rattle.sat_core.proofs.Running.{back, learned, back_lits, lits_below, core_lits, not_assumed}
@@ -128,11 +128,11 @@ plain_of s clause hints l t = taken_plain s.clauses clause hints (length hints) 
 
 pub core_served : (state : SolverState) (s : Search) (assumptions clause : List Lit) (number : ℕ)
     → length s.starts ≤ 1 → IsRun assumptions s → ((x : Lit) → Contains clause x → IsAssumed s x)
-    → IsServed state.log.steps clause number → EndsCore state state assumptions number
-core_served state s assumptions clause number shallow run assumed served = record {
+    → IsSubsuming state.log.steps clause number → EndsCore state state assumptions number
+core_served state s assumptions clause number shallow run assumed subsuming = record {
   core = record {
-    step = served.step;
-    negated = λ l c. core_lits s assumptions l shallow run (assumed l (served.held.each l c));
+    step = subsuming.step;
+    negated = λ l c. core_lits s assumptions l shallow run (assumed l (subsuming.held.each l c));
   };
   closed = inl refl;
 }
@@ -147,7 +147,7 @@ pub core_derived : (state : SolverState) (log : LogState) (s : Search) (assumpti
     (ids hints : List ℕ) (number : ℕ)
     → IsMirror s.clauses state.active state.log.steps → length s.starts ≤ 1 → IsRun assumptions s
     → IsLearned s.clauses s.lits clause ids → ((x : Lit) → Contains clause x → IsAssumed s x)
-    → HoldsNone state.log.steps clause → hints ≡ map (step_of state.active) ids
+    → HasNoSubsuming state.log.steps clause → hints ≡ map (step_of state.active) ids
     → IsDerived state.log log clause hints number
     → EndsCore state (record { log = log; active = state.active; pending = state.pending }) assumptions number
 core_derived state log s assumptions clause ids hints number m shallow run l assumed none e d =

@@ -29,15 +29,15 @@ pub record IsDerived (old new : LogState) (clause : List Lit) (hints : List ℕ)
   pub next : number ≡ length old.steps + 1
 
 -- just the negations of a clause's literals are true
-pub record DeniesAll (clause lits : List Lit) : Type 0 where
+pub record FalsifiesAll (clause lits : List Lit) : Type 0 where
   pub there : (l : Lit) → Contains clause l → Contains lits (negation l)
   pub back : (l : Lit) → Contains lits (negation l) → Contains clause l
 
 -- a clause holds that of a step
-pub record IsServed (steps : List Step) (clause : List Lit) (number : ℕ) : Type 0 where
+pub record IsSubsuming (steps : List Step) (clause : List Lit) (number : ℕ) : Type 0 where
   pub step : IsStepOf steps number
   pub held : Holds clause (clause_of steps number)
 
 -- a clause holds that of no step
-abbrev pub HoldsNone : List Step → List Lit → Type 0
-HoldsNone steps clause = (number : ℕ) → IsStepOf steps number → Holds clause (clause_of steps number) → ⊥
+abbrev pub HasNoSubsuming : List Step → List Lit → Type 0
+HasNoSubsuming steps clause = (number : ℕ) → IsStepOf steps number → Holds clause (clause_of steps number) → ⊥

@@ -79,14 +79,14 @@ pub record IsUnsetVar (s : Search) (v : ℕ) : Type 0 where
   pub either : (positive : Bool) → IsUnsetIn s (record { var = v; positive = positive })
 
 -- what propagation gives: a false clause, or nothing is left to do
-abbrev pub IsSpread : Search → Option ℕ → Type 0
-IsSpread s (Some id) = IsConflict s.clauses s.lits id
-IsSpread s None = IsQuiet s.clauses s.lits
+abbrev pub HasPropagated : Search → Option ℕ → Type 0
+HasPropagated s (Some id) = IsConflict s.clauses s.lits id
+HasPropagated s None = IsQuiet s.clauses s.lits
 
 -- what a descent gives: a false clause, or nothing is left to do and all variables have values
-abbrev pub IsDescent : Search → Option ℕ → Type 0
-IsDescent s (Some id) = IsConflict s.clauses s.lits id
-IsDescent s None = IsQuiet s.clauses s.lits × HaveValues s
+abbrev pub HasDecided : Search → Option ℕ → Type 0
+HasDecided s (Some id) = IsConflict s.clauses s.lits id
+HasDecided s None = IsQuiet s.clauses s.lits × HaveValues s
 
 -- the search goes on with other literals: the clauses and the known variables are the same
 pub record GoesOn (old new : Search) : Type 0 where

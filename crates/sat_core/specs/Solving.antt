@@ -1,5 +1,6 @@
 -- What contracts see of a solver, and what a search tells and leaves.
-use Rattle.std.specs.Prelude.{◌≡◌, ◌⊎◌, ℕ, ◌+◌, ◌<◌, ◌≤◌, List, [], ◌∷◌, ◌++◌, length, take, Contains, Option, None, Some}
+use Rattle.std.specs.Prelude.{◌≡◌, ◌⊎◌, ℕ, ◌+◌, ◌<◌, ◌≤◌, List, [], ◌∷◌, ◌++◌, length, take, Contains, Option}
+use Rattle.std.specs.Prelude.{None, Some}
 use Rattle.std.specs.Prelude.{Result, Ok, Err, slice_index_or}
 use Rattle.std.specs.List.Sorted.{IsStrictlyIncreasing}
 use Rattle.plain_lits.specs.declared.lit.Lit.{Lit}
@@ -8,12 +9,13 @@ use Rattle.plain_lits.specs.declared.halt.Halt.TheVariants.{Spent, LogFull, Memo
 use Rattle.plain_lits.specs.Literals.{negation}
 use Rattle.plain_lits.specs.HintCheck.{IsTautology, Checks}
 use Rattle.plain_lits.specs.Units.{Units}
-use Rattle.hinted_log.specs.Logs.{Step, LogState, log_of, no_step, IsLog, IsStepOf, step_at, clauses_of, given_step, derived_step}
+use Rattle.hinted_log.specs.Logs.{Step, LogState, log_of, no_step, IsLog, IsStepOf, step_at, clauses_of}
+use Rattle.hinted_log.specs.Logs.{given_step, derived_step}
 use Rattle.hinted_log.specs.Logs.{AddsStep, AddsDerived}
-use Rattle.hinted_log.specs.declared.kind.Kind.TheVariants as kind
+use Rattle.hinted_log.specs.declared.step_kind.StepKind.TheVariants as kind
 use Rattle.sat_core.specs.declared.answer.Added.{Added}
 use Rattle.sat_core.specs.declared.answer.Added.TheVariants.{Axiom, Side, Derived}
-use Rattle.sat_core.specs.declared.answer.Pending.{Pending}
+use Rattle.sat_core.specs.declared.answer.UnaddedClause.{UnaddedClause}
 use Rattle.sat_core.specs.declared.answer.Solved.{Solved}
 use Rattle.sat_core.specs.declared.answer.Solved.TheVariants.{Model, Core}
 
@@ -22,7 +24,7 @@ use Rattle.sat_core.specs.declared.answer.Solved.TheVariants.{Model, Core}
 pub record SolverState : Type 0 where
   pub log : LogState
   pub active : List ℕ
-  pub pending : Option Pending
+  pub pending : Option UnaddedClause
 
 -- the clause of a step
 abbrev pub clause_of : List Step → ℕ → List Lit
@@ -113,7 +115,7 @@ pub record IsModel (s : SolverState) (assumptions lits : List Lit) : Type 0 wher
 pub record IsSpent (s : SolverState) (assumptions : List Lit) (budget : Units) (count : ℕ) : Type 0 where
   pub is_limit : count ≡ budget.limit
   pub is_used : count ≡ budget.used
-  pub in_hand : Pending
+  pub in_hand : UnaddedClause
   pub kept : s.pending ≡ Some in_hand
   pub further : IsUnitOf s assumptions in_hand.clause in_hand.hints
 

@@ -17,17 +17,17 @@ use Rattle.sat_core.specs.Runs.{IsRun, IsBased, IsResting}
 
 -- what contracts see
 abbrev pub state_of : Cdcl → SolverState
-state_of c = record { log = c.ledger.log; active = c.ledger.active.items; pending = c.pending }
+state_of c = record { log = c.logged.log; active = c.logged.active.items; pending = c.pending }
 
 -- the propagator's clauses are the steps in use, and no literal is true before the first level
 pub record IsKept (c : Cdcl) : Type 0 where
-  pub mirror : IsMirror c.descent.search.clauses c.ledger.active.items c.ledger.log.steps
-  pub based : IsBased c.descent.search
+  pub mirror : IsMirror c.decisions.search.clauses c.logged.active.items c.logged.log.steps
+  pub based : IsBased c.decisions.search
 
 -- the same between two calls, where no literal is true
 pub record IsAtRest (c : Cdcl) : Type 0 where
-  pub mirror : IsMirror c.descent.search.clauses c.ledger.active.items c.ledger.log.steps
-  pub resting : IsResting c.descent.search
+  pub mirror : IsMirror c.decisions.search.clauses c.logged.active.items c.logged.log.steps
+  pub resting : IsResting c.decisions.search
 
 -- a clause makes a literal true at a level, and at no lower one
 pub record IsAsserting (s : Search) (level : ℕ) (clause : List Lit) (lit : Lit) : Type 0 where
@@ -55,7 +55,7 @@ StopsAt learned new assumptions before after Memory = Unit {0}
 abbrev pub EndsAt : SolverState → Cdcl → List Lit → Units → Units → End → Type 0
 EndsAt learned new assumptions before after Satisfied =
     (after.used ≡ before.used) × (state_of new ≡ learned)
-    × IsModel (state_of new) assumptions new.descent.search.lits
+    × IsModel (state_of new) assumptions new.decisions.search.lits
 EndsAt learned new assumptions before after (Refuted step) =
     (after.used ≡ before.used) × EndsCore learned (state_of new) assumptions step
 EndsAt learned new assumptions before after (Stopped halt) = StopsAt learned new assumptions before after halt
@@ -63,7 +63,7 @@ EndsAt learned new assumptions before after (Stopped halt) = StopsAt learned new
 -- the search goes on: a clause is learned, and a unit spent
 pub record Goes (old : SolverState) (new : Cdcl) (assumptions : List Lit) (before after : Units) : Type 0 where
   pub spent : after.used ≡ before.used + 1
-  pub run : IsRun assumptions new.descent.search
+  pub run : IsRun assumptions new.decisions.search
   pub learns : LearnsOne old (state_of new) assumptions
 
 -- what a turn gives

@@ -21,7 +21,7 @@ pub enum Solved {
 
 /// A clause that was learned with its hints, but not added, since the budget was spent.
 #[derive(Drop)]
-pub struct Pending {
+pub struct UnaddedClause {
     pub clause: Clause,
     pub hints: Items<StepId>,
 }

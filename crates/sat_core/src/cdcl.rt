@@ -1,19 +1,21 @@
 //! The search: it decides, propagates and learns from conflicts.
 
-ghost use Rattle.std.specs.Prelude.{◌≡◌, ◌≢◌, ◌↔◌, ℕ, ◌<◌, ◌≤◌, [], length, Contains, IfOk, IfSome, OnOk, OnErr, IfErr, Ok, None};
+ghost use Rattle.std.specs.Prelude.{◌≡◌, ◌≢◌, ◌↔◌, ℕ, ◌<◌, ◌≤◌, [], length, Contains, IfOk, IfSome, OnOk, OnErr};
+ghost use Rattle.std.specs.Prelude.{IfErr, Ok, None};
 ghost use Rattle.plain_lits.specs.declared.lit.Lit.{Lit};
 ghost use Rattle.plain_lits.specs.Literals.{negation};
-ghost use Rattle.hinted_log.specs.declared.log.TheConstants.{MOST_STEPS};
+ghost use Rattle.hinted_log.specs.declared.log.TheConstants.{MAX_STEPS};
 ghost use Rattle.unit_propagate.specs.Search.{IsConflict};
 ghost use Rattle.sat_core.specs.Runs.{IsRun};
-ghost use Rattle.sat_core.specs.Solving.{IsUnitOf, EndsCore, HasSearched, AddsTo, IsRejected, Keeps, Derives, begun, with_unit};
+ghost use Rattle.sat_core.specs.Solving.{IsUnitOf, EndsCore, HasSearched, AddsTo, IsRejected, Keeps, Derives};
+ghost use Rattle.sat_core.specs.Solving.{begun, with_unit};
 ghost use Rattle.sat_core.specs.Turns.{state_of, IsKept, IsAtRest, IsAsserting, IsTurn, HasRun, StopsAt, Goes, Tells};
 
-use crate::answer::{Added, Pending, Solved};
-use crate::descent::{Descent, bump_all};
-use crate::ledger::{Ledger, derive, record, serving, steps_of};
+use crate::answer::{Added, Solved, UnaddedClause};
+use crate::decision_loop::{DecisionLoop, bump_all};
+use crate::logged_clauses::{LoggedClauses, derive, record, steps_of, subsuming_step};
 use conflict_learn::{Core, Learned, Learner};
-use hinted_log::{Log, LogFault, MOST_STEPS};
+use hinted_log::{Log, LogFault, MAX_STEPS};
 use lists::{Items, Memory};
 use plain_lits::{Budget, Clause, Halt, Lit, StepId, Trail};
 use std::alloc::Global;
@@ -32,10 +34,10 @@ pub(crate) enum End {
 
 pub(crate) struct Cdcl {
     pub(crate) alloc: Global,
-    pub(crate) descent: Descent,
-    pub(crate) ledger: Ledger,
+    pub(crate) decisions: DecisionLoop,
+    pub(crate) logged: LoggedClauses,
     pub(crate) learner: Learner,
-    pub(crate) pending: Option<Pending>,
+    pub(crate) pending: Option<UnaddedClause>,
 }
 
 // By hand, so that a drop is one call (docs/PROVING.md).
@@ -43,8 +45,8 @@ impl Drop for Cdcl {
     fn drop(self) {
         let Cdcl {
             alloc: _,
-            descent: _,
-            ledger: _,
+            decisions: _,
+            logged: _,
             learner: _,
             pending: _,
         } = self;
@@ -65,7 +67,7 @@ fn kept_level(level: usize) -> usize
 }
 
 /// What the end of a search tells.
-fn told_of(alloc: Global, search: &Propagator, end: End) -> Result<Solved, Halt>
+fn solved_of(alloc: Global, search: &Propagator, end: End) -> Result<Solved, Halt>
     ensures { Tells search.now.lits end result }
 {
     match end {
@@ -81,22 +83,22 @@ fn told_of(alloc: Global, search: &Propagator, end: End) -> Result<Solved, Halt>
 impl Cdcl {
     /// No clause, and a log for at most so many steps.
     pub(crate) fn open(alloc: Global, log_limit: u64) -> Result<Cdcl, Memory>
-        requires { log_limit ≤ MOST_STEPS }
+        requires { log_limit ≤ MAX_STEPS }
         ensures rest { IfOk result IsAtRest }
-        ensures limit { IfOk result (λ c. c.ledger.log.limit ≡ log_limit) }
-        ensures steps { IfOk result (λ c. c.ledger.log.steps ≡ []) }
-        ensures active { IfOk result (λ c. c.ledger.active.items ≡ []) }
+        ensures limit { IfOk result (λ c. c.logged.log.limit ≡ log_limit) }
+        ensures steps { IfOk result (λ c. c.logged.log.steps ≡ []) }
+        ensures active { IfOk result (λ c. c.logged.active.items ≡ []) }
         ensures pending { IfOk result (λ c. c.pending ≡ None) }
     {
         let search = Propagator::open(alloc)?;
         let log = Log::open(alloc, log_limit)?;
         Ok(Cdcl {
             alloc,
-            descent: Descent::new(alloc, search),
-            ledger: Ledger {
+            decisions: DecisionLoop::new(alloc, search),
+            logged: LoggedClauses {
                 log,
                 active: Vec::new(alloc),
-                denied: Trail::new(alloc),
+                falsified: Trail::new(alloc),
             },
             learner: Learner::new(alloc),
             pending: None,
@@ -112,28 +114,28 @@ impl Cdcl {
         hints: &[StepId],
     ) -> Result<(), Memory>
         requires kept { IsKept self.old }
-        requires run { IsRun assumptions.now self.old.descent.search }
-        requires deep { 1 < length self.old.descent.search.starts }
-        requires room { length self.old.ledger.log.steps ≡ self.old.ledger.log.limit → ⊥ }
+        requires run { IsRun assumptions.now self.old.decisions.search }
+        requires deep { 1 < length self.old.decisions.search.starts }
+        requires room { length self.old.logged.log.steps ≡ self.old.logged.log.limit → ⊥ }
         requires shown { IsUnitOf (state_of self.old) assumptions.now learned.now.clause hints.now }
-        requires asserting { IsAsserting self.old.descent.search learned.now.level learned.now.clause
+        requires asserting { IsAsserting self.old.decisions.search learned.now.level learned.now.clause
             learned.now.asserting }
         ensures kept { IsKept self.new }
         ensures derives { Derives (state_of self.old) (state_of self.new) }
-        ensures run { OnOk result (IsRun assumptions.now self.new.descent.search) }
+        ensures run { OnOk result (IsRun assumptions.now self.new.decisions.search) }
         ensures state { OnOk result (state_of self.new ≡ with_unit (state_of self.old) learned.now.clause hints.now) }
     {
-        let _before = self.descent.search.vars();
-        self.ledger.active.reserve(1)?;
+        let _before = self.decisions.search.vars();
+        self.logged.active.reserve(1)?;
         let clause = learned.clause.copy(self.alloc)?;
-        let step = derive(&mut self.ledger.log, clause, hints)?;
-        self.descent.back_to(kept_level(learned.level));
-        let _form = self.descent.search.vars();
+        let step = derive(&mut self.logged.log, clause, hints)?;
+        self.decisions.back_to(kept_level(learned.level));
+        let _form = self.decisions.search.vars();
         let _ = self
-            .descent
+            .decisions
             .search
             .add_learned(learned.clause.as_slice(), learned.asserting)?;
-        let _ = self.ledger.active.push(step);
+        let _ = self.logged.active.push(step);
         Ok(())
     }
 
@@ -146,31 +148,31 @@ impl Cdcl {
         budget: &mut Budget,
     ) -> Result<(), Halt>
         requires kept { IsKept self.old }
-        requires run { IsRun assumptions.now self.old.descent.search }
-        requires deep { 1 < length self.old.descent.search.starts }
-        requires conflict { IsConflict self.old.descent.search.clauses self.old.descent.search.lits conflict }
+        requires run { IsRun assumptions.now self.old.decisions.search }
+        requires deep { 1 < length self.old.decisions.search.starts }
+        requires conflict { IsConflict self.old.decisions.search.clauses self.old.decisions.search.lits conflict }
         ensures kept { IsKept self.new }
         ensures derives { Derives (state_of self.old) (state_of self.new) }
         ensures goes { OnOk result (Goes (state_of self.old) self.new assumptions.now budget.old budget.new) }
         ensures stops { IfErr result (StopsAt (state_of self.old) self.new assumptions.now budget.old budget.new) }
         ensures limit { budget.new.limit ≡ budget.old.limit }
     {
-        let _form = self.descent.search.vars();
-        let learned = self.learner.learn(&self.descent.search, conflict)?;
-        let hints = steps_of(self.alloc, &self.ledger.active, learned.hints.as_slice())?;
-        if self.ledger.log.is_full() {
+        let _form = self.decisions.search.vars();
+        let learned = self.learner.learn(&self.decisions.search, conflict)?;
+        let hints = steps_of(self.alloc, &self.logged.active, learned.hints.as_slice())?;
+        if self.logged.log.is_full() {
             return Err(Halt::LogFull);
         }
         if !budget.spend() {
-            self.pending = Some(Pending {
+            self.pending = Some(UnaddedClause {
                 clause: learned.clause,
                 hints,
             });
             return Err(Halt::Spent(budget.used()));
         }
         bump_all(
-            &self.descent.search,
-            &mut self.descent.order,
+            &self.decisions.search,
+            &mut self.decisions.order,
             learned.hints.as_slice(),
         );
         self.take(assumptions, &learned, hints.as_slice())?;
@@ -179,35 +181,35 @@ impl Cdcl {
 
     /// Ends a search by a step that refutes the assumptions: one that is there, or one that is derived.
     #[tactic(auto, using(crate::proofs::Keeping::derives_logs))]
-    fn close(&mut self, assumptions: &[Lit], conflict: u32) -> Result<StepId, Halt>
+    fn derive_core(&mut self, assumptions: &[Lit], conflict: u32) -> Result<StepId, Halt>
         requires kept { IsKept self.old }
-        requires run { IsRun assumptions.now self.old.descent.search }
-        requires shallow { length self.old.descent.search.starts ≤ 1 }
-        requires conflict { IsConflict self.old.descent.search.clauses self.old.descent.search.lits conflict }
+        requires run { IsRun assumptions.now self.old.decisions.search }
+        requires shallow { length self.old.decisions.search.starts ≤ 1 }
+        requires conflict { IsConflict self.old.decisions.search.clauses self.old.decisions.search.lits conflict }
         ensures kept { IsKept self.new }
         ensures derives { Derives (state_of self.old) (state_of self.new) }
         ensures core { IfOk result (EndsCore (state_of self.old) (state_of self.new) assumptions.now) }
         ensures full { result ≡ Err Halt.LogFull → (state_of self.new ≡ state_of self.old)
-            × (length self.new.ledger.log.steps ≡ self.new.ledger.log.limit) }
+            × (length self.new.logged.log.steps ≡ self.new.logged.log.limit) }
         ensures unspent { (count : ℕ) → result ≡ Err (Halt.Spent count) → ⊥ }
     {
-        let vars = self.descent.search.vars();
-        let Core { clause, hints } = self.learner.final_core(&self.descent.search, conflict)?;
-        let served = serving(
-            &self.ledger.log,
-            &mut self.ledger.denied,
+        let vars = self.decisions.search.vars();
+        let Core { clause, hints } = self.learner.final_core(&self.decisions.search, conflict)?;
+        let subsuming = subsuming_step(
+            &self.logged.log,
+            &mut self.logged.falsified,
             clause.as_slice(),
             vars,
         )?;
-        match served {
+        match subsuming {
             Some(step) => return Ok(step),
             None => {}
         }
-        if self.ledger.log.is_full() {
+        if self.logged.log.is_full() {
             return Err(Halt::LogFull);
         }
-        let hints = steps_of(self.alloc, &self.ledger.active, hints.as_slice())?;
-        let step = derive(&mut self.ledger.log, clause, hints.as_slice())?;
+        let hints = steps_of(self.alloc, &self.logged.active, hints.as_slice())?;
+        let step = derive(&mut self.logged.log, clause, hints.as_slice())?;
         Ok(step)
     }
 
@@ -215,22 +217,22 @@ impl Cdcl {
     #[tactic(auto, using(crate::proofs::Keeping::derives_logs))]
     fn resolve(&mut self, assumptions: &[Lit], conflict: u32, budget: &mut Budget) -> Option<End>
         requires kept { IsKept self.old }
-        requires run { IsRun assumptions.now self.old.descent.search }
-        requires conflict { IsConflict self.old.descent.search.clauses self.old.descent.search.lits conflict }
+        requires run { IsRun assumptions.now self.old.decisions.search }
+        requires conflict { IsConflict self.old.decisions.search.clauses self.old.decisions.search.lits conflict }
         ensures kept { IsKept self.new }
         ensures derives { Derives (state_of self.old) (state_of self.new) }
         ensures turn { IsTurn (state_of self.old) self.new assumptions.now budget.old budget.new result }
         ensures limit { budget.new.limit ≡ budget.old.limit }
     {
-        if self.descent.search.starts().len() <= 1 {
-            return match self.close(assumptions, conflict) {
+        if self.decisions.search.starts().len() <= 1 {
+            return match self.derive_core(assumptions, conflict) {
                 Ok(step) => Some(End::Refuted(step)),
                 Err(halt) => Some(End::Stopped(halt)),
             };
         }
         match self.learn_from(assumptions, conflict, budget) {
             Ok(()) => {
-                self.descent.count_conflict();
+                self.decisions.count_conflict();
                 None
             }
             Err(halt) => Some(End::Stopped(halt)),
@@ -241,16 +243,16 @@ impl Cdcl {
     #[tactic(auto, using(crate::proofs::Keeping::derives_logs))]
     fn turn(&mut self, assumptions: &[Lit], budget: &mut Budget) -> Option<End>
         requires kept { IsKept self.old }
-        requires run { IsRun assumptions.now self.old.descent.search }
+        requires run { IsRun assumptions.now self.old.decisions.search }
         ensures kept { IsKept self.new }
         ensures derives { Derives (state_of self.old) (state_of self.new) }
         ensures turn { IsTurn (state_of self.old) self.new assumptions.now budget.old budget.new result }
         ensures limit { budget.new.limit ≡ budget.old.limit }
     {
-        match self.descent.descend() {
+        match self.decisions.decide_until_conflict() {
             Some(conflict) => self.resolve(assumptions, conflict, budget),
             None => {
-                let _form = self.descent.search.vars();
+                let _form = self.decisions.search.vars();
                 Some(End::Satisfied)
             }
         }
@@ -260,7 +262,7 @@ impl Cdcl {
     #[tactic(auto, using(crate::proofs::Keeping::derives_logs))]
     pub(crate) fn run(&mut self, assumptions: &[Lit], budget: &mut Budget) -> End
         requires kept { IsKept self.old }
-        requires run { IsRun assumptions.now self.old.descent.search }
+        requires run { IsRun assumptions.now self.old.decisions.search }
         ensures kept { IsKept self.new }
         ensures derives { Derives (state_of self.old) (state_of self.new) }
         ensures run { HasRun (state_of self.old) self.new assumptions.now budget.old budget.new result }
@@ -283,29 +285,29 @@ impl Cdcl {
         ensures rest { IsAtRest self.new }
         ensures keeps { Keeps (state_of self.old) (state_of self.new) }
         ensures ok { IfOk result (AddsTo (state_of self.old) (state_of self.new) clause how) }
-        ensures full { (result ≡ Err LogFault.LogFull) ↔ (length self.old.ledger.log.steps ≡
-            self.old.ledger.log.limit) }
+        ensures full { (result ≡ Err LogFault.LogFull) ↔ (length self.old.logged.log.steps ≡
+            self.old.logged.log.limit) }
         ensures rejected { (place : ℕ) → result ≡ Err (LogFault.Rejected place)
-            → IsRejected self.old.ledger.log clause how place }
+            → IsRejected self.old.logged.log clause how place }
         ensures refused { OnErr result (state_of self.new ≡ state_of self.old) }
     {
-        if self.ledger.log.is_full() {
+        if self.logged.log.is_full() {
             return Err(LogFault::LogFull);
         }
-        match self.ledger.active.reserve(1) {
+        match self.logged.active.reserve(1) {
             Ok(()) => {}
             Err(_) => return Err(LogFault::Memory),
         }
         let kept = clause.copy(self.alloc)?;
-        let step = record(&mut self.ledger.log, clause, how)?;
-        match self.descent.search.add(kept.as_slice()) {
+        let step = record(&mut self.logged.log, clause, how)?;
+        match self.decisions.search.add(kept.as_slice()) {
             Ok(_) => {}
             Err(_) => {
-                self.ledger.log.take_back();
+                self.logged.log.take_back();
                 return Err(LogFault::Memory);
             }
         }
-        let _ = self.ledger.active.push(step);
+        let _ = self.logged.active.push(step);
         Ok(step)
     }
 
@@ -315,27 +317,27 @@ impl Cdcl {
         ensures rest { IsAtRest self.new }
         ensures state { state_of self.new ≡ state_of self.old }
     {
-        self.descent.back_to(0);
+        self.decisions.back_to(0);
     }
 
     /// Ends a look by propagation that met a false clause: a step that refutes the assumptions, or None where the log is full.
     #[tactic(auto, using(crate::proofs::Keeping::derives_logs))]
-    fn close_with_room(
+    fn derive_core_with_room(
         &mut self,
         assumptions: &[Lit],
         conflict: u32,
     ) -> Result<Option<StepId>, Memory>
         requires kept { IsKept self.old }
-        requires run { IsRun assumptions.now self.old.descent.search }
-        requires shallow { length self.old.descent.search.starts ≤ 1 }
-        requires conflict { IsConflict self.old.descent.search.clauses self.old.descent.search.lits conflict }
+        requires run { IsRun assumptions.now self.old.decisions.search }
+        requires shallow { length self.old.decisions.search.starts ≤ 1 }
+        requires conflict { IsConflict self.old.decisions.search.clauses self.old.decisions.search.lits conflict }
         ensures kept { IsKept self.new }
         ensures derives { Derives (state_of self.old) (state_of self.new) }
         ensures refuted { IfOk result (λ found. IfSome found
             (EndsCore (state_of self.old) (state_of self.new) assumptions.now)) }
         ensures none { result ≡ Ok None → state_of self.new ≡ state_of self.old }
     {
-        match self.close(assumptions, conflict) {
+        match self.derive_core(assumptions, conflict) {
             Ok(step) => Ok(Some(step)),
             Err(Halt::LogFull) => Ok(None),
             Err(Halt::Memory) => Err(Memory),
@@ -347,16 +349,16 @@ impl Cdcl {
     #[tactic(auto, using(crate::proofs::Keeping::derives_logs))]
     fn refute_begun(&mut self, assumptions: &[Lit]) -> Result<Option<StepId>, Memory>
         requires kept { IsKept self.old }
-        requires run { IsRun assumptions.now self.old.descent.search }
-        requires shallow { length self.old.descent.search.starts ≤ 1 }
+        requires run { IsRun assumptions.now self.old.decisions.search }
+        requires shallow { length self.old.decisions.search.starts ≤ 1 }
         ensures kept { IsKept self.new }
         ensures derives { Derives (state_of self.old) (state_of self.new) }
         ensures refuted { IfOk result (λ found. IfSome found
             (EndsCore (state_of self.old) (state_of self.new) assumptions.now)) }
         ensures none { result ≡ Ok None → state_of self.new ≡ state_of self.old }
     {
-        match self.descent.spread() {
-            Some(conflict) => self.close_with_room(assumptions, conflict),
+        match self.decisions.propagate() {
+            Some(conflict) => self.derive_core_with_room(assumptions, conflict),
             None => Ok(None),
         }
     }
@@ -373,7 +375,7 @@ impl Cdcl {
         ensures none { result ≡ Ok None → state_of self.new ≡ begun (state_of self.old) }
     {
         self.pending = None;
-        self.descent.search.assume_block(assumptions)?;
+        self.decisions.search.assume_block(assumptions)?;
         let told = self.refute_begun(assumptions);
         self.take_back();
         told
@@ -391,11 +393,11 @@ impl Cdcl {
         ensures limit { budget.new.limit ≡ budget.old.limit }
     {
         self.pending = None;
-        let vars = self.descent.search.vars();
-        self.descent.order.make_room(vars)?;
-        self.descent.search.assume_block(assumptions)?;
+        let vars = self.decisions.search.vars();
+        self.decisions.order.make_room(vars)?;
+        self.decisions.search.assume_block(assumptions)?;
         let end = self.run(assumptions, budget);
-        let told = told_of(self.alloc, &self.descent.search, end);
+        let told = solved_of(self.alloc, &self.decisions.search, end);
         self.take_back();
         told
     }

@@ -3,9 +3,9 @@
 
 pub mod answer;
 mod cdcl;
-mod descent;
-mod ledger;
+mod decision_loop;
+mod logged_clauses;
 mod solver;
 
-pub use answer::{Added, Pending, Solved};
+pub use answer::{Added, Solved, UnaddedClause};
 pub use solver::Solver;

@@ -3,12 +3,12 @@
 ghost use Rattle.std.specs.Prelude.{◌≡◌, ◌≢◌, ◌↔◌, ℕ, ◌≤◌, [], length, Contains, IfOk, IfSome, OnErr, Ok, None};
 ghost use Rattle.plain_lits.specs.declared.lit.Lit.{Lit};
 ghost use Rattle.plain_lits.specs.Literals.{negation};
-ghost use Rattle.hinted_log.specs.declared.log.TheConstants.{MOST_STEPS};
+ghost use Rattle.hinted_log.specs.declared.log.TheConstants.{MAX_STEPS};
 ghost use Rattle.sat_core.specs.Solving.{IsSolver, AddsTo, EndsCore, IsRejected, HasSearched, Keeps, Derives, begun};
 
-use crate::answer::{Added, Pending, Solved};
+use crate::answer::{Added, Solved, UnaddedClause};
 use crate::cdcl::Cdcl;
-use hinted_log::{Log, LogFault, MOST_STEPS};
+use hinted_log::{Log, LogFault, MAX_STEPS};
 use lists::Memory;
 use plain_lits::{Budget, Clause, Halt, Lit, StepId};
 use std::alloc::Global;
@@ -35,7 +35,7 @@ impl Model for Solver {
 impl Solver {
     /// No clause, and a log for at most so many steps.
     pub fn open(alloc: Global, log_limit: u64) -> Result<Solver, Memory>
-        requires { log_limit ≤ MOST_STEPS }
+        requires { log_limit ≤ MAX_STEPS }
         ensures limit { IfOk result (λ s. s.log.limit ≡ log_limit) }
         ensures steps { IfOk result (λ s. s.log.steps ≡ []) }
         ensures active { IfOk result (λ s. s.active ≡ []) }
@@ -60,24 +60,24 @@ impl Solver {
 
     /// Says that a variable is worth deciding, and that its first phase, the value that it is decided with, is the
     /// literal's sign. A search decides such variables before all others, the most active one first.
-    pub fn name(&mut self, lit: Lit) -> Result<(), Memory>
+    pub fn declare(&mut self, lit: Lit) -> Result<(), Memory>
         ensures { self.new ≡ self.old }
     {
-        self.cdcl.descent.name(lit)
+        self.cdcl.decisions.declare(lit)
     }
 
     /// Names a variable in the same way, and has it be more active than all that are named so far.
-    pub fn prefer(&mut self, lit: Lit) -> Result<(), Memory>
+    pub fn prioritize(&mut self, lit: Lit) -> Result<(), Memory>
         ensures { self.new ≡ self.old }
     {
-        self.cdcl.descent.prefer(lit)
+        self.cdcl.decisions.prioritize(lit)
     }
 
     /// Gives each variable its first phase again, in the place of the value that it had last.
     pub fn reset_phases(&mut self)
         ensures { self.new ≡ self.old }
     {
-        self.cdcl.descent.order.reset_phases();
+        self.cdcl.decisions.order.reset_phases();
     }
 
     /// Searches under assumptions. A model makes each clause in use and each assumption true; a core is a step whose
@@ -110,8 +110,8 @@ impl Solver {
         ensures log { result.now ≡ self.now.log }
         ensures form { IsSolver self.now }
     {
-        let _form = self.cdcl.ledger.log.len();
-        &self.cdcl.ledger.log
+        let _form = self.cdcl.logged.log.len();
+        &self.cdcl.logged.log
     }
 
     /// The steps in use.
@@ -119,17 +119,17 @@ impl Solver {
         ensures active { result.now ≡ self.now.active }
         ensures form { IsSolver self.now }
     {
-        let _form = self.cdcl.ledger.log.len();
-        self.cdcl.ledger.active.as_slice()
+        let _form = self.cdcl.logged.log.len();
+        self.cdcl.logged.active.as_slice()
     }
 
-    /// How many literals all searches so far have made true, for measurements.
+    /// How many literals all searches so far have made true. Only the measurements of bench/ call it.
     pub fn propagated(&self) -> u64 {
-        self.cdcl.descent.released
+        self.cdcl.decisions.released
     }
 
     /// Takes the clause that was in hand when the budget of the last search was spent.
-    pub fn take_pending(&mut self) -> Option<Pending>
+    pub fn take_pending(&mut self) -> Option<UnaddedClause>
         ensures pending { result ≡ self.old.pending }
         ensures rest { self.new ≡ begun self.old }
     {

@@ -1,5 +1,6 @@
 -- Which cause is told of the fields of a command.
-use Rattle.std.proofs.Common.{◌≡◌, ℕ, zero, suc, ◌<◌, ◌≤◌, List, [], ◌∷◌, length, get_or, refl, sym, ap, subst, ◌∙◌, ◌⊎◌, inl, inr, arith}
+use Rattle.std.proofs.Common.{◌≡◌, ℕ, zero, suc, ◌<◌, ◌≤◌, List, [], ◌∷◌, length, get_or, refl, sym, ap, subst}
+use Rattle.std.proofs.Common.{◌∙◌, ◌⊎◌, inl, inr, arith}
 use Rattle.std.specs.Prelude.{Contains, codes, Option, Some, None}
 use Rattle.std.specs.List.{AllZip}
 use Rattle.std.proofs.lemmas.Slice.Zip.{AllZip-long}
@@ -9,9 +10,10 @@ use Rattle.iccma_tasks.specs.declared.task.Problem.{Problem}
 use Rattle.iccma_tasks.specs.declared.task.Problem.TheVariants.{Credulous, Sceptical, SomeExtension, AllExtensions}
 use Rattle.iccma_tasks.specs.declared.task.Task.{Task}
 use Rattle.iccma_tasks.specs.Tasks.{FitsTask, IsTask, task_name}
-use Rattle.script_text.specs.declared.change.Change.{Change}
+use Rattle.script_text.specs.declared.edit_word.EditWord.{EditWord}
 use Rattle.script_text.specs.declared.fault.ScriptCause.{ScriptCause}
-use Rattle.script_text.specs.declared.fault.ScriptCause.TheVariants.{BadSession, BadCommand, BadTask, BadNumber, BadQuery}
+use Rattle.script_text.specs.declared.fault.ScriptCause.TheVariants.{BadSession, BadCommand, BadTask, BadNumber}
+use Rattle.script_text.specs.declared.fault.ScriptCause.TheVariants.{BadQuery}
 use Rattle.script_text.specs.Changes.{change_name, Takes}
 use Rattle.script_text.specs.ScriptFaults.{
   rank,
@@ -38,7 +40,8 @@ others_same x y xs ys e = cc
 -- a command that changes the framework isn't `ask`
 pub forms_differ : (fields : List (List ℕ)) → HaveChangeForm fields → HaveAskForm fields → ⊥
 forms_differ fields c a = ask_is_no_change c.change
-    (first_same (change_name c.change) (codes "ask") c.arguments (a.task ∷ a.arguments) (sym c.fields_are ∙ a.fields_are))
+    (first_same (change_name c.change) (codes "ask") c.arguments (a.task ∷ a.arguments)
+    (sym c.fields_are ∙ a.fields_are))
 
 -- the arguments of the one form
 ask_arguments : (task : List ℕ) (arguments : List (List ℕ)) (form : HaveAskForm (codes "ask" ∷ task ∷ arguments))
@@ -55,12 +58,12 @@ ask_task task arguments form =
     in
     sym (first_same task form.task arguments form.arguments behind)
 
-change_arguments : (change : Change) (arguments : List (List ℕ))
+change_arguments : (change : EditWord) (arguments : List (List ℕ))
     (form : HaveChangeForm (change_name change ∷ arguments)) → form.arguments ≡ arguments
 change_arguments change arguments form =
     sym (others_same (change_name change) (change_name form.change) arguments form.arguments form.fields_are)
 
-change_same : (change : Change) (arguments : List (List ℕ))
+change_same : (change : EditWord) (arguments : List (List ℕ))
     (form : HaveChangeForm (change_name change ∷ arguments)) → form.change ≡ change
 change_same change arguments form = sym (changes_same change form.change
     (first_same (change_name change) (change_name form.change) arguments form.arguments form.fields_are))
@@ -133,7 +136,7 @@ bad_command fields change ask = record {
 change_known : (fields : List (List ℕ)) → HaveChangeForm fields → HaveUnknownTask fields → ⊥
 change_known fields form h = forms_differ fields form h.form
 
-pub bad_change : (change : Change) (arguments : List (List ℕ)) → (Takes change (length arguments) → ⊥)
+pub bad_change : (change : EditWord) (arguments : List (List ℕ)) → (Takes change (length arguments) → ⊥)
     → IsFirstCause (StandsOnCommand (change_name change ∷ arguments)) BadCommand
 bad_change change arguments takes_not = bad_command (change_name change ∷ arguments)
     (λ form. takes_not (subst (λ c. Takes c (length arguments)) (change_same change arguments form)
@@ -141,7 +144,7 @@ bad_change change arguments takes_not = bad_command (change_name change ∷ argu
     (λ form. ask_is_no_change change
     (first_same (change_name change) (codes "ask") arguments (form.task ∷ form.arguments) form.fields_are))
 
-pub bad_change_number : (change : Change) (arguments : List (List ℕ)) → Takes change (length arguments)
+pub bad_change_number : (change : EditWord) (arguments : List (List ℕ)) → Takes change (length arguments)
     → HaveNoNumber arguments → IsFirstCause (StandsOnCommand (change_name change ∷ arguments)) BadNumber
 bad_change_number change arguments takes none =
     let fields : List (List ℕ) = change_name change ∷ arguments in
@@ -261,7 +264,7 @@ bad_query task arguments t number few is named spelled unfit =
 
 -- ---- no cause
 
-pub change_is_good : (change : Change) (arguments : List (List ℕ)) (numbers : List ℕ)
+pub change_is_good : (change : EditWord) (arguments : List (List ℕ)) (numbers : List ℕ)
     → Takes change (length arguments) → AllZip IsNumber arguments numbers → (cause : ScriptCause)
     → StandsOnCommand (change_name change ∷ arguments) cause → ⊥
 change_is_good change arguments numbers takes spelled cause stands =
@@ -286,7 +289,8 @@ ask_is_good task arguments t number is named spelled fits cause stands =
     let form = ask_form task arguments few in
     let unfit = (from_query (ask_fields task arguments) (inr form) (known_task task arguments t is named)
     (ask_spelled task arguments (asked_numbers number) spelled) cause stands).0 in
-    let same : unfit.task ≡ t = tasks_same unfit.task t (unfit.named ∙ ask_task task arguments unfit.form ∙ sym named) in
+    let same : unfit.task ≡ t = tasks_same unfit.task t (unfit.named ∙ ask_task task arguments unfit.form ∙ sym named)
+    in
     unfit.unfit
     (ap length (ask_arguments task arguments unfit.form) ∙ sym long ∙ fitting_counts t.problem number fits
     ∙ ap (λ x. asks_about x.problem) (sym same))

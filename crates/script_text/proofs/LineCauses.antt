@@ -22,9 +22,10 @@ use Rattle.edit_rules.specs.declared.edit.Edit.TheVariants.{
 use Rattle.script_text.specs.declared.fault.LineStop.{LineStop}
 use Rattle.script_text.specs.declared.fault.LineStop.TheVariants.{Wrong, Memory}
 use Rattle.script_text.specs.declared.fault.ScriptCause.{ScriptCause}
-use Rattle.script_text.specs.declared.fault.ScriptCause.TheVariants.{BadSession, BadCommand, BadTask, BadNumber, BadQuery}
-use Rattle.script_text.specs.declared.script.Command.{Command}
-use Rattle.script_text.specs.declared.script.Command.TheVariants.{Edit as change_by, Ask}
+use Rattle.script_text.specs.declared.fault.ScriptCause.TheVariants.{BadSession, BadCommand, BadTask, BadNumber}
+use Rattle.script_text.specs.declared.fault.ScriptCause.TheVariants.{BadQuery}
+use Rattle.script_text.specs.declared.script.ScriptCommand.{ScriptCommand}
+use Rattle.script_text.specs.declared.script.ScriptCommand.TheVariants.{Edit as change_by, Ask}
 use Rattle.script_text.specs.declared.script.ScriptLine.{ScriptLine}
 use Rattle.script_text.specs.Changes.{Takes, change_name, change_of, edit_numbers}
 use Rattle.script_text.specs.ScriptFaults.{rank, BeginWithSession, IsFirstCause, StandsOn, StandsOnCommand}
@@ -111,7 +112,7 @@ asked_is_good fields asked h cause stands =
     ask_is_good (task_name asked.task) h.numbers asked.task asked.number h.task_is refl h.spelled h.fits cause
     (subst (λ fs. StandsOnCommand fs cause) h.fields_are stands)
 
-command_is_good : (fields : List (List ℕ)) (command : Command) → AreCommandFields fields command
+command_is_good : (fields : List (List ℕ)) (command : ScriptCommand) → AreCommandFields fields command
     → (cause : ScriptCause) → StandsOnCommand fields cause → ⊥
 command_is_good fields (change_by edit) h cause stands = edit_is_good fields edit h cause stands
 command_is_good fields (Ask asked) h cause stands = asked_is_good fields asked h cause stands

@@ -4,7 +4,8 @@ use Rattle.std.specs.Prelude.{if◌then◌else◌, Option, Some, None, codes}
 use Rattle.iccma_tasks.specs.declared.task.Problem.{Problem}
 use Rattle.iccma_tasks.specs.declared.task.Problem.TheVariants.{Credulous, Sceptical, SomeExtension, AllExtensions}
 use Rattle.iccma_tasks.specs.declared.task.Semantics.{Semantics}
-use Rattle.iccma_tasks.specs.declared.task.Semantics.TheVariants.{Complete, Grounded, Preferred, Stable, SemiStable, Ideal}
+use Rattle.iccma_tasks.specs.declared.task.Semantics.TheVariants.{Complete, Grounded, Preferred, Stable}
+use Rattle.iccma_tasks.specs.declared.task.Semantics.TheVariants.{SemiStable, Ideal}
 use Rattle.iccma_tasks.specs.declared.task.Task.{Task}
 use Rattle.iccma_tasks.specs.Tasks.{task_name, task_of}
 use Rattle.edit_rules.specs.declared.edit.Edit.{Edit}
@@ -19,8 +20,9 @@ use Rattle.edit_rules.specs.declared.edit.Edit.TheVariants.{
   RuleAdd,
   RuleDrop,
 }
-use Rattle.script_text.specs.declared.change.Change.{Change}
-use Rattle.script_text.specs.declared.change.Change.TheVariants.{Arg, NoArg, Att, NoAtt, Asm, NoAsm, Con, Rule, NoRule}
+use Rattle.script_text.specs.declared.edit_word.EditWord.{EditWord}
+use Rattle.script_text.specs.declared.edit_word.EditWord.TheVariants.{Arg, NoArg, Att, NoAtt, Asm, NoAsm, Con}
+use Rattle.script_text.specs.declared.edit_word.EditWord.TheVariants.{Rule, NoRule}
 use Rattle.script_text.specs.Changes.{change_name, change_of, edit_numbers}
 
 some_same : {A : Type 0} (x y : A) → Some x ≡ Some y → x ≡ y
@@ -29,14 +31,14 @@ some_same x y e = cc
 -- ---- commands
 
 -- the command whose name has this second byte, or `o` and then this fourth one
-abbrev change_from : List ℕ → Option Change
+abbrev change_from : List ℕ → Option EditWord
 change_from name =
     if get_or name 1 0 == 114 then Some Arg else if get_or name 1 0 == 116 then Some Att else
     if get_or name 1 0 == 115 then Some Asm else if get_or name 1 0 == 117 then Some Rule else
     if get_or name 3 0 == 114 then Some NoArg else if get_or name 3 0 == 116 then Some NoAtt else
     if get_or name 3 0 == 115 then Some NoAsm else if get_or name 3 0 == 117 then Some NoRule else Some Con
 
-change_back : (change : Change) → change_from (change_name change) ≡ Some change
+change_back : (change : EditWord) → change_from (change_name change) ≡ Some change
 change_back Arg = refl
 change_back NoArg = refl
 change_back Att = refl
@@ -47,11 +49,11 @@ change_back Con = refl
 change_back Rule = refl
 change_back NoRule = refl
 
-pub changes_same : (a b : Change) → change_name a ≡ change_name b → a ≡ b
+pub changes_same : (a b : EditWord) → change_name a ≡ change_name b → a ≡ b
 changes_same a b e = some_same a b (sym (change_back a) ∙ ap change_from e ∙ change_back b)
 
 -- the third byte of each command's name is not that of `ask`
-not_k : (change : Change) → get_or (change_name change) 2 0 ≡ 107 → ⊥
+not_k : (change : EditWord) → get_or (change_name change) 2 0 ≡ 107 → ⊥
 not_k Arg e = absurd (omega arith)
 not_k NoArg e = absurd (omega arith)
 not_k Att e = absurd (omega arith)
@@ -62,12 +64,12 @@ not_k Con e = absurd (omega arith)
 not_k Rule e = absurd (omega arith)
 not_k NoRule e = absurd (omega arith)
 
-pub ask_is_no_change : (change : Change) → change_name change ≡ codes "ask" → ⊥
+pub ask_is_no_change : (change : EditWord) → change_name change ≡ codes "ask" → ⊥
 ask_is_no_change change e = not_k change (ap (λ name. get_or name 2 0) e)
 
 -- ---- edits
 
-abbrev edit_from : Change → List ℕ → Option Edit
+abbrev edit_from : EditWord → List ℕ → Option Edit
 edit_from Arg (n ∷ []) = Some (ArgAdd n)
 edit_from NoArg (n ∷ []) = Some (ArgDrop n)
 edit_from Att (b ∷ a ∷ []) = Some (AttackAdd b a)

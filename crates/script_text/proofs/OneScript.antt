@@ -8,9 +8,9 @@ use Rattle.num_text.specs.Number.{IsNumber}
 use Rattle.iccma_tasks.specs.declared.task.Task.{Task}
 use Rattle.iccma_tasks.specs.Tasks.{Asked, task_name}
 use Rattle.edit_rules.specs.declared.edit.Edit.{Edit}
-use Rattle.script_text.specs.declared.change.Change.{Change}
-use Rattle.script_text.specs.declared.script.Command.{Command}
-use Rattle.script_text.specs.declared.script.Command.TheVariants.{Edit as change_by, Ask}
+use Rattle.script_text.specs.declared.edit_word.EditWord.{EditWord}
+use Rattle.script_text.specs.declared.script.ScriptCommand.{ScriptCommand}
+use Rattle.script_text.specs.declared.script.ScriptCommand.TheVariants.{Edit as change_by, Ask}
 use Rattle.script_text.specs.declared.script.Script.{Script}
 use Rattle.script_text.specs.declared.script.ScriptLine.{ScriptLine}
 use Rattle.script_text.specs.Changes.{change_name, change_of, edit_numbers}
@@ -61,7 +61,8 @@ one_number (Some m) (Some n) e = ap (λ xs. Some (get_or xs 0 0)) e
 ask_same : (fields : List (List ℕ)) (p q : Asked) → AreAskFields fields p → AreAskFields fields q → p ≡ q
 ask_same fields p q a b =
     let both = sym a.fields_are ∙ b.fields_are in
-    let behind = others_same (codes "ask") (codes "ask") (task_name p.task ∷ a.numbers) (task_name q.task ∷ b.numbers) both
+    let behind = others_same (codes "ask") (codes "ask") (task_name p.task ∷ a.numbers) (task_name q.task ∷ b.numbers)
+    both
     in
     let tasks : p.task ≡ q.task = tasks_same p.task q.task (first_same _ _ a.numbers b.numbers behind) in
     let texts = others_same (task_name p.task) (task_name q.task) a.numbers b.numbers behind in
@@ -73,7 +74,8 @@ ask_same fields p q a b =
     asked_of : p.task ≡ q.task → p.number ≡ q.number → p ≡ q
     asked_of tasks numbers = λ i. record { task = tasks i; number = numbers i }
 
-command_same : (fields : List (List ℕ)) (c d : Command) → AreCommandFields fields c → AreCommandFields fields d → c ≡ d
+command_same : (fields : List (List ℕ)) (c d : ScriptCommand) → AreCommandFields fields c → AreCommandFields fields d →
+    c ≡ d
 command_same fields (change_by a) (change_by b) h k = ap change_by (edit_same fields a b h k)
 command_same fields (change_by a) (Ask q) h k = absurd (ask_is_no_change (change_of a)
     (first_same _ _ h.numbers (task_name q.task ∷ k.numbers) (sym h.fields_are ∙ k.fields_are)))

@@ -12,10 +12,11 @@ use Rattle.edit_rules.specs.declared.edit.Edit.TheVariants.{
   RuleAdd,
   RuleDrop,
 }
-use Rattle.script_text.specs.declared.change.Change.{Change}
-use Rattle.script_text.specs.declared.change.Change.TheVariants.{Arg, NoArg, Att, NoAtt, Asm, NoAsm, Con, Rule, NoRule}
+use Rattle.script_text.specs.declared.edit_word.EditWord.{EditWord}
+use Rattle.script_text.specs.declared.edit_word.EditWord.TheVariants.{Arg, NoArg, Att, NoAtt, Asm, NoAsm, Con}
+use Rattle.script_text.specs.declared.edit_word.EditWord.TheVariants.{Rule, NoRule}
 
-abbrev pub change_name : Change → List ℕ
+abbrev pub change_name : EditWord → List ℕ
 change_name Arg = codes "arg"
 change_name NoArg = codes "noarg"
 change_name Att = codes "att"
@@ -27,7 +28,7 @@ change_name Rule = codes "rule"
 change_name NoRule = codes "norule"
 
 -- so many numbers may follow the command's name
-abbrev pub Takes : Change → ℕ → Type 0
+abbrev pub Takes : EditWord → ℕ → Type 0
 Takes Arg count = count ≡ 1
 Takes NoArg count = count ≡ 1
 Takes Att count = count ≡ 2
@@ -39,7 +40,7 @@ Takes Rule count = 1 ≤ count
 Takes NoRule count = count ≡ 1
 
 -- the command that makes the edit
-abbrev pub change_of : Edit → Change
+abbrev pub change_of : Edit → EditWord
 change_of (ArgAdd n) = Arg
 change_of (ArgDrop n) = NoArg
 change_of (AttackAdd b a) = Att

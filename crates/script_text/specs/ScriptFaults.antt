@@ -8,9 +8,10 @@ use Rattle.iccma_tasks.specs.declared.task.Problem.TheVariants.{Credulous, Scept
 use Rattle.iccma_tasks.specs.declared.task.Task.{Task}
 use Rattle.iccma_tasks.specs.AnswerText.{behind_first}
 use Rattle.iccma_tasks.specs.Tasks.{IsTask, task_name}
-use Rattle.script_text.specs.declared.change.Change.{Change}
+use Rattle.script_text.specs.declared.edit_word.EditWord.{EditWord}
 use Rattle.script_text.specs.declared.fault.ScriptCause.{ScriptCause}
-use Rattle.script_text.specs.declared.fault.ScriptCause.TheVariants.{BadSession, BadCommand, BadTask, BadNumber, BadQuery}
+use Rattle.script_text.specs.declared.fault.ScriptCause.TheVariants.{BadSession, BadCommand, BadTask, BadNumber}
+use Rattle.script_text.specs.declared.fault.ScriptCause.TheVariants.{BadQuery}
 use Rattle.script_text.specs.declared.fault.ScriptFault.{ScriptFault}
 use Rattle.script_text.specs.declared.fault.ScriptFault.TheVariants.{At, Memory}
 use Rattle.script_text.specs.Changes.{change_name, Takes}
@@ -47,7 +48,7 @@ pub record BeginWithSession (fields : List (List ℕ)) : Type 0 where
 
 -- the name of a command that changes the framework, and as many fields as it takes
 pub record HaveChangeForm (fields : List (List ℕ)) : Type 0 where
-  pub change : Change
+  pub change : EditWord
   pub arguments : List (List ℕ)
   pub fields_are : fields ≡ change_name change ∷ arguments
   pub takes : Takes change (length arguments)

@@ -6,9 +6,9 @@ use Rattle.num_text.specs.Lines.{kept_lines}
 use Rattle.num_text.specs.Number.{IsNumber}
 use Rattle.iccma_tasks.specs.Tasks.{Asked, FitsTask, IsTask, task_name}
 use Rattle.edit_rules.specs.declared.edit.Edit.{Edit}
-use Rattle.script_text.specs.declared.script.TheConstants.{MOST_SESSIONS}
-use Rattle.script_text.specs.declared.script.Command.{Command}
-use Rattle.script_text.specs.declared.script.Command.TheVariants.{Edit as change_by, Ask}
+use Rattle.script_text.specs.declared.script.TheConstants.{MAX_SESSIONS}
+use Rattle.script_text.specs.declared.script.ScriptCommand.{ScriptCommand}
+use Rattle.script_text.specs.declared.script.ScriptCommand.TheVariants.{Edit as change_by, Ask}
 use Rattle.script_text.specs.declared.script.ScriptLine.{ScriptLine}
 use Rattle.script_text.specs.declared.script.Script.{Script}
 use Rattle.script_text.specs.Changes.{change_name, change_of, edit_numbers}
@@ -33,7 +33,7 @@ pub record AreAskFields (fields : List (List ℕ)) (asked : Asked) : Type 0 wher
   pub fits : FitsTask asked.task.problem asked.number
 
 -- the fields are those of the command
-abbrev pub AreCommandFields : List (List ℕ) → Command → Type 0
+abbrev pub AreCommandFields : List (List ℕ) → ScriptCommand → Type 0
 AreCommandFields fields (change_by edit) = AreEditFields fields edit
 AreCommandFields fields (Ask asked) = AreAskFields fields asked
 
@@ -41,7 +41,7 @@ AreCommandFields fields (Ask asked) = AreAskFields fields asked
 pub record SpellsSession (text : List ℕ) (session : ℕ) : Type 0 where
   pub number : IsNumber text session
   pub low : 1 ≤ session
-  pub high : session ≤ MOST_SESSIONS
+  pub high : session ≤ MAX_SESSIONS
 
 -- the line is a session's number and a command
 pub record IsScriptLine (text : List ℕ) (line : ScriptLine) : Type 0 where

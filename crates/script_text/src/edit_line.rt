@@ -7,7 +7,7 @@ ghost use Rattle.script_text.specs.ScriptText.{AreEditFields};
 ghost use Rattle.script_text.specs.Steps.{IfWrong};
 
 use crate::arguments::{numbers_of, readings_of};
-use crate::change::Change;
+use crate::edit_word::EditWord;
 use crate::fault::{LineStop, ScriptCause};
 use edit_rules::Edit;
 use lists::{Items, Memory};
@@ -15,7 +15,7 @@ use num_text::Fields;
 use std::alloc::Global;
 
 /// The edit that a command of this name makes, with these fields behind the name.
-pub(crate) fn edit_of(alloc: Global, change: Change, fields: Fields<'_>) -> Result<Edit, LineStop>
+pub(crate) fn edit_of(alloc: Global, change: EditWord, fields: Fields<'_>) -> Result<Edit, LineStop>
     ensures edit { IfOk result (AreEditFields (change_name change ∷ map (λ f. f.text) fields.entry)) }
     ensures wrong { IfErr result (λ halt. IfWrong halt
         (IsFirstCause (StandsOnCommand (change_name change ∷ map (λ f. f.text) fields.entry)))) }
@@ -31,21 +31,21 @@ pub(crate) fn edit_of(alloc: Global, change: Change, fields: Fields<'_>) -> Resu
 }
 
 // The edit that a command makes with these numbers.
-fn edit_with(alloc: Global, change: Change, numbers: &[u32]) -> Result<Edit, Memory>
+fn edit_with(alloc: Global, change: EditWord, numbers: &[u32]) -> Result<Edit, Memory>
     requires { Takes change (length numbers.now) }
     ensures change { IfOk result (λ edit. change_of edit ≡ change) }
     ensures numbers { IfOk result (λ edit. edit_numbers edit ≡ numbers.now) }
 {
     Ok(match change {
-        Change::Arg => Edit::ArgAdd(numbers[0]),
-        Change::NoArg => Edit::ArgDrop(numbers[0]),
-        Change::Att => Edit::AttackAdd(numbers[0], numbers[1]),
-        Change::NoAtt => Edit::AttackDrop(numbers[0], numbers[1]),
-        Change::Asm => Edit::AsmAdd(numbers[0], numbers[1]),
-        Change::NoAsm => Edit::AsmDrop(numbers[0]),
-        Change::Con => Edit::ConSet(numbers[0], numbers[1]),
-        Change::Rule => Edit::RuleAdd(numbers[0], copied(alloc, &numbers[1..])?),
-        Change::NoRule => Edit::RuleDrop(numbers[0]),
+        EditWord::Arg => Edit::ArgAdd(numbers[0]),
+        EditWord::NoArg => Edit::ArgDrop(numbers[0]),
+        EditWord::Att => Edit::AttackAdd(numbers[0], numbers[1]),
+        EditWord::NoAtt => Edit::AttackDrop(numbers[0], numbers[1]),
+        EditWord::Asm => Edit::AsmAdd(numbers[0], numbers[1]),
+        EditWord::NoAsm => Edit::AsmDrop(numbers[0]),
+        EditWord::Con => Edit::ConSet(numbers[0], numbers[1]),
+        EditWord::Rule => Edit::RuleAdd(numbers[0], copied(alloc, &numbers[1..])?),
+        EditWord::NoRule => Edit::RuleDrop(numbers[0]),
     })
 }
 

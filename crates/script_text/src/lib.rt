@@ -8,14 +8,14 @@
 
 mod arguments;
 mod ask;
-mod change;
 mod edit_line;
+mod edit_word;
 mod fault;
 mod read;
 mod script;
 mod script_line;
 
-pub use change::Change;
+pub use edit_word::EditWord;
 pub use fault::{ScriptCause, ScriptFault};
 pub use read::read_script;
-pub use script::{Command, MOST_SESSIONS, Script, ScriptLine};
+pub use script::{MAX_SESSIONS, Script, ScriptCommand, ScriptLine};

@@ -8,10 +8,10 @@ ghost use Rattle.script_text.specs.Steps.{IfWrong, TakesSession};
 
 use crate::arguments::next_text;
 use crate::ask::query_of;
-use crate::change::Change;
 use crate::edit_line::edit_of;
+use crate::edit_word::EditWord;
 use crate::fault::{LineStop, ScriptCause};
-use crate::script::{Command, MOST_SESSIONS, ScriptLine};
+use crate::script::{MAX_SESSIONS, ScriptCommand, ScriptLine};
 use num_text::{Fields, Line, fields};
 use std::alloc::Global;
 
@@ -35,22 +35,22 @@ fn session_of(parts: &mut Fields<'_>) -> Result<u32, ScriptCause>
 {
     let first = parts.next_number().ok_or(ScriptCause::BadSession)?;
     let session = first.number.ok_or(ScriptCause::BadSession)?;
-    if session < 1 || session > MOST_SESSIONS {
+    if session < 1 || session > MAX_SESSIONS {
         return Err(ScriptCause::BadSession);
     }
     Ok(session)
 }
 
 // The command that the fields behind the session's number are.
-fn command_of(alloc: Global, mut parts: Fields<'_>) -> Result<Command, LineStop>
+fn command_of(alloc: Global, mut parts: Fields<'_>) -> Result<ScriptCommand, LineStop>
     ensures command { IfOk result (AreCommandFields (map (λ f. f.text) parts.entry)) }
     ensures wrong { IfErr result (λ halt.
         IfWrong halt (IsFirstCause (StandsOnCommand (map (λ f. f.text) parts.entry)))) }
 {
     let name = next_text(&mut parts).ok_or(ScriptCause::BadCommand)?;
     if name == "ask".as_bytes() {
-        return Ok(Command::Ask(query_of(alloc, parts)?));
+        return Ok(ScriptCommand::Ask(query_of(alloc, parts)?));
     }
-    let change = Change::read(name).ok_or(ScriptCause::BadCommand)?;
-    Ok(Command::Edit(edit_of(alloc, change, parts)?))
+    let change = EditWord::read(name).ok_or(ScriptCause::BadCommand)?;
+    Ok(ScriptCommand::Edit(edit_of(alloc, change, parts)?))
 }

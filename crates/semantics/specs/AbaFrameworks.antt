@@ -4,7 +4,7 @@
 -- reasoning", Artificial Intelligence 93 (1997).
 use Rattle.std.specs.Prelude.{◌≡◌, ℕ, ◌+◌, ◌≤◌, ◌<◌, List, Contains, map}
 use Rattle.std.specs.List.Sorted.{IsStrictlyIncreasing}
-use Rattle.semantics.specs.declared.numbers.TheConstants.{LAST_ATOM, LAST_RULE}
+use Rattle.semantics.specs.declared.numbers.TheConstants.{MAX_ATOM, MAX_RULE}
 use Rattle.semantics.specs.Collectives.{Collective}
 use Rattle.semantics.specs.Rules.{Rule, Derives}
 
@@ -61,5 +61,5 @@ pub record IsAba (f : Aba) : Type 0 where
 -- a flat framework in its form, whose atoms and rules have numbers from 1 to the last ones
 pub record IsNumberedAba (f : Aba) : Type 0 where
   pub form : IsAba f
-  pub atoms : f.atoms ≤ LAST_ATOM
-  pub rules : f.next ≤ LAST_RULE + 1
+  pub atoms : f.atoms ≤ MAX_ATOM
+  pub rules : f.next ≤ MAX_RULE + 1

@@ -11,7 +11,7 @@ pub mod numbers;
 mod sets;
 
 pub use af_lists::AfLists;
-pub use argument::{LAST_ARGUMENT, is_argument};
+pub use argument::{MAX_ARGUMENT, is_argument};
 pub use deciding::{Notion, decide};
 pub use limits::MAX_EXTENSIONS;
-pub use numbers::{LAST_ATOM, LAST_RULE};
+pub use numbers::{MAX_ATOM, MAX_RULE};

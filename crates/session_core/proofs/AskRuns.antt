@@ -1,5 +1,6 @@
 -- A session's query is a run of the core.
-use Rattle.std.proofs.Common.{◌≡◌, ◌∙◌, ℕ, ◌+◌, ◌*◌, ◌≤◌, true≢false, refl, List, [], ◌∷◌, ◌++◌, length, map, take, ap, arith, sym, subst, Option}
+use Rattle.std.proofs.Common.{◌≡◌, ◌∙◌, ℕ, ◌+◌, ◌*◌, ◌≤◌, true≢false, refl, List, [], ◌∷◌, ◌++◌, length, map, take}
+use Rattle.std.proofs.Common.{ap, arith, sym, subst, Option}
 use Rattle.std.specs.Prelude.{drop, false}
 use Rattle.std.proofs.lemmas.List.{append-nil, take_all}
 use Rattle.semantics.specs.Frameworks.{Framework, IsNumbered}
@@ -12,7 +13,7 @@ use Rattle.iccma_tasks.specs.declared.task.Kind.TheVariants.{Af, Aba}
 use Rattle.iccma_tasks.specs.Tasks.{Asked, HasTask}
 use Rattle.edit_rules.specs.Kinds.{kind_of}
 use Rattle.edit_rules.proofs.ReplayLemmas.{kind_stays}
-use Rattle.edit_history.specs.declared.entry.Entry.{Entry}
+use Rattle.edit_history.specs.declared.entry.HistoryEntry.{HistoryEntry}
 use Rattle.edit_history.specs.declared.hub.Hub.{Hub}
 use Rattle.edit_history.specs.Entries.{framework_after}
 use Rattle.edit_history.specs.Hubs.{start_of}
@@ -30,15 +31,18 @@ use Rattle.core_machine.specs.Steps.{IsStep, after_turn, answer, cut, goes, refr
 use Rattle.oracle_core.specs.Answering.{NeedsSearch}
 use Rattle.oracle_core.specs.SteppingLaws.{loops_joined}
 use Rattle.session_replies.specs.declared.reply.Body.{Body}
-use Rattle.session_replies.specs.declared.reply.Body.TheVariants.{Answered, Done, EditRefused, Full, LogFull, QueryRefused, TooMany, Unknown}
+use Rattle.session_replies.specs.declared.reply.Body.TheVariants.{Answered, Done, EditRefused, Full, LogFull}
+use Rattle.session_replies.specs.declared.reply.Body.TheVariants.{QueryRefused, TooMany, Unknown}
 use Rattle.session_replies.specs.declared.reply.Reply.{Reply}
-use Rattle.session_core.specs.declared.answering.TheConstants.{EXTENSION_LIMIT}
+use Rattle.semantics.specs.declared.limits.TheConstants.{MAX_EXTENSIONS}
 use Rattle.session_core.specs.declared.session.Session.{Session}
 use Rattle.session_core.specs.CoreRuns.{AsksAreRuns, EndsAs, IsAtRest, entries_of}
 use Rattle.session_core.specs.Following.{AddsNeededAfter}
 use Rattle.session_core.specs.Replies.{IsShownIn, QuerySays, halt_told, units_used}
 use Rattle.session_core.specs.Sessions.{IsAsked, seen_by}
-use Rattle.session_core.proofs.RunLemmas.{cut_same, needed_reach, of_log_joined, pooled_same, put_here, reached_none, rest_behind, rest_loops, rest_run, runs_joined, runs_snoc, seen_same, sided_behind, steps_reach}
+use Rattle.session_core.proofs.RunLemmas.{cut_same, needed_reach, of_log_joined, pooled_same, put_here}
+use Rattle.session_core.proofs.RunLemmas.{reached_none, rest_behind, rest_loops, rest_run, runs_joined, runs_snoc}
+use Rattle.session_core.proofs.RunLemmas.{seen_same, sided_behind, steps_reach}
 
 -- ---- how it ends
 
@@ -62,7 +66,7 @@ may_stop f asked needs = not_by_grounded (kind_of f) asked.task.problem asked.ta
 pub record HasEnded (f : Framework) (asked : Asked) (course : Course) (said : Body) : Type 0 where
   pub ending : Ending
   pub ends : EndsAs said ending
-  pub may : IsEnd f asked EXTENSION_LIMIT course ending
+  pub may : IsEnd f asked MAX_EXTENSIONS course ending
 
 -- what the reply says is how the query ended, where what was added serves it
 ends_so : (f : Framework) (asked : Asked) (course : Course) (said : Body) → QuerySays f asked course.new said
@@ -123,7 +127,8 @@ module _ (hub : Hub) (asked : Asked) (limit : ℕ) (old new : Session) (reply : 
       is.steps.goes_on.steps in
       record {
         run = run_joined NoSide (MadeFor framework asked) (MadeFor framework asked) 0 (2 * length log_now.sides + 2)
-            (2 * length log_now.sides + 2) framework (cut is.log answered) is.log log_now is.kept.pending is.kept.pending
+            (2 * length log_now.sides + 2) framework (cut is.log answered) is.log log_now is.kept.pending
+            is.kept.pending
             (units_used limit 0) (units_used limit 0) (units_used limit is.used) (halt_told reply.body)
             (λ literals set h. absurd h) (λ literals set h. h) (omega arith)
             (rest_run is.log answered rest framework is.kept.pending (units_used limit 0)) is.replied.run;
@@ -151,40 +156,40 @@ module _ (hub : Hub) (asked : Asked) (limit : ℕ) (old new : Session) (reply : 
 -- ---- the run
 
 -- edits keep the kind
-kinds_after : (f : Framework) (entries : List Entry) → kind_of (framework_after f entries) ≡ kind_of f
-kinds_after f entries = kind_stays f (map (λ (entry : Entry). entry.edit) entries)
+kinds_after : (f : Framework) (entries : List HistoryEntry) → kind_of (framework_after f entries) ≡ kind_of f
+kinds_after f entries = kind_stays f (map (λ (entry : HistoryEntry). entry.edit) entries)
 
 -- an answer of the core
 answered_step : (core : Core) (s : ℕ) (f : Framework) (log : OracleLog) (count : ℕ) (asked : Asked) (limit used : ℕ)
     (pending : Option Pending) (ending : _) → seen_framework core s ≡ f → (core.sessions s).log ≡ log
     → (core.sessions s).answered ≡ count
-    → IsEnd f asked EXTENSION_LIMIT (record {
+    → IsEnd f asked MAX_EXTENSIONS (record {
       old = cut log count;
       new = log;
       pending = pending;
       before = units_used limit 0;
       after = units_used limit used;
     }) ending
-    → IsStep core (answer s asked EXTENSION_LIMIT limit pending ending)
+    → IsStep core (answer s asked MAX_EXTENSIONS limit pending ending)
     (with_session core s (record (core.sessions s) { answered = length (core.sessions s).log.steps }))
 answered_step core s f log count asked limit used pending ending seen log_is count_is ends = record {
   after = units_used limit used;
   ends =
-      subst (λ g. IsEnd g asked EXTENSION_LIMIT (record {
+      subst (λ g. IsEnd g asked MAX_EXTENSIONS (record {
         old = cut (core.sessions s).log (core.sessions s).answered;
         new = (core.sessions s).log;
         pending = pending;
         before = units_used limit 0;
         after = units_used limit used;
       }) ending) (sym seen)
-      (subst (λ g. IsEnd f asked EXTENSION_LIMIT (record {
+      (subst (λ g. IsEnd f asked MAX_EXTENSIONS (record {
         old = cut g (core.sessions s).answered;
         new = g;
         pending = pending;
         before = units_used limit 0;
         after = units_used limit used;
       }) ending) (sym log_is)
-      (subst (λ n. IsEnd f asked EXTENSION_LIMIT (record {
+      (subst (λ n. IsEnd f asked MAX_EXTENSIONS (record {
         old = cut log n;
         new = log;
         pending = pending;
@@ -217,7 +222,8 @@ asks_run hub asked limit old new reply core is followed stands pooled =
     (subst (λ list. AddsNeededAfter (framework_after start (take old.followed list)) (drop old.followed list)
     is.catches_up.names old.engine.log is.log) (sym history) is.catches_up.adds) in
     let first = needed_reach turned s old.followed is.catches_up.names old.engine.log is.log
-    (reached_none turned s old.engine.log at) numbered (subst (λ list. old.followed ≤ length list) (sym history) followed)
+    (reached_none turned s old.engine.log at) numbered (subst (λ list. old.followed ≤ length list) (sym history)
+    followed)
     seen adds in
     -- the steps of the query
     let whole : seen_framework turned s ≡ f =
@@ -245,7 +251,7 @@ asks_run hub asked limit old new reply core is followed stands pooled =
     then.moved.log_is (then.moved.answered ∙ (first.moved.answered ∙ marked))
     came.may in
     let both = runs_joined turned first.end last first.events then.events [] first.runs then.runs in
-    let event = answer s asked EXTENSION_LIMIT limit is.kept.pending came.ending in (
+    let event = answer s asked MAX_EXTENSIONS limit is.kept.pending came.ending in (
       done,
       record {
         opening = then.moved.opening ∙ (first.moved.opening ∙ stands.opening);

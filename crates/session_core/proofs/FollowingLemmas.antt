@@ -14,7 +14,7 @@ use Rattle.edit_rules.specs.declared.effect.EditFault.{EditFault}
 use Rattle.edit_rules.specs.Edits.{edit_outcome}
 use Rattle.edit_rules.specs.Replay.{IsTaken, after_edit, left_by, replay}
 use Rattle.edit_history.specs.declared.entry.Change.{Change}
-use Rattle.edit_history.specs.declared.entry.Entry.{Entry}
+use Rattle.edit_history.specs.declared.entry.HistoryEntry.{HistoryEntry}
 use Rattle.edit_history.specs.Entries.{AreDone, effect_told, entries_in, entry_of, framework_after}
 use Rattle.oracle_face.specs.Growing.{Grows, NoSide}
 use Rattle.oracle_face.specs.Logs.{OracleLog, by_axiom, closings_of, units_of}
@@ -34,10 +34,10 @@ replay_parts f [] rest = refl
 replay_parts f (edit ∷ first) rest = replay_parts (after_edit f edit) first rest
 
 -- the framework after some entries, and then after the others
-pub after_parts : (f : Framework) (count : ℕ) (entries : List Entry)
+pub after_parts : (f : Framework) (count : ℕ) (entries : List HistoryEntry)
     → framework_after (framework_after f (take count entries)) (drop count entries) ≡ framework_after f entries
 after_parts f count entries =
-    let edit_of : Entry → Edit = λ e. e.edit in
+    let edit_of : HistoryEntry → Edit = λ e. e.edit in
     replay_parts f (map edit_of (take count entries)) (map edit_of (drop count entries))
     ∙ ap (replay f) (sym (map-append edit_of (take count entries) (drop count entries)))
     ∙ ap (λ xs. replay f (map edit_of xs)) (take-append-drop count entries)
@@ -120,7 +120,7 @@ stands_all f [] old new is = subst (λ log. Stands old log) (sym is) (stands_sam
 stands_all f (name ∷ names) old new is =
     stands_joined old is.0 new (stands_axiom f name old is.0 is.1) (stands_all f names is.0 new is.2)
 
-adds_after : (f g : Framework) (entries : List Entry) (count : ℕ) (names : List AxiomName) (old new : OracleLog)
+adds_after : (f g : Framework) (entries : List HistoryEntry) (count : ℕ) (names : List AxiomName) (old new : OracleLog)
     → count ≤ length entries → g ≡ framework_after f (take count entries) → AddsNeeded g names old new
     → AddsNeededAfter f entries names old new
 adds_after f g entries count [] old new within same is = is
@@ -134,7 +134,7 @@ adds_after f g entries count (name ∷ names) old new within same is = (
   adds_after f g entries count names is.0 new within same is.2,
 )
 
-adds_joined : (f : Framework) (entries : List Entry) (names more : List AxiomName) (a b c : OracleLog)
+adds_joined : (f : Framework) (entries : List HistoryEntry) (names more : List AxiomName) (a b c : OracleLog)
     → AddsNeededAfter f entries names a b → AddsNeededAfter f entries more b c
     → AddsNeededAfter f entries (names ++ more) a c
 adds_joined f entries [] more a b c first second =
@@ -142,7 +142,7 @@ adds_joined f entries [] more a b c first second =
 adds_joined f entries (name ∷ names) more a b c first second =
     (first.0, first.1, adds_joined f entries names more first.0 b c first.2 second)
 
-catches_none : (f : Framework) (entries : List Entry) (log : OracleLog) → CatchesUp f entries log log
+catches_none : (f : Framework) (entries : List HistoryEntry) (log : OracleLog) → CatchesUp f entries log log
 catches_none f entries log = record {
   names = [];
   adds = refl;
@@ -151,7 +151,7 @@ catches_none f entries log = record {
   closings = refl;
 }
 
-catches_more : (f g : Framework) (entries : List Entry) (count : ℕ) (a b c : OracleLog) → count ≤ length entries
+catches_more : (f g : Framework) (entries : List HistoryEntry) (count : ℕ) (a b c : OracleLog) → count ≤ length entries
     → g ≡ framework_after f (take count entries) → CatchesUp f entries a b → GainsNeeded g b c
     → CatchesUp f entries a c
 catches_more f g entries count a b c within same caught gains =

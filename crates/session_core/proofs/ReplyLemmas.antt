@@ -23,7 +23,7 @@ use Rattle.session_replies.specs.declared.reply.Body.{Body}
 use Rattle.session_replies.specs.declared.reply.Body.TheVariants.{Done, EditRefused, Full}
 use Rattle.session_replies.specs.declared.reply.Body.TheVariants.{Answered as OfAnswered, QueryRefused, Unknown}
 use Rattle.session_replies.specs.declared.reply.Body.TheVariants.{TooMany, LogFull}
-use Rattle.session_core.specs.declared.answering.TheConstants.{EXTENSION_LIMIT}
+use Rattle.semantics.specs.declared.limits.TheConstants.{MAX_EXTENSIONS}
 use Rattle.session_core.specs.declared.answering.Told.{Told}
 use Rattle.session_core.specs.Replies.{IsShownIn, Keeps, QuerySays, halt_told, units_used}
 use Rattle.session_core.specs.Telling.{IsBodyOf, IsTold, clause_kept}
@@ -31,7 +31,7 @@ use Rattle.session_core.specs.Telling.{IsBodyOf, IsTold, clause_kept}
 -- what the reply says
 says_of : (f : Framework) (asked : Asked) (log : OracleLog) (end : Result Answered AnswerStop) (said : Body)
     → IsBodyOf end said → OnOk end (Fits f asked) → IfOk end (λ a. IsShownBy f asked a.answer a.certificate)
-    → IfOk end (λ a. AreCut log a.certificate.refutations) → IfErr end (IsCause f asked EXTENSION_LIMIT log)
+    → IfOk end (λ a. AreCut log a.certificate.refutations) → IfErr end (IsCause f asked MAX_EXTENSIONS log)
     → QuerySays f asked log said
 says_of f asked log (Ok a) said is fits shown cut cause = subst (QuerySays f asked log) (sym is) (fits, shown, cut)
 says_of f asked log (Err (stop.Query fault)) said is fits shown cut cause = subst (QuerySays f asked log) (sym is) cause
@@ -109,7 +109,8 @@ hand_kept : (new : OracleLog) (pending : Option Pending) (end : Result Answered 
     → IsBodyOf end said → ((count : ℕ) → end ≡ Err (stop.Spent count) → LoopInHand new pending)
     → LoopInHand new (clause_kept said pending)
 hand_kept new pending (Ok a) said is h = subst (λ b. LoopInHand new (clause_kept b pending)) (sym is) tt
-hand_kept new pending (Err (stop.Query fault)) said is h = subst (λ b. LoopInHand new (clause_kept b pending)) (sym is) tt
+hand_kept new pending (Err (stop.Query fault)) said is h = subst (λ b. LoopInHand new (clause_kept b pending)) (sym is)
+    tt
 hand_kept new pending (Err (stop.Spent count)) said is h =
     subst (λ b. LoopInHand new (clause_kept b pending)) (sym is) (h count refl)
 hand_kept new pending (Err stop.TooMany) said is h = subst (λ b. LoopInHand new (clause_kept b pending)) (sym is) tt
@@ -131,7 +132,7 @@ pub told_is : (f : Framework) (own : ℕ) (asked : Asked) (limit : ℕ) (old new
     (before after : Units) (end : Result Answered AnswerStop) (told : Told) → before.limit ≡ limit → before.used ≡ 0
     → after.used ≤ after.limit → OnOk end (Fits f asked)
     → IfOk end (λ a. IsShownBy f asked a.answer a.certificate) → IfOk end (λ a. AreCut new a.certificate.refutations)
-    → IfErr end (IsCause f asked EXTENSION_LIMIT new)
+    → IfErr end (IsCause f asked MAX_EXTENSIONS new)
     → HasRun (MadeFor f asked) (2 * length new.sides + 2) f old new pending before after (halt_behind end)
     → (is_by_grounded asked.task.problem asked.task.semantics ≡ true → new ≡ old)
     → (end ≢ Err stop.Memory → GoesOnBySteps f own (map entry_of told.kept.tokens) old new)

@@ -1,8 +1,12 @@
 -- A session's steps are a run of the core.
-use Rattle.std.proofs.Common.{◌≡◌, ◌∙◌, ⊎_elim, ℕ, ◌+◌, ◌-◌, ◌*◌, ◌==◌, ◌<◌, ◌≤◌, suc, zero, Bool, true, false, true≢false, refl, List, [], ◌∷◌, ◌++◌, length, map, take, ap, arith, sym, subst, inl, inr, Option, None, Some, Ok}
+use Rattle.std.proofs.Common.{◌≡◌, ◌∙◌, ⊎_elim, ℕ, ◌+◌, ◌-◌, ◌*◌, ◌==◌, ◌<◌, ◌≤◌, suc, zero, Bool, true, false}
+use Rattle.std.proofs.Common.{true≢false, refl, List, [], ◌∷◌, ◌++◌, length, map, take, ap, arith, sym, subst, inl}
+use Rattle.std.proofs.Common.{inr, Option, None, Some, Ok}
 use Rattle.std.specs.Prelude.{◌⊎◌, ◌&&◌, Contains, cond, count_by, drop, not, slice_index_or}
 use Rattle.std.proofs.lemmas.Bool.{cases_lt, cond_both, eq-eqb, false≢true}
-use Rattle.std.proofs.lemmas.List.{append_assoc, append-nil, get_or-append-add, get_or_append_left, length-append, length-drop, length-take-le, map-append, take-append-drop, take-append-le, take_all}
+use Rattle.std.proofs.lemmas.List.{append_assoc, append-nil, get_or-append-add, get_or_append_left, length-append}
+use Rattle.std.proofs.lemmas.List.{length-drop, length-take-le, map-append, take-append-drop, take-append-le}
+use Rattle.std.proofs.lemmas.List.{take_all}
 use Rattle.std.proofs.lemmas.List.Elements.{Contains-append_left, Contains-append_right}
 use Rattle.std.proofs.Math.Seq.{take-add}
 use Rattle.lists.proofs.Counts.{count_by-cons}
@@ -19,25 +23,30 @@ use Rattle.edit_rules.specs.declared.edit.Edit.{Edit}
 use Rattle.edit_rules.specs.Kinds.{kind_of}
 use Rattle.edit_rules.specs.Replay.{replay}
 use Rattle.edit_rules.proofs.ReplayLemmas.{edits_keep, kind_stays}
-use Rattle.edit_history.specs.declared.entry.Entry.{Entry}
+use Rattle.edit_history.specs.declared.entry.HistoryEntry.{HistoryEntry}
 use Rattle.edit_history.specs.Entries.{framework_after}
 use Rattle.oracle_face.specs.declared.entry.Entry.{Entry as PoolEntry}
 use Rattle.oracle_face.specs.declared.entry.EntryOrigin.{EntryOrigin}
 use Rattle.oracle_face.specs.declared.entry.EntryOrigin.TheVariants.{Axiom as OfAxiom, Hints}
 use Rattle.oracle_face.specs.declared.face.Pending.{Pending}
 use Rattle.oracle_face.specs.Growing.{Grows, HasRun, Making, NoSide}
-use Rattle.oracle_face.specs.Logs.{OracleLog, LogStep, SideClause, IsNumberOf, by_axiom, by_hints, by_side, clauses_of, is_loop, is_own, is_unit, is_work, no_step, step_at}
+use Rattle.oracle_face.specs.Logs.{OracleLog, LogStep, SideClause, IsNumberOf, by_axiom, by_hints, by_side}
+use Rattle.oracle_face.specs.Logs.{clauses_of, is_loop, is_own, is_unit, is_work, no_step, step_at}
 use Rattle.session_log.specs.Ends.{LoopsServe}
 use Rattle.oracle_face.specs.Needed.{IsNeeded}
 use Rattle.session_log.specs.Steps.{GainsStep, LearnsClause, TakesAxiom, TakesSide, derived_step, own_step, side_made}
 use Rattle.session_log.proofs.AxiomLemmas.{needed_no_loop}
 use Rattle.session_log.specs.Imports.{IsHintOf, IsShownHere, MayImport, TakesEntry}
-use Rattle.session_log.specs.OwnSteps.{IsCalledOn, IsWanted, LearnsAxiom, OwnStep, OwnSteps, keeps_side, learns_axiom, learns_clause, nothing, one_more}
+use Rattle.session_log.specs.OwnSteps.{IsCalledOn, IsWanted, LearnsAxiom, OwnStep, OwnSteps, keeps_side}
+use Rattle.session_log.specs.OwnSteps.{learns_axiom, learns_clause, nothing, one_more}
 use Rattle.session_log.specs.OwnSteps.{takes_entry}
 use Rattle.core_machine.specs.Core.{Core, CoreSession, put_at, seen_framework, with_log, with_session}
-use Rattle.core_machine.specs.Steps.{Event, IsCalledFor, IsNamedInPool, IsNeededFor, IsStep, Runs, TakesByOrigin, after_turn, cut, goes, is_by_side, is_side_step, learn, refresh, rests, side, take_in, taken_by}
+use Rattle.core_machine.specs.Steps.{Event, IsCalledFor, IsNamedInPool, IsNeededFor, IsStep, Runs, TakesByOrigin}
+use Rattle.core_machine.specs.Steps.{after_turn, cut, goes, is_by_side, is_side_step, learn, refresh, rests, side}
+use Rattle.core_machine.specs.Steps.{take_in, taken_by}
 use Rattle.oracle_core.proofs.EngineKinds.{needed_axiom}
-use Rattle.session_core.specs.CoreRuns.{AreOfLog, ArePooled, IsAtRest, IsOfLog, IsQuiet, StandsAt, entries_naming, entries_of, entries_of_step}
+use Rattle.session_core.specs.CoreRuns.{AreOfLog, ArePooled, IsAtRest, IsOfLog, IsQuiet, StandsAt, entries_naming}
+use Rattle.session_core.specs.CoreRuns.{entries_of, entries_of_step}
 use Rattle.session_core.specs.Following.{AddsNeededAfter, TakesNeededAfter}
 use Rattle.session_core.proofs.FollowingLemmas.{replay_parts}
 
@@ -45,7 +54,8 @@ use Rattle.session_core.proofs.FollowingLemmas.{replay_parts}
 
 pub put_here : {X : Type 0} (n : ℕ) (x : X) (items : ℕ → X) → put_at n x items n ≡ x
 put_here n x items =
-    cond_both (n == n) x (items n) (λ y. y ≡ x) (λ is. refl) (λ other. absurd (false≢true (sym other ∙ eq-eqb n n refl)))
+    cond_both (n == n) x (items n) (λ y. y ≡ x) (λ is. refl) (λ other. absurd
+    (false≢true (sym other ∙ eq-eqb n n refl)))
 
 -- the log of the session is this one, and what else the steps of a log look at is the same
 pub record IsMoved (core end : Core) (s : ℕ) (log : OracleLog) : Type 0 where
@@ -81,7 +91,7 @@ moved_more core mid s a b h =
 
 -- ---- runs
 
-pub runs_snoc : (a b c : Core) (events : List Event) (taken : List Entry) (event : Event) → Runs a events taken b
+pub runs_snoc : (a b c : Core) (events : List Event) (taken : List HistoryEntry) (event : Event) → Runs a events taken b
     → IsStep b event c → taken_by b event ≡ [] → Runs a (events ++ event ∷ []) taken c
 runs_snoc a b c events taken event (rests _) step none =
     subst (λ more. Runs a (event ∷ []) more c) (ap (λ xs. xs ++ []) none) (goes a c c event [] [] step (rests c))
@@ -262,7 +272,7 @@ steps_reach core s f given a b (one_more _ mid _ before last) seen kinds is pool
       each = λ entry there. pooled.each entry (Contains-append_right first others entry there);
     })))
 
-pub runs_joined : (a b c : Core) (events more : List Event) (taken : List Entry) → Runs a events taken b
+pub runs_joined : (a b c : Core) (events more : List Event) (taken : List HistoryEntry) → Runs a events taken b
     → Runs b more [] c → Runs a (events ++ more) taken c
 runs_joined a b c events more taken (rests _) second = second
 runs_joined a b c events more taken (goes _ mid _ first behind later step runs) second =
@@ -284,10 +294,10 @@ record IsNeededStep (core : Core) (s : ℕ) (name : AxiomName) (a b : OracleLog)
   no_loop : is_loop name ≡ false
   takes : TakesAxiom name clause a b
 
-abbrev edit_in : Entry → Edit
+abbrev edit_in : HistoryEntry → Edit
 edit_in entry = entry.edit
 
-after_more : (f : Framework) (first more : List Entry)
+after_more : (f : Framework) (first more : List HistoryEntry)
     → framework_after (framework_after f first) more ≡ framework_after f (first ++ more)
 after_more f first more =
     replay_parts f (map edit_in first) (map edit_in more) ∙ ap (replay f) (sym (map-append edit_in first more))
@@ -393,7 +403,8 @@ quiet_no_unit step is =
 module _ (log : OracleLog) (answered : ℕ) (rest : IsAtRest log answered) where
   same_sided : count_by is_side_step (take answered log.steps) ≡ length log.sides
   same_sided =
-      uncounted is_side_step log.steps answered (λ k low high. ap is_by_side (rest.quiet k low high).source) ∙ rest.sided
+      uncounted is_side_step log.steps answered (λ k low high. ap is_by_side (rest.quiet k low high).source) ∙
+      rest.sided
 
   same_sides : (cut log answered).sides ≡ log.sides
   same_sides = ap (λ n. take n log.sides) same_sided ∙ take_all (length log.sides) log.sides (omega arith)
@@ -509,7 +520,8 @@ rest_more name clause a b answered rest no_loop takes =
           (cases_lt k (length a.steps));
     }
 
-pub rest_behind : (f : Framework) (entries : List Entry) (names : List AxiomName) (a b : OracleLog) (answered : ℕ)
+pub rest_behind : (f : Framework) (entries : List HistoryEntry) (names : List AxiomName) (a b : OracleLog)
+    (answered : ℕ)
     → IsAtRest a answered → AddsNeededAfter f entries names a b → IsAtRest b answered
 rest_behind f entries [] a b answered rest adds = subst (λ log. IsAtRest log answered) (sym adds) rest
 rest_behind f entries (name ∷ names) a b answered rest adds =
@@ -529,7 +541,8 @@ sided_step f own given a b (keeps_side literals set clause takes) sided =
     sided_more (own_step clause (by_side (length a.sides + 1))) (a.sides ++ made ∷ []) a b takes.gains sided
     (omega (arith, length-append a.sides (made ∷ [])))
 sided_step f own given a b (takes_entry entry was may takes) sided =
-    sided_more (derived_step takes.clause takes.hints (Some entry.name) false) a.sides a b takes.gains sided (omega arith)
+    sided_more (derived_step takes.clause takes.hints (Some entry.name) false) a.sides a b takes.gains sided
+    (omega arith)
 
 pub sided_behind : (f : Framework) (own : ℕ) (given : List PoolEntry) (a b : OracleLog) → OwnSteps f own given a b
     → count_by is_side_step a.steps ≡ length a.sides → count_by is_side_step b.steps ≡ length b.sides

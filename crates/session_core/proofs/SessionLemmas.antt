@@ -5,7 +5,7 @@ use Rattle.std.proofs.lemmas.List.Elements.{All-push}
 use Rattle.std.proofs.Math.Seq.{take-append_seam}
 use mathlib.Core.List.{IsPrefix}
 use Rattle.semantics.specs.Frameworks.{Framework}
-use Rattle.edit_history.specs.declared.entry.Entry.{Entry}
+use Rattle.edit_history.specs.declared.entry.HistoryEntry.{HistoryEntry}
 use Rattle.edit_history.specs.declared.hub.Fresh.{Fresh}
 use Rattle.edit_history.specs.Entries.{entries_in, framework_after}
 use Rattle.edit_history.specs.Hubs.{IsFresh, start_of}
@@ -28,13 +28,13 @@ use Rattle.session_core.proofs.FollowingLemmas.{after_parts}
 -- ---- histories
 
 -- the first entries stay when more is seen
-first_same : (before after : List Entry) (count : ℕ) → count ≤ length before → IsPrefix before after
+first_same : (before after : List HistoryEntry) (count : ℕ) → count ≤ length before → IsPrefix before after
     → take count after ≡ take count before
 first_same before after count within longer =
     ap (take count) (sym longer.1) ∙ take-append-le count before longer.0 within
 
 -- what was followed is followed still
-followed_still : (f : Framework) (before after : List Entry) (count : ℕ) (engine : EngineState)
+followed_still : (f : Framework) (before after : List HistoryEntry) (count : ℕ) (engine : EngineState)
     → HasFollowed f before count engine → IsPrefix before after
     → engine.framework ≡ framework_after f (take count after)
 followed_still f before after count engine is longer =

@@ -1,10 +1,11 @@
 -- What a session's query is in the core: a refresh, steps of the session's own log, and an answer.
 use Rattle.std.proofs.Common.{inl, inr}
-use Rattle.std.specs.Prelude.{◌≡◌, ℕ, ◌≤◌, ◌<◌, Bool, true, false, List, [], ◌∷◌, ◌++◌, length, map, Contains, count_by, slice_index_or, Option, Some}
+use Rattle.std.specs.Prelude.{◌≡◌, ℕ, ◌≤◌, ◌<◌, Bool, true, false, List, [], ◌∷◌, ◌++◌, length, map, Contains}
+use Rattle.std.specs.Prelude.{count_by, slice_index_or, Option, Some}
 use Rattle.semantics.specs.Frameworks.{Framework, IsNumbered}
 use Rattle.meaning_atoms.specs.declared.axiom.AxiomName.{AxiomName}
 use Rattle.iccma_tasks.specs.Tasks.{Asked}
-use Rattle.edit_history.specs.declared.entry.Entry.{Entry}
+use Rattle.edit_history.specs.declared.entry.HistoryEntry.{HistoryEntry}
 use Rattle.edit_history.specs.declared.hub.Hub.{Hub}
 use Rattle.edit_history.specs.Hubs.{start_of}
 use Rattle.oracle_face.specs.declared.entry.Entry.{Entry as PoolEntry}
@@ -12,14 +13,15 @@ use Rattle.oracle_face.specs.declared.face.Pending.{Pending}
 use Rattle.oracle_face.specs.Logs.{OracleLog, LogStep, by_axiom, is_loop, no_step}
 use Rattle.clause_pool.specs.Pools.{entry_of}
 use Rattle.session_log.specs.Ends.{Ending, definite, log_full, refused, too_many, unknown}
-use Rattle.session_log.specs.OwnSteps.{IsCalledOn, IsWanted, OwnStep, OwnSteps, keeps_side, learns_axiom, learns_clause, nothing, one_more}
+use Rattle.session_log.specs.OwnSteps.{IsCalledOn, IsWanted, OwnStep, OwnSteps, keeps_side, learns_axiom}
+use Rattle.session_log.specs.OwnSteps.{learns_clause, nothing, one_more}
 use Rattle.session_log.specs.OwnSteps.{takes_entry}
 use Rattle.core_machine.specs.Core.{Core}
 use Rattle.core_machine.specs.Steps.{Event, Runs, answer, is_side_step, learn, refresh, side, take_in}
 use Rattle.session_replies.specs.declared.reply.Body.{Body}
 use Rattle.session_replies.specs.declared.reply.Body.TheVariants.{Answered, LogFull, QueryRefused, TooMany, Unknown}
 use Rattle.session_replies.specs.declared.reply.Reply.{Reply}
-use Rattle.session_core.specs.declared.answering.TheConstants.{EXTENSION_LIMIT}
+use Rattle.semantics.specs.declared.limits.TheConstants.{MAX_EXTENSIONS}
 use Rattle.session_core.specs.declared.session.Session.{Session}
 use Rattle.session_core.specs.Sessions.{IsAsked, seen_by}
 
@@ -68,7 +70,7 @@ pub record IsAtRest (log : OracleLog) (answered : ℕ) : Type 0 where
 
 -- the core began with the framework, which is in its form, its history has these entries, and the session of the number
 -- has the log, to which axioms alone came since its last answer
-pub record StandsAt (core : Core) (s : ℕ) (f : Framework) (history : List Entry) (log : OracleLog) : Type 0 where
+pub record StandsAt (core : Core) (s : ℕ) (f : Framework) (history : List HistoryEntry) (log : OracleLog) : Type 0 where
   pub opening : core.opening ≡ f
   pub numbered : IsNumbered f
   pub history_is : core.history ≡ history
@@ -105,7 +107,7 @@ pub record RunsToAnswer (core end : Core) (s : ℕ) (asked : Asked) (limit : ℕ
   pub of_log : AreOfLog s events
   pub ending : Ending
   pub ends : EndsAs said ending
-  pub runs : Runs core (refresh s ∷ (events ++ answer s asked EXTENSION_LIMIT limit pending ending ∷ [])) [] end
+  pub runs : Runs core (refresh s ∷ (events ++ answer s asked MAX_EXTENSIONS limit pending ending ∷ [])) [] end
 
 -- ---- the law
 

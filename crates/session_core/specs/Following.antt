@@ -2,7 +2,7 @@
 use Rattle.std.specs.Prelude.{◌≡◌, ℕ, ◌≤◌, List, [], ◌∷◌, length, take}
 use Rattle.semantics.specs.Frameworks.{Framework}
 use Rattle.meaning_atoms.specs.declared.axiom.AxiomName.{AxiomName}
-use Rattle.edit_history.specs.declared.entry.Entry.{Entry}
+use Rattle.edit_history.specs.declared.entry.HistoryEntry.{HistoryEntry}
 use Rattle.edit_history.specs.Entries.{framework_after}
 use Rattle.oracle_face.specs.Growing.{Grows, NoSide}
 use Rattle.oracle_face.specs.Logs.{OracleLog, closings_of, units_of}
@@ -10,26 +10,26 @@ use Rattle.oracle_core.specs.Engines.{EngineState}
 use Rattle.oracle_core.specs.Updating.{TakesNeeded}
 
 -- the engine is for the framework after the first entries of the history, so many
-pub record HasFollowed (f : Framework) (history : List Entry) (count : ℕ) (engine : EngineState) : Type 0 where
+pub record HasFollowed (f : Framework) (history : List HistoryEntry) (count : ℕ) (engine : EngineState) : Type 0 where
   pub within : count ≤ length history
   pub framework : engine.framework ≡ framework_after f (take count history)
 
 -- an axiom comes that the framework needs after some of the entries
-pub record TakesNeededAfter (f : Framework) (entries : List Entry) (name : AxiomName) (old new : OracleLog)
+pub record TakesNeededAfter (f : Framework) (entries : List HistoryEntry) (name : AxiomName) (old new : OracleLog)
     : Type 0 where
   pub count : ℕ
   pub within : count ≤ length entries
   pub takes : TakesNeeded (framework_after f (take count entries)) name old new
 
 -- such axioms come one after the other
-abbrev pub AddsNeededAfter : Framework → List Entry → List AxiomName → OracleLog → OracleLog → Type 0
+abbrev pub AddsNeededAfter : Framework → List HistoryEntry → List AxiomName → OracleLog → OracleLog → Type 0
 AddsNeededAfter f entries [] old new = new ≡ old
 AddsNeededAfter f entries (name ∷ more) old new =
     (mid : OracleLog) × TakesNeededAfter f entries name old mid × AddsNeededAfter f entries more mid new
 
 -- while the entries were followed, the log gained such axioms and nothing else: no side clause, no unit, and no step
 -- that only ends a search
-pub record CatchesUp (f : Framework) (entries : List Entry) (old new : OracleLog) : Type 0 where
+pub record CatchesUp (f : Framework) (entries : List HistoryEntry) (old new : OracleLog) : Type 0 where
   pub names : List AxiomName
   pub adds : AddsNeededAfter f entries names old new
   pub grows : Grows NoSide old new

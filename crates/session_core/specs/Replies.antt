@@ -8,7 +8,7 @@ use Rattle.iccma_tasks.specs.Tasks.{Asked}
 use Rattle.edit_rules.specs.declared.edit.Edit.{Edit}
 use Rattle.edit_rules.specs.Edits.{edit_outcome}
 use Rattle.edit_rules.specs.Fitting.{Fits, IsFaultOf}
-use Rattle.edit_history.specs.declared.entry.Entry.{Entry}
+use Rattle.edit_history.specs.declared.entry.HistoryEntry.{HistoryEntry}
 use Rattle.edit_history.specs.Entries.{framework_after}
 use Rattle.edit_history.specs.Hubs.{GainsOthers, IsCommitted}
 use Rattle.oracle_face.specs.declared.entry.Entry.{Entry as PoolEntry}
@@ -26,7 +26,7 @@ use Rattle.session_replies.specs.declared.reply.Body.{Body}
 use Rattle.session_replies.specs.declared.reply.Body.TheVariants.{Done, EditRefused, Full}
 use Rattle.session_replies.specs.declared.reply.Body.TheVariants.{Answered, QueryRefused, Unknown, TooMany, LogFull}
 use Rattle.session_replies.specs.declared.reply.Reply.{Reply}
-use Rattle.session_core.specs.declared.answering.TheConstants.{EXTENSION_LIMIT}
+use Rattle.semantics.specs.declared.limits.TheConstants.{MAX_EXTENSIONS}
 use Rattle.session_core.specs.declared.kept.KeptAnswer.{KeptAnswer}
 
 -- ---- edits
@@ -34,7 +34,7 @@ use Rattle.session_core.specs.declared.kept.KeptAnswer.{KeptAnswer}
 -- what the reply to a session's edit says, where the history was so before and is so now: the edit was taken on the
 -- framework after all others, and is the last entry; or else only other sessions added to it, and the framework after
 -- all of it refuses the edit, or it is full
-abbrev pub EditSays : ℕ → Framework → ℕ → Edit → List Entry → List Entry → Body → Type 0
+abbrev pub EditSays : ℕ → Framework → ℕ → Edit → List HistoryEntry → List HistoryEntry → Body → Type 0
 EditSays limit f session edit before now (Done effect) = IsCommitted limit f session edit before now effect
 EditSays limit f session edit before now (EditRefused fault) =
     GainsOthers session before now
@@ -44,7 +44,7 @@ EditSays limit f session edit before now Full = GainsOthers session before now �
 EditSays limit f session edit before now body = ⊥
 
 -- the reply says so, of the whole history
-pub record IsEditReply (limit : ℕ) (f : Framework) (session : ℕ) (edit : Edit) (before now : List Entry)
+pub record IsEditReply (limit : ℕ) (f : Framework) (session : ℕ) (edit : Edit) (before now : List HistoryEntry)
     (reply : Reply) : Type 0 where
   pub front : reply.front ≡ length now
   pub says : EditSays limit f session edit before now reply.body
@@ -71,7 +71,7 @@ QuerySays f asked log (Answered answer certificate) =
     × AreCut log certificate.refutations
 QuerySays f asked log (QueryRefused fault) = IsFaultOf f asked fault
 QuerySays f asked log (Unknown count) = NeedsSearch f asked
-QuerySays f asked log TooMany = NeedsSearch f asked × AreTooMany f asked EXTENSION_LIMIT log
+QuerySays f asked log TooMany = NeedsSearch f asked × AreTooMany f asked MAX_EXTENSIONS log
 QuerySays f asked log LogFull = NeedsSearch f asked
 QuerySays f asked log body = ⊥
 

@@ -3,7 +3,7 @@ use Rattle.std.specs.Prelude.{◌≡◌, ℕ, false, List, [], ◌∷◌, ◌++�
 use Rattle.semantics.specs.Frameworks.{Framework}
 use Rattle.iccma_tasks.specs.Tasks.{Asked}
 use Rattle.turn_lock.specs.Seats.{list_of}
-use Rattle.edit_history.specs.declared.entry.Entry.{Entry}
+use Rattle.edit_history.specs.declared.entry.HistoryEntry.{HistoryEntry}
 use Rattle.edit_history.specs.declared.hub.Hub.{Hub}
 use Rattle.edit_history.specs.Entries.{framework_after}
 use Rattle.edit_history.specs.Hubs.{start_of}
@@ -17,7 +17,7 @@ use Rattle.session_core.specs.Following.{CatchesUp, HasFollowed}
 use Rattle.session_core.specs.Replies.{IsBySteps, IsKeptOf, IsReplied}
 
 -- the history that the session has seen
-abbrev pub seen_by : Session → List Entry
+abbrev pub seen_by : Session → List HistoryEntry
 seen_by session = list_of session.seat
 
 -- unless memory was refused, the session's engine is for the framework after the first entries that it has seen, as

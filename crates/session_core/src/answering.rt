@@ -13,12 +13,10 @@ use lists::Memory;
 use oracle_core::{AnswerStop, Answered, Engine};
 use oracle_face::Pending;
 use plain_lits::Budget;
+use semantics::MAX_EXTENSIONS;
 use session_replies::Body;
 use std::alloc::Global;
 use std::sync::Wait;
-
-/// How many extensions are listed at most.
-pub const EXTENSION_LIMIT: u32 = 10_000;
 
 /// What a query came to.
 #[derive(Drop)]
@@ -72,7 +70,7 @@ pub(crate) fn tell<R: Wait>(
 {
     let before = engine.steps() as u64;
     let mut budget = Budget::new(limit);
-    let end = engine.answer(alloc, query, &mut budget, EXTENSION_LIMIT, &mut trade);
+    let end = engine.answer(alloc, query, &mut budget, MAX_EXTENSIONS, &mut trade);
     let body = body_of(end)?;
     let pending = clause_of(alloc, engine, &body)?;
     let after = engine.steps() as u64;

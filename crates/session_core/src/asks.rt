@@ -104,7 +104,7 @@ impl Session {
     /// another's entry: what came so, and each axiom that the framework doesn't need, is of entries that the pool gave,
     /// of which the tokens are kept. `Unknown` comes only where the units were spent on clauses that
     /// were new and serve the query and a further one was in hand, `LogFull` only where the log is full, neither where
-    /// the grounded set answers; `TooMany` where there are more than [`EXTENSION_LIMIT`](crate::EXTENSION_LIMIT)
+    /// the grounded set answers; `TooMany` where there are more than [`MAX_EXTENSIONS`](semantics::MAX_EXTENSIONS)
     /// extensions to list. After `Memory` the session answers nothing any more.
     pub fn ask<R: Wait, P: Pace>(
         &mut self,

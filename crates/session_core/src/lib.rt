@@ -10,6 +10,5 @@ pub mod kept;
 pub mod laws;
 pub mod session;
 
-pub use answering::EXTENSION_LIMIT;
 pub use kept::{Kept, KeptAnswer};
 pub use session::Session;

@@ -3,14 +3,14 @@
 ghost use Rattle.std.specs.Prelude.{◌≡◌, ◌≤◌, [], IfErr, IfOk, None, false};
 ghost use Rattle.atom_solver.specs.States.{empty_log};
 ghost use Rattle.edit_rules.specs.Kinds.{framework_of};
-ghost use Rattle.hinted_log.specs.declared.log.TheConstants.{MOST_STEPS};
+ghost use Rattle.hinted_log.specs.declared.log.TheConstants.{MAX_STEPS};
 ghost use Rattle.turn_lock.specs.Seats.{number_of};
 ghost use Rattle.session_core.specs.Sessions.{FollowsFrom};
 
 use crate::kept::{Kept, KeptAnswer};
 use edit_history::Seat;
 use edit_rules::Framework;
-use hinted_log::MOST_STEPS;
+use hinted_log::MAX_STEPS;
 use oracle_core::Engine;
 use std::alloc::Global;
 
@@ -53,7 +53,7 @@ impl Session {
         log_limit: u64,
     ) -> Result<Session, Seat>
         requires number { number ≡ number_of seat }
-        requires limit { log_limit ≤ MOST_STEPS }
+        requires limit { log_limit ≤ MAX_STEPS }
         ensures number { IfOk result (λ session. session.number ≡ number) }
         ensures seat { IfOk result (λ session. session.seat ≡ seat) }
         ensures engine { IfOk result (λ session. session.engine ≡ record {

@@ -1,11 +1,12 @@
 -- The clauses of a log are true in every world beside its side clauses.
-use Rattle.std.proofs.Common.{◌≡◌, ◌≢◌, inl, inr, ⊎_elim, ℕ, ◌-◌, Bool, true, List, [], ◌∷◌, map, refl, ap, sym, subst, arith}
+use Rattle.std.proofs.Common.{◌≡◌, ◌≢◌, inl, inr, ⊎_elim, ℕ, ◌-◌, Bool, true, List, [], ◌∷◌, map, refl, ap, sym}
+use Rattle.std.proofs.Common.{subst, arith}
 use Rattle.std.specs.Prelude.{Contains, slice_index_or}
 use Rattle.std.proofs.lemmas.List.Elements.{Contains-get_or}
 use Rattle.lists.proofs.Membership.{Contains-nil, Contains-head, Contains-tail, Contains-cons_cases}
 use Rattle.plain_lits.specs.declared.lit.Lit.{Lit}
-use Rattle.hinted_log.specs.declared.kind.Kind.{Kind}
-use Rattle.hinted_log.specs.declared.kind.Kind.TheVariants.{Axiom, Side, Derived}
+use Rattle.hinted_log.specs.declared.step_kind.StepKind.{StepKind}
+use Rattle.hinted_log.specs.declared.step_kind.StepKind.TheVariants.{Axiom, Side, Derived}
 use Rattle.hinted_log.specs.Logs.{Step, IsStepOf, IsTrueUnder, step_at}
 use Rattle.hinted_log.proofs.Following.{all_follow}
 use Rattle.meaning_atoms.specs.declared.atom.Atom.{Atom}
@@ -77,7 +78,7 @@ side_true w sides clause plain step =
 
 given_true : (atom_of : ℕ → Atom) (w : World) → IsWorld w → (sides : List (List AtomLit))
     → ((side : List AtomLit) → Contains sides side → AsksNothing side)
-    → (step : Step) (kind : Kind) → IsGivenOf atom_of sides step kind → kind ≢ Derived
+    → (step : Step) (kind : StepKind) → IsGivenOf atom_of sides step kind → kind ≢ Derived
     → IsTrueBeside w sides (step_clause atom_of step)
 given_true atom_of w world sides plain step Axiom given other = given w world sides
 given_true atom_of w world sides plain step Side given other = side_true w sides (step_clause atom_of step) plain given

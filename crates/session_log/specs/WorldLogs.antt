@@ -1,8 +1,8 @@
 -- Logs whose variables stand for atoms.
 use Rattle.std.specs.Prelude.{◌≡◌, ◌↔◌, ◌⊎◌, ℕ, ◌≤◌, ◌-◌, List, [], length, map, Contains, slice_index_or}
 use Rattle.plain_lits.specs.declared.lit.Lit.{Lit}
-use Rattle.hinted_log.specs.declared.kind.Kind.{Kind}
-use Rattle.hinted_log.specs.declared.kind.Kind.TheVariants.{Axiom, Side, Derived}
+use Rattle.hinted_log.specs.declared.step_kind.StepKind.{StepKind}
+use Rattle.hinted_log.specs.declared.step_kind.StepKind.TheVariants.{Axiom, Side, Derived}
 use Rattle.hinted_log.specs.Logs.{Step, IsProof, IsStepOf, step_at}
 use Rattle.meaning_atoms.specs.declared.atom.Atom.{Atom}
 use Rattle.meaning_atoms.specs.declared.atom.Atom.TheVariants.{Ask}
@@ -31,7 +31,7 @@ pub record IsSideStep (sides : List (List AtomLit)) (clause : List AtomLit) : Ty
       ↔ ((denied (Ask number) ≡ l) ⊎ Contains (slice_index_or sides (number - 1) []) l)
 
 -- what a step stands for, by its kind: an axiom is valid, a side step is a side clause of the list
-abbrev pub IsGivenOf : (ℕ → Atom) → List (List AtomLit) → Step → Kind → Type 0
+abbrev pub IsGivenOf : (ℕ → Atom) → List (List AtomLit) → Step → StepKind → Type 0
 IsGivenOf atom_of sides step Axiom = IsValid (step_clause atom_of step)
 IsGivenOf atom_of sides step Side = IsSideStep sides (step_clause atom_of step)
 IsGivenOf atom_of sides step Derived = Unit {0}

@@ -8,12 +8,12 @@ use Rattle.plain_lits.specs.HintCheck.{clause_at, IsUnit}
 use Rattle.plain_lits.specs.declared.lit.Lit.{Lit}
 use Rattle.plain_lits.specs.Literals.{negation}
 use Rattle.plain_lits.specs.Packed.{packed}
-use Rattle.unit_propagate.specs.declared.engine.Mark.{Mark}
+use Rattle.unit_propagate.specs.declared.watch_state.Progress.{Progress}
 use Rattle.clause_watches.specs.declared.pair.Pair.{Pair}
 use Rattle.unit_propagate.specs.Search.{IsReason, StaysSearch, GainsClause, Learns}
-use Rattle.unit_propagate.specs.States.{State, has, IsWatching, IsKept, IsLooked, mark_at, no_mark}
+use Rattle.unit_propagate.specs.States.{State, has, IsWatching, IsKept, IsLooked, progress_at, no_progress}
 use Rattle.clause_watches.specs.Picks.{IsPairOf}
-use Rattle.unit_propagate.specs.Steps.{IsLonger, MakesRoom, LowersMarks, Lowers, HasRoomFor, IsLow}
+use Rattle.unit_propagate.specs.Steps.{IsLonger, MakesRoom, LowersProgress, Lowers, HasRoomFor, IsLow}
 use Rattle.clause_watches.specs.Picks.{IsUnfalse, WatchesLast}
 use Rattle.clause_watches.specs.Arenas.{pair_of, no_pair}
 use Rattle.std.proofs.Math.Seq.{get_or-append_seam}
@@ -27,30 +27,30 @@ use Rattle.clause_watches.specs.WatchLists.{HasPairRoom, Joins}
 use Rattle.clause_watches.proofs.Fronts.{longer_front, packed_low}
 use Rattle.unit_propagate.proofs.Lists.{weight_with, uses_with, watches_apart, watches_alone, pairs_below, has_there}
 
-abbrev pub roomy : State → List Lit → List ℕ → ℕ → List Listed → List ℕ → List Mark → State
-roomy s lits starts vars lists reasons marks = record s {
+abbrev pub roomy : State → List Lit → List ℕ → ℕ → List Listed → List ℕ → List Progress → State
+roomy s lits starts vars lists reasons progress = record s {
   lits = lits;
   starts = starts;
   vars = vars;
   lists =
       lists;
   reasons = reasons;
-  marks = marks;
+  progress = progress;
 }
 
 -- what has room
 pub record IsRoomyFor (s : State) (lits : List Lit) (starts : List ℕ) (vars : ℕ) (lists : List Listed)
     (reasons : List ℕ)
-    (marks : List Mark) : Type 0 where
+    (progress : List Progress) : Type 0 where
   pub new_lits : lits ≡ s.lits
   pub new_starts : starts ≡ s.starts
   pub new_vars : s.vars ≤ vars
   pub new_lists : HasMoreRoom s.lists lists
   pub new_reasons : IsLonger 0 s.reasons reasons
-  pub new_marks : IsLonger no_mark s.marks marks
+  pub new_marks : IsLonger no_progress s.progress progress
   pub lists_long : 2 * vars ≤ length lists
   pub reasons_long : vars ≤ length reasons
-  pub marks_long : vars < length marks
+  pub marks_long : vars < length progress
 
 roomy_watching : (s : State) (lists : List Listed) → IsKept s → HasMoreRoom s.lists lists
     → IsWatching s.clauses s.pairs lists
@@ -63,19 +63,19 @@ roomy_watching s lists kept h = record {
 }
 
 pub kept_roomy : (s : State) (lits : List Lit) (starts : List ℕ) (vars : ℕ) (lists : List Listed) (reasons : List ℕ)
-    (marks : List Mark)
-    → IsKept s → IsRoomyFor s lits starts vars lists reasons marks
-    → IsKept (roomy s lits starts vars lists reasons marks)
-kept_roomy s lits starts vars lists reasons marks kept h =
+    (progress : List Progress)
+    → IsKept s → IsRoomyFor s lits starts vars lists reasons progress
+    → IsKept (roomy s lits starts vars lists reasons progress)
+kept_roomy s lits starts vars lists reasons progress kept h =
     let more = h.new_vars in
-    let is : IsKept (roomy s s.lits s.starts vars lists reasons marks) = record {
+    let is : IsKept (roomy s s.lits s.starts vars lists reasons progress) = record {
       watching = roomy_watching s lists kept h.new_lists;
       short = kept.short;
       all_short = kept.all_short;
       room = λ id l named c. let low = kept.room id l named c in omega arith;
       lists_long = h.lists_long;
       looked = kept.looked;
-      before = λ k lt. subst (λ (m : Mark). IsLooked s.clauses s.pairs s.short (take m.head s.lits)
+      before = λ k lt. subst (λ (m : Progress). IsLooked s.clauses s.pairs s.short (take m.head s.lits)
           (take (get_or s.starts k 0) s.lits) m.done)
           (sym (h.new_marks.same (get_or s.starts k 0))) (kept.before k lt);
       reasons = λ i lt some.
@@ -85,21 +85,22 @@ kept_roomy s lits starts vars lists reasons marks kept h =
       done_within = kept.done_within;
       reasons_long = h.reasons_long;
       marks_long = h.marks_long;
-      marks_head = λ n. omega (arith, kept.marks_head n, ap (λ (m : Mark). m.head) (h.new_marks.same n));
-      marks_done = λ n. omega (arith, kept.marks_done n, ap (λ (m : Mark). m.done) (h.new_marks.same n));
+      marks_head = λ n. omega (arith, kept.marks_head n, ap (λ (m : Progress). m.head) (h.new_marks.same n));
+      marks_done = λ n. omega (arith, kept.marks_done n, ap (λ (m : Progress). m.done) (h.new_marks.same n));
       ids_fit = kept.ids_fit;
     } in
     rw (h.new_lits, h.new_starts) is
 
 pub makes_room : (s : State) (lits : List Lit) (starts : List ℕ) (vars : ℕ) (lists : List Listed) (reasons : List ℕ)
-    (marks : List Mark)
-    → IsRoomyFor s lits starts vars lists reasons marks → MakesRoom s (roomy s lits starts vars lists reasons marks)
-makes_room s lits starts vars lists reasons marks h = record {
+    (progress : List Progress)
+    → IsRoomyFor s lits starts vars lists reasons progress → MakesRoom s
+    (roomy s lits starts vars lists reasons progress)
+makes_room s lits starts vars lists reasons progress h = record {
   rest = rw (h.new_lits, h.new_starts) refl;
   lists = h.new_lists;
   vars = h.new_vars;
   reasons = h.new_reasons;
-  marks = h.new_marks;
+  progress = h.new_marks;
   lists_long = h.lists_long;
   reasons_long = h.reasons_long;
   marks_long = h.marks_long;
@@ -117,10 +118,10 @@ looked_lower s n m done high le h = record {
   holds = h.holds;
 }
 
-pub kept_lowered : (s : State) (marks : List Mark) (head index : ℕ) → IsKept s
-    → LowersMarks s.marks marks s.starts 0 index
-    → head ≤ s.head → IsKept (record s { marks = marks; head = head })
-kept_lowered s marks head index kept h le = record {
+pub kept_lowered : (s : State) (progress : List Progress) (head index : ℕ) → IsKept s
+    → LowersProgress s.progress progress s.starts 0 index
+    → head ≤ s.head → IsKept (record s { progress = progress; head = head })
+kept_lowered s progress head index kept h le = record {
   watching = kept.watching;
   short = kept.short;
   all_short = kept.all_short;
@@ -129,9 +130,10 @@ kept_lowered s marks head index kept h le = record {
   looked = looked_lower s head s.head s.done s.lits le kept.looked;
   before = λ k lt.
       let n = get_or s.starts k 0 in
-      subst (λ d. IsLooked s.clauses s.pairs s.short (take (mark_at marks n).head s.lits) (take n s.lits) d)
+      subst (λ d. IsLooked s.clauses s.pairs s.short (take (progress_at progress n).head s.lits) (take n s.lits) d)
       (sym (h.dones n))
-      (looked_lower s (mark_at marks n).head (mark_at s.marks n).head (mark_at s.marks n).done (take n s.lits)
+      (looked_lower s (progress_at progress n).head (progress_at s.progress n).head (progress_at s.progress n).done
+      (take n s.lits)
       (h.heads n) (kept.before k lt));
   reasons = kept.reasons;
   head_within = let within = kept.head_within in omega arith;
@@ -221,7 +223,7 @@ makes_same s kept = record {
   lists = room_same s.lists;
   vars = omega arith;
   reasons = longer_same 0 s.reasons s.reasons refl;
-  marks = longer_same no_mark s.marks s.marks refl;
+  progress = longer_same no_progress s.progress s.progress refl;
   lists_long = kept.lists_long;
   reasons_long = kept.reasons_long;
   marks_long = kept.marks_long;
@@ -233,13 +235,13 @@ pub kept_lists : (s : State) (lists : List Listed) → IsKept s → HasMoreRoom 
 kept_lists s lists kept h =
     let long = h.long in
     let old = kept.lists_long in
-    kept_roomy s s.lits s.starts s.vars lists s.reasons s.marks kept (record {
+    kept_roomy s s.lits s.starts s.vars lists s.reasons s.progress kept (record {
       new_lits = refl;
       new_starts = refl;
       new_vars = omega arith;
       new_lists = h;
       new_reasons = longer_same 0 s.reasons s.reasons refl;
-      new_marks = longer_same no_mark s.marks s.marks refl;
+      new_marks = longer_same no_progress s.progress s.progress refl;
       lists_long = omega arith;
       reasons_long = kept.reasons_long;
       marks_long = kept.marks_long;
@@ -255,7 +257,7 @@ makes_claim s m lists h more =
       lists = room_trans s.lists m.lists lists h.lists more;
       vars = h.vars;
       reasons = h.reasons;
-      marks = h.marks;
+      progress = h.progress;
       lists_long = omega arith;
       reasons_long = h.reasons_long;
       marks_long = h.marks_long;
@@ -280,14 +282,14 @@ stays_lowered s m w index h low = subst (λ (n : State). StaysSearch (search_of 
 
 pub low_lowered : (m w : State) (index : ℕ) → Lowers m w index → IsLow w index
 low_lowered m w index low =
-    let is : IsLow (record m { marks = w.marks; head = w.head }) index =
-    record { head = low.head_low; marks = low.marks_low } in
+    let is : IsLow (record m { progress = w.progress; head = w.head }) index =
+    record { head = low.head_low; progress = low.marks_low } in
     subst (λ (n : State). IsLow n index) (sym low.rest) is
 
 pub ready_lowered : (m w : State) (index : ℕ) (clause : List Lit) → Lowers m w index → IsReady m clause
     → IsReady w clause
 ready_lowered m w index clause low ready =
-    let is : IsReady (record m { marks = w.marks; head = w.head }) clause =
+    let is : IsReady (record m { progress = w.progress; head = w.head }) clause =
     record { known = ready.known; packs = ready.packs; room = record { uses = ready.room.uses } } in
     subst (λ (n : State). IsReady n clause) (sym low.rest) is
 
@@ -352,7 +354,7 @@ inserted s clauses pairs lists short clause p q id index kept ready pair id_is f
       first = subst (λ (r : Pair). IsUnfalse s.lits r.first index) same first;
       second = subst (λ (r : Pair). IsUnfalse s.lits r.second index) same second;
       head = low.head;
-      marks = low.marks;
+      progress = low.progress;
       room = ready.room;
       joins = joins;
       alone = alone;

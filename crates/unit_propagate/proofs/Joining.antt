@@ -213,7 +213,7 @@ kept_added s lists short clause p id index kept a same_long =
       lists_long = let two = kept.lists_long in omega arith;
       looked = added_looked s lists short clause p id index s.head s.done s.lits kept a a.head kept.done_within
           kept.looked;
-      before = λ k lt. added_looked s lists short clause p id index _ _ _ kept a (a.marks k lt) (kept.marks_done _)
+      before = λ k lt. added_looked s lists short clause p id index _ _ _ kept a (a.progress k lt) (kept.marks_done _)
           (kept.before k lt);
       reasons = λ i lt some.
           let r = kept.reasons i lt some in

@@ -12,8 +12,8 @@ use Rattle.plain_lits.specs.declared.lit.Lit.{Lit}
 use Rattle.plain_lits.specs.Literals.{negation}
 use Rattle.plain_lits.specs.Trails.{AreLevels}
 use Rattle.plain_lits.specs.HintCheck.{clause_at}
-use Rattle.unit_propagate.specs.declared.engine.Mark.{Mark}
-use Rattle.unit_propagate.specs.States.{State, IsKept, IsLooked, IsLookedAt, mark_at, no_mark}
+use Rattle.unit_propagate.specs.declared.watch_state.Progress.{Progress}
+use Rattle.unit_propagate.specs.States.{State, IsKept, IsLooked, IsLookedAt, progress_at, no_progress}
 use Rattle.unit_propagate.specs.Steps.{with_mark, with_literal, begun}
 use Rattle.unit_propagate.specs.Search.{Decides}
 use Rattle.unit_propagate.specs.States.{search_of}
@@ -41,21 +41,23 @@ levels_pushed starts n h =
     }
 
 -- the mark of where the literals end
-abbrev here_mark : State → Mark
+abbrev here_mark : State → Progress
 here_mark s = record { head = s.head; done = s.done }
 
-marked_same : (s : State) → IsKept s → length s.lits ≤ s.vars → mark_at (with_mark s).marks (length s.lits)
+marked_same : (s : State) → IsKept s → length s.lits ≤ s.vars → progress_at (with_mark s).progress (length s.lits)
     ≡ here_mark s
-marked_same s kept short = let long = kept.marks_long in get_or-set_same s.marks (length s.lits) (here_mark s) no_mark
+marked_same s kept short = let long = kept.marks_long in get_or-set_same s.progress (length s.lits) (here_mark s)
+    no_progress
     (omega arith)
 
-marked_other : (s : State) (n : ℕ) → n ≢ length s.lits → mark_at (with_mark s).marks n ≡ mark_at s.marks n
-marked_other s n ne = get_or-set_other s.marks (length s.lits) n (here_mark s) no_mark ne
+marked_other : (s : State) (n : ℕ) → n ≢ length s.lits → progress_at (with_mark s).progress n ≡ progress_at s.progress n
+marked_other s n ne = get_or-set_other s.progress (length s.lits) n (here_mark s) no_progress ne
 
 -- what is looked at now is looked at where the literals end
 looked_here : (s : State) → IsKept s → length s.lits ≤ s.vars → IsLookedAt (with_mark s) (length s.lits)
 looked_here s kept short =
-    subst (λ (m : Mark). IsLooked s.clauses s.pairs s.short (take m.head s.lits) (take (length s.lits) s.lits) m.done)
+    subst (λ (m : Progress). IsLooked s.clauses s.pairs s.short (take m.head s.lits) (take (length s.lits) s.lits)
+    m.done)
     (sym (marked_same s kept short))
     (subst (λ high. IsLooked s.clauses s.pairs s.short (take s.head s.lits) high s.done)
     (sym (take_all (length s.lits) s.lits (omega arith))) kept.looked)
@@ -70,7 +72,7 @@ kept_marked s kept short = record {
   looked = kept.looked;
   before = λ k lt. ⊎_elim
       (λ e. subst (λ n. IsLookedAt (with_mark s) n) (sym e) (looked_here s kept short))
-      (λ ne. subst (λ (m : Mark). IsLooked s.clauses s.pairs s.short (take m.head s.lits)
+      (λ ne. subst (λ (m : Progress). IsLooked s.clauses s.pairs s.short (take m.head s.lits)
       (take (get_or s.starts k 0) s.lits) m.done) (sym (marked_other s (get_or s.starts k 0) ne))
       (kept.before k lt))
       (cases_eq (get_or s.starts k 0) (length s.lits));
@@ -78,20 +80,22 @@ kept_marked s kept short = record {
   head_within = kept.head_within;
   done_within = kept.done_within;
   reasons_long = kept.reasons_long;
-  marks_long = let long = kept.marks_long in omega (arith, length-set s.marks (length s.lits) (here_mark s));
+  marks_long = let long = kept.marks_long in omega (arith, length-set s.progress (length s.lits) (here_mark s));
   marks_head = λ n. ⊎_elim
       (λ e. let within = kept.head_within in
-      let is : (mark_at (with_mark s).marks n).head ≡ s.head = ap (λ k. (mark_at (with_mark s).marks k).head) e
-      ∙ ap (λ (m : Mark). m.head) (marked_same s kept short) in
+      let is : (progress_at (with_mark s).progress n).head ≡ s.head = ap
+      (λ k. (progress_at (with_mark s).progress k).head) e
+      ∙ ap (λ (m : Progress). m.head) (marked_same s kept short) in
       omega (arith, is, within, e))
-      (λ ne. let old = kept.marks_head n in omega (arith, old, ap (λ (m : Mark). m.head) (marked_other s n ne)))
+      (λ ne. let old = kept.marks_head n in omega (arith, old, ap (λ (m : Progress). m.head) (marked_other s n ne)))
       (cases_eq n (length s.lits));
   marks_done = λ n. ⊎_elim
       (λ e. let within = kept.done_within in
-      let is : (mark_at (with_mark s).marks n).done ≡ s.done = ap (λ k. (mark_at (with_mark s).marks k).done) e
-      ∙ ap (λ (m : Mark). m.done) (marked_same s kept short) in
+      let is : (progress_at (with_mark s).progress n).done ≡ s.done = ap
+      (λ k. (progress_at (with_mark s).progress k).done) e
+      ∙ ap (λ (m : Progress). m.done) (marked_same s kept short) in
       omega (arith, is, within))
-      (λ ne. let old = kept.marks_done n in omega (arith, old, ap (λ (m : Mark). m.done) (marked_other s n ne)))
+      (λ ne. let old = kept.marks_done n in omega (arith, old, ap (λ (m : Progress). m.done) (marked_other s n ne)))
       (cases_eq n (length s.lits));
   ids_fit = kept.ids_fit;
 }
@@ -128,8 +132,8 @@ abbrev pub taken_back : State → ℕ → State
 taken_back s k = record s {
   lits = take (get_or s.starts k 0) s.lits;
   starts = take k s.starts;
-  head = (mark_at s.marks (get_or s.starts k 0)).head;
-  done = (mark_at s.marks (get_or s.starts k 0)).done;
+  head = (progress_at s.progress (get_or s.starts k 0)).head;
+  done = (progress_at s.progress (get_or s.starts k 0)).done;
 }
 
 pub kept_back : (s : State) (k : ℕ) → IsKept s → AreLevels s.starts (length s.lits) → k < length s.starts
@@ -137,28 +141,28 @@ pub kept_back : (s : State) (k : ℕ) → IsKept s → AreLevels s.starts (lengt
 kept_back s k kept levels k_lt =
     let n = get_or s.starts k 0 in
     let n_le : n ≤ length s.lits = levels.within k k_lt in
-    let head_le : (mark_at s.marks n).head ≤ n = kept.marks_head n in
+    let head_le : (progress_at s.progress n).head ≤ n = kept.marks_head n in
     record {
       watching = kept.watching;
       short = kept.short;
       all_short = kept.all_short;
       room = kept.room;
       lists_long = kept.lists_long;
-      looked = subst (λ low. IsLooked s.clauses s.pairs s.short low (take n s.lits) (mark_at s.marks n).done)
-          (sym (take-take (mark_at s.marks n).head n s.lits head_le)) (kept.before k k_lt);
+      looked = subst (λ low. IsLooked s.clauses s.pairs s.short low (take n s.lits) (progress_at s.progress n).done)
+          (sym (take-take (progress_at s.progress n).head n s.lits head_le)) (kept.before k k_lt);
       before = λ j lt.
           let j_lt : j < k = omega (arith, length-take k s.starts) in
           let j_old : j < length s.starts = omega arith in
           let same : get_or (take k s.starts) j 0 ≡ get_or s.starts j 0 = get_or-take k s.starts j 0 j_lt in
           let i = get_or s.starts j 0 in
           let up : i ≤ n = levels.rise j k (omega arith) k_lt in
-          let low : (mark_at s.marks i).head ≤ i = kept.marks_head i in
-          subst (λ t. IsLooked s.clauses s.pairs s.short (take (mark_at s.marks t).head (take n s.lits))
-          (take t (take n s.lits)) (mark_at s.marks t).done) (sym same)
-          (subst (λ xs. IsLooked s.clauses s.pairs s.short xs (take i (take n s.lits)) (mark_at s.marks i).done)
-          (sym (take-take (mark_at s.marks i).head n s.lits (omega arith)))
-          (subst (λ xs. IsLooked s.clauses s.pairs s.short (take (mark_at s.marks i).head s.lits) xs
-          (mark_at s.marks i).done) (sym (take-take i n s.lits up)) (kept.before j j_old)));
+          let low : (progress_at s.progress i).head ≤ i = kept.marks_head i in
+          subst (λ t. IsLooked s.clauses s.pairs s.short (take (progress_at s.progress t).head (take n s.lits))
+          (take t (take n s.lits)) (progress_at s.progress t).done) (sym same)
+          (subst (λ xs. IsLooked s.clauses s.pairs s.short xs (take i (take n s.lits)) (progress_at s.progress i).done)
+          (sym (take-take (progress_at s.progress i).head n s.lits (omega arith)))
+          (subst (λ xs. IsLooked s.clauses s.pairs s.short (take (progress_at s.progress i).head s.lits) xs
+          (progress_at s.progress i).done) (sym (take-take i n s.lits up)) (kept.before j j_old)));
       reasons = λ i lt some.
           let i_n : i < n = omega (arith, length-take n s.lits) in
           let i_old : i < length s.lits = omega arith in
@@ -194,9 +198,9 @@ decided_is s m new l e1 e2 =
     (record { clauses = refl; pairs = refl; lits = refl; starts = refl; reasons = refl; vars = refl })
 
 -- a return, by what the arrays become
-pub back_kept : (s : State) (lits : List Lit) (starts : List ℕ) (vars k start : ℕ) (mark : Mark) → IsKept s
+pub back_kept : (s : State) (lits : List Lit) (starts : List ℕ) (vars k start : ℕ) (mark : Progress) → IsKept s
     → AreLevels s.starts (length s.lits) → k < length s.starts → start ≡ get_or s.starts k 0 → mark
-    ≡ mark_at s.marks start
+    ≡ progress_at s.progress start
     → lits ≡ take (get_or s.starts k (length s.lits)) s.lits → starts ≡ take k s.starts → vars ≡ s.vars
     → IsKept (record s { lits = lits; starts = starts; vars = vars; head = mark.head; done = mark.done })
 back_kept s lits starts vars k start mark kept levels lt start_is mark_is lits_are starts_are vars_is =

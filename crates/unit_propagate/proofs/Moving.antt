@@ -15,7 +15,7 @@ use Rattle.clause_watches.specs.declared.pair.Pair.{Pair}
 use Rattle.clause_watches.specs.Arenas.{pair_of, no_pair}
 use Rattle.unit_propagate.specs.States.{State, IsWatching, IsKept, IsShort, IsLooked, Guards}
 use Rattle.clause_watches.specs.Picks.{IsPairOf}
-use Rattle.unit_propagate.specs.Steps.{IsHere, with_pair}
+use Rattle.unit_propagate.specs.Steps.{IsWatcher, with_pair}
 use Rattle.clause_watches.specs.WatchLists.{Listed, list_at, ids_at, one, watches, with_id, without}
 use Rattle.clause_watches.proofs.Fronts.{packed_same, set_cases, from_front, consistent}
 use Rattle.unit_propagate.proofs.Lists.{IsSeen, listed_seen, watches_apart, one_same, one_other, pairs_below}
@@ -27,7 +27,7 @@ pair_with a b = record { first = a; second = b }
 -- the clause at an index of a list, by its pair's first literal or its second
 pub here_first : (s : State) (at code id : ℕ) (f : Lit) (p : Pair) → IsKept s → code ≡ packed f
     → at < length (ids_at s.lists code) → id ≡ get_or (ids_at s.lists code) at 0 → p ≡ pair_of s.pairs id
-    → packed p.first ≡ code → IsHere s at id f p.second
+    → packed p.first ≡ code → IsWatcher s at id f p.second
 here_first s at code id f p kept e lt id_is p_is first =
     let seen : IsSeen s.clauses s.pairs code id = subst (IsSeen s.clauses s.pairs code) (sym id_is)
     (listed_seen s.clauses s.pairs s.lists code at kept.watching lt) in
@@ -44,7 +44,7 @@ here_first s at code id f p kept e lt id_is p_is first =
 
 pub here_second : (s : State) (at code id : ℕ) (f : Lit) (p : Pair) → IsKept s → code ≡ packed f
     → at < length (ids_at s.lists code) → id ≡ get_or (ids_at s.lists code) at 0 → p ≡ pair_of s.pairs id
-    → packed p.first ≢ code → IsHere s at id f p.first
+    → packed p.first ≢ code → IsWatcher s at id f p.first
 here_second s at code id f p kept e lt id_is p_is not_first =
     let seen : IsSeen s.clauses s.pairs code id = subst (IsSeen s.clauses s.pairs code) (sym id_is)
     (listed_seen s.clauses s.pairs s.lists code at kept.watching lt) in
@@ -62,7 +62,7 @@ here_second s at code id f p kept e lt id_is p_is not_first =
     }
 
 -- a clause's two watched literals
-pub here_watches : (s : State) (at id : ℕ) (f o : Lit) → IsHere s at id f o → (c : ℕ)
+pub here_watches : (s : State) (at id : ℕ) (f o : Lit) → IsWatcher s at id f o → (c : ℕ)
     → watches c (pair_of s.pairs id) ≡ one (packed f) c + one (packed o) c
 here_watches s at id f o here c = ⊎_elim
     (λ h. omega (
@@ -80,7 +80,7 @@ here_watches s at id f o here c = ⊎_elim
     here.pair
 
 -- they are two
-pub here_apart : (s : State) (at id : ℕ) (f o : Lit) → IsHere s at id f o
+pub here_apart : (s : State) (at id : ℕ) (f o : Lit) → IsWatcher s at id f o
     → (pair_of s.pairs id).first ≢ (pair_of s.pairs id).second
 here_apart s at id f o here = ⊎_elim
     (λ h. λ e. here.apart (sym h.0 ∙ (e ∙ h.1)))
@@ -88,7 +88,7 @@ here_apart s at id f o here = ⊎_elim
     here.pair
 
 -- and stand in the clause
-pub here_other : (s : State) (at id : ℕ) (f o : Lit) → IsKept s → IsHere s at id f o
+pub here_other : (s : State) (at id : ℕ) (f o : Lit) → IsKept s → IsWatcher s at id f o
     → Contains (clause_at s.clauses id) o
 here_other s at id f o kept here =
     let apart = here_apart s at id f o here in
@@ -118,7 +118,7 @@ pair_there pairs id above within =
 
 -- what a move needs
 pub record IsMove (s : State) (at id : ℕ) (f o to : Lit) : Type 0 where
-  pub here : IsHere s at id f o
+  pub here : IsWatcher s at id f o
   pub there : Contains (clause_at s.clauses id) to
   pub apart : packed to ≢ packed o
   pub not_false : Contains s.lits (negation to) → ⊥

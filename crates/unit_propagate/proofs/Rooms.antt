@@ -12,11 +12,11 @@ use Rattle.std.proofs.lemmas.Bool.Decides.{nat_tests}
 use Rattle.lists.proofs.ListTests.{any_gives}
 use Rattle.plain_lits.specs.declared.lit.Lit.{Lit}
 use Rattle.plain_lits.specs.Packed.{packed}
-use Rattle.unit_propagate.specs.declared.engine.Mark.{Mark}
-use Rattle.unit_propagate.specs.States.{State, has, IsKept, mark_at, no_mark}
+use Rattle.unit_propagate.specs.declared.watch_state.Progress.{Progress}
+use Rattle.unit_propagate.specs.States.{State, has, IsKept, progress_at, no_progress}
 use Rattle.clause_watches.specs.Picks.{ClaimsAll}
 use Rattle.unit_propagate.specs.Steps.{IsLonger}
-use Rattle.unit_propagate.specs.Steps.{LowersOne, LowersMarks, HasRoomFor}
+use Rattle.unit_propagate.specs.Steps.{LowersOne, LowersProgress, HasRoomFor}
 use Rattle.clause_watches.specs.WatchLists.{Listed, list_at}
 
 -- longer lists
@@ -67,18 +67,19 @@ room_for s lists clause kept h = record {
 }
 
 -- lowered marks
-pub lowers_none : (marks : List Mark) (starts : List ℕ) (index : ℕ) → LowersMarks marks marks starts (length starts)
+pub lowers_none : (progress : List Progress) (starts : List ℕ) (index : ℕ) → LowersProgress progress progress starts
+    (length starts)
     index
-lowers_none marks starts index = record {
+lowers_none progress starts index = record {
   long = refl;
   heads = λ n. omega arith;
   dones = λ n. refl;
   low = λ k le lt. absurd (omega arith);
 }
 
-pub lowers_next : (a b c : List Mark) (starts : List ℕ) (level index : ℕ) → 0 < level
-    → LowersMarks a b starts level index → LowersOne b c (get_or starts (level - 1) 0) index
-    → LowersMarks a c starts (level - 1) index
+pub lowers_next : (a b c : List Progress) (starts : List ℕ) (level index : ℕ) → 0 < level
+    → LowersProgress a b starts level index → LowersOne b c (get_or starts (level - 1) 0) index
+    → LowersProgress a c starts (level - 1) index
 lowers_next a b c starts level index some_level h one =
     let at = get_or starts (level - 1) 0 in
     record {
@@ -86,33 +87,33 @@ lowers_next a b c starts level index some_level h one =
       heads = λ n. ⊎_elim
           (λ (e : n ≡ at). omega (
             arith,
-            ap (λ k. (mark_at c k).head) e,
-            ap (λ k. (mark_at a k).head) e,
+            ap (λ k. (progress_at c k).head) e,
+            ap (λ k. (progress_at a k).head) e,
             one.head,
             h.heads at,
           ))
-          (λ (ne : n ≢ at). omega (arith, ap (λ (m : Mark). m.head) (one.others n ne), h.heads n))
+          (λ (ne : n ≢ at). omega (arith, ap (λ (m : Progress). m.head) (one.others n ne), h.heads n))
           (cases_eq n at);
       dones = λ n. ⊎_elim
-          (λ (e : n ≡ at). ap (λ k. (mark_at c k).done) e
-          ∙ (one.done ∙ (h.dones at ∙ ap (λ k. (mark_at a k).done) (sym e))))
-          (λ (ne : n ≢ at). ap (λ (m : Mark). m.done) (one.others n ne) ∙ h.dones n)
+          (λ (e : n ≡ at). ap (λ k. (progress_at c k).done) e
+          ∙ (one.done ∙ (h.dones at ∙ ap (λ k. (progress_at a k).done) (sym e))))
+          (λ (ne : n ≢ at). ap (λ (m : Progress). m.done) (one.others n ne) ∙ h.dones n)
           (cases_eq n at);
       low = λ k le lt. ⊎_elim
-          (λ (e : get_or starts k 0 ≡ at). omega (arith, ap (λ n. (mark_at c n).head) e, one.low))
+          (λ (e : get_or starts k 0 ≡ at). omega (arith, ap (λ n. (progress_at c n).head) e, one.low))
           (λ (ne : get_or starts k 0 ≢ at).
           let far : level ≤ k = ⊎_elim
           (λ (same : k ≡ level - 1). absurd (ne (ap (λ n. get_or starts n 0) same)))
           (λ (other : k ≢ level - 1). omega arith)
           (cases_eq k (level - 1)) in
-          omega (arith, ap (λ (m : Mark). m.head) (one.others (get_or starts k 0) ne), h.low k far lt))
+          omega (arith, ap (λ (m : Progress). m.head) (one.others (get_or starts k 0) ne), h.low k far lt))
           (cases_eq (get_or starts k 0) at);
     }
 
-pub lowers_rest : (a b : List Mark) (starts : List ℕ) (level index : ℕ) → 0 < level → level ≤ length starts
+pub lowers_rest : (a b : List Progress) (starts : List ℕ) (level index : ℕ) → 0 < level → level ≤ length starts
     → ((i j : ℕ) → i ≤ j → j < length starts → get_or starts i 0 ≤ get_or starts j 0)
-    → ((n : ℕ) → (mark_at a n).head ≤ n)
-    → get_or starts (level - 1) 0 ≤ index → LowersMarks a b starts level index → LowersMarks a b starts 0 index
+    → ((n : ℕ) → (progress_at a n).head ≤ n)
+    → get_or starts (level - 1) 0 ≤ index → LowersProgress a b starts level index → LowersProgress a b starts 0 index
 lowers_rest a b starts level index some_level within rise heads low h = record {
   long = h.long;
   heads = h.heads;
@@ -129,8 +130,9 @@ lowers_rest a b starts level index some_level within rise heads low h = record {
       (cases_lt k level);
 }
 
-pub lowers_all : (a b : List Mark) (starts : List ℕ) (level index : ℕ) → level ≤ 0 → LowersMarks a b starts level index
-    → LowersMarks a b starts 0 index
+pub lowers_all : (a b : List Progress) (starts : List ℕ) (level index : ℕ) → level ≤ 0 → LowersProgress a b starts level
+    index
+    → LowersProgress a b starts 0 index
 lowers_all a b starts level index none h = record {
   long = h.long;
   heads = h.heads;
@@ -138,20 +140,21 @@ lowers_all a b starts level index none h = record {
   low = λ k le lt. h.low k (omega arith) lt;
 }
 
-pub lowers_one : (marks : List Mark) (at index head : ℕ) (mark : Mark) → at < length marks → mark ≡ mark_at marks at
+pub lowers_one : (progress : List Progress) (at index head : ℕ) (mark : Progress) → at < length progress → mark ≡
+    progress_at progress at
     → head ≤ mark.head → head ≤ index
-    → LowersOne marks (set marks at (record { head = head; done = mark.done })) at index
-lowers_one marks at index head mark lt is le low =
-    let here : mark_at (set marks at (record { head = head; done = mark.done })) at ≡ record {
+    → LowersOne progress (set progress at (record { head = head; done = mark.done })) at index
+lowers_one progress at index head mark lt is le low =
+    let here : progress_at (set progress at (record { head = head; done = mark.done })) at ≡ record {
       head = head;
       done =
           mark.done;
-    } = get_or-set_same marks at _ no_mark lt in
-    let heads = ap (λ (m : Mark). m.head) here in
+    } = get_or-set_same progress at _ no_progress lt in
+    let heads = ap (λ (m : Progress). m.head) here in
     record {
-      others = λ n ne. get_or-set_other marks at n _ no_mark ne;
-      long = length-set marks at (record { head = head; done = mark.done });
-      head = omega (arith, heads, ap (λ (m : Mark). m.head) is);
-      done = ap (λ (m : Mark). m.done) here ∙ ap (λ (m : Mark). m.done) is;
+      others = λ n ne. get_or-set_other progress at n _ no_progress ne;
+      long = length-set progress at (record { head = head; done = mark.done });
+      head = omega (arith, heads, ap (λ (m : Progress). m.head) is);
+      done = ap (λ (m : Progress). m.done) here ∙ ap (λ (m : Progress). m.done) is;
       low = omega (arith, heads);
     }

@@ -10,10 +10,10 @@ use Rattle.plain_lits.specs.Trails.{TrailState, IsTrailState}
 use Rattle.plain_lits.specs.HintCheck.{IsUnit}
 use Rattle.plain_lits.specs.Literals.{negation}
 use Rattle.clause_watches.specs.declared.pair.Pair.{Pair}
-use Rattle.unit_propagate.specs.declared.engine.Mark.{Mark}
+use Rattle.unit_propagate.specs.declared.watch_state.Progress.{Progress}
 use Rattle.clause_watches.specs.Arenas.{pair_of, no_pair}
 use Rattle.unit_propagate.specs.Search.{IsSearch, IsWatchedBy, HasGrown}
-use Rattle.unit_propagate.specs.States.{State, IsKept, search_of, no_mark, mark_at}
+use Rattle.unit_propagate.specs.States.{State, IsKept, search_of, no_progress, progress_at}
 use Rattle.unit_propagate.specs.Steps.{Grows}
 use Rattle.clause_watches.specs.WatchLists.{Listed, ids_at, one, watches}
 use Rattle.clause_watches.proofs.Fronts.{packed_same}
@@ -97,12 +97,12 @@ opened = record {
   starts = [];
   vars = 0;
   reasons = [];
-  marks = no_mark ∷ [];
+  progress = no_progress ∷ [];
   head = 0;
   done = 0;
 }
 
-mark_none : (n : ℕ) → mark_at (no_mark ∷ []) n ≡ no_mark
+mark_none : (n : ℕ) → progress_at (no_progress ∷ []) n ≡ no_progress
 mark_none zero = refl
 mark_none (suc n) = refl
 
@@ -130,16 +130,17 @@ kept_opened = record {
   done_within = omega arith;
   reasons_long = omega arith;
   marks_long = omega arith;
-  marks_head = λ n. omega (arith, ap (λ (m : Mark). m.head) (mark_none n));
-  marks_done = λ n. omega (arith, ap (λ (m : Mark). m.done) (mark_none n));
+  marks_head = λ n. omega (arith, ap (λ (m : Progress). m.head) (mark_none n));
+  marks_done = λ n. omega (arith, ap (λ (m : Progress). m.done) (mark_none n));
   ids_fit = omega arith;
 }
 
 pub kept_open : (clauses : List (List Lit)) (pairs : List Pair) (lists : List Listed) (short : List ℕ) (lits : List Lit)
     (starts : List ℕ)
-    (vars : ℕ) (reasons : List ℕ) (marks : List Mark) → clauses ≡ [] → pairs ≡ [] → lists ≡ [] → short ≡ [] → lits ≡ []
+    (vars : ℕ) (reasons : List ℕ) (progress : List Progress) → clauses ≡ [] → pairs ≡ [] → lists ≡ [] → short ≡ [] →
+    lits ≡ []
     → starts ≡ []
-    → vars ≡ 0 → reasons ≡ [] → marks ≡ no_mark ∷ []
+    → vars ≡ 0 → reasons ≡ [] → progress ≡ no_progress ∷ []
     → IsKept (record opened {
       clauses = clauses;
       pairs = pairs;
@@ -150,9 +151,9 @@ pub kept_open : (clauses : List (List Lit)) (pairs : List Pair) (lists : List Li
           starts;
       vars = vars;
       reasons = reasons;
-      marks = marks;
+      progress = progress;
     })
-kept_open clauses pairs lists short lits starts vars reasons marks e1 e2 e3 e4 e5 e6 e7 e8 e9 =
+kept_open clauses pairs lists short lits starts vars reasons progress e1 e2 e3 e4 e5 e6 e7 e8 e9 =
     rw (e1, e2, e3, e4, e5, e6, e7, e8, e9) kept_opened
 
 -- a clause of one literal is unit where nothing is true

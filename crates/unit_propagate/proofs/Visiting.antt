@@ -21,11 +21,11 @@ use Rattle.clause_watches.specs.declared.pair.Pair.{Pair}
 use Rattle.clause_watches.specs.Arenas.{pair_of}
 use Rattle.unit_propagate.specs.Search.{IsReason, IsConflict}
 use Rattle.unit_propagate.specs.States.{State, IsKept, IsLooked, HasTrue}
-use Rattle.unit_propagate.specs.States.{mark_at}
-use Rattle.unit_propagate.specs.Steps.{IsHere, with_pair, with_literal, AreDone, Grows, IsImplied, IsVisit}
-use Rattle.clause_watches.specs.declared.finding.Found.{Found}
+use Rattle.unit_propagate.specs.States.{progress_at}
+use Rattle.unit_propagate.specs.Steps.{IsWatcher, with_pair, with_literal, AreDone, Grows, IsImplied, IsVisit}
+use Rattle.clause_watches.specs.declared.finding.NewWatch.{NewWatch}
 use Rattle.clause_watches.specs.Picks.{FindsWatch}
-use Rattle.unit_propagate.specs.declared.engine.Visit.TheVariants.{Kept, Moved}
+use Rattle.unit_propagate.specs.declared.watch_state.Visit.TheVariants.{Kept, Moved}
 use Rattle.plain_lits.specs.declared.value.Value.{Value}
 use Rattle.plain_lits.specs.declared.value.Value.TheVariants.{True, False, Unset}
 use Rattle.plain_lits.specs.Values.{IsValueIn}
@@ -98,7 +98,7 @@ done_moved s at id f o to m not_true lt h =
     }
 
 -- one clause more is done, whose other literal is true
-pub done_next : (s : State) (at id : ℕ) (f o : Lit) → IsHere s at id f o → Contains s.lits o → AreDone s f at
+pub done_next : (s : State) (at id : ℕ) (f o : Lit) → IsWatcher s at id f o → Contains s.lits o → AreDone s f at
     → AreDone s f (at + 1)
 done_next s at id f o here true_other h =
     let ids = ids_at s.lists (packed f) in
@@ -184,8 +184,12 @@ kept_literal s l id kept levels before implied =
           let n = get_or s.starts k 0 in
           let low : n ≤ length s.lits = levels.within k lt in
           let head = kept.marks_head n in
-          let lower : (mark_at s.marks n).head ≤ length s.lits = omega arith in
-          rw (take-append-le n s.lits (l ∷ []) low, take-append-le (mark_at s.marks n).head s.lits (l ∷ []) lower)
+          let lower : (progress_at s.progress n).head ≤ length s.lits = omega arith in
+          rw (
+            take-append-le n s.lits (l ∷ []) low,
+            take-append-le (progress_at s.progress n).head s.lits (l ∷ [])
+                lower,
+          )
           (kept.before k lt);
       reasons = λ i lt some. ⊎_elim
           (λ old.
@@ -283,7 +287,7 @@ grows_trans a b c g h =
     }
 
 -- a clause whose literals are false but for the other watched one, and that one too, is false
-pub fails : (s : State) (at id : ℕ) (f o : Lit) → IsHere s at id f o
+pub fails : (s : State) (at id : ℕ) (f o : Lit) → IsWatcher s at id f o
     → ((x : Lit) → Contains (clause_at s.clauses id) x → packed x ≢ packed o → Contains s.lits (negation x))
     → Contains s.lits (negation o) → IsConflict s.clauses s.lits id
 fails s at id f o here others false_other = record {
@@ -297,7 +301,7 @@ fails s at id f o here others false_other = record {
 }
 
 -- and that one unset is implied
-pub implied_here : (s : State) (at id : ℕ) (f o : Lit) → IsKept s → IsHere s at id f o
+pub implied_here : (s : State) (at id : ℕ) (f o : Lit) → IsKept s → IsWatcher s at id f o
     → ((x : Lit) → Contains (clause_at s.clauses id) x → packed x ≢ packed o → Contains s.lits (negation x))
     → IsImplied s o id
 implied_here s at id f o kept here others = record {
@@ -307,7 +311,7 @@ implied_here s at id f o kept here others = record {
 }
 
 -- the look for another literal, read over the other literal by itself
-pub move_of : (s : State) (at id code : ℕ) (f o : Lit) (found : Found) → IsHere s at id f o
+pub move_of : (s : State) (at id code : ℕ) (f o : Lit) (found : NewWatch) → IsWatcher s at id f o
     → code ≡ packed o → FindsWatch s.lits (clause_at s.clauses id) code (Some found)
     → Contains s.lits (negation f) → VarsDiffer s.lits → IsMove s at id f o found.lit
 move_of s at id code f o found here code_is h false_now vars = record {
@@ -354,14 +358,14 @@ moved_visit s new at id code f o to kept m not_true done code_is lt e =
     )
 
 -- and after a literal has come
-pub implied_kept : (s new : State) (at id : ℕ) (f o l : Lit) → IsKept s → IsHere s at id f o
+pub implied_kept : (s new : State) (at id : ℕ) (f o l : Lit) → IsKept s → IsWatcher s at id f o
     → ((x : Lit) → Contains (clause_at s.clauses id) x → packed x ≢ packed o → Contains s.lits (negation x))
     → l ≡ o → AreLevels s.starts (length s.lits) → length s.lits < s.vars → new ≡ with_literal s l id → IsKept new
 implied_kept s new at id f o l kept here others l_is levels before e =
     subst IsKept (sym (e ∙ ap (λ x. with_literal s x id) l_is))
     (kept_literal s o id kept levels before (λ _. implied_here s at id f o kept here others))
 
-pub implied_visit : (s new : State) (at id : ℕ) (f o l : Lit) → IsHere s at id f o → AreDone s f at
+pub implied_visit : (s new : State) (at id : ℕ) (f o l : Lit) → IsWatcher s at id f o → AreDone s f at
     → l ≡ o → new ≡ with_literal s l id → IsVisit s new f at Kept
 implied_visit s new at id f o l here done l_is e =
     subst (λ n. IsVisit s n f at Kept) (sym (e ∙ ap (λ x. with_literal s x id) l_is)) (

@@ -8,8 +8,8 @@ use Rattle.plain_lits.specs.Literals.{negation}
 use Rattle.plain_lits.specs.Packed.{packed}
 use Rattle.plain_lits.specs.HintCheck.{clause_at, IsNamed}
 use Rattle.clause_watches.specs.declared.pair.Pair.{Pair}
-use Rattle.unit_propagate.specs.declared.engine.Mark.{Mark}
-use Rattle.unit_propagate.specs.declared.engine.Engine.{Engine}
+use Rattle.unit_propagate.specs.declared.watch_state.Progress.{Progress}
+use Rattle.unit_propagate.specs.declared.watch_state.WatchState.{WatchState}
 use Rattle.clause_watches.specs.Arenas.{pair_of}
 use Rattle.unit_propagate.specs.Search.{IsReason, Search}
 use Rattle.clause_watches.specs.Picks.{IsPairOf}
@@ -27,11 +27,11 @@ pub record State : Type 0 where
   pub starts : List ℕ
   pub vars : ℕ
   pub reasons : List ℕ
-  pub marks : List Mark
+  pub progress : List Progress
   pub head : ℕ
   pub done : ℕ
 
-abbrev pub state_of : Engine → State
+abbrev pub state_of : WatchState → State
 state_of e = record {
   clauses = e.arena.clauses;
   pairs = e.arena.pairs;
@@ -41,7 +41,7 @@ state_of e = record {
   starts = e.trail.starts;
   vars = e.trail.vars;
   reasons = e.reasons.items;
-  marks = e.marks.items;
+  progress = e.progress.items;
   head = e.head;
   done = e.done;
 }
@@ -57,11 +57,11 @@ search_of s = record {
   vars = s.vars;
 }
 
-abbrev pub no_mark : Mark
-no_mark = record { head = 0; done = 0 }
+abbrev pub no_progress : Progress
+no_progress = record { head = 0; done = 0 }
 
-abbrev pub mark_at : List Mark → ℕ → Mark
-mark_at marks n = slice_index_or marks n no_mark
+abbrev pub progress_at : List Progress → ℕ → Progress
+progress_at progress n = slice_index_or progress n no_progress
 
 -- whether a clause holds the literal of a code
 abbrev pub has : ℕ → List Lit → Bool
@@ -93,7 +93,8 @@ pub record IsLooked (clauses : List (List Lit)) (pairs : List Pair) (short : Lis
 -- the same when a level began at so many true literals
 abbrev pub IsLookedAt : State → ℕ → Type 0
 IsLookedAt s n =
-    IsLooked s.clauses s.pairs s.short (take (mark_at s.marks n).head s.lits) (take n s.lits) (mark_at s.marks n).done
+    IsLooked s.clauses s.pairs s.short (take (progress_at s.progress n).head s.lits) (take n s.lits)
+    (progress_at s.progress n).done
 
 -- a clause that watches nothing
 pub record IsShort (clauses : List (List Lit)) (pairs : List Pair) (id : ℕ) : Type 0 where
@@ -113,7 +114,7 @@ pub record IsKept (s : State) : Type 0 where
   pub head_within : s.head ≤ length s.lits
   pub done_within : s.done ≤ length s.short
   pub reasons_long : s.vars ≤ length s.reasons
-  pub marks_long : s.vars < length s.marks
-  pub marks_head : (n : ℕ) → (mark_at s.marks n).head ≤ n
-  pub marks_done : (n : ℕ) → (mark_at s.marks n).done ≤ length s.short
+  pub marks_long : s.vars < length s.progress
+  pub marks_head : (n : ℕ) → (progress_at s.progress n).head ≤ n
+  pub marks_done : (n : ℕ) → (progress_at s.progress n).done ≤ length s.short
   pub ids_fit : length s.clauses < 2 ^ 32

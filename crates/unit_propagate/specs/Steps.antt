@@ -7,15 +7,15 @@ use Rattle.plain_lits.specs.Literals.{negation}
 use Rattle.plain_lits.specs.Packed.{packed}
 use Rattle.plain_lits.specs.HintCheck.{clause_at, IsNamed}
 use Rattle.clause_watches.specs.declared.pair.Pair.{Pair}
-use Rattle.unit_propagate.specs.declared.engine.Visit.{Visit}
-use Rattle.unit_propagate.specs.declared.engine.Visit.TheVariants.{Kept, Moved, Failed}
+use Rattle.unit_propagate.specs.declared.watch_state.Visit.{Visit}
+use Rattle.unit_propagate.specs.declared.watch_state.Visit.TheVariants.{Kept, Moved, Failed}
 use Rattle.clause_watches.specs.Arenas.{pair_of}
 use Rattle.unit_propagate.specs.Search.{IsConflict, IsQuiet, AreGuarded, Learns}
 use Rattle.clause_watches.specs.Picks.{IsUnfalse}
 use Rattle.clause_watches.specs.WatchLists.{Listed, list_at, ids_at, with_id, without, HasMoreRoom, Joins}
-use Rattle.unit_propagate.specs.States.{State, search_of, mark_at, has, no_mark}
+use Rattle.unit_propagate.specs.States.{State, search_of, progress_at, has, no_progress}
 use Rattle.clause_watches.specs.Picks.{IsPairOf}
-use Rattle.unit_propagate.specs.declared.engine.Mark.{Mark}
+use Rattle.unit_propagate.specs.declared.watch_state.Progress.{Progress}
 
 -- a literal has come with its reason
 abbrev pub with_literal : State → Lit → ℕ → State
@@ -26,7 +26,7 @@ with_literal s l id = record s {
 
 -- a level has begun, with the mark of how far propagation has come
 abbrev pub with_mark : State → State
-with_mark s = record s { marks = slice_set s.marks (length s.lits) (record { head = s.head; done = s.done }) }
+with_mark s = record s { progress = slice_set s.progress (length s.lits) (record { head = s.head; done = s.done }) }
 
 -- a level begins where the literals end
 abbrev pub begun : State → State
@@ -40,7 +40,7 @@ with_pair s id p from at to = record s {
 }
 
 -- the clause at an index of the list of a false literal, with the two literals that it watches
-pub record IsHere (s : State) (at id : ℕ) (falsified other : Lit) : Type 0 where
+pub record IsWatcher (s : State) (at id : ℕ) (falsified other : Lit) : Type 0 where
   pub within : at < length (ids_at s.lists (packed falsified))
   pub id_is : slice_index (ids_at s.lists (packed falsified)) at ≡ id
   pub named : IsNamed s.clauses id
@@ -80,13 +80,13 @@ IsVisit old new falsified at (Failed id) = IsConflict new.clauses new.lits id
 
 -- the marks of levels are lowered to an index, and how far propagation has come
 pub record Lowers (old new : State) (index : ℕ) : Type 0 where
-  pub rest : new ≡ record old { marks = new.marks; head = new.head }
-  pub long : length new.marks ≡ length old.marks
+  pub rest : new ≡ record old { progress = new.progress; head = new.head }
+  pub long : length new.progress ≡ length old.progress
   pub head : new.head ≤ old.head
   pub head_low : new.head ≤ index
-  pub marks : (n : ℕ) → (mark_at new.marks n).head ≤ (mark_at old.marks n).head
-  pub dones : (n : ℕ) → (mark_at new.marks n).done ≡ (mark_at old.marks n).done
-  pub marks_low : (k : ℕ) → k < length old.starts → (mark_at new.marks (slice_index old.starts k)).head ≤ index
+  pub progress : (n : ℕ) → (progress_at new.progress n).head ≤ (progress_at old.progress n).head
+  pub dones : (n : ℕ) → (progress_at new.progress n).done ≡ (progress_at old.progress n).done
+  pub marks_low : (k : ℕ) → k < length old.starts → (progress_at new.progress (slice_index old.starts k)).head ≤ index
 
 -- each list of a literal of the clause has room for it
 pub record HasRoomFor (s : State) (clause : List Lit) : Type 0 where
@@ -115,29 +115,29 @@ pub record IsLonger {X : Type 0} (d : X) (old new : List X) : Type 0 where
 
 -- there is room for more variables and for more ids, and all else is the same
 pub record MakesRoom (old new : State) : Type 0 where
-  pub rest : new ≡ record old { lists = new.lists; vars = new.vars; reasons = new.reasons; marks = new.marks }
+  pub rest : new ≡ record old { lists = new.lists; vars = new.vars; reasons = new.reasons; progress = new.progress }
   pub lists : HasMoreRoom old.lists new.lists
   pub vars : old.vars ≤ new.vars
   pub reasons : IsLonger 0 old.reasons new.reasons
-  pub marks : IsLonger no_mark old.marks new.marks
+  pub progress : IsLonger no_progress old.progress new.progress
   pub lists_long : 2 * new.vars ≤ length new.lists
   pub reasons_long : new.vars ≤ length new.reasons
-  pub marks_long : new.vars < length new.marks
+  pub marks_long : new.vars < length new.progress
 
 -- a mark is lowered to an index
-pub record LowersOne (old new : List Mark) (at index : ℕ) : Type 0 where
-  pub others : (n : ℕ) → n ≢ at → mark_at new n ≡ mark_at old n
+pub record LowersOne (old new : List Progress) (at index : ℕ) : Type 0 where
+  pub others : (n : ℕ) → n ≢ at → progress_at new n ≡ progress_at old n
   pub long : length new ≡ length old
-  pub head : (mark_at new at).head ≤ (mark_at old at).head
-  pub done : (mark_at new at).done ≡ (mark_at old at).done
-  pub low : (mark_at new at).head ≤ index
+  pub head : (progress_at new at).head ≤ (progress_at old at).head
+  pub done : (progress_at new at).done ≡ (progress_at old at).done
+  pub low : (progress_at new at).head ≤ index
 
 -- marks are lowered, from a level on to an index
-pub record LowersMarks (old new : List Mark) (starts : List ℕ) (from index : ℕ) : Type 0 where
+pub record LowersProgress (old new : List Progress) (starts : List ℕ) (from index : ℕ) : Type 0 where
   pub long : length new ≡ length old
-  pub heads : (n : ℕ) → (mark_at new n).head ≤ (mark_at old n).head
-  pub dones : (n : ℕ) → (mark_at new n).done ≡ (mark_at old n).done
-  pub low : (k : ℕ) → from ≤ k → k < length starts → (mark_at new (slice_index starts k)).head ≤ index
+  pub heads : (n : ℕ) → (progress_at new n).head ≤ (progress_at old n).head
+  pub dones : (n : ℕ) → (progress_at new n).done ≡ (progress_at old n).done
+  pub low : (k : ℕ) → from ≤ k → k < length starts → (progress_at new (slice_index starts k)).head ≤ index
 
 -- a clause has come with its pair and its id
 pub record IsAdded (s : State) (lists : List Listed) (short : List ℕ) (clause : List Lit) (p : Pair)
@@ -149,7 +149,7 @@ pub record IsAdded (s : State) (lists : List Listed) (short : List ℕ) (clause 
   pub first : IsUnfalse s.lits p.first index
   pub second : IsUnfalse s.lits p.second index
   pub head : s.head ≤ index
-  pub marks : (k : ℕ) → k < length s.starts → (mark_at s.marks (slice_index s.starts k)).head ≤ index
+  pub progress : (k : ℕ) → k < length s.starts → (progress_at s.progress (slice_index s.starts k)).head ≤ index
   pub room : HasRoomFor s clause
   pub joins : Joins s.lists lists p id
   pub alone : p.first ≡ p.second → short ≡ s.short ++ id ∷ []
@@ -167,7 +167,7 @@ with_clause s lists short clause p = record s {
 -- how far propagation has come is no further than an index, now and at each level
 pub record IsLow (s : State) (index : ℕ) : Type 0 where
   pub head : s.head ≤ index
-  pub marks : (k : ℕ) → k < length s.starts → (mark_at s.marks (slice_index s.starts k)).head ≤ index
+  pub progress : (k : ℕ) → k < length s.starts → (progress_at s.progress (slice_index s.starts k)).head ≤ index
 
 -- a clause has come, and the trail is the same
 pub record Inserts (old new : State) (clause : List Lit) : Type 0 where

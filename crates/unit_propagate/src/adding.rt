@@ -8,15 +8,15 @@ ghost use Rattle.plain_lits.specs.Literals.{negation};
 ghost use Rattle.plain_lits.specs.Packed.{packed};
 ghost use Rattle.plain_lits.specs.Trails.{AreLevels};
 ghost use Rattle.unit_propagate.specs.Search.{StaysSearch, GainsClause, GainsBlock};
-ghost use Rattle.unit_propagate.specs.States.{state_of, search_of, IsKept, mark_at, no_mark};
+ghost use Rattle.unit_propagate.specs.States.{state_of, search_of, IsKept, progress_at, no_progress};
 ghost use Rattle.clause_watches.specs.Picks.{IsPairOf, IsUnfalse, WatchesLast};
 ghost use Rattle.unit_propagate.specs.Steps.{IsLonger, MakesRoom};
-ghost use Rattle.unit_propagate.specs.Steps.{LowersOne, LowersMarks, Lowers, HasRoomFor, IsLow, IsReady};
+ghost use Rattle.unit_propagate.specs.Steps.{LowersOne, LowersProgress, Lowers, HasRoomFor, IsLow, IsReady};
 ghost use Rattle.unit_propagate.specs.Steps.{Inserts};
 ghost use Rattle.unit_propagate.specs.Steps.{with_mark, begun, Assumes, AssumesAll, HasLearned};
 ghost use Rattle.clause_watches.specs.WatchLists.{HasPairRoom, Joins};
 
-use crate::engine::{Engine, Mark, mark_in};
+use crate::watch_state::{Progress, WatchState, progress_in};
 use clause_watches::{Pair, claim_all, grow_lists, pick, pick_second, push_id, rank_of, vars_of};
 use lists::Memory;
 use plain_lits::{Lit, Value};
@@ -35,14 +35,14 @@ fn grow_ids(ids: &mut Vec<u32>, count: usize) -> Result<(), Memory>
 }
 
 /// Makes a list of marks at least so long, with marks of nothing.
-fn grow_marks(marks: &mut Vec<Mark>, count: usize) -> Result<(), Memory>
-    ensures kept { IsLonger no_mark marks.old.items marks.new.items }
-    ensures ok { OnOk result (count ≤ length marks.new.items) }
+fn grow_progress(progress: &mut Vec<Progress>, count: usize) -> Result<(), Memory>
+    ensures kept { IsLonger no_progress progress.old.items progress.new.items }
+    ensures ok { OnOk result (count ≤ length progress.new.items) }
 {
-    if count <= marks.len() {
+    if count <= progress.len() {
         return Ok(());
     }
-    marks.resize(count, Mark { head: 0, done: 0 })?;
+    progress.resize(count, Progress { head: 0, done: 0 })?;
     Ok(())
 }
 
@@ -56,23 +56,23 @@ fn smaller(a: usize, b: usize) -> usize
 }
 
 /// Lowers a mark to an index.
-fn lower_mark(marks: &mut Vec<Mark>, at: usize, index: usize)
-    requires { at < length marks.old.items }
-    ensures { LowersOne marks.old.items marks.new.items at index }
+fn lower_progress_at(progress: &mut Vec<Progress>, at: usize, index: usize)
+    requires { at < length progress.old.items }
+    ensures { LowersOne progress.old.items progress.new.items at index }
 {
-    let mark = mark_in(marks.as_slice(), at);
-    marks[at] = Mark {
+    let mark = progress_in(progress.as_slice(), at);
+    progress[at] = Progress {
         head: smaller(mark.head, index),
         done: mark.done,
     };
 }
 
 /// Lowers the marks of levels to an index, from the last level down to one that began no later.
-fn lower_marks(marks: &mut Vec<Mark>, starts: &[usize], index: usize)
-    requires within { (k : ℕ) → k < length starts.now → slice_index starts.now k < length marks.old.items }
+fn lower_progress(progress: &mut Vec<Progress>, starts: &[usize], index: usize)
+    requires within { (k : ℕ) → k < length starts.now → slice_index starts.now k < length progress.old.items }
     requires levels { (i j : ℕ) → i ≤ j → j < length starts.now → slice_index starts.now i ≤ slice_index starts.now j }
-    requires heads { (n : ℕ) → (mark_at marks.old.items n).head ≤ n }
-    ensures { LowersMarks marks.old.items marks.new.items starts.now 0 index }
+    requires heads { (n : ℕ) → (progress_at progress.old.items n).head ≤ n }
+    ensures { LowersProgress progress.old.items progress.new.items starts.now 0 index }
 {
     let mut level = starts.len();
     'levels: while level > 0 {
@@ -80,12 +80,12 @@ fn lower_marks(marks: &mut Vec<Mark>, starts: &[usize], index: usize)
         if start <= index {
             return;
         }
-        lower_mark(marks, start, index);
+        lower_progress_at(progress, start, index);
         level -= 1;
     }
 }
 
-impl Engine {
+impl WatchState {
     /// Makes room for the variables below `vars`.
     fn make_room(&mut self, vars: usize) -> Result<(), Memory>
         requires kept { IsKept (state_of self.old) }
@@ -99,7 +99,7 @@ impl Engine {
         }
         grow_lists(self.alloc, &mut self.lists, 2 * vars)?;
         grow_ids(&mut self.reasons, vars)?;
-        grow_marks(&mut self.marks, vars + 1)?;
+        grow_progress(&mut self.progress, vars + 1)?;
         self.trail.make_room(vars)?;
         Ok(())
     }
@@ -111,7 +111,7 @@ impl Engine {
         ensures low { Lowers (state_of self.old) (state_of self.new) index }
     {
         let _form = self.trail.len();
-        lower_marks(&mut self.marks, self.trail.starts(), index);
+        lower_progress(&mut self.progress, self.trail.starts(), index);
         self.head = smaller(self.head, index);
     }
 

@@ -2,7 +2,7 @@
 #![tactic(auto)]
 
 mod adding;
-mod engine;
 mod propagator;
+mod watch_state;
 
 pub use propagator::{Propagated, Propagator};

@@ -9,7 +9,7 @@ ghost use Rattle.plain_lits.specs.Values.{IsValueIn};
 ghost use Rattle.unit_propagate.specs.Search.{IsSearch, IsAnswer, IsGuarded, HasGrown, Decides, GoesBack, IsWatchedBy};
 ghost use Rattle.unit_propagate.specs.Search.{GainsClause, GainsBlock, Learns, StaysSearch};
 
-use crate::engine::Engine;
+use crate::watch_state::WatchState;
 use lists::Memory;
 use plain_lits::{Lit, PackedLit, Value};
 use std::alloc::Global;
@@ -27,13 +27,13 @@ pub enum Propagated {
 /// `propagate` and `back_to` take no memory: `add` and `assume_block` make the room.
 
 pub struct Propagator {
-    engine: Engine,
+    watch_state: WatchState,
 }
 
 // By hand, so that a drop is one call (docs/PROVING.md).
 impl Drop for Propagator {
     fn drop(self) {
-        let Propagator { engine: _ } = self;
+        let Propagator { watch_state: _ } = self;
     }
 }
 
@@ -43,9 +43,9 @@ impl Model for Propagator {
 
     ghost Value = { Search };
 
-    ghost view = { λ p. search_of (state_of p.engine) };
+    ghost view = { λ p. search_of (state_of p.watch_state) };
 
-    ghost invariant = { λ p. IsKept (state_of p.engine) };
+    ghost invariant = { λ p. IsKept (state_of p.watch_state) };
 }
 
 impl Propagator {
@@ -55,8 +55,8 @@ impl Propagator {
         ensures lits { IfOk result (λ p. p.lits ≡ []) }
         ensures starts { IfOk result (λ p. p.starts ≡ []) }
     {
-        let engine = Engine::open(alloc)?;
-        Ok(Propagator { engine })
+        let watch_state = WatchState::open(alloc)?;
+        Ok(Propagator { watch_state })
     }
 
     /// Adds a clause, and gives its id. Its literals may have any values: it watches two that aren't false, or became
@@ -65,7 +65,7 @@ impl Propagator {
         ensures ok { IfOk result (GainsClause self.old self.new clause.now) }
         ensures err { OnErr result (StaysSearch self.old self.new) }
     {
-        self.engine.add(clause)
+        self.watch_state.add(clause)
     }
 
     /// Adds a clause that is unit, and makes its one literal without value true at the present level, with the clause
@@ -76,7 +76,7 @@ impl Propagator {
         ensures ok { IfOk result (Learns self.old self.new clause.now lit) }
         ensures err { OnErr result (StaysSearch self.old self.new) }
     {
-        self.engine.add_learned(clause, lit)
+        self.watch_state.add_learned(clause, lit)
     }
 
     /// Begins a level with the literals of a block, of which none is false. After `Memory` no level has begun.
@@ -86,7 +86,7 @@ impl Propagator {
         ensures ok { OnOk result (GainsBlock self.old self.new lits.now) }
         ensures err { OnErr result (StaysSearch self.old self.new) }
     {
-        self.engine.assume_block(lits)
+        self.watch_state.assume_block(lits)
     }
 
     /// Begins a level with a literal, whose variable is known and has no value.
@@ -95,7 +95,7 @@ impl Propagator {
         requires unset { IsValueIn self.old.lits lit Value.Unset }
         ensures { Decides self.old self.new lit }
     {
-        self.engine.decide(lit);
+        self.watch_state.decide(lit);
     }
 
     /// Makes all literals true that follow by unit clauses, each with its reason, until a clause is false or nothing is
@@ -105,7 +105,7 @@ impl Propagator {
         ensures guarded { IsGuarded self.new result }
         ensures grown { HasGrown self.old self.new }
     {
-        match self.engine.propagate() {
+        match self.watch_state.propagate() {
             Some(id) => Propagated::Conflict(id),
             None => Propagated::Quiet,
         }
@@ -116,14 +116,14 @@ impl Propagator {
         requires { level ≤ length self.old.starts }
         ensures { GoesBack self.old self.new level }
     {
-        self.engine.back_to(level);
+        self.watch_state.back_to(level);
     }
 
     /// The ids of the clauses that watch a literal.
     pub fn watchers(&self, lit: Lit) -> &[u32]
         ensures { (id : ℕ) → Contains result.now id ↔ IsWatchedBy self.now id lit }
     {
-        self.engine.watchers(lit)
+        self.watch_state.watchers(lit)
     }
 
     /// The value of a literal.
@@ -131,8 +131,8 @@ impl Propagator {
         ensures value { IsValueIn self.now.lits lit result }
         ensures form { IsSearch self.now }
     {
-        self.engine.form();
-        self.engine.trail.value(lit)
+        self.watch_state.form();
+        self.watch_state.trail.value(lit)
     }
 
     /// The number below which each variable is known.
@@ -140,8 +140,8 @@ impl Propagator {
         ensures vars { result ≡ self.now.vars }
         ensures form { IsSearch self.now }
     {
-        self.engine.form();
-        self.engine.trail.vars()
+        self.watch_state.form();
+        self.watch_state.trail.vars()
     }
 
     /// The true literals, in the order in which they came.
@@ -149,8 +149,8 @@ impl Propagator {
         ensures lits { result.now ≡ self.now.lits }
         ensures form { IsSearch self.now }
     {
-        self.engine.form();
-        self.engine.trail.lits()
+        self.watch_state.form();
+        self.watch_state.trail.lits()
     }
 
     /// How many true literals there were before each level from 1 on.
@@ -158,8 +158,8 @@ impl Propagator {
         ensures starts { result.now ≡ self.now.starts }
         ensures form { IsSearch self.now }
     {
-        self.engine.form();
-        self.engine.trail.starts()
+        self.watch_state.form();
+        self.watch_state.trail.starts()
     }
 
     /// The index of a true literal among them.
@@ -168,8 +168,8 @@ impl Propagator {
         ensures position { slice_get self.now.lits result ≡ Some lit }
         ensures form { IsSearch self.now }
     {
-        self.engine.form();
-        self.engine.trail.position(lit)
+        self.watch_state.form();
+        self.watch_state.trail.position(lit)
     }
 
     /// The id of the clause that made the true literal of an index true, or 0 where none did.
@@ -178,8 +178,8 @@ impl Propagator {
         ensures reason { result ≡ slice_index self.now.reasons index }
         ensures form { IsSearch self.now }
     {
-        self.engine.form();
-        self.engine.reason(index)
+        self.watch_state.form();
+        self.watch_state.reason(index)
     }
 
     /// The literals of a clause.
@@ -187,6 +187,6 @@ impl Propagator {
         requires { IsNamed self.now.clauses id }
         ensures { result.now ≡ clause_at self.now.clauses id }
     {
-        self.engine.arena.clause(id)
+        self.watch_state.arena.clause(id)
     }
 }

@@ -1,7 +1,8 @@
 use Rattle.std.proofs.Common.{◌∙◌, ◌+◌, ◌*◌, length, arith, refl, subst, sym}
 use Rattle.goal_lists.proofs.Calls.{closes_refuted, closes_set, run_handed, then_same}
 use Rattle.cegar_preferred.specs.Largest.{MadeOutside}
-use Rattle.cegar_preferred.proofs.CoverLemmas.{accepting_found, cover_extended, cover_grown, cover_kept, extended_of, few_closings, fewer_open, one_more, cover_empty}
+use Rattle.cegar_preferred.proofs.CoverLemmas.{accepting_found, cover_extended, cover_grown, cover_kept}
+use Rattle.cegar_preferred.proofs.CoverLemmas.{extended_of, few_closings, fewer_open, one_more, cover_empty}
 use Rattle.std.specs.Prelude.{Option}
 use Rattle.std.proofs.lemmas.Result.{IfOk-from_err}
 use Rattle.semantics.specs.Frameworks.{Framework}
@@ -17,13 +18,13 @@ returns-in_err-step-clause-run g c =
     let f = g.O.Oracle.framework c.args.oracle.now in
     let h = g.O.Oracle.framework c.loop-cover.oracle in
     let inv = c.loop-cover.invariant in
-    let most = 2 * length (g.O.Oracle.log c.uncovered.new.oracle).sides + 2 in
+    let most = 2 * length (g.O.Oracle.log c.find_uncovered.new.oracle).sides + 2 in
     run_handed (MadeOutside f) most f _ _ _ _ _ _ c.in_err-step.field-0.0 c.from_residual.ensures
     (then_same MadeOutside f h (length c.loop-cover.cover.asks) 0 most _ _ _ _ _ _ _ _ _ inv.framework
     (omega (
       arith,
       few_closings f (MadeOutside h) (g.O.Oracle.log c.loop-cover.oracle)
-          (g.O.Oracle.log c.uncovered.new.oracle) c.args.goal c.loop-cover.cover inv.cover
+          (g.O.Oracle.log c.find_uncovered.new.oracle) c.args.goal c.loop-cover.cover inv.cover
           c.in_err-step.ensures.run.grows,
     ))
     inv.run c.in_err-step.ensures.run)
@@ -33,7 +34,7 @@ returns-in-Refuted-clause-accepting g c =
     let f = g.O.Oracle.framework c.args.oracle.now in
     let h = g.O.Oracle.framework c.loop-cover.oracle in
     let inv = c.loop-cover.invariant in
-    accepting_found f h (g.O.Oracle.framework c.uncovered.new.oracle) (g.O.Oracle.log c.uncovered.new.oracle)
+    accepting_found f h (g.O.Oracle.framework c.find_uncovered.new.oracle) (g.O.Oracle.log c.find_uncovered.new.oracle)
     c.args.goal c.loop-cover.cover c.in_ok-step.field-0 c.in-Refuted.step inv.framework
     (c.in_ok-step.ensures.framework ∙ inv.framework) c.in_ok-step.ensures.kept inv.cover.each c.in-Refuted.is
     c.in_ok-step.ensures.uncovered
@@ -44,12 +45,12 @@ returns-in-Refuted-clause-run g c =
     let h = g.O.Oracle.framework c.loop-cover.oracle in
     let inv = c.loop-cover.invariant in
     then_same MadeOutside f h (length c.loop-cover.cover.asks) _ (2 * length (g.O.Oracle.log
-    c.uncovered.new.oracle).sides + 2)
+    c.find_uncovered.new.oracle).sides + 2)
     _ _ _ _ _ _ _ _ _ inv.framework
     (omega (
       arith,
       closes_refuted c.in_ok-step.field-0 c.in-Refuted.step c.in-Refuted.is,
-      few_closings f (MadeOutside h) (g.O.Oracle.log c.loop-cover.oracle) (g.O.Oracle.log c.uncovered.new.oracle)
+      few_closings f (MadeOutside h) (g.O.Oracle.log c.loop-cover.oracle) (g.O.Oracle.log c.find_uncovered.new.oracle)
           c.args.goal c.loop-cover.cover inv.cover c.in_ok-step.ensures.run.grows,
     ))
     inv.run c.in_ok-step.ensures.run
@@ -59,25 +60,27 @@ extend-requires-clause-cover g c =
     let f = g.O.Oracle.framework c.args.oracle.now in
     let h = g.O.Oracle.framework c.loop-cover.oracle in
     let inv = c.loop-cover.invariant in
-    cover_kept f h (g.O.Oracle.framework c.uncovered.new.oracle) (MadeOutside h) (g.O.Oracle.log c.loop-cover.oracle)
-    (g.O.Oracle.log c.uncovered.new.oracle) c.args.goal c.loop-cover.cover inv.framework
+    cover_kept f h (g.O.Oracle.framework c.find_uncovered.new.oracle) (MadeOutside h)
+    (g.O.Oracle.log c.loop-cover.oracle)
+    (g.O.Oracle.log c.find_uncovered.new.oracle) c.args.goal c.loop-cover.cover inv.framework
     c.in_ok-step.ensures.framework c.in_ok-step.ensures.run.grows inv.cover
 
 pub returns-in_err-counter-in-Set-clause-run : goal.returns-in_err-counter-in-Set-clause-run
 returns-in_err-counter-in-Set-clause-run g c =
     let f = g.O.Oracle.framework c.args.oracle.now in
     let h = g.O.Oracle.framework c.loop-cover.oracle in
-    let k = g.O.Oracle.framework c.uncovered.new.oracle in
+    let k = g.O.Oracle.framework c.find_uncovered.new.oracle in
     let asks = c.loop-cover.cover.asks in
     let inv = c.loop-cover.invariant in
     let same = c.in_ok-step.ensures.framework ∙ inv.framework in
     let most = 2 * length (g.O.Oracle.log c.extend.new.oracle).sides + 2 in
     let cover = cover_grown f (MadeOutside h) (g.O.Oracle.log c.loop-cover.oracle)
-    (g.O.Oracle.log c.uncovered.new.oracle) c.args.goal c.loop-cover.cover c.in_ok-step.ensures.run.grows inv.cover in
+    (g.O.Oracle.log c.find_uncovered.new.oracle) c.args.goal c.loop-cover.cover c.in_ok-step.ensures.run.grows inv.cover
+    in
     run_handed (MadeOutside f) most f _ _ _ _ _ _ c.in_err-counter-in-Set.field-0.0
     c.from_residual-in_err-counter-in-Set.ensures
     (then_same MadeOutside f k (length asks) 1 most _ _ _ _ _ _ _ _ _ same
-    (few_closings f (MadeOutside k) (g.O.Oracle.log c.uncovered.new.oracle) (g.O.Oracle.log c.extend.new.oracle)
+    (few_closings f (MadeOutside k) (g.O.Oracle.log c.find_uncovered.new.oracle) (g.O.Oracle.log c.extend.new.oracle)
     c.args.goal c.loop-cover.cover cover c.in_err-counter-in-Set.ensures.run.grows)
     (then_same MadeOutside f h (length asks) _ (length asks) _ _ _ _ _ _ _ _ _ inv.framework
     (omega (arith, closes_set c.in_ok-step.field-0 c.in-Set.set c.in-Set.is)) inv.run c.in_ok-step.ensures.run)
@@ -87,15 +90,16 @@ pub returns-in-Some-clause-run : goal.returns-in-Some-clause-run
 returns-in-Some-clause-run g c =
     let f = g.O.Oracle.framework c.args.oracle.now in
     let h = g.O.Oracle.framework c.loop-cover.oracle in
-    let k = g.O.Oracle.framework c.uncovered.new.oracle in
+    let k = g.O.Oracle.framework c.find_uncovered.new.oracle in
     let asks = c.loop-cover.cover.asks in
     let inv = c.loop-cover.invariant in
     let same = c.in_ok-step.ensures.framework ∙ inv.framework in
     let cover = cover_grown f (MadeOutside h) (g.O.Oracle.log c.loop-cover.oracle)
-    (g.O.Oracle.log c.uncovered.new.oracle) c.args.goal c.loop-cover.cover c.in_ok-step.ensures.run.grows inv.cover in
+    (g.O.Oracle.log c.find_uncovered.new.oracle) c.args.goal c.loop-cover.cover c.in_ok-step.ensures.run.grows inv.cover
+    in
     then_same MadeOutside f k (length asks) 1 (2 * length (g.O.Oracle.log c.extend.new.oracle).sides + 2) _ _ _ _ _ _ _
     _ _ same
-    (few_closings f (MadeOutside k) (g.O.Oracle.log c.uncovered.new.oracle) (g.O.Oracle.log c.extend.new.oracle)
+    (few_closings f (MadeOutside k) (g.O.Oracle.log c.find_uncovered.new.oracle) (g.O.Oracle.log c.extend.new.oracle)
     c.args.goal c.loop-cover.cover cover c.in_ok-counter-in-Set.ensures.run.grows)
     (then_same MadeOutside f h (length asks) _ (length asks) _ _ _ _ _ _ _ _ _ inv.framework
     (omega (arith, closes_set c.in_ok-step.field-0 c.in-Set.set c.in-Set.is)) inv.run c.in_ok-step.ensures.run)
@@ -104,7 +108,7 @@ returns-in-Some-clause-run g c =
 pub loop-cover-smaller : goal.loop-cover-smaller
 loop-cover-smaller g c =
     let f = g.O.Oracle.framework c.args.oracle.now in
-    let k = g.O.Oracle.framework c.uncovered.new.oracle in
+    let k = g.O.Oracle.framework c.find_uncovered.new.oracle in
     let log = g.O.Oracle.log c.extend.new.oracle in
     let same = c.in_ok-step.ensures.framework ∙ c.loop-cover.invariant.framework in
     let more = extended_of f k log c.args.goal c.loop-cover.cover c.extend.new.cover c.in_ok-counter-in-Set.field-0 same
@@ -115,7 +119,7 @@ pub loop-cover-preserved : goal.loop-cover-preserved
 loop-cover-preserved g c =
     let f = g.O.Oracle.framework c.args.oracle.now in
     let h = g.O.Oracle.framework c.loop-cover.oracle in
-    let k = g.O.Oracle.framework c.uncovered.new.oracle in
+    let k = g.O.Oracle.framework c.find_uncovered.new.oracle in
     let asks = c.loop-cover.cover.asks in
     let inv = c.loop-cover.invariant in
     let log = g.O.Oracle.log c.extend.new.oracle in
@@ -123,8 +127,9 @@ loop-cover-preserved g c =
     let more = extended_of f k log c.args.goal c.loop-cover.cover c.extend.new.cover c.in_ok-counter-in-Set.field-0 same
     c.in-None.is c.in_ok-counter-in-Set.ensures.extends in
     let cover = cover_grown f (MadeOutside h) (g.O.Oracle.log c.loop-cover.oracle)
-    (g.O.Oracle.log c.uncovered.new.oracle) c.args.goal c.loop-cover.cover c.in_ok-step.ensures.run.grows inv.cover in
-    let later = cover_grown f (MadeOutside k) (g.O.Oracle.log c.uncovered.new.oracle) log c.args.goal
+    (g.O.Oracle.log c.find_uncovered.new.oracle) c.args.goal c.loop-cover.cover c.in_ok-step.ensures.run.grows inv.cover
+    in
+    let later = cover_grown f (MadeOutside k) (g.O.Oracle.log c.find_uncovered.new.oracle) log c.args.goal
     c.loop-cover.cover c.in_ok-counter-in-Set.ensures.run.grows cover in
     record {
       cover = cover_extended f log c.args.goal c.loop-cover.cover c.extend.new.cover more.0 more.1 later more.2;
@@ -150,19 +155,19 @@ loop-cover-init g c =
       follows = g.met.O.Oracle.stays _;
     }
 
-pub uncovered-requires-clause-goal : goal.uncovered-requires-clause-goal
-uncovered-requires-clause-goal g c =
+pub find_uncovered-requires-clause-goal : goal.find_uncovered-requires-clause-goal
+find_uncovered-requires-clause-goal g c =
     subst (λ (x : Framework). IsKnown x c.args.goal) (sym c.loop-cover.invariant.framework) c.requires
 
-pub uncovered-requires-clause-cover : goal.uncovered-requires-clause-cover
-uncovered-requires-clause-cover g c =
+pub find_uncovered-requires-clause-cover : goal.find_uncovered-requires-clause-cover
+find_uncovered-requires-clause-cover g c =
     subst (λ (x : Framework). IsCover x (g.O.Oracle.log c.loop-cover.oracle) c.args.goal c.loop-cover.cover)
     (sym c.loop-cover.invariant.framework) c.loop-cover.invariant.cover
 
 pub extend-requires-clause-set : goal.extend-requires-clause-set
 extend-requires-clause-set g c =
-    let k = g.O.Oracle.framework c.uncovered.new.oracle in
-    let log = g.O.Oracle.log c.uncovered.new.oracle in
+    let k = g.O.Oracle.framework c.find_uncovered.new.oracle in
+    let log = g.O.Oracle.log c.find_uncovered.new.oracle in
     subst (λ (x : Found). IsUncovered k log c.args.goal c.loop-cover.cover x) c.in-Set.is
     (subst (λ (x : Framework). IsUncovered x log c.args.goal c.loop-cover.cover c.in_ok-step.field-0)
     (sym c.in_ok-step.ensures.framework) c.in_ok-step.ensures.uncovered)
@@ -170,7 +175,8 @@ extend-requires-clause-set g c =
 pub returns-in_err-step-clause-accepting : goal.returns-in_err-step-clause-accepting
 returns-in_err-step-clause-accepting g c =
     IfOk-from_err c.from_residual.result
-    (IsAccepting (g.O.Oracle.framework c.args.oracle.now) (g.O.Oracle.log c.uncovered.new.oracle) c.args.goal) c.from_residual.ensures.0
+    (IsAccepting (g.O.Oracle.framework c.args.oracle.now) (g.O.Oracle.log c.find_uncovered.new.oracle) c.args.goal)
+    c.from_residual.ensures.0
 
 pub returns-in_err-step-clause-framework : goal.returns-in_err-step-clause-framework
 returns-in_err-step-clause-framework g c = c.in_err-step.ensures.framework ∙ c.loop-cover.invariant.framework
@@ -179,7 +185,8 @@ pub returns-in_err-step-clause-kept : goal.returns-in_err-step-clause-kept
 returns-in_err-step-clause-kept g c = c.in_err-step.ensures.kept
 
 pub returns-in_err-step-clause-follows : goal.returns-in_err-step-clause-follows
-returns-in_err-step-clause-follows g c = g.met.O.Oracle.joins _ _ _ c.loop-cover.invariant.follows c.in_err-step.ensures.follows
+returns-in_err-step-clause-follows g c = g.met.O.Oracle.joins _ _ _ c.loop-cover.invariant.follows
+    c.in_err-step.ensures.follows
 
 pub returns-in-Refuted-clause-framework : goal.returns-in-Refuted-clause-framework
 returns-in-Refuted-clause-framework g c = c.in_ok-step.ensures.framework ∙ c.loop-cover.invariant.framework
@@ -188,7 +195,8 @@ pub returns-in-Refuted-clause-kept : goal.returns-in-Refuted-clause-kept
 returns-in-Refuted-clause-kept g c = c.in_ok-step.ensures.kept
 
 pub returns-in-Refuted-clause-follows : goal.returns-in-Refuted-clause-follows
-returns-in-Refuted-clause-follows g c = g.met.O.Oracle.joins _ _ _ c.loop-cover.invariant.follows c.in_ok-step.ensures.follows
+returns-in-Refuted-clause-follows g c = g.met.O.Oracle.joins _ _ _ c.loop-cover.invariant.follows
+    c.in_ok-step.ensures.follows
 
 pub returns-in_err-counter-in-Set-clause-accepting : goal.returns-in_err-counter-in-Set-clause-accepting
 returns-in_err-counter-in-Set-clause-accepting g c =
@@ -197,13 +205,15 @@ returns-in_err-counter-in-Set-clause-accepting g c =
     c.from_residual-in_err-counter-in-Set.ensures.0
 
 pub returns-in_err-counter-in-Set-clause-framework : goal.returns-in_err-counter-in-Set-clause-framework
-returns-in_err-counter-in-Set-clause-framework g c = c.in_err-counter-in-Set.ensures.framework ∙ (c.in_ok-step.ensures.framework ∙ c.loop-cover.invariant.framework)
+returns-in_err-counter-in-Set-clause-framework g c = c.in_err-counter-in-Set.ensures.framework ∙
+    (c.in_ok-step.ensures.framework ∙ c.loop-cover.invariant.framework)
 
 pub returns-in_err-counter-in-Set-clause-kept : goal.returns-in_err-counter-in-Set-clause-kept
 returns-in_err-counter-in-Set-clause-kept g c = c.in_err-counter-in-Set.ensures.kept
 
 pub returns-in_err-counter-in-Set-clause-follows : goal.returns-in_err-counter-in-Set-clause-follows
-returns-in_err-counter-in-Set-clause-follows g c = g.met.O.Oracle.joins _ _ _ (g.met.O.Oracle.joins _ _ _ c.loop-cover.invariant.follows c.in_ok-step.ensures.follows)
+returns-in_err-counter-in-Set-clause-follows g c = g.met.O.Oracle.joins _ _ _
+    (g.met.O.Oracle.joins _ _ _ c.loop-cover.invariant.follows c.in_ok-step.ensures.follows)
     c.in_err-counter-in-Set.ensures.follows
 
 pub returns-in-Some-clause-accepting : goal.returns-in-Some-clause-accepting
@@ -217,11 +227,13 @@ returns-in-Some-clause-accepting g c =
     (c.in_ok-step.ensures.framework ∙ c.loop-cover.invariant.framework) c.in_ok-counter-in-Set.ensures.extends)
 
 pub returns-in-Some-clause-framework : goal.returns-in-Some-clause-framework
-returns-in-Some-clause-framework g c = c.in_ok-counter-in-Set.ensures.framework ∙ (c.in_ok-step.ensures.framework ∙ c.loop-cover.invariant.framework)
+returns-in-Some-clause-framework g c = c.in_ok-counter-in-Set.ensures.framework ∙
+    (c.in_ok-step.ensures.framework ∙ c.loop-cover.invariant.framework)
 
 pub returns-in-Some-clause-kept : goal.returns-in-Some-clause-kept
 returns-in-Some-clause-kept g c = c.in_ok-counter-in-Set.ensures.kept
 
 pub returns-in-Some-clause-follows : goal.returns-in-Some-clause-follows
-returns-in-Some-clause-follows g c = g.met.O.Oracle.joins _ _ _ (g.met.O.Oracle.joins _ _ _ c.loop-cover.invariant.follows c.in_ok-step.ensures.follows)
+returns-in-Some-clause-follows g c = g.met.O.Oracle.joins _ _ _
+    (g.met.O.Oracle.joins _ _ _ c.loop-cover.invariant.follows c.in_ok-step.ensures.follows)
     c.in_ok-counter-in-Set.ensures.follows

@@ -4,7 +4,8 @@ use Rattle.plain_lits.specs.declared.halt.Halt.TheVariants.{Memory}
 use Rattle.goal_lists.proofs.Calls.{closes_refuted, closes_set, makes_same, run_handed, then_refused}
 use Rattle.enumerate_block.specs.semi_stable.specs.Widest.{MadeWider}
 use Rattle.enumerate_block.proofs.RangeLemmas.{log_kept, two_more}
-use Rattle.enumerate_block.proofs.WitnessLemmas.{cover_extended, cover_grown, extended_of, few_closings, fewer_open, no_witness, then_call, witness_of, cover_empty}
+use Rattle.enumerate_block.proofs.WitnessLemmas.{cover_extended, cover_grown, extended_of, few_closings}
+use Rattle.enumerate_block.proofs.WitnessLemmas.{fewer_open, no_witness, then_call, witness_of, cover_empty}
 use Rattle.std.specs.Prelude.{Contains}
 use Rattle.std.proofs.lemmas.Result.{IfOk-from_err}
 use Rattle.semantics.specs.Frameworks.{Framework}
@@ -20,12 +21,12 @@ returns-in_err-step-clause-run g c =
     let f = g.O.Oracle.framework c.args.oracle.now in
     let h = g.O.Oracle.framework c.loop-cover.oracle in
     let inv = c.loop-cover.invariant in
-    let most = 2 * length (g.O.Oracle.log c.uncovered.new.oracle).sides + 2 in
+    let most = 2 * length (g.O.Oracle.log c.find_uncovered.new.oracle).sides + 2 in
     run_handed (MadeWider f Ad) most f _ _ _ _ _ _ c.in_err-step.field-0.0 c.from_residual.ensures
     (then_call f h (2 * length c.loop-cover.cover.asks) 0 most _ _ _ _ _ _ _ _ _ inv.framework
     (omega (
       arith,
-      few_closings f (MadeWider h Ad) (g.O.Oracle.log c.loop-cover.oracle) (g.O.Oracle.log c.uncovered.new.oracle)
+      few_closings f (MadeWider h Ad) (g.O.Oracle.log c.loop-cover.oracle) (g.O.Oracle.log c.find_uncovered.new.oracle)
           c.args.goal c.args.accepted c.loop-cover.cover inv.cover c.in_err-step.ensures.run.grows,
     ))
     inv.run c.in_err-step.ensures.run)
@@ -35,7 +36,7 @@ returns-in_err-steps-in-Refuted-clause-run g c =
     let f = g.O.Oracle.framework c.args.oracle.now in
     let h = g.O.Oracle.framework c.loop-cover.oracle in
     let inv = c.loop-cover.invariant in
-    let most = 2 * length (g.O.Oracle.log c.uncovered.new.oracle).sides + 2 in
+    let most = 2 * length (g.O.Oracle.log c.find_uncovered.new.oracle).sides + 2 in
     let same : most ≤ most = omega arith in
     run_handed (MadeWider f Ad) most f _ _ _ _ _ _ Memory c.from_residual-in_err-steps-in-Refuted.ensures
     (then_refused (MadeWider f Ad) (MadeWider f Ad) most most f _ _ _ _ _ (makes_same (MadeWider f Ad)) same
@@ -43,7 +44,7 @@ returns-in_err-steps-in-Refuted-clause-run g c =
     (omega (
       arith,
       closes_refuted c.in_ok-step.field-0 c.in-Refuted.step c.in-Refuted.is,
-      few_closings f (MadeWider h Ad) (g.O.Oracle.log c.loop-cover.oracle) (g.O.Oracle.log c.uncovered.new.oracle)
+      few_closings f (MadeWider h Ad) (g.O.Oracle.log c.loop-cover.oracle) (g.O.Oracle.log c.find_uncovered.new.oracle)
           c.args.goal c.args.accepted c.loop-cover.cover inv.cover c.in_ok-step.ensures.run.grows,
     ))
     inv.run c.in_ok-step.ensures.run))
@@ -53,11 +54,11 @@ returns-in-Refuted-clause-decided g c =
     let f = g.O.Oracle.framework c.args.oracle.now in
     let h = g.O.Oracle.framework c.loop-cover.oracle in
     let inv = c.loop-cover.invariant in
-    no_witness f h (g.O.Oracle.framework c.uncovered.new.oracle) (g.O.Oracle.log c.uncovered.new.oracle)
+    no_witness f h (g.O.Oracle.framework c.find_uncovered.new.oracle) (g.O.Oracle.log c.find_uncovered.new.oracle)
     c.args.goal c.args.accepted c.loop-cover.cover c.in_ok-step.field-0 c.in-Refuted.step
     c.in_ok-steps-in-Refuted.steps inv.framework (c.in_ok-step.ensures.framework ∙ inv.framework)
     c.in_ok-step.ensures.kept
-    (cover_grown f (MadeWider h Ad) (g.O.Oracle.log c.loop-cover.oracle) (g.O.Oracle.log c.uncovered.new.oracle)
+    (cover_grown f (MadeWider h Ad) (g.O.Oracle.log c.loop-cover.oracle) (g.O.Oracle.log c.find_uncovered.new.oracle)
     c.args.goal c.args.accepted c.loop-cover.cover
     (log_kept f h (g.O.Oracle.log c.loop-cover.oracle) inv.framework inv.kept)
     c.in_ok-step.ensures.run.grows inv.cover)
@@ -68,12 +69,13 @@ returns-in-Refuted-clause-run g c =
     let f = g.O.Oracle.framework c.args.oracle.now in
     let h = g.O.Oracle.framework c.loop-cover.oracle in
     let inv = c.loop-cover.invariant in
-    then_call f h (2 * length c.loop-cover.cover.asks) _ (2 * length (g.O.Oracle.log c.uncovered.new.oracle).sides + 2)
+    then_call f h (2 * length c.loop-cover.cover.asks) _ (2 * length (g.O.Oracle.log c.find_uncovered.new.oracle).sides
+    + 2)
     _ _ _ _ _ _ _ _ _ inv.framework
     (omega (
       arith,
       closes_refuted c.in_ok-step.field-0 c.in-Refuted.step c.in-Refuted.is,
-      few_closings f (MadeWider h Ad) (g.O.Oracle.log c.loop-cover.oracle) (g.O.Oracle.log c.uncovered.new.oracle)
+      few_closings f (MadeWider h Ad) (g.O.Oracle.log c.loop-cover.oracle) (g.O.Oracle.log c.find_uncovered.new.oracle)
           c.args.goal c.args.accepted c.loop-cover.cover inv.cover c.in_ok-step.ensures.run.grows,
     ))
     inv.run c.in_ok-step.ensures.run
@@ -82,19 +84,19 @@ pub returns-in_err-witness-in-Set-clause-run : goal.returns-in_err-witness-in-Se
 returns-in_err-witness-in-Set-clause-run g c =
     let f = g.O.Oracle.framework c.args.oracle.now in
     let h = g.O.Oracle.framework c.loop-cover.oracle in
-    let k = g.O.Oracle.framework c.uncovered.new.oracle in
+    let k = g.O.Oracle.framework c.find_uncovered.new.oracle in
     let asks = c.loop-cover.cover.asks in
     let inv = c.loop-cover.invariant in
     let same = c.in_ok-step.ensures.framework ∙ inv.framework in
     let most = 2 * length (g.O.Oracle.log c.extend.new.oracle).sides + 2 in
     let cover = cover_grown f (MadeWider h Ad) (g.O.Oracle.log c.loop-cover.oracle)
-    (g.O.Oracle.log c.uncovered.new.oracle) c.args.goal c.args.accepted c.loop-cover.cover
+    (g.O.Oracle.log c.find_uncovered.new.oracle) c.args.goal c.args.accepted c.loop-cover.cover
     (log_kept f h (g.O.Oracle.log c.loop-cover.oracle) inv.framework inv.kept) c.in_ok-step.ensures.run.grows
     inv.cover in
     run_handed (MadeWider f Ad) most f _ _ _ _ _ _ c.in_err-witness-in-Set.field-0.0
     c.from_residual-in_err-witness-in-Set.ensures
     (then_call f k (2 * length asks) 2 most _ _ _ _ _ _ _ _ _ same
-    (few_closings f (MadeWider k Ad) (g.O.Oracle.log c.uncovered.new.oracle) (g.O.Oracle.log c.extend.new.oracle)
+    (few_closings f (MadeWider k Ad) (g.O.Oracle.log c.find_uncovered.new.oracle) (g.O.Oracle.log c.extend.new.oracle)
     c.args.goal c.args.accepted c.loop-cover.cover cover c.in_err-witness-in-Set.ensures.run.grows)
     (then_call f h (2 * length asks) _ (2 * length asks) _ _ _ _ _ _ _ _ _ inv.framework
     (omega (arith, closes_set c.in_ok-step.field-0 c.in-Set.set c.in-Set.is)) inv.run c.in_ok-step.ensures.run)
@@ -102,7 +104,7 @@ returns-in_err-witness-in-Set-clause-run g c =
 
 pub returns-in-Some-clause-decided : goal.returns-in-Some-clause-decided
 returns-in-Some-clause-decided g c =
-    witness_of (g.O.Oracle.framework c.args.oracle.now) (g.O.Oracle.framework c.uncovered.new.oracle)
+    witness_of (g.O.Oracle.framework c.args.oracle.now) (g.O.Oracle.framework c.find_uncovered.new.oracle)
     (g.O.Oracle.log c.extend.new.oracle) c.args.goal c.args.accepted c.loop-cover.cover c.extend.new.cover
     c.in_ok-witness-in-Set.field-0 c.in-Some.witness
     (c.in_ok-step.ensures.framework ∙ c.loop-cover.invariant.framework) c.in-Some.is
@@ -112,17 +114,17 @@ pub returns-in-Some-clause-run : goal.returns-in-Some-clause-run
 returns-in-Some-clause-run g c =
     let f = g.O.Oracle.framework c.args.oracle.now in
     let h = g.O.Oracle.framework c.loop-cover.oracle in
-    let k = g.O.Oracle.framework c.uncovered.new.oracle in
+    let k = g.O.Oracle.framework c.find_uncovered.new.oracle in
     let asks = c.loop-cover.cover.asks in
     let inv = c.loop-cover.invariant in
     let same = c.in_ok-step.ensures.framework ∙ inv.framework in
     let cover = cover_grown f (MadeWider h Ad) (g.O.Oracle.log c.loop-cover.oracle)
-    (g.O.Oracle.log c.uncovered.new.oracle) c.args.goal c.args.accepted c.loop-cover.cover
+    (g.O.Oracle.log c.find_uncovered.new.oracle) c.args.goal c.args.accepted c.loop-cover.cover
     (log_kept f h (g.O.Oracle.log c.loop-cover.oracle) inv.framework inv.kept) c.in_ok-step.ensures.run.grows
     inv.cover in
     then_call f k (2 * length asks) 2 (2 * length (g.O.Oracle.log c.extend.new.oracle).sides + 2) _ _ _ _ _ _ _ _ _
     same
-    (few_closings f (MadeWider k Ad) (g.O.Oracle.log c.uncovered.new.oracle) (g.O.Oracle.log c.extend.new.oracle)
+    (few_closings f (MadeWider k Ad) (g.O.Oracle.log c.find_uncovered.new.oracle) (g.O.Oracle.log c.extend.new.oracle)
     c.args.goal c.args.accepted c.loop-cover.cover cover c.in_ok-witness-in-Set.ensures.run.grows)
     (then_call f h (2 * length asks) _ (2 * length asks) _ _ _ _ _ _ _ _ _ inv.framework
     (omega (arith, closes_set c.in_ok-step.field-0 c.in-Set.set c.in-Set.is)) inv.run c.in_ok-step.ensures.run)
@@ -137,7 +139,7 @@ returns-in-Some-clause-follows g c =
 pub loop-cover-smaller : goal.loop-cover-smaller
 loop-cover-smaller g c =
     let f = g.O.Oracle.framework c.args.oracle.now in
-    let k = g.O.Oracle.framework c.uncovered.new.oracle in
+    let k = g.O.Oracle.framework c.find_uncovered.new.oracle in
     let log = g.O.Oracle.log c.extend.new.oracle in
     let same = c.in_ok-step.ensures.framework ∙ c.loop-cover.invariant.framework in
     let more = extended_of f k log c.args.goal c.args.accepted c.loop-cover.cover c.extend.new.cover
@@ -149,7 +151,7 @@ pub loop-cover-preserved : goal.loop-cover-preserved
 loop-cover-preserved g c =
     let f = g.O.Oracle.framework c.args.oracle.now in
     let h = g.O.Oracle.framework c.loop-cover.oracle in
-    let k = g.O.Oracle.framework c.uncovered.new.oracle in
+    let k = g.O.Oracle.framework c.find_uncovered.new.oracle in
     let asks = c.loop-cover.cover.asks in
     let inv = c.loop-cover.invariant in
     let log = g.O.Oracle.log c.extend.new.oracle in
@@ -157,11 +159,12 @@ loop-cover-preserved g c =
     let more = extended_of f k log c.args.goal c.args.accepted c.loop-cover.cover c.extend.new.cover
     c.in_ok-witness-in-Set.field-0 same c.in-None.is c.in_ok-witness-in-Set.ensures.extends in
     let cover = cover_grown f (MadeWider h Ad) (g.O.Oracle.log c.loop-cover.oracle)
-    (g.O.Oracle.log c.uncovered.new.oracle) c.args.goal c.args.accepted c.loop-cover.cover
+    (g.O.Oracle.log c.find_uncovered.new.oracle) c.args.goal c.args.accepted c.loop-cover.cover
     (log_kept f h (g.O.Oracle.log c.loop-cover.oracle) inv.framework inv.kept) c.in_ok-step.ensures.run.grows
     inv.cover in
-    let later = cover_grown f (MadeWider k Ad) (g.O.Oracle.log c.uncovered.new.oracle) log c.args.goal c.args.accepted
-    c.loop-cover.cover (log_kept f k (g.O.Oracle.log c.uncovered.new.oracle) same c.in_ok-step.ensures.kept)
+    let later = cover_grown f (MadeWider k Ad) (g.O.Oracle.log c.find_uncovered.new.oracle) log c.args.goal
+    c.args.accepted
+    c.loop-cover.cover (log_kept f k (g.O.Oracle.log c.find_uncovered.new.oracle) same c.in_ok-step.ensures.kept)
     c.in_ok-witness-in-Set.ensures.run.grows cover in
     record {
       cover = cover_extended f log c.args.goal c.args.accepted c.loop-cover.cover c.extend.new.cover more.0 more.1
@@ -189,12 +192,12 @@ loop-cover-init g c =
       follows = g.met.O.Oracle.stays _;
     }
 
-pub uncovered-requires-clause-goal : goal.uncovered-requires-clause-goal
-uncovered-requires-clause-goal g c =
+pub find_uncovered-requires-clause-goal : goal.find_uncovered-requires-clause-goal
+find_uncovered-requires-clause-goal g c =
     subst (λ (x : Framework). Contains (members x) c.args.goal) (sym c.loop-cover.invariant.framework) c.requires.goal
 
-pub uncovered-requires-clause-cover : goal.uncovered-requires-clause-cover
-uncovered-requires-clause-cover g c =
+pub find_uncovered-requires-clause-cover : goal.find_uncovered-requires-clause-cover
+find_uncovered-requires-clause-cover g c =
     subst (λ (x : Framework). IsCover x (g.O.Oracle.log c.loop-cover.oracle) c.args.goal c.args.accepted
     c.loop-cover.cover)
     (sym c.loop-cover.invariant.framework) c.loop-cover.invariant.cover
@@ -202,7 +205,8 @@ uncovered-requires-clause-cover g c =
 pub returns-in_err-step-clause-decided : goal.returns-in_err-step-clause-decided
 returns-in_err-step-clause-decided g c =
     IfOk-from_err c.from_residual.result
-    (IsDecided (g.O.Oracle.framework c.args.oracle.now) (g.O.Oracle.log c.uncovered.new.oracle) c.args.goal c.args.accepted)
+    (IsDecided (g.O.Oracle.framework c.args.oracle.now) (g.O.Oracle.log c.find_uncovered.new.oracle) c.args.goal
+    c.args.accepted)
     c.from_residual.ensures.0
 
 pub returns-in_err-step-clause-framework : goal.returns-in_err-step-clause-framework
@@ -212,12 +216,14 @@ pub returns-in_err-step-clause-kept : goal.returns-in_err-step-clause-kept
 returns-in_err-step-clause-kept g c = c.in_err-step.ensures.kept
 
 pub returns-in_err-step-clause-follows : goal.returns-in_err-step-clause-follows
-returns-in_err-step-clause-follows g c = g.met.O.Oracle.joins _ _ _ c.loop-cover.invariant.follows c.in_err-step.ensures.follows
+returns-in_err-step-clause-follows g c = g.met.O.Oracle.joins _ _ _ c.loop-cover.invariant.follows
+    c.in_err-step.ensures.follows
 
 pub returns-in_err-steps-in-Refuted-clause-decided : goal.returns-in_err-steps-in-Refuted-clause-decided
 returns-in_err-steps-in-Refuted-clause-decided g c =
     IfOk-from_err c.from_residual-in_err-steps-in-Refuted.result
-    (IsDecided (g.O.Oracle.framework c.args.oracle.now) (g.O.Oracle.log c.uncovered.new.oracle) c.args.goal c.args.accepted)
+    (IsDecided (g.O.Oracle.framework c.args.oracle.now) (g.O.Oracle.log c.find_uncovered.new.oracle) c.args.goal
+    c.args.accepted)
     c.from_residual-in_err-steps-in-Refuted.ensures.0
 
 pub returns-in_err-steps-in-Refuted-clause-framework : goal.returns-in_err-steps-in-Refuted-clause-framework
@@ -227,7 +233,8 @@ pub returns-in_err-steps-in-Refuted-clause-kept : goal.returns-in_err-steps-in-R
 returns-in_err-steps-in-Refuted-clause-kept g c = c.in_ok-step.ensures.kept
 
 pub returns-in_err-steps-in-Refuted-clause-follows : goal.returns-in_err-steps-in-Refuted-clause-follows
-returns-in_err-steps-in-Refuted-clause-follows g c = g.met.O.Oracle.joins _ _ _ c.loop-cover.invariant.follows c.in_ok-step.ensures.follows
+returns-in_err-steps-in-Refuted-clause-follows g c = g.met.O.Oracle.joins _ _ _ c.loop-cover.invariant.follows
+    c.in_ok-step.ensures.follows
 
 pub returns-in-Refuted-clause-framework : goal.returns-in-Refuted-clause-framework
 returns-in-Refuted-clause-framework g c = c.in_ok-step.ensures.framework ∙ c.loop-cover.invariant.framework
@@ -236,20 +243,23 @@ pub returns-in-Refuted-clause-kept : goal.returns-in-Refuted-clause-kept
 returns-in-Refuted-clause-kept g c = c.in_ok-step.ensures.kept
 
 pub returns-in-Refuted-clause-follows : goal.returns-in-Refuted-clause-follows
-returns-in-Refuted-clause-follows g c = g.met.O.Oracle.joins _ _ _ c.loop-cover.invariant.follows c.in_ok-step.ensures.follows
+returns-in-Refuted-clause-follows g c = g.met.O.Oracle.joins _ _ _ c.loop-cover.invariant.follows
+    c.in_ok-step.ensures.follows
 
 pub extend-requires-clause-kind : goal.extend-requires-clause-kind
-extend-requires-clause-kind g c = ap is_assumption_based (c.in_ok-step.ensures.framework ∙ c.loop-cover.invariant.framework) ∙ c.requires.kind
+extend-requires-clause-kind g c = ap is_assumption_based (c.in_ok-step.ensures.framework ∙
+    c.loop-cover.invariant.framework) ∙ c.requires.kind
 
 pub extend-requires-clause-goal : goal.extend-requires-clause-goal
 extend-requires-clause-goal g c =
-    subst (λ (x : Framework). Contains (members x) c.args.goal) (sym (c.in_ok-step.ensures.framework ∙ c.loop-cover.invariant.framework))
+    subst (λ (x : Framework). Contains (members x) c.args.goal)
+    (sym (c.in_ok-step.ensures.framework ∙ c.loop-cover.invariant.framework))
     c.requires.goal
 
 pub extend-requires-clause-set : goal.extend-requires-clause-set
 extend-requires-clause-set g c =
-    let k = g.O.Oracle.framework c.uncovered.new.oracle in
-    let log = g.O.Oracle.log c.uncovered.new.oracle in
+    let k = g.O.Oracle.framework c.find_uncovered.new.oracle in
+    let log = g.O.Oracle.log c.find_uncovered.new.oracle in
     subst (λ (x : Found). IsUncovered k log c.args.goal c.args.accepted c.loop-cover.cover x) c.in-Set.is
     (subst (λ (x : Framework). IsUncovered x log c.args.goal c.args.accepted c.loop-cover.cover c.in_ok-step.field-0)
     (sym c.in_ok-step.ensures.framework) c.in_ok-step.ensures.uncovered)
@@ -257,21 +267,25 @@ extend-requires-clause-set g c =
 pub returns-in_err-witness-in-Set-clause-decided : goal.returns-in_err-witness-in-Set-clause-decided
 returns-in_err-witness-in-Set-clause-decided g c =
     IfOk-from_err c.from_residual-in_err-witness-in-Set.result
-    (IsDecided (g.O.Oracle.framework c.args.oracle.now) (g.O.Oracle.log c.extend.new.oracle) c.args.goal c.args.accepted)
+    (IsDecided (g.O.Oracle.framework c.args.oracle.now) (g.O.Oracle.log c.extend.new.oracle) c.args.goal
+    c.args.accepted)
     c.from_residual-in_err-witness-in-Set.ensures.0
 
 pub returns-in_err-witness-in-Set-clause-framework : goal.returns-in_err-witness-in-Set-clause-framework
-returns-in_err-witness-in-Set-clause-framework g c = c.in_err-witness-in-Set.ensures.framework ∙ (c.in_ok-step.ensures.framework ∙ c.loop-cover.invariant.framework)
+returns-in_err-witness-in-Set-clause-framework g c = c.in_err-witness-in-Set.ensures.framework ∙
+    (c.in_ok-step.ensures.framework ∙ c.loop-cover.invariant.framework)
 
 pub returns-in_err-witness-in-Set-clause-kept : goal.returns-in_err-witness-in-Set-clause-kept
 returns-in_err-witness-in-Set-clause-kept g c = c.in_err-witness-in-Set.ensures.kept
 
 pub returns-in_err-witness-in-Set-clause-follows : goal.returns-in_err-witness-in-Set-clause-follows
-returns-in_err-witness-in-Set-clause-follows g c = g.met.O.Oracle.joins _ _ _ (g.met.O.Oracle.joins _ _ _ c.loop-cover.invariant.follows c.in_ok-step.ensures.follows)
+returns-in_err-witness-in-Set-clause-follows g c = g.met.O.Oracle.joins _ _ _
+    (g.met.O.Oracle.joins _ _ _ c.loop-cover.invariant.follows c.in_ok-step.ensures.follows)
     c.in_err-witness-in-Set.ensures.follows
 
 pub returns-in-Some-clause-framework : goal.returns-in-Some-clause-framework
-returns-in-Some-clause-framework g c = c.in_ok-witness-in-Set.ensures.framework ∙ (c.in_ok-step.ensures.framework ∙ c.loop-cover.invariant.framework)
+returns-in-Some-clause-framework g c = c.in_ok-witness-in-Set.ensures.framework ∙
+    (c.in_ok-step.ensures.framework ∙ c.loop-cover.invariant.framework)
 
 pub returns-in-Some-clause-kept : goal.returns-in-Some-clause-kept
 returns-in-Some-clause-kept g c = c.in_ok-witness-in-Set.ensures.kept

@@ -4,13 +4,13 @@ use Rattle.enumerate_block.proofs.deciding.within_range.Goals as goal
 
 pub search_for-requires : goal.search_for-requires
 search_for-requires g c =
-    let wanted = c.wanted_for-wanted.result in
+    let wanted = c.goals_wanted-wanted.result in
     let are : AreFor c.args.goal c.args.accepted c.args.widest.now.range [] wanted.ins.now wanted.outs.now
     wanted.ranged.now wanted.asks.now = record {
-      ins_are = c.wanted_for-wanted.ensures.ins;
-      outs_are = c.wanted_for-wanted.ensures.outs;
-      ranged_are = c.wanted_for-wanted.ensures.ranged ∙ c.as_slice.ensures.value;
-      asks_are = c.wanted_for-wanted.ensures.asks;
+      ins_are = c.goals_wanted-wanted.ensures.ins;
+      outs_are = c.goals_wanted-wanted.ensures.outs;
+      ranged_are = c.goals_wanted-wanted.ensures.ranged ∙ c.as_slice.ensures.value;
+      asks_are = c.goals_wanted-wanted.ensures.asks;
     } in
     may_ask_within (g.O.Oracle.framework c.args.oracle.now) (g.O.Oracle.log c.args.oracle.now) c.args.goal
     c.args.accepted c.args.widest.now _ _ _ _ are c.members-members.ensures.kept.numbered c.requires.goal
@@ -18,13 +18,13 @@ search_for-requires g c =
 
 pub returns-clause-within : goal.returns-clause-within
 returns-clause-within g c =
-    let wanted = c.wanted_for-wanted.result in
+    let wanted = c.goals_wanted-wanted.result in
     let are : AreFor c.args.goal c.args.accepted c.args.widest.now.range [] wanted.ins.now wanted.outs.now
     wanted.ranged.now wanted.asks.now = record {
-      ins_are = c.wanted_for-wanted.ensures.ins;
-      outs_are = c.wanted_for-wanted.ensures.outs;
-      ranged_are = c.wanted_for-wanted.ensures.ranged ∙ c.as_slice.ensures.value;
-      asks_are = c.wanted_for-wanted.ensures.asks;
+      ins_are = c.goals_wanted-wanted.ensures.ins;
+      outs_are = c.goals_wanted-wanted.ensures.outs;
+      ranged_are = c.goals_wanted-wanted.ensures.ranged ∙ c.as_slice.ensures.value;
+      asks_are = c.goals_wanted-wanted.ensures.asks;
     } in
     if_within (g.O.Oracle.framework c.args.oracle.now) (g.O.Oracle.log c.search_for.new.oracle) c.args.goal
     c.args.accepted c.args.widest.now _ _ _ _ are c.members-members.ensures.kept.numbered c.requires.range

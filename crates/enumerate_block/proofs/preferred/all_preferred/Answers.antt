@@ -1,7 +1,8 @@
 use Rattle.std.proofs.Common.{◌∙◌, ◌+◌, ◌*◌, length, arith, subst, sym}
 use Rattle.enumerate_block.specs.goal_lists.proofs.Calls.{closes_refuted, closes_set, run_handed, then_same}
 use Rattle.cegar_preferred.specs.Largest.{MadeOutside}
-use Rattle.enumerate_block.proofs.PreferredLemmas.{all_refuted, few_closings, fewer_open, found_kept, found_later, not_recorded, one_more, recorded}
+use Rattle.enumerate_block.proofs.PreferredLemmas.{all_refuted, few_closings, fewer_open, found_kept, found_later}
+use Rattle.enumerate_block.proofs.PreferredLemmas.{not_recorded, one_more, recorded}
 use Rattle.std.proofs.lemmas.Result.{IfOk-from_err}
 use Rattle.semantics.specs.Frameworks.{Framework}
 use Rattle.oracle_face.specs.declared.face.Found.{Found}
@@ -13,12 +14,12 @@ returns-in_err-step-clause-run g c =
     let f = g.O.Oracle.framework c.args.oracle.now in
     let h = g.O.Oracle.framework c.loop-found.oracle in
     let inv = c.loop-found.invariant in
-    let most = 2 * length (g.O.Oracle.log c.uncovered.new.oracle).sides + 2 in
+    let most = 2 * length (g.O.Oracle.log c.find_uncovered.new.oracle).sides + 2 in
     run_handed (MadeOutside f) most f _ _ _ _ _ _ c.in_err-step.field-0.0 c.from_residual.ensures
     (then_same MadeOutside f h (length c.loop-found.found.asks) 0 most _ _ _ _ _ _ _ _ _ inv.framework
     (omega (
       arith,
-      few_closings f (MadeOutside h) (g.O.Oracle.log c.loop-found.oracle) (g.O.Oracle.log c.uncovered.new.oracle)
+      few_closings f (MadeOutside h) (g.O.Oracle.log c.loop-found.oracle) (g.O.Oracle.log c.find_uncovered.new.oracle)
           c.loop-found.found inv.found c.in_err-step.ensures.run.grows,
     ))
     inv.run c.in_err-step.ensures.run)
@@ -28,10 +29,10 @@ returns-in-Refuted-clause-listed g c =
     let f = g.O.Oracle.framework c.args.oracle.now in
     let h = g.O.Oracle.framework c.loop-found.oracle in
     let inv = c.loop-found.invariant in
-    all_refuted f h (g.O.Oracle.framework c.uncovered.new.oracle) (g.O.Oracle.log c.uncovered.new.oracle)
+    all_refuted f h (g.O.Oracle.framework c.find_uncovered.new.oracle) (g.O.Oracle.log c.find_uncovered.new.oracle)
     c.args.limit c.loop-found.found c.in_ok-step.field-0 c.in-Refuted.step inv.framework
     (c.in_ok-step.ensures.framework ∙ inv.framework) c.in_ok-step.ensures.kept
-    (found_later f h (MadeOutside h) (g.O.Oracle.log c.loop-found.oracle) (g.O.Oracle.log c.uncovered.new.oracle)
+    (found_later f h (MadeOutside h) (g.O.Oracle.log c.loop-found.oracle) (g.O.Oracle.log c.find_uncovered.new.oracle)
     c.loop-found.found inv.framework inv.kept c.in_ok-step.ensures.run.grows inv.found) inv.room
     c.in-Refuted.is c.in_ok-step.ensures.uncovered
 
@@ -41,12 +42,12 @@ returns-in-Refuted-clause-run g c =
     let h = g.O.Oracle.framework c.loop-found.oracle in
     let inv = c.loop-found.invariant in
     then_same MadeOutside f h (length c.loop-found.found.asks) _ (2 * length (g.O.Oracle.log
-    c.uncovered.new.oracle).sides + 2)
+    c.find_uncovered.new.oracle).sides + 2)
     _ _ _ _ _ _ _ _ _ inv.framework
     (omega (
       arith,
       closes_refuted c.in_ok-step.field-0 c.in-Refuted.step c.in-Refuted.is,
-      few_closings f (MadeOutside h) (g.O.Oracle.log c.loop-found.oracle) (g.O.Oracle.log c.uncovered.new.oracle)
+      few_closings f (MadeOutside h) (g.O.Oracle.log c.loop-found.oracle) (g.O.Oracle.log c.find_uncovered.new.oracle)
           c.loop-found.found inv.found c.in_ok-step.ensures.run.grows,
     ))
     inv.run c.in_ok-step.ensures.run
@@ -56,26 +57,29 @@ record_grown-requires-clause-found g c =
     let f = g.O.Oracle.framework c.args.oracle.now in
     let h = g.O.Oracle.framework c.loop-found.oracle in
     let inv = c.loop-found.invariant in
-    found_kept f h (g.O.Oracle.framework c.uncovered.new.oracle) (MadeOutside h) (g.O.Oracle.log c.loop-found.oracle)
-    (g.O.Oracle.log c.uncovered.new.oracle) c.loop-found.found inv.framework c.in_ok-step.ensures.framework
+    found_kept f h (g.O.Oracle.framework c.find_uncovered.new.oracle) (MadeOutside h)
+    (g.O.Oracle.log c.loop-found.oracle)
+    (g.O.Oracle.log c.find_uncovered.new.oracle) c.loop-found.found inv.framework c.in_ok-step.ensures.framework
     inv.kept c.in_ok-step.ensures.run.grows inv.found
 
 pub returns-in_err-room-in-Set-clause-run : goal.returns-in_err-room-in-Set-clause-run
 returns-in_err-room-in-Set-clause-run g c =
     let f = g.O.Oracle.framework c.args.oracle.now in
     let h = g.O.Oracle.framework c.loop-found.oracle in
-    let k = g.O.Oracle.framework c.uncovered.new.oracle in
+    let k = g.O.Oracle.framework c.find_uncovered.new.oracle in
     let asks = c.loop-found.found.asks in
     let inv = c.loop-found.invariant in
     let same = c.in_ok-step.ensures.framework ∙ inv.framework in
     let most = 2 * length (g.O.Oracle.log c.record_grown.new.oracle).sides + 2 in
     let found = found_later f h (MadeOutside h) (g.O.Oracle.log c.loop-found.oracle)
-    (g.O.Oracle.log c.uncovered.new.oracle) c.loop-found.found inv.framework inv.kept c.in_ok-step.ensures.run.grows
+    (g.O.Oracle.log c.find_uncovered.new.oracle) c.loop-found.found inv.framework inv.kept
+    c.in_ok-step.ensures.run.grows
     inv.found in
     run_handed (MadeOutside f) most f _ _ _ _ _ _ c.in_err-room-in-Set.field-0.0
     c.from_residual-in_err-room-in-Set.ensures
     (then_same MadeOutside f k (length asks) 1 most _ _ _ _ _ _ _ _ _ same
-    (few_closings f (MadeOutside k) (g.O.Oracle.log c.uncovered.new.oracle) (g.O.Oracle.log c.record_grown.new.oracle)
+    (few_closings f (MadeOutside k) (g.O.Oracle.log c.find_uncovered.new.oracle)
+    (g.O.Oracle.log c.record_grown.new.oracle)
     c.loop-found.found found c.in_err-room-in-Set.ensures.run.grows)
     (then_same MadeOutside f h (length asks) _ (length asks) _ _ _ _ _ _ _ _ _ inv.framework
     (omega (arith, closes_set c.in_ok-step.field-0 c.in-Set.set c.in-Set.is)) inv.run c.in_ok-step.ensures.run)
@@ -83,7 +87,7 @@ returns-in_err-room-in-Set-clause-run g c =
 
 pub returns-then-not-room-clause-listed : goal.returns-then-not-room-clause-listed
 returns-then-not-room-clause-listed g c =
-    not_recorded (g.O.Oracle.framework c.args.oracle.now) (g.O.Oracle.framework c.uncovered.new.oracle)
+    not_recorded (g.O.Oracle.framework c.args.oracle.now) (g.O.Oracle.framework c.find_uncovered.new.oracle)
     (g.O.Oracle.log c.record_grown.new.oracle) c.args.limit c.loop-found.found c.record_grown.new.found
     c.in_ok-room-in-Set.room (c.in_ok-step.ensures.framework ∙ c.loop-found.invariant.framework)
     c.if-not-room.true c.in_ok-room-in-Set.ensures.records
@@ -92,16 +96,18 @@ pub returns-then-not-room-clause-run : goal.returns-then-not-room-clause-run
 returns-then-not-room-clause-run g c =
     let f = g.O.Oracle.framework c.args.oracle.now in
     let h = g.O.Oracle.framework c.loop-found.oracle in
-    let k = g.O.Oracle.framework c.uncovered.new.oracle in
+    let k = g.O.Oracle.framework c.find_uncovered.new.oracle in
     let asks = c.loop-found.found.asks in
     let inv = c.loop-found.invariant in
     let same = c.in_ok-step.ensures.framework ∙ inv.framework in
     let found = found_later f h (MadeOutside h) (g.O.Oracle.log c.loop-found.oracle)
-    (g.O.Oracle.log c.uncovered.new.oracle) c.loop-found.found inv.framework inv.kept c.in_ok-step.ensures.run.grows
+    (g.O.Oracle.log c.find_uncovered.new.oracle) c.loop-found.found inv.framework inv.kept
+    c.in_ok-step.ensures.run.grows
     inv.found in
     then_same MadeOutside f k (length asks) 1 (2 * length (g.O.Oracle.log c.record_grown.new.oracle).sides + 2)
     _ _ _ _ _ _ _ _ _ same
-    (few_closings f (MadeOutside k) (g.O.Oracle.log c.uncovered.new.oracle) (g.O.Oracle.log c.record_grown.new.oracle)
+    (few_closings f (MadeOutside k) (g.O.Oracle.log c.find_uncovered.new.oracle)
+    (g.O.Oracle.log c.record_grown.new.oracle)
     c.loop-found.found found c.in_ok-room-in-Set.ensures.run.grows)
     (then_same MadeOutside f h (length asks) _ (length asks) _ _ _ _ _ _ _ _ _ inv.framework
     (omega (arith, closes_set c.in_ok-step.field-0 c.in-Set.set c.in-Set.is)) inv.run c.in_ok-step.ensures.run)
@@ -111,7 +117,7 @@ pub loop-found-smaller : goal.loop-found-smaller
 loop-found-smaller g c =
     let f = g.O.Oracle.framework c.args.oracle.now in
     let log = g.O.Oracle.log c.record_grown.new.oracle in
-    let more = recorded f (g.O.Oracle.framework c.uncovered.new.oracle) log c.args.limit c.loop-found.found
+    let more = recorded f (g.O.Oracle.framework c.find_uncovered.new.oracle) log c.args.limit c.loop-found.found
     c.record_grown.new.found c.in_ok-room-in-Set.room
     (c.in_ok-step.ensures.framework ∙ c.loop-found.invariant.framework) c.if-not-room.false
     c.in_ok-room-in-Set.ensures.records in
@@ -121,7 +127,7 @@ pub loop-found-preserved : goal.loop-found-preserved
 loop-found-preserved g c =
     let f = g.O.Oracle.framework c.args.oracle.now in
     let h = g.O.Oracle.framework c.loop-found.oracle in
-    let k = g.O.Oracle.framework c.uncovered.new.oracle in
+    let k = g.O.Oracle.framework c.find_uncovered.new.oracle in
     let asks = c.loop-found.found.asks in
     let inv = c.loop-found.invariant in
     let same = c.in_ok-step.ensures.framework ∙ inv.framework in
@@ -141,15 +147,15 @@ loop-found-preserved g c =
           c.in_ok-room-in-Set.ensures.follows;
     }
 
-pub uncovered-requires : goal.uncovered-requires
-uncovered-requires g c =
+pub find_uncovered-requires : goal.find_uncovered-requires
+find_uncovered-requires g c =
     subst (λ (x : Framework). AreFound x (g.O.Oracle.log c.loop-found.oracle) c.loop-found.found)
     (sym c.loop-found.invariant.framework) c.loop-found.invariant.found
 
 pub returns-in_err-step-clause-listed : goal.returns-in_err-step-clause-listed
 returns-in_err-step-clause-listed g c =
     IfOk-from_err c.from_residual.result
-    (IsAllOrMore (g.O.Oracle.framework c.args.oracle.now) (g.O.Oracle.log c.uncovered.new.oracle) c.args.limit)
+    (IsAllOrMore (g.O.Oracle.framework c.args.oracle.now) (g.O.Oracle.log c.find_uncovered.new.oracle) c.args.limit)
     c.from_residual.ensures.0
 
 pub returns-in_err-step-clause-framework : goal.returns-in_err-step-clause-framework
@@ -159,7 +165,8 @@ pub returns-in_err-step-clause-kept : goal.returns-in_err-step-clause-kept
 returns-in_err-step-clause-kept g c = c.in_err-step.ensures.kept
 
 pub returns-in_err-step-clause-follows : goal.returns-in_err-step-clause-follows
-returns-in_err-step-clause-follows g c = g.met.O.Oracle.joins _ _ _ c.loop-found.invariant.follows c.in_err-step.ensures.follows
+returns-in_err-step-clause-follows g c = g.met.O.Oracle.joins _ _ _ c.loop-found.invariant.follows
+    c.in_err-step.ensures.follows
 
 pub returns-in-Refuted-clause-framework : goal.returns-in-Refuted-clause-framework
 returns-in-Refuted-clause-framework g c = c.in_ok-step.ensures.framework ∙ c.loop-found.invariant.framework
@@ -168,12 +175,13 @@ pub returns-in-Refuted-clause-kept : goal.returns-in-Refuted-clause-kept
 returns-in-Refuted-clause-kept g c = c.in_ok-step.ensures.kept
 
 pub returns-in-Refuted-clause-follows : goal.returns-in-Refuted-clause-follows
-returns-in-Refuted-clause-follows g c = g.met.O.Oracle.joins _ _ _ c.loop-found.invariant.follows c.in_ok-step.ensures.follows
+returns-in-Refuted-clause-follows g c = g.met.O.Oracle.joins _ _ _ c.loop-found.invariant.follows
+    c.in_ok-step.ensures.follows
 
 pub record_grown-requires-clause-set : goal.record_grown-requires-clause-set
 record_grown-requires-clause-set g c =
-    let k = g.O.Oracle.framework c.uncovered.new.oracle in
-    let log = g.O.Oracle.log c.uncovered.new.oracle in
+    let k = g.O.Oracle.framework c.find_uncovered.new.oracle in
+    let log = g.O.Oracle.log c.find_uncovered.new.oracle in
     subst (λ (x : Found). IsUncovered k log c.loop-found.found x) c.in-Set.is
     (subst (λ (x : Framework). IsUncovered x log c.loop-found.found c.in_ok-step.field-0)
     (sym c.in_ok-step.ensures.framework) c.in_ok-step.ensures.uncovered)
@@ -185,21 +193,25 @@ returns-in_err-room-in-Set-clause-listed g c =
     c.from_residual-in_err-room-in-Set.ensures.0
 
 pub returns-in_err-room-in-Set-clause-framework : goal.returns-in_err-room-in-Set-clause-framework
-returns-in_err-room-in-Set-clause-framework g c = c.in_err-room-in-Set.ensures.framework ∙ (c.in_ok-step.ensures.framework ∙ c.loop-found.invariant.framework)
+returns-in_err-room-in-Set-clause-framework g c = c.in_err-room-in-Set.ensures.framework ∙
+    (c.in_ok-step.ensures.framework ∙ c.loop-found.invariant.framework)
 
 pub returns-in_err-room-in-Set-clause-kept : goal.returns-in_err-room-in-Set-clause-kept
 returns-in_err-room-in-Set-clause-kept g c = c.in_err-room-in-Set.ensures.kept
 
 pub returns-in_err-room-in-Set-clause-follows : goal.returns-in_err-room-in-Set-clause-follows
-returns-in_err-room-in-Set-clause-follows g c = g.met.O.Oracle.joins _ _ _ (g.met.O.Oracle.joins _ _ _ c.loop-found.invariant.follows c.in_ok-step.ensures.follows)
+returns-in_err-room-in-Set-clause-follows g c = g.met.O.Oracle.joins _ _ _
+    (g.met.O.Oracle.joins _ _ _ c.loop-found.invariant.follows c.in_ok-step.ensures.follows)
     c.in_err-room-in-Set.ensures.follows
 
 pub returns-then-not-room-clause-framework : goal.returns-then-not-room-clause-framework
-returns-then-not-room-clause-framework g c = c.in_ok-room-in-Set.ensures.framework ∙ (c.in_ok-step.ensures.framework ∙ c.loop-found.invariant.framework)
+returns-then-not-room-clause-framework g c = c.in_ok-room-in-Set.ensures.framework ∙
+    (c.in_ok-step.ensures.framework ∙ c.loop-found.invariant.framework)
 
 pub returns-then-not-room-clause-kept : goal.returns-then-not-room-clause-kept
 returns-then-not-room-clause-kept g c = c.in_ok-room-in-Set.ensures.kept
 
 pub returns-then-not-room-clause-follows : goal.returns-then-not-room-clause-follows
-returns-then-not-room-clause-follows g c = g.met.O.Oracle.joins _ _ _ (g.met.O.Oracle.joins _ _ _ c.loop-found.invariant.follows c.in_ok-step.ensures.follows)
+returns-then-not-room-clause-follows g c = g.met.O.Oracle.joins _ _ _
+    (g.met.O.Oracle.joins _ _ _ c.loop-found.invariant.follows c.in_ok-step.ensures.follows)
     c.in_ok-room-in-Set.ensures.follows

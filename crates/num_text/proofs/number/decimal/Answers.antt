@@ -7,8 +7,8 @@ use Rattle.num_text.specs.Number.{IsDigit}
 use Rattle.num_text.proofs.NumberLemmas.{digits_value-take-le, digits_value_more}
 use Rattle.num_text.proofs.number.decimal.Goals as goal
 
-pub returns-then-value-gt-LARGEST-clause-none : goal.returns-then-value-gt-LARGEST-clause-none
-returns-then-value-gt-LARGEST-clause-none c = λ n is.
+pub returns-then-value-gt-MAX_NUMBER-clause-none : goal.returns-then-value-gt-MAX_NUMBER-clause-none
+returns-then-value-gt-MAX_NUMBER-clause-none c = λ n is.
     let more = digits_value_more c.args.bytes.now c.loop-byte.byte-index c.loop-byte-test.true in
     let below = digits_value-take-le c.args.bytes.now (c.loop-byte.byte-index + 1) in
     let worth = c.loop-byte.invariant.value in

@@ -3,7 +3,8 @@ use Rattle.oracle_face.specs.Trades.{GivesFirst, GivesMore}
 use Rattle.edit_rules.specs.Kinds.{framework_of}
 use mathlib.Core.List.{IsPrefix}
 use Rattle.oracle_core.specs.Stepping.{GoesOnBySteps}
-use Rattle.oracle_core.proofs.EntriesTaken.{gave_more, none_more, run_more, steps_more, taking_last, taking_more, taking_most, taking_none}
+use Rattle.oracle_core.proofs.EntriesTaken.{gave_more, none_more, run_more, steps_more, taking_last, taking_more}
+use Rattle.oracle_core.proofs.EntriesTaken.{taking_most, taking_none}
 use Rattle.oracle_core.proofs.trading.take_all.Goals as goal
 
 pub loop-count-init : goal.loop-count-init
@@ -60,34 +61,34 @@ returns-in_default-clause-follows g c =
     g.met.T.ClauseTrade.joins c.args.trade.now c.loop-count.trade c.take.new.self c.loop-count.invariant.1
     c.in_ok-entry.ensures.follows
 
-pub returns-in_err-take_in-clause-run : goal.returns-in_err-take_in-clause-run
-returns-in_err-take_in-clause-run g c =
-    run_more c.args.parts.now c.loop-count.parts c.take_in.new.self c.loop-count.invariant.0.framework
-    c.loop-count.invariant.0.run c.in_err-take_in.ensures.run
+pub returns-in_err-import_entry-clause-run : goal.returns-in_err-import_entry-clause-run
+returns-in_err-import_entry-clause-run g c =
+    run_more c.args.parts.now c.loop-count.parts c.import_entry.new.self c.loop-count.invariant.0.framework
+    c.loop-count.invariant.0.run c.in_err-import_entry.ensures.run
 
-pub returns-in_err-take_in-clause-steps : goal.returns-in_err-take_in-clause-steps
-returns-in_err-take_in-clause-steps g c =
-    steps_more c.args.own c.args.parts.now c.loop-count.parts c.take_in.new.self
+pub returns-in_err-import_entry-clause-steps : goal.returns-in_err-import_entry-clause-steps
+returns-in_err-import_entry-clause-steps g c =
+    steps_more c.args.own c.args.parts.now c.loop-count.parts c.import_entry.new.self
     (g.T.ClauseTrade.gave c.loop-count.trade) (g.T.ClauseTrade.gave c.take.new.self) c.in-Some.entry
     (subst (λ taken. GivesMore (g.T.ClauseTrade.gave c.loop-count.trade) (Ok taken)
     (g.T.ClauseTrade.gave c.take.new.self)) c.in-Some.is c.in_ok-entry.ensures.gave) c.loop-count.invariant.0.framework
-    c.loop-count.invariant.0.steps c.in_err-take_in.ensures.steps
+    c.loop-count.invariant.0.steps c.in_err-import_entry.ensures.steps
 
-pub returns-in_err-take_in-clause-gave : goal.returns-in_err-take_in-clause-gave
-returns-in_err-take_in-clause-gave g c =
+pub returns-in_err-import_entry-clause-gave : goal.returns-in_err-import_entry-clause-gave
+returns-in_err-import_entry-clause-gave g c =
     gave_more (g.T.ClauseTrade.gave c.args.trade.now) (g.T.ClauseTrade.gave c.loop-count.trade)
     (g.T.ClauseTrade.gave c.take.new.self) c.in-Some.entry c.loop-count.invariant.0.more
     (subst (λ taken. GivesMore (g.T.ClauseTrade.gave c.loop-count.trade) (Ok taken)
     (g.T.ClauseTrade.gave c.take.new.self)) c.in-Some.is c.in_ok-entry.ensures.gave)
 
-pub returns-in_err-take_in-clause-follows : goal.returns-in_err-take_in-clause-follows
-returns-in_err-take_in-clause-follows g c =
+pub returns-in_err-import_entry-clause-follows : goal.returns-in_err-import_entry-clause-follows
+returns-in_err-import_entry-clause-follows g c =
     g.met.T.ClauseTrade.joins c.args.trade.now c.loop-count.trade c.take.new.self c.loop-count.invariant.1
     c.in_ok-entry.ensures.follows
 
 pub loop-count-preserved : goal.loop-count-preserved
 loop-count-preserved g c = (
-  taking_more c.args.own c.args.parts.now c.loop-count.parts c.take_in.new.self
+  taking_more c.args.own c.args.parts.now c.loop-count.parts c.import_entry.new.self
       (g.T.ClauseTrade.left c.args.trade.now) (g.T.ClauseTrade.left c.loop-count.trade)
       (g.T.ClauseTrade.left c.take.new.self) (g.T.ClauseTrade.gave c.args.trade.now)
       (g.T.ClauseTrade.gave c.loop-count.trade) (g.T.ClauseTrade.gave c.take.new.self) c.in-Some.entry
@@ -95,9 +96,10 @@ loop-count-preserved g c = (
       (subst (λ taken. GivesFirst (g.T.ClauseTrade.left c.loop-count.trade) (Ok taken)
       (g.T.ClauseTrade.left c.take.new.self)) c.in-Some.is c.in_ok-entry.ensures.first)
       (subst (λ taken. GivesMore (g.T.ClauseTrade.gave c.loop-count.trade) (Ok taken)
-      (g.T.ClauseTrade.gave c.take.new.self)) c.in-Some.is c.in_ok-entry.ensures.gave) c.in_ok-take_in.ensures.whole
-      c.in_ok-take_in.ensures.framework c.in_ok-take_in.ensures.run c.in_ok-take_in.ensures.steps
-      c.in_ok-take_in.ensures.comes,
+      (g.T.ClauseTrade.gave c.take.new.self)) c.in-Some.is c.in_ok-entry.ensures.gave)
+      c.in_ok-import_entry.ensures.whole
+      c.in_ok-import_entry.ensures.framework c.in_ok-import_entry.ensures.run c.in_ok-import_entry.ensures.steps
+      c.in_ok-import_entry.ensures.comes,
   g.met.T.ClauseTrade.joins c.args.trade.now c.loop-count.trade c.take.new.self c.loop-count.invariant.1
       c.in_ok-entry.ensures.follows,
 )

@@ -1,5 +1,5 @@
 use Rattle.std.specs.Prelude.{◌-◌}
-use Rattle.oracle_core.specs.declared.trading.TheConstants.{MOST_TAKEN}
+use Rattle.oracle_core.specs.declared.trading.TheConstants.{MAX_TAKEN}
 use Rattle.oracle_core.proofs.EntriesTaken.{IsTaking}
 use Rattle.oracle_core.proofs.trading.take_all.Given as goal
 
@@ -10,4 +10,4 @@ invariant-loop-count g l =
     × g.T.ClauseTrade.follows l.fn.trade l.trade
 
 abbrev pub decreases-loop-count : goal.decreases-loop-count
-decreases-loop-count g l = MOST_TAKEN - l.count
+decreases-loop-count g l = MAX_TAKEN - l.count

@@ -1,6 +1,6 @@
 use Rattle.std.proofs.Common.{sym, subst}
 use Rattle.edit_history.specs.Hubs.{limit_of, start_of}
-use Rattle.script_text.specs.declared.script.Command.TheVariants.{Edit as change_by, Ask}
+use Rattle.script_text.specs.declared.script.ScriptCommand.TheVariants.{Edit as change_by, Ask}
 use Rattle.session_core.specs.Replies.{IsEditReply}
 use Rattle.session_core.specs.Sessions.{seen_by}
 use Rattle.edit_history.specs.Hubs.{GainsOthers}

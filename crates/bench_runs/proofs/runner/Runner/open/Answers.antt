@@ -2,7 +2,7 @@ use Rattle.std.proofs.Common.{◌≡◌, ℕ, List, [], ap, rules, subst, sym, �
 use Rattle.semantics.specs.Frameworks.{Framework}
 use Rattle.session_core.specs.declared.session.Session.{Session}
 use Rattle.session_replies.specs.declared.reply.Reply.{Reply}
-use Rattle.bench_runs.specs.declared.runner.TheConstants.{LOG_LIMIT}
+use Rattle.bench_runs.specs.declared.runner.TheConstants.{MAX_STEPS}
 use Rattle.bench_runs.specs.Running.{stand_of}
 use Rattle.bench_runs.specs.Walks.{Walks, at_start}
 use Rattle.turn_lock.specs.Seats.{list_of, number_of}
@@ -12,10 +12,10 @@ use Rattle.bench_runs.proofs.ToldLemmas.{opened_stand}
 use Rattle.bench_runs.proofs.runner.Runner.open.Goals as goal
 
 opened_walks : (f : Framework) (limit budget s : ℕ) (session : Session) (replies : List Reply) → replies ≡ []
-    → stand_of session ≡ at_start LOG_LIMIT
-    → Walks f limit budget s (at_start LOG_LIMIT) [] replies (stand_of session)
+    → stand_of session ≡ at_start MAX_STEPS
+    → Walks f limit budget s (at_start MAX_STEPS) [] replies (stand_of session)
 opened_walks f limit budget s session replies none is =
-    subst (λ r. Walks f limit budget s (at_start LOG_LIMIT) [] r (stand_of session)) (sym none) is
+    subst (λ r. Walks f limit budget s (at_start MAX_STEPS) [] r (stand_of session)) (sym none) is
 
 pub returns-in-Ok-clause-served : goal.returns-in-Ok-clause-served
 returns-in-Ok-clause-served c =

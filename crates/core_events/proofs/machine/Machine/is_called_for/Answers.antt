@@ -1,5 +1,5 @@
 use Rattle.std.proofs.Common.{◌∙◌, List, ap, sym, take}
-use Rattle.edit_history.specs.declared.entry.Entry.{Entry}
+use Rattle.edit_history.specs.declared.entry.HistoryEntry.{HistoryEntry}
 use Rattle.core_logs.proofs.NewTests.{ok_carried}
 use Rattle.core_machine.specs.Core.{CoreSession}
 use Rattle.core_events.specs.Machines.{core_of}
@@ -16,7 +16,7 @@ returns c =
     called_needed (core_of c.args.self.now) c.args.session c.args.name.now b c.is_named.result
     c.front-seen.result.now
     (c.front-seen.ensures
-    ∙ (ap (λ (es : List Entry). take c.index.result.now.session.seen es) c.as_slice-2.ensures.value
+    ∙ (ap (λ (es : List HistoryEntry). take c.index.result.now.session.seen es) c.as_slice-2.ensures.value
     ∙ ap (λ (x : CoreSession). take x.seen m.history.items) (sym there)))
     (named_in_pool m c.is_named.result c.as_slice.result.now c.args.name.now c.as_slice.ensures.value
     c.is_named.ensures)

@@ -1,6 +1,6 @@
 use Rattle.std.proofs.Common.{◌∙◌, List, ap, sym, take}
 use Rattle.edit_rules.specs.Kinds.{framework_of}
-use Rattle.edit_history.specs.declared.entry.Entry.{Entry}
+use Rattle.edit_history.specs.declared.entry.HistoryEntry.{HistoryEntry}
 use Rattle.edit_history.specs.Entries.{framework_after}
 use Rattle.core_logs.proofs.NewTests.{ok_carried}
 use Rattle.core_machine.specs.Core.{CoreSession}
@@ -16,7 +16,7 @@ returns c =
     let m = c.args.self.now in
     let there = seated m c.args.session c.args.index c.index-seat.result.now c.requires c.index-seat.ensures in
     let seen = c.front-seen.ensures
-    ∙ (ap (λ (es : List Entry). take c.index-seat.result.now.session.seen es) c.as_slice.ensures.value
+    ∙ (ap (λ (es : List HistoryEntry). take c.index-seat.result.now.session.seen es) c.as_slice.ensures.value
     ∙ ap (λ (x : CoreSession). take x.seen m.history.items) (sym there)) in
     may_by (core_of m) c.args.session c.args.query.now c.args.budget c.args.pending.now c.args.outcome.now
     (framework_of c.in_ok-framework.framework) c.log-log.result.now c.index-seat.result.now.session.answered b

@@ -21,8 +21,8 @@ returns-in_err-found c =
     (core_of c.args.self.now) (core_of c.seat.new.self) c.from_residual-in_err-found.result
     c.from_residual-in_err-found.ensures c.in_ok-index.ensures.same
 
-pub hand_on-requires-clause-entry : goal.hand_on-requires-clause-entry
-hand_on-requires-clause-entry c =
+pub put_in_pool-requires-clause-entry : goal.put_in_pool-requires-clause-entry
+put_in_pool-requires-clause-entry c =
     subst (λ (xs : List LogStep). IsEntryFor c.args.session xs c.args.number c.in-Some.entry)
     (c.steps.ensures ∙ ap (λ (x : CoreSession). x.log.steps) (sym (seated c.seat.new.self c.args.session
     c.in_ok-index.index c.index.result.now c.in_ok-index.ensures.at c.index.ensures)))
@@ -41,4 +41,4 @@ returns-in-None c = (
 pub returns-in-Some : goal.returns-in-Some
 returns-in-Some c =
     subst (λ (core : Core). Comes (IsStep core (share c.args.session c.args.number c.args.place)) core
-    (core_of c.hand_on.new.self) c.hand_on.result) c.in_ok-index.ensures.same c.hand_on.ensures
+    (core_of c.put_in_pool.new.self) c.put_in_pool.result) c.in_ok-index.ensures.same c.put_in_pool.ensures

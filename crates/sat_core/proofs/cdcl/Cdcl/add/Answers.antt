@@ -7,23 +7,23 @@ use Rattle.sat_core.proofs.cdcl.Cdcl.add.Goals as goal
 pub take_back-requires : goal.take_back-requires
 take_back-requires c =
     let r = recorded_of _ _ c.args.clause c.args.how _ c.in_ok-step.ensures.ok in
-    omega (arith, ap length r.steps, length-append c.args.self.now.ledger.log.steps (r.step ∷ []))
+    omega (arith, ap length r.steps, length-append c.args.self.now.logged.log.steps (r.step ∷ []))
 
 pub returns-in-Err-add-clause-rest : goal.returns-in-Err-add-clause-rest
 returns-in-Err-add-clause-rest c =
     let stays = c.in-Err-add.ensures.err in
     let r = recorded_of _ _ c.args.clause c.args.how _ c.in_ok-step.ensures.ok in
-    let log = taken_back c.args.self.now.ledger.log _ _ c.args.clause _ r c.take_back.ensures in
+    let log = taken_back c.args.self.now.logged.log _ _ c.args.clause _ r c.take_back.ensures in
     record {
-      mirror = mirror_as c.args.self.now.descent.search.clauses _ c.args.self.now.ledger.active.items _
-          c.args.self.now.ledger.log _ stays.clauses c.reserve.ensures.items log c.requires.rest.mirror;
+      mirror = mirror_as c.args.self.now.decisions.search.clauses _ c.args.self.now.logged.active.items _
+          c.args.self.now.logged.log _ stays.clauses c.reserve.ensures.items log c.requires.rest.mirror;
       resting = resting_stays _ _ stays c.requires.rest.resting;
     }
 
 pub returns-in-Err-add-clause-keeps : goal.returns-in-Err-add-clause-keeps
 returns-in-Err-add-clause-keeps c =
     let r = recorded_of _ _ c.args.clause c.args.how _ c.in_ok-step.ensures.ok in
-    keeps_logs _ _ (taken_back c.args.self.now.ledger.log _ _ c.args.clause _ r c.take_back.ensures)
+    keeps_logs _ _ (taken_back c.args.self.now.logged.log _ _ c.args.clause _ r c.take_back.ensures)
     c.reserve.ensures.items
 
 pub returns-clause-rest : goal.returns-clause-rest
@@ -31,17 +31,18 @@ returns-clause-rest c =
     let gains = c.in-Ok-add.ensures.ok in
     let r = recorded_of _ _ c.args.clause c.args.how _ c.in_ok-step.ensures.ok in
     let clause_is : c.as_slice.result.now ≡ c.args.clause = c.as_slice.ensures.lits ∙ c.in_ok-kept.ensures in
-    let pushed : c.push.new.self.items ≡ c.args.self.now.ledger.active.items ++ c.in_ok-step.step ∷ [] =
+    let pushed : c.push.new.self.items ≡ c.args.self.now.logged.active.items ++ c.in_ok-step.step ∷ [] =
     search rules in
     record {
-      mirror = mirror_recorded c.args.self.now.descent.search.clauses _ c.args.self.now.ledger.active.items _ _ _ _ _ r
-          (gains.clauses ∙ ap (λ xs. c.args.self.now.descent.search.clauses ++ xs ∷ []) clause_is) pushed
+      mirror = mirror_recorded c.args.self.now.decisions.search.clauses _ c.args.self.now.logged.active.items _ _ _ _ _
+          r
+          (gains.clauses ∙ ap (λ xs. c.args.self.now.decisions.search.clauses ++ xs ∷ []) clause_is) pushed
           c.requires.rest.mirror;
       resting = resting_more _ _ _ _ gains c.requires.rest.resting;
     }
 
 pub returns-clause-keeps : goal.returns-clause-keeps
 returns-clause-keeps c =
-    let pushed : c.push.new.self.items ≡ c.args.self.now.ledger.active.items ++ c.in_ok-step.step ∷ [] =
+    let pushed : c.push.new.self.items ≡ c.args.self.now.logged.active.items ++ c.in_ok-step.step ∷ [] =
     search rules in
     keeps_recorded _ _ c.args.clause _ (recorded_of _ _ c.args.clause c.args.how _ c.in_ok-step.ensures.ok) pushed

@@ -7,18 +7,18 @@ use Rattle.sat_core.proofs.Turning.{known_of, ids_of, named_of, unit_learned}
 use Rattle.sat_core.proofs.cdcl.Cdcl.learn_from.Goals as goal
 
 pub learn-requires-clause-decided : goal.learn-requires-clause-decided
-learn-requires-clause-decided c = has_decided c.args.self.now.descent.search c.args.assumptions.now
+learn-requires-clause-decided c = has_decided c.args.self.now.decisions.search c.args.assumptions.now
     c.vars-form.ensures.form c.requires.deep c.requires.run
 
 pub steps_of-requires : goal.steps_of-requires
 steps_of-requires c =
-    let s = c.args.self.now.descent.search in
-    rw c.deref.ensures.value (ids_of s.clauses c.args.self.now.ledger.active.items c.args.self.now.ledger.log.steps
+    let s = c.args.self.now.decisions.search in
+    rw c.deref.ensures.value (ids_of s.clauses c.args.self.now.logged.active.items c.args.self.now.logged.log.steps
     _ _ _
     c.requires.kept.mirror c.in_ok-learned.ensures.learned.taken c.as_slice.ensures)
 
 pub bump_all-requires : goal.bump_all-requires
-bump_all-requires c = named_of c.args.self.now.descent.search.clauses _ _ _ c.in_ok-learned.ensures.learned.taken
+bump_all-requires c = named_of c.args.self.now.decisions.search.clauses _ _ _ c.in_ok-learned.ensures.learned.taken
     c.as_slice-2.ensures
 
 pub take-requires-clause-room : goal.take-requires-clause-room
@@ -26,9 +26,9 @@ take-requires-clause-room c = not_so _ _ c.is_full.ensures.full c.if-is_full.fal
 
 pub take-requires-clause-shown : goal.take-requires-clause-shown
 take-requires-clause-shown c =
-    let s = c.args.self.now.descent.search in
+    let s = c.args.self.now.decisions.search in
     let settled = has_settled s c.args.assumptions.now c.requires.deep c.requires.run in
-    let hints : c.as_slice-3.result.now ≡ map (step_of c.args.self.now.ledger.active.items)
+    let hints : c.as_slice-3.result.now ≡ map (step_of c.args.self.now.logged.active.items)
     c.in_ok-learned.learned.hints =
     rw (c.as_slice-3.ensures, c.in_ok-hints.ensures, c.deref.ensures.value, c.as_slice.ensures) refl in
     unit_learned (state_of c.args.self.now) s c.args.assumptions.now c.in_ok-learned.learned.clause
@@ -37,7 +37,7 @@ take-requires-clause-shown c =
 
 pub take-requires-clause-asserting : goal.take-requires-clause-asserting
 take-requires-clause-asserting c =
-    let s = c.args.self.now.descent.search in
+    let s = c.args.self.now.decisions.search in
     let settled = has_settled s c.args.assumptions.now c.requires.deep c.requires.run in
     record {
       level_in = c.in_ok-learned.ensures.level;
@@ -49,9 +49,9 @@ take-requires-clause-asserting c =
 
 pub returns-then-not-spend-clause-stops : goal.returns-then-not-spend-clause-stops
 returns-then-not-spend-clause-stops c =
-    let s = c.args.self.now.descent.search in
+    let s = c.args.self.now.decisions.search in
     let settled = has_settled s c.args.assumptions.now c.requires.deep c.requires.run in
-    let hints : c.in_ok-hints.hints ≡ map (step_of c.args.self.now.ledger.active.items) c.in_ok-learned.learned.hints =
+    let hints : c.in_ok-hints.hints ≡ map (step_of c.args.self.now.logged.active.items) c.in_ok-learned.learned.hints =
     rw (c.in_ok-hints.ensures, c.deref.ensures.value, c.as_slice.ensures) refl in
     let spend = c.if-not-spend.ensures in (
       spend.kept,
@@ -72,9 +72,9 @@ returns-then-not-spend-clause-stops c =
 
 pub returns-clause-goes : goal.returns-clause-goes
 returns-clause-goes c =
-    let s = c.args.self.now.descent.search in
+    let s = c.args.self.now.decisions.search in
     let settled = has_settled s c.args.assumptions.now c.requires.deep c.requires.run in
-    let hints : c.as_slice-3.result.now ≡ map (step_of c.args.self.now.ledger.active.items)
+    let hints : c.as_slice-3.result.now ≡ map (step_of c.args.self.now.logged.active.items)
     c.in_ok-learned.learned.hints =
     rw (c.as_slice-3.ensures, c.in_ok-hints.ensures, c.deref.ensures.value, c.as_slice.ensures) refl in
     record {

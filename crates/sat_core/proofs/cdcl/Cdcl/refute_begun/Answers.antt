@@ -2,14 +2,14 @@ use Rattle.sat_core.proofs.Running.{based_of}
 use Rattle.sat_core.proofs.Searching.{mirror_same}
 use Rattle.sat_core.proofs.cdcl.Cdcl.refute_begun.Goals as goal
 
-pub close_with_room-requires-clause-kept : goal.close_with_room-requires-clause-kept
-close_with_room-requires-clause-kept c = record {
+pub derive_core_with_room-requires-clause-kept : goal.derive_core_with_room-requires-clause-kept
+derive_core_with_room-requires-clause-kept c = record {
   mirror = mirror_same _ _ _ _ c.in-Some.ensures.on.clauses c.requires.kept.mirror;
   based = based_of _ c.args.assumptions.now (c.in-Some.ensures.on.run c.args.assumptions.now c.requires.run);
 }
 
-pub close_with_room-requires-clause-run : goal.close_with_room-requires-clause-run
-close_with_room-requires-clause-run c = c.in-Some.ensures.on.run c.args.assumptions.now c.requires.run
+pub derive_core_with_room-requires-clause-run : goal.derive_core_with_room-requires-clause-run
+derive_core_with_room-requires-clause-run c = c.in-Some.ensures.on.run c.args.assumptions.now c.requires.run
 
 pub returns-in-None-clause-kept : goal.returns-in-None-clause-kept
 returns-in-None-clause-kept c = record {

@@ -7,7 +7,7 @@ use Rattle.sat_core.proofs.cdcl.Cdcl.run.Given as goal
 abbrev pub invariant-conflicts : goal.invariant-conflicts
 invariant-conflicts l = record {
   kept : IsKept l.self;
-  run : IsRun l.assumptions l.self.descent.search;
+  run : IsRun l.assumptions l.self.decisions.search;
   learns : (count : ℕ) × Learns l.assumptions (state_of l.initial.self) (state_of l.self) count
       × (l.budget.used ≡ l.initial.budget.used + count);
   derives : Derives (state_of l.initial.self) (state_of l.self);

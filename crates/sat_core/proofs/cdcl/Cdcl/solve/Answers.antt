@@ -27,7 +27,7 @@ run-end-requires-clause-run c = begins _ _ _ c.requires.rest.resting c.in_ok-ass
 pub returns-clause-searched : goal.returns-clause-searched
 returns-clause-searched c = λ ne. rw c.take_back.ensures.state
     (searched_of (state_of c.args.self.now) c.run-end.new.self c.args.assumptions.now _ _ _ _
-    c.run-end.ensures.run c.told_of-told.ensures ne)
+    c.run-end.ensures.run c.solved_of-told.ensures ne)
 
 pub returns-clause-derives : goal.returns-clause-derives
 returns-clause-derives c = rw c.take_back.ensures.state

@@ -11,14 +11,14 @@ use Rattle.sat_core.proofs.cdcl.Cdcl.take.Goals as goal
 
 pub back_to-requires : goal.back_to-requires
 back_to-requires c =
-    let s = c.args.self.now.descent.search in
+    let s = c.args.self.now.decisions.search in
     let lt = target_within s c.args.learned.now.level c.kept_level.result c.requires.asserting.level_in c.requires.deep
     c.kept_level.ensures.within in
     omega (arith, lt)
 
 pub add_learned-requires : goal.add_learned-requires
 add_learned-requires c =
-    let s = c.args.self.now.descent.search in
+    let s = c.args.self.now.decisions.search in
     let l = c.args.learned.now in
     let lt = target_within s l.level c.kept_level.result c.requires.asserting.level_in c.requires.deep
     c.kept_level.ensures.within in
@@ -28,13 +28,13 @@ add_learned-requires c =
 
 pub returns-in_err-add_learned-clause-kept : goal.returns-in_err-add_learned-clause-kept
 returns-in_err-add_learned-clause-kept c =
-    let s = c.args.self.now.descent.search in
+    let s = c.args.self.now.decisions.search in
     let l = c.args.learned.now in
     let lt = target_within s l.level c.kept_level.result c.requires.asserting.level_in c.requires.deep
     c.kept_level.ensures.within in
     let stays = c.in_err-add_learned.ensures.err in
     record {
-      mirror = mirror_derived s.clauses _ c.args.self.now.ledger.active.items _ c.args.self.now.ledger.log _ _ _ _
+      mirror = mirror_derived s.clauses _ c.args.self.now.logged.active.items _ c.args.self.now.logged.log _ _ _ _
           (stays.clauses ∙ c.back_to.ensures.clauses) c.reserve.ensures.items c.in_ok-step.ensures.ok
           c.requires.kept.mirror;
       based = based_of _ c.args.assumptions.now
@@ -45,18 +45,18 @@ returns-in_err-add_learned-clause-kept c =
 
 pub returns-clause-kept : goal.returns-clause-kept
 returns-clause-kept c =
-    let s = c.args.self.now.descent.search in
+    let s = c.args.self.now.decisions.search in
     let l = c.args.learned.now in
     let lt = target_within s l.level c.kept_level.result c.requires.asserting.level_in c.requires.deep
     c.kept_level.ensures.within in
     let learns = c.in_ok-add_learned.ensures.ok in
     let clause_is : c.as_slice.result.now ≡ c.in_ok-clause.clause = c.as_slice.ensures.lits
     ∙ sym c.in_ok-clause.ensures in
-    let pushed : c.push.new.self.items ≡ c.args.self.now.ledger.active.items ++ c.in_ok-step.step ∷ [] =
+    let pushed : c.push.new.self.items ≡ c.args.self.now.logged.active.items ++ c.in_ok-step.step ∷ [] =
     search rules in
     record {
-      mirror = mirror_learned s.clauses c.back_to.new.self.search.clauses _ c.args.self.now.ledger.active.items _
-          c.args.self.now.ledger.log _ c.in_ok-clause.clause _ c.in_ok-step.step
+      mirror = mirror_learned s.clauses c.back_to.new.self.search.clauses _ c.args.self.now.logged.active.items _
+          c.args.self.now.logged.log _ c.in_ok-clause.clause _ c.in_ok-step.step
           c.back_to.ensures.clauses
           (learns.clauses ∙ ap (λ xs. c.back_to.new.self.search.clauses ++ xs ∷ []) clause_is) pushed
           c.in_ok-step.ensures.ok c.requires.kept.mirror;
@@ -69,7 +69,7 @@ returns-clause-kept c =
 
 pub returns-clause-run : goal.returns-clause-run
 returns-clause-run c =
-    let s = c.args.self.now.descent.search in
+    let s = c.args.self.now.decisions.search in
     let l = c.args.learned.now in
     let lt = target_within s l.level c.kept_level.result c.requires.asserting.level_in c.requires.deep
     c.kept_level.ensures.within in
@@ -91,7 +91,7 @@ returns-in_err-add_learned-clause-derives c = derives_derived (state_of c.args.s
 
 pub returns-clause-derives : goal.returns-clause-derives
 returns-clause-derives c =
-    let pushed : c.push.new.self.items ≡ c.args.self.now.ledger.active.items ++ c.in_ok-step.step ∷ [] =
+    let pushed : c.push.new.self.items ≡ c.args.self.now.logged.active.items ++ c.in_ok-step.step ∷ [] =
     search rules in
     derives_unit (state_of c.args.self.now) _ c.in_ok-clause.clause c.args.hints.now
     (subst (λ xs. IsShown (state_of c.args.self.now) xs c.args.hints.now) (sym c.in_ok-clause.ensures)

@@ -26,7 +26,7 @@ returns-in-None-clause-turn c =
     let found = c.in-None.ensures.found in (
       refl,
       refl,
-      model_of (state_of c.args.self.now) c.descend.new.self.search c.args.assumptions.now
+      model_of (state_of c.args.self.now) c.decide_until_conflict.new.self.search c.args.assumptions.now
           (mirror_same _ _ _ _ on.clauses c.requires.kept.mirror) c.vars-form.ensures.form
           (on.run c.args.assumptions.now c.requires.run) found.0 found.1,
     )

@@ -1,0 +1,24 @@
+use Rattle.std.proofs.Common.{arith}
+use Rattle.oracle_face.proofs.GrowingLemmas.{run_as}
+use Rattle.goal_lists.proofs.Calls.{makes_none}
+use Rattle.enumerate_block.specs.Modes.{MadeDiffers}
+use Rattle.enumerate_block.proofs.ModeLemmas.{if_further, may_ask_further}
+use Rattle.enumerate_block.proofs.with_mode.find_further.Goals as goal
+
+pub search_for-requires : goal.search_for-requires
+search_for-requires g c =
+    may_ask_further (g.O.Oracle.framework c.args.oracle.now) (g.O.Oracle.log c.args.oracle.now) c.args.mode
+    c.args.range.now c.args.listing.now c.as_slice.result.now c.as_slice.ensures
+    c.members-members.ensures.kept.numbered c.requires.mode c.requires.range c.requires.listing
+
+pub returns-clause-further : goal.returns-clause-further
+returns-clause-further g c =
+    if_further (g.O.Oracle.framework c.args.oracle.now) _ (g.O.Oracle.log c.args.oracle.now)
+    (g.O.Oracle.log c.search_for.new.oracle) c.args.mode c.args.range.now c.args.listing.now c.as_slice.result.now
+    c.as_slice.ensures c.requires.mode c.search_for.ensures.run.grows c.requires.listing c.search_for.result
+    c.search_for.ensures.found
+
+pub returns-clause-run : goal.returns-clause-run
+returns-clause-run g c =
+    run_as _ _ _ _ _ _ _ _ _ _ _ (makes_none (MadeDiffers (g.O.Oracle.framework c.args.oracle.now))) (omega arith)
+    c.search_for.ensures.run

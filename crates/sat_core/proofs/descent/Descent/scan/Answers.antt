@@ -1,7 +1,0 @@
-use Rattle.sat_core.proofs.descent.Descent.scan.Goals as goal
-
-pub returns-in-Some-clause-found : goal.returns-in-Some-clause-found
-returns-in-Some-clause-found c = c.in-Some.ensures.either _
-
-pub returns-in-Some-first_unset-clause-found : goal.returns-in-Some-first_unset-clause-found
-returns-in-Some-first_unset-clause-found c = c.in-Some-first_unset.ensures.either _

@@ -1,6 +1,0 @@
-use Rattle.std.proofs.Common.{◌≡◌, map, take}
-use Rattle.sat_core.specs.Mirrors.{step_of}
-use Rattle.sat_core.proofs.ledger.steps_of.Given as goal
-
-abbrev pub invariant-loop-id : goal.invariant-loop-id
-invariant-loop-id l = l.steps ≡ map (step_of l.active) (take l.id-index l.ids)

@@ -1,0 +1,13 @@
+use Rattle.std.proofs.Common.{Contains, List, subst}
+use Rattle.std.specs.Bool.{OnFalse}
+use Rattle.plain_lits.specs.declared.lit.Lit.{Lit}
+use Rattle.plain_lits.specs.Literals.{negation}
+use Rattle.sat_core.proofs.logged_clauses.is_falsified_step.Goals as goal
+
+pub returns-clause-free : goal.returns-clause-free
+returns-clause-free c =
+    let lits = c.args.trail.now.lits in
+    subst
+    (λ (part : List Lit). OnFalse c.is_falsified.result ((l : Lit) × Contains part l ×
+    (Contains lits (negation l) → ⊥)))
+    c.clause.ensures.clause c.is_falsified.ensures.free
