@@ -21,25 +21,14 @@ use Rattle.meaning_atoms.specs.Literals.{affirmed}
 use Rattle.meaning_atoms.specs.Worlds.{IsAsk}
 use Rattle.meaning_atoms.proofs.NotionClauses.{notions_fit, notions_plain}
 use Rattle.aba_axioms.specs.AbaTable.{aba_clause, filled_gap, given_atom, loop_clause, other_heads, pair_literal, row_literals}
-
-first_place : IsPosition 1
-first_place = record { low = omega arith; high = omega arith }
-
-last_place : IsPosition 1000001
-last_place = record { low = omega arith; high = omega arith }
-
--- the ends of a stretch, as an argument and as positions, and the position past it
-stretch_begin : (a i j : ℕ) → IsStretch a i j → IsPosition i
-stretch_begin a i j s = record { low = s.from; high = omega arith }
-
-stretch_end : (a i j : ℕ) → IsStretch a i j → IsPosition j
-stretch_end a i j s = record { low = omega arith; high = omega arith }
-
-stretch_argument : (a i j : ℕ) → IsStretch a i j → IsArgument j
-stretch_argument a i j s = record { low = omega arith; high = omega arith }
-
-stretch_past : (a i j : ℕ) → IsStretch a i j → IsPosition (j + 1)
-stretch_past a i j s = record { low = omega arith; high = omega arith }
+use Rattle.meaning_atoms.proofs.Positions.{
+  first_place,
+  last_place,
+  stretch_begin,
+  stretch_end,
+  stretch_argument,
+  stretch_past,
+}
 
 number : (x : ℕ) → IsArgument x → IsAtomOrNone x
 number x h = record { high = omega (arith, h.high) }

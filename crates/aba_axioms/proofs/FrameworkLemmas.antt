@@ -2,10 +2,8 @@
 use Rattle.std.proofs.Common.{◌≡◌, ◌+◌, ◌<◌, ◌≤◌, ℕ, List, [], ◌∷◌, length, get_or, map, refl, sym, ap, subst, ◌∙◌, ⊎_elim, arith}
 use Rattle.std.specs.Prelude.{Contains}
 use Rattle.std.specs.List.Sorted.{IsStrictlyIncreasing}
-use Rattle.std.proofs.lemmas.Bool.{cases_lt}
-use Rattle.std.proofs.lemmas.List.{get_or_default, get_or-map, length-map}
+use Rattle.std.proofs.lemmas.List.{get_or-map, length-map}
 use Rattle.std.proofs.lemmas.List.Elements.{Contains-get_or}
-use Rattle.std.proofs.lemmas.List.Kept.{AllPairs-from_increasing}
 use Rattle.meaning_atoms.specs.semantics.specs.AbaFrameworks.{Aba, AttacksAssumption, IsAba, IsRuleOf, IsNumberedAba, collective_of}
 use Rattle.meaning_atoms.specs.semantics.specs.Collectives.{IsUnattacked}
 use Rattle.meaning_atoms.specs.semantics.specs.Rules.{Rule, Derives, given, by_rule}
@@ -18,27 +16,7 @@ use Rattle.meaning_atoms.specs.AbaReadings.{HasContrary, IsInClosure, MissesAtom
 use Rattle.meaning_atoms.specs.Worlds.{IsAbaWorld}
 use Rattle.meaning_atoms.proofs.AbaDecided.{decide_closure}
 use Rattle.meaning_atoms.specs.semantics.proofs.Decided.{Decided, decide_both, decide_at_most, decide_not, decide_some}
-
--- members with the same key are one, where the keys rise
-pub same_item : {X : Type 0} (key : X → ℕ) (xs : List X) (x y : X) → IsStrictlyIncreasing (map key xs)
-    → Contains xs x → Contains xs y → key x ≡ key y → x ≡ y
-same_item key xs x y up cx cy e =
-    let key_at : (z : _) (c : Contains xs z) → get_or (map key xs) c.0 0 ≡ key z
-    = λ z c. get_or-map key xs c.0 z 0 c.1 ∙ ap key c.2 in
-    let long = length-map xs key in
-    let at_x = key_at x cx in
-    let at_y = key_at y cy in
-    let in_x = cx.1 in
-    let in_y = cy.1 in
-    ⊎_elim
-    (λ less. absurd (omega (arith, AllPairs-from_increasing (map key xs) up cx.0 cy.0 0 less (omega arith))))
-    (λ not_less. ⊎_elim
-    (λ more. absurd (omega (arith, AllPairs-from_increasing (map key xs) up cy.0 cx.0 0 more (omega arith))))
-    (λ not_more.
-    let same : cx.0 ≡ cy.0 = omega arith in
-    sym cx.2 ∙ ap (λ k. get_or xs k x) same ∙ get_or_default xs cy.0 x y cy.1 ∙ cy.2)
-    (cases_lt cy.0 cx.0))
-    (cases_lt cx.0 cy.0)
+use Rattle.lists.proofs.RisingLists.{same_item}
 
 module _ (f : Aba) (form : IsAba f) where
   -- rules with the same number are one

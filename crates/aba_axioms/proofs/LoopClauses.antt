@@ -5,7 +5,6 @@ use Rattle.std.specs.List.{flat_map}
 use Rattle.std.proofs.lemmas.Bool.{cases_eq, cases_lt, ne_eqb}
 use Rattle.std.proofs.lemmas.List.Elements.{Contains-append_left, Contains-append_right}
 use Rattle.lists.proofs.Membership.{Contains-head, Contains-tail, Contains-cons_cases, Contains-nil}
-use Rattle.plain_lits.proofs.HintCheckLemmas.{Contains-mapped}
 use Rattle.meaning_atoms.specs.semantics.specs.AbaFrameworks.{Aba}
 use Rattle.meaning_atoms.specs.semantics.specs.Rules.{Rule, Derives, given as from_given, by_rule}
 use Rattle.meaning_atoms.specs.semantics.specs.Framework.{Af}
@@ -24,16 +23,9 @@ use Rattle.meaning_atoms.proofs.Valuations.{decide_atom, decide_true_beside}
 use Rattle.meaning_atoms.proofs.NotionClauses.{IsValidOfAba, IsValidOfAf}
 use Rattle.aba_axioms.specs.AbaTable.{filled_gap, given_atom, loop_clause, other_heads, pair_literal, row_literals}
 use Rattle.aba_axioms.proofs.FrameworkLemmas.{IsGivenIn, given_low, in_closure, of_closure, same_rule}
+use Rattle.lists.proofs.Images.{image_there, in_flat}
 
 -- ---- which literals the clause has
-
-in_flat : {A B : Type 0} (g : A → List B) (xs : List A) (x : A) (y : B) → Contains xs x → Contains (g x) y
-    → Contains (flat_map g xs) y
-in_flat g [] x y c d = absurd (Contains-nil x c)
-in_flat g (z ∷ xs) x y c d = ⊎_elim
-    (λ e. Contains-append_left (g z) (flat_map g xs) y (subst (λ w. Contains (g w) y) (sym e) d))
-    (λ k. Contains-append_right (g z) (flat_map g xs) y (in_flat g xs x y k d))
-    (Contains-cons_cases z xs x c)
 
 module _ (k : Closure) (x : ℕ) (rows : List LoopRow) where
   given_part : List AtomLit
@@ -45,7 +37,7 @@ module _ (k : Closure) (x : ℕ) (rows : List LoopRow) where
       let front = map (λ (r : LoopRow). affirmed (given_atom k r.atom)) rows in
       Contains-tail (denied (Der k x)) (front ++ flat_map (row_literals k) rows) l
       (Contains-append_left front (flat_map (row_literals k) rows) l
-      (Contains-mapped (λ (r : LoopRow). affirmed (given_atom k r.atom)) rows row c))
+      (image_there (λ (r : LoopRow). affirmed (given_atom k r.atom)) rows row c))
 
   has_literal : (row : LoopRow) (l : AtomLit) → Contains rows row → Contains (row_literals k row) l
       → Contains (loop_clause k x rows) l
@@ -64,7 +56,7 @@ module _ (k : Closure) (x : ℕ) (rows : List LoopRow) where
       → Contains (loop_clause k x rows) (pair_literal k p)
   has_pair row p c d = has_literal row (pair_literal k p) c
       (Contains-append_right (other_heads row.atom 1 (map (λ (q : ℕ × ℕ). q.0) row.pairs))
-      (map (pair_literal k) row.pairs) (pair_literal k p) (Contains-mapped (pair_literal k) row.pairs p d))
+      (map (pair_literal k) row.pairs) (pair_literal k p) (image_there (pair_literal k) row.pairs p d))
 
 -- the literal of a pair without 0
 other_pair : (k : Closure) (n y : ℕ) → pair_literal k (n, suc y) ≡ denied (Body n (suc y))

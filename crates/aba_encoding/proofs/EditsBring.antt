@@ -5,7 +5,6 @@ use Rattle.std.proofs.lemmas.Bool.{cases_eq, eq-eqb, eqb-true, false≢true, not
 use Rattle.std.proofs.lemmas.List.Elements.{Contains-append_left, Contains-append_right, Contains-push_cases}
 use Rattle.lists.proofs.Filters.{Contains-filter}
 use Rattle.lists.proofs.Membership.{Contains-head}
-use Rattle.aba_laws.proofs.Images.{image_there}
 use Rattle.semantics.specs.AbaFrameworks.{Aba, IsAtom, IsNumberedAba}
 use Rattle.semantics.specs.Rules.{Rule}
 use Rattle.meaning_atoms.specs.AbaReadings.{HasContrary, HasRule}
@@ -15,12 +14,13 @@ use Rattle.edit_rules.proofs.NumberLists.{with_number_members}
 use Rattle.edit_rules.specs.AbaEdits.{aba_with_assumption, aba_without_assumption, aba_with_contrary, aba_with_rule, aba_without_rule}
 use Rattle.edit_rules.specs.AbaEdits.{contrary_of, next_rule}
 use Rattle.edit_rules.proofs.ContraryLists.{with_contrary_members, without_contrary_members}
-use Rattle.edit_rules.proofs.MadeFrameworks.{same_key}
 use Rattle.edit_rules.proofs.DetermineLemmas.{contrary_is, contrary_there}
 use Rattle.aba_encoding.specs.Brought.{by_assumption, by_contrary, by_rule, by_rule_gone, by_rule_head, nothing}
 use Rattle.aba_encoding.specs.Places.{HasNoneAfter, IsNextAfter, IsPlaceBefore}
 use Rattle.aba_encoding.proofs.BroughtLemmas.{Brings, IsHeadEnd, IsHeadStep}
 use Rattle.aba_encoding.proofs.WalkChanges.{Gained, Lost, gained_end, gained_step, lost_end, lost_step, same_end, same_step}
+use Rattle.lists.proofs.RisingLists.{same_item}
+use Rattle.lists.proofs.Images.{image_there}
 
 -- what is as it was is nothing new
 as_before : {P Q : Type 0} → (P → Q) → ⊥ ↔ (P × (Q → ⊥))
@@ -269,7 +269,7 @@ module _ (f : Aba) (gone : Rule) (ok : IsNumberedAba f) (there : Contains f.rule
   keeps_heads x other y = (
     left_rule y (λ q. q.head ≡ x),
     λ has. stays y (λ q. q.head ≡ x) has (λ e. other (sym has.says ∙ ap (λ (q : Rule). q.head)
-        (same_key (λ (q : Rule). q.number) f.rules has.rule gone ok.form.numbers_rise has.there there
+        (same_item (λ (q : Rule). q.number) f.rules has.rule gone ok.form.numbers_rise has.there there
         (has.numbered ∙ e)))),
   )
 

@@ -4,7 +4,6 @@ use Rattle.std.specs.Prelude.{Contains, OnOk}
 use Rattle.std.proofs.lemmas.List.Elements.{Contains-append_right}
 use Rattle.lists.specs.declared.memory.Memory.{Memory}
 use Rattle.lists.proofs.Membership.{Contains-cons_cases}
-use Rattle.aba_laws.proofs.Images.{image_there, image_from}
 use Rattle.semantics.specs.AbaFrameworks.{Aba, IsNumberedAba}
 use Rattle.semantics.specs.Rules.{Rule}
 use Rattle.semantics.specs.Frameworks.{aba}
@@ -27,6 +26,7 @@ use Rattle.aba_encoding.specs.Brought.{by_assumption, by_contrary, by_last_rule,
 use Rattle.aba_encoding.specs.Places.{HasNoneAfter, IsNextAfter, IsPlaceBefore}
 use Rattle.aba_encoding.proofs.OutcomeLemmas.{never_taken}
 use Rattle.aba_encoding.proofs.PlaceLemmas.{next_ends, one_next, one_place}
+use Rattle.lists.proofs.Images.{image_there, image_from}
 
 -- ---- lists of axioms
 

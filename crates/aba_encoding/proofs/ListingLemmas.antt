@@ -12,14 +12,15 @@ use Rattle.attack_index.specs.PairOrder.{PairsRise}
 use Rattle.lists.proofs.Filters.{Contains-filter}
 use Rattle.semantics.specs.AbaFrameworks.{Aba, IsNumberedAba}
 use Rattle.semantics.specs.Rules.{Rule}
-use Rattle.aba_laws.proofs.Images.{image_there, image_from}
 use Rattle.aba_notions.specs.Storage.{no_rule, rule_at}
-use Rattle.aba_notions.proofs.FormLemmas.{same_rising}
 use Rattle.aba_notions.proofs.UnfoundedLemmas.{read_number}
 use Rattle.meaning_atoms.specs.declared.aba_axiom.AbaAxiom.{AbaAxiom}
 use Rattle.meaning_atoms.specs.declared.axiom.AxiomName.{AxiomName}
 use Rattle.meaning_atoms.specs.declared.axiom.AxiomName.TheVariants.{Aba as OfAba}
 use Rattle.aba_encoding.specs.Listing.{Gains, walk_along, heading}
+use Rattle.lists.proofs.RisingLists.{same_rising}
+use Rattle.lists.proofs.Images.{image_there, image_from}
+use Rattle.aba_facts.proofs.CutLemmas.{map_same}
 
 abbrev number_of : Rule → ℕ
 number_of r = r.number
@@ -82,10 +83,6 @@ module _ {X : Type 0} (g : X → List AbaAxiom) where
   pub flat_all : (xs : List X) (k : ℕ) (old new : List AxiomName) → length xs ≤ k
       → Gains (flat_map g (take k xs)) old new → Gains (flat_map g xs) old new
   flat_all xs k old new past gains = subst (λ zs. Gains (flat_map g zs) old new) (take_all k xs past) gains
-
-map_same : (xs : List ℕ) → map (λ (x : ℕ). x) xs ≡ xs
-map_same [] = refl
-map_same (x ∷ xs) = ap (λ ys. x ∷ ys) (map_same xs)
 
 range_more : (n : ℕ) → range_with_len 1 (n + 1) ≡ range_with_len 1 n ++ (n + 1) ∷ []
 range_more n =

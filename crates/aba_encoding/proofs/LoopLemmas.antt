@@ -13,8 +13,6 @@ use Rattle.semantics.specs.Collectives.{IsUnattacked}
 use Rattle.semantics.specs.Rules.{Rule, Derives, given as from_given}
 use Rattle.aba_laws.proofs.AbaLemmas.{decide_attacks}
 use Rattle.aba_laws.proofs.DerivationLemmas.{derives_more}
-use Rattle.aba_laws.proofs.Images.{image_there, image_from}
-use Rattle.aba_notions.proofs.FormLemmas.{same_rising}
 use Rattle.aba_notions.specs.declared.unfounded.Row.{Row}
 use Rattle.aba_notions.specs.declared.unfounded.Unfounded.{Unfounded}
 use Rattle.aba_notions.specs.Unfounded.{IsUnfoundedOf}
@@ -32,17 +30,19 @@ use Rattle.meaning_atoms.specs.AbaReadings.{HasBodyAtom}
 use Rattle.meaning_atoms.specs.Literals.{affirmed, denied, negated}
 use Rattle.aba_axioms.specs.AbaTable.{filled_gap, given_atom, loop_clause, other_heads, pair_literal, row_literals}
 use Rattle.loop_clauses.specs.LoopNames.{loop_row, loop_rows}
-use Rattle.loop_clauses.proofs.LoopLemmas.{loop_of}
+use Rattle.loop_clauses.proofs.LoopLemmas.{loop_of, same_atoms}
 use Rattle.semantics.specs.Frameworks.{aba}
 use Rattle.oracle_face.specs.Decoding.{IsDecoded, IsModelOf, IsNewLoop, TellsMembers}
 use Rattle.af_encoding.specs.Decoded.{Affirms}
 use Rattle.oracle_face.specs.AbaNeeded.{Heads}
 use Rattle.aba_encoding.specs.Listing.{walk_along}
 use Rattle.oracle_face.specs.Walks.{IsWalkEnd, IsWalkStep}
-use Rattle.aba_encoding.proofs.NeededLemmas.{flat_from, heads_low, heads_under}
+use Rattle.aba_encoding.proofs.NeededLemmas.{heads_low, heads_under}
 use Rattle.aba_encoding.proofs.WalkLemmas.{AreAhead, all_ahead, along_from}
 use Rattle.aba_encoding.specs.AbaModels.{AddsAtom, IsFalseUnder, IsFirstLoop, IsFounded, IsLoopBeside, IsLoopName}
 use Rattle.aba_encoding.proofs.ModelReadings.{affirmed_here, consistent, fact_here, fact_so, fact_told, first_or_later, last_one, none_left, own_told, satisfied}
+use Rattle.lists.proofs.RisingLists.{same_rising}
+use Rattle.lists.proofs.Images.{image_there, image_from, flat_from}
 
 -- ---- the literals of the clause
 
@@ -253,10 +253,6 @@ module _ (f : Aba) (values : List AtomLit) (s : List ℕ) (form : IsNumberedAba 
       (rest_not_given model rest rest_is) (get_or h.found.atoms 0 0) (least_there f values rest Rest name h))
 
 -- ---- the name
-
-same_atoms : (rows : List Row) → map (λ (r : LoopRow). r.atom) (loop_rows rows) ≡ map (λ (r : Row). r.atom) rows
-same_atoms [] = refl
-same_atoms (row ∷ rows) = ap (λ atoms. row.atom ∷ atoms) (same_atoms rows)
 
 pub loop_is : (f : Aba) (values : List AtomLit) (base : List ℕ) (k : Closure) (name : AxiomName) → IsNumberedAba f
     → IsLoopBeside f values base k name → IsLoopName name

@@ -12,7 +12,6 @@ use Rattle.semantics.specs.Rules.{Rule, Derives, given as from_given, by_rule}
 use Rattle.aba_laws.proofs.AbaLemmas.{aba_lawful}
 use Rattle.aba_laws.proofs.CollectiveSets.{defends_by_rest, rest_of}
 use Rattle.aba_laws.proofs.DerivationLemmas.{derives_more}
-use Rattle.aba_laws.proofs.Images.{image_from}
 use Rattle.semantics.specs.Frameworks.{aba}
 use Rattle.meaning_atoms.specs.declared.aba_axiom.AbaAxiom.{AbaAxiom}
 use Rattle.meaning_atoms.specs.declared.aba_axiom.AbaAxiom.TheVariants.{B1, B2, B3, B4, B5, B7, B8, B12, B13, B14, B15, B16}
@@ -36,6 +35,7 @@ use Rattle.oracle_face.specs.Walks.{IsWalkEnd, IsWalkStep}
 use Rattle.aba_encoding.proofs.NeededLemmas.{body_ahead, body_low, body_under}
 use Rattle.aba_encoding.proofs.WalkLemmas.{walk_on}
 use Rattle.aba_encoding.specs.AbaModels.{DescribesInAba, IsFounded}
+use Rattle.lists.proofs.Images.{image_from}
 
 abbrev literal : Atom → Bool → AtomLit
 literal atom positive = record { atom = atom; positive = positive }

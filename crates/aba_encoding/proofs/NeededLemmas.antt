@@ -6,8 +6,7 @@ use Rattle.std.proofs.lemmas.Bool.{cases_eq}
 use Rattle.std.proofs.lemmas.List.FromFn.{get_or-range_with_len, length-range_with_len}
 use Rattle.std.proofs.lemmas.List.Elements.{All-contains, All-from_recursion, Contains-append_left, Contains-append_right, Contains-append_cases}
 use Rattle.std.proofs.lemmas.List.Kept.{AllPairs-from_increasing}
-use Rattle.lists.proofs.Membership.{Contains-nil, Contains-head, Contains-tail, Contains-cons_cases}
-use Rattle.aba_laws.proofs.Images.{image_there, image_from}
+use Rattle.lists.proofs.Membership.{Contains-cons_cases}
 use Rattle.semantics.specs.Arguments.{IsArgument}
 use Rattle.semantics.specs.AbaFrameworks.{Aba, IsAtom, IsNumberedAba}
 use Rattle.semantics.specs.Rules.{Rule}
@@ -28,24 +27,9 @@ use Rattle.aba_encoding.specs.Listing.{atom_axioms, body_end, body_step, common_
 use Rattle.oracle_face.specs.Walks.{IsWalkStep, IsWalkEnd}
 use Rattle.aba_encoding.proofs.ListingLemmas.{heading_are, heading_rises}
 use Rattle.aba_encoding.proofs.WalkLemmas.{AreAhead, all_ahead, along_from, end_there, start_high, start_position, step_there, step_to}
+use Rattle.lists.proofs.Images.{image_there, image_from, in_flat, flat_from}
 
 -- ---- lists of lists
-
-pub flat_there : {A B : Type 0} (g : A → List B) (xs : List A) (x : A) (y : B) → Contains xs x → Contains (g x) y
-    → Contains (flat_map g xs) y
-flat_there g [] x y c d = absurd (Contains-nil x c)
-flat_there g (z ∷ xs) x y c d = ⊎_elim
-    (λ e. Contains-append_left (g z) (flat_map g xs) y (subst (λ w. Contains (g w) y) (sym e) d))
-    (λ k. Contains-append_right (g z) (flat_map g xs) y (flat_there g xs x y k d))
-    (Contains-cons_cases z xs x c)
-
-pub flat_from : {A B : Type 0} (g : A → List B) (xs : List A) (y : B) → Contains (flat_map g xs) y
-    → (x : A) × Contains xs x × Contains (g x) y
-flat_from g [] y c = absurd (Contains-nil y c)
-flat_from g (z ∷ xs) y c = ⊎_elim
-    (λ here. (z, Contains-head z xs z refl, here))
-    (λ later. let w = flat_from g xs y later in (w.0, Contains-tail z xs w.0 w.1, w.2))
-    (Contains-append_cases (g z) (flat_map g xs) y c)
 
 -- what holds of each item that is written out holds of each member
 pub listed : (P : AbaAxiom → Type 0) (names : List AbaAxiom) → AllByRecursion P names → (name : AbaAxiom)
@@ -216,14 +200,14 @@ module _ (f : Aba) (form : IsNumberedAba f) where
   in_contrary a c con name d =
       Contains-append_right common_axioms _ name
       (Contains-append_left (flat_map contrary_axioms f.contraries) _ name
-      (flat_there contrary_axioms f.contraries (a, c) name con d))
+      (in_flat contrary_axioms f.contraries (a, c) name con d))
 
   in_rule : (r : Rule) → Contains f.rules r → (name : AbaAxiom) → Contains (rule_axioms r) name
       → Contains (listed_axioms f) name
   in_rule r there name d =
       Contains-append_right common_axioms _ name
       (Contains-append_right (flat_map contrary_axioms f.contraries) _ name
-      (Contains-append_left (flat_map rule_axioms f.rules) _ name (flat_there rule_axioms f.rules r name there d)))
+      (Contains-append_left (flat_map rule_axioms f.rules) _ name (in_flat rule_axioms f.rules r name there d)))
 
   in_atom : (x : ℕ) → IsAtom f.atoms x → (name : AbaAxiom) → Contains (atom_axioms f x) name
       → Contains (listed_axioms f) name
@@ -231,7 +215,7 @@ module _ (f : Aba) (form : IsNumberedAba f) where
       Contains-append_right common_axioms _ name
       (Contains-append_right (flat_map contrary_axioms f.contraries) _ name
       (Contains-append_right (flat_map rule_axioms f.rules) _ name
-      (flat_there (atom_axioms f) (range_with_len 1 f.atoms) x name (range_there x atom) d)))
+      (in_flat (atom_axioms f) (range_with_len 1 f.atoms) x name (range_there x atom) d)))
 
   in_body_step : (r : Rule) → Contains f.rules r → (i j : ℕ) → IsWalkStep (Contains r.body) i j → (name : AbaAxiom)
       → Contains (body_step r.number i j) name → Contains (listed_axioms f) name

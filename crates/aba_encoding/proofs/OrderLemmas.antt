@@ -3,7 +3,6 @@ use Rattle.std.proofs.Common.{◌≢◌, ◌≤◌, ◌<◌, ◌+◌, ◌*◌, �
 use Rattle.std.specs.Prelude.{Contains, AllPairs}
 use Rattle.std.specs.List.{flat_map, range_with_len}
 use Rattle.std.specs.List.Sorted.{IsStrictlyIncreasing}
-use Rattle.std.proofs.lemmas.List.{get_or-map, length-map}
 use Rattle.std.proofs.lemmas.List.FromFn.{get_or-range_with_len, length-range_with_len}
 use Rattle.std.proofs.lemmas.List.Kept.{AllPairs-cons, AllPairs-from_increasing}
 use Rattle.lists.proofs.Membership.{Contains-nil, Contains-head, Contains-tail, Contains-cons_cases}
@@ -20,6 +19,7 @@ use Rattle.af_encoding.proofs.EnumerationLemmas.{all_of_members, pairs_tail}
 use Rattle.aba_encoding.specs.Listing.{atom_axioms, body_end, body_step, common_axioms, contrary_axioms, head_end, head_step, heading, listed_axioms, rule_axioms, walk_along}
 use Rattle.aba_encoding.proofs.ListingLemmas.{heading_are, heading_rises}
 use Rattle.aba_encoding.proofs.WalkLemmas.{later_more}
+use Rattle.lists.proofs.RisingLists.{keys_rise}
 
 -- ---- lists whose ranks rise from one number to below another
 
@@ -116,16 +116,6 @@ rank_of (B14 a c) = 7 + 8 * a
 rank_of (B15 a c) = 8 + 8 * a
 rank_of (B16 part) = 1 + part
 rank_of (B17 k x rows) = 0
-
--- items with rising keys
-pub keys_rise : {X : Type 0} (key : X → ℕ) (xs : List X) → IsStrictlyIncreasing (map key xs)
-    → AllPairs (λ a b. key a < key b) xs
-keys_rise key xs up i j d lt within =
-    let whole = length-map xs key in
-    let here = get_or-map key xs i d 0 (omega arith) in
-    let there = get_or-map key xs j d 0 within in
-    let less = AllPairs-from_increasing (map key xs) up i j 0 lt (omega arith) in
-    omega arith
 
 module _ (f : Aba) (form : IsNumberedAba f) where
   common_between : Between rank_of 0 10 common_axioms

@@ -1,9 +1,28 @@
 -- What an effect tells of the edit, and so which axioms the edit calls for.
-use Rattle.std.proofs.Common.{Result, Ok, Err, ◌≡◌, ◌≤◌, ◌<◌, ◌-◌, ◌↔◌, ℕ, false, not, List, [], ◌∷◌, ◌++◌, length, arith, ap, sym, subst, ◌∙◌}
+use Rattle.std.proofs.Common.{
+  Result,
+  Ok,
+  Err,
+  ◌≡◌,
+  ◌≤◌,
+  ◌<◌,
+  ◌-◌,
+  ◌↔◌,
+  ℕ,
+  List,
+  [],
+  ◌∷◌,
+  ◌++◌,
+  length,
+  arith,
+  ap,
+  sym,
+  subst,
+  ◌∙◌,
+}
 use Rattle.std.specs.Prelude.{Contains, is_ok}
-use Rattle.std.proofs.lemmas.Bool.{false≢true, not-false}
+use Rattle.std.proofs.lemmas.Bool.{false≢true}
 use Rattle.std.proofs.lemmas.List.{get_or_push, length_push}
-use Rattle.aba_laws.proofs.Images.{image_from}
 use Rattle.semantics.specs.AbaFrameworks.{Aba, IsNumberedAba}
 use Rattle.semantics.specs.Rules.{Rule}
 use Rattle.aba_notions.specs.Storage.{no_rule, rule_at}
@@ -14,8 +33,7 @@ use Rattle.edit_rules.specs.declared.edit.Edit.TheVariants.{ArgAdd, ArgDrop, Att
 use Rattle.edit_rules.specs.declared.effect.Effect.{Effect}
 use Rattle.edit_rules.specs.declared.effect.EditFault.{EditFault}
 use Rattle.edit_rules.specs.declared.effect.EditFault.TheVariants.{WrongKind}
-use Rattle.edit_rules.specs.Numbers.{has_number}
-use Rattle.edit_rules.proofs.EditWordTests.{absent, number_there}
+use Rattle.edit_rules.proofs.EditWordTests.{absent}
 use Rattle.edit_rules.proofs.RefusalLemmas.{EachPasses, done_passes, done_row}
 use Rattle.edit_rules.proofs.AbaOutcomes.{aba_edit_outcome, any_outcome}
 use Rattle.edit_rules.specs.AbaEdits.{AbaRow, aba_outcome, aba_row_outcome, next_rule, numbers_of}
@@ -26,6 +44,8 @@ use Rattle.af_encoding.specs.Changes.{IsCalledFor, IsEffectOf}
 use Rattle.aba_encoding.specs.Brought.{by_assumption, by_contrary, by_last_rule, by_rule, by_rule_gone, by_rule_head, IsNamed, nothing}
 use Rattle.aba_encoding.proofs.BroughtLemmas.{called}
 use Rattle.aba_encoding.proofs.EditsBring.{assumption_brings, assumption_gone, contrary_brings, rule_brings, rule_gone_brings}
+use Rattle.lists.proofs.Images.{image_from}
+use Rattle.edit_rules.proofs.DetermineLemmas.{there}
 
 -- ---- the outcome of the edit
 
@@ -79,9 +99,6 @@ made : (row : AbaRow) (g : Aba) (effect : Effect) → aba_row_outcome row ≡ Ok
 made row g effect is =
     let done = done_passes row.refusals (row.framework, row.effect) (g, effect) is in
     record { none = done.0; framework = ap (λ d. d.0) done.1; effect_is = ap (λ d. d.1) done.1 }
-
-there : (xs : List ℕ) (x : ℕ) → not (has_number xs x) ≡ false → Contains xs x
-there xs x h = number_there xs x (not-false (has_number xs x) h)
 
 -- ---- what each edit calls for
 

@@ -5,13 +5,13 @@ use Rattle.std.proofs.lemmas.List.{get_or-map}
 use Rattle.std.proofs.lemmas.List.Elements.{Contains-get_or}
 use Rattle.semantics.specs.AbaFrameworks.{Aba, IsNumberedAba}
 use Rattle.semantics.specs.Rules.{Rule}
-use Rattle.aba_laws.proofs.Images.{image_there}
 use Rattle.aba_notions.specs.Storage.{no_rule, rule_at}
 use Rattle.aba_notions.proofs.UnfoundedLemmas.{read_number}
 use Rattle.meaning_atoms.specs.declared.atom.Closure.TheVariants.{Own, Rest}
 use Rattle.meaning_atoms.specs.declared.aba_axiom.AbaAxiom.{AbaAxiom}
 use Rattle.meaning_atoms.specs.declared.aba_axiom.AbaAxiom.TheVariants.{B1, B5, B9}
 use Rattle.aba_encoding.specs.Listing.{atom_axioms, body_end, body_step, head_end, head_step, heading, rule_axioms, walk_along}
+use Rattle.lists.proofs.Images.{image_there}
 
 abbrev pub head_axioms : ℕ → ℕ → List AbaAxiom
 head_axioms number head = B5 Own number head ∷ B5 Rest number head ∷ []

@@ -5,7 +5,6 @@ use Rattle.std.specs.Prelude.{Contains, ◌↔◌}
 use Rattle.std.specs.List.{flat_map}
 use Rattle.lists.specs.Members.{IsWithin}
 use Rattle.semantics.specs.AbaFrameworks.{Aba, IsNumberedAba}
-use Rattle.aba_laws.proofs.Images.{image_there, image_from}
 use Rattle.semantics.specs.Frameworks.{aba}
 use Rattle.meaning_atoms.specs.declared.aba_axiom.AbaAxiom.{AbaAxiom}
 use Rattle.meaning_atoms.specs.declared.aba_axiom.AbaAxiom.TheVariants.{B1, B16}
@@ -14,7 +13,7 @@ use Rattle.meaning_atoms.specs.declared.atom.Atom.TheVariants.{Member, Asm, Con,
 use Rattle.meaning_atoms.specs.declared.atom.AtomLit.{AtomLit}
 use Rattle.meaning_atoms.specs.Literals.{affirmed, denied, negated}
 use Rattle.meaning_atoms.specs.Valuations.{IsValuation}
-use Rattle.meaning_atoms.specs.Worlds.{world_of, Holds, HoldsOfAba, IsAbaFact, IsAbaWorld, Says}
+use Rattle.meaning_atoms.specs.Worlds.{world_of, Holds, HoldsOfAba, IsAbaFact, IsAbaWorld}
 use Rattle.meaning_atoms.proofs.Valuations.{world_valuation}
 use Rattle.aba_axioms.specs.AbaTable.{aba_clause}
 use Rattle.aba_axioms.proofs.Validity.{clauses_are_valid}
@@ -27,8 +26,11 @@ use Rattle.oracle_face.specs.Needed.{IsNeeded}
 use Rattle.af_encoding.specs.Decoded.{Affirms}
 use Rattle.oracle_face.specs.AbaNeeded.{IsNeededOfAba}
 use Rattle.aba_encoding.specs.Listing.{listed_axioms}
-use Rattle.aba_encoding.proofs.NeededLemmas.{flat_there, listed_to, needed_fits}
+use Rattle.aba_encoding.proofs.NeededLemmas.{listed_to, needed_fits}
 use Rattle.aba_encoding.specs.AbaModels.{IsModelOfSetInAba}
+use Rattle.lists.proofs.Images.{image_there, image_from, in_flat}
+use Rattle.lists.proofs.TruthValues.{not_itself}
+use Rattle.af_encoding.proofs.WorldModels.{sign_so}
 
 abbrev literal : Atom → Bool → AtomLit
 literal atom positive = record { atom = atom; positive = positive }
@@ -48,22 +50,12 @@ values_of f value = map (told value) (flat_map atoms_of (listed_axioms f))
 
 -- ---- signs
 
-opposite : (b : Bool) → b ≡ not b → ⊥
-opposite true e = absurd (cc)
-opposite false e = absurd (cc)
-
 told_either : (values : List AtomLit) (atom : Atom) (v positive : Bool) → Contains values (literal atom v)
     → Contains values (literal atom positive) ⊎ Contains values (literal atom (not positive))
 told_either values atom true true c = inl c
 told_either values atom false false c = inl c
 told_either values atom true false c = inr c
 told_either values atom false true c = inr c
-
--- a literal that is true has the sign of its atom's value
-sign_so : (positive v : Bool) (P : Type 0) → ((v ≡ true) ↔ P) → Says positive P → v ≡ positive
-sign_so true v P iff h = iff.1 h
-sign_so false true P iff h = absurd (h (iff.0 refl))
-sign_so false false P iff h = refl
 
 -- the value of a fact is its truth in each world of the framework
 fact_reading : (f : Aba) (s t : List ℕ) (sides : List (List AtomLit)) (atom : Atom) → IsAbaFact atom
@@ -89,7 +81,7 @@ module _ (f : Aba) (form : IsNumberedAba f) (s : List ℕ) (within : IsWithin s 
       → Contains (values_of f value) (told value l.atom)
   spoken name l needed c =
       image_there (told value) (flat_map atoms_of (listed_axioms f)) l.atom
-      (flat_there atoms_of (listed_axioms f) name l.atom (listed_to f form name needed)
+      (in_flat atoms_of (listed_axioms f) name l.atom (listed_to f form name needed)
       (image_there atom_in (aba_clause name) l c))
 
   world : IsAbaWorld f s
@@ -122,7 +114,7 @@ module _ (f : Aba) (form : IsNumberedAba f) (s : List ℕ) (within : IsWithin s 
 
   model_of : IsModelOf (aba f) (values_of f value)
   model_of = record {
-    plain = λ w. opposite w.0.positive (sym (sign_of w.0 w.1) ∙ sign_of (negated w.0) w.2);
+    plain = λ w. not_itself w.0.positive (sym (sign_of w.0 w.1) ∙ sign_of (negated w.0) w.2);
     axioms = axiom_true;
     facts = λ l c fact. record {
       fact = fact;

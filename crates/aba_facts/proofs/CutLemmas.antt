@@ -3,19 +3,12 @@ use Rattle.std.proofs.Common.{◌≡◌, ◌≤◌, ◌<◌, ℕ, List, length, 
 use Rattle.std.proofs.Common.{eqb, ltb, leb, ltb-true, ltb-false, leb-true, le-leb, eq-eqb, [], ◌∷◌}
 use Rattle.std.specs.Prelude.{Contains, ◌↔◌, IsTrue}
 use Rattle.std.specs.List.Sorted.{IsPartitionedBy, IsPartitionPoint, IsStrictlyIncreasing}
-use Rattle.std.proofs.lemmas.Bool.{cases_eq, cases_lt, eqb-true, false≢true}
+use Rattle.std.proofs.lemmas.Bool.{cases_lt, eqb-true, false≢true}
 use Rattle.std.proofs.lemmas.List.{get_or_default, get_or-map, length-map}
 use Rattle.std.proofs.lemmas.List.Sorted.{IsPartitionedBy-ltb}
 use Rattle.std.proofs.lemmas.List.Elements.{Contains-get_or}
-use Rattle.std.proofs.lemmas.List.Kept.{AllPairs-from_increasing}
 use Rattle.aba_facts.specs.Cuts.{IsClear, IsCut, IsFirstFrom}
-
--- numbers do not fall along rising ones
-pub along : (xs : List ℕ) → IsStrictlyIncreasing xs → (i j : ℕ) → i ≤ j → j < length xs → get_or xs i 0 ≤ get_or xs j 0
-along xs up i j le lt =
-    ⊎_elim (λ e. omega (arith, ap (λ k. get_or xs k 0) e))
-    (λ ne. omega (arith, AllPairs-from_increasing xs up i j 0 (omega arith) lt))
-    (cases_eq i j)
+use Rattle.lists.proofs.RisingLists.{rises_along}
 
 pub map_same : (xs : List ℕ) → map (λ (x : ℕ). x) xs ≡ xs
 map_same [] = refl
@@ -30,7 +23,7 @@ module _ {X : Type 0} (key : X → ℕ) (xs : List X) where
   parted bound up = IsPartitionedBy-ltb key xs bound
       (λ i j d le lt. omega (
         arith,
-        along (map key xs) up i j le (omega (arith, length-map xs key, lt)),
+        rises_along (map key xs) up i j le (omega (arith, length-map xs key, lt)),
         key_at i d (omega arith),
         key_at j d lt,
       ))
@@ -69,7 +62,7 @@ first_made bound xs n y up cut lt is = rw is (record {
   least = λ z c late.
       omega (
         arith,
-        along xs up n c.0 (behind_cut bound xs n cut z c late) c.1,
+        rises_along xs up n c.0 (behind_cut bound xs n cut z c late) c.1,
         get_or_default xs c.0 0 z c.1 ∙ c.2,
       );
 })

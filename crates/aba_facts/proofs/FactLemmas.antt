@@ -9,14 +9,15 @@ use Rattle.std.proofs.lemmas.List.Elements.{Contains-get_or}
 use Rattle.attack_index.specs.PairOrder.{PairsRise}
 use Rattle.semantics.specs.AbaFrameworks.{Aba, IsNumberedAba}
 use Rattle.semantics.specs.Rules.{Rule}
-use Rattle.aba_laws.proofs.Images.{image_there, image_from}
 use Rattle.aba_notions.specs.Storage.{no_rule, rule_at}
 use Rattle.aba_notions.proofs.TableLemmas.{rising_few}
 use Rattle.aba_notions.proofs.UnfoundedLemmas.{read_number}
 use Rattle.meaning_atoms.specs.AbaReadings.{HasHead, HasNoHead, HasRule}
 use Rattle.aba_axioms.proofs.FrameworkLemmas.{same_rule}
 use Rattle.aba_facts.specs.Cuts.{IsCut, IsFirstFrom, IsRuleAt}
-use Rattle.aba_facts.proofs.CutLemmas.{along, behind_cut}
+use Rattle.aba_facts.proofs.CutLemmas.{behind_cut}
+use Rattle.lists.proofs.Images.{image_there, image_from}
+use Rattle.lists.proofs.RisingLists.{rises_along}
 
 abbrev number_of : Rule → ℕ
 number_of r = r.number
@@ -121,7 +122,7 @@ module _ (f : Aba) (form : IsNumberedAba f) where
       let there = number_there numbers are r c in
       let late = behind_cut number numbers n cut r.number there (omega arith) in
       let up : IsStrictlyIncreasing numbers = subst IsStrictlyIncreasing (sym are) form.form.numbers_rise in
-      let before = along numbers up n there.0 late there.1 in
+      let before = rises_along numbers up n there.0 late there.1 in
       let at = get_or_default numbers there.0 0 r.number there.1 ∙ there.2 in
       let after = cut.after n (omega arith) within in
       other (omega arith)
@@ -188,7 +189,7 @@ module _ (f : Aba) (form : IsNumberedAba f) where
         λ t r c is low high.
             let place = late_place numbers headed head begin first are rules cut r c is low in
             let least = found.least place.0 place.1.listed place.1.late in
-            let past = along numbers up k place.0 least place.1.within in
+            let past = rises_along numbers up k place.0 least place.1.within in
             let is' = place.1.there in
             let beyond = leb-true _ _ t in
             omega arith,

@@ -13,8 +13,6 @@ use Rattle.lists.proofs.Membership.{Contains-tail}
 use Rattle.num_text.specs.Cuts.{LineText}
 use Rattle.num_text.specs.Lines.{kept}
 use Rattle.af_format.specs.Headers.{aba_word, BeginWith}
-use Rattle.af_format.proofs.Reading.{arguments_rise}
-use Rattle.aba_laws.proofs.Images.{image_there, image_from}
 use Rattle.semantics.specs.declared.numbers.TheConstants.{MAX_ATOM}
 use Rattle.semantics.specs.AbaFrameworks.{Aba, IsAtom, IsNumberedAba}
 use Rattle.aba_notions.specs.declared.rule_table.RuleLists.{RuleLists}
@@ -26,6 +24,8 @@ use Rattle.aba_format.specs.Reading.{AreRulesIn, AreWhole}
 use Rattle.aba_format.specs.Finishing.{AreFrameworkParts, IsPairedBy, IsFrameworkBy}
 use Rattle.aba_format.specs.declared.said.LineParts.{LineParts}
 use Rattle.aba_format.proofs.SaysLemmas.{atoms_within, said_by_line, listed_rule}
+use Rattle.lists.proofs.Images.{image_there, image_from}
+use Rattle.lists.proofs.Ranges.{numbers_rise}
 
 pub paired_all : (assumptions contrary : List ℕ) (pairs : List (ℕ × ℕ)) (n : ℕ) → length assumptions ≤ n
     → pairs ≡ map (λ a. (a, get_or contrary a 0)) (take n assumptions) → IsPairedBy assumptions contrary pairs
@@ -89,9 +89,6 @@ framework_parts count lines parts small h =
     }
 
 -- ---- what the framework is made of
-
-numbers_rise : (n : ℕ) → IsStrictlyIncreasing (range_with_len 1 n)
-numbers_rise n = arguments_rise n
 
 number_in : (n k : ℕ) → Contains (range_with_len 1 n) k → (1 ≤ k) × (k < n + 1)
 number_in n k c =

@@ -10,12 +10,12 @@ use Rattle.num_text.specs.Cuts.{LineText}
 use Rattle.num_text.specs.Lines.{kept}
 use Rattle.af_format.specs.Headers.{aba_word, IsHeaderOf, BeginWith}
 use Rattle.af_format.proofs.LineCauses.{IsHeaderOf-same}
-use Rattle.af_format.proofs.Zips.{AllZip-same}
 use Rattle.semantics.specs.Rules.{Rule}
 use Rattle.semantics.specs.AbaFrameworks.{Aba, IsNumberedAba}
-use Rattle.aba_notions.proofs.FormLemmas.{same_rising}
 use Rattle.aba_format.specs.AbaText.{Said, says_assumption, says_contrary, SaysLine, rules_said, AreConsistent, IsAbaText, IsContrarySaid, IsRuleSaid, IsFrameworkOf, ReadsAs}
 use Rattle.aba_format.proofs.SaysLemmas.{SaysLine-same}
+use Rattle.lists.proofs.RisingLists.{same_rising}
+use Rattle.lists.proofs.Zips.{zip_same}
 
 IsAbaText-same : (bytes : List ℕ) (m n : ℕ) (ss ts : List Said) → IsAbaText bytes m ss → IsAbaText bytes n ts
     → (m ≡ n) × (ss ≡ ts)
@@ -28,7 +28,7 @@ IsAbaText-same bytes m n ss ts a b =
     let each = subst (λ k. AllZip (λ (line : LineText) s. SaysLine k line.text s) b.others ss) counts
     (subst (λ ls. AllZip (λ (line : LineText) s. SaysLine m line.text s) ls ss) others a.others_are.each) in (
       counts,
-      AllZip-same (λ (line : LineText) s. SaysLine n line.text s)
+      zip_same (λ (line : LineText) s. SaysLine n line.text s)
           (λ line s t. SaysLine-same n line.text s t) b.others ss ts each b.others_are.each,
     )
 

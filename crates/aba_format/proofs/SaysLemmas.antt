@@ -6,10 +6,11 @@ use Rattle.num_text.specs.Cuts.{LineText, field_texts}
 use Rattle.lists.proofs.Counts.{count_yes, count_no}
 use Rattle.lists.proofs.Membership.{Contains-head, Contains-tail, Contains-cons_cases}
 use Rattle.af_format.proofs.LineCauses.{IsNumber-same}
-use Rattle.af_format.proofs.Zips.{AllZip-at, AllZip-same}
+use Rattle.af_format.proofs.Zips.{AllZip-at}
 use Rattle.semantics.specs.AbaFrameworks.{IsAtom}
 use Rattle.aba_format.specs.AbaText.{Said, says_assumption, says_contrary, says_rule, keyword, atoms_of, SpellsAtom, SaysLine, rules_said}
 use Rattle.aba_format.specs.Faults.{behind_first, begin_with_r, is_rule_line, SaySome}
+use Rattle.lists.proofs.Zips.{zip_same}
 
 -- ---- words
 
@@ -47,7 +48,7 @@ SaysLine-same count line s t a b =
     let fields : keyword s ∷ a.texts ≡ keyword t ∷ b.texts = sym a.fields ∙ b.fields in
     let texts : a.texts ≡ b.texts = ap behind_first fields in
     said_same s t (ap (λ fs. get_or fs 0 []) fields)
-    (AllZip-same (SpellsAtom count) (λ text m n. SpellsAtom-same count text m n) b.texts (atoms_of s) (atoms_of t)
+    (zip_same (SpellsAtom count) (λ text m n. SpellsAtom-same count text m n) b.texts (atoms_of s) (atoms_of t)
     (subst (λ ts. AllZip (SpellsAtom count) ts (atoms_of s)) texts a.atoms) b.atoms)
 
 -- ---- atoms

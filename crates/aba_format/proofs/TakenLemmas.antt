@@ -9,7 +9,6 @@ use Rattle.std.proofs.lemmas.List.Elements.{Contains-push_cases, Contains-append
 use Rattle.std.proofs.lemmas.List.Elements.{Contains-append_cases}
 use Rattle.std.proofs.Math.Seq.{get_or-append_seam}
 use Rattle.lists.proofs.Membership.{Contains-pushed}
-use Rattle.aba_laws.proofs.Images.{image_there, image_from}
 use Rattle.semantics.specs.AbaFrameworks.{IsAtom}
 use Rattle.aba_format.specs.AbaText.{Said, says_assumption, says_contrary, says_rule, atoms_of, SaysLine}
 use Rattle.aba_format.specs.AbaText.{rules_said, AreConsistent}
@@ -31,6 +30,7 @@ use Rattle.aba_format.specs.Reading.{
 use Rattle.aba_format.specs.declared.said.LineParts.{LineParts}
 use Rattle.aba_format.specs.declared.said.TheConstants.{MAX_RULE_LINES}
 use Rattle.aba_format.proofs.SaysLemmas.{rules_said-append, atoms_within}
+use Rattle.lists.proofs.Images.{image_there, image_from}
 
 -- ---- what is said, with one thing more
 

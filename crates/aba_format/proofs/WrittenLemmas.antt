@@ -13,13 +13,12 @@ use Rattle.num_text.specs.Cuts.{LineText, is_line_end, is_blank, field_texts, li
 use Rattle.num_text.specs.Number.{IsNumber, IsDigit}
 use Rattle.num_text.specs.Lines.{are_skipped, kept}
 use Rattle.num_text.proofs.Decimals.{decimal_number}
-use Rattle.num_text.proofs.DigitFields.{no_blanks, not_empty}
+use Rattle.num_text.proofs.DigitFields.{no_blanks, not_empty, no_ends}
 use Rattle.num_text.proofs.CutLemmas.{lines_from-nil}
 use Rattle.num_text.proofs.KeptLines.{kept-nil, kept-keeps}
 use Rattle.lists.proofs.Membership.{Contains-head, Contains-tail, Contains-cons_cases}
 use Rattle.set_lists.proofs.Rising.{below_across, rises_right}
-use Rattle.af_format.proofs.RoundTrip.{no_ends, line_at, first_line_is}
-use Rattle.aba_laws.proofs.Images.{image_there, image_from}
+use Rattle.af_format.proofs.RoundTrip.{line_at, first_line_is}
 use Rattle.semantics.specs.Rules.{Rule}
 use Rattle.semantics.specs.AbaFrameworks.{Aba, IsAtom, IsNumberedAba}
 use Rattle.aba_notions.specs.Solid.{IsSolid}
@@ -27,6 +26,7 @@ use Rattle.aba_format.specs.AbaText.{Said, says_assumption, says_contrary, says_
 use Rattle.aba_format.specs.Written.{header_line, spaced, said_line, assumption_line, contrary_line, rule_line, aba_text}
 use Rattle.aba_format.proofs.SaysLemmas.{rules_said-append}
 use Rattle.aba_format.proofs.TakenLemmas.{kind, first_atom, second_atom}
+use Rattle.lists.proofs.Images.{image_there, image_from}
 
 -- ---- one line
 

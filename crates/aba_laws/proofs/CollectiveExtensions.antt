@@ -9,11 +9,9 @@ use Rattle.semantics.specs.Sets.{HasAllSets}
 use Rattle.semantics.proofs.Decided.{Decided, decide_both, decide_each, decide_implied, decide_member}
 use Rattle.semantics.specs.Collectives.{Collective, AttacksMember, IsAdmissible, IsPreferred, IsStable, IsInAllPreferred}
 use Rattle.aba_laws.specs.Laws.{StableIsPreferred, PreferredIsComplete, AdmissibleIsInPreferred, InAllIsUnattacked, IdealIsUnique}
-use Rattle.aba_laws.proofs.Choosing.{all_sets, decide_within}
 use Rattle.aba_laws.proofs.CollectiveSets.{IsLawful, member_more, decide_attacks_member, defended_admissible, union_admissible, empty_admissible, admissible_same, decide_admissible}
-
-turned : (s t : List ℕ) → HasSameMembers s t → HasSameMembers t s
-turned s t same = record { there = same.back; back = same.there }
+use Rattle.semantics.proofs.Existence.{all_sets, decide_within}
+use Rattle.semantics.proofs.SameMembers.{turned}
 
 -- if the other set is admissible and holds this one, it is no larger
 abbrev pub HasNoLarger : Collective → List ℕ → List ℕ → Type 0

@@ -8,7 +8,8 @@ use Rattle.semantics.specs.Laws.{HasSameMembers}
 use Rattle.semantics.proofs.Decided.{Decided, decide_both, decide_not, decide_each, decide_some, decide_implied, decide_member}
 use Rattle.semantics.specs.Collectives.{Collective, AttacksMember, Defends, IsUnattacked, IsConflictFree, IsAdmissible, IsComplete, IsStable}
 use Rattle.aba_laws.specs.Laws.{DefendsByRest, UnionIsAdmissible, DefendedIsAdmissible, AdmissibleBySets}
-use Rattle.aba_laws.proofs.Choosing.{chosen, decide_within}
+use Rattle.aba_laws.proofs.Choosing.{chosen}
+use Rattle.semantics.proofs.Existence.{decide_within}
 
 -- what a set attacks a larger one attacks too, and it can be decided
 pub record IsLawful (d : Collective) : Type 0 where

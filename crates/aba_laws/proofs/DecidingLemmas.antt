@@ -1,10 +1,9 @@
 -- What walks along lists say, and the notions by theories of all sets of assumptions.
 use Rattle.std.proofs.Common.{◌≡◌, ◌<◌, ◌≤◌, ◌+◌, ℕ, Bool, true, false, not, List, [], ◌∷◌, ◌++◌, length, get_or, arith, sym, subst, refl, ⊎_elim, ◌∙◌, rules}
-use Rattle.std.specs.Prelude.{Contains, ◌↔◌, IsTrue, MatchBool}
-use Rattle.std.specs.List.{HoldsAt, AllWithin}
+use Rattle.std.specs.Prelude.{Contains, ◌↔◌, IsTrue}
 use Rattle.std.proofs.lemmas.Bool.{cases_eq}
 use Rattle.std.proofs.lemmas.List.{get_or_default}
-use Rattle.std.proofs.lemmas.List.Elements.{Contains-get_or, Contains-append_left, Contains-push_cases}
+use Rattle.std.proofs.lemmas.List.Elements.{Contains-append_left, Contains-push_cases}
 use Rattle.lists.specs.Members.{IsWithin}
 use Rattle.lists.proofs.Membership.{Contains-nil, Contains-pushed}
 use Rattle.semantics.specs.Laws.{HasSameMembers}
@@ -17,19 +16,9 @@ use Rattle.aba_laws.specs.Deciding.{IsTheory, HasAllTheories, IsHitBy, HasContra
 use Rattle.aba_laws.proofs.AbaLemmas.{aba_lawful, attacks_more}
 use Rattle.aba_laws.proofs.CollectiveSets.{admissible_same, complete_same}
 use Rattle.aba_laws.proofs.CollectiveExtensions.{preferred_same, in_all_same}
+use Rattle.lists.proofs.Walks.{WalkedAny, any_members}
 
 -- ---- walks
-
--- where a walk to the first member with P has stopped
-abbrev pub WalkedAny : {X : Type 0} → (X → Type 0) → List X → Bool → Type 0
-WalkedAny P xs r = MatchBool r ((k : ℕ) × (k < length xs) × HoldsAt P xs k) (AllWithin (λ x. P x → ⊥) xs 0 (length xs))
-
-any_members : {X : Type 0} (P : X → Type 0) (xs : List X) (r : Bool) → WalkedAny P xs r → IsTrue r
-    ↔ ((x : X) × Contains xs x × P x)
-any_members P [] true h = absurd (let lt = h.1 in omega arith)
-any_members P (y ∷ ys) true h = (λ _. (get_or (y ∷ ys) h.0 y, Contains-get_or (y ∷ ys) h.0 y h.1, h.2 y), λ _. refl)
-any_members P xs false h =
-    (λ e. absurd (search rules), λ w. absurd (subst (λ x. P x → ⊥) w.1.2 (h w.1.0 w.0 (omega arith) w.1.1) w.2))
 
 -- a walk along the contraries finds one that is derived where there is one
 pub hits_walk : (f : Aba) (derived : List ℕ) (a : ℕ) (r : Bool) → WalkedAny (IsHitBy derived a) f.contraries r

@@ -7,7 +7,7 @@ use Rattle.lists.proofs.Membership.{Contains-cons_cases, Contains-pushed}
 use Rattle.semantics.proofs.Decided.{Decided, Found, search_list, found_in, decide_member}
 use Rattle.semantics.specs.Rules.{Rule, Derives, given, by_rule, IsClosureOf, IsClosedUnder}
 use Rattle.aba_laws.specs.Laws.{ClosureExists, ClosureIsLeast}
-use Rattle.aba_laws.proofs.Choosing.{decide_within}
+use Rattle.semantics.proofs.Existence.{decide_within}
 
 -- what follows from what is given follows from all from which that follows
 pub derives_from : (rules : List Rule) (P Q : ℕ → Type 0) → ((x : ℕ) → P x → Derives rules Q x) → (x : ℕ)

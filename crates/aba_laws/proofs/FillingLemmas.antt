@@ -8,7 +8,7 @@ use Rattle.semantics.specs.Rules.{Rule, IsClosureOf}
 use Rattle.aba_laws.specs.declared.aba_lists.PlainRule.{PlainRule}
 use Rattle.aba_laws.specs.Deciding.{rule_of, IsReady}
 use Rattle.aba_laws.proofs.DerivationLemmas.{IsFilling, filling_more, filling_closed}
-use Rattle.aba_laws.proofs.Images.{image_from}
+use Rattle.lists.proofs.Images.{image_from}
 
 -- the rule at an index is taken out, and its head is added
 pub filled_more : (rules : List Rule) (s t : List ℕ) (left : List PlainRule) (i : ℕ) (r : PlainRule) (new : List ℕ)

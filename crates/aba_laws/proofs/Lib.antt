@@ -8,4 +8,3 @@ pub mod AbaLemmas
 pub mod AfAgreement
 pub mod DecidingLemmas
 pub mod FillingLemmas
-pub mod Images

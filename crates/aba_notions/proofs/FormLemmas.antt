@@ -1,55 +1,22 @@
 -- A framework that is made of parts in order is in its form.
-use Rattle.std.proofs.Common.{◌≡◌, ℕ, ◌+◌, ◌<◌, ◌≤◌, List, [], ◌∷◌, length, get_or, map, arith, ap, sym, subst, ◌∙◌, refl, eqb, ⊎_elim}
+use Rattle.std.proofs.Common.{◌≡◌, ℕ, ◌+◌, ◌<◌, ◌≤◌, List, length, get_or, map, arith, sym, subst, ◌∙◌, eqb, ⊎_elim}
 use Rattle.std.specs.Prelude.{Contains, ◌↔◌, filter}
 use Rattle.std.specs.List.Sorted.{IsStrictlyIncreasing}
 use Rattle.std.proofs.lemmas.Bool.{eqb-true}
 use Rattle.std.proofs.lemmas.List.{get_or_default, get_or-map, length-map}
 use Rattle.std.proofs.lemmas.List.Elements.{Contains-get_or}
 use Rattle.lists.proofs.Filters.{Contains-filter}
-use Rattle.lists.proofs.Membership.{Contains-nil, Contains-head, Contains-tail, Contains-cons_cases}
-use Rattle.set_lists.proofs.Rising.{below_across, rises_right}
 use Rattle.dung_notions.specs.attack_index.specs.PairOrder.{PairsRise}
 use Rattle.dung_notions.specs.attack_index.proofs.OffsetLemmas.{PairsRise-filter}
 use Rattle.semantics.specs.Rules.{Rule}
 use Rattle.semantics.specs.AbaFrameworks.{IsRuleOf, IsNumberedAba}
 use Rattle.aba_notions.specs.declared.rule_table.RuleLists.{RuleLists}
 use Rattle.aba_notions.specs.Storage.{no_rule, rule_at, rule_of, rules_of, aba_of, AreContraries, AreParts, AreRulesOf}
-use Rattle.aba_laws.proofs.Images.{image_there, image_from}
 use Rattle.aba_notions.proofs.TableLemmas.{rule_from, rising_few}
+use Rattle.lists.proofs.RisingLists.{same_rising}
+use Rattle.lists.proofs.Images.{image_there, image_from}
 
 -- ---- rising lists with the same members
-
-below_head : (x : ℕ) (xs : List ℕ) (y : ℕ) → IsStrictlyIncreasing (x ∷ xs) → Contains xs y → x < y
-below_head x xs y rises c = below_across (x ∷ []) xs rises x y (Contains-head x [] x refl) c
-
-same_first : (x y : ℕ) (xs ys : List ℕ) → IsStrictlyIncreasing (x ∷ xs) → IsStrictlyIncreasing (y ∷ ys)
-    → ((a : ℕ) → Contains (x ∷ xs) a ↔ Contains (y ∷ ys) a) → x ≡ y
-same_first x y xs ys up_x up_y same =
-    ⊎_elim (λ e. sym e)
-    (λ (c : Contains ys x). ⊎_elim (λ e. e)
-    (λ (d : Contains xs y).
-    absurd (let a = below_head x xs y up_x d in let b = below_head y ys x up_y c in omega arith))
-    (Contains-cons_cases x xs y ((same y).1 (Contains-head y ys y refl))))
-    (Contains-cons_cases y ys x ((same x).0 (Contains-head x xs x refl)))
-
-same_rest : (x y : ℕ) (xs ys : List ℕ) → IsStrictlyIncreasing (x ∷ xs) → x ≡ y
-    → ((a : ℕ) → Contains (x ∷ xs) a → Contains (y ∷ ys) a) → (a : ℕ) → Contains xs a → Contains ys a
-same_rest x y xs ys up e there a c =
-    ⊎_elim (λ (f : y ≡ a). absurd (let lt = below_head x xs a up c in omega arith)) (λ d. d)
-    (Contains-cons_cases y ys a (there a (Contains-tail x xs a c)))
-
-pub same_rising : (xs ys : List ℕ) → IsStrictlyIncreasing xs → IsStrictlyIncreasing ys
-    → ((a : ℕ) → Contains xs a ↔ Contains ys a) → xs ≡ ys
-same_rising [] [] up_x up_y same = refl
-same_rising [] (y ∷ ys) up_x up_y same = absurd (Contains-nil y ((same y).1 (Contains-head y ys y refl)))
-same_rising (x ∷ xs) [] up_x up_y same = absurd (Contains-nil x ((same x).0 (Contains-head x xs x refl)))
-same_rising (x ∷ xs) (y ∷ ys) up_x up_y same =
-    let e : x ≡ y = same_first x y xs ys up_x up_y same in
-    let rest : xs ≡ ys = same_rising xs ys (rises_right (x ∷ []) xs up_x) (rises_right (y ∷ []) ys up_y) (λ a. (
-      same_rest x y xs ys up_x e (λ b. (same b).0) a,
-      same_rest y x ys xs up_y (sym e) (λ b. (same b).1) a,
-    )) in
-    ap (λ z. z ∷ xs) e ∙ ap (λ zs. y ∷ zs) rest
 
 -- ---- rising pairs
 

@@ -9,8 +9,8 @@ use Rattle.dung_notions.proofs.Numbering.{numbered_from}
 use Rattle.semantics.specs.Rules.{Rule}
 use Rattle.semantics.specs.AbaFrameworks.{Aba, IsNumberedAba}
 use Rattle.aba_notions.specs.Solid.{IsSolid}
-use Rattle.aba_laws.proofs.Images.{image_from}
 use Rattle.aba_notions.proofs.TableLemmas.{above_index}
+use Rattle.lists.proofs.Images.{image_from}
 
 -- a number of a rule was given
 number_given : (f : Aba) → IsNumberedAba f → (n : ℕ) → Contains (map (λ (r : Rule). r.number) f.rules) n

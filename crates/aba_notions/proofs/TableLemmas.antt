@@ -13,8 +13,8 @@ use Rattle.dung_notions.specs.attack_index.specs.PairOrder.{PairsRise, reversed}
 use Rattle.dung_notions.specs.attack_index.specs.Offsets.{AreBelow, IndexedPairs}
 use Rattle.dung_notions.specs.attack_index.proofs.PairOrderLemmas.{pair_same}
 use Rattle.semantics.specs.Rules.{Rule}
-use Rattle.aba_laws.proofs.Images.{image_there, image_from}
 use Rattle.aba_notions.specs.Storage.{no_rule, rule_at, rule_of, rules_of, AreTabled, IsTable, AreRuleLists, AreRulesOf}
+use Rattle.lists.proofs.Images.{image_there, image_from}
 
 -- the body of the rule at an index
 pub in_body : (numbers heads : List ℕ) (bodies : List (ℕ × ℕ)) (k y : ℕ)

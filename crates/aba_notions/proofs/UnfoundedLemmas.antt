@@ -16,7 +16,7 @@ use Rattle.aba_notions.specs.declared.unfounded.Row.{Row}
 use Rattle.aba_notions.specs.declared.unfounded.Unfounded.{Unfounded}
 use Rattle.aba_notions.specs.Storage.{no_rule, rule_at}
 use Rattle.aba_notions.specs.Unfounded.{IsShared, IsReason, IsRowBy, IsUnfoundedOf}
-use Rattle.aba_laws.proofs.Images.{image_there, image_from}
+use Rattle.lists.proofs.Images.{image_there, image_from}
 
 -- ---- an atom of a body
 

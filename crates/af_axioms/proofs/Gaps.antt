@@ -12,7 +12,7 @@ use Rattle.meaning_atoms.specs.Worlds.{HasGap}
 use Rattle.dung_notions.specs.Neighbours.{ListsAttackers}
 
 -- the pairs of an argument's attackers rise by attacker
-attackers_rise : (f : Af) (a : ℕ) (pairs : List (ℕ × ℕ)) → ListsAttackers f a pairs
+pub attackers_rise : (f : Af) (a : ℕ) (pairs : List (ℕ × ℕ)) → ListsAttackers f a pairs
     → IsNonDecreasingBy (λ p. p.1) pairs
 attackers_rise f a pairs h i j d le lt =
     let left = ((h.attackers _ _).0 (Contains-get_or pairs i d (omega arith))).0 in

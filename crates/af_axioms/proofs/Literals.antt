@@ -1,5 +1,5 @@
 -- The literals of the table are within their bounds, where the arguments fit the row.
-use Rattle.std.proofs.Common.{◌+◌, ℕ, arith}
+use Rattle.std.proofs.Common.{◌+◌, ℕ}
 use Rattle.std.specs.Prelude.{All}
 use Rattle.std.specs.List.{AllByRecursion}
 use Rattle.std.proofs.lemmas.List.Elements.{All-from_recursion}
@@ -11,26 +11,14 @@ use Rattle.meaning_atoms.specs.Atoms.{IsPosition, IsAtom, IsLit}
 use Rattle.meaning_atoms.specs.Axioms.{IsStretch, IsAfAxiom}
 use Rattle.meaning_atoms.proofs.NotionClauses.{notions_fit}
 use Rattle.af_axioms.specs.Table.{table_clause}
-
--- the position of the first argument, and that past the last
-first_place : IsPosition 1
-first_place = record { low = omega arith; high = omega arith }
-
-last_place : IsPosition 1000001
-last_place = record { low = omega arith; high = omega arith }
-
--- the ends of a stretch, as an argument and as positions, and the position past it
-stretch_begin : (a i j : ℕ) → IsStretch a i j → IsPosition i
-stretch_begin a i j s = record { low = s.from; high = omega arith }
-
-stretch_end : (a i j : ℕ) → IsStretch a i j → IsPosition j
-stretch_end a i j s = record { low = omega arith; high = omega arith }
-
-stretch_argument : (a i j : ℕ) → IsStretch a i j → IsArgument j
-stretch_argument a i j s = record { low = omega arith; high = omega arith }
-
-stretch_past : (a i j : ℕ) → IsStretch a i j → IsPosition (j + 1)
-stretch_past a i j s = record { low = omega arith; high = omega arith }
+use Rattle.meaning_atoms.proofs.Positions.{
+  first_place,
+  last_place,
+  stretch_begin,
+  stretch_end,
+  stretch_argument,
+  stretch_past,
+}
 
 -- the gap of a stretch
 stretch_gap : (a i j : ℕ) → IsStretch a i j → IsAtom (Gap a i j)

@@ -12,7 +12,7 @@ use Rattle.edit_rules.specs.declared.edit.Edit.TheVariants.{ArgAdd, ArgDrop, Att
 use Rattle.edit_rules.specs.declared.effect.Effect.{Effect}
 use Rattle.edit_rules.specs.Numbers.{has_number}
 use Rattle.edit_rules.specs.Edits.{af_with_argument, af_with_attack, argument_added, argument_dropped, attack_added, attack_dropped, edit_outcome, has_pair, is_end}
-use Rattle.edit_rules.proofs.EditWordTests.{both_from, both_gives, either_gives, either_left, is_false, number_there, there_number}
+use Rattle.edit_rules.proofs.EditWordTests.{both_gives, either_gives, either_left, number_there, there_number}
 use Rattle.edit_rules.proofs.EditTests.{pair_there, there_pair, within_bounds}
 use Rattle.edit_rules.proofs.RefusalLemmas.{done_passes}
 use Rattle.edit_rules.proofs.ReplayLemmas.{af_of}
@@ -20,6 +20,8 @@ use Rattle.edit_rules.proofs.NumberLists.{with_number_members}
 use Rattle.edit_rules.proofs.RowForms.{with_pair_members}
 use Rattle.af_encoding.specs.Changes.{IsAlone, IsCalledByAttack, IsCalledByLoss, IsCalledByPairs, IsCalledFor, IsEffectOf}
 use Rattle.af_encoding.proofs.ChangeLemmas.{GainsArgument, IsGainedRow, IsLostRow, IsSameRow, LosesArgument, by_argument, by_attack, by_loss, by_new_argument}
+use Rattle.lists.proofs.TruthValues.{both_from}
+use Rattle.meaning_atoms.proofs.Clauses.{clash, no_longer}
 
 -- ---- an attack that comes
 
@@ -51,18 +53,12 @@ is_pair b a p = p.0 == b && p.1 == a
 abbrev less_attack : Af → ℕ → ℕ → Af
 less_attack f b a = record { live = f.live; attacks = filter (λ p. not (is_pair b a p)) f.attacks }
 
-stays : (test : Bool) → (test ≡ true → ⊥) → not test ≡ true
-stays test never = ap not (is_false test never)
-
-goes : (test : Bool) → test ≡ true → not test ≡ true → ⊥
-goes test so out = false≢true (ap not (sym so) ∙ out)
-
 kept_pair : (f : Af) (b a : ℕ) (p : ℕ × ℕ) → (p.0 ≡ b → p.1 ≡ a → ⊥) → Contains f.attacks p
     ↔ Contains (less_attack f b a).attacks p
 kept_pair f b a p other = (
   λ c. (Contains-filter (λ q. not (is_pair b a q)) f.attacks p).1 (
     c,
-    stays (is_pair b a p) (λ t.
+    no_longer (is_pair b a p) (λ t.
         let both = both_gives (p.0 == b) (p.1 == a) t in other (eqb-true p.0 b both.0) (eqb-true p.1 a both.1)),
   ),
   λ c. ((Contains-filter (λ q. not (is_pair b a q)) f.attacks p).0 c).0,
@@ -72,7 +68,7 @@ dropped_row : (f : Af) (b a : ℕ) → has_pair f.attacks (b, a) ≡ true → Is
 dropped_row f b a there = record {
   live = (λ c. c, λ c. c);
   was = pair_there f.attacks (b, a) there;
-  gone = λ c. goes (is_pair b a (b, a)) (both_from (b == b) (a == a) (eq-eqb b b refl) (eq-eqb a a refl))
+  gone = λ c. clash (is_pair b a (b, a)) (both_from (b == b) (a == a) (eq-eqb b b refl) (eq-eqb a a refl))
       ((Contains-filter (λ q. not (is_pair b a q)) f.attacks (b, a)).0 c).1;
   others = λ x other. kept_pair f b a (x, a) (λ e _. other e);
 }
@@ -93,7 +89,7 @@ less_argument f n = record {
 
 kept_live : (f : Af) (n t : ℕ) → (t ≡ n → ⊥) → Contains f.live t ↔ Contains (less_argument f n).live t
 kept_live f n t other = (
-  λ c. (Contains-filter (λ a. not (a == n)) f.live t).1 (c, stays (t == n) (λ e. other (eqb-true t n e))),
+  λ c. (Contains-filter (λ a. not (a == n)) f.live t).1 (c, no_longer (t == n) (λ e. other (eqb-true t n e))),
   λ c. ((Contains-filter (λ a. not (a == n)) f.live t).0 c).0,
 )
 
@@ -101,7 +97,7 @@ kept_attack : (f : Af) (n y t : ℕ) → (y ≡ n → ⊥) → (t ≡ n → ⊥)
 kept_attack f n y t from to = (
   λ c. (Contains-filter (λ p. not (is_end n p)) f.attacks (y, t)).1 (
     c,
-    stays (is_end n (y, t)) (λ e.
+    no_longer (is_end n (y, t)) (λ e.
         ⊎_elim (λ h. from (eqb-true y n h)) (λ h. to (eqb-true t n h)) (either_gives (y == n) (t == n) e)),
   ),
   λ c. ((Contains-filter (λ p. not (is_end n p)) f.attacks (y, t)).0 c).0,
@@ -109,12 +105,12 @@ kept_attack f n y t from to = (
 
 no_attack_by : (f : Af) (n t : ℕ) → Attacks (less_argument f n) n t → ⊥
 no_attack_by f n t c =
-    goes (is_end n (n, t)) (either_left (n == n) (t == n) (eq-eqb n n refl))
+    clash (is_end n (n, t)) (either_left (n == n) (t == n) (eq-eqb n n refl))
     ((Contains-filter (λ p. not (is_end n p)) f.attacks (n, t)).0 c).1
 
 loses : (f : Af) (n : ℕ) → LosesArgument f (less_argument f n) n
 loses f n = record {
-  gone = λ c. goes (n == n) (eq-eqb n n refl) ((Contains-filter (λ a. not (a == n)) f.live n).0 c).1;
+  gone = λ c. clash (n == n) (eq-eqb n n refl) ((Contains-filter (λ a. not (a == n)) f.live n).0 c).1;
   lost = λ t other at. record {
     live = kept_live f n t other;
     was = at;

@@ -2,25 +2,15 @@
 use Rattle.std.proofs.Common.{◌≡◌, ◌≤◌, ◌<◌, ◌+◌, ◌-◌, ℕ, List, length, get_or, true, false, arith, refl, ap, sym, subst, ◌∙◌, inl, inr, ⊎_elim}
 use Rattle.std.proofs.Common.{ltb, leb, ltb-true, ltb-false, leb-true, leb-false}
 use Rattle.std.specs.Prelude.{Contains, slice_index_or}
-use Rattle.std.specs.List.Sorted.{IsNonDecreasingBy, IsPartitionPoint, IsPartitionedBy}
+use Rattle.std.specs.List.Sorted.{IsPartitionPoint, IsPartitionedBy}
 use Rattle.std.proofs.lemmas.Bool.{cases_eq, cases_lt}
 use Rattle.std.proofs.lemmas.List.{get_or_default}
-use Rattle.std.proofs.lemmas.List.Sorted.{IsPartitionedBy-leb, IsPartitionedBy-ltb}
+use Rattle.std.proofs.lemmas.List.Sorted.{IsPartitionedBy-leb}
 use Rattle.semantics.specs.Framework.{Af, Attacks}
 use Rattle.dung_notions.specs.Neighbours.{ListsAttackers}
 use Rattle.af_encoding.specs.Changes.{IsNextAfter, HasNoneAfter, IsPlaceBefore}
-use Rattle.af_encoding.proofs.NeededLemmas.{attack_at, later}
-
-attackers_rise : (f : Af) (a : ℕ) (pairs : List (ℕ × ℕ)) → ListsAttackers f a pairs
-    → IsNonDecreasingBy (λ p. p.1) pairs
-attackers_rise f a pairs h i j d le lt =
-    ⊎_elim (λ e. omega (arith, ap (λ k. (get_or pairs k d).1) e))
-    (λ other. let less = later f a pairs h i j d (omega arith) lt in omega arith)
-    (cases_eq i j)
-
-pub parted_before : (f : Af) (a b : ℕ) (pairs : List (ℕ × ℕ)) → ListsAttackers f a pairs
-    → IsPartitionedBy (λ p. ltb p.1 b) pairs
-parted_before f a b pairs h = IsPartitionedBy-ltb (λ (p : ℕ × ℕ). p.1) pairs b (attackers_rise f a pairs h)
+use Rattle.af_encoding.proofs.NeededLemmas.{attack_at}
+use Rattle.af_axioms.proofs.Gaps.{attackers_rise}
 
 pub parted_until : (f : Af) (a b : ℕ) (pairs : List (ℕ × ℕ)) → ListsAttackers f a pairs
     → IsPartitionedBy (λ p. leb p.1 b) pairs

@@ -1,14 +1,14 @@
 -- Each set of live arguments has a model that is read as it: what is so in the world of the framework and the set, of
 -- all atoms of which the needed axioms speak.
 use Rattle.std.proofs.Common.{◌≡◌, ◌⊎◌, ◌+◌, ◌==◌, ℕ, Bool, true, false, not, List, [], ◌∷◌, ◌++◌, arith}
-use Rattle.std.proofs.Common.{refl, ap, sym, ◌∙◌, subst, inl, inr, ⊎_elim}
+use Rattle.std.proofs.Common.{refl, sym, ◌∙◌, subst, inl, inr, ⊎_elim}
 use Rattle.std.specs.Prelude.{Contains, ◌↔◌, map}
 use Rattle.std.specs.List.{AllByRecursion, flat_map}
 use Rattle.std.proofs.lemmas.Bool.{cond_both}
 use Rattle.std.proofs.lemmas.List.Elements.{All-from_recursion, All-contains}
 use Rattle.std.proofs.lemmas.List.Elements.{Contains-append_left, Contains-append_right}
 use Rattle.lists.specs.Members.{IsWithin}
-use Rattle.lists.proofs.Membership.{Contains-nil, Contains-head, Contains-tail, Contains-cons_cases}
+use Rattle.lists.proofs.Membership.{Contains-head, Contains-tail}
 use Rattle.semantics.specs.Framework.{Af, Attacks}
 use Rattle.semantics.specs.Frameworks.{af, IsNumberedAf}
 use Rattle.meaning_atoms.specs.declared.atom.Atom.{Atom}
@@ -30,31 +30,10 @@ use Rattle.oracle_face.specs.Decoding.{IsModelOf}
 use Rattle.oracle_face.specs.Goals.{IsMode}
 use Rattle.oracle_face.specs.Needed.{IsNeeded, IsWalkStart}
 use Rattle.af_encoding.specs.Decoded.{Affirms, IsModelOfSet}
+use Rattle.lists.proofs.Images.{image_there, image_from, in_flat}
+use Rattle.lists.proofs.TruthValues.{not_itself}
 
 -- ---- lists made from lists
-
-map_there : {X Y : Type 0} (g : X → Y) (xs : List X) (x : X) → Contains xs x → Contains (map g xs) (g x)
-map_there g [] x c = absurd (Contains-nil x c)
-map_there g (y ∷ ys) x c =
-    ⊎_elim (λ e. Contains-head (g y) (map g ys) (g x) (ap g e))
-    (λ t. Contains-tail (g y) (map g ys) (g x) (map_there g ys x t))
-    (Contains-cons_cases y ys x c)
-
-map_from : {X Y : Type 0} (g : X → Y) (xs : List X) (y : Y) → Contains (map g xs) y
-    → (x : X) × Contains xs x × (g x ≡ y)
-map_from g [] y c = absurd (Contains-nil y c)
-map_from g (x ∷ xs) y c =
-    ⊎_elim (λ e. (x, Contains-head x xs x refl, e))
-    (λ t. let w = map_from g xs y t in (w.0, Contains-tail x xs w.0 w.1, w.2))
-    (Contains-cons_cases (g x) (map g xs) y c)
-
-flat_there : {X Y : Type 0} (g : X → List Y) (xs : List X) (x : X) (y : Y) → Contains xs x → Contains (g x) y
-    → Contains (flat_map g xs) y
-flat_there g [] x y c here = absurd (Contains-nil x c)
-flat_there g (z ∷ zs) x y c here =
-    ⊎_elim (λ e. Contains-append_left (g z) (flat_map g zs) y (subst (λ w. Contains (g w) y) (sym e) here))
-    (λ t. Contains-append_right (g z) (flat_map g zs) y (flat_there g zs x y t here))
-    (Contains-cons_cases z zs x c)
 
 -- ---- the atoms of which needed axioms speak, and more
 
@@ -96,13 +75,13 @@ mode_spoken f atom c = Contains-append_left mode_atoms _ atom c
 own_spoken : (f : Af) (a : ℕ) → Contains f.live a → (atom : Atom) → Contains (own_atoms a) atom → IsSpoken f atom
 own_spoken f a live atom c =
     Contains-append_right mode_atoms _ atom
-    (Contains-append_left (flat_map own_atoms f.live) _ atom (flat_there own_atoms f.live a atom live c))
+    (Contains-append_left (flat_map own_atoms f.live) _ atom (in_flat own_atoms f.live a atom live c))
 
 attack_spoken : (f : Af) (b a : ℕ) → Attacks f b a → IsSpoken f (Attack b a)
 attack_spoken f b a at =
     Contains-append_right mode_atoms _ (Attack b a)
     (Contains-append_right (flat_map own_atoms f.live) _ (Attack b a)
-    (Contains-append_left (map attack_atom f.attacks) _ (Attack b a) (map_there attack_atom f.attacks (b, a) at)))
+    (Contains-append_left (map attack_atom f.attacks) _ (Attack b a) (image_there attack_atom f.attacks (b, a) at)))
 
 walk_spoken : (f : Af) (a i : ℕ) → Contains f.live a → Contains (starts f) i → (atom : Atom)
     → Contains (walk_atoms f a i) atom → IsSpoken f atom
@@ -110,7 +89,7 @@ walk_spoken f a i live start atom c =
     Contains-append_right mode_atoms _ atom
     (Contains-append_right (flat_map own_atoms f.live) _ atom
     (Contains-append_right (map attack_atom f.attacks) _ atom
-    (flat_there (walks_atoms f) f.live a atom live (flat_there (walk_atoms f a) (starts f) i atom start c))))
+    (in_flat (walks_atoms f) f.live a atom live (in_flat (walk_atoms f a) (starts f) i atom start c))))
 
 member_spoken : (f : Af) (a : ℕ) → Contains f.live a → IsSpoken f (Member a)
 member_spoken f a live = own_spoken f a live (Member a) (0, omega arith, refl)
@@ -137,14 +116,14 @@ gap_spoken f a i j live start there =
     walk_spoken f a i live start (Gap a i j)
     (Contains-tail (Tail a i) (Unmet a i ∷ Gap a i 1000001 ∷ gaps) (Gap a i j)
     (Contains-tail (Unmet a i) (Gap a i 1000001 ∷ gaps) (Gap a i j)
-    (Contains-tail (Gap a i 1000001) gaps (Gap a i j) (map_there (gap_atom a i) f.live j there))))
+    (Contains-tail (Gap a i 1000001) gaps (Gap a i j) (image_there (gap_atom a i) f.live j there))))
 
 -- where a walk may stand
 first_start : (f : Af) → Contains (starts f) 1
 first_start f = Contains-head 1 (map after f.live) 1 refl
 
 next_start : (f : Af) (b : ℕ) → Contains f.live b → Contains (starts f) (b + 1)
-next_start f b live = Contains-tail 1 (map after f.live) (b + 1) (map_there after f.live b live)
+next_start f b live = Contains-tail 1 (map after f.live) (b + 1) (image_there after f.live b live)
 
 start_there : (f : Af) → IsNumberedAf f → (a i : ℕ) → IsWalkStart f a i → Contains (starts f) i
 start_there f ok a i at =
@@ -245,12 +224,8 @@ values_of f value = map (told value) (atoms f)
 -- each has the sign of its value
 sign_of : (f : Af) (value : Atom → Bool) (l : AtomLit) → Contains (values_of f value) l → value l.atom ≡ l.positive
 sign_of f value l c =
-    let w = map_from (told value) (atoms f) l c in
+    let w = image_from (told value) (atoms f) l c in
     subst (λ k. value k.atom ≡ k.positive) w.2 refl
-
-opposite : (b : Bool) → b ≡ not b → ⊥
-opposite true e = absurd (cc)
-opposite false e = absurd (cc)
 
 other_sign : (b c : Bool) → (b ≡ c → ⊥) → c ≡ not b
 other_sign true true apart = absurd (apart refl)
@@ -265,7 +240,7 @@ same_sign true false = inr (λ e. absurd (cc))
 same_sign false true = inr (λ e. absurd (cc))
 
 -- a literal that is true has the sign of its atom's value
-sign_so : (positive v : Bool) (P : Type 0) → ((v ≡ true) ↔ P) → Says positive P → v ≡ positive
+pub sign_so : (positive v : Bool) (P : Type 0) → ((v ≡ true) ↔ P) → Says positive P → v ≡ positive
 sign_so true v P iff h = iff.1 h
 sign_so false true P iff h = absurd (h (iff.0 refl))
 sign_so false false P iff h = refl
@@ -310,7 +285,7 @@ told_either values l v c =
 model_of : (f : Af) (s : List ℕ) → IsNumberedAf f → IsWithin s f.live → (value : Atom → Bool)
     → IsValuation (world_of (af f) s) [] value → IsModelOf (af f) (values_of f value)
 model_of f s ok within value reads = record {
-  plain = λ w. opposite w.0.positive (sym (sign_of f value w.0 w.1) ∙ sign_of f value (negated w.0) w.2);
+  plain = λ w. not_itself w.0.positive (sym (sign_of f value w.0 w.1) ∙ sign_of f value (negated w.0) w.2);
   axioms = λ name needed.
       let world : IsAfWorld f s = record { framework = ok; members = λ a c. ok.live a (within a c) } in
       let found = true_one f s world name needed in
@@ -319,7 +294,7 @@ model_of f s ok within value reads = record {
         l,
         found.member,
         subst (λ b. Contains (values_of f value) (literal l.atom b)) sign
-            (map_there (told value) (atoms f) l.atom (spoken f ok name needed l found.member)),
+            (image_there (told value) (atoms f) l.atom (spoken f ok name needed l found.member)),
       );
   facts = λ l c fact. record {
     fact = fact;
@@ -329,7 +304,7 @@ model_of f s ok within value reads = record {
         (λ e. there.0 ((reads l.atom).0 (sign ∙ e)), λ so. sym sign ∙ (reads l.atom).1 (there.1 so));
   };
   told = λ name l needed c fact. told_either (values_of f value) l (value l.atom)
-      (map_there (told value) (atoms f) l.atom (spoken f ok name needed l c));
+      (image_there (told value) (atoms f) l.atom (spoken f ok name needed l c));
 }
 
 -- an atom that is spoken of is affirmed exactly where it is so
@@ -341,7 +316,7 @@ so_affirmed : (f : Af) (s : List ℕ) (value : Atom → Bool) → IsValuation (w
     → IsSpoken f atom → Holds (world_of (af f) s) [] atom → Affirms (values_of f value) atom
 so_affirmed f s value reads atom there so =
     subst (λ b. Contains (values_of f value) (literal atom b)) ((reads atom).1 so)
-    (map_there (told value) (atoms f) atom there)
+    (image_there (told value) (atoms f) atom there)
 
 pub set_has_model : (f : Af) (s : List ℕ) → IsNumberedAf f → IsWithin s f.live
     → (values : List AtomLit) × IsModelOfSet f values s

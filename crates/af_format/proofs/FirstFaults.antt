@@ -3,7 +3,6 @@ use Rattle.std.proofs.Common.{◌≡◌, ℕ, suc, ◌+◌, ◌<◌, ◌≤◌, 
 use Rattle.std.specs.Prelude.{AllPairs}
 use Rattle.std.proofs.lemmas.List.{get_or_append_left, length-append}
 use Rattle.std.proofs.Math.Seq.{get_or-append_seam}
-use Rattle.std.proofs.lemmas.Bool.{cases_lt}
 use Rattle.num_text.specs.Cuts.{LineText, field_texts, lines_of}
 use Rattle.af_format.specs.declared.fault.LineCause.{LineCause}
 use Rattle.af_format.specs.declared.fault.LineCause.TheVariants.{NoHeader, WrongKind, BadHeader, SecondHeader, BadLine, BadNumber, OutOfRange, TooManyLines, NotFlat, SecondContrary, ContraryOfNonAssumption}
@@ -16,9 +15,10 @@ use Rattle.af_format.specs.FirstBadLine.{IsFirstBadLine}
 use Rattle.num_text.proofs.KeptLines.{kept_lines-rise}
 use Rattle.af_format.proofs.LineCauses.{header_is_good, limit_only, IsHeader-same}
 use Rattle.af_format.proofs.Zips.{AllZip-at}
+use Rattle.lists.proofs.Ranges.{number_cases}
 
 -- the first cause at the line, and every other one later
-IsFirstIn : ℕ → List LineText → ℕ → LineCause → Type 0
+pub IsFirstIn : ℕ → List LineText → ℕ → LineCause → Type 0
 IsFirstIn size lines line cause =
     StandsIn size lines line cause
     × ((l : ℕ) (c : LineCause) → StandsIn size lines l c → (line < l) ⊎ ((line ≡ l) × (rank cause ≤ rank c)))
@@ -91,16 +91,6 @@ bad_header_told bytes line cause bad = told_of (kept_lines bytes) refl bad
     told_of (header ∷ others) e h =
         subst (λ n. IsFirstFault bytes n cause) (sym h.0) (header_told bytes header others cause e h.1)
 
--- where the fault stands before, at or behind the first bad line
-pub index_cases : (k n : ℕ) → (k < n) ⊎ ((k ≡ n) ⊎ (n < k))
-index_cases k n = elim (cases_lt k n) [
-  | inl below ↦ inl below
-  | inr upper ↦ elim (cases_lt n k) [
-    | inl behind ↦ inr (inr behind)
-    | inr above ↦ inr (inl (omega arith))
-  ]
-]
-
 -- no cause stands at the lines that were read
 before_good : (count index k : ℕ) (before : List LineText) (attacks : List (ℕ × ℕ)) (d : LineText) (c : LineCause)
     → AreAttackLines count before attacks → k < length before → k ≡ index
@@ -124,7 +114,7 @@ attack_first header others count line cause header_is b rises seam room l c (inr
     let stands : StandsOnAttack count h.index (field_texts (get_or others h.index header).text) c
     = subst (λ n. StandsOnAttack n h.index (field_texts (get_or others h.index header).text) c)
     (IsHeader-same header.text h.count count h.header_is header_is) h.stands in
-    elim (index_cases h.index (length b.before)) [
+    elim (number_cases h.index (length b.before)) [
       | inl earlier ↦
           let same : get_or others h.index header ≡ get_or b.before h.index header
           = ap (λ ls. get_or ls h.index header) b.lines_are

@@ -1,9 +1,8 @@
 -- The lines that were read, and those that are left.
-use Rattle.std.proofs.Common.{◌≡◌, ℕ, zero, suc, ◌+◌, ◌<◌, ◌≤◌, List, [], ◌∷◌, ◌++◌, length, get_or, ◌⊎◌, inl, inr}
+use Rattle.std.proofs.Common.{◌≡◌, ℕ, ◌+◌, ◌<◌, ◌≤◌, List, [], ◌∷◌, ◌++◌, length, get_or, ◌⊎◌, inl, inr}
 use Rattle.std.proofs.Common.{refl, sym, ap, subst, ◌∙◌, arith}
 use Rattle.std.specs.Prelude.{Contains, Result, Ok, Err, IfOk, ◌↔◌}
 use Rattle.std.specs.List.{range_with_len}
-use Rattle.std.specs.List.Sorted.{IsStrictlyIncreasing}
 use Rattle.std.proofs.lemmas.List.{length-append, append_assoc, append-nil}
 use Rattle.std.proofs.lemmas.Slice.Zip.{all_zipped_more, AllZip-long}
 use Rattle.std.proofs.lemmas.List.FromFn.{length-range_with_len, get_or-range_with_len}
@@ -26,6 +25,7 @@ use Rattle.af_format.specs.Headers.{af_word, aba_word, IsHeaderFault}
 use Rattle.af_format.specs.FirstBadLine.{BeginWithHeader, TellsNext, IsNextFault, IsFirstBadLine}
 use Rattle.af_format.proofs.FirstFaults.{attack_told}
 use Rattle.af_format.proofs.Zips.{AllZip-member, AllZip-at}
+use Rattle.lists.proofs.Ranges.{number_there}
 
 -- the lines are some attack lines, of these attacks, and those that are left
 pub record HasRead (count : ℕ) (lines left : List LineText) (attacks : List (ℕ × ℕ)) : Type 0 where
@@ -99,20 +99,6 @@ next_bad count index lines left attacks number cause h e bad =
 
 -- ---- the arguments
 
--- the numbers from 1 to n
-pub Contains-arguments : (count a : ℕ) → 1 ≤ a → a ≤ count → Contains (range_with_len 1 count) a
-Contains-arguments count zero low high = absurd (omega arith)
-Contains-arguments count (suc a) low high =
-    let index : 1 + a ≡ suc a = omega arith in
-    (a, omega (arith, length-range_with_len 1 count), get_or-range_with_len 1 count a (suc a) (omega arith) ∙ index)
-
-pub arguments_rise : (count : ℕ) → IsStrictlyIncreasing (range_with_len 1 count)
-arguments_rise count = λ k within.
-    let n = length-range_with_len 1 count in
-    let here = get_or-range_with_len 1 count k 0 (omega arith) in
-    let next = get_or-range_with_len 1 count (k + 1) 0 (omega arith) in
-    omega arith
-
 -- they are numbers that arguments may have
 pub arguments_numbered : (count : ℕ) → count ≤ 1000000 → AreArguments (range_with_len 1 count)
 arguments_numbered count few a h =
@@ -127,8 +113,8 @@ pub ends_are_arguments : (count : ℕ) (lines : List LineText) (attacks : List (
     → (b a : ℕ) → Contains attacks (b, a) → Contains (range_with_len 1 count) b × Contains (range_with_len 1 count) a
 ends_are_arguments count lines attacks are b a c =
     let line = AllZip-member (λ line attack. IsAttackLine count line.text attack) lines attacks (b, a) are.each c in (
-      Contains-arguments count b line.1.attacker_is.low line.1.attacker_is.high,
-      Contains-arguments count a line.1.target_is.low line.1.target_is.high,
+      number_there count b line.1.attacker_is.low line.1.attacker_is.high,
+      number_there count a line.1.target_is.low line.1.target_is.high,
     )
 
 -- ---- the framework

@@ -20,7 +20,6 @@ use Rattle.af_format.proofs.LineCauses.{IsNumber-same, IsHeader-same}
 use Rattle.af_format.proofs.Reading.{
   no_fault_in,
   ends_are_arguments,
-  arguments_rise,
   reads_as,
   HasRead,
   read_none,
@@ -28,7 +27,8 @@ use Rattle.af_format.proofs.Reading.{
   read_all,
   next_bad,
 }
-use Rattle.af_format.proofs.Zips.{AllZip-same}
+use Rattle.lists.proofs.Zips.{zip_same}
+use Rattle.lists.proofs.Ranges.{numbers_rise}
 
 -- ---- rising pairs
 
@@ -119,7 +119,7 @@ IsAfText-same bytes m n ps qs a b =
     let each = subst (λ k. AllZip (λ line attack. IsAttackLine k line.text attack) b.others ps) counts
     (subst (λ ls. AllZip (λ line attack. IsAttackLine m line.text attack) ls ps) others a.others_are.each) in (
       counts,
-      AllZip-same (λ line attack. IsAttackLine n line.text attack)
+      zip_same (λ line attack. IsAttackLine n line.text attack)
           (λ line p q. IsAttackLine-same n line.text p q) b.others ps qs each b.others_are.each,
     )
 
@@ -261,7 +261,7 @@ readable_from bytes count left h are =
         live = refl;
         attacks_are = ordered.1.members;
         form = record {
-          live_rises = arguments_rise count;
+          live_rises = numbers_rise count;
           attacks_rise = ordered.1.up;
           ends = λ b a c. ends_are_arguments count (kept left) are.0 are.1 b a ((ordered.1.members (b, a)).0 c);
         };

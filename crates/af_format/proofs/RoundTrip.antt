@@ -16,7 +16,7 @@ use Rattle.std.proofs.Math.Seq.{take-append_seam, drop-append-add}
 use Rattle.num_text.specs.Cuts.{LineText, is_line_end, is_blank, field_texts, lines_from, lines_of}
 use Rattle.num_text.specs.Number.{IsDigit}
 use Rattle.num_text.proofs.Decimals.{decimal_number}
-use Rattle.num_text.proofs.DigitFields.{digit_no_end, no_blanks, not_empty, two_texts, digits_say}
+use Rattle.num_text.proofs.DigitFields.{no_blanks, not_empty, two_texts, digits_say, no_ends}
 use Rattle.num_text.proofs.CutLemmas.{lines_from-nil, lines_from-first}
 use Rattle.semantics.specs.Framework.{Af, IsAf}
 use Rattle.num_text.specs.Lines.{are_skipped, kept}
@@ -28,10 +28,6 @@ use Rattle.af_format.specs.Written.{header_line, attack_line, af_text}
 use Rattle.num_text.proofs.KeptLines.{kept-nil, kept-keeps}
 
 -- ---- digits
-
--- digits are no ends of lines
-pub no_ends : (ds : List ℕ) → All IsDigit ds → All (λ byte. is_line_end byte ≡ false) ds
-no_ends ds all = λ k d within. digit_no_end (get_or ds k d) (all k d within)
 
 -- ---- fields
 

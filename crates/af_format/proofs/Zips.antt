@@ -1,5 +1,5 @@
 -- Two lists related index by index.
-use Rattle.std.proofs.Common.{◌≡◌, ℕ, zero, suc, ◌<◌, List, [], ◌∷◌, length, get_or, refl, subst, ap, ◌∙◌, arith}
+use Rattle.std.proofs.Common.{ℕ, zero, suc, ◌<◌, List, [], ◌∷◌, length, get_or, subst, arith}
 use Rattle.std.specs.Prelude.{Contains}
 use Rattle.std.specs.List.{AllZip}
 
@@ -19,14 +19,3 @@ AllZip-member R [] (z ∷ ys) y h c = absurd h
 AllZip-member R (x ∷ xs) [] y h c = absurd h
 AllZip-member R (x ∷ xs) (z ∷ ys) y h (zero, within, e) = (x, subst (λ w. R x w) e h.0)
 AllZip-member R (x ∷ xs) (z ∷ ys) y h (suc k, within, e) = AllZip-member R xs ys y h.1 (k, omega arith, e)
-
--- partners are the same where each has one at most
-pub AllZip-same : {A B : Type 0} (R : A → B → Type 0) → ((x : A) (y z : B) → R x y → R x z → y ≡ z) → (xs : List A)
-    (ys zs : List B) → AllZip R xs ys → AllZip R xs zs → ys ≡ zs
-AllZip-same R same [] [] [] h k = refl
-AllZip-same R same [] [] (z ∷ zs) h k = absurd k
-AllZip-same R same [] (y ∷ ys) zs h k = absurd h
-AllZip-same R same (x ∷ xs) [] zs h k = absurd h
-AllZip-same R same (x ∷ xs) (y ∷ ys) [] h k = absurd k
-AllZip-same R same (x ∷ xs) (y ∷ ys) (z ∷ zs) h k =
-    ap (λ w. w ∷ ys) (same x y z h.0 k.0) ∙ ap (λ ws. z ∷ ws) (AllZip-same R same xs ys zs h.1 k.1)

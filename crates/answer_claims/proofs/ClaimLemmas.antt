@@ -6,7 +6,6 @@ use Rattle.std.specs.List.{list_any}
 use Rattle.std.proofs.lemmas.List.{append-nil, get_or-map, length-map, map-append, take_all, take_more}
 use Rattle.std.proofs.lemmas.List.Elements.{Contains-append_left, Contains-append_right, Contains-append_cases}
 use Rattle.lists.proofs.Filters.{Contains-filter}
-use Rattle.plain_lits.proofs.HintCheckLemmas.{Contains-mapped, Contains-from_mapped}
 use Rattle.semantics.specs.Frameworks.{Framework, af, aba}
 use Rattle.meaning_atoms.specs.declared.atom.Atom.{Atom}
 use Rattle.meaning_atoms.specs.declared.atom.Atom.TheVariants.{Member, Range}
@@ -24,6 +23,8 @@ use Rattle.answer_claims.specs.declared.claim.Claim.{Claim}
 use Rattle.answer_claims.specs.ClaimParts.{IsSetGoal, IsClaimOf, AreClaims}
 use Rattle.answer_claims.specs.SetFacts.{IsHitBy}
 use Rattle.answer_claims.specs.SideClauses.{sides_of}
+use Rattle.lists.proofs.Images.{image_there, image_from}
+use Rattle.lists.proofs.TruthValues.{and_false}
 
 -- the literals that the claim's sets stand for
 abbrev ins : Claim → List AtomLit
@@ -44,15 +45,15 @@ to_lit f c k l e h = subst (λ (x : AtomLit). IsSetGoal f c x.atom x.positive) e
 
 set_goal_from : (f : Framework) (c : Claim) (l : AtomLit) → Contains (set_goals f c) l → IsSetGoal f c l.atom l.positive
 set_goal_from f c l h =
-    ⊎_elim (λ (x : Contains (ins c) l). let w = Contains-from_mapped (λ a. affirmed (Member a)) c.inside l x in
+    ⊎_elim (λ (x : Contains (ins c) l). let w = image_from (λ a. affirmed (Member a)) c.inside l x in
     to_lit f c (affirmed (Member w.0)) l w.2 w.1)
     (λ (more : Contains (outs f c ++ ranges f c) l). ⊎_elim
     (λ (x : Contains (outs f c) l).
-    let w = Contains-from_mapped (λ a. denied (Member a)) (filter (has c.outside) (members f)) l x in
+    let w = image_from (λ a. denied (Member a)) (filter (has c.outside) (members f)) l x in
     let kept = (Contains-filter (has c.outside) (members f) w.0).0 w.1 in
     to_lit f c (denied (Member w.0)) l w.2 (has_gives c.outside w.0 kept.1, kept.0))
     (λ (x : Contains (ranges f c) l).
-    let w = Contains-from_mapped (λ a. affirmed (Range a)) (range_of f c.ranged) l x in
+    let w = image_from (λ a. affirmed (Range a)) (range_of f c.ranged) l x in
     let kept = (Contains-filter (is_ranged f c.ranged) (members f) w.0).0 w.1 in
     to_lit f c (affirmed (Range w.0)) l w.2 (kept.1, kept.0))
     (Contains-append_cases (outs f c) (ranges f c) l more))
@@ -65,16 +66,16 @@ set_goal_of : (f : Framework) (c : Claim) (atom : Atom) (positive : Bool) → Is
     → Contains (set_goals f c) (lit atom positive)
 set_goal_of f c (Member a) true h =
     Contains-append_left (ins c) (outs f c ++ ranges f c) (lit (Member a) true)
-    (Contains-mapped (λ x. affirmed (Member x)) c.inside a h)
+    (image_there (λ x. affirmed (Member x)) c.inside a h)
 set_goal_of f c (Member a) false h =
     Contains-append_right (ins c) (outs f c ++ ranges f c) (lit (Member a) false)
     (Contains-append_left (outs f c) (ranges f c) (lit (Member a) false)
-    (Contains-mapped (λ x. denied (Member x)) (filter (has c.outside) (members f)) a
+    (image_there (λ x. denied (Member x)) (filter (has c.outside) (members f)) a
     ((Contains-filter (has c.outside) (members f) a).1 (h.1, has_from c.outside a h.0))))
 set_goal_of f c (Range a) true h =
     Contains-append_right (ins c) (outs f c ++ ranges f c) (lit (Range a) true)
     (Contains-append_right (outs f c) (ranges f c) (lit (Range a) true)
-    (Contains-mapped (λ x. affirmed (Range x)) (range_of f c.ranged) a
+    (image_there (λ x. affirmed (Range x)) (range_of f c.ranged) a
     ((Contains-filter (is_ranged f c.ranged) (members f) a).1 (h.1, h.0))))
 set_goal_of f c (Range a) false h = absurd h
 set_goal_of f c _ positive h = absurd h
@@ -97,10 +98,6 @@ claim_from f c claim goals sides = record {
 filter_never : (p : ℕ → Bool) → ((x : ℕ) → p x ≡ false) → (xs : List ℕ) → filter p xs ≡ []
 filter_never p never [] = refl
 filter_never p never (x ∷ xs) = rw (never x) (filter_never p never xs)
-
-and_false : (a : Bool) → a && false ≡ false
-and_false true = refl
-and_false false = refl
 
 any_never : {X : Type 0} (p : X → Bool) → ((x : X) → p x ≡ false) → (xs : List X) → list_any p xs ≡ false
 any_never p never [] = refl

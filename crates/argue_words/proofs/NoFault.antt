@@ -35,6 +35,7 @@ use Rattle.clap.specs.declared.builder.value_parser.ValueParser.{ValueParser}
 use Rattle.clap.specs.declared.error.kind.ErrorKind.{ErrorKind}
 use Rattle.clap.specs.declared.error.kind.ErrorKind.TheVariants as kind
 use Rattle.clap.proofs.TakesLemmas.{leaf_takes}
+use Rattle.lists.proofs.TruthValues.{both_from}
 
 -- ---- kinds and tests
 
@@ -48,10 +49,6 @@ first_none (k ∷ ks) b e = e
 next_none : (a b : Kinds) → or_else a b ≡ [] → b ≡ []
 next_none [] b e = e
 next_none (k ∷ ks) b e = not_empty k ks e
-
-pub and_true : (a b : Bool) → a ≡ true → b ≡ true → (a && b) ≡ true
-and_true true b e f = f
-and_true false b e f = e
 
 -- ---- one use of an argument
 
@@ -67,7 +64,7 @@ values_pass_if : (i : Bool) (p : ValueParser) (texts : List Text) → values_kin
     → list_all (accepts i p) texts ≡ true
 values_pass_if i p [] e = refl
 values_pass_if i p (x ∷ xs) e =
-    and_true _ _ (value_passes_if i p x (first_none _ _ e))
+    both_from _ _ (value_passes_if i p x (first_none _ _ e))
     (values_pass_if i p xs (next_none (value_kinds i p x) _ e))
 
 within_if : (least most n : ℕ) → range_kinds least most n ≡ []
@@ -92,7 +89,7 @@ within_if least most n =
 set_passes_if : (again : Bool) (a : Rule) (values : List Text) (rows : List Row)
     → set_fault again a values rows ≡ [] → set_passes again a values rows ≡ true
 set_passes_if again a values rows e =
-    and_true _ _ (go (has_row a.id rows) again (first_none _ _ e))
+    both_from _ _ (go (has_row a.id rows) again (first_none _ _ e))
     (values_pass_if a.ignore_case (parser_of_value a.parser) values (next_none _ _ e))
   where
     go : (b again : Bool) → cond (b && not again) (kind.ArgumentConflict ∷ []) [] ≡ []
@@ -127,8 +124,8 @@ use_passes_if again a values rows e =
     let range =
     within_if (unwrap_or_range a.range).start_inclusive (most_values a) (length values)
     (first_none _ _ e) in
-    and_true _ _ range.0
-    (and_true _ _ range.1
+    both_from _ _ range.0
+    (both_from _ _ range.1
     (action_passes_if (action_of a) again a (values_or_missing a values) rows (next_none _ _ e)))
 
 -- ---- one word
@@ -154,7 +151,7 @@ module _ (c : List Rule) (again : Bool) where
   react_passes_if : (a : Rule) (values : List Text) (h : Held) → react_fault c again a values h ≡ []
       → react_passes c again a values h ≡ true
   react_passes_if a values h e =
-      and_true _ _ (settle_passes_if h (first_none _ _ e))
+      both_from _ _ (settle_passes_if h (first_none _ _ e))
       (use_passes_if again a values (settled c h).rows (next_none (settle_fault c again h) _ e))
 
   option_passes_if : (a : Rule) (v : Option Text) (h : Held) → option_fault c again a v h ≡ []
@@ -193,7 +190,7 @@ module _ (c : List Rule) (again : Bool) where
           (react_passes c again a [] h && passes (reacted c a [] h)) ≡ true
       go true e = option_passes_if a (attached_value rest) h e
       go false e =
-          and_true _ _ (react_passes_if a [] h (first_none _ _ e))
+          both_from _ _ (react_passes_if a [] h (first_none _ _ e))
           (then _ (next_none (react_fault c again a [] h) _ e))
 
   bundle_step_passes_if : (x : Option ℕ) (flags : Text) (skip : ℕ) (h : Held) (faults : Text → ℕ → Held
@@ -297,7 +294,7 @@ module _ (s : Shape) (names : Names) where
           → (b || (word_passes s names w.is_trailing w.waiting word w.held && step_passes s w.position met.0
           met.1)) ≡ true
       go true e = refl
-      go false e = and_true _ _ (word_passes_if w.is_trailing w.waiting word w.held (first_none _ _ e))
+      go false e = both_from _ _ (word_passes_if w.is_trailing w.waiting word w.held (first_none _ _ e))
           (step_passes_if w.position met.0 met.1
           (next_none (word_fault s names w.is_trailing w.waiting word w.held) _ e))
 
@@ -306,7 +303,7 @@ module _ (s : Shape) (names : Names) where
   unfolding walk_fault walk_passes
   walk_passes_if w [] e = refl
   walk_passes_if w (word ∷ rest) e =
-      and_true _ _ (turn_passes_if w word (first_none _ _ e))
+      both_from _ _ (turn_passes_if w word (first_none _ _ e))
       (walk_passes_if (walked s.rules names w word) rest (next_none (turn_fault s names w word) _ e))
 
 -- ---- after the walk
@@ -327,15 +324,15 @@ none_is_all : (p : Rule → Bool) (q : Rule → Bool) → ((a : Rule) → p a �
 none_is_all p q then [] e = refl
 none_is_all p q then (x ∷ xs) e =
     let none = neither (p x) (list_any p xs) e in
-    and_true _ _ (then x none.0) (none_is_all p q then xs none.1)
+    both_from _ _ (then x none.0) (none_is_all p q then xs none.1)
 
 valid_if : (s : Shape) (rows : List Row) (has : Bool) → list_all (λ a. a.is_free) s.rules ≡ true
     → check_fault s rows has ≡ [] → is_valid s rows has ≡ true
 valid_if s rows has free e =
     let none = no_check _ _ _ e in
-    and_true _ _ (help has s.arg_required_else_help _ none.0)
-    (and_true _ _ (sub has s.subcommand_required none.1)
-    (and_true _ _ free (all (s.subcommand_negates_reqs && has) none.2)))
+    both_from _ _ (help has s.arg_required_else_help _ none.0)
+    (both_from _ _ (sub has s.subcommand_required none.1)
+    (both_from _ _ free (all (s.subcommand_negates_reqs && has) none.2)))
   where
     help : (has wanted any : Bool) → (not has && (wanted && not any)) ≡ false
         → (not wanted || (has || any)) ≡ true
@@ -369,9 +366,9 @@ level_passes_if s h words defaults free e =
     let end = (walk s.rules [] h words).held in
     let after = next_none (walk_fault s [] (walk_from h) words) _ e in
     let last = next_none (settle_fault s.rules s.args_override_self end) _ after in
-    and_true _ _ (walk_passes_if s [] (walk_from h) words (first_none _ _ e))
-    (and_true _ _ (settle_passes_if s.rules s.args_override_self end (first_none _ _ after))
-    (and_true _ _ defaults (valid_if s (finished s.rules end) false free (next_none _ _ last))))
+    both_from _ _ (walk_passes_if s [] (walk_from h) words (first_none _ _ e))
+    (both_from _ _ (settle_passes_if s.rules s.args_override_self end (first_none _ _ after))
+    (both_from _ _ defaults (valid_if s (finished s.rules end) false free (next_none _ _ last))))
 
 -- a command with no subcommand takes the words where it has no fault
 pub takes_if : (a : App) (words : List Text) → is_simple a ≡ true → (built a).subs ≡ []
@@ -379,7 +376,7 @@ pub takes_if : (a : App) (words : List Text) → is_simple a ≡ true → (built
     → list_all (λ r. r.is_free) (built a).top.rules ≡ true → fault_of a words ≡ [] → takes a words ≡ true
 takes_if a words simple alone defaults free e =
     let own = argument_words a words in
-    and_true _ _ simple (leaf_takes (built a) nothing_held own alone
+    both_from _ _ simple (leaf_takes (built a) nothing_held own alone
     (level_passes_if (built a).top nothing_held own defaults free (leaf_faults (built a) own alone e)))
   where
     at_stop : (top : Shape) (own : List Text) (stop : Option (Text × List Text))

@@ -10,8 +10,8 @@ use Rattle.clap.proofs.TakesLemmas.{leaf_takes}
 use Rattle.clap.proofs.OnLiterals.{clap_on_literals}
 use Rattle.argue_words.specs.Words.{AreUnknown, IsBenchQuery, IsCheckQuery, IsLiveQuery, IsSolveQuery, SolveTexts, bench_app, check_app, is_bench, is_check, is_live, live_app, script_app, solve_app, task_app, words_are_problems}
 use Rattle.argue_words.proofs.RequestLaws.{no_bench_in, no_check_in, no_live_in}
-use Rattle.argue_words.proofs.NoFault.{and_true}
 use Rattle.argue_words.proofs.ValueWords.{no_flag, value_turn, value_walked}
+use Rattle.lists.proofs.TruthValues.{both_from}
 
 -- the shape of the built command
 abbrev top : Shape
@@ -50,8 +50,8 @@ task_first file other =
       no_bench = refl;
       no_list = refl;
       has = record {
-        taken = and_true _ _ refl (leaf_takes (built solve_app) nothing_held words refl
-            (and_true _ _ (and_true _ _ refl (and_true _ _ refl (and_true _ _ refl (and_true _ _ turn refl))))
+        taken = both_from _ _ refl (leaf_takes (built solve_app) nothing_held words refl
+            (both_from _ _ (both_from _ _ refl (both_from _ _ refl (both_from _ _ refl (both_from _ _ turn refl))))
             (subst (λ w. ends w ≡ true) (sym step) refl)));
         task = ap (λ (w : Walk). first_of (codes "task") (finished top.rules w.held)) step;
         file = ap (λ (w : Walk). first_of (codes "file") (finished top.rules w.held)) step;
@@ -76,10 +76,10 @@ file_first file other =
       no_bench = refl;
       no_list = refl;
       has = record {
-        taken = and_true _ _ refl (leaf_takes (built solve_app) nothing_held words refl
-            (and_true _ _
-            (and_true _ _ refl
-            (and_true _ _ turn (subst (λ w. walk_passes top [] w task_words ≡ true) (sym step) refl)))
+        taken = both_from _ _ refl (leaf_takes (built solve_app) nothing_held words refl
+            (both_from _ _
+            (both_from _ _ refl
+            (both_from _ _ turn (subst (λ w. walk_passes top [] w task_words ≡ true) (sym step) refl)))
             (subst (λ w. ends (walked_on w task_words) ≡ true) (sym step) refl)));
         task = ap (λ (w : Walk). first_of (codes "task") (finished top.rules (walked_on w task_words).held)) step;
         file = ap (λ (w : Walk). first_of (codes "file") (finished top.rules (walked_on w task_words).held)) step;

@@ -10,7 +10,7 @@ use Rattle.clap.specs.Walk.{Held, Names, Rule, Step, Text, Walk, after_step, lon
 use Rattle.clap.specs.Walk.{plain_word, short_or_plain, trailing, walked, word_met}
 use Rattle.clap.specs.Simple.{Shape}
 use Rattle.clap.specs.Takes.{bundle_passes, flag_word_passes, step_passes, turn_passes}
-use Rattle.argue_words.proofs.NoFault.{and_true}
+use Rattle.lists.proofs.TruthValues.{both_from}
 
 -- the word is no flag and not `--`
 abbrev pub IsNoFlag : Text → Type 0
@@ -43,7 +43,7 @@ module _ (names : Names) (id : Text) (position : ℕ) (h : Held) (word : Text) (
       ap (λ (p : Held × Step). after_step c word (waiting_walk id position h) p.0 p.1) (value_met c)
 
   pub value_turn : (s : Shape) → turn_passes s names (waiting_walk id position h) word ≡ true
-  value_turn s = and_true _ _
+  value_turn s = both_from _ _
       (ap (λ b. b || flag_word_passes s.rules s.args_override_self (long_of word) word h) plain.0
       ∙ (ap (λ o. flag_word_passes s.rules s.args_override_self o word h) plain.1
       ∙ ap (λ o. option_map_or (λ flags. bundle_passes s.rules s.args_override_self flags h) o true)

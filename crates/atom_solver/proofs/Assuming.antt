@@ -9,7 +9,6 @@ use Rattle.lists.proofs.Membership.{Contains-nil}
 use Rattle.plain_lits.specs.declared.lit.Lit.{Lit}
 use Rattle.plain_lits.specs.Literals.{negation}
 use Rattle.plain_lits.specs.HintCheck.{IsTautology}
-use Rattle.plain_lits.proofs.HintCheckLemmas.{Contains-mapped, Contains-from_mapped}
 use Rattle.semantics.specs.Frameworks.{Framework}
 use Rattle.meaning_atoms.specs.declared.atom.Atom.{Atom}
 use Rattle.meaning_atoms.specs.declared.atom.Atom.TheVariants.{Cf}
@@ -21,6 +20,7 @@ use Rattle.atom_solver.specs.Searches.{AreUnfixed}
 use Rattle.atom_solver.specs.Assumed.{of_var, IsFactAssumed, AreFacts, AreAssumed, AreNear, AreSomeFacts}
 use Rattle.atom_solver.specs.Lifted.{atom_at, lit_of}
 use Rattle.atom_solver.specs.Tables.{Extends, AddsLits}
+use Rattle.lists.proofs.Images.{image_there, image_from}
 
 pub facts_none : (f : Framework) (atoms : List Atom) → AreFacts f atoms 0 []
 facts_none f atoms = record {
@@ -103,10 +103,10 @@ are_assumed f old new goals facts assumed unfixed h grows adds =
       only = λ l c. ⊎_elim
           (λ fact. inl (subst (λ a. IsFactValue f a l.positive) (sym (same l.var (h.known l fact))) (h.only l fact)))
           (λ goal. inr (subst (λ xs. Contains xs (lit_of new l)) adds.stand
-          (Contains-mapped (lit_of new) adds.more l goal)))
+          (image_there (lit_of new) adds.more l goal)))
           (Contains-append_cases facts adds.more l (subst (λ xs. Contains xs l) adds.is c));
       met = λ goal c.
-          let w = Contains-from_mapped (lit_of new) adds.more goal
+          let w = image_from (lit_of new) adds.more goal
           (subst (λ xs. Contains xs goal) (sym adds.stand) c) in
           (w.0, subst (λ xs. Contains xs w.0) (sym adds.is) (Contains-append_right facts adds.more w.0 w.1), w.2);
     }
@@ -159,6 +159,6 @@ are_near f old new goals facts assumed h grows adds = record {
       ap (λ atoms. atom_at atoms l.var) grows.is ∙ get_or_append_left old grows.more Cf l.var (h.known l fact) in
       inl (subst (λ a. IsFactValue f a l.positive) (sym same) (h.only l fact)))
       (λ goal. inr (subst (λ xs. Contains xs (lit_of new l)) adds.stand
-      (Contains-mapped (lit_of new) adds.more l goal)))
+      (image_there (lit_of new) adds.more l goal)))
       (Contains-append_cases facts adds.more l (subst (λ xs. Contains xs l) adds.is c));
 }

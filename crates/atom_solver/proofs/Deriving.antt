@@ -2,14 +2,20 @@
 use Rattle.std.proofs.Common.{◌≡◌, ℕ, zero, suc, ◌+◌, ◌-◌, ◌<◌, ◌≤◌, List, [], ◌∷◌, ◌++◌, length, take, get_or, ap, sym, subst, ◌∙◌, refl, arith, inl, inr, ⊎_elim, not, Ok}
 use Rattle.std.specs.Prelude.{Contains, None, slice_index_or}
 use Rattle.std.proofs.lemmas.Bool.{cases_lt}
-use Rattle.std.proofs.lemmas.List.{get_or_append_left, get_or-take, length-append, length-take-le, length-map, append-nil, take_all, get_or_default}
+use Rattle.std.proofs.lemmas.List.{
+  get_or_append_left,
+  get_or-take,
+  length-append,
+  length-take-le,
+  length-map,
+  append-nil,
+  get_or_default,
+}
 use Rattle.std.proofs.Math.ListN.{get_or-eq_default}
 use Rattle.std.proofs.lemmas.List.Elements.{Contains-append_left}
 use Rattle.plain_lits.specs.declared.lit.Lit.{Lit}
 use Rattle.plain_lits.specs.Literals.{negation}
-use Rattle.plain_lits.specs.HintCheck.{Checks, IsNamed}
 use Rattle.plain_lits.specs.Checking.{HasRoomFor, HaveRoomFor}
-use Rattle.plain_lits.proofs.HintCheckLemmas.{Contains-mapped, Contains-from_mapped, taken_sound}
 use Rattle.semantics.specs.Frameworks.{Framework}
 use Rattle.hinted_log.specs.Logs.{Step, IsLog, clauses_of, no_step}
 use Rattle.sat_core.specs.Solving.{SolverState, IsShown, IsShownAt, front, clause_of, Keeps, Derives}
@@ -29,13 +35,8 @@ use Rattle.atom_solver.specs.States.{IsGuardedLog}
 use Rattle.atom_solver.specs.Lifted.{lit_of, atoms_of, in_use, lifted_step, lifted_at, listed, log_upto, log_over}
 use Rattle.atom_solver.proofs.Listing.{length-listed, listed_same, listed_more}
 use Rattle.atom_solver.proofs.Lifting.{in_use_yes, in_use_same, checks_lifted, step_lifted, room_at}
-
--- the hints of a clause that is taken name steps
-pub hint_named : (clauses : List (List Lit)) (clause : List Lit) (hints : List ℕ) (hint : ℕ)
-    → Checks negation clauses clause hints (Ok (length hints)) → Contains hints hint → IsNamed clauses hint
-hint_named clauses clause hints hint w c =
-    (taken_sound negation clauses clause hints (length hints) w).named hint
-    (subst (λ xs. Contains xs hint) (sym (take_all (length hints) hints (omega arith))) c)
+use Rattle.lists.proofs.Images.{image_there, image_from}
+use Rattle.sat_core.proofs.Mirroring.{hints_named}
 
 -- a step's clause among the first steps
 front_clause : (steps : List Step) (k n : ℕ) → 0 < n → n ≤ k
@@ -56,7 +57,7 @@ module _ (atoms : List Atom) (s : SolverState) (origins : List Origin) (differen
     listed = c;
     there = subst (λ (t : LogStep). Contains t.clause (lit_of atoms x))
         (sym (step_lifted atoms s origins k hint low high))
-        (Contains-mapped (lit_of atoms) (get_or s.log.steps (hint - 1) no_step).clause x
+        (image_there (lit_of atoms) (get_or s.log.steps (hint - 1) no_step).clause x
         (subst (λ clause. Contains clause x) (front_clause s.log.steps k hint low high) there));
   }
 
@@ -64,7 +65,7 @@ module _ (atoms : List Atom) (s : SolverState) (origins : List Origin) (differen
       → Contains (face.step_at (lifted_upto k) hint).clause l
       → (x : Lit) × Contains (clause_of (take k s.log.steps) hint) x × (lit_of atoms x ≡ l)
   stands_back k hint l low high there =
-      let w = Contains-from_mapped (lit_of atoms) (get_or s.log.steps (hint - 1) no_step).clause l
+      let w = image_from (lit_of atoms) (get_or s.log.steps (hint - 1) no_step).clause l
       (subst (λ (t : LogStep). Contains t.clause l) (step_lifted atoms s origins k hint low high) there) in
       (w.0, subst (λ clause. Contains clause w.0) (sym (front_clause s.log.steps k hint low high)) w.1, w.2)
 
@@ -75,7 +76,7 @@ module _ (atoms : List Atom) (s : SolverState) (origins : List Origin) (differen
   shown_follows k clause hints within clause_room h =
       let named : (hint : ℕ) → Contains hints hint → (0 < hint) × (hint ≤ k) =
       λ hint c.
-      let n = hint_named (clauses_of (take k s.log.steps)) clause hints hint h.taken c in
+      let n = hints_named (clauses_of (take k s.log.steps)) clause hints hint h.taken c in
       let low = n.from_one in
       let high = n.within in
       let long : length (clauses_of (take k s.log.steps)) ≡ k = omega
@@ -96,14 +97,14 @@ module _ (atoms : List Atom) (s : SolverState) (origins : List Origin) (differen
             let x = stands_back k stands.hint l low high stands.there in
             ⊎_elim
             (λ here. inl (subst (λ m. Contains (atoms_of atoms clause) m) x.2
-            (Contains-mapped (lit_of atoms) clause x.0 here)))
+            (image_there (lit_of atoms) clause x.0 here)))
             (λ other. inr
             (subst (λ m. StandsInHint (lifted_upto k) hints (negated m)) x.2
             (stands_there k other.0 hints (negation x.0) (named other.0 other.1).0 (named other.0 other.1).1 other.1
             other.2)))
             (h.used stands.hint x.0 stands.listed x.1);
         come = λ l c.
-            let x = Contains-from_mapped (lit_of atoms) clause l c in
+            let x = image_from (lit_of atoms) clause l c in
             let from = h.from_hints x.0 x.1 in
             subst (λ m. StandsInHint (lifted_upto k) hints m) x.2
             (stands_there k from.0 hints x.0 (named from.0 from.1).0 (named from.0 from.1).1 from.1 from.2);
@@ -225,7 +226,7 @@ room_upto vars old new room derives (suc n) le k lt =
     (λ new_one l c.
     let h = (derives.each n new_one (omega arith)).shown in
     let from = h.from_hints l c in
-    let named = hint_named (clauses_of (take n new.log.steps)) (get_or new.log.steps n no_step).clause
+    let named = hints_named (clauses_of (take n new.log.steps)) (get_or new.log.steps n no_step).clause
     (get_or new.log.steps n no_step).hints from.0 h.taken from.1 in
     let low = named.from_one in
     let high = named.within in
@@ -243,7 +244,7 @@ room_upto vars old new room derives (suc n) le k lt =
 pub room_stays : (vars : ℕ) (old new : SolverState) → HaveRoomFor vars (clauses_of old.log.steps) → Derives old new
     → HaveRoomFor vars (clauses_of new.log.steps)
 room_stays vars old new room derives clause c =
-    let w = Contains-from_mapped (λ (x : Step). x.clause) new.log.steps clause c in
+    let w = image_from (λ (x : Step). x.clause) new.log.steps clause c in
     let at = w.1.0 in
     let here = room_upto vars old new room derives (length new.log.steps) (omega arith) at w.1.1 in
     let same : get_or new.log.steps at no_step ≡ w.0 =

@@ -8,7 +8,7 @@ use Rattle.plain_lits.specs.declared.lit.Lit.{Lit}
 use Rattle.plain_lits.specs.Literals.{negation}
 use Rattle.plain_lits.specs.HintCheck.{Checks, IsTautology}
 use Rattle.plain_lits.specs.Checking.{HasRoomFor}
-use Rattle.plain_lits.proofs.HintCheckLemmas.{IsSameSet, Contains-mapped, Contains-from_mapped, propagates_same_set, taken_sound}
+use Rattle.plain_lits.proofs.HintCheckLemmas.{IsSameSet, propagates_same_set, taken_sound}
 use Rattle.plain_lits.proofs.OneOutcome.{one_outcome}
 use Rattle.clause_watches.proofs.Fronts.{front_cases}
 use Rattle.hinted_log.specs.Logs.{LogState, IsStepOf, clauses_of, derived_step, step_at}
@@ -36,21 +36,20 @@ use Rattle.atom_solver.proofs.Lifting.{checks_lifted, in_use_no, in_use_yes, ste
 use Rattle.atom_solver.proofs.Listing.{length-listed}
 use Rattle.atom_solver.proofs.Reading.{step_named}
 use Rattle.atom_solver.proofs.Giving.{Gains, step_gains, step_whole}
+use Rattle.lists.proofs.Images.{image_there, image_from}
+use Rattle.session_log.proofs.Staying.{turned}
 
 -- ---- of a clause only the members count
 
 mapped_same : (xs ys : List AtomLit) → IsSameClause xs ys → IsSameSet (map negated xs) (map negated ys)
 mapped_same xs ys same = record {
   there = λ l c.
-      let w = Contains-from_mapped negated xs l c in
-      subst (λ x. Contains (map negated ys) x) w.2 (Contains-mapped negated ys w.0 (same.there w.0 w.1));
+      let w = image_from negated xs l c in
+      subst (λ x. Contains (map negated ys) x) w.2 (image_there negated ys w.0 (same.there w.0 w.1));
   back = λ l c.
-      let w = Contains-from_mapped negated ys l c in
-      subst (λ x. Contains (map negated xs) x) w.2 (Contains-mapped negated xs w.0 (same.back w.0 w.1));
+      let w = image_from negated ys l c in
+      subst (λ x. Contains (map negated xs) x) w.2 (image_there negated xs w.0 (same.back w.0 w.1));
 }
-
-turned : (xs ys : List AtomLit) → IsSameClause xs ys → IsSameClause ys xs
-turned xs ys same = record { there = same.back; back = same.there }
 
 tautology_same : (xs ys : List AtomLit) → IsSameClause xs ys → IsTautology negated xs → IsTautology negated ys
 tautology_same xs ys same t = (t.0, same.there t.0 t.1, same.there (negated t.0) t.2)
@@ -203,10 +202,10 @@ pub asks_front : (atoms : List Atom) (clause : List Lit) (i : ℕ) (l : Lit) →
     → (IsAsk (atom_at atoms l.var) → ⊥) → AsksNothing (atoms_of atoms (take i clause))
     → AsksNothing (atoms_of atoms (take (i + 1) clause))
 asks_front atoms clause i l lt at plain before m c =
-    let w = Contains-from_mapped (lit_of atoms) (take (i + 1) clause) m c in
+    let w = image_from (lit_of atoms) (take (i + 1) clause) m c in
     ⊎_elim
     (λ early. before m (subst (λ x. Contains (atoms_of atoms (take i clause)) x) w.2
-    (Contains-mapped (lit_of atoms) (take i clause) w.0 early)))
+    (image_there (lit_of atoms) (take i clause) w.0 early)))
     (λ late.
     let same : l ≡ w.0 = sym at ∙ (get_or_default clause i l w.0 lt ∙ late.1) in
     λ ask. plain (subst (λ (x : Lit). IsAsk (atom_at atoms x.var)) (sym same)
@@ -216,7 +215,7 @@ asks_front atoms clause i l lt at plain before m c =
 pub asks_at : (atoms : List Atom) (clause : List Lit) (i : ℕ) (l : Lit) → i < length clause → get_or clause i l ≡ l
     → IsAsk (atom_at atoms l.var) → AsksNothing (atoms_of atoms clause) → ⊥
 asks_at atoms clause i l lt at ask none =
-    none (lit_of atoms l) (Contains-mapped (lit_of atoms) clause l (i, lt, at)) ask
+    none (lit_of atoms l) (image_there (lit_of atoms) clause l (i, lt, at)) ask
 
 module _ (atoms : List Atom) (s : SolverState) (origins : List Origin) (number : ℕ)
     (is : IsNumberOf (listed (lifted_at atoms s origins) (length s.log.steps)) number) where

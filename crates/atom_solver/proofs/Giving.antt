@@ -8,7 +8,6 @@ use Rattle.std.proofs.lemmas.List.Elements.{Contains-append_left, Contains-push,
 use Rattle.plain_lits.specs.declared.lit.Lit.{Lit}
 use Rattle.plain_lits.specs.Literals.{IsClauseOf}
 use Rattle.plain_lits.specs.Checking.{HasRoomFor}
-use Rattle.plain_lits.proofs.HintCheckLemmas.{Contains-mapped, Contains-from_mapped}
 use Rattle.hinted_log.specs.Logs.{Step, LogState, clauses_of, no_step, given_step}
 use Rattle.lists.specs.declared.memory.Memory.{Memory}
 use Rattle.plain_lits.specs.declared.halt.Halt.{Halt}
@@ -36,6 +35,7 @@ use Rattle.atom_solver.specs.Lifted.{lifted_at, listed, log_over, state_over}
 use Rattle.atom_solver.specs.Tables.{AddsLits, StandsFor}
 use Rattle.atom_solver.proofs.Lifting.{in_use_gives, in_use_yes, in_use_same}
 use Rattle.atom_solver.proofs.Listing.{length-listed, listed_same}
+use Rattle.lists.proofs.Images.{image_there, image_from}
 
 -- a solver with one step more, which is in use
 pub record Gains (old new : SolverState) (step : Step) : Type 0 where
@@ -183,10 +183,10 @@ module _ (atoms : List Atom) (old new : SolverState) (step : Step) (g : Gains ol
   pub step_whole : HasRoomFor (length atoms) step.clause → IsLifting atoms old origins → IsLifting atoms new pushed
   step_whole room h = record {
     room = λ c there l c_l.
-        let w = Contains-from_mapped (λ (x : Step). x.clause) new.log.steps c there in
+        let w = image_from (λ (x : Step). x.clause) new.log.steps c there in
         ⊎_elim
         (λ early. h.room c (subst (λ xs. Contains (clauses_of old.log.steps) xs) w.2
-        (Contains-mapped (λ (x : Step). x.clause) old.log.steps w.0 early)) l c_l)
+        (image_there (λ (x : Step). x.clause) old.log.steps w.0 early)) l c_l)
         (λ (last : step ≡ w.0). room l
         (subst (λ xs. Contains xs l) (sym (ap (λ (x : Step). x.clause) last ∙ w.2)) c_l))
         (Contains-push_cases old.log.steps (step) w.0
@@ -257,16 +257,16 @@ stands atoms literals lits clause adds of =
       known = λ l c. adds.known l (subst (λ xs. Contains xs l) is ((of.members l).0 c));
       same = record {
         there = λ m c.
-            let w = Contains-from_mapped (lit_of atoms) clause m c in
+            let w = image_from (lit_of atoms) clause m c in
             subst (λ xs. Contains xs m) adds.stand
             (subst (λ x. Contains (atoms_of atoms adds.more) x) w.2
-            (Contains-mapped (lit_of atoms) adds.more w.0
+            (image_there (lit_of atoms) adds.more w.0
             (subst (λ xs. Contains xs w.0) is ((of.members w.0).0 w.1))));
         back = λ m c.
-            let w = Contains-from_mapped (lit_of atoms) adds.more m
+            let w = image_from (lit_of atoms) adds.more m
             (subst (λ xs. Contains xs m) (sym adds.stand) c) in
             subst (λ x. Contains (atoms_of atoms clause) x) w.2
-            (Contains-mapped (lit_of atoms) clause w.0
+            (image_there (lit_of atoms) clause w.0
             ((of.members w.0).1 (subst (λ xs. Contains xs w.0) (sym is) w.1)));
       };
     }

@@ -11,7 +11,6 @@ use Rattle.plain_lits.specs.Literals.{negation}
 use Rattle.plain_lits.specs.HintCheck.{Checks, IsTautology, clause_at}
 use Rattle.plain_lits.specs.CheckLaws.{Renames, IsImage}
 use Rattle.plain_lits.specs.Checking.{HasRoomFor, HaveRoomFor}
-use Rattle.plain_lits.proofs.HintCheckLemmas.{Contains-mapped, Contains-from_mapped}
 use Rattle.plain_lits.proofs.Renaming.{checks_moved}
 use Rattle.hinted_log.specs.Logs.{Step, clauses_of, no_step}
 use Rattle.sat_core.specs.Solving.{SolverState}
@@ -25,6 +24,8 @@ use Rattle.oracle_face.specs.Logs.{LogStep, SideClause}
 use Rattle.atom_solver.specs.declared.origin.Origin.{Origin}
 use Rattle.atom_solver.specs.Lifted.{atom_at, lit_of, atoms_of, in_use, lifted_at, listed, log_upto}
 use Rattle.atom_solver.proofs.Listing.{length-listed, get_or-listed, listed_same}
+use Rattle.lists.proofs.Images.{image_there, image_from}
+use Rattle.plain_lits.proofs.LitOrder.{lit_same}
 
 -- ---- steps in use
 
@@ -52,10 +53,6 @@ in_use_same active other number there back = ⊎_elim
 abbrev pub IsKnown : List Atom → Lit → Type 0
 IsKnown atoms l = l.var < length atoms
 
-same_lit : (a b : Lit) → a.var ≡ b.var → a.positive ≡ b.positive → a ≡ b
-same_lit a b e f = ap (λ v. record { var = v; positive = a.positive }) e
-    ∙ ap (λ p. record { var = b.var; positive = p }) f
-
 pub same_var : (atoms : List Atom) (v w : ℕ) → AreDifferent atoms → v < length atoms → w < length atoms
     → atom_at atoms v ≡ atom_at atoms w → v ≡ w
 same_var atoms v w different v_lt w_lt e =
@@ -65,7 +62,7 @@ same_var atoms v w different v_lt w_lt e =
 
 pub same_lits : (atoms : List Atom) (a b : Lit) → AreDifferent atoms → IsKnown atoms a → IsKnown atoms b
     → lit_of atoms a ≡ lit_of atoms b → a ≡ b
-same_lits atoms a b different a_lt b_lt e = same_lit a b
+same_lits atoms a b different a_lt b_lt e = lit_same a b
     (same_var atoms a.var b.var different a_lt b_lt (ap (λ (l : AtomLit). l.atom) e))
     (ap (λ (l : AtomLit). l.positive) e)
 
@@ -80,8 +77,8 @@ pub image : (atoms : List Atom) (clause : List Lit) → HasRoomFor (length atoms
     → IsImage (lit_of atoms) (IsKnown atoms) clause (atoms_of atoms clause)
 image atoms clause room = record {
   within = room;
-  there = λ l c. Contains-mapped (lit_of atoms) clause l c;
-  back = λ m c. Contains-from_mapped (lit_of atoms) clause m c;
+  there = λ l c. image_there (lit_of atoms) clause l c;
+  back = λ m c. image_from (lit_of atoms) clause m c;
 }
 
 -- a literal among those of a clause
@@ -89,13 +86,13 @@ pub lit_back : (atoms : List Atom) (clause : List Lit) (l : Lit) → AreDifferen
     → HasRoomFor (length atoms) clause → IsKnown atoms l → Contains (atoms_of atoms clause) (lit_of atoms l)
     → Contains clause l
 lit_back atoms clause l different room known c =
-    let w = Contains-from_mapped (lit_of atoms) clause (lit_of atoms l) c in
+    let w = image_from (lit_of atoms) clause (lit_of atoms l) c in
     subst (λ x. Contains clause x) (same_lits atoms w.0 l different (room w.0 w.1) known w.2) w.1
 
 pub tautology_back : (atoms : List Atom) (clause : List Lit) → AreDifferent atoms → HasRoomFor (length atoms) clause
     → IsTautology negated (atoms_of atoms clause) → IsTautology negation clause
 tautology_back atoms clause different room t =
-    let w = Contains-from_mapped (lit_of atoms) clause t.0 t.1 in (
+    let w = image_from (lit_of atoms) clause t.0 t.1 in (
       w.0,
       w.1,
       lit_back atoms clause (negation w.0) different room (room w.0 w.1)
@@ -117,7 +114,7 @@ atoms_grow atoms more (l ∷ clause) room =
 pub room_at : (vars : ℕ) (steps : List Step) (k : ℕ) → HaveRoomFor vars (clauses_of steps) → k < length steps
     → HasRoomFor vars (get_or steps k no_step).clause
 room_at vars steps k room lt = room (get_or steps k no_step).clause
-    (Contains-mapped (λ (s : Step). s.clause) steps (get_or steps k no_step) (Contains-get_or steps k no_step lt))
+    (image_there (λ (s : Step). s.clause) steps (get_or steps k no_step) (Contains-get_or steps k no_step lt))
 
 pub log_grow : (atoms more : List Atom) (s : SolverState) (origins : List Origin) (sides : List SideClause) (n : ℕ)
     → HaveRoomFor (length atoms) (clauses_of s.log.steps) → n ≤ length s.log.steps

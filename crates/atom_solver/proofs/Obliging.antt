@@ -16,7 +16,7 @@ use Rattle.oracle_face.specs.Growing.{Grows, HasRun, IsStop, Works, Obliges, Onl
 use Rattle.oracle_face.specs.Logs.{OracleLog, SideClause, IsNumberOf, IsSameClause, by_side, guarded, closings_of, no_side, side_at}
 use Rattle.oracle_face.proofs.GrowingLemmas.{grows_same, grows_as}
 use Rattle.session_log.specs.Steps.{TakesSide, GainsStep, own_step, side_made}
-use Rattle.session_log.proofs.Staying.{side_stays}
+use Rattle.session_log.proofs.Staying.{side_stays, turned}
 use Rattle.session_log.proofs.Spending.{side_spends}
 use Rattle.atom_solver.specs.States.{AtomState, IsGuardedLog, IsNoLoop, TakesSideOf}
 use Rattle.atom_solver.specs.Sides.{IsOrderOf, IsSideAt, IsNowhere}
@@ -25,9 +25,6 @@ use Rattle.atom_solver.proofs.Running.{unless_all}
 use Rattle.atom_solver.proofs.Siding.{same_literals}
 
 -- ---- clauses with the same literals
-
-turned : (left right : List AtomLit) → IsSameClause left right → IsSameClause right left
-turned left right same = record { there = same.back; back = same.there }
 
 chained : (a b c : List AtomLit) → IsSameClause a b → IsSameClause b c → IsSameClause a c
 chained a b c h k = record { there = λ l x. k.there l (h.there l x); back = λ l x. h.back l (k.back l x) }

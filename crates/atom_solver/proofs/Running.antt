@@ -7,7 +7,6 @@ use Rattle.std.proofs.lemmas.Bool.{false≢true, lt-ltb, ltb-true}
 use Rattle.std.proofs.lemmas.List.{length-map, length-append}
 use Rattle.std.proofs.lemmas.List.Elements.{Contains-append_left}
 use Rattle.lists.proofs.Filters.{Contains-filter}
-use Rattle.plain_lits.proofs.HintCheckLemmas.{Contains-mapped, Contains-from_mapped}
 use Rattle.plain_lits.specs.declared.lit.Lit.{Lit}
 use Rattle.plain_lits.specs.declared.halt.Halt.{Halt}
 use Rattle.plain_lits.specs.declared.halt.Halt.TheVariants.{Spent, LogFull, Memory}
@@ -37,13 +36,15 @@ use Rattle.atom_solver.specs.Inner.{IsKept, KeepsInHand, Tells}
 use Rattle.atom_solver.specs.Searches.{IsAnswer, ends_in}
 use Rattle.atom_solver.specs.Lifted.{IsLifting, lit_of, atoms_of, lifted_at, log_over, state_over}
 use Rattle.atom_solver.specs.Tables.{Extends, has_atom, told}
-use Rattle.atom_solver.proofs.Deriving.{front_same, search_grows, hint_named, room_stays}
+use Rattle.atom_solver.proofs.Deriving.{front_same, search_grows, room_stays}
 use Rattle.atom_solver.proofs.Learning.{AreNamed, has_learned}
 use Rattle.atom_solver.proofs.Listing.{length-listed}
 use Rattle.atom_solver.proofs.Lifting.{in_use_gives, in_use_yes, room_at, log_grow}
 use Rattle.atom_solver.proofs.Searching.{LeavesAs, gained_of, gained_free, gained_works, gained_closings}
 use Rattle.atom_solver.proofs.Searching.{closing_left, unit_further, AreValues, model_satisfies, core_refutes}
 use Rattle.atom_solver.proofs.TableLemmas.{told_whole}
+use Rattle.lists.proofs.Images.{image_there, image_from}
+use Rattle.sat_core.proofs.Mirroring.{hints_named}
 
 memory_not_spent : (count : ℕ) → Memory ≡ Spent count → ⊥
 memory_not_spent count e = cc
@@ -106,7 +107,7 @@ clause_room : (atoms : List Atom) (s : SolverState) (clause : List Lit) (hints :
     → HaveRoomFor (length atoms) (clauses_of s.log.steps) → IsShown s clause hints → HasRoomFor (length atoms) clause
 clause_room atoms s clause hints room shown l c =
     let from = shown.from_hints l c in
-    let named = hint_named (clauses_of s.log.steps) clause hints from.0 shown.taken from.1 in
+    let named = hints_named (clauses_of s.log.steps) clause hints from.0 shown.taken from.1 in
     let low = named.from_one in
     let high = named.within in
     room_at (length atoms) s.log.steps (from.0 - 1) room
@@ -117,10 +118,10 @@ told_values : (atoms : List Atom) (s : SolverState) (origins : List Origin) (dif
     (room : HaveRoomFor (length atoms) (clauses_of s.log.steps)) (lits : List Lit)
     → AreValues atoms s origins different room lits (told atoms lits)
 told_values atoms s origins different room lits = record {
-  there = λ l c known. Contains-mapped (lit_of atoms) (filter (has_atom atoms) lits) l
+  there = λ l c known. image_there (lit_of atoms) (filter (has_atom atoms) lits) l
       ((Contains-filter (has_atom atoms) lits l).1 (c, lt-ltb l.var (length atoms) known));
   back = λ m c.
-      let w = Contains-from_mapped (lit_of atoms) (filter (has_atom atoms) lits) m c in
+      let w = image_from (lit_of atoms) (filter (has_atom atoms) lits) m c in
       let kept = (Contains-filter (has_atom atoms) lits w.0).0 w.1 in
       (w.0, kept.0, ltb-true w.0.var (length atoms) kept.1, w.2);
 }

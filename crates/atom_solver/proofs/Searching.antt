@@ -9,7 +9,6 @@ use Rattle.plain_lits.specs.Literals.{negation}
 use Rattle.plain_lits.specs.Units.{Units}
 use Rattle.plain_lits.specs.HintCheck.{IsTautology}
 use Rattle.plain_lits.specs.Checking.{HasRoomFor, HaveRoomFor}
-use Rattle.plain_lits.proofs.HintCheckLemmas.{Contains-mapped, Contains-from_mapped}
 use Rattle.semantics.specs.Frameworks.{Framework}
 use Rattle.hinted_log.specs.Logs.{LogState, clauses_of, no_step, derived_step}
 use Rattle.sat_core.specs.Solving.{SolverState, IsUnitOf, IsModel, IsCore, Closes, Learns, Keeps, Holds, clause_of, front, begun}
@@ -35,6 +34,7 @@ use Rattle.atom_solver.proofs.Listing.{length-listed, get_or-listed, take-listed
 use Rattle.atom_solver.proofs.Lifting.{in_use_yes, in_use_gives, in_use_no, IsKnown, same_lits, lit_back, tautology_back, step_lifted, room_at}
 use Rattle.atom_solver.proofs.Deriving.{shown_follows, derived_at}
 use Rattle.atom_solver.proofs.Learning.{IsLearnedAt, AreNamed, learned_still, has_learned}
+use Rattle.lists.proofs.Images.{image_there, image_from}
 
 -- ---- facts
 
@@ -60,7 +60,7 @@ pub facts_false : (f : Framework) (atoms : List Atom) (goals : List AtomLit) (as
     → ((l : Lit) → Contains clause l → Contains assumed l → ⊥) → FactsAreFalse f (atoms_of atoms clause)
 facts_false f atoms goals assumed clause are room unassumed = record {
   false_there = λ m c fact.
-      let w = Contains-from_mapped (lit_of atoms) clause m c in
+      let w = image_from (lit_of atoms) clause m c in
       let l = w.0 in
       let is = are.facts l.var (room l w.1) (subst (λ (x : AtomLit). IsFact f x.atom) (sym w.2) fact) in
       let value : is.value ≡ not l.positive =
@@ -79,7 +79,7 @@ module _ (atoms : List Atom) (s : SolverState) (origins : List Origin) (differen
   pub working_back : (n : ℕ) (clause : List AtomLit) → Contains (working (lifted_to n)) clause
       → (j : ℕ) × (j < n) × Contains s.active (j + 1) × (atoms_of atoms (get_or s.log.steps j no_step).clause ≡ clause)
   working_back n clause c =
-      let w = Contains-from_mapped (λ (x : LogStep). x.clause) (filter (λ (x : LogStep). not x.closing) (lifted_to n))
+      let w = image_from (λ (x : LogStep). x.clause) (filter (λ (x : LogStep). not x.closing) (lifted_to n))
       clause c in
       let kept = (Contains-filter (λ (x : LogStep). not x.closing) (lifted_to n) w.0).0 w.1 in
       let at = Contains-listed (lifted_at atoms s origins) n w.0 kept.0 in
@@ -111,7 +111,7 @@ module _ (atoms : List Atom) (s : SolverState) (origins : List Origin) (differen
               lit_back atoms clause l different clause_room known
               (part.inside (lit_of atoms l)
               (subst (λ xs. Contains xs (lit_of atoms l)) at.3
-              (Contains-mapped (lit_of atoms) (get_or s.log.steps j no_step).clause l there)));
+              (image_there (lit_of atoms) (get_or s.log.steps j no_step).clause l there)));
         });
   }
 
@@ -238,7 +238,7 @@ module _ (atoms : List Atom) (s : SolverState) (origins : List Origin) (differen
             subst (λ i. Contains (get_or s.log.steps i no_step).clause one.0) here one.1 in (
               lit_of atoms one.0,
               subst (λ xs. Contains xs (lit_of atoms one.0)) at.3
-                  (Contains-mapped (lit_of atoms) (get_or s.log.steps at.0 no_step).clause one.0 there),
+                  (image_there (lit_of atoms) (get_or s.log.steps at.0 no_step).clause one.0 there),
               read.there one.0 one.2 (room_at (length atoms) s.log.steps at.0 room at.1 one.0 there),
             );
         facts = λ m c fact.
@@ -251,7 +251,7 @@ module _ (atoms : List Atom) (s : SolverState) (origins : List Origin) (differen
             (same_or_opposite w.0 l.positive));
         told = λ clause m c there.
             let at = working_back n clause c in
-            let x = Contains-from_mapped (lit_of atoms) (get_or s.log.steps at.0 no_step).clause m
+            let x = image_from (lit_of atoms) (get_or s.log.steps at.0 no_step).clause m
             (subst (λ xs. Contains xs m) (sym at.3) there) in
             let l = x.0 in
             let known = room_at (length atoms) s.log.steps at.0 room at.1 l x.1 in
@@ -274,7 +274,7 @@ module _ (atoms : List Atom) (s : SolverState) (origins : List Origin) (differen
       closed_refutes_goals f (log_over atoms s origins sides) goals number guards
       (record { from_one = low; within = omega (arith, length-listed (lifted_at atoms s origins) n) })
       (λ m c.
-      let x = Contains-from_mapped (lit_of atoms) (get_or s.log.steps (number - 1) no_step).clause m
+      let x = image_from (lit_of atoms) (get_or s.log.steps (number - 1) no_step).clause m
       (subst (λ (t : LogStep). Contains t.clause m) (step_lifted atoms s origins n number low high) c) in
       subst (λ (y : AtomLit). IsFactValue f y.atom (not y.positive) ⊎ Contains goals (negated y)) x.2
       (are.only (negation x.0) (core.negated x.0 x.1)))

@@ -17,7 +17,7 @@ use Rattle.meaning_atoms.specs.declared.atom.AtomLit.{AtomLit}
 use Rattle.meaning_atoms.specs.contracts.atom.AtomLitOrd.TheImpl.{cmp-value as lit_cmp}
 use Rattle.meaning_atoms.specs.contracts.atom.AtomLitOrd.TheImpl.Laws as laws
 use Rattle.meaning_atoms.specs.contracts.atom.AtomLitPartialEq.TheImpl.{eq-value as lit_eq}
-use Rattle.meaning_atoms.proofs.SameAtoms.{lit_decides, lit_order}
+use Rattle.meaning_atoms.proofs.SameAtoms.{lit_decides, lit_order, equal_says}
 use Rattle.oracle_face.specs.Logs.{IsSameClause}
 use Rattle.atom_solver.specs.Sides.{IsOrdered, IsOrderOf}
 
@@ -27,11 +27,6 @@ less_twice : (p q : Ordering) → p ≡ ordering_reverse q → p ≡ Less → q 
 less_twice p Less a e f = cc
 less_twice p Equal a e f = cc
 less_twice p Greater a e f = cc
-
-tells_equal : (p : Ordering) → is_eq p ≡ true → p ≡ Equal
-tells_equal Less e = absurd (false≢true e)
-tells_equal Equal e = refl
-tells_equal Greater e = absurd (false≢true e)
 
 both_ways : (p q : Bool) → (p ≡ true → q ≡ true) → (q ≡ true → p ≡ true) → p ≡ q
 both_ways true q to from = sym (to refl)
@@ -85,7 +80,7 @@ module _ {K : Type 0} (R : K → K → Ordering) (o : IsTotalOrder R) (equal : (
   ties : (x y : K) → E x y ≡ eq_by_cmp R x y
   ties x y = both_ways (E x y) (is_eq (R x y))
       (λ e. ap is_eq ((equal x y).1 ((decides x y).0 e)))
-      (λ e. (decides x y).1 ((equal x y).0 (tells_equal (R x y) e)))
+      (λ e. (decides x y).1 ((equal x y).0 (equal_says (R x y) e)))
 
   equivalence : IsEquivalence E
   equivalence = record {

@@ -8,7 +8,6 @@ use Rattle.plain_lits.specs.declared.halt.Halt.{Halt}
 use Rattle.plain_lits.specs.declared.halt.Halt.TheVariants.{Spent, LogFull, Memory}
 use Rattle.plain_lits.specs.Units.{Units}
 use Rattle.plain_lits.specs.Checking.{HasRoomFor, HaveRoomFor}
-use Rattle.plain_lits.proofs.HintCheckLemmas.{Contains-mapped, Contains-from_mapped}
 use Rattle.hinted_log.specs.Logs.{LogState, Step, IsLog, clauses_of, no_step, derived_step}
 use Rattle.sat_core.specs.declared.answer.Solved.{Solved}
 use Rattle.sat_core.specs.declared.answer.Solved.TheVariants.{Model as Satisfied, Core}
@@ -27,6 +26,7 @@ use Rattle.atom_solver.proofs.Deriving.{front_same, shown_derives}
 use Rattle.atom_solver.proofs.Learning.{IsLearnedAt, AreNamed, has_learned}
 use Rattle.atom_solver.proofs.Searching.{LeavesAs, new_there, gained_of}
 use Rattle.atom_solver.proofs.Running.{answered, halted, spent_not_memory, full_not_memory}
+use Rattle.lists.proofs.Images.{image_there, image_from}
 
 -- the clause of the step at an index holds that of no step before it
 abbrev pub HoldsNoneAt : SolverState → ℕ → Type 0
@@ -49,7 +49,7 @@ module _ (atoms : List Atom) (s : SolverState) (origins : List Origin) (differen
       → ((number : ℕ) → 0 < number → number ≤ k → Holds clause (clause_of s.log.steps number) → ⊥)
       → HasPart (face.clauses_of (lifted_of k)) (atoms_of atoms clause) → ⊥
   part_of_none k clause within clause_room none part =
-      let w = Contains-from_mapped (λ (x : LogStep). x.clause) (lifted_of k) part.part part.listed in
+      let w = image_from (λ (x : LogStep). x.clause) (lifted_of k) part.part part.listed in
       let at = Contains-listed (lifted_at atoms s origins) k w.0 w.1 in
       let j = at.0 in
       let lt = at.1 in
@@ -61,7 +61,7 @@ module _ (atoms : List Atom) (s : SolverState) (origins : List Origin) (differen
             let known = room_at (length atoms) s.log.steps j room (omega arith) l there in
             lit_back atoms clause l different clause_room known
             (part.inside (lit_of atoms l)
-            (subst (λ xs. Contains xs (lit_of atoms l)) is (Contains-mapped (lit_of atoms) (clause_at j) l there)));
+            (subst (λ xs. Contains xs (lit_of atoms l)) is (image_there (lit_of atoms) (clause_at j) l there)));
       })
 
   -- a clause that was learned is worth it, and so is one that closes a search

@@ -3,7 +3,6 @@
 use Rattle.std.proofs.Common.{◌≡◌, ◌<◌, ℕ, List, [], ◌∷◌, ◌++◌, length, map, filter, arith, refl}
 use Rattle.std.specs.Prelude.{Contains, slice_index_or}
 use Rattle.lists.proofs.Membership.{Contains-nil, Contains-tail}
-use Rattle.plain_lits.proofs.HintCheckLemmas.{Contains-mapped}
 use Rattle.iccma_tasks.specs.semantics.specs.Frameworks.{Framework, af, aba, IsNumbered}
 use Rattle.aba_axioms.specs.meaning_atoms.specs.declared.atom.Atom.TheVariants.{Ad}
 use Rattle.aba_axioms.specs.meaning_atoms.specs.declared.atom.AtomLit.{AtomLit}
@@ -24,6 +23,7 @@ use Rattle.certificate_claims.proofs.IdealSets.{shown_ideal}
 use Rattle.certificate_claims.proofs.LargestSets.{AreExactly}
 use Rattle.certificate_claims.proofs.SideClauses.{in_plain, out_plain, ranged_plain, outside_plain, differs_plain, wider_plain, attacked_plain}
 use Rattle.certificate_claims.proofs.WidestSets.{widest_semi_stable, ranged_out, all_semi_stable}
+use Rattle.lists.proofs.Images.{image_there}
 
 -- ---- the frameworks that are asked for a semantics
 
@@ -72,7 +72,7 @@ none_semi_stable (af f) rows bad sets numbered no_ask ok none e semi says =
     (ad_plain (bad ∷ []) (asks_cons bad [] no_ask asks_nil)) (wider_plain (af f))))
     (λ s c. excluded_in (af f) (claims (af f) (Ranged bad) sets) (range_free (af f) bad s) none
     (Contains-tail (range_cover (af f) (bad ∷ []) sets) (map (range_free (af f) bad) sets) (range_free (af f) bad s)
-    (Contains-mapped (range_free (af f) bad) sets s c))
+    (image_there (range_free (af f) bad) sets s c))
     (record {
       goals = ad_plain (bad ∷ are_ranged (range_of (af f) s))
           (asks_cons bad (are_ranged (range_of (af f) s)) no_ask (ranged_plain (range_of (af f) s)));
@@ -94,7 +94,7 @@ are_widest (af f) rows all sets numbered ok apart none =
     (plain_mapped (affirmed Ad ∷ []) (wider (af f)) firsts (ad_plain [] asks_nil) (wider_plain (af f))))
     (λ e c. excluded_in (af f) (cover ∷ map (range_listed (af f) all) firsts) (range_listed (af f) all e) none
     (Contains-tail cover (map (range_listed (af f) all) firsts) (range_listed (af f) all e)
-    (Contains-mapped (range_listed (af f) all) firsts e c))
+    (image_there (range_listed (af f) all) firsts e c))
     (plain_mapped (affirmed Ad ∷ are_ranged (range_of (af f) e)) (differs (af f))
     (filter (same_range (af f) e) all)
     (ad_plain (are_ranged (range_of (af f) e)) (ranged_plain (range_of (af f) e))) (differs_plain (af f))))

@@ -22,10 +22,10 @@ use Rattle.iccma_tasks.specs.declared.task.Semantics.{Semantics}
 use Rattle.iccma_tasks.specs.declared.task.Semantics.TheVariants.{Grounded, Ideal}
 use Rattle.iccma_tasks.specs.Tasks.{Asked}
 use Rattle.certificate_claims.specs.Rights.{AreAll, IsExtension, IsRight, IsRightOf, IsRightCredulous, IsRightSceptical, IsRightSome, IsRightAll, SetsRise}
-use Rattle.certificate_claims.proofs.RisingLists.{IsAsymmetric, same_lists, same_rising}
 use Rattle.certificate_claims.specs.Agreement.{AgreeOn, AgreesWithRight, HasOneAtMost, HaveSameSets}
 use Rattle.certificate_claims.specs.Laws.{RightAnswersAgree}
 use Rattle.certificate_claims.proofs.KindFacts.{grounded_is, ideal_within}
+use Rattle.lists.proofs.RisingLists.{IsAsymmetric, same_lists, same_rising}
 
 -- ---- one set
 

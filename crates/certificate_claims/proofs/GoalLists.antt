@@ -4,7 +4,6 @@ use Rattle.std.specs.Prelude.{◌≡◌, Contains, slice_index_or}
 use Rattle.std.proofs.lemmas.List.{get_or_default}
 use Rattle.std.proofs.lemmas.List.Elements.{Contains-append_cases}
 use Rattle.lists.proofs.Membership.{Contains-nil, Contains-cons_cases}
-use Rattle.plain_lits.proofs.HintCheckLemmas.{Contains-from_mapped}
 use Rattle.iccma_tasks.specs.semantics.specs.Frameworks.{Framework}
 use Rattle.iccma_tasks.specs.semantics.proofs.Decided.{search_list, found_in, decide_not}
 use Rattle.aba_axioms.specs.meaning_atoms.specs.declared.atom.Atom.TheVariants.{Ad}
@@ -16,6 +15,7 @@ use Rattle.certificate_claims.specs.Acceptance.{no_claim}
 use Rattle.certificate_claims.specs.Claims.{claim_of}
 use Rattle.certificate_claims.specs.Refutations.{Claim, IsExcluded, IsPlain, MeetsGoals}
 use Rattle.certificate_claims.specs.Laws.{AreExcluded}
+use Rattle.lists.proofs.Images.{image_from}
 
 -- ---- goals that a set meets
 
@@ -39,7 +39,7 @@ pub meets_mapped : (f : Framework) (s : List ℕ) (lit : ℕ → AtomLit) (numbe
     → ((a : ℕ) → Contains numbers a → Says (lit a).positive (HoldsOf f s (lit a).atom))
     → MeetsGoals f s (map lit numbers)
 meets_mapped f s lit numbers h k c =
-    let m = Contains-from_mapped lit numbers k c in
+    let m = image_from lit numbers k c in
     subst (λ (l : AtomLit). Says l.positive (HoldsOf f s l.atom)) m.2 (h m.0 m.1)
 
 -- ---- literals that ask for no side clause
@@ -59,7 +59,7 @@ asks_append left right l r k c ask =
 pub asks_mapped : (lit : ℕ → AtomLit) (numbers : List ℕ) → ((a : ℕ) → IsAsk (lit a).atom → ⊥)
     → AsksNothing (map lit numbers)
 asks_mapped lit numbers none k c ask =
-    let m = Contains-from_mapped lit numbers k c in
+    let m = image_from lit numbers k c in
     none m.0 (subst (λ (l : AtomLit). IsAsk l.atom) (sym m.2) ask)
 
 -- the mode of admissible sets before such literals
@@ -72,7 +72,7 @@ pub plain_mapped : (goals : List AtomLit) (side : List ℕ → List AtomLit) (se
     → IsPlain (claim_of goals (map side sets))
 plain_mapped goals side sets plain each = record {
   goals = plain;
-  sides = λ clause c. let m = Contains-from_mapped side sets clause c in
+  sides = λ clause c. let m = image_from side sets clause c in
       subst (λ (made : List AtomLit). AsksNothing made) m.2 (each m.0);
 }
 
@@ -108,7 +108,7 @@ pub fails_mapped : (f : Framework) (goals : List AtomLit) (side : List ℕ → L
     → (e : List ℕ) × Contains sets e × (IsTrueAlone (world_of f s) (side e) → ⊥)
 fails_mapped f goals side sets none s world meets =
     let r = fails_one f (claim_of goals (map side sets)) none s world meets in
-    let m = Contains-from_mapped side sets r.0 r.1 in
+    let m = image_from side sets r.0 r.1 in
     (m.0, m.1, subst (λ (made : List AtomLit). IsTrueAlone (world_of f s) made → ⊥) (sym m.2) r.2)
 
 -- ---- lists

@@ -6,7 +6,6 @@ use Rattle.std.proofs.lemmas.List.Elements.{Contains-append_left, Contains-appen
 use Rattle.lists.specs.Members.{IsWithin}
 use Rattle.lists.proofs.Filters.{Contains-filter}
 use Rattle.lists.proofs.ListTests.{any_gives}
-use Rattle.plain_lits.proofs.HintCheckLemmas.{Contains-mapped}
 use Rattle.iccma_tasks.specs.semantics.specs.Framework.{Af, IsAdmissible, IsInAllPreferred, IsIdeal}
 use Rattle.iccma_tasks.specs.semantics.specs.Frameworks.{af, IsNumberedAf}
 use Rattle.iccma_tasks.specs.semantics.specs.Laws.{AttacksMember}
@@ -24,6 +23,7 @@ use Rattle.certificate_claims.specs.SetLiterals.{hits, hit_by_any, are_in, are_o
 use Rattle.certificate_claims.proofs.ExtensionFacts.{admissible_world}
 use Rattle.certificate_claims.proofs.GoalLists.{meets_nil, meets_cons, meets_append, meets_mapped, only_one, fails_mapped}
 use Rattle.certificate_claims.proofs.SideClauses.{within_where_false, meets_in}
+use Rattle.lists.proofs.Images.{image_there}
 
 -- no admissible set attacks the set
 unattacked : (f : Af) (e : List ℕ) → IsNumberedAf f
@@ -38,7 +38,7 @@ unattacked f e numbered none t is h =
     (only_one (attacked (af f) e) side c)
     (record {
       literal = affirmed (Tail h.0 1);
-      member = Contains-mapped (struck (af f)) e h.0 h.1;
+      member = image_there (struck (af f)) e h.0 h.1;
       says = record { attacker = b; late = low; member = h.2.1; attack = h.2.2 };
     }))
 

@@ -9,10 +9,10 @@ use Rattle.std.proofs.lemmas.Cmp.{nat_list_cmp_total}
 use Rattle.std.proofs.lemmas.List.{get_or_default}
 use Rattle.lists.specs.Members.{IsWithin}
 use Rattle.iccma_tasks.specs.semantics.proofs.Decided.{decide_each, decide_member}
-use Rattle.dung_notions.proofs.NotionLemmas.{WalkedAny, any_members}
 use Rattle.certificate_claims.specs.Acceptance.{NoneWithin}
 use Rattle.certificate_claims.specs.Orders.{HasLarger, IsPart, IsPartOfAny, IsSomePart}
 use Rattle.certificate_claims.specs.Rights.{SetsRise}
+use Rattle.lists.proofs.Walks.{WalkedAny, any_members}
 
 -- each of the first n sets comes before the next one
 abbrev pub RiseSoFar : List (List ℕ) → ℕ → Type 0

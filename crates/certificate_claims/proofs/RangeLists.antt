@@ -10,7 +10,6 @@ use Rattle.lists.specs.Members.{IsSetOf, IsWithin}
 use Rattle.lists.proofs.Filters.{Contains-filter}
 use Rattle.lists.proofs.ListTests.{any_gives, any_from}
 use Rattle.lists.proofs.Membership.{Contains-nil, Contains-head, Contains-tail, Contains-cons_cases}
-use Rattle.plain_lits.proofs.HintCheckLemmas.{Contains-mapped, Contains-from_mapped}
 use Rattle.iccma_tasks.specs.semantics.specs.Framework.{Af, IsAf, IsInRange, IsRangeWithin}
 use Rattle.iccma_tasks.specs.semantics.specs.Frameworks.{Framework, af, IsNumberedAf}
 use Rattle.certificate_claims.specs.declared.ranges.FirstRanged.{FirstRanged}
@@ -18,9 +17,10 @@ use Rattle.certificate_claims.specs.Acceptance.{NoneWithin, NoRangeWithin}
 use Rattle.certificate_claims.specs.Claims.{first_ranged, has_ranged}
 use Rattle.certificate_claims.specs.Ranges.{AddsIfFirst, AddsIfRanged, AreLive, AreWithRange, IsFirstRanged}
 use Rattle.certificate_claims.specs.SetLiterals.{is_range_within, is_ranged, members, range_of, same_range}
-use Rattle.certificate_claims.proofs.RisingLists.{same_rising}
 use Rattle.certificate_claims.proofs.SetTests.{chosen, passed, one_kept, one_lost, firsts_more, firsts_within, in_range_list, same_trans, within_from, within_gives}
 use Rattle.std.proofs.lemmas.Bool.{and_from, and_parts}
+use Rattle.lists.proofs.RisingLists.{same_rising}
+use Rattle.lists.proofs.Images.{image_there, image_from}
 
 -- the range of a set of live arguments, however it was found, is the range as a list
 pub range_is : (f : Af) (s r : List ℕ) → IsNumberedAf f → IsWithin s f.live → IsSetOf (IsInRange f s) r
@@ -64,12 +64,12 @@ pub had_gives : (f : Framework) (sets : List (List ℕ)) (x : List ℕ) → has_
 had_gives f sets x h =
     let m = any_gives (λ s. same_range f s x) sets h in
     subst (λ r. Contains (map (range_of f) sets) r) (equal_ranges f m.0 x m.2)
-    (Contains-mapped (range_of f) sets m.0 m.1)
+    (image_there (range_of f) sets m.0 m.1)
 
 pub had_from : (f : Framework) (sets : List (List ℕ)) (x : List ℕ)
     → Contains (map (range_of f) sets) (range_of f x) → has_ranged f sets x ≡ true
 had_from f sets x c =
-    let m = Contains-from_mapped (range_of f) sets (range_of f x) c in
+    let m = image_from (range_of f) sets (range_of f x) c in
     any_from (λ s. same_range f s x) sets m.0 m.1 (same_ranges f m.0 x m.2)
 
 -- ---- one set more
@@ -175,13 +175,13 @@ has_range f sets found is s c =
     subst (λ l. Contains l (range_of (af f) s)) (sym is.same)
     (subst (λ l. Contains (map (range_of (af f)) l) (range_of (af f) s)) (sym is.first)
     (subst (λ r. Contains (map (range_of (af f)) (first_ranged (af f) sets)) r) (equal_ranges (af f) w.0 s w.2)
-    (Contains-mapped (range_of (af f)) (first_ranged (af f) sets) w.0 w.1)))
+    (image_there (range_of (af f)) (first_ranged (af f) sets) w.0 w.1)))
 
 -- and each of these is the range of a set
 is_range : (f : Af) (sets : List (List ℕ)) (found : FirstRanged) → IsFirstRanged (af f) sets found
     → (r : List ℕ) → Contains found.ranges r → (s : List ℕ) × Contains sets s × (range_of (af f) s ≡ r)
 is_range f sets found is r c =
-    let m = Contains-from_mapped (range_of (af f)) found.sets r (subst (λ l. Contains l r) is.same c) in
+    let m = image_from (range_of (af f)) found.sets r (subst (λ l. Contains l r) is.same c) in
     (m.0, firsts_within (af f) sets m.0 (subst (λ l. Contains l m.0) is.first m.1), m.2)
 
 pub apart_where_lists : (f : Af) (sets : List (List ℕ)) (found : FirstRanged) (b : Bool) → IsNumberedAf f

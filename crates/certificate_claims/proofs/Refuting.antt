@@ -23,25 +23,19 @@ use Rattle.certificate_claims.specs.declared.certificate.Step.TheVariants.{Axiom
 use Rattle.certificate_claims.specs.Refutations.{IsAxiomOf, Claim, IsPlain, axiom_clause, step_clause, step_clauses, no_step, StepHolds, IsNotAsked, IsClosed, IsRefutationOf, MeetsGoals, MeetsSides}
 use Rattle.certificate_claims.specs.Laws.{RefutationsExclude}
 use Rattle.certificate_claims.proofs.KindFacts.{axiom_valid}
+use Rattle.lists.proofs.TruthValues.{not_not}
+use Rattle.meaning_atoms.proofs.Clauses.{clash}
 
 -- ---- a literal and its negation have opposite values
-
-twice : (b : Bool) → b ≡ not (not b)
-twice true = refl
-twice false = refl
 
 opposite_of : (value : Atom → Bool) (atom : Atom) (positive : Bool)
     → lit_value value (negated (record { atom = atom; positive = positive })) ≡ not
     (lit_value value (record { atom = atom; positive = positive }))
 opposite_of value atom true = refl
-opposite_of value atom false = twice (value atom)
+opposite_of value atom false = not_not (value atom)
 
 opposite : (value : Atom → Bool) → IsValuation negated (lit_value value)
 opposite value l = opposite_of value l.atom l.positive
-
-both_true : (b : Bool) → b ≡ true → not b ≡ true → ⊥
-both_true true h k = absurd (cc)
-both_true false h k = absurd (cc)
 
 -- ---- each step's clause is true
 
@@ -138,7 +132,7 @@ fact_false : (f : Framework) (s : List ℕ) (claim : Claim) (value : Atom → Bo
     → IsFactValue f atom (not positive) → lit_value value (record { atom = atom; positive = positive }) ≡ true → ⊥
 fact_false f s claim value met atom true h e =
     let no : false ≡ true = (h.reading s claim.sides).1 ((met.reads atom).0 e) in absurd (cc)
-fact_false f s claim value met atom false h e = both_true (value atom)
+fact_false f s claim value met atom false h e = clash (value atom)
     ((met.reads atom).1 ((h.reading s claim.sides).0 refl)) e
 
 goal_false : (f : Framework) (s : List ℕ) (claim : Claim) (value : Atom → Bool) → IsMet f s claim value
@@ -151,14 +145,14 @@ goal_false f s claim value met goals l c e =
     (alone_holds w claim.sides l.atom none)
     (holds_alone w claim.sides l.atom none) (goals (negated l) c) in
     let read = read_true (not l.positive) (value l.atom) (Holds w claim.sides l.atom) (met.reads l.atom) says in
-    both_true (lit_value value l) e (sym (opposite value l) ∙ read)
+    clash (lit_value value l) e (sym (opposite value l) ∙ read)
 
 asked_false : (f : Framework) (s : List ℕ) (claim : Claim) (value : Atom → Bool) → IsMet f s claim value
     → (atom : Atom) (positive : Bool)
     → IsNotAsked atom positive (length claim.sides)
     → lit_value value (record { atom = atom; positive = positive }) ≡ true → ⊥
 asked_false f s claim value met (Ask n) false h e =
-    both_true (value (Ask n))
+    clash (value (Ask n))
     ((met.reads (Ask n)).1 (record { low = h.0; high = h.1; true_there = side_met f s claim value met n h.0 h.1 })) e
 asked_false f s claim value met _ _ h e = h
 

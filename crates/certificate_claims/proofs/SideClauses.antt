@@ -5,7 +5,6 @@ use Rattle.std.proofs.lemmas.Bool.{not_from_false, false_from_ne_true}
 use Rattle.std.proofs.lemmas.List.Elements.{Contains-append_left, Contains-append_right}
 use Rattle.lists.specs.Members.{IsWithin}
 use Rattle.lists.proofs.Filters.{Contains-filter}
-use Rattle.plain_lits.proofs.HintCheckLemmas.{Contains-mapped}
 use Rattle.iccma_tasks.specs.semantics.specs.Frameworks.{Framework}
 use Rattle.iccma_tasks.specs.semantics.specs.Laws.{HasSameMembers}
 use Rattle.iccma_tasks.specs.semantics.proofs.Decided.{decide_member}
@@ -17,6 +16,7 @@ use Rattle.certificate_claims.proofs.SetTests.{has_gives}
 use Rattle.certificate_claims.specs.SetLiterals.{has, is_ranged, are_in, are_out, are_ranged, members, outside, differs, wider, struck, attacked}
 use Rattle.certificate_claims.proofs.GoalLists.{meets_mapped, asks_append, asks_mapped}
 use Rattle.certificate_claims.proofs.KindFacts.{member_is, struck_asks_nothing}
+use Rattle.lists.proofs.Images.{image_there}
 
 lacks : (e : List ℕ) (x : ℕ) → (Contains e x → ⊥) → not (has e x) ≡ true
 lacks e x out = not_from_false (has e x) (false_from_ne_true (has e x) (λ h. out (has_gives e x h)))
@@ -27,7 +27,7 @@ lacks e x out = not_from_false (has e x) (false_from_ne_true (has e x) (λ h. ou
 in_outside : (f : Framework) (e : List ℕ) (x : ℕ) → Contains (members f) x → (Contains e x → ⊥)
     → Contains (outside f e) (affirmed (Member x))
 in_outside f e x live out =
-    Contains-mapped (λ a. affirmed (Member a)) (filter (λ y. not (has e y)) (members f)) x
+    image_there (λ a. affirmed (Member a)) (filter (λ y. not (has e y)) (members f)) x
     ((Contains-filter (λ y. not (has e y)) (members f) x).1 (live, lacks e x out))
 
 -- one of which no member lies outside the set lies in it
@@ -50,7 +50,7 @@ same_where_false f e s live none = record {
       (λ out. absurd (none (record {
         literal = denied (Member x);
         member = Contains-append_right (outside f e) (are_out e) (denied (Member x))
-            (Contains-mapped (λ a. denied (Member a)) e x c);
+            (image_there (λ a. denied (Member a)) e x c);
         says = λ h. out ((member_is f s x).0 h);
       })))
       (decide_member s x);

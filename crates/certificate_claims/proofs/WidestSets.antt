@@ -5,7 +5,6 @@ use Rattle.std.proofs.lemmas.Bool.{cases_Bool, not_from_false}
 use Rattle.lists.specs.Members.{IsWithin}
 use Rattle.lists.proofs.Filters.{Contains-filter}
 use Rattle.lists.proofs.Membership.{Contains-nil}
-use Rattle.plain_lits.proofs.HintCheckLemmas.{Contains-mapped}
 use Rattle.iccma_tasks.specs.semantics.specs.Framework.{Af, IsAf, IsAdmissible, IsSemiStable, IsRangeWithin}
 use Rattle.iccma_tasks.specs.semantics.specs.Frameworks.{af, IsNumberedAf}
 use Rattle.aba_axioms.specs.meaning_atoms.specs.declared.atom.Atom.TheVariants.{Range, Ad}
@@ -21,6 +20,7 @@ use Rattle.certificate_claims.proofs.ExtensionFacts.{admissible_world}
 use Rattle.certificate_claims.proofs.GoalLists.{meets_nil, meets_cons, meets_mapped, only_one, fails_mapped}
 use Rattle.certificate_claims.proofs.LargestSets.{AreExactly}
 use Rattle.certificate_claims.proofs.SideClauses.{same_where_false}
+use Rattle.lists.proofs.Images.{image_there}
 
 -- ---- side clauses and goals about ranges
 
@@ -31,7 +31,7 @@ range_where_false f e s form live none x r =
     ⊎_elim (λ t. ranged_gives f e x t)
     (λ no. absurd (none (record {
       literal = affirmed (Range x);
-      member = Contains-mapped (λ a. affirmed (Range a)) (filter (λ y. not (is_ranged (af f) e y)) f.live) x
+      member = image_there (λ a. affirmed (Range a)) (filter (λ y. not (is_ranged (af f) e y)) f.live) x
           ((Contains-filter (λ y. not (is_ranged (af f) e y)) f.live x).1
           (in_range_live f s x form live r, not_from_false (is_ranged (af f) e x) no));
       says = r;

@@ -45,6 +45,7 @@ use Rattle.answer_claims.specs.SetFacts.{AreSetsOf, HasSetsOf}
 use Rattle.answer_claims.specs.SideClauses.{side_of, sides_of}
 use Rattle.enumerate_block.specs.Ranges.{AreRefuted}
 use Rattle.certificate_making.specs.Making.{AreAsks, AreMade, IsMade}
+use Rattle.answer_claims.proofs.ClaimLemmas.{same_length}
 
 -- ---- one item more
 
@@ -245,14 +246,6 @@ made_all f log parts steps count made so_far all = record {
 
 -- ---- the claims of a row, by their parts
 
-claims_long : (f : Framework) (parts : List Claim) (list : List TableClaim) → AreClaims f parts list
-    → length parts ≡ length list
-claims_long f [] [] are = refl
-claims_long f (c ∷ cs) (claim ∷ list) are =
-    let more = claims_long f cs list are.1 in omega (arith, more)
-claims_long f [] (claim ∷ list) are = absurd are
-claims_long f (c ∷ cs) [] are = absurd are
-
 claim_at : (f : Framework) (parts : List Claim) (list : List TableClaim) (k : ℕ) (d : Claim) → AreClaims f parts list
     → k < length list → IsClaimOf f (slice_index_or parts k d) (slice_index_or list k no_claim)
 claim_at f [] [] k d are lt = absurd (omega arith)
@@ -313,7 +306,7 @@ module _ (f : Framework) (asked : Asked) (answer : Answer) (log : OracleLog) (se
   list = claims f (row_of f asked answer) sets
 
   same_long : length parts ≡ length list
-  same_long = claims_long f parts list are
+  same_long = same_length f parts list are
 
   -- the refutation at a place refutes the claim there, and a text can hold it
   made_at : (k : ℕ) → k < length made
@@ -502,4 +495,4 @@ refuted_named f log list steps refuted k there =
 
 pub steps_long : (f : Framework) (log : OracleLog) (list : List TableClaim) (steps : List ℕ) (parts : List Claim)
     → AreClaims f parts list → AreRefuted f log list steps → length steps ≡ length parts
-steps_long f log list steps parts are refuted = refuted.number ∙ sym (claims_long f parts list are)
+steps_long f log list steps parts are refuted = refuted.number ∙ sym (same_length f parts list are)

@@ -2,7 +2,6 @@
 use Rattle.std.proofs.Common.{⊎_elim, ℕ, Bool, true, false, List, [], ◌∷◌, ◌++◌, map, filter, subst}
 use Rattle.std.specs.Prelude.{Contains, Option, Some, None}
 use Rattle.lists.proofs.Membership.{Contains-nil, Contains-cons_cases}
-use Rattle.plain_lits.proofs.HintCheckLemmas.{Contains-from_mapped}
 use Rattle.semantics.specs.Frameworks.{Framework, af, aba}
 use Rattle.meaning_atoms.specs.declared.atom.Atom.{Atom}
 use Rattle.meaning_atoms.specs.declared.atom.Atom.TheVariants.{Ad, St}
@@ -30,6 +29,8 @@ use Rattle.certificate_claims.specs.SetLiterals.{outside, range_of, same_range, 
 use Rattle.certificate_claims.proofs.GoalLists.{asks_append, asks_cons, asks_nil, plain_mapped}
 use Rattle.certificate_claims.proofs.SideClauses.{attacked_plain, differs_plain, in_plain, out_plain, outside_plain}
 use Rattle.certificate_claims.proofs.SideClauses.{ranged_plain, wider_plain}
+use Rattle.lists.proofs.Images.{image_from}
+use Rattle.certificate_claims.proofs.KindFacts.{goal_asks_nothing}
 
 abbrev AllPlain : List Claim → Type 0
 AllPlain list = (claim : Claim) → Contains list claim → IsPlain claim
@@ -45,7 +46,7 @@ plain_cons first rest one all claim c =
 plain_each : (made : List ℕ → Claim) (sets : List (List ℕ)) → ((e : List ℕ) → IsPlain (made e))
     → AllPlain (map made sets)
 plain_each made sets each claim c =
-    let from = Contains-from_mapped made sets claim c in
+    let from = image_from made sets claim c in
     subst (λ (k : Claim). IsPlain k) from.2 (each from.0)
 
 with_mode : (mode : Atom) (rest : List AtomLit) → (IsAsk mode → ⊥) → AsksNothing rest
@@ -60,10 +61,6 @@ IsPlainRow (Excluded goals) = AsksNothing goals
 IsPlainRow (Ranged bad) = IsAsk bad.atom → ⊥
 IsPlainRow (AllTested mode sets) = IsAsk mode → ⊥
 IsPlainRow _ = Unit {0}
-
-goal_plain : (f : Framework) (q : ℕ) → IsAsk (goal f q).atom → ⊥
-goal_plain (af f) q ask = ask
-goal_plain (aba f) q ask = ask
 
 cover_plain : (f : Framework) (goals : List AtomLit) (sets : List (List ℕ)) → AsksNothing goals
     → IsPlain (range_cover f goals sets)
@@ -108,7 +105,7 @@ row_claims f (Covered q) sets plain =
     plain_cons (claim_of (affirmed Ad ∷ negated (goal f q) ∷ []) (map (outside f) sets)) []
     (plain_mapped (affirmed Ad ∷ negated (goal f q) ∷ []) (outside f) sets
     (with_mode Ad (negated (goal f q) ∷ []) (λ ask. ask)
-    (asks_cons (negated (goal f q)) [] (goal_plain f q) asks_nil)) (outside_plain f)) plain_nil
+    (asks_cons (negated (goal f q)) [] (goal_asks_nothing f q) asks_nil)) (outside_plain f)) plain_nil
 row_claims f (Ranged bad) sets plain =
     plain_cons (range_cover f (bad ∷ []) sets) (map (range_free f bad) sets)
     (cover_plain f (bad ∷ []) sets (asks_cons bad [] plain asks_nil))
@@ -143,19 +140,19 @@ two_plain : (mode : Atom) (l : AtomLit) → (IsAsk mode → ⊥) → (IsAsk l.at
 two_plain mode l no_mode none = with_mode mode (l ∷ []) no_mode (asks_cons l [] none asks_nil)
 
 none_plain : (f : Framework) (semantics : Semantics) (q : ℕ) → IsPlainRow (none_accepts f semantics q)
-none_plain f Complete q = two_plain Ad (goal f q) (λ ask. ask) (goal_plain f q)
+none_plain f Complete q = two_plain Ad (goal f q) (λ ask. ask) (goal_asks_nothing f q)
 none_plain f Grounded q = tt
-none_plain f Preferred q = two_plain Ad (goal f q) (λ ask. ask) (goal_plain f q)
-none_plain f Stable q = two_plain St (goal f q) (λ ask. ask) (goal_plain f q)
-none_plain f SemiStable q = goal_plain f q
+none_plain f Preferred q = two_plain Ad (goal f q) (λ ask. ask) (goal_asks_nothing f q)
+none_plain f Stable q = two_plain St (goal f q) (λ ask. ask) (goal_asks_nothing f q)
+none_plain f SemiStable q = goal_asks_nothing f q
 none_plain f IdealSets q = tt
 
 each_plain : (f : Framework) (semantics : Semantics) (q : ℕ) → IsPlainRow (each_accepts f semantics q)
 each_plain f Complete q = tt
 each_plain f Grounded q = tt
 each_plain f Preferred q = tt
-each_plain f Stable q = two_plain St (negated (goal f q)) (λ ask. ask) (goal_plain f q)
-each_plain f SemiStable q = goal_plain f q
+each_plain f Stable q = two_plain St (negated (goal f q)) (λ ask. ask) (goal_asks_nothing f q)
+each_plain f SemiStable q = goal_asks_nothing f q
 each_plain f IdealSets q = tt
 
 no_extension_plain : (semantics : Semantics) → IsPlainRow (there_is_none semantics)

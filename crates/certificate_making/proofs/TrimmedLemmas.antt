@@ -9,7 +9,6 @@ use Rattle.std.proofs.lemmas.List.Kept.{AllPairs-from_increasing}
 use Rattle.lists.proofs.Membership.{Contains-nil, Contains-head, Contains-tail, Contains-cons_cases}
 use Rattle.plain_lits.specs.CheckLaws.{Renames, IsImage, IsMovedHint}
 use Rattle.plain_lits.specs.HintCheck.{clause_at}
-use Rattle.plain_lits.proofs.HintCheckLemmas.{Contains-mapped, Contains-from_mapped}
 use Rattle.plain_lits.proofs.Renaming.{checks_moved}
 use Rattle.semantics.specs.Frameworks.{Framework, af, aba}
 use Rattle.meaning_atoms.specs.declared.atom.Atom.{Atom}
@@ -38,6 +37,7 @@ use Rattle.certificate_making.specs.Refuted.{ReachesStep, AreAllReached, AreRefu
 use Rattle.certificate_making.specs.Refuted.{step_by_hint, hints_in, step_of}
 use Rattle.certificate_making.specs.Trimmed.{HaveSmallNumbers, ArePositions, IsMovedClause, IsMovedStep, IsTrimmed}
 use Rattle.certificate_making.specs.Trimmed.{moved_atom, moved_lit, number_in, position_of}
+use Rattle.lists.proofs.Images.{image_there, image_from}
 
 -- ---- atoms
 
@@ -175,8 +175,8 @@ module _ (f : Framework) (log : OracleLog) (claim : Claim) (positions : List ℕ
       → IsMovedClause positions clause literals → IsImage (moved_lit positions) IsIn clause literals
   image_derived clause literals movable same = record {
     within = movable;
-    there = λ l c. same.back (moved_lit positions l) (Contains-mapped (moved_lit positions) clause l c);
-    back = λ m c. Contains-from_mapped (moved_lit positions) clause m (same.there m c);
+    there = λ l c. same.back (moved_lit positions l) (image_there (moved_lit positions) clause l c);
+    back = λ m c. image_from (moved_lit positions) clause m (same.there m c);
   }
 
   image_of : (numbers : List ℕ) (before : List LogStep) (source : Source) (clause : List AtomLit) (step : Step)
@@ -485,7 +485,7 @@ module _ (f : Framework) (log : OracleLog) (claim : Claim) (step : ℕ) (positio
   hints_there (by_side n) clause cert hint moved c = absurd (Contains-nil hint c)
   hints_there (by_hints hints) clause cert hint moved c =
       subst (λ (s : Step). Contains (hints_in s) (number_in numbers hint)) (sym moved.is)
-      (Contains-mapped (number_in numbers) hints hint c)
+      (image_there (number_in numbers) hints hint c)
 
   reaches_there : (a b : ℕ) → Reaches log.steps step a → Reaches log.steps a b
       → ReachesStep steps (number_in numbers a) (number_in numbers b)
@@ -569,10 +569,10 @@ module _ (f : Framework) (log : OracleLog) (claim : Claim) (step : ℕ) (positio
       let clause = (at_index i).clause in
       subst (λ (s : Step). IsWritableStep s) (sym moved.is) (
         all_from IsLit moved.literals (λ m c.
-            let from = Contains-from_mapped (moved_lit positions) clause m (moved.same.there m c) in
+            let from = image_from (moved_lit positions) clause m (moved.same.there m c) in
             subst (λ (k : AtomLit). IsLit k) from.2 (lit_fits small (kept_at i) reach from.0 from.1)),
         all_from IsOrdinal (map (number_in numbers) hints) (λ m c.
-            let from = Contains-from_mapped (number_in numbers) hints m c in
+            let from = image_from (number_in numbers) hints m c in
             subst (λ (n : ℕ). IsOrdinal n) from.2
             (number_fits small from.0 (hint_reached log.steps step (kept_at i) from.0 reach
             (subst (λ (s : Source). Contains (hints_of s) from.0) (sym source) from.1)))),

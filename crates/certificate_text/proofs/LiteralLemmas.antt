@@ -8,7 +8,8 @@ use Rattle.meaning_atoms.specs.declared.atom.AtomLit.{AtomLit}
 use Rattle.meaning_atoms.specs.AtomText.{IsLitText}
 use Rattle.certificate_text.specs.Literals.{GoesOn, HasLiterals, closed_view, parts}
 use Rattle.certificate_text.specs.StepFields.{HasBadLiteral, Parts, is_zero, parts_of, put_before}
-use Rattle.certificate_text.proofs.Zips.{zip_push, among, kept_among}
+use Rattle.certificate_text.proofs.Zips.{among, kept_among}
+use Rattle.lists.proofs.Zips.{zip_push}
 
 -- the literals of these fields, or none where some field says none
 abbrev pub AreSoFar : List (List ℕ) → Option (List AtomLit) → Type 0

@@ -23,7 +23,9 @@ use Rattle.certificate_text.specs.declared.word.Word.TheVariants.{Header as Head
 use Rattle.certificate_text.specs.StepFields.{AxiomStands, DerivedStands, HasBadLiteral, HasBadOrdinal, IsDerivedOf, IsStepOf, Parts, SideStands, SpellsOrdinal, parts_of}
 use Rattle.certificate_text.specs.Lines.{LeadsBy, SetStands, StandsBy}
 use Rattle.certificate_text.specs.Reading.{Ends, Outcome, Reads, ReadsAs, end_of}
-use Rattle.certificate_text.proofs.Zips.{zip_partner, zip_same}
+use Rattle.certificate_text.proofs.Zips.{zip_partner}
+use Rattle.lists.proofs.Zips.{zip_same}
+use Rattle.iccma_tasks.proofs.Exact.{bad_or_falling}
 
 -- ---- what fields say
 
@@ -121,18 +123,14 @@ set_cases fields BadNumber h = inl (refl, h)
 set_cases fields NotRising h = inr (refl, h)
 set_cases fields _ h = absurd h
 
-bad_and_falling : (fields : List (List ℕ)) → HasBadNumber fields → HasFallingNumbers fields → ⊥
-bad_and_falling fields bad falls =
-    bad.bad (get_or falls.numbers bad.index 0) (falls.arguments.each bad.index bad.within)
-
 set_stands_one : (fields : List (List ℕ)) (c d : CertCause) → SetStands fields c → SetStands fields d → c ≡ d
 set_stands_one fields c d h k = elim (set_cases fields c h) [
   | inl x ↦ elim (set_cases fields d k) [
     | inl y ↦ x.0 ∙ sym y.0
-    | inr y ↦ absurd (bad_and_falling fields x.1 y.1)
+    | inr y ↦ absurd (bad_or_falling fields x.1 y.1)
   ]
   | inr x ↦ elim (set_cases fields d k) [
-    | inl y ↦ absurd (bad_and_falling fields y.1 x.1)
+    | inl y ↦ absurd (bad_or_falling fields y.1 x.1)
     | inr y ↦ x.0 ∙ sym y.0
   ]
 ]

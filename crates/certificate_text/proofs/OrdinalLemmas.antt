@@ -7,7 +7,8 @@ use Rattle.num_text.specs.Cuts.{FieldText}
 use Rattle.num_text.specs.Number.{IsNumber}
 use Rattle.num_text.specs.Numerals.{IsReadNumber, TakesField}
 use Rattle.certificate_text.specs.StepFields.{HasBadNumber, HasBadOrdinal, SpellsOrdinal}
-use Rattle.certificate_text.proofs.Zips.{zip_push, among}
+use Rattle.certificate_text.proofs.Zips.{among}
+use Rattle.lists.proofs.Zips.{zip_push}
 
 -- of all fields these are left, and the others spell the numbers
 pub record ReadTo (Spells : List ℕ → ℕ → Type 0) (fields left : List (List ℕ)) (numbers : List ℕ) : Type 0 where

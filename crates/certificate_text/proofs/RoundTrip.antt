@@ -1,5 +1,30 @@
 -- What is written of a certificate reads as the certificate.
-use Rattle.std.proofs.Common.{◌≡◌, ℕ, ◌+◌, ◌<◌, ◌^◌, Bool, true, false, not, List, [], ◌∷◌, ◌++◌, length, get_or, map, refl, sym, ap, subst, ◌∙◌, arith, codes, append_assoc, length-append}
+use Rattle.std.proofs.Common.{
+  ◌≡◌,
+  ℕ,
+  ◌+◌,
+  ◌<◌,
+  ◌^◌,
+  Bool,
+  true,
+  false,
+  not,
+  List,
+  [],
+  ◌∷◌,
+  ◌++◌,
+  length,
+  map,
+  refl,
+  sym,
+  ap,
+  subst,
+  ◌∙◌,
+  arith,
+  codes,
+  append_assoc,
+  length-append,
+}
 use Rattle.std.specs.Prelude.{All, Ok}
 use Rattle.std.specs.List.{AllZip, flat_map, list_all}
 use Rattle.std.specs.List.Sorted.{IsStrictlyIncreasing}
@@ -10,10 +35,10 @@ use Rattle.std.proofs.lemmas.List.{append-nil}
 use Rattle.std.proofs.lemmas.List.Elements.{All-append, All-cons, All-nil, All-head, All-tail}
 use Rattle.num_text.specs.Cuts.{field_texts, is_blank, is_line_end, lines_from, lines_of}
 use Rattle.num_text.specs.Lines.{are_skipped, kept, kept_lines}
-use Rattle.num_text.specs.Number.{IsDigit, IsNumber}
+use Rattle.num_text.specs.Number.{IsNumber}
 use Rattle.num_text.proofs.CutLemmas.{lines_from-nil}
 use Rattle.num_text.proofs.Decimals.{decimal_number}
-use Rattle.num_text.proofs.DigitFields.{digit_no_end, no_blanks}
+use Rattle.num_text.proofs.DigitFields.{no_blanks, no_ends}
 use Rattle.num_text.proofs.KeptLines.{kept-keeps, kept-nil}
 use Rattle.iccma_tasks.specs.AnswerText.{IsSetLine}
 use Rattle.iccma_tasks.specs.WrittenText.{HasArguments, set_line}
@@ -157,15 +182,12 @@ line_of first texts one more told =
     (All-append (λ b. is_line_end b ≡ false) first (flat_map (λ t. 32 ∷ t) texts) one.no_end (joined_no_end texts more))
     (ap are_skipped fields ∙ told))
 
-digits_no_end : (ds : List ℕ) → All IsDigit ds → All (λ b. is_line_end b ≡ false) ds
-digits_no_end ds all = λ k d within. digit_no_end (get_or ds k d) (all k d within)
-
 decimal_in_line : (n : ℕ) → n < 2 ^ 32 → IsInLine (decimal n)
 decimal_in_line n small =
     let is = decimal_number n small in
     record {
       field = record { some_bytes = is.not_empty; whole = no_blanks (decimal n) is.digits };
-      no_end = digits_no_end (decimal n) is.digits;
+      no_end = no_ends (decimal n) is.digits;
     }
 
 decimals_in_line : (ns : List ℕ) → AreWords ns → AreInLine (map decimal ns)

@@ -1,7 +1,7 @@
 -- Members of the fronts of lists, and literals by their signs and codes.
 use Rattle.std.proofs.Common.{◌≡◌, ℕ, ◌<◌, ◌≤◌, ◌+◌, ◌*◌, List, [], ◌∷◌, ◌++◌, length}
 use Rattle.std.proofs.Common.{get_or, take, arith, ap, sym, ◌∙◌, refl, Bool, true, false, length-take}
-use Rattle.std.proofs.Common.{inl, inr, ⊎_elim, not}
+use Rattle.std.proofs.Common.{inl, inr, ⊎_elim}
 use Rattle.std.specs.Prelude.{◌⊎◌, Contains, if◌then◌else◌}
 use Rattle.std.proofs.Math.ListN.{set, length-set}
 use Rattle.std.proofs.lemmas.List.{get_or-take, get_or-set_same, get_or-set_other}
@@ -14,6 +14,7 @@ use Rattle.plain_lits.specs.Literals.{negation}
 use Rattle.plain_lits.specs.Packed.{packed}
 use Rattle.plain_lits.specs.Trails.{VarsDiffer}
 use Rattle.plain_lits.proofs.LitOrder.{lit_same}
+use Rattle.lists.proofs.TruthValues.{not_itself}
 
 -- what stands in a front stands in the list
 pub from_front : {X : Type 0} (n : ℕ) (xs : List X) (x : X) → Contains (take n xs) x → Contains xs x
@@ -65,10 +66,6 @@ pushed_cases xs y x c =
     (Contains-cons_cases y [] x new))
     (Contains-append_cases xs (y ∷ []) x c)
 
-sign_apart : (p : Bool) → p ≡ not p → ⊥
-sign_apart true e = cc
-sign_apart false e = cc
-
 -- no literal is true and false
 pub consistent : (lits : List Lit) (l : Lit) → VarsDiffer lits → Contains lits l → Contains lits (negation l) → ⊥
 consistent lits l apart c n =
@@ -76,7 +73,7 @@ consistent lits l apart c n =
     let b : get_or lits n.0 l ≡ negation l = get_or_default lits n.0 l (negation l) n.1 ∙ n.2 in
     let same : c.0 ≡ n.0 = apart c.0 n.0 l c.1 n.1 (ap (λ (x : Lit). x.var) (a) ∙ sym (ap (λ (x : Lit). x.var) b)) in
     let e : l ≡ negation l = sym a ∙ (ap (λ k. get_or lits k l) same ∙ b) in
-    sign_apart l.positive (ap (λ (x : Lit). x.positive) e)
+    not_itself l.positive (ap (λ (x : Lit). x.positive) e)
 
 code_var : (v w : ℕ) (p q : Bool) → 2 * v + (if p then 1 else 0) ≡ 2 * w + (if q then 1 else 0) → (v ≡ w) × (p ≡ q)
 code_var v w true true e = (omega arith, refl)

@@ -20,10 +20,11 @@ use Rattle.conflict_learn.specs.Analyses.{Analysis, AreClear, IsAt, IsLastOpen, 
 use Rattle.conflict_learn.specs.Analyses.{AreLeft}
 use Rattle.conflict_learn.specs.Analyses.{is_marked, is_kept, is_open}
 use Rattle.conflict_learn.proofs.Counting.{count_two, count_one, count_found}
-use Rattle.conflict_learn.proofs.Literally.{negation_back, stands_index}
+use Rattle.conflict_learn.proofs.Literally.{stands_index}
 use Rattle.conflict_learn.proofs.Literally.{stands_front, stands_here}
 use Rattle.conflict_learn.proofs.Literally.{stands_got, but_not, but_is}
 use Rattle.conflict_learn.proofs.Meeting.{marked_else, marked_here, marked_read}
+use Rattle.plain_lits.proofs.CheckingLemmas.{negation-negation}
 
 -- an open literal, where some are counted
 pub open_found : (s : Search) (border : Border) (a : Analysis) (index : ℕ) → IsAt s border a index → 0 < a.open_count
@@ -185,7 +186,7 @@ left_clear lits clause marks k le h = record {
       (λ e. let lt = h.within i e in
       let l = get_or lits i (record { var = 0; positive = false }) in
       let st : StandsAt lits i (negation (negation l)) =
-      subst (StandsAt lits i) (sym (negation_back l)) (stands_here lits i _ lt) in
+      subst (StandsAt lits i) (sym (negation-negation l)) (stands_here lits i _ lt) in
       let f = h.each i (negation l) e st in
       let low = f.1 in
       let high = f.2 in

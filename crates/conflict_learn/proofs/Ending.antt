@@ -9,7 +9,6 @@ use Rattle.lists.proofs.Membership.{Contains-pushed}
 use Rattle.plain_lits.specs.declared.lit.Lit.{Lit}
 use Rattle.plain_lits.specs.Literals.{negation, IsClauseOf}
 use Rattle.plain_lits.specs.HintCheck.{clause_at, Propagates, Checks}
-use Rattle.plain_lits.proofs.HintCheckLemmas.{Contains-mapped, Contains-from_mapped}
 use Rattle.unit_propagate.specs.Search.{Search, IsSearch, IsConflict}
 use Rattle.clause_watches.proofs.Fronts.{pushed_cases, consistent}
 use Rattle.conflict_learn.specs.declared.workspace.Border.{Border}
@@ -20,9 +19,11 @@ use Rattle.conflict_learn.specs.Learning.{IsAssumed, last_start}
 use Rattle.conflict_learn.specs.Analyses.{Analysis, IsCounted, IsAt, IsFirstUip}
 use Rattle.conflict_learn.specs.Analyses.{AreLeft, HasMetAll}
 use Rattle.conflict_learn.specs.Analyses.{is_kept, is_open}
-use Rattle.conflict_learn.proofs.Literally.{negation_back, negation_same, stands_same, stands_contains}
+use Rattle.conflict_learn.proofs.Literally.{stands_same, stands_contains}
 use Rattle.conflict_learn.proofs.Literally.{stands_front, but_is}
 use Rattle.conflict_learn.proofs.Walking.{HasOpen, open_some}
+use Rattle.lists.proofs.Images.{image_there, image_from}
+use Rattle.plain_lits.proofs.CheckingLemmas.{negation-negation, negation_same}
 
 -- a clause has the literals of the walk's clause, and the negations of the open ones
 pub record Concludes (s : Search) (border : Border) (a : Analysis) (clause : List Lit) : Type 0 where
@@ -40,7 +41,7 @@ concluded_false s border a clause h c l m =
     (c.back l m)
 
 from_negated : (x l : Lit) → negation x ≡ l → x ≡ negation l
-from_negated x l e = sym (negation_back x) ∙ ap negation e
+from_negated x l e = sym (negation-negation x) ∙ ap negation e
 
 is_negated : (x l : Lit) → negation x ≡ l → negation x ≡ l
 is_negated x l e = e
@@ -52,11 +53,11 @@ concluded_taken s border a index clause form at c =
     let truths = map negation clause in
     let all_false = concluded_false s border a clause at.counted c in
     let leads = at.walk.leads truths
-    (λ k l marked st. subst (Contains truths) (negation_back l)
-    (Contains-mapped negation clause (negation l) (c.open_in k (negation l) marked
-    (subst (StandsAt s.lits k) (sym (negation_back l)) st))))
-    (λ l kept. Contains-mapped negation clause l (c.kept_in l kept))
-    (λ l t. let m = Contains-from_mapped negation clause l t in ⊎_elim
+    (λ k l marked st. subst (Contains truths) (negation-negation l)
+    (image_there negation clause (negation l) (c.open_in k (negation l) marked
+    (subst (StandsAt s.lits k) (sym (negation-negation l)) st))))
+    (λ l kept. image_there negation clause l (c.kept_in l kept))
+    (λ l t. let m = image_from negation clause l t in ⊎_elim
     (λ kept. inr (subst (Contains a.clause) (from_negated m.0 l m.2) kept))
     (λ o. inl (stands_front s.lits o.0 index l (subst (StandsAt s.lits o.0) (is_negated m.0 l m.2) o.1)
     (at.below o.0 o.2)))

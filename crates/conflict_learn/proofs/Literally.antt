@@ -1,41 +1,16 @@
 -- Literals by their indices among the true ones, and tests on marks.
 use Rattle.std.proofs.Common.{◌≡◌, ◌≢◌, ℕ, ◌<◌, Bool, true, false, not, List, length, get_or, take}
 use Rattle.std.proofs.Common.{arith, ap, sym}
-use Rattle.std.proofs.Common.{◌∙◌, refl, ⊎_elim, inl, inr, length-take}
-use Rattle.std.specs.Prelude.{◌⊎◌, ◌&&◌, Contains, Some, slice_get}
-use Rattle.std.proofs.lemmas.Bool.{cases_eq, false≢true}
+use Rattle.std.proofs.Common.{◌∙◌, refl, length-take}
+use Rattle.std.specs.Prelude.{◌&&◌, Contains, Some, slice_get}
+use Rattle.std.proofs.lemmas.Bool.{false≢true}
 use Rattle.std.proofs.lemmas.List.{get_or-take, get_or_default}
 use Rattle.std.proofs.lemmas.Option.{get_or_from_slice_get, slice_get_within}
 use Rattle.plain_lits.specs.declared.lit.Lit.{Lit}
-use Rattle.plain_lits.specs.Literals.{negation}
 use Rattle.plain_lits.specs.Trails.{VarsDiffer}
-use Rattle.plain_lits.proofs.LitOrder.{lit_same}
 use Rattle.clause_watches.proofs.Fronts.{in_front}
 use Rattle.conflict_learn.specs.Learning.{StandsAt}
-
-not_not : (b : Bool) → not (not b) ≡ b
-not_not true = refl
-not_not false = refl
-
-pub negation_back : (l : Lit) → negation (negation l) ≡ l
-negation_back l = lit_same (negation (negation l)) l refl (not_not l.positive)
-
-pub negation_same : (a b : Lit) → negation a ≡ negation b → a ≡ b
-negation_same a b e = sym (negation_back a) ∙ (ap negation e ∙ negation_back b)
-
--- whether literals are the same is decided
-bool_decided : (a b : Bool) → (a ≡ b) ⊎ (a ≢ b)
-bool_decided true true = inl refl
-bool_decided false false = inl refl
-bool_decided true false = inr (λ e. false≢true (sym e))
-bool_decided false true = inr (λ e. false≢true e)
-
-pub lit_decided : (a b : Lit) → (a ≡ b) ⊎ (a ≢ b)
-lit_decided a b =
-    ⊎_elim (λ v. ⊎_elim (λ p. inl (lit_same a b v p)) (λ ne. inr (λ e. ne (ap (λ (x : Lit). x.positive) e)))
-    (bool_decided a.positive b.positive))
-    (λ ne. inr (λ e. ne (ap (λ (x : Lit). x.var) e)))
-    (cases_eq a.var b.var)
+use Rattle.plain_lits.proofs.CheckingLemmas.{negation-negation}
 
 pub stands_same : (lits : List Lit) (i : ℕ) (a b : Lit) → StandsAt lits i a → StandsAt lits i b → a ≡ b
 stands_same lits i a b h k = sym (h.is a) ∙ k.is a

@@ -19,8 +19,9 @@ use Rattle.conflict_learn.specs.Learning.{StandsAt}
 use Rattle.conflict_learn.specs.Analyses.{Analysis, AreClear, IsCounted, IsMet, Meets, OthersOf}
 use Rattle.conflict_learn.specs.Analyses.{is_marked, is_kept, is_open, count_to}
 use Rattle.conflict_learn.proofs.Counting.{count_up, count_same, count_room, count_none}
-use Rattle.conflict_learn.proofs.Literally.{negation_same, stands_same, but_not, but_is}
+use Rattle.conflict_learn.proofs.Literally.{stands_same, but_not, but_is}
 use Rattle.conflict_learn.proofs.Literally.{but_marked, but_kept}
+use Rattle.plain_lits.proofs.CheckingLemmas.{negation_same}
 
 -- marks with one more
 pub marked_here : (marks : List Bool) (i : ℕ) (b : Bool) → i < length marks → is_marked (set marks i b) i ≡ b

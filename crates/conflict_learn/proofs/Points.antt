@@ -16,9 +16,11 @@ use Rattle.conflict_learn.specs.Learning.{StandsAt, IsDecided, IsSettled, IsLear
 use Rattle.conflict_learn.specs.Learning.{IsOpenBelow}
 use Rattle.conflict_learn.specs.Learning.{last_start}
 use Rattle.conflict_learn.specs.Analyses.{Analysis, IsAt, IsFirstUip, IsReach, IsLevelOf, HasMetAll}
-use Rattle.conflict_learn.proofs.Literally.{negation_back, negation_same, stands_same, stands_index, stands_contains}
-use Rattle.conflict_learn.proofs.Literally.{stands_front, front_stands, stands_here, lit_decided, but_not}
+use Rattle.conflict_learn.proofs.Literally.{stands_same, stands_index, stands_contains}
+use Rattle.conflict_learn.proofs.Literally.{stands_front, front_stands, stands_here, but_not}
 use Rattle.conflict_learn.proofs.Ending.{concluded, concluded_false, concludes_uip, settled_open}
+use Rattle.plain_lits.proofs.CheckingLemmas.{negation-negation, negation_same}
+use Rattle.plain_lits.proofs.OneOutcome.{cases_lit}
 
 -- a clause with one literal that isn't false in a front, where each other literal is false in a part of the front
 pub record HasPoint (lits clause : List Lit) (start index : ℕ) (u : Lit) : Type 0 where
@@ -53,7 +55,7 @@ contains_decided (x ∷ xs) l =
     (λ ne. ⊎_elim (λ c. inl (Contains-tail x xs l c))
     (λ none. inr (λ c. ⊎_elim (λ e. ne e) (λ t. none t) (Contains-cons_cases x xs l c)))
     (contains_decided xs l))
-    (lit_decided x l)
+    (cases_lit x l)
 
 -- where propagation was done at the front, the clause is new
 pub point_new : (s : Search) (clause : List Lit) (index : ℕ) (u : Lit) → IsSearch s
@@ -229,7 +231,7 @@ pub asserted : (lits read : List Lit) (index : ℕ) (u d : Lit) → index < leng
 asserted lits read index u d lt same is =
     let e : get_or lits index d ≡ negation u =
     sym (ap (λ (xs : List Lit). get_or xs index d) same)
-    ∙ (sym (negation_back (get_or read index d)) ∙ ap negation (sym is)) in
+    ∙ (sym (negation-negation (get_or read index d)) ∙ ap negation (sym is)) in
     subst (StandsAt lits index) e (stands_here lits index d lt)
 
 pub conclusion_of : (s : Search) (a : Analysis) (start index reach level : ℕ) (u d : Lit) (read more clause : List Lit)

@@ -21,11 +21,13 @@ use Rattle.conflict_learn.specs.Analyses.{Analysis, AreClear, IsCounted, IsMet, 
 use Rattle.conflict_learn.specs.Analyses.{IsWalk, IsAt}
 use Rattle.conflict_learn.specs.Analyses.{is_marked, is_kept, is_open, count_to}
 use Rattle.conflict_learn.proofs.Counting.{count_up, count_some}
-use Rattle.conflict_learn.proofs.Literally.{negation_back, negation_same, stands_same, stands_index, stands_contains}
-use Rattle.conflict_learn.proofs.Literally.{stands_front, front_stands, lit_decided, but_not}
+use Rattle.conflict_learn.proofs.Literally.{stands_same, stands_index, stands_contains}
+use Rattle.conflict_learn.proofs.Literally.{stands_front, front_stands, but_not}
 use Rattle.conflict_learn.proofs.Literally.{but_is, but_marked}
 use Rattle.conflict_learn.proofs.Literally.{but_kept, stands_here}
 use Rattle.conflict_learn.proofs.Meeting.{marked_else, marked_here, marked_read}
+use Rattle.plain_lits.proofs.CheckingLemmas.{negation-negation, negation_same}
+use Rattle.plain_lits.proofs.OneOutcome.{cases_lit}
 
 -- an open literal whose negation is one of a clause's
 abbrev pub HasOpen : List Lit → (ℕ → Bool) → Lit → Type 0
@@ -102,7 +104,7 @@ hint_leads : (clauses : List (List Lit)) (lits : List Lit) (index id : ℕ) (l :
 hint_leads clauses lits index id l old new was now hints differ e w truths m c b place =
     let all_true : (x : Lit) → Contains truths x → Contains lits x = λ x t. ⊎_elim
     (λ front. from_front index lits x front)
-    (λ kept. subst (Contains lits) (negation_back x) (e.new_false (negation x) kept))
+    (λ kept. subst (Contains lits) (negation-negation x) (e.new_false (negation x) kept))
     (b x t) in
     let rest = w.leads (truths ++ l ∷ [])
     (λ k x marked at. ⊎_elim
@@ -116,7 +118,7 @@ hint_leads clauses lits index id l old new was now hints differ e w truths m c b
     (λ front. inl (longer_front index (index + 1) lits x (omega arith) front))
     (λ kept. ⊎_elim (λ o. inr o)
     (λ o. inl (longer_front index (index + 1) lits x (omega arith)
-    (subst (Contains (take index lits)) (negation_back x) (e.others (negation x) o))))
+    (subst (Contains (take index lits)) (negation-negation x) (e.others (negation x) o))))
     (e.back (negation x) kept))
     (b x before))
     (λ same. inl (stands_front lits index (index + 1) x (subst (StandsAt lits index) same e.here) (omega arith)))
@@ -134,7 +136,7 @@ hint_leads clauses lits index id l old new was now hints differ e w truths m c b
               let bad = stands_index lits f.0 index l differ f.1 e.here in
               let lt = f.2 in
               absurd (omega (arith, bad, lt)))
-              (λ kept. absurd (e.apart (negation l) kept (negation_back l)))
+              (λ kept. absurd (e.apart (negation l) kept (negation-negation l)))
               (b l t);
           not_false = λ t. consistent lits l differ (stands_contains lits index l e.here) (all_true (negation l) t);
           others = λ x h ne. ⊎_elim (λ kept. c x kept) (λ o. m o.0 (negation x) o.2 o.1) (e.met x (h, ne));
@@ -161,14 +163,14 @@ walk_expands clauses lits index id l old new was now hints differ e w =
           subst (λ n. Contains (clause_at clauses n) x) (sym same) c in
           ⊎_elim
           (λ is. let o = w.open_come index (negation l) e.was_open
-          (subst (StandsAt lits index) (sym (negation_back l)) e.here) in
+          (subst (StandsAt lits index) (sym (negation-negation l)) e.here) in
           inr (inr (
             o.0,
             later o.0 o.1,
             subst (λ (y : Lit). Contains (clause_at clauses o.0) (negation y)) (sym is) o.2,
           )))
           (λ ne. ⊎_elim (λ kept. inl kept) (λ o. inr (inl o)) (e.met x (in_reason, ne)))
-          (lit_decided x l))
+          (cases_lit x l))
           (λ old_hint. ⊎_elim
           (λ kept. inl (e.stay x kept))
           (λ rest. ⊎_elim

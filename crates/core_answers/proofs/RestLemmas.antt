@@ -6,7 +6,6 @@ use Rattle.std.proofs.lemmas.List.{get_or-map, get_or-set_other, get_or-set_same
 use Rattle.std.proofs.lemmas.List.Elements.{Contains-append_left, Contains-push, Contains-push_cases}
 use Rattle.lists.proofs.Membership.{Contains-head, Contains-nil, Contains-tail}
 use Rattle.plain_lits.specs.HintCheck.{IsFalseHint, IsFalsified, IsNamed, IsTautology, IsUnit, IsUnitHint, Propagates, clause_at}
-use Rattle.plain_lits.proofs.HintCheckLemmas.{Contains-from_mapped}
 use Rattle.plain_lits.proofs.OneOutcome.{cases_member}
 use Rattle.meaning_atoms.specs.declared.atom.Atom.{Atom}
 use Rattle.meaning_atoms.specs.declared.atom.AtomLit.{AtomLit}
@@ -17,15 +16,13 @@ use Rattle.session_log.specs.Ends.{IsTakenByNone}
 use Rattle.core_logs.specs.declared.checking.Status.TheVariants.{Falsified, Unit as Single, Other}
 use Rattle.core_logs.specs.Tests.{IsOther}
 use Rattle.core_answers.specs.Parts.{HasMarks, IsWorking, StatusAt}
+use Rattle.lists.proofs.Images.{image_from}
+use Rattle.lists.proofs.TruthValues.{not_not}
 
 -- ---- literals
 
 abbrev lit : Atom → Bool → AtomLit
 lit atom positive = record { atom = atom; positive = positive }
-
-not_not : (b : Bool) → not (not b) ≡ b
-not_not true = refl
-not_not false = refl
 
 pub negated_twice : (l : AtomLit) → negated (negated l) ≡ l
 negated_twice l = ap (λ b. lit l.atom b) (not_not l.positive)
@@ -40,8 +37,8 @@ never_own l e = no_fixed l.positive (ap (λ (x : AtomLit). x.positive) e)
 -- no literal is true beside its negation at the start
 plain_start : (clause : List AtomLit) → (IsTautology negated clause → ⊥) → IsTautology negated (map negated clause) → ⊥
 plain_start clause plain t =
-    let a = Contains-from_mapped negated clause t.0 t.1 in
-    let b = Contains-from_mapped negated clause (negated t.0) t.2 in
+    let a = image_from negated clause t.0 t.1 in
+    let b = image_from negated clause (negated t.0) t.2 in
     let same : b.0 ≡ negated a.0 =
     sym (negated_twice b.0) ∙ (ap negated b.2 ∙ (negated_twice t.0 ∙ sym a.2)) in
     plain (a.0, a.1, subst (λ x. Contains clause x) same b.1)

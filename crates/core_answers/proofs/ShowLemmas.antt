@@ -6,7 +6,6 @@ use Rattle.std.proofs.lemmas.Bool.{false≢true}
 use Rattle.std.proofs.lemmas.List.{get_or_default}
 use Rattle.std.proofs.lemmas.List.Elements.{Contains-get_or}
 use Rattle.lists.proofs.Membership.{Contains-cons_cases, Contains-head, Contains-nil, Contains-tail}
-use Rattle.plain_lits.proofs.HintCheckLemmas.{Contains-from_mapped}
 use Rattle.semantics.specs.Frameworks.{Framework}
 use Rattle.iccma_tasks.specs.declared.answer.Answer.{Answer}
 use Rattle.iccma_tasks.specs.declared.answer.Answer.TheVariants.{Sets}
@@ -21,6 +20,7 @@ use Rattle.certificate_claims.proofs.Found.{AllPass, map_passes_from, pass_cons,
 use Rattle.oracle_face.specs.Logs.{OracleLog}
 use Rattle.session_log.specs.Ends.{IsShownBy, some_asked}
 use Rattle.core_answers.specs.Showing.{ShowAlone, is_past_tests}
+use Rattle.lists.proofs.Images.{image_from}
 
 -- ---- what is found behind a section
 
@@ -55,7 +55,7 @@ never_mapped : (certificate : Certificate) (part : ℕ → Look) (n : ℕ)
     → ((k : ℕ) → is_past_tests (told certificate (part k)) ≡ false)
     → (look : Look) → Contains (map part (indices n)) look → is_past_tests (told certificate look) ≡ false
 never_mapped certificate part n never look c =
-    let at = Contains-from_mapped part (indices n) look c in
+    let at = image_from part (indices n) look c in
     subst (λ l. is_past_tests (told certificate l) ≡ false) at.2 (never at.0)
 
 never_one : (certificate : Certificate) (only : Look) → is_past_tests (told certificate only) ≡ false

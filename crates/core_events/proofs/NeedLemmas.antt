@@ -16,7 +16,7 @@ use Rattle.core_logs.proofs.Walked.{IsSome}
 use Rattle.core_events.specs.declared.places.Place.{Place}
 use Rattle.core_events.specs.Needs.{IsNamedAmong, IsNamedUnder, IsNeededAmong}
 use Rattle.core_events.specs.Places.{pool_of}
-use Rattle.core_events.proofs.Tests.{if_false}
+use Rattle.certificate_claims.proofs.SetTests.{passed}
 
 -- ---- frameworks
 
@@ -94,7 +94,7 @@ placed (place ∷ places) index entry e =
       is = sym (eqb-true index place.index t);
     })
     (λ f. let w = placed places index entry
-    (sym (if_false (index == place.index) (Some place.entry) (pool_of places index) f) ∙ e) in
+    (sym (passed (index == place.index) (Some place.entry) (pool_of places index) f) ∙ e) in
     record { item = w.item; there = Contains-tail place places w.item w.there; is = w.is })
     (cases_Bool (index == place.index))
 

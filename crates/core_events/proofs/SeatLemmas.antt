@@ -5,7 +5,8 @@ use Rattle.std.proofs.lemmas.Bool.{cases_Bool, eqb-true, false≢true}
 use Rattle.core_machine.specs.Core.{CoreSession, put_at}
 use Rattle.core_events.specs.declared.seats.MachineSeat.{MachineSeat}
 use Rattle.core_events.specs.Seats.{IsSeatAt, fresh, session_of, sessions_of}
-use Rattle.core_events.proofs.Tests.{if_false, if_true, other_test, same_test}
+use Rattle.core_events.proofs.Tests.{other_test, same_test}
+use Rattle.certificate_claims.proofs.SetTests.{chosen, passed}
 
 -- ---- seats
 
@@ -25,10 +26,10 @@ pub session_there : (limit : ℕ) (seats : List MachineSeat) (number index : ℕ
     → sessions_of limit seats number ≡ session_of (slice_index_or seats index blank).session
 session_there limit [] number index blank at = absurd (let lt = at.within in omega (arith, lt))
 session_there limit (seat ∷ seats) number zero blank at =
-    if_true (number == seat.number) (session_of seat.session) (sessions_of limit seats number)
+    chosen (number == seat.number) (session_of seat.session) (sessions_of limit seats number)
     (same_test number seat.number (sym (at.is seat)))
 session_there limit (seat ∷ seats) number (suc k) blank at =
-    if_false (number == seat.number) (session_of seat.session) (sessions_of limit seats number)
+    passed (number == seat.number) (session_of seat.session) (sessions_of limit seats number)
     (other_test number seat.number (λ e. at.first 0 seat (omega arith) (sym e)))
     ∙ session_there limit seats number k blank (tail_at seat seats number k at)
 
@@ -43,13 +44,13 @@ session_replaced limit (seat ∷ seats) number zero new n at e =
     let before = sessions_of limit (seat ∷ seats) n in
     let now = session_of new.session in
     ⊎_elim
-    (λ t. if_true (n == new.number) now rest (same_test n new.number (eqb-true n number t ∙ sym e))
-    ∙ sym (if_true (n == number) now before t))
+    (λ t. chosen (n == new.number) now rest (same_test n new.number (eqb-true n number t ∙ sym e))
+    ∙ sym (chosen (n == number) now before t))
     (λ f. let no : n ≢ number = λ h. false≢true (sym f ∙ same_test n number h) in
-    if_false (n == new.number) now rest (other_test n new.number (λ h. no (h ∙ e)))
-    ∙ (sym (if_false (n == seat.number) (session_of seat.session) rest
+    passed (n == new.number) now rest (other_test n new.number (λ h. no (h ∙ e)))
+    ∙ (sym (passed (n == seat.number) (session_of seat.session) rest
     (other_test n seat.number (λ h. no (h ∙ at.is seat))))
-    ∙ sym (if_false (n == number) now before f)))
+    ∙ sym (passed (n == number) now before f)))
     (cases_Bool (n == number))
 session_replaced limit (seat ∷ seats) number (suc k) new n at e =
     let rest = sessions_of limit seats n in
@@ -59,11 +60,11 @@ session_replaced limit (seat ∷ seats) number (suc k) new n at e =
     let own = session_of seat.session in
     let step = session_replaced limit seats number k new n (tail_at seat seats number k at) e in
     ⊎_elim
-    (λ t. if_false (n == seat.number) own later
+    (λ t. passed (n == seat.number) own later
     (other_test n seat.number (λ h. at.first 0 seat (omega arith) (sym h ∙ eqb-true n number t)))
-    ∙ (step ∙ (if_true (n == number) now rest t ∙ sym (if_true (n == number) now before t))))
-    (λ f. ap (λ (x : CoreSession). if n == seat.number then own else x) (step ∙ if_false (n == number) now rest f)
-    ∙ sym (if_false (n == number) now before f))
+    ∙ (step ∙ (chosen (n == number) now rest t ∙ sym (chosen (n == number) now before t))))
+    (λ f. ap (λ (x : CoreSession). if n == seat.number then own else x) (step ∙ passed (n == number) now rest f)
+    ∙ sym (passed (n == number) now before f))
     (cases_Bool (n == number))
 
 -- a seat more for a session that has done nothing
@@ -72,8 +73,8 @@ pub session_added : (limit : ℕ) (seats : List MachineSeat) (new : MachineSeat)
     → sessions_of limit (seats ++ new ∷ []) n ≡ sessions_of limit seats n
 session_added limit [] new n e =
     ⊎_elim
-    (λ t. if_true (n == new.number) (session_of new.session) (fresh limit) t ∙ e)
-    (λ f. if_false (n == new.number) (session_of new.session) (fresh limit) f) (cases_Bool (n == new.number))
+    (λ t. chosen (n == new.number) (session_of new.session) (fresh limit) t ∙ e)
+    (λ f. passed (n == new.number) (session_of new.session) (fresh limit) f) (cases_Bool (n == new.number))
 session_added limit (seat ∷ seats) new n e =
     ap (λ (x : CoreSession). if n == seat.number then session_of seat.session else x)
     (session_added limit seats new n e)

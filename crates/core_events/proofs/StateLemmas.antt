@@ -14,13 +14,13 @@ use Rattle.core_events.specs.Machines.{core_of}
 use Rattle.core_events.specs.Seats.{IsSeatAt, session_of}
 use Rattle.core_events.specs.Stops.{Comes}
 use Rattle.core_events.proofs.SeatLemmas.{session_replaced, session_there}
-use Rattle.core_events.proofs.Tests.{if_false, if_true}
+use Rattle.certificate_claims.proofs.SetTests.{chosen, passed}
 
 -- what stands under a number is put there again
 pub put_same : {X : Type 0} (n : ℕ) (x : X) (items : ℕ → X) (m : ℕ) → x ≡ items n → put_at n x items m ≡ items m
 put_same n x items m e =
-    ⊎_elim (λ t. if_true (m == n) x (items m) t ∙ (e ∙ ap items (sym (eqb-true m n t))))
-    (λ f. if_false (m == n) x (items m) f) (cases_Bool (m == n))
+    ⊎_elim (λ t. chosen (m == n) x (items m) t ∙ (e ∙ ap items (sym (eqb-true m n t))))
+    (λ f. passed (m == n) x (items m) f) (cases_Bool (m == n))
 
 abbrev logged : CoreSession → OracleLog → CoreSession
 logged session log = record session { log = log }

@@ -25,7 +25,7 @@ use Rattle.core_events.specs.Stops.{Comes}
 use Rattle.core_events.specs.Turns.{Turns}
 use Rattle.core_events.proofs.SeatLemmas.{session_replaced}
 use Rattle.core_events.proofs.StateLemmas.{seat_number, seated}
-use Rattle.core_events.proofs.Tests.{if_false, if_true}
+use Rattle.certificate_claims.proofs.SetTests.{chosen, passed}
 
 -- ---- one turn
 
@@ -114,13 +114,13 @@ refresh_comes core now s (Err Memory) h = h
 pub committed_full : (core : Core) (s : ℕ) (edit : Edit) → nat_le core.limit (length core.history) ≡ true
     → committed core s edit ≡ []
 committed_full core s edit full =
-    if_true (nat_le core.limit (length core.history)) [] (entry_taken s edit
+    chosen (nat_le core.limit (length core.history)) [] (entry_taken s edit
     (edit_outcome (framework_after core.opening core.history) edit)) full
 
 pub committed_by : (core : Core) (s : ℕ) (edit : Edit) (f : Framework) (outcome : Result (Framework × Effect) EditFault)
     → nat_le core.limit (length core.history) ≡ false → f ≡ framework_after core.opening core.history
     → edit_outcome f edit ≡ outcome → committed core s edit ≡ entry_taken s edit outcome
 committed_by core s edit f outcome room e h =
-    if_false (nat_le core.limit (length core.history)) [] (entry_taken s edit
+    passed (nat_le core.limit (length core.history)) [] (entry_taken s edit
     (edit_outcome (framework_after core.opening core.history) edit)) room
     ∙ ap (entry_taken s edit) (ap (λ (g : Framework). edit_outcome g edit) (sym e) ∙ h)

@@ -1,17 +1,18 @@
 -- What the tests of parts and of hints come to.
-use Rattle.std.proofs.Common.{◌≡◌, ℕ, Bool, true, false, not, List, filter, length, refl, ap, sym, subst, ◌∙◌}
+use Rattle.std.proofs.Common.{◌≡◌, ℕ, Bool, true, false, not, List, filter, length, ap, sym, subst, ◌∙◌}
 use Rattle.std.specs.Prelude.{◌↔◌, IsTrue, IfOk, Contains, Result, Ok, Err}
 use Rattle.std.proofs.lemmas.Bool.{false≢true}
 use Rattle.lists.specs.declared.memory.Memory.{Memory}
 use Rattle.lists.proofs.Filters.{Contains-filter}
 use Rattle.plain_lits.specs.HintCheck.{Checks}
-use Rattle.plain_lits.proofs.HintCheckLemmas.{Contains-from_mapped, Contains-mapped}
 use Rattle.meaning_atoms.specs.declared.atom.AtomLit.{AtomLit}
 use Rattle.meaning_atoms.specs.Literals.{negated}
 use Rattle.oracle_face.specs.Logs.{HasPart, LogStep, clauses_of, step_at, working}
 use Rattle.session_log.specs.Steps.{FollowsByHints, StandsInHint}
 use Rattle.core_logs.specs.Tests.{IsKeptHint, IsMet, IsPartOf, IsUsed, IsWorkingPart}
 use Rattle.core_logs.proofs.Walked.{IsSome}
+use Rattle.lists.proofs.Images.{image_there, image_from}
+use Rattle.lists.proofs.TruthValues.{is_denied}
 
 abbrev clause_in : LogStep → List AtomLit
 clause_in step = step.clause
@@ -26,10 +27,10 @@ pub part_is : (b : Bool) (steps : List LogStep) (clause : List AtomLit)
 part_is b steps clause h = (
   λ t. let w = h.0 t in record {
     part = w.item.clause;
-    listed = Contains-mapped clause_in steps w.item w.there;
+    listed = image_there clause_in steps w.item w.there;
     inside = w.is.inside;
   },
-  λ w. let m = Contains-from_mapped clause_in steps w.part w.listed in h.1 (record {
+  λ w. let m = image_from clause_in steps w.part w.listed in h.1 (record {
     item = m.0;
     there = m.1;
     is = record { inside = λ l c. w.inside l (subst (λ (p : List AtomLit). Contains p l) m.2 c) };
@@ -39,25 +40,21 @@ part_is b steps clause h = (
 not_true : (b : Bool) → b ≡ false → not b ≡ true
 not_true b e = ap not e
 
-not_false : (b : Bool) → not b ≡ true → b ≡ false
-not_false true e = absurd (false≢true e)
-not_false false e = refl
-
 pub working_part_is : (b : Bool) (steps : List LogStep) (clause : List AtomLit)
     → IsTrue b ↔ IsSome (λ step. IsWorkingPart step clause) steps → IsTrue b ↔ HasPart (working steps) clause
 working_part_is b steps clause h = (
   λ t. let w = h.0 t in record {
     part = w.item.clause;
-    listed = Contains-mapped clause_in (filter in_use steps) w.item
+    listed = image_there clause_in (filter in_use steps) w.item
         ((Contains-filter in_use steps w.item).1 (w.there, not_true w.item.closing w.is.works));
     inside = w.is.inside;
   },
-  λ w. let m = Contains-from_mapped clause_in (filter in_use steps) w.part w.listed in
+  λ w. let m = image_from clause_in (filter in_use steps) w.part w.listed in
       let k = (Contains-filter in_use steps m.0).0 m.1 in h.1 (record {
         item = m.0;
         there = k.0;
         is = record {
-          works = not_false m.0.closing k.1;
+          works = is_denied m.0.closing k.1;
           inside = λ l c. w.inside l (subst (λ (p : List AtomLit). Contains p l) m.2 c);
         };
       }),

@@ -5,6 +5,7 @@ use Rattle.std.proofs.lemmas.List.{length-take, get_or-take, get_or_default}
 use Rattle.lists.specs.Members.{IsWithin}
 use Rattle.attack_index.specs.semantics.specs.Framework.{Af, Attacks, Defends, IsComplete, IsGrounded}
 use Rattle.dung_notions.specs.Grounding.{EntersAfterDefenders}
+use Rattle.semantics.proofs.AdmissibleSets.{defends_more}
 
 -- an order whose arguments are defended by those before them, and which holds all that it defends
 pub record IsDone (f : Af) (order : List ℕ) : Type 0 where
@@ -29,9 +30,6 @@ front_place xs n x h =
 pub front_within : (xs : List ℕ) (n : ℕ) → IsWithin (take n xs) xs
 front_within xs n x h =
     let w = front_place xs n x h in (w.0, w.2, get_or_default xs w.0 x 0 w.2 ∙ w.3)
-
-pub defends_more : (f : Af) (s t : List ℕ) (a : ℕ) → IsWithin s t → Defends f s a → Defends f t a
-defends_more f s t a more d b att = let w = d b att in (w.0, more w.0 w.1, w.2)
 
 -- by descent on the sum of the two places
 no_attack : (f : Af) (order : List ℕ) → EntersAfterDefenders f order → (n i j : ℕ) → i + j < n

@@ -34,6 +34,7 @@ use Rattle.dung_notions.proofs.UndefeatedLemmas.{
   reaching_both,
   and_false,
 }
+use Rattle.semantics.proofs.AdmissibleSets.{attacked_more}
 
 -- where an argument has no open attacker, all its attackers are out
 pub all_out : (f : Af) (out : List Bool) (a b : ℕ) → count_undefeated out a f.attacks ≡ 0 → Attacks f b a
@@ -165,9 +166,6 @@ once_push members a h new = record {
       h.apart i j lt small (sym first ∙ same ∙ get_or_append_left members (a ∷ []) 0 j small))
       (cases_eq j (length members));
 }
-
-attacked_more : (f : Af) (s t : List ℕ) (b : ℕ) → IsWithin s t → IsAttackedBy f s b → IsAttackedBy f t b
-attacked_more f s t b more w = (w.0, more w.0 w.1, w.2)
 
 -- the open_attackers after one attack is taken off
 counted_after : (f : Af) (members : List ℕ) (out : List Bool) (open_attackers : List ℕ) (p : ℕ × ℕ)

@@ -10,7 +10,6 @@ use Rattle.std.proofs.lemmas.List.Kept.{IsStrictlyIncreasing-filter}
 use Rattle.lists.proofs.Filters.{Contains-filter, filter_whole}
 use Rattle.lists.proofs.Membership.{Contains-nil, Contains-head, Contains-tail, Contains-cons_cases}
 use Rattle.set_lists.proofs.Rising.{rises_append}
-use Rattle.aba_notions.specs.aba_laws.proofs.Images.{image_there, image_from}
 use Rattle.semantics.specs.declared.numbers.TheConstants.{MAX_RULE}
 use Rattle.semantics.specs.Rules.{Rule}
 use Rattle.semantics.specs.AbaFrameworks.{Aba, IsAtom, IsRuleOf, IsNumberedAba}
@@ -26,6 +25,7 @@ use Rattle.edit_rules.specs.AbaEdits.{assumption_added, contrary_set, rule_added
 use Rattle.edit_rules.proofs.RefusalLemmas.{each_passes, each_stands_not, parts_stand_not}
 use Rattle.edit_rules.proofs.ContraryLists.{filter-map, firsts_with, firsts_without, with_member}
 use Rattle.edit_rules.proofs.ContraryLists.{with_contrary_members, without_contrary_members}
+use Rattle.lists.proofs.Images.{image_there, image_from}
 
 -- ---- bodies
 

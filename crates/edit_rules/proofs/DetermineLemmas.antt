@@ -5,16 +5,13 @@ use Rattle.std.specs.List.Sorted.{IsStrictlyIncreasing}
 use Rattle.std.proofs.lemmas.Bool.{false≢true, cases_eq, eqb-true, not-false}
 use Rattle.std.proofs.Math.Seq.{take-append_seam}
 use Rattle.std.proofs.lemmas.List.{length_push}
-use Rattle.aba_notions.specs.aba_laws.proofs.Images.{image_there, image_from}
 use Rattle.semantics.specs.Rules.{Rule}
 use Rattle.semantics.specs.AbaFrameworks.{Aba, IsNumberedAba}
-use Rattle.aba_notions.proofs.FormLemmas.{same_rising}
 use Rattle.edit_rules.specs.declared.edit.Edit.{Edit}
 use Rattle.edit_rules.specs.declared.edit.Edit.TheVariants.{ArgAdd, ArgDrop, AttackAdd, AttackDrop, AsmAdd, AsmDrop, ConSet, RuleAdd, RuleDrop}
 use Rattle.edit_rules.specs.declared.effect.Effect.{Effect}
 use Rattle.edit_rules.specs.Numbers.{has_number}
 use Rattle.edit_rules.proofs.EditWordTests.{absent, number_there, same_pair}
-use Rattle.edit_rules.proofs.RisingLists.{same_lists}
 use Rattle.edit_rules.proofs.NumberLists.{from_parts, without_number}
 use Rattle.edit_rules.specs.Refusals.{NoneStands}
 use Rattle.edit_rules.specs.AbaEdits.{AbaRow, aba_outcome, aba_row_outcome, contrary_of, next_rule, numbers_of}
@@ -23,14 +20,16 @@ use Rattle.edit_rules.specs.AbaEdits.{aba_with_assumption, aba_without_assumptio
 use Rattle.edit_rules.specs.AbaEdits.{assumption_added, assumption_dropped, contrary_set, rule_added, rule_dropped}
 use Rattle.edit_rules.proofs.RefusalLemmas.{done_row, each_passes}
 use Rattle.edit_rules.proofs.ContraryLists.{with_contrary_members, without_contrary_members}
-use Rattle.edit_rules.proofs.MadeFrameworks.{keys_asymmetric, keys_rise, same_aba, same_contraries, same_key, same_rule}
+use Rattle.edit_rules.proofs.MadeFrameworks.{keys_asymmetric, same_aba, same_contraries, same_rule}
 use Rattle.edit_rules.proofs.RuleLists.{find_one, numbered_is}
+use Rattle.lists.proofs.RisingLists.{same_lists, same_item, keys_rise, same_rising}
+use Rattle.lists.proofs.Images.{image_there, image_from}
 
 -- ---- contraries
 
 pub contrary_is : (f : Aba) (a c : ℕ) → IsNumberedAba f → Contains f.contraries (a, c) → contrary_of f.contraries a ≡ c
 contrary_is f a c ok h = ap second_in (find_one (λ (p : ℕ × ℕ). p.0) f.contraries (a, c) a
-    (λ q d is. same_key (λ (p : ℕ × ℕ). p.0) f.contraries q (a, c)
+    (λ q d is. same_item (λ (p : ℕ × ℕ). p.0) f.contraries q (a, c)
     (subst IsStrictlyIncreasing (sym ok.form.one_contrary) ok.form.assumptions_rise) d h is) h refl)
 
 pub contrary_there : (f : Aba) (a : ℕ) → IsNumberedAba f → Contains f.assumptions a
@@ -190,7 +189,7 @@ both a b done of_a of_b =
       effects = ap (λ d. d.1) (x.1 ∙ sym y.1);
     }
 
-there : (xs : List ℕ) (x : ℕ) → not (has_number xs x) ≡ false → Contains xs x
+pub there : (xs : List ℕ) (x : ℕ) → not (has_number xs x) ≡ false → Contains xs x
 there xs x h = number_there xs x (not-false (has_number xs x) h)
 
 pub determined : (f g : Aba) (edit : Edit) (done : Aba × Effect) → IsNumberedAba f → IsNumberedAba g

@@ -8,9 +8,10 @@ use Rattle.lists.proofs.ListTests.{any_gives, any_from}
 use Rattle.semantics.specs.Arguments.{IsArgument}
 use Rattle.semantics.specs.declared.argument.TheConstants.{MAX_ARGUMENT}
 use Rattle.semantics.specs.Framework.{IsPairBefore}
-use Rattle.edit_rules.proofs.EditWordTests.{both_from, both_gives, either_gives, either_left, either_right}
+use Rattle.edit_rules.proofs.EditWordTests.{both_gives, either_gives, either_left}
 use Rattle.edit_rules.proofs.EditWordTests.{is_false, same_pair}
 use Rattle.edit_rules.specs.Edits.{has_pair, is_before}
+use Rattle.lists.proofs.TruthValues.{both_from, either_right}
 
 pub pair_there : (ps : List (ℕ × ℕ)) (p : ℕ × ℕ) → has_pair ps p ≡ true → Contains ps p
 pair_there ps p h =

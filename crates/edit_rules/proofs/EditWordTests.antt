@@ -4,14 +4,12 @@ use Rattle.std.specs.Prelude.{◌⊎◌, ◌&&◌, ◌||◌, ◌==◌, ◌↔◌
 use Rattle.std.proofs.lemmas.Bool.{false≢true, eqb-true, eq-eqb}
 use Rattle.lists.proofs.ListTests.{any_gives, any_from}
 use Rattle.edit_rules.specs.Numbers.{has_number}
+pub use Rattle.lists.proofs.TruthValues.{both_from}
 
 -- a conjunction of tests, and a disjunction
 pub both_gives : (a b : Bool) → (a && b) ≡ true → (a ≡ true) × (b ≡ true)
 both_gives true b h = (refl, h)
 both_gives false b h = absurd (false≢true h)
-
-pub both_from : (a b : Bool) → a ≡ true → b ≡ true → (a && b) ≡ true
-both_from a b x y = rw x y
 
 pub either_gives : (a b : Bool) → (a || b) ≡ true → (a ≡ true) ⊎ (b ≡ true)
 either_gives true b h = inl refl
@@ -19,10 +17,6 @@ either_gives false b h = inr h
 
 pub either_left : (a b : Bool) → a ≡ true → (a || b) ≡ true
 either_left a b x = rw x refl
-
-pub either_right : (a b : Bool) → b ≡ true → (a || b) ≡ true
-either_right true b y = refl
-either_right false b y = y
 
 -- a test that isn't true is false
 pub is_false : (b : Bool) → (b ≡ true → ⊥) → b ≡ false

@@ -16,3 +16,4 @@ pub mod TestLemmas
 pub mod BehindLemmas
 pub mod LawLemmas
 pub mod DetermineLemmas
+pub mod EffectLemmas

@@ -1,51 +1,26 @@
 -- A framework that is made of the flat lists of another's parts is that one.
 use Rattle.std.proofs.Common.{◌≡◌, ◌<◌, ◌≤◌, ℕ, List, Result, Ok, Err, IfOk, length, get_or, refl, ap, sym, subst}
-use Rattle.std.proofs.Common.{◌∙◌, map, arith, ⊎_elim}
+use Rattle.std.proofs.Common.{◌∙◌, arith}
 use Rattle.std.specs.Prelude.{Contains, ◌↔◌}
 use Rattle.std.specs.List.{AllPairs}
 use Rattle.std.specs.List.Sorted.{IsStrictlyIncreasing}
-use Rattle.std.proofs.lemmas.Bool.{cases_eq, cases_lt}
-use Rattle.std.proofs.lemmas.List.{ext_get_or, get_or-map, get_or_default, length-map}
+use Rattle.std.proofs.lemmas.List.{ext_get_or, get_or-map, length-map}
 use Rattle.std.proofs.lemmas.List.Elements.{Contains-get_or}
-use Rattle.std.proofs.lemmas.List.Kept.{AllPairs-from_increasing}
-use Rattle.aba_notions.specs.aba_laws.proofs.Images.{image_there, image_from}
 use Rattle.semantics.specs.declared.numbers.TheConstants.{MAX_RULE}
 use Rattle.semantics.specs.Rules.{Rule}
 use Rattle.semantics.specs.AbaFrameworks.{Aba, IsAtom, IsNumberedAba}
 use Rattle.aba_notions.specs.declared.rule_table.RuleLists.{RuleLists}
 use Rattle.aba_notions.specs.Storage.{AreParts, AreContraries, AreRuleLists, AreRulesOf, no_rule, rule_at}
-use Rattle.aba_notions.proofs.FormLemmas.{same_rising}
 use Rattle.aba_notions.proofs.TableLemmas.{rising_few}
-use Rattle.edit_rules.proofs.RisingLists.{IsAsymmetric, same_lists}
 use Rattle.edit_rules.specs.AbaEdits.{heads_of, numbers_of}
 use Rattle.edit_rules.specs.Parts.{AreListsOf}
+use Rattle.lists.proofs.RisingLists.{IsAsymmetric, same_lists, same_item, keys_rise, same_rising}
+use Rattle.lists.proofs.Images.{image_there, image_from}
 
 -- ---- lists with keys that rise
 
-pub keys_rise : {X : Type 0} (key : X → ℕ) (xs : List X) → IsStrictlyIncreasing (map key xs)
-    → AllPairs (λ x y. key x < key y) xs
-keys_rise key xs up i j d lt within =
-    let long = length-map xs key in
-    let less = AllPairs-from_increasing (map key xs) up i j 0 lt (omega arith) in
-    omega (arith, less, get_or-map key xs i d 0 (omega arith), get_or-map key xs j d 0 within)
-
 pub keys_asymmetric : {X : Type 0} (key : X → ℕ) → IsAsymmetric {X = X} (λ x y. key x < key y)
 keys_asymmetric key x y a b = omega arith
-
--- two items with one key are the same
-pub same_key : {X : Type 0} (key : X → ℕ) (xs : List X) (x y : X) → IsStrictlyIncreasing (map key xs) → Contains xs x
-    → Contains xs y → key x ≡ key y → x ≡ y
-same_key key xs x y up cx cy e =
-    let all = keys_rise key xs up in
-    let at_x : get_or xs cx.0 x ≡ x = cx.2 in
-    let at_y : get_or xs cy.0 x ≡ y = get_or_default xs cy.0 x y cy.1 ∙ cy.2 in
-    let lt_x = cx.1 in
-    let lt_y = cy.1 in
-    ⊎_elim (λ (same : cx.0 ≡ cy.0). sym at_x ∙ ap (λ i. get_or xs i x) same ∙ at_y)
-    (λ apart. ⊎_elim
-    (λ less. absurd (let h = all cx.0 cy.0 x less lt_y in omega (arith, h, e, ap key at_x, ap key at_y)))
-    (λ more. absurd (let h = all cy.0 cx.0 x (omega arith) lt_x in omega (arith, h, e, ap key at_x, ap key at_y)))
-    (cases_lt cx.0 cy.0)) (cases_eq cx.0 cy.0)
 
 -- ---- parts
 
@@ -68,7 +43,7 @@ contraries_of f contraries ok same = record {
   some = λ a c. let from = image_from (λ (p : ℕ × ℕ). p.0) f.contraries a
       (subst (λ xs. Contains xs a) (sym ok.form.one_contrary) c) in
       (from.0.1, (same (a, from.0.1)).1 (subst (λ x. Contains f.contraries (x, from.0.1)) from.2 from.1));
-  one = λ a c d left right. ap (λ p. p.1) (same_key (λ (p : ℕ × ℕ). p.0) f.contraries (a, c) (a, d)
+  one = λ a c d left right. ap (λ p. p.1) (same_item (λ (p : ℕ × ℕ). p.0) f.contraries (a, c) (a, d)
       (subst IsStrictlyIncreasing (sym ok.form.one_contrary) ok.form.assumptions_rise)
       ((same (a, c)).0 left) ((same (a, d)).0 right) refl);
 }

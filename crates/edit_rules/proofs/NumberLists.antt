@@ -9,7 +9,8 @@ use Rattle.lists.specs.Members.{IsSetOf}
 use Rattle.lists.proofs.Filters.{Contains-filter}
 use Rattle.lists.proofs.Membership.{Contains-head, Contains-tail, Contains-cons_cases}
 use Rattle.edit_rules.specs.Numbers.{with_number}
-use Rattle.edit_rules.proofs.RisingLists.{increasing_from, middle_rises, numbers_asymmetric, same_lists}
+use Rattle.edit_rules.proofs.RisingLists.{increasing_from, middle_rises}
+use Rattle.lists.proofs.RisingLists.{numbers_asymmetric, same_lists}
 
 pub with_number_rises : (x : ℕ) (xs : List ℕ) → IsStrictlyIncreasing xs → IsStrictlyIncreasing (with_number x xs)
 with_number_rises x xs up =

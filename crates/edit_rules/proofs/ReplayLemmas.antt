@@ -18,7 +18,6 @@ use Rattle.edit_rules.specs.Kinds.{kind_of}
 use Rattle.edit_rules.specs.Replay.{after_edit, left_by, replay}
 use Rattle.edit_rules.proofs.EditWordTests.{absent, both_gives, same_pair, number_there}
 use Rattle.edit_rules.proofs.EditTests.{pair_there, there_pair, within_bounds}
-use Rattle.edit_rules.proofs.RisingLists.{numbers_asymmetric, same_lists}
 use Rattle.edit_rules.proofs.NumberLists.{equal_members, from_parts, without_number}
 use Rattle.edit_rules.proofs.RefusalLemmas.{EachPasses, done_passes}
 use Rattle.edit_rules.proofs.RowForms.{with_argument_form, without_argument_form, with_attack_form, without_attack_form, with_pair_members}
@@ -27,6 +26,7 @@ use Rattle.edit_rules.proofs.AbaOutcomes.{any_outcome, aba_edit_outcome}
 use Rattle.edit_rules.specs.AbaEdits.{aba_outcome}
 use Rattle.edit_rules.proofs.LawLemmas.{keeps_form}
 use Rattle.edit_rules.proofs.DetermineLemmas.{determined as aba_determined}
+use Rattle.lists.proofs.RisingLists.{numbers_asymmetric, same_lists}
 
 -- what holds of a framework, and of the one behind a row of which none stands, holds of what the row leaves
 after_row : (P : Framework → Type 0) (f : Framework) (rs : List Refusal) (done : Framework × Effect) → P f

@@ -13,8 +13,9 @@ use Rattle.semantics.specs.Frameworks.{IsNumberedAf}
 use Rattle.edit_rules.specs.Edits.{af_with_argument, af_with_attack, is_before, is_end, with_pair}
 use Rattle.edit_rules.proofs.RisingLists.{middle_rises, pairs_through}
 use Rattle.edit_rules.proofs.NumberLists.{with_number_members, with_number_rises}
-use Rattle.edit_rules.proofs.EditWordTests.{either_left, either_right, is_false}
+use Rattle.edit_rules.proofs.EditWordTests.{either_left, is_false}
 use Rattle.edit_rules.proofs.EditTests.{before_true, true_before, pair_cases}
+use Rattle.lists.proofs.TruthValues.{either_right}
 
 pub with_pair_rises : (p : ℕ × ℕ) (ps : List (ℕ × ℕ)) → AllPairs IsPairBefore ps
     → AllPairs IsPairBefore (with_pair p ps)

@@ -6,7 +6,6 @@ use Rattle.std.proofs.lemmas.Bool.{true≢false, cases_lt, cond_both, eqb-true, 
 use Rattle.std.proofs.lemmas.List.{append-nil, get_or_append_left, get_or_push, get_or-map, length-map, length_push, length-take-le, map_push}
 use Rattle.std.proofs.lemmas.List.Elements.{Contains-append_cases, Contains-append_left, Contains-append_right, Contains-get_or, filter_more}
 use Rattle.lists.proofs.Membership.{Contains-nil, Contains-head, Contains-tail, Contains-cons_cases}
-use Rattle.aba_notions.specs.aba_laws.proofs.Images.{image_there, image_from}
 use Rattle.semantics.specs.Rules.{Rule}
 use Rattle.semantics.specs.AbaFrameworks.{Aba, IsNumberedAba}
 use Rattle.aba_notions.specs.declared.rule_table.RuleLists.{RuleLists}
@@ -16,7 +15,8 @@ use Rattle.edit_rules.specs.declared.edit.Edit.{Edit}
 use Rattle.edit_rules.specs.declared.effect.Effect.{Effect}
 use Rattle.edit_rules.specs.AbaEdits.{dropped_effect, numbers_of, heads_of, rule_in, rule_numbered, rules_but}
 use Rattle.edit_rules.specs.Parts.{AreListsOf}
-use Rattle.edit_rules.proofs.MadeFrameworks.{same_key}
+use Rattle.lists.proofs.RisingLists.{same_item}
+use Rattle.lists.proofs.Images.{image_there, image_from}
 
 pub lists_none : (lists : RuleLists) → lists.numbers.items ≡ [] → lists.heads.items ≡ [] → lists.bodies.items ≡ []
     → AreListsOf [] lists
@@ -134,7 +134,7 @@ find_one key (y ∷ ys) x n one c e =
 pub numbered_is : (f : Aba) (r : Rule) (n : ℕ) → IsNumberedAba f → Contains f.rules r → r.number ≡ n
     → rule_numbered f.rules n ≡ r
 numbered_is f r n ok c e = ap rule_in (find_one (λ (q : Rule). q.number) f.rules r n
-    (λ q d is. same_key (λ (s : Rule). s.number) f.rules q r ok.form.numbers_rise d c (is ∙ sym e)) c e)
+    (λ q d is. same_item (λ (s : Rule). s.number) f.rules q r ok.form.numbers_rise d c (is ∙ sym e)) c e)
 
 pub numbered_at : (f : Aba) (k n : ℕ) → IsNumberedAba f → k < length f.rules → (rule_at f.rules k).number ≡ n
     → rule_numbered f.rules n ≡ rule_at f.rules k

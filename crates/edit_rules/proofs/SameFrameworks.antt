@@ -7,10 +7,12 @@ use Rattle.semantics.specs.Framework.{Af, IsAf, IsPairBefore}
 use Rattle.semantics.specs.Frameworks.{IsNumberedAf}
 use Rattle.edit_rules.specs.dung_notions.specs.Neighbours.{AreArguments, AreBetween}
 use Rattle.edit_rules.specs.attack_index.specs.Changes.{GainsPair, LosesPair}
-use Rattle.edit_rules.proofs.EditWordTests.{both_from, both_gives, is_false, same_pair}
-use Rattle.edit_rules.proofs.RisingLists.{pairs_asymmetric, same_lists}
+use Rattle.edit_rules.proofs.EditWordTests.{both_gives, is_false, same_pair}
+use Rattle.edit_rules.proofs.RisingLists.{pairs_asymmetric}
 use Rattle.edit_rules.specs.Edits.{af_with_attack, af_without_attack}
 use Rattle.edit_rules.proofs.RowForms.{with_attack_form, with_pair_members, without_attack_form}
+use Rattle.lists.proofs.RisingLists.{same_lists}
+use Rattle.lists.proofs.TruthValues.{both_from}
 
 -- two frameworks with the same live arguments and the same attacks are the same
 pub same_framework : (f g : Af) → IsAf f → IsAf g → f.live ≡ g.live

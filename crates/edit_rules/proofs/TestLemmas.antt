@@ -5,13 +5,13 @@ use Rattle.std.proofs.lemmas.Bool.{eqb-true, false≢true, not_from_false}
 use Rattle.std.proofs.lemmas.List.{get_or_default}
 use Rattle.std.proofs.lemmas.List.Elements.{Contains-get_or}
 use Rattle.lists.proofs.Membership.{Contains-nil, Contains-head}
-use Rattle.aba_notions.specs.aba_laws.proofs.Images.{image_there, image_from}
 use Rattle.set_lists.proofs.Rising.{IsPlaceOf, found}
 use Rattle.semantics.specs.Rules.{Rule}
 use Rattle.aba_notions.specs.Storage.{no_rule, rule_at}
 use Rattle.edit_rules.specs.Numbers.{has_number}
 use Rattle.edit_rules.proofs.EditWordTests.{is_false, number_there, there_number}
 use Rattle.edit_rules.specs.AbaEdits.{heads_of}
+use Rattle.lists.proofs.Images.{image_there, image_from}
 
 -- two tests that decide the same
 pub same_test : (a b : Bool) (P : Type 0) → (a ≡ true) ↔ P → (b ≡ true) ↔ P → a ≡ b

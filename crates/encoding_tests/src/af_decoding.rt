@@ -9,24 +9,6 @@ use oracle_face::Encoding;
 use std::alloc::Global;
 use std::test::Fail;
 
-macro_rules! is {
-    ($atom:expr) => {
-        AtomLit {
-            atom: $atom,
-            positive: true,
-        }
-    };
-}
-
-macro_rules! not {
-    ($atom:expr) => {
-        AtomLit {
-            atom: $atom,
-            positive: false,
-        }
-    };
-}
-
 /// Whether the literals are read as the set of these numbers.
 fn is_read_as(alloc: Global, values: &[AtomLit], set: &[u32]) -> Result<bool, Memory> {
     Ok(decode(alloc, values)?.as_slice() == set)

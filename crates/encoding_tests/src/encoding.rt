@@ -19,24 +19,6 @@ const CROSSED: &str = "p aba 4\na 1\na 2\nc 1 3\nc 2 4\nr 3 2\nr 4 1\n";
 /// The same, but the contraries derive one another.
 const CIRCULAR: &str = "p aba 4\na 1\na 2\nc 1 3\nc 2 4\nr 3 4\nr 4 3\n";
 
-macro_rules! is {
-    ($atom:expr) => {
-        AtomLit {
-            atom: $atom,
-            positive: true,
-        }
-    };
-}
-
-macro_rules! not {
-    ($atom:expr) => {
-        AtomLit {
-            atom: $atom,
-            positive: false,
-        }
-    };
-}
-
 /// The framework of a text that is no longer than a text may be.
 fn framework_of(alloc: Global, text: &str) -> Option<AbaPlain> {
     if text.len() > 268_435_456 {

@@ -2,6 +2,27 @@
 //! them, the atoms that are read back, and models that the SAT solver finds.
 #![tactic(auto)]
 
+// Literals of an atom, true and false, as constants can hold them.
+#[cfg(test)]
+macro_rules! is {
+    ($atom:expr) => {
+        meaning_atoms::AtomLit {
+            atom: $atom,
+            positive: true,
+        }
+    };
+}
+
+#[cfg(test)]
+macro_rules! not {
+    ($atom:expr) => {
+        meaning_atoms::AtomLit {
+            atom: $atom,
+            positive: false,
+        }
+    };
+}
+
 #[cfg(test)]
 mod af_changes;
 #[cfg(test)]

@@ -12,24 +12,6 @@ use sat_core::{Added, Solved, Solver};
 use std::alloc::Global;
 use std::test::Fail;
 
-macro_rules! is {
-    ($atom:expr) => {
-        AtomLit {
-            atom: $atom,
-            positive: true,
-        }
-    };
-}
-
-macro_rules! not {
-    ($atom:expr) => {
-        AtomLit {
-            atom: $atom,
-            positive: false,
-        }
-    };
-}
-
 /// A solver, and the atoms that its variables stand for.
 #[derive(Drop)]
 struct Search {

@@ -16,16 +16,13 @@ use Rattle.hinted_log.specs.Logs.{Step, no_step, clauses_of, step_at, IsGiven, I
 use Rattle.hinted_log.specs.Logs.{by_hint, valuation_of, IsTrueUnder}
 use Rattle.hinted_log.specs.Logs.{IsStepOf}
 use Rattle.hinted_log.specs.Follows.{FollowsFromHints, StepsFollow}
-
-double : (p : Bool) → not (not p) ≡ p
-double true = refl
-double false = refl
+use Rattle.lists.proofs.TruthValues.{not_not}
 
 signed_reading : (truth : ℕ → Bool) (v : ℕ) (p : Bool)
     → valuation_of truth (negation (record { var = v; positive = p }))
     ≡ not (valuation_of truth (record { var = v; positive = p }))
 signed_reading truth v true = refl
-signed_reading truth v false = sym (double (truth v))
+signed_reading truth v false = sym (not_not (truth v))
 
 -- a truth value for each variable reads a literal and its negation as one of each
 pub reads_both : (truth : ℕ → Bool) → IsValuation negation (valuation_of truth)

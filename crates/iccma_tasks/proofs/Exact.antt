@@ -81,7 +81,7 @@ ReadsAs-unique lines (Sets ss) (Sets ts) a b = ap Sets (ReadsAsSets-unique lines
 
 -- ---- one fault
 
-bad_or_falling : (fields : List (List ℕ)) → HasBadNumber fields → HasFallingNumbers fields → ⊥
+pub bad_or_falling : (fields : List (List ℕ)) → HasBadNumber fields → HasFallingNumbers fields → ⊥
 bad_or_falling fields bad falling =
     bad.bad (get_or falling.numbers bad.index 0) (falling.arguments.each bad.index bad.within)
 

@@ -12,6 +12,7 @@ use Rattle.iccma_tasks.specs.declared.fault.AnswerCause.{AnswerCause}
 use Rattle.iccma_tasks.specs.declared.fault.AnswerCause.TheVariants.{Empty, BadLine, BadNumber, NotRising}
 use Rattle.iccma_tasks.specs.AnswerText.{SpellsArgument, AreArguments, AreRisingArguments, IsSetLine, ReadsAsWord, ReadsAsSets, ReadsAs, is_w_line, is_word_line, is_open, behind_first, LineStands, Stands}
 use Rattle.iccma_tasks.specs.AnswerSteps.{HasRead, Continues, is_open_behind}
+use Rattle.lists.proofs.TruthValues.{either_right}
 
 -- ---- numbers
 
@@ -77,17 +78,10 @@ open_w lines k w here = ap (λ b. b && (((k == 0) || (k == 1)) || is_w_line (get
     || (k == 0) && is_word_line (get_or lines k [])) w
     ∙ ap (λ b. b || (k == 0) && is_word_line (get_or lines k [])) here
 
-or_true : (b : Bool) → (b || true) ≡ true
-or_true true = refl
-or_true false = refl
-
-or_by : (b c : Bool) → c ≡ true → (b || c) ≡ true
-or_by b c e = ap (λ d. b || d) e ∙ or_true b
-
 word_alone_fine : (word : List ℕ) (more : List (List (List ℕ))) → is_word_line (word ∷ []) ≡ true
     → IsFine ((word ∷ []) ∷ more) 0
 word_alone_fine word more is = record {
-  fits = or_by (is_w_line (word ∷ []) && true) (is_word_line (word ∷ [])) is;
+  fits = either_right (is_w_line (word ∷ []) && true) (is_word_line (word ∷ [])) is;
   good = word_line_is_good word;
 }
 
@@ -115,7 +109,7 @@ sets_fine : (lines : List (List (List ℕ))) (sets : List (List ℕ)) → ReadsA
     → k < length lines → IsFine lines k
 sets_fine lines sets read k h = record {
   fits = open_w lines k (set_line_is_w (get_or lines k []) (get_or sets k []) (read.each k h))
-      (or_by ((k == 0) || (k == 1)) (is_w_line (get_or lines 0 []))
+      (either_right ((k == 0) || (k == 1)) (is_w_line (get_or lines 0 []))
       (set_line_is_w (get_or lines 0 []) (get_or sets 0 []) (read.each 0 (omega arith))));
   good = set_line_is_good (get_or lines k []) (get_or sets k []) (read.each k h);
 }
@@ -179,7 +173,7 @@ open_behind lines more (Some (Sets sets)) line read =
     (((length lines == 0) || (length lines == 1)) || is_w_line (get_or (lines ++ line ∷ more) 0 []))
     || (length lines == 0) && is_word_line l) (get_or-append_seam lines line more [])
     ∙ ap (λ b. is_w_line line && b || (length lines == 0) && is_word_line line)
-    (or_by ((length lines == 0) || (length lines == 1)) (is_w_line (get_or (lines ++ line ∷ more) 0 [])) w)
+    (either_right ((length lines == 0) || (length lines == 1)) (is_w_line (get_or (lines ++ line ∷ more) 0 [])) w)
     ∙ ap (λ b. is_w_line line && true || b && is_word_line line) later
 
 -- ---- the line read next

@@ -1,10 +1,35 @@
 -- What is written of an answer reads as that answer.
-use Rattle.std.proofs.Common.{◌≡◌, ℕ, zero, suc, ◌+◌, ◌<◌, ◌==◌, ◌||◌, Bool, false, not, List, [], ◌∷◌, ◌++◌, length, get_or, refl, sym, ap, subst, ◌∙◌, arith, append_assoc, map, codes, filter}
+use Rattle.std.proofs.Common.{
+  ◌≡◌,
+  ℕ,
+  zero,
+  suc,
+  ◌+◌,
+  ◌<◌,
+  ◌==◌,
+  false,
+  not,
+  List,
+  [],
+  ◌∷◌,
+  ◌++◌,
+  length,
+  get_or,
+  refl,
+  sym,
+  ap,
+  subst,
+  ◌∙◌,
+  arith,
+  append_assoc,
+  map,
+  codes,
+  filter,
+}
 use Rattle.std.specs.Prelude.{Some, None, All}
 use Rattle.std.specs.List.{flat_map, slice_split}
 use Rattle.std.specs.List.Sorted.{IsStrictlyIncreasing}
 use Rattle.std.specs.Fmt.{decimal}
-use Rattle.std.proofs.lemmas.Bool.{cond-true, ne_eqb, not_from_false}
 use Rattle.std.proofs.lemmas.List.{append-nil, length-map}
 use Rattle.std.proofs.lemmas.List.Elements.{All-append, All-cons, All-nil, All-head, All-tail}
 use Rattle.std.proofs.lemmas.List.Splits.{slice_split_at, slice_split_none, length-slice_split}
@@ -19,6 +44,7 @@ use Rattle.semantics.specs.Arguments.{IsArgument}
 use Rattle.num_text.specs.Lines.{are_skipped}
 use Rattle.num_text.proofs.Decimals.{decimal_number}
 use Rattle.iccma_tasks.proofs.Lines.{fields_of_filled, filled-told, filled-nil}
+use Rattle.num_text.proofs.DigitFields.{digit_no_blank, digit_no_end, keeps_field}
 
 -- ---- a number's text
 
@@ -27,16 +53,6 @@ decimal_is_argument n is = let high = is.high in record { number = decimal_numbe
 
 -- ---- bytes that end no field and no line
 
-or3 : (a b c : Bool) → a ≡ false → b ≡ false → c ≡ false → (a || b || c) ≡ false
-or3 a b c e f g = ap (λ x. x || b || c) e ∙ ap (λ x. false || x || c) f ∙ g
-
-digit_is_no_blank : (b : ℕ) → IsDigit b → is_blank b ≡ false
-digit_is_no_blank b is = or3 (b == 32) (b == 9) (b == 13) (ne_eqb b 32 (λ e. omega (arith, is.low)))
-    (ne_eqb b 9 (λ e. omega (arith, is.low))) (ne_eqb b 13 (λ e. omega (arith, is.low)))
-
-digit_is_no_end : (b : ℕ) → IsDigit b → is_line_end b ≡ false
-digit_is_no_end b is = ne_eqb b 10 (λ e. omega (arith, is.low))
-
 -- ---- fields
 
 abbrev numbers_text : List ℕ → List ℕ
@@ -44,10 +60,6 @@ numbers_text set = flat_map (λ n. 32 ∷ decimal n) set
 
 abbrev set_piece : List ℕ → List ℕ
 set_piece set = codes "w" ++ numbers_text set
-
-keeps_field : (piece : List ℕ) (more : List (List ℕ)) → 0 < length piece
-    → filter (λ p. not (length p == 0)) (piece ∷ more) ≡ piece ∷ filter (λ p. not (length p == 0)) more
-keeps_field piece more some = cond-true _ _ _ (not_from_false _ (ne_eqb (length piece) 0 (λ e. omega arith)))
 
 field_texts-one : (piece : List ℕ) → 0 < length piece → All (λ b. is_blank b ≡ false) piece
     → field_texts piece ≡ piece ∷ []
@@ -76,7 +88,7 @@ numbers_fields piece (n ∷ ns) some none all =
     let is = decimal_number n (omega arith) in
     field_texts-more piece (decimal n ++ numbers_text ns) some none
     ∙ ap (λ fs. piece ∷ fs) (numbers_fields (decimal n) ns is.not_empty
-    (weaken_digits (λ b. is_blank b ≡ false) digit_is_no_blank (decimal n) is.digits)
+    (weaken_digits (λ b. is_blank b ≡ false) digit_no_blank (decimal n) is.digits)
     (All-tail IsArgument n ns all))
 
 set_fields : (set : List ℕ) → HasArguments set → field_texts (set_piece set) ≡ codes "w" ∷ map decimal set
@@ -153,7 +165,7 @@ numbers_in_line (n ∷ ns) all =
     let is = decimal_number n (omega arith) in
     All-append (λ b. is_line_end b ≡ false) (32 ∷ decimal n) (numbers_text ns)
     (All-cons (λ b. is_line_end b ≡ false) 32 (decimal n) refl
-    (weaken_digits (λ b. is_line_end b ≡ false) digit_is_no_end (decimal n) is.digits))
+    (weaken_digits (λ b. is_line_end b ≡ false) digit_no_end (decimal n) is.digits))
     (numbers_in_line ns (All-tail IsArgument n ns all))
 
 set_left : (number start : ℕ) (set rest : List ℕ) → HasArguments set

@@ -2,3 +2,10 @@ pub mod Counts
 pub mod Filters
 pub mod ListTests
 pub mod Membership
+pub mod RisingLists
+pub mod Images
+pub mod Zips
+pub mod Walks
+pub mod TruthValues
+pub mod Fronts
+pub mod Ranges

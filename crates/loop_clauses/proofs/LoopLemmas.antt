@@ -4,7 +4,6 @@ use Rattle.std.specs.Prelude.{Contains}
 use Rattle.std.specs.List.Sorted.{IsStrictlyIncreasing}
 use Rattle.std.proofs.lemmas.List.{length-map, get_or-map}
 use Rattle.semantics.specs.Arguments.{IsArgument}
-use Rattle.aba_laws.proofs.Images.{image_there, image_from}
 use Rattle.semantics.specs.AbaFrameworks.{Aba, IsAtom, IsNumberedAba}
 use Rattle.aba_notions.specs.declared.unfounded.Row.{Row}
 use Rattle.aba_notions.specs.declared.unfounded.Unfounded.{Unfounded}
@@ -12,8 +11,9 @@ use Rattle.aba_notions.specs.Unfounded.{IsReason, IsRowBy, IsUnfoundedOf}
 use Rattle.meaning_atoms.specs.declared.loop_rows.LoopRow.{LoopRow}
 use Rattle.meaning_atoms.specs.AbaAxioms.{IsLoopAtom, IsLoopPair, IsLoopRow, RulesRise, AtomsRise, IsLoop}
 use Rattle.loop_clauses.specs.LoopNames.{loop_row, loop_rows}
+use Rattle.lists.proofs.Images.{image_there, image_from}
 
-same_atoms : (rows : List Row) → map (λ (r : LoopRow). r.atom) (loop_rows rows) ≡ map (λ (r : Row). r.atom) rows
+pub same_atoms : (rows : List Row) → map (λ (r : LoopRow). r.atom) (loop_rows rows) ≡ map (λ (r : Row). r.atom) rows
 same_atoms [] = refl
 same_atoms (row ∷ rows) = ap (λ atoms. row.atom ∷ atoms) (same_atoms rows)
 

@@ -17,7 +17,6 @@ use Rattle.aba_laws.specs.semantics.specs.AbaFrameworks.{Aba, collective_of}
 use Rattle.aba_laws.specs.semantics.specs.Collectives.{IsUnattacked, IsConflictFree, IsAdmissible, IsComplete, IsStable, Defends}
 use Rattle.aba_laws.specs.semantics.specs.Rules.{Rule, Derives}
 use Rattle.aba_laws.proofs.AbaLemmas.{aba_lawful, decide_attacks}
-use Rattle.aba_laws.proofs.Choosing.{decide_within}
 use Rattle.aba_laws.proofs.CollectiveSets.{decide_defends, rest_of}
 use Rattle.aba_laws.proofs.DerivationLemmas.{decide_derives, derives_more}
 use Rattle.meaning_atoms.specs.declared.atom.Closure.{Closure}
@@ -35,6 +34,7 @@ use Rattle.meaning_atoms.specs.AbaReadings.{
   IsInClosure,
   MissesAtom,
 }
+use Rattle.semantics.proofs.Existence.{decide_within}
 
 -- ---- notions
 

@@ -104,11 +104,11 @@ asks_nothing clause h l c = not_ask_says l.atom (all_gives (λ k. not_ask k.atom
 
 -- ---- under a valuation
 
-no_longer : (t : Bool) → (t ≡ true → ⊥) → not t ≡ true
+pub no_longer : (t : Bool) → (t ≡ true → ⊥) → not t ≡ true
 no_longer true h = absurd (h refl)
 no_longer false h = refl
 
-clash : (t : Bool) → t ≡ true → not t ≡ true → ⊥
+pub clash : (t : Bool) → t ≡ true → not t ≡ true → ⊥
 clash true a e = absurd (cc)
 clash false a e = absurd (cc)
 

@@ -10,3 +10,4 @@ pub mod LoopNumbers
 pub mod LoopForms
 pub mod WrittenAxioms
 pub mod OneReading
+pub mod Positions

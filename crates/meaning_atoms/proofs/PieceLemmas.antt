@@ -1,8 +1,37 @@
 -- The pieces of a text between colons, and the numbers that they spell.
-use Rattle.std.proofs.Common.{◌≡◌, ℕ, ◌+◌, ◌-◌, ◌≤◌, ◌<◌, Bool, true, false, cond, List, [], ◌∷◌, ◌++◌, length, take, drop, get_or, refl, ap, sym, subst, ◌∙◌, arith, Some, None, take-append-drop, length-drop, add-one}
+use Rattle.std.proofs.Common.{
+  ◌≡◌,
+  ℕ,
+  ◌+◌,
+  ◌-◌,
+  ◌≤◌,
+  ◌<◌,
+  Bool,
+  true,
+  false,
+  cond,
+  List,
+  [],
+  ◌∷◌,
+  ◌++◌,
+  length,
+  take,
+  drop,
+  get_or,
+  refl,
+  ap,
+  sym,
+  subst,
+  ◌∙◌,
+  arith,
+  Some,
+  None,
+  take-append-drop,
+  length-drop,
+}
 use Rattle.std.specs.Prelude.{position}
 use Rattle.std.specs.List.{All, AllZip, slice_split, position_or_len}
-use Rattle.std.proofs.Math.Seq.{drop-cons, take-length}
+use Rattle.std.proofs.Math.Seq.{take-length}
 use Rattle.std.proofs.lemmas.List.{get_or-take, length-take}
 use Rattle.std.proofs.lemmas.List.Elements.{All-from_get_or}
 use Rattle.std.proofs.lemmas.List.Quantifiers.{position-Some}
@@ -12,9 +41,7 @@ use Rattle.num_text.specs.Number.{IsNumber}
 use borrow.Author.Tests.{ltb-false}
 use Rattle.meaning_atoms.specs.AtomText.{is_colon}
 use Rattle.meaning_atoms.specs.Pieces.{IsFirstNumber}
-
-drop_next : (xs : List ℕ) (n : ℕ) → n < length xs → drop n xs ≡ get_or xs n 0 ∷ drop (n + 1) xs
-drop_next xs n h = rw (add-one, drop-cons xs n 0) refl
+use Rattle.lists.proofs.Fronts.{drop_next}
 
 -- a text with a colon is cut there first
 pub split_at_colon : (text : List ℕ) (index : ℕ) → position is_colon text ≡ Some index

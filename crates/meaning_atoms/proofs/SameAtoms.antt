@@ -102,7 +102,7 @@ lit_decides k l = (
       ((sign_decides k.positive l.positive).1 (ap (λ r. r.positive) same)),
 )
 
-equal_says : (o : Ordering) → is_eq o ≡ true → o ≡ Equal
+pub equal_says : (o : Ordering) → is_eq o ≡ true → o ≡ Equal
 equal_says Less e = cc
 equal_says Equal e = refl
 equal_says Greater e = cc

@@ -1,15 +1,36 @@
 -- Fields that are written with one blank between them are read again.
-use Rattle.std.proofs.Common.{◌≡◌, ℕ, ◌+◌, ◌<◌, ◌==◌, ◌^◌, Bool, true, false, not, List, [], ◌∷◌, ◌++◌, length, get_or, filter, map, refl, ap, ◌∙◌, arith}
+use Rattle.std.proofs.Common.{
+  ◌≡◌,
+  ℕ,
+  ◌+◌,
+  ◌<◌,
+  ◌==◌,
+  ◌^◌,
+  Bool,
+  true,
+  false,
+  not,
+  List,
+  [],
+  ◌∷◌,
+  ◌++◌,
+  length,
+  get_or,
+  filter,
+  map,
+  refl,
+  ap,
+  ◌∙◌,
+}
 use Rattle.std.specs.Prelude.{All}
 use Rattle.std.specs.List.{AllZip, flat_map, slice_split}
 use Rattle.std.specs.Fmt.{decimal}
-use Rattle.std.proofs.lemmas.Bool.{cond-true, ne_eqb, not_from_false}
 use Rattle.std.proofs.lemmas.List.{append-nil}
 use Rattle.std.proofs.lemmas.List.Splits.{slice_split_at, slice_split_none}
 use Rattle.num_text.specs.Cuts.{is_blank, field_texts}
 use Rattle.num_text.specs.Number.{IsNumber}
 use Rattle.num_text.proofs.Decimals.{decimal_number}
-use Rattle.num_text.proofs.DigitFields.{no_blanks}
+use Rattle.num_text.proofs.DigitFields.{no_blanks, keeps_field}
 use Rattle.meaning_atoms.proofs.WrittenLits.{AreWords}
 
 -- a text that is one field: some bytes, and none of them a blank
@@ -20,10 +41,6 @@ pub record IsField (text : List ℕ) : Type 0 where
 abbrev pub AreFields : List (List ℕ) → Type 0
 AreFields [] = Unit {0}
 AreFields (text ∷ texts) = IsField text × AreFields texts
-
-keeps_field : (piece : List ℕ) (more : List (List ℕ)) → 0 < length piece
-    → filter (λ p. not (length p == 0)) (piece ∷ more) ≡ piece ∷ filter (λ p. not (length p == 0)) more
-keeps_field piece more some = cond-true _ _ _ (not_from_false _ (ne_eqb (length piece) 0 (λ e. omega arith)))
 
 one_field : (text : List ℕ) → IsField text → field_texts text ≡ text ∷ []
 unfolding field_texts

@@ -9,7 +9,7 @@ use Rattle.num_text.specs.Lines.{are_skipped}
 
 -- ---- digits are no blanks and no ends
 
-digit_no_blank : (byte : ℕ) → IsDigit byte → is_blank byte ≡ false
+pub digit_no_blank : (byte : ℕ) → IsDigit byte → is_blank byte ≡ false
 digit_no_blank byte h =
     let low = h.low in
     let space = ne_eqb byte 32 (λ e. omega arith) in
@@ -43,3 +43,11 @@ digits_say a more digits some =
     let first = digits 0 0 some in
     let low = first.low in
     ne_eqb (get_or a 0 0) 35 (λ e. omega arith)
+
+pub keeps_field : (piece : List ℕ) (more : List (List ℕ)) → 0 < length piece
+    → filter (λ p. not (length p == 0)) (piece ∷ more) ≡ piece ∷ filter (λ p. not (length p == 0)) more
+keeps_field piece more some = cond-true _ _ _ (not_from_false _ (ne_eqb (length piece) 0 (λ e. omega arith)))
+
+-- digits are no ends of lines
+pub no_ends : (ds : List ℕ) → All IsDigit ds → All (λ byte. is_line_end byte ≡ false) ds
+no_ends ds all = λ k d within. digit_no_end (get_or ds k d) (all k d within)

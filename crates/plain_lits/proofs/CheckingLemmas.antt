@@ -1,7 +1,7 @@
 -- The steps of the check: what one more literal or hint makes of what was found so far.
 use Rattle.std.proofs.Common.{◌≡◌, ◌≢◌, ℕ, ◌<◌, ◌≤◌, ◌+◌, ◌-◌, List, [], ◌∷◌, ◌++◌, length, get_or, arith, ap}
 use Rattle.std.proofs.Common.{sym, ◌∙◌, refl, inl, inr, ⊎_elim, map, Ok, Err, Result, Bool, true, false, not}
-use Rattle.std.proofs.Common.{take, drop, drop-cons, add-one, subst}
+use Rattle.std.proofs.Common.{take, drop, subst}
 use Rattle.std.specs.Prelude.{Contains, ◌⊎◌, Option, Some, None}
 use Rattle.std.proofs.lemmas.List.{take-append-drop, take_more, get_or_default}
 use Rattle.std.proofs.lemmas.List.Elements.{Contains-append_left, Contains-push_cases}
@@ -14,8 +14,11 @@ use Rattle.plain_lits.specs.HintCheck.{clause_at, IsNamed, IsFalsified, IsUnit, 
 use Rattle.plain_lits.proofs.OneOutcome.{cases_lit}
 use Rattle.plain_lits.proofs.LitOrder.{lit_eq, lit_eq_itself, same_from_eq}
 use Rattle.std.proofs.lemmas.Bool.{false≢true}
-use Rattle.plain_lits.proofs.HintCheckLemmas.{Contains-mapped, Contains-from_mapped, propagates_same_set}
+use Rattle.plain_lits.proofs.HintCheckLemmas.{propagates_same_set}
 use Rattle.plain_lits.specs.Checking.{IsSatisfiedOrOpen, AssumesFalse, BecomesFalse}
+use Rattle.lists.proofs.Images.{image_there, image_from}
+use Rattle.lists.proofs.TruthValues.{not_not, not_itself}
+use Rattle.lists.proofs.Fronts.{drop_next}
 
 -- what a look at a clause's first literals found: all are false, or all but an unset one
 abbrev pub IsSoFar : List Lit → List Lit → Option Lit → Type 0
@@ -82,17 +85,13 @@ pub Contains-from_front : (clause : List Lit) (i : ℕ) (l : Lit) → Contains (
 Contains-from_front clause i l c = let e = take-append-drop i clause in
     rw (← e) (Contains-append_left (take i clause) (drop i clause) l c)
 
-double : (p : Bool) → not (not p) ≡ p
-double true = refl
-double false = refl
-
 abbrev lit_of : ℕ → Bool → Lit
 lit_of v p = record { var = v; positive = p }
 
 pub negation-negation : (l : Lit) → negation (negation l) ≡ l
-negation-negation l = ap (λ p. lit_of l.var p) (double l.positive)
+negation-negation l = ap (λ p. lit_of l.var p) (not_not l.positive)
 
-negation_same : (a b : Lit) → negation a ≡ negation b → a ≡ b
+pub negation_same : (a b : Lit) → negation a ≡ negation b → a ≡ b
 negation_same a b e = sym (negation-negation a) ∙ (ap negation e ∙ negation-negation b)
 
 pub assumes_none : AssumesFalse [] []
@@ -106,21 +105,17 @@ assumes_none = record {
 pub assumes_again : (seen truths : List Lit) (x : Lit) → Contains truths (negation x)
     → AssumesFalse seen truths → AssumesFalse (seen ++ x ∷ []) truths
 assumes_again seen truths x low h =
-    let w = Contains-from_mapped negation seen (negation x) (h.there (negation x) low) in
+    let w = image_from negation seen (negation x) (h.there (negation x) low) in
     let old : Contains seen x = rw (negation_same w.0 x w.2) at w.1 in
     let known = λ (l : Lit) (c : Contains (seen ++ x ∷ []) l). let k : Contains seen l =
     ⊎_elim (λ k. k) (λ e. rw e at old) (Contains-push_cases seen x l c) in k in
     record {
       plain = λ t. h.plain (t.0, known t.0 t.1, known (negation t.0) t.2);
-      there = λ l c. let m = Contains-from_mapped negation seen l (h.there l c) in
-          rw (← m.2) (Contains-mapped negation (seen ++ x ∷ []) m.0 (Contains-append_left seen (x ∷ []) m.0 m.1));
-      back = λ l c. let m = Contains-from_mapped negation (seen ++ x ∷ []) l c in
-          h.back l (rw (← m.2) (Contains-mapped negation seen m.0 (known m.0 m.1)));
+      there = λ l c. let m = image_from negation seen l (h.there l c) in
+          rw (← m.2) (image_there negation (seen ++ x ∷ []) m.0 (Contains-append_left seen (x ∷ []) m.0 m.1));
+      back = λ l c. let m = image_from negation (seen ++ x ∷ []) l c in
+          h.back l (rw (← m.2) (image_there negation seen m.0 (known m.0 m.1)));
     }
-
-not_itself : (p : Bool) → p ≡ not p → ⊥
-not_itself true e = cc
-not_itself false e = cc
 
 -- one more literal, which becomes false
 pub assumes_new : (seen truths : List Lit) (x : Lit) → (Contains truths x → ⊥) → AssumesFalse seen truths
@@ -129,25 +124,25 @@ assumes_new seen truths x free h = record {
   plain = λ t. ⊎_elim
       (λ old. ⊎_elim
       (λ c. h.plain (t.0, old, c))
-      (λ e. free (h.back x (rw e (Contains-mapped negation seen t.0 old))))
+      (λ e. free (h.back x (rw e (image_there negation seen t.0 old))))
       (Contains-push_cases seen x (negation t.0) t.2))
       (λ e. ⊎_elim
-      (λ c. free (h.back x (let m = Contains-mapped negation seen (negation t.0) c in
+      (λ c. free (h.back x (let m = image_there negation seen (negation t.0) c in
       rw (negation-negation t.0, ← e) at m)))
       (λ e2. let bad : x.positive ≡ not x.positive = ap (λ (l : Lit). l.positive) (e2 ∙ ap negation (sym e)) in
       not_itself x.positive bad)
       (Contains-push_cases seen x (negation t.0) t.2))
       (Contains-push_cases seen x t.0 t.1);
   there = λ l c. ⊎_elim
-      (λ old. let m = Contains-from_mapped negation seen l (h.there l old) in
-      rw (← m.2) (Contains-mapped negation (seen ++ x ∷ []) m.0 (Contains-append_left seen (x ∷ []) m.0 m.1)))
-      (λ e. rw (← e) (Contains-mapped negation (seen ++ x ∷ []) x (Contains-pushed seen x x refl)))
+      (λ old. let m = image_from negation seen l (h.there l old) in
+      rw (← m.2) (image_there negation (seen ++ x ∷ []) m.0 (Contains-append_left seen (x ∷ []) m.0 m.1)))
+      (λ e. rw (← e) (image_there negation (seen ++ x ∷ []) x (Contains-pushed seen x x refl)))
       (Contains-push_cases truths (negation x) l c);
   back = λ l c.
-      let m = Contains-from_mapped negation (seen ++ x ∷ []) l c in
+      let m = image_from negation (seen ++ x ∷ []) l c in
       ⊎_elim
       (λ old. Contains-append_left truths (negation x ∷ []) l
-      (h.back l (rw (← m.2) (Contains-mapped negation seen m.0 old))))
+      (h.back l (rw (← m.2) (image_there negation seen m.0 old))))
       (λ e. Contains-pushed truths (negation x) l (ap negation e ∙ m.2))
       (Contains-push_cases seen x m.0 m.1);
 }
@@ -157,13 +152,8 @@ pub assumes_clash : (clause seen truths : List Lit) (x : Lit)
     → ((l : Lit) → Contains seen l → Contains clause l) → Contains clause x → Contains truths x
     → AssumesFalse seen truths → IsTautology negation clause
 assumes_clash clause seen truths x within c high h =
-    let m = Contains-from_mapped negation seen x (h.there x high) in
+    let m = image_from negation seen x (h.there x high) in
     (m.0, within m.0 m.1, rw m.2 c)
-
--- what is left of the hints from a place within them
-pub opened : (hints : List ℕ) (i : ℕ) → i < length hints
-    → drop i hints ≡ get_or hints i 0 ∷ drop (i + 1) hints
-opened hints i lt = rw (add-one, drop-cons hints i 0) refl
 
 -- the whole check, once its literals are taken to be false
 pub checks_along : (steps : List (List Lit)) (clause truths : List Lit) (hints : List ℕ) (outcome : Result ℕ ℕ)
@@ -262,7 +252,7 @@ pub along_false : (steps : List (List Lit)) (truths : List Lit) (hints : List �
     → IsHintAt steps hints at number clause → IsFalsified negation truths clause
     → Propagates negation steps truths (at + 1) (drop at hints) (Ok (at + 1))
 along_false steps truths hints at number clause h f =
-    rw (opened hints at h.within, h.is_number) (inl (record { named = h.named; all_false = rw h.is_clause at f }, refl))
+    rw (drop_next hints at h.within, h.is_number) (inl (record { named = h.named; all_false = rw h.is_clause at f }, refl))
 
 pub along_unit : (steps : List (List Lit)) (truths : List Lit) (hints : List ℕ) (at number : ℕ) (clause : List Lit)
     (u : Lit) (outcome : Result ℕ ℕ)
@@ -270,7 +260,7 @@ pub along_unit : (steps : List (List Lit)) (truths : List Lit) (hints : List ℕ
     → Propagates negation steps (truths ++ u ∷ []) (at + 1 + 1) (drop (at + 1) hints) outcome
     → Propagates negation steps truths (at + 1) (drop at hints) outcome
 along_unit steps truths hints at number clause u outcome h f w =
-    rw (opened hints at h.within, h.is_number)
+    rw (drop_next hints at h.within, h.is_number)
     (inr (inl (u, record { named = h.named; unit = rw h.is_clause at f }, w)))
 
 pub along_other : (steps : List (List Lit)) (truths : List Lit) (hints : List ℕ) (at number : ℕ) (clause : List Lit)
@@ -278,7 +268,7 @@ pub along_other : (steps : List (List Lit)) (truths : List Lit) (hints : List �
     → Propagates negation steps truths (at + 1) (drop at hints) (Err (at + 1))
 along_other steps truths hints at number clause h f =
     let n : IsSatisfiedOrOpen truths (clause_at steps number) = rw h.is_clause at f in
-    rw (opened hints at h.within, h.is_number) (inr (inr (
+    rw (drop_next hints at h.within, h.is_number) (inr (inr (
       record {
         not_false = λ g. n.not_false g.all_false;
         not_unit = λ u g. n.not_unit u g.unit;
@@ -294,7 +284,7 @@ along_unnamed steps truths hints at r lt e bad =
     let number : get_or hints at 0 ≡ r = get_or_default hints at 0 r lt ∙ sym e in
     let none = λ (n : IsNamed steps r). let low = n.from_one in let high = n.within in let bot : ⊥ =
     ⊎_elim (λ z. omega (arith, z)) (λ out_. omega (arith, out_)) bad in bot in
-    rw (opened hints at lt, number)
+    rw (drop_next hints at lt, number)
     (inr (inr (record { not_false = λ g. none g.named; not_unit = λ u g. none g.named }, refl)))
 
 -- a member of a list of clauses, by its place

@@ -1,32 +1,20 @@
 -- The check of a clause with its hints: what it takes follows, and it depends on members alone.
 use Rattle.std.proofs.Common.{◌≡◌, ◌≢◌, ℕ, zero, suc, ◌<◌, ◌≤◌, ◌+◌, List, [], ◌∷◌, ◌++◌, length, length-take}
-use Rattle.std.proofs.Common.{get_or, arith, ap, sym, ◌∙◌, refl, inl, inr, ⊎_elim, Bool, true, false, not}
+use Rattle.std.proofs.Common.{get_or, arith, ap, sym, ◌∙◌, inl, inr, ⊎_elim, Bool, true, false, not}
 use Rattle.std.proofs.Common.{take, map, Ok, Result}
 use Rattle.std.specs.Prelude.{Contains}
 use Rattle.std.proofs.lemmas.List.{get_or_default, get_or-take}
 use Rattle.std.specs.List.{list_any}
 use Rattle.std.proofs.lemmas.Bool.{cases_Bool, false≢true}
 use Rattle.std.proofs.lemmas.List.Elements.{Contains-append_left, Contains-push_cases}
-use Rattle.lists.proofs.Membership.{Contains-nil, Contains-head, Contains-tail, Contains-cons_cases}
 use Rattle.lists.proofs.Membership.{Contains-pushed}
 use Rattle.lists.proofs.ListTests.{any_gives, any_from}
 use Rattle.plain_lits.specs.HintCheck.{clause_at, IsNamed, IsUnit, IsFalseHint, IsUnitHint, IsOtherHint}
 use Rattle.plain_lits.specs.HintCheck.{Propagates, Checks, IsValuation, IsTrueClause, Follows}
 use Rattle.plain_lits.specs.CheckLaws.{IsSound}
-
--- members of a mapped list
-pub Contains-mapped : {A B : Type 0} (f : A → B) (xs : List A) (x : A) → Contains xs x
-    → Contains (map f xs) (f x)
-Contains-mapped f [] x c = absurd (Contains-nil x c)
-Contains-mapped f (y ∷ ys) x c = ⊎_elim (λ e. Contains-head (f y) (map f ys) (f x) (ap f e))
-    (λ t. Contains-tail (f y) (map f ys) (f x) (Contains-mapped f ys x t)) (Contains-cons_cases y ys x c)
-
-pub Contains-from_mapped : {A B : Type 0} (f : A → B) (xs : List A) (y : B) → Contains (map f xs) y
-    → (x : A) × Contains xs x × (f x ≡ y)
-Contains-from_mapped f [] y c = absurd (Contains-nil y c)
-Contains-from_mapped f (x ∷ xs) y c = ⊎_elim (λ e. (x, Contains-head x xs x refl, e))
-    (λ t. let h = Contains-from_mapped f xs y t in (h.0, Contains-tail x xs h.0 h.1, h.2))
-    (Contains-cons_cases (f x) (map f xs) y c)
+use Rattle.lists.proofs.Images.{image_from}
+pub use Rattle.lists.proofs.Images.{image_there as Contains-mapped}
+pub use Rattle.lists.proofs.Images.{image_from as Contains-from_mapped}
 
 -- two assignments with the same members
 pub record IsSameSet {L : Type 0} (xs ys : List L) : Type 0 where
@@ -181,7 +169,7 @@ taken_follows neg steps clause hints n w reading h true_hints =
     ⊎_elim (λ some_. any_gives reading clause some_)
     (λ none_.
     let all = λ (l : _) (c : Contains (map neg clause) l).
-    let m = Contains-from_mapped neg clause l c in
+    let m = image_from neg clause l c in
     let low : reading m.0 ≡ false = ⊎_elim (λ t. absurd (false≢true (sym none_ ∙ any_from reading clause m.0 m.1 t)))
     (λ f. f) (cases_Bool (reading m.0)) in
     let e : reading l ≡ true = ap reading (sym m.2) ∙ (h m.0 ∙ ap not low) in e in

@@ -7,7 +7,7 @@ use Rattle.lists.proofs.Membership.{Contains-pushed, Contains-head, Contains-tai
 use Rattle.plain_lits.specs.HintCheck.{clause_at, IsFalsified, IsUnit}
 use Rattle.plain_lits.specs.HintCheck.{Propagates, IsTautology, Checks}
 use Rattle.plain_lits.specs.CheckLaws.{Renames, IsImage, IsMovedHint, IsMovedCheck}
-use Rattle.plain_lits.proofs.HintCheckLemmas.{Contains-mapped, Contains-from_mapped}
+use Rattle.lists.proofs.Images.{image_there, image_from}
 
 -- true literals and their images, each negated
 truth_there : {L M : Type 0} (neg : L → L) (other : M → M) (to : L → M) (IsIn : L → Type 0) (truths : List L)
@@ -148,15 +148,15 @@ negated_image : {L M : Type 0} (neg : L → L) (other : M → M) (to : L → M) 
     (image : List M)
     → Renames neg other to IsIn → IsImage to IsIn clause image → IsImage to IsIn (map neg clause) (map other image)
 negated_image neg other to IsIn clause image r i = record {
-  within = λ l c. let w = Contains-from_mapped neg clause l c in
+  within = λ l c. let w = image_from neg clause l c in
       subst (λ x. IsIn x) w.2 (r.closed w.0 (i.within w.0 w.1));
-  there = λ l c. let w = Contains-from_mapped neg clause l c in
+  there = λ l c. let w = image_from neg clause l c in
       subst (λ x. Contains (map other image) x) (sym (r.negates w.0 (i.within w.0 w.1)) ∙ ap to w.2)
-      (Contains-mapped other image (to w.0) (i.there w.0 w.1));
+      (image_there other image (to w.0) (i.there w.0 w.1));
   back = λ m c.
-      let w = Contains-from_mapped other image m c in
+      let w = image_from other image m c in
       let v = i.back w.0 w.1 in
-      (neg v.0, Contains-mapped neg clause v.0 v.1, r.negates v.0 (i.within v.0 v.1) ∙ (ap other v.2 ∙ w.2));
+      (neg v.0, image_there neg clause v.0 v.1, r.negates v.0 (i.within v.0 v.1) ∙ (ap other v.2 ∙ w.2));
 }
 
 tautology_there : {L M : Type 0} (neg : L → L) (other : M → M) (to : L → M) (IsIn : L → Type 0) (clause : List L)

@@ -17,8 +17,9 @@ use Rattle.sat_core.specs.Runs.{HasValue, HaveValues, IsUnsetIn}
 use Rattle.sat_core.specs.Runs.{IsUnsetVar, GoesOn, IsRun, HasRoom}
 use Rattle.sat_core.specs.Solving.{SolverState, clause_of, IsModel}
 use Rattle.sat_core.specs.Mirrors.{IsMirror}
-use Rattle.sat_core.proofs.Running.{grown, decided, back, contains_of}
+use Rattle.sat_core.proofs.Running.{grown, decided, back}
 use Rattle.sat_core.proofs.Mirroring.{id_of}
+use Rattle.conflict_learn.proofs.Literally.{stands_contains}
 
 -- a value that isn't Unset is the value of a variable
 pub value_there : (lits : List Lit) (v : ℕ) (value : Value) → IsValueIn lits (record { var = v; positive = false })
@@ -88,7 +89,7 @@ pub model_of : (state : SolverState) (s : Search) (assumptions : List Lit)
     → IsSearch s → IsRun assumptions s → IsQuiet s.clauses s.lits → HaveValues s → IsModel state assumptions s.lits
 model_of state s assumptions m form run quiet values = record {
   plain = λ t. consistent s.lits t.0 form.apart t.1 t.2;
-  assumed = λ l c. let w = run.there l c in contains_of s.lits w.index l w.stands;
+  assumed = λ l c. let w = run.there l c in stands_contains s.lits w.index l w.stands;
   satisfied = λ number c.
       let id = id_of s.clauses state.active state.log.steps number m c in
       let w = quiet_true s id.0 run.room quiet values id.1 in (

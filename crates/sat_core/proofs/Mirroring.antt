@@ -10,7 +10,7 @@ use Rattle.plain_lits.specs.declared.lit.Lit.{Lit}
 use Rattle.plain_lits.specs.Literals.{negation}
 use Rattle.plain_lits.specs.HintCheck.{clause_at, IsNamed, Checks}
 use Rattle.plain_lits.specs.CheckLaws.{Renames, IsImage}
-use Rattle.plain_lits.proofs.HintCheckLemmas.{Contains-mapped, Contains-from_mapped, taken_sound}
+use Rattle.plain_lits.proofs.HintCheckLemmas.{taken_sound}
 use Rattle.plain_lits.proofs.OneOutcome.{cases_lit, one_outcome}
 use Rattle.plain_lits.proofs.Renaming.{checks_moved}
 use Rattle.hinted_log.specs.Logs.{Step, LogState, IsStepOf, AddsStep, AddsDerived, clauses_of, no_step}
@@ -20,6 +20,7 @@ use Rattle.conflict_learn.specs.Learning.{AreUsed, ComesFromHints, IsLearned, Is
 use Rattle.sat_core.specs.Solving.{SolverState, clause_of, IsShown, IsUnitOf, with_derived}
 use Rattle.sat_core.specs.Mirrors.{step_of, IsMirror, IsDerived}
 use Rattle.sat_core.proofs.Running.{clause_cases}
+use Rattle.lists.proofs.Images.{image_there, image_from}
 
 -- the id of a step in use
 pub id_of : (clauses : List (List Lit)) (active : List ℕ) (steps : List Step) (number : ℕ)
@@ -121,23 +122,23 @@ shown_of s clauses clause hints m w used from =
       taken = subst (λ n. Checks negation (clauses_of steps) clause (map to hints) (Ok n))
           (sym (length-map hints to)) (moved clauses s.active steps clause hints m w);
       in_use = λ hint c.
-          let h = Contains-from_mapped to hints hint c in
+          let h = image_from to hints hint c in
           subst (Contains s.active) h.2 (active_of clauses s.active steps h.0 m (named h.0 h.1));
       used = λ hint l c there.
-          let h = Contains-from_mapped to hints hint c in
+          let h = image_from to hints hint c in
           let at : Contains (clause_at clauses h.0) l = subst (λ xs. Contains xs l) (m.same h.0 (named h.0 h.1))
           (subst (λ n. Contains (clause_of steps n) l) (sym h.2) there) in
           ⊎_elim (λ held. inl held)
           (λ o. inr (
             to o.0,
-            Contains-mapped to hints o.0 o.1,
+            image_there to hints o.0 o.1,
             subst (λ xs. Contains xs (negation l)) (sym (m.same o.0 (named o.0 o.1))) o.2,
           ))
           (used.each h.0 l h.1 at);
       from_hints = λ l c.
           let o = from.each l c in (
             to o.0,
-            Contains-mapped to hints o.0 o.1,
+            image_there to hints o.0 o.1,
             subst (λ xs. Contains xs l) (sym (m.same o.0 (named o.0 o.1))) o.2,
           );
     }

@@ -16,13 +16,7 @@ use Rattle.clause_watches.proofs.Fronts.{consistent}
 use Rattle.conflict_learn.specs.Learning.{StandsAt, IsDecided, IsSettled, IsOpen, IsAssumed}
 use Rattle.conflict_learn.specs.Learning.{lits_at}
 use Rattle.sat_core.specs.Runs.{IsEarly, BeginsAt, HasRoom, IsRun, IsBased, IsResting}
-
--- a literal that stands at an index
-pub stands_of : (lits : List Lit) (l : Lit) → Contains lits l → (index : ℕ) × StandsAt lits index l
-stands_of lits l c = (c.0, record { within = c.1; is = λ d. get_or_default lits c.0 d l c.1 ∙ c.2 })
-
-pub contains_of : (lits : List Lit) (index : ℕ) (l : Lit) → StandsAt lits index l → Contains lits l
-contains_of lits index l s = (index, s.within, s.is l)
+use Rattle.conflict_learn.proofs.Literally.{stands_contains, contains_stands}
 
 stands_more : (lits rest : List Lit) (index : ℕ) (l : Lit) → StandsAt lits index l → StandsAt (lits ++ rest) index l
 stands_more lits rest index l s =
@@ -129,7 +123,7 @@ begins old new assumptions rest g =
       some = omega arith;
       first = ap (λ xs. get_or xs 0 0) starts;
       there = λ l c.
-          let s = stands_of new.lits l (g.block_true l c) in
+          let s = contains_stands new.lits l (g.block_true l c) in
           record { index = s.0; stands = s.1; early = record { below = λ k pos lt. absurd (omega arith) } };
       free = λ index lt none. inl (record {
         assumed = λ d. g.more.2 (get_or new.lits index d) (
@@ -446,7 +440,7 @@ pub not_assumed : (s : Search) (assumptions clause : List Lit) (l : Lit) → IsS
     → IsFalsified negation s.lits clause → Contains clause l → Contains assumptions l → ⊥
 not_assumed s assumptions clause l form run f c a =
     let w = run.there l a in
-    consistent s.lits l form.apart (contains_of s.lits w.index l w.stands) (f.each l c)
+    consistent s.lits l form.apart (stands_contains s.lits w.index l w.stands) (f.each l c)
 
 pub based_of : (s : Search) (assumptions : List Lit) → IsRun assumptions s → IsBased s
 based_of s assumptions run = record {

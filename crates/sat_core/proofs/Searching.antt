@@ -1,6 +1,6 @@
 -- A whole search: turns, one after the other, and what they tell.
 use Rattle.std.proofs.Common.{◌≡◌, ◌≢◌, ℕ, ◌+◌, List, [], ◌∷◌, ◌++◌, length, take}
-use Rattle.std.proofs.Common.{Bool, true, false, not, arith, ap, sym, subst}
+use Rattle.std.proofs.Common.{arith, ap, sym, subst}
 use Rattle.std.proofs.Common.{◌∙◌, refl, ⊎_elim, Ok, Err, Result}
 use Rattle.std.specs.Prelude.{Contains}
 use Rattle.lists.proofs.Membership.{Contains-nil, Contains-cons_cases}
@@ -22,6 +22,7 @@ use Rattle.sat_core.specs.Solving.{HasSearched, IsSolver, begun, Records}
 use Rattle.sat_core.specs.Mirrors.{IsMirror}
 use Rattle.sat_core.specs.Turns.{state_of, LearnsOne, EndsAt, StopsAt, HasRun, Tells}
 use Rattle.sat_core.proofs.Mirroring.{mirror_more, id_of}
+use Rattle.lists.proofs.TruthValues.{not_itself}
 
 -- one clause more is learned
 pub learns_more : (old mid new : SolverState) (assumptions : List Lit) (count : ℕ) → Learns assumptions old mid count
@@ -139,10 +140,6 @@ solver_form s clauses form m = record {
       let id = id_of clauses s.active s.log.steps number m c in
       subst (IsStepOf s.log.steps) id.2 (m.named id.0 id.1);
 }
-
-not_itself : (p : Bool) → p ≡ not p → ⊥
-not_itself true e = cc
-not_itself false e = cc
 
 -- one assumption, or none, doesn't stand beside its negation
 pub plain_alone : (a l : Lit) → Contains (a ∷ []) l → Contains (a ∷ []) (negation l) → ⊥

@@ -1,6 +1,6 @@
 -- The look for a step that serves.
 use Rattle.std.proofs.Common.{◌≡◌, ◌≢◌, ℕ, ◌<◌, ◌≤◌, ◌+◌, List, [], ◌∷◌, ◌++◌, length, get_or, take, map}
-use Rattle.std.proofs.Common.{Bool, true, false, not, arith, ap, sym, subst, ◌∙◌, refl, ⊎_elim}
+use Rattle.std.proofs.Common.{false, arith, ap, sym, subst, ◌∙◌, refl, ⊎_elim}
 use Rattle.std.specs.Prelude.{Contains}
 use Rattle.std.proofs.lemmas.List.{get_or_default, take_more, map-append}
 use Rattle.std.proofs.lemmas.List.Elements.{Contains-push_cases, Contains-append_left}
@@ -12,33 +12,18 @@ use Rattle.plain_lits.specs.declared.value.Value.TheVariants.{True, False, Unset
 use Rattle.plain_lits.specs.Literals.{negation}
 use Rattle.plain_lits.specs.Values.{IsValueIn}
 use Rattle.plain_lits.specs.HintCheck.{IsTautology}
-use Rattle.plain_lits.proofs.LitOrder.{lit_same}
 use Rattle.clause_watches.proofs.Fronts.{from_front}
 use Rattle.hinted_log.specs.Logs.{Step, IsStepOf}
 use Rattle.sat_core.specs.Solving.{clause_of, Holds}
 use Rattle.sat_core.specs.Mirrors.{FalsifiesAll, IsSubsuming, step_of}
+use Rattle.lists.proofs.TruthValues.{not_not}
+use Rattle.plain_lits.proofs.CheckingLemmas.{negation-negation, negation_same}
 
 pub denies_none : (clause lits : List Lit) → lits ≡ [] → FalsifiesAll (take 0 clause) lits
 denies_none clause lits e = record {
   there = λ l c. absurd (Contains-nil l c);
   back = λ l c. absurd (Contains-nil (negation l) (subst (λ xs. Contains xs (negation l)) e c));
 }
-
-not_same : (p q : Bool) → not p ≡ not q → p ≡ q
-not_same true true e = refl
-not_same false false e = refl
-not_same true false e = cc
-not_same false true e = cc
-
-twice : (p : Bool) → not (not p) ≡ p
-twice true = refl
-twice false = refl
-
-negation_same : (a b : Lit) → negation a ≡ negation b → a ≡ b
-negation_same a b e =
-    let v : a.var ≡ b.var = ap (λ (l : Lit). l.var) e in
-    let p : not a.positive ≡ not b.positive = ap (λ (l : Lit). l.positive) e in
-    lit_same a b v (not_same a.positive b.positive p)
 
 -- one literal more is denied
 pub denies_more : (clause old new : List Lit) (i : ℕ) (d : Lit) → i < length clause → FalsifiesAll (take i clause) old
@@ -57,9 +42,6 @@ denies_more clause old new i d lt h e =
           (Contains-push_cases old (negation x) (negation l) (subst (λ xs. Contains xs (negation l)) e c)));
     }
 
-negated_twice : (l : Lit) → negation (negation l) ≡ l
-negated_twice l = lit_same (negation (negation l)) l refl (twice l.positive)
-
 denied_of : (clause lits : List Lit) (i : ℕ) (x : Lit) (v : Value) → Contains clause x
     → (IsTautology negation clause → ⊥) → FalsifiesAll (take i clause) lits → IsValueIn lits x v → v ≢ Unset
     → Contains lits (negation x)
@@ -67,7 +49,7 @@ denied_of clause lits i x False there plain h value ne = value.0
 denied_of clause lits i x Unset there plain h value ne = absurd (ne refl)
 denied_of clause lits i x True there plain h value ne =
     let held : Contains (take i clause) (negation x) = h.back (negation x)
-    (subst (Contains lits) (sym (negated_twice x)) value.0) in
+    (subst (Contains lits) (sym (negation-negation x)) value.0) in
     absurd (plain (x, there, from_front i clause (negation x) held))
 
 -- a literal that has a value is denied already

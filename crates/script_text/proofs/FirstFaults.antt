@@ -4,7 +4,6 @@ use Rattle.std.specs.Prelude.{AllPairs, Contains}
 use Rattle.std.specs.List.{AllZip}
 use Rattle.std.proofs.lemmas.List.{get_or_append_left, length-append}
 use Rattle.std.proofs.Math.Seq.{get_or-append_seam}
-use Rattle.std.proofs.lemmas.Bool.{cases_lt}
 use Rattle.num_text.specs.Cuts.{LineText, field_texts}
 use Rattle.num_text.specs.Lines.{kept_lines}
 use Rattle.num_text.specs.Number.{IsNumber}
@@ -19,6 +18,7 @@ use Rattle.script_text.specs.ScriptFaults.{rank, IsFaultless, IsFirstFault, IsTo
 use Rattle.script_text.specs.ScriptText.{IsScriptLine}
 use Rattle.script_text.specs.Steps.{BreaksAt, IsFirstBadLine}
 use Rattle.script_text.proofs.LineCauses.{line_is_good}
+use Rattle.lists.proofs.Ranges.{number_cases}
 
 abbrev AreLines : List LineText → List ScriptLine → Type 0
 AreLines lines script = AllZip (λ text line. IsScriptLine text.text line) lines script
@@ -39,15 +39,6 @@ script_is_faultless bytes script are = record {
   none = λ line cause at. member_is_good (kept_lines bytes) script at.line cause are at.member at.stands;
 }
 
-index_cases : (k n : ℕ) → (k < n) ⊎ ((k ≡ n) ⊎ (n < k))
-index_cases k n = elim (cases_lt k n) [
-  | inl below ↦ inl below
-  | inr upper ↦ elim (cases_lt n k) [
-    | inl behind ↦ inr (inr behind)
-    | inr above ↦ inr (inl (omega arith))
-  ]
-]
-
 -- every other fault stands later, or behind it in the order
 others_later : (lines : List LineText) (number : ℕ) (cause : ScriptCause) → (b : IsFirstBadLine lines number cause)
     → AllPairs (λ l m. l.number < m.number) lines → (l : ℕ) (c : ScriptCause) → StandsAt lines l c
@@ -62,7 +53,7 @@ others_later lines number cause b rises l c at =
     let within : k < length lines = at.member.1 in
     let there : get_or lines k at.line ≡ at.line = at.member.2 in
     let same_default : get_or lines k d ≡ get_or lines k at.line = get_or-default lines k d at.line within in
-    elim (index_cases k (length b.before)) [
+    elim (number_cases k (length b.before)) [
       | inl earlier ↦
           let same : get_or b.before k at.line ≡ at.line
           = sym (ap (λ ls. get_or ls k at.line) lines_are

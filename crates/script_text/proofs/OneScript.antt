@@ -23,20 +23,10 @@ use Rattle.script_text.specs.ScriptText.{
   asked_numbers,
 }
 use Rattle.script_text.proofs.Names.{ask_is_no_change, changes_same, edits_same, tasks_same}
-
--- partners are the same where each has one at most
-zipped_same : {A B : Type 0} (R : A → B → Type 0) → ((x : A) (y z : B) → R x y → R x z → y ≡ z) → (xs : List A)
-    (ys zs : List B) → AllZip R xs ys → AllZip R xs zs → ys ≡ zs
-zipped_same R same [] [] [] h k = refl
-zipped_same R same [] [] (z ∷ zs) h k = absurd k
-zipped_same R same [] (y ∷ ys) zs h k = absurd h
-zipped_same R same (x ∷ xs) [] zs h k = absurd h
-zipped_same R same (x ∷ xs) (y ∷ ys) [] h k = absurd k
-zipped_same R same (x ∷ xs) (y ∷ ys) (z ∷ zs) h k =
-    ap (λ w. w ∷ ys) (same x y z h.0 k.0) ∙ ap (λ ws. z ∷ ws) (zipped_same R same xs ys zs h.1 k.1)
+use Rattle.lists.proofs.Zips.{zip_same}
 
 numbers_same : (texts : List (List ℕ)) (ms ns : List ℕ) → AllZip IsNumber texts ms → AllZip IsNumber texts ns → ms ≡ ns
-numbers_same = zipped_same IsNumber (λ text m n a b. sym a.value ∙ b.value)
+numbers_same = zip_same IsNumber (λ text m n a b. sym a.value ∙ b.value)
 
 first_same : (x y : List ℕ) (xs ys : List (List ℕ)) → x ∷ xs ≡ y ∷ ys → x ≡ y
 first_same x y xs ys e = ap (λ fields. get_or fields 0 []) e
@@ -96,6 +86,6 @@ line_same text l m a b =
 
 pub script_same : (bytes : List ℕ) (s t : Script) → IsScript bytes s → IsScript bytes t → s ≡ t
 script_same bytes s t a b =
-    let lines : s.lines ≡ t.lines = zipped_same (λ text line. IsScriptLine text.text line)
+    let lines : s.lines ≡ t.lines = zip_same (λ text line. IsScriptLine text.text line)
     (λ text l m. line_same text.text l m) (kept_lines bytes) s.lines t.lines a b in
     λ i. record { lines = lines i }

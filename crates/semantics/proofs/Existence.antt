@@ -60,7 +60,7 @@ list_more front (n ∷ rest) sets h =
     (each_larger n sets)) in
     (more.0, subst (λ numbers. HasAllSets numbers more.0) (append_assoc front (n ∷ []) rest) more.1)
 
-all_sets : (numbers : List ℕ) → (all : List (List ℕ)) × HasAllSets numbers all
+pub all_sets : (numbers : List ℕ) → (all : List (List ℕ)) × HasAllSets numbers all
 all_sets numbers = list_more [] numbers ([] ∷ []) (all_of_none [] [] ([] ∷ []) refl refl refl)
 
 -- an admissible set that holds this one, and no listed admissible set is larger
@@ -73,7 +73,7 @@ record IsGrown (f : Af) (sets : List (List ℕ)) (s t : List ℕ) : Type 0 where
 abbrev IsLarger : Af → List ℕ → List ℕ → Type 0
 IsLarger f s u = IsAdmissible f u × IsWithin s u
 
-decide_within : (s t : List ℕ) → Decided (IsWithin s t)
+pub decide_within : (s t : List ℕ) → Decided (IsWithin s t)
 decide_within s t = decide_each (λ x. Contains t x) (λ x. decide_member t x) s
 
 grown : (f : Af) (sets : List (List ℕ)) (s : List ℕ) → IsAdmissible f s → (t : List ℕ) × IsGrown f sets s t

@@ -2,7 +2,6 @@ pub mod Decided
 pub mod DecidedNotions
 pub mod AdmissibleSets
 pub mod Grounded
-pub mod Walks
 pub mod SameMembers
 pub mod ListedSets
 pub mod SetsLemmas

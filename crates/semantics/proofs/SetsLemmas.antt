@@ -51,7 +51,7 @@ others n t = filter (λ x. not (x == n)) t
 others_have : (n x : ℕ) (t : List ℕ) → Contains t x → x ≢ n → Contains (others n t) x
 others_have n x t c ne = (Contains-filter (λ y. not (y == n)) t x).1 (c, rw (ne_eqb x n ne) refl)
 
-others_from : (n x : ℕ) (t : List ℕ) → Contains (others n t) x → Contains t x × (x ≢ n)
+pub others_from : (n x : ℕ) (t : List ℕ) → Contains (others n t) x → Contains t x × (x ≢ n)
 others_from n x t c = let both = (Contains-filter (λ y. not (y == n)) t x).0 c in
     (both.0, eqb-false x n (not-true (x == n) both.1))
 

@@ -7,7 +7,6 @@ use Rattle.std.proofs.lemmas.List.{get_or_default}
 use Rattle.lists.proofs.Filters.{Contains-filter}
 use Rattle.lists.proofs.Membership.{Contains-nil, Contains-cons_cases}
 use Rattle.plain_lits.specs.HintCheck.{IsTautology}
-use Rattle.plain_lits.proofs.HintCheckLemmas.{Contains-mapped, Contains-from_mapped}
 use Rattle.semantics.specs.Arguments.{IsArgument}
 use Rattle.semantics.specs.Framework.{Af}
 use Rattle.semantics.specs.Frameworks.{Framework, af, IsNumberedAf}
@@ -22,6 +21,8 @@ use Rattle.oracle_face.specs.Logs.{IsNumberOf, IsNew, guarded, literals_of, work
 use Rattle.oracle_face.proofs.StepTruth.{steps_true}
 use Rattle.session_log.specs.Guards.{IsGuarded}
 use Rattle.session_log.proofs.StepLemmas.{rests_on_named}
+use Rattle.lists.proofs.Images.{image_there, image_from}
+use Rattle.lists.proofs.TruthValues.{is_denied}
 
 -- ---- a world in which a side clause is false
 
@@ -70,22 +71,18 @@ abbrev denied_members : List AtomLit → List ℕ
 denied_members side =
     map (λ (l : AtomLit). member_number l.atom) (filter (λ (l : AtomLit). not l.positive) side)
 
-not_true : (b : Bool) → not b ≡ true → b ≡ false
-not_true true e = sym e
-not_true false e = refl
-
 denied_from : (side : List AtomLit) (a : ℕ) → Contains (denied_members side) a
     → (l : AtomLit) × Contains side l × (l.positive ≡ false) × (member_number l.atom ≡ a)
 denied_from side a c =
-    let w = Contains-from_mapped (λ (l : AtomLit). member_number l.atom)
+    let w = image_from (λ (l : AtomLit). member_number l.atom)
     (filter (λ (l : AtomLit). not l.positive) side) a c in
     let h = (Contains-filter (λ (l : AtomLit). not l.positive) side w.0).0 w.1 in
-    (w.0, h.0, not_true w.0.positive h.1, w.2)
+    (w.0, h.0, is_denied w.0.positive h.1, w.2)
 
 denied_listed : (side : List AtomLit) (l : AtomLit) → Contains side l → l.positive ≡ false
     → Contains (denied_members side) (member_number l.atom)
 denied_listed side l c e =
-    Contains-mapped (λ (l : AtomLit). member_number l.atom) (filter (λ (l : AtomLit). not l.positive) side) l
+    image_there (λ (l : AtomLit). member_number l.atom) (filter (λ (l : AtomLit). not l.positive) side) l
     ((Contains-filter (λ (l : AtomLit). not l.positive) side l).1 (c, ap not e))
 
 member_atom : (atom : Atom) → IsMemberAtom atom → Member (member_number atom) ≡ atom
@@ -138,7 +135,7 @@ false_somewhere side is = ⊎_elim (λ all. ([], empty_false side is.tells all))
 working_step : (log : OracleLog) (clause : List AtomLit) → Contains (working log.steps) clause
     → (k : ℕ) × (k < length log.steps) × ((slice_index_or log.steps k no_step).clause ≡ clause)
 working_step log clause c =
-    let w = Contains-from_mapped (λ (s : LogStep). s.clause) (filter (λ (s : LogStep). not s.closing) log.steps)
+    let w = image_from (λ (s : LogStep). s.clause) (filter (λ (s : LogStep). not s.closing) log.steps)
     clause c in
     let h = (Contains-filter (λ (s : LogStep). not s.closing) log.steps w.0).0 w.1 in
     let at = h.0 in
@@ -155,7 +152,7 @@ no_clash : (side : List AtomLit) → IsSide side → IsTautology negated side �
 no_clash side is t = ⊎_elim
     (λ all. let here = all t.0 t.1 in
     let there : not t.0.positive ≡ true = all (negated t.0) t.2 in
-    false≢true (sym (not_true t.0.positive there) ∙ here))
+    false≢true (sym (is_denied t.0.positive there) ∙ here))
     (λ about. about.1 t) is.one_sided
 
 pub side_is_new : (f : Framework) (log : OracleLog) (side : List AtomLit) → IsLog f log → IsGuarded log

@@ -24,6 +24,7 @@ use Rattle.oracle_face.specs.Logs.{IsSameClause, closings_of, guarded, is_loop, 
 use Rattle.session_log.specs.Guards.{IsGuarded}
 use Rattle.session_log.specs.Steps.{GainsStep, TakesAxiom, TakesSide, Derives, Spends, axiom_step, derived_step, own_step}
 use Rattle.session_log.proofs.NewSides.{side_is_new}
+use Rattle.lists.proofs.TruthValues.{and_false}
 
 -- ---- one step more
 
@@ -104,16 +105,11 @@ axiom_spends f name clause old new no_loop takes =
     spends_by f (own_step clause (by_axiom name)) old.sides old new takes.gains
     (λ unit. absurd (not_work (is_loop name) no_loop unit)) 0 0 (no_unit (is_loop name) no_loop) refl
 
--- an axiom that is taken from an entry
-no_unit_imported : (b : Bool) → b && false ≡ false
-no_unit_imported true = refl
-no_unit_imported false = refl
-
 pub axiom_entry_spends : (f : Framework) (name : AxiomName) (clause : List AtomLit) (entry : EntryName)
     (old new : OracleLog) → GainsStep (axiom_step name clause (Some entry)) old.sides old new
     → Spends f old new 0 0
 axiom_entry_spends f name clause entry old new gains =
-    let none = no_unit_imported (is_loop name) in
+    let none = and_false (is_loop name) in
     spends_by f (axiom_step name clause (Some entry)) old.sides old new gains
     (λ unit. absurd (false≢true (sym none ∙ unit))) 0 0 (ap one_if none) refl
 

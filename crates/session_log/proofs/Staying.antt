@@ -148,7 +148,7 @@ pushed_named sides side n is =
 pushed_side : (sides : List SideClause) (side : SideClause) → side_at (sides ++ side ∷ []) (length sides + 1) ≡ side
 pushed_side sides side = get_or_push sides side no_side (length sides + 1 - 1) (omega arith)
 
-turned : (left right : List AtomLit) → IsSameClause left right → IsSameClause right left
+pub turned : (left right : List AtomLit) → IsSameClause left right → IsSameClause right left
 turned left right same = record { there = same.back; back = same.there }
 
 -- side clauses with one more, which asks for none and has not the literals of another

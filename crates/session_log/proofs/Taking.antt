@@ -8,7 +8,6 @@ use Rattle.std.proofs.lemmas.List.Elements.{Contains-push}
 use Rattle.std.proofs.lemmas.List.Sums.{sum_by_push}
 use Rattle.lists.proofs.Filters.{Contains-filter}
 use Rattle.plain_lits.specs.Units.{Units}
-use Rattle.plain_lits.proofs.HintCheckLemmas.{Contains-mapped}
 use Rattle.semantics.specs.Frameworks.{Framework}
 use Rattle.meaning_atoms.specs.declared.atom.Atom.TheVariants.{Ask}
 use Rattle.meaning_atoms.specs.declared.atom.AtomLit.{AtomLit}
@@ -25,6 +24,7 @@ use Rattle.session_log.specs.Guards.{RestsOn, IsGuarded}
 use Rattle.session_log.specs.Steps.{GainsStep, StaysGuarded, Spends, derived_step}
 use Rattle.session_log.proofs.StepLemmas.{guarded_step, top_step, side_step_still, rests_back, same_sides_form, same_sides_grow}
 use Rattle.session_log.specs.Imports.{IsHintOf, TakesEntry}
+use Rattle.lists.proofs.Images.{image_there}
 
 -- the steps that names of an origin stand for
 hint_is : (own : ℕ) (steps : List LogStep) (origin : EntryOrigin) (hint : ℕ) → IsHintOf own steps origin hint
@@ -104,7 +104,7 @@ module _ (own : ℕ) (entry : Entry) (old new : OracleLog) (takes : TakesEntry o
   pub entry_used : HasPart (working new.steps) entry.clause
   entry_used = record {
     part = takes.clause;
-    listed = Contains-mapped (λ (s : LogStep). s.clause) (filter (λ (s : LogStep). not s.closing) new.steps) step
+    listed = image_there (λ (s : LogStep). s.clause) (filter (λ (s : LogStep). not s.closing) new.steps) step
         ((Contains-filter (λ (s : LogStep). not s.closing) new.steps step).1 (
           subst (λ (steps : List LogStep). Contains steps step) (sym takes.gains.steps) (Contains-push old.steps step),
           refl,

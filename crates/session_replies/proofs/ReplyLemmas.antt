@@ -4,10 +4,10 @@ use Rattle.std.proofs.Common.{length, get_or, take, sym, ap, ◌∙◌, append_a
 use Rattle.std.specs.Prelude.{Contains}
 use Rattle.std.proofs.lemmas.List.{take_more, append-nil, length-take-le}
 use Rattle.lists.specs.Members.{IsSetOf}
-use Rattle.aba_notions.proofs.FormLemmas.{same_rising}
 use Rattle.edit_rules.specs.AbaEdits.{in_order}
 use Rattle.edit_rules.proofs.AbaRowForms.{in_order_rises, in_order_members}
 use Rattle.session_replies.specs.Replies.{numbered}
+use Rattle.lists.proofs.RisingLists.{same_rising}
 
 -- the set of a body's atoms is the body in order
 pub set_in_order : (body atoms : List ℕ) → IsSetOf (Contains body) atoms → atoms ≡ in_order body

@@ -7,14 +7,6 @@ use Rattle.std.proofs.lemmas.List.{get_or_default, get_or_append_left, get_or-ap
 use Rattle.std.proofs.lemmas.List.Elements.{Contains-get_or}
 use Rattle.std.proofs.lemmas.List.Kept.{AllPairs-from_increasing}
 
--- a later number of a rising list is not below an earlier one
-pub rises_along : (xs : List ℕ) → IsStrictlyIncreasing xs → (i j : ℕ) → i ≤ j → j < length xs
-    → get_or xs i 0 ≤ get_or xs j 0
-rises_along xs up i j le lt =
-    ⊎_elim (λ e. omega (arith, ap (λ k. get_or xs k 0) e))
-    (λ ne. let h = AllPairs-from_increasing xs up i j 0 (omega arith) lt in omega arith)
-    (cases_eq i j)
-
 -- a binary search's answer: the index, or where the number would stand
 abbrev pub IsPlaceOf : List ℕ → ℕ → Result ℕ ℕ → Type 0
 IsPlaceOf xs x r =

@@ -20,7 +20,7 @@ use Rattle.unit_propagate.specs.Steps.{IsAdded, with_clause}
 use Rattle.clause_watches.specs.WatchLists.{Listed, ids_at, one, watches}
 use Rattle.clause_watches.proofs.Fronts.{pushed_cases, longer_front, from_front}
 use Rattle.unit_propagate.proofs.Lists.{one_same, one_other, watches_alone, ones_length}
-use Rattle.unit_propagate.proofs.Passing.{lit_cases}
+use Rattle.plain_lits.proofs.OneOutcome.{cases_lit}
 
 -- the clause of an id
 pub clause_before : (clauses : List (List Lit)) (clause : List Lit) (id : ℕ) → IsNamed clauses id
@@ -148,7 +148,7 @@ added_looked s lists short clause p id index n done high kept a le within h = re
       let same : take done short ≡ take done s.short = ⊎_elim
       (λ e. ap (λ xs. take done xs) (a.alone e) ∙ take-append-le done s.short (id ∷ []) within)
       (λ ne. ap (λ xs. take done xs) (a.apart ne))
-      (lit_cases p.first p.second) in
+      (cases_lit p.first p.second) in
       let old : Contains (take done s.short) j = subst (λ xs. Contains xs j) same c in
       true_more s.clauses clause j high (kept.short j (from_front done s.short j old)).named (h.holds j old);
 }
@@ -163,7 +163,7 @@ kept_added s lists short clause p id index kept a same_long =
     let more_short : length s.short ≤ length short = ⊎_elim
     (λ e. omega (arith, ap length (a.alone e), length-append s.short (id ∷ [])))
     (λ ne. omega (arith, ap length (a.apart ne)))
-    (lit_cases p.first p.second) in
+    (cases_lit p.first p.second) in
     let old_short : (j : ℕ) → IsShort s.clauses s.pairs j → IsShort (s.clauses ++ clause ∷ []) (s.pairs ++ p ∷ []) j =
     λ j h.
     let within = h.named.within in
@@ -187,7 +187,7 @@ kept_added s lists short clause p id index kept a same_long =
           })
           (pushed_cases s.short id j (subst (λ xs. Contains xs j) (a.alone e) c)))
           (λ (ne : p.first ≢ p.second). old_short j (kept.short j (subst (λ xs. Contains xs j) (a.apart ne) c)))
-          (lit_cases p.first p.second);
+          (cases_lit p.first p.second);
       all_short = λ j h. ⊎_elim
           (λ (old : IsNamed s.clauses j).
           let within = old.within in
@@ -199,7 +199,7 @@ kept_added s lists short clause p id index kept a same_long =
           ⊎_elim
           (λ e. subst (λ xs. Contains xs j) (sym (a.alone e)) (Contains-append_left s.short (id ∷ []) j was))
           (λ ne. subst (λ xs. Contains xs j) (sym (a.apart ne)) was)
-          (lit_cases p.first p.second))
+          (cases_lit p.first p.second))
           (λ (new : j ≡ n + 1).
           let e : p.first ≡ p.second = subst (λ (q : Pair). q.first ≡ q.second) (pair_last s.pairs p n j long new)
           h.alone in

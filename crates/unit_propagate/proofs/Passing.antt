@@ -5,13 +5,12 @@ use Rattle.std.proofs.Common.{length-append}
 use Rattle.std.specs.Prelude.{◌⊎◌, Contains, Option, Some, None, IfSome}
 use Rattle.std.proofs.lemmas.List.{get_or_default, get_or_append_left, take_all}
 use Rattle.std.proofs.lemmas.List.Elements.{Contains-get_or}
-use Rattle.std.proofs.lemmas.Bool.{cases_eq}
 use Rattle.plain_lits.specs.declared.lit.Lit.{Lit}
 use Rattle.plain_lits.specs.Literals.{negation}
 use Rattle.plain_lits.specs.Packed.{packed}
 use Rattle.plain_lits.specs.Trails.{VarsDiffer}
 use Rattle.plain_lits.specs.HintCheck.{clause_at, IsNamed, IsFalsified, IsUnit}
-use Rattle.plain_lits.proofs.CheckingLemmas.{negation-negation}
+use Rattle.plain_lits.proofs.CheckingLemmas.{negation-negation, negation_same}
 use Rattle.clause_watches.specs.declared.pair.Pair.{Pair}
 use Rattle.clause_watches.specs.Arenas.{pair_of, no_pair}
 use Rattle.unit_propagate.specs.Search.{IsConflict}
@@ -21,6 +20,7 @@ use Rattle.clause_watches.specs.WatchLists.{ids_at}
 use Rattle.clause_watches.proofs.Fronts.{packed_same, front_cases, consistent}
 use Rattle.unit_propagate.proofs.Lists.{seen_listed}
 use Rattle.unit_propagate.proofs.Moving.{pair_there}
+use Rattle.plain_lits.proofs.OneOutcome.{cases_lit}
 
 -- each pair is that of an id
 pub pair_named : (pairs : List Pair) (p : Pair) → Contains pairs p
@@ -55,9 +55,6 @@ pair_done s f p kept done there apart =
           (done.second at.0 at.1 at.1 (ap (λ k. (pair_of s.pairs k).second) listed ∙ second))),
     )
 
-negations_same : (a b : Lit) → negation a ≡ negation b → a ≡ b
-negations_same a b e = sym (negation-negation a) ∙ (ap negation e ∙ negation-negation b)
-
 -- the next true literal is looked at
 pub kept_next : (s : State) (f d : Lit) → IsKept s → s.head < length s.lits → get_or s.lits s.head d ≡ negation f
     → AreDone s f (length (ids_at s.lists (packed f))) → IsKept (record s { head = s.head + 1 })
@@ -72,7 +69,7 @@ kept_next s f d kept lt is done = record {
         let old = kept.looked.guarded p there apart in
         let new = pair_done s f p kept done there apart in
         let same : (l : Lit) → get_or s.lits s.head (negation l) ≡ negation l → l ≡ f =
-        λ l e. negations_same l f (sym e ∙ (get_or_default s.lits s.head (negation l) d lt ∙ is)) in
+        λ l e. negation_same l f (sym e ∙ (get_or_default s.lits s.head (negation l) d lt ∙ is)) in
         record {
           first = λ c. ⊎_elim (λ low. old.first low) (λ here. new.0 (same p.first here.1))
               (front_cases s.head s.lits (negation p.first) c);
@@ -168,18 +165,13 @@ shorts_all s kept e id short =
     kept.looked.holds id (subst (λ xs. Contains xs id)
     (sym (ap (λ n. take n s.short) e ∙ take_all (length s.short) s.short (omega arith))) (kept.all_short id short))
 
--- a literal equal to another, or not: by their codes
-pub lit_cases : (a b : Lit) → (a ≡ b) ⊎ (a ≢ b)
-lit_cases a b = ⊎_elim (λ e. inl (packed_same a b e)) (λ ne. inr (λ e. ne (ap packed e)))
-    (cases_eq (packed a) (packed b))
-
 -- a clause with a true literal isn't unit
 true_no_unit : (s : State) (id : ℕ) (l : Lit) → VarsDiffer s.lits → HasTrue (clause_at s.clauses id) s.lits
     → IsUnit negation s.lits (clause_at s.clauses id) l → ⊥
 true_no_unit s id l vars t u =
     let x = t.some in
     ⊎_elim (λ e. u.not_true (subst (Contains s.lits) e x.2))
-    (λ ne. consistent s.lits x.0 vars x.2 (u.others x.0 x.1 ne)) (lit_cases x.0 l)
+    (λ ne. consistent s.lits x.0 vars x.2 (u.others x.0 x.1 ne)) (cases_lit x.0 l)
 
 true_no_false : (s : State) (id : ℕ) → VarsDiffer s.lits → HasTrue (clause_at s.clauses id) s.lits
     → IsFalsified negation s.lits (clause_at s.clauses id) → ⊥
@@ -210,7 +202,7 @@ quiet s kept vars all done = (
         let within = named.within in
         let g = guards_all s kept all (pair_of s.pairs id) (pair_there s.pairs id above (omega arith)) apart in
         true_no_false s id vars (guarded_true s id kept named apart g (inl (u.each _ (is.first apart)))) u)
-        (lit_cases (pair_of s.pairs id).first (pair_of s.pairs id).second);
+        (cases_lit (pair_of s.pairs id).first (pair_of s.pairs id).second);
     not_unit = λ id l named u. ⊎_elim
         (λ same. true_no_unit s id l vars (shorts_all s kept done id (record { named = named; alone = same })) u)
         (λ apart.
@@ -222,8 +214,8 @@ quiet s kept vars all done = (
         true_no_unit s id l vars (guarded_true s id kept named apart g (⊎_elim
         (λ e. inr (u.others _ (is.second apart) (λ e2. apart (e ∙ sym e2))))
         (λ ne. inl (u.others _ (is.first apart) ne))
-        (lit_cases (pair_of s.pairs id).first l))) u)
-        (lit_cases (pair_of s.pairs id).first (pair_of s.pairs id).second);
+        (cases_lit (pair_of s.pairs id).first l))) u)
+        (cases_lit (pair_of s.pairs id).first (pair_of s.pairs id).second);
   },
   record {
     first = λ p there apart. (guards_all s kept all p there apart).first;

@@ -1,10 +1,10 @@
 use Rattle.std.proofs.Common.{rules}
 use Rattle.std.proofs.lemmas.Iterator.{cases_from_all, YieldsList-from_slice}
-use Rattle.semantics.proofs.Walks.{all_members}
 use Rattle.aba_laws.specs.declared.theories.Theory.{Theory}
 use Rattle.aba_laws.specs.Deciding.{AbaOf, Answers}
 use Rattle.aba_laws.proofs.DecidingLemmas.{defends_by}
 use Rattle.aba_laws.proofs.deciding.defends.Goals as goal
+use Rattle.lists.proofs.Walks.{all_members}
 
 pub returns : goal.returns
 returns c =

@@ -1,11 +1,11 @@
 use Rattle.std.proofs.Common.{ℕ, rules}
 use Rattle.std.proofs.lemmas.Iterator.{cases_from_all, YieldsList-from_slice}
-use Rattle.semantics.proofs.Walks.{all_members}
 use Rattle.semantics.specs.AbaFrameworks.{collective_of}
 use Rattle.semantics.specs.Collectives.{Defends}
 use Rattle.aba_laws.specs.Deciding.{AbaOf}
 use Rattle.aba_laws.proofs.DecidingLemmas.{each_same}
 use Rattle.aba_laws.proofs.deciding.defends_members.Goals as goal
+use Rattle.lists.proofs.Walks.{all_members}
 
 pub returns : goal.returns
 returns c =

@@ -1,9 +1,9 @@
 use Rattle.std.proofs.Common.{ℕ, rules}
 use Rattle.std.specs.Prelude.{Contains}
 use Rattle.std.proofs.lemmas.Iterator.{cases_from_all, YieldsList-from_slice}
-use Rattle.semantics.proofs.Walks.{all_members}
 use Rattle.aba_laws.specs.Deciding.{AbaOf, HasContrary}
 use Rattle.aba_laws.proofs.deciding.hits_others.Goals as goal
+use Rattle.lists.proofs.Walks.{all_members}
 
 pub returns : goal.returns
 returns c =

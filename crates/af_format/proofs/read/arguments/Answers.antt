@@ -2,15 +2,15 @@ use Rattle.std.proofs.Common.{◌≡◌, ◌+◌, sym, ◌∙◌, refl, subst, a
 use Rattle.std.specs.Prelude.{IfOk}
 use Rattle.std.specs.List.Sorted.{IsStrictlyIncreasing}
 use Rattle.std.proofs.lemmas.Iterator.{items_from_collect, YieldsList-from_range}
-use Rattle.af_format.proofs.Reading.{arguments_rise}
 use Rattle.af_format.proofs.read.arguments.Goals as goal
+use Rattle.lists.proofs.Ranges.{numbers_rise}
 
 pub from_rising-requires : goal.from_rising-requires
 from_rising-requires c =
     let all = rw c.in_ok-numbers.was at
     (items_from_collect c.collect.result c.collect.ensures.ran
     (YieldsList-from_range 1 (c.args.count + 1) c.args.count refl (omega arith))) in
-    subst IsStrictlyIncreasing (sym (c.deref.ensures.value ∙ all)) (arguments_rise c.args.count)
+    subst IsStrictlyIncreasing (sym (c.deref.ensures.value ∙ all)) (numbers_rise c.args.count)
 
 pub returns : goal.returns
 returns c =

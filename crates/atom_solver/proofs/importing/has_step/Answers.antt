@@ -1,6 +1,7 @@
 use Rattle.std.proofs.lemmas.List.Sorted.{searched}
-use Rattle.set_lists.proofs.Rising.{rises_along, found}
+use Rattle.set_lists.proofs.Rising.{found}
 use Rattle.atom_solver.proofs.importing.has_step.Goals as goal
+use Rattle.lists.proofs.RisingLists.{rises_along}
 
 pub returns : goal.returns
 returns c =

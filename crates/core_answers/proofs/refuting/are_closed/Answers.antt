@@ -3,8 +3,9 @@ use Rattle.std.proofs.lemmas.Bool.{false≢true}
 use Rattle.std.proofs.lemmas.List.Elements.{Contains-get_or}
 use Rattle.edit_rules.specs.Kinds.{framework_of}
 use Rattle.core_answers.specs.Refuting.{IsClosedBy}
-use Rattle.core_answers.proofs.Fronts.{blank, front_more, front_whole}
+use Rattle.core_answers.proofs.Fronts.{blank}
 use Rattle.core_answers.proofs.refuting.are_closed.Goals as goal
+use Rattle.lists.proofs.Fronts.{front_more, front_whole}
 
 pub returns-then-not-closed : goal.returns-then-not-closed
 returns-then-not-closed c = (

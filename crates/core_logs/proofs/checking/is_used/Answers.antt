@@ -1,10 +1,10 @@
 use Rattle.std.proofs.Common.{rules}
 use Rattle.std.proofs.lemmas.Iterator.{cases_from_all, YieldsList-from_slice}
-use Rattle.semantics.proofs.Walks.{all_members}
 use Rattle.meaning_atoms.specs.declared.atom.AtomLit.{AtomLit}
 use Rattle.core_logs.specs.Tests.{IsMet}
 use Rattle.core_logs.proofs.NewTests.{used_is}
 use Rattle.core_logs.proofs.checking.is_used.Goals as goal
+use Rattle.lists.proofs.Walks.{all_members}
 
 pub returns : goal.returns
 returns c =

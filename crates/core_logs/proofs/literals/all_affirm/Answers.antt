@@ -1,9 +1,9 @@
 use Rattle.std.proofs.Common.{rules}
 use Rattle.std.proofs.lemmas.Iterator.{cases_from_all, YieldsList-from_slice}
 use Rattle.meaning_atoms.specs.declared.atom.AtomLit.{AtomLit}
-use Rattle.semantics.proofs.Walks.{all_members}
 use Rattle.core_logs.specs.Tests.{IsAffirmed}
 use Rattle.core_logs.proofs.literals.all_affirm.Goals as goal
+use Rattle.lists.proofs.Walks.{all_members}
 
 pub returns : goal.returns
 returns c =

@@ -1,10 +1,10 @@
 use Rattle.std.proofs.Common.{rules}
 use Rattle.std.proofs.lemmas.Iterator.{cases_from_all, YieldsList-from_slice}
 use Rattle.meaning_atoms.specs.declared.atom.AtomLit.{AtomLit}
-use Rattle.semantics.proofs.Walks.{all_members}
 use Rattle.core_logs.specs.Tests.{AsksNone}
 use Rattle.core_logs.proofs.LiteralTests.{asks_nothing_is}
 use Rattle.core_logs.proofs.literals.asks_nothing.Goals as goal
+use Rattle.lists.proofs.Walks.{all_members}
 
 pub returns : goal.returns
 returns c =

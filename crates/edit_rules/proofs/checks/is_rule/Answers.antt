@@ -2,11 +2,12 @@ use Rattle.std.proofs.Common.{subst, sym, Contains}
 use Rattle.std.specs.Prelude.{◌≡◌, ◌↔◌, true}
 use Rattle.std.specs.List.Sorted.{IsStrictlyIncreasing}
 use Rattle.std.proofs.lemmas.List.Sorted.{searched}
-use Rattle.set_lists.proofs.Rising.{rises_along, found}
+use Rattle.set_lists.proofs.Rising.{found}
 use Rattle.edit_rules.specs.Numbers.{has_number}
 use Rattle.edit_rules.specs.AbaEdits.{numbers_of}
 use Rattle.edit_rules.proofs.TestLemmas.{has_number_tells, same_test}
 use Rattle.edit_rules.proofs.checks.is_rule.Goals as goal
+use Rattle.lists.proofs.RisingLists.{rises_along}
 
 pub returns : goal.returns
 returns c =

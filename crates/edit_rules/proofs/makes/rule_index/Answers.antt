@@ -4,10 +4,11 @@ use Rattle.std.proofs.lemmas.Bool.{false≢true}
 use Rattle.std.proofs.lemmas.List.Sorted.{searched}
 use Rattle.std.proofs.lemmas.List.{length-map}
 use Rattle.semantics.specs.Rules.{Rule}
-use Rattle.set_lists.proofs.Rising.{rises_along, found}
+use Rattle.set_lists.proofs.Rising.{found}
 use Rattle.edit_rules.proofs.EditWordTests.{number_there}
 use Rattle.edit_rules.proofs.RuleLists.{number_at}
 use Rattle.edit_rules.proofs.makes.rule_index.Goals as goal
+use Rattle.lists.proofs.RisingLists.{rises_along}
 
 pub returns-in-Ok-clause-number : goal.returns-in-Ok-clause-number
 returns-in-Ok-clause-number c =

@@ -1,10 +1,10 @@
 use Rattle.std.proofs.Common.{ℕ, refl, rules}
 use Rattle.std.specs.Prelude.{Contains}
 use Rattle.std.proofs.lemmas.Iterator.{cases_from_all, YieldsList-from_slice}
-use Rattle.aba_laws.specs.semantics.proofs.Walks.{all_members}
 use Rattle.meaning_atoms.specs.declared.loop_rows.LoopRow.{LoopRow}
 use Rattle.meaning_atoms.specs.AbaAxioms.{IsLoopRow}
 use Rattle.meaning_atoms.proofs.loop_rows.is_loop.Goals as goal
+use Rattle.lists.proofs.Walks.{all_members}
 
 pub returns-then-has_atom : goal.returns-then-has_atom
 returns-then-has_atom c =

@@ -1,9 +1,9 @@
 use Rattle.std.proofs.Common.{◌≡◌, ℕ, refl, rules, subst, sym}
 use Rattle.std.specs.Prelude.{Contains}
 use Rattle.std.proofs.lemmas.Iterator.{cases_from_all, YieldsList-from_slice}
-use Rattle.aba_laws.specs.semantics.proofs.Walks.{all_members}
 use Rattle.meaning_atoms.specs.AbaAxioms.{IsLoopPair, RulesRise}
 use Rattle.meaning_atoms.proofs.loop_rows.is_loop_row.Goals as goal
+use Rattle.lists.proofs.Walks.{all_members}
 
 pub returns : goal.returns
 returns c =

@@ -2,8 +2,8 @@ use Rattle.std.proofs.Common.{ℕ, rules}
 use Rattle.std.specs.Prelude.{Contains}
 use Rattle.std.proofs.lemmas.Iterator.{cases_from_all, YieldsList-from_slice}
 use Rattle.attack_index.specs.semantics.specs.Framework.{IsAttackedBy}
-use Rattle.dung_notions.proofs.NotionLemmas.{all_members}
 use Rattle.dung_notions.proofs.af_plain.AfPlain.attacks_others.Goals as goal
+use Rattle.lists.proofs.Walks.{all_members}
 
 pub returns : goal.returns
 returns c =

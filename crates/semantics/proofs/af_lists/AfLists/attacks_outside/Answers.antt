@@ -4,8 +4,8 @@ use Rattle.std.proofs.lemmas.Iterator.{cases_from_all, YieldsList-from_slice}
 use Rattle.lists.specs.Members.{IsWithin}
 use Rattle.semantics.specs.Framework.{Attacks, IsAttackedBy, Defends, IsInRange, IsAdmissible, IsComplete, IsPreferred, IsRangeWithin, IsInAllPreferred}
 use Rattle.semantics.specs.Notions.{AfOf}
-use Rattle.semantics.proofs.Walks.{all_members}
 use Rattle.semantics.proofs.af_lists.AfLists.attacks_outside.Goals as goal
+use Rattle.lists.proofs.Walks.{all_members}
 
 pub returns : goal.returns
 returns c =

@@ -1,8 +1,8 @@
 use Rattle.std.proofs.Common.{Err}
 use Rattle.std.proofs.lemmas.List.Sorted.{searched}
 use Rattle.set_lists.proofs.Inserting.{inserted}
-use Rattle.set_lists.proofs.Rising.{rises_along}
 use Rattle.set_lists.proofs.num_set.NumSet.insert.Goals as goal
+use Rattle.lists.proofs.RisingLists.{rises_along}
 
 pub invariant_of-self : goal.invariant_of-self
 invariant_of-self c =
