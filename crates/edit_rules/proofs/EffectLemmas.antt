@@ -19,7 +19,7 @@ aba_row_edit : (row : AbaRow) (done : Framework × Effect) → outcome_in (any_r
 aba_row_edit row done e =
     row_edit (record { refusals = row.refusals; framework = aba row.framework; effect = row.effect }) done e
 
-effect_edit : (f : Framework) (edit : Edit) (done : Framework × Effect) → edit_outcome f edit ≡ Ok done
+pub effect_edit : (f : Framework) (edit : Edit) (done : Framework × Effect) → edit_outcome f edit ≡ Ok done
     → done.1.edit ≡ edit
 effect_edit (af f) (ArgAdd n) done e = row_edit (argument_added f n) done e
 effect_edit (af f) (ArgDrop n) done e = row_edit (argument_dropped f n) done e
