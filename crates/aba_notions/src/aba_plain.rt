@@ -15,8 +15,8 @@ use set_lists::NumSet;
 use std::alloc::Global;
 use std::marker::Model;
 
-/// A flat assumption-based framework: its atoms, which are the numbers from 1 to at most 1,000,000, its assumptions
-/// with their contraries, and its rules, which have numbers of their own.
+/// A flat assumption-based framework: its atoms, which are the numbers from 1 to at most
+/// `semantics::MAX_ATOM`, its assumptions with their contraries, and its rules, which have numbers of their own.
 pub struct AbaPlain {
     atoms: u32,
     assumptions: NumSet,

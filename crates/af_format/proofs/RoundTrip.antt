@@ -234,7 +234,7 @@ lines_within count (p ∷ ps) all =
       length-append (decimal p.1) (10 ∷ []),
     )
 
--- a text of at most 10,000,000 attacks keeps the reader's limit
+-- a text of at most MAX_ATTACK_LINES attacks keeps the reader's limit
 pub text_within : (f : Af) → IsAf f → IsSolid f → length f.attacks ≤ MAX_ATTACK_LINES
     → length (af_text f) ≤ MAX_INPUT
 text_within f form solid few =

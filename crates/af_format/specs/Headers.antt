@@ -17,7 +17,7 @@ af_word = codes "af"
 abbrev pub aba_word : List ℕ
 aba_word = codes "aba"
 
--- the line is `p`, the word and n, of at most 1,000,000
+-- the line is `p`, the word and n, of at most MAX_ARGUMENT
 pub record IsHeaderOf (word : List ℕ) (line : List ℕ) (count : ℕ) : Type 0 where
   pub number : List ℕ
   pub fields : field_texts line ≡ codes "p" ∷ word ∷ number ∷ []

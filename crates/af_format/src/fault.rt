@@ -23,7 +23,7 @@ pub enum LineCause {
     BadLine,
     /// A field of a later line that has to be a number is none.
     BadNumber,
-    /// The header's number is over 1,000,000, or another number is not from 1 to the header's.
+    /// The header's number is over `semantics::MAX_ARGUMENT`, or another number is not from 1 to the header's.
     OutOfRange,
     /// The line is the 10,000,001st attack line, or the 1,000,001st rule line.
     TooManyLines,

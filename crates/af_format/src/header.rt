@@ -11,7 +11,7 @@ use num_text::{Line, Lines, decimal, fields, line_count, next_kept};
 use semantics::MAX_ARGUMENT;
 
 /// The number that the header of a text tells: `p`, the word of the text's own kind of framework, and a number of at
-/// most 1,000,000. The lines behind the header are left. `other` is the word of the other kind.
+/// most `semantics::MAX_ARGUMENT`. The lines after the header are left. `other` is the word of the other kind.
 ///
 /// A fault is that of the first line that is not skipped, or, where there is none, `NoHeader` behind the last line.
 pub fn read_header(

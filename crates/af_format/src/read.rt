@@ -22,8 +22,8 @@ use set_lists::NumSet;
 use std::alloc::Global;
 
 /// The framework that the bytes describe. The first line that is not skipped is `p af n` with n up to
-/// 1,000,000; each further one is `b a`, both from 1 to n, which says that b attacks a. A repeated attack
-/// counts once. At most 10,000,000 attack lines are read.
+/// `semantics::MAX_ARGUMENT`; each further one is `b a`, both from 1 to n, which says that b attacks a. A repeated
+/// attack counts once. At most `MAX_ATTACK_LINES` attack lines are read.
 ///
 /// `Line` tells the first line at which a cause stands, and of the causes that stand there the first in
 /// the order of [`LineCause`]. `Memory` says that an allocation was refused.

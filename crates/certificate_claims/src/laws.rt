@@ -12,7 +12,7 @@ pub fn shown_is_right()
     ensures { ShownIsRight }
 {}
 
-/// An answer with an accepted certificate is right, for every framework of numbers from 1 to 1,000,000.
+/// An answer with an accepted certificate is right, for every framework of numbers up to the largest of their kind.
 pub fn accepted_is_right()
     ensures { AcceptedIsRight }
 {}

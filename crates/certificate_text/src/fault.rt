@@ -17,8 +17,8 @@ pub enum CertCause {
     /// The first field is not open here, `r` or `end` has further fields, `s` has not one further field, `d` has none
     /// that is `0`, or `a` has none.
     BadLine,
-    /// A field of `w`, of `s` or of the hints is no number, a number of `w` is not from 1 to 1,000,000, or that of `s` or a
-    /// hint is 0.
+    /// A field of `w`, of `s` or of the hints is no number, a number of `w` is not from 1 to
+    /// `semantics::MAX_ARGUMENT`, or that of `s` or a hint is 0.
     BadNumber,
     /// The numbers of `w` don't rise.
     NotRising,

@@ -100,7 +100,7 @@ abbrev pub behind_first : List (List ℕ) → List (List ℕ)
 behind_first [] = []
 behind_first (first ∷ more) = more
 
--- some field is no number from 1 to 1,000,000
+-- some field is no number from 1 to MAX_ARGUMENT
 pub record HasBadNumber (fields : List (List ℕ)) : Type 0 where
   pub index : ℕ
   pub within : index < length fields

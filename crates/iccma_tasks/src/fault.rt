@@ -14,7 +14,7 @@ pub enum AnswerCause {
     Empty,
     /// The line has no form that is open here.
     BadLine,
-    /// A field that must be a number from 1 to 1,000,000 is none.
+    /// A field that must be a number from 1 to `semantics::MAX_ARGUMENT` is none.
     BadNumber,
     /// The numbers of a set don't rise.
     NotRising,

@@ -61,7 +61,8 @@ fn arguments(alloc: Global, line: usize, fields: Fields<'_>) -> Result<Vec<u32>,
     Ok(numbers)
 }
 
-/// The set whose rising numbers from 1 to 1,000,000 the fields spell, as those behind the `w` of a set's line.
+/// The set whose rising numbers from 1 to `semantics::MAX_ARGUMENT` the fields spell, as those after the `w` of a
+/// set's line.
 ///
 /// `At` tells the line of this number: `BadNumber` where some field is no such number, else `NotRising` where the numbers
 /// don't rise.
@@ -203,7 +204,8 @@ fn read_lines(alloc: Global, bytes: &[u8]) -> Result<Answer, AnswerFault>
 
 /// Reads the text of an answer. A line that has no field, or whose first field begins with `#`, is
 /// skipped wherever it stands. The others are `YES` or `NO` alone, or followed by one line `w NUMBERS`; or
-/// they are one line `w NUMBERS` or more. Numbers are from 1 to 1,000,000 and rise within their line.
+/// they are one line `w NUMBERS` or more. Numbers are from 1 to
+/// `semantics::MAX_ARGUMENT` and rise within their line.
 ///
 /// Of the faults the one of the first line that has one is told, and of several at that line the first in
 /// the order of `AnswerCause`.

@@ -66,7 +66,7 @@ fn push_answer(text: &mut String, answer: &Answer) -> Result<(), Memory>
 /// The text of an answer: `YES` or `NO`, and the line of its set where it has one, or the line of each
 /// set in order. The line of a set is `w` and the rising numbers, with one blank before each. Every line
 /// ends with LF. Such a text reads as the answer again where the answer has one set at least where it is
-/// sets, and has no number but from 1 to 1,000,000.
+/// sets, and has no number but from 1 to `semantics::MAX_ARGUMENT`.
 pub fn answer_text(alloc: Global, answer: &Answer) -> Result<Bytes, Memory>
     ensures text { IfOk result (λ text. text ≡ text_of answer.now) }
     ensures reads { IfOk result (λ text. IsWritable answer.now → ReadsAs (filled_fields text) answer.now) }

@@ -43,7 +43,7 @@ rising_high ns rise (suc k) h =
     = subst (λ m. slice_index ns k < slice_index ns m) (add-one k) (rise k (omega arith)) in
     omega arith
 
--- so few items have rising numbers up to 1,000,000
+-- so few items have rising numbers up to the largest of an atom
 few_rising : {X : Type 0} (f : X → ℕ) (xs : List X) → IsStrictlyIncreasing (map f xs)
     → ((x : X) → Contains xs x → IsArgument (f x)) → length xs < 2 ^ 32
 few_rising f [] rise all = omega arith

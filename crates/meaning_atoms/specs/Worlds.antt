@@ -23,12 +23,12 @@ pub record World : Type 0 where
 abbrev pub world_of : Framework → List ℕ → World
 world_of f s = record { framework = f; set = s }
 
--- any abstract framework and any set, both of numbers from 1 to 1,000,000
+-- any abstract framework and any set, both of numbers up to the largest of their kind
 pub record IsAfWorld (f : Af) (s : List ℕ) : Type 0 where
   pub framework : IsNumberedAf f
   pub members : (a : ℕ) → Contains s a → IsArgument a
 
--- any flat assumption-based framework and any set, both of numbers from 1 to 1,000,000
+-- any flat assumption-based framework and any set, both of numbers up to the largest of their kind
 pub record IsAbaWorld (f : Aba) (s : List ℕ) : Type 0 where
   pub framework : IsNumberedAba f
   pub members : (a : ℕ) → Contains s a → IsArgument a

@@ -74,8 +74,9 @@ impl Drop for AbaAxiom {
 
 impl AbaAxiom {
     /// Whether the arguments fit the name's row: assumptions, heads, body atoms, atoms that rules head, and rules from 1
-    /// to 1,000,000, contraries from 0, a position to begin at from 1 to `END`, a position to end at before `END` and
-    /// not before its beginning, 1 to 3 for `B16`, and for `B17` the rows of a loop to which the atom belongs.
+    /// to `semantics::MAX_ATOM` or `MAX_RULE`, contraries from 0, a position to begin at from 1 to `END`, a position to
+    /// end at before `END` and not before its beginning, 1 to 3 for `B16`, and for `B17` the rows of a loop to which
+    /// the atom belongs.
     pub fn is_name(&self) -> bool
         ensures { IsTrue result ↔ IsAbaAxiom self.now }
     {

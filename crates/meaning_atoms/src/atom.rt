@@ -19,9 +19,10 @@ pub enum Closure {
     Rest,
 }
 
-/// A statement about a framework and a set of its arguments or assumptions. Numbers of arguments, of assumptions and of
-/// rules are 1 to 1,000,000, a position to begin at is 1 to `END`. The atoms that only frameworks of one kind have read
-/// in those of another by a fixed choice. What each atom says in a world is the definition `Holds` of the specs.
+/// A statement about a framework and a set of its arguments or assumptions. Numbers of arguments are 1 to
+/// `semantics::MAX_ARGUMENT`, of assumptions 1 to `MAX_ATOM`, of rules 1 to `MAX_RULE`, and a position to begin at is
+/// 1 to `END`. The atoms that only frameworks of one kind have read in those of another by a fixed choice. What each
+/// atom says in a world is the definition `Holds` of the specs.
 #[derive(Clone, Copy, Drop, PartialEq, Eq, PartialOrd, Ord, Hash)]
 pub enum Atom {
     /// The argument is in the set.
@@ -102,8 +103,8 @@ impl Closure {
 
 impl Atom {
     /// Whether the numbers are within their bounds: arguments, assumptions, heads, body atoms and rules from 1 to
-    /// 1,000,000, a contrary and an atom of a closure from 0, positions from 1 to `END`, of a gap the first no more
-    /// than the second, and the number of a side clause from 1.
+    /// the largest of their kind, a contrary and an atom of a closure from 0, positions from 1 to `END`, of a gap the
+    /// first no more than the second, and the number of a side clause from 1.
     pub fn is_within(&self) -> bool
         ensures { IsTrue result ↔ IsAtom self.now }
     {
@@ -155,7 +156,7 @@ impl Atom {
     }
 }
 
-/// Whether the number is an atom's, from 1 to 1,000,000, or 0, which is no atom.
+/// Whether the number is an atom's, from 1 to `semantics::MAX_ATOM`, or 0, which is no atom.
 pub fn is_atom_or_none(number: u32) -> bool
     ensures { IsTrue result ↔ IsAtomOrNone number }
 {

@@ -73,8 +73,9 @@ impl AxiomName {
 }
 
 impl AfAxiom {
-    /// Whether the arguments fit the name's row: argument numbers from 1 to 1,000,000, a position to begin at from
-    /// 1 to `END`, a position to end at before `END` and not before its beginning, and 1 to 3 for `A14`.
+    /// Whether the arguments fit the name's row: argument numbers from 1 to `semantics::MAX_ARGUMENT`, a position
+    /// to begin at from 1 to `END`, a position to end at before `END` and not before its beginning, and 1 to 3 for
+    /// `A14`.
     pub fn is_name(&self) -> bool
         ensures { IsTrue result ↔ IsAfAxiom self.now }
     {
@@ -116,7 +117,7 @@ impl AfAxiom {
     }
 }
 
-/// Whether these are a number from 1 to 1,000,000, a position to begin at, and one to end at, not before that and before
+/// Whether these are the number of an argument, a position to begin at, and one to end at, not before that and before
 /// `END`.
 pub(crate) fn is_stretch(number: u32, begin: u32, end: u32) -> bool
     ensures { IsTrue result ↔ IsStretch number begin end }
