@@ -5,7 +5,6 @@
 pub mod aba_lists;
 pub mod deciding;
 pub mod laws;
-mod sets;
 mod theories;
 
 pub use aba_lists::{AbaLists, PlainRule};

@@ -8,8 +8,8 @@ ghost use Rattle.aba_laws.specs.declared.aba_lists.PlainRule.{PlainRule};
 ghost use Rattle.aba_laws.specs.Deciding.{AbaOf, HasAllTheories, IsReady, rule_of};
 
 use crate::aba_lists::{AbaLists, PlainRule, is_within};
-use crate::sets::sets_of;
 use lists::{Items, Memory};
+use semantics::sets::sets_of;
 use std::alloc::Global;
 
 /// A set with all that it derives.

@@ -8,7 +8,7 @@ pub mod deciding;
 pub mod laws;
 pub mod limits;
 pub mod numbers;
-mod sets;
+pub mod sets;
 
 pub use af_lists::AfLists;
 pub use argument::{MAX_ARGUMENT, is_argument};

@@ -7,7 +7,7 @@ use lists::{Items, Memory};
 use std::alloc::Global;
 
 /// The sets that can be made of the numbers, each once by its members.
-pub(crate) fn sets_of(alloc: Global, numbers: &[u32]) -> Result<Items<Items<u32>>, Memory>
+pub fn sets_of(alloc: Global, numbers: &[u32]) -> Result<Items<Items<u32>>, Memory>
     ensures { IfOk result (HasAllSets numbers.now) }
 {
     let mut sets = Items::new(alloc);
