@@ -1,5 +1,5 @@
 -- Truth values, their negations and their conjunctions.
-use Rattle.std.proofs.Common.{◌≡◌, ℕ, Bool, true, false, not, refl, ap, sym, ◌∙◌}
+use Rattle.std.proofs.Common.{◌≡◌, Bool, true, false, not, refl, sym}
 use Rattle.std.specs.Prelude.{◌&&◌, ◌||◌}
 
 -- a negation's negation

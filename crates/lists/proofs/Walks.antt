@@ -1,5 +1,5 @@
 -- What a walk along a list that stops early says of the list's members.
-use Rattle.std.proofs.Common.{◌≡◌, ◌<◌, ℕ, Bool, true, false, List, [], ◌∷◌, length, get_or, arith, subst, refl, rules}
+use Rattle.std.proofs.Common.{◌<◌, ℕ, Bool, true, false, List, [], ◌∷◌, length, get_or, arith, subst, refl, rules}
 use Rattle.std.specs.Prelude.{Contains, ◌↔◌, IsTrue, MatchBool}
 use Rattle.std.specs.List.{HoldsAt, AllWithin}
 use Rattle.std.proofs.lemmas.List.Elements.{Contains-get_or}
