@@ -18,7 +18,7 @@ use Rattle.af_format.proofs.Zips.{AllZip-at}
 use Rattle.lists.proofs.Ranges.{number_cases}
 
 -- the first cause at the line, and every other one later
-pub IsFirstIn : ℕ → List LineText → ℕ → LineCause → Type 0
+IsFirstIn : ℕ → List LineText → ℕ → LineCause → Type 0
 IsFirstIn size lines line cause =
     StandsIn size lines line cause
     × ((l : ℕ) (c : LineCause) → StandsIn size lines l c → (line < l) ⊎ ((line ≡ l) × (rank cause ≤ rank c)))

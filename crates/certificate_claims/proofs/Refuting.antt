@@ -32,7 +32,7 @@ opposite_of : (value : Atom → Bool) (atom : Atom) (positive : Bool)
     → lit_value value (negated (record { atom = atom; positive = positive })) ≡ not
     (lit_value value (record { atom = atom; positive = positive }))
 opposite_of value atom true = refl
-opposite_of value atom false = not_not (value atom)
+opposite_of value atom false = sym (not_not (value atom))
 
 opposite : (value : Atom → Bool) → IsValuation negated (lit_value value)
 opposite value l = opposite_of value l.atom l.positive
