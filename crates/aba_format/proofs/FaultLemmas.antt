@@ -15,7 +15,8 @@ use Rattle.af_format.specs.Causes.{rank, IsFirstCause}
 use Rattle.af_format.specs.Faults.{IfLine}
 use Rattle.af_format.specs.Headers.{af_word, aba_word, IsHeaderOf, StandsOnHeader, IsHeaderFault, IsBadFirstLine, IsBadHeader, BeginWith}
 use Rattle.af_format.proofs.LineCauses.{IsHeaderOf-same, no_header_cause, words_differ}
-use Rattle.af_format.proofs.FirstFaults.{lowest, index_cases, shifted}
+use Rattle.af_format.proofs.FirstFaults.{lowest, shifted}
+use Rattle.lists.proofs.Ranges.{number_cases}
 use Rattle.semantics.specs.AbaFrameworks.{Aba}
 use Rattle.aba_format.specs.AbaText.{Said, says_assumption, says_contrary, SaysLine, AreLines, AreOfAssumptions, ReadsAs}
 use Rattle.aba_format.specs.Faults.{StandsOnLine, SaySome, IsLineFault, StandsAtLine, IsStray, StandsIn, IsFirstFault, IsFaultless}
@@ -115,7 +116,7 @@ line_first : (header : LineText) (others : List LineText) (count line : ℕ) (ca
 unfolding NumbersRising
 line_first header others count line cause is b rises seam part room l c h =
     let stands = same_count header others count l c is h in
-    elim (index_cases h.index (length b.before)) [
+    elim (number_cases h.index (length b.before)) [
       | inl earlier ↦
           let same : get_or others h.index header ≡ get_or b.before h.index header
           = ap (λ ls. get_or ls h.index header) b.lines_are
