@@ -1,4 +1,4 @@
-use Rattle.std.proofs.Common.{refl, sym, ◌∙◌}
+use Rattle.std.proofs.Common.{sym, ◌∙◌}
 use Rattle.std.proofs.lemmas.Bool.{false≢true}
 use Rattle.marked_sets.proofs.UnattackedLemmas.{gains_none, gains_one}
 use Rattle.marked_sets.proofs.arguments.add_if_unattacked.Goals as goal

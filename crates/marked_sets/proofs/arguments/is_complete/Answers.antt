@@ -1,4 +1,4 @@
-use Rattle.std.proofs.Common.{refl, sym, ◌∙◌}
+use Rattle.std.proofs.Common.{sym, ◌∙◌}
 use Rattle.std.proofs.lemmas.Bool.{false≢true}
 use Rattle.marked_sets.proofs.UnattackedLemmas.{complete_by, alone_held, reached_held}
 use Rattle.marked_sets.proofs.arguments.is_complete.Goals as goal

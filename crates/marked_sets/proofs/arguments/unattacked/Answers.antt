@@ -1,4 +1,3 @@
-use Rattle.std.proofs.Common.{refl}
 use Rattle.marked_sets.proofs.UnattackedLemmas.{first_none, first_more, first_all}
 use Rattle.marked_sets.proofs.arguments.unattacked.Goals as goal
 
