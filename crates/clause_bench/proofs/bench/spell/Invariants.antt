@@ -1,6 +1,6 @@
 use Rattle.std.proofs.Common.{◌≡◌, take}
-use Rattle.certificate_check.specs.Benches.{Spells, HasGrown}
-use Rattle.certificate_check.proofs.bench.spell.Given as goal
+use Rattle.clause_bench.specs.Benches.{Spells, HasGrown}
+use Rattle.clause_bench.proofs.bench.spell.Given as goal
 
 abbrev pub invariant-loop-literal : goal.invariant-loop-literal
 invariant-loop-literal l = record {

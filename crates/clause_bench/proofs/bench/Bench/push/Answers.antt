@@ -1,5 +1,5 @@
-use Rattle.certificate_check.proofs.BenchLemmas.{kept, pushed_row, bench_more, view_more}
-use Rattle.certificate_check.proofs.bench.Bench.push.Goals as goal
+use Rattle.clause_bench.proofs.BenchLemmas.{kept, pushed_row, bench_more, view_more}
+use Rattle.clause_bench.proofs.bench.Bench.push.Goals as goal
 
 pub invariant_of-self : goal.invariant_of-self
 invariant_of-self c =

@@ -1,6 +1,6 @@
 use Rattle.std.proofs.Common.{◌∙◌, sym, ap, ◌++◌, ◌∷◌, []}
-use Rattle.certificate_check.proofs.BenchLemmas.{grown_more, spells_next}
-use Rattle.certificate_check.proofs.bench.spell.Goals as goal
+use Rattle.clause_bench.proofs.BenchLemmas.{grown_more, spells_next}
+use Rattle.clause_bench.proofs.bench.spell.Goals as goal
 
 pub loop-literal-preserved : goal.loop-literal-preserved
 loop-literal-preserved c = record {

@@ -1,4 +1,4 @@
-//! The clauses of a refutation's steps, over numbered variables, and the check of one more.
+//! The table of clauses.
 
 ghost use Rattle.std.specs.Prelude.{◌≡◌, ◌≤◌, ℕ, [], ◌∷◌, ◌++◌, length, Contains, Ok, IfOk, OnOk};
 ghost use Rattle.plain_lits.specs.Literals.{negation};
@@ -6,7 +6,7 @@ ghost use Rattle.plain_lits.specs.HintCheck.{Checks};
 ghost use Rattle.plain_lits.specs.Checking.{HasRoomFor, HaveRoomFor};
 ghost use Rattle.meaning_atoms.specs.Literals.{negated};
 ghost use Rattle.atom_table.specs.Numbering.{AreDifferent};
-ghost use Rattle.certificate_check.specs.Benches.{IsBench, Spells, HasGrown, Takes};
+ghost use Rattle.clause_bench.specs.Benches.{IsBench, Spells, HasGrown, Takes};
 
 use atom_table::AtomTable;
 use lists::Memory;
@@ -18,7 +18,7 @@ use std::marker::Model;
 
 /// The clauses of steps in order. Atoms are numbered as they come, so that the check compares numbers; what it assumes
 /// is taken back after each call. A step costs the literals of its clause and of those that its hints name.
-pub(crate) struct Bench {
+pub struct Bench {
     atoms: AtomTable,
     rows: Rows<PackedLit>,
     trail: Trail,
@@ -43,7 +43,7 @@ impl Model for Bench {
     ghost use Rattle.std.specs.Prelude.{List};
     ghost use Rattle.meaning_atoms.specs.declared.atom.AtomLit.{AtomLit};
     ghost use Rattle.atom_table.specs.Numbering.{AreDifferent};
-    ghost use Rattle.certificate_check.specs.Benches.{clauses_over, IsBench};
+    ghost use Rattle.clause_bench.specs.Benches.{clauses_over, IsBench};
 
     ghost Value = { List (List AtomLit) };
 
@@ -54,7 +54,7 @@ impl Model for Bench {
 
 impl Bench {
     /// No clause, which takes no memory.
-    pub(crate) fn new(alloc: Global) -> Bench
+    pub fn new(alloc: Global) -> Bench
         ensures { result ≡ [] }
     {
         Bench {
@@ -67,7 +67,7 @@ impl Bench {
     }
 
     /// Adds a clause.
-    pub(crate) fn push(&mut self, clause: &[AtomLit]) -> Result<(), Memory>
+    pub fn push(&mut self, clause: &[AtomLit]) -> Result<(), Memory>
         ensures { OnOk result (self.new ≡ self.old ++ clause.now ∷ []) }
     {
         prepare(
@@ -82,14 +82,14 @@ impl Bench {
     }
 
     /// How many clauses there are.
-    pub(crate) fn len(&self) -> usize
+    pub fn len(&self) -> usize
         ensures { result ≡ length self.now }
     {
         self.rows.len()
     }
 
     /// Adds a clause if the check of its hints takes it, and answers whether it does.
-    pub(crate) fn derive(&mut self, clause: &[AtomLit], hints: &[StepId]) -> Result<bool, Memory>
+    pub fn derive(&mut self, clause: &[AtomLit], hints: &[StepId]) -> Result<bool, Memory>
         ensures { IfOk result (Takes ((used : ℕ) × Checks negated self.old clause.now hints.now (Ok used))
             self.old clause.now self.new) }
     {

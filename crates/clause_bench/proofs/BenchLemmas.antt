@@ -20,7 +20,7 @@ use Rattle.meaning_atoms.specs.declared.atom.AtomLit.{AtomLit}
 use Rattle.meaning_atoms.specs.Literals.{negated}
 use Rattle.meaning_atoms.proofs.SameAtoms.{same_literal}
 use Rattle.atom_table.specs.Numbering.{AreDifferent, Numbers}
-use Rattle.certificate_check.specs.Benches.{lit_over, clause_over, clauses_over, IsBench, Spells, HasGrown}
+use Rattle.clause_bench.specs.Benches.{lit_over, clause_over, clauses_over, IsBench, Spells, HasGrown}
 
 -- ---- more atoms
 

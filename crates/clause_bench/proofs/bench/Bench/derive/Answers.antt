@@ -1,7 +1,7 @@
 use Rattle.std.proofs.Common.{refl, sym}
-use Rattle.certificate_check.proofs.BenchLemmas.{kept, pushed_row, bench_more, view_more}
-use Rattle.certificate_check.proofs.BenchLemmas.{clause_room, clauses_same, taken_over, not_taken}
-use Rattle.certificate_check.proofs.bench.Bench.derive.Goals as goal
+use Rattle.clause_bench.proofs.BenchLemmas.{kept, pushed_row, bench_more, view_more}
+use Rattle.clause_bench.proofs.BenchLemmas.{clause_room, clauses_same, taken_over, not_taken}
+use Rattle.clause_bench.proofs.bench.Bench.derive.Goals as goal
 
 pub invariant_of-self : goal.invariant_of-self
 invariant_of-self c =
