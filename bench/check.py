@@ -10,7 +10,7 @@ shows that; each step before it follows from five axioms on one attack, and has 
 
 The small ones come in two tables. In the first, a certificate of DS-PR has so many sets `w 2` on a framework of so many
 arguments, or atoms, of which hardly one attacks another; in the second, so many sets `w 2 I`, and a step that names the
-side clause of each. The check of such a certificate should cost what its text does: beside its seconds of the processor
+side clause of each, without and with a step more whose hints name all of these. The check of such a certificate should cost what its text does: beside its seconds of the processor
 stand those of reading the framework alone, by a check of a certificate with no set. `--small` measures these alone.
 
 usage: bench/check.py [--steps N] [--runs K] [--peer PROGRAM] [--small]
@@ -122,7 +122,9 @@ def small_rows(wide, narrow):
     for count in (10, 100, 1_000):
         sets = "".join(f"w 2 {i}\n" for i in range(3, 3 + count))
         sides = "".join(f"s {i}\n" for i in range(1, count + 1))
-        yield f"abstract, {narrow:,}: sets `w 2 I`, a step `s` for each", f"p af {narrow}\n1 1\n", f"{sets}r\n{sides}", count
+        hints = f"d 0 {' '.join(str(i) for i in range(1, count + 1))}\n"
+        for steps, more in (("a step `s` for each", ""), ("a step `s` for each, all named by hints", hints)):
+            yield f"abstract, {narrow:,}: sets `w 2 I`, {steps}", f"p af {narrow}\n1 1\n", f"{sets}r\n{sides}{more}", count
 
 
 def small(program, folder, limit):

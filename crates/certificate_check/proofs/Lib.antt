@@ -2,9 +2,9 @@ mod SetLemmas
 mod SectionLemmas
 mod RowLemmas
 pub mod AxiomKinds
-mod BenchLemmas
 mod GoalLemmas
 mod HintLemmas
+mod IdleLemmas
 mod RowsLemmas
 mod StepLemmas
 mod FlawLemmas

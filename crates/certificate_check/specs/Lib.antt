@@ -1,6 +1,6 @@
 pub mod Witnesses
 pub mod Sections
-pub mod Benches
 pub mod Standing
+pub mod Idle
 pub mod StepRows
 pub mod Flaws

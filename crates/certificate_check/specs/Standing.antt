@@ -9,7 +9,7 @@ use Rattle.certificate_claims.specs.declared.certificate.Step.{Step}
 use Rattle.certificate_claims.specs.declared.certificate.Step.TheVariants.{Axiom, Side, Derived}
 use Rattle.certificate_claims.specs.Refutations.{IsNotAsked, IsAxiomOf, StepHolds, step_clause, no_step}
 use Rattle.answer_claims.specs.declared.claim.Claim.{Claim}
-use Rattle.certificate_check.specs.Benches.{Takes}
+use Rattle.clause_bench.specs.Benches.{Takes}
 use Rattle.answer_claims.specs.ClaimParts.{IsGoal}
 
 -- a fact makes the literal false, or a goal of the claim does, or it denies a side clause

@@ -1,17 +1,17 @@
 //! What a framework says of sets, by its kind.
 
-ghost use Rattle.std.specs.Prelude.{◌≡◌, ◌↔◌, Some, IfOk, IsTrue};
-ghost use Rattle.semantics.specs.AbaFrameworks.{IsInTheory, collective_of};
-ghost use Rattle.semantics.specs.Collectives.{IsGrounded as IsCollectiveGrounded};
-ghost use Rattle.semantics.specs.Framework.{IsGrounded};
-ghost use Rattle.semantics.specs.Frameworks.{aba, af};
+ghost use Rattle.std.specs.Prelude.{◌≡◌, ◌↔◌, Some, IfOk, IsTrue, length};
+ghost use Rattle.semantics.specs.AbaFrameworks.{IsInTheory};
+ghost use Rattle.semantics.specs.Frameworks.{aba};
 ghost use Rattle.semantics.specs.Laws.{HasSameMembers};
 ghost use Rattle.meaning_atoms.specs.declared.atom.Atom.TheVariants.{Ad};
 ghost use Rattle.meaning_atoms.specs.Worlds.{HoldsOf};
 ghost use Rattle.certificate_claims.specs.Acceptance.{GroundedSays};
 ghost use Rattle.certificate_claims.specs.Rights.{Accepts, IsExtension};
+ghost use Rattle.certificate_claims.specs.SetLiterals.{members};
 ghost use Rattle.edit_rules.specs.Kinds.{framework_of};
-ghost use Rattle.certificate_check.specs.Witnesses.{IsTested};
+ghost use Rattle.iccma_tasks.specs.declared.task.Semantics.TheVariants.{Complete, Grounded, Stable};
+ghost use Rattle.certificate_check.specs.Witnesses.{IsBasis, IsTested, ListsUnattacked};
 
 use aba_notions::AbaPlain;
 use dung_notions::AfPlain;
@@ -60,74 +60,147 @@ fn derives(alloc: Global, plain: &AbaPlain, set: &NumSet, atom: u32) -> Result<b
     Ok(theory.contains(atom))
 }
 
+/// How many numbers there are that sets are made of.
+pub(crate) fn member_count(framework: &Framework) -> usize
+    ensures { result ≡ length (members (framework_of framework.now)) }
+{
+    match framework {
+        Framework::Af(plain) => plain.live().len(),
+        Framework::Aba(plain) => plain.assumptions().len(),
+    }
+}
+
+/// What the tests of all sets share. It is found once.
+pub(crate) struct Basis {
+    /// The arguments that nothing attacks, where sets are to be complete.
+    pub(crate) unattacked: Vec<u32>,
+    /// The grounded set, where sets are to be grounded.
+    pub(crate) grounded: NumSet,
+}
+
+// By hand, so that a drop is one call (docs/PROVING.md).
+impl Drop for Basis {
+    fn drop(self) {
+        let Basis {
+            unattacked: _,
+            grounded: _,
+        } = self;
+    }
+}
+
+/// What tests under a semantics share.
+pub(crate) fn basis_of(
+    alloc: Global,
+    framework: &Framework,
+    semantics: Semantics,
+) -> Result<Basis, Memory>
+    ensures { IfOk result (IsBasis (framework_of framework.now) semantics) }
+{
+    match semantics {
+        Semantics::Complete => {
+            let unattacked = unattacked_of(alloc, framework)?;
+            Ok(Basis {
+                unattacked,
+                grounded: NumSet::new(alloc),
+            })
+        }
+        Semantics::Grounded => {
+            let grounded = grounded_of(alloc, framework)?;
+            Ok(Basis {
+                unattacked: Vec::new(alloc),
+                grounded,
+            })
+        }
+        _ => Ok(Basis {
+            unattacked: Vec::new(alloc),
+            grounded: NumSet::new(alloc),
+        }),
+    }
+}
+
+/// The arguments of an abstract framework that nothing attacks.
+fn unattacked_of(alloc: Global, framework: &Framework) -> Result<Vec<u32>, Memory>
+    ensures { IfOk result (λ found. ListsUnattacked (framework_of framework.now) found.items) }
+{
+    match framework {
+        Framework::Af(plain) => Ok(arguments::unattacked(alloc, plain)?),
+        Framework::Aba(_) => Ok(Vec::new(alloc)),
+    }
+}
+
+/// The grounded set.
+fn grounded_of(alloc: Global, framework: &Framework) -> Result<NumSet, Memory>
+    ensures { IfOk result (λ grounded. IsExtension (framework_of framework.now) Grounded grounded) }
+{
+    match framework {
+        Framework::Af(plain) => Ok(plain.grounded(alloc)?.set),
+        Framework::Aba(plain) => Ok(plain.grounded(alloc)?),
+    }
+}
+
 /// Whether a set is an extension under a semantics whose extensions are tested directly: complete, grounded or stable.
 pub(crate) fn is_extension(
     alloc: Global,
     framework: &Framework,
     semantics: Semantics,
+    basis: &Basis,
     set: &NumSet,
     marks: &mut Marks,
 ) -> Result<bool, Memory>
-    requires { IsTested semantics }
+    requires tested { IsTested semantics }
+    requires basis { IsBasis (framework_of framework.now) semantics basis.now }
     ensures { IfOk result (λ is. IsTrue is ↔ IsExtension (framework_of framework.now) semantics set.now) }
 {
-    match framework {
-        Framework::Af(plain) => Ok(is_af_extension(alloc, plain, semantics, set, marks)?),
-        Framework::Aba(plain) => Ok(is_aba_extension(alloc, plain, semantics, set)?),
+    match semantics {
+        Semantics::Complete => {
+            let unattacked = basis.unattacked.as_slice();
+            Ok(is_complete(alloc, framework, unattacked, set, marks)?)
+        }
+        Semantics::Grounded => Ok(is_grounded(framework, &basis.grounded, set)),
+        Semantics::Stable => Ok(is_stable(alloc, framework, set, marks)?),
+        _ => Ok(false),
     }
 }
 
-/// The same of an abstract framework.
-fn is_af_extension(
+/// Whether a set is complete, beside the arguments that nothing attacks.
+fn is_complete(
     alloc: Global,
-    plain: &AfPlain,
-    semantics: Semantics,
+    framework: &Framework,
+    unattacked: &[u32],
     set: &NumSet,
     marks: &mut Marks,
 ) -> Result<bool, Memory>
-    requires { IsTested semantics }
-    ensures { IfOk result (λ is. IsTrue is ↔ IsExtension (af plain.now) semantics set.now) }
+    requires { ListsUnattacked (framework_of framework.now) unattacked.now }
+    ensures { IfOk result (λ is. IsTrue is ↔ IsExtension (framework_of framework.now) Complete set.now) }
 {
-    match semantics {
-        Semantics::Complete => Ok(plain.is_complete(set)),
-        Semantics::Grounded => Ok(is_grounded(alloc, plain, set)?),
-        Semantics::Stable => Ok(arguments::is_stable(alloc, plain, set, marks)?),
-        _ => Ok(false),
+    match framework {
+        Framework::Af(plain) => Ok(arguments::is_complete(alloc, plain, unattacked, set, marks)?),
+        Framework::Aba(plain) => Ok(plain.is_complete(alloc, set)?),
+    }
+}
+
+/// Whether a set is stable.
+fn is_stable(
+    alloc: Global,
+    framework: &Framework,
+    set: &NumSet,
+    marks: &mut Marks,
+) -> Result<bool, Memory>
+    ensures { IfOk result (λ is. IsTrue is ↔ IsExtension (framework_of framework.now) Stable set.now) }
+{
+    match framework {
+        Framework::Af(plain) => Ok(arguments::is_stable(alloc, plain, set, marks)?),
+        Framework::Aba(plain) => Ok(plain.is_stable(alloc, set)?),
     }
 }
 
 /// Whether a set is the grounded set.
-fn is_grounded(alloc: Global, plain: &AfPlain, set: &NumSet) -> Result<bool, Memory>
-    ensures { IfOk result (λ is. IsTrue is ↔ IsGrounded plain.now set.now) }
+fn is_grounded(framework: &Framework, grounded: &NumSet, set: &NumSet) -> bool
+    requires { IsExtension (framework_of framework.now) Grounded grounded.now }
+    ensures { IsTrue result ↔ IsExtension (framework_of framework.now) Grounded set.now }
 {
-    let grounded = plain.grounded(alloc)?.set;
-    Ok(is_same(set, &grounded))
-}
-
-/// The same of an assumption-based framework.
-fn is_aba_extension(
-    alloc: Global,
-    plain: &AbaPlain,
-    semantics: Semantics,
-    set: &NumSet,
-) -> Result<bool, Memory>
-    requires { IsTested semantics }
-    ensures { IfOk result (λ is. IsTrue is ↔ IsExtension (aba plain.now) semantics set.now) }
-{
-    match semantics {
-        Semantics::Complete => Ok(plain.is_complete(alloc, set)?),
-        Semantics::Grounded => Ok(is_aba_grounded(alloc, plain, set)?),
-        Semantics::Stable => Ok(plain.is_stable(alloc, set)?),
-        _ => Ok(false),
-    }
-}
-
-/// Whether a set is the grounded set of an assumption-based framework.
-fn is_aba_grounded(alloc: Global, plain: &AbaPlain, set: &NumSet) -> Result<bool, Memory>
-    ensures { IfOk result (λ is. IsTrue is ↔ IsCollectiveGrounded (collective_of plain.now) set.now) }
-{
-    let grounded = plain.grounded(alloc)?;
-    Ok(is_same(set, &grounded))
+    let _kind = framework.kind();
+    is_same(set, grounded)
 }
 
 /// Whether two sets have the same members.

@@ -1,7 +1,6 @@
 //! The check of a certificate: accepted exactly where it shows its answer, or else the first failure.
 #![tactic(auto)]
 
-mod bench;
 mod closed;
 mod kinds;
 pub mod refuting;

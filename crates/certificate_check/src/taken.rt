@@ -1,20 +1,30 @@
-//! The steps that were taken. A side clause has one row, however many steps name it.
+//! The steps that were taken. A side clause is written out only where a hint names it that may use it, and then it has
+//! one row, however many steps name it.
 
-ghost use Rattle.std.specs.Prelude.{◌≡◌, ◌≤◌, [], length, map, slice_index_or, IfOk, OnOk};
-ghost use Rattle.certificate_check.specs.StepRows.{AddsAgain, AddsClause, AddsDerived, AddsSide, IsUntouched, NotesRow, row_named};
+ghost use Rattle.std.specs.Prelude.{◌≡◌, ◌≤◌, length, map, IfOk, OnOk};
+ghost use Rattle.certificate_check.specs.StepRows.{AddsClause, AddsDerived, IsUntouched, NotesRow, NotesSide, WritesSide};
+ghost use Rattle.certificate_check.specs.StepRows.{place_named, row_named, row_of};
 
-use crate::bench::Bench;
+use clause_bench::Bench;
 use lists::Memory;
 use meaning_atoms::AtomLit;
 use plain_lits::StepId;
 use std::alloc::Global;
 
-/// Steps, each with the row of its clause.
+/// Where the clause of a step stands.
+#[derive(Clone, Copy)]
+pub(crate) enum Place {
+    /// In a row of the bench, counted from 1.
+    Row(u32),
+    /// In the set of this number, as its side clause.
+    Side(u32),
+}
+
+/// Steps, each with the place of its clause.
 pub(crate) struct Taken {
     bench: Bench,
-    /// The row of each step, counted from 1.
-    rows: Vec<u32>,
-    /// The row of each side clause, counted from 1, or 0 where none was made.
+    places: Vec<Place>,
+    /// The row of each side clause, counted from 1, or 0 where it isn't written out.
     sides: Vec<u32>,
     /// The rows that the hints of a step name.
     named: Vec<StepId>,
@@ -25,7 +35,7 @@ impl Drop for Taken {
     fn drop(self) {
         let Taken {
             bench: _,
-            rows: _,
+            places: _,
             sides: _,
             named: _,
         } = self;
@@ -40,90 +50,133 @@ impl Taken {
         let sides = vec![in alloc; 0u32; count]?;
         Ok(Taken {
             bench: Bench::new(alloc),
-            rows: Vec::new(alloc),
+            places: Vec::new(alloc),
             sides,
             named: Vec::new(alloc),
         })
     }
 
-    /// Makes the last row that of one step more, and answers with it.
-    fn note_row(&mut self) -> Result<u32, Memory>
-        ensures { IfOk result (NotesRow self.old self.new) }
+    /// Makes the last row that of one step more.
+    fn note_row(&mut self) -> Result<(), Memory>
+        ensures { OnOk result (NotesRow self.old self.new) }
     {
-        let row = self.bench.len();
-        if row > u32::MAX as usize {
-            return Err(Memory);
-        }
-        self.rows.push(row as u32)?;
-        Ok(row as u32)
+        let row = last_row(&self.bench)?;
+        self.places.push(Place::Row(row))?;
+        Ok(())
     }
 
-    /// Adds a step with a clause in a row of its own, and answers with the row.
-    pub(crate) fn push(&mut self, clause: &[AtomLit]) -> Result<u32, Memory>
-        ensures { IfOk result (AddsClause clause.now self.old self.new) }
+    /// Adds a step with a clause in a row of its own.
+    pub(crate) fn push(&mut self, clause: &[AtomLit]) -> Result<(), Memory>
+        ensures { OnOk result (AddsClause clause.now self.old self.new) }
     {
         self.bench.push(clause)?;
-        let row = self.note_row()?;
-        Ok(row)
+        self.note_row()?;
+        Ok(())
     }
 
-    /// Adds a step with the clause of a side clause that has no row yet.
-    pub(crate) fn push_side(&mut self, number: usize, clause: &[AtomLit]) -> Result<(), Memory>
+    /// Adds a step that names a side clause, which isn't looked at.
+    pub(crate) fn push_side(&mut self, number: u32) -> Result<(), Memory>
+        ensures { OnOk result (NotesSide number self.old self.new) }
+    {
+        self.places.push(Place::Side(number))?;
+        Ok(())
+    }
+
+    /// The place of the clause of the step that a hint names, or row 0 where it names none.
+    pub(crate) fn place_of(&self, hint: u32) -> Place
+        ensures { result ≡ place_named self.now.places.items hint }
+    {
+        place_at(self.places.as_slice(), hint)
+    }
+
+    /// The row of a side clause, or 0 where it isn't written out.
+    pub(crate) fn row_of_side(&self, number: u32) -> u32
+        ensures { result ≡ row_of self.now.sides.items (Place.Side number) }
+    {
+        side_row(self.sides.as_slice(), number)
+    }
+
+    /// Gives a side clause a row.
+    pub(crate) fn write_side(&mut self, number: usize, clause: &[AtomLit]) -> Result<(), Memory>
         requires from_one { 1 ≤ number }
         requires within { number ≤ length self.old.sides.items }
-        ensures { OnOk result (AddsSide number clause.now self.old self.new) }
+        ensures { OnOk result (WritesSide number clause.now self.old self.new) }
     {
-        let row = self.push(clause)?;
+        self.bench.push(clause)?;
+        let row = last_row(&self.bench)?;
         self.sides[number - 1] = row;
         Ok(())
     }
 
-    /// Adds a step with the row of a side clause, if it has one, and answers whether it does.
-    pub(crate) fn again(&mut self, number: usize) -> Result<bool, Memory>
-        requires from_one { 1 ≤ number }
-        requires within { number ≤ length self.old.sides.items }
-        ensures { IfOk result (AddsAgain number self.old self.new) }
-    {
-        let sides = self.sides.as_slice();
-        let row = sides[number - 1];
-        if row == 0 {
-            return Ok(false);
-        }
-        self.rows.push(row)?;
-        Ok(true)
-    }
-
-    /// Adds a step with a clause if the check of its hints takes it, and answers whether it does.
+    /// Adds a step with a clause if the check of its hints takes it, and answers whether it does. A hint that names a
+    /// side clause which isn't written out names no row.
     pub(crate) fn derive(&mut self, clause: &[AtomLit], hints: &[u32]) -> Result<bool, Memory>
         ensures { IfOk result (AddsDerived clause.now hints.now self.old self.new) }
     {
-        name_rows(&mut self.named, self.rows.as_slice(), hints)?;
+        let places = self.places.as_slice();
+        name_rows(&mut self.named, places, self.sides.as_slice(), hints)?;
         let derived = self.bench.derive(clause, self.named.as_slice())?;
         if !derived {
             return Ok(false);
         }
-        let _row = self.note_row()?;
+        self.note_row()?;
         Ok(true)
     }
 }
 
+/// The number of the last row of a bench.
+fn last_row(bench: &Bench) -> Result<u32, Memory>
+    ensures { IfOk result (λ row. row ≡ length bench.now) }
+{
+    let row = bench.len();
+    if row > u32::MAX as usize {
+        return Err(Memory);
+    }
+    Ok(row as u32)
+}
+
 /// The rows of the steps that hints name.
-fn name_rows(named: &mut Vec<StepId>, rows: &[u32], hints: &[u32]) -> Result<(), Memory>
-    ensures { OnOk result (named.new.items ≡ map (row_named rows.now) hints.now) }
+fn name_rows(
+    named: &mut Vec<StepId>,
+    places: &[Place],
+    sides: &[u32],
+    hints: &[u32],
+) -> Result<(), Memory>
+    ensures { OnOk result (named.new.items ≡ map (row_named places.now sides.now) hints.now) }
 {
     named.clear();
     for hint in hints {
-        named.push(StepId::new(row_of(rows, *hint)))?;
+        named.push(StepId::new(row_at(places, sides, *hint)))?;
     }
     Ok(())
 }
 
 /// The row of the step that a hint names, or 0 where it names none.
-fn row_of(rows: &[u32], hint: u32) -> u32
-    ensures { result ≡ row_named rows.now hint }
+fn row_at(places: &[Place], sides: &[u32], hint: u32) -> u32
+    ensures { result ≡ row_named places.now sides.now hint }
 {
-    if hint == 0 || hint as usize > rows.len() {
+    match place_at(places, hint) {
+        Place::Row(row) => row,
+        Place::Side(number) => side_row(sides, number),
+    }
+}
+
+/// The place of the clause of the step that a hint names, or row 0 where it names none.
+fn place_at(places: &[Place], hint: u32) -> Place
+    ensures { result ≡ place_named places.now hint }
+{
+    if hint == 0 || hint as usize > places.len() {
+        return Place::Row(0);
+    }
+    places[hint as usize - 1]
+}
+
+/// The row of a side clause, or 0 where it has none.
+fn side_row(sides: &[u32], number: u32) -> u32
+    ensures { result ≡ row_of sides.now (Place.Side number) }
+{
+    if number == 0 || number as usize > sides.len() {
         return 0;
     }
-    rows[hint as usize - 1]
+    sides[number as usize - 1]
 }

@@ -7,10 +7,10 @@ ghost use Rattle.certificate_claims.specs.declared.row.Row.TheVariants.{Ideal};
 ghost use Rattle.certificate_claims.specs.Acceptance.{AcceptsAsSaid, IsShaped, IsShown, PassesSet, PassesTest, Suits, TakesSets};
 ghost use Rattle.certificate_claims.specs.Rights.{Accepts, IsExtension};
 ghost use Rattle.edit_rules.specs.Kinds.{framework_of};
-ghost use Rattle.certificate_check.specs.Witnesses.{IsTested, IsTestedRow};
+ghost use Rattle.certificate_check.specs.Witnesses.{IsBasis, IsTested, IsTestedRow};
 ghost use Rattle.certificate_check.specs.Standing.{IsFirstWithout};
 
-use crate::kinds::{accepts, is_admissible, is_extension};
+use crate::kinds::{Basis, accepts, basis_of, is_admissible, is_extension};
 use crate::verdict::Checked;
 use certificate_claims::Row;
 use edit_rules::Framework;
@@ -74,14 +74,16 @@ fn is_suitable_extension(
     alloc: Global,
     framework: &Framework,
     query: &Query,
+    basis: &Basis,
     set: &NumSet,
     marks: &mut Marks,
 ) -> Result<bool, Memory>
-    requires { IsTested query.now.task.semantics }
+    requires tested { IsTested query.now.task.semantics }
+    requires basis { IsBasis (framework_of framework.now) query.now.task.semantics basis.now }
     ensures { IfOk result (λ is. IsTrue is ↔ (IsExtension (framework_of framework.now) query.now.task.semantics set.now
         × Suits (framework_of framework.now) query.now.task.problem query.now.number set.now)) }
 {
-    let extension = is_extension(alloc, framework, query.task().semantics, set, marks)?;
+    let extension = is_extension(alloc, framework, query.task().semantics, basis, set, marks)?;
     if !extension {
         return Ok(false);
     }
@@ -95,19 +97,21 @@ fn passes_test(
     framework: &Framework,
     query: &Query,
     row: &Row,
+    basis: &Basis,
     set: &NumSet,
     marks: &mut Marks,
 ) -> Result<bool, Memory>
-    requires { IsTestedRow row.now query.now.task.semantics }
+    requires row { IsTestedRow row.now query.now.task.semantics }
+    requires basis { IsBasis (framework_of framework.now) query.now.task.semantics basis.now }
     ensures { IfOk result (λ passes. IsTrue passes
         ↔ PassesTest (framework_of framework.now) query.now row.now set.now) }
 {
     match row {
-        Row::Tested(_) => Ok(is_suitable_extension(alloc, framework, query, set, marks)?),
+        Row::Tested(_) => Ok(is_suitable_extension(alloc, framework, query, basis, set, marks)?),
         Row::Largest(_) | Row::Widest(_) => Ok(is_suitable(alloc, framework, query, set, marks)?),
         Row::AllTested(_, _) => {
             let semantics = query.task().semantics;
-            Ok(is_extension(alloc, framework, semantics, set, marks)?)
+            Ok(is_extension(alloc, framework, semantics, basis, set, marks)?)
         }
         Row::AllLargest(_) | Row::AllWidest(_) => Ok(is_admissible(alloc, framework, set, marks)?),
         _ => Ok(true),
@@ -127,8 +131,9 @@ pub(crate) fn first_bad_witness(
     ensures { IfOk result (IsFirstWithout (λ k. PassesTest (framework_of framework.now) query.now row.now
         (slice_index_or shown.now k [])) (length shown.now)) }
 {
+    let basis = basis_of(alloc, framework, query.task().semantics)?;
     for index in 0..shown.len() {
-        let passes = passes_test(alloc, framework, query, row, &shown[index], marks)?;
+        let passes = passes_test(alloc, framework, query, row, &basis, &shown[index], marks)?;
         if !passes {
             return Ok(Some(index));
         }

@@ -38,7 +38,7 @@ impl Marks {
     }
 
     /// Takes all marks back. From then on the numbers below the bound can be marked. Where the bound is as before, that
-    /// is one step, unless the stamps have run out: then the table is made anew. After `Memory` the marks are as before.
+    /// is one step, unless the stamps have run out: then the table is made anew.
     pub fn clear(&mut self, alloc: Global, bound: usize) -> Result<(), Memory>
         ensures { OnOk result (self.new ≡ replicate bound false) }
     {

@@ -1,4 +1,5 @@
 use Rattle.std.proofs.Common.{arith, refl}
+use Rattle.edit_rules.specs.Kinds.{framework_of}
 use Rattle.certificate_check.proofs.RowsLemmas.{no_clauses, untouched}
 use Rattle.certificate_check.proofs.StepLemmas.{none_taken, takes_next, stops_at}
 use Rattle.certificate_check.proofs.steps.first_bad_step.Goals as goal
@@ -6,7 +7,8 @@ use Rattle.certificate_check.proofs.steps.first_bad_step.Goals as goal
 pub loop-index-init : goal.loop-index-init
 loop-index-init c = record {
   rows = untouched _ _ _ _ _ refl c.in_ok-taken.ensures;
-  steps = none_taken _ _ _ _ (no_clauses _ _ c.in_ok-taken.ensures);
+  steps = none_taken _ _ _ _ (no_clauses (framework_of c.args.framework.now) c.args.kind c.args.sets.now _ _
+      c.in_ok-taken.ensures);
 }
 
 pub returns-then-not-branch : goal.returns-then-not-branch

@@ -7,6 +7,6 @@ use Rattle.certificate_check.proofs.steps.first_bad_step.Given as goal
 abbrev pub invariant-loop-index : goal.invariant-loop-index
 invariant-loop-index l = record {
   rows : IsTaken (framework_of l.framework) l.kind l.sets l.taken;
-  steps : HasTaken (framework_of l.framework) (sides_of (framework_of l.framework) l.kind l.sets) (clauses_of l.taken)
-      l.steps l.index;
+  steps : HasTaken (framework_of l.framework) (sides_of (framework_of l.framework) l.kind l.sets)
+      (clauses_of (framework_of l.framework) l.kind l.sets l.taken) l.steps l.index;
 }

@@ -10,5 +10,5 @@ clause_of_axiom-requires c =
 
 pub returns : goal.returns
 returns c =
-    taken_on _ _ _ _ _ _ _ _ c.requires (c.if-not-is_axiom.ensures.0 refl)
-    (c.as_slice.ensures ∙ c.in_ok-clause.ensures.table) c.in_ok-_row.ensures
+    taken_on _ _ _ _ _ _ _ c.requires (c.if-not-is_axiom.ensures.0 refl)
+    (c.as_slice.ensures ∙ c.in_ok-clause.ensures.table) c.in_ok-push.ensures
