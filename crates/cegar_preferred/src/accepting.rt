@@ -1,17 +1,14 @@
 //! Whether all preferred sets accept a query.
 
-ghost use Rattle.std.specs.Prelude.{◌≡◌, ◌+◌, ◌*◌, length, IfOk};
-ghost use Rattle.meaning_atoms.specs.declared.atom.Atom.TheVariants.{Ad};
-ghost use Rattle.meaning_atoms.specs.Worlds.{HoldsOf};
-ghost use Rattle.certificate_claims.specs.Rights.{Accepts};
-ghost use Rattle.oracle_face.specs.Logs.{IsKept};
-ghost use Rattle.oracle_face.specs.Growing.{HasRun, closes, halt_of};
+ghost use Rattle.std.specs.Prelude.{IfOk};
+ghost use Rattle.oracle_face.specs.Growing.{closes, halt_of};
 ghost use Rattle.edit_rules.specs.Fitting.{IsKnown};
 ghost use Rattle.cegar_preferred.specs.Covers.{Extends, IsAccepting, IsCover, IsUncovered};
 ghost use Rattle.cegar_preferred.specs.Largest.{MadeOutside};
+ghost use Rattle.goal_lists.specs.Runs.{Ran, RanInAll};
 
-use crate::maximal::{Maximal, maximal_from};
-use goal_lists::{outside, search_query};
+use crate::maximal::{Maximal, maximal_from, oblige_outside};
+use goal_lists::search_query;
 use lists::Items;
 use meaning_atoms::Atom;
 use oracle_face::{AskId, Budget, Found, Halt, Oracle, StepId};
@@ -45,12 +42,7 @@ pub fn accept_all<O: Oracle>(
 ) -> Result<Accepting, Halt>
     requires { IsKnown (O.framework oracle.old) goal }
     ensures accepting { IfOk result (IsAccepting (O.framework oracle.old) (O.log oracle.new) goal) }
-    ensures run { HasRun (MadeOutside (O.framework oracle.old)) (2 * length (O.log oracle.new).sides + 2)
-        (O.framework oracle.old) (O.log oracle.old) (O.log oracle.new) (O.pending oracle.new) budget.old budget.new
-        (halt_of result) }
-    ensures framework { O.framework oracle.new ≡ O.framework oracle.old }
-    ensures kept { IsKept (O.framework oracle.new) (O.log oracle.new) }
-    ensures follows { O.follows oracle.old oracle.new }
+    ensures ran { RanInAll O.Oracle MadeOutside oracle.old oracle.new budget.old budget.new (halt_of result) }
 {
     let _members = oracle.members();
     let mut cover = Cover {
@@ -80,11 +72,8 @@ fn find_uncovered<O: Oracle>(
     requires goal { IsKnown (O.framework oracle.old) goal }
     requires cover { IsCover (O.framework oracle.old) (O.log oracle.old) goal cover.now }
     ensures uncovered { IfOk result (IsUncovered (O.framework oracle.old) (O.log oracle.new) goal cover.now) }
-    ensures run { HasRun (MadeOutside (O.framework oracle.old)) (closes result) (O.framework oracle.old)
-        (O.log oracle.old) (O.log oracle.new) (O.pending oracle.new) budget.old budget.new (halt_of result) }
-    ensures framework { O.framework oracle.new ≡ O.framework oracle.old }
-    ensures kept { IsKept (O.framework oracle.new) (O.log oracle.new) }
-    ensures follows { O.follows oracle.old oracle.new }
+    ensures ran { Ran O.Oracle MadeOutside (closes result) oracle.old oracle.new budget.old budget.new
+        (halt_of result) }
 {
     let _members = oracle.members();
     search_query(
@@ -111,19 +100,14 @@ fn extend<O: Oracle>(
     requires cover { IsCover (O.framework oracle.old) (O.log oracle.old) goal cover.old }
     requires set { IsUncovered (O.framework oracle.old) (O.log oracle.old) goal cover.old (Found.Set set.now) }
     ensures extends { IfOk result (Extends (O.framework oracle.old) (O.log oracle.new) goal cover.old cover.new) }
-    ensures run { HasRun (MadeOutside (O.framework oracle.old)) 1 (O.framework oracle.old) (O.log oracle.old)
-        (O.log oracle.new) (O.pending oracle.new) budget.old budget.new (halt_of result) }
-    ensures framework { O.framework oracle.new ≡ O.framework oracle.old }
-    ensures kept { IsKept (O.framework oracle.new) (O.log oracle.new) }
-    ensures follows { O.follows oracle.old oracle.new }
+    ensures ran { Ran O.Oracle MadeOutside 1 oracle.old oracle.new budget.old budget.new (halt_of result) }
 {
     let maximal = maximal_from(alloc, oracle, budget, set)?;
     let accepts = oracle.accepts(alloc, goal, &maximal.set)?;
     if !accepts {
         return Ok(Some(maximal));
     }
-    let side = outside(alloc, oracle.members(), &maximal.set)?;
-    let ask = oracle.oblige(alloc, &side, &maximal.set, budget)?;
+    let ask = oblige_outside(alloc, oracle, budget, &maximal.set)?;
     cover.asks.push(ask)?;
     cover.sets.push(maximal.set)?;
     Ok(None)

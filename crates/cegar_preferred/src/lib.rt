@@ -6,4 +6,4 @@ mod accepting;
 mod maximal;
 
 pub use accepting::{Accepting, accept_all};
-pub use maximal::{Maximal, maximal_from};
+pub use maximal::{Maximal, maximal_from, oblige_outside};

@@ -1,15 +1,17 @@
 //! Sets that lie in no larger admissible one.
 
-ghost use Rattle.std.specs.Prelude.{◌≡◌, IfOk};
+ghost use Rattle.std.specs.Prelude.{IfOk};
 ghost use Rattle.meaning_atoms.specs.declared.atom.Atom.TheVariants.{Ad};
 ghost use Rattle.meaning_atoms.specs.Worlds.{HoldsOf};
-ghost use Rattle.oracle_face.specs.Logs.{IsKept};
-ghost use Rattle.oracle_face.specs.Growing.{HasRun, closes, halt_of};
+ghost use Rattle.oracle_face.specs.Growing.{closes, halt_of};
+ghost use Rattle.certificate_claims.specs.SetLiterals.{outside as outside_of};
+ghost use Rattle.goal_lists.specs.Sides.{IsAskOf};
 ghost use Rattle.cegar_preferred.specs.Largest.{IsLarger, IsMaximalFrom, MadeOutside};
+ghost use Rattle.goal_lists.specs.Runs.{Ran};
 
 use goal_lists::{Wanted, outside, search_beside};
 use meaning_atoms::Atom;
-use oracle_face::{Budget, Found, Halt, Oracle, StepId};
+use oracle_face::{AskId, Budget, Found, Halt, Oracle, StepId};
 use set_lists::NumSet;
 use std::alloc::Global;
 
@@ -31,11 +33,7 @@ pub fn maximal_from<O: Oracle>(
 ) -> Result<Maximal, Halt>
     requires { HoldsOf (O.framework oracle.old) set.now Ad }
     ensures maximal { IfOk result (IsMaximalFrom (O.framework oracle.old) (O.log oracle.new) set.now) }
-    ensures run { HasRun (MadeOutside (O.framework oracle.old)) 1 (O.framework oracle.old) (O.log oracle.old)
-        (O.log oracle.new) (O.pending oracle.new) budget.old budget.new (halt_of result) }
-    ensures framework { O.framework oracle.new ≡ O.framework oracle.old }
-    ensures kept { IsKept (O.framework oracle.new) (O.log oracle.new) }
-    ensures follows { O.follows oracle.old oracle.new }
+    ensures ran { Ran O.Oracle MadeOutside 1 oracle.old oracle.new budget.old budget.new (halt_of result) }
 {
     let _members = oracle.members();
     let mut grown = set.copy(alloc)?;
@@ -61,11 +59,8 @@ fn larger<O: Oracle>(
 ) -> Result<Found, Halt>
     requires { HoldsOf (O.framework oracle.old) set.now Ad }
     ensures larger { IfOk result (IsLarger (O.framework oracle.old) (O.log oracle.new) set.now) }
-    ensures run { HasRun (MadeOutside (O.framework oracle.old)) (closes result) (O.framework oracle.old)
-        (O.log oracle.old) (O.log oracle.new) (O.pending oracle.new) budget.old budget.new (halt_of result) }
-    ensures framework { O.framework oracle.new ≡ O.framework oracle.old }
-    ensures kept { IsKept (O.framework oracle.new) (O.log oracle.new) }
-    ensures follows { O.follows oracle.old oracle.new }
+    ensures ran { Ran O.Oracle MadeOutside (closes result) oracle.old oracle.new budget.old budget.new
+        (halt_of result) }
 {
     let side = outside(alloc, oracle.members(), set)?;
     let wanted = Wanted {
@@ -75,4 +70,19 @@ fn larger<O: Oracle>(
         asks: &[],
     };
     search_beside(alloc, oracle, budget, Atom::Ad, &wanted, &side, set)
+}
+
+/// Keeps the side clause that something lies outside an admissible set, and gives its number.
+pub fn oblige_outside<O: Oracle>(
+    alloc: Global,
+    oracle: &mut O,
+    budget: &mut Budget,
+    set: &NumSet,
+) -> Result<AskId, Halt>
+    requires { HoldsOf (O.framework oracle.old) set.now Ad }
+    ensures asked { IfOk result (IsAskOf (O.log oracle.new).sides (outside_of (O.framework oracle.old) set.now)) }
+    ensures ran { Ran O.Oracle MadeOutside 0 oracle.old oracle.new budget.old budget.new (halt_of result) }
+{
+    let side = outside(alloc, oracle.members(), set)?;
+    oracle.oblige(alloc, &side, set, budget)
 }

@@ -1,11 +1,8 @@
--- Lists of all extensions by each semantics.
-use Rattle.std.proofs.Common.{◌≡◌, ℕ, ◌+◌, ◌*◌, ◌<◌, false, List, [], ◌∷◌, length, refl, subst, sym, arith}
-use Rattle.std.specs.Prelude.{Contains, slice_index_or, Option}
+use Rattle.std.proofs.Common.{◌≡◌, ℕ, ◌<◌, false, List, [], ◌∷◌, length, refl, subst, sym, arith}
+use Rattle.std.specs.Prelude.{Contains, slice_index_or}
 use Rattle.std.proofs.lemmas.Bool.{false≢true}
 use Rattle.std.proofs.lemmas.List.{get_or_default}
 use Rattle.lists.proofs.Membership.{Contains-nil}
-use Rattle.plain_lits.specs.declared.halt.Halt.{Halt}
-use Rattle.plain_lits.specs.Units.{Units}
 use Rattle.semantics.specs.Frameworks.{Framework, af, aba}
 use Rattle.meaning_atoms.specs.declared.atom.Atom.{Atom}
 use Rattle.meaning_atoms.specs.declared.atom.Atom.TheVariants.{Ad, Co, St}
@@ -13,7 +10,8 @@ use Rattle.meaning_atoms.specs.declared.atom.AtomLit.{AtomLit}
 use Rattle.meaning_atoms.specs.Literals.{affirmed, AsksNothing}
 use Rattle.meaning_atoms.specs.Worlds.{HoldsOf, IsAsk}
 use Rattle.iccma_tasks.specs.declared.task.Semantics.{Semantics}
-use Rattle.iccma_tasks.specs.declared.task.Semantics.TheVariants.{Complete, Grounded, Preferred, Stable, SemiStable, Ideal}
+use Rattle.iccma_tasks.specs.declared.task.Semantics.TheVariants.{Complete, Grounded, Preferred, Stable, SemiStable}
+use Rattle.iccma_tasks.specs.declared.task.Semantics.TheVariants.{Ideal}
 use Rattle.iccma_tasks.specs.declared.task.Kind.{Kind}
 use Rattle.iccma_tasks.specs.declared.task.Kind.TheVariants.{Af as OfAf, Aba as OfAba}
 use Rattle.iccma_tasks.specs.declared.task.Problem.{Problem}
@@ -27,14 +25,13 @@ use Rattle.certificate_claims.specs.Rights.{IsExtension, SetsRise}
 use Rattle.certificate_claims.specs.SetLiterals.{differs, outside, wider}
 use Rattle.certificate_claims.proofs.ExtensionFacts.{admissible_world, preferred_admissible}
 use Rattle.certificate_claims.proofs.GoalLists.{asks_cons, asks_nil, fails_mapped, meets_cons, meets_nil, plain_mapped}
-use Rattle.certificate_claims.proofs.KindFacts.{complete_admissible, complete_is, complete_round, none_admissible, semi_stable_admissible, stable_is}
+use Rattle.certificate_claims.proofs.KindFacts.{complete_admissible, complete_is, complete_round, none_admissible}
+use Rattle.certificate_claims.proofs.KindFacts.{semi_stable_admissible, stable_is}
 use Rattle.certificate_claims.proofs.SideClauses.{differs_plain, outside_plain, wider_plain}
-use Rattle.oracle_face.specs.declared.face.Pending.{Pending}
 use Rattle.oracle_face.specs.Goals.{Refutes}
-use Rattle.oracle_face.specs.Growing.{HasRun}
 use Rattle.oracle_face.specs.Kinds.{is_assumption_based}
 use Rattle.oracle_face.specs.Logs.{IsKept, OracleLog}
-use Rattle.oracle_face.proofs.GrowingLemmas.{Makes, run_as}
+use Rattle.oracle_face.proofs.GrowingLemmas.{Makes}
 use Rattle.oracle_face.proofs.Refuting.{claim_excluded}
 use Rattle.edit_rules.specs.Kinds.{kind_of}
 use Rattle.goal_lists.proofs.GoalKinds.{semi_stable_abstract}
@@ -51,8 +48,11 @@ use Rattle.enumerate_block.specs.declared.ranges.Ranged.TheVariants.{Whole as Wh
 use Rattle.enumerate_block.specs.Ranges.{IsAllSemiStable, IsAllOrMore as IsRangedList, IsShownWidest, MadeForRanges}
 use Rattle.enumerate_block.proofs.RangeLemmas.{no_range_within}
 use Rattle.enumerate_block.proofs.StepLemmas.{refuted_first, refuted_none}
-use Rattle.enumerate_block.specs.Extensions.{AreExtensions, IsListOf, IsListTask, IsModeOf, IsShownOne, MadeForAll, asked_all, with_step, with_steps}
+use Rattle.enumerate_block.specs.Extensions.{AreExtensions, IsListOf, IsListTask, IsModeOf, IsShownOne, MadeForAll}
+use Rattle.enumerate_block.specs.Extensions.{asked_all, with_step, with_steps}
 use Rattle.enumerate_block.proofs.OneSet.{largest_shown, mode_shown, widest_shown}
+
+-- Lists of all extensions by each semantics.
 
 -- ---- the direct tests
 
@@ -295,34 +295,17 @@ no_ideal f task h is = ideal_is_one (kind_of f) (has_task f task Ideal h is)
 
 -- ---- what calls leave
 
-made_differs : (f : Framework) (semantics : Semantics) (mode : Atom) → IsModeOf semantics mode
+pub made_differs : (f : Framework) (semantics : Semantics) (mode : Atom) → IsModeOf semantics mode
     → Makes (MadeDiffers f) (MadeForAll f semantics)
 made_differs f Complete Co ok literals set h = (h.1, h.0)
 made_differs f Stable St ok literals set h = (h.1, h.0)
 made_differs f _ _ ok literals set h = absurd ok
 
-made_outside : (f : Framework) → Makes (MadeOutside f) (MadeForAll f Preferred)
+pub made_outside : (f : Framework) → Makes (MadeOutside f) (MadeForAll f Preferred)
 made_outside f literals set h = (h.1, h.0)
 
-made_ranges : (f : Framework) → Makes (MadeForRanges f) (MadeForAll f SemiStable)
+pub made_ranges : (f : Framework) → Makes (MadeForRanges f) (MadeForAll f SemiStable)
 made_ranges f literals set h = h
-
-pub run_tested : (f : Framework) (semantics : Semantics) (mode : Atom) (a b : OracleLog) (p : Option Pending)
-    (u v : Units) (halt : Option Halt) → IsModeOf semantics mode → HasRun (MadeDiffers f) 1 f a b p u v halt
-    → HasRun (MadeForAll f semantics) (2 * length b.sides + 2) f a b p u v halt
-run_tested f semantics mode a b p u v halt ok h =
-    run_as (MadeDiffers f) (MadeForAll f semantics) 1 (2 * length b.sides + 2) f a b p u v halt
-    (made_differs f semantics mode ok) (omega arith) h
-
-pub run_largest : (f : Framework) (most : ℕ) (a b : OracleLog) (p : Option Pending) (u v : Units) (halt : Option Halt)
-    → HasRun (MadeOutside f) most f a b p u v halt → HasRun (MadeForAll f Preferred) most f a b p u v halt
-run_largest f most a b p u v halt h =
-    run_as (MadeOutside f) (MadeForAll f Preferred) most most f a b p u v halt (made_outside f) (omega arith) h
-
-pub run_widest : (f : Framework) (most : ℕ) (a b : OracleLog) (p : Option Pending) (u v : Units) (halt : Option Halt)
-    → HasRun (MadeForRanges f) most f a b p u v halt → HasRun (MadeForAll f SemiStable) most f a b p u v halt
-run_widest f most a b p u v halt h =
-    run_as (MadeForRanges f) (MadeForAll f SemiStable) most most f a b p u v halt (made_ranges f) (omega arith) h
 
 -- ---- modes
 

@@ -1,5 +1,5 @@
--- Lists of all semi-stable sets, range by range.
-use Rattle.std.proofs.Common.{◌≡◌, inl, inr, ⊎_elim, ℕ, zero, suc, ◌+◌, ◌-◌, ◌*◌, ◌<◌, ◌≤◌, true, false, Bool, List, [], ◌∷◌, ◌++◌, length, map, filter, refl, ap, sym, subst, ◌∙◌, Vec, Global, arith}
+use Rattle.std.proofs.Common.{◌≡◌, inl, inr, ⊎_elim, ℕ, zero, suc, ◌+◌, ◌-◌, ◌*◌, ◌<◌, ◌≤◌, true, false, Bool, List, []}
+use Rattle.std.proofs.Common.{◌∷◌, ◌++◌, length, map, filter, refl, ap, sym, subst, ◌∙◌, Vec, Global, arith}
 use Rattle.std.specs.Prelude.{◌⊎◌, ◌↔◌, Contains, slice_index_or, Option, Some, None, Result, Ok, Err, IfOk}
 use Rattle.std.proofs.lemmas.Bool.{cases_lt, false≢true}
 use Rattle.std.proofs.lemmas.List.{get_or_append_left, get_or-append_right, get_or_default, length-append}
@@ -17,13 +17,14 @@ use Rattle.meaning_atoms.specs.declared.atom.Atom.{Atom}
 use Rattle.meaning_atoms.specs.declared.atom.Atom.TheVariants.{Ad, Ask}
 use Rattle.meaning_atoms.specs.declared.atom.AtomLit.{AtomLit}
 use Rattle.meaning_atoms.specs.Literals.{affirmed}
-use Rattle.meaning_atoms.specs.Worlds.{HoldsOf, IsTrueAlone, world_of}
+use Rattle.meaning_atoms.specs.Worlds.{IsTrueAlone, world_of}
 use Rattle.iccma_tasks.specs.declared.task.Semantics.TheVariants.{SemiStable}
 use Rattle.certificate_claims.specs.Acceptance.{NoRangeWithin}
 use Rattle.certificate_claims.specs.Claims.{claim_of, first_ranged, range_cover, range_listed}
 use Rattle.certificate_claims.specs.Refutations.{IsPlain}
 use Rattle.certificate_claims.specs.Rights.{IsExtension, SetsRise}
-use Rattle.certificate_claims.specs.SetLiterals.{are_ranged, differs, has, is_range_within, members, range_of, same_range, wider}
+use Rattle.certificate_claims.specs.SetLiterals.{are_ranged, differs, has, is_range_within, members, range_of}
+use Rattle.certificate_claims.specs.SetLiterals.{same_range, wider}
 use Rattle.certificate_claims.proofs.RangeLists.{equal_ranges}
 use Rattle.certificate_claims.proofs.SetTests.{firsts_within}
 use Rattle.certificate_claims.proofs.GoalLists.{asks_cons, asks_nil, only_one, plain_mapped}
@@ -31,22 +32,23 @@ use Rattle.certificate_claims.proofs.SideClauses.{differs_plain, ranged_plain, w
 use Rattle.certificate_claims.proofs.WidestSets.{all_semi_stable, widest_semi_stable}
 use Rattle.oracle_face.specs.declared.face.Found.{Found}
 use Rattle.oracle_face.specs.declared.face.Found.TheVariants.{Set, Refuted}
-use Rattle.oracle_face.specs.declared.face.Pending.{Pending}
 use Rattle.oracle_face.specs.Goals.{DeniesSide, Refutes}
-use Rattle.oracle_face.specs.Growing.{Grows, HasRun, IsFound, Making, OnlySide}
+use Rattle.oracle_face.specs.Growing.{Grows, IsFound, Making}
 use Rattle.oracle_face.specs.Kinds.{IsRanged, is_assumption_based}
 use Rattle.oracle_face.specs.Logs.{IsKept, IsLog, OracleLog, SideClause}
-use Rattle.oracle_face.proofs.GrowingLemmas.{Makes, run_as}
+use Rattle.oracle_face.proofs.GrowingLemmas.{Makes}
 use Rattle.oracle_face.proofs.Refuting.{claim_excluded, refutes_grown}
 use Rattle.enumerate_block.specs.goal_lists.specs.Asking.{AreApart, goals_of, IsAskable}
 use Rattle.enumerate_block.specs.goal_lists.specs.Sides.{AreAsksOf, IsAskOf}
 use Rattle.enumerate_block.specs.goal_lists.proofs.AskedGoals.{not_range_within, wider_speaks}
-use Rattle.enumerate_block.specs.goal_lists.proofs.Calls.{admissible_members, apart_pushed, asks_fit, found_mode, then_made}
+use Rattle.enumerate_block.specs.goal_lists.proofs.Calls.{admissible_members, apart_pushed, asks_fit, found_mode}
 use Rattle.enumerate_block.specs.goal_lists.proofs.Measures.{fewer_left, kept_is_set, left_open, same_as_kept}
-use Rattle.enumerate_block.specs.goal_lists.proofs.SideLemmas.{HasWanted, ask_grown, asks_again, asks_kept, asks_more, asks_none, asks_refuted, asks_speak, asks_true, same_number}
+use Rattle.enumerate_block.specs.goal_lists.proofs.SideLemmas.{HasWanted, ask_grown, asks_again, asks_kept, asks_more}
+use Rattle.enumerate_block.specs.goal_lists.proofs.SideLemmas.{asks_none, asks_refuted, asks_speak, asks_true}
+use Rattle.enumerate_block.specs.goal_lists.proofs.SideLemmas.{same_number}
 use Rattle.semi_stable.specs.declared.widest.Widest.{Widest}
 use Rattle.semi_stable.specs.Widest.{IsRangeIn, IsWidestFrom, MadeWider, wider_claim}
-use Rattle.semi_stable.proofs.WidestLemmas.{makes_wider, range_list, range_within}
+use Rattle.semi_stable.proofs.WidestLemmas.{range_list, range_within}
 use Rattle.enumerate_block.specs.declared.with_mode.Listed.{Listed}
 use Rattle.enumerate_block.specs.declared.with_mode.Listed.TheVariants.{Whole, TooMany}
 use Rattle.enumerate_block.specs.Modes.{IsAllOf, IsAllOrMore as IsListedOrMore, IsAmong, MadeDiffers}
@@ -54,9 +56,16 @@ use Rattle.enumerate_block.specs.Ordered.{HasMore, Precedes, TheyDiffer}
 use Rattle.enumerate_block.proofs.OrderedLemmas.{not_both_ways, not_itself, they_differ}
 use Rattle.enumerate_block.specs.declared.ranges.Ranges.{Ranges}
 use Rattle.enumerate_block.specs.Marks.{GainsFirst, IsPaired, mark_at, marked_steps}
-use Rattle.enumerate_block.specs.Ranges.{AreFound, AreRefuted, Gains, GrowsRange, IsAllSemiStable, IsMark, IsShownWidest, IsUncovered, MadeForRanges, Records}
+use Rattle.enumerate_block.specs.Ranges.{AreFound, AreRefuted, Gains, GrowsRange, IsAllSemiStable, IsMark}
+use Rattle.enumerate_block.specs.Ranges.{IsShownWidest, IsUncovered, MadeForRanges, Records}
 use Rattle.enumerate_block.proofs.StepLemmas.{first_of, firsts_refuted, refuted_first, refuted_member}
-use Rattle.enumerate_block.proofs.WidthLemmas.{semi_admissible, same_width, semi_too, range_more, alike_from, alike_gives, in_from, in_gives, wider_alike, same_clause_range}
+use Rattle.oracle_face.specs.declared.oracle.Oracle.{Ghosts as OracleWords}
+use Rattle.goal_lists.specs.Runs.{Ran}
+use Rattle.goal_lists.proofs.RunLemmas.{ran_as}
+use Rattle.enumerate_block.proofs.WidthLemmas.{semi_admissible, same_width, semi_too, range_more, alike_from}
+use Rattle.enumerate_block.proofs.WidthLemmas.{alike_gives, in_from, in_gives, wider_alike, same_clause_range}
+
+-- Lists of all semi-stable sets, range by range.
 
 -- ---- claims with more side clauses
 
@@ -646,29 +655,15 @@ makes_differs f literals set h = (h.1, inr h.0)
 widest_makes : (f : Framework) → Makes (MadeWider f Ad) (MadeForRanges f)
 widest_makes f literals set h = (h.0, inl h.1)
 
-side_makes : (f : Framework) (e : List ℕ) (side : List AtomLit) → HoldsOf f e Ad → side ≡ wider f e
-    → Makes (OnlySide side e) (MadeForRanges f)
-side_makes f e side ok is literals set h = widest_makes f literals set (makes_wider f Ad e side ok is literals set h)
+-- calls that grow a range or list its sets, as calls of the search for ranges
+module _ {S : Type 0} {o : OracleWords S} where
+  pub as_widest : {m : ℕ} {a b : S} {u v : Units} {halt : Option Halt}
+      → Ran o (λ f. MadeWider f Ad) m a b u v halt → Ran o MadeForRanges m a b u v halt
+  as_widest h = ran_as (widest_makes _) (omega arith) h
 
-pub then_listed : (f g : Framework) (m n most : ℕ) (a b c : OracleLog) (p q : Option Pending) (u v w : Units)
-    (halt : Option Halt) → g ≡ f → m + n ≤ most → HasRun (MadeForRanges f) m f a b p u v None
-    → HasRun (MadeDiffers g) n g b c q v w halt → HasRun (MadeForRanges f) most f a c q u w halt
-then_listed f g m n most a b c p q u v w halt e few h k =
-    then_made (MadeForRanges f) (MadeDiffers g) f g m n most a b c p q u v w halt e
-    (subst (λ (x : Framework). Makes (MadeDiffers x) (MadeForRanges f)) (sym e) (makes_differs f)) few h k
-
-pub as_widest : (f : Framework) (m : ℕ) (a b : OracleLog) (p : Option Pending) (u v : Units) (halt : Option Halt)
-    → HasRun (MadeWider f Ad) m f a b p u v halt → HasRun (MadeForRanges f) m f a b p u v halt
-as_widest f m a b p u v halt h =
-    run_as (MadeWider f Ad) (MadeForRanges f) m m f a b p u v halt (widest_makes f) (omega arith) h
-
-pub then_oblige : (f g : Framework) (m : ℕ) (a b c : OracleLog) (p q : Option Pending) (u v w : Units)
-    (halt : Option Halt) (e : List ℕ) (side : List AtomLit) → g ≡ f → HoldsOf f e Ad → side ≡ wider g e
-    → HasRun (MadeForRanges f) m f a b p u v None → HasRun (OnlySide side e) 0 g b c q v w halt
-    → HasRun (MadeForRanges f) m f a c q u w halt
-then_oblige f g m a b c p q u v w halt e side same ok is h k =
-    then_made (MadeForRanges f) (OnlySide side e) f g m 0 m a b c p q u v w halt same
-    (side_makes f e side ok (is ∙ ap (λ (x : Framework). wider x e) same)) (omega arith) h k
+  pub as_listed : {m : ℕ} {a b : S} {u v : Units} {halt : Option Halt} → Ran o MadeDiffers m a b u v halt
+      → Ran o MadeForRanges m a b u v halt
+  as_listed h = ran_as (makes_differs _) (omega arith) h
 
 -- ---- a turn of the search
 

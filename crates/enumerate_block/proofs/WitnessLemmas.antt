@@ -1,4 +1,3 @@
--- Covers of ranges by sets of which none has a set in its range that makes the literal true.
 use Rattle.std.proofs.Common.{◌≡◌, inl, inr, ⊎_elim, ℕ, suc, ◌+◌, ◌*◌, ◌<◌, ◌≤◌, true, false, Bool, List, [], ◌∷◌}
 use Rattle.std.proofs.Common.{◌++◌, length, map, filter, refl, ap, sym, subst, ◌∙◌, arith}
 use Rattle.std.specs.Prelude.{◌⊎◌, ◌↔◌, Contains, slice_index_or, Option, Some, None, Result, Ok, Err, IfOk}
@@ -8,7 +7,6 @@ use Rattle.std.proofs.lemmas.List.Elements.{Contains-append_left, Contains-appen
 use Rattle.lists.specs.Members.{IsSetOf, IsWithin}
 use Rattle.lists.proofs.Membership.{Contains-nil, Contains-head, Contains-tail, Contains-pushed}
 use Rattle.plain_lits.specs.declared.halt.Halt.{Halt}
-use Rattle.plain_lits.specs.Units.{Units}
 use Rattle.plain_lits.proofs.HintCheckLemmas.{Contains-mapped}
 use Rattle.semantics.specs.Frameworks.{Framework, af, aba, IsNumbered}
 use Rattle.semantics.proofs.SameMembers.{range_more}
@@ -29,31 +27,31 @@ use Rattle.certificate_claims.proofs.SideClauses.{ranged_plain, wider_plain}
 use Rattle.certificate_claims.proofs.WidestSets.{ranged_out, widest_semi_stable}
 use Rattle.oracle_face.specs.declared.face.Found.{Found}
 use Rattle.oracle_face.specs.declared.face.Found.TheVariants.{Set, Refuted}
-use Rattle.oracle_face.specs.declared.face.Pending.{Pending}
 use Rattle.oracle_face.specs.Goals.{MakesTrue, Refutes, SpeaksOf}
-use Rattle.oracle_face.specs.Growing.{Grows, HasRun, IsFound, Making}
+use Rattle.oracle_face.specs.Growing.{Grows, IsFound, Making}
 use Rattle.oracle_face.specs.Kinds.{IsRanged, is_assumption_based}
 use Rattle.oracle_face.specs.Logs.{IsKept, IsLog, IsNumberOf, IsSameClause, OracleLog, SideClause, side_at}
-use Rattle.oracle_face.proofs.GrowingLemmas.{Makes}
 use Rattle.oracle_face.proofs.Refuting.{claim_excluded, refutes_grown}
 use Rattle.goal_lists.specs.Asking.{AreApart, IsAskable, goals_of}
 use Rattle.goal_lists.specs.Sides.{IsAskOf}
 use Rattle.goal_lists.proofs.AskedGoals.{not_range_within, same_wider, wider_speaks}
 use Rattle.goal_lists.proofs.Calls.{admissible_members, apart_pushed, asks_fit, found_in, found_mode, found_out}
-use Rattle.goal_lists.proofs.Calls.{found_ranged, makes_same, then_made}
+use Rattle.goal_lists.proofs.Calls.{found_ranged}
 use Rattle.goal_lists.proofs.Lacking.{lacks_range}
 use Rattle.goal_lists.proofs.Measures.{fewer_left, kept_is_set, same_as_kept}
 use Rattle.goal_lists.proofs.SideLemmas.{HasWanted, asks_kept, asks_more, asks_none, asks_refuted, asks_speak}
 use Rattle.goal_lists.proofs.SideLemmas.{asks_true, same_number}
 use Rattle.enumerate_block.specs.semi_stable.specs.declared.widest.Widest.{Widest}
-use Rattle.enumerate_block.specs.semi_stable.specs.Widest.{IsRangeIn, IsWidestFrom, MadeWider, wider_claim}
+use Rattle.enumerate_block.specs.semi_stable.specs.Widest.{HasRange, IsRangeIn, IsWidestFrom, wider_claim}
 use Rattle.enumerate_block.specs.semi_stable.proofs.WidestLemmas.{range_list, range_within}
 use Rattle.enumerate_block.specs.Ranges.{AreRefuted}
 use Rattle.enumerate_block.proofs.RangeLemmas.{log_kept, open_ranges, widest_kept}
 use Rattle.enumerate_block.proofs.StepLemmas.{refuted_first, refuted_member, refuted_none}
 use Rattle.enumerate_block.specs.declared.deciding.RangeCover.{RangeCover}
-use Rattle.enumerate_block.specs.Witnesses.{Extends, HasRange, IsCover, IsExtended, IsMadeWithin, IsNoWitness}
+use Rattle.enumerate_block.specs.Witnesses.{Extends, IsCover, IsExtended, IsMadeWithin, IsNoWitness}
 use Rattle.enumerate_block.specs.Witnesses.{IsUncovered, IsWitness, MakesIt, Takes, ins_of, literal_of, outs_of}
+
+-- Covers of ranges by sets of which none has a set in its range that makes the literal true.
 
 -- ---- lists of steps
 
@@ -548,12 +546,3 @@ no_witness f g h log q accepted cover r step steps left right kept is last found
       none_makes_it = none_makes_it f log q accepted cover step
           (subst (λ (x : Framework). IsKept x log) right kept) is refuted;
     }
-
--- ---- one call after the other
-
-pub then_call : (f g : Framework) (m n most : ℕ) (a b c : OracleLog) (p q : Option Pending) (u v w : Units)
-    (halt : Option Halt) → g ≡ f → m + n ≤ most → HasRun (MadeWider f Ad) m f a b p u v None
-    → HasRun (MadeWider g Ad) n g b c q v w halt → HasRun (MadeWider f Ad) most f a c q u w halt
-then_call f g m n most a b c p q u v w halt e few h k =
-    then_made (MadeWider f Ad) (MadeWider g Ad) f g m n most a b c p q u v w halt e
-    (subst (λ (x : Framework). Makes (MadeWider x Ad) (MadeWider f Ad)) (sym e) (makes_same (MadeWider f Ad))) few h k

@@ -1,6 +1,5 @@
 -- Semi-stable sets that make a literal about membership true, and covers that show that there is none.
 use Rattle.std.specs.Prelude.{◌≡◌, ℕ, true, false, Bool, List, [], ◌∷◌, ◌++◌, map, Contains, Option, Some, None}
-use Rattle.lists.specs.Members.{IsSetOf}
 use Rattle.semantics.specs.Frameworks.{Framework}
 use Rattle.meaning_atoms.specs.declared.atom.Atom.TheVariants.{Ad}
 use Rattle.meaning_atoms.specs.declared.atom.AtomLit.{AtomLit}
@@ -20,7 +19,7 @@ use Rattle.oracle_face.specs.Logs.{OracleLog}
 use Rattle.goal_lists.specs.Asking.{AreApart}
 use Rattle.goal_lists.specs.Sides.{AreAsksOf, IsAskOf}
 use Rattle.enumerate_block.specs.semi_stable.specs.declared.widest.Widest.{Widest}
-use Rattle.enumerate_block.specs.semi_stable.specs.Widest.{IsRangeIn, wider_claim}
+use Rattle.enumerate_block.specs.semi_stable.specs.Widest.{HasRange, IsRangeIn, wider_claim}
 use Rattle.enumerate_block.specs.Ranges.{AreRefuted}
 use Rattle.enumerate_block.specs.declared.deciding.RangeCover.{RangeCover}
 use Rattle.enumerate_block.specs.declared.deciding.Deciding.{Deciding}
@@ -47,12 +46,6 @@ outs_of true goals = []
 outs_of false goals = goals
 
 -- ---- the evidence
-
--- an admissible set of an abstract framework and its range
-pub record HasRange (f : Framework) (found : Widest) : Type 0 where
-  pub kind : is_assumption_based f ≡ false
-  pub admissible : HoldsOf f found.set Ad
-  pub range : IsSetOf (IsRanged f found.set) found.range
 
 -- a semi-stable set that makes the literal true, with its range and the step that shows that it is semi-stable
 pub record IsWitness (f : Framework) (log : OracleLog) (q : ℕ) (accepted : Bool) (found : Widest) : Type 0 where

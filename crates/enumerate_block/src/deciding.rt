@@ -1,20 +1,20 @@
 //! Whether some semi-stable set makes a literal about membership true.
 
-ghost use Rattle.std.specs.Prelude.{◌≡◌, ◌∷◌, ◌+◌, ◌*◌, false, length, Contains, IfOk, OnOk};
+ghost use Rattle.std.specs.Prelude.{◌≡◌, ◌∷◌, false, Contains, IfOk, OnOk};
 ghost use Rattle.meaning_atoms.specs.declared.atom.Atom.TheVariants.{Ad};
 ghost use Rattle.certificate_claims.specs.SetLiterals.{members};
 ghost use Rattle.oracle_face.specs.Kinds.{is_assumption_based};
-ghost use Rattle.oracle_face.specs.Logs.{IsKept};
-ghost use Rattle.oracle_face.specs.Growing.{HasRun, closes, halt_of};
-ghost use Rattle.enumerate_block.specs.semi_stable.specs.Widest.{MadeWider};
-ghost use Rattle.enumerate_block.specs.Witnesses.{Extends, HasRange, IsCover, IsDecided, IsMadeWithin};
+ghost use Rattle.oracle_face.specs.Growing.{closes, halt_of};
+ghost use Rattle.enumerate_block.specs.semi_stable.specs.Widest.{HasRange, MadeWider};
+ghost use Rattle.enumerate_block.specs.Witnesses.{Extends, IsCover, IsDecided, IsMadeWithin};
 ghost use Rattle.enumerate_block.specs.Witnesses.{IsUncovered, Takes, ins_of, outs_of};
+ghost use Rattle.goal_lists.specs.Runs.{Ran, RanInAll};
 
-use goal_lists::{Wanted, search_for, wider};
+use goal_lists::{Wanted, search_for};
 use lists::{Items, Memory};
 use meaning_atoms::Atom;
 use oracle_face::{AskId, Budget, Found, Halt, Oracle, StepId};
-use semi_stable::{Widest, widest_from};
+use semi_stable::{Widest, oblige_wider, widest_from};
 use set_lists::NumSet;
 use std::alloc::Global;
 
@@ -53,12 +53,7 @@ pub fn decide<O: Oracle>(
     requires kind { is_assumption_based (O.framework oracle.old) ≡ false }
     requires goal { Contains (members (O.framework oracle.old)) goal }
     ensures decided { IfOk result (IsDecided (O.framework oracle.old) (O.log oracle.new) goal accepted) }
-    ensures run { HasRun (MadeWider (O.framework oracle.old) Ad) (2 * length (O.log oracle.new).sides + 2)
-        (O.framework oracle.old) (O.log oracle.old) (O.log oracle.new) (O.pending oracle.new) budget.old budget.new
-        (halt_of result) }
-    ensures framework { O.framework oracle.new ≡ O.framework oracle.old }
-    ensures kept { IsKept (O.framework oracle.new) (O.log oracle.new) }
-    ensures follows { O.follows oracle.old oracle.new }
+    ensures ran { RanInAll O.Oracle (λ f. MadeWider f Ad) oracle.old oracle.new budget.old budget.new (halt_of result) }
 {
     let _members = oracle.members();
     let mut cover = RangeCover {
@@ -133,11 +128,8 @@ fn find_uncovered<O: Oracle>(
     requires goal { Contains (members (O.framework oracle.old)) goal }
     requires cover { IsCover (O.framework oracle.old) (O.log oracle.old) goal accepted cover.now }
     ensures uncovered { IfOk result (IsUncovered (O.framework oracle.old) (O.log oracle.new) goal accepted cover.now) }
-    ensures run { HasRun (MadeWider (O.framework oracle.old) Ad) (closes result) (O.framework oracle.old)
-        (O.log oracle.old) (O.log oracle.new) (O.pending oracle.new) budget.old budget.new (halt_of result) }
-    ensures framework { O.framework oracle.new ≡ O.framework oracle.old }
-    ensures kept { IsKept (O.framework oracle.new) (O.log oracle.new) }
-    ensures follows { O.follows oracle.old oracle.new }
+    ensures ran { Ran O.Oracle (λ f. MadeWider f Ad) (closes result) oracle.old oracle.new budget.old budget.new
+        (halt_of result) }
 {
     let _members = oracle.members();
     let goals = [goal];
@@ -159,11 +151,8 @@ fn within_range<O: Oracle>(
     requires range { HasRange (O.framework oracle.old) widest.now }
     ensures within { IfOk result (IsMadeWithin (O.framework oracle.old) (O.log oracle.new) goal accepted
         widest.now.set) }
-    ensures run { HasRun (MadeWider (O.framework oracle.old) Ad) (closes result) (O.framework oracle.old)
-        (O.log oracle.old) (O.log oracle.new) (O.pending oracle.new) budget.old budget.new (halt_of result) }
-    ensures framework { O.framework oracle.new ≡ O.framework oracle.old }
-    ensures kept { IsKept (O.framework oracle.new) (O.log oracle.new) }
-    ensures follows { O.follows oracle.old oracle.new }
+    ensures ran { Ran O.Oracle (λ f. MadeWider f Ad) (closes result) oracle.old oracle.new budget.old budget.new
+        (halt_of result) }
 {
     let _members = oracle.members();
     let goals = [goal];
@@ -187,11 +176,7 @@ fn extend<O: Oracle>(
     requires set { IsUncovered (O.framework oracle.old) (O.log oracle.old) goal accepted cover.old (Found.Set set.now) }
     ensures extends { IfOk result (Extends (O.framework oracle.old) (O.log oracle.new) goal accepted cover.old
         cover.new) }
-    ensures run { HasRun (MadeWider (O.framework oracle.old) Ad) 2 (O.framework oracle.old) (O.log oracle.old)
-        (O.log oracle.new) (O.pending oracle.new) budget.old budget.new (halt_of result) }
-    ensures framework { O.framework oracle.new ≡ O.framework oracle.old }
-    ensures kept { IsKept (O.framework oracle.new) (O.log oracle.new) }
-    ensures follows { O.follows oracle.old oracle.new }
+    ensures ran { Ran O.Oracle (λ f. MadeWider f Ad) 2 oracle.old oracle.new budget.old budget.new (halt_of result) }
 {
     let _members = oracle.members();
     let widest = widest_from(alloc, oracle, budget, Atom::Ad, set)?;
@@ -220,14 +205,9 @@ fn take_range<O: Oracle>(
 ) -> Result<(), Halt>
     requires { HasRange (O.framework oracle.old) widest }
     ensures takes { OnOk result (Takes (O.framework oracle.old) (O.log oracle.new) widest step cover.old cover.new) }
-    ensures run { HasRun (MadeWider (O.framework oracle.old) Ad) 0 (O.framework oracle.old) (O.log oracle.old)
-        (O.log oracle.new) (O.pending oracle.new) budget.old budget.new (halt_of result) }
-    ensures framework { O.framework oracle.new ≡ O.framework oracle.old }
-    ensures kept { IsKept (O.framework oracle.new) (O.log oracle.new) }
-    ensures follows { O.follows oracle.old oracle.new }
+    ensures ran { Ran O.Oracle (λ f. MadeWider f Ad) 0 oracle.old oracle.new budget.old budget.new (halt_of result) }
 {
-    let side = wider(alloc, oracle.members(), &widest.range)?;
-    let ask = oracle.oblige(alloc, &side, &widest.set, budget)?;
+    let ask = oblige_wider(alloc, oracle, budget, &widest)?;
     cover.asks.push(ask)?;
     cover.steps.push(step)?;
     cover.sets.push(widest.set)?;

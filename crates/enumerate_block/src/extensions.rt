@@ -1,11 +1,11 @@
 //! All extensions.
 
-ghost use Rattle.std.specs.Prelude.{◌≡◌, [], ◌∷◌, ◌+◌, ◌*◌, false, length, IfOk};
+ghost use Rattle.std.specs.Prelude.{◌≡◌, false, IfOk};
 ghost use Rattle.iccma_tasks.specs.declared.task.Semantics.{Semantics};
 ghost use Rattle.oracle_face.specs.Kinds.{is_assumption_based};
-ghost use Rattle.oracle_face.specs.Logs.{IsKept};
-ghost use Rattle.oracle_face.specs.Growing.{HasRun, halt_of};
+ghost use Rattle.oracle_face.specs.Growing.{halt_of};
 ghost use Rattle.enumerate_block.specs.Extensions.{IsListOf, IsListTask, IsModeOf, MadeForAll, with_step, with_steps};
+ghost use Rattle.goal_lists.specs.Runs.{RanInAll};
 
 use crate::{Listed, Ranged, all_preferred, all_semi_stable, all_with_mode};
 use iccma_tasks::{Semantics, Task};
@@ -38,12 +38,8 @@ pub fn all<O: Oracle>(
 ) -> Result<Extensions, Halt>
     requires { IsListTask (O.framework oracle.old) task }
     ensures listed { IfOk result (IsListOf (O.framework oracle.old) (O.log oracle.new) task.semantics limit) }
-    ensures run { HasRun (MadeForAll (O.framework oracle.old) task.semantics) (2 * length (O.log oracle.new).sides + 2)
-        (O.framework oracle.old) (O.log oracle.old) (O.log oracle.new) (O.pending oracle.new) budget.old budget.new
+    ensures ran { RanInAll O.Oracle (λ f. MadeForAll f task.semantics) oracle.old oracle.new budget.old budget.new
         (halt_of result) }
-    ensures framework { O.framework oracle.new ≡ O.framework oracle.old }
-    ensures kept { IsKept (O.framework oracle.new) (O.log oracle.new) }
-    ensures follows { O.follows oracle.old oracle.new }
 {
     match task.semantics {
         Semantics::Complete => {
@@ -67,12 +63,8 @@ fn all_tested<O: Oracle>(
 ) -> Result<Extensions, Halt>
     requires { IsModeOf semantics mode }
     ensures listed { IfOk result (IsListOf (O.framework oracle.old) (O.log oracle.new) semantics limit) }
-    ensures run { HasRun (MadeForAll (O.framework oracle.old) semantics) (2 * length (O.log oracle.new).sides + 2)
-        (O.framework oracle.old) (O.log oracle.old) (O.log oracle.new) (O.pending oracle.new) budget.old budget.new
-        (halt_of result) }
-    ensures framework { O.framework oracle.new ≡ O.framework oracle.old }
-    ensures kept { IsKept (O.framework oracle.new) (O.log oracle.new) }
-    ensures follows { O.follows oracle.old oracle.new }
+    ensures ran { RanInAll O.Oracle (λ f. MadeForAll f semantics) oracle.old oracle.new budget.old budget.new (halt_of
+        result) }
 {
     let listed = all_with_mode(alloc, oracle, budget, mode, limit)?;
     let extensions = extensions_of(alloc, listed)?;
@@ -87,12 +79,8 @@ fn all_largest<O: Oracle>(
     limit: usize,
 ) -> Result<Extensions, Halt>
     ensures listed { IfOk result (IsListOf (O.framework oracle.old) (O.log oracle.new) Semantics.Preferred limit) }
-    ensures run { HasRun (MadeForAll (O.framework oracle.old) Semantics.Preferred)
-        (2 * length (O.log oracle.new).sides + 2) (O.framework oracle.old) (O.log oracle.old) (O.log oracle.new)
-        (O.pending oracle.new) budget.old budget.new (halt_of result) }
-    ensures framework { O.framework oracle.new ≡ O.framework oracle.old }
-    ensures kept { IsKept (O.framework oracle.new) (O.log oracle.new) }
-    ensures follows { O.follows oracle.old oracle.new }
+    ensures ran { RanInAll O.Oracle (λ f. MadeForAll f Semantics.Preferred) oracle.old oracle.new budget.old budget.new
+        (halt_of result) }
 {
     let listed = all_preferred(alloc, oracle, budget, limit)?;
     let extensions = extensions_of(alloc, listed)?;
@@ -108,12 +96,8 @@ fn all_widest<O: Oracle>(
 ) -> Result<Extensions, Halt>
     requires { is_assumption_based (O.framework oracle.old) ≡ false }
     ensures listed { IfOk result (IsListOf (O.framework oracle.old) (O.log oracle.new) Semantics.SemiStable limit) }
-    ensures run { HasRun (MadeForAll (O.framework oracle.old) Semantics.SemiStable)
-        (2 * length (O.log oracle.new).sides + 2) (O.framework oracle.old) (O.log oracle.old) (O.log oracle.new)
-        (O.pending oracle.new) budget.old budget.new (halt_of result) }
-    ensures framework { O.framework oracle.new ≡ O.framework oracle.old }
-    ensures kept { IsKept (O.framework oracle.new) (O.log oracle.new) }
-    ensures follows { O.follows oracle.old oracle.new }
+    ensures ran { RanInAll O.Oracle (λ f. MadeForAll f Semantics.SemiStable) oracle.old oracle.new budget.old budget.new
+        (halt_of result) }
 {
     let ranged = all_semi_stable(alloc, oracle, budget, limit)?;
     Ok(extensions_with(ranged))

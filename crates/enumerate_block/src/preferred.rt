@@ -1,14 +1,14 @@
 //! All preferred sets.
 
-ghost use Rattle.std.specs.Prelude.{◌≡◌, ◌+◌, ◌*◌, length, IfOk};
-ghost use Rattle.oracle_face.specs.Logs.{IsKept};
-ghost use Rattle.oracle_face.specs.Growing.{HasRun, closes, halt_of};
+ghost use Rattle.std.specs.Prelude.{IfOk};
+ghost use Rattle.oracle_face.specs.Growing.{closes, halt_of};
 ghost use Rattle.cegar_preferred.specs.Largest.{MadeOutside};
 ghost use Rattle.enumerate_block.specs.Preferred.{AreFound, IsAllOrMore, IsUncovered, Records};
+ghost use Rattle.goal_lists.specs.Runs.{Ran, RanInAll};
 
 use crate::{Listed, insert_in_order};
-use cegar_preferred::maximal_from;
-use goal_lists::{Wanted, outside, search_for};
+use cegar_preferred::{maximal_from, oblige_outside};
+use goal_lists::{Wanted, search_for};
 use lists::Items;
 use meaning_atoms::Atom;
 use oracle_face::{AskId, Budget, Found, Halt, Oracle};
@@ -31,12 +31,7 @@ pub fn all_preferred<O: Oracle>(
     limit: usize,
 ) -> Result<Listed, Halt>
     ensures listed { IfOk result (IsAllOrMore (O.framework oracle.old) (O.log oracle.new) limit) }
-    ensures run { HasRun (MadeOutside (O.framework oracle.old)) (2 * length (O.log oracle.new).sides + 2)
-        (O.framework oracle.old) (O.log oracle.old) (O.log oracle.new) (O.pending oracle.new) budget.old budget.new
-        (halt_of result) }
-    ensures framework { O.framework oracle.new ≡ O.framework oracle.old }
-    ensures kept { IsKept (O.framework oracle.new) (O.log oracle.new) }
-    ensures follows { O.follows oracle.old oracle.new }
+    ensures ran { RanInAll O.Oracle MadeOutside oracle.old oracle.new budget.old budget.new (halt_of result) }
 {
     let _members = oracle.members();
     let mut found = Preferred {
@@ -65,11 +60,8 @@ fn find_uncovered<O: Oracle>(
 ) -> Result<Found, Halt>
     requires { AreFound (O.framework oracle.old) (O.log oracle.old) found.now }
     ensures uncovered { IfOk result (IsUncovered (O.framework oracle.old) (O.log oracle.new) found.now) }
-    ensures run { HasRun (MadeOutside (O.framework oracle.old)) (closes result) (O.framework oracle.old)
-        (O.log oracle.old) (O.log oracle.new) (O.pending oracle.new) budget.old budget.new (halt_of result) }
-    ensures framework { O.framework oracle.new ≡ O.framework oracle.old }
-    ensures kept { IsKept (O.framework oracle.new) (O.log oracle.new) }
-    ensures follows { O.follows oracle.old oracle.new }
+    ensures ran { Ran O.Oracle MadeOutside (closes result) oracle.old oracle.new budget.old budget.new
+        (halt_of result) }
 {
     let _members = oracle.members();
     let wanted = Wanted {
@@ -93,20 +85,15 @@ fn record_grown<O: Oracle>(
     requires found { AreFound (O.framework oracle.old) (O.log oracle.old) found.old }
     requires set { IsUncovered (O.framework oracle.old) (O.log oracle.old) found.old (Found.Set set.now) }
     ensures records { IfOk result (Records (O.framework oracle.old) (O.log oracle.new) limit found.old found.new) }
-    ensures run { HasRun (MadeOutside (O.framework oracle.old)) 1 (O.framework oracle.old) (O.log oracle.old)
-        (O.log oracle.new) (O.pending oracle.new) budget.old budget.new (halt_of result) }
-    ensures framework { O.framework oracle.new ≡ O.framework oracle.old }
-    ensures kept { IsKept (O.framework oracle.new) (O.log oracle.new) }
-    ensures follows { O.follows oracle.old oracle.new }
+    ensures ran { Ran O.Oracle MadeOutside 1 oracle.old oracle.new budget.old budget.new (halt_of result) }
 {
     let _members = oracle.members();
     let maximal = maximal_from(alloc, oracle, budget, set)?;
-    let side = outside(alloc, oracle.members(), &maximal.set)?;
     insert_in_order(&mut found.sets, maximal.set.copy(alloc)?)?;
     if found.sets.len() > limit {
         return Ok(false);
     }
-    let ask = oracle.oblige(alloc, &side, &maximal.set, budget)?;
+    let ask = oblige_outside(alloc, oracle, budget, &maximal.set)?;
     found.asks.push(ask)?;
     Ok(true)
 }

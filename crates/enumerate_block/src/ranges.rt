@@ -1,18 +1,18 @@
 //! All semi-stable sets.
 
-ghost use Rattle.std.specs.Prelude.{◌≡◌, ◌≤◌, ◌+◌, ◌*◌, false, length, IfOk};
+ghost use Rattle.std.specs.Prelude.{◌≡◌, ◌≤◌, false, length, IfOk};
 ghost use Rattle.oracle_face.specs.Kinds.{is_assumption_based};
-ghost use Rattle.oracle_face.specs.Logs.{IsKept};
-ghost use Rattle.oracle_face.specs.Growing.{HasRun, closes, halt_of};
+ghost use Rattle.oracle_face.specs.Growing.{closes, halt_of};
 ghost use Rattle.enumerate_block.specs.Ranges.{AreFound, GrowsRange, IsAllOrMore, IsUncovered, MadeForRanges, Records};
+ghost use Rattle.goal_lists.specs.Runs.{Ran, RanInAll};
 
 use crate::marks::{insert_all, steps_of};
 use crate::{Listed, all_with_range};
-use goal_lists::{Wanted, search_for, wider};
+use goal_lists::{Wanted, search_for};
 use lists::Items;
 use meaning_atoms::Atom;
 use oracle_face::{AskId, Budget, Found, Halt, Oracle, StepId};
-use semi_stable::{Widest, widest_from};
+use semi_stable::{Widest, oblige_wider, widest_from};
 use set_lists::NumSet;
 use std::alloc::Global;
 
@@ -48,12 +48,7 @@ pub fn all_semi_stable<O: Oracle>(
 ) -> Result<Ranged, Halt>
     requires { is_assumption_based (O.framework oracle.old) ≡ false }
     ensures ranged { IfOk result (IsAllOrMore (O.framework oracle.old) (O.log oracle.new) limit) }
-    ensures run { HasRun (MadeForRanges (O.framework oracle.old)) (2 * length (O.log oracle.new).sides + 2)
-        (O.framework oracle.old) (O.log oracle.old) (O.log oracle.new) (O.pending oracle.new) budget.old budget.new
-        (halt_of result) }
-    ensures framework { O.framework oracle.new ≡ O.framework oracle.old }
-    ensures kept { IsKept (O.framework oracle.new) (O.log oracle.new) }
-    ensures follows { O.follows oracle.old oracle.new }
+    ensures ran { RanInAll O.Oracle MadeForRanges oracle.old oracle.new budget.old budget.new (halt_of result) }
 {
     let _members = oracle.members();
     let mut found = Ranges {
@@ -86,11 +81,8 @@ fn find_uncovered<O: Oracle>(
 ) -> Result<Found, Halt>
     requires { AreFound (O.framework oracle.old) (O.log oracle.old) found.now }
     ensures uncovered { IfOk result (IsUncovered (O.framework oracle.old) (O.log oracle.new) found.now) }
-    ensures run { HasRun (MadeForRanges (O.framework oracle.old)) (closes result) (O.framework oracle.old)
-        (O.log oracle.old) (O.log oracle.new) (O.pending oracle.new) budget.old budget.new (halt_of result) }
-    ensures framework { O.framework oracle.new ≡ O.framework oracle.old }
-    ensures kept { IsKept (O.framework oracle.new) (O.log oracle.new) }
-    ensures follows { O.follows oracle.old oracle.new }
+    ensures ran { Ran O.Oracle MadeForRanges (closes result) oracle.old oracle.new budget.old budget.new (halt_of
+        result) }
 {
     let _members = oracle.members();
     let wanted = Wanted {
@@ -113,15 +105,10 @@ fn grow_range<O: Oracle>(
     requires kind { is_assumption_based (O.framework oracle.old) ≡ false }
     requires set { IsUncovered (O.framework oracle.old) (O.log oracle.old) found.old (Found.Set set.now) }
     ensures grows { IfOk result (GrowsRange (O.framework oracle.old) (O.log oracle.new) set.now found.old found.new) }
-    ensures run { HasRun (MadeForRanges (O.framework oracle.old)) 1 (O.framework oracle.old) (O.log oracle.old)
-        (O.log oracle.new) (O.pending oracle.new) budget.old budget.new (halt_of result) }
-    ensures framework { O.framework oracle.new ≡ O.framework oracle.old }
-    ensures kept { IsKept (O.framework oracle.new) (O.log oracle.new) }
-    ensures follows { O.follows oracle.old oracle.new }
+    ensures ran { Ran O.Oracle MadeForRanges 1 oracle.old oracle.new budget.old budget.new (halt_of result) }
 {
     let widest = widest_from(alloc, oracle, budget, Atom::Ad, set)?;
-    let side = wider(alloc, oracle.members(), &widest.range)?;
-    let ask = oracle.oblige(alloc, &side, &widest.set, budget)?;
+    let ask = oblige_wider(alloc, oracle, budget, &widest)?;
     found.asks.push(ask)?;
     Ok(widest)
 }
@@ -140,11 +127,7 @@ fn record_range<O: Oracle>(
     requires room { length found.old.sets.items ≤ limit }
     requires set { IsUncovered (O.framework oracle.old) (O.log oracle.old) found.old (Found.Set set.now) }
     ensures records { IfOk result (Records (O.framework oracle.old) (O.log oracle.new) limit found.old found.new) }
-    ensures run { HasRun (MadeForRanges (O.framework oracle.old)) 2 (O.framework oracle.old) (O.log oracle.old)
-        (O.log oracle.new) (O.pending oracle.new) budget.old budget.new (halt_of result) }
-    ensures framework { O.framework oracle.new ≡ O.framework oracle.old }
-    ensures kept { IsKept (O.framework oracle.new) (O.log oracle.new) }
-    ensures follows { O.follows oracle.old oracle.new }
+    ensures ran { Ran O.Oracle MadeForRanges 2 oracle.old oracle.new budget.old budget.new (halt_of result) }
 {
     let _members = oracle.members();
     let widest = grow_range(alloc, oracle, budget, found, set)?;

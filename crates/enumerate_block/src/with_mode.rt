@@ -1,13 +1,15 @@
 //! All sets of a mode.
 
-ghost use Rattle.std.specs.Prelude.{◌≡◌, ◌≤◌, [], length, IfOk};
+ghost use Rattle.std.specs.Prelude.{◌≤◌, [], length, IfOk};
 ghost use Rattle.lists.specs.Members.{IsWithin};
 ghost use Rattle.meaning_atoms.specs.declared.atom.Atom.TheVariants.{Ad};
-ghost use Rattle.certificate_claims.specs.SetLiterals.{members};
-ghost use Rattle.oracle_face.specs.Logs.{IsKept};
-ghost use Rattle.oracle_face.specs.Growing.{HasRun, closes, halt_of};
+ghost use Rattle.meaning_atoms.specs.Worlds.{HoldsOf};
+ghost use Rattle.certificate_claims.specs.SetLiterals.{differs as differs_of, members};
+ghost use Rattle.oracle_face.specs.Growing.{closes, halt_of};
 ghost use Rattle.enumerate_block.specs.Modes.{IsAllOrMore, IsAmong, IsFurtherOf, IsListing, IsListMode};
 ghost use Rattle.enumerate_block.specs.Modes.{MadeDiffers, Records};
+ghost use Rattle.goal_lists.specs.Runs.{Ran};
+ghost use Rattle.goal_lists.specs.Sides.{IsAskOf};
 
 use crate::ordered::insert_in_order;
 use goal_lists::{Wanted, differs, search_for};
@@ -43,11 +45,7 @@ pub fn all_with_mode<O: Oracle>(
 ) -> Result<Listed, Halt>
     requires { IsListMode mode }
     ensures listed { IfOk result (IsAllOrMore (O.framework oracle.old) (O.log oracle.new) mode [] limit) }
-    ensures run { HasRun (MadeDiffers (O.framework oracle.old)) 1 (O.framework oracle.old) (O.log oracle.old)
-        (O.log oracle.new) (O.pending oracle.new) budget.old budget.new (halt_of result) }
-    ensures framework { O.framework oracle.new ≡ O.framework oracle.old }
-    ensures kept { IsKept (O.framework oracle.new) (O.log oracle.new) }
-    ensures follows { O.follows oracle.old oracle.new }
+    ensures ran { Ran O.Oracle MadeDiffers 1 oracle.old oracle.new budget.old budget.new (halt_of result) }
 {
     let _members = oracle.members();
     let listing = Listing {
@@ -70,11 +68,7 @@ pub fn all_with_range<O: Oracle>(
     requires range { IsWithin range.now (members (O.framework oracle.old)) }
     requires known { IsAmong (O.framework oracle.old) Ad range.now known.now }
     ensures listed { IfOk result (IsAllOrMore (O.framework oracle.old) (O.log oracle.new) Ad range.now limit) }
-    ensures run { HasRun (MadeDiffers (O.framework oracle.old)) 1 (O.framework oracle.old) (O.log oracle.old)
-        (O.log oracle.new) (O.pending oracle.new) budget.old budget.new (halt_of result) }
-    ensures framework { O.framework oracle.new ≡ O.framework oracle.old }
-    ensures kept { IsKept (O.framework oracle.new) (O.log oracle.new) }
-    ensures follows { O.follows oracle.old oracle.new }
+    ensures ran { Ran O.Oracle MadeDiffers 1 oracle.old oracle.new budget.old budget.new (halt_of result) }
 {
     let _members = oracle.members();
     let mut listing = Listing {
@@ -112,11 +106,7 @@ fn list_on<O: Oracle>(
     requires start { IsListing (O.framework oracle.old) (O.log oracle.old) mode range.now start }
     requires room { length start.sets.items ≤ limit }
     ensures listed { IfOk result (IsAllOrMore (O.framework oracle.old) (O.log oracle.new) mode range.now limit) }
-    ensures run { HasRun (MadeDiffers (O.framework oracle.old)) 1 (O.framework oracle.old) (O.log oracle.old)
-        (O.log oracle.new) (O.pending oracle.new) budget.old budget.new (halt_of result) }
-    ensures framework { O.framework oracle.new ≡ O.framework oracle.old }
-    ensures kept { IsKept (O.framework oracle.new) (O.log oracle.new) }
-    ensures follows { O.follows oracle.old oracle.new }
+    ensures ran { Ran O.Oracle MadeDiffers 1 oracle.old oracle.new budget.old budget.new (halt_of result) }
 {
     let _members = oracle.members();
     let mut listing = start;
@@ -155,11 +145,8 @@ fn find_further<O: Oracle>(
     requires range { IsWithin range.now (members (O.framework oracle.old)) }
     requires listing { IsListing (O.framework oracle.old) (O.log oracle.old) mode range.now listing.now }
     ensures further { IfOk result (IsFurtherOf (O.framework oracle.old) (O.log oracle.new) mode range.now listing.now) }
-    ensures run { HasRun (MadeDiffers (O.framework oracle.old)) (closes result) (O.framework oracle.old)
-        (O.log oracle.old) (O.log oracle.new) (O.pending oracle.new) budget.old budget.new (halt_of result) }
-    ensures framework { O.framework oracle.new ≡ O.framework oracle.old }
-    ensures kept { IsKept (O.framework oracle.new) (O.log oracle.new) }
-    ensures follows { O.follows oracle.old oracle.new }
+    ensures ran { Ran O.Oracle MadeDiffers (closes result) oracle.old oracle.new budget.old budget.new
+        (halt_of result) }
 {
     let _members = oracle.members();
     let wanted = Wanted {
@@ -188,18 +175,29 @@ fn record_set<O: Oracle>(
         (Found.Set set.now) }
     ensures records { IfOk result (Records (O.framework oracle.old) (O.log oracle.new) mode range.now limit set.now
         listing.old listing.new) }
-    ensures run { HasRun (MadeDiffers (O.framework oracle.old)) 0 (O.framework oracle.old) (O.log oracle.old)
-        (O.log oracle.new) (O.pending oracle.new) budget.old budget.new (halt_of result) }
-    ensures framework { O.framework oracle.new ≡ O.framework oracle.old }
-    ensures kept { IsKept (O.framework oracle.new) (O.log oracle.new) }
-    ensures follows { O.follows oracle.old oracle.new }
+    ensures ran { Ran O.Oracle MadeDiffers 0 oracle.old oracle.new budget.old budget.new (halt_of result) }
 {
-    let side = differs(alloc, oracle.members(), set)?;
+    let _members = oracle.members();
     insert_in_order(&mut listing.sets, set.copy(alloc)?)?;
     if listing.sets.len() > limit {
         return Ok(false);
     }
-    let ask = oracle.oblige(alloc, &side, set, budget)?;
+    let ask = oblige_differs(alloc, oracle, budget, set)?;
     listing.asks.push(ask)?;
     Ok(true)
+}
+
+/// Keeps the side clause that a set differs from an admissible one, and gives its number.
+fn oblige_differs<O: Oracle>(
+    alloc: Global,
+    oracle: &mut O,
+    budget: &mut Budget,
+    set: &NumSet,
+) -> Result<AskId, Halt>
+    requires { HoldsOf (O.framework oracle.old) set.now Ad }
+    ensures asked { IfOk result (IsAskOf (O.log oracle.new).sides (differs_of (O.framework oracle.old) set.now)) }
+    ensures ran { Ran O.Oracle MadeDiffers 0 oracle.old oracle.new budget.old budget.new (halt_of result) }
+{
+    let side = differs(alloc, oracle.members(), set)?;
+    oracle.oblige(alloc, &side, set, budget)
 }

@@ -1,6 +1,7 @@
 pub mod AskedGoals
 pub mod GoalKinds
 pub mod Calls
+pub mod RunLemmas
 pub mod Lacking
 pub mod Measures
 pub mod SideLemmas

@@ -32,6 +32,11 @@ ask_of side clause old log n is obliges = record {
   same = subst (λ (literals : List AtomLit). IsSameClause (side_at log.sides n).literals literals) is obliges.same;
 }
 
+pub if_ask : (side clause : List AtomLit) (old log : OracleLog) (r : Result ℕ Halt) → side ≡ clause
+    → IfOk r (Obliges side old log) → IfOk r (IsAskOf log.sides clause)
+if_ask side clause old log (Ok n) is obliges = ask_of side clause old log n is obliges
+if_ask side clause old log (Err halt) is obliges = obliges
+
 pub ask_grown : (P : Making) (old new : OracleLog) (clause : List AtomLit) (n : ℕ) → Grows P old new
     → IsAskOf old.sides clause n → IsAskOf new.sides clause n
 ask_grown P old new clause n grows h = record {

@@ -1,4 +1,5 @@
 pub mod AllSets
 pub mod Asking
+pub mod Runs
 pub mod Sides
 pub mod Words

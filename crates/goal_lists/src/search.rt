@@ -1,11 +1,11 @@
 //! A search for goals about sets.
 
-ghost use Rattle.std.specs.Prelude.{◌≡◌, IfOk};
+ghost use Rattle.std.specs.Prelude.{IfOk};
 ghost use Rattle.oracle_face.specs.Goals.{IsSide};
-ghost use Rattle.oracle_face.specs.Growing.{HasRun, IsFound, NoSide, OnlySide, closes, halt_of};
-ghost use Rattle.oracle_face.specs.Logs.{IsKept};
+ghost use Rattle.oracle_face.specs.Growing.{IsFound, closes, halt_of};
 ghost use Rattle.goal_lists.specs.Asking.{IsAskable, IsAskableAbout, IsAskableBeside, goals_of, query_goals};
 ghost use Rattle.goal_lists.specs.Sides.{IsFoundBeside};
+ghost use Rattle.goal_lists.specs.Runs.{MadeNone, MadeOnly, Ran};
 
 use crate::goals::{Wanted, goals_about, goals_for, query_literal};
 use meaning_atoms::{Atom, AtomLit};
@@ -25,11 +25,7 @@ pub fn search_for<O: Oracle>(
         wanted.now.ranged.now wanted.now.asks.now }
     ensures found { IfOk result (IsFound (O.framework oracle.old) (O.log oracle.new)
         (goals_of mode wanted.now.ins.now wanted.now.outs.now wanted.now.ranged.now wanted.now.asks.now)) }
-    ensures run { HasRun NoSide (closes result) (O.framework oracle.old) (O.log oracle.old) (O.log oracle.new)
-        (O.pending oracle.new) budget.old budget.new (halt_of result) }
-    ensures framework { O.framework oracle.new ≡ O.framework oracle.old }
-    ensures kept { IsKept (O.framework oracle.new) (O.log oracle.new) }
-    ensures follows { O.follows oracle.old oracle.new }
+    ensures ran { Ran O.Oracle MadeNone (closes result) oracle.old oracle.new budget.old budget.new (halt_of result) }
 {
     let _members = oracle.members();
     let goals = goals_for(alloc, mode, wanted)?;
@@ -51,11 +47,7 @@ pub fn search_query<O: Oracle>(
     requires { IsAskableAbout (O.framework oracle.old) (O.log oracle.old).sides mode query asks.now }
     ensures found { IfOk result (IsFound (O.framework oracle.old) (O.log oracle.new)
         (query_goals (O.framework oracle.old) mode query accepted asks.now)) }
-    ensures run { HasRun NoSide (closes result) (O.framework oracle.old) (O.log oracle.old) (O.log oracle.new)
-        (O.pending oracle.new) budget.old budget.new (halt_of result) }
-    ensures framework { O.framework oracle.new ≡ O.framework oracle.old }
-    ensures kept { IsKept (O.framework oracle.new) (O.log oracle.new) }
-    ensures follows { O.follows oracle.old oracle.new }
+    ensures ran { Ran O.Oracle MadeNone (closes result) oracle.old oracle.new budget.old budget.new (halt_of result) }
 {
     let _members = oracle.members();
     let literal = query_literal(oracle.is_aba(), query, accepted);
@@ -80,11 +72,8 @@ pub fn search_beside<O: Oracle>(
         wanted.now.ranged.now side.now }
     ensures found { IfOk result (IsFoundBeside (O.framework oracle.old) (O.log oracle.new) mode wanted.now.ins.now
         wanted.now.outs.now wanted.now.ranged.now side.now) }
-    ensures run { HasRun (OnlySide side.now from.now) (closes result) (O.framework oracle.old) (O.log oracle.old)
-        (O.log oracle.new) (O.pending oracle.new) budget.old budget.new (halt_of result) }
-    ensures framework { O.framework oracle.new ≡ O.framework oracle.old }
-    ensures kept { IsKept (O.framework oracle.new) (O.log oracle.new) }
-    ensures follows { O.follows oracle.old oracle.new }
+    ensures ran { Ran O.Oracle (MadeOnly side.now from.now) (closes result) oracle.old oracle.new budget.old budget.new
+        (halt_of result) }
 {
     let ask = oracle.oblige(alloc, side, from, budget)?;
     let beside = Wanted {

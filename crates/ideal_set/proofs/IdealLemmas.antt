@@ -1,6 +1,6 @@
--- Attackers of a set, and the ideal set.
-use Rattle.std.proofs.Common.{◌≡◌, ◌↔◌, inl, inr, ⊎_elim, ℕ, ◌+◌, ◌*◌, ◌<◌, ◌≤◌, false, not, List, [], ◌∷◌, ◌++◌, length, filter, refl, ap, sym, subst, ◌∙◌, arith}
-use Rattle.std.specs.Prelude.{Contains, Result, Ok, IfOk, Option, None, ◌⊎◌, slice_index_or}
+use Rattle.std.proofs.Common.{◌≡◌, ◌↔◌, inl, inr, ⊎_elim, ℕ, ◌+◌, ◌*◌, ◌<◌, ◌≤◌, false, List, [], ◌∷◌, ◌++◌, length}
+use Rattle.std.proofs.Common.{refl, ap, sym, subst, ◌∙◌, arith}
+use Rattle.std.specs.Prelude.{Contains, Err, IfOk, Ok, Result, slice_index_or, ◌⊎◌}
 use Rattle.std.specs.List.{list_any}
 use Rattle.std.specs.List.Sorted.{IsStrictlyIncreasing}
 use Rattle.meaning_atoms.specs.AtomText.{numbers_of}
@@ -11,7 +11,6 @@ use Rattle.std.proofs.lemmas.List.Elements.{Contains-append_left, Contains-appen
 use Rattle.lists.specs.Members.{IsWithin, IsSetOf}
 use Rattle.lists.proofs.Membership.{Contains-nil, Contains-head, Contains-pushed}
 use Rattle.plain_lits.specs.declared.halt.Halt.{Halt}
-use Rattle.plain_lits.specs.Units.{Units}
 use Rattle.plain_lits.proofs.HintCheckLemmas.{Contains-mapped, Contains-from_mapped}
 use Rattle.semantics.specs.Framework.{Af}
 use Rattle.semantics.specs.Frameworks.{Framework, af, aba, IsNumbered}
@@ -22,7 +21,7 @@ use Rattle.meaning_atoms.specs.Worlds.{HoldsOf}
 use Rattle.iccma_tasks.specs.declared.task.Semantics.TheVariants.{Ideal}
 use Rattle.certificate_claims.specs.Refutations.{IsPlain}
 use Rattle.certificate_claims.specs.Rights.{IsExtension}
-use Rattle.certificate_claims.specs.SetLiterals.{attacked, has, hit_by_any, hits, members}
+use Rattle.certificate_claims.specs.SetLiterals.{attacked, hit_by_any, hits, members}
 use Rattle.certificate_claims.proofs.RisingLists.{same_rising}
 use Rattle.certificate_claims.proofs.SetTests.{in_hit_list}
 use Rattle.certificate_claims.proofs.GoalLists.{asks_cons, asks_nil, only_one, plain_mapped}
@@ -31,24 +30,30 @@ use Rattle.certificate_claims.proofs.SideClauses.{attacked_plain}
 use Rattle.oracle_face.specs.declared.face.Found.{Found}
 use Rattle.oracle_face.specs.declared.face.Found.TheVariants.{Set, Refuted}
 use Rattle.oracle_face.specs.Goals.{IsClaimSide, IsSide, Refutes, SpeaksOf}
-use Rattle.oracle_face.specs.declared.face.Pending.{Pending}
-use Rattle.oracle_face.specs.Growing.{Grows, HasRun, IsFound, Making, OnlySide, closes}
+use Rattle.oracle_face.specs.Growing.{Grows, IsFound, Making, OnlySide}
 use Rattle.oracle_face.specs.Kinds.{IsRanged, is_assumption_based}
 use Rattle.oracle_face.specs.Logs.{IsKept, IsNumberOf, IsSameClause, OracleLog, SideClause, side_at}
 use Rattle.oracle_face.proofs.GrowingLemmas.{Makes}
 use Rattle.oracle_face.proofs.Refuting.{claim_excluded, grown_side, number_grown, refutes_claim, refutes_grown}
 use Rattle.goal_lists.specs.Asking.{goals_of, IsAskableBeside}
 use Rattle.goal_lists.specs.Sides.{IsAskOf, IsFoundBeside}
-use Rattle.goal_lists.proofs.AskedGoals.{asked_there, asked_true, attacked_side, attacked_speaks, attacks_one, within_claim}
-use Rattle.goal_lists.proofs.Calls.{apart_pushed, asks_fit, found_mode, then_same}
+use Rattle.goal_lists.proofs.AskedGoals.{asked_there, asked_true, attacked_side, attacked_speaks, attacks_one}
+use Rattle.goal_lists.proofs.AskedGoals.{within_claim}
+use Rattle.goal_lists.proofs.Calls.{apart_pushed, asks_fit, found_mode}
 use Rattle.goal_lists.proofs.Measures.{fewer_outside}
 use Rattle.goal_lists.proofs.SideLemmas.{ask_claim, beside_means, this_one}
 use Rattle.ideal_set.specs.declared.attackers.Attackers.{Attackers}
 use Rattle.ideal_set.specs.declared.free.Free.{Free}
-use Rattle.ideal_set.specs.Ideals.{Attacks, Hits, IsAsked, IsCut, IsCutBeside, IsFree, IsHit, IsIdealFound, IsLargestFree, IsSearch, MadeForIdeal}
+use Rattle.ideal_set.specs.Ideals.{Attacks, HasTurned, Hits, IsAsked, IsCut, IsCutBeside, IsCutDown, IsFree, IsHit}
+use Rattle.ideal_set.specs.Ideals.{IsIdealFound, IsLargestFree, IsPruned, IsSearch, IsTurn, MadeForIdeal, turn_closes}
+use Rattle.ideal_set.specs.Ideals.{unhit}
 use Rattle.ideal_set.specs.Ideals.{attacked_claim, free_claim}
 use Rattle.ideal_set.specs.declared.searching.IdealSet.{IdealSet}
+use Rattle.ideal_set.specs.declared.searching.Turn.{Turn}
+use Rattle.ideal_set.specs.declared.searching.Turn.TheVariants.{AttackedBy, Unattacked}
 use Rattle.ideal_set.proofs.FreeLemmas.{free_plain}
+
+-- Attackers of a set, and the ideal set.
 
 -- ---- what is asked
 
@@ -370,38 +375,18 @@ is_ideal f g log found hit kind same was h free two one =
 
 -- ---- what a turn leaves
 
--- a set has been grown without what is attacked, and so many closing steps were logged so far
-pub record HasGrown (f : Framework) (first log : OracleLog) (p : Option Pending) (u v : Units) (others : List (List ℕ))
-    (hit : List ℕ) (free : Free) (m : ℕ) : Type 0 where
-  pub ran : HasRun (MadeForIdeal f) m f first log p u v None
-  pub searched : IsSearch f log others hit
-  pub largest : IsLargestFree f log hit free
-
-pub grown_turn : (f g : Framework) (m : ℕ) (a b c : OracleLog) (p q : Option Pending) (u v w : Units)
-    (others : List (List ℕ)) (hit : List ℕ) (free : Free) → g ≡ f → HasRun (MadeForIdeal f) m f a b p u v None
-    → IsSearch f b others hit → HasRun (MadeForIdeal g) 1 g b c q v w None → IsLargestFree g c hit free
-    → HasGrown f a c q u w others hit free (m + 1)
-grown_turn f g m a b c p q u v w others hit free same before h run largest = record {
-  ran = then_same MadeForIdeal f g m 1 (m + 1) a b c p q u v w None same (omega arith) before run;
-  searched = search_grown f (MadeForIdeal g) b c others hit run.grows h;
-  largest = subst (λ (x : Framework). IsLargestFree x c hit free) same largest;
-}
-
 -- an admissible set was searched for that attacks a set
-pub record HasAsked (f : Framework) (first log : OracleLog) (p : Option Pending) (u v : Units) (others : List (List ℕ))
-    (hit e : List ℕ) (m : ℕ) (found : Found) : Type 0 where
-  pub ran : HasRun (MadeForIdeal f) m f first log p u v None
+pub record HasAsked (f : Framework) (log : OracleLog) (others : List (List ℕ)) (hit e : List ℕ) (found : Found)
+    : Type 0 where
   pub searched : IsSearch f log others hit
   pub attacks : Attacks f log e found
   pub asked : (n : ℕ) × IsAskOf log.sides (attacked f e) n
 
-pub asked_turn : (f g : Framework) (m n : ℕ) (a b c : OracleLog) (p q : Option Pending) (u v w : Units)
-    (others : List (List ℕ)) (hit e : List ℕ) (r found : Found) → g ≡ f → HasRun (MadeForIdeal f) m f a b p u v None
-    → IsSearch f b others hit → HasRun (MadeForIdeal g) (closes (Ok r)) g b c q v w None → Attacks g c e r
-    → IsAsked g c e r → r ≡ found → closes (Ok r) ≡ n → HasAsked f a c q u w others hit e (m + n) found
-asked_turn f g m n a b c p q u v w others hit e r found same before h run attacks asked is count = record {
-  ran = then_same MadeForIdeal f g m (closes (Ok r)) (m + n) a b c p q u v w None same (omega (arith, count)) before run;
-  searched = search_grown f (MadeForIdeal g) b c others hit run.grows h;
+pub asked_turn : (f g : Framework) (b c : OracleLog) (others : List (List ℕ)) (hit e : List ℕ) (r found : Found)
+    → g ≡ f → IsSearch f b others hit → Grows (MadeForIdeal g) b c → Attacks g c e r → IsAsked g c e r → r ≡ found
+    → HasAsked f c others hit e found
+asked_turn f g b c others hit e r found same h grows attacks asked is = record {
+  searched = search_grown f (MadeForIdeal g) b c others hit grows h;
   attacks = subst (Attacks f c e) is (subst (λ (x : Framework). Attacks x c e r) same attacks);
   asked = subst (λ (x : Framework). (n : ℕ) × IsAskOf c.sides (attacked x e) n) same asked;
 }
@@ -416,26 +401,35 @@ still_largest f g a b hit free same kept grows h = record {
 }
 
 -- a turn: a set was grown, and an admissible set was searched for that attacks it
-pub record HasTurned (f : Framework) (first log : OracleLog) (p : Option Pending) (u v : Units)
-    (others : List (List ℕ)) (hit : List ℕ) (free : Free) (m : ℕ) (found : Found) : Type 0 where
-  pub asked : HasAsked f first log p u v others hit free.set m found
-  pub largest : IsLargestFree f log hit free
-
-pub turned : (f g h : Framework) (m n : ℕ) (a b c d : OracleLog) (p q r : Option Pending) (u v w x : Units)
-    (others : List (List ℕ)) (hit : List ℕ) (free : Free) (answer found : Found) → g ≡ f → h ≡ f → IsKept h c
-    → HasRun (MadeForIdeal f) m f a b p u v None → IsSearch f b others hit
-    → HasRun (MadeForIdeal g) 1 g b c q v w None → IsLargestFree g c hit free
-    → HasRun (MadeForIdeal h) (closes (Ok answer)) h c d r w x None → Attacks h d free.set answer
-    → IsAsked h d free.set answer → answer ≡ found → closes (Ok answer) ≡ n
-    → HasTurned f a d r u x others hit free (m + 1 + n) found
-turned f g h m n a b c d p q r u v w x others hit free answer found same again kept before search grew largest asking
-    attacks asked is count =
-    let grown = grown_turn f g m a b c p q u v w others hit free same before search grew largest in
+pub turned : (f g : Framework) (a b c : OracleLog) (found : Attackers) (free : Free) (r answer : Found) → g ≡ f
+    → IsKept g b → IsSearch f a found.sets found.hit → Grows (MadeForIdeal f) a b → Grows (MadeForIdeal g) b c
+    → IsLargestFree f b found.hit free → Attacks g c free.set r → IsAsked g c free.set r → r ≡ answer
+    → IsTurn f c found free answer
+turned f g a b c found free r answer same kept h first more largest attacks asked is =
+    let turn = asked_turn f g b c found.sets found.hit free.set r answer same
+    (search_grown f (MadeForIdeal f) a b found.sets found.hit first h) more attacks asked is in
     record {
-      asked = asked_turn f h (m + 1) n a c d q r u w x others hit free.set answer found again grown.ran grown.searched
-          asking attacks asked is count;
-      largest = still_largest f h c d hit free again kept asking.grows grown.largest;
+      searched = turn.searched;
+      largest = still_largest f g b c found.hit free same kept more largest;
+      attacks = turn.attacks;
+      asked = turn.asked;
     }
+
+pub turn_of : (f g : Framework) (log : OracleLog) (found : Attackers) (r answer : Turn) → g ≡ f → r ≡ answer
+    → HasTurned g log found r → HasTurned f log found answer
+turn_of f g log found r answer same is h =
+    subst (λ (x : Framework). HasTurned x log found answer) same (subst (HasTurned g log found) is h)
+
+pub some_closes : (r : Result Turn Halt) → 1 ≤ turn_closes r
+some_closes (Ok (Unattacked free step)) = omega arith
+some_closes (Ok (AttackedBy free other)) = omega arith
+some_closes (Err halt) = omega arith
+
+pub attacked_closes : (r : Turn) (free : Free) (other : List ℕ) → r ≡ AttackedBy free other → turn_closes (Ok r) ≡ 1
+attacked_closes r free other is = ap (λ (x : Turn). turn_closes (Ok x)) is
+
+pub unattacked_closes : (r : Turn) (free : Free) (step : ℕ) → r ≡ Unattacked free step → turn_closes (Ok r) ≡ 2
+unattacked_closes r free step is = ap (λ (x : Turn). turn_closes (Ok x)) is
 
 -- one more set, and what is left
 pub search_cut : (f : Framework) (log : OracleLog) (old new : Attackers) (e other left : List ℕ)
@@ -459,7 +453,7 @@ hit_stays f other left old new cut a c = (cut.hit.members a).1 (inl c)
 pub fewer_left : (f : Framework) (log : OracleLog) (old new : Attackers) (e other left more : List ℕ) → IsNumbered f
     → IsSearch f log old.sets old.hit → IsFree f old.hit e → ((a : ℕ) × Contains e a × Hits f other a)
     → IsCut f other old new left → IsWithin new.hit more → IsWithin more (members f)
-    → length (filter (λ x. not (has more x)) (members f)) < length (filter (λ x. not (has old.hit x)) (members f))
+    → unhit f more < unhit f old.hit
 fewer_left f log old new e other left more ok h free attack cut sub live =
     fewer_outside (members f) old.hit more live (λ a c. sub a (hit_stays f other left old new cut a c))
     (λ back. free.apart attack.0 attack.1 (back attack.0 (sub attack.0 ((cut.hit.members attack.0).1 (inr attack.2)))))
@@ -496,9 +490,29 @@ two_more f e other left old new cut =
 pub fewer_beside : (f : Framework) (old new : Attackers) (e other left more : List ℕ) → IsFree f old.hit e
     → ((a : ℕ) × Contains e a × Hits f other a) → IsCutBeside f e other old new left → IsWithin new.hit more
     → IsWithin more (members f)
-    → length (filter (λ x. not (has more x)) (members f)) < length (filter (λ x. not (has old.hit x)) (members f))
+    → unhit f more < unhit f old.hit
 fewer_beside f old new e other left more free attack cut sub live =
     fewer_outside (members f) old.hit more live
     (λ a c. sub a (hit_stays f other left cut.between new cut.cut a ((cut.keeps.hit.members a).1 (inl c))))
     (λ back. free.apart attack.0 attack.1
     (back attack.0 (sub attack.0 ((cut.cut.hit.members attack.0).1 (inr attack.2)))))
+
+-- a grown set was cut, and pruned
+cut_pruned : (f : Framework) (log after : OracleLog) (old mid new : Attackers) (e other left start : List ℕ)
+    → is_assumption_based f ≡ false → IsNumbered f → IsFree f old.hit e → ((a : ℕ) × Contains e a × Hits f other a)
+    → IsCutBeside f e other old mid left → IsPruned f after mid new start → IsCutDown f after old new start
+cut_pruned f log after old mid new e other left start kind ok free attack cut pruned = record {
+  searched = pruned.searched;
+  free = pruned.free;
+  more = omega (arith, two_more f e other left old mid cut, pruned.more);
+  fewer = fewer_beside f old mid e other left new.hit free attack cut pruned.hit
+      (hit_within f after new.sets new.hit kind ok pruned.searched);
+}
+
+pub if_cut : (f : Framework) (log after : OracleLog) (old mid new : Attackers) (e other left : List ℕ)
+    (r : Result (List ℕ) Halt) → is_assumption_based f ≡ false → IsNumbered f → IsFree f old.hit e
+    → ((a : ℕ) × Contains e a × Hits f other a) → IsCutBeside f e other old mid left
+    → IfOk r (IsPruned f after mid new) → IfOk r (IsCutDown f after old new)
+if_cut f log after old mid new e other left (Ok start) kind ok free attack cut h =
+    cut_pruned f log after old mid new e other left start kind ok free attack cut h
+if_cut f log after old mid new e other left (Err halt) kind ok free attack cut h = h

@@ -2,8 +2,10 @@
 --
 -- Source: P. M. Dung, P. Mancarella, F. Toni, "Computing ideal sceptical argumentation", Artificial Intelligence 171
 -- (2007): an admissible set that no admissible set attacks lies in every preferred set.
-use Rattle.std.specs.Prelude.{◌≡◌, ◌≢◌, ◌↔◌, ◌⊎◌, ◌≤◌, ◌*◌, ℕ, List, [], ◌∷◌, ◌++◌, length, Contains}
+use Rattle.std.specs.Prelude.{◌≡◌, ◌≢◌, ◌↔◌, ◌⊎◌, ◌<◌, ◌≤◌, ◌+◌, ◌*◌, ℕ, not, List, [], ◌∷◌, ◌++◌, length, filter}
+use Rattle.std.specs.Prelude.{Contains, Result, Ok}
 use Rattle.lists.specs.Members.{IsSetOf, IsWithin}
+use Rattle.plain_lits.specs.declared.halt.Halt.{Halt}
 use Rattle.semantics.specs.Framework.{Af, Attacks as AttacksIn, IsAttackedBy}
 use Rattle.semantics.specs.Frameworks.{Framework, af, aba}
 use Rattle.semantics.specs.AbaFrameworks.{AttacksAssumption}
@@ -14,7 +16,7 @@ use Rattle.iccma_tasks.specs.declared.task.Semantics.TheVariants.{Ideal}
 use Rattle.certificate_claims.specs.Claims.{claim_of}
 use Rattle.certificate_claims.specs.Refutations.{Claim}
 use Rattle.certificate_claims.specs.Rights.{IsExtension}
-use Rattle.certificate_claims.specs.SetLiterals.{are_in, are_out, attacked, hit_by_any, outside}
+use Rattle.certificate_claims.specs.SetLiterals.{are_in, are_out, attacked, has, hit_by_any, members, outside}
 use Rattle.oracle_face.specs.declared.face.Found.{Found}
 use Rattle.oracle_face.specs.declared.face.Found.TheVariants.{Set, Refuted}
 use Rattle.oracle_face.specs.Goals.{Refutes}
@@ -26,6 +28,8 @@ use Rattle.goal_lists.specs.Sides.{IsAskOf}
 use Rattle.ideal_set.specs.declared.attackers.Attackers.{Attackers}
 use Rattle.ideal_set.specs.declared.free.Free.{Free}
 use Rattle.ideal_set.specs.declared.searching.IdealSet.{IdealSet}
+use Rattle.ideal_set.specs.declared.searching.Turn.{Turn}
+use Rattle.ideal_set.specs.declared.searching.Turn.TheVariants.{AttackedBy, Unattacked}
 
 -- a side clause made from an admissible set: that something lies outside it, or that it is attacked
 abbrev pub MadeForIdeal : Framework → Making
@@ -109,6 +113,10 @@ abbrev pub IsPicture : Framework → Af → Type 0
 IsPicture (af f) plain = IsPictureOf f plain
 IsPicture (aba f) plain = ⊥
 
+-- how many members none of the sets attacks
+abbrev pub unhit : Framework → List ℕ → ℕ
+unhit f hit = length (filter (λ x. not (has hit x)) (members f))
+
 -- there is one set more, with what it attacks
 pub record Keeps (f : Framework) (set : List ℕ) (old new : Attackers) : Type 0 where
   pub sets : new.sets ≡ old.sets ++ set ∷ []
@@ -132,6 +140,32 @@ pub record IsPruned (f : Framework) (log : OracleLog) (old new : Attackers) (lef
   pub more : length old.sets ≤ length new.sets
   pub hit : IsWithin old.hit new.hit
   pub free : IsFree f new.hit left
+
+-- there are two more sets at least, fewer members that none of them attacks, and what is left holds nothing that they
+-- attack
+pub record IsCutDown (f : Framework) (log : OracleLog) (old new : Attackers) (left : List ℕ) : Type 0 where
+  pub searched : AreAttackers f log new
+  pub free : IsFree f new.hit left
+  pub more : length old.sets + 2 ≤ length new.sets
+  pub fewer : unhit f new.hit < unhit f old.hit
+
+-- ---- a turn
+
+-- a set was grown without what is attacked, and an admissible set was searched for that attacks it
+pub record IsTurn (f : Framework) (log : OracleLog) (found : Attackers) (free : Free) (answer : Found) : Type 0 where
+  pub searched : AreAttackers f log found
+  pub largest : IsLargestFree f log found.hit free
+  pub attacks : Attacks f log free.set answer
+  pub asked : IsAsked f log free.set answer
+
+abbrev pub HasTurned : Framework → OracleLog → Attackers → Turn → Type 0
+HasTurned f log found (Unattacked free step) = IsTurn f log found free (Refuted step)
+HasTurned f log found (AttackedBy free other) = IsTurn f log found free (Set other)
+
+-- how many steps a turn logs that only end a search
+abbrev pub turn_closes : Result Turn Halt → ℕ
+turn_closes (Ok (Unattacked free step)) = 2
+turn_closes _ = 1
 
 -- ---- the ideal set
 

@@ -4,11 +4,11 @@ ghost use Rattle.std.specs.Prelude.{◌≡◌, ◌⊎◌, false, Contains, IfOk,
 ghost use Rattle.lists.specs.Members.{IsSetOf};
 ghost use Rattle.meaning_atoms.specs.declared.atom.Atom.TheVariants.{Ad};
 ghost use Rattle.meaning_atoms.specs.Worlds.{HoldsOf};
-ghost use Rattle.oracle_face.specs.Growing.{HasRun, closes, halt_of};
+ghost use Rattle.oracle_face.specs.Growing.{closes, halt_of};
 ghost use Rattle.oracle_face.specs.Kinds.{is_assumption_based};
-ghost use Rattle.oracle_face.specs.Logs.{IsKept};
 ghost use Rattle.ideal_set.specs.Ideals.{AreAttackers, Attacks, Hits, IsAsked, IsCut, IsCutBeside, IsFree, IsPicture};
 ghost use Rattle.ideal_set.specs.Ideals.{IsPruned, Keeps, MadeForIdeal};
+ghost use Rattle.goal_lists.specs.Runs.{Ran};
 
 use crate::largest_part;
 use dung_notions::AfPlain;
@@ -37,11 +37,8 @@ pub(crate) fn attacker<O: Oracle>(
     requires holds { HoldsOf (O.framework oracle.old) set.now Ad }
     ensures attacks { IfOk result (Attacks (O.framework oracle.old) (O.log oracle.new) set.now) }
     ensures asked { IfOk result (IsAsked (O.framework oracle.old) (O.log oracle.new) set.now) }
-    ensures run { HasRun (MadeForIdeal (O.framework oracle.old)) (closes result) (O.framework oracle.old)
-        (O.log oracle.old) (O.log oracle.new) (O.pending oracle.new) budget.old budget.new (halt_of result) }
-    ensures framework { O.framework oracle.new ≡ O.framework oracle.old }
-    ensures kept { IsKept (O.framework oracle.new) (O.log oracle.new) }
-    ensures follows { O.follows oracle.old oracle.new }
+    ensures ran { Ran O.Oracle MadeForIdeal (closes result) oracle.old oracle.new budget.old budget.new
+        (halt_of result) }
 {
     let _members = oracle.members();
     let side = attacked(alloc, set)?;
@@ -138,11 +135,7 @@ pub(crate) fn prune<O: Oracle>(
     requires found { AreAttackers (O.framework oracle.old) (O.log oracle.old) found.old }
     requires set { IsFree (O.framework oracle.old) found.old.hit set.now }
     ensures pruned { IfOk result (IsPruned (O.framework oracle.old) (O.log oracle.new) found.old found.new) }
-    ensures run { HasRun (MadeForIdeal (O.framework oracle.old)) 1 (O.framework oracle.old) (O.log oracle.old)
-        (O.log oracle.new) (O.pending oracle.new) budget.old budget.new (halt_of result) }
-    ensures framework { O.framework oracle.new ≡ O.framework oracle.old }
-    ensures kept { IsKept (O.framework oracle.new) (O.log oracle.new) }
-    ensures follows { O.follows oracle.old oracle.new }
+    ensures ran { Ran O.Oracle MadeForIdeal 1 oracle.old oracle.new budget.old budget.new (halt_of result) }
 {
     let _members = oracle.members();
     let mut part = set.copy(alloc)?;

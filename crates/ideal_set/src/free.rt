@@ -1,13 +1,11 @@
 //! Admissible sets that hold none of given numbers.
 
-ghost use Rattle.std.specs.Prelude.{◌≡◌, ℕ, Contains, IfOk};
+ghost use Rattle.std.specs.Prelude.{IfOk};
 ghost use Rattle.lists.specs.Members.{IsWithin};
-ghost use Rattle.meaning_atoms.specs.declared.atom.Atom.TheVariants.{Ad};
-ghost use Rattle.meaning_atoms.specs.Worlds.{HoldsOf};
 ghost use Rattle.certificate_claims.specs.SetLiterals.{members};
-ghost use Rattle.oracle_face.specs.Growing.{HasRun, closes, halt_of};
-ghost use Rattle.oracle_face.specs.Logs.{IsKept};
+ghost use Rattle.oracle_face.specs.Growing.{closes, halt_of};
 ghost use Rattle.ideal_set.specs.Ideals.{IsFree, IsLargerFree, IsLargestFree, MadeForIdeal};
+ghost use Rattle.goal_lists.specs.Runs.{Ran};
 
 use goal_lists::{Wanted, outside, search_beside};
 use meaning_atoms::Atom;
@@ -33,11 +31,8 @@ fn larger_free<O: Oracle>(
     requires hit { IsWithin hit.now (members (O.framework oracle.old)) }
     requires free { IsFree (O.framework oracle.old) hit.now set.now }
     ensures larger { IfOk result (IsLargerFree (O.framework oracle.old) (O.log oracle.new) hit.now set.now) }
-    ensures run { HasRun (MadeForIdeal (O.framework oracle.old)) (closes result) (O.framework oracle.old)
-        (O.log oracle.old) (O.log oracle.new) (O.pending oracle.new) budget.old budget.new (halt_of result) }
-    ensures framework { O.framework oracle.new ≡ O.framework oracle.old }
-    ensures kept { IsKept (O.framework oracle.new) (O.log oracle.new) }
-    ensures follows { O.follows oracle.old oracle.new }
+    ensures ran { Ran O.Oracle MadeForIdeal (closes result) oracle.old oracle.new budget.old budget.new
+        (halt_of result) }
 {
     let side = outside(alloc, oracle.members(), set)?;
     let wanted = Wanted {
@@ -61,11 +56,7 @@ pub(crate) fn largest_free<O: Oracle>(
     requires hit { IsWithin hit.now (members (O.framework oracle.old)) }
     requires start { IsFree (O.framework oracle.old) hit.now start.now }
     ensures largest { IfOk result (IsLargestFree (O.framework oracle.old) (O.log oracle.new) hit.now) }
-    ensures run { HasRun (MadeForIdeal (O.framework oracle.old)) 1 (O.framework oracle.old) (O.log oracle.old)
-        (O.log oracle.new) (O.pending oracle.new) budget.old budget.new (halt_of result) }
-    ensures framework { O.framework oracle.new ≡ O.framework oracle.old }
-    ensures kept { IsKept (O.framework oracle.new) (O.log oracle.new) }
-    ensures follows { O.follows oracle.old oracle.new }
+    ensures ran { Ran O.Oracle MadeForIdeal 1 oracle.old oracle.new budget.old budget.new (halt_of result) }
 {
     let _members = oracle.members();
     let mut grown = start.copy(alloc)?;

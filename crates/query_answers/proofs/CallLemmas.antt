@@ -1,6 +1,5 @@
--- What the calls leave of which an answer is made, by what a query may make.
-use Rattle.std.proofs.Common.{◌≡◌, ⊎_elim, ℕ, ◌+◌, ◌*◌, ◌≤◌, List, [], ◌∷◌, length, refl, sym, subst, arith}
-use Rattle.std.specs.Prelude.{Contains, Option, None, Some, Result, Ok, Err}
+use Rattle.std.proofs.Common.{◌≡◌, ⊎_elim, ℕ, ◌≤◌, List, [], ◌∷◌, refl, sym, subst, arith}
+use Rattle.std.specs.Prelude.{Contains, Option, None, Result, Ok, Err}
 use Rattle.lists.proofs.Membership.{Contains-head, Contains-tail}
 use Rattle.plain_lits.specs.declared.halt.Halt.{Halt}
 use Rattle.plain_lits.specs.declared.halt.Halt.TheVariants.{Memory}
@@ -17,16 +16,22 @@ use Rattle.iccma_tasks.specs.Tasks.{Asked}
 use Rattle.certificate_claims.specs.SetLiterals.{attacked, differs, outside, wider}
 use Rattle.oracle_face.specs.declared.face.Found.{Found}
 use Rattle.oracle_face.specs.declared.face.Found.TheVariants.{Set, Refuted}
-use Rattle.oracle_face.specs.declared.face.Pending.{Pending}
-use Rattle.oracle_face.specs.Growing.{HasRun, Making, NoSide, closes}
-use Rattle.oracle_face.specs.Logs.{IsSameClause, OracleLog}
-use Rattle.oracle_face.proofs.GrowingLemmas.{Makes, run_as, run_joined, run_refused}
+use Rattle.oracle_face.specs.Growing.{Making, closes, halt_of}
+use Rattle.oracle_face.specs.Logs.{IsSameClause}
+use Rattle.oracle_face.proofs.GrowingLemmas.{Makes}
 use Rattle.session_log.specs.Ends.{MadeFor, sides_for}
-use Rattle.goal_lists.proofs.Calls.{makes_none, makes_same}
+use Rattle.goal_lists.proofs.Calls.{closes_set, makes_none}
 use Rattle.enumerate_block.specs.cegar_preferred.specs.Largest.{MadeOutside}
 use Rattle.enumerate_block.specs.semi_stable.specs.Widest.{MadeWider}
 use Rattle.ideal_set.specs.Ideals.{MadeForIdeal}
+use Rattle.std.specs.Result.{IsErr, IsErrAnd}
+use Rattle.oracle_face.specs.declared.oracle.Oracle.{Ghosts as OracleWords}
+use Rattle.goal_lists.specs.Runs.{MadeNone, Ran, RanInAll}
+use Rattle.goal_lists.proofs.RunLemmas.{Joins, ran_as, ran_lost, ran_search, ran_then}
+use Rattle.query_answers.specs.Answers.{RanFor}
 use Rattle.enumerate_block.specs.Extensions.{MadeForAll}
+
+-- What the calls leave of which an answer is made, by what a query may make.
 
 -- ---- side clauses that a query may make
 
@@ -123,48 +128,37 @@ closes_few (Ok (Set set)) = omega arith
 closes_few (Ok (Refuted step)) = omega arith
 closes_few (Err halt) = omega arith
 
--- one call
-pub run_for : (P : Making) (f : Framework) (asked : Asked) (m : ℕ) (a b : OracleLog) (p : Option Pending)
-    (u v : Units) (halt : Option Halt) → Makes P (MadeFor f asked) → m ≤ 2 * length b.sides + 2
-    → HasRun P m f a b p u v halt → HasRun (MadeFor f asked) (2 * length b.sides + 2) f a b p u v halt
-run_for P f asked m a b p u v halt makes few h =
-    run_as P (MadeFor f asked) m (2 * length b.sides + 2) f a b p u v halt makes few h
+module _ {S : Type 0} {o : OracleWords S} where
+  -- a call
+  pub for_all : {P : Framework → Making} {asked : Asked} {a b : S} {u v : Units} {halt : Option Halt}
+      → Makes (P (o.framework a)) (MadeFor (o.framework a) asked) → RanInAll o P a b u v halt
+      → RanFor o asked a b u v halt
+  for_all makes h = ran_as makes (omega arith) h
 
--- one search
-pub run_search : (f : Framework) (asked : Asked) (r : Result Found Halt) (a b : OracleLog) (p : Option Pending)
-    (u v : Units) (halt : Option Halt) → HasRun NoSide (closes r) f a b p u v halt
-    → HasRun (MadeFor f asked) (2 * length b.sides + 2) f a b p u v halt
-run_search f asked r a b p u v halt h =
-    run_for NoSide f asked (closes r) a b p u v halt (makes_none (MadeFor f asked)) (omega (arith, closes_few r)) h
+  -- one that logs at most one step that only ends a search
+  pub for_one : {P : Framework → Making} {asked : Asked} {a b : S} {u v : Units} {halt : Option Halt}
+      → Makes (P (o.framework a)) (MadeFor (o.framework a) asked) → Ran o P 1 a b u v halt
+      → RanFor o asked a b u v halt
+  for_one makes h = ran_as makes (omega arith) h
 
--- and then memory was refused
-pub run_no_memory : (f : Framework) (asked : Asked) (a b : OracleLog) (p : Option Pending) (u v : Units)
-    → HasRun (MadeFor f asked) (2 * length b.sides + 2) f a b p u v None
-    → HasRun (MadeFor f asked) (2 * length b.sides + 2) f a b p u v (Some Memory)
-run_no_memory f asked a b p u v h =
-    let most = 2 * length b.sides + 2 in
-    run_joined (MadeFor f asked) (MadeFor f asked) (MadeFor f asked) most 0 most f a b b p p u v v (Some Memory)
-    (makes_same (MadeFor f asked)) (makes_same (MadeFor f asked)) (omega arith) h
-    (run_refused (MadeFor f asked) 0 f b p v)
+  -- a search
+  pub for_search : {asked : Asked} {m : ℕ} {a b : S} {u v : Units} {halt : Option Halt} → m ≤ 1
+      → Ran o MadeNone m a b u v halt → RanFor o asked a b u v halt
+  for_search few h = ran_as (makes_none _) (omega (arith, few)) h
 
--- two searches, of which the second is closed at most once
-pub run_searches : (f g : Framework) (asked : Asked) (r : Result Found Halt) (a b c : OracleLog) (p q : Option Pending)
-    (u v w : Units) (halt : Option Halt) → g ≡ f → HasRun NoSide (closes r) f a b p u v None
-    → HasRun NoSide 1 g b c q v w halt → HasRun (MadeFor f asked) (2 * length c.sides + 2) f a c q u w halt
-run_searches f g asked r a b c p q u v w halt same h k =
-    run_joined NoSide NoSide (MadeFor f asked) (closes r) 1 (2 * length c.sides + 2) f a b c p q u v w halt
-    (makes_none (MadeFor f asked)) (makes_none (MadeFor f asked)) (omega (arith, closes_few r)) h
-    (subst (λ (x : Framework). HasRun NoSide 1 x b c q v w halt) same k)
+  -- and then memory was refused
+  pub no_memory : {T : Type 0} {asked : Asked} {a b : S} {u v : Units} → (r : Result T Halt)
+      → IsErr r × IsErrAnd r (λ x. x ≡ Memory) → RanFor o asked a b u v None → RanFor o asked a b u v (halt_of r)
+  no_memory r is h = ran_lost r is (omega arith) h
 
--- a search that found a set, and what came of it
-pub run_found : (f g : Framework) (asked : Asked) (r : Found) (set : List ℕ) (a b c : OracleLog)
-    (p q : Option Pending) (u v w : Units) (halt : Option Halt) → g ≡ f → r ≡ Set set
-    → HasRun NoSide (closes (Ok r)) f a b p u v None
-    → HasRun (MadeFor g asked) (2 * length c.sides + 2) g b c q v w halt
-    → HasRun (MadeFor f asked) (2 * length c.sides + 2) f a c q u w halt
-run_found f g asked r set a b c p q u v w halt same is h k =
-    let first : HasRun NoSide 0 f a b p u v None = subst
-    (λ (x : Found). HasRun NoSide (closes (Ok x)) f a b p u v None) is h in
-    run_joined NoSide (MadeFor f asked) (MadeFor f asked) 0 (2 * length c.sides + 2) (2 * length c.sides + 2) f a b c p
-    q u v w halt (makes_none (MadeFor f asked)) (makes_same (MadeFor f asked)) (omega arith) first
-    (subst (λ (x : Framework). HasRun (MadeFor x asked) (2 * length c.sides + 2) x b c q v w halt) same k)
+  -- two searches, of which the second is closed at most once
+  pub for_searches : {asked : Asked} {m : ℕ} {a b c : S} {u v w : Units} {halt : Option Halt} → Joins o → m ≤ 1
+      → Ran o MadeNone m a b u v None → Ran o MadeNone 1 b c v w halt → RanFor o asked a c u w halt
+  for_searches joins few h k = ran_then joins (omega (arith, few)) (ran_search h) (ran_search k)
+
+  -- a search that found a set, and what came of it
+  pub for_found : {asked : Asked} {r : Found} {set : List ℕ} {a b c : S} {u v w : Units} {halt : Option Halt}
+      → Joins o → r ≡ Set set → Ran o MadeNone (closes (Ok r)) a b u v None → RanFor o asked b c v w halt
+      → RanFor o asked a c u w halt
+  for_found {r = r} {set = set} joins is h k =
+      ran_then joins (omega (arith, closes_set r set is)) (ran_search h) k

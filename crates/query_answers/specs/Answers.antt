@@ -1,6 +1,8 @@
 -- What answers a query, and what shows that it does.
 use Rattle.std.specs.Prelude.{◌≡◌, ◌↔◌, ℕ, Bool, true, false, List, Option, Some, None, IsTrue}
 use Rattle.lists.specs.Members.{IsWithin}
+use Rattle.plain_lits.specs.declared.halt.Halt.{Halt}
+use Rattle.plain_lits.specs.Units.{Units}
 use Rattle.semantics.specs.Frameworks.{Framework}
 use Rattle.meaning_atoms.specs.declared.atom.Atom.TheVariants.{Ad}
 use Rattle.meaning_atoms.specs.Worlds.{HoldsOf}
@@ -14,8 +16,10 @@ use Rattle.certificate_claims.specs.Claims.{claims, row_of, sets_of}
 use Rattle.certificate_claims.specs.Rights.{Accepts, IsExtension}
 use Rattle.oracle_face.specs.declared.face.Found.{Found}
 use Rattle.oracle_face.specs.declared.face.Found.TheVariants.{Set, Refuted}
+use Rattle.oracle_face.specs.declared.oracle.Oracle.{Ghosts as OracleWords}
 use Rattle.oracle_face.specs.Logs.{OracleLog}
-use Rattle.session_log.specs.Ends.{AreTooMany as ShownAreTooMany}
+use Rattle.goal_lists.specs.Runs.{RanInAll}
+use Rattle.session_log.specs.Ends.{AreTooMany as ShownAreTooMany, MadeFor}
 use Rattle.edit_rules.specs.Fitting.{Fits}
 use Rattle.enumerate_block.specs.Ranges.{AreRefuted}
 use Rattle.query_answers.specs.declared.evidence.Evidence.{Evidence}
@@ -118,3 +122,7 @@ pub record BeginsLargest (f : Framework) (asked : Asked) (set : List ℕ) : Type
 abbrev pub IsSaid : Framework → Option ℕ → List ℕ → Bool → Type 0
 IsSaid f (Some q) set accepts = IsTrue accepts ↔ Accepts f set q
 IsSaid f None set accepts = Unit {0}
+
+-- what calls leave that answer the query
+abbrev pub RanFor : {S : Type 0} → OracleWords S → Asked → S → S → Units → Units → Option Halt → Type 0
+RanFor oracle asked old new before after halt = RanInAll oracle (λ f. MadeFor f asked) old new before after halt

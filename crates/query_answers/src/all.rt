@@ -1,11 +1,9 @@
 //! All extensions.
 
-ghost use Rattle.std.specs.Prelude.{◌≡◌, ◌+◌, ◌*◌, length, IfOk};
+ghost use Rattle.std.specs.Prelude.{◌≡◌, IfOk};
 ghost use Rattle.enumerate_block.specs.Extensions.{answer_of};
-ghost use Rattle.oracle_face.specs.Growing.{HasRun, halt_of};
-ghost use Rattle.oracle_face.specs.Logs.{IsKept};
-ghost use Rattle.session_log.specs.Ends.{MadeFor};
-ghost use Rattle.query_answers.specs.Answers.{AsksAll, IsOutcome};
+ghost use Rattle.oracle_face.specs.Growing.{halt_of};
+ghost use Rattle.query_answers.specs.Answers.{AsksAll, IsOutcome, RanFor, RanFor};
 ghost use Rattle.query_answers.specs.Forms.{all_outcome};
 
 use crate::evidence::{Evidence, SearchOutcome};
@@ -26,12 +24,7 @@ pub(crate) fn all_extensions<O: Oracle>(
 ) -> Result<SearchOutcome, Halt>
     requires { AsksAll (O.framework oracle.old) query.now }
     ensures outcome { IfOk result (IsOutcome (O.framework oracle.old) query.now most (O.log oracle.new)) }
-    ensures run { HasRun (MadeFor (O.framework oracle.old) query.now) (2 * length (O.log oracle.new).sides + 2)
-        (O.framework oracle.old) (O.log oracle.old) (O.log oracle.new) (O.pending oracle.new) budget.old budget.new
-        (halt_of result) }
-    ensures framework { O.framework oracle.new ≡ O.framework oracle.old }
-    ensures kept { IsKept (O.framework oracle.new) (O.log oracle.new) }
-    ensures follows { O.follows oracle.old oracle.new }
+    ensures ran { RanFor O.Oracle query.now oracle.old oracle.new budget.old budget.new (halt_of result) }
 {
     let _number = query.number();
     let extensions = all(alloc, oracle, budget, query.task(), most)?;

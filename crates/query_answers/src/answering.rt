@@ -5,7 +5,7 @@ ghost use Rattle.edit_rules.specs.Fitting.{Fits};
 ghost use Rattle.oracle_face.specs.Growing.{HasRun, halt_of};
 ghost use Rattle.oracle_face.specs.Logs.{IsKept};
 ghost use Rattle.session_log.specs.Ends.{MadeFor};
-ghost use Rattle.query_answers.specs.Answers.{AsksOne, IsEvidence, IsOutcome, is_by_grounded};
+ghost use Rattle.query_answers.specs.Answers.{AsksOne, IsEvidence, IsOutcome, is_by_grounded, RanFor, RanFor};
 
 use crate::all::all_extensions;
 use crate::complete_stable::{complete, stable};
@@ -55,12 +55,7 @@ fn one<O: Oracle>(
 ) -> Result<Evidence, Halt>
     requires { AsksOne (O.framework oracle.old) query.now }
     ensures shown { IfOk result (IsEvidence (O.framework oracle.old) query.now (O.log oracle.new)) }
-    ensures run { HasRun (MadeFor (O.framework oracle.old) query.now) (2 * length (O.log oracle.new).sides + 2)
-        (O.framework oracle.old) (O.log oracle.old) (O.log oracle.new) (O.pending oracle.new) budget.old budget.new
-        (halt_of result) }
-    ensures framework { O.framework oracle.new ≡ O.framework oracle.old }
-    ensures kept { IsKept (O.framework oracle.new) (O.log oracle.new) }
-    ensures follows { O.follows oracle.old oracle.new }
+    ensures ran { RanFor O.Oracle query.now oracle.old oracle.new budget.old budget.new (halt_of result) }
 {
     match query.task().semantics {
         Semantics::Complete => complete(alloc, oracle, budget, query),

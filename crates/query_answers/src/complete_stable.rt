@@ -1,13 +1,14 @@
 //! Answers that a set of a mode shows, or that a step shows which refutes that there is one.
 
-ghost use Rattle.std.specs.Prelude.{◌≡◌, ◌+◌, ◌*◌, length, IfOk};
+ghost use Rattle.std.specs.Prelude.{IfOk};
 ghost use Rattle.iccma_tasks.specs.declared.task.Problem.TheVariants.{Credulous};
 ghost use Rattle.iccma_tasks.specs.declared.task.Semantics.TheVariants.{Complete, Stable};
-ghost use Rattle.oracle_face.specs.Growing.{HasRun, NoSide, halt_of};
+ghost use Rattle.oracle_face.specs.Growing.{halt_of};
 ghost use Rattle.oracle_face.specs.Logs.{IsKept};
-ghost use Rattle.session_log.specs.Ends.{MadeFor};
 ghost use Rattle.query_answers.specs.Answers.{AsksAbout, AsksBy, AsksSome, IsAdmissibleIn, IsCompleted, IsEvidence};
 ghost use Rattle.query_answers.specs.Answers.{problem_of};
+ghost use Rattle.goal_lists.specs.Runs.{MadeNone, Ran};
+ghost use Rattle.query_answers.specs.Answers.{RanFor};
 
 use crate::evidence::{Evidence, of_found};
 use goal_lists::{Wanted, search_for, search_query};
@@ -26,12 +27,7 @@ pub(crate) fn stable<O: Oracle>(
 ) -> Result<Evidence, Halt>
     requires { AsksBy (O.framework oracle.old) query.now Stable }
     ensures shown { IfOk result (IsEvidence (O.framework oracle.old) query.now (O.log oracle.new)) }
-    ensures run { HasRun (MadeFor (O.framework oracle.old) query.now) (2 * length (O.log oracle.new).sides + 2)
-        (O.framework oracle.old) (O.log oracle.old) (O.log oracle.new) (O.pending oracle.new) budget.old budget.new
-        (halt_of result) }
-    ensures framework { O.framework oracle.new ≡ O.framework oracle.old }
-    ensures kept { IsKept (O.framework oracle.new) (O.log oracle.new) }
-    ensures follows { O.follows oracle.old oracle.new }
+    ensures ran { RanFor O.Oracle query.now oracle.old oracle.new budget.old budget.new (halt_of result) }
 {
     let problem = query.task().problem;
     match query.number() {
@@ -54,12 +50,7 @@ fn stable_set<O: Oracle>(
 ) -> Result<Evidence, Halt>
     requires { AsksSome (O.framework oracle.old) query.now Stable }
     ensures shown { IfOk result (IsEvidence (O.framework oracle.old) query.now (O.log oracle.new)) }
-    ensures run { HasRun (MadeFor (O.framework oracle.old) query.now) (2 * length (O.log oracle.new).sides + 2)
-        (O.framework oracle.old) (O.log oracle.old) (O.log oracle.new) (O.pending oracle.new) budget.old budget.new
-        (halt_of result) }
-    ensures framework { O.framework oracle.new ≡ O.framework oracle.old }
-    ensures kept { IsKept (O.framework oracle.new) (O.log oracle.new) }
-    ensures follows { O.follows oracle.old oracle.new }
+    ensures ran { RanFor O.Oracle query.now oracle.old oracle.new budget.old budget.new (halt_of result) }
 {
     let _number = query.number();
     let wanted = Wanted {
@@ -85,12 +76,7 @@ fn stable_about<O: Oracle>(
 ) -> Result<Evidence, Halt>
     requires { AsksAbout (O.framework oracle.old) query.now (problem_of accepted) Stable goal }
     ensures shown { IfOk result (IsEvidence (O.framework oracle.old) query.now (O.log oracle.new)) }
-    ensures run { HasRun (MadeFor (O.framework oracle.old) query.now) (2 * length (O.log oracle.new).sides + 2)
-        (O.framework oracle.old) (O.log oracle.old) (O.log oracle.new) (O.pending oracle.new) budget.old budget.new
-        (halt_of result) }
-    ensures framework { O.framework oracle.new ≡ O.framework oracle.old }
-    ensures kept { IsKept (O.framework oracle.new) (O.log oracle.new) }
-    ensures follows { O.follows oracle.old oracle.new }
+    ensures ran { RanFor O.Oracle query.now oracle.old oracle.new budget.old budget.new (halt_of result) }
 {
     let found = search_query(alloc, oracle, budget, Atom::St, goal, accepted, &[])?;
     let evidence = of_found(alloc, query.task().problem, found)?;
@@ -107,12 +93,7 @@ pub(crate) fn complete<O: Oracle>(
 ) -> Result<Evidence, Halt>
     requires { AsksBy (O.framework oracle.old) query.now Complete }
     ensures shown { IfOk result (IsEvidence (O.framework oracle.old) query.now (O.log oracle.new)) }
-    ensures run { HasRun (MadeFor (O.framework oracle.old) query.now) (2 * length (O.log oracle.new).sides + 2)
-        (O.framework oracle.old) (O.log oracle.old) (O.log oracle.new) (O.pending oracle.new) budget.old budget.new
-        (halt_of result) }
-    ensures framework { O.framework oracle.new ≡ O.framework oracle.old }
-    ensures kept { IsKept (O.framework oracle.new) (O.log oracle.new) }
-    ensures follows { O.follows oracle.old oracle.new }
+    ensures ran { RanFor O.Oracle query.now oracle.old oracle.new budget.old budget.new (halt_of result) }
 {
     match query.number() {
         Some(goal) => complete_with(alloc, oracle, budget, query, goal),
@@ -130,12 +111,7 @@ fn complete_with<O: Oracle>(
 ) -> Result<Evidence, Halt>
     requires { AsksAbout (O.framework oracle.old) query.now Credulous Complete goal }
     ensures shown { IfOk result (IsEvidence (O.framework oracle.old) query.now (O.log oracle.new)) }
-    ensures run { HasRun (MadeFor (O.framework oracle.old) query.now) (2 * length (O.log oracle.new).sides + 2)
-        (O.framework oracle.old) (O.log oracle.old) (O.log oracle.new) (O.pending oracle.new) budget.old budget.new
-        (halt_of result) }
-    ensures framework { O.framework oracle.new ≡ O.framework oracle.old }
-    ensures kept { IsKept (O.framework oracle.new) (O.log oracle.new) }
-    ensures follows { O.follows oracle.old oracle.new }
+    ensures ran { RanFor O.Oracle query.now oracle.old oracle.new budget.old budget.new (halt_of result) }
 {
     let found = search_query(alloc, oracle, budget, Atom::Ad, goal, true, &[])?;
     let grown = completed(alloc, oracle, budget, found)?;
@@ -154,11 +130,7 @@ fn completed<O: Oracle>(
     requires found { IsAdmissibleIn (O.framework oracle.old) found }
     requires kept { IsKept (O.framework oracle.old) (O.log oracle.old) }
     ensures completed { IfOk result (IsCompleted (O.framework oracle.old) found) }
-    ensures run { HasRun NoSide 1 (O.framework oracle.old) (O.log oracle.old) (O.log oracle.new) (O.pending oracle.new)
-        budget.old budget.new (halt_of result) }
-    ensures framework { O.framework oracle.new ≡ O.framework oracle.old }
-    ensures kept { IsKept (O.framework oracle.new) (O.log oracle.new) }
-    ensures follows { O.follows oracle.old oracle.new }
+    ensures ran { Ran O.Oracle MadeNone 1 oracle.old oracle.new budget.old budget.new (halt_of result) }
 {
     match found {
         Found::Refuted(step) => Ok(Found::Refuted(step)),

@@ -1,11 +1,9 @@
 //! Answers by the ideal set.
 
-ghost use Rattle.std.specs.Prelude.{◌≡◌, ◌+◌, ◌*◌, length, IfOk};
+ghost use Rattle.std.specs.Prelude.{IfOk};
 ghost use Rattle.iccma_tasks.specs.declared.task.Semantics.TheVariants.{Ideal};
-ghost use Rattle.oracle_face.specs.Growing.{HasRun, halt_of};
-ghost use Rattle.oracle_face.specs.Logs.{IsKept};
-ghost use Rattle.session_log.specs.Ends.{MadeFor};
-ghost use Rattle.query_answers.specs.Answers.{AsksBy, IsEvidence, IsSaid};
+ghost use Rattle.oracle_face.specs.Growing.{halt_of};
+ghost use Rattle.query_answers.specs.Answers.{AsksBy, IsEvidence, IsSaid, RanFor, RanFor};
 
 use crate::evidence::{Evidence, of_ideal};
 use iccma_tasks::Query;
@@ -24,12 +22,7 @@ pub(crate) fn by_ideal_set<O: Oracle>(
 ) -> Result<Evidence, Halt>
     requires { AsksBy (O.framework oracle.old) query.now Ideal }
     ensures shown { IfOk result (IsEvidence (O.framework oracle.old) query.now (O.log oracle.new)) }
-    ensures run { HasRun (MadeFor (O.framework oracle.old) query.now) (2 * length (O.log oracle.new).sides + 2)
-        (O.framework oracle.old) (O.log oracle.old) (O.log oracle.new) (O.pending oracle.new) budget.old budget.new
-        (halt_of result) }
-    ensures framework { O.framework oracle.new ≡ O.framework oracle.old }
-    ensures kept { IsKept (O.framework oracle.new) (O.log oracle.new) }
-    ensures follows { O.follows oracle.old oracle.new }
+    ensures ran { RanFor O.Oracle query.now oracle.old oracle.new budget.old budget.new (halt_of result) }
 {
     let _number = query.number();
     let found = ideal_set_of(alloc, oracle, budget)?;

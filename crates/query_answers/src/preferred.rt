@@ -1,12 +1,10 @@
 //! Answers by the preferred sets.
 
-ghost use Rattle.std.specs.Prelude.{◌≡◌, ◌+◌, ◌*◌, length, IfOk};
+ghost use Rattle.std.specs.Prelude.{IfOk};
 ghost use Rattle.iccma_tasks.specs.declared.task.Problem.TheVariants.{Credulous, Sceptical};
 ghost use Rattle.iccma_tasks.specs.declared.task.Semantics.TheVariants.{Preferred};
-ghost use Rattle.oracle_face.specs.Growing.{HasRun, halt_of};
-ghost use Rattle.oracle_face.specs.Logs.{IsKept};
-ghost use Rattle.session_log.specs.Ends.{MadeFor};
-ghost use Rattle.query_answers.specs.Answers.{AsksAbout, AsksBy, BeginsLargest, IsEvidence};
+ghost use Rattle.oracle_face.specs.Growing.{halt_of};
+ghost use Rattle.query_answers.specs.Answers.{AsksAbout, AsksBy, BeginsLargest, IsEvidence, RanFor, RanFor};
 
 use crate::evidence::{Evidence, of_accepting, of_found, of_set};
 use cegar_preferred::{accept_all, maximal_from};
@@ -26,12 +24,7 @@ pub(crate) fn preferred<O: Oracle>(
 ) -> Result<Evidence, Halt>
     requires { AsksBy (O.framework oracle.old) query.now Preferred }
     ensures shown { IfOk result (IsEvidence (O.framework oracle.old) query.now (O.log oracle.new)) }
-    ensures run { HasRun (MadeFor (O.framework oracle.old) query.now) (2 * length (O.log oracle.new).sides + 2)
-        (O.framework oracle.old) (O.log oracle.old) (O.log oracle.new) (O.pending oracle.new) budget.old budget.new
-        (halt_of result) }
-    ensures framework { O.framework oracle.new ≡ O.framework oracle.old }
-    ensures kept { IsKept (O.framework oracle.new) (O.log oracle.new) }
-    ensures follows { O.follows oracle.old oracle.new }
+    ensures ran { RanFor O.Oracle query.now oracle.old oracle.new budget.old budget.new (halt_of result) }
 {
     let problem = query.task().problem;
     match query.number() {
@@ -59,12 +52,7 @@ fn in_some<O: Oracle>(
 ) -> Result<Evidence, Halt>
     requires { AsksAbout (O.framework oracle.old) query.now Credulous Preferred goal }
     ensures shown { IfOk result (IsEvidence (O.framework oracle.old) query.now (O.log oracle.new)) }
-    ensures run { HasRun (MadeFor (O.framework oracle.old) query.now) (2 * length (O.log oracle.new).sides + 2)
-        (O.framework oracle.old) (O.log oracle.old) (O.log oracle.new) (O.pending oracle.new) budget.old budget.new
-        (halt_of result) }
-    ensures framework { O.framework oracle.new ≡ O.framework oracle.old }
-    ensures kept { IsKept (O.framework oracle.new) (O.log oracle.new) }
-    ensures follows { O.follows oracle.old oracle.new }
+    ensures ran { RanFor O.Oracle query.now oracle.old oracle.new budget.old budget.new (halt_of result) }
 {
     match search_query(alloc, oracle, budget, Atom::Ad, goal, true, &[])? {
         Found::Set(set) => largest(alloc, oracle, budget, query, &set),
@@ -85,12 +73,7 @@ fn largest<O: Oracle>(
 ) -> Result<Evidence, Halt>
     requires { BeginsLargest (O.framework oracle.old) query.now set.now }
     ensures shown { IfOk result (IsEvidence (O.framework oracle.old) query.now (O.log oracle.new)) }
-    ensures run { HasRun (MadeFor (O.framework oracle.old) query.now) (2 * length (O.log oracle.new).sides + 2)
-        (O.framework oracle.old) (O.log oracle.old) (O.log oracle.new) (O.pending oracle.new) budget.old budget.new
-        (halt_of result) }
-    ensures framework { O.framework oracle.new ≡ O.framework oracle.old }
-    ensures kept { IsKept (O.framework oracle.new) (O.log oracle.new) }
-    ensures follows { O.follows oracle.old oracle.new }
+    ensures ran { RanFor O.Oracle query.now oracle.old oracle.new budget.old budget.new (halt_of result) }
 {
     let maximal = maximal_from(alloc, oracle, budget, set)?;
     let evidence = of_set(alloc, query.task().problem, maximal.set, maximal.refutation)?;
@@ -107,12 +90,7 @@ fn in_each<O: Oracle>(
 ) -> Result<Evidence, Halt>
     requires { AsksAbout (O.framework oracle.old) query.now Sceptical Preferred goal }
     ensures shown { IfOk result (IsEvidence (O.framework oracle.old) query.now (O.log oracle.new)) }
-    ensures run { HasRun (MadeFor (O.framework oracle.old) query.now) (2 * length (O.log oracle.new).sides + 2)
-        (O.framework oracle.old) (O.log oracle.old) (O.log oracle.new) (O.pending oracle.new) budget.old budget.new
-        (halt_of result) }
-    ensures framework { O.framework oracle.new ≡ O.framework oracle.old }
-    ensures kept { IsKept (O.framework oracle.new) (O.log oracle.new) }
-    ensures follows { O.follows oracle.old oracle.new }
+    ensures ran { RanFor O.Oracle query.now oracle.old oracle.new budget.old budget.new (halt_of result) }
 {
     let accepting = accept_all(alloc, oracle, budget, goal)?;
     let evidence = of_accepting(alloc, accepting)?;

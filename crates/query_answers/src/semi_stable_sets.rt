@@ -1,11 +1,9 @@
 //! Answers by the semi-stable sets.
 
-ghost use Rattle.std.specs.Prelude.{◌≡◌, ◌+◌, ◌*◌, length, IfOk};
+ghost use Rattle.std.specs.Prelude.{IfOk};
 ghost use Rattle.iccma_tasks.specs.declared.task.Semantics.TheVariants.{SemiStable};
-ghost use Rattle.oracle_face.specs.Growing.{HasRun, halt_of};
-ghost use Rattle.oracle_face.specs.Logs.{IsKept};
-ghost use Rattle.session_log.specs.Ends.{MadeFor};
-ghost use Rattle.query_answers.specs.Answers.{AsksAbout, AsksBy, AsksSome, IsEvidence, problem_of};
+ghost use Rattle.oracle_face.specs.Growing.{halt_of};
+ghost use Rattle.query_answers.specs.Answers.{AsksAbout, AsksBy, AsksSome, IsEvidence, problem_of, RanFor, RanFor};
 
 use crate::evidence::{Evidence, of_deciding, of_set};
 use enumerate_block::decide;
@@ -25,12 +23,7 @@ pub(crate) fn semi_stable<O: Oracle>(
 ) -> Result<Evidence, Halt>
     requires { AsksBy (O.framework oracle.old) query.now SemiStable }
     ensures shown { IfOk result (IsEvidence (O.framework oracle.old) query.now (O.log oracle.new)) }
-    ensures run { HasRun (MadeFor (O.framework oracle.old) query.now) (2 * length (O.log oracle.new).sides + 2)
-        (O.framework oracle.old) (O.log oracle.old) (O.log oracle.new) (O.pending oracle.new) budget.old budget.new
-        (halt_of result) }
-    ensures framework { O.framework oracle.new ≡ O.framework oracle.old }
-    ensures kept { IsKept (O.framework oracle.new) (O.log oracle.new) }
-    ensures follows { O.follows oracle.old oracle.new }
+    ensures ran { RanFor O.Oracle query.now oracle.old oracle.new budget.old budget.new (halt_of result) }
 {
     let problem = query.task().problem;
     match query.number() {
@@ -53,12 +46,7 @@ fn semi_stable_set<O: Oracle>(
 ) -> Result<Evidence, Halt>
     requires { AsksSome (O.framework oracle.old) query.now SemiStable }
     ensures shown { IfOk result (IsEvidence (O.framework oracle.old) query.now (O.log oracle.new)) }
-    ensures run { HasRun (MadeFor (O.framework oracle.old) query.now) (2 * length (O.log oracle.new).sides + 2)
-        (O.framework oracle.old) (O.log oracle.old) (O.log oracle.new) (O.pending oracle.new) budget.old budget.new
-        (halt_of result) }
-    ensures framework { O.framework oracle.new ≡ O.framework oracle.old }
-    ensures kept { IsKept (O.framework oracle.new) (O.log oracle.new) }
-    ensures follows { O.follows oracle.old oracle.new }
+    ensures ran { RanFor O.Oracle query.now oracle.old oracle.new budget.old budget.new (halt_of result) }
 {
     let _number = query.number();
     let empty = NumSet::new(alloc);
@@ -79,12 +67,7 @@ fn decided<O: Oracle>(
 ) -> Result<Evidence, Halt>
     requires { AsksAbout (O.framework oracle.old) query.now (problem_of accepted) SemiStable goal }
     ensures shown { IfOk result (IsEvidence (O.framework oracle.old) query.now (O.log oracle.new)) }
-    ensures run { HasRun (MadeFor (O.framework oracle.old) query.now) (2 * length (O.log oracle.new).sides + 2)
-        (O.framework oracle.old) (O.log oracle.old) (O.log oracle.new) (O.pending oracle.new) budget.old budget.new
-        (halt_of result) }
-    ensures framework { O.framework oracle.new ≡ O.framework oracle.old }
-    ensures kept { IsKept (O.framework oracle.new) (O.log oracle.new) }
-    ensures follows { O.follows oracle.old oracle.new }
+    ensures ran { RanFor O.Oracle query.now oracle.old oracle.new budget.old budget.new (halt_of result) }
 {
     let deciding = decide(alloc, oracle, budget, goal, accepted)?;
     let evidence = of_deciding(alloc, query.task().problem, deciding)?;

@@ -1,5 +1,6 @@
 -- Wider ranges, in goals and in lists.
-use Rattle.std.proofs.Common.{◌≡◌, ⊎_elim, ℕ, ◌<◌, true, false, not, List, [], ◌∷◌, length, filter, refl, ap, sym, subst, ◌∙◌}
+use Rattle.std.proofs.Common.{◌≡◌, ⊎_elim, ℕ, ◌<◌, true, false, not, List, [], ◌∷◌, length, filter, refl, ap, sym}
+use Rattle.std.proofs.Common.{subst, ◌∙◌}
 use Rattle.std.specs.Prelude.{Contains, Result, IfOk}
 use Rattle.std.proofs.lemmas.Bool.{false≢true, not_from_false, false_from_ne_true}
 use Rattle.lists.specs.Members.{IsSetOf, IsWithin}
@@ -9,7 +10,8 @@ use Rattle.plain_lits.specs.declared.halt.Halt.{Halt}
 use Rattle.plain_lits.proofs.HintCheckLemmas.{Contains-mapped}
 use Rattle.semantics.specs.Frameworks.{Framework, af, aba, IsNumbered}
 use Rattle.meaning_atoms.specs.declared.atom.Atom.{Atom}
-use Rattle.meaning_atoms.specs.declared.atom.Atom.TheVariants.{Member, Live, Attack, Gap, Tail, Unmet, Cf, Ad, Co, St, Range, Ask}
+use Rattle.meaning_atoms.specs.declared.atom.Atom.TheVariants.{Member, Live, Attack, Gap, Tail, Unmet, Cf, Ad, Co, St}
+use Rattle.meaning_atoms.specs.declared.atom.Atom.TheVariants.{Range, Ask}
 use Rattle.meaning_atoms.specs.declared.atom.AtomLit.{AtomLit}
 use Rattle.meaning_atoms.specs.Literals.{affirmed, AsksNothing}
 use Rattle.meaning_atoms.specs.Worlds.{HoldsOf, IsAsk, IsTrueAlone, Says, world_of}
@@ -26,7 +28,8 @@ use Rattle.oracle_face.proofs.GrowingLemmas.{Makes}
 use Rattle.oracle_face.proofs.Refuting.{refutes_claim}
 use Rattle.goal_lists.specs.Asking.{goals_of, IsAskableBeside}
 use Rattle.goal_lists.specs.Sides.{IsAskOf, IsFoundBeside}
-use Rattle.goal_lists.proofs.AskedGoals.{asked_there, asked_true, ranged_form, wider_form, wider_side, wider_speaks, within_claim}
+use Rattle.goal_lists.proofs.AskedGoals.{asked_there, asked_true, ranged_form, wider_form, wider_side, wider_speaks}
+use Rattle.goal_lists.proofs.AskedGoals.{within_claim}
 use Rattle.goal_lists.proofs.Calls.{found_mode, found_range}
 use Rattle.goal_lists.proofs.Measures.{not_true, strictly_fewer}
 use Rattle.goal_lists.proofs.SideLemmas.{ask_claim, beside_means, this_one}
@@ -79,6 +82,16 @@ pub record IsLook (f : Framework) (mode : Atom) (e r : List ℕ) : Type 0 where
   pub mode_is : IsMode mode
   pub holds : HoldsOf f e mode
   pub range : IsSetOf (IsRanged f e) r
+
+pub look_at : (f : Framework) (mode : Atom) (e r : List ℕ) → is_assumption_based f ≡ false → IsNumbered f → IsMode mode
+    → HoldsOf f e mode → IsSetOf (IsRanged f e) r → IsLook f mode e r
+look_at f mode e r kind numbered mode_is holds range = record {
+  kind = kind;
+  numbered = numbered;
+  mode_is = mode_is;
+  holds = holds;
+  range = range;
+}
 
 pub look_beside : (f : Framework) (mode : Atom) (e r ranged : List ℕ) (side : List AtomLit) → ranged ≡ r
     → side ≡ wider f e → IsLook f mode e r → IsAskableBeside f mode [] [] ranged side

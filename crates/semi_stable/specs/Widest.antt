@@ -2,10 +2,11 @@
 --
 -- Sources: M. Caminada, "Semi-stable semantics", COMMA 2006, for admissible sets; B. Verheij, "Two approaches to
 -- dialectical argumentation: admissible sets and argumentation stages", NAIC 1996, for conflict-free ones.
-use Rattle.std.specs.Prelude.{ℕ, List, [], ◌∷◌, Contains}
+use Rattle.std.specs.Prelude.{◌≡◌, ℕ, false, List, [], ◌∷◌, Contains}
 use Rattle.lists.specs.Members.{IsSetOf}
 use Rattle.semantics.specs.Frameworks.{Framework}
 use Rattle.meaning_atoms.specs.declared.atom.Atom.{Atom}
+use Rattle.meaning_atoms.specs.declared.atom.Atom.TheVariants.{Ad}
 use Rattle.meaning_atoms.specs.Literals.{affirmed}
 use Rattle.meaning_atoms.specs.Worlds.{HoldsOf}
 use Rattle.certificate_claims.specs.Claims.{claim_of}
@@ -15,7 +16,7 @@ use Rattle.oracle_face.specs.declared.face.Found.{Found}
 use Rattle.oracle_face.specs.declared.face.Found.TheVariants.{Set, Refuted}
 use Rattle.oracle_face.specs.Goals.{Refutes}
 use Rattle.oracle_face.specs.Growing.{Making}
-use Rattle.oracle_face.specs.Kinds.{IsRanged}
+use Rattle.oracle_face.specs.Kinds.{IsRanged, is_assumption_based}
 use Rattle.oracle_face.specs.Logs.{IsSameClause, OracleLog}
 use Rattle.semi_stable.specs.declared.widest.Widest.{Widest}
 
@@ -38,6 +39,12 @@ IsWider f log mode set (Set found) =
     × IsRangeIn f set found
     × ((a : ℕ) × Contains (members f) a × IsRanged f found a × ¬ IsRanged f set a)
 IsWider f log mode set (Refuted step) = Refutes f log (wider_claim f mode set) step
+
+-- an admissible set of an abstract framework and its range
+pub record HasRange (f : Framework) (found : Widest) : Type 0 where
+  pub kind : is_assumption_based f ≡ false
+  pub admissible : HoldsOf f found.set Ad
+  pub range : IsSetOf (IsRanged f found.set) found.range
 
 -- a set of the mode whose range holds the given one's, and the step that refutes that some set of the mode has a wider
 -- range

@@ -3,4 +3,4 @@
 
 pub mod widest;
 
-pub use widest::{Widest, widest_from};
+pub use widest::{Widest, oblige_wider, widest_from};

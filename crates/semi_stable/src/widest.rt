@@ -2,16 +2,19 @@
 
 ghost use Rattle.std.specs.Prelude.{◌≡◌, false, IfOk};
 ghost use Rattle.lists.specs.Members.{IsSetOf};
+ghost use Rattle.meaning_atoms.specs.declared.atom.Atom.TheVariants.{Ad};
 ghost use Rattle.meaning_atoms.specs.Worlds.{HoldsOf};
+ghost use Rattle.certificate_claims.specs.SetLiterals.{wider as wider_of};
 ghost use Rattle.oracle_face.specs.Goals.{IsMode};
-ghost use Rattle.oracle_face.specs.Growing.{HasRun, closes, halt_of};
+ghost use Rattle.oracle_face.specs.Growing.{closes, halt_of};
 ghost use Rattle.oracle_face.specs.Kinds.{IsRanged, is_assumption_based};
-ghost use Rattle.oracle_face.specs.Logs.{IsKept};
-ghost use Rattle.semi_stable.specs.Widest.{IsWider, IsWidestFrom, MadeWider};
+ghost use Rattle.semi_stable.specs.Widest.{HasRange, IsWider, IsWidestFrom, MadeWider};
+ghost use Rattle.goal_lists.specs.Sides.{IsAskOf};
+ghost use Rattle.goal_lists.specs.Runs.{Ran};
 
 use goal_lists::{Wanted, search_beside, wider as wider_than};
 use meaning_atoms::Atom;
-use oracle_face::{Budget, Found, Halt, Oracle, StepId};
+use oracle_face::{AskId, Budget, Found, Halt, Oracle, StepId};
 use set_lists::NumSet;
 use std::alloc::Global;
 
@@ -38,11 +41,8 @@ fn wider<O: Oracle>(
     requires holds { HoldsOf (O.framework oracle.old) set.now mode }
     requires range { IsSetOf (IsRanged (O.framework oracle.old) set.now) range.now }
     ensures wider { IfOk result (IsWider (O.framework oracle.old) (O.log oracle.new) mode set.now) }
-    ensures run { HasRun (MadeWider (O.framework oracle.old) mode) (closes result) (O.framework oracle.old)
-        (O.log oracle.old) (O.log oracle.new) (O.pending oracle.new) budget.old budget.new (halt_of result) }
-    ensures framework { O.framework oracle.new ≡ O.framework oracle.old }
-    ensures kept { IsKept (O.framework oracle.new) (O.log oracle.new) }
-    ensures follows { O.follows oracle.old oracle.new }
+    ensures ran { Ran O.Oracle (λ f. MadeWider f mode) (closes result) oracle.old oracle.new budget.old budget.new
+        (halt_of result) }
 {
     let side = wider_than(alloc, oracle.members(), range)?;
     let wanted = Wanted {
@@ -69,11 +69,7 @@ pub fn widest_from<O: Oracle>(
     requires mode { IsMode mode }
     requires holds { HoldsOf (O.framework oracle.old) set.now mode }
     ensures widest { IfOk result (IsWidestFrom (O.framework oracle.old) (O.log oracle.new) mode set.now) }
-    ensures run { HasRun (MadeWider (O.framework oracle.old) mode) 1 (O.framework oracle.old) (O.log oracle.old)
-        (O.log oracle.new) (O.pending oracle.new) budget.old budget.new (halt_of result) }
-    ensures framework { O.framework oracle.new ≡ O.framework oracle.old }
-    ensures kept { IsKept (O.framework oracle.new) (O.log oracle.new) }
-    ensures follows { O.follows oracle.old oracle.new }
+    ensures ran { Ran O.Oracle (λ f. MadeWider f mode) 1 oracle.old oracle.new budget.old budget.new (halt_of result) }
 {
     let _members = oracle.members();
     let mut grown = set.copy(alloc)?;
@@ -90,4 +86,19 @@ pub fn widest_from<O: Oracle>(
             }
         }
     }
+}
+
+/// Keeps the side clause that something is in the range that isn't in that of a set, and gives its number.
+pub fn oblige_wider<O: Oracle>(
+    alloc: Global,
+    oracle: &mut O,
+    budget: &mut Budget,
+    widest: &Widest,
+) -> Result<AskId, Halt>
+    requires { HasRange (O.framework oracle.old) widest.now }
+    ensures asked { IfOk result (IsAskOf (O.log oracle.new).sides (wider_of (O.framework oracle.old) widest.now.set)) }
+    ensures ran { Ran O.Oracle (λ f. MadeWider f Ad) 0 oracle.old oracle.new budget.old budget.new (halt_of result) }
+{
+    let side = wider_than(alloc, oracle.members(), &widest.range)?;
+    oracle.oblige(alloc, &side, &widest.set, budget)
 }

@@ -1,7 +1,4 @@
-use Rattle.std.proofs.Common.{arith}
-use Rattle.oracle_face.proofs.GrowingLemmas.{run_as}
-use Rattle.goal_lists.proofs.Calls.{makes_none}
-use Rattle.cegar_preferred.specs.Largest.{MadeOutside}
+use Rattle.goal_lists.proofs.RunLemmas.{ran_search}
 use Rattle.cegar_preferred.proofs.CoverLemmas.{if_uncovered, may_ask_uncovered}
 use Rattle.cegar_preferred.proofs.accepting.find_uncovered.Goals as goal
 
@@ -14,9 +11,7 @@ pub returns-clause-uncovered : goal.returns-clause-uncovered
 returns-clause-uncovered g c =
     if_uncovered (g.O.Oracle.framework c.args.oracle.now) _ (g.O.Oracle.log c.args.oracle.now)
     (g.O.Oracle.log c.search_query.new.oracle) c.args.goal c.args.cover.now c.as_slice.result.now c.as_slice.ensures
-    c.search_query.ensures.run.grows c.requires.cover c.search_query.result c.search_query.ensures.found
+    c.search_query.ensures.ran.run.grows c.requires.cover c.search_query.result c.search_query.ensures.found
 
-pub returns-clause-run : goal.returns-clause-run
-returns-clause-run g c =
-    run_as _ _ _ _ _ _ _ _ _ _ _ (makes_none (MadeOutside (g.O.Oracle.framework c.args.oracle.now))) (omega arith)
-    c.search_query.ensures.run
+pub returns-clause-ran : goal.returns-clause-ran
+returns-clause-ran g c = ran_search c.search_query.ensures.ran

@@ -1,22 +1,17 @@
-use Rattle.std.proofs.Common.{◌≡◌, ◌*◌, length}
+use Rattle.std.proofs.Common.{◌*◌, length}
 use Rattle.std.specs.Prelude.{None}
 use Rattle.meaning_atoms.specs.declared.atom.Atom.TheVariants.{Ad}
-use Rattle.oracle_face.specs.Logs.{IsKept}
-use Rattle.oracle_face.specs.Growing.{HasRun}
 use Rattle.enumerate_block.specs.semi_stable.specs.Widest.{MadeWider}
 use Rattle.enumerate_block.proofs.RangeLemmas.{open_ranges}
 use Rattle.enumerate_block.specs.Witnesses.{IsCover}
+use Rattle.goal_lists.specs.Runs.{Ran}
 use Rattle.enumerate_block.proofs.deciding.decide.Given as goal
 
 abbrev pub invariant-loop-cover : goal.invariant-loop-cover
 invariant-loop-cover g l = record {
   cover : IsCover (g.O.Oracle.framework l.fn.oracle) (g.O.Oracle.log l.oracle) l.goal l.accepted l.cover;
-  run : HasRun (MadeWider (g.O.Oracle.framework l.fn.oracle) Ad) (2 * length l.cover.asks)
-      (g.O.Oracle.framework l.fn.oracle) (g.O.Oracle.log l.fn.oracle) (g.O.Oracle.log l.oracle)
-      (g.O.Oracle.pending l.oracle) l.fn.budget l.budget None;
-  framework : g.O.Oracle.framework l.oracle ≡ g.O.Oracle.framework l.fn.oracle;
-  kept : IsKept (g.O.Oracle.framework l.oracle) (g.O.Oracle.log l.oracle);
-  follows : g.O.Oracle.follows l.fn.oracle l.oracle;
+  ran : Ran g.O.Oracle (λ f. MadeWider f Ad) (2 * length l.cover.asks) l.fn.oracle l.oracle l.fn.budget l.budget
+      None;
 }
 
 abbrev pub decreases-loop-cover : goal.decreases-loop-cover

@@ -1,9 +1,6 @@
-use Rattle.std.proofs.Common.{[], ◌∙◌, arith}
-use Rattle.meaning_atoms.specs.declared.atom.Atom.TheVariants.{Ad}
-use Rattle.oracle_face.proofs.GrowingLemmas.{run_as}
-use Rattle.goal_lists.proofs.Calls.{makes_none}
-use Rattle.enumerate_block.specs.semi_stable.specs.Widest.{MadeWider}
+use Rattle.std.proofs.Common.{[], ◌∙◌}
 use Rattle.enumerate_block.proofs.WitnessLemmas.{AreFor, if_uncovered, may_ask_uncovered}
+use Rattle.goal_lists.proofs.RunLemmas.{ran_search}
 use Rattle.enumerate_block.proofs.deciding.find_uncovered.Goals as goal
 
 pub search_for-requires : goal.search_for-requires
@@ -31,10 +28,8 @@ returns-clause-uncovered g c =
     } in
     if_uncovered (g.O.Oracle.framework c.args.oracle.now) _ (g.O.Oracle.log c.args.oracle.now)
     (g.O.Oracle.log c.search_for.new.oracle) c.args.goal c.args.accepted c.args.cover.now _ _ _ _ are
-    c.members-members.ensures.kept.form c.search_for.ensures.run.grows c.requires.cover c.search_for.result
+    c.members-members.ensures.kept.form c.search_for.ensures.ran.run.grows c.requires.cover c.search_for.result
     c.search_for.ensures.found
 
-pub returns-clause-run : goal.returns-clause-run
-returns-clause-run g c =
-    run_as _ _ _ _ _ _ _ _ _ _ _ (makes_none (MadeWider (g.O.Oracle.framework c.args.oracle.now) Ad)) (omega arith)
-    c.search_for.ensures.run
+pub returns-clause-ran : goal.returns-clause-ran
+returns-clause-ran g c = ran_search c.search_for.ensures.ran

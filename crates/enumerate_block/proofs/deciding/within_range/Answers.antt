@@ -1,5 +1,6 @@
 use Rattle.std.proofs.Common.{[], ◌∙◌}
 use Rattle.enumerate_block.proofs.WitnessLemmas.{AreFor, if_within, may_ask_within}
+use Rattle.goal_lists.proofs.RunLemmas.{ran_search}
 use Rattle.enumerate_block.proofs.deciding.within_range.Goals as goal
 
 pub search_for-requires : goal.search_for-requires
@@ -29,3 +30,6 @@ returns-clause-within g c =
     if_within (g.O.Oracle.framework c.args.oracle.now) (g.O.Oracle.log c.search_for.new.oracle) c.args.goal
     c.args.accepted c.args.widest.now _ _ _ _ are c.members-members.ensures.kept.numbered c.requires.range
     c.search_for.result c.search_for.ensures.found
+
+pub returns-clause-ran : goal.returns-clause-ran
+returns-clause-ran g c = ran_search c.search_for.ensures.ran

@@ -1,28 +1,13 @@
-use Rattle.std.proofs.Common.{◌∙◌, ◌+◌, ◌*◌, length, arith, subst, sym}
-use Rattle.enumerate_block.specs.goal_lists.proofs.Calls.{closes_refuted, closes_set, run_handed, then_same}
+use Rattle.std.proofs.Common.{arith, rules, subst, sym, ◌∙◌}
 use Rattle.cegar_preferred.specs.Largest.{MadeOutside}
 use Rattle.enumerate_block.proofs.PreferredLemmas.{all_refuted, few_closings, fewer_open, found_kept, found_later}
 use Rattle.enumerate_block.proofs.PreferredLemmas.{not_recorded, one_more, recorded}
 use Rattle.std.proofs.lemmas.Result.{IfOk-from_err}
 use Rattle.semantics.specs.Frameworks.{Framework}
 use Rattle.oracle_face.specs.declared.face.Found.{Found}
-use Rattle.enumerate_block.specs.Preferred.{AreFound, IsAllOrMore, IsUncovered}
+use Rattle.enumerate_block.specs.Preferred.{AreFound, IsUncovered}
+use Rattle.goal_lists.proofs.RunLemmas.{ran_none, ran_then, then_found, then_handed, then_none}
 use Rattle.enumerate_block.proofs.preferred.all_preferred.Goals as goal
-
-pub returns-in_err-step-clause-run : goal.returns-in_err-step-clause-run
-returns-in_err-step-clause-run g c =
-    let f = g.O.Oracle.framework c.args.oracle.now in
-    let h = g.O.Oracle.framework c.loop-found.oracle in
-    let inv = c.loop-found.invariant in
-    let most = 2 * length (g.O.Oracle.log c.find_uncovered.new.oracle).sides + 2 in
-    run_handed (MadeOutside f) most f _ _ _ _ _ _ c.in_err-step.field-0.0 c.from_residual.ensures
-    (then_same MadeOutside f h (length c.loop-found.found.asks) 0 most _ _ _ _ _ _ _ _ _ inv.framework
-    (omega (
-      arith,
-      few_closings f (MadeOutside h) (g.O.Oracle.log c.loop-found.oracle) (g.O.Oracle.log c.find_uncovered.new.oracle)
-          c.loop-found.found inv.found c.in_err-step.ensures.run.grows,
-    ))
-    inv.run c.in_err-step.ensures.run)
 
 pub returns-in-Refuted-clause-listed : goal.returns-in-Refuted-clause-listed
 returns-in-Refuted-clause-listed g c =
@@ -30,27 +15,11 @@ returns-in-Refuted-clause-listed g c =
     let h = g.O.Oracle.framework c.loop-found.oracle in
     let inv = c.loop-found.invariant in
     all_refuted f h (g.O.Oracle.framework c.find_uncovered.new.oracle) (g.O.Oracle.log c.find_uncovered.new.oracle)
-    c.args.limit c.loop-found.found c.in_ok-step.field-0 c.in-Refuted.step inv.framework
-    (c.in_ok-step.ensures.framework ∙ inv.framework) c.in_ok-step.ensures.kept
+    c.args.limit c.loop-found.found c.in_ok-step.field-0 c.in-Refuted.step inv.ran.framework
+    (c.in_ok-step.ensures.ran.framework ∙ inv.ran.framework) c.in_ok-step.ensures.ran.kept
     (found_later f h (MadeOutside h) (g.O.Oracle.log c.loop-found.oracle) (g.O.Oracle.log c.find_uncovered.new.oracle)
-    c.loop-found.found inv.framework inv.kept c.in_ok-step.ensures.run.grows inv.found) inv.room
+    c.loop-found.found inv.ran.framework inv.ran.kept c.in_ok-step.ensures.ran.run.grows inv.found) inv.room
     c.in-Refuted.is c.in_ok-step.ensures.uncovered
-
-pub returns-in-Refuted-clause-run : goal.returns-in-Refuted-clause-run
-returns-in-Refuted-clause-run g c =
-    let f = g.O.Oracle.framework c.args.oracle.now in
-    let h = g.O.Oracle.framework c.loop-found.oracle in
-    let inv = c.loop-found.invariant in
-    then_same MadeOutside f h (length c.loop-found.found.asks) _ (2 * length (g.O.Oracle.log
-    c.find_uncovered.new.oracle).sides + 2)
-    _ _ _ _ _ _ _ _ _ inv.framework
-    (omega (
-      arith,
-      closes_refuted c.in_ok-step.field-0 c.in-Refuted.step c.in-Refuted.is,
-      few_closings f (MadeOutside h) (g.O.Oracle.log c.loop-found.oracle) (g.O.Oracle.log c.find_uncovered.new.oracle)
-          c.loop-found.found inv.found c.in_ok-step.ensures.run.grows,
-    ))
-    inv.run c.in_ok-step.ensures.run
 
 pub record_grown-requires-clause-found : goal.record_grown-requires-clause-found
 record_grown-requires-clause-found g c =
@@ -59,59 +28,15 @@ record_grown-requires-clause-found g c =
     let inv = c.loop-found.invariant in
     found_kept f h (g.O.Oracle.framework c.find_uncovered.new.oracle) (MadeOutside h)
     (g.O.Oracle.log c.loop-found.oracle)
-    (g.O.Oracle.log c.find_uncovered.new.oracle) c.loop-found.found inv.framework c.in_ok-step.ensures.framework
-    inv.kept c.in_ok-step.ensures.run.grows inv.found
-
-pub returns-in_err-room-in-Set-clause-run : goal.returns-in_err-room-in-Set-clause-run
-returns-in_err-room-in-Set-clause-run g c =
-    let f = g.O.Oracle.framework c.args.oracle.now in
-    let h = g.O.Oracle.framework c.loop-found.oracle in
-    let k = g.O.Oracle.framework c.find_uncovered.new.oracle in
-    let asks = c.loop-found.found.asks in
-    let inv = c.loop-found.invariant in
-    let same = c.in_ok-step.ensures.framework ∙ inv.framework in
-    let most = 2 * length (g.O.Oracle.log c.record_grown.new.oracle).sides + 2 in
-    let found = found_later f h (MadeOutside h) (g.O.Oracle.log c.loop-found.oracle)
-    (g.O.Oracle.log c.find_uncovered.new.oracle) c.loop-found.found inv.framework inv.kept
-    c.in_ok-step.ensures.run.grows
-    inv.found in
-    run_handed (MadeOutside f) most f _ _ _ _ _ _ c.in_err-room-in-Set.field-0.0
-    c.from_residual-in_err-room-in-Set.ensures
-    (then_same MadeOutside f k (length asks) 1 most _ _ _ _ _ _ _ _ _ same
-    (few_closings f (MadeOutside k) (g.O.Oracle.log c.find_uncovered.new.oracle)
-    (g.O.Oracle.log c.record_grown.new.oracle)
-    c.loop-found.found found c.in_err-room-in-Set.ensures.run.grows)
-    (then_same MadeOutside f h (length asks) _ (length asks) _ _ _ _ _ _ _ _ _ inv.framework
-    (omega (arith, closes_set c.in_ok-step.field-0 c.in-Set.set c.in-Set.is)) inv.run c.in_ok-step.ensures.run)
-    c.in_err-room-in-Set.ensures.run)
+    (g.O.Oracle.log c.find_uncovered.new.oracle) c.loop-found.found inv.ran.framework c.in_ok-step.ensures.ran.framework
+    inv.ran.kept c.in_ok-step.ensures.ran.run.grows inv.found
 
 pub returns-then-not-room-clause-listed : goal.returns-then-not-room-clause-listed
 returns-then-not-room-clause-listed g c =
     not_recorded (g.O.Oracle.framework c.args.oracle.now) (g.O.Oracle.framework c.find_uncovered.new.oracle)
     (g.O.Oracle.log c.record_grown.new.oracle) c.args.limit c.loop-found.found c.record_grown.new.found
-    c.in_ok-room-in-Set.room (c.in_ok-step.ensures.framework ∙ c.loop-found.invariant.framework)
+    c.in_ok-room-in-Set.room (c.in_ok-step.ensures.ran.framework ∙ c.loop-found.invariant.ran.framework)
     c.if-not-room.true c.in_ok-room-in-Set.ensures.records
-
-pub returns-then-not-room-clause-run : goal.returns-then-not-room-clause-run
-returns-then-not-room-clause-run g c =
-    let f = g.O.Oracle.framework c.args.oracle.now in
-    let h = g.O.Oracle.framework c.loop-found.oracle in
-    let k = g.O.Oracle.framework c.find_uncovered.new.oracle in
-    let asks = c.loop-found.found.asks in
-    let inv = c.loop-found.invariant in
-    let same = c.in_ok-step.ensures.framework ∙ inv.framework in
-    let found = found_later f h (MadeOutside h) (g.O.Oracle.log c.loop-found.oracle)
-    (g.O.Oracle.log c.find_uncovered.new.oracle) c.loop-found.found inv.framework inv.kept
-    c.in_ok-step.ensures.run.grows
-    inv.found in
-    then_same MadeOutside f k (length asks) 1 (2 * length (g.O.Oracle.log c.record_grown.new.oracle).sides + 2)
-    _ _ _ _ _ _ _ _ _ same
-    (few_closings f (MadeOutside k) (g.O.Oracle.log c.find_uncovered.new.oracle)
-    (g.O.Oracle.log c.record_grown.new.oracle)
-    c.loop-found.found found c.in_ok-room-in-Set.ensures.run.grows)
-    (then_same MadeOutside f h (length asks) _ (length asks) _ _ _ _ _ _ _ _ _ inv.framework
-    (omega (arith, closes_set c.in_ok-step.field-0 c.in-Set.set c.in-Set.is)) inv.run c.in_ok-step.ensures.run)
-    c.in_ok-room-in-Set.ensures.run
 
 pub loop-found-smaller : goal.loop-found-smaller
 loop-found-smaller g c =
@@ -119,64 +44,34 @@ loop-found-smaller g c =
     let log = g.O.Oracle.log c.record_grown.new.oracle in
     let more = recorded f (g.O.Oracle.framework c.find_uncovered.new.oracle) log c.args.limit c.loop-found.found
     c.record_grown.new.found c.in_ok-room-in-Set.room
-    (c.in_ok-step.ensures.framework ∙ c.loop-found.invariant.framework) c.if-not-room.false
+    (c.in_ok-step.ensures.ran.framework ∙ c.loop-found.invariant.ran.framework) c.if-not-room.false
     c.in_ok-room-in-Set.ensures.records in
     fewer_open f log c.args.limit c.loop-found.found c.record_grown.new.found more
 
 pub loop-found-preserved : goal.loop-found-preserved
 loop-found-preserved g c =
     let f = g.O.Oracle.framework c.args.oracle.now in
-    let h = g.O.Oracle.framework c.loop-found.oracle in
     let k = g.O.Oracle.framework c.find_uncovered.new.oracle in
     let asks = c.loop-found.found.asks in
     let inv = c.loop-found.invariant in
-    let same = c.in_ok-step.ensures.framework ∙ inv.framework in
+    let same = c.in_ok-step.ensures.ran.framework ∙ inv.ran.framework in
     let more = recorded f k (g.O.Oracle.log c.record_grown.new.oracle) c.args.limit c.loop-found.found
     c.record_grown.new.found c.in_ok-room-in-Set.room same c.if-not-room.false c.in_ok-room-in-Set.ensures.records in
     record {
       found = more.found;
       room = more.room;
-      run = then_same MadeOutside f k (length asks) 1 (length c.record_grown.new.found.asks) _ _ _ _ _ _ _ _ _ same
-          (one_more asks c.record_grown.new.found.asks more.number more.asks)
-          (then_same MadeOutside f h (length asks) _ (length asks) _ _ _ _ _ _ _ _ _ inv.framework
-          (omega (arith, closes_set c.in_ok-step.field-0 c.in-Set.set c.in-Set.is)) inv.run c.in_ok-step.ensures.run)
-          c.in_ok-room-in-Set.ensures.run;
-      framework = c.in_ok-room-in-Set.ensures.framework ∙ same;
-      kept = c.in_ok-room-in-Set.ensures.kept;
-      follows = g.met.O.Oracle.joins _ _ _ (g.met.O.Oracle.joins _ _ _ inv.follows c.in_ok-step.ensures.follows)
-          c.in_ok-room-in-Set.ensures.follows;
+      ran = ran_then g.met.O.Oracle.joins (one_more asks c.record_grown.new.found.asks more.number more.asks)
+          (then_found g.met.O.Oracle.joins c.in-Set.is inv.ran c.in_ok-step.ensures.ran)
+          c.in_ok-room-in-Set.ensures.ran;
     }
 
 pub find_uncovered-requires : goal.find_uncovered-requires
 find_uncovered-requires g c =
     subst (λ (x : Framework). AreFound x (g.O.Oracle.log c.loop-found.oracle) c.loop-found.found)
-    (sym c.loop-found.invariant.framework) c.loop-found.invariant.found
+    (sym c.loop-found.invariant.ran.framework) c.loop-found.invariant.found
 
 pub returns-in_err-step-clause-listed : goal.returns-in_err-step-clause-listed
-returns-in_err-step-clause-listed g c =
-    IfOk-from_err c.from_residual.result
-    (IsAllOrMore (g.O.Oracle.framework c.args.oracle.now) (g.O.Oracle.log c.find_uncovered.new.oracle) c.args.limit)
-    c.from_residual.ensures.0
-
-pub returns-in_err-step-clause-framework : goal.returns-in_err-step-clause-framework
-returns-in_err-step-clause-framework g c = c.in_err-step.ensures.framework ∙ c.loop-found.invariant.framework
-
-pub returns-in_err-step-clause-kept : goal.returns-in_err-step-clause-kept
-returns-in_err-step-clause-kept g c = c.in_err-step.ensures.kept
-
-pub returns-in_err-step-clause-follows : goal.returns-in_err-step-clause-follows
-returns-in_err-step-clause-follows g c = g.met.O.Oracle.joins _ _ _ c.loop-found.invariant.follows
-    c.in_err-step.ensures.follows
-
-pub returns-in-Refuted-clause-framework : goal.returns-in-Refuted-clause-framework
-returns-in-Refuted-clause-framework g c = c.in_ok-step.ensures.framework ∙ c.loop-found.invariant.framework
-
-pub returns-in-Refuted-clause-kept : goal.returns-in-Refuted-clause-kept
-returns-in-Refuted-clause-kept g c = c.in_ok-step.ensures.kept
-
-pub returns-in-Refuted-clause-follows : goal.returns-in-Refuted-clause-follows
-returns-in-Refuted-clause-follows g c = g.met.O.Oracle.joins _ _ _ c.loop-found.invariant.follows
-    c.in_ok-step.ensures.follows
+returns-in_err-step-clause-listed g c = IfOk-from_err _ _ c.from_residual.ensures.0
 
 pub record_grown-requires-clause-set : goal.record_grown-requires-clause-set
 record_grown-requires-clause-set g c =
@@ -184,34 +79,48 @@ record_grown-requires-clause-set g c =
     let log = g.O.Oracle.log c.find_uncovered.new.oracle in
     subst (λ (x : Found). IsUncovered k log c.loop-found.found x) c.in-Set.is
     (subst (λ (x : Framework). IsUncovered x log c.loop-found.found c.in_ok-step.field-0)
-    (sym c.in_ok-step.ensures.framework) c.in_ok-step.ensures.uncovered)
+    (sym c.in_ok-step.ensures.ran.framework) c.in_ok-step.ensures.uncovered)
 
 pub returns-in_err-room-in-Set-clause-listed : goal.returns-in_err-room-in-Set-clause-listed
-returns-in_err-room-in-Set-clause-listed g c =
-    IfOk-from_err c.from_residual-in_err-room-in-Set.result
-    (IsAllOrMore (g.O.Oracle.framework c.args.oracle.now) (g.O.Oracle.log c.record_grown.new.oracle) c.args.limit)
-    c.from_residual-in_err-room-in-Set.ensures.0
+returns-in_err-room-in-Set-clause-listed g c = IfOk-from_err _ _ c.from_residual-in_err-room-in-Set.ensures.0
 
-pub returns-in_err-room-in-Set-clause-framework : goal.returns-in_err-room-in-Set-clause-framework
-returns-in_err-room-in-Set-clause-framework g c = c.in_err-room-in-Set.ensures.framework ∙
-    (c.in_ok-step.ensures.framework ∙ c.loop-found.invariant.framework)
+pub returns-in_err-step-clause-ran : goal.returns-in_err-step-clause-ran
+returns-in_err-step-clause-ran g c =
+    let inv = c.loop-found.invariant in
+    let ran = c.in_err-step.ensures.ran in
+    then_handed {n = 0} g.met.O.Oracle.joins _ c.from_residual.ensures
+    (omega (arith, few_closings _ _ _ _ c.loop-found.found inv.found ran.run.grows)) inv.ran ran
 
-pub returns-in_err-room-in-Set-clause-kept : goal.returns-in_err-room-in-Set-clause-kept
-returns-in_err-room-in-Set-clause-kept g c = c.in_err-room-in-Set.ensures.kept
+pub returns-in-Refuted-clause-ran : goal.returns-in-Refuted-clause-ran
+returns-in-Refuted-clause-ran g c =
+    let inv = c.loop-found.invariant in
+    let ran = c.in_ok-step.ensures.ran in
+    then_none g.met.O.Oracle.joins c.in-Refuted.is
+    (omega (arith, few_closings _ _ _ _ c.loop-found.found inv.found ran.run.grows)) inv.ran ran
 
-pub returns-in_err-room-in-Set-clause-follows : goal.returns-in_err-room-in-Set-clause-follows
-returns-in_err-room-in-Set-clause-follows g c = g.met.O.Oracle.joins _ _ _
-    (g.met.O.Oracle.joins _ _ _ c.loop-found.invariant.follows c.in_ok-step.ensures.follows)
-    c.in_err-room-in-Set.ensures.follows
+pub returns-in_err-room-in-Set-clause-ran : goal.returns-in_err-room-in-Set-clause-ran
+returns-in_err-room-in-Set-clause-ran g c =
+    let inv = c.loop-found.invariant in
+    let found = then_found g.met.O.Oracle.joins c.in-Set.is inv.ran c.in_ok-step.ensures.ran in
+    let later = found_later _ _ _ _ _ c.loop-found.found inv.ran.framework inv.ran.kept
+    c.in_ok-step.ensures.ran.run.grows inv.found in
+    let ran = c.in_err-room-in-Set.ensures.ran in
+    then_handed g.met.O.Oracle.joins _ c.from_residual-in_err-room-in-Set.ensures
+    (few_closings _ _ _ _ c.loop-found.found later ran.run.grows) found ran
 
-pub returns-then-not-room-clause-framework : goal.returns-then-not-room-clause-framework
-returns-then-not-room-clause-framework g c = c.in_ok-room-in-Set.ensures.framework ∙
-    (c.in_ok-step.ensures.framework ∙ c.loop-found.invariant.framework)
+pub returns-then-not-room-clause-ran : goal.returns-then-not-room-clause-ran
+returns-then-not-room-clause-ran g c =
+    let inv = c.loop-found.invariant in
+    let found = then_found g.met.O.Oracle.joins c.in-Set.is inv.ran c.in_ok-step.ensures.ran in
+    let later = found_later _ _ _ _ _ c.loop-found.found inv.ran.framework inv.ran.kept
+    c.in_ok-step.ensures.ran.run.grows inv.found in
+    let ran = c.in_ok-room-in-Set.ensures.ran in
+    ran_then g.met.O.Oracle.joins
+    (few_closings _ _ _ _ c.loop-found.found later ran.run.grows) found ran
 
-pub returns-then-not-room-clause-kept : goal.returns-then-not-room-clause-kept
-returns-then-not-room-clause-kept g c = c.in_ok-room-in-Set.ensures.kept
-
-pub returns-then-not-room-clause-follows : goal.returns-then-not-room-clause-follows
-returns-then-not-room-clause-follows g c = g.met.O.Oracle.joins _ _ _
-    (g.met.O.Oracle.joins _ _ _ c.loop-found.invariant.follows c.in_ok-step.ensures.follows)
-    c.in_ok-room-in-Set.ensures.follows
+pub loop-found-init : goal.loop-found-init
+loop-found-init g c = record {
+  found = search rules;
+  room = search rules;
+  ran = ran_none _ c.members-members.ensures.kept (g.met.O.Oracle.stays _);
+}

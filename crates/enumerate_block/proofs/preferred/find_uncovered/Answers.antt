@@ -1,8 +1,5 @@
-use Rattle.std.proofs.Common.{arith}
-use Rattle.cegar_preferred.specs.Largest.{MadeOutside}
-use Rattle.oracle_face.proofs.GrowingLemmas.{run_as}
-use Rattle.enumerate_block.specs.goal_lists.proofs.Calls.{makes_none}
 use Rattle.enumerate_block.proofs.PreferredLemmas.{if_uncovered, may_ask_uncovered}
+use Rattle.goal_lists.proofs.RunLemmas.{ran_search}
 use Rattle.enumerate_block.proofs.preferred.find_uncovered.Goals as goal
 
 pub search_for-requires : goal.search_for-requires
@@ -14,10 +11,8 @@ pub returns-clause-uncovered : goal.returns-clause-uncovered
 returns-clause-uncovered g c =
     if_uncovered (g.O.Oracle.framework c.args.oracle.now) _ (g.O.Oracle.log c.args.oracle.now)
     (g.O.Oracle.log c.search_for.new.oracle) c.args.found.now c.as_slice.result.now c.as_slice.ensures
-    c.members-members.ensures.kept c.search_for.ensures.run.grows c.requires c.search_for.result
+    c.members-members.ensures.kept c.search_for.ensures.ran.run.grows c.requires c.search_for.result
     c.search_for.ensures.found
 
-pub returns-clause-run : goal.returns-clause-run
-returns-clause-run g c =
-    run_as _ _ _ _ _ _ _ _ _ _ _ (makes_none (MadeOutside (g.O.Oracle.framework c.args.oracle.now))) (omega arith)
-    c.search_for.ensures.run
+pub returns-clause-ran : goal.returns-clause-ran
+returns-clause-ran g c = ran_search c.search_for.ensures.ran

@@ -1,14 +1,8 @@
-use Rattle.std.proofs.Common.{◌∙◌, ◌≤◌, ◌<◌, length, subst, arith}
+use Rattle.std.proofs.Common.{arith, length, subst, ◌<◌, ◌≤◌}
 use Rattle.std.specs.Prelude.{Contains}
-use Rattle.plain_lits.specs.declared.halt.Halt.TheVariants.{Memory}
-use Rattle.certificate_claims.specs.SetLiterals.{differs}
-use Rattle.oracle_face.specs.Growing.{OnlySide}
-use Rattle.oracle_face.proofs.GrowingLemmas.{run_as}
-use Rattle.goal_lists.proofs.Calls.{run_handed, then_refused}
-use Rattle.goal_lists.proofs.SideLemmas.{ask_of}
-use Rattle.enumerate_block.specs.Modes.{MadeDiffers}
 use Rattle.enumerate_block.specs.Ordered.{GainsInOrder}
-use Rattle.enumerate_block.proofs.ModeLemmas.{differs_is_side, has_more, listing_grown, listing_more, makes_differs, mode_admissible, mode_members, not_there}
+use Rattle.enumerate_block.proofs.ModeLemmas.{has_more, listing_grown, listing_more, mode_admissible, not_there}
+use Rattle.goal_lists.proofs.RunLemmas.{ran_handed, ran_lost, ran_none, ran_nothing}
 use Rattle.enumerate_block.proofs.with_mode.record_set.Goals as goal
 
 pub insert_in_order-requires-clause-other : goal.insert_in_order-requires-clause-other
@@ -27,65 +21,46 @@ returns-then-len-limit-clause-records g c =
     (subst (λ s. GainsInOrder s c.args.listing.now.sets.items new) c.in_ok-copy.ensures.same
     c.in_ok-insert_in_order.ensures.gains) more
 
-pub oblige-requires : goal.oblige-requires
-oblige-requires g c =
-    let f = g.O.Oracle.framework c.args.oracle.now in
-    let numbered = c.members.ensures.kept.numbered in
-    differs_is_side f c.args.set.now c.deref.result.now numbered
-    (mode_members f c.args.set.now c.args.mode numbered c.requires.mode c.requires.set.0.has_mode)
-    (c.deref.ensures.value ∙ c.in_ok-side.ensures f c.members.ensures.value)
+pub oblige_differs-requires : goal.oblige_differs-requires
+oblige_differs-requires g c =
+    mode_admissible _ c.args.set.now c.args.mode c.members-members.ensures.kept.numbered c.requires.mode
+    c.requires.set.0.has_mode
 
-pub returns-in_err-ask-clause-run : goal.returns-in_err-ask-clause-run
-returns-in_err-ask-clause-run g c =
-    let f = g.O.Oracle.framework c.args.oracle.now in
-    let e = c.args.set.now in
-    let ok = mode_admissible f e c.args.mode c.members.ensures.kept.numbered c.requires.mode c.requires.set.0.has_mode
-    in
-    let makes = makes_differs f e c.deref.result.now ok
-    (c.deref.ensures.value ∙ c.in_ok-side.ensures f c.members.ensures.value) in
-    let few : 0 ≤ 0 = omega arith in
-    run_handed (MadeDiffers f) 0 f _ _ _ _ _ _ c.in_err-ask.field-0.0 c.from_residual-in_err-ask.ensures
-    (run_as (OnlySide c.deref.result.now e) (MadeDiffers f) 0 0 f _ _ _ _ _ _ makes few c.in_err-ask.ensures.run)
+pub returns-in_err-copy-clause-ran : goal.returns-in_err-copy-clause-ran
+returns-in_err-copy-clause-ran g c =
+    ran_nothing _ c.from_residual.ensures c.members-members.ensures.kept (g.met.O.Oracle.stays _)
 
-pub returns-in_err-push-clause-run : goal.returns-in_err-push-clause-run
-returns-in_err-push-clause-run g c =
-    let f = g.O.Oracle.framework c.args.oracle.now in
-    let e = c.args.set.now in
-    let ok = mode_admissible f e c.args.mode c.members.ensures.kept.numbered c.requires.mode c.requires.set.0.has_mode
-    in
-    let makes = makes_differs f e c.deref.result.now ok
-    (c.deref.ensures.value ∙ c.in_ok-side.ensures f c.members.ensures.value) in
-    let few : 0 ≤ 0 = omega arith in
-    run_handed (MadeDiffers f) 0 f _ _ _ _ _ _ Memory c.from_residual-in_err-push.ensures
-    (then_refused (OnlySide c.deref.result.now e) (MadeDiffers f) 0 0 f _ _ _ _ _ makes few c.in_ok-ask.ensures.run)
+pub returns-in_err-insert_in_order-clause-ran : goal.returns-in_err-insert_in_order-clause-ran
+returns-in_err-insert_in_order-clause-ran g c =
+    ran_nothing _ c.from_residual-in_err-insert_in_order.ensures c.members-members.ensures.kept
+    (g.met.O.Oracle.stays _)
+
+pub returns-then-len-limit-clause-ran : goal.returns-then-len-limit-clause-ran
+returns-then-len-limit-clause-ran g c = ran_none 0 c.members-members.ensures.kept (g.met.O.Oracle.stays _)
+
+pub returns-in_err-ask-clause-ran : goal.returns-in_err-ask-clause-ran
+returns-in_err-ask-clause-ran g c = ran_handed _ c.from_residual-in_err-ask.ensures c.in_err-ask.ensures.ran
+
+pub returns-in_err-push-clause-ran : goal.returns-in_err-push-clause-ran
+returns-in_err-push-clause-ran g c =
+    ran_lost _ c.from_residual-in_err-push.ensures (omega arith) c.in_ok-ask.ensures.ran
+
+pub returns-clause-ran : goal.returns-clause-ran
+returns-clause-ran g c = c.in_ok-ask.ensures.ran
 
 pub returns-clause-records : goal.returns-clause-records
 returns-clause-records g c =
     let f = g.O.Oracle.framework c.args.oracle.now in
-    let e = c.args.set.now in
-    let log = g.O.Oracle.log c.oblige.new.self in
+    let log = g.O.Oracle.log c.oblige_differs.new.oracle in
     let new = c.insert_in_order.new.sets.items in
     let room : length new ≤ c.args.limit = omega (arith, c.len.ensures, c.if-len-limit.false) in
     let gains = subst (λ s. GainsInOrder s c.args.listing.now.sets.items new) c.in_ok-copy.ensures.same
     c.in_ok-insert_in_order.ensures.gains in (
-      listing_more f log c.args.mode c.args.range.now e c.in_ok-ask.ask c.args.listing.now
+      listing_more f log c.args.mode c.args.range.now c.args.set.now c.in_ok-ask.ask c.args.listing.now
           (record { sets = c.insert_in_order.new.sets; asks = c.push.new.self })
-          (listing_grown f (OnlySide c.deref.result.now e) (g.O.Oracle.log c.args.oracle.now) log c.args.mode
-          c.args.range.now c.args.listing.now c.in_ok-ask.ensures.run.grows c.requires.listing)
-          c.requires.set.0 c.requires.set.1 gains c.in_ok-push.ensures.ok
-          (ask_of c.deref.result.now (differs f e) _ log c.in_ok-ask.ask
-          (c.deref.ensures.value ∙ c.in_ok-side.ensures f c.members.ensures.value) c.in_ok-ask.ensures.obliges),
+          (listing_grown f _ _ log c.args.mode c.args.range.now c.args.listing.now c.in_ok-ask.ensures.ran.run.grows
+          c.requires.listing)
+          c.requires.set.0 c.requires.set.1 gains c.in_ok-push.ensures.ok c.in_ok-ask.ensures.asked,
       gains,
       room,
     )
-
-pub returns-clause-run : goal.returns-clause-run
-returns-clause-run g c =
-    let f = g.O.Oracle.framework c.args.oracle.now in
-    let e = c.args.set.now in
-    let ok = mode_admissible f e c.args.mode c.members.ensures.kept.numbered c.requires.mode c.requires.set.0.has_mode
-    in
-    let makes = makes_differs f e c.deref.result.now ok
-    (c.deref.ensures.value ∙ c.in_ok-side.ensures f c.members.ensures.value) in
-    let few : 0 ≤ 0 = omega arith in
-    run_as (OnlySide c.deref.result.now e) (MadeDiffers f) 0 0 f _ _ _ _ _ _ makes few c.in_ok-ask.ensures.run

@@ -5,6 +5,7 @@ use Rattle.oracle_face.specs.Goals.{AreGoals}
 use Rattle.oracle_face.specs.Growing.{IsFound}
 use Rattle.goal_lists.specs.Asking.{goals_about}
 use Rattle.goal_lists.proofs.QueryGoals.{query_are_goals}
+use Rattle.goal_lists.proofs.RunLemmas.{ran_nothing}
 use Rattle.goal_lists.proofs.search.search_query.Goals as goal
 
 pub find-requires : goal.find-requires
@@ -25,3 +26,15 @@ returns-clause-found g c =
     (c.deref.ensures.value
     ∙ (c.in_ok-goals.ensures ∙ ap made (c.query_literal-literal.ensures f c.is_aba.ensures)))
     c.find.ensures.found
+
+pub returns-in_err-goals-clause-ran : goal.returns-in_err-goals-clause-ran
+returns-in_err-goals-clause-ran g c =
+    ran_nothing _ c.from_residual.ensures c.members-members.ensures.kept (g.met.O.Oracle.stays _)
+
+pub returns-clause-ran : goal.returns-clause-ran
+returns-clause-ran g c = record {
+  run = c.find.ensures.run;
+  framework = c.find.ensures.framework;
+  kept = c.find.ensures.kept;
+  follows = c.find.ensures.follows;
+}

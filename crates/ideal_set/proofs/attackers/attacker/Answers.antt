@@ -1,8 +1,7 @@
 use Rattle.std.proofs.Common.{◌∙◌, arith}
-use Rattle.oracle_face.specs.Growing.{OnlySide, closes}
-use Rattle.oracle_face.proofs.GrowingLemmas.{run_as}
-use Rattle.ideal_set.specs.Ideals.{MadeForIdeal}
-use Rattle.ideal_set.proofs.IdealLemmas.{attack_beside, attacked_from, attacked_is_side, if_asked, if_attack, makes_attacked}
+use Rattle.ideal_set.proofs.IdealLemmas.{attack_beside, attacked_from, attacked_is_side, if_asked, if_attack}
+use Rattle.ideal_set.proofs.IdealLemmas.{makes_attacked}
+use Rattle.goal_lists.proofs.RunLemmas.{ran_as, ran_nothing}
 use Rattle.ideal_set.proofs.attackers.attacker.Goals as goal
 
 pub search_beside-requires-clause-side : goal.search_beside-requires-clause-side
@@ -37,12 +36,14 @@ returns-clause-asked g c =
     ∙ attacked_from f c.in_ok-side.side.items c.args.set.now c.requires.kind c.in_ok-side.ensures)
     c.search_beside.result c.search_beside.ensures.found
 
-pub returns-clause-run : goal.returns-clause-run
-returns-clause-run g c =
+pub returns-in_err-side-clause-ran : goal.returns-in_err-side-clause-ran
+returns-in_err-side-clause-ran g c =
+    ran_nothing _ c.from_residual.ensures c.members-members.ensures.kept (g.met.O.Oracle.stays _)
+
+pub returns-clause-ran : goal.returns-clause-ran
+returns-clause-ran g c =
     let f = g.O.Oracle.framework c.args.oracle.now in
-    run_as (OnlySide c.deref.result.now c.args.set.now) (MadeForIdeal f) (closes c.search_beside.result)
-    (closes c.search_beside.result) f _ _ _ _ _ _
-    (makes_attacked f c.args.set.now c.deref.result.now c.requires.holds
+    ran_as (makes_attacked f c.args.set.now c.deref.result.now c.requires.holds
     (c.deref.ensures.value
     ∙ attacked_from f c.in_ok-side.side.items c.args.set.now c.requires.kind c.in_ok-side.ensures))
-    (omega arith) c.search_beside.ensures.run
+    (omega arith) c.search_beside.ensures.ran

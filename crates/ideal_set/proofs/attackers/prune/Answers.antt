@@ -1,15 +1,13 @@
-use Rattle.std.proofs.Common.{◌∙◌, ◌+◌, ◌≤◌, ℕ, List, ap, arith, refl, rules, subst, sym}
+use Rattle.std.proofs.Common.{◌∙◌, ℕ, List, ap, arith, subst, sym}
 use Rattle.lists.proofs.Membership.{IsWithin-refl}
-use Rattle.plain_lits.specs.declared.halt.Halt.TheVariants.{Memory}
 use Rattle.semantics.specs.Frameworks.{Framework, IsNumbered}
 use Rattle.meaning_atoms.specs.declared.atom.Atom.TheVariants.{Ad}
 use Rattle.meaning_atoms.specs.Worlds.{HoldsOf}
 use Rattle.oracle_face.specs.declared.face.Found.TheVariants.{Set, Refuted}
 use Rattle.oracle_face.specs.Kinds.{is_assumption_based}
-use Rattle.oracle_face.proofs.GrowingLemmas.{run_none}
-use Rattle.goal_lists.proofs.Calls.{closes_refuted, closes_set, makes_same, run_handed, then_refused, then_same}
-use Rattle.ideal_set.specs.Ideals.{IsCut, IsFree, IsPicture, MadeForIdeal}
+use Rattle.ideal_set.specs.Ideals.{IsCut, IsFree, IsPicture}
 use Rattle.ideal_set.proofs.IdealLemmas.{asked_turn, fewer_left, hit_stays, hit_within, one_more, search_cut}
+use Rattle.goal_lists.proofs.RunLemmas.{ran_lost, ran_none, ran_nothing, then_found, then_handed, then_none}
 use Rattle.ideal_set.proofs.attackers.prune.Goals as goal
 
 pub loop-part-init : goal.loop-part-init
@@ -20,92 +18,60 @@ loop-part-init g c =
       free = subst (λ (s : List ℕ). IsFree f c.args.found.now.hit s) (sym c.in_ok-part.ensures.same) c.requires.set;
       more = omega arith;
       hit = IsWithin-refl c.args.found.now.hit;
-      run = run_none (MadeForIdeal f) 0 f (g.O.Oracle.log c.args.oracle.now) (g.O.Oracle.pending c.args.oracle.now)
-          c.args.budget.now;
-      framework = refl;
-      kept = c.members-members.ensures.kept;
-      follows = search rules;
+      ran = ran_none 0 c.members-members.ensures.kept (g.met.O.Oracle.stays _);
     }
 
 pub attacker-requires-clause-kind : goal.attacker-requires-clause-kind
-attacker-requires-clause-kind g c = ap is_assumption_based c.loop-part.invariant.framework ∙ c.requires.kind
+attacker-requires-clause-kind g c = ap is_assumption_based c.loop-part.invariant.ran.framework ∙ c.requires.kind
 
 pub attacker-requires-clause-holds : goal.attacker-requires-clause-holds
 attacker-requires-clause-holds g c =
-    subst (λ (w : Framework). HoldsOf w c.loop-part.part Ad) (sym c.loop-part.invariant.framework)
+    subst (λ (w : Framework). HoldsOf w c.loop-part.part Ad) (sym c.loop-part.invariant.ran.framework)
     c.loop-part.invariant.free.admissible
-
-pub returns-in_err-other-clause-run : goal.returns-in_err-other-clause-run
-returns-in_err-other-clause-run g c =
-    let f = g.O.Oracle.framework c.args.oracle.now in
-    let inv = c.loop-part.invariant in
-    let few : 0 + 0 ≤ 1 = omega arith in
-    run_handed (MadeForIdeal f) 1 f _ _ _ _ _ _ c.in_err-other.field-0.0 c.from_residual-in_err-other.ensures
-    (then_same MadeForIdeal f (g.O.Oracle.framework c.loop-part.oracle) 0 0 1 _ _ _ _ _ _ _ _ _ inv.framework few
-    inv.run c.in_err-other.ensures.run)
 
 pub cut-requires-clause-plain : goal.cut-requires-clause-plain
 cut-requires-clause-plain g c =
     subst (λ (w : Framework). IsPicture w c.args.plain.now)
-    (sym (c.in_ok-other.ensures.framework ∙ c.loop-part.invariant.framework)) c.requires.plain
+    (sym (c.in_ok-other.ensures.ran.framework ∙ c.loop-part.invariant.ran.framework)) c.requires.plain
 
 pub cut-requires-clause-set : goal.cut-requires-clause-set
 cut-requires-clause-set g c =
     subst (λ (w : Framework). HoldsOf w c.loop-part.part Ad)
-    (sym (c.in_ok-other.ensures.framework ∙ c.loop-part.invariant.framework)) c.loop-part.invariant.free.admissible
+    (sym (c.in_ok-other.ensures.ran.framework ∙ c.loop-part.invariant.ran.framework))
+    c.loop-part.invariant.free.admissible
 
 pub cut-requires-clause-other : goal.cut-requires-clause-other
 cut-requires-clause-other g c =
     let f = g.O.Oracle.framework c.args.oracle.now in
     let inv = c.loop-part.invariant in
-    let turn = asked_turn f (g.O.Oracle.framework c.loop-part.oracle) 0 0 _ _ _ _ _ _ _ _ c.loop-part.found.sets
-    c.loop-part.found.hit c.loop-part.part c.in_ok-other.field-0 (Set c.in-Set.other) inv.framework inv.run inv.searched
-    c.in_ok-other.ensures.run c.in_ok-other.ensures.attacks c.in_ok-other.ensures.asked c.in-Set.is
-    (closes_set c.in_ok-other.field-0 c.in-Set.other c.in-Set.is) in
-    subst (λ (w : Framework). HoldsOf w c.in-Set.other Ad) (sym (c.in_ok-other.ensures.framework ∙ inv.framework))
+    let turn = asked_turn f _ _ _ c.loop-part.found.sets c.loop-part.found.hit c.loop-part.part
+    c.in_ok-other.field-0 (Set c.in-Set.other) inv.ran.framework inv.searched c.in_ok-other.ensures.ran.run.grows
+    c.in_ok-other.ensures.attacks c.in_ok-other.ensures.asked c.in-Set.is in
+    subst (λ (w : Framework). HoldsOf w c.in-Set.other Ad) (sym (c.in_ok-other.ensures.ran.framework ∙
+    inv.ran.framework))
     turn.attacks.0
-
-pub returns-in_err-part-in-Set-clause-run : goal.returns-in_err-part-in-Set-clause-run
-returns-in_err-part-in-Set-clause-run g c =
-    let f = g.O.Oracle.framework c.args.oracle.now in
-    let inv = c.loop-part.invariant in
-    let turn = asked_turn f (g.O.Oracle.framework c.loop-part.oracle) 0 0 _ _ _ _ _ _ _ _ c.loop-part.found.sets
-    c.loop-part.found.hit c.loop-part.part c.in_ok-other.field-0 (Set c.in-Set.other) inv.framework inv.run inv.searched
-    c.in_ok-other.ensures.run c.in_ok-other.ensures.attacks c.in_ok-other.ensures.asked c.in-Set.is
-    (closes_set c.in_ok-other.field-0 c.in-Set.other c.in-Set.is) in
-    run_handed (MadeForIdeal f) 1 f _ _ _ _ _ _ Memory c.from_residual-in_err-part-in-Set.ensures
-    (then_refused (MadeForIdeal f) (MadeForIdeal f) 0 1 f _ _ _ _ _ (makes_same (MadeForIdeal f)) (omega arith) turn.ran)
 
 pub returns-in-Refuted-clause-pruned : goal.returns-in-Refuted-clause-pruned
 returns-in-Refuted-clause-pruned g c =
     let f = g.O.Oracle.framework c.args.oracle.now in
     let inv = c.loop-part.invariant in
-    let turn = asked_turn f (g.O.Oracle.framework c.loop-part.oracle) 0 1 _ _ _ _ _ _ _ _ c.loop-part.found.sets
-    c.loop-part.found.hit c.loop-part.part c.in_ok-other.field-0 (Refuted c.in-Refuted._step) inv.framework inv.run
-    inv.searched c.in_ok-other.ensures.run c.in_ok-other.ensures.attacks c.in_ok-other.ensures.asked c.in-Refuted.is
-    (closes_refuted c.in_ok-other.field-0 c.in-Refuted._step c.in-Refuted.is) in
+    let turn = asked_turn f _ _ _ c.loop-part.found.sets c.loop-part.found.hit c.loop-part.part
+    c.in_ok-other.field-0 (Refuted c.in-Refuted._step) inv.ran.framework inv.searched
+    c.in_ok-other.ensures.ran.run.grows
+    c.in_ok-other.ensures.attacks c.in_ok-other.ensures.asked c.in-Refuted.is in
     record { searched = turn.searched; more = inv.more; hit = inv.hit; free = inv.free }
-
-pub returns-in-Refuted-clause-run : goal.returns-in-Refuted-clause-run
-returns-in-Refuted-clause-run g c =
-    let f = g.O.Oracle.framework c.args.oracle.now in
-    let inv = c.loop-part.invariant in
-    then_same MadeForIdeal f (g.O.Oracle.framework c.loop-part.oracle) 0 _ 1 _ _ _ _ _ _ _ _ _ inv.framework
-    (omega (arith, closes_refuted c.in_ok-other.field-0 c.in-Refuted._step c.in-Refuted.is)) inv.run
-    c.in_ok-other.ensures.run
 
 pub loop-part-smaller : goal.loop-part-smaller
 loop-part-smaller g c =
     let f = g.O.Oracle.framework c.args.oracle.now in
     let inv = c.loop-part.invariant in
-    let same = c.in_ok-other.ensures.framework ∙ inv.framework in
-    let turn = asked_turn f (g.O.Oracle.framework c.loop-part.oracle) 0 0 _ _ _ _ _ _ _ _ c.loop-part.found.sets
-    c.loop-part.found.hit c.loop-part.part c.in_ok-other.field-0 (Set c.in-Set.other) inv.framework inv.run inv.searched
-    c.in_ok-other.ensures.run c.in_ok-other.ensures.attacks c.in_ok-other.ensures.asked c.in-Set.is
-    (closes_set c.in_ok-other.field-0 c.in-Set.other c.in-Set.is) in
+    let same = c.in_ok-other.ensures.ran.framework ∙ inv.ran.framework in
+    let turn = asked_turn f _ _ _ c.loop-part.found.sets c.loop-part.found.hit c.loop-part.part
+    c.in_ok-other.field-0 (Set c.in-Set.other) inv.ran.framework inv.searched c.in_ok-other.ensures.ran.run.grows
+    c.in_ok-other.ensures.attacks c.in_ok-other.ensures.asked c.in-Set.is in
     let cut = subst (λ (w : Framework). IsCut w c.in-Set.other c.loop-part.found c.cut.new.found
     c.in_ok-part-in-Set.part) same c.in_ok-part-in-Set.ensures in
-    let numbered = subst (λ (w : Framework). IsNumbered w) inv.framework inv.kept.numbered in
+    let numbered = subst (λ (w : Framework). IsNumbered w) inv.ran.framework inv.ran.kept.numbered in
     let log = g.O.Oracle.log c.attacker.new.oracle in
     fewer_left f log c.loop-part.found c.cut.new.found c.loop-part.part c.in-Set.other c.in_ok-part-in-Set.part
     c.cut.new.found.hit numbered turn.searched inv.free turn.attacks.1 cut (IsWithin-refl c.cut.new.found.hit)
@@ -117,11 +83,10 @@ pub loop-part-preserved : goal.loop-part-preserved
 loop-part-preserved g c =
     let f = g.O.Oracle.framework c.args.oracle.now in
     let inv = c.loop-part.invariant in
-    let same = c.in_ok-other.ensures.framework ∙ inv.framework in
-    let turn = asked_turn f (g.O.Oracle.framework c.loop-part.oracle) 0 0 _ _ _ _ _ _ _ _ c.loop-part.found.sets
-    c.loop-part.found.hit c.loop-part.part c.in_ok-other.field-0 (Set c.in-Set.other) inv.framework inv.run inv.searched
-    c.in_ok-other.ensures.run c.in_ok-other.ensures.attacks c.in_ok-other.ensures.asked c.in-Set.is
-    (closes_set c.in_ok-other.field-0 c.in-Set.other c.in-Set.is) in
+    let same = c.in_ok-other.ensures.ran.framework ∙ inv.ran.framework in
+    let turn = asked_turn f _ _ _ c.loop-part.found.sets c.loop-part.found.hit c.loop-part.part
+    c.in_ok-other.field-0 (Set c.in-Set.other) inv.ran.framework inv.searched c.in_ok-other.ensures.ran.run.grows
+    c.in_ok-other.ensures.attacks c.in_ok-other.ensures.asked c.in-Set.is in
     let cut = subst (λ (w : Framework). IsCut w c.in-Set.other c.loop-part.found c.cut.new.found
     c.in_ok-part-in-Set.part) same c.in_ok-part-in-Set.ensures in
     record {
@@ -136,8 +101,24 @@ loop-part-preserved g c =
       );
       hit = λ a h. hit_stays f c.in-Set.other c.in_ok-part-in-Set.part c.loop-part.found c.cut.new.found cut a
           (inv.hit a h);
-      run = turn.ran;
-      framework = same;
-      kept = c.in_ok-other.ensures.kept;
-      follows = search rules;
+      ran = then_found g.met.O.Oracle.joins c.in-Set.is inv.ran c.in_ok-other.ensures.ran;
     }
+
+pub returns-in_err-part-clause-ran : goal.returns-in_err-part-clause-ran
+returns-in_err-part-clause-ran g c =
+    ran_nothing _ c.from_residual.ensures c.members-members.ensures.kept (g.met.O.Oracle.stays _)
+
+pub returns-in_err-other-clause-ran : goal.returns-in_err-other-clause-ran
+returns-in_err-other-clause-ran g c =
+    then_handed {n = 0} g.met.O.Oracle.joins _ c.from_residual-in_err-other.ensures
+    (omega arith) c.loop-part.invariant.ran
+    c.in_err-other.ensures.ran
+
+pub returns-in_err-part-in-Set-clause-ran : goal.returns-in_err-part-in-Set-clause-ran
+returns-in_err-part-in-Set-clause-ran g c =
+    ran_lost _ c.from_residual-in_err-part-in-Set.ensures (omega arith)
+    (then_found g.met.O.Oracle.joins c.in-Set.is c.loop-part.invariant.ran c.in_ok-other.ensures.ran)
+
+pub returns-in-Refuted-clause-ran : goal.returns-in-Refuted-clause-ran
+returns-in-Refuted-clause-ran g c =
+    then_none g.met.O.Oracle.joins c.in-Refuted.is (omega arith) c.loop-part.invariant.ran c.in_ok-other.ensures.ran

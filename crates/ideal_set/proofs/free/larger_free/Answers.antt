@@ -1,8 +1,6 @@
 use Rattle.std.proofs.Common.{◌∙◌, arith}
-use Rattle.oracle_face.specs.Growing.{OnlySide, closes}
-use Rattle.oracle_face.proofs.GrowingLemmas.{run_as}
-use Rattle.ideal_set.specs.Ideals.{MadeForIdeal}
 use Rattle.ideal_set.proofs.FreeLemmas.{free_beside, if_free, makes_outside, outside_is_side}
+use Rattle.goal_lists.proofs.RunLemmas.{ran_as, ran_nothing}
 use Rattle.ideal_set.proofs.free.larger_free.Goals as goal
 
 pub search_beside-requires-clause-side : goal.search_beside-requires-clause-side
@@ -26,10 +24,12 @@ returns-clause-larger g c =
     (c.deref.ensures.value ∙ c.in_ok-side.ensures f c.members.ensures.value) c.search_beside.result
     c.search_beside.ensures.found
 
-pub returns-clause-run : goal.returns-clause-run
-returns-clause-run g c =
+pub returns-in_err-side-clause-ran : goal.returns-in_err-side-clause-ran
+returns-in_err-side-clause-ran g c =
+    ran_nothing _ c.from_residual.ensures c.members.ensures.kept (g.met.O.Oracle.stays _)
+
+pub returns-clause-ran : goal.returns-clause-ran
+returns-clause-ran g c =
     let f = g.O.Oracle.framework c.args.oracle.now in
-    run_as (OnlySide c.deref.result.now c.args.set.now) (MadeForIdeal f) (closes c.search_beside.result)
-    (closes c.search_beside.result) f _ _ _ _ _ _
-    (makes_outside f c.args.set.now c.deref.result.now c.requires.free.admissible
-    (c.deref.ensures.value ∙ c.in_ok-side.ensures f c.members.ensures.value)) (omega arith) c.search_beside.ensures.run
+    ran_as (makes_outside f c.args.set.now c.deref.result.now c.requires.free.admissible
+    (c.deref.ensures.value ∙ c.in_ok-side.ensures f c.members.ensures.value)) (omega arith) c.search_beside.ensures.ran

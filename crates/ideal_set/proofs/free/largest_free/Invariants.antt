@@ -1,19 +1,14 @@
-use Rattle.std.proofs.Common.{◌≡◌, not, length, filter}
+use Rattle.std.proofs.Common.{not, length, filter}
 use Rattle.std.specs.Prelude.{None}
 use Rattle.certificate_claims.specs.SetLiterals.{has, members}
-use Rattle.oracle_face.specs.Growing.{HasRun}
-use Rattle.oracle_face.specs.Logs.{IsKept}
 use Rattle.ideal_set.specs.Ideals.{IsFree, MadeForIdeal}
+use Rattle.goal_lists.specs.Runs.{Ran}
 use Rattle.ideal_set.proofs.free.largest_free.Given as goal
 
 abbrev pub invariant-loop-grown : goal.invariant-loop-grown
 invariant-loop-grown g l = record {
   free : IsFree (g.O.Oracle.framework l.fn.oracle) l.hit l.grown;
-  run : HasRun (MadeForIdeal (g.O.Oracle.framework l.fn.oracle)) 0 (g.O.Oracle.framework l.fn.oracle)
-      (g.O.Oracle.log l.fn.oracle) (g.O.Oracle.log l.oracle) (g.O.Oracle.pending l.oracle) l.fn.budget l.budget None;
-  framework : g.O.Oracle.framework l.oracle ≡ g.O.Oracle.framework l.fn.oracle;
-  kept : IsKept (g.O.Oracle.framework l.oracle) (g.O.Oracle.log l.oracle);
-  follows : g.O.Oracle.follows l.fn.oracle l.oracle;
+  ran : Ran g.O.Oracle MadeForIdeal 0 l.fn.oracle l.oracle l.fn.budget l.budget None;
 }
 
 abbrev pub decreases-loop-grown : goal.decreases-loop-grown

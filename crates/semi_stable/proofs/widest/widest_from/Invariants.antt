@@ -1,8 +1,6 @@
-use Rattle.std.proofs.Common.{◌≡◌}
 use Rattle.std.specs.Prelude.{None}
 use Rattle.meaning_atoms.specs.Worlds.{HoldsOf}
-use Rattle.oracle_face.specs.Growing.{HasRun}
-use Rattle.oracle_face.specs.Logs.{IsKept}
+use Rattle.goal_lists.specs.Runs.{Ran}
 use Rattle.semi_stable.specs.Widest.{IsRangeIn, MadeWider}
 use Rattle.semi_stable.proofs.WidestLemmas.{open_count}
 use Rattle.semi_stable.proofs.widest.widest_from.Given as goal
@@ -10,11 +8,7 @@ use Rattle.semi_stable.proofs.widest.widest_from.Given as goal
 -- the set that has grown so far has the mode and the first set's range, and each look so far found another
 abbrev pub invariant-loop-grown : goal.invariant-loop-grown
 invariant-loop-grown g l = record {
-  framework : g.O.Oracle.framework l.oracle ≡ g.O.Oracle.framework l.fn.oracle;
-  kept : IsKept (g.O.Oracle.framework l.oracle) (g.O.Oracle.log l.oracle);
-  run : HasRun (MadeWider (g.O.Oracle.framework l.fn.oracle) l.mode) 0 (g.O.Oracle.framework l.fn.oracle)
-      (g.O.Oracle.log l.fn.oracle) (g.O.Oracle.log l.oracle) (g.O.Oracle.pending l.oracle) l.fn.budget l.budget None;
-  follows : g.O.Oracle.follows l.fn.oracle l.oracle;
+  ran : Ran g.O.Oracle (λ f. MadeWider f l.mode) 0 l.fn.oracle l.oracle l.fn.budget l.budget None;
   has_mode : HoldsOf (g.O.Oracle.framework l.fn.oracle) l.grown l.mode;
   holds : IsRangeIn (g.O.Oracle.framework l.fn.oracle) l.set l.grown;
 }
