@@ -39,7 +39,7 @@ impl Pool {
         Ok(Token { pushed })
     }
 
-    /// The entry that was shared for this token. Only tests call it: a session keeps no token.
+    /// The entry that was shared for this token.
     pub fn fetch<'a>(&'a self, token: &Token) -> &'a Entry
         requires { IsTokenOf self.now token.now }
         ensures entry { result.now ≡ entry_of token.now }

@@ -121,7 +121,7 @@ fn is_hint(hint: &HintName, name: &AxiomName) -> bool
 {
     match hint {
         HintName::Axiom(other) => axioms_are_equal(other, name),
-        HintName::HistoryEntry(_) => false,
+        HintName::Entry(_) => false,
     }
 }
 

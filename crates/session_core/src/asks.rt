@@ -43,7 +43,6 @@ impl Session {
 
     /// Answers a query on the framework that the engine is for, and keeps where its work stands in the log. Room for
     /// that is made first. Clauses come from the pool and go there meanwhile; the tokens of those that came are kept.
-    #[tactic(auto, using(crate::proofs::SessionLemmas::rest_more))]
     fn answer<R: Wait>(
         &mut self,
         rt: &R,

@@ -21,7 +21,7 @@ returns-clause-told g c =
         pending = c.in_ok-pending.pending;
         tokens = c.into_taken.result;
       };
-      next = c.next.result;
+      next = c.next-next.result;
     })
     c.new-budget.ensures.limit c.new-budget.ensures.used end.ensures.within end.ensures.fits end.ensures.shown
     end.ensures.cut end.ensures.cause end.ensures.run
