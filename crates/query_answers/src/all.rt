@@ -3,7 +3,7 @@
 ghost use Rattle.std.specs.Prelude.{◌≡◌, IfOk};
 ghost use Rattle.enumerate_block.specs.Extensions.{answer_of};
 ghost use Rattle.oracle_face.specs.Growing.{halt_of};
-ghost use Rattle.query_answers.specs.Answers.{AsksAll, IsOutcome, RanFor, RanFor};
+ghost use Rattle.query_answers.specs.Answers.{AsksAll, IsOutcome, RanFor};
 ghost use Rattle.query_answers.specs.Forms.{all_outcome};
 
 use crate::evidence::{Evidence, SearchOutcome};

@@ -5,7 +5,7 @@ ghost use Rattle.edit_rules.specs.Fitting.{Fits};
 ghost use Rattle.oracle_face.specs.Growing.{HasRun, halt_of};
 ghost use Rattle.oracle_face.specs.Logs.{IsKept};
 ghost use Rattle.session_log.specs.Ends.{MadeFor};
-ghost use Rattle.query_answers.specs.Answers.{AsksOne, IsEvidence, IsOutcome, is_by_grounded, RanFor, RanFor};
+ghost use Rattle.query_answers.specs.Answers.{AsksOne, IsEvidence, IsOutcome, RanFor, is_by_grounded};
 
 use crate::all::all_extensions;
 use crate::complete_stable::{complete, stable};

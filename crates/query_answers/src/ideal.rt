@@ -3,7 +3,7 @@
 ghost use Rattle.std.specs.Prelude.{IfOk};
 ghost use Rattle.iccma_tasks.specs.declared.task.Semantics.TheVariants.{Ideal};
 ghost use Rattle.oracle_face.specs.Growing.{halt_of};
-ghost use Rattle.query_answers.specs.Answers.{AsksBy, IsEvidence, IsSaid, RanFor, RanFor};
+ghost use Rattle.query_answers.specs.Answers.{AsksBy, IsEvidence, IsSaid, RanFor};
 
 use crate::evidence::{Evidence, of_ideal};
 use iccma_tasks::Query;

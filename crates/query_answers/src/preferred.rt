@@ -4,7 +4,7 @@ ghost use Rattle.std.specs.Prelude.{IfOk};
 ghost use Rattle.iccma_tasks.specs.declared.task.Problem.TheVariants.{Credulous, Sceptical};
 ghost use Rattle.iccma_tasks.specs.declared.task.Semantics.TheVariants.{Preferred};
 ghost use Rattle.oracle_face.specs.Growing.{halt_of};
-ghost use Rattle.query_answers.specs.Answers.{AsksAbout, AsksBy, BeginsLargest, IsEvidence, RanFor, RanFor};
+ghost use Rattle.query_answers.specs.Answers.{AsksAbout, AsksBy, BeginsLargest, IsEvidence, RanFor};
 
 use crate::evidence::{Evidence, of_accepting, of_found, of_set};
 use cegar_preferred::{accept_all, maximal_from};

@@ -3,7 +3,7 @@
 ghost use Rattle.std.specs.Prelude.{IfOk};
 ghost use Rattle.iccma_tasks.specs.declared.task.Semantics.TheVariants.{SemiStable};
 ghost use Rattle.oracle_face.specs.Growing.{halt_of};
-ghost use Rattle.query_answers.specs.Answers.{AsksAbout, AsksBy, AsksSome, IsEvidence, problem_of, RanFor, RanFor};
+ghost use Rattle.query_answers.specs.Answers.{AsksAbout, AsksBy, AsksSome, IsEvidence, RanFor, problem_of};
 
 use crate::evidence::{Evidence, of_deciding, of_set};
 use enumerate_block::decide;
