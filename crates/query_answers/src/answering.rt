@@ -12,7 +12,7 @@ use crate::complete_stable::{complete, stable};
 use crate::evidence::{Evidence, SearchOutcome};
 use crate::ideal::by_ideal_set;
 use crate::preferred::preferred;
-use crate::semi_stable::semi_stable;
+use crate::semi_stable_sets::semi_stable;
 use iccma_tasks::{Problem, Query, Semantics};
 use oracle_face::{Budget, Halt, Oracle};
 use std::alloc::Global;

@@ -9,7 +9,7 @@ use Rattle.query_answers.specs.Answers.{IsEvidence, problem_of}
 use Rattle.query_answers.specs.Forms.{decided_evidence}
 use Rattle.query_answers.proofs.CallLemmas.{makes_widest, run_for, run_no_memory}
 use Rattle.query_answers.proofs.SemiStableLemmas.{about_abstract, about_member, semi_stable_shown}
-use Rattle.query_answers.proofs.semi_stable.decided.Goals as goal
+use Rattle.query_answers.proofs.semi_stable_sets.decided.Goals as goal
 
 pub decide-requires-clause-kind : goal.decide-requires-clause-kind
 decide-requires-clause-kind g c =

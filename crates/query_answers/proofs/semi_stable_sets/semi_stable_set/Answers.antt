@@ -9,7 +9,7 @@ use Rattle.query_answers.specs.Answers.{IsEvidence}
 use Rattle.query_answers.proofs.CallLemmas.{makes_widest, run_for, run_no_memory}
 use Rattle.query_answers.proofs.PreferredLemmas.{empty_holds}
 use Rattle.query_answers.proofs.SemiStableLemmas.{some_abstract, widest_evidence}
-use Rattle.query_answers.proofs.semi_stable.semi_stable_set.Goals as goal
+use Rattle.query_answers.proofs.semi_stable_sets.semi_stable_set.Goals as goal
 
 pub widest_from-requires-clause-kind : goal.widest_from-requires-clause-kind
 widest_from-requires-clause-kind g c =
