@@ -60,7 +60,7 @@ pub(crate) fn tell<R: Wait>(
     query: &Query,
     limit: u64,
 ) -> Result<Told, Memory>
-    requires { trade.entry.taken ≡ [] }
+    requires { trade.taken ≡ [] }
     ensures told { IfOk result (IsTold engine.old.framework engine.old.number query.now limit engine.old.log
         engine.new.log) }
     ensures tokens { IfOk result (λ told. AreTokensOf trade.entry.pool.now told.kept.tokens) }
