@@ -31,7 +31,7 @@ use Rattle.session_replies.specs.declared.reply.Body.TheVariants.{Done, EditRefu
 use Rattle.session_replies.specs.declared.reply.Body.TheVariants.{Unknown, TooMany, LogFull}
 use Rattle.session_replies.specs.declared.reply.Reply.{Reply}
 use Rattle.bench_runs.specs.declared.runner.Runner.{Runner}
-use Rattle.bench_runs.specs.declared.runner.TheConstants.{MAX_STEPS}
+use Rattle.hinted_log.specs.declared.log.TheConstants.{MAX_STEPS}
 use Rattle.bench_runs.specs.Running.{HasServed, IsReady, IsTold, stand_of}
 use Rattle.bench_runs.specs.Served.{EditEnds, IsFront, IsServed, LineEnds, entry_by, lines_of, made_by}
 use Rattle.bench_runs.specs.Walks.{DoesCommand, DoesEdit, DoesQuery, Stand, Walks, at_start}

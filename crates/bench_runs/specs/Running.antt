@@ -18,7 +18,7 @@ use Rattle.session_core.specs.Sessions.{Follows, seen_by}
 use Rattle.session_replies.specs.declared.reply.Reply.{Reply}
 use Rattle.bench_runs.specs.Served.{lines_of}
 use Rattle.bench_runs.specs.Walks.{DoesCommand, Stand, Walks, at_start}
-use Rattle.bench_runs.specs.declared.runner.TheConstants.{MAX_STEPS}
+use Rattle.hinted_log.specs.declared.log.TheConstants.{MAX_STEPS}
 use Rattle.bench_runs.specs.declared.runner.Runner.{Runner}
 
 -- the history has what it had, the log has grown, and each query that was kept is kept

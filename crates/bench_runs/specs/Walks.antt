@@ -14,7 +14,7 @@ use Rattle.session_core.specs.Following.{CatchesUp}
 use Rattle.session_core.specs.Replies.{IsBySteps, IsEditReply, IsKeptOf, IsReplied}
 use Rattle.session_core.specs.declared.kept.KeptAnswer.{KeptAnswer}
 use Rattle.session_replies.specs.declared.reply.Reply.{Reply}
-use Rattle.bench_runs.specs.declared.runner.TheConstants.{MAX_STEPS}
+use Rattle.hinted_log.specs.declared.log.TheConstants.{MAX_STEPS}
 
 -- where a session stands between two lines: the history as it saw it last, how many of these entries its engine
 -- followed, its engine's log, and what it kept of its queries

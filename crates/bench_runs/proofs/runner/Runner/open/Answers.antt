@@ -2,7 +2,7 @@ use Rattle.std.proofs.Common.{◌≡◌, ℕ, List, [], ap, rules, subst, sym, �
 use Rattle.semantics.specs.Frameworks.{Framework}
 use Rattle.session_core.specs.declared.session.Session.{Session}
 use Rattle.session_replies.specs.declared.reply.Reply.{Reply}
-use Rattle.bench_runs.specs.declared.runner.TheConstants.{MAX_STEPS}
+use Rattle.hinted_log.specs.declared.log.TheConstants.{MAX_STEPS}
 use Rattle.bench_runs.specs.Running.{stand_of}
 use Rattle.bench_runs.specs.Walks.{Walks, at_start}
 use Rattle.turn_lock.specs.Seats.{list_of, number_of}
