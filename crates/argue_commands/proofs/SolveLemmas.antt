@@ -10,7 +10,7 @@ use Rattle.edit_rules.specs.Fitting.{Fits}
 use Rattle.oracle_face.specs.declared.face.Pending.{Pending}
 use Rattle.oracle_face.specs.Growing.{HasRun, IsFurther}
 use Rattle.oracle_face.specs.Logs.{OracleLog, IsNew, is_unit, no_step, units_of, working}
-use Rattle.session_log.specs.Ends.{MadeFor}
+use Rattle.session_log.specs.Ends.{LoopInHand, MadeFor}
 use Rattle.atom_solver.specs.States.{empty_log}
 use Rattle.oracle_core.specs.Answering.{IsCause, halt_behind}
 use Rattle.oracle_core.specs.Answers.{IsShownBy}
@@ -72,9 +72,10 @@ pub session_is : (f g : Framework) (own : ℕ) (solving : Solving) (session : Ke
     → HasRun (MadeFor g solving.query) (2 * length session.engine.log.sides + 2) g old session.engine.log
     session.engine.pending before after (halt_behind session.reply)
     → (session.reply ≢ Err stop.Memory → GoesOnBySteps g own [] old session.engine.log)
+    → ((count : ℕ) → session.reply ≡ Err (stop.Spent count) → LoopInHand session.engine.log session.engine.pending)
     → IsSessionOf f solving session
 session_is f g own solving session old before after same stays number empty limit unused within fits shown units cause
-    run steps =
+    run steps in_hand =
     let Run : OracleLog → Units → Type 0 = λ log spent. HasRun (MadeFor g solving.query)
     (2 * length session.engine.log.sides + 2) g log session.engine.log session.engine.pending spent after
     (halt_behind session.reply) in
@@ -85,13 +86,14 @@ session_is f g own solving session old before after same stays number empty limi
           (subst (λ log. Run log before) empty run);
       steps = λ so. subst (λ n. GoesOnBySteps g n [] (empty_log LOG_LIMIT) session.engine.log) (sym number)
           (subst (λ log. GoesOnBySteps g own [] log session.engine.log) empty (steps so));
+      in_hand = in_hand;
       replies = replies_are g solving session.engine.log before after session.reply limit run.limit within fits shown
           units cause;
     })
 
 -- ---- why there is no answer
 
--- the budget was spent over the log, and a further clause is in hand
+-- the budget was spent over the log, and a further clause is in hand, which is no loop clause that hints already take
 pub record SpendsAll (f : Framework) (solving : Solving) (engine : EngineState) : Type 0 where
   pub units : units_of engine.log ≡ solving.budget
   pub fresh : (k : ℕ) → k < length engine.log.steps
@@ -100,14 +102,16 @@ pub record SpendsAll (f : Framework) (solving : Solving) (engine : EngineState) 
   pub in_hand : Pending
   pub pending : engine.pending ≡ Some in_hand
   pub further : IsFurther (MadeFor f solving.query) f engine.log in_hand
+  pub in_hand_serves : LoopInHand engine.log engine.pending
 
 module _ (f : Framework) (solving : Solving) (engine : EngineState) (after : Units) where
   abbrev Ran : Option Halt → Type 0
   Ran halt = HasRun (MadeFor f solving.query) (2 * length engine.log.sides + 2) f (empty_log LOG_LIMIT) engine.log
       engine.pending (unspent solving.budget) after halt
 
-  all_spent : (count : ℕ) → Ran (Some (Spent count)) → SpendsAll f solving engine
-  all_spent count run = record {
+  all_spent : (count : ℕ) → Ran (Some (Spent count)) → LoopInHand engine.log engine.pending
+      → SpendsAll f solving engine
+  all_spent count run serves = record {
     units =
         let counted : units_of engine.log + 0 ≡ 0 + after.used = run.works.counted in
         let used : count ≡ after.used = run.stop.is_used in
@@ -118,16 +122,19 @@ module _ (f : Framework) (solving : Solving) (engine : EngineState) (after : Uni
     in_hand = run.stop.in_hand;
     pending = run.stop.kept;
     further = run.stop.further;
+    in_hand_serves = serves;
   }
 
   spent_reply : (reply : Result Answered AnswerStop) → Unknown ≡ status_of reply → Ran (halt_behind reply)
+      → ((count : ℕ) → reply ≡ Err (stop.Spent count) → LoopInHand engine.log engine.pending)
       → SpendsAll f solving engine
-  spent_reply (Ok reply) ends run = absurd (let e : Unknown ≡ Done = ends in cc)
-  spent_reply (Err (stop.Query fault)) ends run = absurd (let e : Unknown ≡ InputRefused (Query fault) = ends in cc)
-  spent_reply (Err (stop.Spent count)) ends run = all_spent count run
-  spent_reply (Err stop.TooMany) ends run = absurd (let e : Unknown ≡ Limit limit.Extensions = ends in cc)
-  spent_reply (Err stop.LogFull) ends run = absurd (let e : Unknown ≡ Limit limit.Log = ends in cc)
-  spent_reply (Err stop.Memory) ends run = absurd (let e : Unknown ≡ WantOfMemory = ends in cc)
+  spent_reply (Ok reply) ends run serves = absurd (let e : Unknown ≡ Done = ends in cc)
+  spent_reply (Err (stop.Query fault)) ends run serves =
+      absurd (let e : Unknown ≡ InputRefused (Query fault) = ends in cc)
+  spent_reply (Err (stop.Spent count)) ends run serves = all_spent count run (serves count refl)
+  spent_reply (Err stop.TooMany) ends run serves = absurd (let e : Unknown ≡ Limit limit.Extensions = ends in cc)
+  spent_reply (Err stop.LogFull) ends run serves = absurd (let e : Unknown ≡ Limit limit.Log = ends in cc)
+  spent_reply (Err stop.Memory) ends run serves = absurd (let e : Unknown ≡ WantOfMemory = ends in cc)
 
   full_reply : (reply : Result Answered AnswerStop) → Limit limit.Log ≡ status_of reply → Ran (halt_behind reply)
       → length engine.log.steps ≡ LOG_LIMIT
@@ -142,7 +149,8 @@ module _ (f : Framework) (solving : Solving) (engine : EngineState) (after : Uni
 -- a session whose run ends as unknown spent its budget, and one whose run ends by a full log filled it
 pub spends_all : (f : Framework) (solving : Solving) (session : KeptSession) → IsSessionOf f solving session
     → Unknown ≡ status_of session.reply → SpendsAll f solving session.engine
-spends_all f solving session is ends = spent_reply f solving session.engine is.after session.reply ends is.run
+spends_all f solving session is ends =
+    spent_reply f solving session.engine is.after session.reply ends is.run is.in_hand
 
 pub fills : (f : Framework) (solving : Solving) (session : KeptSession) → IsSessionOf f solving session
     → Limit limit.Log ≡ status_of session.reply → length session.engine.log.steps ≡ LOG_LIMIT

@@ -6,7 +6,7 @@ use Rattle.semantics.specs.Frameworks.{Framework}
 use Rattle.edit_rules.specs.Fitting.{Fits}
 use Rattle.oracle_face.specs.Growing.{HasRun}
 use Rattle.oracle_face.specs.Logs.{OracleLog}
-use Rattle.session_log.specs.Ends.{MadeFor}
+use Rattle.session_log.specs.Ends.{LoopInHand, MadeFor}
 use Rattle.atom_solver.specs.States.{empty_log}
 use Rattle.oracle_core.specs.Answering.{IsCause, halt_behind}
 use Rattle.oracle_core.specs.Answers.{IsShownBy}
@@ -45,7 +45,8 @@ Replies f solving log used (Err why) = IsCause f solving.query MAX_EXTENSIONS lo
 -- went on by steps of the session for which nothing was given, so that no axiom came, but loop clauses, that the
 -- framework doesn't need, and no clause from elsewhere; each unit that its log has was a clause that was new when it
 -- came, and the budget counts them; and the reply is so. Where the budget was spent, the units are as many as it has,
--- and the further clause is kept; where the log is full, it has as many steps as it may.
+-- and the further clause is kept, which is no loop clause that hints already take; where the log is full, it has as many
+-- steps as it may.
 pub record IsSessionOf (f : Framework) (solving : Solving) (session : KeptSession) : Type 0 where
   pub framework : session.engine.framework ≡ f
   pub after : Units
@@ -53,6 +54,8 @@ pub record IsSessionOf (f : Framework) (solving : Solving) (session : KeptSessio
       session.engine.log session.engine.pending (unspent solving.budget) after (halt_behind session.reply)
   pub steps : session.reply ≢ Err stop.Memory
       → GoesOnBySteps f session.engine.number [] (empty_log LOG_LIMIT) session.engine.log
+  pub in_hand : (count : ℕ) → session.reply ≡ Err (stop.Spent count)
+      → LoopInHand session.engine.log session.engine.pending
   pub replies : Replies f solving session.engine.log after.used session.reply
 
 -- the same on the framework that the file's bytes read as

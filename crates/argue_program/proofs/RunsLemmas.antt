@@ -171,6 +171,7 @@ spends_budget words holds kept asked =
       in_hand = all.in_hand;
       pending = all.pending;
       further = all.further;
+      in_hand_serves = all.in_hand_serves;
     }
 
 fills_log : (words : List (List ℕ)) (holds : List ℕ → KnownFile) (kept : Transcript)

@@ -40,7 +40,7 @@ use Rattle.num_text.specs.Lines.{kept_lines}
 use Rattle.oracle_face.specs.declared.face.Pending.{Pending}
 use Rattle.oracle_face.specs.Growing.{IsFurther}
 use Rattle.oracle_face.specs.Logs.{IsNew, is_unit, no_step, units_of, working}
-use Rattle.session_log.specs.Ends.{MadeFor}
+use Rattle.session_log.specs.Ends.{LoopInHand, MadeFor}
 use Rattle.bench_runs.specs.oracle_core.specs.declared.reply.Answered.{Answered}
 use Rattle.argue_commands.specs.Inputs.{Input, IsFirstFaultIn, IsFrameworkOf, Reading, input}
 use Rattle.argue_commands.specs.Replacing.{RefusesFile, WritesFiles, certificate_files, file_text}
@@ -81,7 +81,8 @@ pub record AsksSession (words : List (List ℕ)) (holds : List ℕ → KnownFile
   pub on : IsSessionOn (holds texts.file) query session
 
 -- the run keeps the session of the words' query, and its log shows that the budget was spent: it has as many units as
--- the budget, each of them a clause that was new when it came, and a further clause that would be one is in hand
+-- the budget, each of them a clause that was new when it came, and a further clause that would be one is in hand; no
+-- hints take it where it is a loop clause
 pub record SpendsBudget (words : List (List ℕ)) (holds : List ℕ → KnownFile) (kept : Transcript) : Type 0 where
   pub session : KeptSession
   pub keeps : kept.session ≡ Some session
@@ -94,6 +95,7 @@ pub record SpendsBudget (words : List (List ℕ)) (holds : List ℕ → KnownFil
   pub pending : session.engine.pending ≡ Some in_hand
   pub further : IsFurther (MadeFor asks.on.framework asks.query.query) asks.on.framework session.engine.log
       in_hand
+  pub in_hand_serves : LoopInHand session.engine.log session.engine.pending
 
 -- the run keeps the session of the words' query, and its log is full
 pub record FillsLog (words : List (List ℕ)) (holds : List ℕ → KnownFile) (kept : Transcript) : Type 0 where

@@ -18,8 +18,9 @@ use Rattle.edit_history.specs.Entries.{AreDone, entries_in, session_of}
 use Rattle.edit_history.specs.Hubs.{AreSeatsOf, IsSeatAt, limit_of, sessions_of, start_of}
 use Rattle.script_text.specs.declared.script.Script.{Script}
 use Rattle.script_text.specs.declared.script.ScriptLine.{ScriptLine}
+use Rattle.clause_pool.specs.declared.pool.Pool.{Pool}
 use Rattle.session_core.specs.declared.kept.Kept.{Kept}
-use Rattle.session_core.specs.Sessions.{seen_by}
+use Rattle.session_core.specs.Sessions.{RestOnPool, seen_by}
 use Rattle.session_replies.specs.declared.reply.Reply.{Reply}
 use Rattle.bench_runs.specs.declared.script_run.TheConstants.{MAX_HISTORY}
 use Rattle.bench_runs.specs.declared.runner.Runner.{Runner}
@@ -27,7 +28,9 @@ use Rattle.bench_runs.specs.declared.transcript.ScriptTranscript.{ScriptTranscri
 use Rattle.bench_runs.specs.Finishing.{IsFinished, kept_in, number_in}
 use Rattle.bench_runs.specs.Running.{HasServed, stand_of}
 use Rattle.bench_runs.specs.Served.{IsServed, LineEnds, entries_made, lines_of}
+use Rattle.bench_runs.specs.Shared.{TakesFromPool}
 use Rattle.bench_runs.specs.Transcripts.{AreSessions, IsTranscriptOf}
+use Rattle.bench_runs.proofs.SharedLemmas.{imports_given}
 use Rattle.bench_runs.proofs.ToldLemmas.{walked_served}
 
 -- ---- an empty script
@@ -65,12 +68,13 @@ record SeenWhole (hub : Hub) (budget : ℕ) (lines : List ScriptLine) (entries :
   served : IsServed (start_of hub) (limit_of hub) budget (k + 1) (lines_of (k + 1) lines) entries r.session.engine.log
       r.session.answers.items r.replies
 
-seen_whole : (hub : Hub) (budget : ℕ) (lines : List ScriptLine) (runners : List Runner) (t : ScriptTranscript)
-    → All (HasServed hub budget lines) runners → map number_in runners ≡ range_with_len 1 (sessions_of hub)
-    → (count : ℕ) → IsFinished hub runners count t → (k : ℕ) (inside : k < length runners)
+seen_whole : (hub : Hub) (pool : Pool) (budget : ℕ) (lines : List ScriptLine) (runners : List Runner)
+    (t : ScriptTranscript) → All (HasServed hub pool budget lines) runners
+    → map number_in runners ≡ range_with_len 1 (sessions_of hub)
+    → (count : ℕ) → IsFinished hub pool runners count t → (k : ℕ) (inside : k < length runners)
     → SeenWhole hub budget lines (entries_in t.history.entries.items)
     (slice_index_or runners k (some_runner runners k inside)) k
-seen_whole hub budget lines runners t all numbers count h k inside =
+seen_whole hub pool budget lines runners t all numbers count h k inside =
     let long : length runners ≡ sessions_of hub =
     sym (length-map runners number_in) ∙ (ap length numbers ∙ length-range_with_len 1 (sessions_of hub)) in
     let d = some_runner runners k inside in
@@ -101,15 +105,16 @@ seen_whole hub budget lines runners t all numbers count h k inside =
     }
 
 -- what is told of the session at an index
-served_at : (hub : Hub) (budget count : ℕ) (lines : List ScriptLine) (runners : List Runner) (t : ScriptTranscript)
-    → All (HasServed hub budget lines) runners → map number_in runners ≡ range_with_len 1 (sessions_of hub)
-    → count ≤ sessions_of hub → IsFinished hub runners count t → (k : ℕ) (none : List Reply) (nothing : Kept)
+served_at : (hub : Hub) (pool : Pool) (budget count : ℕ) (lines : List ScriptLine) (runners : List Runner)
+    (t : ScriptTranscript) → All (HasServed hub pool budget lines) runners
+    → map number_in runners ≡ range_with_len 1 (sessions_of hub)
+    → count ≤ sessions_of hub → IsFinished hub pool runners count t → (k : ℕ) (none : List Reply) (nothing : Kept)
     → k < count
     → IsServed (start_of hub) (limit_of hub) budget (k + 1) (lines_of (k + 1) lines)
     (entries_in t.history.entries.items) (slice_index_or t.kept.items k nothing).engine.log
     (slice_index_or t.kept.items k nothing).answers.items
     (slice_index_or t.replies.items k none)
-served_at hub budget count lines runners t all numbers few h k none nothing low =
+served_at hub pool budget count lines runners t all numbers few h k none nothing low =
     let long : length runners ≡ sessions_of hub =
     sym (length-map runners number_in) ∙ (ap length numbers ∙ length-range_with_len 1 (sessions_of hub)) in
     let inside : k < length runners = omega (arith, long, few, low) in
@@ -122,19 +127,46 @@ served_at hub budget count lines runners t all numbers few h k none nothing low 
     ap (λ l. slice_index_or l k none) h.replies
     ∙ (get_or-take count (map (λ (r : Runner). r.replies) runners) k none low
     ∙ get_or-map (λ (r : Runner). r.replies) runners k d none inside) in
-    rw (kept, replies) (seen_whole hub budget lines runners t all numbers count h k inside).served
+    rw (kept, replies) (seen_whole hub pool budget lines runners t all numbers count h k inside).served
+
+-- what the session at an index took from others is in the pool
+shared_at : (hub : Hub) (pool : Pool) (budget count : ℕ) (lines : List ScriptLine) (runners : List Runner)
+    (t : ScriptTranscript) → All (HasServed hub pool budget lines) runners
+    → map number_in runners ≡ range_with_len 1 (sessions_of hub) → count ≤ sessions_of hub
+    → IsFinished hub pool runners count t → (k : ℕ) (nothing : Kept) → k < count
+    → TakesFromPool t.pool (slice_index_or t.kept.items k nothing).engine.log
+    (slice_index_or t.kept.items k nothing).answers.items
+shared_at hub pool budget count lines runners t all numbers few h k nothing low =
+    let long : length runners ≡ sessions_of hub =
+    sym (length-map runners number_in) ∙ (ap length numbers ∙ length-range_with_len 1 (sessions_of hub)) in
+    let inside : k < length runners = omega (arith, long, few, low) in
+    let d = some_runner runners k inside in
+    let r = slice_index_or runners k d in
+    let kept : slice_index_or t.kept.items k nothing ≡ kept_in r =
+    ap (λ l. slice_index_or l k nothing) h.kept
+    ∙ (get_or-take count (map kept_in runners) k nothing low ∙ get_or-map kept_in runners k d nothing inside) in
+    let served = all k d inside in
+    record {
+      tokens = subst (λ (x : Kept). RestOnPool t.pool x.answers.items) (sym kept)
+          (subst (λ p. RestOnPool p r.session.answers.items) (sym h.pool_is) served.pooled);
+      imports = imports_given (start_of hub) (limit_of hub) budget (k + 1) (lines_of (k + 1) lines)
+          (entries_in t.history.entries.items) (slice_index_or t.kept.items k nothing).engine.log
+          (slice_index_or t.kept.items k nothing).answers.items (slice_index_or t.replies.items k [])
+          (served_at hub pool budget count lines runners t all numbers few h k [] nothing low).walked;
+    }
 
 -- the only session of an empty script made no entry
-alone_made : (hub : Hub) (budget : ℕ) (lines : List ScriptLine) (runners : List Runner) (t : ScriptTranscript)
-    → All (HasServed hub budget lines) runners → map number_in runners ≡ range_with_len 1 (sessions_of hub)
-    → AreSessions lines 0 → sessions_of hub ≡ 1 → IsFinished hub runners 0 t
+alone_made : (hub : Hub) (pool : Pool) (budget : ℕ) (lines : List ScriptLine) (runners : List Runner)
+    (t : ScriptTranscript) → All (HasServed hub pool budget lines) runners
+    → map number_in runners ≡ range_with_len 1 (sessions_of hub)
+    → AreSessions lines 0 → sessions_of hub ≡ 1 → IsFinished hub pool runners 0 t
     → entries_of session_of 1 (entries_in t.history.entries.items) ≡ []
-alone_made hub budget lines runners t all numbers are single h =
+alone_made hub pool budget lines runners t all numbers are single h =
     let long : length runners ≡ sessions_of hub =
     sym (length-map runners number_in) ∙ (ap length numbers ∙ length-range_with_len 1 (sessions_of hub)) in
     let inside : 0 < length runners = omega (arith, long, single) in
     let r = slice_index_or runners 0 (some_runner runners 0 inside) in
-    let served = (seen_whole hub budget lines runners t all numbers 0 h 0 inside).served in
+    let served = (seen_whole hub pool budget lines runners t all numbers 0 h 0 inside).served in
     let own : entries_of session_of (0 + 1) (entries_in t.history.entries.items)
     ≡ entries_made (0 + 1) (lines_of (0 + 1) lines) r.replies = served.own in
     own ∙ none_made 1 (lines_of 1 lines) r.replies (no_lines 1 0 lines are (omega arith))
@@ -147,32 +179,33 @@ taken_long : {X : Type 0} → (count : ℕ) (xs taken : List X) → taken ≡ ta
 taken_long count xs taken is few = ap length is ∙ length-take-le count xs few
 
 -- the sessions that entries have are those that the script names
-entries_numbered : (hub : Hub) (budget count : ℕ) (lines : List ScriptLine) (runners : List Runner)
-    (t : ScriptTranscript) → All (HasServed hub budget lines) runners
+entries_numbered : (hub : Hub) (pool : Pool) (budget count : ℕ) (lines : List ScriptLine) (runners : List Runner)
+    (t : ScriptTranscript) → All (HasServed hub pool budget lines) runners
     → map number_in runners ≡ range_with_len 1 (sessions_of hub) → AreSessions lines count → count ≤ sessions_of hub
     → 0 < sessions_of hub → (0 < count → sessions_of hub ≡ count) → (count ≡ 0 → sessions_of hub ≡ 1)
-    → IsFinished hub runners count t
+    → IsFinished hub pool runners count t
     → All (λ e. (0 < e.session) × (e.session ≤ count)) (entries_in t.history.entries.items)
-entries_numbered hub budget zero lines runners t all numbers are few some least one h =
+entries_numbered hub pool budget zero lines runners t all numbers are few some least one h =
     let single = one refl in
     let entries = entries_in t.history.entries.items in
     let numbered : All (λ (e : HistoryEntry). (0 < e.session) × (e.session ≤ 1)) entries =
     subst (λ n. All (λ (e : HistoryEntry). (0 < e.session) × (e.session ≤ n)) entries) single h.history.numbered in
-    let alone = alone_made hub budget lines runners t all numbers are single h in
+    let alone = alone_made hub pool budget lines runners t all numbers are single h in
     let none = none_left entries numbered alone in
     subst (λ l. All (λ (e : HistoryEntry). (0 < e.session) × (e.session ≤ 0)) l) (sym none)
     (λ k d low. absurd (omega (arith, low)))
-entries_numbered hub budget (suc count) lines runners t all numbers are few some least one h =
+entries_numbered hub pool budget (suc count) lines runners t all numbers are few some least one h =
     subst (λ n. All (λ (e : HistoryEntry). (0 < e.session) × (e.session ≤ n)) (entries_in t.history.entries.items))
     (least (omega arith)) h.history.numbered
 
-pub transcript_is : (script : Script) (budget count : ℕ) (hub : Hub) (runners : List Runner) (t : ScriptTranscript)
-    (f : Framework) → start_of hub ≡ f → limit_of hub ≡ MAX_HISTORY → AreSessions script.lines count
+pub transcript_is : (script : Script) (budget count : ℕ) (hub : Hub) (pool : Pool) (runners : List Runner)
+    (t : ScriptTranscript) (f : Framework) → start_of hub ≡ f → limit_of hub ≡ MAX_HISTORY
+    → AreSessions script.lines count
     → count ≤ sessions_of hub → 0 < sessions_of hub → (0 < count → sessions_of hub ≡ count)
-    → (count ≡ 0 → sessions_of hub ≡ 1) → All (HasServed hub budget script.lines) runners
-    → map number_in runners ≡ range_with_len 1 (sessions_of hub) → IsFinished hub runners count t
+    → (count ≡ 0 → sessions_of hub ≡ 1) → All (HasServed hub pool budget script.lines) runners
+    → map number_in runners ≡ range_with_len 1 (sessions_of hub) → IsFinished hub pool runners count t
     → IsTranscriptOf f script budget t
-transcript_is script budget count hub runners t f start limit are few some least one all numbers h =
+transcript_is script budget count hub pool runners t f start limit are few some least one all numbers h =
     let long : length runners ≡ sessions_of hub =
     sym (length-map runners number_in) ∙ (ap length numbers ∙ length-range_with_len 1 (sessions_of hub)) in
     record {
@@ -181,7 +214,7 @@ transcript_is script budget count hub runners t f start limit are few some least
       taken = subst (λ g. AreDone g t.history.entries.items) start h.history.effects;
       sessions = count;
       sessions_are = are;
-      numbered = entries_numbered hub budget count script.lines runners t all numbers are few some least one h;
+      numbered = entries_numbered hub pool budget count script.lines runners t all numbers are few some least one h;
       replies = taken_long count (map (λ (r : Runner). r.replies) runners) t.replies.items h.replies
           (omega (arith, long, few, length-map runners (λ (r : Runner). r.replies)));
       kept = taken_long count (map kept_in runners) t.kept.items h.kept
@@ -193,29 +226,31 @@ transcript_is script budget count hub runners t f start limit are few some least
           (subst (λ g. IsServed g (limit_of hub) budget (k + 1) (lines_of (k + 1) script.lines)
           (entries_in t.history.entries.items) (slice_index_or t.kept.items k nothing).engine.log
           (slice_index_or t.kept.items k nothing).answers.items (slice_index_or t.replies.items k none)) start
-          (served_at hub budget count script.lines runners t all numbers few h k none nothing low));
+          (served_at hub pool budget count script.lines runners t all numbers few h k none nothing low));
+      shared = λ k nothing low. shared_at hub pool budget count script.lines runners t all numbers few h k nothing low;
     }
 
 -- ---- the seats
 
-numbers_same : (hub : Hub) (budget : ℕ) (lines : List ScriptLine) (runners : List Runner)
-    → All (HasServed hub budget lines) runners
+numbers_same : (hub : Hub) (pool : Pool) (budget : ℕ) (lines : List ScriptLine) (runners : List Runner)
+    → All (HasServed hub pool budget lines) runners
     → map (λ s. number_of s) (map (λ (r : Runner). r.session.seat) runners) ≡ map number_in runners
-numbers_same hub budget lines [] all = refl
-numbers_same hub budget lines (r ∷ rest) all =
+numbers_same hub pool budget lines [] all = refl
+numbers_same hub pool budget lines (r ∷ rest) all =
     let first = all 0 r (omega arith) in
     ap (λ n. n ∷ map (λ s. number_of s) (map (λ (r : Runner). r.session.seat) rest)) first.ready.number
     ∙ ap (λ l. r.session.number ∷ l)
-    (numbers_same hub budget lines rest (λ k d low. all (suc k) d (omega (arith, low))))
+    (numbers_same hub pool budget lines rest (λ k d low. all (suc k) d (omega (arith, low))))
 
 -- the sessions have all the seats of the hub
-pub all_seats : (hub : Hub) (budget : ℕ) (lines : List ScriptLine) (runners : List Runner)
-    → All (HasServed hub budget lines) runners → map number_in runners ≡ range_with_len 1 (sessions_of hub)
+pub all_seats : (hub : Hub) (pool : Pool) (budget : ℕ) (lines : List ScriptLine) (runners : List Runner)
+    → All (HasServed hub pool budget lines) runners → map number_in runners ≡ range_with_len 1 (sessions_of hub)
     → AreSeatsOf hub (map (λ (r : Runner). r.session.seat) runners)
-all_seats hub budget lines runners all numbers = record {
+all_seats hub pool budget lines runners all numbers = record {
   each = All-map (λ s. IsSeatAt hub s) (λ (r : Runner). r.session.seat) runners
-      (All-weaker (HasServed hub budget lines) (λ r. IsSeatAt hub r.session.seat) (λ r h. h.ready.seat) runners all);
-  numbers = numbers_same hub budget lines runners all ∙ numbers;
+      (All-weaker (HasServed hub pool budget lines) (λ r. IsSeatAt hub r.session.seat) (λ r h. h.ready.seat) runners
+      all);
+  numbers = numbers_same hub pool budget lines runners all ∙ numbers;
 }
 
 pub if_ok : {T E : Type 0} → (r : Result T E) (P Q : T → Type 0) → IfOk r P → ((x : T) → P x → Q x) → IfOk r Q

@@ -19,4 +19,5 @@ pub mod SessionLemmas
 pub mod LentLemmas
 pub mod LeaveLemmas
 pub mod WalkLemmas
+pub mod SharedLemmas
 pub mod AloneLemmas

@@ -13,6 +13,7 @@ use Rattle.edit_history.specs.declared.hub.Hub.{Hub}
 use Rattle.edit_history.specs.declared.journal.Journal.{Journal}
 use Rattle.edit_history.specs.Hubs.{AreNewSeats, sessions_of}
 use Rattle.edit_history.specs.Journals.{opening_of}
+use Rattle.clause_pool.specs.declared.pool.Pool.{Pool}
 use Rattle.bench_runs.specs.declared.runner.Runner.{Runner}
 use Rattle.bench_runs.specs.Finishing.{number_in}
 use Rattle.bench_runs.specs.Running.{HasServed}
@@ -20,7 +21,7 @@ use Rattle.bench_runs.specs.Running.{HasServed}
 -- these sessions are open, and these seats are left
 pub record IsOpening {g : Ghosts Journal (Held × ℕ) HistoryEntry} (hub : Hub) (runners : List Runner)
     (left : List (Seat Journal (Held × ℕ) HistoryEntry g)) : Type 0 where
-  pub served : (budget : ℕ) → All (HasServed hub budget []) runners
+  pub served : (pool : Pool) (budget : ℕ) → All (HasServed hub pool budget []) runners
   pub fresh : All (IsFresh opening_of hub.lock) left
   pub numbers : map number_in runners ++ map number_of left ≡ range_with_len 1 (sessions_of hub)
 
@@ -28,7 +29,7 @@ module _ {g : Ghosts Journal (Held × ℕ) HistoryEntry} where
   pub opening_begins : (hub : Hub) (seats : List (Seat Journal (Held × ℕ) HistoryEntry g))
       → AreNewSeats hub (sessions_of hub) seats → IsOpening hub [] seats
   opening_begins hub seats are = record {
-    served = λ budget k d low. absurd (omega (arith, low));
+    served = λ pool budget k d low. absurd (omega (arith, low));
     fresh = are.each;
     numbers = are.numbers;
   }
@@ -36,10 +37,11 @@ module _ {g : Ghosts Journal (Held × ℕ) HistoryEntry} where
   pub opening_next : (hub : Hub) (runners : List Runner) (left rest : List (Seat Journal (Held × ℕ) HistoryEntry g))
       (seat : Seat Journal (Held × ℕ) HistoryEntry g) (runner : Runner) → left ≡ seat ∷ rest → IsOpening hub runners
       left
-      → ((budget : ℕ) → HasServed hub budget [] runner) → runner.session.number ≡ number_of seat
+      → ((pool : Pool) (budget : ℕ) → HasServed hub pool budget [] runner) → runner.session.number ≡ number_of seat
       → IsOpening hub (runners ++ runner ∷ []) rest
   opening_next hub runners left rest seat runner is h here number = record {
-    served = λ budget. All-push (HasServed hub budget []) runners runner (h.served budget) (here budget);
+    served = λ pool budget.
+        All-push (HasServed hub pool budget []) runners runner (h.served pool budget) (here pool budget);
     fresh = λ k d low. (subst (All (IsFresh opening_of hub.lock)) is h.fresh) (suc k) d
         (omega (arith, low));
     numbers = ap (λ l. l ++ map number_of rest) (map-append number_in runners (runner ∷ []))
@@ -54,7 +56,7 @@ module _ {g : Ghosts Journal (Held × ℕ) HistoryEntry} where
       (seat : Seat Journal (Held × ℕ) HistoryEntry g) (runner : Runner) → 0 < length left → seat ≡ slice_index_or left 0
       seat
       → rest ≡ take 0 left ++ drop 1 left → pushed ≡ runners ++ runner ∷ [] → IsOpening hub runners left
-      → ((budget : ℕ) → HasServed hub budget [] runner) → runner.session.number ≡ number_of seat
+      → ((pool : Pool) (budget : ℕ) → HasServed hub pool budget [] runner) → runner.session.number ≡ number_of seat
       → IsOpening hub pushed rest
   opening_taken hub runners pushed [] rest seat runner some first others added h here number =
       absurd (omega (arith, some))

@@ -1,7 +1,7 @@
 -- What a session is told of an edit and of a query is so, and what its walk through its lines comes to.
 use Rattle.std.proofs.Common.{arith, Bool, ◌≡◌, ℕ, ◌==◌, ◌+◌, List, [], ◌∷◌, ◌++◌, true, false, refl, sym, ap}
 use Rattle.std.proofs.Common.{subst, ◌∙◌}
-use Rattle.std.specs.Prelude.{◌≢◌, ◌≤◌, length, filter, Contains}
+use Rattle.std.specs.Prelude.{◌≢◌, ◌≤◌, length, filter, map, Contains}
 use Rattle.std.proofs.lemmas.Bool.Decides.{nat_tests}
 use Rattle.std.proofs.lemmas.List.{append-nil, length-append}
 use Rattle.std.proofs.lemmas.List.Elements.{Contains-append_left, Contains-push, filter-append}
@@ -18,6 +18,8 @@ use Rattle.session_core.specs.oracle_core.specs.Trading.{AnySide}
 use Rattle.oracle_face.specs.Growing.{Grows, NoSide}
 use Rattle.oracle_face.specs.Logs.{OracleLog}
 use Rattle.oracle_face.proofs.GrowingLemmas.{grows_as, grows_same}
+use Rattle.clause_pool.specs.declared.pool.Pool.{Pool}
+use Rattle.clause_pool.specs.Pools.{entry_of}
 use Rattle.session_log.specs.Ends.{MadeFor}
 use Rattle.script_text.specs.declared.script.ScriptCommand.{ScriptCommand}
 use Rattle.script_text.specs.declared.script.ScriptCommand.TheVariants.{Edit as change_by, Ask}
@@ -25,13 +27,13 @@ use Rattle.script_text.specs.declared.script.ScriptLine.{ScriptLine}
 use Rattle.session_core.specs.oracle_core.specs.Engines.{EngineState}
 use Rattle.session_core.specs.declared.session.Session.{Session}
 use Rattle.session_core.specs.Replies.{EditSays, IsBySteps, IsEditReply}
-use Rattle.session_core.specs.Sessions.{IsAsked, seen_by}
+use Rattle.session_core.specs.Sessions.{IsAsked, RestOnPool, seen_by}
 use Rattle.session_replies.specs.declared.reply.Body.{Body}
 use Rattle.session_replies.specs.declared.reply.Body.TheVariants.{Done, EditRefused, Full, Answered, QueryRefused}
 use Rattle.session_replies.specs.declared.reply.Body.TheVariants.{Unknown, TooMany, LogFull}
 use Rattle.session_replies.specs.declared.reply.Reply.{Reply}
 use Rattle.bench_runs.specs.declared.runner.Runner.{Runner}
-use Rattle.bench_runs.specs.declared.runner.TheConstants.{MAX_STEPS}
+use Rattle.hinted_log.specs.declared.log.TheConstants.{MAX_STEPS}
 use Rattle.bench_runs.specs.Running.{HasServed, IsReady, IsTold, stand_of}
 use Rattle.bench_runs.specs.Served.{EditEnds, IsFront, IsServed, LineEnds, entry_by, lines_of, made_by}
 use Rattle.bench_runs.specs.Walks.{DoesCommand, DoesEdit, DoesQuery, Stand, Walks, at_start}
@@ -206,8 +208,8 @@ told_of_query hub budget asked old new reply number h gained = record {
   used = h.used;
   kept = h.kept;
   replied = h.replied;
-  steps = subst (λ n. IsBySteps (framework_after (start_of hub) (seen_by new)) n asked h.log new.engine.log
-      h.kept.pending reply.body) number h.steps;
+  steps = subst (λ n. IsBySteps (framework_after (start_of hub) (seen_by new)) n (map entry_of h.kept.tokens) asked
+      h.log new.engine.log h.kept.pending reply.body) number h.steps;
   kept_is = h.kept_is;
   answers = h.answers;
 }
@@ -226,23 +228,28 @@ opened_stand session seen followed log answers = λ i. record {
 -- ---- a line is done
 
 -- a line of the session's own was done
-pub own_done : (hub : Hub) (budget : ℕ) (before : List ScriptLine) (old : Runner) (new : Session) (replies : List Reply)
+pub own_done : (hub : Hub) (pool : Pool) (budget : ℕ) (before : List ScriptLine) (old : Runner) (new : Session)
+    (replies : List Reply)
     (line : ScriptLine) (reply : Reply) → line.session ≡ old.session.number → IsReady hub new
     → IsTold hub budget line.command old.session new reply → new.number ≡ old.session.number
-    → replies ≡ old.replies ++ reply ∷ [] → HasServed hub budget before old
-    → HasServed hub budget (before ++ line ∷ []) (record { session = new; replies = replies })
-own_done hub budget before old new replies line reply own ready told number pushed h = record {
+    → replies ≡ old.replies ++ reply ∷ []
+    → (RestOnPool pool old.session.answers.items → RestOnPool pool new.answers.items)
+    → HasServed hub pool budget before old
+    → HasServed hub pool budget (before ++ line ∷ []) (record { session = new; replies = replies })
+own_done hub pool budget before old new replies line reply own ready told number pushed pooled h = record {
   ready = ready;
   walks = rw (pushed, number, own_line old.session.number before line own)
       (walks_push (start_of hub) (limit_of hub) budget old.session.number (at_start MAX_STEPS) (stand_of old.session)
       (stand_of new) (lines_of old.session.number before) old.replies line reply h.walks told);
+  pooled = pooled h.pooled;
 }
 
 -- a line of another session's was passed over
-pub other_done : (hub : Hub) (budget : ℕ) (before : List ScriptLine) (runner : Runner) (line : ScriptLine)
-    → line.session ≢ runner.session.number → HasServed hub budget before runner
-    → HasServed hub budget (before ++ line ∷ []) runner
-other_done hub budget before runner line other h = record {
+pub other_done : (hub : Hub) (pool : Pool) (budget : ℕ) (before : List ScriptLine) (runner : Runner)
+    (line : ScriptLine) → line.session ≢ runner.session.number → HasServed hub pool budget before runner
+    → HasServed hub pool budget (before ++ line ∷ []) runner
+other_done hub pool budget before runner line other h = record {
   ready = h.ready;
   walks = rw (other_line runner.session.number before line other) h.walks;
+  pooled = h.pooled;
 }

@@ -17,7 +17,7 @@ use Rattle.script_text.specs.declared.script.ScriptCommand.TheVariants.{Edit as 
 use Rattle.script_text.specs.declared.script.ScriptLine.{ScriptLine}
 use Rattle.session_core.specs.declared.kept.KeptAnswer.{KeptAnswer}
 use Rattle.session_replies.specs.declared.reply.Reply.{Reply}
-use Rattle.bench_runs.specs.declared.runner.TheConstants.{MAX_STEPS}
+use Rattle.hinted_log.specs.declared.log.TheConstants.{MAX_STEPS}
 use Rattle.bench_runs.specs.Served.{entries_made, made_by}
 use Rattle.bench_runs.specs.WalkLaws.{FrontsAreMade, RecordsAreOwn, StretchesRise, is_query}
 use Rattle.bench_runs.specs.Walks.{DoesCommand, Stand, Walks, at_start}

@@ -10,6 +10,7 @@ pub mod Walks
 pub mod WalkLaws
 pub mod Served
 pub mod Running
+pub mod Shared
 pub mod Transcripts
 pub mod Finishing
 pub use Rattle.session_core as session_core

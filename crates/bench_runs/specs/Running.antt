@@ -10,15 +10,16 @@ use Rattle.edit_history.specs.Hubs.{IsSeatAt, limit_of, start_of}
 use Rattle.session_core.specs.oracle_core.specs.Trading.{AnySide}
 use Rattle.oracle_face.specs.Growing.{Grows}
 use Rattle.oracle_face.specs.Logs.{OracleLog}
+use Rattle.clause_pool.specs.declared.pool.Pool.{Pool}
 use Rattle.script_text.specs.declared.script.ScriptCommand.{ScriptCommand}
 use Rattle.script_text.specs.declared.script.ScriptLine.{ScriptLine}
 use Rattle.session_core.specs.declared.kept.KeptAnswer.{KeptAnswer}
 use Rattle.session_core.specs.declared.session.Session.{Session}
-use Rattle.session_core.specs.Sessions.{Follows, seen_by}
+use Rattle.session_core.specs.Sessions.{Follows, RestOnPool, seen_by}
 use Rattle.session_replies.specs.declared.reply.Reply.{Reply}
 use Rattle.bench_runs.specs.Served.{lines_of}
 use Rattle.bench_runs.specs.Walks.{DoesCommand, Stand, Walks, at_start}
-use Rattle.bench_runs.specs.declared.runner.TheConstants.{MAX_STEPS}
+use Rattle.hinted_log.specs.declared.log.TheConstants.{MAX_STEPS}
 use Rattle.bench_runs.specs.declared.runner.Runner.{Runner}
 
 -- the history has what it had, the log has grown, and each query that was kept is kept
@@ -49,8 +50,10 @@ abbrev pub IsTold : Hub → ℕ → ScriptCommand → Session → Session → Re
 IsTold hub budget command old new reply =
     DoesCommand (start_of hub) (limit_of hub) budget old.number command (stand_of old) reply (stand_of new)
 
--- the session has done its lines among these, one after the other, and got these replies
-pub record HasServed (hub : Hub) (budget : ℕ) (lines : List ScriptLine) (runner : Runner) : Type 0 where
+-- the session has done its lines among these, one after the other, and got these replies; the tokens that it keeps are
+-- the pool's
+pub record HasServed (hub : Hub) (pool : Pool) (budget : ℕ) (lines : List ScriptLine) (runner : Runner) : Type 0 where
   pub ready : IsReady hub runner.session
   pub walks : Walks (start_of hub) (limit_of hub) budget runner.session.number (at_start MAX_STEPS)
       (lines_of runner.session.number lines) runner.replies (stand_of runner.session)
+  pub pooled : RestOnPool pool runner.session.answers.items

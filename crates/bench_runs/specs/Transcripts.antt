@@ -8,6 +8,7 @@ use Rattle.script_text.specs.declared.script.ScriptLine.{ScriptLine}
 use Rattle.session_core.specs.declared.kept.Kept.{Kept}
 use Rattle.session_replies.specs.declared.reply.Reply.{Reply}
 use Rattle.bench_runs.specs.Served.{IsServed, lines_of}
+use Rattle.bench_runs.specs.Shared.{TakesFromPool}
 use Rattle.bench_runs.specs.declared.script_run.TheConstants.{MAX_HISTORY}
 use Rattle.bench_runs.specs.declared.transcript.ScriptTranscript.{ScriptTranscript}
 
@@ -17,7 +18,8 @@ pub record AreSessions (lines : List ScriptLine) (count : ℕ) : Type 0 where
   pub named : (count ≡ 0) ⊎ ((line : ScriptLine) × Contains lines line × (line.session ≡ count))
 
 -- one history over the framework, of which each edit was taken on what those before it left; and for each session,
--- from 1 to the greatest that the script names, what it was told of its lines, with its engine's log
+-- from 1 to the greatest that the script names, what it was told of its lines, with its engine's log; and what they
+-- took from one another is in the pool that they shared
 pub record IsTranscriptOf (f : Framework) (script : Script) (budget : ℕ) (t : ScriptTranscript) : Type 0 where
   pub opening : framework_of t.history.opening ≡ f
   pub within : length t.history.entries.items ≤ MAX_HISTORY
@@ -31,3 +33,6 @@ pub record IsTranscriptOf (f : Framework) (script : Script) (budget : ℕ) (t : 
       → IsServed f MAX_HISTORY budget (k + 1) (lines_of (k + 1) script.lines) (entries_in t.history.entries.items)
       (slice_index_or t.kept.items k nothing).engine.log (slice_index_or t.kept.items k nothing).answers.items
       (slice_index_or t.replies.items k none)
+  pub shared : (k : ℕ) (nothing : Kept) → k < sessions
+      → TakesFromPool t.pool (slice_index_or t.kept.items k nothing).engine.log
+      (slice_index_or t.kept.items k nothing).answers.items

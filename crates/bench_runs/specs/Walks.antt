@@ -1,5 +1,5 @@
 -- A session's way through its lines: what it does at each of them, from where the one before left it.
-use Rattle.std.specs.Prelude.{◌≡◌, ℕ, List, [], ◌∷◌, ◌++◌, length, take, drop}
+use Rattle.std.specs.Prelude.{◌≡◌, ℕ, List, [], ◌∷◌, ◌++◌, length, map, take, drop}
 use Rattle.semantics.specs.Frameworks.{Framework}
 use Rattle.iccma_tasks.specs.Tasks.{Asked}
 use Rattle.edit_rules.specs.declared.edit.Edit.{Edit}
@@ -7,6 +7,7 @@ use Rattle.edit_history.specs.declared.entry.HistoryEntry.{HistoryEntry}
 use Rattle.edit_history.specs.Entries.{framework_after}
 use Rattle.edit_history.specs.Hubs.{GainsOthers}
 use Rattle.oracle_face.specs.Logs.{OracleLog}
+use Rattle.clause_pool.specs.Pools.{entry_of}
 use Rattle.script_text.specs.declared.script.ScriptCommand.{ScriptCommand}
 use Rattle.script_text.specs.declared.script.ScriptCommand.TheVariants.{Edit as change_by, Ask}
 use Rattle.script_text.specs.declared.script.ScriptLine.{ScriptLine}
@@ -14,7 +15,7 @@ use Rattle.session_core.specs.Following.{CatchesUp}
 use Rattle.session_core.specs.Replies.{IsBySteps, IsEditReply, IsKeptOf, IsReplied}
 use Rattle.session_core.specs.declared.kept.KeptAnswer.{KeptAnswer}
 use Rattle.session_replies.specs.declared.reply.Reply.{Reply}
-use Rattle.bench_runs.specs.declared.runner.TheConstants.{MAX_STEPS}
+use Rattle.hinted_log.specs.declared.log.TheConstants.{MAX_STEPS}
 
 -- where a session stands between two lines: the history as it saw it last, how many of these entries its engine
 -- followed, its engine's log, and what it kept of its queries
@@ -42,8 +43,8 @@ pub record DoesEdit (f : Framework) (limit s : ℕ) (edit : Edit) (old : Stand) 
   pub answers : new.answers ≡ old.answers
 
 -- a query is told of the history as it then is, to which only other sessions added: the log gained axioms that were
--- needed on the way there, then this query's own steps, on which the reply rests; and its record is kept behind the
--- others
+-- needed on the way there, then this query's own steps, on which the reply rests, and for which the pool gave the
+-- entries of the tokens that are kept; and its record is kept behind the others
 pub record DoesQuery (f : Framework) (budget s : ℕ) (asked : Asked) (old : Stand) (reply : Reply) (new : Stand)
     : Type 0 where
   pub gained : GainsOthers s old.seen new.seen
@@ -55,7 +56,8 @@ pub record DoesQuery (f : Framework) (budget s : ℕ) (asked : Asked) (old : Sta
   pub used : ℕ
   pub kept : KeptAnswer
   pub replied : IsReplied (framework_after f new.seen) asked budget before new.log kept.pending used reply.body
-  pub steps : IsBySteps (framework_after f new.seen) s asked before new.log kept.pending reply.body
+  pub steps : IsBySteps (framework_after f new.seen) s (map entry_of kept.tokens) asked before new.log kept.pending
+      reply.body
   pub kept_is : IsKeptOf before new.log reply.body kept
   pub answers : new.answers ≡ old.answers ++ kept ∷ []
 

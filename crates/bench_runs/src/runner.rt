@@ -5,6 +5,8 @@ ghost use Rattle.edit_rules.specs.Kinds.{framework_of};
 ghost use Rattle.turn_lock.specs.Seats.{list_of, number_of};
 ghost use Rattle.edit_history.specs.Hubs.{IsSeatAt, start_of};
 ghost use Rattle.script_text.specs.declared.script.ScriptLine.{ScriptLine as ALine};
+ghost use Rattle.clause_pool.specs.declared.pool.Pool.{Pool as APool};
+ghost use Rattle.session_core.specs.Sessions.{RestOnPool};
 ghost use Rattle.bench_runs.specs.Running.{HasServed, IsReady, IsTold};
 
 use argue_outside::{Pace, Point};
@@ -45,7 +47,7 @@ impl Runner {
         requires seat { IsSeatAt hub.now seat }
         requires fresh { list_of seat ≡ [] }
         requires framework { framework_of framework.now ≡ start_of hub.now }
-        ensures served { (budget : ℕ) → IfOk result (HasServed hub.now budget []) }
+        ensures served { (pool : APool) (budget : ℕ) → IfOk result (HasServed hub.now pool budget []) }
         ensures number { IfOk result (λ runner. runner.session.number ≡ number_of seat) }
     {
         let opening = framework.copy(alloc)?;
@@ -82,6 +84,8 @@ impl Runner {
         requires { IsReady hub.now self.old.session }
         ensures ready { OnOk result (IsReady hub.now self.new.session) }
         ensures told { IfOk result (IsTold hub.now budget command.now self.old.session self.new.session) }
+        ensures pooled { RestOnPool pool.now self.old.session.answers.items
+            → RestOnPool pool.now self.new.session.answers.items }
         ensures number { self.new.session.number ≡ self.old.session.number }
         ensures replies { self.new.replies ≡ self.old.replies }
     {
@@ -115,8 +119,8 @@ impl Runner {
         pace: &P,
     ) -> Result<(), Memory>
         requires { IsReady hub.now self.old.session }
-        ensures served { (before : List ALine) → HasServed hub.now budget before self.old
-            → OnOk result (HasServed hub.now budget (before ++ line.now ∷ []) self.new) }
+        ensures served { (before : List ALine) → HasServed hub.now pool.now budget before self.old
+            → OnOk result (HasServed hub.now pool.now budget (before ++ line.now ∷ []) self.new) }
         ensures number { self.new.session.number ≡ self.old.session.number }
     {
         if line.session != self.session.number() {
@@ -138,8 +142,8 @@ impl Runner {
         budget: u64,
         pace: &P,
     ) -> Result<(), Memory>
-        requires { HasServed hub.now budget [] self.old }
-        ensures served { OnOk result (HasServed hub.now budget script.now.lines self.new) }
+        requires { HasServed hub.now pool.now budget [] self.old }
+        ensures served { OnOk result (HasServed hub.now pool.now budget script.now.lines self.new) }
         ensures number { self.new.session.number ≡ self.old.session.number }
     {
         for line in script.lines.as_slice() {

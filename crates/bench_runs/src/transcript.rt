@@ -1,12 +1,13 @@
 //! What a script comes to.
 
+use clause_pool::Pool;
 use edit_history::History;
 use lists::Items;
 use session_core::Kept;
 use session_replies::Reply;
 
-/// The history that the sessions of a script made, and what each of them was told and keeps. The sessions are those
-/// from 1 to the greatest that the script names; each has its item in both lists.
+/// The history that the sessions of a script made, what each of them was told and keeps, and what they shared. The
+/// sessions are those from 1 to the greatest that the script names; each has its item in both lists.
 pub struct ScriptTranscript {
     /// The framework at the beginning, and the edits that were taken, in order.
     pub history: History,
@@ -14,6 +15,8 @@ pub struct ScriptTranscript {
     pub replies: Vec<Items<Reply>>,
     /// The engine of each session, and the course of each of its queries.
     pub kept: Vec<Kept>,
+    /// The clauses that the sessions shared.
+    pub pool: Pool,
 }
 
 // By hand, so that a drop is one call (docs/PROVING.md).
@@ -23,6 +26,7 @@ impl Drop for ScriptTranscript {
             history: _,
             replies: _,
             kept: _,
+            pool: _,
         } = self;
     }
 }

@@ -1,4 +1,5 @@
 mod AskRuns
+mod EditRunLemmas
 mod FollowingLemmas
 mod ReplyLemmas
 mod RunLemmas

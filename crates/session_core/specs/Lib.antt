@@ -4,4 +4,5 @@ pub mod Sessions
 pub mod Telling
 pub mod Laws
 pub mod CoreRuns
+pub mod EditRuns
 pub use Rattle.oracle_core as oracle_core

@@ -1,6 +1,7 @@
 //! What holds of a session's queries and of what it keeps. Each function does nothing; its contract is the law.
 
 ghost use Rattle.session_core.specs.CoreRuns.{AsksAreRuns};
+ghost use Rattle.session_core.specs.EditRuns.{EditsAreRuns};
 ghost use Rattle.session_core.specs.Laws.{AskedIsReadable, ReadableStays};
 
 /// The reply to a query can be read off the session's log behind it.
@@ -17,4 +18,9 @@ pub fn replies_stay_readable()
 /// that there are too many extensions doesn't tell them: the answer then tells some that the log shows.
 pub fn asks_are_runs()
     ensures { AsksAreRuns }
+{}
+
+/// An edit is a run of the core: one turn, at which its entry comes where the reply says that it was taken.
+pub fn edits_are_runs()
+    ensures { EditsAreRuns }
 {}

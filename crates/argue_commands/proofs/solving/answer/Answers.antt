@@ -11,4 +11,4 @@ returns c =
     c.answer-reply.ensures.number
     c.in_ok-engine.ensures.log c.new-budget.ensures.limit c.new-budget.ensures.used c.answer-reply.ensures.within
     c.answer-reply.ensures.fits c.answer-reply.ensures.shown c.answer-reply.ensures.units c.answer-reply.ensures.cause
-    c.answer-reply.ensures.run c.answer-reply.ensures.steps
+    c.answer-reply.ensures.run c.answer-reply.ensures.steps c.answer-reply.ensures.in_hand

@@ -8,7 +8,7 @@ pub join_mut-one-requires-after_bounds : goal.join_mut-one-requires-after_bounds
 join_mut-one-requires-after_bounds g t c κs within =
     let is = c.in-Some.ensures.cases.0 in
     let runners = c.args.runners.now in
-    let opened = HasServed c.args.hub.now c.args.budget [] in
+    let opened = HasServed c.args.hub.now c.args.pool.now c.args.budget [] in
     let first = first_of opened runners c.in-Some.first.now c.in-Some.rest.now c.requires is in
     let rest = rest_of opened runners c.in-Some.first.now c.in-Some.rest.now c.requires is in
     (first, (search rules, ((λ a m. m), (search rules, (search rules, (rest, search rules))))))

@@ -8,12 +8,13 @@ use Rattle.bench_runs.proofs.script_run.run_on.Goals as goal
 pub finish-requires : goal.finish-requires
 finish-requires g c =
     let served = c.in_ok-served.ensures in
-    all_seats c.in_ok-hub.hub c.args.budget c.args.script.now.lines c.in_ok-served.served.items served.each
-    (served.numbers ∙ c.in_ok-runners.ensures.numbers)
+    all_seats c.in_ok-hub.hub c.in_ok-pool.pool c.args.budget c.args.script.now.lines c.in_ok-served.served.items
+    served.each (served.numbers ∙ c.in_ok-runners.ensures.numbers)
 
 pub returns : goal.returns
 returns g c =
     let hub = c.in_ok-hub.hub in
+    let pool = c.in_ok-pool.pool in
     let count = c.sessions_in-count.result in
     let runners = c.in_ok-served.served.items in
     let opened = c.in_ok-hub.ensures in
@@ -22,9 +23,9 @@ returns g c =
     let served = c.in_ok-served.ensures in
     let some = seats.some in
     let enough = seats.enough in
-    if_ok c.finish.result (IsFinished hub runners count)
+    if_ok c.finish.result (IsFinished hub pool runners count)
     (IsTranscriptOf (framework_of c.args.framework.now) c.args.script.now c.args.budget) c.finish.ensures
-    (λ t h. transcript_is c.args.script.now c.args.budget count hub runners t (framework_of c.args.framework.now)
+    (λ t h. transcript_is c.args.script.now c.args.budget count hub pool runners t (framework_of c.args.framework.now)
     (opened.start ∙ ap framework_of c.in_ok-opening.ensures) opened.limit
     (subst (λ l. AreSessions l count) c.as_slice.ensures c.sessions_in-count.ensures) (omega (arith, sized, enough))
     (omega (arith, sized, some)) (λ low. let least = seats.least low in omega (arith, sized, least))

@@ -1,8 +1,9 @@
-use Rattle.std.proofs.Common.{◌≡◌, ℕ, List, [], ap, rules, subst, sym, ◌∙◌}
+use Rattle.std.proofs.Common.{arith, ◌≡◌, ℕ, List, [], ap, rules, subst, sym, ◌∙◌}
 use Rattle.semantics.specs.Frameworks.{Framework}
 use Rattle.session_core.specs.declared.session.Session.{Session}
+use Rattle.session_core.specs.Sessions.{RestOnPool}
 use Rattle.session_replies.specs.declared.reply.Reply.{Reply}
-use Rattle.bench_runs.specs.declared.runner.TheConstants.{MAX_STEPS}
+use Rattle.hinted_log.specs.declared.log.TheConstants.{MAX_STEPS}
 use Rattle.bench_runs.specs.Running.{stand_of}
 use Rattle.bench_runs.specs.Walks.{Walks, at_start}
 use Rattle.turn_lock.specs.Seats.{list_of, number_of}
@@ -22,7 +23,7 @@ returns-in-Ok-clause-served c =
     let session = c.in-Ok.session in
     let opened = c.in-Ok.ensures in
     let hub = c.args.hub.now in
-    λ budget. record {
+    λ pool budget. record {
       ready = record {
         seat = subst (λ s. IsSeatAt hub s) (sym opened.seat) c.requires.seat;
         number = ap (λ s. number_of s) opened.seat ∙ (sym c.number-number.ensures ∙ sym opened.number);
@@ -32,4 +33,5 @@ returns-in-Ok-clause-served c =
       walks = opened_walks (start_of hub) (limit_of hub) budget session.number session c.new.result c.new.ensures
           (opened_stand session (ap (λ s. list_of s) opened.seat ∙ c.requires.fresh) opened.followed
           (ap (λ (e : EngineState). e.log) opened.engine) opened.answers);
+      pooled = subst (RestOnPool pool) (sym opened.answers) (λ k d low. absurd (omega (arith, low)));
     }
