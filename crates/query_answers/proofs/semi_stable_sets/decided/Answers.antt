@@ -1,4 +1,3 @@
-<<<<<<< HEAD
 use Rattle.std.proofs.Common.{ap, sym, subst, ◌∙◌}
 use Rattle.iccma_tasks.specs.declared.task.Task.{Task}
 use Rattle.query_answers.specs.Answers.{IsEvidence, problem_of}
@@ -6,19 +5,6 @@ use Rattle.query_answers.specs.Forms.{decided_evidence}
 use Rattle.query_answers.proofs.CallLemmas.{for_all, makes_widest, no_memory}
 use Rattle.query_answers.proofs.SemiStableLemmas.{about_abstract, about_member, semi_stable_shown}
 use Rattle.goal_lists.proofs.RunLemmas.{ran_handed}
-=======
-use Rattle.std.proofs.Common.{◌+◌, ◌*◌, ◌≤◌, length, ap, sym, subst, ◌∙◌, arith}
-use Rattle.plain_lits.specs.declared.halt.Halt.TheVariants.{Memory}
-use Rattle.meaning_atoms.specs.declared.atom.Atom.TheVariants.{Ad}
-use Rattle.iccma_tasks.specs.declared.task.Task.{Task}
-use Rattle.session_log.specs.Ends.{MadeFor}
-use Rattle.goal_lists.proofs.Calls.{run_handed}
-use Rattle.enumerate_block.specs.semi_stable.specs.Widest.{MadeWider}
-use Rattle.query_answers.specs.Answers.{IsEvidence, problem_of}
-use Rattle.query_answers.specs.Forms.{decided_evidence}
-use Rattle.query_answers.proofs.CallLemmas.{makes_widest, run_for, run_no_memory}
-use Rattle.query_answers.proofs.SemiStableLemmas.{about_abstract, about_member, semi_stable_shown}
->>>>>>> 751cadbd208e97e08a457c1e8c43c42b7c7cec6f
 use Rattle.query_answers.proofs.semi_stable_sets.decided.Goals as goal
 
 pub decide-requires-clause-kind : goal.decide-requires-clause-kind
@@ -31,30 +17,6 @@ decide-requires-clause-goal g c =
     about_member (g.O.Oracle.framework c.args.oracle.now) c.args.query.now (problem_of c.args.accepted) c.args.goal
     c.requires
 
-<<<<<<< HEAD
-=======
-pub returns-in_err-deciding-clause-run : goal.returns-in_err-deciding-clause-run
-returns-in_err-deciding-clause-run g c =
-    let f = g.O.Oracle.framework c.args.oracle.now in
-    let most = 2 * length (g.O.Oracle.log c.decide.new.oracle).sides + 2 in
-    let few : most ≤ most = omega arith in
-    run_handed (MadeFor f c.args.query.now) most f _ _ _ _ _ _ c.in_err-deciding.field-0.0 c.from_residual.ensures
-    (run_for (MadeWider f Ad) f c.args.query.now most _ _ _ _ _ _
-    (makes_widest f c.args.query.now (ap (λ (t : Task). t.semantics) c.requires.same)) few
-    c.in_err-deciding.ensures.run)
-
-pub returns-in_err-evidence-clause-run : goal.returns-in_err-evidence-clause-run
-returns-in_err-evidence-clause-run g c =
-    let f = g.O.Oracle.framework c.args.oracle.now in
-    let most = 2 * length (g.O.Oracle.log c.decide.new.oracle).sides + 2 in
-    let few : most ≤ most = omega arith in
-    run_handed (MadeFor f c.args.query.now) most f _ _ _ _ _ _ Memory c.from_residual-in_err-evidence.ensures
-    (run_no_memory f c.args.query.now _ _ _ _ _
-    (run_for (MadeWider f Ad) f c.args.query.now most _ _ _ _ _ _
-    (makes_widest f c.args.query.now (ap (λ (t : Task). t.semantics) c.requires.same)) few
-    c.in_ok-deciding.ensures.run))
-
->>>>>>> 751cadbd208e97e08a457c1e8c43c42b7c7cec6f
 pub returns-clause-shown : goal.returns-clause-shown
 returns-clause-shown g c =
     let f = g.O.Oracle.framework c.args.oracle.now in
@@ -64,7 +26,6 @@ returns-clause-shown g c =
     (semi_stable_shown f (g.O.Oracle.log c.decide.new.oracle) c.args.query.now c.args.goal c.args.accepted
     c.in_ok-deciding.deciding c.requires c.in_ok-deciding.ensures.decided)
 
-<<<<<<< HEAD
 pub returns-in_err-deciding-clause-ran : goal.returns-in_err-deciding-clause-ran
 returns-in_err-deciding-clause-ran g c =
     ran_handed _ c.from_residual.ensures (for_all (makes_widest _ _ (ap (λ (t : Task). t.semantics) c.requires.same))
@@ -78,13 +39,3 @@ returns-in_err-evidence-clause-ran g c =
 pub returns-clause-ran : goal.returns-clause-ran
 returns-clause-ran g c =
     for_all (makes_widest _ _ (ap (λ (t : Task). t.semantics) c.requires.same)) c.in_ok-deciding.ensures.ran
-=======
-pub returns-clause-run : goal.returns-clause-run
-returns-clause-run g c =
-    let f = g.O.Oracle.framework c.args.oracle.now in
-    let most = 2 * length (g.O.Oracle.log c.decide.new.oracle).sides + 2 in
-    let few : most ≤ most = omega arith in
-    run_for (MadeWider f Ad) f c.args.query.now most _ _ _ _ _ _
-    (makes_widest f c.args.query.now (ap (λ (t : Task). t.semantics) c.requires.same)) few
-    c.in_ok-deciding.ensures.run
->>>>>>> 751cadbd208e97e08a457c1e8c43c42b7c7cec6f

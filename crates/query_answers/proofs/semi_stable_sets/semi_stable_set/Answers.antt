@@ -1,4 +1,3 @@
-<<<<<<< HEAD
 use Rattle.std.proofs.Common.{ap, sym, subst}
 use Rattle.iccma_tasks.specs.declared.task.Task.{Task}
 use Rattle.query_answers.specs.Answers.{IsEvidence}
@@ -6,19 +5,6 @@ use Rattle.query_answers.proofs.CallLemmas.{for_one, makes_widest, no_memory}
 use Rattle.query_answers.proofs.PreferredLemmas.{empty_holds}
 use Rattle.query_answers.proofs.SemiStableLemmas.{some_abstract, widest_evidence}
 use Rattle.goal_lists.proofs.RunLemmas.{ran_handed}
-=======
-use Rattle.std.proofs.Common.{◌+◌, ◌*◌, ◌≤◌, length, ap, sym, subst, arith}
-use Rattle.plain_lits.specs.declared.halt.Halt.TheVariants.{Memory}
-use Rattle.meaning_atoms.specs.declared.atom.Atom.TheVariants.{Ad}
-use Rattle.iccma_tasks.specs.declared.task.Task.{Task}
-use Rattle.session_log.specs.Ends.{MadeFor}
-use Rattle.goal_lists.proofs.Calls.{run_handed}
-use Rattle.enumerate_block.specs.semi_stable.specs.Widest.{MadeWider}
-use Rattle.query_answers.specs.Answers.{IsEvidence}
-use Rattle.query_answers.proofs.CallLemmas.{makes_widest, run_for, run_no_memory}
-use Rattle.query_answers.proofs.PreferredLemmas.{empty_holds}
-use Rattle.query_answers.proofs.SemiStableLemmas.{some_abstract, widest_evidence}
->>>>>>> 751cadbd208e97e08a457c1e8c43c42b7c7cec6f
 use Rattle.query_answers.proofs.semi_stable_sets.semi_stable_set.Goals as goal
 
 pub widest_from-requires-clause-kind : goal.widest_from-requires-clause-kind
@@ -29,30 +15,6 @@ pub widest_from-requires-clause-holds : goal.widest_from-requires-clause-holds
 widest_from-requires-clause-holds g c =
     empty_holds (g.O.Oracle.framework c.args.oracle.now) _ c.new-empty.ensures
 
-<<<<<<< HEAD
-=======
-pub returns-in_err-widest-clause-run : goal.returns-in_err-widest-clause-run
-returns-in_err-widest-clause-run g c =
-    let f = g.O.Oracle.framework c.args.oracle.now in
-    let most = 2 * length (g.O.Oracle.log c.widest_from.new.oracle).sides + 2 in
-    let few : 1 ≤ most = omega arith in
-    run_handed (MadeFor f c.args.query.now) most f _ _ _ _ _ _ c.in_err-widest.field-0.0 c.from_residual.ensures
-    (run_for (MadeWider f Ad) f c.args.query.now 1 _ _ _ _ _ _
-    (makes_widest f c.args.query.now (ap (λ (t : Task). t.semantics) c.requires.same)) few
-    c.in_err-widest.ensures.run)
-
-pub returns-in_err-evidence-clause-run : goal.returns-in_err-evidence-clause-run
-returns-in_err-evidence-clause-run g c =
-    let f = g.O.Oracle.framework c.args.oracle.now in
-    let most = 2 * length (g.O.Oracle.log c.widest_from.new.oracle).sides + 2 in
-    let few : 1 ≤ most = omega arith in
-    run_handed (MadeFor f c.args.query.now) most f _ _ _ _ _ _ Memory c.from_residual-in_err-evidence.ensures
-    (run_no_memory f c.args.query.now _ _ _ _ _
-    (run_for (MadeWider f Ad) f c.args.query.now 1 _ _ _ _ _ _
-    (makes_widest f c.args.query.now (ap (λ (t : Task). t.semantics) c.requires.same)) few
-    c.in_ok-widest.ensures.run))
-
->>>>>>> 751cadbd208e97e08a457c1e8c43c42b7c7cec6f
 pub returns-clause-shown : goal.returns-clause-shown
 returns-clause-shown g c =
     let f = g.O.Oracle.framework c.args.oracle.now in
@@ -60,7 +22,6 @@ returns-clause-shown g c =
     (widest_evidence f (g.O.Oracle.log c.widest_from.new.oracle) c.args.query.now _ c.in_ok-widest.widest c.requires
     c.number-number.ensures.fits c.in_ok-widest.ensures.widest)
 
-<<<<<<< HEAD
 pub returns-in_err-widest-clause-ran : goal.returns-in_err-widest-clause-ran
 returns-in_err-widest-clause-ran g c =
     ran_handed _ c.from_residual.ensures (for_one (makes_widest _ _ (ap (λ (t : Task). t.semantics) c.requires.same))
@@ -74,13 +35,3 @@ returns-in_err-evidence-clause-ran g c =
 pub returns-clause-ran : goal.returns-clause-ran
 returns-clause-ran g c =
     for_one (makes_widest _ _ (ap (λ (t : Task). t.semantics) c.requires.same)) c.in_ok-widest.ensures.ran
-=======
-pub returns-clause-run : goal.returns-clause-run
-returns-clause-run g c =
-    let f = g.O.Oracle.framework c.args.oracle.now in
-    let most = 2 * length (g.O.Oracle.log c.widest_from.new.oracle).sides + 2 in
-    let few : 1 ≤ most = omega arith in
-    run_for (MadeWider f Ad) f c.args.query.now 1 _ _ _ _ _ _
-    (makes_widest f c.args.query.now (ap (λ (t : Task). t.semantics) c.requires.same)) few
-    c.in_ok-widest.ensures.run
->>>>>>> 751cadbd208e97e08a457c1e8c43c42b7c7cec6f
