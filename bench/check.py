@@ -1,17 +1,19 @@
 #!/usr/bin/env python3
 """Measures the check of a large certificate, and of small ones that name large things.
 
-The large one has 1,000,000 derived steps of ten literals and five hints each. It writes a framework, an answer and its certificate (about 150 MB), has ./argue check the answer, and prints the seconds
-from start to end and the peak memory. With --peer PROGRAM, a checker of LRAT texts called as PROGRAM CNF LRAT, it also
-writes the same clauses and hints as CNF and LRAT, and measures that program beside it.
+The large one has 1,000,000 derived steps of ten literals and five hints each. It writes a framework, an answer and its
+certificate (about 150 MB), has ./argue check the answer, and prints the seconds from start to end and the peak memory.
+With --peer PROGRAM, a checker of LRAT texts called as PROGRAM CNF LRAT, it also writes the same clauses and hints as
+CNF and LRAT, and measures that program beside it.
 
 The question is whether some complete set has an argument that attacks itself, and the answer is NO. The last step alone
 shows that; each step before it follows from five axioms on one attack, and has six literals that nothing needs.
 
 The small ones come in two tables. In the first, a certificate of DS-PR has so many sets `w 2` on a framework of so many
 arguments, or atoms, of which hardly one attacks another; in the second, so many sets `w 2 I`, and a step that names the
-side clause of each, without and with a step more whose hints name all of these. The check of such a certificate should cost what its text does: beside its seconds of the processor
-stand those of reading the framework alone, by a check of a certificate with no set. `--small` measures these alone.
+side clause of each, without and with a step more whose hints name all of these. The check of such a certificate should
+cost what its text does: beside its seconds of the processor stand those of reading the framework alone, by a check of
+a certificate with no set. `--small` measures these alone.
 
 usage: bench/check.py [--steps N] [--runs K] [--peer PROGRAM] [--small]
 """
@@ -29,8 +31,8 @@ PAIRS = 1_000
 REJECTED = 8
 
 # Runs a program with its output going to a file, and prints the seconds, the peak memory in KB, the status and the
-# seconds of the processor. It is a process
-# of its own: a child's peak begins with that of the process that started it, which here has to be a small one.
+# seconds of the processor. It is a process of its own: a child's peak begins with that of the process that started it,
+# which here has to be a small one.
 MEASURE = """
 import os, sys, time
 # As ./argue sets them.
