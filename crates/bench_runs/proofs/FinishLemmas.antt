@@ -26,7 +26,7 @@ use Rattle.bench_runs.specs.declared.script_run.TheConstants.{MAX_HISTORY}
 use Rattle.bench_runs.specs.declared.runner.Runner.{Runner}
 use Rattle.bench_runs.specs.declared.transcript.ScriptTranscript.{ScriptTranscript}
 use Rattle.bench_runs.specs.Finishing.{IsFinished, kept_in, number_in}
-use Rattle.bench_runs.specs.Running.{HasServed, stand_of}
+use Rattle.bench_runs.specs.Running.{HasServedOwn, stand_of}
 use Rattle.bench_runs.specs.Served.{IsServed, LineEnds, entries_made, lines_of}
 use Rattle.bench_runs.specs.Shared.{TakesFromPool}
 use Rattle.bench_runs.specs.Transcripts.{AreSessions, IsTranscriptOf}
@@ -69,7 +69,7 @@ record SeenWhole (hub : Hub) (budget : ℕ) (lines : List ScriptLine) (entries :
       r.session.answers.items r.replies
 
 seen_whole : (hub : Hub) (pool : Pool) (budget : ℕ) (lines : List ScriptLine) (runners : List Runner)
-    (t : ScriptTranscript) → All (HasServed hub pool budget lines) runners
+    (t : ScriptTranscript) → All (HasServedOwn hub pool budget lines) runners
     → map number_in runners ≡ range_with_len 1 (sessions_of hub)
     → (count : ℕ) → IsFinished hub pool runners count t → (k : ℕ) (inside : k < length runners)
     → SeenWhole hub budget lines (entries_in t.history.entries.items)
@@ -106,7 +106,7 @@ seen_whole hub pool budget lines runners t all numbers count h k inside =
 
 -- what is told of the session at an index
 served_at : (hub : Hub) (pool : Pool) (budget count : ℕ) (lines : List ScriptLine) (runners : List Runner)
-    (t : ScriptTranscript) → All (HasServed hub pool budget lines) runners
+    (t : ScriptTranscript) → All (HasServedOwn hub pool budget lines) runners
     → map number_in runners ≡ range_with_len 1 (sessions_of hub)
     → count ≤ sessions_of hub → IsFinished hub pool runners count t → (k : ℕ) (none : List Reply) (nothing : Kept)
     → k < count
@@ -131,7 +131,7 @@ served_at hub pool budget count lines runners t all numbers few h k none nothing
 
 -- what the session at an index took from others is in the pool
 shared_at : (hub : Hub) (pool : Pool) (budget count : ℕ) (lines : List ScriptLine) (runners : List Runner)
-    (t : ScriptTranscript) → All (HasServed hub pool budget lines) runners
+    (t : ScriptTranscript) → All (HasServedOwn hub pool budget lines) runners
     → map number_in runners ≡ range_with_len 1 (sessions_of hub) → count ≤ sessions_of hub
     → IsFinished hub pool runners count t → (k : ℕ) (nothing : Kept) → k < count
     → TakesFromPool t.pool (slice_index_or t.kept.items k nothing).engine.log
@@ -157,7 +157,7 @@ shared_at hub pool budget count lines runners t all numbers few h k nothing low 
 
 -- the only session of an empty script made no entry
 alone_made : (hub : Hub) (pool : Pool) (budget : ℕ) (lines : List ScriptLine) (runners : List Runner)
-    (t : ScriptTranscript) → All (HasServed hub pool budget lines) runners
+    (t : ScriptTranscript) → All (HasServedOwn hub pool budget lines) runners
     → map number_in runners ≡ range_with_len 1 (sessions_of hub)
     → AreSessions lines 0 → sessions_of hub ≡ 1 → IsFinished hub pool runners 0 t
     → entries_of session_of 1 (entries_in t.history.entries.items) ≡ []
@@ -180,7 +180,7 @@ taken_long count xs taken is few = ap length is ∙ length-take-le count xs few
 
 -- the sessions that entries have are those that the script names
 entries_numbered : (hub : Hub) (pool : Pool) (budget count : ℕ) (lines : List ScriptLine) (runners : List Runner)
-    (t : ScriptTranscript) → All (HasServed hub pool budget lines) runners
+    (t : ScriptTranscript) → All (HasServedOwn hub pool budget lines) runners
     → map number_in runners ≡ range_with_len 1 (sessions_of hub) → AreSessions lines count → count ≤ sessions_of hub
     → 0 < sessions_of hub → (0 < count → sessions_of hub ≡ count) → (count ≡ 0 → sessions_of hub ≡ 1)
     → IsFinished hub pool runners count t
@@ -202,7 +202,7 @@ pub transcript_is : (script : Script) (budget count : ℕ) (hub : Hub) (pool : P
     (t : ScriptTranscript) (f : Framework) → start_of hub ≡ f → limit_of hub ≡ MAX_HISTORY
     → AreSessions script.lines count
     → count ≤ sessions_of hub → 0 < sessions_of hub → (0 < count → sessions_of hub ≡ count)
-    → (count ≡ 0 → sessions_of hub ≡ 1) → All (HasServed hub pool budget script.lines) runners
+    → (count ≡ 0 → sessions_of hub ≡ 1) → All (HasServedOwn hub pool budget script.lines) runners
     → map number_in runners ≡ range_with_len 1 (sessions_of hub) → IsFinished hub pool runners count t
     → IsTranscriptOf f script budget t
 transcript_is script budget count hub pool runners t f start limit are few some least one all numbers h =
@@ -233,7 +233,7 @@ transcript_is script budget count hub pool runners t f start limit are few some 
 -- ---- the seats
 
 numbers_same : (hub : Hub) (pool : Pool) (budget : ℕ) (lines : List ScriptLine) (runners : List Runner)
-    → All (HasServed hub pool budget lines) runners
+    → All (HasServedOwn hub pool budget lines) runners
     → map (λ s. number_of s) (map (λ (r : Runner). r.session.seat) runners) ≡ map number_in runners
 numbers_same hub pool budget lines [] all = refl
 numbers_same hub pool budget lines (r ∷ rest) all =
@@ -244,11 +244,11 @@ numbers_same hub pool budget lines (r ∷ rest) all =
 
 -- the sessions have all the seats of the hub
 pub all_seats : (hub : Hub) (pool : Pool) (budget : ℕ) (lines : List ScriptLine) (runners : List Runner)
-    → All (HasServed hub pool budget lines) runners → map number_in runners ≡ range_with_len 1 (sessions_of hub)
+    → All (HasServedOwn hub pool budget lines) runners → map number_in runners ≡ range_with_len 1 (sessions_of hub)
     → AreSeatsOf hub (map (λ (r : Runner). r.session.seat) runners)
 all_seats hub pool budget lines runners all numbers = record {
   each = All-map (λ s. IsSeatAt hub s) (λ (r : Runner). r.session.seat) runners
-      (All-weaker (HasServed hub pool budget lines) (λ r. IsSeatAt hub r.session.seat) (λ r h. h.ready.seat) runners
+      (All-weaker (HasServedOwn hub pool budget lines) (λ r. IsSeatAt hub r.session.seat) (λ r h. h.ready.seat) runners
       all);
   numbers = numbers_same hub pool budget lines runners all ∙ numbers;
 }

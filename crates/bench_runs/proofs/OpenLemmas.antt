@@ -2,7 +2,8 @@
 use Rattle.std.proofs.Common.{arith, ◌≡◌, ℕ, List, [], ◌∷◌, ◌++◌, map, refl, subst, suc, sym, ap, ◌∙◌}
 use Rattle.std.specs.Prelude.{◌<◌, All, drop, length, slice_index_or, take}
 use Rattle.std.specs.List.{range_with_len}
-use Rattle.std.proofs.lemmas.List.{append-nil, append_assoc, map-append}
+use Rattle.std.proofs.lemmas.List.{append-nil, append_assoc, get_or-map, length-map, map-append}
+use Rattle.std.proofs.lemmas.List.FromFn.{get_or-range_with_len, length-range_with_len}
 use Rattle.std.proofs.lemmas.List.Elements.{All-push}
 use Rattle.turn_lock.specs.declared.board.Turned.{Ghosts}
 use Rattle.turn_lock.specs.declared.seat.Seat.{Seat}
@@ -16,7 +17,7 @@ use Rattle.edit_history.specs.Journals.{opening_of}
 use Rattle.clause_pool.specs.declared.pool.Pool.{Pool}
 use Rattle.bench_runs.specs.declared.runner.Runner.{Runner}
 use Rattle.bench_runs.specs.Finishing.{number_in}
-use Rattle.bench_runs.specs.Running.{HasServed}
+use Rattle.bench_runs.specs.Running.{HasServed, IsToServe}
 
 -- these sessions are open, and these seats are left
 pub record IsOpening {g : Ghosts Journal (Held × ℕ) HistoryEntry} (hub : Hub) (runners : List Runner)
@@ -68,3 +69,13 @@ module _ {g : Ghosts Journal (Held × ℕ) HistoryEntry} where
   opening_ends hub runners left none h =
       sym (append-nil (map number_in runners))
       ∙ (ap (λ l. map number_in runners ++ map number_of l) (sym none) ∙ h.numbers)
+
+-- sessions that are numbered from 1 on and have done no line may be served
+pub all_to_serve : (hub : Hub) (pool : Pool) (budget last count : ℕ) (runners : List Runner)
+    → All (HasServed hub pool budget []) runners → map number_in runners ≡ range_with_len 1 last → last < count
+    → All (IsToServe hub pool budget count) runners
+all_to_serve hub pool budget last count runners all numbers few k d low =
+    let long = sym (length-map runners number_in) ∙ (ap length numbers ∙ length-range_with_len 1 last) in
+    let number = sym (get_or-map number_in runners k d 0 low)
+    ∙ (ap (λ l. slice_index_or l k 0) numbers ∙ get_or-range_with_len 1 last k 0 (omega (arith, long, low))) in
+    record { opened = all k d low; below = omega (arith, number, long, low, few) }

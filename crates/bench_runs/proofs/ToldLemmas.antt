@@ -35,11 +35,11 @@ use Rattle.session_replies.specs.declared.reply.Reply.{Reply}
 use Rattle.bench_runs.specs.declared.runner.Runner.{Runner}
 use Rattle.hinted_log.specs.declared.log.TheConstants.{MAX_STEPS}
 use Rattle.bench_runs.specs.Running.{HasServed, IsReady, IsTold, stand_of}
-use Rattle.bench_runs.specs.Served.{EditEnds, IsFront, IsServed, LineEnds, entry_by, lines_of, made_by}
+use Rattle.bench_runs.specs.Served.{EditEnds, IsFront, IsServed, LineEnds, entry_by, made_by}
 use Rattle.bench_runs.specs.Walks.{DoesCommand, DoesEdit, DoesQuery, Stand, Walks, at_start}
 use Rattle.bench_runs.proofs.ServedLemmas.{AreDoneBy, IsDoneAt, all_zip_weaker, done_next, done_none, ends_on}
 use Rattle.bench_runs.proofs.ServedLemmas.{filter_one}
-use Rattle.bench_runs.proofs.ServedLemmas.{goes_on, other_line, own_line, prefix_on, prefix_short, rise_on, walks_push}
+use Rattle.bench_runs.proofs.ServedLemmas.{goes_on, prefix_on, prefix_short, rise_on, walks_push}
 
 same_prefix : {X : Type 0} → (xs : List X) → IsPrefix xs xs
 same_prefix xs = ([], append-nil xs)
@@ -227,29 +227,17 @@ opened_stand session seen followed log answers = λ i. record {
 
 -- ---- a line is done
 
--- a line of the session's own was done
-pub own_done : (hub : Hub) (pool : Pool) (budget : ℕ) (before : List ScriptLine) (old : Runner) (new : Session)
-    (replies : List Reply)
-    (line : ScriptLine) (reply : Reply) → line.session ≡ old.session.number → IsReady hub new
+pub line_done : (hub : Hub) (pool : Pool) (budget : ℕ) (before : List ScriptLine) (old : Runner) (new : Session)
+    (replies : List Reply) (line : ScriptLine) (reply : Reply) → IsReady hub new
     → IsTold hub budget line.command old.session new reply → new.number ≡ old.session.number
     → replies ≡ old.replies ++ reply ∷ []
     → (RestOnPool pool old.session.answers.items → RestOnPool pool new.answers.items)
     → HasServed hub pool budget before old
     → HasServed hub pool budget (before ++ line ∷ []) (record { session = new; replies = replies })
-own_done hub pool budget before old new replies line reply own ready told number pushed pooled h = record {
+line_done hub pool budget before old new replies line reply ready told number pushed pooled h = record {
   ready = ready;
-  walks = rw (pushed, number, own_line old.session.number before line own)
+  walks = rw (pushed, number)
       (walks_push (start_of hub) (limit_of hub) budget old.session.number (at_start MAX_STEPS) (stand_of old.session)
-      (stand_of new) (lines_of old.session.number before) old.replies line reply h.walks told);
+      (stand_of new) before old.replies line reply h.walks told);
   pooled = pooled h.pooled;
-}
-
--- a line of another session's was passed over
-pub other_done : (hub : Hub) (pool : Pool) (budget : ℕ) (before : List ScriptLine) (runner : Runner)
-    (line : ScriptLine) → line.session ≢ runner.session.number → HasServed hub pool budget before runner
-    → HasServed hub pool budget (before ++ line ∷ []) runner
-other_done hub pool budget before runner line other h = record {
-  ready = h.ready;
-  walks = rw (other_line runner.session.number before line other) h.walks;
-  pooled = h.pooled;
 }

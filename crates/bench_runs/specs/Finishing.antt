@@ -5,7 +5,7 @@ use Rattle.edit_history.specs.Hubs.{EndsWith}
 use Rattle.script_text.specs.declared.script.ScriptLine.{ScriptLine}
 use Rattle.clause_pool.specs.declared.pool.Pool.{Pool}
 use Rattle.session_core.specs.declared.kept.Kept.{Kept}
-use Rattle.bench_runs.specs.Running.{HasServed}
+use Rattle.bench_runs.specs.Running.{HasServedOwn}
 use Rattle.bench_runs.specs.declared.script_run.Left.{Left}
 use Rattle.bench_runs.specs.declared.runner.Runner.{Runner}
 use Rattle.bench_runs.specs.declared.transcript.ScriptTranscript.{ScriptTranscript}
@@ -20,7 +20,7 @@ kept_in r = record { engine = r.session.engine; answers = r.session.answers }
 -- the sessions did their lines, and have the numbers that they had
 pub record AreServed (hub : Hub) (pool : Pool) (budget : ℕ) (lines : List ScriptLine) (old new : List Runner) : Type 0
   where
-    pub each : All (HasServed hub pool budget lines) new
+    pub each : All (HasServedOwn hub pool budget lines) new
     pub numbers : map number_in new ≡ map number_in old
 
 -- the seats, the replies and what is kept of sessions, in their order

@@ -9,6 +9,7 @@ pub mod InputLaws
 pub mod Walks
 pub mod WalkLaws
 pub mod Served
+pub mod SessionLines
 pub mod Running
 pub mod Shared
 pub mod Transcripts

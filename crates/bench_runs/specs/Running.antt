@@ -1,5 +1,5 @@
 -- A session of a script on its way through its lines.
-use Rattle.std.specs.Prelude.{◌≡◌, ℕ, ◌≤◌, false, List, ◌++◌, length, Contains}
+use Rattle.std.specs.Prelude.{◌≡◌, ℕ, ◌<◌, List, [], Contains}
 use mathlib.Core.List.{IsPrefix}
 use Rattle.turn_lock.specs.Seats.{number_of}
 use Rattle.turn_lock.specs.Turns.{entries_of}
@@ -50,10 +50,18 @@ abbrev pub IsTold : Hub → ℕ → ScriptCommand → Session → Session → Re
 IsTold hub budget command old new reply =
     DoesCommand (start_of hub) (limit_of hub) budget old.number command (stand_of old) reply (stand_of new)
 
--- the session has done its lines among these, one after the other, and got these replies; the tokens that it keeps are
--- the pool's
+-- the session has done these lines, one after the other, and got these replies; the tokens that it keeps are the pool's
 pub record HasServed (hub : Hub) (pool : Pool) (budget : ℕ) (lines : List ScriptLine) (runner : Runner) : Type 0 where
   pub ready : IsReady hub runner.session
-  pub walks : Walks (start_of hub) (limit_of hub) budget runner.session.number (at_start MAX_STEPS)
-      (lines_of runner.session.number lines) runner.replies (stand_of runner.session)
+  pub walks : Walks (start_of hub) (limit_of hub) budget runner.session.number (at_start MAX_STEPS) lines
+      runner.replies (stand_of runner.session)
   pub pooled : RestOnPool pool runner.session.answers.items
+
+-- the session has done its lines among these
+abbrev pub HasServedOwn : Hub → Pool → ℕ → List ScriptLine → Runner → Type 0
+HasServedOwn hub pool budget lines runner = HasServed hub pool budget (lines_of runner.session.number lines) runner
+
+-- the session has done no line yet, and its number is below this
+pub record IsToServe (hub : Hub) (pool : Pool) (budget count : ℕ) (runner : Runner) : Type 0 where
+  pub opened : HasServed hub pool budget [] runner
+  pub below : runner.session.number < count

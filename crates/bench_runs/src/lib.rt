@@ -14,6 +14,7 @@ mod run;
 mod runner;
 mod script;
 mod script_run;
+mod session_lines;
 mod tally;
 mod transcript;
 pub mod walk_laws;

@@ -1,15 +1,36 @@
-use Rattle.std.proofs.Common.{arith, ap, subst, ◌∙◌}
+use Rattle.std.proofs.Common.{arith, ap, length, subst, sym, ◌∙◌}
+use Rattle.std.specs.Prelude.{All}
+use Rattle.edit_history.specs.Hubs.{sessions_of}
 use Rattle.edit_rules.specs.Kinds.{framework_of}
 use Rattle.bench_runs.specs.Finishing.{IsFinished}
+use Rattle.bench_runs.specs.Running.{HasServedOwn}
+use Rattle.bench_runs.specs.SessionLines.{AreDealt}
 use Rattle.bench_runs.specs.Transcripts.{AreSessions, IsTranscriptOf}
 use Rattle.bench_runs.proofs.FinishLemmas.{all_seats, if_ok, transcript_is}
+use Rattle.bench_runs.proofs.OpenLemmas.{all_to_serve}
 use Rattle.bench_runs.proofs.script_run.run_on.Goals as goal
+
+pub serve-requires-clause-dealt : goal.serve-requires-clause-dealt
+serve-requires-clause-dealt g c =
+    let lines = c.as_slice-lines.result.now in
+    subst (AreDealt lines (length lines)) (sym c.as_slice.ensures) c.in_ok-by_session.ensures.dealt
+
+pub serve-requires-clause-runners : goal.serve-requires-clause-runners
+serve-requires-clause-runners g c =
+    let hub = c.in_ok-hub.hub in
+    let opened = c.in_ok-runners.ensures in
+    let sized = c.in_ok-hub.ensures.count in
+    let long = c.in_ok-by_session.ensures.long in
+    let lent = ap length c.as_slice.ensures in
+    all_to_serve hub c.in_ok-pool.pool c.args.budget (sessions_of hub) (length c.as_slice.result.now)
+    c.in_ok-runners.runners.items (opened.served c.in_ok-pool.pool c.args.budget) opened.numbers
+    (omega (arith, sized, long, lent))
 
 pub finish-requires : goal.finish-requires
 finish-requires g c =
     let served = c.in_ok-served.ensures in
-    all_seats c.in_ok-hub.hub c.in_ok-pool.pool c.args.budget c.args.script.now.lines c.in_ok-served.served.items
-    served.each (served.numbers ∙ c.in_ok-runners.ensures.numbers)
+    all_seats c.in_ok-hub.hub c.in_ok-pool.pool c.args.budget c.as_slice-lines.result.now
+    c.in_ok-served.served.items served.each (served.numbers ∙ c.in_ok-runners.ensures.numbers)
 
 pub returns : goal.returns
 returns g c =
@@ -18,7 +39,7 @@ returns g c =
     let count = c.sessions_in-count.result in
     let runners = c.in_ok-served.served.items in
     let opened = c.in_ok-hub.ensures in
-    let seats = c.seats_for.ensures in
+    let seats = c.seats_for-seats.ensures in
     let sized = opened.count in
     let served = c.in_ok-served.ensures in
     let some = seats.some in
@@ -27,7 +48,9 @@ returns g c =
     (IsTranscriptOf (framework_of c.args.framework.now) c.args.script.now c.args.budget) c.finish.ensures
     (λ t h. transcript_is c.args.script.now c.args.budget count hub pool runners t (framework_of c.args.framework.now)
     (opened.start ∙ ap framework_of c.in_ok-opening.ensures) opened.limit
-    (subst (λ l. AreSessions l count) c.as_slice.ensures c.sessions_in-count.ensures) (omega (arith, sized, enough))
-    (omega (arith, sized, some)) (λ low. let least = seats.least low in omega (arith, sized, least))
-    (λ none. let one = seats.one none in omega (arith, sized, one)) served.each
+    (subst (λ l. AreSessions l count) c.as_slice-lines.ensures c.sessions_in-count.ensures)
+    (omega (arith, sized, enough)) (omega (arith, sized, some))
+    (λ low. let least = seats.least low in omega (arith, sized, least))
+    (λ none. let one = seats.one none in omega (arith, sized, one))
+    (subst (λ l. All (HasServedOwn hub pool c.args.budget l) runners) c.as_slice-lines.ensures served.each)
     (served.numbers ∙ c.in_ok-runners.ensures.numbers) h)

@@ -10,25 +10,25 @@ use Rattle.bench_runs.proofs.runner.Runner.execute.Goals as goal
 
 pub returns-in_ok-reply-in-Edit-clause-told : goal.returns-in_ok-reply-in-Edit-clause-told
 returns-in_ok-reply-in-Edit-clause-told g c =
-    let hub = c.args.hub.now in
+    let hub = c.args.serving.now.hub.now in
     let old = c.args.self.now.session in
     let new = c.edit.new.self in
     let told = c.in_ok-reply-in-Edit.reply in
     let edit = c.in_ok-edit-in-Edit.edit in
     let said = c.in_ok-reply-in-Edit.ensures in
-    subst (λ m. IsTold hub c.args.budget m old new told) (sym c.in-Edit.is)
-    (subst (λ e. IsTold hub c.args.budget (change_by e) old new told) c.in_ok-edit-in-Edit.ensures
-    (told_of_edit hub c.args.budget edit old new told
+    subst (λ m. IsTold hub c.args.serving.now.budget m old new told) (sym c.in-Edit.is)
+    (subst (λ e. IsTold hub c.args.serving.now.budget (change_by e) old new told) c.in_ok-edit-in-Edit.ensures
+    (told_of_edit hub c.args.serving.now.budget edit old new told
     (subst (λ n. IsEditReply (limit_of hub) (start_of hub) n edit (seen_by old) (seen_by new) told) c.requires.number
     said.ok) said.engine said.followed said.answers))
 
 pub returns-in_ok-reply-in-Ask-clause-told : goal.returns-in_ok-reply-in-Ask-clause-told
 returns-in_ok-reply-in-Ask-clause-told g c =
-    let hub = c.args.hub.now in
+    let hub = c.args.serving.now.hub.now in
     let old = c.args.self.now.session in
     let new = c.ask.new.self in
     let told = c.in_ok-reply-in-Ask.reply in
     let said = c.in_ok-reply-in-Ask.ensures in
-    subst (λ m. IsTold hub c.args.budget m old new told) (sym c.in-Ask.is)
-    (told_of_query hub c.args.budget c.in-Ask.query old new told c.requires.engine said.ok
+    subst (λ m. IsTold hub c.args.serving.now.budget m old new told) (sym c.in-Ask.is)
+    (told_of_query hub c.args.serving.now.budget c.in-Ask.query old new told c.requires.engine said.ok
     (subst (λ n. GainsOthers n (seen_by old) (seen_by new)) c.requires.number said.gained))
