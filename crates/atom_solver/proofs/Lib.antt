@@ -13,5 +13,6 @@ pub mod Running
 pub mod Searching
 pub mod Siding
 pub mod TableLemmas
+pub mod Tabling
 pub mod Using
 pub mod Worth

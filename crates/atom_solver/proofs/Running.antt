@@ -35,6 +35,7 @@ use Rattle.atom_solver.specs.declared.searched.Searched.{Searched}
 use Rattle.atom_solver.specs.declared.parts.SolverParts.{SolverParts}
 use Rattle.atom_solver.specs.Inner.{IsKept, KeepsInHand, Tells}
 use Rattle.atom_solver.specs.Searches.{IsAnswer, ends_in}
+use Rattle.atom_solver.specs.Sides.{SideStore}
 use Rattle.atom_solver.specs.Lifted.{IsLifting, lit_of, atoms_of, lifted_at, log_over, state_over}
 use Rattle.atom_solver.specs.Tables.{Extends, has_atom, told}
 use Rattle.atom_solver.proofs.Deriving.{front_same, search_grows, hint_named, room_stays}
@@ -339,13 +340,13 @@ log_grown literals old new s t origins sides h grows e =
 
 -- what is in hand is kept, and the log is the same
 pub log_kept : (old new : SolverParts) → KeepsInHand old new
-    → log_over new.table new.solver new.origins.items new.sides.items
-    ≡ log_over old.table old.solver old.origins.items old.sides.items
+    → log_over new.table new.solver new.origins.items new.sides.kept
+    ≡ log_over old.table old.solver old.origins.items old.sides.kept
 log_kept old new h =
-    ap (λ atoms. log_over atoms new.solver new.origins.items new.sides.items) h.table
-    ∙ (ap (λ s. log_over old.table s new.origins.items new.sides.items) h.solver
-    ∙ (ap (λ (origins : Vec Origin Global). log_over old.table old.solver origins.items new.sides.items) h.origins
-    ∙ ap (λ (sides : Vec SideClause Global). log_over old.table old.solver old.origins.items sides.items) h.sides))
+    ap (λ atoms. log_over atoms new.solver new.origins.items new.sides.kept) h.table
+    ∙ (ap (λ s. log_over old.table s new.origins.items new.sides.kept) h.solver
+    ∙ (ap (λ (origins : Vec Origin Global). log_over old.table old.solver origins.items new.sides.kept) h.origins
+    ∙ ap (λ (sides : SideStore). log_over old.table old.solver old.origins.items sides.kept) h.sides))
 
 pub whole_kept : (old new : SolverParts) → KeepsInHand old new → IsLifting old.table old.solver old.origins.items
     → IsLifting new.table new.solver new.origins.items

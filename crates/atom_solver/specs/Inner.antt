@@ -26,7 +26,7 @@ use Rattle.atom_solver.specs.Tables.{told}
 
 -- what contracts see
 abbrev pub state_of : SolverParts → AtomState
-state_of p = state_over p.table p.solver p.origins.items p.sides.items p.pending
+state_of p = state_over p.table p.solver p.origins.items p.sides.kept p.pending
 
 -- the table has the variables of the log, and origins are of its steps
 abbrev pub IsWhole : SolverParts → Type 0

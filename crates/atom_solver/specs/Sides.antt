@@ -10,6 +10,15 @@ pub record IsOrdered (literals : List AtomLit) : Type 0 where
   pub rises : (i j : ℕ) (d : AtomLit) → i < j → j < length literals
       → (cmp-value).it (slice_index_or literals i d) (slice_index_or literals j d) ≡ Less
 
+-- side clauses, and for how many more there is room
+pub record SideStore : Type 0 where
+  pub kept : List SideClause
+  pub room : ℕ
+
+-- each side clause has its literals in order
+pub record AreOrdered (sides : List SideClause) : Type 0 where
+  pub each : (k : ℕ) → k < length sides → IsOrdered (slice_index_or sides k no_side).literals
+
 -- the same literals, in order
 pub record IsOrderOf (given ordered : List AtomLit) : Type 0 where
   pub ordered_is : IsOrdered ordered

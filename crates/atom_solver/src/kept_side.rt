@@ -1,15 +1,26 @@
 //! A side clause as it is kept.
 
-ghost use Rattle.std.specs.Prelude.{◌≡◌, ◌↔◌, ◌+◌, IfNone, IfOk, IfSome, IsTrue};
+ghost use Rattle.std.specs.Prelude.{◌≡◌, ◌+◌, IfOk};
+ghost use Rattle.std.specs.Cmp.{on_per, on_equiv};
+ghost use Rattle.std.specs.Cmp.Lexicographic.{pointwise, lists_per, lists_equiv};
+ghost use Rattle.std.specs.Hash as fed;
+ghost use Rattle.std.specs.Hash.{on_Alike, items_Alike};
 ghost use Rattle.meaning_atoms.specs.declared.atom.Atom.TheVariants.{Ask};
-ghost use Rattle.oracle_face.specs.Logs.{guarded};
-ghost use Rattle.atom_solver.specs.Sides.{IsOrderOf, IsOrdered, IsSideAt, IsNowhere};
+ghost use Rattle.meaning_atoms.specs.declared.atom.AtomLit.{AtomLit as ALit};
+ghost use Rattle.meaning_atoms.specs.contracts.atom.AtomLitPartialEq.TheImpl.{eq-value};
+ghost use Rattle.meaning_atoms.specs.contracts.atom.AtomLitPartialEq.TheImpl.Laws as eq_laws;
+ghost use Rattle.meaning_atoms.specs.contracts.atom.AtomLitHash.TheImpl.{hash_input-value};
+ghost use Rattle.meaning_atoms.specs.contracts.atom.AtomLitHash.TheImpl.Laws as hash_laws;
+ghost use Rattle.oracle_face.specs.Logs.{SideClause, guarded};
+ghost use Rattle.atom_solver.specs.Sides.{IsOrderOf};
 
+use indexmap::Equivalent;
 use lists::{Items, Memory};
 use meaning_atoms::{Atom, AtomLit};
 use oracle_face::AskId;
 use set_lists::NumSet;
 use std::alloc::Global;
+use std::hash::{Hash, Hasher};
 use std::marker::Model;
 
 /// The literals of a side clause, in rising order and each once, and the set that it is made from.
@@ -61,27 +72,44 @@ impl KeptSide {
     {
         &self.set
     }
+}
 
-    /// Whether the side clause has these literals.
-    fn is(&self, literals: &[AtomLit]) -> bool
-        ensures same { IsTrue result ↔ (self.now.literals ≡ literals.now) }
-        ensures ordered { IsOrdered self.now.literals }
-    {
-        self.literals.as_slice() == literals
+// Side clauses are the same by their literals alone: no two with the same literals are kept.
+impl PartialEq for KeptSide {
+    ghost eq = { λ a b. pointwise (eq-value).it a.literals b.literals };
+
+    ghost laws = { on_per (λ s. s.literals) (lists_per eq_laws.laws-law) };
+
+    fn eq(&self, other: &Self) -> bool {
+        self.literals.as_slice() == other.literals.as_slice()
     }
 }
 
-/// The index of the side clause with these literals, if there is one.
-pub(crate) fn find(sides: &[KeptSide], literals: &[AtomLit]) -> Option<usize>
-    ensures some { IfSome result (IsSideAt sides.now literals.now) }
-    ensures none { IfNone result (IsNowhere sides.now literals.now) }
-{
-    for index in 0..sides.len() {
-        if sides[index].is(literals) {
-            return Some(index);
-        }
+impl Eq for KeptSide {
+    ghost laws = { on_equiv (λ s. s.literals) (lists_equiv eq_laws.laws-law) };
+}
+
+impl Hash for KeptSide {
+    ghost hash_input = { λ s. fed.slice (hash_input-value).it s.literals };
+
+    ghost respects_eq = { (on_Alike (λ s. s.literals) (items_Alike (record { fed = hash_laws.respects_eq-law }))).fed };
+
+    fn hash<H: Hasher>(&self, state: &mut H) {
+        self.literals.as_slice().hash(state);
     }
-    None
+}
+
+// Literals in order stand for the side clause that has them.
+impl Equivalent<KeptSide> for &[AtomLit] {
+    ghost equivalent = { λ q k. pointwise (eq-value).it q.now k.literals };
+
+    ghost respects_hash = { λ q k. (items_Alike (record { fed = hash_laws.respects_eq-law })).fed q.now k.literals };
+
+    ghost respects_eq = { λ q x y. (lists_equiv eq_laws.laws-law).congr q.now x.literals y.literals };
+
+    fn equivalent(&self, key: &KeptSide) -> bool {
+        *self == key.literals.as_slice()
+    }
 }
 
 /// The number of the side clause at an index.

@@ -7,6 +7,7 @@ pub mod kept_side;
 pub mod origin;
 pub(crate) mod parts;
 pub mod searched;
+pub(crate) mod side_table;
 pub mod solver;
 pub(crate) mod tables;
 

@@ -16,7 +16,7 @@ ghost use Rattle.oracle_face.specs.Growing.{HasRun, NoSide, Obliges, OnlySide, U
 ghost use Rattle.oracle_face.specs.Logs.{IsNumberOf, hints_of, step_at};
 ghost use Rattle.meaning_atoms.specs.AxiomNames.{IsAxiomName};
 ghost use Rattle.oracle_face.specs.declared.face.Pending.TheVariants.{Loop as OfLoop, Side as OfSide};
-ghost use Rattle.atom_solver.specs.Sides.{HasNoSide, IsOrdered, IsSideOf};
+ghost use Rattle.atom_solver.specs.Sides.{HasNoSide, IsNowhere, IsOrdered, IsSideOf};
 ghost use Rattle.atom_solver.specs.declared.origin.Origin.TheVariants.{Hints};
 ghost use Rattle.atom_solver.specs.Assumed.{AreAssumed, AreNear};
 ghost use Rattle.atom_solver.specs.Inner.{state_of, GainsGiven, IsFilled, IsKept, IsWhole};
@@ -29,9 +29,10 @@ ghost use Rattle.atom_solver.specs.States.{AddsAxiom, IsGuardedLog, IsNoLoop, St
 ghost use Rattle.session_log.specs.Steps.{LearnsClauses};
 ghost use Rattle.atom_solver.specs.Tables.{StandsFor};
 
-use crate::kept_side::{KeptSide, find, guarded_literals, in_order, number_at};
+use crate::kept_side::{guarded_literals, in_order, number_at};
 use crate::origin::Origin;
 use crate::searched::Searched;
+use crate::side_table::SideTable;
 use crate::tables::{
     assume_facts, assume_some, over_atoms, packed_over_atoms, prefer_attacks, push_lits_for,
 };
@@ -52,7 +53,7 @@ pub(crate) struct SolverParts {
     pub(crate) solver: Solver,
     /// Where the first steps come from; all others follow from their hints.
     pub(crate) origins: Vec<Origin>,
-    pub(crate) sides: Vec<KeptSide>,
+    pub(crate) sides: SideTable,
     pub(crate) pending: Option<Pending>,
     /// The assumptions of the last search, and room for those of the next.
     pub(crate) assumed: Vec<Lit>,
@@ -89,15 +90,6 @@ pub(crate) fn fill(origins: &mut Vec<Origin>, steps: usize) -> Result<(), Memory
     Ok(())
 }
 
-/// Makes room for one more side clause.
-fn make_room(sides: &mut Vec<KeptSide>) -> Result<(), Memory>
-    ensures same { sides.new.items ≡ sides.old.items }
-    ensures room { OnOk result (vec_len sides.new < vec_capacity sides.new) }
-{
-    sides.reserve(1)?;
-    Ok(())
-}
-
 /// What a search found, over atoms.
 fn searched(alloc: Global, table: &AtomTable, solved: Solved) -> Result<Searched, Memory>
     ensures { IfOk result (Tells table.now solved) }
@@ -123,7 +115,7 @@ impl SolverParts {
             table: AtomTable::new(alloc),
             solver,
             origins: Vec::new(alloc),
-            sides: Vec::new(alloc),
+            sides: SideTable::new(alloc),
             pending: None,
             assumed: Vec::new(alloc),
             given: Vec::new(alloc),
@@ -244,6 +236,7 @@ impl SolverParts {
     ) -> Result<AskId, Halt>
         requires whole { IsWhole self.old }
         requires ordered { IsOrdered literals }
+        requires other { IsNowhere self.old.sides.kept literals }
         ensures whole { IsWhole self.new }
         ensures ok { IfOk result (KeepsSide literals set (state_of self.old) (state_of self.new)) }
         ensures full { result ≡ Err Halt.LogFull
@@ -255,9 +248,9 @@ impl SolverParts {
         let guarded = guarded_literals(alloc, number, literals.as_slice())?;
         let clause = self.stand_for(alloc, guarded.as_slice())?;
         prefer_attacks(&self.table, &mut self.solver, self.given.as_slice())?;
-        make_room(&mut self.sides)?;
+        self.sides.make_room()?;
         self.add_given(clause, Added::Side, Origin::Side(number))?;
-        let _ = self.sides.push(KeptSide { literals, set });
+        self.sides.push(literals, set);
         Ok(number)
     }
 
@@ -271,6 +264,7 @@ impl SolverParts {
     ) -> Result<AskId, Halt>
         requires whole { IsWhole self.old }
         requires ordered { IsOrdered literals }
+        requires other { IsNowhere self.old.sides.kept literals }
         ensures whole { IsWhole self.new }
         ensures ok { IfOk result (KeepsSide literals from.now (state_of self.old) (state_of self.new)) }
         ensures spent { OnOk result (budget.new.used ≡ budget.old.used + 1) }
@@ -312,7 +306,7 @@ impl SolverParts {
         ensures log { StaysLog (state_of self.old).log (state_of self.new).log }
     {
         let literals = in_order(alloc, side)?;
-        match find(self.sides.as_slice(), literals.as_slice()) {
+        match self.sides.find(literals.as_slice()) {
             Some(index) => {
                 let number = number_at(index)?;
                 Ok(number)
@@ -539,7 +533,7 @@ impl SolverParts {
         ensures none { IfOk result (λ found. IfNone found (HasNoSide (state_of self.now).log.sides literals.now)) }
     {
         let ordered = in_order(alloc, literals)?;
-        match find(self.sides.as_slice(), ordered.as_slice()) {
+        match self.sides.find(ordered.as_slice()) {
             Some(index) => {
                 let number = number_at(index)?;
                 Ok(Some(number))

@@ -232,7 +232,7 @@ impl AtomSolver {
         requires { IsNumberOf self.now.log.sides number }
         ensures { result.now ≡ side_at self.now.log.sides number }
     {
-        &self.parts.sides[number.number() as usize - 1]
+        self.parts.sides.side(number.number() as usize - 1)
     }
 
     /// The number of side clauses.

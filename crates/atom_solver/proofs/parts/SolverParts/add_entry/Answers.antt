@@ -29,7 +29,7 @@ returns-in-Ok-clause-imported c =
     (cases_lt (length p.solver.log.steps) p.solver.log.limit) in
     entry_imports p.table p.solver c.add.new.self c.args.clause c.args.hints _ c.in-Ok.ensures.ok p.origins.items
     c.fill.new.origins.items c.push.new.self.items c.args.name filled (c.in_ok-fill.ensures.ok ∙ count) pushed
-    p.sides.items p.pending c.len-different.ensures.different c.requires.whole c.requires.room room
+    p.sides.kept p.pending c.len-different.ensures.different c.requires.whole c.requires.room room
 
 pub returns-in-Err-Memory-clause-whole : goal.returns-in-Err-Memory-clause-whole
 returns-in-Err-Memory-clause-whole c =
@@ -45,7 +45,7 @@ returns-in-Err-Memory-clause-err c =
     let count : c.len-steps.result ≡ length p.solver.log.steps = rw c.log.ensures.log at c.len-steps.ensures.steps in
     let filled = subst (IsFilled p.origins.items c.fill.new.origins.items) count c.fill.ensures.filled in
     rw c.in-Err-Memory.ensures.refused (filled_state p.table p.solver p.origins.items c.fill.new.origins.items
-    p.sides.items p.pending filled)
+    p.sides.kept p.pending filled)
 
 pub returns-in-Err-LogFull : goal.returns-in-Err-LogFull
 returns-in-Err-LogFull c =
@@ -59,8 +59,8 @@ returns-in-Err-LogFull c =
           c.fill.new.origins.items c.requires.whole filled);
       imported = (
         rw c.in-Err-LogFull.ensures.refused (filled_state p.table p.solver p.origins.items c.fill.new.origins.items
-            p.sides.items p.pending filled),
-        refused_by fault p.table p.solver p.origins.items p.sides.items c.args.clause c.args.hints
+            p.sides.kept p.pending filled),
+        refused_by fault p.table p.solver p.origins.items p.sides.kept c.args.clause c.args.hints
             c.len-different.ensures.different c.requires.whole c.requires.room not_memory
             (λ e. c.in-Err-LogFull.ensures.full.0 (ap refused e))
             (λ place e. c.in-Err-LogFull.ensures.rejected place (ap refused e)),

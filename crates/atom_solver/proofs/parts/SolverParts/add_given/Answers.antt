@@ -32,7 +32,7 @@ returns-in-Ok-clause-ok c =
     (cases_lt (length p.solver.log.steps) p.solver.log.limit) in
     given_gains p.table p.solver c.add.new.self c.args.clause c.args.how _ p.origins.items c.fill.new.origins.items
     c.push.new.self.items c.args.origin c.requires.how c.in-Ok.ensures.ok c.requires.own filled
-    (c.in_ok-fill.ensures.ok ∙ count) pushed p.sides.items p.pending room
+    (c.in_ok-fill.ensures.ok ∙ count) pushed p.sides.kept p.pending room
 
 pub returns-in-Err-Memory-clause-whole : goal.returns-in-Err-Memory-clause-whole
 returns-in-Err-Memory-clause-whole c =

@@ -9,7 +9,7 @@ use Rattle.atom_solver.proofs.parts.SolverParts.oblige.Goals as goal
 pub returns-in_ok-number-in-Some-clause-obliges : goal.returns-in_ok-number-in-Some-clause-obliges
 returns-in_ok-number-in-Some-clause-obliges c = λ f guarded.
     let p = c.args.self.now in
-    let log = log_over p.table p.solver p.origins.items p.sides.items in
+    let log = log_over p.table p.solver p.origins.items p.sides.kept in
     let at = rw (c.as_slice.ensures.value, c.as_slice-2.ensures) at c.in-Some.ensures.some in
     subst (Obliges c.args.side.now log log) (sym c.in_ok-number-in-Some.ensures)
     (obliged_found c.args.side.now c.in_ok-literals.literals log f c.in-Some.index c.in_ok-literals.ensures at guarded)

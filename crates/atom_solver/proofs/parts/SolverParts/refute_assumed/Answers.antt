@@ -15,7 +15,7 @@ returns-clause-whole c = whole_after _ _ _ _ c.requires.whole c.refute-found.ens
 pub returns-clause-none : goal.returns-clause-none
 returns-clause-none c = λ e.
     let p = c.args.self.now in
-    ap (λ (s : SolverState). state_over p.table s p.origins.items p.sides.items p.pending)
+    ap (λ (s : SolverState). state_over p.table s p.origins.items p.sides.kept p.pending)
     (c.refute-found.ensures.none e)
 
 pub returns-clause-answer : goal.returns-clause-answer
@@ -23,9 +23,9 @@ returns-clause-answer c = λ f goals near guarded.
     let p = c.args.self.now in
     let derives = c.refute-found.ensures.derives in
     let room = room_stays _ p.solver c.refute-found.new.self c.requires.whole.room derives in
-    let after = search_stays p.table p.solver c.refute-found.new.self p.origins.items p.sides.items
+    let after = search_stays p.table p.solver c.refute-found.new.self p.origins.items p.sides.kept
     c.len-different.ensures.different room c.log-2.ensures.form.log_form c.requires.whole.marked derives f guarded in
-    looked_answer p.table p.solver c.refute-found.new.self p.origins.items p.sides.items
+    looked_answer p.table p.solver c.refute-found.new.self p.origins.items p.sides.kept
     c.len-different.ensures.different room c.log-2.ensures.form.log_form c.requires.whole.marked derives
     c.log.ensures.form.named p.assumed.items f goals near after.guards c.refute-found.result
     (rw c.as_slice.ensures.value at c.refute-found.ensures.refuted)
@@ -34,7 +34,7 @@ pub returns-clause-run : goal.returns-clause-run
 returns-clause-run c = λ f units.
     let p = c.args.self.now in
     let derives = c.refute-found.ensures.derives in
-    looked_run p.table p.solver c.refute-found.new.self p.origins.items p.sides.items
+    looked_run p.table p.solver c.refute-found.new.self p.origins.items p.sides.kept
     c.len-different.ensures.different (room_stays _ p.solver c.refute-found.new.self c.requires.whole.room derives)
     c.log-2.ensures.form.log_form c.requires.whole.marked derives
     c.log.ensures.form.named p.assumed.items f p.pending units c.refute-found.result
@@ -44,7 +44,7 @@ pub returns-clause-learns : goal.returns-clause-learns
 returns-clause-learns c =
     let p = c.args.self.now in
     let derives = c.refute-found.ensures.derives in
-    looked_learns p.table p.solver c.refute-found.new.self p.origins.items p.sides.items
+    looked_learns p.table p.solver c.refute-found.new.self p.origins.items p.sides.kept
     c.len-different.ensures.different (room_stays _ p.solver c.refute-found.new.self c.requires.whole.room derives)
     c.log-2.ensures.form.log_form c.requires.whole.marked derives
     c.log.ensures.form.named p.assumed.items (record { limit = 0; used = 0 }) c.refute-found.result
@@ -54,6 +54,6 @@ pub returns-clause-log : goal.returns-clause-log
 returns-clause-log c =
     let p = c.args.self.now in
     let derives = c.refute-found.ensures.derives in
-    search_stays p.table p.solver c.refute-found.new.self p.origins.items p.sides.items
+    search_stays p.table p.solver c.refute-found.new.self p.origins.items p.sides.kept
     c.len-different.ensures.different (room_stays _ p.solver c.refute-found.new.self c.requires.whole.room derives)
     c.log-2.ensures.form.log_form c.requires.whole.marked derives

@@ -26,17 +26,17 @@ pub returns-in_err-found-in-Ok-clause-run : goal.returns-in_err-found-in-Ok-clau
 returns-in_err-found-in-Ok-clause-run c = λ f goals are.
     let derives = rw c.reset_phases.ensures at c.solve-end.ensures.derives in
     let p = c.args.self.now in
-    handed_on_ending f (log_over p.table p.solver p.origins.items p.sides.items)
-    (log_over p.table c.solve-end.new.self p.origins.items p.sides.items) p.pending c.args.budget.now
+    handed_on_ending f (log_over p.table p.solver p.origins.items p.sides.kept)
+    (log_over p.table c.solve-end.new.self p.origins.items p.sides.kept) p.pending c.args.budget.now
     c.solve-end.new.budget c.from_residual.result c.from_residual.ensures
-    (λ most. run_memory p.table p.solver c.solve-end.new.self p.origins.items p.sides.items f p.pending
+    (λ most. run_memory p.table p.solver c.solve-end.new.self p.origins.items p.sides.kept f p.pending
     c.args.budget.now c.solve-end.new.budget most derives.keeps c.solve-end.ensures.limit)
 
 pub returns-in_err-found-in-Ok-clause-log : goal.returns-in_err-found-in-Ok-clause-log
 returns-in_err-found-in-Ok-clause-log c =
     let derives = rw c.reset_phases.ensures at c.solve-end.ensures.derives in
     let p = c.args.self.now in
-    search_stays p.table p.solver c.solve-end.new.self p.origins.items p.sides.items
+    search_stays p.table p.solver c.solve-end.new.self p.origins.items p.sides.kept
     c.len-different.ensures.different
     (room_stays _ p.solver c.solve-end.new.self c.requires.whole.room derives)
     c.log-2.ensures.form.log_form c.requires.whole.marked derives
@@ -51,12 +51,12 @@ returns-in_ok-found-in-Ok-clause-answer c = λ f goals are guarded.
     let derives = rw c.reset_phases.ensures at c.solve-end.ensures.derives in
     let p = c.args.self.now in
     let room = room_stays _ p.solver c.solve-end.new.self c.requires.whole.room derives in
-    let after = search_stays p.table p.solver c.solve-end.new.self p.origins.items p.sides.items
+    let after = search_stays p.table p.solver c.solve-end.new.self p.origins.items p.sides.kept
     c.len-different.ensures.different room c.log-2.ensures.form.log_form c.requires.whole.marked
     derives f guarded in
     let named = (rw c.reset_phases.ensures at c.log.ensures.form).named in
     let searched = rw (c.as_slice.ensures.value, c.reset_phases.ensures) at c.in-Ok.ensures.searched in
-    found_answer p.table p.solver c.solve-end.new.self p.origins.items p.sides.items f goals p.assumed.items
+    found_answer p.table p.solver c.solve-end.new.self p.origins.items p.sides.kept f goals p.assumed.items
     c.len-different.ensures.different room c.requires.whole.marked are named
     derives.keeps c.args.budget.now c.solve-end.new.budget c.solve-end.ensures.limit
     c.in-Ok.solved c.in_ok-found-in-Ok.found c.in_ok-found-in-Ok.ensures
@@ -69,7 +69,7 @@ returns-in_ok-found-in-Ok-clause-run c = λ f goals are.
     let room = room_stays _ p.solver c.solve-end.new.self c.requires.whole.room derives in
     let named = (rw c.reset_phases.ensures at c.log.ensures.form).named in
     let searched = rw (c.as_slice.ensures.value, c.reset_phases.ensures) at c.in-Ok.ensures.searched in
-    found_run p.table p.solver c.solve-end.new.self p.origins.items p.sides.items f goals p.assumed.items
+    found_run p.table p.solver c.solve-end.new.self p.origins.items p.sides.kept f goals p.assumed.items
     c.len-different.ensures.different room c.requires.whole.marked are named
     derives.keeps c.args.budget.now c.solve-end.new.budget c.solve-end.ensures.limit
     c.in-Ok.solved c.in_ok-found-in-Ok.found p.pending c.in_ok-found-in-Ok.ensures
@@ -79,7 +79,7 @@ pub returns-in_ok-found-in-Ok-clause-log : goal.returns-in_ok-found-in-Ok-clause
 returns-in_ok-found-in-Ok-clause-log c =
     let derives = rw c.reset_phases.ensures at c.solve-end.ensures.derives in
     let p = c.args.self.now in
-    search_stays p.table p.solver c.solve-end.new.self p.origins.items p.sides.items
+    search_stays p.table p.solver c.solve-end.new.self p.origins.items p.sides.kept
     c.len-different.ensures.different
     (room_stays _ p.solver c.solve-end.new.self c.requires.whole.room derives)
     c.log-2.ensures.form.log_form c.requires.whole.marked derives
@@ -96,14 +96,14 @@ returns-in_err-keep_in_hand-in-Err-clause-run c = λ f goals are.
     let p = c.args.self.now in
     let q = c.keep_in_hand.new.self in
     let same = log_kept _ q c.keep_in_hand.ensures.rest in
-    handed_on_ending f (log_over p.table p.solver p.origins.items p.sides.items)
-    (log_over q.table q.solver q.origins.items q.sides.items) q.pending c.args.budget.now
+    handed_on_ending f (log_over p.table p.solver p.origins.items p.sides.kept)
+    (log_over q.table q.solver q.origins.items q.sides.kept) q.pending c.args.budget.now
     c.solve-end.new.budget c.from_residual-in_err-keep_in_hand-in-Err.result
     c.from_residual-in_err-keep_in_hand-in-Err.ensures
     (λ most. subst (λ (g : OracleLog). HasRun NoSide most f
-    (log_over p.table p.solver p.origins.items p.sides.items) g q.pending c.args.budget.now c.solve-end.new.budget
+    (log_over p.table p.solver p.origins.items p.sides.kept) g q.pending c.args.budget.now c.solve-end.new.budget
     (Some Memory)) (sym same)
-    (run_memory p.table p.solver c.solve-end.new.self p.origins.items p.sides.items f q.pending
+    (run_memory p.table p.solver c.solve-end.new.self p.origins.items p.sides.kept f q.pending
     c.args.budget.now c.solve-end.new.budget most derives.keeps c.solve-end.ensures.limit))
 
 pub returns-in_err-keep_in_hand-in-Err-clause-log : goal.returns-in_err-keep_in_hand-in-Err-clause-log
@@ -112,7 +112,7 @@ returns-in_err-keep_in_hand-in-Err-clause-log c = λ f guarded.
     let p = c.args.self.now in
     let same = log_kept _ c.keep_in_hand.new.self c.keep_in_hand.ensures.rest in
     subst (λ (g : OracleLog). IsGuardedLog f g) (sym same)
-    (search_stays p.table p.solver c.solve-end.new.self p.origins.items p.sides.items
+    (search_stays p.table p.solver c.solve-end.new.self p.origins.items p.sides.kept
     c.len-different.ensures.different
     (room_stays _ p.solver c.solve-end.new.self c.requires.whole.room derives)
     c.log-2.ensures.form.log_form c.requires.whole.marked derives f guarded)
@@ -133,9 +133,9 @@ returns-in_ok-keep_in_hand-in-Err-clause-run c = λ f goals are.
     let named = (rw c.reset_phases.ensures at c.log.ensures.form).named in
     let searched = rw (c.as_slice.ensures.value, c.reset_phases.ensures) at c.in-Err.ensures.searched in
     subst (λ (g : OracleLog). HasRun NoSide 0 f
-    (log_over p.table p.solver p.origins.items p.sides.items) g q.pending c.args.budget.now c.solve-end.new.budget
+    (log_over p.table p.solver p.origins.items p.sides.kept) g q.pending c.args.budget.now c.solve-end.new.budget
     (Some c.in-Err.halt)) (sym same)
-    (halted_run p.table p.solver c.solve-end.new.self p.origins.items p.sides.items f goals p.assumed.items
+    (halted_run p.table p.solver c.solve-end.new.self p.origins.items p.sides.kept f goals p.assumed.items
     c.len-different.ensures.different room c.requires.whole.marked are named
     derives.keeps c.args.budget.now c.solve-end.new.budget c.solve-end.ensures.limit
     c.in-Err.halt q.pending searched c.in_ok-keep_in_hand-in-Err.ensures.kept)
@@ -146,7 +146,7 @@ returns-in_ok-keep_in_hand-in-Err-clause-log c = λ f guarded.
     let p = c.args.self.now in
     let same = log_kept _ c.keep_in_hand.new.self c.keep_in_hand.ensures.rest in
     subst (λ (g : OracleLog). IsGuardedLog f g) (sym same)
-    (search_stays p.table p.solver c.solve-end.new.self p.origins.items p.sides.items
+    (search_stays p.table p.solver c.solve-end.new.self p.origins.items p.sides.kept
     c.len-different.ensures.different
     (room_stays _ p.solver c.solve-end.new.self c.requires.whole.room derives)
     c.log-2.ensures.form.log_form c.requires.whole.marked derives f guarded)
@@ -155,8 +155,8 @@ pub returns-in_err-found-in-Ok-clause-learns : goal.returns-in_err-found-in-Ok-c
 returns-in_err-found-in-Ok-clause-learns c =
     let p = c.args.self.now in
     handed_on (λ (halt : Option Halt). UnlessMemory halt
-    (LearnsClauses (log_over p.table p.solver p.origins.items p.sides.items)
-    (log_over p.table c.solve-end.new.self p.origins.items p.sides.items)))
+    (LearnsClauses (log_over p.table p.solver p.origins.items p.sides.kept)
+    (log_over p.table c.solve-end.new.self p.origins.items p.sides.kept)))
     c.from_residual.result Memory c.from_residual.ensures tt
 
 pub returns-in_ok-found-in-Ok-clause-learns : goal.returns-in_ok-found-in-Ok-clause-learns
@@ -166,7 +166,7 @@ returns-in_ok-found-in-Ok-clause-learns c =
     let room = room_stays _ p.solver c.solve-end.new.self c.requires.whole.room derives in
     let named = (rw c.reset_phases.ensures at c.log.ensures.form).named in
     let searched = rw (c.as_slice.ensures.value, c.reset_phases.ensures) at c.in-Ok.ensures.searched in
-    found_learns p.table p.solver c.solve-end.new.self p.origins.items p.sides.items c.len-different.ensures.different
+    found_learns p.table p.solver c.solve-end.new.self p.origins.items p.sides.kept c.len-different.ensures.different
     room c.log-2.ensures.form.log_form c.requires.whole.marked derives named p.assumed.items c.args.budget.now
     c.solve-end.new.budget c.in-Ok.solved (searched (ok_not_memory c.in-Ok.solved))
 
@@ -175,8 +175,8 @@ returns-in_err-keep_in_hand-in-Err-clause-learns c =
     let p = c.args.self.now in
     let q = c.keep_in_hand.new.self in
     handed_on (λ (halt : Option Halt). UnlessMemory halt
-    (LearnsClauses (log_over p.table p.solver p.origins.items p.sides.items)
-    (log_over q.table q.solver q.origins.items q.sides.items)))
+    (LearnsClauses (log_over p.table p.solver p.origins.items p.sides.kept)
+    (log_over q.table q.solver q.origins.items q.sides.kept)))
     c.from_residual-in_err-keep_in_hand-in-Err.result Memory c.from_residual-in_err-keep_in_hand-in-Err.ensures tt
 
 pub returns-in_ok-keep_in_hand-in-Err-clause-learns : goal.returns-in_ok-keep_in_hand-in-Err-clause-learns
@@ -189,8 +189,8 @@ returns-in_ok-keep_in_hand-in-Err-clause-learns c =
     let named = (rw c.reset_phases.ensures at c.log.ensures.form).named in
     let searched = rw (c.as_slice.ensures.value, c.reset_phases.ensures) at c.in-Err.ensures.searched in
     subst (λ (g : OracleLog). UnlessMemory (Some c.in-Err.halt)
-    (LearnsClauses (log_over p.table p.solver p.origins.items p.sides.items) g)) (sym same)
-    (halted_learns p.table p.solver c.solve-end.new.self p.origins.items p.sides.items c.len-different.ensures.different
+    (LearnsClauses (log_over p.table p.solver p.origins.items p.sides.kept) g)) (sym same)
+    (halted_learns p.table p.solver c.solve-end.new.self p.origins.items p.sides.kept c.len-different.ensures.different
     room c.log-2.ensures.form.log_form c.requires.whole.marked derives named p.assumed.items c.args.budget.now
     c.solve-end.new.budget c.in-Err.halt searched)
 

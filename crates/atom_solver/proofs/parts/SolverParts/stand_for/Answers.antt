@@ -9,7 +9,7 @@ returns-in_err-push_lits_for-clause-whole c = whole_grown c.args.literals.now c.
 pub returns-in_err-push_lits_for-clause-state : goal.returns-in_err-push_lits_for-clause-state
 returns-in_err-push_lits_for-clause-state c = state_grown c.args.literals.now c.args.self.now.table
     c.push_lits_for.new.table c.args.self.now.solver c.push_lits_for.new.solver c.args.self.now.origins.items
-    c.args.self.now.sides.items c.args.self.now.pending c.requires.whole c.push_lits_for.ensures.table
+    c.args.self.now.sides.kept c.args.self.now.pending c.requires.whole c.push_lits_for.ensures.table
     c.push_lits_for.ensures.solver
 
 pub returns-clause-whole : goal.returns-clause-whole
@@ -18,7 +18,7 @@ returns-clause-whole c = whole_grown c.args.literals.now c.args.self.now.table _
 
 pub returns-clause-state : goal.returns-clause-state
 returns-clause-state c = state_grown c.args.literals.now c.args.self.now.table c.push_lits_for.new.table
-    c.args.self.now.solver c.push_lits_for.new.solver c.args.self.now.origins.items c.args.self.now.sides.items
+    c.args.self.now.solver c.push_lits_for.new.solver c.args.self.now.origins.items c.args.self.now.sides.kept
     c.args.self.now.pending c.requires.whole c.push_lits_for.ensures.table c.push_lits_for.ensures.solver
 
 pub returns-clause-clause : goal.returns-clause-clause

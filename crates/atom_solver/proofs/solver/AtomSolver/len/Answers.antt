@@ -25,4 +25,4 @@ pub returns-clause-axioms : goal.returns-clause-axioms
 returns-clause-axioms c =
     let p = c.self.inside.parts in
     rw (← c.self.view_is)
-    (uses_axioms p.table p.solver p.origins.items p.sides.items c.self.invariant)
+    (uses_axioms p.table p.solver p.origins.items p.sides.kept c.self.invariant)
