@@ -1,3 +1,4 @@
+pub mod Indexes
 pub mod Mirrors
 pub mod Runs
 pub mod Solving

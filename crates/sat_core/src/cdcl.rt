@@ -13,9 +13,10 @@ ghost use Rattle.sat_core.specs.Turns.{state_of, IsKept, IsAtRest, IsAsserting, 
 
 use crate::answer::{Added, Solved, UnaddedClause};
 use crate::decision_loop::{DecisionLoop, bump_all};
+use crate::indexed_log::IndexedLog;
 use crate::logged_clauses::{LoggedClauses, derive, record, steps_of, subsuming_step};
 use conflict_learn::{Core, Learned, Learner};
-use hinted_log::{Log, LogFault, MAX_STEPS};
+use hinted_log::{LogFault, MAX_STEPS};
 use lists::{Items, Memory};
 use plain_lits::{Budget, Clause, Halt, Lit, StepId, Trail};
 use std::alloc::Global;
@@ -91,7 +92,7 @@ impl Cdcl {
         ensures pending { IfOk result (λ c. c.pending ≡ None) }
     {
         let search = Propagator::open(alloc)?;
-        let log = Log::open(alloc, log_limit)?;
+        let log = IndexedLog::open(alloc, log_limit)?;
         Ok(Cdcl {
             alloc,
             decisions: DecisionLoop::new(alloc, search),

@@ -4,8 +4,11 @@
 pub mod answer;
 mod cdcl;
 mod decision_loop;
+mod indexed_log;
 mod logged_clauses;
 mod solver;
+mod step_index;
+mod subsuming;
 
 pub use answer::{Added, Solved, UnaddedClause};
 pub use solver::Solver;

@@ -11,7 +11,9 @@ ghost use Rattle.sat_core.specs.Solving.{Records, IsRejected, clause_of};
 ghost use Rattle.sat_core.specs.Mirrors.{step_of, AreIds, IsDerived, FalsifiesAll, IsSubsuming, HasNoSubsuming};
 
 use crate::answer::Added;
-use hinted_log::{Log, LogFault};
+use crate::indexed_log::IndexedLog;
+use crate::subsuming::falsify;
+use hinted_log::LogFault;
 use lists::{Items, Memory};
 use plain_lits::{Clause, Lit, PackedLit, StepId, Trail, Value};
 use std::alloc::Global;
@@ -20,7 +22,7 @@ use std::alloc::Global;
 /// look at all steps.
 
 pub(crate) struct LoggedClauses {
-    pub(crate) log: Log,
+    pub(crate) log: IndexedLog,
     pub(crate) active: Vec<StepId>,
     pub(crate) falsified: Trail,
 }
@@ -54,7 +56,11 @@ pub(crate) fn steps_of(
 }
 
 /// Adds a clause that its hints show to a log that isn't full.
-pub(crate) fn derive(log: &mut Log, clause: Clause, hints: &[StepId]) -> Result<StepId, Memory>
+pub(crate) fn derive(
+    log: &mut IndexedLog,
+    clause: Clause,
+    hints: &[StepId],
+) -> Result<StepId, Memory>
     requires room { length log.old.steps ≡ log.old.limit → ⊥ }
     requires shown { Checks negation (clauses_of log.old.steps) clause hints.now (Ok (length hints.now)) }
     ensures ok { IfOk result (IsDerived log.old log.new clause hints.now) }
@@ -69,7 +75,7 @@ pub(crate) fn derive(log: &mut Log, clause: Clause, hints: &[StepId]) -> Result<
 }
 
 /// Adds a clause to a log.
-pub(crate) fn record(log: &mut Log, clause: Clause, how: Added) -> Result<StepId, LogFault>
+pub(crate) fn record(log: &mut IndexedLog, clause: Clause, how: Added) -> Result<StepId, LogFault>
     ensures ok { IfOk result (Records log.old log.new clause how) }
     ensures full { (result ≡ Err LogFault.LogFull) ↔ (length log.old.steps ≡ log.old.limit) }
     ensures rejected { (place : ℕ) → result ≡ Err (LogFault.Rejected place) → IsRejected log.old clause how place }
@@ -82,69 +88,9 @@ pub(crate) fn record(log: &mut Log, clause: Clause, how: Added) -> Result<StepId
     }
 }
 
-/// Makes the negations of a clause's literals true.
-fn falsify(trail: &mut Trail, clause: &[Lit])
-    requires empty { trail.old.lits ≡ [] }
-    requires room { (l : Lit) → Contains clause.now l → l.var < trail.old.vars }
-    requires plain { IsTautology negation clause.now → ⊥ }
-    ensures { FalsifiesAll clause.now trail.new.lits }
-{
-    for lit in clause {
-        match trail.value(*lit) {
-            Value::Unset => trail.push(!*lit),
-            _ => {}
-        }
-    }
-}
-
-/// Whether all literals of a clause are false.
-fn is_falsified(trail: &Trail, part: &[PackedLit]) -> bool
-    ensures falsified { OnTrue result ((l : Lit) → Contains part.now l → Contains trail.now.lits (negation l)) }
-    ensures free { OnFalse result ((l : Lit) × Contains part.now l × (Contains trail.now.lits (negation l) → ⊥)) }
-{
-    for packed in part {
-        match trail.value(packed.lit()) {
-            Value::False => {}
-            _ => return false,
-        }
-    }
-    true
-}
-
-/// Whether all literals of a step's clause are false. Where the first one isn't, the others are not looked at.
-fn is_falsified_step(log: &Log, trail: &Trail, step: StepId) -> bool
-    requires { IsStepOf log.now.steps step }
-    ensures falsified { OnTrue result ((l : Lit) → Contains (clause_of log.now.steps step) l
-        → Contains trail.now.lits (negation l)) }
-    ensures free { OnFalse result ((l : Lit) × Contains (clause_of log.now.steps step) l
-        × (Contains trail.now.lits (negation l) → ⊥)) }
-{
-    if let Some(first) = log.first(step) {
-        match trail.value(first.lit()) {
-            Value::False => {}
-            _ => return false,
-        }
-    }
-    is_falsified(trail, log.clause(step))
-}
-
-/// The first step whose clause holds no literal beyond those that are denied.
-fn first_falsified(log: &Log, trail: &Trail, clause: &[Lit]) -> Option<StepId>
-    requires { FalsifiesAll clause.now trail.now.lits }
-    ensures { MatchOption result (HasNoSubsuming log.now.steps clause.now) (IsSubsuming log.now.steps clause.now) }
-{
-    for index in 0..log.len() {
-        let step = StepId::new(index as u32 + 1);
-        if is_falsified_step(log, trail, step) {
-            return Some(step);
-        }
-    }
-    None
-}
-
 /// A step whose clause has no literal beyond those of a clause, where there is one. `falsified` is left with anything.
 pub(crate) fn subsuming_step(
-    log: &Log,
+    log: &IndexedLog,
     falsified: &mut Trail,
     clause: &[Lit],
     vars: usize,
@@ -157,5 +103,5 @@ pub(crate) fn subsuming_step(
     falsified.clear();
     falsified.make_room(vars)?;
     falsify(falsified, clause);
-    Ok(first_falsified(log, falsified, clause))
+    Ok(log.subsuming(falsified, clause))
 }

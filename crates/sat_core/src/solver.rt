@@ -111,7 +111,7 @@ impl Solver {
         ensures form { IsSolver self.now }
     {
         let _form = self.cdcl.logged.log.len();
-        &self.cdcl.logged.log
+        self.cdcl.logged.log.log()
     }
 
     /// The steps in use.

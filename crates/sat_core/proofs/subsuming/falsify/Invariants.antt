@@ -1,6 +1,6 @@
 use Rattle.std.proofs.Common.{◌≡◌, take}
 use Rattle.sat_core.specs.Mirrors.{FalsifiesAll}
-use Rattle.sat_core.proofs.logged_clauses.falsify.Given as goal
+use Rattle.sat_core.proofs.subsuming.falsify.Given as goal
 
 abbrev pub invariant-loop-lit : goal.invariant-loop-lit
 invariant-loop-lit l = record {

@@ -3,7 +3,7 @@ use Rattle.std.specs.Prelude.{Contains}
 use Rattle.plain_lits.specs.declared.lit.Lit.{Lit}
 use Rattle.plain_lits.specs.Literals.{negation}
 use Rattle.sat_core.proofs.Serving.{front_more}
-use Rattle.sat_core.proofs.logged_clauses.is_falsified.Goals as goal
+use Rattle.sat_core.proofs.subsuming.is_falsified.Goals as goal
 
 pub loop-packed-preserved : goal.loop-packed-preserved
 loop-packed-preserved c =

@@ -2,7 +2,7 @@ use Rattle.std.proofs.Common.{Contains, List, subst}
 use Rattle.std.specs.Bool.{OnFalse}
 use Rattle.plain_lits.specs.declared.lit.Lit.{Lit}
 use Rattle.plain_lits.specs.Literals.{negation}
-use Rattle.sat_core.proofs.logged_clauses.is_falsified_step.Goals as goal
+use Rattle.sat_core.proofs.subsuming.is_falsified_step.Goals as goal
 
 pub returns-clause-free : goal.returns-clause-free
 returns-clause-free c =
