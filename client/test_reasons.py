@@ -299,8 +299,7 @@ def stands_so(plain, one):
     if one.kind == "falls":
         return set(one.by) <= members and all((one.by[0], x) in plain.attacks for x in one.about)
     if one.kind == "held":
-        beaten = {target for member in members for target in plain.attacked((member,))}
-        return one.about[0] in members and set(one.by) == set(plain.attackers(one.about[0])) - beaten != set()
+        return one.about[0] in members and set(one.by) == plain.attackers(one.about[0]) - attacked != set()
     if one.kind == "open":
         pairs = set(zip(one.by, one.about))
         return pairs <= plain.attacks and not attacked & {n for pair in pairs for n in pair}
