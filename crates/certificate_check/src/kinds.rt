@@ -51,7 +51,9 @@ pub(crate) fn is_of_mode(
 {
     match (mode, framework) {
         (Mode::Ad, _) => Ok(is_admissible(alloc, framework, set, marks)?),
-        (Mode::Cf, Framework::Af(plain)) => Ok(arguments::is_conflict_free(alloc, plain, set, marks)?),
+        (Mode::Cf, Framework::Af(plain)) => Ok(arguments::is_conflict_free(
+            alloc, plain, set, marks,
+        )?),
         (Mode::Cf, Framework::Aba(plain)) => Ok(plain.is_conflict_free(alloc, set)?),
     }
 }

@@ -1,4 +1,4 @@
-use Rattle.std.proofs.Common.{◌≡◌, ◌⊎◌, ⊎_elim, ℕ, ◌≤◌, List, [], ◌∷◌, refl, sym, subst, arith}
+use Rattle.std.proofs.Common.{◌≡◌, ◌⊎◌, ⊎_elim, ℕ, ◌≤◌, List, [], ◌∷◌, refl, sym, ap, subst, arith}
 use Rattle.std.specs.Prelude.{Contains, Option, None, Result, Ok, Err}
 use Rattle.lists.proofs.Membership.{Contains-head, Contains-tail}
 use Rattle.plain_lits.specs.declared.halt.Halt.{Halt}
@@ -13,7 +13,8 @@ use Rattle.iccma_tasks.specs.declared.task.Problem.{Problem}
 use Rattle.iccma_tasks.specs.declared.task.Problem.TheVariants.{Credulous, Sceptical, SomeExtension, AllExtensions}
 use Rattle.iccma_tasks.specs.declared.task.Semantics.{Semantics}
 use Rattle.iccma_tasks.specs.declared.task.Semantics.TheVariants.{Complete, Preferred, Stable, SemiStable, Ideal, Stage}
-use Rattle.iccma_tasks.specs.Tasks.{Asked}
+use Rattle.iccma_tasks.specs.declared.task.Task.{Task}
+use Rattle.iccma_tasks.specs.Tasks.{Asked, task_of}
 use Rattle.certificate_claims.specs.Claims.{mode_atom, widest_semantics}
 use Rattle.certificate_claims.specs.SetLiterals.{attacked, differs, outside, wider}
 use Rattle.oracle_face.specs.declared.face.Found.{Found}
@@ -102,11 +103,11 @@ makes_largest f asked is literals set h =
     serves f asked asked.task.problem Preferred literals set (outside f set) refl is
     (in_largest f asked.task.problem set) h.0 h.1
 
-pub makes_widest : (f : Framework) (asked : Asked) (mode : Mode) → asked.task.semantics ≡ widest_semantics mode
-    → Makes (MadeWider f mode) (MadeFor f asked)
-makes_widest f asked mode is literals set h =
-    serves f asked asked.task.problem (widest_semantics mode) literals set (wider f set) refl is
-    (in_widest mode f asked.task.problem set) h.1 (of_side_mode mode f set h.0)
+pub makes_widest : (f : Framework) (asked : Asked) (mode : Mode) (problem : Problem)
+    → asked.task ≡ task_of problem (widest_semantics mode) → Makes (MadeWider f mode) (MadeFor f asked)
+makes_widest f asked mode problem is literals set h =
+    serves f asked problem (widest_semantics mode) literals set (wider f set) (ap (λ (t : Task). t.problem) is)
+    (ap (λ (t : Task). t.semantics) is) (in_widest mode f problem set) h.1 (of_side_mode mode f set h.0)
 
 -- a list by ranges makes two side clauses of a set
 ranged_sides : (f : Framework) (asked : Asked) (mode : Mode) → asked.task.problem ≡ AllExtensions

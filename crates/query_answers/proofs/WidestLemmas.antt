@@ -64,12 +64,14 @@ empty_of_mode Ad f set is = empty_holds f set is
 -- ---- the rows of answers
 
 some_row : (mode : Mode) (f : Af) (e : List ℕ)
-    → row_of (af f) (asked_of SomeExtension (widest_semantics mode) None) (shown_with SomeExtension e) ≡ WidestRow mode e
+    → row_of (af f) (asked_of SomeExtension (widest_semantics mode) None) (shown_with SomeExtension e)
+    ≡ WidestRow mode e
 some_row Cf f e = refl
 some_row Ad f e = refl
 
 witness_row : (mode : Mode) (f : Af) (accepted : Bool) (q : ℕ) (e : List ℕ)
-    → row_of (af f) (asked_of (problem_of accepted) (widest_semantics mode) (Some q)) (shown_with (problem_of accepted) e)
+    → row_of (af f) (asked_of (problem_of accepted) (widest_semantics mode) (Some q))
+    (shown_with (problem_of accepted) e)
     ≡ WidestRow mode e
 witness_row Cf f true q e = refl
 witness_row Cf f false q e = refl
@@ -77,7 +79,8 @@ witness_row Ad f true q e = refl
 witness_row Ad f false q e = refl
 
 cover_row : (mode : Mode) (f : Af) (accepted : Bool) (q : ℕ)
-    → row_of (af f) (asked_of (problem_of accepted) (widest_semantics mode) (Some q)) (shown_without (problem_of accepted))
+    → row_of (af f) (asked_of (problem_of accepted) (widest_semantics mode) (Some q))
+    (shown_without (problem_of accepted))
     ≡ Ranged mode (literal_of (af f) q accepted)
 cover_row Cf f true q = refl
 cover_row Cf f false q = refl

@@ -9,13 +9,13 @@ use Rattle.query_answers.proofs.widest_sets.decided.Goals as goal
 
 pub decide-requires-clause-kind : goal.decide-requires-clause-kind
 decide-requires-clause-kind g c =
-    about_abstract c.args.mode (g.O.Oracle.framework c.args.oracle.now) c.args.query.now (problem_of c.args.accepted) c.args.goal
-    c.requires
+    about_abstract c.args.mode (g.O.Oracle.framework c.args.oracle.now) c.args.query.now
+    (problem_of c.args.accepted) c.args.goal c.requires
 
 pub decide-requires-clause-goal : goal.decide-requires-clause-goal
 decide-requires-clause-goal g c =
-    about_member c.args.mode (g.O.Oracle.framework c.args.oracle.now) c.args.query.now (problem_of c.args.accepted) c.args.goal
-    c.requires
+    about_member c.args.mode (g.O.Oracle.framework c.args.oracle.now) c.args.query.now
+    (problem_of c.args.accepted) c.args.goal c.requires
 
 pub returns-clause-shown : goal.returns-clause-shown
 returns-clause-shown g c =
@@ -28,14 +28,13 @@ returns-clause-shown g c =
 
 pub returns-in_err-deciding-clause-ran : goal.returns-in_err-deciding-clause-ran
 returns-in_err-deciding-clause-ran g c =
-    ran_handed _ c.from_residual.ensures (for_all (makes_widest _ _ c.args.mode (ap (λ (t : Task). t.semantics) c.requires.same))
-    c.in_err-deciding.ensures.ran)
+    ran_handed _ c.from_residual.ensures
+    (for_all (makes_widest _ _ c.args.mode _ c.requires.same) c.in_err-deciding.ensures.ran)
 
 pub returns-in_err-evidence-clause-ran : goal.returns-in_err-evidence-clause-ran
 returns-in_err-evidence-clause-ran g c =
-    no_memory _ c.from_residual-in_err-evidence.ensures (for_all (makes_widest _ _ c.args.mode (ap (λ
-    (t : Task). t.semantics) c.requires.same)) c.in_ok-deciding.ensures.ran)
+    no_memory _ c.from_residual-in_err-evidence.ensures
+    (for_all (makes_widest _ _ c.args.mode _ c.requires.same) c.in_ok-deciding.ensures.ran)
 
 pub returns-clause-ran : goal.returns-clause-ran
-returns-clause-ran g c =
-    for_all (makes_widest _ _ c.args.mode (ap (λ (t : Task). t.semantics) c.requires.same)) c.in_ok-deciding.ensures.ran
+returns-clause-ran g c = for_all (makes_widest _ _ c.args.mode _ c.requires.same) c.in_ok-deciding.ensures.ran
