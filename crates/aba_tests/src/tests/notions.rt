@@ -1,6 +1,6 @@
 //! The notions over one framework in memory, compared with answers that were worked out by hand.
 
-use crate::aba_text::framework_of;
+use crate::tests::aba_text::framework_of;
 use aba_notions::{AbaPlain, Row};
 use lists::Memory;
 use set_lists::NumSet;

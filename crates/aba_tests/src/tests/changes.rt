@@ -3,8 +3,8 @@
 ghost use Rattle.edit_rules.specs.Kinds.{framework_of};
 ghost use Rattle.aba_encoding.specs.Brought.{IsEdited};
 
-use crate::aba_text::framework_of;
-use crate::edits::{Change, edit_of};
+use crate::tests::aba_text::framework_of;
+use crate::tests::edits::{Change, edit_of};
 use aba_encoding::changed;
 use aba_notions::AbaPlain;
 use edit_rules::{Edit, EditFault, Effect, Framework, apply};

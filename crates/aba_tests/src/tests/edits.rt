@@ -1,7 +1,7 @@
 //! Edits of frameworks with rules: what each one tells and does, that it can be undone, and the last numbers of rules.
 //! The order of their refusals is a row of `argue_rows`.
 
-use crate::aba_text::{Shown, framework_of, is_shown};
+use crate::tests::aba_text::{Shown, framework_of, is_shown};
 use aba_notions::{AbaPlain, RuleLists};
 use edit_rules::{
     Edit, EditFault, aba_edits_keep_form, aba_effects_determine, apply_aba, numbers_are_given_once,

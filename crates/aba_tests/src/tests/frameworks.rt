@@ -1,6 +1,6 @@
 //! A framework with rules as one of either kind: its copy, and the query that no words tell.
 
-use crate::aba_text::framework_of;
+use crate::tests::aba_text::framework_of;
 use edit_rules::{Framework, QueryFault, query_fits};
 use iccma_tasks::{Kind, Problem, Query, Semantics, Task};
 use std::alloc::Global;
