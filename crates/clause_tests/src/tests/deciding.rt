@@ -1,6 +1,6 @@
 //! Which variable is decided next, and when a search begins anew: contracts say nothing of this advice.
 
-use crate::named::lit;
+use crate::tests::named::lit;
 use decision_order::{DecisionOrder, Luby};
 use lists::Memory;
 use std::alloc::Global;

@@ -4,7 +4,7 @@ ghost use Rattle.std.specs.Prelude.{IfSome};
 ghost use Rattle.unit_propagate.specs.Search.{IsConflict};
 ghost use Rattle.conflict_learn.specs.Learning.{IsDecided};
 
-use crate::named::lit;
+use crate::tests::named::lit;
 use conflict_learn::Learner;
 use lists::Memory;
 use plain_lits::{Lit, Value};

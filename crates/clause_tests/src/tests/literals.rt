@@ -1,6 +1,6 @@
 //! Literals, clauses, trails and rows.
 
-use crate::named::{N0, N2, P1, P2, P5, lit};
+use crate::tests::named::{N0, N2, P1, P2, P5, lit};
 use lists::Memory;
 use plain_lits::laws::taken_clauses_follow;
 use plain_lits::{Budget, Clause, Halt, Lit, PackedLit, Rows, StepId, Trail, Value};

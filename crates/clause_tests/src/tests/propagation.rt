@@ -3,7 +3,7 @@
 
 ghost use Rattle.std.specs.Prelude.{◌≡◌, []};
 
-use crate::named::{N0, N1, N2, P0, P1, P2, P3, P9};
+use crate::tests::named::{N0, N1, N2, P0, P1, P2, P3, P9};
 use lists::Memory;
 use plain_lits::{Lit, PackedLit, Value};
 use std::process::Abort;

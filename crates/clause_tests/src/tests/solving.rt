@@ -2,7 +2,7 @@
 
 ghost use Rattle.std.specs.Prelude.{◌≤◌};
 
-use crate::named::{N0, N1, N2, P0, P1, P2, lit};
+use crate::tests::named::{N0, N1, N2, P0, P1, P2, lit};
 use hinted_log::{Log, LogFault};
 use lists::Memory;
 use plain_lits::{Budget, Clause, Halt, Lit, StepId};

@@ -2,7 +2,7 @@
 
 ghost use Rattle.hinted_log.specs.Logs.{IsStepOf};
 
-use crate::named::{N1, N2, N3, P1, P2, P3};
+use crate::tests::named::{N1, N2, N3, P1, P2, P3};
 use hinted_log::{Log, LogFault, StepKind};
 use lists::Memory;
 use plain_lits::{Clause, Lit, StepId};
