@@ -1,6 +1,6 @@
 //! Each task on every framework of three arguments, beside the slow program that decides notions from their words.
 
-use crate::engines::af_engine;
+use crate::tests::engines::af_engine;
 use iccma_tasks::{Answer, Problem, Query, Semantics, Task};
 use lists::Memory;
 use oracle_core::{AnswerStop, Answered, Engine};

@@ -4,8 +4,8 @@ ghost use Rattle.std.specs.Prelude.{◌≡◌, ◌∷◌, [], IfOk};
 ghost use Rattle.edit_rules.specs.Kinds.{framework_of};
 ghost use Rattle.edit_rules.specs.Replay.{IsTaken};
 
-use crate::answers::{Asked, End, ask_all};
-use crate::engines::{aba_engine, af_engine};
+use crate::tests::answers::{Asked, End, ask_all};
+use crate::tests::engines::{aba_engine, af_engine};
 use edit_rules::{Edit, EditFault, Effect, Framework, apply};
 use lists::{Items, Memory};
 use oracle_core::Engine;

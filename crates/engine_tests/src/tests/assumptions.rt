@@ -1,7 +1,7 @@
 //! Queries on frameworks with rules, with what each comes to, worked out by hand from the definitions.
 
-use crate::answers::{Asked, End, ask_all};
-use crate::engines::aba_engine;
+use crate::tests::answers::{Asked, End, ask_all};
+use crate::tests::engines::aba_engine;
 use edit_rules::QueryFault;
 use oracle_core::AnswerStop;
 use std::alloc::Global;

@@ -1,6 +1,6 @@
 //! What an engine takes from a trade during a query.
 
-use crate::engines::af_engine;
+use crate::tests::engines::af_engine;
 use certificate_making::ReadLog;
 use iccma_tasks::{Query, Task};
 use lists::{Items, Memory};

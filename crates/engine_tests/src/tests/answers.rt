@@ -1,6 +1,6 @@
 //! Queries that one engine gets in turn, with what each comes to, worked out by hand from the definitions.
 
-use crate::engines::af_engine;
+use crate::tests::engines::af_engine;
 use edit_rules::QueryFault;
 use iccma_tasks::{Answer, Query, Task};
 use oracle_core::{AnswerStop, Answered, Engine};

@@ -1,7 +1,7 @@
 //! An engine as an oracle that no trade stands before.
 
-use crate::answers::{FLOATING, FOUR, are_sets};
-use crate::engines::af_engine;
+use crate::tests::answers::{FLOATING, FOUR, are_sets};
+use crate::tests::engines::af_engine;
 use enumerate_block::{Listed, all_preferred};
 use plain_lits::Budget;
 use std::alloc::Global;

@@ -4,7 +4,7 @@ use Rattle.edit_rules.specs.Edits.{edit_outcome}
 use Rattle.edit_rules.specs.Kinds.{framework_of}
 use Rattle.edit_rules.specs.declared.framework.Framework.{Framework as Held}
 use Rattle.engine_tests.proofs.EffectLemmas.{told_taken}
-use Rattle.engine_tests.proofs.updates.effect_of.Goals as goal
+use Rattle.engine_tests.proofs.tests.updates.effect_of.Goals as goal
 
 pub returns : goal.returns
 returns c =
