@@ -2,7 +2,7 @@ use Rattle.std.proofs.Common.{refl}
 use Rattle.turn_lock.specs.Seats.{number_of}
 use Rattle.edit_history.specs.Hubs.{IsSeatAt}
 use Rattle.session_tests.proofs.FirstLemmas.{first_of, kept, rest_of}
-use Rattle.session_tests.proofs.hubs.fill_first.Goals as goal
+use Rattle.session_tests.proofs.tests.hubs.fill_first.Goals as goal
 
 pub fill-requires : goal.fill-requires
 fill-requires g c =

@@ -1,6 +1,6 @@
 use Rattle.std.proofs.Common.{◌≡◌}
 use Rattle.turn_lock.specs.Seats.{MayEnter, number_of}
-use Rattle.session_tests.proofs.turns.write_often.Given as goal
+use Rattle.session_tests.proofs.tests.turns.write_often.Given as goal
 
 -- the seat stays the lock's
 abbrev pub invariant-loop : goal.invariant-loop

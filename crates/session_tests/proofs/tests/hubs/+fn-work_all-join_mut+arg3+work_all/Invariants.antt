@@ -1,5 +1,5 @@
 use Rattle.std.proofs.Common.{◌+◌, ◌*◌, length}
-use Rattle.session_tests.proofs.hubs.+fn-work_all-join_mut+arg3+work_all.Given as goal
+use Rattle.session_tests.proofs.tests.hubs.+fn-work_all-join_mut+arg3+work_all.Given as goal
 
 abbrev pub decreases-join_mut+arg3 : goal.decreases-join_mut+arg3
 decreases-join_mut+arg3 g l = 2 * length l.rest.now + 1

@@ -1,6 +1,6 @@
 use Rattle.session_tests.specs.Seats.{IsNewSeat}
 use Rattle.session_tests.proofs.FirstLemmas.{last_of}
-use Rattle.session_tests.proofs.limits.told_first.Goals as goal
+use Rattle.session_tests.proofs.tests.limits.told_first.Goals as goal
 
 pub told_at-requires-clause-seat : goal.told_at-requires-clause-seat
 told_at-requires-clause-seat g c =

@@ -1,7 +1,7 @@
 use Rattle.std.proofs.Common.{◌≡◌}
 use Rattle.turn_lock.specs.Seats.{number_of}
 use Rattle.edit_history.specs.Hubs.{IsSeatAt}
-use Rattle.session_tests.proofs.hubs.toggle.Given as goal
+use Rattle.session_tests.proofs.tests.hubs.toggle.Given as goal
 
 -- the seat stays the hub's
 abbrev pub invariant-loop-turn : goal.invariant-loop-turn

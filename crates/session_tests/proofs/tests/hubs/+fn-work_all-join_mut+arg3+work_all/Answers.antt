@@ -1,7 +1,7 @@
 use Rattle.std.proofs.Common.{rules}
 use Rattle.edit_history.specs.Hubs.{IsSeatAt}
 use Rattle.session_tests.proofs.FirstLemmas.{first_of, rest_of}
-use Rattle.session_tests.proofs.hubs.+fn-work_all-join_mut+arg3+work_all.Goals as goal
+use Rattle.session_tests.proofs.tests.hubs.+fn-work_all-join_mut+arg3+work_all.Goals as goal
 
 -- the first seat is the hub's, and so are the others, which are fewer
 pub join_mut-one-requires-after_bounds : goal.join_mut-one-requires-after_bounds

@@ -1,6 +1,6 @@
 use Rattle.session_tests.specs.Seats.{IsNewSeat}
 use Rattle.session_tests.proofs.FirstLemmas.{front_of, last_of}
-use Rattle.session_tests.proofs.sharing.both.Goals as goal
+use Rattle.session_tests.proofs.tests.sharing.both.Goals as goal
 
 pub asked_at-requires-clause-seat : goal.asked_at-requires-clause-seat
 asked_at-requires-clause-seat g c =

@@ -1,7 +1,7 @@
 use Rattle.std.proofs.Common.{rules}
 use Rattle.turn_lock.specs.Seats.{MayEnter}
 use Rattle.session_tests.proofs.FirstLemmas.{first_of, rest_of}
-use Rattle.session_tests.proofs.turns.+fn-write_all-join_mut+arg3+write_all.Goals as goal
+use Rattle.session_tests.proofs.tests.turns.+fn-write_all-join_mut+arg3+write_all.Goals as goal
 
 -- the first seat is the lock's, and so are the others, which are fewer
 pub join_mut-one-requires-after_bounds : goal.join_mut-one-requires-after_bounds
