@@ -69,9 +69,9 @@ IsDecided f log mode q accepted (NoWitness sets steps) = IsNoWitness f log mode 
 
 -- ---- the search
 
--- sets of the mode, in an abstract framework, each with a step that shows that no set of the mode that makes the literal
--- true has all of its range; and different side clauses, each that something is in the range that isn't in that of one
--- of the sets
+-- sets of the mode, in an abstract framework, each with a step that shows that no set of the mode that makes the
+-- literal true has all of its range; and different side clauses, each that something is in the range that isn't in that
+-- of one of the sets
 pub record IsCover (f : Framework) (log : OracleLog) (mode : Mode) (q : ℕ) (accepted : Bool) (cover : RangeCover)
     : Type 0 where
   pub kind : is_assumption_based f ≡ false
@@ -95,7 +95,8 @@ IsUncovered f log mode q accepted cover (Refuted step) =
 abbrev pub IsMadeWithin : Framework → OracleLog → Mode → ℕ → Bool → List ℕ → Found → Type 0
 IsMadeWithin f log mode q accepted e (Set set) =
     HoldsOf f set (mode_atom mode) × MakesIt f q accepted set × IsRangeIn f e set
-IsMadeWithin f log mode q accepted e (Refuted step) = Refutes f log (range_free f mode (literal_of f q accepted) e) step
+IsMadeWithin f log mode q accepted e (Refuted step) =
+    Refutes f log (range_free f mode (literal_of f q accepted) e) step
 
 -- the cover has one set more, with the step and with its side clause
 pub record Takes (f : Framework) (log : OracleLog) (widest : Widest) (step : ℕ) (old new : RangeCover) : Type 0 where

@@ -9,7 +9,8 @@ ghost use Rattle.enumerate_block.specs.Witnesses.{Extends, IsCover, IsDecided, I
 ghost use Rattle.enumerate_block.specs.Witnesses.{IsUncovered, Takes, ins_of, outs_of};
 ghost use Rattle.goal_lists.specs.Runs.{Ran, RanInAll};
 
-use goal_lists::{Wanted, atom_of, search_for};
+use certificate_claims::mode_atom;
+use goal_lists::{Wanted, search_for};
 use lists::{Items, Memory};
 use oracle_face::{AskId, Budget, Found, Halt, Oracle, StepId};
 use semantics::Mode;
@@ -52,7 +53,8 @@ pub fn decide<O: Oracle>(
     requires kind { is_assumption_based (O.framework oracle.old) ≡ false }
     requires goal { Contains (members (O.framework oracle.old)) goal }
     ensures decided { IfOk result (IsDecided (O.framework oracle.old) (O.log oracle.new) mode goal accepted) }
-    ensures ran { RanInAll O.Oracle (λ f. MadeWider f mode) oracle.old oracle.new budget.old budget.new (halt_of result) }
+    ensures ran { RanInAll O.Oracle (λ f. MadeWider f mode) oracle.old oracle.new budget.old budget.new
+        (halt_of result) }
 {
     let _members = oracle.members();
     let mut cover = RangeCover {
@@ -137,7 +139,7 @@ fn find_uncovered<O: Oracle>(
     let _members = oracle.members();
     let goals = [goal];
     let wanted = goals_wanted(&goals, accepted, &[], cover.asks.as_slice());
-    search_for(alloc, oracle, budget, atom_of(mode), &wanted)
+    search_for(alloc, oracle, budget, mode_atom(mode), &wanted)
 }
 
 /// A set of the mode that makes the literal true and has all of a set's range, or the step that shows that there is
@@ -161,7 +163,7 @@ fn within_range<O: Oracle>(
     let _members = oracle.members();
     let goals = [goal];
     let wanted = goals_wanted(&goals, accepted, widest.range.as_slice(), &[]);
-    search_for(alloc, oracle, budget, atom_of(mode), &wanted)
+    search_for(alloc, oracle, budget, mode_atom(mode), &wanted)
 }
 
 /// Grows the range of the set that was found. Gives a set of the mode with the grown range that makes the literal true,

@@ -8,7 +8,8 @@ ghost use Rattle.goal_lists.specs.Runs.{Ran, RanInAll};
 
 use crate::marks::{insert_all, steps_of};
 use crate::{Listed, all_with_range};
-use goal_lists::{Wanted, atom_of, search_for};
+use certificate_claims::mode_atom;
+use goal_lists::{Wanted, search_for};
 use lists::Items;
 use oracle_face::{AskId, Budget, Found, Halt, Oracle, StepId};
 use semantics::Mode;
@@ -27,9 +28,9 @@ pub enum Ranged {
     TooMany,
 }
 
-/// Sets of a mode with widest ranges, in the order of their lists, all with each range that is there. Each that is the first with
-/// its range is marked with the log step that shows that no other has the range. The side clauses are those that
-/// something is in the range that isn't in one of these ranges.
+/// Sets of a mode with widest ranges, in the order of their lists, all with each range that is there. Each that is the
+/// first with its range is marked with the log step that shows that no other has the range. The side clauses are those
+/// that something is in the range that isn't in one of these ranges.
 #[derive(Drop)]
 struct Ranges {
     sets: Vec<NumSet>,
@@ -49,7 +50,8 @@ pub fn all_widest<O: Oracle>(
 ) -> Result<Ranged, Halt>
     requires { is_assumption_based (O.framework oracle.old) ≡ false }
     ensures ranged { IfOk result (IsAllOrMore (O.framework oracle.old) (O.log oracle.new) mode limit) }
-    ensures ran { RanInAll O.Oracle (λ f. MadeForRanges f mode) oracle.old oracle.new budget.old budget.new (halt_of result) }
+    ensures ran { RanInAll O.Oracle (λ f. MadeForRanges f mode) oracle.old oracle.new budget.old budget.new
+        (halt_of result) }
 {
     let _members = oracle.members();
     let mut found = Ranges {
@@ -93,7 +95,7 @@ fn find_uncovered<O: Oracle>(
         ranged: &[],
         asks: found.asks.as_slice(),
     };
-    search_for(alloc, oracle, budget, atom_of(mode), &wanted)
+    search_for(alloc, oracle, budget, mode_atom(mode), &wanted)
 }
 
 /// A set with a widest range that holds the set's, with one more side clause, that something is not in that range.

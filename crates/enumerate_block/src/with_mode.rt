@@ -12,7 +12,8 @@ ghost use Rattle.goal_lists.specs.Runs.{Ran};
 ghost use Rattle.goal_lists.specs.Sides.{IsAskOf};
 
 use crate::ordered::insert_in_order;
-use goal_lists::{Wanted, atom_of, differs, search_for};
+use certificate_claims::mode_atom;
+use goal_lists::{Wanted, differs, search_for};
 use lists::Items;
 use meaning_atoms::Atom;
 use oracle_face::{AskId, Budget, Found, Halt, Oracle, StepId};
@@ -36,8 +37,8 @@ struct Listing {
     asks: Items<AskId>,
 }
 
-/// All conflict-free, admissible, complete or stable sets, as the mode says, at most so many. Where there are k, it asks
-/// k + 1 times.
+/// All conflict-free, admissible, complete or stable sets, as the mode says, at most so many. Where there are k, it
+/// asks k + 1 times.
 pub fn all_with_mode<O: Oracle>(
     alloc: Global,
     oracle: &mut O,
@@ -47,7 +48,8 @@ pub fn all_with_mode<O: Oracle>(
 ) -> Result<Listed, Halt>
     requires { IsListMode mode }
     ensures listed { IfOk result (IsAllOrMore (O.framework oracle.old) (O.log oracle.new) mode [] limit) }
-    ensures ran { Ran O.Oracle (λ f. MadeDiffers f mode) 1 oracle.old oracle.new budget.old budget.new (halt_of result) }
+    ensures ran { Ran O.Oracle (λ f. MadeDiffers f mode) 1 oracle.old oracle.new budget.old budget.new
+        (halt_of result) }
 {
     let _members = oracle.members();
     let listing = Listing {
@@ -72,7 +74,8 @@ pub fn all_with_range<O: Oracle>(
     requires known { IsAmong (O.framework oracle.old) (mode_atom mode) range.now known.now }
     ensures listed { IfOk result (IsAllOrMore (O.framework oracle.old) (O.log oracle.new) (mode_atom mode) range.now
         limit) }
-    ensures ran { Ran O.Oracle (λ f. MadeDiffers f (mode_atom mode)) 1 oracle.old oracle.new budget.old budget.new (halt_of result) }
+    ensures ran { Ran O.Oracle (λ f. MadeDiffers f (mode_atom mode)) 1 oracle.old oracle.new budget.old budget.new
+        (halt_of result) }
 {
     let _members = oracle.members();
     let mut listing = Listing {
@@ -83,7 +86,7 @@ pub fn all_with_range<O: Oracle>(
         alloc,
         oracle,
         budget,
-        atom_of(mode),
+        mode_atom(mode),
         range,
         limit,
         &mut listing,
@@ -92,7 +95,15 @@ pub fn all_with_range<O: Oracle>(
     if !room {
         return Ok(Listed::TooMany);
     }
-    list_on(alloc, oracle, budget, atom_of(mode), range, limit, listing)
+    list_on(
+        alloc,
+        oracle,
+        budget,
+        mode_atom(mode),
+        range,
+        limit,
+        listing,
+    )
 }
 
 /// All sets of the mode with these in their range, of which some are listed, at most so many.
@@ -110,7 +121,8 @@ fn list_on<O: Oracle>(
     requires start { IsListing (O.framework oracle.old) (O.log oracle.old) mode range.now start }
     requires room { length start.sets.items ≤ limit }
     ensures listed { IfOk result (IsAllOrMore (O.framework oracle.old) (O.log oracle.new) mode range.now limit) }
-    ensures ran { Ran O.Oracle (λ f. MadeDiffers f mode) 1 oracle.old oracle.new budget.old budget.new (halt_of result) }
+    ensures ran { Ran O.Oracle (λ f. MadeDiffers f mode) 1 oracle.old oracle.new budget.old budget.new
+        (halt_of result) }
 {
     let _members = oracle.members();
     let mut listing = start;
@@ -179,7 +191,8 @@ fn record_set<O: Oracle>(
         (Found.Set set.now) }
     ensures records { IfOk result (Records (O.framework oracle.old) (O.log oracle.new) mode range.now limit set.now
         listing.old listing.new) }
-    ensures ran { Ran O.Oracle (λ f. MadeDiffers f mode) 0 oracle.old oracle.new budget.old budget.new (halt_of result) }
+    ensures ran { Ran O.Oracle (λ f. MadeDiffers f mode) 0 oracle.old oracle.new budget.old budget.new
+        (halt_of result) }
 {
     let _members = oracle.members();
     insert_in_order(&mut listing.sets, set.copy(alloc)?)?;
@@ -201,7 +214,8 @@ fn oblige_differs<O: Oracle>(
 ) -> Result<AskId, Halt>
     requires { HoldsOf (O.framework oracle.old) set.now (base_mode mode) }
     ensures asked { IfOk result (IsAskOf (O.log oracle.new).sides (differs_of (O.framework oracle.old) set.now)) }
-    ensures ran { Ran O.Oracle (λ f. MadeDiffers f mode) 0 oracle.old oracle.new budget.old budget.new (halt_of result) }
+    ensures ran { Ran O.Oracle (λ f. MadeDiffers f mode) 0 oracle.old oracle.new budget.old budget.new
+        (halt_of result) }
 {
     let side = differs(alloc, oracle.members(), set)?;
     oracle.oblige(alloc, &side, set, budget)

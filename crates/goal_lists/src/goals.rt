@@ -2,7 +2,6 @@
 
 ghost use Rattle.std.specs.Prelude.{◌≡◌, ◌++◌, IfOk, OnOk};
 ghost use Rattle.semantics.specs.Frameworks.{Framework};
-ghost use Rattle.oracle_face.specs.certificate_claims.specs.Claims.{mode_atom};
 ghost use Rattle.oracle_face.specs.Kinds.{is_assumption_based};
 ghost use Rattle.goal_lists.specs.Asking.{are_asked, goals_of};
 ghost use Rattle.goal_lists.specs.Asking as asking;
@@ -11,7 +10,6 @@ use crate::literal_lists::{affirmed, push_in, push_out, push_ranged};
 use lists::Memory;
 use meaning_atoms::{Atom, AtomLit, Closure};
 use oracle_face::AskId;
-use semantics::Mode;
 use std::alloc::Global;
 
 /// What a set has to be like: its members and what are none, what is in its range, and which side clauses it makes
@@ -22,16 +20,6 @@ pub struct Wanted<'a> {
     pub outs: &'a [u32],
     pub ranged: &'a [u32],
     pub asks: &'a [AskId],
-}
-
-/// The atom that says that a set is of the mode.
-pub fn atom_of(mode: Mode) -> Atom
-    ensures { result ≡ mode_atom mode }
-{
-    match mode {
-        Mode::Cf => Atom::Cf,
-        Mode::Ad => Atom::Ad,
-    }
 }
 
 /// The goals for a set of a mode.

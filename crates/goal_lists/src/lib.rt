@@ -5,7 +5,7 @@ mod goals;
 mod literal_lists;
 mod search;
 
-pub use goals::{Wanted, atom_of, goals_for};
+pub use goals::{Wanted, goals_for};
 pub use literal_lists::{
     affirmed, attacked, differs, outside, push_in, push_out, push_ranged, wider,
 };

@@ -11,7 +11,8 @@ ghost use Rattle.semi_stable.specs.Widest.{HasRange, IsWider, IsWidestFrom, Made
 ghost use Rattle.goal_lists.specs.Sides.{IsAskOf};
 ghost use Rattle.goal_lists.specs.Runs.{Ran};
 
-use goal_lists::{Wanted, atom_of, search_beside, wider as wider_than};
+use certificate_claims::mode_atom;
+use goal_lists::{Wanted, search_beside, wider as wider_than};
 use oracle_face::{AskId, Budget, Found, Halt, Oracle, StepId};
 use semantics::Mode;
 use set_lists::NumSet;
@@ -49,7 +50,7 @@ fn wider<O: Oracle>(
         ranged: range.as_slice(),
         asks: &[],
     };
-    search_beside(alloc, oracle, budget, atom_of(mode), &wanted, &side, set)
+    search_beside(alloc, oracle, budget, mode_atom(mode), &wanted, &side, set)
 }
 
 /// Grows a set of a mode, in an abstract framework, to one whose range holds that of the set and is part of no other of
