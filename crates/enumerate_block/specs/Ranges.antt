@@ -1,5 +1,6 @@
 -- Lists of all sets of a mode with widest ranges, range by range.
-use Rattle.std.specs.Prelude.{◌≡◌, ◌⊎◌, ℕ, ◌<◌, ◌≤◌, true, false, Bool, List, [], ◌∷◌, ◌++◌, length, map, Contains, slice_index_or, Option, Some, None}
+use Rattle.std.specs.Prelude.{◌≡◌, ◌⊎◌, ℕ, ◌<◌, ◌≤◌, true, false, Bool, List, [], ◌∷◌, ◌++◌, length, map, Contains}
+use Rattle.std.specs.Prelude.{slice_index_or, Option, Some, None}
 use Rattle.semantics.specs.declared.mode.Mode.{Mode}
 use Rattle.semantics.specs.Frameworks.{Framework}
 use Rattle.semantics.specs.Sets.{IsListed}
@@ -54,9 +55,9 @@ pub record IsShownWidest (f : Framework) (log : OracleLog) (mode : Mode) (e : Li
   pub number : ℕ
   pub refuted : Refutes f log (range_widest f mode e) number
 
--- sets of the mode with widest ranges, in an abstract framework, in order and marked, all with each range that one of them has, and each
--- with a step that shows that it is one; and different side clauses, each that something is in the range that isn't in
--- that of one of the sets
+-- sets of the mode with widest ranges, in an abstract framework, in order and marked, all with each range that one of
+-- them has, and each with a step that shows that it is one; and different side clauses, each that something is in the
+-- range that isn't in that of one of the sets
 pub record AreFound (f : Framework) (log : OracleLog) (mode : Mode) (found : Ranges) : Type 0 where
   pub kind : is_assumption_based f ≡ false
   pub each : (e : List ℕ) → Contains found.sets.items e → IsShownWidest f log mode e

@@ -78,6 +78,7 @@ pub fn all_with_range<O: Oracle>(
         (halt_of result) }
 {
     let _members = oracle.members();
+    let atom = mode_atom(mode);
     let mut listing = Listing {
         sets: Vec::new(alloc),
         asks: Items::new(alloc),
@@ -86,7 +87,7 @@ pub fn all_with_range<O: Oracle>(
         alloc,
         oracle,
         budget,
-        mode_atom(mode),
+        atom,
         range,
         limit,
         &mut listing,
@@ -95,15 +96,7 @@ pub fn all_with_range<O: Oracle>(
     if !room {
         return Ok(Listed::TooMany);
     }
-    list_on(
-        alloc,
-        oracle,
-        budget,
-        mode_atom(mode),
-        range,
-        limit,
-        listing,
-    )
+    list_on(alloc, oracle, budget, atom, range, limit, listing)
 }
 
 /// All sets of the mode with these in their range, of which some are listed, at most so many.
