@@ -129,6 +129,10 @@ makes_differs f mode e side ok is literals set h = (
   subst (λ (s : List ℕ). HoldsOf f s (base_mode mode)) (sym h.1) ok,
 )
 
+pub makes_as : (f : Framework) (atom : Atom) (mode : Mode) → atom ≡ mode_atom mode
+    → Makes (MadeDiffers f atom) (MadeDiffers f (mode_atom mode))
+makes_as f atom mode is literals set h = subst (λ (a : Atom). MadeDiffers f a literals set) is h
+
 -- ---- lists
 
 pub listing_empty : (f : Framework) (log : OracleLog) (mode : Atom) (range : List ℕ) (listing : Listing)
