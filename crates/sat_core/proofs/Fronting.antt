@@ -1,7 +1,7 @@
 -- The first level, which has the front: it stays as it is while levels above it come and go.
 use Rattle.std.proofs.Common.{◌≡◌, ◌≢◌, ℕ, ◌<◌, ◌≤◌, ◌+◌, List, [], ◌∷◌, ◌++◌, length, get_or, take}
 use Rattle.std.proofs.Common.{arith, ap, sym, subst, ◌∙◌, refl, ⊎_elim, length-append, length-take}
-use Rattle.std.specs.Prelude.{Contains}
+use Rattle.std.specs.Prelude.{Contains, Result, Ok, Err, OnErr}
 use Rattle.std.proofs.Math.Seq.{get_or-append_seam}
 use Rattle.std.proofs.lemmas.List.{append-nil, get_or_default, get_or_past, get_or_append_left, get_or-take}
 use Rattle.std.proofs.lemmas.List.{get_or-set_other}
@@ -23,6 +23,11 @@ pub not_false : (lits : List Lit) (l : Lit) (v : Value) → IsValueIn lits l v �
 not_false lits l True h ne c = h.1 c
 not_false lits l False h ne c = ne refl
 not_false lits l Unset h ne c = h.1 c
+
+-- what holds of an error holds of whatever a call gives, if it holds
+pub on_err : {T E : Type 0} (result : Result T E) (P : Type 0) → P → OnErr result P
+on_err (Ok x) P p = tt
+on_err (Err e) P p = p
 
 -- where the first level ends: at the second one's begin, or it has all
 end_of : (s : Search) → 1 < length s.starts → front_end s ≡ get_or s.starts 1 0

@@ -17,7 +17,7 @@ use Rattle.conflict_learn.specs.Learning.{StandsAt, IsDecided, IsSettled, IsOpen
 use Rattle.conflict_learn.specs.Learning.{lits_at}
 use Rattle.sat_core.specs.Runs.{IsEarly, BeginsAt, HasRoom, IsRun, IsFronted, IsResting, IsReadyFor}
 use Rattle.sat_core.proofs.Fronting.{fronted_grown, fronted_learned, fronted_stays, fronted_block, fronted_decided}
-use Rattle.sat_core.proofs.Fronting.{fronted_back, end_past, rests}
+use Rattle.sat_core.proofs.Fronting.{fronted_back, fronted_none, fronted_new, end_past, rests}
 use Rattle.conflict_learn.proofs.Literally.{stands_contains, contains_stands}
 
 stands_more : (lits rest : List Lit) (index : ℕ) (l : Lit) → StandsAt lits index l → StandsAt (lits ++ rest) index l
@@ -488,3 +488,24 @@ resting_stays front old new form g r =
     let few = r.few in
     let long = ap length g.assigned.starts in
     record { fronted = fronted_same front old new form g r.fronted; few = omega (arith, few, long) }
+
+-- the front is given up: nothing is true then, as long as no other comes
+back_none : (front : List Lit) (old new : Search) → IsFronted front old → GoesBack old new 0 → new.lits ≡ []
+back_none front old new f g = g.lits ∙ ap (λ i. take i old.lits) f.base
+
+back_room : (front : List Lit) (old new : Search) → IsFronted front old → GoesBack old new 0 → HasRoom new
+back_room front old new f g = room_same old new g.clauses (let e = g.vars in omega (arith, e)) f.room
+
+pub given_up : (front : List Lit) (old mid new : Search) → IsFronted front old → GoesBack old mid 0 → IsSearch mid
+    → StaysSearch mid new → IsResting [] new
+given_up front old mid new f g form stays = resting_stays [] mid new form stays (record {
+  fronted = fronted_none mid (back_none front old mid f g) g.starts (back_room front old mid f g);
+  few = let e = ap length g.starts in omega (arith, e);
+})
+
+pub front_begins : (front : List Lit) (old mid new : Search) (block : List Lit) → IsFronted front old
+    → GoesBack old mid 0 → GainsBlock mid new block
+    → IsFronted block new × (length new.starts ≡ 1) × ((l : Lit) → Contains new.lits l → Contains block l)
+front_begins front old mid new block f g gains =
+    fronted_new mid new block (back_none front old mid f g) g.starts
+    (room_same mid new gains.clauses gains.vars (back_room front old mid f g)) gains

@@ -341,6 +341,7 @@ impl Cdcl {
     {
         let front = Vec::from_slice(self.alloc, block)?;
         self.decisions.back_to(0);
+        let _form = self.decisions.search.vars();
         self.front.clear();
         self.decisions.search.assume_block(block)?;
         self.front = front;
@@ -378,7 +379,8 @@ impl Cdcl {
         if !has_false(&self.decisions.search, assumptions) {
             return Ok(());
         }
-        self.set_front(&[])
+        self.set_front(&[])?;
+        Ok(())
     }
 
     /// Begins the second level with the assumptions, on a front of so many of them or on the one that was kept.
