@@ -45,7 +45,7 @@ returns-clause-kept c =
       mirror = mirror_derived s.clauses s.clauses c.args.self.now.logged.active.items
           c.args.self.now.logged.active.items c.args.self.now.logged.log _ _ _ _
           refl refl c.in_ok-step.ensures.ok c.requires.kept.mirror;
-      based = c.requires.kept.based;
+      fronted = c.requires.kept.fronted;
     }
 
 pub returns-clause-core : goal.returns-clause-core
