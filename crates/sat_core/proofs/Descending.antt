@@ -86,7 +86,8 @@ quiet_true s id room quiet values named =
 
 pub model_of : (state : SolverState) (front : List Lit) (s : Search) (assumptions : List Lit)
     → IsMirror s.clauses state.active state.log.steps
-    → IsSearch s → IsRun front assumptions s → IsQuiet s.clauses s.lits → HaveValues s → IsModel state assumptions s.lits
+    → IsSearch s → IsRun front assumptions s → IsQuiet s.clauses s.lits → HaveValues s
+    → IsModel state assumptions s.lits
 model_of state front s assumptions m form run quiet values = record {
   plain = λ t. consistent s.lits t.0 form.apart t.1 t.2;
   assumed = λ l c. let w = run.there l c in stands_contains s.lits w.index l w.stands;

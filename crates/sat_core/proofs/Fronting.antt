@@ -14,12 +14,12 @@ use Rattle.plain_lits.specs.Literals.{negation}
 use Rattle.plain_lits.specs.Values.{IsValueIn}
 use Rattle.unit_propagate.specs.Search.{Search, IsSearch, HasGrown, Decides, GoesBack, GainsBlock}
 use Rattle.unit_propagate.specs.Search.{Learns, StaysAssigned}
-use Rattle.conflict_learn.specs.Learning.{StandsAt}
 use Rattle.conflict_learn.proofs.Literally.{contains_stands}
 use Rattle.sat_core.specs.Runs.{HasRoom, IsFronted, IsResting, front_end}
 
 -- a literal whose value isn't False isn't false
-pub not_false : (lits : List Lit) (l : Lit) (v : Value) → IsValueIn lits l v → v ≢ False → Contains lits (negation l) → ⊥
+pub not_false : (lits : List Lit) (l : Lit) (v : Value) → IsValueIn lits l v → v ≢ False → Contains lits (negation l)
+    → ⊥
 not_false lits l True h ne c = h.1 c
 not_false lits l False h ne c = ne refl
 not_false lits l Unset h ne c = h.1 c

@@ -3,8 +3,8 @@ use Rattle.std.proofs.Common.{◌≡◌, ℕ, ◌<◌, ◌≤◌, ◌+◌, ◌-�
 use Rattle.std.proofs.Common.{arith, ap, sym, subst, ◌∙◌, refl, inl, inr, ⊎_elim, length-append, length-take}
 use Rattle.std.specs.Prelude.{Contains, ◌⊎◌}
 use Rattle.std.proofs.Math.Seq.{get_or-append_seam}
-use Rattle.std.proofs.lemmas.List.{get_or_default, get_or-set_other, get_or_append_left, get_or-append_right, get_or-take}
-use Rattle.std.proofs.lemmas.List.{take-append-le, take-take, take_at}
+use Rattle.std.proofs.lemmas.List.{get_or_default, get_or-set_other, get_or_append_left, get_or-append_right}
+use Rattle.std.proofs.lemmas.List.{get_or-take, take-append-le, take-take, take_at}
 use Rattle.std.proofs.lemmas.Bool.{cases_lt}
 use Rattle.plain_lits.specs.declared.lit.Lit.{Lit}
 use Rattle.plain_lits.specs.Literals.{negation}
@@ -126,7 +126,11 @@ begins front old new assumptions form ready g =
       some = omega (arith, long);
       there = λ l c.
           let s = contains_stands new.lits l (g.block_true l c) in
-          record { index = s.0; stands = s.1; early = record { below = λ k pos lt. absurd (omega (arith, long, pos, lt)) } };
+          record {
+            index = s.0;
+            stands = s.1;
+            early = record { below = λ k pos lt. absurd (omega (arith, long, pos, lt)) };
+          };
       free = λ index lt none. inl (record {
         assumed = λ d. ⊎_elim
             (λ (before : index < n). subst (Contains assumptions)

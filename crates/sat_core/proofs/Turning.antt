@@ -108,9 +108,10 @@ pub known_of : (s : Search) (clause : List Lit) → IsSearch s → IsFalsified n
 known_of s clause form f l c = form.within (negation l) (f.each l c)
 
 -- what is learned is a unit of the solver
-pub unit_learned : (state : SolverState) (front : List Lit) (s : Search) (assumptions clause : List Lit) (ids : List ℕ) (hints : List ℕ)
-    → IsMirror s.clauses state.active state.log.steps → IsSearch s
-    → IsRun front assumptions s → IsLearned s.clauses s.lits clause ids → IsNew s.clauses clause → hints ≡ map (step_of state.active) ids
+pub unit_learned : (state : SolverState) (front : List Lit) (s : Search) (assumptions clause : List Lit)
+    (ids hints : List ℕ)
+    → IsMirror s.clauses state.active state.log.steps → IsSearch s → IsRun front assumptions s
+    → IsLearned s.clauses s.lits clause ids → IsNew s.clauses clause → hints ≡ map (step_of state.active) ids
     → IsUnitOf state assumptions clause hints
 unit_learned state front s assumptions clause ids hints m form run l new e =
     subst (IsUnitOf state assumptions clause) (sym e)
@@ -143,8 +144,8 @@ pub core_shown : (state : SolverState) (s : Search) (clause : List Lit) (ids hin
 core_shown state s clause ids hints m l e =
     subst (IsShown state clause) (sym e) (shown_of state s.clauses clause ids m l.taken l.used l.from_hints)
 
-pub core_derived : (state : SolverState) (log : LogState) (front : List Lit) (s : Search) (assumptions clause : List Lit)
-    (ids hints : List ℕ) (number : ℕ)
+pub core_derived : (state : SolverState) (log : LogState) (front : List Lit) (s : Search)
+    (assumptions clause : List Lit) (ids hints : List ℕ) (number : ℕ)
     → IsMirror s.clauses state.active state.log.steps → length s.starts ≤ 2 → IsRun front assumptions s
     → IsLearned s.clauses s.lits clause ids → ((x : Lit) → Contains clause x → IsAssumed s x)
     → HasNoSubsuming state.log.steps clause → hints ≡ map (step_of state.active) ids

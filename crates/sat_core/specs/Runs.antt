@@ -1,6 +1,6 @@
--- The inner state of a search, which no caller sees: the first level has the front, which is kept from one search to the
--- next, the second has the other assumptions, and each level above them was begun by a decision when nothing was left to
--- propagate.
+-- The inner state of a search, which no caller sees: the first level has the front, which is kept from one search to
+-- the next, the second has the other assumptions, and each level above them was begun by a decision when nothing was
+-- left to propagate.
 use Rattle.std.specs.Prelude.{◌≡◌, ◌⊎◌, ℕ, ◌<◌, ◌≤◌, Bool, true, false, List, length, take, Contains}
 use Rattle.std.specs.Prelude.{Option, None, Some}
 use Rattle.std.specs.Prelude.{slice_index, slice_index_or}
@@ -47,7 +47,7 @@ pub record IsAtFront (s : Search) (l : Lit) : Type 0 where
   pub stands : StandsAt s.lits index l
   pub within : index < front_end s
 
--- no literal is true before the first level, which has the front and what follows; and each clause's variables are known
+-- no literal is true before the first level, which has the front and what follows; each clause's variables are known
 pub record IsFronted (front : List Lit) (s : Search) : Type 0 where
   pub base : slice_index_or s.starts 0 (length s.lits) ≡ 0
   pub there : (l : Lit) → Contains front l → IsAtFront s l

@@ -13,7 +13,7 @@ ghost use Rattle.sat_core.specs.Turns.{Goes, Tells};
 
 use crate::answer::{Added, Solved, UnaddedClause};
 use crate::decision_loop::{DecisionLoop, bump_all};
-use crate::fronts::{begins_with, common_len, has_false};
+use crate::fronts::{begins_with, has_false, size_of_front};
 use crate::logged_clauses::{LoggedClauses, derive, record, steps_of, subsuming_step};
 use conflict_learn::{Core, Learned, Learner};
 use hinted_log::{Log, LogFault, MAX_STEPS};
@@ -31,8 +31,8 @@ pub(crate) enum End {
 }
 
 /// Conflict-driven clause learning (Marques-Silva and Sakallah, GRASP, 1996) under assumptions (Eén and Sörensson, An
-/// extensible SAT-solver, 2003), with a log of what is learned. The first level has the front of the assumptions and what
-/// follows, the second has the others. `last` are the assumptions of the last search.
+/// extensible SAT-solver, 2003), with a log of what is learned. The first level has the front, some of the assumptions,
+/// and what follows; it stays from one search to the next. The second level has the others.
 
 pub(crate) struct Cdcl {
     pub(crate) alloc: Global,
@@ -41,7 +41,6 @@ pub(crate) struct Cdcl {
     pub(crate) learner: Learner,
     pub(crate) pending: Option<UnaddedClause>,
     pub(crate) front: Vec<Lit>,
-    pub(crate) last: Vec<Lit>,
 }
 
 // By hand, so that a drop is one call (docs/PROVING.md).
@@ -54,7 +53,6 @@ impl Drop for Cdcl {
             learner: _,
             pending: _,
             front: _,
-            last: _,
         } = self;
     }
 }
@@ -109,7 +107,6 @@ impl Cdcl {
             learner: Learner::new(alloc),
             pending: None,
             front: Vec::new(alloc),
-            last: Vec::new(alloc),
         })
     }
 
@@ -348,8 +345,8 @@ impl Cdcl {
         Ok(())
     }
 
-    /// Keeps the front that is there, if it is part of the assumptions and not much shorter than this one, which else takes
-    /// its place.
+    /// Keeps the front that is there, if the assumptions begin with it and it has at least so many literals. Else so
+    /// many of them become the front.
     fn keep_front(&mut self, assumptions: &[Lit], size: usize) -> Result<(), Memory>
         requires rest { IsAtRest self.old }
         requires plain { (l : Lit) → Contains assumptions.now l → Contains assumptions.now (negation l) → ⊥ }
@@ -359,7 +356,7 @@ impl Cdcl {
         ensures ready { OnOk result (IsReady assumptions.now self.new) }
     {
         if self.decisions.search.starts().len() == 1
-            && self.front.len() >= size / 2
+            && self.front.len() >= size
             && begins_with(assumptions, self.front.as_slice())
         {
             return Ok(());
@@ -383,7 +380,7 @@ impl Cdcl {
         Ok(())
     }
 
-    /// Begins the second level with the assumptions, on a front of so many of them or on the one that was kept.
+    /// Begins the second level with the assumptions, on a front of at least so many of them.
     fn begin(&mut self, assumptions: &[Lit], size: usize) -> Result<(), Memory>
         requires rest { IsAtRest self.old }
         requires plain { (l : Lit) → Contains assumptions.now l → Contains assumptions.now (negation l) → ⊥ }
@@ -402,20 +399,8 @@ impl Cdcl {
         Ok(())
     }
 
-    /// How many assumptions the last search began with too. These are the last ones from now on.
-    fn size_of_front(&mut self, assumptions: &[Lit]) -> usize
-        ensures within { result ≤ length assumptions.now }
-        ensures state { state_of self.new ≡ state_of self.old }
-        ensures rest { IsAtRest self.old → IsAtRest self.new }
-    {
-        let size = common_len(self.last.as_slice(), assumptions);
-        self.last.clear();
-        // Without memory the next search has no front.
-        let _ = self.last.extend_from_slice(assumptions);
-        size
-    }
-
-    /// Ends a look by propagation that met a false clause: a step that refutes the assumptions, or None where the log is full.
+    /// Ends a look by propagation that met a false clause: a step that refutes the assumptions, or None where the log
+    /// is full.
     #[tactic(auto, using(crate::proofs::Keeping::derives_logs))]
     fn derive_core_with_room(
         &mut self,
@@ -490,7 +475,7 @@ impl Cdcl {
         self.pending = None;
         let vars = self.decisions.search.vars();
         self.decisions.order.make_room(vars)?;
-        let size = self.size_of_front(assumptions);
+        let size = size_of_front(self.front.as_slice(), assumptions);
         self.begin(assumptions, size)?;
         let end = self.run(assumptions, budget);
         let told = solved_of(self.alloc, &self.decisions.search, end);

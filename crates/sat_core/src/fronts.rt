@@ -32,6 +32,18 @@ pub(crate) fn begins_with(lits: &[Lit], front: &[Lit]) -> bool
     common_len(front, lits) == front.len()
 }
 
+/// How many assumptions the front of a search should have: those with which the last front began too, if these are
+/// nearly all, and else all, so that the next search finds how many it has in common.
+pub(crate) fn size_of_front(front: &[Lit], assumptions: &[Lit]) -> usize
+    ensures { result ≤ length assumptions.now }
+{
+    let common = common_len(front, assumptions);
+    if common < assumptions.len() - assumptions.len() / 8 {
+        return assumptions.len();
+    }
+    common
+}
+
 /// Whether a literal is false.
 pub(crate) fn has_false(search: &Propagator, lits: &[Lit]) -> bool
     ensures { OnFalse result ((l : Lit) → Contains lits.now l → Contains search.now.lits (negation l) → ⊥) }

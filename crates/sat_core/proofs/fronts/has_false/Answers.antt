@@ -1,7 +1,6 @@
 use Rattle.std.proofs.Common.{get_or, subst, sym}
 use Rattle.std.specs.Prelude.{Contains}
 use Rattle.std.proofs.lemmas.List.{take_all}
-use Rattle.plain_lits.specs.declared.lit.Lit.{Lit}
 use Rattle.plain_lits.specs.Literals.{negation}
 use Rattle.sat_core.proofs.Serving.{front_more, no_lit}
 use Rattle.sat_core.proofs.Fronting.{not_false}

@@ -1,4 +1,3 @@
-use Rattle.std.proofs.Common.{[]}
 use Rattle.lists.proofs.Membership.{Contains-nil}
 use Rattle.plain_lits.specs.Literals.{negation}
 use Rattle.sat_core.proofs.cdcl.Cdcl.give_up_false.Goals as goal

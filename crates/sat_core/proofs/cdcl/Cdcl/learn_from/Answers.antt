@@ -7,7 +7,8 @@ use Rattle.sat_core.proofs.Turning.{known_of, ids_of, named_of, unit_learned}
 use Rattle.sat_core.proofs.cdcl.Cdcl.learn_from.Goals as goal
 
 pub learn-requires-clause-decided : goal.learn-requires-clause-decided
-learn-requires-clause-decided c = has_decided c.args.self.now.front.items c.args.self.now.decisions.search c.args.assumptions.now
+learn-requires-clause-decided c = has_decided c.args.self.now.front.items c.args.self.now.decisions.search
+    c.args.assumptions.now
     c.vars-form.ensures.form c.requires.deep c.requires.run
 
 pub steps_of-requires : goal.steps_of-requires
@@ -31,7 +32,8 @@ take-requires-clause-shown c =
     let hints : c.as_slice-3.result.now ≡ map (step_of c.args.self.now.logged.active.items)
     c.in_ok-learned.learned.hints =
     rw (c.as_slice-3.ensures, c.in_ok-hints.ensures, c.deref.ensures.value, c.as_slice.ensures) refl in
-    unit_learned (state_of c.args.self.now) c.args.self.now.front.items s c.args.assumptions.now c.in_ok-learned.learned.clause
+    unit_learned (state_of c.args.self.now) c.args.self.now.front.items s c.args.assumptions.now
+    c.in_ok-learned.learned.clause
     c.in_ok-learned.learned.hints _ c.requires.kept.mirror c.vars-form.ensures.form c.requires.run
     c.in_ok-learned.ensures.learned (c.in_ok-learned.ensures.new settled) hints
 
@@ -83,7 +85,8 @@ returns-clause-goes c =
       learns = record {
         clause = c.in_ok-learned.learned.clause;
         hints = c.as_slice-3.result.now;
-        learned = unit_learned (state_of c.args.self.now) c.args.self.now.front.items s c.args.assumptions.now c.in_ok-learned.learned.clause
+        learned = unit_learned (state_of c.args.self.now) c.args.self.now.front.items s c.args.assumptions.now
+            c.in_ok-learned.learned.clause
             c.in_ok-learned.learned.hints _ c.requires.kept.mirror c.vars-form.ensures.form c.requires.run
             c.in_ok-learned.ensures.learned (c.in_ok-learned.ensures.new settled) hints;
         new_state = c.in_ok-take.ensures.state;

@@ -1,4 +1,4 @@
-use Rattle.std.proofs.Common.{◌≡◌, ◌∙◌, ap, subst, arith, IfOk, IfSome}
+use Rattle.std.proofs.Common.{◌∙◌, ap, subst, IfOk, IfSome}
 use Rattle.sat_core.specs.Solving.{SolverState, EndsCore}
 use Rattle.sat_core.specs.Turns.{state_of}
 use Rattle.sat_core.proofs.Keeping.{derives_logs, derives_trans}

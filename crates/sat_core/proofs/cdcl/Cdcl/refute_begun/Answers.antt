@@ -8,7 +8,8 @@ derive_core_with_room-requires-clause-kept c = record {
 }
 
 pub derive_core_with_room-requires-clause-run : goal.derive_core_with_room-requires-clause-run
-derive_core_with_room-requires-clause-run c = c.in-Some.ensures.on.run c.args.self.now.front.items c.args.assumptions.now c.requires.run
+derive_core_with_room-requires-clause-run c = c.in-Some.ensures.on.run c.args.self.now.front.items
+    c.args.assumptions.now c.requires.run
 
 pub returns-in-None-clause-kept : goal.returns-in-None-clause-kept
 returns-in-None-clause-kept c = record {

@@ -1,4 +1,4 @@
-use Rattle.std.proofs.Common.{◌≡◌, ◌∙◌, [], arith, sym, subst}
+use Rattle.std.proofs.Common.{◌∙◌, arith, sym, subst}
 use Rattle.sat_core.specs.Runs.{IsResting, IsFronted}
 use Rattle.sat_core.proofs.Running.{given_up, front_begins}
 use Rattle.sat_core.proofs.Searching.{mirror_same}

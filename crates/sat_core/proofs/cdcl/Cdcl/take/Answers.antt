@@ -37,8 +37,10 @@ returns-in_err-add_learned-clause-kept c =
       mirror = mirror_derived s.clauses _ c.args.self.now.logged.active.items _ c.args.self.now.logged.log _ _ _ _
           (stays.clauses ∙ c.back_to.ensures.clauses) c.reserve.ensures.items c.in_ok-step.ensures.ok
           c.requires.kept.mirror;
-      fronted = (stays_run c.args.self.now.front.items c.back_to.new.self.search _ c.args.assumptions.now c.vars-form.ensures.form stays
-          (run_after c.args.self.now.front.items s c.back_to.new.self.search c.kept_level.result c.args.assumptions.now c.vars-before.ensures.form
+      fronted = (stays_run c.args.self.now.front.items c.back_to.new.self.search _ c.args.assumptions.now
+          c.vars-form.ensures.form stays
+          (run_after c.args.self.now.front.items s c.back_to.new.self.search c.kept_level.result
+          c.args.assumptions.now c.vars-before.ensures.form
           c.kept_level.ensures.positive lt c.back_to.ensures c.requires.run)).fronted;
     }
 
@@ -59,7 +61,8 @@ returns-clause-kept c =
           c.back_to.ensures.clauses
           (learns.clauses ∙ ap (λ xs. c.back_to.new.self.search.clauses ++ xs ∷ []) clause_is) pushed
           c.in_ok-step.ensures.ok c.requires.kept.mirror;
-      fronted = (run_learned c.args.self.now.front.items s c.back_to.new.self.search _ l.level c.kept_level.result l.clause l.asserting _
+      fronted = (run_learned c.args.self.now.front.items s c.back_to.new.self.search _ l.level c.kept_level.result
+          l.clause l.asserting _
           c.args.assumptions.now c.vars-before.ensures.form c.vars-form.ensures.form c.requires.asserting
           c.kept_level.ensures.positive c.kept_level.ensures.low lt c.back_to.ensures
           (rw c.as_slice.ensures.lits at learns) c.requires.run).fronted;
@@ -72,7 +75,8 @@ returns-clause-run c =
     let lt = target_within s l.level c.kept_level.result c.requires.asserting.level_in c.requires.deep
     c.kept_level.ensures.within in
     let learns = c.in_ok-add_learned.ensures.ok in
-    run_learned c.args.self.now.front.items s c.back_to.new.self.search _ l.level c.kept_level.result l.clause l.asserting _
+    run_learned c.args.self.now.front.items s c.back_to.new.self.search _ l.level c.kept_level.result l.clause
+    l.asserting _
     c.args.assumptions.now c.vars-before.ensures.form c.vars-form.ensures.form c.requires.asserting
     c.kept_level.ensures.positive c.kept_level.ensures.low lt c.back_to.ensures
     (rw c.as_slice.ensures.lits at learns) c.requires.run

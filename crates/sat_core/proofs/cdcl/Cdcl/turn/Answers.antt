@@ -11,7 +11,8 @@ resolve-requires-clause-kept c = record {
 }
 
 pub resolve-requires-clause-run : goal.resolve-requires-clause-run
-resolve-requires-clause-run c = c.in-Some.ensures.on.run c.args.self.now.front.items c.args.assumptions.now c.requires.run
+resolve-requires-clause-run c = c.in-Some.ensures.on.run c.args.self.now.front.items c.args.assumptions.now
+    c.requires.run
 
 pub returns-in-None-clause-kept : goal.returns-in-None-clause-kept
 returns-in-None-clause-kept c = record {
@@ -25,7 +26,8 @@ returns-in-None-clause-turn c =
     let found = c.in-None.ensures.found in (
       refl,
       refl,
-      model_of (state_of c.args.self.now) c.args.self.now.front.items c.decide_until_conflict.new.self.search c.args.assumptions.now
+      model_of (state_of c.args.self.now) c.args.self.now.front.items c.decide_until_conflict.new.self.search
+          c.args.assumptions.now
           (mirror_same _ _ _ _ on.clauses c.requires.kept.mirror) c.vars-form.ensures.form
           (on.run c.args.self.now.front.items c.args.assumptions.now c.requires.run) found.0 found.1,
     )
