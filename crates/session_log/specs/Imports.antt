@@ -1,5 +1,5 @@
 -- When an entry may be taken into the log of a session, and what the log then gains.
-use Rattle.std.specs.Prelude.{◌≡◌, ◌≢◌, ◌⊎◌, ℕ, ◌<◌, ◌≤◌, false, List, length, slice_index_or, Contains, Some, None, Ok}
+use Rattle.std.specs.Prelude.{◌≡◌, ◌≢◌, ◌⊎◌, ℕ, ◌<◌, ◌≤◌, false, List, length, slice_index_or, take, Some, None, Ok}
 use Rattle.plain_lits.specs.HintCheck.{Checks}
 use Rattle.semantics.specs.Frameworks.{Framework}
 use Rattle.meaning_atoms.specs.declared.atom.AtomLit.{AtomLit}
@@ -45,12 +45,14 @@ pub record StandForSteps (own : ℕ) (steps : List LogStep) (names : List HintNa
 
 -- ---- when an entry may be taken in
 
--- a clause follows by names: they stand for steps by which, all of them and in this order, the hint check takes it
+-- a clause follows by names: they stand for steps by which, in this order, the hint check takes it; it may do so before
+-- it looks at the last of them
 pub record FollowsByNames (own : ℕ) (steps : List LogStep) (clause : List AtomLit) (names : List HintName) : Type 0
   where
     pub hints : List ℕ
     pub stand : StandForSteps own steps names hints
-    pub checks : Checks negated (clauses_of steps) clause hints (Ok (length hints))
+    pub used : ℕ
+    pub checks : Checks negated (clauses_of steps) clause hints (Ok used)
 
 -- a clause is what its origin says: that of an axiom of the framework's kind that isn't in the log, or one that follows;
 -- a loop clause comes only where a model calls for it
@@ -70,17 +72,17 @@ pub record MayImport (f : Framework) (own : ℕ) (log : OracleLog) (entry : Entr
 
 -- ---- what a log gains
 
--- the step is one that a name of the origin stands for
-abbrev pub IsHintOf : ℕ → List LogStep → EntryOrigin → ℕ → Type 0
-IsHintOf own steps (OfAxiom name) hint = ⊥
-IsHintOf own steps (Hints names) hint = (name : HintName) × Contains names name × StandsFor own steps name hint
+-- the steps are those that the first names of the origin stand for, one for one and in this order
+abbrev pub AreHintsOf : ℕ → List LogStep → EntryOrigin → List ℕ → Type 0
+AreHintsOf own steps (OfAxiom name) hints = ⊥
+AreHintsOf own steps (Hints names) hints = StandForSteps own steps (take (length hints) names) hints
 
--- the entry's clause comes with steps that its hints name, by which the check takes it; the step is in use, and marked
--- as taken from the entry
+-- the entry's clause comes with the steps of its first names, by which the check takes it, looking at each of them; the
+-- step keeps these and no others, is in use, and is marked as taken from the entry
 pub record TakesEntry (own : ℕ) (entry : Entry) (old new : OracleLog) : Type 0 where
   pub clause : List AtomLit
   pub hints : List ℕ
   pub same : IsSameClause clause entry.clause
   pub checks : Checks negated (clauses_of old.steps) clause hints (Ok (length hints))
-  pub named : (hint : ℕ) → Contains hints hint → IsHintOf own old.steps entry.origin hint
+  pub named : AreHintsOf own old.steps entry.origin hints
   pub gains : GainsStep (derived_step clause hints (Some entry.name) false) old.sides old new
