@@ -1,5 +1,6 @@
 -- When an entry may be taken into the log of a session, and what the log then gains.
-use Rattle.std.specs.Prelude.{◌≡◌, ◌≢◌, ◌⊎◌, ℕ, ◌<◌, ◌≤◌, false, List, length, slice_index_or, take, Some, None, Ok}
+use Rattle.std.specs.Prelude.{◌≡◌, ◌≢◌, ◌⊎◌, ℕ, ◌<◌, ◌≤◌, false, List, length, slice_index_or, take, Option}
+use Rattle.std.specs.Prelude.{Some, None, Ok}
 use Rattle.plain_lits.specs.HintCheck.{Checks}
 use Rattle.semantics.specs.Frameworks.{Framework}
 use Rattle.meaning_atoms.specs.declared.atom.AtomLit.{AtomLit}
@@ -12,7 +13,8 @@ use Rattle.oracle_face.specs.declared.entry.EntryOrigin.{EntryOrigin}
 use Rattle.oracle_face.specs.declared.entry.EntryOrigin.TheVariants.{Axiom as OfAxiom, Hints}
 use Rattle.oracle_face.specs.declared.entry.HintName.{HintName}
 use Rattle.oracle_face.specs.declared.entry.HintName.TheVariants.{Axiom, Entry as OfEntry}
-use Rattle.oracle_face.specs.Logs.{OracleLog, LogStep, IsNumberOf, IsSameClause, by_axiom, clauses_of, is_loop, step_at}
+use Rattle.oracle_face.specs.Logs.{OracleLog, LogStep, Source, IsNumberOf, IsSameClause, by_axiom, clauses_of, is_loop}
+use Rattle.oracle_face.specs.Logs.{step_at}
 use Rattle.session_log.specs.Steps.{GainsStep, derived_step}
 
 -- ---- what names stand for
@@ -27,6 +29,18 @@ IsOfEntry own name number step =
 abbrev pub IsCalled : ℕ → HintName → ℕ → LogStep → Type 0
 IsCalled own (Axiom name) number step = step.source ≡ by_axiom name
 IsCalled own (OfEntry name) number step = IsOfEntry own name number step
+
+-- the name under which a step's clause is handed on: its axiom's, its entry's, or that of an entry of one's own
+abbrev pub name_by_source : ℕ → ℕ → Source → HintName
+name_by_source s number (by_axiom name) = Axiom name
+name_by_source s number source = OfEntry (record { session = s; step = number })
+
+abbrev pub name_in_log : ℕ → ℕ → Option EntryName → Source → HintName
+name_in_log s number None source = name_by_source s number source
+name_in_log s number (Some name) source = OfEntry name
+
+abbrev pub name_of_step : ℕ → List LogStep → ℕ → HintName
+name_of_step s steps number = name_in_log s number (step_at steps number).imported (step_at steps number).source
 
 -- the name stands for the first step that is called so, where that step may be an entry or follow from entries: it
 -- didn't only end a search, and asks for no side clause
