@@ -1,8 +1,8 @@
 -- What a log gains by an entry, and why it gains nothing.
-use Rattle.std.proofs.Common.{◌≡◌, ℕ, ◌<◌, List, length, take, ap, sym, subst, ◌∙◌, refl, arith, inl, inr, ⊎_elim}
+use Rattle.std.proofs.Common.{◌≡◌, ℕ, List, length, take, ap, sym, subst, ◌∙◌, refl, arith, inl, inr, ⊎_elim}
 use Rattle.std.proofs.Common.{false, not, filter}
 use Rattle.std.specs.Prelude.{Contains, Bool, true, Option, Some, None, Result, Ok, Err, OnOk, OnErr}
-use Rattle.std.specs.Prelude.{slice_index_or, IsSome}
+use Rattle.std.specs.Prelude.{IsSome}
 use Rattle.lists.specs.declared.memory.Memory.{Memory}
 use Rattle.plain_lits.specs.declared.halt.Halt.{Halt}
 use Rattle.plain_lits.specs.declared.halt.Halt.TheVariants.{Spent, LogFull, Memory as OfMemory}

@@ -16,8 +16,6 @@ use Rattle.oracle_face.specs.Entries.{IsShareable}
 use Rattle.oracle_face.specs.Logs.{OracleLog, LogStep, IsNumberOf, step_at}
 use Rattle.session_log.proofs.StepWorlds.{step_shared}
 use Rattle.atom_solver.specs.States.{IsGuardedLog}
-use Rattle.atom_solver.specs.Lifted.{imported_of, source_of}
-use Rattle.atom_solver.specs.declared.origin.Origin.{Origin}
 use Rattle.atom_solver.specs.declared.origin.Origin.TheVariants.{Axiom as OfAxiom, Entry as FromEntry, Hints as ByHints}
 use Rattle.session_log.specs.Imports.{name_by_source, name_in_log}
 use Rattle.oracle_core.specs.Sharing.{AreNamesOf, CallsAny, IsEntryOf, IsNamedAs}

@@ -1,7 +1,7 @@
 -- A session's steps are a run of the core.
 use Rattle.std.proofs.Common.{◌≡◌, ◌∙◌, ⊎_elim, ℕ, ◌+◌, ◌-◌, ◌*◌, ◌==◌, ◌<◌, ◌≤◌, suc, zero, Bool, true, false}
 use Rattle.std.proofs.Common.{true≢false, refl, List, [], ◌∷◌, ◌++◌, length, map, take, ap, arith, sym, subst, inl}
-use Rattle.std.proofs.Common.{inr, Option, None, Some, Ok}
+use Rattle.std.proofs.Common.{inr, Option, None, Some}
 use Rattle.std.specs.Prelude.{◌⊎◌, ◌&&◌, Contains, cond, count_by, drop, not, slice_index_or}
 use Rattle.std.proofs.lemmas.Bool.{cases_lt, cond_both, eq-eqb, false≢true}
 use Rattle.std.proofs.lemmas.List.{append_assoc, append-nil, get_or-append-add, get_or_append_left, length-append}
@@ -10,13 +10,11 @@ use Rattle.std.proofs.lemmas.List.{take_all}
 use Rattle.std.proofs.Math.Seq.{take-add}
 use Rattle.lists.proofs.Counts.{count_by-cons}
 use Rattle.lists.proofs.Images.{image_from}
-use Rattle.plain_lits.specs.HintCheck.{Checks}
 use Rattle.plain_lits.specs.Units.{Units}
 use Rattle.semantics.specs.Frameworks.{Framework, af, aba, IsNumbered}
 use Rattle.meaning_atoms.specs.declared.atom.AtomLit.{AtomLit}
 use Rattle.meaning_atoms.specs.declared.axiom.AxiomName.{AxiomName}
 use Rattle.meaning_atoms.specs.declared.axiom.AxiomName.TheVariants.{Af as OfAf, Aba as OfAba}
-use Rattle.meaning_atoms.specs.Literals.{negated}
 use Rattle.certificate_claims.specs.Refutations.{IsAxiomOf}
 use Rattle.edit_rules.specs.declared.edit.Edit.{Edit}
 use Rattle.edit_rules.specs.Kinds.{kind_of}
@@ -30,7 +28,7 @@ use Rattle.oracle_face.specs.declared.entry.EntryOrigin.TheVariants.{Axiom as Of
 use Rattle.oracle_face.specs.declared.face.Pending.{Pending}
 use Rattle.oracle_face.specs.Growing.{Grows, HasRun, Making, NoSide}
 use Rattle.oracle_face.specs.Logs.{OracleLog, LogStep, SideClause, IsNumberOf, by_axiom, by_hints, by_side}
-use Rattle.oracle_face.specs.Logs.{clauses_of, is_loop, is_own, is_unit, is_work, no_step, step_at}
+use Rattle.oracle_face.specs.Logs.{is_loop, is_own, is_unit, is_work, no_step, step_at}
 use Rattle.clause_pool.specs.Pools.{entry_of, index_of}
 use Rattle.clause_pool.specs.declared.pooled.Token.{Token}
 use Rattle.session_log.specs.Ends.{LoopsServe}

@@ -1,8 +1,8 @@
 -- What a session shares is a run of the core.
-use Rattle.std.proofs.Common.{◌≡◌, refl, [], sym, subst}
+use Rattle.std.proofs.Common.{refl, [], sym, subst}
 use Rattle.oracle_face.specs.declared.entry.EntryOrigin.{EntryOrigin}
 use Rattle.oracle_face.specs.declared.entry.EntryOrigin.TheVariants.{Hints}
-use Rattle.oracle_face.specs.Logs.{Source, hints_of, step_at}
+use Rattle.oracle_face.specs.Logs.{Source, step_at}
 use Rattle.core_machine.specs.Steps.{Shares, after_share, goes, origin_of, rests, share}
 use Rattle.session_core.specs.ShareRuns.{SharesAreRuns}
 
