@@ -21,14 +21,8 @@ use Rattle.meaning_atoms.specs.Literals.{affirmed}
 use Rattle.meaning_atoms.specs.Worlds.{IsAsk}
 use Rattle.meaning_atoms.proofs.NotionClauses.{notions_fit, notions_plain}
 use Rattle.aba_axioms.specs.AbaTable.{aba_clause, filled_gap, given_atom, loop_clause, other_heads, pair_literal, row_literals}
-use Rattle.meaning_atoms.proofs.Positions.{
-  first_place,
-  last_place,
-  stretch_begin,
-  stretch_end,
-  stretch_argument,
-  stretch_past,
-}
+use Rattle.meaning_atoms.proofs.Positions.{first_place, last_place, stretch_begin, stretch_end, stretch_argument}
+use Rattle.meaning_atoms.proofs.Positions.{stretch_past}
 
 number : (x : ℕ) → IsArgument x → IsAtomOrNone x
 number x h = record { high = omega (arith, h.high) }

@@ -18,6 +18,7 @@ pub struct RuleLists {
 }
 
 /// Rules by their index, with their bodies from either end.
+#[derive(Drop)]
 pub(crate) struct RuleTable {
     /// The number of each rule, which rise.
     pub(crate) numbers: Vec<u32>,
@@ -29,19 +30,6 @@ pub(crate) struct RuleTable {
     pub(crate) uses: AttackIndex,
     /// Pairs of an atom and a rule that it heads.
     pub(crate) headed: AttackIndex,
-}
-
-// By hand, so that a drop is one call (docs/PROVING.md).
-impl Drop for RuleTable {
-    fn drop(self) {
-        let RuleTable {
-            numbers: _,
-            heads: _,
-            bodies: _,
-            uses: _,
-            headed: _,
-        } = self;
-    }
 }
 
 impl RuleTable {

@@ -2,14 +2,4 @@
 #![tactic(auto)]
 
 #[cfg(test)]
-mod aba_text;
-#[cfg(test)]
-mod changes;
-#[cfg(test)]
-mod definitions;
-#[cfg(test)]
-mod edits;
-#[cfg(test)]
-mod frameworks;
-#[cfg(test)]
-mod notions;
+mod tests;

@@ -48,6 +48,7 @@ use set_lists::NumSet;
 use std::alloc::Global;
 
 /// The solver with the table of its atoms, and what its log over atoms has besides.
+#[derive(Drop)]
 pub(crate) struct SolverParts {
     pub(crate) table: AtomTable,
     pub(crate) solver: Solver,
@@ -59,21 +60,6 @@ pub(crate) struct SolverParts {
     pub(crate) assumed: Vec<Lit>,
     /// Room for the literals of a clause that comes.
     pub(crate) given: Vec<Lit>,
-}
-
-// By hand, so that a drop is one call (docs/PROVING.md).
-impl Drop for SolverParts {
-    fn drop(self) {
-        let SolverParts {
-            table: _,
-            solver: _,
-            origins: _,
-            sides: _,
-            pending: _,
-            assumed: _,
-            given: _,
-        } = self;
-    }
 }
 
 /// Says of all steps so far where they come from, and makes room for one more.

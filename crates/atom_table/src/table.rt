@@ -80,10 +80,7 @@ pub struct AtomTable {
 // By hand, so that a drop is one call (docs/PROVING.md).
 impl Drop for AtomTable {
     fn drop(self) {
-        let AtomTable {
-            atoms: _,
-            recent: _,
-        } = self;
+        let Self { atoms, recent } = self;
     }
 }
 

@@ -14,21 +14,11 @@ use std::marker::Model;
 /// Pairs by rising first and then second number, each once, whose first numbers lie among those that count from `base`.
 /// `offsets` has, for each of these and for the one behind them, the index of the first pair that begins with it or
 /// with a larger one.
+#[derive(Drop)]
 pub(crate) struct Block {
     base: usize,
     pairs: Vec<(u32, u32)>,
     offsets: Vec<usize>,
-}
-
-// By hand, so that a drop is one call (docs/PROVING.md).
-impl Drop for Block {
-    fn drop(self) {
-        let Block {
-            base: _,
-            pairs: _,
-            offsets: _,
-        } = self;
-    }
 }
 
 impl Model for Block {

@@ -67,7 +67,6 @@ impl CertCause {
 }
 
 impl From<Memory> for CertFault {
-    ghost use Rattle.std.specs.Prelude.{◌≡◌};
     ghost use Rattle.certificate_text.specs.declared.fault.CertFault.{CertFault};
 
     ghost from_gives = { λ _ fault. fault ≡ CertFault.Memory };
@@ -78,7 +77,6 @@ impl From<Memory> for CertFault {
 }
 
 impl From<AllocError> for CertFault {
-    ghost use Rattle.std.specs.Prelude.{◌≡◌};
     ghost use Rattle.certificate_text.specs.declared.fault.CertFault.{CertFault};
 
     ghost from_gives = { λ _ fault. fault ≡ CertFault.Memory };
@@ -89,7 +87,6 @@ impl From<AllocError> for CertFault {
 }
 
 impl<T: Drop> From<AllocFailed<T>> for CertFault {
-    ghost use Rattle.std.specs.Prelude.{◌≡◌};
     ghost use Rattle.certificate_text.specs.declared.fault.CertFault.{CertFault};
 
     ghost from_gives = { λ _ fault. fault ≡ CertFault.Memory };

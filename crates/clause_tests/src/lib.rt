@@ -2,16 +2,4 @@
 #![tactic(auto)]
 
 #[cfg(test)]
-mod deciding;
-#[cfg(test)]
-mod learning;
-#[cfg(test)]
-mod literals;
-#[cfg(test)]
-mod logs;
-#[cfg(test)]
-mod named;
-#[cfg(test)]
-mod propagation;
-#[cfg(test)]
-mod solving;
+mod tests;

@@ -32,10 +32,7 @@ pub struct Arena {
 // By hand, so that a drop is one call (docs/PROVING.md).
 impl Drop for Arena {
     fn drop(self) {
-        let Arena {
-            rows: _,
-            watched: _,
-        } = self;
+        let Self { rows, watched } = self;
     }
 }
 

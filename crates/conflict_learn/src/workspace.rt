@@ -24,25 +24,13 @@ pub(crate) enum Border {
 /// into the clause, or it is open: the walk will replace it by its reason. `open_count` counts the open ones. The
 /// conflict is the first of `hints`. Between analyses nothing is marked.
 
+#[derive(Drop)]
 pub(crate) struct Workspace {
     pub(crate) alloc: Global,
     pub(crate) marks: Vec<bool>,
     pub(crate) open_count: usize,
     pub(crate) clause: Vec<Lit>,
     pub(crate) hints: Vec<u32>,
-}
-
-// By hand, so that a drop is one call (docs/PROVING.md).
-impl Drop for Workspace {
-    fn drop(self) {
-        let Workspace {
-            alloc: _,
-            marks: _,
-            open_count: _,
-            clause: _,
-            hints: _,
-        } = self;
-    }
 }
 
 /// Whether the negation of the true literal of an index goes into the clause.

@@ -1,5 +1,7 @@
 //! Why a commit adds nothing to the history.
 
+ghost use Rattle.std.specs.Prelude.{◌≡◌};
+
 use edit_rules::EditFault;
 use lists::Memory;
 use std::alloc::{AllocError, AllocFailed};
@@ -16,7 +18,6 @@ pub enum CommitFault {
 }
 
 impl From<Memory> for CommitFault {
-    ghost use Rattle.std.specs.Prelude.{◌≡◌};
     ghost use Rattle.edit_history.specs.declared.fault.CommitFault.TheVariants.{Memory};
 
     ghost from_gives = { λ _ fault. fault ≡ Memory };
@@ -27,7 +28,6 @@ impl From<Memory> for CommitFault {
 }
 
 impl<T: Drop> From<AllocFailed<T>> for CommitFault {
-    ghost use Rattle.std.specs.Prelude.{◌≡◌};
     ghost use Rattle.edit_history.specs.declared.fault.CommitFault.TheVariants.{Memory};
 
     ghost from_gives = { λ _ fault. fault ≡ Memory };
@@ -38,7 +38,6 @@ impl<T: Drop> From<AllocFailed<T>> for CommitFault {
 }
 
 impl From<AllocError> for CommitFault {
-    ghost use Rattle.std.specs.Prelude.{◌≡◌};
     ghost use Rattle.edit_history.specs.declared.fault.CommitFault.TheVariants.{Memory};
 
     ghost from_gives = { λ _ fault. fault ≡ Memory };

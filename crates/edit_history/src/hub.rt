@@ -54,10 +54,7 @@ pub struct History {
 
 impl Drop for History {
     fn drop(self) {
-        let History {
-            opening: _,
-            entries: _,
-        } = self;
+        let Self { opening, entries } = self;
     }
 }
 

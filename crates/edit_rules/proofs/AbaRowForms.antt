@@ -54,6 +54,19 @@ is_atom atoms x h = let r = in_range 1 atoms x h in record { low = r.0; high = r
 
 -- ---- forms
 
+-- a rule of a framework is one of another with the same atoms that has given as many numbers, where its head is no
+-- assumption
+still_rule : (f g : Aba) (r : Rule) → f.atoms ≡ g.atoms → f.next ≤ g.next → (Contains g.assumptions r.head → ⊥)
+    → IsRuleOf f r → IsRuleOf g r
+still_rule f g r atoms next flat old = record {
+  low = old.low;
+  given = let given = old.given in omega arith;
+  head = subst (λ n. IsAtom n r.head) atoms old.head;
+  flat = flat;
+  body_rises = old.body_rises;
+  body = λ y c. subst (λ n. IsAtom n y) atoms (old.body y c);
+}
+
 with_assumption_fits : (f : Aba) (a c : ℕ) → IsNumberedAba f → IsAtom f.atoms a → c ≤ f.atoms
     → (Contains (heads_of f.rules) a → ⊥) → IsNumberedAba (aba_with_assumption f a c)
 with_assumption_fits f a c ok atom bound free = record {
@@ -68,17 +81,11 @@ with_assumption_fits f a c ok atom bound free = record {
         (λ (e : (b, d) ≡ (a, c)). subst (λ n. n ≤ f.atoms) (sym (ap (λ p. p.1) e)) bound)
         ((with_contrary_members a c f.contraries (b, d)).0 h);
     numbers_rise = ok.form.numbers_rise;
-    rules_are = λ r h. let old = ok.form.rules_are r h in record {
-      low = old.low;
-      given = old.given;
-      head = old.head;
-      flat = λ d. ⊎_elim (λ l. old.flat l)
-          (λ (e : r.head ≡ a). free
-          (subst (Contains (heads_of f.rules)) e (image_there (λ (q : Rule). q.head) f.rules r h)))
-          ((with_number_members a f.assumptions r.head).0 d);
-      body_rises = old.body_rises;
-      body = old.body;
-    };
+    rules_are = λ r h. let old = ok.form.rules_are r h in
+        still_rule f (aba_with_assumption f a c) r refl (omega arith) (λ d. ⊎_elim (λ l. old.flat l)
+        (λ (e : r.head ≡ a). free
+        (subst (Contains (heads_of f.rules)) e (image_there (λ (q : Rule). q.head) f.rules r h)))
+        ((with_number_members a f.assumptions r.head).0 d)) old;
     next_is = ok.form.next_is;
   };
   atoms = ok.atoms;
@@ -100,14 +107,9 @@ without_assumption_form f a ok = record {
     one_contrary = firsts_without a f.contraries ∙ ap (filter (λ b. not (b == a))) ok.form.one_contrary;
     contraries_are = λ b d h. ok.form.contraries_are b d ((without_contrary_members a f.contraries (b, d)).0 h).0;
     numbers_rise = ok.form.numbers_rise;
-    rules_are = λ r h. let old = ok.form.rules_are r h in record {
-      low = old.low;
-      given = old.given;
-      head = old.head;
-      flat = λ d. old.flat ((Contains-filter (λ b. not (b == a)) f.assumptions r.head).0 d).0;
-      body_rises = old.body_rises;
-      body = old.body;
-    };
+    rules_are = λ r h. let old = ok.form.rules_are r h in
+        still_rule f (aba_without_assumption f a) r refl (omega arith)
+        (λ d. old.flat ((Contains-filter (λ b. not (b == a)) f.assumptions r.head).0 d).0) old;
     next_is = ok.form.next_is;
   };
   atoms = ok.atoms;
@@ -127,14 +129,8 @@ with_contrary_fits f a c ok there bound = record {
         (λ (e : (b, d) ≡ (a, c)). subst (λ n. n ≤ f.atoms) (sym (ap (λ p. p.1) e)) bound)
         ((with_contrary_members a c f.contraries (b, d)).0 h);
     numbers_rise = ok.form.numbers_rise;
-    rules_are = λ r h. let old = ok.form.rules_are r h in record {
-      low = old.low;
-      given = old.given;
-      head = old.head;
-      flat = old.flat;
-      body_rises = old.body_rises;
-      body = old.body;
-    };
+    rules_are = λ r h. let old = ok.form.rules_are r h in
+        still_rule f (aba_with_contrary f a c) r refl (omega arith) old.flat old;
     next_is = ok.form.next_is;
   };
   atoms = ok.atoms;
@@ -213,17 +209,7 @@ with_rule_form f h body ok none = record {
     behind = aba_with_rule f h body
 
     old : (r : Rule) → Contains f.rules r → IsRuleOf behind r
-    old r d =
-        let o = ok.form.rules_are r d in
-        let given : r.number < f.next = o.given in
-        record {
-          low = o.low;
-          given = omega arith;
-          head = o.head;
-          flat = o.flat;
-          body_rises = o.body_rises;
-          body = o.body;
-        }
+    old r d = let o = ok.form.rules_are r d in still_rule f behind r refl (omega arith) o.flat o
 
     new : IsRuleOf behind (next_rule f h body)
     new = record {
@@ -245,14 +231,7 @@ without_rule_form f n ok = record {
     numbers_rise = subst IsStrictlyIncreasing (filter-map (λ (r : Rule). r.number) (λ m. not (m == n)) f.rules)
         (IsStrictlyIncreasing-filter (λ m. not (m == n)) (numbers_of f.rules) ok.form.numbers_rise);
     rules_are = λ r c. let o = ok.form.rules_are r ((Contains-filter (λ q. not (q.number == n)) f.rules r).0 c).0 in
-        record {
-          low = o.low;
-          given = o.given;
-          head = o.head;
-          flat = o.flat;
-          body_rises = o.body_rises;
-          body = o.body;
-        };
+        still_rule f (aba_without_rule f n) r refl (omega arith) o.flat o;
     next_is = ok.form.next_is;
   };
   atoms = ok.atoms;

@@ -67,7 +67,6 @@ pub enum EditFault {
 }
 
 impl From<Memory> for EditFault {
-    ghost use Rattle.std.specs.Prelude.{◌≡◌};
     ghost use Rattle.edit_rules.specs.declared.effect.EditFault.TheVariants.{Memory};
 
     ghost from_gives = { λ _ fault. fault ≡ Memory };

@@ -2,18 +2,4 @@
 #![tactic(auto)]
 
 #[cfg(test)]
-mod answers;
-#[cfg(test)]
-mod assumptions;
-#[cfg(test)]
-mod definitions;
-#[cfg(test)]
-mod engines;
-#[cfg(test)]
-mod machines;
-#[cfg(test)]
-mod oracles;
-#[cfg(test)]
-mod trades;
-#[cfg(test)]
-mod updates;
+mod tests;

@@ -35,6 +35,11 @@ length-steps_of (c ∷ cs) [] hs p = absurd (no_kinds c cs hs p)
 length-steps_of (c ∷ cs) (k ∷ ks) [] p = absurd (no_hints c cs (k ∷ ks) p)
 length-steps_of (c ∷ cs) (k ∷ ks) (h ∷ hs) p = ap suc (length-steps_of cs ks hs (rest_parts c cs k ks h hs p))
 
+-- an index of the steps is one of their clauses
+pub within_parts : (cs : List (List Lit)) (ks : List StepKind) (hs : List (List ℕ)) (steps : List Step) (i : ℕ)
+    → AreParts cs ks hs → steps_of cs ks hs ≡ steps → i < length steps → i < length cs
+within_parts cs ks hs steps i p view lt = omega (arith, length-steps_of cs ks hs p, ap length view)
+
 pub clauses-steps_of : (cs : List (List Lit)) (ks : List StepKind) (hs : List (List ℕ)) → AreParts cs ks hs
     → cs ≡ clauses_of (steps_of cs ks hs)
 clauses-steps_of [] ks hs p = refl

@@ -13,21 +13,11 @@ use std::marker::Model;
 /// Steps, each with its clause, its kind and its hints. The literals of all clauses lie in one array, and so do
 /// all hints. Contracts see it as the list of the steps.
 
+#[derive(Drop)]
 pub(crate) struct Store {
     clauses: ClauseRows,
     kinds: Vec<StepKind>,
     hints: Rows<StepId>,
-}
-
-// By hand, so that a drop is one call (docs/PROVING.md).
-impl Drop for Store {
-    fn drop(self) {
-        let Store {
-            clauses: _,
-            kinds: _,
-            hints: _,
-        } = self;
-    }
 }
 
 impl Model for Store {

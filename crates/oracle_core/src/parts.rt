@@ -41,6 +41,7 @@ use std::alloc::Global;
 
 /// The framework with its members, the solver, the axioms that the framework needs with the number of those that the
 /// solver has already, and the names of the first steps, by which an axiom comes once at most.
+#[derive(Drop)]
 pub(crate) struct EngineParts {
     pub(crate) framework: Framework,
     pub(crate) members: NumSet,
@@ -49,21 +50,6 @@ pub(crate) struct EngineParts {
     pub(crate) taken: usize,
     pub(crate) is_listed: bool,
     pub(crate) names: StepNames,
-}
-
-// By hand, so that a drop is one call (docs/PROVING.md).
-impl Drop for EngineParts {
-    fn drop(self) {
-        let EngineParts {
-            framework: _,
-            members: _,
-            solver: _,
-            needed: _,
-            taken: _,
-            is_listed: _,
-            names: _,
-        } = self;
-    }
 }
 
 /// The numbers that sets of a framework are made of.

@@ -1,5 +1,7 @@
 //! What a query is answered with.
 
+ghost use Rattle.std.specs.Prelude.{◌≡◌};
+
 use certificate_claims::Certificate;
 use edit_rules::QueryFault;
 use iccma_tasks::Answer;
@@ -30,7 +32,6 @@ pub enum AnswerStop {
 }
 
 impl From<Halt> for AnswerStop {
-    ghost use Rattle.std.specs.Prelude.{◌≡◌};
     ghost use Rattle.oracle_core.specs.Answering.{stop_of};
 
     ghost from_gives = { λ halt stop. stop ≡ stop_of halt };
@@ -45,7 +46,6 @@ impl From<Halt> for AnswerStop {
 }
 
 impl From<OutOfMemory> for AnswerStop {
-    ghost use Rattle.std.specs.Prelude.{◌≡◌};
     ghost use Rattle.oracle_core.specs.declared.reply.AnswerStop.TheVariants.{Memory};
 
     ghost from_gives = { λ _ stop. stop ≡ Memory };
@@ -56,7 +56,6 @@ impl From<OutOfMemory> for AnswerStop {
 }
 
 impl From<QueryFault> for AnswerStop {
-    ghost use Rattle.std.specs.Prelude.{◌≡◌};
     ghost use Rattle.oracle_core.specs.declared.reply.AnswerStop.TheVariants.{Query};
 
     ghost from_gives = { λ fault stop. stop ≡ Query fault };

@@ -30,7 +30,6 @@ pub enum UpdateStop {
 }
 
 impl From<Halt> for UpdateStop {
-    ghost use Rattle.std.specs.Prelude.{◌≡◌};
     ghost use Rattle.oracle_core.specs.Stopping.{update_stop_of};
 
     ghost from_gives = { λ halt stop. stop ≡ update_stop_of halt };
@@ -45,7 +44,6 @@ impl From<Halt> for UpdateStop {
 }
 
 impl From<Memory> for UpdateStop {
-    ghost use Rattle.std.specs.Prelude.{◌≡◌};
     ghost use Rattle.oracle_core.specs.declared.updating.UpdateStop.TheVariants.{Memory};
 
     ghost from_gives = { λ _ stop. stop ≡ Memory };

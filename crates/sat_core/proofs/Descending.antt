@@ -84,15 +84,16 @@ quiet_true s id room quiet values named =
     (λ w. w)
     (some_true s.lits (clause_at s.clauses id) (quiet_total s id room values named))
 
-pub model_of : (state : SolverState) (s : Search) (assumptions : List Lit)
+pub model_of : (state : SolverState) (front : List Lit) (s : Search) (assumptions : List Lit)
     → IsMirror s.clauses state.active state.log.steps
-    → IsSearch s → IsRun assumptions s → IsQuiet s.clauses s.lits → HaveValues s → IsModel state assumptions s.lits
-model_of state s assumptions m form run quiet values = record {
+    → IsSearch s → IsRun front assumptions s → IsQuiet s.clauses s.lits → HaveValues s
+    → IsModel state assumptions s.lits
+model_of state front s assumptions m form run quiet values = record {
   plain = λ t. consistent s.lits t.0 form.apart t.1 t.2;
   assumed = λ l c. let w = run.there l c in stands_contains s.lits w.index l w.stands;
   satisfied = λ number c.
       let id = id_of s.clauses state.active state.log.steps number m c in
-      let w = quiet_true s id.0 run.room quiet values id.1 in (
+      let w = quiet_true s id.0 run.fronted.room quiet values id.1 in (
         w.0,
         subst (λ n. Contains (clause_of state.log.steps n) w.0) id.2
             (subst (λ xs. Contains xs w.0) (sym (m.same id.0 id.1)) w.1),
@@ -100,20 +101,20 @@ model_of state s assumptions m form run quiet values = record {
       );
   total = λ number c l there.
       let id = id_of s.clauses state.active state.log.steps number m c in
-      quiet_total s id.0 run.room values id.1 l
+      quiet_total s id.0 run.fronted.room values id.1 l
       (subst (λ xs. Contains xs l) (m.same id.0 id.1)
       (subst (λ n. Contains (clause_of state.log.steps n) l) (sym id.2) there));
 }
 
 -- a search goes on
 pub on_same : (s : Search) → GoesOn s s
-on_same s = record { clauses = refl; vars = refl; run = λ assumptions r. r }
+on_same s = record { clauses = refl; vars = refl; run = λ front assumptions r. r }
 
 pub on_trans : (a b c : Search) → GoesOn a b → GoesOn b c → GoesOn a c
 on_trans a b c f g = record {
   clauses = g.clauses ∙ f.clauses;
   vars = g.vars ∙ f.vars;
-  run = λ assumptions r. g.run assumptions (f.run assumptions r);
+  run = λ front assumptions r. g.run front assumptions (f.run front assumptions r);
 }
 
 pub on_equal : (a b : Search) → b ≡ a → GoesOn a b
@@ -123,7 +124,7 @@ pub on_grown : (old new : Search) → IsSearch old → HasGrown old new → Goes
 on_grown old new form g = record {
   clauses = g.clauses;
   vars = g.vars;
-  run = λ assumptions r. grown old new assumptions form g r;
+  run = λ front assumptions r. grown front old new assumptions form g r;
 }
 
 pub on_decided : (old new : Search) (l : Lit) → IsSearch old → IsQuiet old.clauses old.lits → Decides old new l
@@ -131,15 +132,15 @@ pub on_decided : (old new : Search) (l : Lit) → IsSearch old → IsQuiet old.c
 on_decided old new l form quiet d = record {
   clauses = d.clauses;
   vars = d.vars;
-  run = λ assumptions r. decided old new l assumptions form quiet d r;
+  run = λ front assumptions r. decided front old new l assumptions form quiet d r;
 }
 
-pub on_back : (old new : Search) (level : ℕ) → IsSearch old → 0 < level → level < length old.starts
+pub on_back : (old new : Search) (level : ℕ) → IsSearch old → 1 < level → level < length old.starts
     → GoesBack old new level → GoesOn old new
 on_back old new level form pos lt g = record {
   clauses = g.clauses;
   vars = g.vars;
-  run = λ assumptions r. back old new level assumptions form pos lt g r;
+  run = λ front assumptions r. back front old new level assumptions form pos lt g r;
 }
 
 -- a decision after a look that changed nothing of the search

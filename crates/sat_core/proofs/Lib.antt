@@ -1,4 +1,5 @@
 pub mod Descending
+pub mod Fronting
 pub mod Keeping
 pub mod Mirroring
 pub mod Running

@@ -3,8 +3,8 @@ use Rattle.std.proofs.Common.{◌≡◌, ℕ, ◌<◌, ◌≤◌, ◌+◌, ◌-�
 use Rattle.std.proofs.Common.{arith, ap, sym, subst, ◌∙◌, refl, inl, inr, ⊎_elim, length-append, length-take}
 use Rattle.std.specs.Prelude.{Contains, ◌⊎◌}
 use Rattle.std.proofs.Math.Seq.{get_or-append_seam}
-use Rattle.std.proofs.lemmas.List.{get_or_default, get_or-set_other, get_or_append_left, get_or-take}
-use Rattle.std.proofs.lemmas.List.{take-append-le, take-take, take_at}
+use Rattle.std.proofs.lemmas.List.{get_or_default, get_or-set_other, get_or_append_left, get_or-append_right}
+use Rattle.std.proofs.lemmas.List.{get_or-take, take-append-le, take-take, take_at}
 use Rattle.std.proofs.lemmas.Bool.{cases_lt}
 use Rattle.plain_lits.specs.declared.lit.Lit.{Lit}
 use Rattle.plain_lits.specs.Literals.{negation}
@@ -15,7 +15,9 @@ use Rattle.unit_propagate.specs.Search.{Learns, StaysSearch}
 use Rattle.clause_watches.proofs.Fronts.{consistent}
 use Rattle.conflict_learn.specs.Learning.{StandsAt, IsDecided, IsSettled, IsOpen, IsAssumed}
 use Rattle.conflict_learn.specs.Learning.{lits_at}
-use Rattle.sat_core.specs.Runs.{IsEarly, BeginsAt, HasRoom, IsRun, IsBased, IsResting}
+use Rattle.sat_core.specs.Runs.{IsEarly, BeginsAt, HasRoom, IsRun, IsFronted, IsResting, IsReadyFor}
+use Rattle.sat_core.proofs.Fronting.{fronted_grown, fronted_learned, fronted_stays, fronted_block, fronted_decided}
+use Rattle.sat_core.proofs.Fronting.{fronted_back, fronted_none, fronted_new, end_past, rests}
 use Rattle.conflict_learn.proofs.Literally.{stands_contains, contains_stands}
 
 stands_more : (lits rest : List Lit) (index : ℕ) (l : Lit) → StandsAt lits index l → StandsAt (lits ++ rest) index l
@@ -111,37 +113,50 @@ open_quiet clauses lits clause q o = record {
       (clause_cases clauses clause id named);
 }
 
--- the first level begins with the assumptions
-pub begins : (old new : Search) (assumptions : List Lit) → IsResting old → GainsBlock old new assumptions
-    → IsRun assumptions new
-begins old new assumptions rest g =
-    let starts : new.starts ≡ 0 ∷ [] = g.starts ∙ (ap (λ xs. xs ++ length old.lits ∷ []) rest.levels
-    ∙ ap (λ xs. length xs ∷ []) rest.none) in
-    let one : length new.starts ≡ 1 = ap length starts in
-    let lits : new.lits ≡ g.more.0 = g.more.1 ∙ ap (λ xs. xs ++ g.more.0) rest.none in
+-- the second level begins with the assumptions
+pub begins : (front : List Lit) (old new : Search) (assumptions : List Lit) → IsSearch old
+    → IsReadyFor front assumptions old → GainsBlock old new assumptions → IsRun front assumptions new
+begins front old new assumptions form ready g =
+    let one = ready.one in
+    let n = length old.lits in
+    let long : length new.starts ≡ 2 =
+    omega (arith, ap length g.starts, length-append old.starts (n ∷ []), one) in
+    let room = room_same old new g.clauses g.vars ready.fronted.room in
     record {
-      some = omega arith;
-      first = ap (λ xs. get_or xs 0 0) starts;
+      some = omega (arith, long);
       there = λ l c.
           let s = contains_stands new.lits l (g.block_true l c) in
-          record { index = s.0; stands = s.1; early = record { below = λ k pos lt. absurd (omega arith) } };
+          record {
+            index = s.0;
+            stands = s.1;
+            early = record { below = λ k pos lt. absurd (omega (arith, long, pos, lt)) };
+          };
       free = λ index lt none. inl (record {
-        assumed = λ d. g.more.2 (get_or new.lits index d) (
-          index,
-          subst (λ xs. index < length xs) lits lt,
-          ap (λ xs. get_or xs index (get_or new.lits index d)) (sym lits)
-              ∙ get_or_default new.lits index (get_or new.lits index d) d lt,
-        );
-        early = record { below = λ k pos lt2. absurd (omega arith) };
+        assumed = λ d. ⊎_elim
+            (λ (before : index < n). subst (Contains assumptions)
+            (sym (ap (λ xs. get_or xs index d) g.more.1 ∙ get_or_append_left old.lits g.more.0 d index before))
+            (ready.part (get_or old.lits index d) (ready.fronted.free index before
+            (let e = end_past old (omega (arith, one)) in omega (arith, e, before))
+            (sym (g.reasons index before) ∙ none) d)))
+            (λ after. g.more.2 (get_or new.lits index d) (
+              index - n,
+              (let e = ap length g.more.1 in omega (arith, e, length-append old.lits g.more.0, after, lt)),
+              sym (get_or-append_right old.lits g.more.0 n index (get_or new.lits index d) refl after)
+                  ∙ (ap (λ xs. get_or xs index (get_or new.lits index d)) (sym g.more.1)
+                  ∙ get_or_default new.lits index (get_or new.lits index d) d lt),
+            ))
+            (cases_lt index n);
+        early = record { below = λ k pos k_lt. absurd (omega (arith, long, pos, k_lt)) };
       });
-      room = room_same old new g.clauses g.vars rest.room;
-      settled = λ k pos lt. absurd (omega arith);
+      fronted = fronted_block front old new assumptions form (omega (arith, one)) room g ready.fronted;
+      settled = λ k pos lt. absurd (omega (arith, long, pos, lt));
     }
 
 -- literals with reasons come
-pub grown : (old new : Search) (assumptions : List Lit) → IsSearch old → HasGrown old new → IsRun assumptions old
-    → IsRun assumptions new
-grown old new assumptions form g run =
+pub grown : (front : List Lit) (old new : Search) (assumptions : List Lit) → IsSearch old → HasGrown old new
+    → IsRun front assumptions old → IsRun front assumptions new
+grown front old new assumptions form g run =
+    let room = room_same old new g.clauses (let e = g.vars in omega (arith, e)) run.fronted.room in
     let rest = g.more.0 in
     let lits : new.lits ≡ old.lits ++ rest = g.more.1 in
     let starts : new.starts ≡ old.starts = g.starts in
@@ -149,7 +164,6 @@ grown old new assumptions form g run =
     let some = run.some in
     record {
       some = omega (arith, long, some);
-      first = ap (λ xs. get_or xs 0 0) starts ∙ run.first;
       there = λ l c. let w = run.there l c in record {
         index = w.index;
         stands = subst (λ xs. StandsAt xs w.index l) (sym lits) (stands_more old.lits rest w.index l w.stands);
@@ -167,7 +181,7 @@ grown old new assumptions form g run =
           (run.free index before (sym (g.reasons index before) ∙ none)))
           (λ after. absurd (g.new_reasons index after lt none))
           (cases_lt index (length old.lits));
-      room = room_same old new g.clauses (let e = g.vars in omega (arith, e)) run.room;
+      fronted = fronted_grown front old new form (omega (arith, some)) room g run.fronted;
       settled = λ k pos lt.
           let k_lt : k < length old.starts = omega (arith, long, lt) in
           let q = run.settled k pos k_lt in
@@ -180,9 +194,10 @@ grown old new assumptions form g run =
     }
 
 -- a level begins with a decision
-pub decided : (old new : Search) (lit : Lit) (assumptions : List Lit) → IsSearch old → IsQuiet old.clauses old.lits
-    → Decides old new lit → IsRun assumptions old → IsRun assumptions new
-decided old new lit assumptions form quiet g run =
+pub decided : (front : List Lit) (old new : Search) (lit : Lit) (assumptions : List Lit) → IsSearch old
+    → IsQuiet old.clauses old.lits → Decides old new lit → IsRun front assumptions old → IsRun front assumptions new
+decided front old new lit assumptions form quiet g run =
+    let room = room_same old new g.clauses (let e = g.vars in omega (arith, e)) run.fronted.room in
     let n = length old.lits in
     let m = length old.starts in
     let some = run.some in
@@ -199,8 +214,7 @@ decided old new lit assumptions form quiet g run =
           (cases_lt k m);
     } in
     record {
-      some = omega (arith, long);
-      first = start_old 0 some ∙ run.first;
+      some = omega (arith, long, some);
       there = λ l c. let w = run.there l c in record {
         index = w.index;
         stands = subst (λ xs. StandsAt xs w.index l) (sym g.lits) (stands_more old.lits (lit ∷ []) w.index l w.stands);
@@ -233,7 +247,7 @@ decided old new lit assumptions form quiet g run =
                 e ∙ sym (start_new m refl);
           }))
           (cases_lt index n);
-      room = room_same old new g.clauses (let e = g.vars in omega (arith, e)) run.room;
+      fronted = fronted_decided front old new lit form (omega (arith, some)) room g run.fronted;
       settled = λ k pos lt. subst (λ cs. IsQuiet cs (take (get_or new.starts k 0) new.lits)) (sym g.clauses)
           (⊎_elim
           (λ before.
@@ -269,11 +283,12 @@ lits_below old new level k form g lt k_lt =
     ∙ (ap (take (get_or old.starts k 0)) (back_lits old new level g lt)
     ∙ take-take (get_or old.starts k 0) (get_or old.starts level 0) old.lits rise)
 
--- levels are taken back, but not the first
-pub back : (old new : Search) (level : ℕ) (assumptions : List Lit) → IsSearch old → 0 < level
+-- levels are taken back, but not the first two
+pub back : (front : List Lit) (old new : Search) (level : ℕ) (assumptions : List Lit) → IsSearch old → 1 < level
     → level < length old.starts
-    → GoesBack old new level → IsRun assumptions old → IsRun assumptions new
-back old new level assumptions form pos lt g run =
+    → GoesBack old new level → IsRun front assumptions old → IsRun front assumptions new
+back front old new level assumptions form pos lt g run =
+    let room = room_same old new g.clauses (let e = g.vars in omega (arith, e)) run.fronted.room in
     let s = get_or old.starts level 0 in
     let lits = back_lits old new level g lt in
     let long : length new.starts ≡ level = ap length g.starts
@@ -286,8 +301,7 @@ back old new level assumptions form pos lt g run =
           let same = back_start old new level k g (omega arith) in omega (arith, low, same);
     } in
     record {
-      some = omega arith;
-      first = back_start old new level 0 g pos ∙ run.first;
+      some = omega (arith, long, pos);
       there = λ l c. let w = run.there l c in record {
         index = w.index;
         stands = subst (λ xs. StandsAt xs w.index l) (sym lits)
@@ -315,7 +329,7 @@ back old new level assumptions form pos lt g run =
           (λ ge. let rise = form.levels.rise level w.level ge w_lt in absurd (omega (arith, rise, w_is, i_s)))
           (cases_lt w.level level))
           (run.free index (omega (arith, i_s, s_le)) (sym (ap (λ xs. get_or xs index 0) g.reasons) ∙ none));
-      room = room_same old new g.clauses (let e = g.vars in omega (arith, e)) run.room;
+      fronted = fronted_back front old new level form (omega (arith, pos)) lt room g run.fronted;
       settled = λ k k_pos k_lt.
           let k_level : k < level = omega arith in
           subst (λ cs. IsQuiet cs (lits_at new k)) (sym g.clauses)
@@ -324,11 +338,11 @@ back old new level assumptions form pos lt g run =
     }
 
 -- a clause comes with its literal
-pub learned : (old new : Search) (clause : List Lit) (lit : Lit) (id : ℕ) (assumptions : List Lit) → IsSearch old
-    → Learns old new clause lit id → ((l : Lit) → Contains clause l → l.var < old.vars)
-    → ((k : ℕ) → 0 < k → k < length old.starts → IsOpen (lits_at old k) clause) → IsRun assumptions old
-    → IsRun assumptions new
-learned old new clause lit id assumptions form g known open_at run =
+pub learned : (front : List Lit) (old new : Search) (clause : List Lit) (lit : Lit) (id : ℕ) (assumptions : List Lit)
+    → IsSearch old → Learns old new clause lit id → ((l : Lit) → Contains clause l → l.var < old.vars)
+    → ((k : ℕ) → 1 < k → k < length old.starts → IsOpen (lits_at old k) clause) → IsRun front assumptions old
+    → IsRun front assumptions new
+learned front old new clause lit id assumptions form g known open_at run =
     let n = length old.lits in
     let starts : new.starts ≡ old.starts = g.starts in
     let long = ap length starts in
@@ -338,7 +352,6 @@ learned old new clause lit id assumptions form g known open_at run =
     let clauses_long = ap length g.clauses ∙ length-append old.clauses (clause ∷ []) in
     record {
       some = omega (arith, long, some);
-      first = ap (λ xs. get_or xs 0 0) starts ∙ run.first;
       there = λ l c. let w = run.there l c in record {
         index = w.index;
         stands = subst (λ xs. StandsAt xs w.index l) (sym g.lits) (stands_more old.lits (lit ∷ []) w.index l w.stands);
@@ -360,7 +373,9 @@ learned old new clause lit id assumptions form g known open_at run =
           let zero_id : id ≡ 0 = sym g.reason ∙ (ap (λ i. get_or new.reasons i 0) (sym e) ∙ none) in
           absurd (omega (arith, zero_id, id_is, clauses_long)))
           (cases_lt index n);
-      room = room_more old new clause g.clauses more (λ l c. let lt = known l c in omega (arith, lt, more)) run.room;
+      fronted = fronted_learned front old new clause lit id form (omega (arith, some))
+          (room_more old new clause g.clauses more (λ l c. let lt = known l c in omega (arith, lt, more))
+          run.fronted.room) g run.fronted;
       settled = λ k pos lt.
           let k_lt : k < length old.starts = omega (arith, long, lt) in
           let start_le = form.levels.within k k_lt in
@@ -374,16 +389,15 @@ learned old new clause lit id assumptions form g known open_at run =
     }
 
 -- only more variables are known
-pub stays_run : (old new : Search) (assumptions : List Lit) → IsSearch old → StaysSearch old new → IsRun assumptions old
-    → IsRun assumptions new
-stays_run old new assumptions form g run =
+pub stays_run : (front : List Lit) (old new : Search) (assumptions : List Lit) → IsSearch old → StaysSearch old new
+    → IsRun front assumptions old → IsRun front assumptions new
+stays_run front old new assumptions form g run =
     let a = g.assigned in
     let starts : new.starts ≡ old.starts = a.starts in
     let long = ap length starts in
     let some = run.some in
     record {
       some = omega (arith, long, some);
-      first = ap (λ xs. get_or xs 0 0) starts ∙ run.first;
       there = λ l c. let w = run.there l c in record {
         index = w.index;
         stands = subst (λ xs. StandsAt xs w.index l) (sym a.lits) w.stands;
@@ -398,7 +412,7 @@ stays_run old new assumptions form g run =
           }))
           (λ w. inr (subst (λ xs. BeginsAt xs index) (sym starts) w))
           (run.free index before (sym (a.reasons index before) ∙ none));
-      room = room_same old new g.clauses a.vars run.room;
+      fronted = fronted_stays front old new form (room_same old new g.clauses a.vars run.fronted.room) a run.fronted;
       settled = λ k pos lt.
           let k_lt : k < length old.starts = omega (arith, long, lt) in
           let same : lits_at new k ≡ lits_at old k =
@@ -407,13 +421,13 @@ stays_run old new assumptions form g run =
           (subst (λ cs. IsQuiet cs (lits_at old k)) (sym g.clauses) (run.settled k pos k_lt));
     }
 
--- a decision made the last level of more than one
-pub has_decided : (s : Search) (assumptions : List Lit) → IsSearch s → 1 < length s.starts → IsRun assumptions s
-    → IsDecided s
-has_decided s assumptions form deep run =
+-- a decision made the last level of more than two
+pub has_decided : (front : List Lit) (s : Search) (assumptions : List Lit) → IsSearch s → 2 < length s.starts
+    → IsRun front assumptions s → IsDecided s
+has_decided front s assumptions form deep run =
     let last = length s.starts - 1 in
     record {
-      some = run.some;
+      some = omega (arith, deep);
       rest = λ index after lt none. ⊎_elim
           (λ w. let low = w.early.below last (omega arith) (omega arith) in omega (arith, low, after))
           (λ w.
@@ -424,56 +438,78 @@ has_decided s assumptions form deep run =
           (run.free index lt none);
     }
 
-pub has_settled : (s : Search) (assumptions : List Lit) → 1 < length s.starts → IsRun assumptions s → IsSettled s
-has_settled s assumptions deep run = run.settled (length s.starts - 1) (omega arith) (omega arith)
+pub has_settled : (front : List Lit) (s : Search) (assumptions : List Lit) → 2 < length s.starts
+    → IsRun front assumptions s → IsSettled s
+has_settled front s assumptions deep run = run.settled (length s.starts - 1) (omega arith) (omega arith)
 
--- on the first level a literal without a reason is assumed
-pub core_lits : (s : Search) (assumptions : List Lit) (l : Lit) → length s.starts ≤ 1 → IsRun assumptions s
-    → IsAssumed s l → Contains assumptions (negation l)
-core_lits s assumptions l shallow run a = ⊎_elim
+-- on the first two levels a literal without a reason is assumed
+pub core_lits : (front : List Lit) (s : Search) (assumptions : List Lit) (l : Lit) → length s.starts ≤ 2
+    → IsRun front assumptions s → IsAssumed s l → Contains assumptions (negation l)
+core_lits front s assumptions l shallow run a = ⊎_elim
     (λ w. subst (Contains assumptions) (a.stands.is l) (w.assumed l))
     (λ w. let w_lt = w.within in let pos = w.later in absurd (omega (arith, w_lt, pos, shallow)))
     (run.free a.index a.stands.within a.free)
 
 -- a literal of a false clause isn't assumed
-pub not_assumed : (s : Search) (assumptions clause : List Lit) (l : Lit) → IsSearch s → IsRun assumptions s
+pub not_assumed : (front : List Lit) (s : Search) (assumptions clause : List Lit) (l : Lit) → IsSearch s
+    → IsRun front assumptions s
     → IsFalsified negation s.lits clause → Contains clause l → Contains assumptions l → ⊥
-not_assumed s assumptions clause l form run f c a =
+not_assumed front s assumptions clause l form run f c a =
     let w = run.there l a in
     consistent s.lits l form.apart (stands_contains s.lits w.index l w.stands) (f.each l c)
 
-pub based_of : (s : Search) (assumptions : List Lit) → IsRun assumptions s → IsBased s
-based_of s assumptions run = record {
-  base = get_or_default s.starts 0 (length s.lits) 0 run.some ∙ run.first;
-  room = run.room;
-}
+-- the first level while literals with reasons come, and once all others are taken back
+pub front_grown : (front : List Lit) (old new : Search) → IsSearch old → 0 < length old.starts → HasGrown old new
+    → IsFronted front old → IsFronted front new
+front_grown front old new form some g f =
+    fronted_grown front old new form some (room_same old new g.clauses (let e = g.vars in omega (arith, e)) f.room) g f
 
--- where all levels are taken back, nothing is true
-pub rests : (old new : Search) → IsBased old → GoesBack old new 0 → IsResting new
-rests old new b g = record {
-  none = g.lits ∙ ap (λ i. take i old.lits) b.base;
-  levels = g.starts;
-  room = room_same old new g.clauses (let e = g.vars in omega (arith, e)) b.room;
-}
+pub front_rests : (front : List Lit) (old new : Search) → IsSearch old → 1 < length old.starts → GoesBack old new 1
+    → IsFronted front old → IsResting front new
+front_rests front old new form deep g f =
+    rests front old new form deep (room_same old new g.clauses (let e = g.vars in omega (arith, e)) f.room) g f
 
-pub based_resting : (s : Search) → IsResting s → IsBased s
-based_resting s r = record {
-  base = ap (λ xs. get_or xs 0 (length s.lits)) r.levels ∙ ap length r.none;
-  room = r.room;
-}
+-- a clause comes while there is no level but the first
+pub resting_more : (front : List Lit) (old new : Search) (clause : List Lit) (id : ℕ) → IsSearch old
+    → GainsClause old new clause id → IsResting front old → IsResting front new
+resting_more front old new clause id form g r =
+    let few = r.few in
+    let long = ap length g.assigned.starts in
+    record {
+      fronted = fronted_stays front old new form
+          (room_more old new clause g.clauses g.assigned.vars g.known r.fronted.room) g.assigned r.fronted;
+      few = omega (arith, few, long);
+    }
 
--- a clause comes while nothing is true
-pub resting_more : (old new : Search) (clause : List Lit) (id : ℕ) → GainsClause old new clause id → IsResting old
-    → IsResting new
-resting_more old new clause id g r = record {
-  none = g.assigned.lits ∙ r.none;
-  levels = g.assigned.starts ∙ r.levels;
-  room = room_more old new clause g.clauses g.assigned.vars g.known r.room;
-}
+pub fronted_same : (front : List Lit) (old new : Search) → IsSearch old → StaysSearch old new → IsFronted front old
+    → IsFronted front new
+fronted_same front old new form g f =
+    fronted_stays front old new form (room_same old new g.clauses g.assigned.vars f.room) g.assigned f
 
-pub resting_stays : (old new : Search) → StaysSearch old new → IsResting old → IsResting new
-resting_stays old new g r = record {
-  none = g.assigned.lits ∙ r.none;
-  levels = g.assigned.starts ∙ r.levels;
-  room = room_same old new g.clauses g.assigned.vars r.room;
-}
+pub resting_stays : (front : List Lit) (old new : Search) → IsSearch old → StaysSearch old new → IsResting front old
+    → IsResting front new
+resting_stays front old new form g r =
+    let few = r.few in
+    let long = ap length g.assigned.starts in
+    record { fronted = fronted_same front old new form g r.fronted; few = omega (arith, few, long) }
+
+-- the front is given up: nothing is true then, as long as no other comes
+back_none : (front : List Lit) (old new : Search) → IsFronted front old → GoesBack old new 0 → new.lits ≡ []
+back_none front old new f g = g.lits ∙ ap (λ i. take i old.lits) f.base
+
+back_room : (front : List Lit) (old new : Search) → IsFronted front old → GoesBack old new 0 → HasRoom new
+back_room front old new f g = room_same old new g.clauses (let e = g.vars in omega (arith, e)) f.room
+
+pub given_up : (front : List Lit) (old mid new : Search) → IsFronted front old → GoesBack old mid 0 → IsSearch mid
+    → StaysSearch mid new → IsResting [] new
+given_up front old mid new f g form stays = resting_stays [] mid new form stays (record {
+  fronted = fronted_none mid (back_none front old mid f g) g.starts (back_room front old mid f g);
+  few = let e = ap length g.starts in omega (arith, e);
+})
+
+pub front_begins : (front : List Lit) (old mid new : Search) (block : List Lit) → IsFronted front old
+    → GoesBack old mid 0 → GainsBlock mid new block
+    → IsFronted block new × (length new.starts ≡ 1) × ((l : Lit) → Contains new.lits l → Contains block l)
+front_begins front old mid new block f g gains =
+    fronted_new mid new block (back_none front old mid f g) g.starts
+    (room_same mid new gains.clauses gains.vars (back_room front old mid f g)) gains

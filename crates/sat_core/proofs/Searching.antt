@@ -47,6 +47,12 @@ pub mirror_same : (clauses new_clauses : List (List Lit)) (active : List ℕ) (s
     → new_clauses ≡ clauses → IsMirror clauses active steps → IsMirror new_clauses active steps
 mirror_same clauses new_clauses active steps e m = subst (λ cs. IsMirror cs active steps) (sym e) m
 
+-- turns from an equal state
+pub run_from : (old mid : SolverState) (new : Cdcl) (assumptions : List Lit) (before after : Units) (ended : End)
+    → mid ≡ old → HasRun mid new assumptions before after ended → HasRun old new assumptions before after ended
+run_from old mid new assumptions before after ended e h =
+    subst (λ s. HasRun s new assumptions before after ended) e h
+
 -- what a search tells
 pub searched_of : (old : SolverState) (ran : Cdcl) (assumptions : List Lit) (before after : Units) (ended : End)
     (result : Result Solved Halt) → HasRun (begun old) ran assumptions before after ended

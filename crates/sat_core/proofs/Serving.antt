@@ -16,7 +16,6 @@ use Rattle.clause_watches.proofs.Fronts.{from_front}
 use Rattle.hinted_log.specs.Logs.{Step, IsStepOf}
 use Rattle.sat_core.specs.Solving.{clause_of, Holds}
 use Rattle.sat_core.specs.Mirrors.{FalsifiesAll, IsSubsuming, step_of}
-use Rattle.lists.proofs.TruthValues.{not_not}
 use Rattle.plain_lits.proofs.CheckingLemmas.{negation-negation, negation_same}
 
 pub denies_none : (clause lits : List Lit) → lits ≡ [] → FalsifiesAll (take 0 clause) lits

@@ -19,8 +19,8 @@ use Rattle.sat_core.proofs.Mirroring.{mirror_grown, mirror_more, hints_named, un
 use Rattle.sat_core.proofs.Mirroring.{moved}
 
 -- the level to which a search goes back lies below the last one
-pub target_within : (s : Search) (level target : ℕ) → level < length s.starts → 1 < length s.starts
-    → ((n : ℕ) → 1 < n → level < n → target < n) → target < length s.starts
+pub target_within : (s : Search) (level target : ℕ) → level < length s.starts → 2 < length s.starts
+    → ((n : ℕ) → 2 < n → level < n → target < n) → target < length s.starts
 target_within s level target lt deep within = within (length s.starts) deep lt
 
 -- there the clause is unit
@@ -30,27 +30,27 @@ pub unit_after : (old new : Search) (level target : ℕ) (clause : List Lit) (li
 unit_after old new level target clause lit a le lt g =
     subst (λ xs. IsUnit negation xs clause lit) (sym (back_lits old new target g lt)) (a.unit.each target le lt)
 
-pub run_after : (old new : Search) (target : ℕ) (assumptions : List Lit) → IsSearch old → 0 < target
-    → target < length old.starts → GoesBack old new target → IsRun assumptions old → IsRun assumptions new
-run_after old new target assumptions form pos lt g run = back old new target assumptions form pos lt g run
+pub run_after : (front : List Lit) (old new : Search) (target : ℕ) (assumptions : List Lit) → IsSearch old → 1 < target
+    → target < length old.starts → GoesBack old new target → IsRun front assumptions old → IsRun front assumptions new
+run_after front old new target assumptions form pos lt g run = back front old new target assumptions form pos lt g run
 
 -- and with it the search goes on
-pub run_learned : (old mid new : Search) (level target : ℕ) (clause : List Lit) (lit : Lit) (id : ℕ)
+pub run_learned : (front : List Lit) (old mid new : Search) (level target : ℕ) (clause : List Lit) (lit : Lit) (id : ℕ)
     (assumptions : List Lit)
-    → IsSearch old → IsSearch mid → IsAsserting old level clause lit → 0 < target
-    → ((n : ℕ) → 0 < n → n < target → n < level) → target < length old.starts → GoesBack old mid target
-    → Learns mid new clause lit id → IsRun assumptions old → IsRun assumptions new
-run_learned old mid new level target clause lit id assumptions form mid_form a pos low lt g l run =
+    → IsSearch old → IsSearch mid → IsAsserting old level clause lit → 1 < target
+    → ((n : ℕ) → 1 < n → n < target → n < level) → target < length old.starts → GoesBack old mid target
+    → Learns mid new clause lit id → IsRun front assumptions old → IsRun front assumptions new
+run_learned front old mid new level target clause lit id assumptions form mid_form a pos low lt g l run =
     let vars = g.vars in
     let long : length mid.starts ≡ target = ap length g.starts
     ∙ (let e : length (take target old.starts) ≡ target = omega (arith, length-take target old.starts) in e) in
-    learned mid new clause lit id assumptions mid_form l
+    learned front mid new clause lit id assumptions mid_form l
     (λ x c. let known = a.known x c in omega (arith, vars, known))
     (λ k k_pos k_lt.
     let k_target : k < target = omega (arith, long, k_lt) in
     subst (λ xs. IsOpen xs clause) (sym (lits_below old mid target k form g lt k_target))
     (a.least.each k (low k k_pos k_target)))
-    (back old mid target assumptions form pos lt g run)
+    (back front old mid target assumptions form pos lt g run)
 
 -- the clauses and the steps, where a step has come but not its clause, and where both have
 pub mirror_derived : (clauses new_clauses : List (List Lit)) (active new_active : List ℕ) (log new_log : LogState)
@@ -108,14 +108,15 @@ pub known_of : (s : Search) (clause : List Lit) → IsSearch s → IsFalsified n
 known_of s clause form f l c = form.within (negation l) (f.each l c)
 
 -- what is learned is a unit of the solver
-pub unit_learned : (state : SolverState) (s : Search) (assumptions clause : List Lit) (ids : List ℕ) (hints : List ℕ)
-    → IsMirror s.clauses state.active state.log.steps → IsSearch s → IsRun assumptions s
+pub unit_learned : (state : SolverState) (front : List Lit) (s : Search) (assumptions clause : List Lit)
+    (ids hints : List ℕ)
+    → IsMirror s.clauses state.active state.log.steps → IsSearch s → IsRun front assumptions s
     → IsLearned s.clauses s.lits clause ids → IsNew s.clauses clause → hints ≡ map (step_of state.active) ids
     → IsUnitOf state assumptions clause hints
-unit_learned state s assumptions clause ids hints m form run l new e =
+unit_learned state front s assumptions clause ids hints m form run l new e =
     subst (IsUnitOf state assumptions clause) (sym e)
     (unit_of state s.clauses s.lits assumptions clause ids m l new
-    (λ x c a. not_assumed s assumptions clause x form run l.all_false c a))
+    (λ x c a. not_assumed front s assumptions clause x form run l.all_false c a))
 
 -- a core, where a step serves and where it is one step more
 taken_plain : (clauses : List (List Lit)) (clause : List Lit) (hints : List ℕ) (n : ℕ)
@@ -126,13 +127,13 @@ pub plain_of : (s : Search) (clause : List Lit) (hints : List ℕ) → IsLearned
     → IsTautology negation clause → ⊥
 plain_of s clause hints l t = taken_plain s.clauses clause hints (length hints) l.taken t
 
-pub core_served : (state : SolverState) (s : Search) (assumptions clause : List Lit) (number : ℕ)
-    → length s.starts ≤ 1 → IsRun assumptions s → ((x : Lit) → Contains clause x → IsAssumed s x)
+pub core_served : (state : SolverState) (front : List Lit) (s : Search) (assumptions clause : List Lit) (number : ℕ)
+    → length s.starts ≤ 2 → IsRun front assumptions s → ((x : Lit) → Contains clause x → IsAssumed s x)
     → IsSubsuming state.log.steps clause number → EndsCore state state assumptions number
-core_served state s assumptions clause number shallow run assumed subsuming = record {
+core_served state front s assumptions clause number shallow run assumed subsuming = record {
   core = record {
     step = subsuming.step;
-    negated = λ l c. core_lits s assumptions l shallow run (assumed l (subsuming.held.each l c));
+    negated = λ l c. core_lits front s assumptions l shallow run (assumed l (subsuming.held.each l c));
   };
   closed = inl refl;
 }
@@ -143,14 +144,14 @@ pub core_shown : (state : SolverState) (s : Search) (clause : List Lit) (ids hin
 core_shown state s clause ids hints m l e =
     subst (IsShown state clause) (sym e) (shown_of state s.clauses clause ids m l.taken l.used l.from_hints)
 
-pub core_derived : (state : SolverState) (log : LogState) (s : Search) (assumptions clause : List Lit)
-    (ids hints : List ℕ) (number : ℕ)
-    → IsMirror s.clauses state.active state.log.steps → length s.starts ≤ 1 → IsRun assumptions s
+pub core_derived : (state : SolverState) (log : LogState) (front : List Lit) (s : Search)
+    (assumptions clause : List Lit) (ids hints : List ℕ) (number : ℕ)
+    → IsMirror s.clauses state.active state.log.steps → length s.starts ≤ 2 → IsRun front assumptions s
     → IsLearned s.clauses s.lits clause ids → ((x : Lit) → Contains clause x → IsAssumed s x)
     → HasNoSubsuming state.log.steps clause → hints ≡ map (step_of state.active) ids
     → IsDerived state.log log clause hints number
     → EndsCore state (record { log = log; active = state.active; pending = state.pending }) assumptions number
-core_derived state log s assumptions clause ids hints number m shallow run l assumed none e d =
+core_derived state log front s assumptions clause ids hints number m shallow run l assumed none e d =
     let steps_are : log.steps ≡ state.log.steps ++ derived_step clause hints ∷ [] =
     ap (λ (g : LogState). g.steps) d.log_is in
     let clause_is : clause_of log.steps number ≡ clause = ap (λ xs. clause_of xs number) steps_are
@@ -159,7 +160,7 @@ core_derived state log s assumptions clause ids hints number m shallow run l ass
       core = record {
         step = subst (λ xs. IsStepOf xs number) (sym steps_are)
             (step_new state.log.steps (derived_step clause hints) number d.next);
-        negated = λ x c. core_lits s assumptions x shallow run
+        negated = λ x c. core_lits front s assumptions x shallow run
             (assumed x (subst (λ xs. Contains xs x) clause_is c));
       };
       closed = inr (record {

@@ -13,21 +13,30 @@ use Rattle.sat_core.specs.declared.cdcl.End.{End}
 use Rattle.sat_core.specs.declared.cdcl.End.TheVariants.{Satisfied, Refuted, Stopped}
 use Rattle.sat_core.specs.Solving.{SolverState, Learns, IsUnitOf, IsModel, EndsCore, StopsAs, with_unit}
 use Rattle.sat_core.specs.Mirrors.{IsMirror}
-use Rattle.sat_core.specs.Runs.{IsRun, IsBased, IsResting}
+use Rattle.sat_core.specs.Runs.{IsRun, IsFronted, IsResting, IsReadyFor}
 
 -- what contracts see
 abbrev pub state_of : Cdcl → SolverState
 state_of c = record { log = c.logged.log; active = c.logged.active.items; pending = c.pending }
 
--- the propagator's clauses are the steps in use, and no literal is true before the first level
+-- the propagator's clauses are the steps in use, and the first level has the front
 pub record IsKept (c : Cdcl) : Type 0 where
   pub mirror : IsMirror c.decisions.search.clauses c.logged.active.items c.logged.log.steps
-  pub based : IsBased c.decisions.search
+  pub fronted : IsFronted c.front.items c.decisions.search
 
--- the same between two calls, where no literal is true
+-- the same between two calls, where there is no other level
 pub record IsAtRest (c : Cdcl) : Type 0 where
   pub mirror : IsMirror c.decisions.search.clauses c.logged.active.items c.logged.log.steps
-  pub resting : IsResting c.decisions.search
+  pub resting : IsResting c.front.items c.decisions.search
+
+-- the same where the first level is ready for assumptions
+pub record IsReady (assumptions : List Lit) (c : Cdcl) : Type 0 where
+  pub mirror : IsMirror c.decisions.search.clauses c.logged.active.items c.logged.log.steps
+  pub ready : IsReadyFor c.front.items assumptions c.decisions.search
+
+-- a solver searches under assumptions
+abbrev pub Runs : List Lit → Cdcl → Type 0
+Runs assumptions c = IsRun c.front.items assumptions c.decisions.search
 
 -- a clause makes a literal true at a level, and at no lower one
 pub record IsAsserting (s : Search) (level : ℕ) (clause : List Lit) (lit : Lit) : Type 0 where
@@ -63,7 +72,7 @@ EndsAt learned new assumptions before after (Stopped halt) = StopsAt learned new
 -- the search goes on: a clause is learned, and a unit spent
 pub record Goes (old : SolverState) (new : Cdcl) (assumptions : List Lit) (before after : Units) : Type 0 where
   pub spent : after.used ≡ before.used + 1
-  pub run : IsRun assumptions new.decisions.search
+  pub run : Runs assumptions new
   pub learns : LearnsOne old (state_of new) assumptions
 
 -- what a turn gives

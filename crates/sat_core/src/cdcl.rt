@@ -6,13 +6,14 @@ ghost use Rattle.plain_lits.specs.declared.lit.Lit.{Lit};
 ghost use Rattle.plain_lits.specs.Literals.{negation};
 ghost use Rattle.hinted_log.specs.declared.log.TheConstants.{MAX_STEPS};
 ghost use Rattle.unit_propagate.specs.Search.{IsConflict};
-ghost use Rattle.sat_core.specs.Runs.{IsRun};
 ghost use Rattle.sat_core.specs.Solving.{IsUnitOf, EndsCore, HasSearched, AddsTo, IsRejected, Keeps, Derives};
 ghost use Rattle.sat_core.specs.Solving.{begun, with_unit};
-ghost use Rattle.sat_core.specs.Turns.{state_of, IsKept, IsAtRest, IsAsserting, IsTurn, HasRun, StopsAt, Goes, Tells};
+ghost use Rattle.sat_core.specs.Turns.{state_of, IsKept, IsAtRest, IsReady, Runs, IsAsserting, IsTurn, HasRun, StopsAt};
+ghost use Rattle.sat_core.specs.Turns.{Goes, Tells};
 
 use crate::answer::{Added, Solved, UnaddedClause};
 use crate::decision_loop::{DecisionLoop, bump_all};
+use crate::fronts::{begins_with, has_false, size_of_front};
 use crate::logged_clauses::{LoggedClauses, derive, record, steps_of, subsuming_step};
 use conflict_learn::{Core, Learned, Learner};
 use hinted_log::{Log, LogFault, MAX_STEPS};
@@ -30,7 +31,8 @@ pub(crate) enum End {
 }
 
 /// Conflict-driven clause learning (Marques-Silva and Sakallah, GRASP, 1996) under assumptions (Eén and Sörensson, An
-/// extensible SAT-solver, 2003), with a log of what is learned. The first level has the assumptions and what follows.
+/// extensible SAT-solver, 2003), with a log of what is learned. The first level has the front, some of the assumptions,
+/// and what follows; it stays from one search to the next. The second level has the others.
 
 pub(crate) struct Cdcl {
     pub(crate) alloc: Global,
@@ -38,6 +40,7 @@ pub(crate) struct Cdcl {
     pub(crate) logged: LoggedClauses,
     pub(crate) learner: Learner,
     pub(crate) pending: Option<UnaddedClause>,
+    pub(crate) front: Vec<Lit>,
 }
 
 // By hand, so that a drop is one call (docs/PROVING.md).
@@ -49,19 +52,20 @@ impl Drop for Cdcl {
             logged: _,
             learner: _,
             pending: _,
+            front: _,
         } = self;
     }
 }
 
-/// The greater of a level and the first one.
+/// The greater of a level and the second one.
 fn kept_level(level: usize) -> usize
-    ensures positive { 0 < result }
+    ensures positive { 1 < result }
     ensures kept { level ≤ result }
-    ensures low { (n : ℕ) → 0 < n → n < result → n < level }
-    ensures within { (n : ℕ) → 1 < n → level < n → result < n }
+    ensures low { (n : ℕ) → 1 < n → n < result → n < level }
+    ensures within { (n : ℕ) → 2 < n → level < n → result < n }
 {
-    if level == 0 {
-        return 1;
+    if level <= 2 {
+        return 2;
     }
     level
 }
@@ -102,6 +106,7 @@ impl Cdcl {
             },
             learner: Learner::new(alloc),
             pending: None,
+            front: Vec::new(alloc),
         })
     }
 
@@ -114,15 +119,15 @@ impl Cdcl {
         hints: &[StepId],
     ) -> Result<(), Memory>
         requires kept { IsKept self.old }
-        requires run { IsRun assumptions.now self.old.decisions.search }
-        requires deep { 1 < length self.old.decisions.search.starts }
+        requires run { Runs assumptions.now self.old }
+        requires deep { 2 < length self.old.decisions.search.starts }
         requires room { length self.old.logged.log.steps ≡ self.old.logged.log.limit → ⊥ }
         requires shown { IsUnitOf (state_of self.old) assumptions.now learned.now.clause hints.now }
         requires asserting { IsAsserting self.old.decisions.search learned.now.level learned.now.clause
             learned.now.asserting }
         ensures kept { IsKept self.new }
         ensures derives { Derives (state_of self.old) (state_of self.new) }
-        ensures run { OnOk result (IsRun assumptions.now self.new.decisions.search) }
+        ensures run { OnOk result (Runs assumptions.now self.new) }
         ensures state { OnOk result (state_of self.new ≡ with_unit (state_of self.old) learned.now.clause hints.now) }
     {
         let _before = self.decisions.search.vars();
@@ -139,7 +144,7 @@ impl Cdcl {
         Ok(())
     }
 
-    /// Learns from a conflict above the first level, where the budget has a unit for that.
+    /// Learns from a conflict above the second level, where the budget has a unit for that.
     #[tactic(auto, using(crate::proofs::Keeping::derives_logs))]
     fn learn_from(
         &mut self,
@@ -148,8 +153,8 @@ impl Cdcl {
         budget: &mut Budget,
     ) -> Result<(), Halt>
         requires kept { IsKept self.old }
-        requires run { IsRun assumptions.now self.old.decisions.search }
-        requires deep { 1 < length self.old.decisions.search.starts }
+        requires run { Runs assumptions.now self.old }
+        requires deep { 2 < length self.old.decisions.search.starts }
         requires conflict { IsConflict self.old.decisions.search.clauses self.old.decisions.search.lits conflict }
         ensures kept { IsKept self.new }
         ensures derives { Derives (state_of self.old) (state_of self.new) }
@@ -183,8 +188,8 @@ impl Cdcl {
     #[tactic(auto, using(crate::proofs::Keeping::derives_logs))]
     fn derive_core(&mut self, assumptions: &[Lit], conflict: u32) -> Result<StepId, Halt>
         requires kept { IsKept self.old }
-        requires run { IsRun assumptions.now self.old.decisions.search }
-        requires shallow { length self.old.decisions.search.starts ≤ 1 }
+        requires run { Runs assumptions.now self.old }
+        requires shallow { length self.old.decisions.search.starts ≤ 2 }
         requires conflict { IsConflict self.old.decisions.search.clauses self.old.decisions.search.lits conflict }
         ensures kept { IsKept self.new }
         ensures derives { Derives (state_of self.old) (state_of self.new) }
@@ -213,18 +218,18 @@ impl Cdcl {
         Ok(step)
     }
 
-    /// Resolves a conflict: it ends the search on the first level, and else a clause is learned.
+    /// Resolves a conflict: it ends the search on the first two levels, and else a clause is learned.
     #[tactic(auto, using(crate::proofs::Keeping::derives_logs))]
     fn resolve(&mut self, assumptions: &[Lit], conflict: u32, budget: &mut Budget) -> Option<End>
         requires kept { IsKept self.old }
-        requires run { IsRun assumptions.now self.old.decisions.search }
+        requires run { Runs assumptions.now self.old }
         requires conflict { IsConflict self.old.decisions.search.clauses self.old.decisions.search.lits conflict }
         ensures kept { IsKept self.new }
         ensures derives { Derives (state_of self.old) (state_of self.new) }
         ensures turn { IsTurn (state_of self.old) self.new assumptions.now budget.old budget.new result }
         ensures limit { budget.new.limit ≡ budget.old.limit }
     {
-        if self.decisions.search.starts().len() <= 1 {
+        if self.decisions.search.starts().len() <= 2 {
             return match self.derive_core(assumptions, conflict) {
                 Ok(step) => Some(End::Refuted(step)),
                 Err(halt) => Some(End::Stopped(halt)),
@@ -243,7 +248,7 @@ impl Cdcl {
     #[tactic(auto, using(crate::proofs::Keeping::derives_logs))]
     fn turn(&mut self, assumptions: &[Lit], budget: &mut Budget) -> Option<End>
         requires kept { IsKept self.old }
-        requires run { IsRun assumptions.now self.old.decisions.search }
+        requires run { Runs assumptions.now self.old }
         ensures kept { IsKept self.new }
         ensures derives { Derives (state_of self.old) (state_of self.new) }
         ensures turn { IsTurn (state_of self.old) self.new assumptions.now budget.old budget.new result }
@@ -262,7 +267,7 @@ impl Cdcl {
     #[tactic(auto, using(crate::proofs::Keeping::derives_logs))]
     pub(crate) fn run(&mut self, assumptions: &[Lit], budget: &mut Budget) -> End
         requires kept { IsKept self.old }
-        requires run { IsRun assumptions.now self.old.decisions.search }
+        requires run { Runs assumptions.now self.old }
         ensures kept { IsKept self.new }
         ensures derives { Derives (state_of self.old) (state_of self.new) }
         ensures run { HasRun (state_of self.old) self.new assumptions.now budget.old budget.new result }
@@ -298,6 +303,7 @@ impl Cdcl {
             Ok(()) => {}
             Err(_) => return Err(LogFault::Memory),
         }
+        let _form = self.decisions.search.vars();
         let kept = clause.copy(self.alloc)?;
         let step = record(&mut self.logged.log, clause, how)?;
         match self.decisions.search.add(kept.as_slice()) {
@@ -317,10 +323,84 @@ impl Cdcl {
         ensures rest { IsAtRest self.new }
         ensures state { state_of self.new ≡ state_of self.old }
     {
-        self.decisions.back_to(0);
+        self.decisions.back_to_front();
     }
 
-    /// Ends a look by propagation that met a false clause: a step that refutes the assumptions, or None where the log is full.
+    /// Has the first level have another front, and nothing else but what follows later.
+    fn set_front(&mut self, block: &[Lit]) -> Result<(), Memory>
+        requires rest { IsAtRest self.old }
+        requires plain { (l : Lit) → Contains block.now l → Contains block.now (negation l) → ⊥ }
+        ensures rest { IsAtRest self.new }
+        ensures state { state_of self.new ≡ state_of self.old }
+        ensures one { OnOk result (length self.new.decisions.search.starts ≡ 1) }
+        ensures front { OnOk result (self.new.front.items ≡ block.now) }
+        ensures lits { OnOk result ((l : Lit) → Contains self.new.decisions.search.lits l → Contains block.now l) }
+    {
+        let front = Vec::from_slice(self.alloc, block)?;
+        self.decisions.back_to(0);
+        let _form = self.decisions.search.vars();
+        self.front.clear();
+        self.decisions.search.assume_block(block)?;
+        self.front = front;
+        Ok(())
+    }
+
+    /// Keeps the front that is there, if the assumptions begin with it and it has at least so many literals. Else so
+    /// many of them become the front.
+    fn keep_front(&mut self, assumptions: &[Lit], size: usize) -> Result<(), Memory>
+        requires rest { IsAtRest self.old }
+        requires plain { (l : Lit) → Contains assumptions.now l → Contains assumptions.now (negation l) → ⊥ }
+        requires within { size ≤ length assumptions.now }
+        ensures rest { IsAtRest self.new }
+        ensures state { state_of self.new ≡ state_of self.old }
+        ensures ready { OnOk result (IsReady assumptions.now self.new) }
+    {
+        if self.decisions.search.starts().len() == 1
+            && self.front.len() >= size
+            && begins_with(assumptions, self.front.as_slice())
+        {
+            return Ok(());
+        }
+        self.set_front(&assumptions[..size])
+    }
+
+    /// Gives the front up where an assumption is false by what follows from it.
+    fn give_up_false(&mut self, assumptions: &[Lit]) -> Result<(), Memory>
+        requires ready { IsReady assumptions.now self.old }
+        ensures rest { IsAtRest self.new }
+        ensures state { state_of self.new ≡ state_of self.old }
+        ensures ready { OnOk result (IsReady assumptions.now self.new) }
+        ensures not_false { OnOk result ((l : Lit) → Contains assumptions.now l
+            → Contains self.new.decisions.search.lits (negation l) → ⊥) }
+    {
+        if !has_false(&self.decisions.search, assumptions) {
+            return Ok(());
+        }
+        self.set_front(&[])?;
+        Ok(())
+    }
+
+    /// Begins the second level with the assumptions, on a front of at least so many of them.
+    fn begin(&mut self, assumptions: &[Lit], size: usize) -> Result<(), Memory>
+        requires rest { IsAtRest self.old }
+        requires plain { (l : Lit) → Contains assumptions.now l → Contains assumptions.now (negation l) → ⊥ }
+        requires within { size ≤ length assumptions.now }
+        ensures rest { OnErr result (IsAtRest self.new) }
+        ensures state { state_of self.new ≡ state_of self.old }
+        ensures kept { OnOk result (IsKept self.new) }
+        ensures run { OnOk result (Runs assumptions.now self.new) }
+        ensures two { OnOk result (length self.new.decisions.search.starts ≡ 2) }
+    {
+        self.keep_front(assumptions, size)?;
+        let _ = self.decisions.propagate();
+        self.give_up_false(assumptions)?;
+        let _form = self.decisions.search.vars();
+        self.decisions.search.assume_block(assumptions)?;
+        Ok(())
+    }
+
+    /// Ends a look by propagation that met a false clause: a step that refutes the assumptions, or None where the log
+    /// is full.
     #[tactic(auto, using(crate::proofs::Keeping::derives_logs))]
     fn derive_core_with_room(
         &mut self,
@@ -328,8 +408,8 @@ impl Cdcl {
         conflict: u32,
     ) -> Result<Option<StepId>, Memory>
         requires kept { IsKept self.old }
-        requires run { IsRun assumptions.now self.old.decisions.search }
-        requires shallow { length self.old.decisions.search.starts ≤ 1 }
+        requires run { Runs assumptions.now self.old }
+        requires shallow { length self.old.decisions.search.starts ≤ 2 }
         requires conflict { IsConflict self.old.decisions.search.clauses self.old.decisions.search.lits conflict }
         ensures kept { IsKept self.new }
         ensures derives { Derives (state_of self.old) (state_of self.new) }
@@ -345,12 +425,12 @@ impl Cdcl {
         }
     }
 
-    /// Propagates the assumptions of the first level: a step that refutes them, or None.
+    /// Propagates the assumptions: a step that refutes them, or None.
     #[tactic(auto, using(crate::proofs::Keeping::derives_logs))]
     fn refute_begun(&mut self, assumptions: &[Lit]) -> Result<Option<StepId>, Memory>
         requires kept { IsKept self.old }
-        requires run { IsRun assumptions.now self.old.decisions.search }
-        requires shallow { length self.old.decisions.search.starts ≤ 1 }
+        requires run { Runs assumptions.now self.old }
+        requires shallow { length self.old.decisions.search.starts ≤ 2 }
         ensures kept { IsKept self.new }
         ensures derives { Derives (state_of self.old) (state_of self.new) }
         ensures refuted { IfOk result (λ found. IfSome found
@@ -375,7 +455,7 @@ impl Cdcl {
         ensures none { result ≡ Ok None → state_of self.new ≡ begun (state_of self.old) }
     {
         self.pending = None;
-        self.decisions.search.assume_block(assumptions)?;
+        self.begin(assumptions, 0)?;
         let told = self.refute_begun(assumptions);
         self.take_back();
         told
@@ -395,7 +475,8 @@ impl Cdcl {
         self.pending = None;
         let vars = self.decisions.search.vars();
         self.decisions.order.make_room(vars)?;
-        self.decisions.search.assume_block(assumptions)?;
+        let size = size_of_front(self.front.as_slice(), assumptions);
+        self.begin(assumptions, size)?;
         let end = self.run(assumptions, budget);
         let told = solved_of(self.alloc, &self.decisions.search, end);
         self.take_back();

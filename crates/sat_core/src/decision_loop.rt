@@ -1,10 +1,11 @@
 //! The true literals of a search: what is decided next, and what follows.
 
-ghost use Rattle.std.specs.Prelude.{◌≡◌, ℕ, ◌<◌, ◌≤◌, length, Contains, IfSome, MatchOption};
+ghost use Rattle.std.specs.Prelude.{◌≡◌, ℕ, List, ◌<◌, ◌≤◌, length, Contains, IfSome, MatchOption};
+ghost use Rattle.plain_lits.specs.declared.lit.Lit.{Lit};
 ghost use Rattle.plain_lits.specs.HintCheck.{IsNamed};
 ghost use Rattle.unit_propagate.specs.Search.{GoesBack};
 ghost use Rattle.sat_core.specs.Runs.{GoesOn, HasPropagated, HasDecided, HaveValues, HaveValuesFrom, IsUnsetIn};
-ghost use Rattle.sat_core.specs.Runs.{IsUnsetVar};
+ghost use Rattle.sat_core.specs.Runs.{IsUnsetVar, IsFronted, IsResting};
 
 use decision_order::{DecisionOrder, Luby};
 use lists::Memory;
@@ -145,6 +146,8 @@ impl DecisionLoop {
         ensures starts { self.new.search.starts ≡ self.old.search.starts }
         ensures found { HasPropagated self.new.search result }
         ensures more { length self.old.search.lits ≤ length self.new.search.lits }
+        ensures fronted { (front : List Lit) → 0 < length self.old.search.starts → IsFronted front self.old.search
+            → IsFronted front self.new.search }
     {
         let _form = self.search.vars();
         match self.search.propagate() {
@@ -218,17 +221,29 @@ impl DecisionLoop {
         self.search.back_to(level);
     }
 
+    /// Takes back all levels but the first.
+    pub(crate) fn back_to_front(&mut self)
+        ensures clauses { self.new.search.clauses ≡ self.old.search.clauses }
+        ensures resting { (front : List Lit) → IsFronted front self.old.search → IsResting front self.new.search }
+    {
+        let _form = self.search.vars();
+        if self.search.starts().len() <= 1 {
+            return;
+        }
+        self.back_to(1);
+    }
+
     /// A conflict is over. After so many of them, all decisions are taken back.
     pub(crate) fn count_conflict(&mut self)
         ensures { GoesOn self.old.search self.new.search }
     {
         self.conflicts = self.conflicts.saturating_add(1);
         let limit = self.restarts.number().saturating_mul(CONFLICTS_A_STEP);
-        if self.conflicts < limit || self.search.starts().len() <= 1 {
+        if self.conflicts < limit || self.search.starts().len() <= 2 {
             return;
         }
         self.conflicts = 0;
         self.restarts.advance();
-        self.back_to(1);
+        self.back_to(2);
     }
 }

@@ -4,6 +4,7 @@
 pub mod answer;
 mod cdcl;
 mod decision_loop;
+mod fronts;
 mod logged_clauses;
 mod solver;
 

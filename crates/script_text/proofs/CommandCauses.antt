@@ -15,17 +15,8 @@ use Rattle.script_text.specs.declared.fault.ScriptCause.{ScriptCause}
 use Rattle.script_text.specs.declared.fault.ScriptCause.TheVariants.{BadSession, BadCommand, BadTask, BadNumber}
 use Rattle.script_text.specs.declared.fault.ScriptCause.TheVariants.{BadQuery}
 use Rattle.script_text.specs.Changes.{change_name, Takes}
-use Rattle.script_text.specs.ScriptFaults.{
-  rank,
-  asks_about,
-  IsFirstCause,
-  HaveAskForm,
-  HaveChangeForm,
-  HaveNoNumber,
-  HaveUnknownTask,
-  HaveUnfitTask,
-  StandsOnCommand,
-}
+use Rattle.script_text.specs.ScriptFaults.{rank, asks_about, IsFirstCause, HaveAskForm, HaveChangeForm, HaveNoNumber}
+use Rattle.script_text.specs.ScriptFaults.{HaveUnknownTask, HaveUnfitTask, StandsOnCommand}
 use Rattle.script_text.specs.ScriptText.{asked_numbers}
 use Rattle.script_text.proofs.Names.{ask_is_no_change, changes_same, tasks_same}
 

@@ -8,17 +8,8 @@ use Rattle.num_text.specs.Number.{IsNumber}
 use Rattle.iccma_tasks.specs.AnswerText.{behind_first}
 use Rattle.iccma_tasks.specs.Tasks.{Asked, task_name}
 use Rattle.edit_rules.specs.declared.edit.Edit.{Edit}
-use Rattle.edit_rules.specs.declared.edit.Edit.TheVariants.{
-  ArgAdd,
-  ArgDrop,
-  AttackAdd,
-  AttackDrop,
-  AsmAdd,
-  AsmDrop,
-  ConSet,
-  RuleAdd,
-  RuleDrop,
-}
+use Rattle.edit_rules.specs.declared.edit.Edit.TheVariants.{ArgAdd, ArgDrop, AttackAdd, AttackDrop, AsmAdd, AsmDrop}
+use Rattle.edit_rules.specs.declared.edit.Edit.TheVariants.{ConSet, RuleAdd, RuleDrop}
 use Rattle.script_text.specs.declared.fault.LineStop.{LineStop}
 use Rattle.script_text.specs.declared.fault.LineStop.TheVariants.{Wrong, Memory}
 use Rattle.script_text.specs.declared.fault.ScriptCause.{ScriptCause}

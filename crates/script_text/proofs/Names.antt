@@ -9,17 +9,8 @@ use Rattle.iccma_tasks.specs.declared.task.Semantics.TheVariants.{SemiStable, Id
 use Rattle.iccma_tasks.specs.declared.task.Task.{Task}
 use Rattle.iccma_tasks.specs.Tasks.{task_name, task_of}
 use Rattle.edit_rules.specs.declared.edit.Edit.{Edit}
-use Rattle.edit_rules.specs.declared.edit.Edit.TheVariants.{
-  ArgAdd,
-  ArgDrop,
-  AttackAdd,
-  AttackDrop,
-  AsmAdd,
-  AsmDrop,
-  ConSet,
-  RuleAdd,
-  RuleDrop,
-}
+use Rattle.edit_rules.specs.declared.edit.Edit.TheVariants.{ArgAdd, ArgDrop, AttackAdd, AttackDrop, AsmAdd, AsmDrop}
+use Rattle.edit_rules.specs.declared.edit.Edit.TheVariants.{ConSet, RuleAdd, RuleDrop}
 use Rattle.script_text.specs.declared.edit_word.EditWord.{EditWord}
 use Rattle.script_text.specs.declared.edit_word.EditWord.TheVariants.{Arg, NoArg, Att, NoAtt, Asm, NoAsm, Con}
 use Rattle.script_text.specs.declared.edit_word.EditWord.TheVariants.{Rule, NoRule}

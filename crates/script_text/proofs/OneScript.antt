@@ -14,14 +14,8 @@ use Rattle.script_text.specs.declared.script.ScriptCommand.TheVariants.{Edit as 
 use Rattle.script_text.specs.declared.script.Script.{Script}
 use Rattle.script_text.specs.declared.script.ScriptLine.{ScriptLine}
 use Rattle.script_text.specs.Changes.{change_name, change_of, edit_numbers}
-use Rattle.script_text.specs.ScriptText.{
-  AreAskFields,
-  AreCommandFields,
-  AreEditFields,
-  IsScript,
-  IsScriptLine,
-  asked_numbers,
-}
+use Rattle.script_text.specs.ScriptText.{AreAskFields, AreCommandFields, AreEditFields, IsScript, IsScriptLine}
+use Rattle.script_text.specs.ScriptText.{asked_numbers}
 use Rattle.script_text.proofs.Names.{ask_is_no_change, changes_same, edits_same, tasks_same}
 use Rattle.lists.proofs.Zips.{zip_same}
 

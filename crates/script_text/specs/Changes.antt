@@ -1,17 +1,8 @@
 -- The commands that change a framework: their names, how many numbers follow, and which edits they are.
 use Rattle.std.specs.Prelude.{◌≡◌, ℕ, ◌≤◌, List, [], ◌∷◌, codes}
 use Rattle.edit_rules.specs.declared.edit.Edit.{Edit}
-use Rattle.edit_rules.specs.declared.edit.Edit.TheVariants.{
-  ArgAdd,
-  ArgDrop,
-  AttackAdd,
-  AttackDrop,
-  AsmAdd,
-  AsmDrop,
-  ConSet,
-  RuleAdd,
-  RuleDrop,
-}
+use Rattle.edit_rules.specs.declared.edit.Edit.TheVariants.{ArgAdd, ArgDrop, AttackAdd, AttackDrop, AsmAdd, AsmDrop}
+use Rattle.edit_rules.specs.declared.edit.Edit.TheVariants.{ConSet, RuleAdd, RuleDrop}
 use Rattle.script_text.specs.declared.edit_word.EditWord.{EditWord}
 use Rattle.script_text.specs.declared.edit_word.EditWord.TheVariants.{Arg, NoArg, Att, NoAtt, Asm, NoAsm, Con}
 use Rattle.script_text.specs.declared.edit_word.EditWord.TheVariants.{Rule, NoRule}

@@ -55,11 +55,11 @@ pub record IsRoomyFor (s : State) (lits : List Lit) (starts : List ℕ) (vars : 
 roomy_watching : (s : State) (lists : List Listed) → IsKept s → HasMoreRoom s.lists lists
     → IsWatching s.clauses s.pairs lists
 roomy_watching s lists kept h = record {
-  long = kept.watching.long;
-  paired = kept.watching.paired;
-  listed = λ code id. ap (λ xs. sum_by (one id) xs) (h.ids code) ∙ kept.watching.listed code id;
-  counted = λ code. ap length (h.ids code) ∙ kept.watching.counted code;
-  room = λ code. omega (arith, kept.watching.room code, h.uses code);
+  long = kept.stored.watching.long;
+  paired = kept.stored.watching.paired;
+  listed = λ code id. ap (λ xs. sum_by (one id) xs) (h.ids code) ∙ kept.stored.watching.listed code id;
+  counted = λ code. ap length (h.ids code) ∙ kept.stored.watching.counted code;
+  room = λ code. omega (arith, kept.stored.watching.room code, h.uses code);
 }
 
 pub kept_roomy : (s : State) (lits : List Lit) (starts : List ℕ) (vars : ℕ) (lists : List Listed) (reasons : List ℕ)
@@ -69,11 +69,14 @@ pub kept_roomy : (s : State) (lits : List Lit) (starts : List ℕ) (vars : ℕ) 
 kept_roomy s lits starts vars lists reasons progress kept h =
     let more = h.new_vars in
     let is : IsKept (roomy s s.lits s.starts vars lists reasons progress) = record {
-      watching = roomy_watching s lists kept h.new_lists;
-      short = kept.short;
-      all_short = kept.all_short;
-      room = λ id l named c. let low = kept.room id l named c in omega arith;
-      lists_long = h.lists_long;
+      stored = record {
+        watching = roomy_watching s lists kept h.new_lists;
+        short = kept.stored.short;
+        all_short = kept.stored.all_short;
+        room = λ id l named c. let low = kept.stored.room id l named c in omega arith;
+        lists_long = h.lists_long;
+        ids_fit = kept.stored.ids_fit;
+      };
       looked = kept.looked;
       before = λ k lt. subst (λ (m : Progress). IsLooked s.clauses s.pairs s.short (take m.head s.lits)
           (take (get_or s.starts k 0) s.lits) m.done)
@@ -84,10 +87,11 @@ kept_roomy s lits starts vars lists reasons progress kept h =
       head_within = kept.head_within;
       done_within = kept.done_within;
       reasons_long = h.reasons_long;
-      marks_long = h.marks_long;
-      marks_head = λ n. omega (arith, kept.marks_head n, ap (λ (m : Progress). m.head) (h.new_marks.same n));
-      marks_done = λ n. omega (arith, kept.marks_done n, ap (λ (m : Progress). m.done) (h.new_marks.same n));
-      ids_fit = kept.ids_fit;
+      marks = record {
+        long = h.marks_long;
+        head = λ n. omega (arith, kept.marks.head n, ap (λ (m : Progress). m.head) (h.new_marks.same n));
+        done = λ n. omega (arith, kept.marks.done n, ap (λ (m : Progress). m.done) (h.new_marks.same n));
+      };
     } in
     rw (h.new_lits, h.new_starts) is
 
@@ -122,11 +126,7 @@ pub kept_lowered : (s : State) (progress : List Progress) (head index : ℕ) →
     → LowersProgress s.progress progress s.starts 0 index
     → head ≤ s.head → IsKept (record s { progress = progress; head = head })
 kept_lowered s progress head index kept h le = record {
-  watching = kept.watching;
-  short = kept.short;
-  all_short = kept.all_short;
-  room = kept.room;
-  lists_long = kept.lists_long;
+  stored = kept.stored;
   looked = looked_lower s head s.head s.done s.lits le kept.looked;
   before = λ k lt.
       let n = get_or s.starts k 0 in
@@ -139,10 +139,11 @@ kept_lowered s progress head index kept h le = record {
   head_within = let within = kept.head_within in omega arith;
   done_within = kept.done_within;
   reasons_long = kept.reasons_long;
-  marks_long = let long = kept.marks_long in omega (arith, h.long);
-  marks_head = λ n. omega (arith, kept.marks_head n, h.heads n);
-  marks_done = λ n. omega (arith, kept.marks_done n, h.dones n);
-  ids_fit = kept.ids_fit;
+  marks = record {
+    long = let long = kept.marks.long in omega (arith, h.long);
+    head = λ n. omega (arith, kept.marks.head n, h.heads n);
+    done = λ n. omega (arith, kept.marks.done n, h.dones n);
+  };
 }
 
 -- the lists that a new clause joins
@@ -180,13 +181,13 @@ joined_none lists p id same = record {
 pub room_pair : (s : State) (clause : List Lit) (p : Pair) → IsKept s → HasRoomFor s clause
     → ((l : Lit) → Contains clause l → l.var < s.vars) → IsPairOf clause p → HasPairRoom s.lists p
 room_pair s clause p kept room known is =
-    let long = kept.lists_long in
+    let long = kept.stored.lists_long in
     let below : (code : ℕ) → length (ids_at s.lists code) ≤ count_by (has code) s.clauses = λ code.
     omega (
       arith,
-      kept.watching.counted code,
-      pairs_below code s.clauses s.pairs kept.watching.long
-          kept.watching.paired,
+      kept.stored.watching.counted code,
+      pairs_below code s.clauses s.pairs kept.stored.watching.long
+          kept.stored.watching.paired,
     ) in
     record {
       first = λ ne.
@@ -224,9 +225,9 @@ makes_same s kept = record {
   vars = omega arith;
   reasons = longer_same 0 s.reasons s.reasons refl;
   progress = longer_same no_progress s.progress s.progress refl;
-  lists_long = kept.lists_long;
+  lists_long = kept.stored.lists_long;
   reasons_long = kept.reasons_long;
-  marks_long = kept.marks_long;
+  marks_long = kept.marks.long;
 }
 
 -- more room in the lists alone
@@ -234,7 +235,7 @@ pub kept_lists : (s : State) (lists : List Listed) → IsKept s → HasMoreRoom 
     → IsKept (record s { lists = lists })
 kept_lists s lists kept h =
     let long = h.long in
-    let old = kept.lists_long in
+    let old = kept.stored.lists_long in
     kept_roomy s s.lits s.starts s.vars lists s.reasons s.progress kept (record {
       new_lits = refl;
       new_starts = refl;
@@ -244,7 +245,7 @@ kept_lists s lists kept h =
       new_marks = longer_same no_progress s.progress s.progress refl;
       lists_long = omega arith;
       reasons_long = kept.reasons_long;
-      marks_long = kept.marks_long;
+      marks_long = kept.marks.long;
     })
 
 pub makes_claim : (s m : State) (lists : List Listed) → MakesRoom s m → HasMoreRoom m.lists lists
@@ -312,7 +313,7 @@ last_pair pairs p id e =
 pub watched_last : (m n : State) (clause : List Lit) (p : Pair) (id : ℕ) → IsKept m → n.pairs ≡ m.pairs ++ p ∷ []
     → id ≡ length m.clauses + 1 → WatchesLast m.lits clause p → WatchesLast m.lits clause (pair_of n.pairs id)
 watched_last m n clause p id kept e is h =
-    let long = kept.watching.long in
+    let long = kept.stored.watching.long in
     subst (WatchesLast m.lits clause) (sym (ap (λ ps. pair_of ps id) e ∙ last_pair m.pairs p id (omega arith))) h
 
 pub gains : (s w new : State) (clause : List Lit) (id : ℕ) → StaysSearch (search_of s) (search_of w)

@@ -77,7 +77,7 @@ added_watching : (s : State) (lists : List Listed) (short : List ℕ) (clause : 
     → IsKept s
     → IsAdded s lists short clause p id index → IsWatching (s.clauses ++ clause ∷ []) (s.pairs ++ p ∷ []) lists
 added_watching s lists short clause p id index kept a =
-    let long = kept.watching.long in
+    let long = kept.stored.watching.long in
     let n = length s.clauses in
     record {
       long = omega (arith, long, length-append s.clauses (clause ∷ []), length-append s.pairs (p ∷ []));
@@ -87,14 +87,14 @@ added_watching s lists short clause p id index kept a =
           subst (λ c. IsPairOf c (pair_of (s.pairs ++ p ∷ []) j)) (sym (clause_before s.clauses clause j old))
           (subst (λ q. IsPairOf (clause_at s.clauses j) q)
           (sym (pair_before s.pairs p n j long (λ e. let bad : j ≡ n + 1 = e in omega arith)))
-          (kept.watching.paired j old)))
+          (kept.stored.watching.paired j old)))
           (λ (new : j ≡ n + 1).
           subst (λ c. IsPairOf c (pair_of (s.pairs ++ p ∷ []) j)) (sym (clause_last s.clauses clause j new))
           (subst (λ q. IsPairOf clause q) (sym (pair_last s.pairs p n j long new)) a.pair))
           (named_cases s.clauses clause j named);
       listed = λ code j.
           let weight = a.joins.weight (one j) code in
-          let old = kept.watching.listed code j in
+          let old = kept.stored.watching.listed code j in
           ⊎_elim
           (λ (e : j ≡ id).
           let is : j ≡ n + 1 = e ∙ a.id_is in
@@ -114,7 +114,7 @@ added_watching s lists short clause p id index kept a =
         a.joins.weight (λ x. 1) code,
         ones_length (ids_at lists code),
         ones_length (ids_at s.lists code),
-        kept.watching.counted code,
+        kept.stored.watching.counted code,
         sum_by_push (watches code) s.pairs p,
       );
       room = λ code. omega (
@@ -150,7 +150,7 @@ added_looked s lists short clause p id index n done high kept a le within h = re
       (λ ne. ap (λ xs. take done xs) (a.apart ne))
       (cases_lit p.first p.second) in
       let old : Contains (take done s.short) j = subst (λ xs. Contains xs j) same c in
-      true_more s.clauses clause j high (kept.short j (from_front done s.short j old)).named (h.holds j old);
+      true_more s.clauses clause j high (kept.stored.short j (from_front done s.short j old)).named (h.holds j old);
 }
 
 pub kept_added : (s : State) (lists : List Listed) (short : List ℕ) (clause : List Lit) (p : Pair) (id index : ℕ)
@@ -158,7 +158,7 @@ pub kept_added : (s : State) (lists : List Listed) (short : List ℕ) (clause : 
     → IsAdded s lists short clause p id index → length lists ≡ length s.lists
     → IsKept (with_clause s lists short clause p)
 kept_added s lists short clause p id index kept a same_long =
-    let long = kept.watching.long in
+    let long = kept.stored.watching.long in
     let n = length s.clauses in
     let more_short : length s.short ≤ length short = ⊎_elim
     (λ e. omega (arith, ap length (a.alone e), length-append s.short (id ∷ [])))
@@ -173,47 +173,50 @@ kept_added s lists short clause p id index kept a same_long =
           (sym (pair_before s.pairs p n j long (λ e. let bad : j ≡ n + 1 = e in omega arith))) h.alone;
     } in
     record {
-      watching = added_watching s lists short clause p id index kept a;
-      short = λ j c. ⊎_elim
-          (λ (e : p.first ≡ p.second). ⊎_elim
-          (λ old. old_short j (kept.short j old))
-          (λ (is : id ≡ j). record {
-            named = record {
-              from_one = omega (arith, a.id_is, is);
-              within =
-                  omega (arith, a.id_is, is, length-append s.clauses (clause ∷ []));
-            };
-            alone = subst (λ (q : Pair). q.first ≡ q.second) (sym (pair_last s.pairs p n j long (sym is ∙ a.id_is))) e;
-          })
-          (pushed_cases s.short id j (subst (λ xs. Contains xs j) (a.alone e) c)))
-          (λ (ne : p.first ≢ p.second). old_short j (kept.short j (subst (λ xs. Contains xs j) (a.apart ne) c)))
-          (cases_lit p.first p.second);
-      all_short = λ j h. ⊎_elim
-          (λ (old : IsNamed s.clauses j).
-          let within = old.within in
-          let was : Contains s.short j = kept.all_short j (record {
-            named = old;
-            alone = subst (λ (q : Pair). q.first ≡ q.second) (pair_before s.pairs p n j long (λ e. let bad : j ≡ n + 1 =
-                e in omega arith)) h.alone;
-          }) in
-          ⊎_elim
-          (λ e. subst (λ xs. Contains xs j) (sym (a.alone e)) (Contains-append_left s.short (id ∷ []) j was))
-          (λ ne. subst (λ xs. Contains xs j) (sym (a.apart ne)) was)
-          (cases_lit p.first p.second))
-          (λ (new : j ≡ n + 1).
-          let e : p.first ≡ p.second = subst (λ (q : Pair). q.first ≡ q.second) (pair_last s.pairs p n j long new)
-          h.alone in
-          subst (λ xs. Contains xs j) (sym (a.alone e)) (Contains-pushed s.short id j (a.id_is ∙ sym new)))
-          (named_cases s.clauses clause j h.named);
-      room = λ j l named c. ⊎_elim
-          (λ (old : IsNamed s.clauses j). kept.room j l old
-          (subst (λ xs. Contains xs l) (clause_before s.clauses clause j old) c))
-          (λ (new : j ≡ n + 1). a.known l (subst (λ xs. Contains xs l) (clause_last s.clauses clause j new) c))
-          (named_cases s.clauses clause j named);
-      lists_long = let two = kept.lists_long in omega arith;
+      stored = record {
+        watching = added_watching s lists short clause p id index kept a;
+        short = λ j c. ⊎_elim
+            (λ (e : p.first ≡ p.second). ⊎_elim
+            (λ old. old_short j (kept.stored.short j old))
+            (λ (is : id ≡ j). record {
+              named = record {
+                from_one = omega (arith, a.id_is, is);
+                within =
+                    omega (arith, a.id_is, is, length-append s.clauses (clause ∷ []));
+              };
+              alone = subst (λ (q : Pair). q.first ≡ q.second) (sym (pair_last s.pairs p n j long (sym is ∙ a.id_is))) e;
+            })
+            (pushed_cases s.short id j (subst (λ xs. Contains xs j) (a.alone e) c)))
+            (λ (ne : p.first ≢ p.second). old_short j (kept.stored.short j (subst (λ xs. Contains xs j) (a.apart ne) c)))
+            (cases_lit p.first p.second);
+        all_short = λ j h. ⊎_elim
+            (λ (old : IsNamed s.clauses j).
+            let within = old.within in
+            let was : Contains s.short j = kept.stored.all_short j (record {
+              named = old;
+              alone = subst (λ (q : Pair). q.first ≡ q.second) (pair_before s.pairs p n j long (λ e. let bad : j ≡ n + 1 =
+                  e in omega arith)) h.alone;
+            }) in
+            ⊎_elim
+            (λ e. subst (λ xs. Contains xs j) (sym (a.alone e)) (Contains-append_left s.short (id ∷ []) j was))
+            (λ ne. subst (λ xs. Contains xs j) (sym (a.apart ne)) was)
+            (cases_lit p.first p.second))
+            (λ (new : j ≡ n + 1).
+            let e : p.first ≡ p.second = subst (λ (q : Pair). q.first ≡ q.second) (pair_last s.pairs p n j long new)
+            h.alone in
+            subst (λ xs. Contains xs j) (sym (a.alone e)) (Contains-pushed s.short id j (a.id_is ∙ sym new)))
+            (named_cases s.clauses clause j h.named);
+        room = λ j l named c. ⊎_elim
+            (λ (old : IsNamed s.clauses j). kept.stored.room j l old
+            (subst (λ xs. Contains xs l) (clause_before s.clauses clause j old) c))
+            (λ (new : j ≡ n + 1). a.known l (subst (λ xs. Contains xs l) (clause_last s.clauses clause j new) c))
+            (named_cases s.clauses clause j named);
+        lists_long = let two = kept.stored.lists_long in omega arith;
+        ids_fit = omega (arith, a.fits, a.id_is, length-append s.clauses (clause ∷ []));
+      };
       looked = added_looked s lists short clause p id index s.head s.done s.lits kept a a.head kept.done_within
           kept.looked;
-      before = λ k lt. added_looked s lists short clause p id index _ _ _ kept a (a.progress k lt) (kept.marks_done _)
+      before = λ k lt. added_looked s lists short clause p id index _ _ _ kept a (a.progress k lt) (kept.marks.done _)
           (kept.before k lt);
       reasons = λ i lt some.
           let r = kept.reasons i lt some in
@@ -226,8 +229,9 @@ kept_added s lists short clause p id index kept a same_long =
       head_within = kept.head_within;
       done_within = let within = kept.done_within in omega arith;
       reasons_long = kept.reasons_long;
-      marks_long = kept.marks_long;
-      marks_head = kept.marks_head;
-      marks_done = λ m. let within = kept.marks_done m in omega arith;
-      ids_fit = omega (arith, a.fits, a.id_is, length-append s.clauses (clause ∷ []));
+      marks = record {
+        long = kept.marks.long;
+        head = kept.marks.head;
+        done = λ m. let within = kept.marks.done m in omega arith;
+      };
     }

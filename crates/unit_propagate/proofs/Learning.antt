@@ -98,19 +98,12 @@ pub kept_head : (s n : State) (p : Pair) (l : Lit) → IsKept s → IsKept n →
 kept_head s n p l kept new pairs lits first open_lit =
     let within = kept.head_within in
     record {
-      watching = new.watching;
-      short = new.short;
-      all_short = new.all_short;
-      room = new.room;
-      lists_long = new.lists_long;
+      stored = new.stored;
       looked = looked_on s n p l kept new pairs lits first open_lit;
       before = new.before;
       reasons = new.reasons;
       head_within = omega (arith, ap length lits, length-append s.lits (l ∷ []));
       done_within = new.done_within;
       reasons_long = new.reasons_long;
-      marks_long = new.marks_long;
-      marks_head = new.marks_head;
-      marks_done = new.marks_done;
-      ids_fit = new.ids_fit;
+      marks = new.marks;
     }

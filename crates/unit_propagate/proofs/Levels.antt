@@ -46,7 +46,7 @@ here_mark s = record { head = s.head; done = s.done }
 
 marked_same : (s : State) → IsKept s → length s.lits ≤ s.vars → progress_at (with_mark s).progress (length s.lits)
     ≡ here_mark s
-marked_same s kept short = let long = kept.marks_long in get_or-set_same s.progress (length s.lits) (here_mark s)
+marked_same s kept short = let long = kept.marks.long in get_or-set_same s.progress (length s.lits) (here_mark s)
     no_progress
     (omega arith)
 
@@ -64,11 +64,7 @@ looked_here s kept short =
 
 pub kept_marked : (s : State) → IsKept s → length s.lits ≤ s.vars → IsKept (with_mark s)
 kept_marked s kept short = record {
-  watching = kept.watching;
-  short = kept.short;
-  all_short = kept.all_short;
-  room = kept.room;
-  lists_long = kept.lists_long;
+  stored = kept.stored;
   looked = kept.looked;
   before = λ k lt. ⊎_elim
       (λ e. subst (λ n. IsLookedAt (with_mark s) n) (sym e) (looked_here s kept short))
@@ -80,35 +76,32 @@ kept_marked s kept short = record {
   head_within = kept.head_within;
   done_within = kept.done_within;
   reasons_long = kept.reasons_long;
-  marks_long = let long = kept.marks_long in omega (arith, length-set s.progress (length s.lits) (here_mark s));
-  marks_head = λ n. ⊎_elim
-      (λ e. let within = kept.head_within in
-      let is : (progress_at (with_mark s).progress n).head ≡ s.head = ap
-      (λ k. (progress_at (with_mark s).progress k).head) e
-      ∙ ap (λ (m : Progress). m.head) (marked_same s kept short) in
-      omega (arith, is, within, e))
-      (λ ne. let old = kept.marks_head n in omega (arith, old, ap (λ (m : Progress). m.head) (marked_other s n ne)))
-      (cases_eq n (length s.lits));
-  marks_done = λ n. ⊎_elim
-      (λ e. let within = kept.done_within in
-      let is : (progress_at (with_mark s).progress n).done ≡ s.done = ap
-      (λ k. (progress_at (with_mark s).progress k).done) e
-      ∙ ap (λ (m : Progress). m.done) (marked_same s kept short) in
-      omega (arith, is, within))
-      (λ ne. let old = kept.marks_done n in omega (arith, old, ap (λ (m : Progress). m.done) (marked_other s n ne)))
-      (cases_eq n (length s.lits));
-  ids_fit = kept.ids_fit;
+  marks = record {
+    long = let long = kept.marks.long in omega (arith, length-set s.progress (length s.lits) (here_mark s));
+    head = λ n. ⊎_elim
+        (λ e. let within = kept.head_within in
+        let is : (progress_at (with_mark s).progress n).head ≡ s.head = ap
+        (λ k. (progress_at (with_mark s).progress k).head) e
+        ∙ ap (λ (m : Progress). m.head) (marked_same s kept short) in
+        omega (arith, is, within, e))
+        (λ ne. let old = kept.marks.head n in omega (arith, old, ap (λ (m : Progress). m.head) (marked_other s n ne)))
+        (cases_eq n (length s.lits));
+    done = λ n. ⊎_elim
+        (λ e. let within = kept.done_within in
+        let is : (progress_at (with_mark s).progress n).done ≡ s.done = ap
+        (λ k. (progress_at (with_mark s).progress k).done) e
+        ∙ ap (λ (m : Progress). m.done) (marked_same s kept short) in
+        omega (arith, is, within))
+        (λ ne. let old = kept.marks.done n in omega (arith, old, ap (λ (m : Progress). m.done) (marked_other s n ne)))
+        (cases_eq n (length s.lits));
+  };
 }
 
 pub kept_begun : (s : State) → IsKept s → length s.lits ≤ s.vars → IsKept (begun (with_mark s))
 kept_begun s kept short =
     let m = kept_marked s kept short in
     record {
-      watching = m.watching;
-      short = m.short;
-      all_short = m.all_short;
-      room = m.room;
-      lists_long = m.lists_long;
+      stored = m.stored;
       looked = m.looked;
       before = λ k lt. ⊎_elim
           (λ old. subst (λ n. IsLookedAt (with_mark s) n)
@@ -121,10 +114,7 @@ kept_begun s kept short =
       head_within = m.head_within;
       done_within = m.done_within;
       reasons_long = m.reasons_long;
-      marks_long = m.marks_long;
-      marks_head = m.marks_head;
-      marks_done = m.marks_done;
-      ids_fit = m.ids_fit;
+      marks = m.marks;
     }
 
 -- the levels from one on are taken back
@@ -141,13 +131,9 @@ pub kept_back : (s : State) (k : ℕ) → IsKept s → AreLevels s.starts (lengt
 kept_back s k kept levels k_lt =
     let n = get_or s.starts k 0 in
     let n_le : n ≤ length s.lits = levels.within k k_lt in
-    let head_le : (progress_at s.progress n).head ≤ n = kept.marks_head n in
+    let head_le : (progress_at s.progress n).head ≤ n = kept.marks.head n in
     record {
-      watching = kept.watching;
-      short = kept.short;
-      all_short = kept.all_short;
-      room = kept.room;
-      lists_long = kept.lists_long;
+      stored = kept.stored;
       looked = subst (λ low. IsLooked s.clauses s.pairs s.short low (take n s.lits) (progress_at s.progress n).done)
           (sym (take-take (progress_at s.progress n).head n s.lits head_le)) (kept.before k k_lt);
       before = λ j lt.
@@ -156,7 +142,7 @@ kept_back s k kept levels k_lt =
           let same : get_or (take k s.starts) j 0 ≡ get_or s.starts j 0 = get_or-take k s.starts j 0 j_lt in
           let i = get_or s.starts j 0 in
           let up : i ≤ n = levels.rise j k (omega arith) k_lt in
-          let low : (progress_at s.progress i).head ≤ i = kept.marks_head i in
+          let low : (progress_at s.progress i).head ≤ i = kept.marks.head i in
           subst (λ t. IsLooked s.clauses s.pairs s.short (take (progress_at s.progress t).head (take n s.lits))
           (take t (take n s.lits)) (progress_at s.progress t).done) (sym same)
           (subst (λ xs. IsLooked s.clauses s.pairs s.short xs (take i (take n s.lits)) (progress_at s.progress i).done)
@@ -175,12 +161,9 @@ kept_back s k kept levels k_lt =
                 (r.others l d c (λ e. ne (e ∙ sym (get_or-take n s.lits i d i_n))));
           };
       head_within = omega (arith, length-take n s.lits);
-      done_within = kept.marks_done n;
+      done_within = kept.marks.done n;
       reasons_long = kept.reasons_long;
-      marks_long = kept.marks_long;
-      marks_head = kept.marks_head;
-      marks_done = kept.marks_done;
-      ids_fit = kept.ids_fit;
+      marks = kept.marks;
     }
 
 -- a decision

@@ -30,7 +30,7 @@ pub here_first : (s : State) (at code id : ℕ) (f : Lit) (p : Pair) → IsKept 
     → packed p.first ≡ code → IsWatcher s at id f p.second
 here_first s at code id f p kept e lt id_is p_is first =
     let seen : IsSeen s.clauses s.pairs code id = subst (IsSeen s.clauses s.pairs code) (sym id_is)
-    (listed_seen s.clauses s.pairs s.lists code at kept.watching lt) in
+    (listed_seen s.clauses s.pairs s.lists code at kept.stored.watching lt) in
     let f_is : p.first ≡ f = packed_same p.first f (first ∙ e) in
     let same : pair_of s.pairs id ≡ p = sym p_is in
     record {
@@ -47,7 +47,7 @@ pub here_second : (s : State) (at code id : ℕ) (f : Lit) (p : Pair) → IsKept
     → packed p.first ≢ code → IsWatcher s at id f p.first
 here_second s at code id f p kept e lt id_is p_is not_first =
     let seen : IsSeen s.clauses s.pairs code id = subst (IsSeen s.clauses s.pairs code) (sym id_is)
-    (listed_seen s.clauses s.pairs s.lists code at kept.watching lt) in
+    (listed_seen s.clauses s.pairs s.lists code at kept.stored.watching lt) in
     let same : pair_of s.pairs id ≡ p = sym p_is in
     let second : packed p.second ≡ code = ⊎_elim
     (λ one. absurd (not_first (ap (λ (q : Pair). packed q.first) p_is ∙ one)))
@@ -92,7 +92,7 @@ pub here_other : (s : State) (at id : ℕ) (f o : Lit) → IsKept s → IsWatche
     → Contains (clause_at s.clauses id) o
 here_other s at id f o kept here =
     let apart = here_apart s at id f o here in
-    let is = kept.watching.paired id here.named in
+    let is = kept.stored.watching.paired id here.named in
     ⊎_elim (λ h. subst (Contains (clause_at s.clauses id)) h.1 (is.second apart))
     (λ h. subst (Contains (clause_at s.clauses id)) h.0 (is.first apart)) here.pair
 
@@ -134,7 +134,7 @@ moved_paired : (s : State) (at id : ℕ) (f o to : Lit) → IsKept s → IsMove 
 moved_paired s at id f o to kept m j named =
     let above = m.here.named.from_one in
     let within = m.here.named.within in
-    let long = kept.watching.long in
+    let long = kept.stored.watching.long in
     ⊎_elim
     (λ (e : j ≡ id).
     let new : pair_of (set s.pairs (id - 1) (pair_with o to)) j ≡ pair_with o to =
@@ -148,7 +148,7 @@ moved_paired s at id f o to kept m j named =
     subst (IsPairOf (clause_at s.clauses j)) (sym new) (subst (λ k. IsPairOf (clause_at s.clauses k) (pair_with o to))
     (sym e) is))
     (λ (ne : j ≢ id). subst (IsPairOf (clause_at s.clauses j))
-    (sym (pair_set_other s.pairs id j (pair_with o to) above ne)) (kept.watching.paired j named))
+    (sym (pair_set_other s.pairs id j (pair_with o to) above ne)) (kept.stored.watching.paired j named))
     (cases_eq j id)
 
 moved_sum : (s : State) (at id : ℕ) (f o to : Lit) → IsKept s → IsMove s at id f o to → (c : ℕ)
@@ -157,7 +157,7 @@ moved_sum : (s : State) (at id : ℕ) (f o to : Lit) → IsKept s → IsMove s a
 moved_sum s at id f o to kept m c =
     let above = m.here.named.from_one in
     let within = m.here.named.within in
-    let long = kept.watching.long in
+    let long = kept.stored.watching.long in
     let moved = sum_by-set (watches c) s.pairs (id - 1) (pair_with o to) no_pair (omega arith) in
     let old = here_watches s at id f o m.here c in
     let same = ap (λ p. watches c p) (pair_at s.pairs id above) in
@@ -170,13 +170,13 @@ pub room_there : (s : State) (at id : ℕ) (f o to : Lit) → IsKept s → IsMov
 room_there s at id f o to kept m =
     let sum = moved_sum s at id f o to kept m (packed to) in
     let below = pairs_below (packed to) s.clauses (set s.pairs (id - 1) (pair_with o to))
-    (length-set s.pairs (id - 1) (pair_with o to) ∙ kept.watching.long) (moved_paired s at id f o to kept m) in
+    (length-set s.pairs (id - 1) (pair_with o to) ∙ kept.stored.watching.long) (moved_paired s at id f o to kept m) in
     omega (
       arith,
       sum,
       below,
-      kept.watching.room (packed to),
-      kept.watching.counted (packed to),
+      kept.stored.watching.room (packed to),
+      kept.stored.watching.counted (packed to),
       one_same (packed to),
       one_other (packed f) (packed to) (move_codes s at id f o to m),
     )
@@ -193,7 +193,7 @@ rewatched : (s : State) (at id : ℕ) (f o to : Lit) → IsKept s → IsMove s a
 rewatched s at id f o to kept m lt lt2 =
     let above = m.here.named.from_one in
     let within = m.here.named.within in
-    let long = kept.watching.long in
+    let long = kept.stored.watching.long in
     let is = m.here.id_is in
     record {
       long = length-set s.pairs (id - 1) (pair_with o to) ∙ long;
@@ -204,7 +204,7 @@ rewatched s at id f o to kept m lt lt2 =
           ≡ sum_by (one j) (ids_at s.lists c) + one (packed to) c * one j id =
           subst (λ k. sum_by (one j) (ids_at (moved_lists s at k f to) c) + one (packed f) c * one j k
           ≡ sum_by (one j) (ids_at s.lists c) + one (packed to) c * one j k) is weight in
-          let old = kept.watching.listed c j in
+          let old = kept.stored.watching.listed c j in
           ⊎_elim
           (λ (e : j ≡ id).
           let new : pair_of (moved_pairs s id o to) j ≡ pair_with o to = ap (λ k. pair_of (moved_pairs s id o to) k) e
@@ -230,10 +230,10 @@ rewatched s at id f o to kept m lt lt2 =
           (packed to) c =
           subst (λ k. length (ids_at (moved_lists s at k f to) c) + one (packed f) c ≡ length (ids_at s.lists c) + one
           (packed to) c) is count in
-          omega (arith, moved, moved_sum s at id f o to kept m c, kept.watching.counted c);
+          omega (arith, moved, moved_sum s at id f o to kept m c, kept.stored.watching.counted c);
       room = λ c. omega (
         arith,
-        kept.watching.room c,
+        kept.stored.watching.room c,
         uses_with (without s.lists (packed f) at) (packed to) id c,
         uses_without s.lists (packed f) at c,
       );
@@ -304,13 +304,16 @@ moved_looked s at id f o to low high done m within in_low in_high h = record {
 pub kept_moved : (s : State) (at id : ℕ) (f o to : Lit) → IsKept s → IsMove s at id f o to → packed f < length s.lists
     → packed to < length s.lists → IsKept (with_pair s id (pair_with o to) (packed f) at (packed to))
 kept_moved s at id f o to kept m lt lt2 =
-    let within : id ≤ length s.pairs = let w = m.here.named.within in let long = kept.watching.long in omega arith in
+    let within : id ≤ length s.pairs = let w = m.here.named.within in let long = kept.stored.watching.long in omega arith in
     record {
-      watching = rewatched s at id f o to kept m lt lt2;
-      short = λ j c. moved_short s at id f o to m within j (kept.short j c);
-      all_short = λ j c. kept.all_short j (short_moved s at id f o to m within j c);
-      room = kept.room;
-      lists_long = let long = kept.lists_long in omega (arith, length-set {A = Listed});
+      stored = record {
+        watching = rewatched s at id f o to kept m lt lt2;
+        short = λ j c. moved_short s at id f o to m within j (kept.stored.short j c);
+        all_short = λ j c. kept.stored.all_short j (short_moved s at id f o to m within j c);
+        room = kept.stored.room;
+        lists_long = let long = kept.stored.lists_long in omega (arith, length-set {A = Listed});
+        ids_fit = kept.stored.ids_fit;
+      };
       looked = moved_looked s at id f o to (take s.head s.lits) s.lits s.done m within
           (λ l c. from_front s.head s.lits l c) (λ l c. c) kept.looked;
       before = λ k k_lt. moved_looked s at id f o to _ _ _ m within (λ l c. from_front _ s.lits l c)
@@ -319,8 +322,5 @@ kept_moved s at id f o to kept m lt lt2 =
       head_within = kept.head_within;
       done_within = kept.done_within;
       reasons_long = kept.reasons_long;
-      marks_long = kept.marks_long;
-      marks_head = kept.marks_head;
-      marks_done = kept.marks_done;
-      ids_fit = kept.ids_fit;
+      marks = kept.marks;
     }

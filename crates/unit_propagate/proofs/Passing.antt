@@ -41,14 +41,14 @@ pair_done s f p kept done there apart =
     λ e. apart (sym (ap (λ (q : Pair). q.first) is) ∙ (packed_same _ _ e ∙ ap (λ (q : Pair). q.second) is)) in (
       λ e.
           let first : (pair_of s.pairs id).first ≡ f = ap (λ (q : Pair). q.first) is ∙ e in
-          let at = seen_listed s.clauses s.pairs s.lists (packed f) id kept.watching codes (inl (ap packed first)) in
+          let at = seen_listed s.clauses s.pairs s.lists (packed f) id kept.stored.watching codes (inl (ap packed first)) in
           let listed : get_or (ids_at s.lists (packed f)) at.0 0 ≡ id = at.2 in
           subst (λ (q : Pair). Contains s.lits q.second) is
           (subst (λ k. Contains s.lits (pair_of s.pairs k).second) listed
           (done.first at.0 at.1 at.1 (ap (λ k. (pair_of s.pairs k).first) listed ∙ first))),
       λ e.
           let second : (pair_of s.pairs id).second ≡ f = ap (λ (q : Pair). q.second) is ∙ e in
-          let at = seen_listed s.clauses s.pairs s.lists (packed f) id kept.watching codes (inr (ap packed second)) in
+          let at = seen_listed s.clauses s.pairs s.lists (packed f) id kept.stored.watching codes (inr (ap packed second)) in
           let listed : get_or (ids_at s.lists (packed f)) at.0 0 ≡ id = at.2 in
           subst (λ (q : Pair). Contains s.lits q.first) is
           (subst (λ k. Contains s.lits (pair_of s.pairs k).first) listed
@@ -59,11 +59,7 @@ pair_done s f p kept done there apart =
 pub kept_next : (s : State) (f d : Lit) → IsKept s → s.head < length s.lits → get_or s.lits s.head d ≡ negation f
     → AreDone s f (length (ids_at s.lists (packed f))) → IsKept (record s { head = s.head + 1 })
 kept_next s f d kept lt is done = record {
-  watching = kept.watching;
-  short = kept.short;
-  all_short = kept.all_short;
-  room = kept.room;
-  lists_long = kept.lists_long;
+  stored = kept.stored;
   looked = record {
     guarded = λ p there apart.
         let old = kept.looked.guarded p there apart in
@@ -83,21 +79,14 @@ kept_next s f d kept lt is done = record {
   head_within = omega arith;
   done_within = kept.done_within;
   reasons_long = kept.reasons_long;
-  marks_long = kept.marks_long;
-  marks_head = kept.marks_head;
-  marks_done = kept.marks_done;
-  ids_fit = kept.ids_fit;
+  marks = kept.marks;
 }
 
 -- the next clause that watches nothing is looked at
 pub kept_done : (s : State) (id : ℕ) → IsKept s → s.done < length s.short → get_or s.short s.done 0 ≡ id
     → HasTrue (clause_at s.clauses id) s.lits → IsKept (record s { done = s.done + 1 })
 kept_done s id kept lt is t = record {
-  watching = kept.watching;
-  short = kept.short;
-  all_short = kept.all_short;
-  room = kept.room;
-  lists_long = kept.lists_long;
+  stored = kept.stored;
   looked = record {
     guarded = kept.looked.guarded;
     holds = λ j c. ⊎_elim (λ old. kept.looked.holds j old)
@@ -110,17 +99,14 @@ kept_done s id kept lt is t = record {
   head_within = kept.head_within;
   done_within = omega arith;
   reasons_long = kept.reasons_long;
-  marks_long = kept.marks_long;
-  marks_head = kept.marks_head;
-  marks_done = kept.marks_done;
-  ids_fit = kept.ids_fit;
+  marks = kept.marks;
 }
 
 -- a clause of one literal
 pub alone : (s : State) (id : ℕ) (a b : Lit) → IsKept s → IsShort s.clauses s.pairs id
     → Contains (clause_at s.clauses id) a
     → Contains (clause_at s.clauses id) b → a ≡ b
-alone s id a b kept short in_a in_b = (kept.watching.paired id short.named).alone short.alone a b in_a in_b
+alone s id a b kept short in_a in_b = (kept.stored.watching.paired id short.named).alone short.alone a b in_a in_b
 
 pub short_fails : (s : State) (id : ℕ) (a : Lit) → IsKept s → IsShort s.clauses s.pairs id
     → Contains (clause_at s.clauses id) a
@@ -163,7 +149,7 @@ shorts_all : (s : State) → IsKept s → s.done ≡ length s.short → (id : �
     → HasTrue (clause_at s.clauses id) s.lits
 shorts_all s kept e id short =
     kept.looked.holds id (subst (λ xs. Contains xs id)
-    (sym (ap (λ n. take n s.short) e ∙ take_all (length s.short) s.short (omega arith))) (kept.all_short id short))
+    (sym (ap (λ n. take n s.short) e ∙ take_all (length s.short) s.short (omega arith))) (kept.stored.all_short id short))
 
 -- a clause with a true literal isn't unit
 true_no_unit : (s : State) (id : ℕ) (l : Lit) → VarsDiffer s.lits → HasTrue (clause_at s.clauses id) s.lits
@@ -184,7 +170,7 @@ guarded_true : (s : State) (id : ℕ) → IsKept s → IsNamed s.clauses id → 
     → (Contains s.lits (negation (pair_of s.pairs id).first) ⊎ Contains s.lits (negation (pair_of s.pairs id).second))
     → HasTrue (clause_at s.clauses id) s.lits
 guarded_true s id kept named apart g one_false =
-    let is = kept.watching.paired id named in
+    let is = kept.stored.watching.paired id named in
     ⊎_elim (λ c. record { some = ((pair_of s.pairs id).second, is.second apart, g.first c) })
     (λ c. record { some = ((pair_of s.pairs id).first, is.first apart, g.second c) }) one_false
 
@@ -196,8 +182,8 @@ quiet s kept vars all done = (
     not_false = λ id named u. ⊎_elim
         (λ same. true_no_false s id vars (shorts_all s kept done id (record { named = named; alone = same })) u)
         (λ apart.
-        let is = kept.watching.paired id named in
-        let long = kept.watching.long in
+        let is = kept.stored.watching.paired id named in
+        let long = kept.stored.watching.long in
         let above = named.from_one in
         let within = named.within in
         let g = guards_all s kept all (pair_of s.pairs id) (pair_there s.pairs id above (omega arith)) apart in
@@ -206,8 +192,8 @@ quiet s kept vars all done = (
     not_unit = λ id l named u. ⊎_elim
         (λ same. true_no_unit s id l vars (shorts_all s kept done id (record { named = named; alone = same })) u)
         (λ apart.
-        let is = kept.watching.paired id named in
-        let long = kept.watching.long in
+        let is = kept.stored.watching.paired id named in
+        let long = kept.stored.watching.long in
         let above = named.from_one in
         let within = named.within in
         let g = guards_all s kept all (pair_of s.pairs id) (pair_there s.pairs id above (omega arith)) apart in
@@ -250,7 +236,7 @@ found_of s (Some id) kept vars conflict all done = conflict
 -- the next clause that watches nothing
 pub short_at : (s : State) (i id : ℕ) → IsKept s → i < length s.short → get_or s.short i 0 ≡ id
     → IsShort s.clauses s.pairs id
-short_at s i id kept lt e = kept.short id (i, lt, get_or_default s.short i id 0 lt ∙ e)
+short_at s i id kept lt e = kept.stored.short id (i, lt, get_or_default s.short i id 0 lt ∙ e)
 
 -- is looked at, by what the state has become
 pub done_kept : (s new : State) (id : ℕ) → IsKept new → Grows s new → new.done ≡ s.done → s.done < length s.short

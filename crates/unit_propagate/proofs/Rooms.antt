@@ -61,8 +61,8 @@ room_for s lists clause kept h = record {
       let is : packed l.0 ≡ code = same_code (packed l.0) code l.2 in
       let claimed : (list_at s.lists code).uses + 1 ≤ (list_at lists code).uses =
       subst (λ k. (list_at s.lists k).uses + 1 ≤ (list_at lists k).uses) is (h.more l.0 l.1) in
-      rw e (omega (arith, kept.watching.room code, claimed)))
-      (λ (e : has code clause ≡ false). rw e (omega (arith, kept.watching.room code, h.room.uses code)))
+      rw e (omega (arith, kept.stored.watching.room code, claimed)))
+      (λ (e : has code clause ≡ false). rw e (omega (arith, kept.stored.watching.room code, h.room.uses code)))
       (cases_Bool (has code clause));
 }
 

@@ -50,14 +50,14 @@ watched s code l ids kept code_is ids_are id = (
       let at : get_or ids c.0 0 ≡ id = get_or_default ids c.0 0 id c.1 ∙ c.2 in
       let same : get_or (ids_at s.lists code) c.0 0 ≡ id = sym (ap (λ xs. get_or xs c.0 0) ids_are) ∙ at in
       let seen : IsSeen s.clauses s.pairs code id = subst (IsSeen s.clauses s.pairs code) same
-      (listed_seen s.clauses s.pairs s.lists code c.0 kept.watching (subst (λ xs. c.0 < length xs) ids_are c.1)) in
+      (listed_seen s.clauses s.pairs s.lists code c.0 kept.stored.watching (subst (λ xs. c.0 < length xs) ids_are c.1)) in
       record {
         apart = λ e. seen.apart (ap packed e);
         one_of = ⊎_elim (λ e. inl (packed_same _ l (e ∙ code_is))) (λ e. inr (packed_same _ l (e ∙ code_is)))
             seen.one_of;
       },
   λ w.
-      let at = seen_listed s.clauses s.pairs s.lists code id kept.watching (λ e. w.apart (packed_same _ _ e))
+      let at = seen_listed s.clauses s.pairs s.lists code id kept.stored.watching (λ e. w.apart (packed_same _ _ e))
       (⊎_elim (λ e. inl (ap packed e ∙ sym code_is)) (λ e. inr (ap packed e ∙ sym code_is)) w.one_of) in
       subst (λ xs. Contains xs id) (sym ids_are) (
         at.0,
@@ -73,15 +73,15 @@ pub unwatched : (s : State) (l : Lit) → IsKept s → s.vars ≤ l.var → (id 
 unwatched s l kept far id = (
   λ c. absurd (Contains-nil id c),
   λ w.
-      let at = seen_listed s.clauses s.pairs s.lists (packed l) id kept.watching (λ e. w.apart (packed_same _ _ e))
+      let at = seen_listed s.clauses s.pairs s.lists (packed l) id kept.stored.watching (λ e. w.apart (packed_same _ _ e))
       (⊎_elim (λ e. inl (ap packed e)) (λ e. inr (ap packed e)) w.one_of) in
       let seen : IsSeen s.clauses s.pairs (packed l) id = subst (IsSeen s.clauses s.pairs (packed l)) at.2
-      (listed_seen s.clauses s.pairs s.lists (packed l) at.0 kept.watching at.1) in
-      let is = kept.watching.paired id seen.named in
+      (listed_seen s.clauses s.pairs s.lists (packed l) at.0 kept.stored.watching at.1) in
+      let is = kept.stored.watching.paired id seen.named in
       ⊎_elim
-      (λ e. let low = kept.room id _ seen.named (is.first w.apart) in let var = ap (λ (x : Lit). x.var) e in
+      (λ e. let low = kept.stored.room id _ seen.named (is.first w.apart) in let var = ap (λ (x : Lit). x.var) e in
       absurd (omega arith))
-      (λ e. let low = kept.room id _ seen.named (is.second w.apart) in let var = ap (λ (x : Lit). x.var) e in
+      (λ e. let low = kept.stored.room id _ seen.named (is.second w.apart) in let var = ap (λ (x : Lit). x.var) e in
       absurd (omega arith))
       w.one_of,
 )
@@ -112,27 +112,31 @@ none_listed code (suc id) = sym (watches_alone code no_pair refl)
 
 pub kept_opened : IsKept opened
 kept_opened = record {
-  watching = record {
-    long = refl;
-    paired = λ id named. let above = named.from_one in let within = named.within in absurd (omega arith);
-    listed = λ code id. none_listed code id;
-    counted = λ code. refl;
-    room = λ code. omega arith;
+  stored = record {
+    watching = record {
+      long = refl;
+      paired = λ id named. let above = named.from_one in let within = named.within in absurd (omega arith);
+      listed = λ code id. none_listed code id;
+      counted = λ code. refl;
+      room = λ code. omega arith;
+    };
+    short = λ id c. absurd (Contains-nil id c);
+    all_short = λ id h. let above = h.named.from_one in let within = h.named.within in absurd (omega arith);
+    room = λ id l named c. let above = named.from_one in let within = named.within in absurd (omega arith);
+    lists_long = omega arith;
+    ids_fit = omega arith;
   };
-  short = λ id c. absurd (Contains-nil id c);
-  all_short = λ id h. let above = h.named.from_one in let within = h.named.within in absurd (omega arith);
-  room = λ id l named c. let above = named.from_one in let within = named.within in absurd (omega arith);
-  lists_long = omega arith;
   looked = record { guarded = λ p c. absurd (Contains-nil p c); holds = λ id c. absurd (Contains-nil id c) };
   before = λ k lt. absurd (omega arith);
   reasons = λ i lt. absurd (omega arith);
   head_within = omega arith;
   done_within = omega arith;
   reasons_long = omega arith;
-  marks_long = omega arith;
-  marks_head = λ n. omega (arith, ap (λ (m : Progress). m.head) (mark_none n));
-  marks_done = λ n. omega (arith, ap (λ (m : Progress). m.done) (mark_none n));
-  ids_fit = omega arith;
+  marks = record {
+    long = omega arith;
+    head = λ n. omega (arith, ap (λ (m : Progress). m.head) (mark_none n));
+    done = λ n. omega (arith, ap (λ (m : Progress). m.done) (mark_none n));
+  };
 }
 
 pub kept_open : (clauses : List (List Lit)) (pairs : List Pair) (lists : List Listed) (short : List ℕ) (lits : List Lit)

@@ -172,18 +172,14 @@ kept_literal s l id kept levels before implied =
     (l ∷ []) x c in
     let in_reasons : length s.lits < length s.reasons = let long = kept.reasons_long in omega arith in
     record {
-      watching = kept.watching;
-      short = kept.short;
-      all_short = kept.all_short;
-      room = kept.room;
-      lists_long = kept.lists_long;
+      stored = kept.stored;
       looked = rw (take-append-le s.head s.lits (l ∷ []) kept.head_within)
           (looked_higher s.clauses s.pairs s.short (take s.head s.lits) s.lits (s.lits ++ l ∷ []) s.done more
           kept.looked);
       before = λ k lt.
           let n = get_or s.starts k 0 in
           let low : n ≤ length s.lits = levels.within k lt in
-          let head = kept.marks_head n in
+          let head = kept.marks.head n in
           let lower : (progress_at s.progress n).head ≤ length s.lits = omega arith in
           rw (
             take-append-le n s.lits (l ∷ []) low,
@@ -209,10 +205,7 @@ kept_literal s l id kept levels before implied =
       head_within = let within = kept.head_within in omega (arith, length-append s.lits (l ∷ []));
       done_within = kept.done_within;
       reasons_long = let long = kept.reasons_long in omega (arith, length-set s.reasons (length s.lits) id);
-      marks_long = kept.marks_long;
-      marks_head = kept.marks_head;
-      marks_done = kept.marks_done;
-      ids_fit = kept.ids_fit;
+      marks = kept.marks;
     }
 
 -- so the state has grown
@@ -332,8 +325,8 @@ others_of s id code o code_is none x c ne = none x c (λ e. ne (e ∙ code_is))
 pub lit_listed : (s : State) (id : ℕ) (l : Lit) → IsKept s → IsNamed s.clauses id → Contains (clause_at s.clauses id) l
     → packed l < length s.lists
 lit_listed s id l kept named c =
-    let long = kept.lists_long in
-    let low = packed_low l s.vars (kept.room id l named c) in
+    let long = kept.stored.lists_long in
+    let low = packed_low l s.vars (kept.stored.room id l named c) in
     omega arith
 
 -- the state and the visit after a move, by what it becomes

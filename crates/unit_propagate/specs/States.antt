@@ -101,12 +101,24 @@ pub record IsShort (clauses : List (List Lit)) (pairs : List Pair) (id : ℕ) : 
   pub named : IsNamed clauses id
   pub alone : (pair_of pairs id).first ≡ (pair_of pairs id).second
 
+-- what holds of the clauses and of what watches them, whatever is true
+pub record IsStored (clauses : List (List Lit)) (pairs : List Pair) (lists : List Listed) (alone : List ℕ)
+    (vars : ℕ) : Type 0 where
+  pub watching : IsWatching clauses pairs lists
+  pub short : (id : ℕ) → Contains alone id → IsShort clauses pairs id
+  pub all_short : (id : ℕ) → IsShort clauses pairs id → Contains alone id
+  pub room : (id : ℕ) (l : Lit) → IsNamed clauses id → Contains (clause_at clauses id) l → l.var < vars
+  pub lists_long : 2 * vars ≤ length lists
+  pub ids_fit : length clauses < 2 ^ 32
+
+-- how far propagation had come at each number of true literals is within the trail and the clauses
+pub record AreMarks (progress : List Progress) (short : List ℕ) (vars : ℕ) : Type 0 where
+  pub long : vars < length progress
+  pub head : (n : ℕ) → (progress_at progress n).head ≤ n
+  pub done : (n : ℕ) → (progress_at progress n).done ≤ length short
+
 pub record IsKept (s : State) : Type 0 where
-  pub watching : IsWatching s.clauses s.pairs s.lists
-  pub short : (id : ℕ) → Contains s.short id → IsShort s.clauses s.pairs id
-  pub all_short : (id : ℕ) → IsShort s.clauses s.pairs id → Contains s.short id
-  pub room : (id : ℕ) (l : Lit) → IsNamed s.clauses id → Contains (clause_at s.clauses id) l → l.var < s.vars
-  pub lists_long : 2 * s.vars ≤ length s.lists
+  pub stored : IsStored s.clauses s.pairs s.lists s.short s.vars
   pub looked : IsLooked s.clauses s.pairs s.short (take s.head s.lits) s.lits s.done
   pub before : (k : ℕ) → k < length s.starts → IsLookedAt s (slice_index s.starts k)
   pub reasons : (i : ℕ) → i < length s.lits → slice_index s.reasons i ≢ 0
@@ -114,7 +126,4 @@ pub record IsKept (s : State) : Type 0 where
   pub head_within : s.head ≤ length s.lits
   pub done_within : s.done ≤ length s.short
   pub reasons_long : s.vars ≤ length s.reasons
-  pub marks_long : s.vars < length s.progress
-  pub marks_head : (n : ℕ) → (progress_at s.progress n).head ≤ n
-  pub marks_done : (n : ℕ) → (progress_at s.progress n).done ≤ length s.short
-  pub ids_fit : length s.clauses < 2 ^ 32
+  pub marks : AreMarks s.progress s.short s.vars

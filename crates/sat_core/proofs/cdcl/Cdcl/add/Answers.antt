@@ -17,7 +17,7 @@ returns-in-Err-add-clause-rest c =
     record {
       mirror = mirror_as c.args.self.now.decisions.search.clauses _ c.args.self.now.logged.active.items _
           c.args.self.now.logged.log _ stays.clauses c.reserve.ensures.items log c.requires.rest.mirror;
-      resting = resting_stays _ _ stays c.requires.rest.resting;
+      resting = resting_stays _ _ _ c.vars-form.ensures.form stays c.requires.rest.resting;
     }
 
 pub returns-in-Err-add-clause-keeps : goal.returns-in-Err-add-clause-keeps
@@ -38,7 +38,7 @@ returns-clause-rest c =
           r
           (gains.clauses ∙ ap (λ xs. c.args.self.now.decisions.search.clauses ++ xs ∷ []) clause_is) pushed
           c.requires.rest.mirror;
-      resting = resting_more _ _ _ _ gains c.requires.rest.resting;
+      resting = resting_more _ _ _ _ _ c.vars-form.ensures.form gains c.requires.rest.resting;
     }
 
 pub returns-clause-keeps : goal.returns-clause-keeps

@@ -18,7 +18,8 @@ pub returns-in-Some-clause-core : goal.returns-in-Some-clause-core
 returns-in-Some-clause-core c =
     let s = c.args.self.now.decisions.search in
     let subsuming = rw c.in-Some.is at c.in_ok-subsuming.ensures in
-    core_served (state_of c.args.self.now) s c.args.assumptions.now _ c.in-Some.step c.requires.shallow c.requires.run
+    core_served (state_of c.args.self.now) c.args.self.now.front.items s c.args.assumptions.now _ c.in-Some.step
+    c.requires.shallow c.requires.run
     c.in_ok-clause.ensures.assumed
     (subst (λ xs. IsSubsuming c.args.self.now.logged.log.steps xs c.in-Some.step) c.as_slice.ensures.lits subsuming)
 
@@ -45,7 +46,7 @@ returns-clause-kept c =
       mirror = mirror_derived s.clauses s.clauses c.args.self.now.logged.active.items
           c.args.self.now.logged.active.items c.args.self.now.logged.log _ _ _ _
           refl refl c.in_ok-step.ensures.ok c.requires.kept.mirror;
-      based = c.requires.kept.based;
+      fronted = c.requires.kept.fronted;
     }
 
 pub returns-clause-core : goal.returns-clause-core
@@ -56,7 +57,8 @@ returns-clause-core c =
     rw (c.as_slice-3.ensures, c.in_ok-hints.ensures, c.deref.ensures.value, c.as_slice-2.ensures) refl in
     let none : HasNoSubsuming c.args.self.now.logged.log.steps c.as_slice.result.now = rw c.in-None.is at
     c.in_ok-subsuming.ensures in
-    core_derived (state_of c.args.self.now) _ s c.args.assumptions.now _ _ _ _ c.requires.kept.mirror
+    core_derived (state_of c.args.self.now) _ c.args.self.now.front.items s c.args.assumptions.now _ _ _ _
+    c.requires.kept.mirror
     c.requires.shallow c.requires.run c.in_ok-clause.ensures.learned c.in_ok-clause.ensures.assumed
     (subst (λ xs. HasNoSubsuming c.args.self.now.logged.log.steps xs) c.as_slice.ensures.lits none) hints
     c.in_ok-step.ensures.ok

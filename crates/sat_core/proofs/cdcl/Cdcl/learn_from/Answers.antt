@@ -7,7 +7,8 @@ use Rattle.sat_core.proofs.Turning.{known_of, ids_of, named_of, unit_learned}
 use Rattle.sat_core.proofs.cdcl.Cdcl.learn_from.Goals as goal
 
 pub learn-requires-clause-decided : goal.learn-requires-clause-decided
-learn-requires-clause-decided c = has_decided c.args.self.now.decisions.search c.args.assumptions.now
+learn-requires-clause-decided c = has_decided c.args.self.now.front.items c.args.self.now.decisions.search
+    c.args.assumptions.now
     c.vars-form.ensures.form c.requires.deep c.requires.run
 
 pub steps_of-requires : goal.steps_of-requires
@@ -27,18 +28,19 @@ take-requires-clause-room c = not_so _ _ c.is_full.ensures.full c.if-is_full.fal
 pub take-requires-clause-shown : goal.take-requires-clause-shown
 take-requires-clause-shown c =
     let s = c.args.self.now.decisions.search in
-    let settled = has_settled s c.args.assumptions.now c.requires.deep c.requires.run in
+    let settled = has_settled c.args.self.now.front.items s c.args.assumptions.now c.requires.deep c.requires.run in
     let hints : c.as_slice-3.result.now ≡ map (step_of c.args.self.now.logged.active.items)
     c.in_ok-learned.learned.hints =
     rw (c.as_slice-3.ensures, c.in_ok-hints.ensures, c.deref.ensures.value, c.as_slice.ensures) refl in
-    unit_learned (state_of c.args.self.now) s c.args.assumptions.now c.in_ok-learned.learned.clause
+    unit_learned (state_of c.args.self.now) c.args.self.now.front.items s c.args.assumptions.now
+    c.in_ok-learned.learned.clause
     c.in_ok-learned.learned.hints _ c.requires.kept.mirror c.vars-form.ensures.form c.requires.run
     c.in_ok-learned.ensures.learned (c.in_ok-learned.ensures.new settled) hints
 
 pub take-requires-clause-asserting : goal.take-requires-clause-asserting
 take-requires-clause-asserting c =
     let s = c.args.self.now.decisions.search in
-    let settled = has_settled s c.args.assumptions.now c.requires.deep c.requires.run in
+    let settled = has_settled c.args.self.now.front.items s c.args.assumptions.now c.requires.deep c.requires.run in
     record {
       level_in = c.in_ok-learned.ensures.level;
       unit = c.in_ok-learned.ensures.unit settled;
@@ -50,7 +52,7 @@ take-requires-clause-asserting c =
 pub returns-then-not-spend-clause-stops : goal.returns-then-not-spend-clause-stops
 returns-then-not-spend-clause-stops c =
     let s = c.args.self.now.decisions.search in
-    let settled = has_settled s c.args.assumptions.now c.requires.deep c.requires.run in
+    let settled = has_settled c.args.self.now.front.items s c.args.assumptions.now c.requires.deep c.requires.run in
     let hints : c.in_ok-hints.hints ≡ map (step_of c.args.self.now.logged.active.items) c.in_ok-learned.learned.hints =
     rw (c.in_ok-hints.ensures, c.deref.ensures.value, c.as_slice.ensures) refl in
     let spend = c.if-not-spend.ensures in (
@@ -63,7 +65,7 @@ returns-then-not-spend-clause-stops c =
           is_used = c.used.ensures.used;
           in_hand = record { clause = c.in_ok-learned.learned.clause; hints = c.in_ok-hints.hints };
           kept = refl;
-          further = unit_learned _ s c.args.assumptions.now c.in_ok-learned.learned.clause
+          further = unit_learned _ c.args.self.now.front.items s c.args.assumptions.now c.in_ok-learned.learned.clause
               c.in_ok-learned.learned.hints c.in_ok-hints.hints c.requires.kept.mirror c.vars-form.ensures.form
               c.requires.run c.in_ok-learned.ensures.learned (c.in_ok-learned.ensures.new settled) hints;
         },
@@ -73,7 +75,7 @@ returns-then-not-spend-clause-stops c =
 pub returns-clause-goes : goal.returns-clause-goes
 returns-clause-goes c =
     let s = c.args.self.now.decisions.search in
-    let settled = has_settled s c.args.assumptions.now c.requires.deep c.requires.run in
+    let settled = has_settled c.args.self.now.front.items s c.args.assumptions.now c.requires.deep c.requires.run in
     let hints : c.as_slice-3.result.now ≡ map (step_of c.args.self.now.logged.active.items)
     c.in_ok-learned.learned.hints =
     rw (c.as_slice-3.ensures, c.in_ok-hints.ensures, c.deref.ensures.value, c.as_slice.ensures) refl in
@@ -83,7 +85,8 @@ returns-clause-goes c =
       learns = record {
         clause = c.in_ok-learned.learned.clause;
         hints = c.as_slice-3.result.now;
-        learned = unit_learned (state_of c.args.self.now) s c.args.assumptions.now c.in_ok-learned.learned.clause
+        learned = unit_learned (state_of c.args.self.now) c.args.self.now.front.items s c.args.assumptions.now
+            c.in_ok-learned.learned.clause
             c.in_ok-learned.learned.hints _ c.requires.kept.mirror c.vars-form.ensures.form c.requires.run
             c.in_ok-learned.ensures.learned (c.in_ok-learned.ensures.new settled) hints;
         new_state = c.in_ok-take.ensures.state;

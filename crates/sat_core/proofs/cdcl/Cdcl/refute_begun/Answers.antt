@@ -1,18 +1,18 @@
-use Rattle.sat_core.proofs.Running.{based_of}
 use Rattle.sat_core.proofs.Searching.{mirror_same}
 use Rattle.sat_core.proofs.cdcl.Cdcl.refute_begun.Goals as goal
 
 pub derive_core_with_room-requires-clause-kept : goal.derive_core_with_room-requires-clause-kept
 derive_core_with_room-requires-clause-kept c = record {
   mirror = mirror_same _ _ _ _ c.in-Some.ensures.on.clauses c.requires.kept.mirror;
-  based = based_of _ c.args.assumptions.now (c.in-Some.ensures.on.run c.args.assumptions.now c.requires.run);
+  fronted = (c.in-Some.ensures.on.run c.args.self.now.front.items c.args.assumptions.now c.requires.run).fronted;
 }
 
 pub derive_core_with_room-requires-clause-run : goal.derive_core_with_room-requires-clause-run
-derive_core_with_room-requires-clause-run c = c.in-Some.ensures.on.run c.args.assumptions.now c.requires.run
+derive_core_with_room-requires-clause-run c = c.in-Some.ensures.on.run c.args.self.now.front.items
+    c.args.assumptions.now c.requires.run
 
 pub returns-in-None-clause-kept : goal.returns-in-None-clause-kept
 returns-in-None-clause-kept c = record {
   mirror = mirror_same _ _ _ _ c.in-None.ensures.on.clauses c.requires.kept.mirror;
-  based = based_of _ c.args.assumptions.now (c.in-None.ensures.on.run c.args.assumptions.now c.requires.run);
+  fronted = (c.in-None.ensures.on.run c.args.self.now.front.items c.args.assumptions.now c.requires.run).fronted;
 }

@@ -1,7 +1,7 @@
 use Rattle.std.proofs.Common.{◌≡◌, ◌++◌, ◌∷◌, [], arith, ap, sym, subst, ◌∙◌, rules}
 use Rattle.plain_lits.specs.Literals.{negation}
 use Rattle.plain_lits.specs.HintCheck.{IsUnit}
-use Rattle.sat_core.proofs.Running.{based_of, stays_run}
+use Rattle.sat_core.proofs.Running.{stays_run}
 use Rattle.sat_core.proofs.Turning.{target_within, unit_after, run_after, run_learned, mirror_derived, mirror_learned}
 use Rattle.sat_core.proofs.Turning.{state_learned}
 use Rattle.sat_core.specs.Turns.{state_of}
@@ -37,10 +37,11 @@ returns-in_err-add_learned-clause-kept c =
       mirror = mirror_derived s.clauses _ c.args.self.now.logged.active.items _ c.args.self.now.logged.log _ _ _ _
           (stays.clauses ∙ c.back_to.ensures.clauses) c.reserve.ensures.items c.in_ok-step.ensures.ok
           c.requires.kept.mirror;
-      based = based_of _ c.args.assumptions.now
-          (stays_run c.back_to.new.self.search _ c.args.assumptions.now c.vars-form.ensures.form stays
-          (run_after s c.back_to.new.self.search c.kept_level.result c.args.assumptions.now c.vars-before.ensures.form
-          c.kept_level.ensures.positive lt c.back_to.ensures c.requires.run));
+      fronted = (stays_run c.args.self.now.front.items c.back_to.new.self.search _ c.args.assumptions.now
+          c.vars-form.ensures.form stays
+          (run_after c.args.self.now.front.items s c.back_to.new.self.search c.kept_level.result
+          c.args.assumptions.now c.vars-before.ensures.form
+          c.kept_level.ensures.positive lt c.back_to.ensures c.requires.run)).fronted;
     }
 
 pub returns-clause-kept : goal.returns-clause-kept
@@ -60,11 +61,11 @@ returns-clause-kept c =
           c.back_to.ensures.clauses
           (learns.clauses ∙ ap (λ xs. c.back_to.new.self.search.clauses ++ xs ∷ []) clause_is) pushed
           c.in_ok-step.ensures.ok c.requires.kept.mirror;
-      based = based_of _ c.args.assumptions.now
-          (run_learned s c.back_to.new.self.search _ l.level c.kept_level.result l.clause l.asserting _
+      fronted = (run_learned c.args.self.now.front.items s c.back_to.new.self.search _ l.level c.kept_level.result
+          l.clause l.asserting _
           c.args.assumptions.now c.vars-before.ensures.form c.vars-form.ensures.form c.requires.asserting
           c.kept_level.ensures.positive c.kept_level.ensures.low lt c.back_to.ensures
-          (rw c.as_slice.ensures.lits at learns) c.requires.run);
+          (rw c.as_slice.ensures.lits at learns) c.requires.run).fronted;
     }
 
 pub returns-clause-run : goal.returns-clause-run
@@ -74,7 +75,8 @@ returns-clause-run c =
     let lt = target_within s l.level c.kept_level.result c.requires.asserting.level_in c.requires.deep
     c.kept_level.ensures.within in
     let learns = c.in_ok-add_learned.ensures.ok in
-    run_learned s c.back_to.new.self.search _ l.level c.kept_level.result l.clause l.asserting _
+    run_learned c.args.self.now.front.items s c.back_to.new.self.search _ l.level c.kept_level.result l.clause
+    l.asserting _
     c.args.assumptions.now c.vars-before.ensures.form c.vars-form.ensures.form c.requires.asserting
     c.kept_level.ensures.positive c.kept_level.ensures.low lt c.back_to.ensures
     (rw c.as_slice.ensures.lits at learns) c.requires.run

@@ -4,6 +4,6 @@ use Rattle.sat_core.proofs.decision_loop.DecisionLoop.count_conflict.Goals as go
 
 pub returns : goal.returns
 returns c =
-    let deep = c.if-starts-le1.false in
+    let deep = c.if-starts-le2.false in
     let same = ap length c.starts.ensures.starts in
-    on_back _ _ 1 c.starts.ensures.form (omega arith) (omega (arith, deep, same)) c.back_to.ensures
+    on_back _ _ 2 c.starts.ensures.form (omega arith) (omega (arith, deep, same)) c.back_to.ensures

@@ -33,6 +33,6 @@ progress_in-mark-requires c =
     let lt : c.args.level < length s.starts = omega (arith, c.if-level-starts.false, ap length same) in
     let within = c.starts-starts.ensures.form.levels.within c.args.level lt in
     let short = c.starts-starts.ensures.form.short in
-    let long = c.requires.kept.marks_long in
+    let long = c.requires.kept.marks.long in
     let progress = ap length c.as_slice.ensures.value in
     omega (arith, within, short, long, progress, ap (λ xs. get_or xs c.args.level 0) same)

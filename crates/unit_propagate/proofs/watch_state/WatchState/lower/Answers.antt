@@ -7,11 +7,11 @@ use Rattle.unit_propagate.proofs.watch_state.WatchState.lower.Goals as goal
 pub lower_progress-requires : goal.lower_progress-requires
 lower_progress-requires c =
     let short = c.len-form.ensures.form.short in
-    let long = c.requires.kept.marks_long in
+    let long = c.requires.kept.marks.long in
     rw c.starts.ensures.starts (record {
       within = λ k lt. omega (arith, c.len-form.ensures.form.levels.within k lt);
       levels = c.len-form.ensures.form.levels.rise;
-      heads = c.requires.kept.marks_head;
+      heads = c.requires.kept.marks.head;
     })
 
 pub returns : goal.returns

@@ -9,9 +9,9 @@ pub returns : goal.returns
 returns c =
     let s = state_of c.args.self.now in
     let kept = c.requires.kept in
-    let old_lists = kept.lists_long in
+    let old_lists = kept.stored.lists_long in
     let old_reasons = kept.reasons_long in
-    let old_marks = kept.marks_long in
+    let old_marks = kept.marks.long in
     let old_vars = c.vars.ensures.vars in
     let h : IsRoomyFor s c.make_room.new.self.lits c.make_room.new.self.starts c.make_room.new.self.vars
     c.grow_lists.new.lists.items c.grow_ids.new.ids.items c.grow_progress.new.progress.items = record {
@@ -42,9 +42,9 @@ pub returns-in_err-make_room-clause-kept : goal.returns-in_err-make_room-clause-
 returns-in_err-make_room-clause-kept c =
     let s = state_of c.args.self.now in
     let kept = c.requires.kept in
-    let old_lists = kept.lists_long in
+    let old_lists = kept.stored.lists_long in
     let old_reasons = kept.reasons_long in
-    let old_marks = kept.marks_long in
+    let old_marks = kept.marks.long in
     let old_vars = c.vars.ensures.vars in
     let h : IsRoomyFor s c.make_room.new.self.lits c.make_room.new.self.starts c.make_room.new.self.vars
     c.grow_lists.new.lists.items c.grow_ids.new.ids.items c.grow_progress.new.progress.items = record {
@@ -68,9 +68,9 @@ pub returns-in_err-make_room-clause-room : goal.returns-in_err-make_room-clause-
 returns-in_err-make_room-clause-room c =
     let s = state_of c.args.self.now in
     let kept = c.requires.kept in
-    let old_lists = kept.lists_long in
+    let old_lists = kept.stored.lists_long in
     let old_reasons = kept.reasons_long in
-    let old_marks = kept.marks_long in
+    let old_marks = kept.marks.long in
     let old_vars = c.vars.ensures.vars in
     let h : IsRoomyFor s c.make_room.new.self.lits c.make_room.new.self.starts c.make_room.new.self.vars
     c.grow_lists.new.lists.items c.grow_ids.new.ids.items c.grow_progress.new.progress.items = record {
@@ -94,9 +94,9 @@ pub returns-in_err-grow_progress-clause-kept : goal.returns-in_err-grow_progress
 returns-in_err-grow_progress-clause-kept c =
     let s = state_of c.args.self.now in
     let kept = c.requires.kept in
-    let old_lists = kept.lists_long in
+    let old_lists = kept.stored.lists_long in
     let old_reasons = kept.reasons_long in
-    let old_marks = kept.marks_long in
+    let old_marks = kept.marks.long in
     let old_vars = c.vars.ensures.vars in
     let h : IsRoomyFor s s.lits s.starts s.vars c.grow_lists.new.lists.items c.grow_ids.new.ids.items
     c.grow_progress.new.progress.items = record {
@@ -117,9 +117,9 @@ pub returns-in_err-grow_progress-clause-room : goal.returns-in_err-grow_progress
 returns-in_err-grow_progress-clause-room c =
     let s = state_of c.args.self.now in
     let kept = c.requires.kept in
-    let old_lists = kept.lists_long in
+    let old_lists = kept.stored.lists_long in
     let old_reasons = kept.reasons_long in
-    let old_marks = kept.marks_long in
+    let old_marks = kept.marks.long in
     let old_vars = c.vars.ensures.vars in
     let h : IsRoomyFor s s.lits s.starts s.vars c.grow_lists.new.lists.items c.grow_ids.new.ids.items
     c.grow_progress.new.progress.items = record {
@@ -140,9 +140,9 @@ pub returns-in_err-grow_ids-clause-kept : goal.returns-in_err-grow_ids-clause-ke
 returns-in_err-grow_ids-clause-kept c =
     let s = state_of c.args.self.now in
     let kept = c.requires.kept in
-    let old_lists = kept.lists_long in
+    let old_lists = kept.stored.lists_long in
     let old_reasons = kept.reasons_long in
-    let old_marks = kept.marks_long in
+    let old_marks = kept.marks.long in
     let old_vars = c.vars.ensures.vars in
     let h : IsRoomyFor s s.lits s.starts s.vars c.grow_lists.new.lists.items c.grow_ids.new.ids.items s.progress =
     record {
@@ -162,9 +162,9 @@ pub returns-in_err-grow_ids-clause-room : goal.returns-in_err-grow_ids-clause-ro
 returns-in_err-grow_ids-clause-room c =
     let s = state_of c.args.self.now in
     let kept = c.requires.kept in
-    let old_lists = kept.lists_long in
+    let old_lists = kept.stored.lists_long in
     let old_reasons = kept.reasons_long in
-    let old_marks = kept.marks_long in
+    let old_marks = kept.marks.long in
     let old_vars = c.vars.ensures.vars in
     let h : IsRoomyFor s s.lits s.starts s.vars c.grow_lists.new.lists.items c.grow_ids.new.ids.items s.progress =
     record {
@@ -184,9 +184,9 @@ pub returns-in_err-grow_lists-clause-kept : goal.returns-in_err-grow_lists-claus
 returns-in_err-grow_lists-clause-kept c =
     let s = state_of c.args.self.now in
     let kept = c.requires.kept in
-    let old_lists = kept.lists_long in
+    let old_lists = kept.stored.lists_long in
     let old_reasons = kept.reasons_long in
-    let old_marks = kept.marks_long in
+    let old_marks = kept.marks.long in
     let old_vars = c.vars.ensures.vars in
     let h : IsRoomyFor s s.lits s.starts s.vars c.grow_lists.new.lists.items s.reasons s.progress = record {
       new_lits = refl;
@@ -205,9 +205,9 @@ pub returns-in_err-grow_lists-clause-room : goal.returns-in_err-grow_lists-claus
 returns-in_err-grow_lists-clause-room c =
     let s = state_of c.args.self.now in
     let kept = c.requires.kept in
-    let old_lists = kept.lists_long in
+    let old_lists = kept.stored.lists_long in
     let old_reasons = kept.reasons_long in
-    let old_marks = kept.marks_long in
+    let old_marks = kept.marks.long in
     let old_vars = c.vars.ensures.vars in
     let h : IsRoomyFor s s.lits s.starts s.vars c.grow_lists.new.lists.items s.reasons s.progress = record {
       new_lits = refl;
@@ -226,9 +226,9 @@ pub returns-then-vars : goal.returns-then-vars
 returns-then-vars c =
     let s = state_of c.args.self.now in
     let kept = c.requires.kept in
-    let old_lists = kept.lists_long in
+    let old_lists = kept.stored.lists_long in
     let old_reasons = kept.reasons_long in
-    let old_marks = kept.marks_long in
+    let old_marks = kept.marks.long in
     let old_vars = c.vars.ensures.vars in
     let h : IsRoomyFor s s.lits s.starts s.vars s.lists s.reasons s.progress = record {
       new_lits = refl;

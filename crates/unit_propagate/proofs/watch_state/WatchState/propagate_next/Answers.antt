@@ -11,7 +11,7 @@ code_of-requires c =
     let s = state_of c.args.self.now in
     let low : c.not-falsified.result.var < s.vars = next_var s.lits c.lits.result.now s.head s.vars blank
     c.not-falsified.result c.requires.more c.lits.ensures.lits c.lits.ensures.form.within c.not-falsified.ensures in
-    let long = c.requires.kept.lists_long in
+    let long = c.requires.kept.stored.lists_long in
     let fits = c.len-lists.type_inv in
     omega (arith, low, long, fits, c.len-lists.ensures)
 
@@ -20,7 +20,7 @@ visit-requires c =
     let s = state_of c.args.self.now in
     let low : c.not-falsified.result.var < s.vars = next_var s.lits c.lits.result.now s.head s.vars blank
     c.not-falsified.result c.requires.more c.lits.ensures.lits c.lits.ensures.form.within c.not-falsified.ensures in
-    let long = c.requires.kept.lists_long in
+    let long = c.requires.kept.stored.lists_long in
     let code = packed_low c.not-falsified.result s.vars low in
     record {
       kept = c.requires.kept;

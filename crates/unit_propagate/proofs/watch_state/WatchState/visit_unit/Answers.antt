@@ -6,7 +6,7 @@ use Rattle.unit_propagate.proofs.watch_state.WatchState.visit_unit.Goals as goal
 
 pub imply-requires : goal.imply-requires
 imply-requires c = record {
-  within = c.requires.kept.room c.args.id c.args.lit c.requires.short.named c.requires.there;
+  within = c.requires.kept.stored.room c.args.id c.args.lit c.requires.short.named c.requires.there;
   unset = c.in-Unset.ensures.value;
   long = c.requires.kept.reasons_long;
 }

@@ -34,7 +34,7 @@ move_watch-requires-clause-apart c =
 pub imply-requires-clause-within : goal.imply-requires-clause-within
 imply-requires-clause-within c =
     let s = state_of c.args.self.now in
-    rw c.lit.ensures.lit (c.requires.kept.room c.args.watcher.id c.args.watcher.other c.requires.here_is.named
+    rw c.lit.ensures.lit (c.requires.kept.stored.room c.args.watcher.id c.args.watcher.other c.requires.here_is.named
     (here_other s c.args.at c.args.watcher.id c.args.falsified c.args.watcher.other c.requires.kept c.requires.here_is))
 
 pub returns-in-Some-clause-kept : goal.returns-in-Some-clause-kept

@@ -9,7 +9,7 @@ pub pair-pair-requires : goal.pair-pair-requires
 pair-pair-requires c =
     let s = state_of c.args.self.now in
     let seen : IsSeen s.clauses s.pairs c.args.code (get_or (ids_at s.lists c.args.code) c.args.at 0) =
-    listed_seen s.clauses s.pairs s.lists c.args.code c.args.at c.requires.kept.watching c.requires.at in
+    listed_seen s.clauses s.pairs s.lists c.args.code c.args.at c.requires.kept.stored.watching c.requires.at in
     rw (c.ids_in.ensures, c.as_slice.ensures.value) seen.named
 
 pub returns-then-code : goal.returns-then-code

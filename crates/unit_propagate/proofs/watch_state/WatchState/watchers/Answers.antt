@@ -17,7 +17,7 @@ returns-then-lit-vars c =
 
 pub code_of-requires : goal.code_of-requires
 code_of-requires c =
-    let long = c.requires.lists_long in
+    let long = c.requires.stored.lists_long in
     let fits = c.as_slice.type_inv.0 in
     omega (arith, long, fits, c.if-lit-vars.false, c.vars.ensures.vars, ap length c.as_slice.ensures.value)
 
@@ -26,6 +26,6 @@ ids_in-requires c =
     let s = state_of c.args.self.now in
     let known : c.args.lit.var < s.vars = omega (arith, c.if-lit-vars.false, c.vars.ensures.vars) in
     let low = packed_low c.args.lit s.vars known in
-    let long = c.requires.lists_long in
+    let long = c.requires.stored.lists_long in
     subst (λ k. k < length c.as_slice.result.now) (sym c.code_of.ensures)
     (omega (arith, low, long, ap length c.as_slice.ensures.value))

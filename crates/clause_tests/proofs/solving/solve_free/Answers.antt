@@ -1,5 +1,0 @@
-use Rattle.sat_core.proofs.Searching.{plain_none}
-use Rattle.clause_tests.proofs.solving.solve_free.Goals as goal
-
-pub solve-requires : goal.solve-requires
-solve-requires c = plain_none

@@ -1,0 +1,9 @@
+//! The tests, a module for each part.
+
+mod deciding;
+mod learning;
+mod literals;
+mod logs;
+mod named;
+mod propagation;
+mod solving;

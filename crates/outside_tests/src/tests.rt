@@ -1,0 +1,4 @@
+//! The tests, a module for each part.
+
+mod files;
+mod runs;
