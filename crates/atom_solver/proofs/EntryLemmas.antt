@@ -140,8 +140,8 @@ pub refused_check : (atoms : List Atom) (s : SolverState) (origins : List Origin
     → HasRoomFor (length atoms) clause → Checks negation (clauses_of s.log.steps) clause hints (Err place)
     → IsRefused (log_over atoms s origins sides) (atoms_of atoms clause) hints
 refused_check atoms s origins sides clause hints place different whole room w =
-    inr (λ taken. taken_not_rejected (face.clauses_of (listed (lifted_at atoms s origins) (length s.log.steps)))
-    (atoms_of atoms clause) (atoms_of atoms clause) hints place (length hints)
+    inr (λ used taken. taken_not_rejected (face.clauses_of (listed (lifted_at atoms s origins) (length s.log.steps)))
+    (atoms_of atoms clause) (atoms_of atoms clause) hints place used
     (record { there = λ l c. c; back = λ l c. c })
     (rejected_there atoms s origins (length s.log.steps) clause hints place refl different whole room w) taken)
 
@@ -165,7 +165,7 @@ refused_for : (log : OracleLog) (literals others : List AtomLit) (hints : List �
     → IsRefused log literals hints → IsRefused log others hints
 refused_for log literals others hints same refused =
     ⊎_elim (λ full. inl full)
-    (λ none. inr (λ taken. none (checks_same (face.clauses_of log.steps) others literals hints (Ok (length hints))
+    (λ none. inr (λ used taken. none used (checks_same (face.clauses_of log.steps) others literals hints (Ok used)
     (turned literals others same) taken)))
     refused
 

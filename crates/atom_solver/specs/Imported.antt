@@ -18,11 +18,11 @@ pub record Imports (literals : List AtomLit) (hints : List ℕ) (name : EntryNam
   pub gains : GainsStep (derived_step clause (take used hints) (Some name) false) old.log.sides old.log new.log
   pub pending_same : new.pending ≡ old.pending
 
--- the log is full, or the check doesn't take the clause by all of the hints
+-- the log is full, or the check doesn't take the clause, however many of the hints it looks at
 abbrev pub IsRefused : OracleLog → List AtomLit → List ℕ → Type 0
 IsRefused log literals hints =
     (length log.steps ≡ log.limit)
-    ⊎ (Checks negated (clauses_of log.steps) literals hints (Ok (length hints)) → ⊥)
+    ⊎ ((used : ℕ) → Checks negated (clauses_of log.steps) literals hints (Ok used) → ⊥)
 
 -- whether a clause was taken
 abbrev pub IsImported : List AtomLit → List ℕ → EntryName → AtomState → AtomState → Bool → Type 0

@@ -154,9 +154,8 @@ impl AtomSolver {
     }
 
     /// Takes a clause from an entry: its step comes by those of the hints that the check looks at, is in use and marked
-    /// with the entry's name, and no unit is spent. False where the log is full, or the check doesn't take the clause by
-    /// all of the hints; then nothing has changed. A guarded log stays one where the clause and its hints ask for no
-    /// side clause.
+    /// with the entry's name, and no unit is spent. False where the log is full, or the check doesn't take the clause;
+    /// then nothing has changed. A guarded log stays one where the clause and its hints ask for no side clause.
     pub fn import(
         &mut self,
         alloc: Global,

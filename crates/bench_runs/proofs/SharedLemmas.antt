@@ -54,15 +54,15 @@ taken_given : (own : ℕ) (answers : List KeptAnswer) (kept : KeptAnswer) (entry
     → Contains answers kept → WasGiven (map entry_of kept.tokens) entry → (takes : TakesEntry own entry a b)
     → IsGivenStep answers (derived_step takes.clause takes.hints (Some entry.name) false)
 taken_given own answers kept entry a b query was takes name is =
-    let token = mapped entry_of kept.tokens was.source was.there in
+    let token = mapped entry_of kept.tokens entry was.there in
     let same : entry.name ≡ name = cc in
     record {
       kept = kept;
       query = query;
       token = token.0;
       given = token.1;
-      named = ap (λ (e : Entry). e.name) token.2 ∙ (sym was.name ∙ same);
-      same = subst (IsSameClause takes.clause) (was.clause ∙ sym (ap (λ (e : Entry). e.clause) token.2)) takes.same;
+      named = ap (λ (e : Entry). e.name) token.2 ∙ same;
+      same = subst (IsSameClause takes.clause) (sym (ap (λ (e : Entry). e.clause) token.2)) takes.same;
     }
 
 -- ---- all steps

@@ -16,6 +16,10 @@ pub record IsTokenOf (pool : Pool) (token : Token) : Type 0 where
 abbrev pub entry_of : Token → Entry
 entry_of token = token.pushed.value
 
+-- the index at which it stands in the pool
+abbrev pub index_of : Token → ℕ
+index_of token = token.pushed.index
+
 -- each of the tokens was given by this pool
 abbrev pub AreTokensOf : Pool → List Token → Type 0
 AreTokensOf pool tokens = All (IsTokenOf pool) tokens

@@ -2,7 +2,7 @@
 
 ghost use Rattle.std.specs.Prelude.{◌≡◌, ◌+◌, All, IfOk, IfErr, IfSome, length};
 ghost use Rattle.oracle_face.specs.Entries.{IsShareable};
-ghost use Rattle.clause_pool.specs.Pools.{AreFrom, IsTokenOf, entry_of};
+ghost use Rattle.clause_pool.specs.Pools.{AreFrom, IsTokenOf, entry_of, index_of};
 
 use crate::pooled::{Import, Pooled, ShareableEntries, Token};
 use boxcar::Vec as SharedVec;
@@ -71,7 +71,7 @@ impl Pool {
     /// A token for the entry at an index, where one is found.
     pub fn token_at(&self, index: u64) -> Option<Token>
         ensures token { IfSome result (IsTokenOf self.now) }
-        ensures index { IfSome result (λ token. token.pushed.index ≡ index) }
+        ensures index { IfSome result (λ token. index_of token ≡ index) }
     {
         let pushed = self.entries.witness(index as usize)?;
         let _shareable = self.entries.get_seen(index as usize, &pushed);

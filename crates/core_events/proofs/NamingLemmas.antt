@@ -1,12 +1,11 @@
 -- What the looks for named steps come to.
-use Rattle.std.proofs.Common.{◌≡◌, ◌≢◌, ⊎_elim, ℕ, ◌+◌, ◌<◌, ◌≤◌, Bool, true, false, not, List, [], ◌∷◌, ◌++◌, length, get_or, refl, ap, sym, subst, ◌∙◌, arith}
-use Rattle.std.specs.Prelude.{◌↔◌, IsTrue, Contains, slice_index_or, Some, Result, Ok, Err}
+use Rattle.std.proofs.Common.{◌≡◌, ◌≢◌, ⊎_elim, ℕ, ◌+◌, ◌<◌, ◌≤◌, Bool, true, false, not, List, [], ◌∷◌, ◌++◌, length, take, get_or, refl, ap, sym, subst, ◌∙◌, arith}
+use Rattle.std.specs.Prelude.{◌↔◌, IsTrue, slice_index_or, Option, Some, Ok}
 use Rattle.std.proofs.lemmas.Bool.{cases_lt, false≢true}
-use Rattle.std.proofs.lemmas.List.{get_or_append_left, get_or_default, get_or_push, length-append}
+use Rattle.std.proofs.lemmas.List.{get_or_append_left, get_or_default, get_or_push, length-append, length-take-le}
 use Rattle.std.proofs.lemmas.Grind.{same_number_lists}
-use Rattle.std.proofs.lemmas.List.Elements.{Contains-get_or}
-use Rattle.lists.proofs.Membership.{Contains-head}
 use Rattle.plain_lits.specs.HintCheck.{Checks}
+use Rattle.plain_lits.proofs.HintCheckLemmas.{taken_sound}
 use Rattle.semantics.specs.Frameworks.{Framework}
 use Rattle.meaning_atoms.specs.declared.axiom.AxiomName.{AxiomName}
 use Rattle.meaning_atoms.specs.declared.atom.AtomLit.{AtomLit}
@@ -20,11 +19,11 @@ use Rattle.oracle_face.specs.declared.entry.HintName.{HintName}
 use Rattle.oracle_face.specs.declared.entry.HintName.TheVariants.{Entry as OfEntry}
 use Rattle.oracle_face.specs.Logs.{LogStep, OracleLog, IsNumberOf, by_axiom, clauses_of, is_loop, step_at}
 use Rattle.session_log.specs.Steps.{GainsStep, axiom_step, derived_step}
-use Rattle.session_log.specs.Imports.{FollowsByNames, IsHintOf, IsShownHere, MayImport, StandsFor, StandForSteps}
+use Rattle.session_log.specs.Imports.{AreHintsOf, FollowsByNames, IsShownHere, MayImport, StandsFor, StandForSteps}
 use Rattle.session_log.specs.Imports.{TakesEntry}
-use Rattle.session_log.proofs.Naming.{names_single}
+use Rattle.session_log.proofs.Naming.{front_stands, names_single}
 use Rattle.certificate_check.proofs.AxiomKinds.{axiom_fits}
-use Rattle.core_logs.specs.Tests.{HasAxiom, IsClauseOf}
+use Rattle.core_logs.specs.Tests.{HasAxiom, IsClauseOf, IsTakenAt}
 use Rattle.core_machine.specs.Steps.{TakesAxiomEntry, TakesByOrigin}
 use Rattle.core_events.specs.Naming.{Imports, IsCalledAt, IsFirstCalled, MayCome}
 
@@ -202,36 +201,31 @@ module _ (f : Framework) (own : ℕ) (entry : Entry) (names : List HintName) (ol
       (there.each k blank within) (here.each k blank within))
 
   pub not_taken : (hints : List ℕ) → StandForSteps own old.steps names hints
-      → (Checks negated (clauses_of old.steps) entry.clause hints (Ok (length hints)) → ⊥) → (new : OracleLog)
+      → ((used : ℕ) → Checks negated (clauses_of old.steps) entry.clause hints (Ok used) → ⊥) → (new : OracleLog)
       → Imports f own entry old new → ⊥
   not_taken hints stand none new is =
       let h = follows_here is.may in
-      none (subst (λ (hs : List ℕ). Checks negated (clauses_of old.steps) entry.clause hs (Ok (length hs)))
+      none h.used (subst (λ (hs : List ℕ). Checks negated (clauses_of old.steps) entry.clause hs (Ok h.used))
       (same_hints hints h.hints stand h.stand) h.checks)
 
-  hint_of : (hints : List ℕ) → StandForSteps own old.steps names hints → (hint : ℕ) → Contains hints hint
-      → IsHintOf own old.steps (Hints names) hint
-  hint_of hints stand hint c =
-      let within = subst (λ n. c.0 < n) stand.long c.1 in (
-        slice_index_or names c.0 blank,
-        Contains-get_or names c.0 blank within,
-        subst (λ n. StandsFor own old.steps (slice_index_or names c.0 blank) n)
-            (get_or_default hints c.0 0 hint c.1 ∙ c.2) (stand.each c.0 blank within),
-      )
-
-  pub imports_by : (hints : List ℕ) (new : OracleLog) → length old.steps < old.limit → entry.name.session ≢ own
+  pub imports_by : (hints : List ℕ) (used : ℕ) (new : OracleLog) → length old.steps < old.limit
+      → entry.name.session ≢ own
       → ((number : ℕ) → IsNumberOf old.steps number → (step_at old.steps number).imported ≢ Some entry.name)
       → StandForSteps own old.steps names hints
-      → Checks negated (clauses_of old.steps) entry.clause hints (Ok (length hints))
-      → GainsStep (derived_step entry.clause hints (Some entry.name) false) old.sides old new
+      → Checks negated (clauses_of old.steps) entry.clause hints (Ok used)
+      → GainsStep (derived_step entry.clause (take used hints) (Some entry.name) false) old.sides old new
       → Imports f own entry old new
-  imports_by hints new room other absent stand checks gains =
+  imports_by hints used new room other absent stand checks gains =
+      let sound = taken_sound negated (clauses_of old.steps) entry.clause hints used checks in
+      let long : length (take used hints) ≡ used = length-take-le used hints sound.within in
       let taken : TakesEntry own entry old new = record {
         clause = entry.clause;
-        hints = hints;
+        hints = take used hints;
         same = record { there = λ l c. c; back = λ l c. c };
-        checks = checks;
-        named = λ hint c. subst (λ o. IsHintOf own old.steps o hint) (sym e) (hint_of hints stand hint c);
+        checks = subst (λ n. Checks negated (clauses_of old.steps) entry.clause (take used hints) (Ok n)) (sym long)
+            sound.alone;
+        named = subst (λ o. AreHintsOf own old.steps o (take used hints)) (sym e)
+            (front_stands own old.steps names hints used stand);
         gains = gains;
       } in
       record {
@@ -240,20 +234,19 @@ module _ (f : Framework) (own : ℕ) (entry : Entry) (names : List HintName) (ol
           other = other;
           absent = absent;
           shown = subst (λ o. IsShownHere f own old.steps entry.clause o) (sym e)
-              (record { hints = hints; stand = stand; checks = checks });
+              (record { hints = hints; stand = stand; used = used; checks = checks });
         };
         takes = subst (λ o. TakesByOrigin own entry o old new) (sym e) taken;
       }
 
 -- what the check says of slices, it says of what they lend
-pub lent_checks : (b : Bool) (steps behind : List LogStep) (clause given : List AtomLit) (hints named : List ℕ)
-    → behind ≡ steps → given ≡ clause → named ≡ hints
-    → IsTrue b ↔ Checks negated (clauses_of behind) given named (Ok (length named))
-    → IsTrue b ↔ Checks negated (clauses_of steps) clause hints (Ok (length hints))
-lent_checks b steps behind clause given hints named e1 e2 e3 h =
-    subst (λ (s : List LogStep). IsTrue b ↔ Checks negated (clauses_of s) clause hints (Ok (length hints))) e1
-    (subst (λ (c : List AtomLit). IsTrue b ↔ Checks negated (clauses_of behind) c hints (Ok (length hints))) e2
-    (subst (λ (n : List ℕ). IsTrue b ↔ Checks negated (clauses_of behind) given n (Ok (length n))) e3 h))
+pub lent_taken : (r : Option ℕ) (steps behind : List LogStep) (clause given : List AtomLit) (hints named : List ℕ)
+    → behind ≡ steps → given ≡ clause → named ≡ hints → IsTakenAt (clauses_of behind) given named r
+    → IsTakenAt (clauses_of steps) clause hints r
+lent_taken r steps behind clause given hints named e1 e2 e3 h =
+    subst (λ (s : List LogStep). IsTakenAt (clauses_of s) clause hints r) e1
+    (subst (λ (c : List AtomLit). IsTakenAt (clauses_of behind) c hints r) e2
+    (subst (λ (n : List ℕ). IsTakenAt (clauses_of behind) given n r) e3 h))
 
 pub lent_gains : (old new : OracleLog) (clause given : List AtomLit) (hints named : List ℕ) (name : EntryName)
     → given ≡ clause → named ≡ hints → GainsStep (derived_step given named (Some name) false) old.sides old new

@@ -14,7 +14,8 @@ use Rattle.oracle_face.specs.declared.entry.EntryOrigin.TheVariants.{Hints}
 use Rattle.oracle_face.specs.declared.entry.HintName.{HintName}
 use Rattle.oracle_face.specs.Logs.{IsNumberOf, LogStep, Source, by_axiom, by_hints, by_side, step_at}
 use Rattle.core_machine.specs.Core.{Core, CoreSession, put_at}
-use Rattle.core_machine.specs.Steps.{IsStep, name_of_step, origin_of, share}
+use Rattle.session_log.specs.Imports.{name_of_step}
+use Rattle.core_machine.specs.Steps.{IsStep, origin_of, share}
 use Rattle.core_events.specs.declared.machine.Machine.{Machine}
 use Rattle.core_events.specs.declared.places.Place.{Place}
 use Rattle.core_events.specs.declared.seats.MachineSeat.{MachineSeat}

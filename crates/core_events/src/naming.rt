@@ -1,6 +1,6 @@
 //! The steps that names call, and entries that come into a log by them.
 
-ghost use Rattle.std.specs.Prelude.{◌≡◌, ◌↔◌, IfOk, IsTrue};
+ghost use Rattle.std.specs.Prelude.{◌≡◌, ◌↔◌, IfOk, IsTrue, take};
 ghost use Rattle.semantics.specs.Frameworks.{Framework as AnyFramework};
 ghost use Rattle.edit_rules.specs.Kinds.{framework_of};
 ghost use Rattle.oracle_face.specs.declared.entry.EntryOrigin.TheVariants.{Axiom as OfAxiom, Hints};
@@ -10,7 +10,7 @@ ghost use Rattle.core_events.specs.Stops.{Comes};
 
 use crate::needs::is_axiom_of;
 use crate::stop::StepStop;
-use core_logs::checking::is_taken;
+use core_logs::checking::taken_by;
 use core_logs::literals::asks_nothing;
 use core_logs::sources::{
     has_axiom, has_entry, is_clause_of, is_from_entry, is_loop_clause, is_of_axiom,
@@ -172,7 +172,17 @@ fn import_axiom(
     Ok(())
 }
 
-/// Takes an entry that follows by names.
+/// The first of the hints, so many, or all if there are fewer.
+fn looked_at(hints: &[StepId], used: usize) -> &[StepId]
+    ensures { result.now ≡ take used hints.now }
+{
+    if hints.len() <= used {
+        return hints;
+    }
+    &hints[..used]
+}
+
+/// Takes an entry that follows by names. The step keeps the hints that the check looks at.
 fn import_by(
     alloc: Global,
     own: u32,
@@ -190,9 +200,10 @@ fn import_by(
         return Err(StepStop::NotAStep);
     };
     let clause = entry.clause.as_slice();
-    if !is_taken(alloc, log.steps(), clause, hints.as_slice())? {
+    let Some(used) = taken_by(alloc, log.steps(), clause, hints.as_slice())? else {
         return Err(StepStop::NotAStep);
-    }
-    log.take_derived(alloc, clause, hints.as_slice(), Some(entry.name), false)?;
+    };
+    let kept = looked_at(hints.as_slice(), used);
+    log.take_derived(alloc, clause, kept, Some(entry.name), false)?;
     Ok(())
 }

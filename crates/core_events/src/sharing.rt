@@ -3,7 +3,8 @@
 ghost use Rattle.std.specs.Prelude.{◌≡◌, ◌↔◌, ◌⊎◌, ◌∷◌, ◌++◌, [], map, IfOk, IsTrue, None, Some, OnErr, OnOk};
 ghost use Rattle.core_logs.specs.Sources.{source_of};
 ghost use Rattle.core_machine.specs.Core.{put_at};
-ghost use Rattle.core_machine.specs.Steps.{IsStep, name_in_log, name_of_step, share};
+ghost use Rattle.session_log.specs.Imports.{name_in_log, name_of_step};
+ghost use Rattle.core_machine.specs.Steps.{IsStep, share};
 ghost use Rattle.core_events.specs.Machines.{core_of};
 ghost use Rattle.core_events.specs.Places.{pool_of};
 ghost use Rattle.core_events.specs.Seats.{IsSeatAt};

@@ -1,17 +1,17 @@
 -- What the check of hints comes to, from its parts.
-use Rattle.std.proofs.Common.{◌≡◌, inl, inr, ⊎_elim, ℕ, ◌+◌, ◌-◌, ◌<◌, ◌≤◌, Bool, false, List, [], ◌∷◌, ◌++◌, length, map, drop, add-one, eqb, ap, sym, subst, ◌∙◌, arith}
-use Rattle.std.specs.Prelude.{◌↔◌, IsTrue, Contains, slice_index_or, Result, Ok, Err}
+use Rattle.std.proofs.Common.{◌≡◌, inl, inr, ⊎_elim, ℕ, ◌+◌, ◌-◌, ◌<◌, ◌≤◌, Bool, List, [], ◌∷◌, ◌++◌, length, map, drop, add-one, ap, sym, subst, ◌∙◌, refl, arith}
+use Rattle.std.specs.Prelude.{◌↔◌, IsTrue, Contains, slice_index_or, Option, Some, None, Result, Ok, Err}
 use Rattle.std.proofs.Math.Seq.{drop-cons}
-use Rattle.std.proofs.lemmas.Bool.{eq-eqb, eqb-true, false≢true}
 use Rattle.std.proofs.lemmas.List.{drop_all, get_or-map, length-map}
 use Rattle.plain_lits.specs.HintCheck.{Checks, IsFalseHint, IsFalsified, IsNamed, IsOtherHint, IsTautology, IsUnit, IsUnitHint, Propagates, clause_at}
+use Rattle.plain_lits.proofs.OneOutcome.{one_outcome}
 use Rattle.meaning_atoms.specs.declared.atom.AtomLit.{AtomLit}
 use Rattle.meaning_atoms.specs.Literals.{negated}
 use Rattle.meaning_atoms.proofs.SameAtoms.{same_literal}
 use Rattle.oracle_face.specs.Logs.{IsNumberOf, LogStep, clauses_of, no_step, step_at}
 use Rattle.core_logs.specs.declared.checking.Status.{Status}
 use Rattle.core_logs.specs.declared.checking.Status.TheVariants.{Falsified, Unit as Single, Other}
-use Rattle.core_logs.specs.Tests.{HintMeans, IsFalseOr, IsOther, IsStatusOf}
+use Rattle.core_logs.specs.Tests.{EndsAt, HintMeans, IsFalseOr, IsOther, IsStatusOf, IsTakenAt}
 
 -- ---- a clause
 
@@ -158,67 +158,74 @@ goes_other clauses truths hint place hints last is h =
 -- how it stands before the hint at an index, where it began elsewhere
 abbrev pub StandsAs : List (List AtomLit) → List AtomLit → List AtomLit → List ℕ → ℕ → Type 0
 StandsAs clauses truths start hints at =
-    Goes clauses truths (at + 1) (drop at hints) (length hints) ↔ Goes clauses start 1 hints (length hints)
+    (last : ℕ) → Goes clauses truths (at + 1) (drop at hints) last ↔ Goes clauses start 1 hints last
+
+pub along_none : (clauses : List (List AtomLit)) (start : List AtomLit) (hints : List ℕ)
+    → StandsAs clauses start start hints 0
+along_none clauses start hints = λ last. (λ h. h, λ h. h)
 
 pub along_unit : (clauses : List (List AtomLit)) (truths now start : List AtomLit) (hints : List ℕ) (at : ℕ)
     (unset : AtomLit) → at < length hints → IsUnitHint negated clauses truths (slice_index_or hints at 0) unset
     → now ≡ truths ++ unset ∷ [] → StandsAs clauses truths start hints at → StandsAs clauses now start hints (at + 1)
-along_unit clauses truths now start hints at unset lt is e so_far =
-    let step = goes_unit clauses truths (slice_index_or hints at 0) (at + 1) (drop (at + 1) hints) (length hints)
-    unset is in
+along_unit clauses truths now start hints at unset lt is e so_far = λ last.
+    let step = goes_unit clauses truths (slice_index_or hints at 0) (at + 1) (drop (at + 1) hints) last unset is in
     let split = first_left hints at lt in
-    subst (λ (t : List AtomLit). StandsAs clauses t start hints (at + 1)) (sym e) (
-      λ h. so_far.0 (subst (λ left. Goes clauses truths (at + 1) left (length hints)) (sym split) (step.1 h)),
-      λ h. step.0 (subst (λ left. Goes clauses truths (at + 1) left (length hints)) split (so_far.1 h)),
+    let before = so_far last in
+    subst (λ (t : List AtomLit). Goes clauses t (at + 1 + 1) (drop (at + 1) hints) last ↔ Goes clauses start 1 hints last)
+    (sym e) (
+      λ h. before.0 (subst (λ left. Goes clauses truths (at + 1) left last) (sym split) (step.1 h)),
+      λ h. step.0 (subst (λ left. Goes clauses truths (at + 1) left last) split (before.1 h)),
     )
 
 pub along_false : (clauses : List (List AtomLit)) (truths start : List AtomLit) (hints : List ℕ) (at : ℕ)
     → at < length hints → IsFalseHint negated clauses truths (slice_index_or hints at 0)
-    → StandsAs clauses truths start hints at
-    → IsTrue (eqb (at + 1) (length hints)) ↔ Goes clauses start 1 hints (length hints)
+    → StandsAs clauses truths start hints at → EndsAt clauses start hints (Some (at + 1))
 along_false clauses truths start hints at lt is so_far =
-    let step = goes_false clauses truths (slice_index_or hints at 0) (at + 1) (drop (at + 1) hints) (length hints)
-    is in
-    let split = first_left hints at lt in (
-      λ e. so_far.0 (subst (λ left. Goes clauses truths (at + 1) left (length hints)) (sym split)
-          (step.1 (eqb-true (at + 1) (length hints) e))),
-      λ h. eq-eqb (at + 1) (length hints)
-          (step.0 (subst (λ left. Goes clauses truths (at + 1) left (length hints)) split (so_far.1 h))),
-    )
+    let step = goes_false clauses truths (slice_index_or hints at 0) (at + 1) (drop (at + 1) hints) (at + 1) is in
+    (so_far (at + 1)).0 (subst (λ left. Goes clauses truths (at + 1) left (at + 1)) (sym (first_left hints at lt))
+    (step.1 refl))
 
 pub along_other : (clauses : List (List AtomLit)) (truths start : List AtomLit) (hints : List ℕ) (at : ℕ)
     → at < length hints → IsOtherHint negated clauses truths (slice_index_or hints at 0)
-    → StandsAs clauses truths start hints at → IsTrue false ↔ Goes clauses start 1 hints (length hints)
-along_other clauses truths start hints at lt is so_far = (
-  λ e. absurd (false≢true e),
-  λ h. absurd (goes_other clauses truths (slice_index_or hints at 0) (at + 1) (drop (at + 1) hints) (length hints) is
-      (subst (λ left. Goes clauses truths (at + 1) left (length hints)) (first_left hints at lt) (so_far.1 h))),
-)
+    → StandsAs clauses truths start hints at → EndsAt clauses start hints None
+along_other clauses truths start hints at lt is so_far = λ last h.
+    goes_other clauses truths (slice_index_or hints at 0) (at + 1) (drop (at + 1) hints) last is
+    (subst (λ left. Goes clauses truths (at + 1) left last) (first_left hints at lt) ((so_far last).1 h))
 
 pub along_all : (clauses : List (List AtomLit)) (truths start : List AtomLit) (hints : List ℕ) (at : ℕ)
-    → length hints ≤ at → StandsAs clauses truths start hints at
-    → IsTrue false ↔ Goes clauses start 1 hints (length hints)
-along_all clauses truths start hints at le so_far = (
-  λ e. absurd (false≢true e),
-  λ h. absurd (none_goes clauses truths (at + 1) (length hints)
-      (subst (λ left. Goes clauses truths (at + 1) left (length hints)) (drop_all at hints le) (so_far.1 h))),
-)
+    → length hints ≤ at → StandsAs clauses truths start hints at → EndsAt clauses start hints None
+along_all clauses truths start hints at le so_far = λ last h.
+    none_goes clauses truths (at + 1) last
+    (subst (λ left. Goes clauses truths (at + 1) left last) (drop_all at hints le) ((so_far last).1 h))
 
 -- ---- the check
 
-pub taken_plain : (clauses : List (List AtomLit)) (clause truths : List AtomLit) (hints : List ℕ) (b : Bool)
-    → (IsTautology negated clause → ⊥) → truths ≡ map negated clause
-    → IsTrue b ↔ Goes clauses truths 1 hints (length hints)
-    → IsTrue b ↔ Checks negated clauses clause hints (Ok (length hints))
-taken_plain clauses clause truths hints b plain e h = (
-  λ t. inr (plain, subst (λ (now : List AtomLit). Goes clauses now 1 hints (length hints)) e (h.0 t)),
-  λ checks. h.1 (⊎_elim (λ f. absurd (plain f.0))
-      (λ f. subst (λ (now : List AtomLit). Goes clauses now 1 hints (length hints)) (sym e) f.1) checks),
-)
+pub taken_plain : (clauses : List (List AtomLit)) (clause truths : List AtomLit) (hints : List ℕ) (r : Option ℕ)
+    → (IsTautology negated clause → ⊥) → truths ≡ map negated clause → EndsAt clauses truths hints r
+    → IsTakenAt clauses clause hints r
+taken_plain clauses clause truths hints (Some used) plain e h =
+    inr (plain, subst (λ (now : List AtomLit). Goes clauses now 1 hints used) e h)
+taken_plain clauses clause truths hints None plain e h = λ used checks.
+    ⊎_elim (λ f. plain f.0)
+    (λ f. h used (subst (λ (now : List AtomLit). Goes clauses now 1 hints used) (sym e) f.1)) checks
 
 pub taken_tautology : (clauses : List (List AtomLit)) (clause : List AtomLit) (hints : List ℕ)
-    → IsTautology negated clause → IsTrue false ↔ Checks negated clauses clause hints (Ok (length hints))
-taken_tautology clauses clause hints taut = (
-  λ t. absurd (false≢true t),
-  λ checks. absurd (⊎_elim (λ f. ok_not_err (length hints) 0 f.1) (λ f. f.0 taut) checks),
+    → IsTautology negated clause → IsTakenAt clauses clause hints None
+taken_tautology clauses clause hints taut = λ used checks.
+    ⊎_elim (λ f. ok_not_err used 0 f.1) (λ f. f.0 taut) checks
+
+-- by all of the hints
+pub taken_by_all : (clauses : List (List AtomLit)) (clause : List AtomLit) (hints : List ℕ) (r : Option ℕ) (b : Bool)
+    → IsTakenAt clauses clause hints r → IsTrue b ↔ (r ≡ Some (length hints))
+    → IsTrue b ↔ Checks negated clauses clause hints (Ok (length hints))
+taken_by_all clauses clause hints (Some used) b taken h = (
+  λ t. let same : used ≡ length hints = let e = h.0 t in cc in
+      subst (λ n. Checks negated clauses clause hints (Ok n)) same taken,
+  λ checks.
+      let e = (one_outcome negated same_literal clauses clause hints).one (told used) (told (length hints)) taken checks in
+      h.1 (ap Some (ok_same used (length hints) e)),
+)
+taken_by_all clauses clause hints None b none h = (
+  λ t. absurd (let e = h.0 t in cc),
+  λ checks. absurd (none (length hints) checks),
 )

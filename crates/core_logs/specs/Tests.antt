@@ -1,6 +1,7 @@
 -- What the tests tell, where it has no word yet.
-use Rattle.std.specs.Prelude.{◌≡◌, ◌≢◌, ◌⊎◌, ℕ, true, false, List, Contains, Some, ◌<◌, length, slice_index_or}
-use Rattle.plain_lits.specs.HintCheck.{IsFalsified, IsUnit, IsFalseHint, IsUnitHint, IsOtherHint}
+use Rattle.std.specs.Prelude.{◌≡◌, ◌≢◌, ◌⊎◌, ℕ, true, false, List, Contains, Option, Some, None, Ok, ◌<◌, length}
+use Rattle.std.specs.Prelude.{slice_index_or}
+use Rattle.plain_lits.specs.HintCheck.{Checks, IsFalsified, IsUnit, IsFalseHint, IsUnitHint, IsOtherHint, Propagates}
 use Rattle.semantics.specs.Arguments.{IsArgument}
 use Rattle.meaning_atoms.specs.declared.atom.AtomLit.{AtomLit}
 use Rattle.meaning_atoms.specs.declared.axiom.AxiomName.{AxiomName}
@@ -55,6 +56,16 @@ abbrev pub HintMeans : List (List AtomLit) → List AtomLit → ℕ → Status �
 HintMeans clauses truths hint Falsified = IsFalseHint negated clauses truths hint
 HintMeans clauses truths hint (Single unset) = IsUnitHint negated clauses truths hint unset
 HintMeans clauses truths hint Other = IsOtherHint negated clauses truths hint
+
+-- from literals that are true, the hints in turn come to a false clause at this place, or at none
+abbrev pub EndsAt : List (List AtomLit) → List AtomLit → List ℕ → Option ℕ → Type 0
+EndsAt clauses truths hints (Some place) = Propagates negated clauses truths 1 hints (Ok place)
+EndsAt clauses truths hints None = (place : ℕ) → Propagates negated clauses truths 1 hints (Ok place) → ⊥
+
+-- the check takes the clause by so many of the hints, or doesn't
+abbrev pub IsTakenAt : List (List AtomLit) → List AtomLit → List ℕ → Option ℕ → Type 0
+IsTakenAt clauses clause hints (Some used) = Checks negated clauses clause hints (Ok used)
+IsTakenAt clauses clause hints None = (used : ℕ) → Checks negated clauses clause hints (Ok used) → ⊥
 
 -- the step's clause has no literal beyond those of the clause
 pub record IsPartOf (step : LogStep) (clause : List AtomLit) : Type 0 where

@@ -1,12 +1,13 @@
 //! The check of a clause by its hints, and whether a clause is new: plain programs over literals, each exact.
 
-ghost use Rattle.std.specs.Prelude.{◌≡◌, ◌↔◌, ℕ, map, Contains, IfOk, IsTrue, Ok, length};
-ghost use Rattle.plain_lits.specs.HintCheck.{Checks, Propagates};
+ghost use Rattle.std.specs.Prelude.{◌≡◌, ◌↔◌, ℕ, map, Contains, IfOk, IsTrue, Ok, Some, length};
+ghost use Rattle.plain_lits.specs.HintCheck.{Checks};
 ghost use Rattle.meaning_atoms.specs.declared.atom.AtomLit.{AtomLit as ALit};
 ghost use Rattle.meaning_atoms.specs.Literals.{negated};
 ghost use Rattle.oracle_face.specs.Logs.{HasPart, IsNew, clauses_of, step_at, working};
 ghost use Rattle.session_log.specs.Steps.{FollowsByHints, StandsInHint};
-ghost use Rattle.core_logs.specs.Tests.{HintMeans, IsFalseOr, IsKeptHint, IsMet, IsPartOf, IsStatusOf, IsUsed, IsWorkingPart};
+ghost use Rattle.core_logs.specs.Tests.{EndsAt, HintMeans, IsFalseOr, IsKeptHint, IsMet, IsPartOf, IsStatusOf};
+ghost use Rattle.core_logs.specs.Tests.{IsTakenAt, IsUsed, IsWorkingPart};
 
 use crate::literals::{has, has_opposite, is_part, is_tautology, opposite};
 use crate::steps::{CoreStep, clause_at, is_closing_at, is_number};
@@ -83,23 +84,23 @@ fn hint_status(steps: &[CoreStep], truths: &[AtomLit], hint: StepId) -> Status
     clause_status(truths, clause_at(steps, hint))
 }
 
-/// Whether unit propagation by the hints in turn, from literals that are true, ends with a false clause at the last.
+/// The place of the hint at which unit propagation by the hints in turn, from literals that are true, ends with a false
+/// clause.
 fn propagates(
     steps: &[CoreStep],
     truths: &mut Vec<AtomLit>,
     hints: &[StepId],
-) -> Result<bool, Memory>
-    ensures { IfOk result (λ taken. IsTrue taken
-        ↔ Propagates negated (clauses_of steps.now) truths.old.items 1 hints.now (Ok (length hints.now))) }
+) -> Result<Option<usize>, Memory>
+    ensures { IfOk result (EndsAt (clauses_of steps.now) truths.old.items hints.now) }
 {
     for at in 0..hints.len() {
         match hint_status(steps, truths.as_slice(), hints[at]) {
-            Status::Falsified => return Ok(at + 1 == hints.len()),
+            Status::Falsified => return Ok(Some(at + 1)),
             Status::Unit(literal) => truths.push(literal)?,
-            Status::Other => return Ok(false),
+            Status::Other => return Ok(None),
         }
     }
-    Ok(false)
+    Ok(None)
 }
 
 /// The negations of the literals.
@@ -113,6 +114,33 @@ pub fn negations(alloc: Global, clause: &[AtomLit]) -> Result<Vec<AtomLit>, Memo
     Ok(negations)
 }
 
+/// How many of the hints the check looks at where it takes a clause.
+pub fn taken_by(
+    alloc: Global,
+    steps: &[CoreStep],
+    clause: &[AtomLit],
+    hints: &[StepId],
+) -> Result<Option<usize>, Memory>
+    ensures { IfOk result (IsTakenAt (clauses_of steps.now) clause.now hints.now) }
+{
+    let tautology = is_tautology(clause);
+    if tautology {
+        return Ok(None);
+    }
+    let mut truths = negations(alloc, clause)?;
+    propagates(steps, &mut truths, hints)
+}
+
+/// Whether so many are told.
+fn is_count(told: Option<usize>, count: usize) -> bool
+    ensures { IsTrue result ↔ (told ≡ Some count) }
+{
+    match told {
+        Some(number) => number == count,
+        None => false,
+    }
+}
+
 /// Whether the check of hints takes a clause by all of them.
 pub fn is_taken(
     alloc: Global,
@@ -123,12 +151,8 @@ pub fn is_taken(
     ensures { IfOk result (λ taken. IsTrue taken
         ↔ Checks negated (clauses_of steps.now) clause.now hints.now (Ok (length hints.now))) }
 {
-    let tautology = is_tautology(clause);
-    if tautology {
-        return Ok(false);
-    }
-    let mut truths = negations(alloc, clause)?;
-    propagates(steps, &mut truths, hints)
+    let used = taken_by(alloc, steps, clause, hints)?;
+    Ok(is_count(used, hints.len()))
 }
 
 /// Whether a step's clause is part of a clause.

@@ -16,18 +16,16 @@ use Rattle.edit_rules.specs.Edits.{edit_outcome}
 use Rattle.edit_history.specs.declared.entry.HistoryEntry.{HistoryEntry}
 use Rattle.edit_history.specs.Entries.{framework_after}
 use Rattle.oracle_face.specs.declared.entry.Entry.{Entry as PoolEntry}
-use Rattle.oracle_face.specs.declared.entry.EntryName.{EntryName}
 use Rattle.oracle_face.specs.declared.entry.EntryOrigin.{EntryOrigin}
 use Rattle.oracle_face.specs.declared.entry.EntryOrigin.TheVariants.{Axiom as OfAxiom, Hints}
 use Rattle.oracle_face.specs.declared.entry.HintName.{HintName}
-use Rattle.oracle_face.specs.declared.entry.HintName.TheVariants.{Axiom, Entry as OfEntry}
 use Rattle.oracle_face.specs.declared.face.Pending.{Pending}
 use Rattle.oracle_face.specs.Logs.{OracleLog, LogStep, Source, by_axiom, by_side, by_hints, IsNumberOf}
 use Rattle.oracle_face.specs.Logs.{IsSameClause, step_at}
 use Rattle.oracle_face.specs.Needed.{IsNeeded}
 use Rattle.session_log.specs.Ends.{Ending, IsEnd}
 use Rattle.session_log.specs.Steps.{GainsStep, LearnsClause, TakesSide, axiom_step}
-use Rattle.session_log.specs.Imports.{MayImport, TakesEntry}
+use Rattle.session_log.specs.Imports.{MayImport, TakesEntry, name_of_step}
 use Rattle.session_log.specs.OwnSteps.{LearnsAxiom, NamesAxiom}
 use Rattle.core_machine.specs.Core.{Core, put_at, seen_framework, with_log, with_session}
 
@@ -86,18 +84,6 @@ LearnsTo core s clause (by_axiom name) closing log =
 LearnsTo core s clause (by_side n) closing log = ⊥
 LearnsTo core s clause (by_hints hints) closing log = LearnsClause clause hints closing (core.sessions s).log log
 
--- the name under which a step's clause is handed on: its axiom's, its entry's, or that of an entry of one's own
-abbrev pub name_by_source : ℕ → ℕ → Source → HintName
-name_by_source s number (by_axiom name) = Axiom name
-name_by_source s number source = OfEntry (record { session = s; step = number })
-
-abbrev pub name_in_log : ℕ → ℕ → Option EntryName → Source → HintName
-name_in_log s number None source = name_by_source s number source
-name_in_log s number (Some name) source = OfEntry name
-
-abbrev pub name_of_step : ℕ → List LogStep → ℕ → HintName
-name_of_step s steps number = name_in_log s number (step_at steps number).imported (step_at steps number).source
-
 -- where a shared clause comes from: each hint by its name
 abbrev pub origin_of : ℕ → List LogStep → Source → EntryOrigin → Type 0
 origin_of s steps (by_axiom name) origin = origin ≡ OfAxiom name
@@ -106,6 +92,12 @@ origin_of s steps (by_hints hints) origin =
     (names : List HintName) × (origin ≡ Hints names) × (length names ≡ length hints)
     × ((k : ℕ) (d : HintName) → k < length hints
     → slice_index_or names k d ≡ name_of_step s steps (slice_index_or hints k 0))
+
+-- the entry of a step stands at an index of the pool, and the session has shared the step
+abbrev pub after_share : Core → ℕ → ℕ → ℕ → PoolEntry → Core
+after_share core s k i entry =
+    with_session (record core { pool = put_at i (Some entry) core.pool }) s
+    (record (core.sessions s) { shared = k ∷ (core.sessions s).shared })
 
 -- a step of one's own that asks for no side clause is handed to a place of the pool that is empty, or has the same
 -- entry
@@ -118,8 +110,7 @@ pub record Shares (core : Core) (s k i : ℕ) (new : Core) : Type 0 where
   pub name : entry.name ≡ record { session = s; step = k }
   pub origin : origin_of s (core.sessions s).log.steps (step_at (core.sessions s).log.steps k).source entry.origin
   pub place : (core.pool i ≡ None) ⊎ (core.pool i ≡ Some entry)
-  pub is : new ≡ with_session (record core { pool = put_at i (Some entry) core.pool }) s
-      (record (core.sessions s) { shared = k ∷ (core.sessions s).shared })
+  pub is : new ≡ after_share core s k i entry
 
 -- the axiom of an entry comes, marked as taken from it
 pub record TakesAxiomEntry (name : AxiomName) (entry : PoolEntry) (old new : OracleLog) : Type 0 where

@@ -1,18 +1,16 @@
 -- What a log gains by an entry, and why it gains nothing.
-use Rattle.std.proofs.Common.{◌≡◌, ℕ, ◌<◌, List, length, take, ap, sym, subst, ◌∙◌, refl, arith, inl, inr, ⊎_elim}
+use Rattle.std.proofs.Common.{◌≡◌, ℕ, List, length, take, ap, sym, subst, ◌∙◌, refl, arith, inl, inr, ⊎_elim}
 use Rattle.std.proofs.Common.{false, not, filter}
 use Rattle.std.specs.Prelude.{Contains, Bool, true, Option, Some, None, Result, Ok, Err, OnOk, OnErr}
-use Rattle.std.specs.Prelude.{slice_index_or, IsSome}
+use Rattle.std.specs.Prelude.{IsSome}
 use Rattle.lists.specs.declared.memory.Memory.{Memory}
 use Rattle.plain_lits.specs.declared.halt.Halt.{Halt}
 use Rattle.plain_lits.specs.declared.halt.Halt.TheVariants.{Spent, LogFull, Memory as OfMemory}
 use Rattle.std.proofs.lemmas.Bool.{false≢true}
-use Rattle.std.proofs.lemmas.List.{get_or_default}
-use Rattle.std.proofs.lemmas.List.Elements.{Contains-get_or, Contains-push}
+use Rattle.std.proofs.lemmas.List.Elements.{Contains-push}
 use Rattle.lists.proofs.Filters.{Contains-filter}
 use Rattle.plain_lits.specs.HintCheck.{Checks}
 use Rattle.plain_lits.proofs.HintCheckLemmas.{Contains-mapped}
-use Rattle.clause_watches.proofs.Fronts.{from_front}
 use Rattle.semantics.specs.Frameworks.{Framework, af, aba}
 use Rattle.meaning_atoms.specs.declared.atom.AtomLit.{AtomLit}
 use Rattle.meaning_atoms.specs.declared.axiom.AxiomName.{AxiomName}
@@ -33,7 +31,8 @@ use Rattle.session_log.specs.Steps.{GainsStep, Spends, StaysGuarded, derived_ste
 use Rattle.session_log.proofs.Spending.{axiom_spends}
 use Rattle.session_log.proofs.Staying.{axiom_stays}
 use Rattle.session_log.proofs.StepLemmas.{same_sides_grow}
-use Rattle.session_log.specs.Imports.{IsHintOf, IsShownHere, MayImport, StandsFor, StandForSteps, TakesEntry}
+use Rattle.session_log.specs.Imports.{AreHintsOf, IsShownHere, MayImport, StandForSteps, TakesEntry}
+use Rattle.session_log.proofs.Naming.{front_stands}
 use Rattle.session_log.proofs.Taking.{entry_spends, entry_stays, entry_used}
 use Rattle.atom_solver.specs.Imported.{Imports, IsImported, IsRefused}
 use Rattle.atom_solver.specs.States.{AddsAxiom, AtomState, IsGuardedLog}
@@ -42,7 +41,7 @@ use Rattle.entry_taking.specs.declared.names.StepNames.{StepNames}
 use Rattle.entry_taking.specs.Names.{IsFirstOf, told_of}
 use Rattle.entry_taking.specs.Taking.{ComesIn, ImportsOrMayNot, GoesOn, IsKnown, IsLooked, IsOfAxiom, MayCome}
 use Rattle.entry_taking.specs.Taking.{is_of_aba}
-use Rattle.entry_taking.proofs.Finding.{some_name, stand_once}
+use Rattle.entry_taking.proofs.Finding.{stand_once}
 
 -- ---- the log goes on
 
@@ -149,26 +148,14 @@ axiom_there f own name clause old new names looked some = go (told_of names (OfA
 
 module _ (own : ℕ) (entry : AnEntry) (names : List HintName) (origin : entry.origin ≡ Hints names) (hints : List ℕ)
     (old new : AtomState) (stand : StandForSteps own old.log.steps names hints) where
-  hint_of : (used hint : ℕ) → Contains (take used hints) hint → IsHintOf own old.log.steps entry.origin hint
-  hint_of used hint c =
-      let there = from_front used hints hint c in
-      let k = there.0 in
-      let within : k < length names = let lt = there.1 in let long = stand.long in omega arith in
-      let name = slice_index_or names k some_name in
-      let at : slice_index_or hints k 0 ≡ hint = get_or_default hints k 0 hint there.1 ∙ there.2 in
-      subst (λ o. IsHintOf own old.log.steps o hint) (sym origin) (
-        name,
-        Contains-get_or names k some_name within,
-        subst (λ n. StandsFor own old.log.steps name n) at (stand.each k some_name within),
-      )
-
-  takes : Imports entry.clause hints entry.name old new → TakesEntry own entry old.log new.log
+  pub takes : Imports entry.clause hints entry.name old new → TakesEntry own entry old.log new.log
   takes i = record {
     clause = i.clause;
     hints = take i.used hints;
     same = i.same;
     checks = i.checks;
-    named = λ hint c. hint_of i.used hint c;
+    named = subst (λ o. AreHintsOf own old.log.steps o (take i.used hints)) (sym origin)
+        (front_stands own old.log.steps names hints i.used stand);
     gains = i.gains;
   }
 
@@ -191,7 +178,7 @@ module _ (own : ℕ) (entry : AnEntry) (names : List HintName) (origin : entry.o
       ⊎_elim (λ full. full_comes f own entry.clause (Hints names) old.log new.log full)
       (λ none. inr (λ room shown.
       let same = stand_once own old.log.steps names shown.hints hints shown.stand stand in
-      none (subst (λ hs. Checks negated (clauses_of old.log.steps) entry.clause hs (Ok (length hs))) same
+      none shown.used (subst (λ hs. Checks negated (clauses_of old.log.steps) entry.clause hs (Ok shown.used)) same
       shown.checks)))
       refused
 

@@ -1,11 +1,12 @@
 -- What comes by an entry is one step of one's own.
-use Rattle.std.proofs.Common.{◌≡◌, ℕ, ◌<◌, List, length, take, get_or, ap, sym, subst, ◌∙◌, refl, arith, inl, inr}
+use Rattle.std.proofs.Common.{◌≡◌, ⊎_elim, ℕ, zero, suc, ◌+◌, List, [], ◌∷◌, ◌++◌, length, map, take, ap, sym, subst, ◌∙◌, refl, arith, inl, inr}
 use Rattle.std.specs.Prelude.{◌⊎◌, Contains, Bool, true, false, Option, Some, None, Result, Ok, Err, OnOk, OnErr, IsSome}
-use Rattle.std.proofs.lemmas.List.{get_or-take, get_or_default, length-take}
-use Rattle.std.proofs.lemmas.List.Elements.{Contains-get_or}
+use Rattle.plain_lits.specs.HintCheck.{Checks, Propagates}
 use Rattle.plain_lits.specs.declared.halt.Halt.{Halt}
 use Rattle.semantics.specs.Frameworks.{Framework}
+use Rattle.meaning_atoms.specs.declared.atom.AtomLit.{AtomLit}
 use Rattle.meaning_atoms.specs.declared.axiom.AxiomName.{AxiomName}
+use Rattle.meaning_atoms.specs.Literals.{negated}
 use Rattle.meaning_atoms.specs.AxiomNames.{IsAxiomName}
 use Rattle.oracle_face.specs.declared.entry.Entry.{Entry as AnEntry}
 use Rattle.oracle_face.specs.declared.entry.EntryOrigin.TheVariants.{Hints}
@@ -13,8 +14,8 @@ use Rattle.oracle_face.specs.declared.entry.HintName.{HintName}
 use Rattle.oracle_face.specs.Entries.{IsShareable}
 use Rattle.oracle_face.specs.Kinds.{is_assumption_based}
 use Rattle.oracle_face.specs.Logs.{LogStep, IsNumberOf, by_axiom, clauses_of, step_at}
-use Rattle.session_log.specs.Imports.{IsHintOf, StandForSteps, StandsFor}
-use Rattle.session_log.specs.OwnSteps.{IsCalledOn, IsCutOrigin, IsNamedByGiven, IsWanted, OwnStep, WasGiven, learns_axiom, takes_entry}
+use Rattle.session_log.specs.Imports.{FollowsByNames, IsShownHere, StandForSteps}
+use Rattle.session_log.specs.OwnSteps.{IsCalledOn, IsNamedByGiven, IsWanted, OwnStep, learns_axiom, takes_entry}
 use Rattle.atom_solver.specs.Imported.{Imports, IsImported}
 use Rattle.atom_solver.specs.States.{AddsAxiom, AtomState}
 use Rattle.atom_solver.proofs.EntryLemmas.{checks_same}
@@ -22,8 +23,7 @@ use Rattle.entry_taking.specs.declared.names.StepName.TheVariants.{Axiom as OfAx
 use Rattle.entry_taking.specs.declared.names.StepNames.{StepNames}
 use Rattle.entry_taking.specs.Names.{IsFirstOf, told_of}
 use Rattle.entry_taking.specs.Taking.{IsKnown, IsLooked, MayCome}
-use Rattle.entry_taking.proofs.Finding.{some_name}
-use Rattle.entry_taking.proofs.Joining.{of_kind}
+use Rattle.entry_taking.proofs.Joining.{of_kind, takes}
 
 -- ---- an axiom
 
@@ -55,29 +55,35 @@ axiom_step (Err halt) f own given kind name names old new same may is by looked 
 
 -- ---- an entry that follows
 
--- the first of names stand for the first of their steps
-front_stands : (own : ℕ) (steps : List LogStep) (names : List HintName) (hints : List ℕ) (used : ℕ)
-    → StandForSteps own steps names hints → StandForSteps own steps (take used names) (take used hints)
-front_stands own steps names hints used stand =
-    let long = stand.long in
-    let names_long = length-take used names in
-    let hints_long = length-take used hints in
-    record {
-      long = omega arith;
-      each = λ k d lt.
-          let early : k < used = omega arith in
-          subst (λ n. StandsFor own steps n (get_or (take used hints) k 0)) (sym (get_or-take used names k d early))
-          (subst (λ n. StandsFor own steps (get_or names k d) n) (sym (get_or-take used hints k 0 early))
-          (stand.each k d (omega arith)));
-    }
+-- a clause that is taken by the first hints is taken at the same place where there are more
+propagates_more : (steps : List (List AtomLit)) (truths : List AtomLit) (place count n : ℕ) (hints : List ℕ)
+    → Propagates negated steps truths place (take count hints) (Ok n)
+    → Propagates negated steps truths place hints (Ok n)
+propagates_more steps truths place count n [] w = absurd (let e : Ok n ≡ Err place = none_left count w in cc)
+  where
+    none_left : (count : ℕ) → Propagates negated steps truths place (take count []) (Ok n) → Ok n ≡ Err place
+    none_left zero w = w
+    none_left (suc count) w = w
+propagates_more steps truths place zero n (hint ∷ hints) w = absurd (let e : Ok n ≡ Err place = w in cc)
+propagates_more steps truths place (suc count) n (hint ∷ hints) w =
+    ⊎_elim (λ is. inl is)
+    (λ rest. inr (⊎_elim
+    (λ unit. inl (
+      unit.0,
+      unit.1,
+      propagates_more steps (truths ++ unit.0 ∷ []) (place + 1) count n hints unit.2,
+    ))
+    (λ other. inr other) rest)) w
+
+checks_more : (steps : List (List AtomLit)) (clause : List AtomLit) (count n : ℕ) (hints : List ℕ)
+    → Checks negated steps clause (take count hints) (Ok n) → Checks negated steps clause hints (Ok n)
+checks_more steps clause count n hints w =
+    ⊎_elim (λ tautology. inl tautology)
+    (λ plain. inr (plain.0, propagates_more steps (map negated clause) 1 count n hints plain.1)) w
 
 module _ (own : ℕ) (entry : AnEntry) (names : List HintName) (origin : entry.origin ≡ Hints names) (hints : List ℕ)
     (told : StepNames) (old new : AtomState) (stand : StandForSteps own old.log.steps names hints)
     (may : IsShareable entry) (looked : IsLooked told old.log.steps) (unknown : IsKnown told own entry.name → ⊥) where
-  -- the entry without the hints that the check doesn't look at
-  abbrev looked_at : ℕ → AnEntry
-  looked_at used = record { clause = entry.clause; name = entry.name; origin = Hints (take used names) }
-
   absent : (number : ℕ) → IsNumberOf old.log.steps number → (step_at old.log.steps number).imported ≡ Some entry.name
       → ⊥
   absent number named is = go (told_of told (EntryOf entry.name.session entry.name.step)) refl
@@ -90,52 +96,25 @@ module _ (own : ℕ) (entry : AnEntry) (names : List HintName) (origin : entry.o
           (looked.named.each (EntryOf entry.name.session entry.name.step)) number named.from_one (omega arith) is
       go (Some k) e = unknown (inr (subst (λ (o : Option ℕ). IsSome o) (sym e) refl))
 
-  hint_of : (used hint : ℕ) → Contains (take used hints) hint
-      → IsHintOf own old.log.steps (Hints (take used names)) hint
-  hint_of used hint c =
-      let front = front_stands own old.log.steps names hints used stand in
-      let k = c.0 in
-      let within : k < length (take used names) = let lt = c.1 in let long = front.long in omega arith in
-      let name = get_or (take used names) k some_name in
-      let at : get_or (take used hints) k 0 ≡ hint = get_or_default (take used hints) k 0 hint c.1 ∙ c.2 in (
-        name,
-        Contains-get_or (take used names) k some_name within,
-        subst (λ n. StandsFor own old.log.steps name n) at (front.each k some_name within),
-      )
-
-  was_given : (given : List AnEntry) (used : ℕ) → Contains given entry → WasGiven given (looked_at used)
-  was_given given used there = record {
-    source = entry;
-    there = there;
-    shareable = may;
-    clause = refl;
-    name = refl;
-    origin = subst (IsCutOrigin (Hints (take used names))) (sym origin) (used, refl);
-  }
-
   imported_step : (f : Framework) (given : List AnEntry) → Contains given entry
       → Imports entry.clause hints entry.name old new → OwnStep f own given old.log new.log
   imported_step f given there i =
-      takes_entry (looked_at i.used) (was_given given i.used there)
+      let used = length (take i.used hints) in
+      let follows : FollowsByNames own old.log.steps entry.clause names = record {
+        hints = hints;
+        stand = stand;
+        used = used;
+        checks = checks_more (clauses_of old.log.steps) entry.clause i.used used hints
+            (checks_same (clauses_of old.log.steps) i.clause entry.clause (take i.used hints) (Ok used) i.same i.checks);
+      } in
+      takes_entry entry (record { there = there; shareable = may })
       (record {
         room = i.gains.room;
         other = λ e. unknown (inl e);
         absent = absent;
-        shown = record {
-          hints = take i.used hints;
-          stand = front_stands own old.log.steps names hints i.used stand;
-          checks = checks_same (clauses_of old.log.steps) i.clause entry.clause (take i.used hints)
-              (Ok (length (take i.used hints))) i.same i.checks;
-        };
+        shown = subst (λ o. IsShownHere f own old.log.steps entry.clause o) (sym origin) follows;
       })
-      (record {
-        clause = i.clause;
-        hints = take i.used hints;
-        same = i.same;
-        checks = i.checks;
-        named = hint_of i.used;
-        gains = i.gains;
-      })
+      (takes own entry names origin hints old new stand i)
 
   pub import_step : (taken : Bool) (f : Framework) (given : List AnEntry) → Contains given entry
       → IsImported entry.clause hints entry.name old new taken

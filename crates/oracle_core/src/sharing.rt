@@ -1,12 +1,11 @@
 //! Clauses that an engine hands to others.
 
-ghost use Rattle.std.specs.Prelude.{◌≡◌, ℕ, IfOk, IfSome, IsTrue, None};
-ghost use Rattle.atom_solver.specs.Lifted.{imported_of};
+ghost use Rattle.std.specs.Prelude.{◌≡◌, ℕ, List, IfOk, IfSome, IsTrue, None};
+ghost use Rattle.atom_solver.specs.Lifted.{imported_of, source_of};
 ghost use Rattle.atom_solver.specs.declared.origin.Origin.TheVariants.{Entry as OfEntry};
-ghost use Rattle.session_log.specs.Imports.{IsCalled};
-ghost use Rattle.oracle_face.specs.Logs.{IsNumberOf, step_at};
+ghost use Rattle.oracle_face.specs.Logs.{IsNumberOf, by_hints, step_at};
 ghost use Rattle.oracle_core.specs.Engines.{IsWhole};
-ghost use Rattle.oracle_core.specs.Sharing.{AreNamesOf, CallsAny, IsEntryOf, IsShareableStep};
+ghost use Rattle.oracle_core.specs.Sharing.{AreNamesOf, CallsAny, IsEntryOf, IsNamedAs, IsShareableStep};
 
 use crate::engine::Engine;
 use crate::parts::EngineParts;
@@ -50,7 +49,7 @@ fn step_reference(
     solver: &AtomSolver,
     step: StepId,
 ) -> Result<Option<HintName>, Memory>
-    ensures { IfOk result (λ found. IfSome found (λ name. IsCalled own name step
+    ensures { IfOk result (λ found. IfSome found (λ name. IsNamedAs own name step
         (step_at solver.now.log.steps step))) }
 {
     let number = step.number() as usize;
@@ -82,7 +81,8 @@ fn step_references(
 
 /// Whether what comes from there is one's own and follows from other steps.
 fn is_derived(origin: &Origin) -> bool
-    ensures { IsTrue result → imported_of origin.now ≡ None }
+    ensures own { IsTrue result → imported_of origin.now ≡ None }
+    ensures derived { IsTrue result → (hints : List ℕ) → source_of origin.now hints ≡ by_hints hints }
 {
     matches!(origin, Origin::Hints)
 }

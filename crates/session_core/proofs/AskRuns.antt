@@ -14,7 +14,6 @@ use Rattle.iccma_tasks.specs.Tasks.{Asked, HasTask}
 use Rattle.edit_rules.specs.Kinds.{kind_of}
 use Rattle.edit_rules.proofs.ReplayLemmas.{kind_stays}
 use Rattle.edit_history.specs.declared.entry.HistoryEntry.{HistoryEntry}
-use Rattle.edit_history.specs.declared.hub.Hub.{Hub}
 use Rattle.edit_history.specs.Entries.{framework_after}
 use Rattle.edit_history.specs.Hubs.{start_of}
 use Rattle.oracle_face.specs.declared.face.Pending.{Pending}
@@ -33,16 +32,15 @@ use Rattle.oracle_core.specs.SteppingLaws.{loops_joined}
 use Rattle.session_replies.specs.declared.reply.Body.{Body}
 use Rattle.session_replies.specs.declared.reply.Body.TheVariants.{Answered, Done, EditRefused, Full, LogFull}
 use Rattle.session_replies.specs.declared.reply.Body.TheVariants.{QueryRefused, TooMany, Unknown}
-use Rattle.session_replies.specs.declared.reply.Reply.{Reply}
 use Rattle.semantics.specs.declared.limits.TheConstants.{MAX_EXTENSIONS}
-use Rattle.session_core.specs.declared.session.Session.{Session}
-use Rattle.session_core.specs.CoreRuns.{AsksAreRuns, EndsAs, IsAtRest, entries_of}
+use Rattle.session_core.specs.declared.kept.KeptAnswer.{KeptAnswer}
+use Rattle.session_core.specs.CoreRuns.{AsksAreRuns, EndsAs, IsAtRest, IsQueryOn, QueriesAreRuns}
 use Rattle.session_core.specs.Following.{AddsNeededAfter}
 use Rattle.session_core.specs.Replies.{IsShownIn, QuerySays, halt_told, units_used}
-use Rattle.session_core.specs.Sessions.{IsAsked, seen_by}
+use Rattle.session_core.specs.Sessions.{seen_by}
 use Rattle.session_core.proofs.RunLemmas.{cut_same, needed_reach, of_log_joined, pooled_same, put_here}
 use Rattle.session_core.proofs.RunLemmas.{reached_none, rest_behind, rest_loops, rest_run, runs_joined, runs_snoc}
-use Rattle.session_core.proofs.RunLemmas.{seen_same, sided_behind, steps_reach}
+use Rattle.session_core.proofs.RunLemmas.{seen_same, sided_behind, steps_reach, tokens_pooled}
 
 -- ---- how it ends
 
@@ -103,51 +101,48 @@ ends_so f asked course Full says shown in_hand works = absurd says
 
 -- ---- the course of a query
 
-module _ (hub : Hub) (asked : Asked) (limit : ℕ) (old new : Session) (reply : Reply)
-    (is : IsAsked hub asked limit old new reply) (answered : ℕ)
+module _ (f : Framework) (s : ℕ) (asked : Asked) (limit : ℕ) (history : List HistoryEntry) (followed : ℕ)
+    (old log_now : OracleLog) (kept : KeptAnswer) (said : Body)
+    (is : IsQueryOn f s asked limit history followed old log_now kept said) (answered : ℕ)
     (rest : IsAtRest is.log answered) where
   abbrev framework : Framework
-  framework = framework_after (start_of hub) (seen_by new)
-
-  abbrev log_now : OracleLog
-  log_now = new.engine.log
+  framework = framework_after f history
 
   abbrev course_of : OracleLog → Course
   course_of before = record {
     old = before;
     new = log_now;
-    pending = is.kept.pending;
+    pending = kept.pending;
     before = units_used limit 0;
     after = units_used limit is.used;
   }
 
-  served : WorksFor framework asked (course_of (cut is.log answered)) (halt_told reply.body)
+  served : WorksFor framework asked (course_of (cut is.log answered)) (halt_told said)
   served =
-      let gained = gains_some framework old.engine.number (map entry_of is.kept.tokens) is.log log_now
+      let gained = gains_some framework s (map entry_of kept.tokens) is.log log_now
       is.steps.goes_on.steps in
       record {
         run = run_joined NoSide (MadeFor framework asked) (MadeFor framework asked) 0 (2 * length log_now.sides + 2)
-            (2 * length log_now.sides + 2) framework (cut is.log answered) is.log log_now is.kept.pending
-            is.kept.pending
-            (units_used limit 0) (units_used limit 0) (units_used limit is.used) (halt_told reply.body)
+            (2 * length log_now.sides + 2) framework (cut is.log answered) is.log log_now kept.pending kept.pending
+            (units_used limit 0) (units_used limit 0) (units_used limit is.used) (halt_told said)
             (λ literals set h. absurd h) (λ literals set h. h) (omega arith)
-            (rest_run is.log answered rest framework is.kept.pending (units_used limit 0)) is.replied.run;
+            (rest_run is.log answered rest framework kept.pending (units_used limit 0)) is.replied.run;
         loops = loops_joined (cut is.log answered) is.log log_now gained.0 gained.1 (rest_loops is.log answered rest)
             is.steps.goes_on.loops;
         within = is.replied.within;
       }
 
-  pub ended : HasEnded framework asked (course_of (cut log_now answered)) reply.body
+  pub ended : HasEnded framework asked (course_of (cut log_now answered)) said
   ended =
       let same = cut_same is.log answered rest (MadeFor framework asked) log_now is.replied.run.grows in
-      subst (λ before. HasEnded framework asked (course_of before) reply.body) (sym same)
-      (ends_so framework asked (course_of (cut is.log answered)) reply.body is.replied.says is.steps.shown
+      subst (λ before. HasEnded framework asked (course_of before) said) (sym same)
+      (ends_so framework asked (course_of (cut is.log answered)) said is.replied.says is.steps.shown
       is.steps.in_hand served)
 
   -- and the log is at rest then
   pub rested : IsAtRest log_now (length log_now.steps)
   rested = record {
-    sided = sided_behind framework old.engine.number (map entry_of is.kept.tokens) is.log log_now is.steps.goes_on.steps
+    sided = sided_behind framework s (map entry_of kept.tokens) is.log log_now is.steps.goes_on.steps
         rest.sided;
     within = omega arith;
     quiet = λ k low high. absurd (omega arith);
@@ -199,11 +194,8 @@ answered_step core s f log count asked limit used pending ending seen log_is cou
   is = refl;
 }
 
-pub asks_run : AsksAreRuns
-asks_run hub asked limit old new reply core is followed stands pooled =
-    let s = old.engine.number in
-    let start = start_of hub in
-    let entries = seen_by new in
+pub queries_run : QueriesAreRuns
+queries_run start s asked limit entries followed old new kept said core is within stands pooled =
     let f = framework_after start entries in
     let count = (core.sessions s).answered in
     -- the refresh
@@ -212,18 +204,17 @@ asks_run hub asked limit old new reply core is followed stands pooled =
     let here = put_here s session core.sessions in
     let history : turned.history ≡ entries = append-nil core.history ∙ stands.history_is in
     let seen : (turned.sessions s).seen ≡ length turned.history = ap (λ (x : CoreSession). x.seen) here in
-    let at : old.engine.log ≡ (turned.sessions s).log =
+    let at : old ≡ (turned.sessions s).log =
     sym stands.log_is ∙ sym (ap (λ (x : CoreSession). x.log) here) in
     let marked : (turned.sessions s).answered ≡ count = ap (λ (x : CoreSession). x.answered) here in
     let numbered : IsNumbered turned.opening = subst IsNumbered (sym stands.opening) stands.numbered in
     -- the axioms of the edits
-    let adds = subst (λ g. AddsNeededAfter (framework_after g (take old.followed turned.history))
-    (drop old.followed turned.history) is.catches_up.names old.engine.log is.log) (sym stands.opening)
-    (subst (λ list. AddsNeededAfter (framework_after start (take old.followed list)) (drop old.followed list)
-    is.catches_up.names old.engine.log is.log) (sym history) is.catches_up.adds) in
-    let first = needed_reach turned s old.followed is.catches_up.names old.engine.log is.log
-    (reached_none turned s old.engine.log at) numbered (subst (λ list. old.followed ≤ length list) (sym history)
-    followed)
+    let adds = subst (λ g. AddsNeededAfter (framework_after g (take followed turned.history))
+    (drop followed turned.history) is.catches_up.names old is.log) (sym stands.opening)
+    (subst (λ list. AddsNeededAfter (framework_after start (take followed list)) (drop followed list)
+    is.catches_up.names old is.log) (sym history) is.catches_up.adds) in
+    let first = needed_reach turned s followed is.catches_up.names old is.log
+    (reached_none turned s old at) numbered (subst (λ list. followed ≤ length list) (sym history) within)
     seen adds in
     -- the steps of the query
     let whole : seen_framework turned s ≡ f =
@@ -232,36 +223,36 @@ asks_run hub asked limit old new reply core is followed stands pooled =
     ∙ (ap (λ g. framework_after g turned.history) stands.opening ∙ ap (framework_after start) history)) in
     let kinds : kind_of f ≡ kind_of first.end.opening =
     kinds_after start entries ∙ ap kind_of (sym (first.moved.opening ∙ stands.opening)) in
-    let given = map entry_of is.kept.tokens in
-    let then = steps_reach first.end s f given is.log new.engine.log is.steps.goes_on.steps
+    let given = map entry_of kept.tokens in
+    let then = steps_reach first.end s f given is.log new is.steps.goes_on.steps
     (sym (seen_same turned first.end s is.log first.moved ∙ whole)) kinds (sym first.moved.log_is)
-    (pooled_same turned first.end s is.log
-    (entries_of f s given is.log new.engine.log is.steps.goes_on.steps) first.moved (record { each = pooled.each })) in
+    (pooled_same turned first.end s is.log given first.moved
+    (record { each = (tokens_pooled core kept.tokens pooled).each })) in
     -- the answer
     let rest : IsAtRest is.log count =
-    rest_behind (framework_after start (take old.followed entries)) (drop old.followed entries) is.catches_up.names
-    old.engine.log is.log count stands.rests is.catches_up.adds in
+    rest_behind (framework_after start (take followed entries)) (drop followed entries) is.catches_up.names
+    old is.log count stands.rests is.catches_up.adds in
     let last = then.end in
     let done = with_session last s (record (last.sessions s) { answered = length (last.sessions s).log.steps }) in
     let closing : CoreSession = record (last.sessions s) { answered = length (last.sessions s).log.steps } in
     let there = put_here s closing last.sessions in
-    let came = ended hub asked limit old new reply is count rest in
-    let step = answered_step last s f new.engine.log count asked limit is.used is.kept.pending came.ending
-    (seen_same first.end last s new.engine.log then.moved ∙ (seen_same turned first.end s is.log first.moved ∙ whole))
+    let came = ended start s asked limit entries followed old new kept said is count rest in
+    let step = answered_step last s f new count asked limit is.used kept.pending came.ending
+    (seen_same first.end last s new then.moved ∙ (seen_same turned first.end s is.log first.moved ∙ whole))
     then.moved.log_is (then.moved.answered ∙ (first.moved.answered ∙ marked))
     came.may in
     let both = runs_joined turned first.end last first.events then.events [] first.runs then.runs in
-    let event = answer s asked MAX_EXTENSIONS limit is.kept.pending came.ending in (
+    let event = answer s asked MAX_EXTENSIONS limit kept.pending came.ending in (
       done,
       record {
         opening = then.moved.opening ∙ (first.moved.opening ∙ stands.opening);
         numbered = stands.numbered;
         history_is = then.moved.history ∙ (first.moved.history ∙ history);
         log_is = ap (λ (x : CoreSession). x.log) there ∙ then.moved.log_is;
-        rests = subst (IsAtRest new.engine.log)
+        rests = subst (IsAtRest new)
             (sym (ap (λ (x : CoreSession). x.answered) there
             ∙ ap (λ (log : OracleLog). length log.steps) then.moved.log_is))
-            (rested hub asked limit old new reply is count rest);
+            (rested start s asked limit entries followed old new kept said is count rest);
       },
       record {
         events = first.events ++ then.events;
@@ -270,5 +261,18 @@ asks_run hub asked limit old new reply core is followed stands pooled =
         ends = came.ends;
         runs = goes core turned done (refresh s) ((first.events ++ then.events) ++ event ∷ []) [] refl
             (runs_snoc turned last done (first.events ++ then.events) [] event both step refl);
+        pool = then.moved.pool ∙ first.moved.pool;
+        limit_is = then.moved.limit ∙ first.moved.limit;
       },
     )
+
+pub asks_run : AsksAreRuns
+asks_run hub asked limit old new reply core is within stands pooled =
+    queries_run (start_of hub) old.engine.number asked limit (seen_by new) old.followed old.engine.log new.engine.log
+    is.kept reply.body core (record {
+      log = is.log;
+      catches_up = is.catches_up;
+      used = is.used;
+      replied = is.replied;
+      steps = is.steps;
+    }) within stands pooled

@@ -4,3 +4,4 @@ mod FollowingLemmas
 mod ReplyLemmas
 mod RunLemmas
 mod SessionLemmas
+mod ShareRunLemmas

@@ -1,23 +1,20 @@
 -- A session's steps are a run of the core.
 use Rattle.std.proofs.Common.{◌≡◌, ◌∙◌, ⊎_elim, ℕ, ◌+◌, ◌-◌, ◌*◌, ◌==◌, ◌<◌, ◌≤◌, suc, zero, Bool, true, false}
 use Rattle.std.proofs.Common.{true≢false, refl, List, [], ◌∷◌, ◌++◌, length, map, take, ap, arith, sym, subst, inl}
-use Rattle.std.proofs.Common.{inr, Option, None, Some, Ok}
+use Rattle.std.proofs.Common.{inr, Option, None, Some}
 use Rattle.std.specs.Prelude.{◌⊎◌, ◌&&◌, Contains, cond, count_by, drop, not, slice_index_or}
 use Rattle.std.proofs.lemmas.Bool.{cases_lt, cond_both, eq-eqb, false≢true}
 use Rattle.std.proofs.lemmas.List.{append_assoc, append-nil, get_or-append-add, get_or_append_left, length-append}
 use Rattle.std.proofs.lemmas.List.{length-drop, length-take-le, map-append, take-append-drop, take-append-le}
 use Rattle.std.proofs.lemmas.List.{take_all}
-use Rattle.std.proofs.lemmas.List.Elements.{Contains-append_left, Contains-append_right}
 use Rattle.std.proofs.Math.Seq.{take-add}
 use Rattle.lists.proofs.Counts.{count_by-cons}
-use Rattle.lists.proofs.Membership.{Contains-head}
-use Rattle.plain_lits.specs.HintCheck.{Checks}
+use Rattle.lists.proofs.Images.{image_from}
 use Rattle.plain_lits.specs.Units.{Units}
 use Rattle.semantics.specs.Frameworks.{Framework, af, aba, IsNumbered}
 use Rattle.meaning_atoms.specs.declared.atom.AtomLit.{AtomLit}
 use Rattle.meaning_atoms.specs.declared.axiom.AxiomName.{AxiomName}
 use Rattle.meaning_atoms.specs.declared.axiom.AxiomName.TheVariants.{Af as OfAf, Aba as OfAba}
-use Rattle.meaning_atoms.specs.Literals.{negated}
 use Rattle.certificate_claims.specs.Refutations.{IsAxiomOf}
 use Rattle.edit_rules.specs.declared.edit.Edit.{Edit}
 use Rattle.edit_rules.specs.Kinds.{kind_of}
@@ -31,12 +28,14 @@ use Rattle.oracle_face.specs.declared.entry.EntryOrigin.TheVariants.{Axiom as Of
 use Rattle.oracle_face.specs.declared.face.Pending.{Pending}
 use Rattle.oracle_face.specs.Growing.{Grows, HasRun, Making, NoSide}
 use Rattle.oracle_face.specs.Logs.{OracleLog, LogStep, SideClause, IsNumberOf, by_axiom, by_hints, by_side}
-use Rattle.oracle_face.specs.Logs.{clauses_of, is_loop, is_own, is_unit, is_work, no_step, step_at}
+use Rattle.oracle_face.specs.Logs.{is_loop, is_own, is_unit, is_work, no_step, step_at}
+use Rattle.clause_pool.specs.Pools.{entry_of, index_of}
+use Rattle.clause_pool.specs.declared.pooled.Token.{Token}
 use Rattle.session_log.specs.Ends.{LoopsServe}
 use Rattle.oracle_face.specs.Needed.{IsNeeded}
 use Rattle.session_log.specs.Steps.{GainsStep, LearnsClause, TakesAxiom, TakesSide, derived_step, own_step, side_made}
 use Rattle.session_log.proofs.AxiomLemmas.{needed_no_loop}
-use Rattle.session_log.specs.Imports.{IsHintOf, IsShownHere, MayImport, TakesEntry}
+use Rattle.session_log.specs.Imports.{AreHintsOf, IsShownHere, MayImport, TakesEntry}
 use Rattle.session_log.specs.OwnSteps.{IsCalledOn, IsWanted, LearnsAxiom, OwnStep, OwnSteps, keeps_side}
 use Rattle.session_log.specs.OwnSteps.{learns_axiom, learns_clause, nothing, one_more}
 use Rattle.session_log.specs.OwnSteps.{takes_entry}
@@ -45,8 +44,7 @@ use Rattle.core_machine.specs.Steps.{Event, IsCalledFor, IsNamedInPool, IsNeeded
 use Rattle.core_machine.specs.Steps.{after_turn, cut, goes, is_by_side, is_side_step, learn, refresh, rests, side}
 use Rattle.core_machine.specs.Steps.{take_in, taken_by}
 use Rattle.oracle_core.proofs.EngineKinds.{needed_axiom}
-use Rattle.session_core.specs.CoreRuns.{AreOfLog, ArePooled, IsAtRest, IsOfLog, IsQuiet, StandsAt, entries_naming}
-use Rattle.session_core.specs.CoreRuns.{entries_of, entries_of_step}
+use Rattle.session_core.specs.CoreRuns.{AreOfLog, HasPooled, IsAtRest, IsOfLog, IsQuiet, StandsAt}
 use Rattle.session_core.specs.Following.{AddsNeededAfter, TakesNeededAfter}
 use Rattle.session_core.proofs.FollowingLemmas.{replay_parts}
 
@@ -60,6 +58,7 @@ put_here n x items =
 -- the log of the session is this one, and what else the steps of a log look at is the same
 pub record IsMoved (core end : Core) (s : ℕ) (log : OracleLog) : Type 0 where
   pub opening : end.opening ≡ core.opening
+  pub limit : end.limit ≡ core.limit
   pub history : end.history ≡ core.history
   pub pool : end.pool ≡ core.pool
   pub seen : (end.sessions s).seen ≡ (core.sessions s).seen
@@ -69,6 +68,7 @@ pub record IsMoved (core end : Core) (s : ℕ) (log : OracleLog) : Type 0 where
 moved_none : (core : Core) (s : ℕ) (log : OracleLog) → log ≡ (core.sessions s).log → IsMoved core core s log
 moved_none core s log is = record {
   opening = refl;
+  limit = refl;
   history = refl;
   pool = refl;
   seen = refl;
@@ -82,6 +82,7 @@ moved_more core mid s a b h =
     let here = put_here s session mid.sessions in
     record {
       opening = h.opening;
+      limit = h.limit;
       history = h.history;
       pool = h.pool;
       seen = ap (λ (x : CoreSession). x.seen) here ∙ h.seen;
@@ -164,33 +165,37 @@ same_may f g own log entry kinds may = record {
 
 -- ---- one step
 
-wanted_for : (core : Core) (s : ℕ) (f : Framework) (given : List PoolEntry) (log : OracleLog) (name : AxiomName)
-    (loop : Bool) → f ≡ seen_framework core s → (w : IsWanted (IsCalledOn f given) log name loop)
-    → ArePooled core (entries_naming f given log name loop w) → IsWanted (IsCalledFor core s) log name loop
-wanted_for core s f given log name true is w pooled = w
-wanted_for core s f given log name false is (inl needed) pooled =
-    inl (record { count = (core.sessions s).seen; seen = omega arith; needed = subst (λ g. IsNeeded g name) is needed })
-wanted_for core s f given log name false is (inr named) pooled =
-    let at = pooled.each named.entry (Contains-head named.entry [] named.entry refl) in
-    inr (record { index = at.0; entry = named.entry; there = at.1; named = named.named })
+-- the pool has each of the entries that were given
+pub record ArePooled (core : Core) (given : List PoolEntry) : Type 0 where
+  pub each : (entry : PoolEntry) → Contains given entry → (i : ℕ) × (core.pool i ≡ Some entry)
 
--- a clause that the check takes has a hint
-no_hints_check : (steps : List (List AtomLit)) (clause : List AtomLit) (hints : List ℕ)
-    → ((hint : ℕ) → Contains hints hint → ⊥) → Checks negated steps clause hints (Ok (length hints)) → ⊥
-no_hints_check steps clause [] none checks = ⊎_elim (λ bad. let e = bad.1 in cc) (λ good. let e = good.1 in cc) checks
-no_hints_check steps clause (hint ∷ hints) none checks = none hint (Contains-head hint hints hint refl)
+pub tokens_pooled : (core : Core) (tokens : List Token) → HasPooled core tokens → ArePooled core (map entry_of tokens)
+tokens_pooled core tokens has = record {
+  each = λ entry there.
+      let token = image_from entry_of tokens entry there in
+      (index_of token.0, has.each token.0 token.1 ∙ ap Some token.2);
+}
+
+wanted_for : (core : Core) (s : ℕ) (f : Framework) (given : List PoolEntry) (log : OracleLog) (name : AxiomName)
+    (loop : Bool) → f ≡ seen_framework core s → ArePooled core given → IsWanted (IsCalledOn f given) log name loop
+    → IsWanted (IsCalledFor core s) log name loop
+wanted_for core s f given log name true is pooled w = w
+wanted_for core s f given log name false is pooled (inl needed) =
+    inl (record { count = (core.sessions s).seen; seen = omega arith; needed = subst (λ g. IsNeeded g name) is needed })
+wanted_for core s f given log name false is pooled (inr named) =
+    let at = pooled.each named.entry named.there in
+    inr (record { index = at.0; entry = named.entry; there = at.1; named = named.named })
 
 taken_by_origin : (s : ℕ) (entry : PoolEntry) (origin : EntryOrigin) (a b : OracleLog) → entry.origin ≡ origin
     → TakesEntry s entry a b → TakesByOrigin s entry origin a b
 taken_by_origin s entry (Hints names) a b is takes = takes
 taken_by_origin s entry (OfAxiom name) a b is takes =
-    absurd (no_hints_check (clauses_of a.steps) takes.clause takes.hints
-    (λ hint there. subst (λ origin. IsHintOf s a.steps origin hint) is (takes.named hint there)) takes.checks)
+    absurd (subst (λ origin. AreHintsOf s a.steps origin takes.hints) is takes.named)
 
 step_event : (core : Core) (s : ℕ) (f : Framework) (given : List PoolEntry) (a b : OracleLog)
     (step : OwnStep f s given a b)
     → f ≡ seen_framework core s → kind_of f ≡ kind_of core.opening → a ≡ (core.sessions s).log
-    → ArePooled core (entries_of_step f s given a b step) → IsEventTo core s b
+    → ArePooled core given → IsEventTo core s b
 step_event core s f given a b (learns_axiom name clause learns) seen kinds is pooled = record {
   event = learn s clause (by_axiom name) false;
   of_log = refl;
@@ -201,7 +206,7 @@ step_event core s f given a b (learns_axiom name clause learns) seen kinds is po
       subst (λ g. LearnsAxiom (IsCalledFor core s) core.opening name clause g b) is (record {
         of_kind = same_axioms f core.opening name kinds learns.of_kind;
         once = learns.once;
-        called = wanted_for core s f given a name (is_loop name) seen learns.called pooled;
+        called = wanted_for core s f given a name (is_loop name) seen pooled learns.called;
         takes = learns.takes;
       }),
     ),
@@ -222,7 +227,7 @@ step_event core s f given a b (keeps_side literals set clause takes) seen kinds 
   none_taken = refl;
 }
 step_event core s f given a b (takes_entry entry was may takes) seen kinds is pooled =
-    let at = pooled.each entry (Contains-head entry [] entry refl) in
+    let at = pooled.each entry was.there in
     record {
       event = take_in s at.0;
       of_log = refl;
@@ -255,22 +260,15 @@ pooled_same core end s log entries h pooled = record {
 
 -- steps of a session's own are a run of the core
 pub steps_reach : (core : Core) (s : ℕ) (f : Framework) (given : List PoolEntry) (a b : OracleLog)
-    (steps : OwnSteps f s given a b)
-    → f ≡ seen_framework core s → kind_of f ≡ kind_of core.opening → a ≡ (core.sessions s).log
-    → ArePooled core (entries_of f s given a b steps) → IsReached core s b
+    → OwnSteps f s given a b → f ≡ seen_framework core s → kind_of f ≡ kind_of core.opening
+    → a ≡ (core.sessions s).log → ArePooled core given → IsReached core s b
 steps_reach core s f given a b (nothing _) seen kinds is pooled = reached_none core s a is
 steps_reach core s f given a b (one_more _ mid _ before last) seen kinds is pooled =
-    let first = entries_of f s given a mid before in
-    let others = entries_of_step f s given mid b last in
-    let r = steps_reach core s f given a mid before seen kinds is (record {
-      each = λ entry there. pooled.each entry (Contains-append_left first others entry there);
-    }) in
+    let r = steps_reach core s f given a mid before seen kinds is pooled in
     reached_more core s mid b r
     (step_event r.end s f given mid b last (seen ∙ sym (seen_same core r.end s mid r.moved))
     (kinds ∙ ap kind_of (sym r.moved.opening)) (sym r.moved.log_is)
-    (pooled_same core r.end s mid others r.moved (record {
-      each = λ entry there. pooled.each entry (Contains-append_right first others entry there);
-    })))
+    (pooled_same core r.end s mid given r.moved pooled))
 
 pub runs_joined : (a b c : Core) (events more : List Event) (taken : List HistoryEntry) → Runs a events taken b
     → Runs b more [] c → Runs a (events ++ more) taken c

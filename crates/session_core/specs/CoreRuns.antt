@@ -1,57 +1,35 @@
 -- What a session's query is in the core: a refresh, steps of the session's own log, and an answer.
-use Rattle.std.proofs.Common.{inl, inr}
-use Rattle.std.specs.Prelude.{◌≡◌, ℕ, ◌≤◌, ◌<◌, Bool, true, false, List, [], ◌∷◌, ◌++◌, length, map, Contains}
-use Rattle.std.specs.Prelude.{count_by, slice_index_or, Option, Some}
+use Rattle.std.specs.Prelude.{◌≡◌, ℕ, ◌≤◌, ◌<◌, false, List, [], ◌∷◌, ◌++◌, length, map, Contains}
+use Rattle.std.specs.Prelude.{count_by, drop, slice_index_or, take, Option, Some}
 use Rattle.semantics.specs.Frameworks.{Framework, IsNumbered}
 use Rattle.meaning_atoms.specs.declared.axiom.AxiomName.{AxiomName}
 use Rattle.iccma_tasks.specs.Tasks.{Asked}
 use Rattle.edit_history.specs.declared.entry.HistoryEntry.{HistoryEntry}
 use Rattle.edit_history.specs.declared.hub.Hub.{Hub}
+use Rattle.edit_history.specs.Entries.{framework_after}
 use Rattle.edit_history.specs.Hubs.{start_of}
-use Rattle.oracle_face.specs.declared.entry.Entry.{Entry as PoolEntry}
 use Rattle.oracle_face.specs.declared.face.Pending.{Pending}
 use Rattle.oracle_face.specs.Logs.{OracleLog, LogStep, by_axiom, is_loop, no_step}
-use Rattle.clause_pool.specs.Pools.{entry_of}
+use Rattle.clause_pool.specs.Pools.{entry_of, index_of}
+use Rattle.clause_pool.specs.declared.pooled.Token.{Token}
 use Rattle.session_log.specs.Ends.{Ending, definite, log_full, refused, too_many, unknown}
-use Rattle.session_log.specs.OwnSteps.{IsCalledOn, IsWanted, OwnStep, OwnSteps, keeps_side, learns_axiom}
-use Rattle.session_log.specs.OwnSteps.{learns_clause, nothing, one_more}
-use Rattle.session_log.specs.OwnSteps.{takes_entry}
 use Rattle.core_machine.specs.Core.{Core}
 use Rattle.core_machine.specs.Steps.{Event, Runs, answer, is_side_step, learn, refresh, side, take_in}
 use Rattle.session_replies.specs.declared.reply.Body.{Body}
 use Rattle.session_replies.specs.declared.reply.Body.TheVariants.{Answered, LogFull, QueryRefused, TooMany, Unknown}
 use Rattle.session_replies.specs.declared.reply.Reply.{Reply}
 use Rattle.semantics.specs.declared.limits.TheConstants.{MAX_EXTENSIONS}
+use Rattle.session_core.specs.declared.kept.KeptAnswer.{KeptAnswer}
 use Rattle.session_core.specs.declared.session.Session.{Session}
+use Rattle.session_core.specs.Following.{CatchesUp}
+use Rattle.session_core.specs.Replies.{IsBySteps, IsReplied}
 use Rattle.session_core.specs.Sessions.{IsAsked, seen_by}
 
--- ---- the entries that steps rest on
+-- ---- the pool
 
--- the entry that names an axiom, where the framework doesn't need it
-abbrev pub entries_naming : (f : Framework) (given : List PoolEntry) (log : OracleLog) (name : AxiomName) (loop : Bool)
-    → IsWanted (IsCalledOn f given) log name loop → List PoolEntry
-entries_naming f given log name true wanted = []
-entries_naming f given log name false (inl needed) = []
-entries_naming f given log name false (inr named) = named.entry ∷ []
-
--- that entry, or the one that is taken in
-abbrev pub entries_of_step : (f : Framework) (own : ℕ) (given : List PoolEntry) (a b : OracleLog)
-    → OwnStep f own given a b → List PoolEntry
-entries_of_step f own given a b (learns_axiom name clause learns) =
-    entries_naming f given a name (is_loop name) learns.called
-entries_of_step f own given a b (takes_entry entry was may takes) = entry ∷ []
-entries_of_step f own given a b (learns_clause clause hints closing learns) = []
-entries_of_step f own given a b (keeps_side literals set clause takes) = []
-
-abbrev pub entries_of : (f : Framework) (own : ℕ) (given : List PoolEntry) (a b : OracleLog) → OwnSteps f own given a b
-    → List PoolEntry
-entries_of f own given a b (nothing _) = []
-entries_of f own given a b (one_more _ mid _ before last) =
-    entries_of f own given a mid before ++ entries_of_step f own given mid b last
-
--- the pool has each of them
-pub record ArePooled (core : Core) (entries : List PoolEntry) : Type 0 where
-  pub each : (entry : PoolEntry) → Contains entries entry → (i : ℕ) × (core.pool i ≡ Some entry)
+-- the core's pool has the entry of each token, at the index at which it stands in the pool that gave the token
+pub record HasPooled (core : Core) (tokens : List Token) : Type 0 where
+  pub each : (token : Token) → Contains tokens token → core.pool (index_of token) ≡ Some (entry_of token)
 
 -- ---- a state of the core that a session stands in
 
@@ -100,7 +78,7 @@ EndsAs LogFull ending = ending ≡ log_full
 EndsAs body ending = ⊥
 
 -- a refresh, then events on the session's own log, and then the answer that this reply tells lead from the one state to
--- the other
+-- the other, which has the same pool and as much room for edits
 pub record RunsToAnswer (core end : Core) (s : ℕ) (asked : Asked) (limit : ℕ) (pending : Option Pending)
     (said : Body) : Type 0 where
   pub events : List Event
@@ -108,18 +86,37 @@ pub record RunsToAnswer (core end : Core) (s : ℕ) (asked : Asked) (limit : ℕ
   pub ending : Ending
   pub ends : EndsAs said ending
   pub runs : Runs core (refresh s ∷ (events ++ answer s asked MAX_EXTENSIONS limit pending ending ∷ [])) [] end
+  pub pool : end.pool ≡ core.pool
+  pub limit_is : end.limit ≡ core.limit
 
 -- ---- the law
 
--- in each state of the core that the session stands in, and where the pool has the entries that came in, the query is a
--- run of the core: it refreshes, goes on by steps of its own log, and answers as the reply says; the session stands in
--- the state to which it leads. Where the reply is that there are too many extensions, it answers with some that the log
--- shows.
+-- a query of the session of the number is told of a framework after a history, of which its engine had followed so many
+-- entries: its log gained axioms that were needed on the way, and then steps of its own, on which the reply rests, and
+-- for which the pool gave the entries of the tokens that are kept
+pub record IsQueryOn (f : Framework) (s : ℕ) (asked : Asked) (limit : ℕ) (history : List HistoryEntry) (followed : ℕ)
+    (old new : OracleLog) (kept : KeptAnswer) (said : Body) : Type 0 where
+  pub log : OracleLog
+  pub catches_up : CatchesUp (framework_after f (take followed history)) (drop followed history) old log
+  pub used : ℕ
+  pub replied : IsReplied (framework_after f history) asked limit log new kept.pending used said
+  pub steps : IsBySteps (framework_after f history) s (map entry_of kept.tokens) asked log new kept.pending said
+
+-- in each state of the core that the session stands in, and where the pool has the entries that the real one gave for
+-- the query, the query is a run of the core: it refreshes, goes on by steps of its own log, and answers as the reply
+-- says; the session stands in the state to which it leads. Where the reply is that there are too many extensions, it
+-- answers with some that the log shows.
+abbrev pub QueriesAreRuns : Type 0
+QueriesAreRuns = (f : Framework) (s : ℕ) (asked : Asked) (limit : ℕ) (history : List HistoryEntry) (followed : ℕ)
+    (old new : OracleLog) (kept : KeptAnswer) (said : Body) (core : Core)
+    → IsQueryOn f s asked limit history followed old new kept said → followed ≤ length history
+    → StandsAt core s f history old → HasPooled core kept.tokens
+    → (end : Core) × StandsAt end s f history new × RunsToAnswer core end s asked limit kept.pending said
+
+-- so is what a session is asked
 abbrev pub AsksAreRuns : Type 0
 AsksAreRuns = (hub : Hub) (asked : Asked) (limit : ℕ) (old new : Session) (reply : Reply) (core : Core)
     → (is : IsAsked hub asked limit old new reply) → old.followed ≤ length (seen_by new)
-    → StandsAt core old.engine.number (start_of hub) (seen_by new) old.engine.log
-    → ArePooled core (entries_of _ old.engine.number (map entry_of is.kept.tokens) is.log new.engine.log
-    is.steps.goes_on.steps)
+    → StandsAt core old.engine.number (start_of hub) (seen_by new) old.engine.log → HasPooled core is.kept.tokens
     → (end : Core) × StandsAt end old.engine.number (start_of hub) (seen_by new) new.engine.log
     × RunsToAnswer core end old.engine.number asked limit is.kept.pending reply.body

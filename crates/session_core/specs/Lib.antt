@@ -5,4 +5,5 @@ pub mod Telling
 pub mod Laws
 pub mod CoreRuns
 pub mod EditRuns
+pub mod ShareRuns
 pub use Rattle.oracle_core as oracle_core

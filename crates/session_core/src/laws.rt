@@ -3,6 +3,7 @@
 ghost use Rattle.session_core.specs.CoreRuns.{AsksAreRuns};
 ghost use Rattle.session_core.specs.EditRuns.{EditsAreRuns};
 ghost use Rattle.session_core.specs.Laws.{AskedIsReadable, ReadableStays};
+ghost use Rattle.session_core.specs.ShareRuns.{SharesAreRuns};
 
 /// The reply to a query can be read off the session's log behind it.
 pub fn replies_can_be_read()
@@ -18,6 +19,12 @@ pub fn replies_stay_readable()
 /// that there are too many extensions doesn't tell them: the answer then tells some that the log shows.
 pub fn asks_are_runs()
     ensures { AsksAreRuns }
+{}
+
+/// The entry that a session hands over for a step of its log is one that the core shares for this step, at each index of
+/// the pool that is empty.
+pub fn shares_are_runs()
+    ensures { SharesAreRuns }
 {}
 
 /// An edit is a run of the core: one turn, at which its entry comes where the reply says that it was taken.

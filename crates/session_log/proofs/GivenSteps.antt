@@ -89,7 +89,7 @@ step_own : (f : Framework) (own : ℕ) (a b : OracleLog) (step : OwnStep f own [
 step_own f own a b (learns_axiom name clause learns) = refl
 step_own f own a b (learns_clause clause hints closing learns) = refl
 step_own f own a b (keeps_side literals set clause takes) = refl
-step_own f own a b (takes_entry entry was may takes) = absurd (Contains-nil was.source was.there)
+step_own f own a b (takes_entry entry was may takes) = absurd (Contains-nil entry was.there)
 
 pub nothing_imported : NothingImported
 nothing_imported f own old new steps k low high =
@@ -107,7 +107,7 @@ step_given f own given a b (learns_axiom other clause learns) = λ name is. absu
 step_given f own given a b (learns_clause clause hints closing learns) = λ name is. absurd (cc)
 step_given f own given a b (keeps_side literals set clause takes) = λ name is. absurd (cc)
 step_given f own given a b (takes_entry entry was may takes) = λ name is.
-    let same : entry.name ≡ name = cc in (was.source, was.there, sym was.name ∙ same)
+    let same : entry.name ≡ name = cc in (entry, was.there, same)
 
 pub imports_given : ImportsAreGiven
 imports_given f own given old new steps k low high =
@@ -132,12 +132,8 @@ module _ (f : Framework) (own : ℕ) (given more : List Entry) where
 
   given_stays : (entry : Entry) → WasGiven given entry → WasGiven (given ++ more) entry
   given_stays entry was = record {
-    source = was.source;
-    there = Contains-append_left given more was.source was.there;
+    there = Contains-append_left given more entry was.there;
     shareable = was.shareable;
-    clause = was.clause;
-    name = was.name;
-    origin = was.origin;
   }
 
   step_stays : (a b : OracleLog) → OwnStep f own given a b → OwnStep f own (given ++ more) a b

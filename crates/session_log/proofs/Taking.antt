@@ -3,7 +3,7 @@ use Rattle.std.proofs.Common.{◌≡◌, ⊎_elim, ℕ, ◌+◌, ◌<◌, ◌≤
 use Rattle.std.proofs.Common.{refl, ap, sym, subst, ◌∙◌, arith, inl, inr}
 use Rattle.std.specs.Prelude.{◌⊎◌, Contains, slice_index_or, Some, count_by, map}
 use Rattle.std.proofs.lemmas.Bool.{false≢true}
-use Rattle.std.proofs.lemmas.List.{length_push, get_or_push}
+use Rattle.std.proofs.lemmas.List.{get_or_default, length_push, get_or_push}
 use Rattle.std.proofs.lemmas.List.Elements.{Contains-push}
 use Rattle.std.proofs.lemmas.List.Sums.{sum_by_push}
 use Rattle.lists.proofs.Filters.{Contains-filter}
@@ -13,9 +13,11 @@ use Rattle.meaning_atoms.specs.declared.atom.Atom.TheVariants.{Ask}
 use Rattle.meaning_atoms.specs.declared.atom.AtomLit.{AtomLit}
 use Rattle.meaning_atoms.specs.Atoms.{IsLit}
 use Rattle.meaning_atoms.specs.Literals.{affirmed, denied, AsksNothing}
-use Rattle.oracle_face.specs.declared.entry.Entry.{Entry}
+use Rattle.oracle_face.specs.declared.entry.Entry.{Entry as PoolEntry}
 use Rattle.oracle_face.specs.declared.entry.EntryOrigin.{EntryOrigin}
 use Rattle.oracle_face.specs.declared.entry.EntryOrigin.TheVariants.{Axiom as OfAxiom, Hints}
+use Rattle.oracle_face.specs.declared.entry.HintName.{HintName}
+use Rattle.oracle_face.specs.declared.entry.HintName.TheVariants.{Entry}
 use Rattle.oracle_face.specs.Entries.{IsShareable}
 use Rattle.oracle_face.specs.Growing.{NoSide, Works}
 use Rattle.oracle_face.specs.Logs.{LogStep, SideClause, OracleLog, HasPart, IsLog, IsNumberOf, Reaches, itself, by_hint}
@@ -23,14 +25,23 @@ use Rattle.oracle_face.specs.Logs.{by_side, by_hints, hints_of, step_at, is_unit
 use Rattle.session_log.specs.Guards.{RestsOn, IsGuarded}
 use Rattle.session_log.specs.Steps.{GainsStep, StaysGuarded, Spends, derived_step}
 use Rattle.session_log.proofs.StepLemmas.{guarded_step, top_step, side_step_still, rests_back, same_sides_form, same_sides_grow}
-use Rattle.session_log.specs.Imports.{IsHintOf, TakesEntry}
+use Rattle.session_log.specs.Imports.{AreHintsOf, TakesEntry}
 use Rattle.lists.proofs.Images.{image_there}
 
--- the steps that names of an origin stand for
-hint_is : (own : ℕ) (steps : List LogStep) (origin : EntryOrigin) (hint : ℕ) → IsHintOf own steps origin hint
-    → IsNumberOf steps hint × ((step_at steps hint).closing ≡ false) × AsksNothing (step_at steps hint).clause
-hint_is own steps (OfAxiom name) hint is = absurd is
-hint_is own steps (Hints names) hint is = let s = is.2 in (s.named, s.kept, s.plain)
+some_name : HintName
+some_name = Entry (record { session = 0; step = 0 })
+
+-- a step that a name of an origin stands for
+abbrev IsPlainStep : List LogStep → ℕ → Type 0
+IsPlainStep steps hint =
+    IsNumberOf steps hint × ((step_at steps hint).closing ≡ false) × AsksNothing (step_at steps hint).clause
+
+hint_is : (own : ℕ) (steps : List LogStep) (origin : EntryOrigin) (hints : List ℕ) (hint : ℕ)
+    → AreHintsOf own steps origin hints → Contains hints hint → IsPlainStep steps hint
+hint_is own steps (OfAxiom name) hints hint are c = absurd are
+hint_is own steps (Hints names) hints hint are c =
+    let s = are.each c.0 some_name (subst (λ n. c.0 < n) are.long c.1) in
+    subst (IsPlainStep steps) (get_or_default hints c.0 0 hint c.1 ∙ c.2) (s.named, s.kept, s.plain)
 
 -- a step that rests on a side clause is its step, or has a hint that rests on it
 rests_by : (log : OracleLog) (number k n : ℕ) → Reaches log.steps number k → (step_at log.steps k).source ≡ by_side n
@@ -40,7 +51,7 @@ rests_by log number k n (itself m) source = inl source
 rests_by log number k n (by_hint m hint reached c more) source =
     inr (hint, c, record { step = k; reaches = more; source = source })
 
-module _ (own : ℕ) (entry : Entry) (old new : OracleLog) (takes : TakesEntry own entry old new) where
+module _ (own : ℕ) (entry : PoolEntry) (old new : OracleLog) (takes : TakesEntry own entry old new) where
   abbrev step : LogStep
   step = derived_step takes.clause takes.hints (Some entry.name) false
 
@@ -55,8 +66,8 @@ module _ (own : ℕ) (entry : Entry) (old new : OracleLog) (takes : TakesEntry o
   pub entry_stays : (f : Framework) → IsLog f old → IsGuarded old → IsShareable entry → StaysGuarded NoSide f old new
   entry_stays f form guards may =
       let gains = takes.gains in
-      let hint_of = λ (hint : ℕ) (c : Contains takes.hints hint). hint_is own old.steps entry.origin hint
-      (takes.named hint c) in
+      let hint_of = λ (hint : ℕ) (c : Contains takes.hints hint). hint_is own old.steps entry.origin takes.hints hint
+      takes.named c in
       let asks_not : (l : AtomLit) → Contains takes.clause l → Contains entry.clause l = takes.same.there in
       record {
         grows = same_sides_grow step old new gains;

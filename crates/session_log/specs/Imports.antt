@@ -1,5 +1,6 @@
 -- When an entry may be taken into the log of a session, and what the log then gains.
-use Rattle.std.specs.Prelude.{◌≡◌, ◌≢◌, ◌⊎◌, ℕ, ◌<◌, ◌≤◌, false, List, length, slice_index_or, Contains, Some, None, Ok}
+use Rattle.std.specs.Prelude.{◌≡◌, ◌≢◌, ◌⊎◌, ℕ, ◌<◌, ◌≤◌, false, List, length, slice_index_or, take, Option}
+use Rattle.std.specs.Prelude.{Some, None, Ok}
 use Rattle.plain_lits.specs.HintCheck.{Checks}
 use Rattle.semantics.specs.Frameworks.{Framework}
 use Rattle.meaning_atoms.specs.declared.atom.AtomLit.{AtomLit}
@@ -12,7 +13,8 @@ use Rattle.oracle_face.specs.declared.entry.EntryOrigin.{EntryOrigin}
 use Rattle.oracle_face.specs.declared.entry.EntryOrigin.TheVariants.{Axiom as OfAxiom, Hints}
 use Rattle.oracle_face.specs.declared.entry.HintName.{HintName}
 use Rattle.oracle_face.specs.declared.entry.HintName.TheVariants.{Axiom, Entry as OfEntry}
-use Rattle.oracle_face.specs.Logs.{OracleLog, LogStep, IsNumberOf, IsSameClause, by_axiom, clauses_of, is_loop, step_at}
+use Rattle.oracle_face.specs.Logs.{OracleLog, LogStep, Source, IsNumberOf, IsSameClause, by_axiom, clauses_of, is_loop}
+use Rattle.oracle_face.specs.Logs.{step_at}
 use Rattle.session_log.specs.Steps.{GainsStep, derived_step}
 
 -- ---- what names stand for
@@ -27,6 +29,18 @@ IsOfEntry own name number step =
 abbrev pub IsCalled : ℕ → HintName → ℕ → LogStep → Type 0
 IsCalled own (Axiom name) number step = step.source ≡ by_axiom name
 IsCalled own (OfEntry name) number step = IsOfEntry own name number step
+
+-- the name under which a step's clause is handed on: its axiom's, its entry's, or that of an entry of one's own
+abbrev pub name_by_source : ℕ → ℕ → Source → HintName
+name_by_source s number (by_axiom name) = Axiom name
+name_by_source s number source = OfEntry (record { session = s; step = number })
+
+abbrev pub name_in_log : ℕ → ℕ → Option EntryName → Source → HintName
+name_in_log s number None source = name_by_source s number source
+name_in_log s number (Some name) source = OfEntry name
+
+abbrev pub name_of_step : ℕ → List LogStep → ℕ → HintName
+name_of_step s steps number = name_in_log s number (step_at steps number).imported (step_at steps number).source
 
 -- the name stands for the first step that is called so, where that step may be an entry or follow from entries: it
 -- didn't only end a search, and asks for no side clause
@@ -45,12 +59,14 @@ pub record StandForSteps (own : ℕ) (steps : List LogStep) (names : List HintNa
 
 -- ---- when an entry may be taken in
 
--- a clause follows by names: they stand for steps by which, all of them and in this order, the hint check takes it
+-- a clause follows by names: they stand for steps by which, in this order, the hint check takes it; it may do so before
+-- it looks at the last of them
 pub record FollowsByNames (own : ℕ) (steps : List LogStep) (clause : List AtomLit) (names : List HintName) : Type 0
   where
     pub hints : List ℕ
     pub stand : StandForSteps own steps names hints
-    pub checks : Checks negated (clauses_of steps) clause hints (Ok (length hints))
+    pub used : ℕ
+    pub checks : Checks negated (clauses_of steps) clause hints (Ok used)
 
 -- a clause is what its origin says: that of an axiom of the framework's kind that isn't in the log, or one that follows;
 -- a loop clause comes only where a model calls for it
@@ -70,17 +86,17 @@ pub record MayImport (f : Framework) (own : ℕ) (log : OracleLog) (entry : Entr
 
 -- ---- what a log gains
 
--- the step is one that a name of the origin stands for
-abbrev pub IsHintOf : ℕ → List LogStep → EntryOrigin → ℕ → Type 0
-IsHintOf own steps (OfAxiom name) hint = ⊥
-IsHintOf own steps (Hints names) hint = (name : HintName) × Contains names name × StandsFor own steps name hint
+-- the steps are those that the first names of the origin stand for, one for one and in this order
+abbrev pub AreHintsOf : ℕ → List LogStep → EntryOrigin → List ℕ → Type 0
+AreHintsOf own steps (OfAxiom name) hints = ⊥
+AreHintsOf own steps (Hints names) hints = StandForSteps own steps (take (length hints) names) hints
 
--- the entry's clause comes with steps that its hints name, by which the check takes it; the step is in use, and marked
--- as taken from the entry
+-- the entry's clause comes with the steps of its first names, by which the check takes it, looking at each of them; the
+-- step keeps these and no others, is in use, and is marked as taken from the entry
 pub record TakesEntry (own : ℕ) (entry : Entry) (old new : OracleLog) : Type 0 where
   pub clause : List AtomLit
   pub hints : List ℕ
   pub same : IsSameClause clause entry.clause
   pub checks : Checks negated (clauses_of old.steps) clause hints (Ok (length hints))
-  pub named : (hint : ℕ) → Contains hints hint → IsHintOf own old.steps entry.origin hint
+  pub named : AreHintsOf own old.steps entry.origin hints
   pub gains : GainsStep (derived_step clause hints (Some entry.name) false) old.sides old new

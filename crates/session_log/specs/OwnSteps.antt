@@ -1,6 +1,6 @@
 -- By what steps the log of a session goes on: an axiom comes, a clause is derived, a side clause is kept, or an entry of
 -- another session that a trade gave is taken in.
-use Rattle.std.specs.Prelude.{◌≡◌, ◌⊎◌, ℕ, Bool, true, false, List, Contains, take}
+use Rattle.std.specs.Prelude.{◌≡◌, ◌⊎◌, ℕ, Bool, true, false, List, Contains}
 use Rattle.semantics.specs.Frameworks.{Framework}
 use Rattle.meaning_atoms.specs.declared.atom.AtomLit.{AtomLit}
 use Rattle.meaning_atoms.specs.declared.axiom.AxiomName.{AxiomName}
@@ -49,19 +49,10 @@ IsCalledOn f given name = IsNeeded f name ⊎ IsNamedByGiven given name
 
 -- ---- entries
 
--- the one origin is the other, where of hints the last may be cut off
-abbrev pub IsCutOrigin : EntryOrigin → EntryOrigin → Type 0
-IsCutOrigin (Hints names) (Hints whole) = (count : ℕ) × (names ≡ take count whole)
-IsCutOrigin origin whole = origin ≡ whole
-
--- the entry was given, and may be shared; of its hints the last may be cut off, since the check needn't look at all
+-- the entry was given, and may be shared
 pub record WasGiven (given : List Entry) (entry : Entry) : Type 0 where
-  pub source : Entry
-  pub there : Contains given source
-  pub shareable : IsShareable source
-  pub clause : entry.clause ≡ source.clause
-  pub name : entry.name ≡ source.name
-  pub origin : IsCutOrigin entry.origin source.origin
+  pub there : Contains given entry
+  pub shareable : IsShareable entry
 
 -- ---- steps
 

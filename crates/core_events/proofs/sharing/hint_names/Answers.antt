@@ -1,7 +1,7 @@
 use Rattle.std.proofs.Common.{[], ◌∷◌, ◌++◌, ◌∙◌, ap}
 use Rattle.std.proofs.lemmas.List.{get_or_default}
 use Rattle.core_logs.proofs.Fronts.{mapped_more}
-use Rattle.core_machine.specs.Steps.{name_of_step}
+use Rattle.session_log.specs.Imports.{name_of_step}
 use Rattle.core_events.proofs.sharing.hint_names.Goals as goal
 
 pub loop-hint-preserved : goal.loop-hint-preserved

@@ -1,5 +1,5 @@
 use Rattle.std.proofs.Common.{◌≡◌, map, take}
-use Rattle.core_machine.specs.Steps.{name_of_step}
+use Rattle.session_log.specs.Imports.{name_of_step}
 use Rattle.core_events.proofs.sharing.hint_names.Given as goal
 
 abbrev pub invariant-loop-hint : goal.invariant-loop-hint
